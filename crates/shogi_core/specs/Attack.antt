@@ -1,0 +1,23 @@
+-- Attacks and checks (JSA playing rules, check).
+use Rattle.std.specs.Prelude.{ℕ, ◌&&◌, Bool}
+use Rattle.shogi_core.specs.declared.piece.Color.{Color}
+use Rattle.shogi_core.specs.Below.{some_below}
+use Rattle.shogi_core.specs.Cell.{is_of, is_king}
+use Rattle.shogi_core.specs.Movement.{Cells, piece_at, reaches}
+use Rattle.shogi_core.specs.Pieces.{opponent_of}
+
+-- the piece on `from` is of the side and reaches the square
+abbrev pub is_attacked_from : Cells → Color → ℕ → ℕ → Bool
+is_attacked_from cells color square from = is_of color (piece_at cells from) && reaches cells from square
+
+-- a piece of the side reaches the square
+abbrev pub is_attacked : Cells → Color → ℕ → Bool
+is_attacked cells color square = some_below 81 (is_attacked_from cells color square)
+
+-- on the square stands the king of the side, and it is attacked
+abbrev pub is_open_king : Cells → Color → ℕ → Bool
+is_open_king cells color square = is_king color (piece_at cells square) && is_attacked cells (opponent_of color) square
+
+-- a king of the side is attacked
+unfoldable pub in_check : Cells → Color → Bool
+in_check cells color = some_below 81 (is_open_king cells color)

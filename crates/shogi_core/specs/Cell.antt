@@ -1,0 +1,53 @@
+-- What stands on a square: whose piece, a king, an unpromoted pawn, a piece that could never move again (JSA playing rules).
+use Rattle.std.specs.Prelude.{ℕ, ◌%◌, ◌&&◌, Bool, true, false, Option, Some, None, nat_lt}
+use Rattle.shogi_core.specs.declared.piece.Color.{Color}
+use Rattle.shogi_core.specs.declared.piece.Color.TheVariants.{Black, White}
+use Rattle.shogi_core.specs.declared.piece.Role.{Role}
+use Rattle.shogi_core.specs.declared.piece.Role.TheVariants.{King, Pawn, Lance, Knight}
+use Rattle.shogi_core.specs.declared.piece.Piece.{Piece}
+use Rattle.shogi_core.specs.Movement.{Cells, piece_at}
+use Rattle.shogi_core.specs.Pieces.{is_same_color}
+
+-- a king
+abbrev pub is_king_role : Role → Bool
+is_king_role King = true
+is_king_role _ = false
+
+-- an unpromoted pawn
+abbrev pub is_pawn_role : Role → Bool
+is_pawn_role Pawn = true
+is_pawn_role _ = false
+
+-- a piece of the side
+abbrev pub is_of : Color → Option Piece → Bool
+is_of color None = false
+is_of color (Some piece) = is_same_color color piece.color
+
+-- the king of the side
+abbrev pub is_king : Color → Option Piece → Bool
+is_king color None = false
+is_king color (Some piece) = is_same_color color piece.color && is_king_role piece.role
+
+-- an unpromoted pawn of the side
+abbrev pub is_pawn : Color → Option Piece → Bool
+is_pawn color None = false
+is_pawn color (Some piece) = is_same_color color piece.color && is_pawn_role piece.role
+
+-- a piece of the role could never move again from the rank, counted from 0
+abbrev pub is_dead_role : Color → Role → ℕ → Bool
+is_dead_role Black Pawn rank = nat_lt rank 1
+is_dead_role Black Lance rank = nat_lt rank 1
+is_dead_role Black Knight rank = nat_lt rank 2
+is_dead_role White Pawn rank = nat_lt 7 rank
+is_dead_role White Lance rank = nat_lt 7 rank
+is_dead_role White Knight rank = nat_lt 6 rank
+is_dead_role _ _ rank = false
+
+-- a piece stands there that could never move again
+abbrev pub is_dead : ℕ → Option Piece → Bool
+is_dead square None = false
+is_dead square (Some piece) = is_dead_role piece.color piece.role (square % 9)
+
+-- the square holds a piece that could never move again
+abbrev pub is_dead_on : Cells → ℕ → Bool
+is_dead_on cells square = is_dead square (piece_at cells square)

@@ -1,0 +1,11 @@
+pub mod Below
+pub mod Squares
+pub mod Pieces
+pub mod Movement
+pub mod Cell
+pub mod Attack
+pub mod Position
+pub mod Validity
+pub mod Faultless
+pub mod Start
+pub mod Codes

@@ -1,0 +1,122 @@
+-- How pieces move on a board of 81 cells (JSA playing rules, moves of the pieces).
+use Rattle.std.specs.Prelude.{ℕ, ℤ, pos, negsuc, ◌+ℤ◌, ◌*ℤ◌, ◌-ℤ◌, ◌+◌, ◌*◌, ◌/◌, ◌%◌, ◌==◌, ◌&&◌, ◌||◌, Bool, false, List, [], ◌∷◌, ◌++◌, Option, Some, None, is_none, nat_lt, cond, slice_index_or}
+use Rattle.std.specs.List.{list_any}
+use Rattle.shogi_core.specs.Below.{some_below, all_below}
+use Rattle.shogi_core.specs.declared.piece.Color.{Color}
+use Rattle.shogi_core.specs.declared.piece.Color.TheVariants.{Black, White}
+use Rattle.shogi_core.specs.declared.piece.Role.{Role}
+use Rattle.shogi_core.specs.declared.piece.Role.TheVariants.{King, Pawn, Lance, Knight, Silver, Gold, Bishop, Rook, PromotedPawn, PromotedLance, PromotedKnight, PromotedSilver, Horse, Dragon}
+use Rattle.shogi_core.specs.declared.piece.Piece.{Piece}
+use Rattle.shogi_core.specs.declared.offset.Offset.{Offset}
+
+-- what stands on each square, by index
+abbrev pub Cells : Type 0
+Cells = List (Option Piece)
+
+-- an offset of these changes
+abbrev pub by : ℤ → ℤ → Offset
+by file rank = record { file = file; rank = rank }
+
+-- one square along a file or a rank
+abbrev pub straight : List Offset
+straight = by (pos 0) (negsuc 0) ∷ by (pos 0) (pos 1) ∷ by (pos 1) (pos 0) ∷ by (negsuc 0) (pos 0) ∷ []
+
+-- one square along a diagonal
+abbrev pub diagonal : List Offset
+diagonal = by (pos 1) (negsuc 0) ∷ by (negsuc 0) (negsuc 0) ∷ by (pos 1) (pos 1) ∷ by (negsuc 0) (pos 1) ∷ []
+
+-- one square towards the other side
+abbrev pub forward : List Offset
+forward = by (pos 0) (negsuc 0) ∷ []
+
+-- straight, or diagonally forward
+abbrev pub gold : List Offset
+gold = by (pos 0) (negsuc 0) ∷ by (pos 1) (negsuc 0) ∷ by (negsuc 0) (negsuc 0) ∷ by (pos 1) (pos 0) ∷ by (negsuc 0) (pos 0) ∷ by (pos 0) (pos 1) ∷ []
+
+-- steps and jumps
+abbrev pub steps_of : Role → List Offset
+steps_of King = straight ++ diagonal
+steps_of Pawn = forward
+steps_of Lance = []
+steps_of Knight = by (pos 1) (negsuc 1) ∷ by (negsuc 0) (negsuc 1) ∷ []
+steps_of Silver = forward ++ diagonal
+steps_of Gold = gold
+steps_of Bishop = []
+steps_of Rook = []
+steps_of PromotedPawn = gold
+steps_of PromotedLance = gold
+steps_of PromotedKnight = gold
+steps_of PromotedSilver = gold
+steps_of Horse = straight
+steps_of Dragon = diagonal
+
+-- directions in which it slides
+abbrev pub slides_of : Role → List Offset
+slides_of Lance = forward
+slides_of Bishop = diagonal
+slides_of Horse = diagonal
+slides_of Rook = straight
+slides_of Dragon = straight
+slides_of _ = []
+
+-- the square at a file and a rank, each counted from 0, if there is one
+abbrev pub square_at : ℤ → ℤ → Option ℕ
+square_at (pos file) (pos rank) = cond (nat_lt file 9 && nat_lt rank 9) (Some (file * 9 + rank)) None
+square_at (pos file) (negsuc rank) = None
+square_at (negsuc file) rank = None
+
+-- as the side sees it: White moves the other way
+abbrev pub seen_by : Color → Offset → Offset
+seen_by Black offset = offset
+seen_by White offset = by offset.file (pos 0 -ℤ offset.rank)
+
+-- where n steps by the offset lead from a
+unfoldable pub away : ℕ → Offset → ℕ → Option ℕ
+away n offset a = square_at (pos (a / 9) +ℤ pos n *ℤ offset.file) (pos (a % 9) +ℤ pos n *ℤ offset.rank)
+
+-- there is a square, and it is b
+abbrev pub is_at : Option ℕ → ℕ → Bool
+is_at None b = false
+is_at (Some a) b = a == b
+
+-- n steps by the offset lead from a to b
+abbrev pub leads : ℕ → Offset → ℕ → ℕ → Bool
+leads n offset a b = is_at (away n offset a) b
+
+-- what stands on the square
+abbrev pub piece_at : Cells → ℕ → Option Piece
+piece_at cells a = slice_index_or cells a None
+
+-- there is a square, and nothing stands on it
+abbrev pub is_empty : Cells → Option ℕ → Bool
+is_empty cells (Some a) = is_none (piece_at cells a)
+is_empty cells None = false
+
+-- the square k + 1 steps away is empty
+abbrev pub is_clear : Cells → Offset → ℕ → ℕ → Bool
+is_clear cells offset a k = is_empty cells (away (k + 1) offset a)
+
+-- n + 1 steps lead from a to b, and the n squares between are empty
+abbrev pub slides_past : Cells → Offset → ℕ → ℕ → ℕ → Bool
+slides_past cells offset a b n = leads (n + 1) offset a b && all_below n (is_clear cells offset a)
+
+-- b lies on a slide from a, and each square between is empty
+abbrev pub slides : Cells → Offset → ℕ → ℕ → Bool
+slides cells offset a b = some_below 8 (slides_past cells offset a b)
+
+-- a step or a jump of the piece leads from a to b
+abbrev pub has_step : Piece → ℕ → ℕ → Bool
+has_step piece a b = list_any (λ offset. leads 1 (seen_by piece.color offset) a b) (steps_of piece.role)
+
+-- a free slide of the piece leads from a to b
+abbrev pub has_slide : Cells → Piece → ℕ → ℕ → Bool
+has_slide cells piece a b = list_any (λ offset. slides cells (seen_by piece.color offset) a b) (slides_of piece.role)
+
+-- a piece reaches a square by a step, a jump or a free slide
+abbrev pub cell_reaches : Cells → Option Piece → ℕ → ℕ → Bool
+cell_reaches cells None a b = false
+cell_reaches cells (Some piece) a b = has_step piece a b || has_slide cells piece a b
+
+-- the piece on a has a step, a jump or a free slide to b
+unfoldable pub reaches : Cells → ℕ → ℕ → Bool
+reaches cells a b = cell_reaches cells (piece_at cells a) a b

@@ -1,0 +1,61 @@
+//! What stands on a square.
+
+ghost use Rattle.std.specs.Prelude.{◌≡◌};
+ghost use Rattle.shogi_core.specs.Cell.{is_of, is_king, is_pawn, is_dead};
+ghost use Rattle.shogi_core.specs.Pieces.{is_of_kind};
+
+use crate::piece::{Color, Kind, Piece};
+
+/// Whether a piece of the side stands there.
+pub fn is_of(cell: Option<Piece>, color: Color) -> bool
+    ensures { result ≡ is_of color cell }
+{
+    match cell {
+        None => false,
+        Some(piece) => color.is_same(piece.color),
+    }
+}
+
+/// Whether the king of the side stands there.
+pub fn is_king(cell: Option<Piece>, color: Color) -> bool
+    ensures { result ≡ is_king color cell }
+{
+    match cell {
+        None => false,
+        Some(piece) => color.is_same(piece.color) && piece.role.is_king(),
+    }
+}
+
+/// Whether an unpromoted pawn of the side stands there.
+pub fn is_pawn(cell: Option<Piece>, color: Color) -> bool
+    ensures { result ≡ is_pawn color cell }
+{
+    match cell {
+        None => false,
+        Some(piece) => color.is_same(piece.color) && piece.role.is_pawn(),
+    }
+}
+
+/// Whether a piece of the kind stands there, promoted or not.
+pub fn is_of_kind(cell: Option<Piece>, kind: Kind) -> bool
+    ensures { result ≡ is_of_kind kind cell }
+{
+    match cell {
+        None => false,
+        Some(piece) => match piece.role.kind() {
+            None => false,
+            Some(other) => other.number() == kind.number(),
+        },
+    }
+}
+
+/// Whether a piece stands there, on the square of this index, that could never move again
+/// (JSA playing rules: an unpromoted pawn or lance on its last rank, a knight on its last two).
+pub fn is_dead(cell: Option<Piece>, square: usize) -> bool
+    ensures { result ≡ is_dead square cell }
+{
+    match cell {
+        None => false,
+        Some(piece) => piece.role.is_dead(piece.color, (square % 9) as u8),
+    }
+}

@@ -1,0 +1,25 @@
+//! Squares, pieces, hands, moves and valid positions of shogi.
+#![tactic(auto)]
+
+mod attack;
+mod board;
+mod cell;
+mod hands;
+mod moves;
+mod offset;
+mod piece;
+mod position;
+mod reach;
+mod square;
+mod start;
+mod validity;
+
+pub use board::Board;
+pub use cell::{is_dead, is_of};
+pub use hands::Hands;
+pub use moves::Move;
+pub use offset::Offset;
+pub use piece::{Color, KINDS, Kind, Piece, Role};
+pub use position::Position;
+pub use square::Square;
+pub use validity::PositionFault;

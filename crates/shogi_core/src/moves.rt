@@ -1,0 +1,77 @@
+//! Moves.
+
+ghost use Rattle.std.specs.Prelude.{◌≡◌, ◌<◌, ◌≤◌, ◌↔◌, IsNone, IfSome, Some};
+ghost use Rattle.shogi_core.specs.Codes.{code_of, move_of, kind_at};
+
+use crate::piece::Kind;
+use crate::square::Square;
+
+/// A move of a piece on the board, or a drop of a held one. It need not be legal anywhere.
+#[derive(Clone, Copy, Debug, PartialEq, Eq, Hash)]
+pub enum Move {
+    Board {
+        from: Square,
+        to: Square,
+        promote: bool,
+    },
+    Drop {
+        kind: Kind,
+        to: Square,
+    },
+}
+
+/// The kind of a number from 0 to 6.
+fn kind_at(n: usize) -> Kind
+    ensures { result ≡ kind_at n }
+{
+    match n {
+        0 => Kind::Pawn,
+        1 => Kind::Lance,
+        2 => Kind::Knight,
+        3 => Kind::Silver,
+        4 => Kind::Gold,
+        5 => Kind::Bishop,
+        _ => Kind::Rook,
+    }
+}
+
+impl Move {
+    /// Its place in the order of all moves, from 0 to 13,688 (own choice).
+    #[tactic(auto, using(crate::proofs::CodesBack::codes_back))]
+    pub fn code(self) -> u16
+        ensures code { result ≡ code_of self }
+        ensures range { result < 13689 }
+        ensures back { move_of result ≡ Some self }
+    {
+        match self {
+            Move::Board { from, to, promote } => {
+                let squares = from.index() * 81 + to.index();
+                (squares * 2 + if promote { 1 } else { 0 }) as u16
+            }
+            Move::Drop { kind, to } => (13122 + kind.number() * 81 + to.index()) as u16,
+        }
+    }
+
+    /// The move of a code, or `None` from 13,689 up.
+    pub fn of_code(code: u16) -> Option<Move>
+        ensures value { result ≡ move_of code }
+        ensures none { IsNone result ↔ (13689 ≤ code) }
+        ensures back { IfSome result (λ m. code_of m ≡ code) }
+    {
+        let code = code as usize;
+        if code < 13122 {
+            return Some(Move::Board {
+                from: Square::of_index(code / 2 / 81),
+                to: Square::of_index(code / 2 % 81),
+                promote: code % 2 == 1,
+            });
+        }
+        if code < 13689 {
+            return Some(Move::Drop {
+                kind: kind_at((code - 13122) / 81),
+                to: Square::of_index((code - 13122) % 81),
+            });
+        }
+        None
+    }
+}

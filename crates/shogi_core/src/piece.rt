@@ -1,0 +1,196 @@
+//! Pieces: a colour and a role.
+
+ghost use Rattle.std.specs.Prelude.{◌≡◌, ◌<◌};
+ghost use Rattle.shogi_core.specs.Pieces.{opponent_of, number_of, set_size, kind_of, is_same_color, role_of, promoted};
+ghost use Rattle.shogi_core.specs.Cell.{is_king_role, is_pawn_role, is_dead_role};
+
+/// A side.
+#[derive(Clone, Copy, Debug, PartialEq, Eq, Hash)]
+pub enum Color {
+    Black,
+    White,
+}
+
+/// A kind of piece that can be held in hand.
+#[derive(Clone, Copy, Debug, PartialEq, Eq, Hash)]
+pub enum Kind {
+    Pawn,
+    Lance,
+    Knight,
+    Silver,
+    Gold,
+    Bishop,
+    Rook,
+}
+
+/// What a piece on the board is.
+#[derive(Clone, Copy, Debug, PartialEq, Eq, Hash)]
+pub enum Role {
+    King,
+    Pawn,
+    Lance,
+    Knight,
+    Silver,
+    Gold,
+    Bishop,
+    Rook,
+    PromotedPawn,
+    PromotedLance,
+    PromotedKnight,
+    PromotedSilver,
+    Horse,
+    Dragon,
+}
+
+/// A piece on the board.
+#[derive(Clone, Copy, Debug, PartialEq, Eq, Hash)]
+pub struct Piece {
+    pub color: Color,
+    pub role: Role,
+}
+
+/// The kinds in the order of their numbers.
+pub const KINDS: [Kind; 7] = [
+    Kind::Pawn,
+    Kind::Lance,
+    Kind::Knight,
+    Kind::Silver,
+    Kind::Gold,
+    Kind::Bishop,
+    Kind::Rook,
+];
+
+impl Color {
+    /// The other side.
+    pub fn opponent(self) -> Color
+        ensures { result ≡ opponent_of self }
+    {
+        match self {
+            Color::Black => Color::White,
+            Color::White => Color::Black,
+        }
+    }
+
+    /// Whether the two are one side.
+    pub fn is_same(self, other: Color) -> bool
+        ensures { result ≡ is_same_color self other }
+    {
+        match (self, other) {
+            (Color::Black, Color::Black) => true,
+            (Color::White, Color::White) => true,
+            _ => false,
+        }
+    }
+}
+
+impl Kind {
+    /// Its place among the kinds, from 0 to 6: pawn, lance, knight, silver, gold, bishop, rook.
+    pub fn number(self) -> usize
+        ensures number { result ≡ number_of self }
+        ensures range { result < 7 }
+    {
+        match self {
+            Kind::Pawn => 0,
+            Kind::Lance => 1,
+            Kind::Knight => 2,
+            Kind::Silver => 3,
+            Kind::Gold => 4,
+            Kind::Bishop => 5,
+            Kind::Rook => 6,
+        }
+    }
+
+    /// How many pieces of the kind one set has, promoted ones counted.
+    pub fn set_size(self) -> usize
+        ensures { result ≡ set_size self }
+    {
+        match self {
+            Kind::Pawn => 18,
+            Kind::Lance => 4,
+            Kind::Knight => 4,
+            Kind::Silver => 4,
+            Kind::Gold => 4,
+            Kind::Bishop => 2,
+            Kind::Rook => 2,
+        }
+    }
+}
+
+impl Role {
+    /// What a piece of the role is in hand, or `None` for a king.
+    pub fn kind(self) -> Option<Kind>
+        ensures { result ≡ kind_of self }
+    {
+        match self {
+            Role::King => None,
+            Role::Pawn | Role::PromotedPawn => Some(Kind::Pawn),
+            Role::Lance | Role::PromotedLance => Some(Kind::Lance),
+            Role::Knight | Role::PromotedKnight => Some(Kind::Knight),
+            Role::Silver | Role::PromotedSilver => Some(Kind::Silver),
+            Role::Gold => Some(Kind::Gold),
+            Role::Bishop | Role::Horse => Some(Kind::Bishop),
+            Role::Rook | Role::Dragon => Some(Kind::Rook),
+        }
+    }
+
+    /// Whether it is the king.
+    pub fn is_king(self) -> bool
+        ensures { result ≡ is_king_role self }
+    {
+        matches!(self, Role::King)
+    }
+
+    /// Whether it is an unpromoted pawn.
+    pub fn is_pawn(self) -> bool
+        ensures { result ≡ is_pawn_role self }
+    {
+        matches!(self, Role::Pawn)
+    }
+
+    /// Whether a piece of the role and side could never move again from the rank, counted from 0.
+    pub fn is_dead(self, color: Color, rank: u8) -> bool
+        ensures { result ≡ is_dead_role color self rank }
+    {
+        match (color, self) {
+            (Color::Black, Role::Pawn | Role::Lance) => rank < 1,
+            (Color::Black, Role::Knight) => rank < 2,
+            (Color::White, Role::Pawn | Role::Lance) => rank > 7,
+            (Color::White, Role::Knight) => rank > 6,
+            _ => false,
+        }
+    }
+
+    /// What it becomes by promotion; king, gold and promoted roles stay as they are.
+    pub fn promoted(self) -> Role
+        ensures { result ≡ promoted self }
+    {
+        match self {
+            Role::Pawn => Role::PromotedPawn,
+            Role::Lance => Role::PromotedLance,
+            Role::Knight => Role::PromotedKnight,
+            Role::Silver => Role::PromotedSilver,
+            Role::Bishop => Role::Horse,
+            Role::Rook => Role::Dragon,
+            other => other,
+        }
+    }
+}
+
+/// The unpromoted role, as a piece of the kind is dropped.
+impl From<Kind> for Role {
+    ghost from_gives = { λ kind role. role ≡ role_of kind };
+
+    fn from(kind: Kind) -> Role
+        ensures { result ≡ role_of kind }
+    {
+        match kind {
+            Kind::Pawn => Role::Pawn,
+            Kind::Lance => Role::Lance,
+            Kind::Knight => Role::Knight,
+            Kind::Silver => Role::Silver,
+            Kind::Gold => Role::Gold,
+            Kind::Bishop => Role::Bishop,
+            Kind::Rook => Role::Rook,
+        }
+    }
+}

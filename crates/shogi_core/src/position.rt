@@ -1,0 +1,114 @@
+//! Positions: what stands on the board, what each side holds, and whose turn it is.
+
+ghost use Rattle.std.specs.Prelude.{◌≡◌, Ok, Err, None, Some, MatchOption};
+ghost use Rattle.shogi_core.specs.Movement.{reaches, piece_at};
+ghost use Rattle.shogi_core.specs.Position.{Shogi, held};
+ghost use Rattle.shogi_core.specs.Validity.{IsValid, fault_of};
+
+use crate::board::Board;
+use crate::hands::Hands;
+use crate::piece::{Color, Kind, Piece};
+use crate::square::Square;
+use crate::validity::{PositionFault, fault};
+use std::marker::Model;
+
+/// A valid position: what stands on the board, what both sides hold, and whose turn it is.
+#[derive(Clone, Copy, Debug, PartialEq, Eq, Hash)]
+pub struct Position {
+    board: Board,
+    hands: Hands,
+    side: Color,
+}
+
+impl Model for Position {
+    ghost use Rattle.shogi_core.specs.Position.{Shogi};
+    ghost use Rattle.shogi_core.specs.Validity.{IsValid};
+
+    ghost Value = { Shogi };
+
+    ghost view = { λ p. record { cells = p.board; hands = p.hands; side = p.side } };
+
+    ghost invariant = { λ p. IsValid (record { cells = p.board; hands = p.hands; side = p.side }) };
+
+    ghost inverse = { λ p. record { board = p.cells; hands = p.hands; side = p.side } };
+}
+
+impl Position {
+    /// The position of these parts, or the first of their faults in the order of `PositionFault`.
+    /// A side may have no king (own choice).
+    pub fn new(
+        cells: [Option<Piece>; 81],
+        hands: Hands,
+        side: Color,
+    ) -> Result<Position, PositionFault>
+        ensures { let parts : Shogi = record { cells = cells; hands = hands; side = side } in
+            MatchOption (fault_of parts) (result ≡ Ok parts) (λ fault. result ≡ Err fault) }
+    {
+        match fault(&cells, hands, side) {
+            Some(fault) => Err(fault),
+            None => Ok(Position {
+                board: Board::of(cells),
+                hands,
+                side,
+            }),
+        }
+    }
+
+    /// The position of parts that have none of the faults.
+    pub fn of_valid(board: Board, hands: Hands, side: Color) -> Position
+        requires { fault_of (record { cells = board; hands = hands; side = side }) ≡ None }
+        ensures { result ≡ record { cells = board; hands = hands; side = side } }
+    {
+        Position { board, hands, side }
+    }
+
+    /// The board.
+    pub fn board(&self) -> Board
+        ensures { result ≡ self.now.cells }
+    {
+        self.board
+    }
+
+    /// What both sides hold.
+    pub fn hands(&self) -> Hands
+        ensures { result ≡ self.now.hands }
+    {
+        self.hands
+    }
+
+    /// The side to move.
+    pub fn side(&self) -> Color
+        ensures { result ≡ self.now.side }
+    {
+        self.side
+    }
+
+    /// How many pieces of the kind the side holds.
+    pub fn hand(&self, color: Color, kind: Kind) -> u8
+        ensures { result ≡ held self.now.hands color kind }
+    {
+        self.hands.count(color, kind)
+    }
+
+    /// What stands on the square.
+    pub fn at(&self, square: Square) -> Option<Piece>
+        ensures { result ≡ piece_at self.now.cells square }
+    {
+        self.board.at(square)
+    }
+
+    /// Whether the piece on the one square has a step, a jump or a free slide to the other;
+    /// false where the first is empty.
+    pub fn reaches(&self, from: Square, to: Square) -> bool
+        ensures { result ≡ reaches self.now.cells from to }
+    {
+        self.board.reaches(from, to)
+    }
+
+    /// Tells that the position is valid.
+    pub fn validity(&self)
+        ensures { IsValid self.now }
+    {
+        let _ = &self.board;
+    }
+}

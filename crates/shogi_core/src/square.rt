@@ -1,0 +1,117 @@
+//! Squares of the board.
+
+ghost use Rattle.std.specs.Prelude.{◌≡◌, ◌<◌, ◌+◌, ◌/◌, ◌%◌, IfSome, ◌≤ℤ◌, ◌+ℤ◌, ◌*ℤ◌, pos, negsuc, IsSome, ◌↔◌};
+ghost use Rattle.shogi_core.specs.Squares.{IsOnBoard, index_of};
+ghost use Rattle.shogi_core.specs.Movement.{away, seen_by, square_at};
+
+use crate::offset::Offset;
+use crate::piece::Color;
+use std::marker::Model;
+
+/// A square, seen as its index: `1a` is 0, `1i` is 8, `5a` is 36 and `9i` is 80.
+#[derive(Clone, Copy, Debug, PartialEq, Eq, Hash)]
+pub struct Square {
+    index: u8,
+}
+
+impl Model for Square {
+    ghost use Rattle.std.specs.Prelude.{ℕ, ◌<◌};
+
+    ghost Value = { ℕ };
+
+    ghost view = { λ s. s.index };
+
+    ghost invariant = { λ s. s.index < 81 };
+
+    ghost inverse = { λ n. record { index = n } };
+}
+
+impl Square {
+    /// The square of a file and a rank, each from 1 to 9, and `None` for any other numbers.
+    pub fn new(file: u8, rank: u8) -> Option<Square>
+        ensures on_board { IsSome result ↔ IsOnBoard file rank }
+        ensures index { IfSome result (λ square. square ≡ index_of file rank) }
+    {
+        if file < 1 || file > 9 || rank < 1 || rank > 9 {
+            return None;
+        }
+        Some(Square {
+            index: (file - 1) * 9 + (rank - 1),
+        })
+    }
+
+    /// The index, from 0 to 80: file by file, and on each file rank by rank.
+    pub fn index(self) -> usize
+        ensures index { result ≡ self }
+        ensures range { result < 81 }
+    {
+        self.index as usize
+    }
+
+    /// The file, from 1 at Black's right to 9.
+    pub fn file(self) -> u8
+        ensures { result ≡ self / 9 + 1 }
+    {
+        self.index / 9 + 1
+    }
+
+    /// The rank, from 1 at White's side to 9; USI writes it as a letter from `a` to `i`.
+    pub fn rank(self) -> u8
+        ensures { result ≡ self % 9 + 1 }
+    {
+        self.index % 9 + 1
+    }
+}
+
+impl Square {
+    /// The square of an index below 81.
+    pub fn of_index(index: usize) -> Square
+        requires { index < 81 }
+        ensures { result ≡ index }
+    {
+        Square { index: index as u8 }
+    }
+
+    /// The square at a file and a rank, each counted from 0, if there is one.
+    fn at(file: i32, rank: i32) -> Option<Square>
+        ensures { result ≡ square_at file rank }
+    {
+        if file < 0 || file > 8 || rank < 0 || rank > 8 {
+            return None;
+        }
+        Some(Square {
+            index: (file as u8) * 9 + rank as u8,
+        })
+    }
+
+    /// Where n steps by the side's offset lead, if they stay on the board.
+    #[tactic(auto, unfolding(crate::specs::Movement::away))]
+    pub fn away(self, n: u8, offset: Offset, color: Color) -> Option<Square>
+        requires { n < 9 }
+        ensures { result ≡ away n (seen_by color offset) self }
+    {
+        let file = shifted(self.index / 9, n, offset.file as i32);
+        let rank = shifted(self.index % 9, n, ahead(offset, color));
+        Square::at(file, rank)
+    }
+}
+
+/// The change of rank as the side sees it.
+fn ahead(offset: Offset, color: Color) -> i32
+    ensures rank { result ≡ (seen_by color offset).rank }
+    ensures small { (negsuc 127 ≤ℤ result) × (result ≤ℤ pos 128) }
+{
+    match color {
+        Color::Black => offset.rank as i32,
+        Color::White => 0 - offset.rank as i32,
+    }
+}
+
+/// Where n steps of the change lead along a file or a rank.
+fn shifted(start: u8, n: u8, by: i32) -> i32
+    requires n { n < 9 }
+    requires small { (negsuc 127 ≤ℤ by) × (by ≤ℤ pos 128) }
+    ensures { result ≡ pos start +ℤ pos n *ℤ by }
+{
+    start as i32 + n as i32 * by
+}

@@ -1,0 +1,223 @@
+//! The opening position.
+
+ghost use Rattle.std.specs.Prelude.{◌≡◌};
+ghost use Rattle.shogi_core.specs.Start.{start, start_cells};
+
+use crate::board::Board;
+use crate::hands::Hands;
+use crate::piece::{Color, Piece, Role};
+use crate::position::Position;
+
+const START: [Option<Piece>; 81] = [
+    Some(Piece {
+        color: Color::White,
+        role: Role::Lance,
+    }),
+    None,
+    Some(Piece {
+        color: Color::White,
+        role: Role::Pawn,
+    }),
+    None,
+    None,
+    None,
+    Some(Piece {
+        color: Color::Black,
+        role: Role::Pawn,
+    }),
+    None,
+    Some(Piece {
+        color: Color::Black,
+        role: Role::Lance,
+    }),
+    Some(Piece {
+        color: Color::White,
+        role: Role::Knight,
+    }),
+    Some(Piece {
+        color: Color::White,
+        role: Role::Bishop,
+    }),
+    Some(Piece {
+        color: Color::White,
+        role: Role::Pawn,
+    }),
+    None,
+    None,
+    None,
+    Some(Piece {
+        color: Color::Black,
+        role: Role::Pawn,
+    }),
+    Some(Piece {
+        color: Color::Black,
+        role: Role::Rook,
+    }),
+    Some(Piece {
+        color: Color::Black,
+        role: Role::Knight,
+    }),
+    Some(Piece {
+        color: Color::White,
+        role: Role::Silver,
+    }),
+    None,
+    Some(Piece {
+        color: Color::White,
+        role: Role::Pawn,
+    }),
+    None,
+    None,
+    None,
+    Some(Piece {
+        color: Color::Black,
+        role: Role::Pawn,
+    }),
+    None,
+    Some(Piece {
+        color: Color::Black,
+        role: Role::Silver,
+    }),
+    Some(Piece {
+        color: Color::White,
+        role: Role::Gold,
+    }),
+    None,
+    Some(Piece {
+        color: Color::White,
+        role: Role::Pawn,
+    }),
+    None,
+    None,
+    None,
+    Some(Piece {
+        color: Color::Black,
+        role: Role::Pawn,
+    }),
+    None,
+    Some(Piece {
+        color: Color::Black,
+        role: Role::Gold,
+    }),
+    Some(Piece {
+        color: Color::White,
+        role: Role::King,
+    }),
+    None,
+    Some(Piece {
+        color: Color::White,
+        role: Role::Pawn,
+    }),
+    None,
+    None,
+    None,
+    Some(Piece {
+        color: Color::Black,
+        role: Role::Pawn,
+    }),
+    None,
+    Some(Piece {
+        color: Color::Black,
+        role: Role::King,
+    }),
+    Some(Piece {
+        color: Color::White,
+        role: Role::Gold,
+    }),
+    None,
+    Some(Piece {
+        color: Color::White,
+        role: Role::Pawn,
+    }),
+    None,
+    None,
+    None,
+    Some(Piece {
+        color: Color::Black,
+        role: Role::Pawn,
+    }),
+    None,
+    Some(Piece {
+        color: Color::Black,
+        role: Role::Gold,
+    }),
+    Some(Piece {
+        color: Color::White,
+        role: Role::Silver,
+    }),
+    None,
+    Some(Piece {
+        color: Color::White,
+        role: Role::Pawn,
+    }),
+    None,
+    None,
+    None,
+    Some(Piece {
+        color: Color::Black,
+        role: Role::Pawn,
+    }),
+    None,
+    Some(Piece {
+        color: Color::Black,
+        role: Role::Silver,
+    }),
+    Some(Piece {
+        color: Color::White,
+        role: Role::Knight,
+    }),
+    Some(Piece {
+        color: Color::White,
+        role: Role::Rook,
+    }),
+    Some(Piece {
+        color: Color::White,
+        role: Role::Pawn,
+    }),
+    None,
+    None,
+    None,
+    Some(Piece {
+        color: Color::Black,
+        role: Role::Pawn,
+    }),
+    Some(Piece {
+        color: Color::Black,
+        role: Role::Bishop,
+    }),
+    Some(Piece {
+        color: Color::Black,
+        role: Role::Knight,
+    }),
+    Some(Piece {
+        color: Color::White,
+        role: Role::Lance,
+    }),
+    None,
+    Some(Piece {
+        color: Color::White,
+        role: Role::Pawn,
+    }),
+    None,
+    None,
+    None,
+    Some(Piece {
+        color: Color::Black,
+        role: Role::Pawn,
+    }),
+    None,
+    Some(Piece {
+        color: Color::Black,
+        role: Role::Lance,
+    }),
+];
+
+impl Position {
+    /// The opening position.
+    #[tactic(auto, using(crate::proofs::Opening::start_fine))]
+    pub fn start() -> Position
+        ensures { result ≡ start }
+    {
+        Position::of_valid(Board::of(START), Hands::none(), Color::Black)
+    }
+}
