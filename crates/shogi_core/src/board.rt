@@ -52,8 +52,8 @@ impl Board {
     pub fn put(self, square: Square, piece: Option<Piece>) -> Board
         ensures { result ≡ slice_set self square piece }
     {
-        let mut cells = self.cells;
-        cells[square.index()] = piece;
-        Board { cells }
+        let mut board = self;
+        board.cells[square.index()] = piece;
+        board
     }
 }

@@ -12,6 +12,8 @@ mod position;
 mod reach;
 mod square;
 mod start;
+#[cfg(test)]
+mod tests;
 mod validity;
 
 pub use board::Board;
