@@ -1,0 +1,59 @@
+-- The entries of a table as a list, the most recently used first (own choice).
+use Rattle.std.specs.Prelude.{◌≡◌, ◌≤◌, ◌∷◌, ◌==◌, ℕ, Bool, cond, List, Option, Contains, take, [], ◌+◌}
+use Rattle.std.specs.Map.{lookup, remove_entry}
+use Rattle.std.specs.Option.{option_map_or}
+use Rattle.shared_table.specs.Keys.{is_same_key}
+use Rattle.shared_table.specs.declared.key.TableKey.{TableKey}
+use Rattle.shogi_search.specs.Minimax.{IsTrueEntry}
+use Rattle.shogi_search.specs.declared.memo.Entry.{Entry}
+
+-- a key with its entry
+abbrev pub Pair : Type 0
+Pair = TableKey × Entry
+
+-- the pairs, the most recently used first, and how many there may be
+pub record Table : Type 0 where
+  pub pairs : List Pair
+  pub capacity : ℕ
+
+-- the entry under the key, or none
+abbrev pub entry_of : List Pair → TableKey → Option Entry
+entry_of pairs key = lookup (is_same_key key) pairs
+
+-- the pairs without that of the key
+abbrev pub without : TableKey → List Pair → List Pair
+without key pairs = remove_entry (is_same_key key) pairs
+
+-- after a probe the key's pair is the first; where there is none, all stays
+abbrev pub probed : TableKey → List Pair → List Pair
+probed key pairs =
+    option_map_or (λ entry. (key, entry) ∷ without key pairs) (entry_of pairs key) pairs
+
+-- after a note the key has this entry and is the first, and what is past the capacity is dropped
+abbrev pub noted : ℕ → TableKey → Entry → List Pair → List Pair
+noted capacity key entry pairs = take capacity ((key, entry) ∷ without key pairs)
+
+-- each entry is true of its position and depth
+abbrev pub AreTrue : List Pair → Type 0
+AreTrue pairs = (key : TableKey) (entry : Entry) → Contains pairs (key, entry)
+    → IsTrueEntry key.position key.depth entry
+
+-- the pair has depth 0
+abbrev pub is_leaf : Pair → Bool
+is_leaf pair = pair.0.depth == 0
+
+-- how many pairs have depth 0
+abbrev pub leaf_count : List Pair → ℕ
+leaf_count [] = 0
+leaf_count (pair ∷ pairs) = cond (is_leaf pair) 1 0 + leaf_count pairs
+
+-- one where there is a pair and it has depth 0
+abbrev pub leaf_of : Option Pair → ℕ
+leaf_of pair = option_map_or (λ p. cond (is_leaf p) 1 0) pair 0
+
+-- what holds of a table with so many entries of depth 0
+pub record IsTable (pairs : List Pair) (capacity leaves : ℕ) : Type 0 where
+  pub truth : AreTrue pairs
+  pub counted : leaves ≡ leaf_count pairs
+  pub least : 1 ≤ capacity
+  pub most : capacity ≤ 1000000

@@ -1,0 +1,11 @@
+//! A bounded table of searched positions, least recently used first out.
+#![tactic(auto)]
+
+mod key;
+mod table;
+
+pub use key::TableKey;
+pub use table::{SharedTable, TableFault};
+
+#[cfg(test)]
+mod tests;

@@ -1,0 +1,181 @@
+//! The table: a bounded map whose entries are ordered by their last use.
+
+ghost use Rattle.std.specs.Prelude.{◌≡◌, ◌≤◌, ◌⊎◌, ◌==◌, cond, [], length, None, IfOk};
+ghost use Rattle.lru.specs.LruCache.{lru_cache, promoted};
+ghost use Rattle.std.specs.List.{IsDistinct};
+ghost use Rattle.std.specs.Map.{keys_of};
+ghost use Rattle.std.specs.Map.Iter.{ShowsInOrder, deref_pair};
+ghost use Rattle.shared_table.specs.Keys.{is_same_key, key_of};
+ghost use Rattle.shared_table.specs.Recent.{AreTrue, entry_of, leaf_count, leaf_of, noted, probed};
+ghost use Rattle.shared_table.specs.declared.table.TableFault.TheVariants.{OutOfMemory};
+
+use crate::key::TableKey;
+use lru::{Iter, LruCache};
+use shogi_core::Position;
+use shogi_search::{Entry, Memo};
+use std::alloc::{AllocError, Allocator};
+use std::hash::BuildHasher;
+use std::marker::Model;
+use std::num::NonZeroUsize;
+
+/// Why a table could not be made.
+#[derive(Clone, Copy, Debug, PartialEq, Eq)]
+pub enum TableFault {
+    /// Memory ran out.
+    OutOfMemory,
+}
+
+impl From<AllocError> for TableFault {
+    ghost from_gives = { λ _ fault. fault ≡ OutOfMemory };
+
+    fn from(_error: AllocError) -> TableFault {
+        TableFault::OutOfMemory
+    }
+}
+
+/// A bounded table of searched positions, seen as its pairs, the most recently used first, and its
+/// capacity. Each entry is true.
+#[derive(Drop)]
+pub struct SharedTable<S: BuildHasher, A: Allocator> {
+    cache: LruCache<TableKey, Entry, S, A>,
+    // How many entries have depth 0.
+    leaves: usize,
+}
+
+impl<S: BuildHasher, A: Allocator> Model for SharedTable<S, A> {
+    ghost use Rattle.shared_table.specs.Recent.{IsTable, Table};
+
+    ghost Value = { Table };
+
+    ghost view = { λ t. record { pairs = t.cache.entries; capacity = t.cache.cap } };
+
+    ghost invariant = { λ t. IsTable t.cache.entries t.cache.cap t.leaves };
+}
+
+impl<S: BuildHasher + Drop, A: Allocator + Clone> SharedTable<S, A> {
+    /// An empty table for `capacity` entries, from 1 to 1,000,000.
+    pub fn new(alloc: A, capacity: usize, hasher: S) -> Result<SharedTable<S, A>, TableFault>
+        requires least { 1 ≤ capacity }
+        requires most { capacity ≤ 1000000 }
+        ensures { IfOk result (λ table. table ≡ record { pairs = []; capacity = capacity }) }
+    {
+        let bound = NonZeroUsize::new(capacity).unwrap();
+        let cache = LruCache::with_hasher(alloc, bound, hasher)?;
+        Ok(SharedTable { cache, leaves: 0 })
+    }
+}
+
+impl<S: BuildHasher, A: Allocator> SharedTable<S, A> {
+    /// The entry of the position at the depth. The order stays.
+    pub fn peek(&self, p: &Position, d: u8) -> Option<Entry>
+        ensures { result ≡ entry_of self.now.pairs (key_of p.now d) }
+    {
+        let key = TableKey {
+            position: *p,
+            depth: d,
+        };
+        self.cache.peek(&key).copied()
+    }
+
+    /// How many entries there are.
+    pub fn len(&self) -> usize
+        ensures len { result ≡ length self.now.pairs }
+        ensures fits { result ≤ self.now.capacity }
+        ensures keys { IsDistinct is_same_key (keys_of self.now.pairs) }
+    {
+        self.cache.len()
+    }
+
+    /// The keys with their entries, the most recently used first.
+    pub fn entries(&self) -> Iter<'_, TableKey, Entry>
+        ensures rest { result ≡ self.now.pairs }
+        ensures runs { ShowsInOrder (deref_pair {K = TableKey} {X = Entry}) }
+        ensures truth { AreTrue self.now.pairs }
+    {
+        self.cache.iter()
+    }
+}
+
+impl<S: BuildHasher, A: Allocator + Clone> Memo for SharedTable<S, A> {
+    ghost use Rattle.std.specs.Prelude.{IfSome};
+    ghost use Rattle.shogi_search.specs.Minimax.{IsTrueEntry};
+
+    ghost answers = { λ table p d. entry_of table.pairs (key_of p d) };
+
+    fn probe(&mut self, p: &Position, d: u8) -> Option<Entry>
+        ensures answer { result ≡ entry_of self.old.pairs (key_of p.now d) }
+        ensures truth { IfSome result (IsTrueEntry p.now d) }
+        ensures used { self.new ≡ record self.old { pairs = probed (key_of p.now d) self.old.pairs } }
+    {
+        if d == 0 && self.leaves == 0 {
+            return None;
+        }
+        let key = TableKey {
+            position: *p,
+            depth: d,
+        };
+        recall(&mut self.cache, &key)
+    }
+
+    fn note(&mut self, p: &Position, d: u8, entry: Entry)
+        requires truth { IsTrueEntry p.now d entry }
+        requires depth { d ≤ 16 }
+        ensures noted { (self.new ≡ record self.old { pairs = noted self.old.capacity (key_of p.now d) entry self.old.pairs })
+            ⊎ ((entry_of self.old.pairs (key_of p.now d) ≡ None) × (self.new ≡ self.old)) }
+    {
+        let key = TableKey {
+            position: *p,
+            depth: d,
+        };
+        let leaves = remember(&mut self.cache, self.leaves, key, entry);
+        self.leaves = leaves;
+    }
+}
+
+// The entry under the key, which becomes the most recently used.
+fn recall<S: BuildHasher, A: Allocator>(
+    cache: &mut LruCache<TableKey, Entry, S, A>,
+    key: &TableKey,
+) -> Option<Entry>
+    ensures value { result ≡ entry_of cache.old.entries key.now }
+    ensures entries { cache.new ≡ lru_cache (promoted (is_same_key key.now) cache.old.entries) cache.old.cap }
+{
+    cache.get(key).copied()
+}
+
+// Puts the entry under the key, or leaves all as it is where a new key finds no memory. Gives the
+// number of entries of depth 0.
+fn remember<S: BuildHasher, A: Allocator + Clone>(
+    cache: &mut LruCache<TableKey, Entry, S, A>,
+    leaves: usize,
+    key: TableKey,
+    entry: Entry,
+) -> usize
+    requires { leaves ≡ leaf_count cache.old.entries }
+    ensures noted { (cache.new ≡ lru_cache (noted cache.old.cap key entry cache.old.entries) cache.old.cap)
+        ⊎ ((entry_of cache.old.entries key ≡ None) × (cache.new ≡ cache.old)) }
+    ensures leaves { result ≡ leaf_count cache.new.entries }
+{
+    cache.len();
+    let added = tally(key.depth);
+    match cache.push(key, entry) {
+        Ok(lost) => leaves + added - leaf(&lost),
+        Err(_) => leaves,
+    }
+}
+
+// One where there is a pair and it has depth 0.
+fn leaf(pair: &Option<(TableKey, Entry)>) -> usize
+    ensures { result ≡ leaf_of pair.now }
+{
+    match pair {
+        Some((key, _)) => tally(key.depth),
+        None => 0,
+    }
+}
+
+fn tally(depth: u8) -> usize
+    ensures { result ≡ cond (depth == 0) 1 0 }
+{
+    if depth == 0 { 1 } else { 0 }
+}

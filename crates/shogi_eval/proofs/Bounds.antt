@@ -1,0 +1,91 @@
+-- One set of pieces bounds what a side has.
+use Rattle.std.proofs.Common.{◌≡◌, ◌≤◌, ◌+◌, ◌*◌, ℕ, ℤ, pos, negsuc, ◌≤ℤ◌, List, [], ◌∷◌, Bool, true, false, cond, Option, Some, None, refl, arith}
+use Rattle.std.specs.Prelude.{count_by, sum_by}
+use Rattle.std.proofs.lemmas.List.Sums.{sum_by-cons}
+use Rattle.std.proofs.lemmas.Int.{ints}
+use Rattle.shogi_core.specs.declared.piece.Color.{Color}
+use Rattle.shogi_core.specs.declared.piece.Color.TheVariants.{Black, White}
+use Rattle.shogi_core.specs.declared.piece.Kind.{Kind}
+use Rattle.shogi_core.specs.declared.piece.Kind.TheVariants as kinds
+use Rattle.shogi_core.specs.declared.piece.Role.{Role}
+use Rattle.shogi_core.specs.declared.piece.Role.TheVariants.{King, Pawn, Lance, Knight, Silver, Gold, Bishop, Rook, PromotedPawn, PromotedLance, PromotedKnight, PromotedSilver, Horse, Dragon}
+use Rattle.shogi_core.specs.declared.piece.Piece.{Piece}
+use Rattle.shogi_core.specs.Movement.{Cells}
+use Rattle.shogi_core.specs.Pieces.{is_of_kind, opponent_of}
+use Rattle.shogi_core.specs.Position.{Shogi, Held, held}
+use Rattle.shogi_core.specs.Validity.{IsValid, count_of}
+use Rattle.shogi_core.specs.Faultless.{IsFaultless}
+use Rattle.shogi_core.proofs.Faults.{faultless_from}
+use Rattle.shogi_eval.specs.Material.{points_at, points_on_board, points_in_hand, points_of, material_of}
+
+-- one where the cell holds a piece of the kind
+abbrev tally : Kind → Option Piece → ℕ
+tally kind cell = cond (is_of_kind kind cell) 1 0
+
+-- a value of each kind that no piece of it passes
+abbrev most : (Kind → ℕ) → ℕ
+most n = 600 * n kinds.Pawn + 600 * n kinds.Lance + 600 * n kinds.Knight + 600 * n kinds.Silver + 600 * n kinds.Gold + 1100 * n kinds.Bishop + 1300 * n kinds.Rook
+
+role_within : (color : Color) (side : Color) (role : Role) → points_at color (Some (record { color = side; role = role })) ≤ most (λ kind. tally kind (Some (record { color = side; role = role })))
+role_within Black Black King = omega arith
+role_within Black Black _ = omega arith
+role_within White White King = omega arith
+role_within White White _ = omega arith
+role_within Black White _ = omega arith
+role_within White Black _ = omega arith
+
+cell_within : (color : Color) (cell : Option Piece) → points_at color cell ≤ most (λ kind. tally kind cell)
+cell_within color None = omega arith
+cell_within color (Some piece) = role_within color piece.color piece.role
+
+board_within : (color : Color) (cells : Cells) → points_on_board cells color ≤ most (λ kind. count_by (is_of_kind kind) cells)
+board_within color [] = omega arith
+board_within color (cell ∷ cells) =
+    let ih : points_on_board cells color ≤ most (λ kind. count_by (is_of_kind kind) cells) = board_within color cells in
+    let here : points_at color cell ≤ most (λ kind. tally kind cell) = cell_within color cell in
+    let s : points_on_board (cell ∷ cells) color ≡ points_at color cell + points_on_board cells color = sum_by-cons (points_at color) cell cells in
+    let c : (kind : Kind) → count_by (is_of_kind kind) (cell ∷ cells) ≡ tally kind cell + count_by (is_of_kind kind) cells = λ kind. sum_by-cons (tally kind) cell cells in
+    omega (arith, c kinds.Pawn, c kinds.Lance, c kinds.Knight, c kinds.Silver, c kinds.Gold, c kinds.Bishop, c kinds.Rook)
+
+hand_within : (hands : Held) (color : Color) → points_in_hand hands color ≤ most (λ kind. held hands color kind)
+hand_within hands color = omega arith
+
+-- a side holds no more of a kind than both do
+side_within : (cells : Cells) (hands : Held) (color : Color) (kind : Kind) → count_by (is_of_kind kind) cells + held hands color kind ≤ count_of kind cells hands
+side_within cells hands Black kind = omega arith
+side_within cells hands White kind = omega arith
+
+faultless_within : (p : Shogi) (color : Color) → IsFaultless p → points_of p color ≤ 25200
+unfolding points_of
+faultless_within p color h =
+    let board : points_on_board p.cells color ≤ most (λ kind. count_by (is_of_kind kind) p.cells) = board_within color p.cells in
+    let hand : points_in_hand p.hands color ≤ most (λ kind. held p.hands color kind) = hand_within p.hands color in
+    let s : (kind : Kind) → count_by (is_of_kind kind) p.cells + held p.hands color kind ≤ count_of kind p.cells p.hands = side_within p.cells p.hands color in
+    omega (
+      arith,
+      s kinds.Pawn,
+      s kinds.Lance,
+      s kinds.Knight,
+      s kinds.Silver,
+      s kinds.Gold,
+      s kinds.Bishop,
+      s kinds.Rook,
+      h.counts kinds.Pawn,
+      h.counts kinds.Lance,
+      h.counts kinds.Knight,
+      h.counts kinds.Silver,
+      h.counts kinds.Gold,
+      h.counts kinds.Bishop,
+      h.counts kinds.Rook,
+    )
+
+pub points_within : (p : Shogi) (color : Color) → IsValid p → points_of p color ≤ 25200
+points_within p color v = faultless_within p color (faultless_from p v.no_fault)
+
+-- the material of a valid position
+pub material_bounds : (p : Shogi) → IsValid p → (negsuc 25199 ≤ℤ material_of p) × (material_of p ≤ℤ pos 25200)
+unfolding material_of
+material_bounds p v =
+    let own : points_of p p.side ≤ 25200 = points_within p p.side v in
+    let other : points_of p (opponent_of p.side) ≤ 25200 = points_within p (opponent_of p.side) v in
+    (omega (arith, ints), omega (arith, ints))

@@ -1,0 +1,11 @@
+//! What a position is worth by its material.
+#![tactic(auto)]
+
+mod node;
+mod points;
+
+pub use node::Node;
+pub use points::material;
+
+#[cfg(test)]
+mod tests;

@@ -1,0 +1,98 @@
+//! The values of pieces, and the material of a position.
+
+ghost use Rattle.std.specs.Prelude.{◌≡◌, ◌≤◌, ◌<◌, ◌*◌, ◌^◌, ◌≤ℤ◌, pos, negsuc};
+ghost use Rattle.shogi_eval.specs.Material.{value_of, points_at, points_on_board, points_in_hand, points_held, points_of, material_of};
+
+use shogi_core::{Color, KINDS, Kind, Piece, Position, Role};
+
+/// What a piece of the role is worth on the board.
+fn value_of(role: Role) -> u32
+    ensures value { result ≡ value_of role }
+    ensures range { result ≤ 1300 }
+{
+    match role {
+        Role::King => 0,
+        Role::Pawn => 100,
+        Role::Lance => 300,
+        Role::Knight => 400,
+        Role::Silver => 500,
+        Role::Gold => 600,
+        Role::Bishop => 800,
+        Role::Rook => 1000,
+        Role::PromotedPawn | Role::PromotedLance | Role::PromotedKnight | Role::PromotedSilver =>
+            600,
+        Role::Horse => 1100,
+        Role::Dragon => 1300,
+    }
+}
+
+/// What stands on a square, if it is the side's.
+fn points_at(cell: Option<Piece>, color: Color) -> u32
+    ensures value { result ≡ points_at color cell }
+    ensures range { result ≤ 1300 }
+{
+    match cell {
+        None => 0,
+        Some(piece) => {
+            if color.is_same(piece.color) {
+                value_of(piece.role)
+            } else {
+                0
+            }
+        }
+    }
+}
+
+/// The side's pieces on the board.
+fn points_on_board(cells: &[Option<Piece>; 81], color: Color) -> u32
+    ensures value { result ≡ points_on_board cells.now color }
+    ensures range { result ≤ 81 * 1300 }
+{
+    let mut points = 0;
+    for cell in cells {
+        points += points_at(*cell, color);
+    }
+    points
+}
+
+/// What the side holds of a kind.
+fn points_held(p: &Position, color: Color, kind: Kind) -> u32
+    ensures value { result ≡ points_held p.now.hands color kind }
+    ensures range { result ≤ 255 * 1300 }
+{
+    p.hand(color, kind) as u32 * value_of(Role::from(kind))
+}
+
+/// The side's pieces in hand.
+fn points_in_hand(p: &Position, color: Color) -> u32
+    ensures value { result ≡ points_in_hand p.now.hands color }
+    ensures range { result ≤ 7 * 255 * 1300 }
+{
+    let mut points = 0;
+    for kind in KINDS {
+        points += points_held(p, color, kind);
+    }
+    points
+}
+
+/// All that the side has.
+#[tactic(auto, using(crate::proofs::Bounds::points_within), unfolding(crate::specs::Material::points_of))]
+fn points_of(p: &Position, color: Color) -> u32
+    ensures value { result ≡ points_of p.now color }
+    ensures range { result ≤ 25200 }
+{
+    p.validity();
+    points_on_board(p.board().cells(), color) + points_in_hand(p, color)
+}
+
+/// The material of a position, from the side to move: what it has on the board and in hand, less
+/// what the other side has (own choice of values).
+#[tactic(auto, unfolding(crate::specs::Material::material_of))]
+pub fn material(p: &Position) -> i32
+    ensures value { result ≡ material_of p.now }
+    ensures least { negsuc 25199 ≤ℤ result }
+    ensures most { result ≤ℤ pos 25200 }
+{
+    let side = p.side();
+    points_of(p, side) as i32 - points_of(p, side.opponent()) as i32
+}

@@ -1,0 +1,10 @@
+pub mod Rising
+pub mod Counts
+pub mod MovedPieces
+pub mod KeepsBoard
+pub mod KeepsDrop
+pub mod Keeps
+pub mod LegalLaws
+pub mod NoSafeLaws
+pub mod NextLaws
+pub mod Paths

@@ -1,0 +1,121 @@
+-- Pieces that move, promote or are captured.
+use Rattle.std.proofs.Common.{◌≡◌, ℕ, ◌+◌, ◌*◌, ◌/◌, ◌<◌, Bool, true, false, length, refl, arith, inl, inr, Option, Some, None}
+use Rattle.std.specs.Prelude.{◌&&◌, nat_lt, ◌||◌, ℤ, pos, negsuc, ◌+ℤ◌, ◌%◌}
+use Rattle.std.proofs.lemmas.Bool.{and_right, and_parts, both_ways, cases_Bool, ltb-true, eqb-true}
+use Rattle.shogi_core.specs.Movement.{Cells, piece_at, reaches, cell_reaches, is_at, square_at, away}
+use Rattle.shogi_core.specs.Position.{Held, held}
+use Rattle.shogi_core.proofs.Faults.{number_below}
+use Rattle.shogi_core.specs.declared.piece.Color.{Color}
+use Rattle.shogi_core.specs.declared.piece.Color.TheVariants.{Black, White}
+use Rattle.shogi_core.specs.declared.piece.Kind.{Kind}
+use Rattle.shogi_core.specs.declared.piece.Role.{Role}
+use Rattle.shogi_core.specs.declared.piece.Role.TheVariants.{King, Pawn, Lance, Knight, Silver, Gold, Bishop, Rook, PromotedPawn, PromotedLance, PromotedKnight, PromotedSilver, Horse, Dragon}
+use Rattle.shogi_core.specs.declared.piece.Piece.{Piece}
+use Rattle.shogi_core.specs.Pieces.{kind_of, is_of_kind, is_role_of_kind, is_same_color, number_of, opponent_of, promoted}
+use Rattle.shogi_core.specs.Cell.{is_king_role, is_pawn_role, is_king, is_pawn}
+use Rattle.shogi_moves.specs.After.{moved, with_captured, with_one_more}
+use Rattle.shogi_moves.proofs.Counts.{tally, hand_added}
+
+-- promotion keeps the kind and the kingship, and ends a pawn
+pub kind_of-promoted : (role : Role) → kind_of (promoted role) ≡ kind_of role
+kind_of-promoted King = refl
+kind_of-promoted Pawn = refl
+kind_of-promoted Lance = refl
+kind_of-promoted Knight = refl
+kind_of-promoted Silver = refl
+kind_of-promoted Gold = refl
+kind_of-promoted Bishop = refl
+kind_of-promoted Rook = refl
+kind_of-promoted PromotedPawn = refl
+kind_of-promoted PromotedLance = refl
+kind_of-promoted PromotedKnight = refl
+kind_of-promoted PromotedSilver = refl
+kind_of-promoted Horse = refl
+kind_of-promoted Dragon = refl
+
+pub is_king_role-promoted : (role : Role) → is_king_role (promoted role) ≡ is_king_role role
+is_king_role-promoted King = refl
+is_king_role-promoted Pawn = refl
+is_king_role-promoted Lance = refl
+is_king_role-promoted _ = refl
+
+pub is_pawn_role-promoted : (role : Role) → is_pawn_role (promoted role) ≡ false
+is_pawn_role-promoted King = refl
+is_pawn_role-promoted _ = refl
+
+-- a move keeps the kind and the kingship of a piece
+pub is_of_kind-moved : (kind : Kind) (promote : Bool) (cell : Option Piece) → is_of_kind kind (moved promote cell) ≡ is_of_kind kind cell
+is_of_kind-moved kind promote None = refl
+is_of_kind-moved kind false (Some piece) = refl
+is_of_kind-moved kind true (Some piece) = rw (kind_of-promoted piece.role) refl
+
+pub is_king-moved : (color : Color) (promote : Bool) (cell : Option Piece) → is_king color (moved promote cell) ≡ is_king color cell
+is_king-moved color promote None = refl
+is_king-moved color false (Some piece) = refl
+is_king-moved color true (Some piece) = rw (is_king_role-promoted piece.role) refl
+
+and-false_right : (b : Bool) → (b && false) ≡ false
+and-false_right b = and_right b false refl
+
+-- what has promoted is no pawn
+pub is_pawn-promoted : (color : Color) (cell : Option Piece) → is_pawn color (moved true cell) ≡ false
+is_pawn-promoted color None = refl
+is_pawn-promoted color (Some piece) = rw (is_pawn_role-promoted piece.role) (and-false_right (is_same_color color piece.color))
+
+-- a pawn after its move was one before
+pub is_pawn-moved : (color : Color) (promote : Bool) (cell : Option Piece) → is_pawn color (moved promote cell) ≡ true → is_pawn color cell ≡ true
+is_pawn-moved color false None e = e
+is_pawn-moved color false (Some piece) e = e
+is_pawn-moved color true cell e = absurd (both_ways (is_pawn color (moved true cell)) (is_pawn-promoted color cell) e)
+
+-- one more in either hand is one more in both
+one_more : (hands : Held) (side : Color) (taken : Option Kind) (kind : Kind) → length hands ≡ 14
+    → held (with_one_more hands side taken) Black kind + held (with_one_more hands side taken) White kind ≡ held hands Black kind + held hands White kind + tally (is_role_of_kind kind taken)
+one_more hands side None kind len = omega arith
+one_more hands Black (Some taken) kind len = hand_added hands (number_of taken) (number_of taken) (number_of kind) len (number_below taken) (number_below kind) (inl refl)
+one_more hands White (Some taken) kind len = hand_added hands (number_of taken + 7) (number_of taken) (number_of kind) len (number_below taken) (number_below kind) (inr refl)
+
+-- a captured piece is one more in hand
+pub hands-with_captured : (hands : Held) (side : Color) (cell : Option Piece) (kind : Kind) → length hands ≡ 14
+    → held (with_captured hands side cell) Black kind + held (with_captured hands side cell) White kind ≡ held hands Black kind + held hands White kind + tally (is_of_kind kind cell)
+hands-with_captured hands side None kind len = omega arith
+hands-with_captured hands side (Some piece) kind len = one_more hands side (kind_of piece.role) kind len
+
+-- where the file stays, so does the square's
+square_at_file : (m : ℕ) (r : ℤ) (b : ℕ) → is_at (square_at (pos m) r) b ≡ true → b / 9 ≡ m
+square_at_file m (pos rank) b e =
+    elim (cases_Bool (nat_lt m 9 && nat_lt rank 9)) [
+      | inl both ↦
+          (let parts : (nat_lt m 9 ≡ true) × (nat_lt rank 9 ≡ true) = and_parts (nat_lt m 9) (nat_lt rank 9) both in
+          let below : rank < 9 = ltb-true rank 9 (parts.1) in
+          let there : is_at (Some (m * 9 + rank)) b ≡ true = rw both at e in
+          let same : m * 9 + rank ≡ b = eqb-true (m * 9 + rank) b there in
+          omega arith)
+      | inr out ↦ let there : is_at None b ≡ true = rw out at e in cc
+    ]
+square_at_file m (negsuc rank) b e = cc
+
+only : (x : Bool) → (x || false) ≡ true → x ≡ true
+only false e = e
+only true e = e
+
+-- one square forward is on the same file
+pawn_step : (cells : Cells) (side : Color) (role : Role) (a b : ℕ) → is_pawn_role role ≡ true → cell_reaches cells (Some (record { color = side; role = role })) a b ≡ true → a / 9 ≡ b / 9
+unfolding away
+pawn_step cells Black Pawn a b pawn e = let same : b / 9 ≡ a / 9 + 0 = square_at_file (a / 9 + 0) (pos (a % 9) +ℤ negsuc 0) b (only _ (only _ e)) in omega arith
+pawn_step cells White Pawn a b pawn e = let same : b / 9 ≡ a / 9 + 0 = square_at_file (a / 9 + 0) (pos (a % 9 + 1)) b (only _ (only _ e)) in omega arith
+pawn_step cells side _ a b pawn e = cc
+
+cell_stays : (cells : Cells) (color : Color) (cell : Option Piece) (a b : ℕ) → is_pawn color cell ≡ true → cell_reaches cells cell a b ≡ true → a / 9 ≡ b / 9
+cell_stays cells color None a b pawn e = cc
+cell_stays cells color (Some piece) a b pawn e = pawn_step cells piece.color piece.role a b ((and_parts (is_same_color color piece.color) (is_pawn_role piece.role) pawn).1) e
+
+-- a pawn moves along its file
+pub pawn_stays_on_file : (cells : Cells) (color : Color) (a b : ℕ) → is_pawn color (piece_at cells a) ≡ true → reaches cells a b ≡ true → a / 9 ≡ b / 9
+unfolding reaches
+pawn_stays_on_file cells color a b pawn e = cell_stays cells color (piece_at cells a) a b pawn e
+
+-- the other side of the other side
+pub opponent_twice : (side : Color) → opponent_of (opponent_of side) ≡ side
+opponent_twice Black = refl
+opponent_twice White = refl

@@ -1,0 +1,12 @@
+use Rattle.std.proofs.Common.{◌≡◌, ◌≤◌, ◌-◌}
+use Rattle.shogi_moves.specs.LegalMoves.{legal_from}
+use Rattle.shogi_moves.proofs.next.least_from.Given as goal
+
+abbrev pub invariant-loop-m : goal.invariant-loop-m
+invariant-loop-m l = record {
+  within : l.code ≤ 13689;
+  same : legal_from l.p l.fn.first ≡ legal_from l.p l.code;
+}
+
+abbrev pub decreases-loop-m : goal.decreases-loop-m
+decreases-loop-m l = 13689 - l.code

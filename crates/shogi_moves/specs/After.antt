@@ -1,0 +1,53 @@
+-- What a move leaves (JSA playing rules: moves, captures, promotion, drops).
+use Rattle.std.specs.Prelude.{ℕ, ◌+◌, ◌-◌, Bool, Option, Some, None, cond, slice_set}
+use Rattle.shogi_core.specs.declared.piece.Color.{Color}
+use Rattle.shogi_core.specs.declared.piece.Kind.{Kind}
+use Rattle.shogi_core.specs.declared.piece.Piece.{Piece}
+use Rattle.shogi_core.specs.declared.moves.Move.{Move}
+use Rattle.shogi_core.specs.declared.moves.Move.TheVariants.{Board, Drop}
+use Rattle.shogi_core.specs.Codes.{move_of}
+use Rattle.shogi_core.specs.Movement.{Cells, piece_at}
+use Rattle.shogi_core.specs.Pieces.{opponent_of, kind_of, role_of, promoted}
+use Rattle.shogi_core.specs.Position.{Shogi, Held, held, place_of}
+
+-- what stood on a square, as it stands after its move
+abbrev pub moved : Bool → Option Piece → Option Piece
+moved promote None = None
+moved promote (Some piece) = Some (record { color = piece.color; role = cond promote (promoted piece.role) piece.role })
+
+-- a held piece as the side drops it, unpromoted
+abbrev pub dropped : Color → Kind → Option Piece
+dropped color kind = Some (record { color = color; role = role_of kind })
+
+-- one more of a kind in the side's hand; a king goes to no hand
+abbrev pub with_one_more : Held → Color → Option Kind → Held
+with_one_more hands color None = hands
+with_one_more hands color (Some kind) = slice_set hands (place_of color kind) (held hands color kind + 1)
+
+-- a captured piece goes to the captor's hand as its unpromoted kind
+abbrev pub with_captured : Held → Color → Option Piece → Held
+with_captured hands color None = hands
+with_captured hands color (Some piece) = with_one_more hands color (kind_of piece.role)
+
+-- the cells after a move of the side
+abbrev pub cells_after : Cells → Color → Move → Cells
+cells_after cells side (Board from to promote) = slice_set (slice_set cells from None) to (moved promote (piece_at cells from))
+cells_after cells side (Drop kind to) = slice_set cells to (dropped side kind)
+
+-- the hands after a move of the side: a capture adds one, a drop takes one
+abbrev pub hands_after : Held → Cells → Color → Move → Held
+hands_after hands cells side (Board from to promote) = with_captured hands side (piece_at cells to)
+hands_after hands cells side (Drop kind to) = slice_set hands (place_of side kind) (held hands side kind - 1)
+
+-- the position after the move; the other side is to move
+abbrev pub after : Shogi → Move → Shogi
+after p m = record { cells = cells_after p.cells p.side m; hands = hands_after p.hands p.cells p.side m; side = opponent_of p.side }
+
+-- the position after the move, and the same position where there is none
+abbrev pub after_move : Shogi → Option Move → Shogi
+after_move p None = p
+after_move p (Some m) = after p m
+
+-- the position after the move of a code
+unfoldable pub after_code : Shogi → ℕ → Shogi
+after_code p code = after_move p (move_of code)

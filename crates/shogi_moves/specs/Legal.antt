@@ -1,0 +1,105 @@
+-- Which moves are legal (JSA playing rules: moves, promotion, drops, check, prohibited moves).
+use Rattle.std.specs.Prelude.{ℕ, ◌/◌, ◌%◌, ◌&&◌, ◌||◌, Bool, true, false, not, Option, Some, None, is_none, nat_lt}
+use Rattle.shogi_core.specs.declared.piece.Color.{Color}
+use Rattle.shogi_core.specs.declared.piece.Color.TheVariants.{Black, White}
+use Rattle.shogi_core.specs.declared.piece.Kind.{Kind}
+use Rattle.shogi_core.specs.declared.piece.Kind.TheVariants as kinds
+use Rattle.shogi_core.specs.declared.piece.Role.{Role}
+use Rattle.shogi_core.specs.declared.piece.Role.TheVariants.{Pawn, Lance, Knight, Silver, Bishop, Rook}
+use Rattle.shogi_core.specs.declared.piece.Piece.{Piece}
+use Rattle.shogi_core.specs.declared.moves.Move.{Move}
+use Rattle.shogi_core.specs.declared.moves.Move.TheVariants.{Board, Drop}
+use Rattle.shogi_core.specs.Below.{some_below}
+use Rattle.shogi_core.specs.Codes.{move_of}
+use Rattle.shogi_core.specs.Movement.{Cells, piece_at, reaches}
+use Rattle.shogi_core.specs.Position.{Shogi, Held, held}
+use Rattle.shogi_core.specs.Attack.{in_check}
+use Rattle.shogi_core.specs.Cell.{is_of, is_dead}
+use Rattle.shogi_core.specs.Validity.{pawns_on_file}
+use Rattle.shogi_moves.specs.After.{after, moved, dropped}
+
+-- a role that can promote
+abbrev pub can_promote : Role → Bool
+can_promote Pawn = true
+can_promote Lance = true
+can_promote Knight = true
+can_promote Silver = true
+can_promote Bishop = true
+can_promote Rook = true
+can_promote _ = false
+
+-- the three ranks farthest from the side's own
+abbrev pub in_zone : Color → ℕ → Bool
+in_zone Black square = nat_lt (square % 9) 3
+in_zone White square = nat_lt 5 (square % 9)
+
+-- a piece may promote by a move that begins or ends in the zone
+abbrev pub may_promote : Option Piece → ℕ → ℕ → Bool
+may_promote None from to = false
+may_promote (Some piece) from to = can_promote piece.role && (in_zone piece.color from || in_zone piece.color to)
+
+-- the pawn
+abbrev pub is_pawn_kind : Kind → Bool
+is_pawn_kind kinds.Pawn = true
+is_pawn_kind _ = false
+
+-- one's own piece goes where it reaches and none of one's own stands, promotes only where it may, and can move again from there
+abbrev pub is_right_board_move : Cells → Color → ℕ → ℕ → Bool → Bool
+is_right_board_move cells side from to promote =
+    is_of side (piece_at cells from)
+    && not (is_of side (piece_at cells to))
+    && reaches cells from to
+    && (not promote || may_promote (piece_at cells from) from to)
+    && not (is_dead to (moved promote (piece_at cells from)))
+
+-- a held piece goes to an empty square from which it can move again, and a pawn to a file without an unpromoted pawn of the side
+abbrev pub is_right_drop : Cells → Held → Color → Kind → ℕ → Bool
+is_right_drop cells hands side kind to =
+    nat_lt 0 (held hands side kind)
+    && is_none (piece_at cells to)
+    && not (is_dead to (dropped side kind))
+    && not (is_pawn_kind kind && nat_lt 0 (pawns_on_file side (to / 9) cells))
+
+-- the rules on one move, apart from checks
+abbrev pub is_right : Shogi → Move → Bool
+is_right p (Board from to promote) = is_right_board_move p.cells p.side from to promote
+is_right p (Drop kind to) = is_right_drop p.cells p.hands p.side kind to
+
+-- all that the rules ask but mate by the drop of a pawn: the mover's king is not attacked after it
+unfoldable pub is_safe : Shogi → Move → Bool
+is_safe p m = is_right p m && not (in_check (after p m).cells p.side)
+
+-- there is a move, and it is safe
+abbrev pub is_safe_move : Shogi → Option Move → Bool
+is_safe_move p None = false
+is_safe_move p (Some m) = is_safe p m
+
+-- the code is that of a safe move
+abbrev pub is_safe_code : Shogi → ℕ → Bool
+is_safe_code p code = is_safe_move p (move_of code)
+
+-- a drop of a pawn
+abbrev pub is_pawn_drop : Move → Bool
+is_pawn_drop (Board from to promote) = false
+is_pawn_drop (Drop kind to) = is_pawn_kind kind
+
+-- the side to move is in check and has no safe move
+abbrev pub is_mated : Shogi → Bool
+is_mated p = in_check p.cells p.side && not (some_below 13689 (is_safe_code p))
+
+-- the drop of a pawn gives mate
+abbrev pub is_pawn_mate : Shogi → Move → Bool
+is_pawn_mate p m = is_pawn_drop m && is_mated (after p m)
+
+-- a safe move that does not mate by the drop of a pawn
+unfoldable pub is_legal : Shogi → Move → Bool
+is_legal p m = is_safe p m && not (is_pawn_mate p m)
+
+-- there is a move, and it is legal
+abbrev pub is_legal_move : Shogi → Option Move → Bool
+is_legal_move p None = false
+is_legal_move p (Some m) = is_legal p m
+
+-- the code is that of a legal move
+unfoldable pub is_legal_code : Shogi → ℕ → Bool
+is_legal_code p code = is_legal_move p (move_of code)

@@ -1,0 +1,25 @@
+-- The legal moves of a position by their codes, and sequences of legal moves (their order is an own choice).
+use Rattle.std.specs.Prelude.{ℕ, zero, suc, ◌+◌, List, Option, Some, None, filter, sum_by}
+use Rattle.shogi_core.specs.declared.moves.Move.{Move}
+use Rattle.shogi_core.specs.Codes.{code_of, codes_from}
+use Rattle.shogi_core.specs.Position.{Shogi}
+use Rattle.shogi_moves.specs.After.{after_code}
+use Rattle.shogi_moves.specs.Legal.{is_legal_code}
+
+-- the codes of the legal moves from the given code on, in their order
+unfoldable pub legal_from : Shogi → ℕ → List ℕ
+legal_from p first = filter (is_legal_code p) (codes_from first)
+
+-- the codes of the legal moves, in their order
+abbrev pub legal_moves : Shogi → List ℕ
+legal_moves p = legal_from p 0
+
+-- those above the code of a move, or all of them
+abbrev pub legal_above : Shogi → Option Move → List ℕ
+legal_above p None = legal_from p 0
+legal_above p (Some m) = legal_from p (code_of m + 1)
+
+-- how many sequences of n legal moves there are
+unfoldable pub paths : Shogi → ℕ → ℕ
+paths p zero = 1
+paths p (suc n) = sum_by (λ code. paths (after_code p code) n) (legal_moves p)

@@ -1,0 +1,128 @@
+//! Which moves are legal.
+
+ghost use Rattle.std.specs.Prelude.{◌≡◌, ◌↔◌, IsTrue, true};
+ghost use Rattle.shogi_core.specs.Codes.{code_of};
+ghost use Rattle.shogi_moves.specs.Legal.{is_legal, is_safe, is_right, is_right_board_move, is_right_drop, may_promote, is_pawn_kind, is_mated, is_pawn_drop, is_pawn_mate, can_promote, in_zone};
+ghost use Rattle.shogi_moves.specs.LegalMoves.{legal_moves};
+ghost use Rattle.shogi_moves.specs.Rising.{is_in};
+
+use crate::after::{apply_safe, cells_after, dropped, moved};
+use crate::attack::in_check;
+use crate::safe::has_safe;
+use shogi_core::{Color, Kind, Move, Piece, Position, Role, Square, is_dead, is_of};
+
+fn can_promote(role: Role) -> bool
+    ensures { result ≡ can_promote role }
+{
+    matches!(
+        role,
+        Role::Pawn | Role::Lance | Role::Knight | Role::Silver | Role::Bishop | Role::Rook
+    )
+}
+
+fn in_zone(color: Color, square: Square) -> bool
+    ensures { result ≡ in_zone color square }
+{
+    match color {
+        Color::Black => square.rank() < 4,
+        Color::White => square.rank() > 6,
+    }
+}
+
+fn may_promote(cell: Option<Piece>, from: Square, to: Square) -> bool
+    ensures { result ≡ may_promote cell from to }
+{
+    match cell {
+        None => false,
+        Some(piece) => can_promote(piece.role)
+            && (in_zone(piece.color, from) || in_zone(piece.color, to)),
+    }
+}
+
+fn is_pawn_kind(kind: Kind) -> bool
+    ensures { result ≡ is_pawn_kind kind }
+{
+    matches!(kind, Kind::Pawn)
+}
+
+fn is_right_board_move(p: &Position, from: Square, to: Square, promote: bool) -> bool
+    ensures { result ≡ is_right_board_move p.now.cells p.now.side from to promote }
+{
+    let side = p.side();
+    let piece = p.at(from);
+    is_of(piece, side)
+        && !is_of(p.at(to), side)
+        && p.reaches(from, to)
+        && (!promote || may_promote(piece, from, to))
+        && !is_dead(moved(piece, promote), to.index())
+}
+
+fn is_right_drop(p: &Position, kind: Kind, to: Square) -> bool
+    ensures { result ≡ is_right_drop p.now.cells p.now.hands p.now.side kind to }
+{
+    let side = p.side();
+    p.hand(side, kind) > 0
+        && p.at(to).is_none()
+        && !is_dead(dropped(side, kind), to.index())
+        && !(is_pawn_kind(kind) && p.board().pawns_on_file(side, to.index() / 9) > 0)
+}
+
+fn is_right(p: &Position, m: &Move) -> bool
+    ensures { result ≡ is_right p.now m.now }
+{
+    match m {
+        Move::Board { from, to, promote } => is_right_board_move(p, *from, *to, *promote),
+        Move::Drop { kind, to } => is_right_drop(p, *kind, *to),
+    }
+}
+
+/// Whether the move obeys the rules, apart from mate by the drop of a pawn.
+#[tactic(auto, unfolding(crate::specs::Legal::is_safe))]
+pub fn is_safe(p: &Position, m: &Move) -> bool
+    ensures { result ≡ is_safe p.now m.now }
+{
+    is_right(p, m) && !cells_after(&p.board(), p.side(), m).in_check(p.side())
+}
+
+fn is_mated(p: &Position) -> bool
+    ensures { result ≡ is_mated p.now }
+{
+    in_check(p) && !has_safe(p)
+}
+
+fn is_pawn_drop(m: &Move) -> bool
+    ensures { result ≡ is_pawn_drop m.now }
+{
+    match m {
+        Move::Board { .. } => false,
+        Move::Drop { kind, .. } => is_pawn_kind(*kind),
+    }
+}
+
+/// Whether the safe move mates by the drop of a pawn.
+pub fn is_pawn_mate(p: &Position, m: &Move) -> bool
+    requires { is_safe p.now m.now ≡ true }
+    ensures { result ≡ is_pawn_mate p.now m.now }
+{
+    is_pawn_drop(m) && is_mated(&apply_safe(p, m))
+}
+
+#[tactic(auto, unfolding(crate::specs::Legal::is_legal))]
+fn is_legal_move(p: &Position, m: &Move) -> bool
+    ensures { result ≡ is_legal p.now m.now }
+{
+    is_safe(p, m) && !is_pawn_mate(p, m)
+}
+
+/// Whether the move is legal (JSA playing rules): it is one of the side to move, obeys the rules
+/// on moves, promotion and drops, leaves the mover's king unattacked, and does not mate by the
+/// drop of a pawn.
+#[tactic(auto, using(crate::proofs::LegalLaws::legal_to_listed, crate::proofs::LegalLaws::listed_to_legal))]
+pub fn is_legal(p: &Position, m: Move) -> bool
+    ensures value { result ≡ is_legal p.now m }
+    ensures listed { IsTrue result ↔ (is_in (code_of m) (legal_moves p.now) ≡ true) }
+{
+    let legal = is_legal_move(p, &m);
+    m.code();
+    legal
+}

@@ -1,0 +1,17 @@
+//! Attacks, legal moves, the position after a move, and counting sequences of legal moves.
+#![tactic(auto)]
+
+mod after;
+mod attack;
+mod count;
+mod legal;
+mod next;
+mod safe;
+#[cfg(test)]
+mod tests;
+
+pub use after::apply;
+pub use attack::{in_check, is_attacked};
+pub use count::perft;
+pub use legal::is_legal;
+pub use next::{has_legal, next_legal};

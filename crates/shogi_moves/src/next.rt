@@ -1,0 +1,50 @@
+//! The legal moves in the order of their codes.
+
+ghost use Rattle.std.specs.Prelude.{◌≡◌, ◌≢◌, ◌↔◌, ◌≤◌, ◌+◌, true, false, [], ◌∷◌, IsTrue, IfSome, IsNone, MatchOption, Some};
+ghost use Rattle.shogi_core.specs.Codes.{code_of};
+ghost use Rattle.shogi_moves.specs.Legal.{is_legal};
+ghost use Rattle.shogi_moves.specs.LegalMoves.{legal_from, legal_above, legal_moves};
+ghost use Rattle.shogi_moves.specs.Rising.{IsRising};
+
+use crate::legal::is_pawn_mate;
+use crate::safe::least_safe;
+use shogi_core::{Move, Position};
+
+/// The legal move of least code from the given one on.
+#[tactic(auto, using(crate::proofs::NextLaws::steps))]
+fn least_from(p: &Position, first: u16) -> Option<Move>
+    requires { first ≤ 13689 }
+    ensures next { MatchOption result (legal_from p.now first ≡ []) (λ m. legal_from p.now first ≡ code_of m ∷ legal_from p.now (code_of m + 1)) }
+    ensures legal { IfSome result (λ m. is_legal p.now m ≡ true) }
+{
+    let mut code = first;
+    while let Some(m) = least_safe(p, code) {
+        if !is_pawn_mate(p, &m) {
+            return Some(m);
+        }
+        code = m.code() + 1;
+    }
+    None
+}
+
+/// The legal move of least code above that of `after`, or of least code where that is `None`;
+/// `None` where no further move is legal. Beginning with `None` and passing each result on gives
+/// each legal move once, in the order of codes (own choice).
+#[tactic(auto, using(crate::proofs::LegalLaws::legal_rising))]
+pub fn next_legal(p: &Position, after: Option<Move>) -> Option<Move>
+    ensures next { MatchOption result (legal_above p.now after ≡ []) (λ m. legal_above p.now after ≡ code_of m ∷ legal_above p.now (Some m)) }
+    ensures legal { IfSome result (λ m. is_legal p.now m ≡ true) }
+    ensures rising { IsRising (legal_moves p.now) }
+{
+    match after {
+        None => least_from(p, 0),
+        Some(m) => least_from(p, m.code() + 1),
+    }
+}
+
+/// Whether some move is legal.
+pub fn has_legal(p: &Position) -> bool
+    ensures { IsTrue result ↔ (legal_moves p.now ≢ []) }
+{
+    next_legal(p, None).is_some()
+}

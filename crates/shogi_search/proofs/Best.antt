@@ -1,0 +1,93 @@
+-- Where there is a best move.
+use Rattle.std.proofs.Common.{◌≡◌, ◌<◌, ◌≤◌, ◌-◌, ◌/◌, ◌%◌, ℕ, zero, suc, ℤ, ◌≤ℤ◌, List, [], ◌∷◌, ◌⊎◌, ◌==◌, Bool, true, false, Option, Some, None, refl, ap, ◌∙◌, sym, arith, subst, inl, inr, find, is_some}
+use Rattle.std.specs.Prelude.{◌↔◌, IsNone, int_lt}
+use Rattle.std.specs.Int.{int_max}
+use Rattle.std.specs.Ordering.{int_eq}
+use Rattle.std.proofs.lemmas.Bool.{or_left, or_right, or_cases, eq-eqb, eqb-true, cond_both, cases_lt, both_ways}
+use Rattle.shogi_core.specs.declared.moves.Move.{Move}
+use Rattle.shogi_core.specs.Codes.{move_of}
+use Rattle.shogi_core.specs.Position.{Shogi}
+use Rattle.shogi_moves.specs.LegalMoves.{legal_moves}
+use Rattle.shogi_moves.specs.Rising.{is_in}
+use Rattle.shogi_moves.proofs.LegalLaws.{legal_in, legal_code_below}
+use Rattle.shogi_search.specs.Minimax.{value, best, best_code, move_at, worth, lost, greatest, greatest_of}
+use Rattle.shogi_search.proofs.Equal.{same_int_eq}
+use Rattle.shogi_search.proofs.MinimaxLaws.{value-suc, best_code-leaf, best_code-suc, best-leaf, best-code}
+use Rattle.shogi_search.proofs.Valid.{board_of, drop_of}
+
+-- the number is one of the list, and the test passes it
+pub record Passes (t : ℕ → Bool) (xs : List ℕ) : Type 0 where
+  pub at : ℕ
+  pub listed : is_in at xs ≡ true
+  pub passed : t at ≡ true
+
+-- the greatest is that of some move
+greatest_reached : (f : ℕ → ℤ) (m : ℕ) (ms : List ℕ) → Passes (λ n. int_eq (f n) (greatest f m ms)) (m ∷ ms)
+greatest_reached f m [] = record { at = m; listed = or_left _ _ (eq-eqb m m refl); passed = same_int_eq (f m) (f m) refl }
+greatest_reached f m (k ∷ ks) =
+    cond_both (int_lt (greatest f k ks) (f m)) (f m) (greatest f k ks) (λ (v : ℤ). Passes (λ n. int_eq (f n) v) (m ∷ k ∷ ks))
+    (λ _. record { at = m; listed = or_left _ _ (eq-eqb m m refl); passed = same_int_eq (f m) (f m) refl })
+    (λ _. let r : Passes (λ n. int_eq (f n) (greatest f k ks)) (k ∷ ks) = greatest_reached f k ks in record { at = r.at; listed = or_right (r.at == m) (is_in r.at (k ∷ ks)) r.listed; passed = r.passed })
+
+-- what is not found is not there
+find_passes : (t : ℕ → Bool) (n : ℕ) (xs : List ℕ) → is_in n xs ≡ true → t n ≡ true → find t xs ≡ None → ⊥
+find_passes t n [] i p e = both_ways false refl i
+find_passes t n (m ∷ xs) i p e =
+    cond_both (t m) (Some m) (find t xs) (λ (o : Option ℕ). o ≡ None → ⊥)
+    (λ _ q. cc)
+    (λ f q. elim (or_cases (n == m) (is_in n xs) i) [ inl s ↦ both_ways (t m) f (sym (ap t (eqb-true n m s)) ∙ p) | inr r ↦ find_passes t n xs r p q ])
+    e
+
+found_at : (p : Shogi) (d m : ℕ) (ms : List ℕ) → legal_moves p ≡ m ∷ ms → best_code p (suc d) ≡ None → ⊥
+found_at p d m ms e n =
+    let r : Passes (λ k. int_eq (worth p d k) (greatest (worth p d) m ms)) (m ∷ ms) = greatest_reached (worth p d) m ms in
+    let v : value p (suc d) ≡ greatest (worth p d) m ms = value-suc p d ∙ ap (greatest_of (lost (suc d)) (worth p d)) e in
+    find_passes (λ k. int_eq (worth p d k) (value p (suc d))) r.at (m ∷ ms) r.listed (ap (λ (x : ℤ). int_eq (worth p d r.at) x) v ∙ r.passed)
+    (sym (ap (find (λ k. int_eq (worth p d k) (value p (suc d)))) e) ∙ sym (best_code-suc p d) ∙ n)
+
+find_in : (t : ℕ → Bool) (b : ℕ) (xs : List ℕ) → find t xs ≡ Some b → is_in b xs ≡ true
+find_in t b [] h = absurd (cc)
+find_in t b (m ∷ xs) h =
+    cond_both (t m) (Some m) (find t xs) (λ (o : Option ℕ). o ≡ Some b → is_in b (m ∷ xs) ≡ true)
+    (λ _ e. (let q : b ≡ m = cc in or_left (b == m) (is_in b xs) (eq-eqb b m q)))
+    (λ _ e. or_right (b == m) (is_in b xs) (find_in t b xs e))
+    h
+
+-- a best move is legal
+pub best_in : (p : Shogi) (d b : ℕ) → best_code p d ≡ Some b → is_in b (legal_moves p) ≡ true
+best_in p zero b h = let q : best_code p 0 ≡ None = best_code-leaf p in absurd (cc)
+best_in p (suc d) b h = find_in _ b (legal_moves p) (sym (best_code-suc p d) ∙ h)
+
+code_none : (code : ℕ) → code < 13689 → move_of code ≡ None → ⊥
+code_none code h e = elim (cases_lt code 13122) [
+  | inl low ↦ (let s : _ = board_of code low in let q : None ≡ Some _ = sym e ∙ s in cc)
+  | inr high ↦ (let s : _ = drop_of code high h in let q : None ≡ Some _ = sym e ∙ s in cc)
+]
+
+none_at : (p : Shogi) (d : ℕ) (o : Option ℕ) (ms : List ℕ) → best_code p (suc d) ≡ o → legal_moves p ≡ ms → best p (suc d) ≡ None → legal_moves p ≡ []
+none_at p d o [] q e n = e
+none_at p d None (m ∷ ms) q e n = absurd (found_at p d m ms e q)
+none_at p d (Some b) (m ∷ ms) q e n = absurd (code_none b (legal_code_below p b (legal_in p 0 b (best_in p (suc d) b q))) (sym (best-code p (suc d) (Some b) q) ∙ n))
+
+-- without a best move the depth is 0 or no move is legal
+pub best_none : (p : Shogi) (d : ℕ) → best p d ≡ None → (d ≡ 0) ⊎ (legal_moves p ≡ [])
+best_none p zero n = inl refl
+best_none p (suc d) n = inr (none_at p d (best_code p (suc d)) (legal_moves p) refl refl n)
+
+lost_best : (p : Shogi) (d : ℕ) → legal_moves p ≡ [] → best p d ≡ None
+lost_best p zero e = best-leaf p
+lost_best p (suc d) e = best-code p (suc d) None (best_code-suc p d ∙ ap (find (λ k. int_eq (worth p d k) (value p (suc d)))) e)
+
+none_best : (p : Shogi) (d : ℕ) → (d ≡ 0) ⊎ (legal_moves p ≡ []) → best p d ≡ None
+none_best p d h = elim h [ inl z ↦ ap (best p) z ∙ best-leaf p | inr e ↦ lost_best p d e ]
+
+none_is : (o : Option Move) → is_some o ≡ false → o ≡ None
+none_is None e = refl
+none_is (Some m) e = absurd (cc)
+
+-- the same of what a search found
+pub none_iff : (p : Shogi) (d : ℕ) (o : Option Move) → o ≡ best p d → (IsNone o ↔ ((d ≡ 0) ⊎ (legal_moves p ≡ [])))
+none_iff p d o e = (
+  λ n. best_none p d (sym e ∙ none_is o n),
+  λ h. ap is_some (e ∙ none_best p d h),
+)

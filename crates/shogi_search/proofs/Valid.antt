@@ -1,0 +1,60 @@
+-- A legal move leaves a valid position.
+use Rattle.std.proofs.Common.{◌≡◌, ℕ, ◌+◌, ◌-◌, ◌*◌, ◌/◌, ◌%◌, ◌<◌, ◌≤◌, Bool, true, Option, Some, None, arith, inl, inr, ◌∙◌, sym, subst, ap}
+use Rattle.std.specs.Prelude.{◌==◌, nat_lt, length, slice_set}
+use Rattle.std.proofs.lemmas.Grind.{common_steps}
+use Rattle.std.proofs.lemmas.Bool.{cases_lt, cond-true, cond-false, lt-ltb, le-ltb}
+use Rattle.shogi_core.specs.declared.moves.Move.{Move}
+use Rattle.shogi_core.specs.declared.moves.Move.TheVariants.{Board, Drop}
+use Rattle.shogi_core.specs.declared.piece.Color.{Color}
+use Rattle.shogi_core.specs.declared.piece.Kind.{Kind}
+use Rattle.shogi_core.specs.declared.piece.Piece.{Piece}
+use Rattle.shogi_core.specs.Codes.{move_of, kind_at}
+use Rattle.shogi_core.specs.Position.{Shogi, Held}
+use Rattle.shogi_core.specs.Validity.{IsValid, fault_of}
+use Rattle.shogi_core.specs.Movement.{piece_at}
+use Rattle.shogi_core.specs.Pieces.{kind_of}
+use Rattle.shogi_moves.specs.After.{after, after_code, with_captured, with_one_more, cells_after, hands_after}
+use Rattle.shogi_moves.specs.Legal.{is_legal}
+use Rattle.shogi_moves.specs.LegalMoves.{legal_moves}
+use Rattle.shogi_moves.specs.Rising.{is_in}
+use Rattle.shogi_moves.proofs.Keeps.{no_fault_after_board, no_fault_after_drop, is_safe_from_legal}
+use Rattle.shogi_moves.proofs.LegalLaws.{legal_in, legal_code_below, is_legal_code_of, after_code_at}
+
+pub board_of : (code : ℕ) → code < 13122 → move_of code ≡ Some (Board (code / 2 / 81) (code / 2 % 81) (code % 2 == 1))
+board_of code h = cond-true (nat_lt code 13122) _ _ (lt-ltb code 13122 h)
+
+pub drop_of : (code : ℕ) → 13122 ≤ code → code < 13689 → move_of code ≡ Some (Drop (kind_at ((code - 13122) / 81)) ((code - 13122) % 81))
+drop_of code h k = cond-false (nat_lt code 13122) _ _ (le-ltb code 13122 h) ∙ cond-true (nat_lt code 13689) _ _ (lt-ltb code 13689 k)
+
+length-with_one_more : (hands : Held) (color : Color) (kind : Option Kind) → length (with_one_more hands color kind) ≡ length hands
+length-with_one_more hands color None = grind (arith, common_steps)
+length-with_one_more hands color (Some kind) = grind (arith, common_steps)
+
+length-with_captured : (hands : Held) (color : Color) (cell : Option Piece) → length (with_captured hands color cell) ≡ length hands
+length-with_captured hands color None = grind (arith, common_steps)
+length-with_captured hands color (Some piece) = length-with_one_more hands color (kind_of piece.role)
+
+board_valid : (p : Shogi) (from to : ℕ) (promote : Bool) → IsValid p → from < 81 → to < 81 → is_legal p (Board from to promote) ≡ true → IsValid (after p (Board from to promote))
+board_valid p from to promote v f t l = record {
+  cells_fit = grind (arith, common_steps, v.cells_fit);
+  hands_fit = length-with_captured p.hands p.side (piece_at p.cells to) ∙ v.hands_fit;
+  no_fault = no_fault_after_board p from to promote (is_safe_from_legal p (Board from to promote) l) v f t;
+}
+
+drop_valid : (p : Shogi) (kind : Kind) (to : ℕ) → IsValid p → to < 81 → is_legal p (Drop kind to) ≡ true → IsValid (after p (Drop kind to))
+drop_valid p kind to v t l = record {
+  cells_fit = grind (arith, common_steps, v.cells_fit);
+  hands_fit = grind (arith, common_steps, v.hands_fit);
+  no_fault = no_fault_after_drop p kind to (is_safe_from_legal p (Drop kind to) l) v t;
+}
+
+at_move : (p : Shogi) (code : ℕ) (m : Move) → is_in code (legal_moves p) ≡ true → move_of code ≡ Some m → (is_legal p m ≡ true → IsValid (after p m)) → IsValid (after_code p code)
+at_move p code m i e h = subst IsValid (sym (after_code_at p code m e)) (h (sym (is_legal_code_of p code m e) ∙ legal_in p 0 code i))
+
+pub after_valid : (p : Shogi) (code : ℕ) → IsValid p → is_in code (legal_moves p) ≡ true → IsValid (after_code p code)
+after_valid p code v i =
+    let below : code < 13689 = legal_code_below p code (legal_in p 0 code i) in
+    elim (cases_lt code 13122) [
+      | inl low ↦ at_move p code _ i (board_of code low) (board_valid p (code / 2 / 81) (code / 2 % 81) (code % 2 == 1) v (omega arith) (omega arith))
+      | inr high ↦ at_move p code _ i (drop_of code high below) (drop_valid p (kind_at ((code - 13122) / 81)) ((code - 13122) % 81) v (omega arith))
+    ]

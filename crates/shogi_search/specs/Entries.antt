@@ -1,0 +1,17 @@
+-- Which entries end a question (own choice).
+use Rattle.std.specs.Prelude.{ℤ, ◌≤ℤ◌, Option, Some, None}
+use Rattle.shogi_search.specs.declared.memo.Entry.{Entry}
+use Rattle.shogi_search.specs.declared.memo.Entry.TheVariants.{Exact, AtLeast, AtMost}
+
+-- an entry says enough for a window: the value, or that it lies at or above high, or at or below low
+abbrev pub Settles : ℤ → ℤ → Entry → Type 0
+Settles low high (Exact v m) = Unit {0}
+Settles low high (AtLeast v) = high ≤ℤ v
+Settles low high (AtMost v) = v ≤ℤ low
+
+-- the answer is the value itself
+abbrev pub IsExactly : Option Entry → Type 0
+IsExactly None = ⊥
+IsExactly (Some (Exact v m)) = Unit {0}
+IsExactly (Some (AtLeast v)) = ⊥
+IsExactly (Some (AtMost v)) = ⊥

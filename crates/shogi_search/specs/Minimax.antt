@@ -1,0 +1,98 @@
+-- Minimax at a fixed depth (own choice: the depth is exact, a side without a legal move has lost, and among equal moves the least code is best).
+use Rattle.std.specs.Prelude.{◌≡◌, ◌≤ℤ◌, ℕ, zero, suc, ℤ, pos, ◌-ℤ◌, ◌+◌, ◌*◌, List, [], ◌∷◌, Option, Some, None, find, sum_by}
+use Rattle.std.specs.Int.{int_max}
+use Rattle.std.specs.Ordering.{int_eq}
+use Rattle.shogi_core.specs.declared.moves.Move.{Move}
+use Rattle.shogi_core.specs.Codes.{move_of}
+use Rattle.shogi_core.specs.Position.{Shogi}
+use Rattle.shogi_moves.specs.After.{after, after_code}
+use Rattle.shogi_moves.specs.LegalMoves.{legal_moves}
+use Rattle.shogi_eval.specs.Material.{material_of}
+use Rattle.shogi_search.specs.declared.memo.Entry.{Entry}
+use Rattle.shogi_search.specs.declared.memo.Entry.TheVariants.{Exact, AtLeast, AtMost}
+
+-- the value of a side that has lost, in check or not, with d plies left
+abbrev pub lost : ℕ → ℤ
+lost d = pos 0 -ℤ pos (30000 + d)
+
+-- a value as the other side sees it
+abbrev pub negated : ℤ → ℤ
+negated v = pos 0 -ℤ v
+
+-- the greatest of f at m and at each of the list
+abbrev pub greatest : (ℕ → ℤ) → ℕ → List ℕ → ℤ
+greatest f m [] = f m
+greatest f m (n ∷ ns) = int_max (f m) (greatest f n ns)
+
+-- the greatest of f over the moves, or what stands for none
+abbrev pub greatest_of : ℤ → (ℕ → ℤ) → List ℕ → ℤ
+greatest_of none f [] = none
+greatest_of none f (m ∷ ms) = greatest f m ms
+
+-- one value where no move is legal, another one otherwise
+abbrev pub at_leaf : ℤ → ℤ → List ℕ → ℤ
+at_leaf none some [] = none
+at_leaf none some (m ∷ ms) = some
+
+-- the value of a position at a depth, for the side to move
+unfoldable pub value : Shogi → ℕ → ℤ
+value p zero = at_leaf (lost 0) (material_of p) (legal_moves p)
+value p (suc d) = greatest_of (lost (suc d)) (λ m. negated (value (after_code p m) d)) (legal_moves p)
+
+-- what the move of a code is worth to its mover, with d plies after it
+abbrev pub worth : Shogi → ℕ → ℕ → ℤ
+worth p d m = negated (value (after_code p m) d)
+
+-- the least code whose move is worth the position's value
+unfoldable pub best_code : Shogi → ℕ → Option ℕ
+best_code p zero = None
+best_code p (suc d) = find (λ m. int_eq (worth p d m) (value p (suc d))) (legal_moves p)
+
+-- the move of a code, if there is one
+abbrev pub move_at : Option ℕ → Option Move
+move_at None = None
+move_at (Some code) = move_of code
+
+-- the best move
+unfoldable pub best : Shogi → ℕ → Option Move
+best p d = move_at (best_code p d)
+
+-- a move and what follows it
+abbrev pub then_line : (Shogi → List Move) → Shogi → Option Move → List Move
+then_line rest p None = []
+then_line rest p (Some m) = m ∷ rest (after p m)
+
+-- the best move, and the best line after it
+unfoldable pub line : Shogi → ℕ → List Move
+line p zero = []
+line p (suc d) = then_line (λ q. line q d) p (best p (suc d))
+
+-- the nodes of the whole tree
+unfoldable pub tree : Shogi → ℕ → ℕ
+tree p zero = 1
+tree p (suc d) = 1 + sum_by (λ m. tree (after_code p m) d) (legal_moves p)
+
+-- the nodes of the trees after these moves, each of depth d
+abbrev pub subtrees : Shogi → ℕ → List ℕ → ℕ
+subtrees p d ms = sum_by (λ m. tree (after_code p m) d) ms
+
+-- what follows a move costs
+abbrev pub then_chase : (Shogi → ℕ) → Shogi → Option Move → ℕ
+then_chase rest p None = 0
+then_chase rest p (Some m) = rest (after p m)
+
+-- the steps that may be made for the best line: two for each node of the trees along it
+unfoldable pub chase : Shogi → ℕ → ℕ
+chase p zero = 0
+chase p (suc k) = 2 * tree p (suc k) + then_chase (λ q. chase q k) p (best p (suc k))
+
+-- the steps that may be made for the best lines of each depth from 1 on
+unfoldable pub cost : Shogi → ℕ → ℕ
+cost p zero = 0
+cost p (suc d) = cost p d + chase p (suc d)
+
+-- what an entry says of the position at the depth holds
+abbrev pub IsTrueEntry : Shogi → ℕ → Entry → Type 0
+IsTrueEntry p d (Exact v m) = (value p d ≡ v) × (best p d ≡ m)
+IsTrueEntry p d (AtLeast v) = v ≤ℤ value p d
+IsTrueEntry p d (AtMost v) = value p d ≤ℤ v

@@ -1,0 +1,21 @@
+-- What a search knows of a node's moves while it goes through them (own choice).
+use Rattle.std.specs.Prelude.{◌≡◌, ℕ, ℤ, pos, ◌-ℤ◌, ◌≤ℤ◌, List, Option, Some, None, true, false, nat_lt, MatchOption, if◌then◌else◌}
+use Rattle.shogi_core.specs.declared.moves.Move.{Move}
+use Rattle.shogi_core.specs.Codes.{code_of}
+use Rattle.shogi_moves.specs.Rising.{is_in}
+
+-- the code of a move, if there is one
+abbrev pub code_at : Option Move → Option ℕ
+code_at None = None
+code_at (Some m) = Some (code_of m)
+
+-- the worth that a move has to pass: the best so far, and one less for a move of lesser code than the best move
+abbrev pub bar : ℤ → Option ℕ → ℕ → ℤ
+bar top None n = top
+bar top (Some b) n = if nat_lt n b then top -ℤ pos 1 else top
+
+-- each move of all that is not in todo is worth at most its bar; a best move is worth the best so far
+pub record IsCovered (worth_of : ℕ → ℤ) (all todo : List ℕ) (low top : ℤ) (top_move : Option ℕ) : Type 0 where
+  pub among : (n : ℕ) → is_in n todo ≡ true → is_in n all ≡ true
+  pub below : (n : ℕ) → is_in n all ≡ true → is_in n todo ≡ false → worth_of n ≤ℤ bar top top_move n
+  pub reached : MatchOption top_move (top ≡ low) (λ b. (is_in b all ≡ true) × (worth_of b ≡ top))

@@ -1,0 +1,49 @@
+//! What is remembered of searched positions.
+
+ghost use Rattle.std.specs.Prelude.{◌≡◌, ◌≤◌, ℕ, Option, IfSome};
+ghost use Rattle.shogi_core.specs.Position.{Shogi};
+ghost use Rattle.shogi_search.specs.Minimax.{IsTrueEntry};
+ghost use Rattle.shogi_search.specs.declared.memo.Entry.{Entry};
+
+use shogi_core::{Move, Position};
+
+/// What is known of the value of a position at a depth: the value with the best move of least code,
+/// or a bound. Values are seen from the side to move.
+#[derive(Clone, Copy, Debug, PartialEq, Eq)]
+pub enum Entry {
+    /// The value, and the best move, `None` where no move is legal or the depth is 0.
+    Exact(i32, Option<Move>),
+    /// The value is this or more.
+    AtLeast(i32),
+    /// The value is this or less.
+    AtMost(i32),
+}
+
+/// A memory of searched positions. It may forget at any time, and what it answers is true.
+pub trait Memo {
+    ghost answers: { Self → Shogi → ℕ → Option Entry };
+
+    /// What is known of the position at the depth.
+    fn probe(&mut self, p: &Position, d: u8) -> Option<Entry>
+        ensures answer { result ≡ answers self.old p.now d }
+        ensures truth { IfSome result (IsTrueEntry p.now d) };
+
+    /// Takes in what a search found out. It may be kept or not.
+    fn note(&mut self, p: &Position, d: u8, entry: Entry)
+        requires truth { IsTrueEntry p.now d entry }
+        requires depth { d ≤ 16 };
+}
+
+/// Remembers nothing.
+#[derive(Clone, Copy, Debug)]
+pub struct NoMemo;
+
+impl Memo for NoMemo {
+    ghost answers = { λ _ p d. Option.None };
+
+    fn probe(&mut self, _p: &Position, _d: u8) -> Option<Entry> {
+        None
+    }
+
+    fn note(&mut self, _p: &Position, _d: u8, _entry: Entry) {}
+}

@@ -1,0 +1,4 @@
+pub mod Runs
+pub mod Digits
+pub mod Texts
+pub mod TextsFound

@@ -1,0 +1,14 @@
+-- Numbers in decimal, of any length (USI and SFEN).
+use Rattle.std.specs.Prelude.{ℕ, Bool, false, List, [], ◌∷◌}
+use Rattle.std.specs.List.{list_all}
+use Rattle.std.specs.Char.{is_ascii_digit}
+use Rattle.std.specs.Str.Parse.{digits_value}
+
+-- one or more digits, and nothing else
+abbrev pub is_number : List ℕ → Bool
+is_number [] = false
+is_number (byte ∷ bytes) = list_all is_ascii_digit (byte ∷ bytes)
+
+-- the number that the digits write
+abbrev pub number_of : List ℕ → ℕ
+number_of word = digits_value 10 word

@@ -1,0 +1,39 @@
+-- The words of a text: its maximal runs of bytes other than space and tab (USI and SFEN, the fields of a line).
+use Rattle.std.specs.Borrow.{Bor}
+use Rattle.std.specs.Prelude.{◌≡◌, ℕ, Option, Some, None, zero, suc, ◌==◌, ◌||◌, Bool, true, false, not, List, [], ◌∷◌, drop, filter}
+use Rattle.std.specs.List.{slice_split, position_or_len}
+
+-- a space or a tab
+abbrev pub is_blank : ℕ → Bool
+is_blank byte = byte == 32 || byte == 9
+
+-- a byte of a word
+abbrev pub is_inner : ℕ → Bool
+is_inner byte = not (is_blank byte)
+
+-- it is not empty
+abbrev pub has_bytes : List ℕ → Bool
+has_bytes [] = false
+has_bytes (byte ∷ bytes) = true
+
+-- the parts between blanks, but for the empty ones
+unfoldable pub words : List ℕ → List (List ℕ)
+words text = filter has_bytes (slice_split is_blank text)
+
+-- the text from its first word on
+abbrev pub from_word : List ℕ → List ℕ
+from_word text = drop (position_or_len is_inner text) text
+
+-- what stands after the first word of a text
+unfoldable pub after_word : List ℕ → List ℕ
+after_word text = drop (position_or_len is_blank (from_word text)) (from_word text)
+
+-- what stands after the first n words of a text
+abbrev pub rest_after : ℕ → List ℕ → List ℕ
+rest_after zero text = text
+rest_after (suc n) text = rest_after n (after_word text)
+
+-- the next word of a text was given, and what stands after it is left; or there was none, and all is left
+abbrev pub GivesWord : List ℕ → Option (Bor (List ℕ)) → List ℕ → Type 0
+GivesWord text None rest = (words text ≡ []) × (rest ≡ text)
+GivesWord text (Some word) rest = (words text ≡ word.now ∷ words rest) × (rest ≡ after_word text)

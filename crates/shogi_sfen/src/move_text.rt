@@ -1,0 +1,149 @@
+//! Moves as text.
+
+ghost use Rattle.std.specs.Prelude.{◌≡◌, ◌++◌, ◌<◌, Some, length};
+ghost use Rattle.shogi_sfen.specs.MoveTexts.{letter_of, square_text, text_of, move_of_text};
+ghost use Rattle.shogi_sfen.specs.Reading.{square_read, kind_read, board_read, drop_read, short_read, long_read, read};
+
+use arrayvec::ArrayVec;
+use shogi_core::{Kind, Move, Square};
+
+/// The square of a digit and a letter from `a` to `i`.
+fn read_square(file: u8, rank: u8) -> Option<Square>
+    ensures { result ≡ square_read file rank }
+{
+    match (file, rank) {
+        (b'1'..=b'9', b'a'..=b'i') => {
+            let index = (file - b'1') as usize * 9 + (rank - b'a') as usize;
+            Some(Square::of_index(index))
+        }
+        _ => None,
+    }
+}
+
+/// The kind of an upper-case letter.
+fn read_kind(letter: u8) -> Option<Kind>
+    ensures { result ≡ kind_read letter }
+{
+    match letter {
+        b'P' => Some(Kind::Pawn),
+        b'L' => Some(Kind::Lance),
+        b'N' => Some(Kind::Knight),
+        b'S' => Some(Kind::Silver),
+        b'G' => Some(Kind::Gold),
+        b'B' => Some(Kind::Bishop),
+        b'R' => Some(Kind::Rook),
+        _ => None,
+    }
+}
+
+fn board_move(from: Option<Square>, to: Option<Square>, promote: bool) -> Option<Move>
+    ensures { result ≡ board_read from to promote }
+{
+    match (from, to) {
+        (Some(from), Some(to)) => Some(Move::Board { from, to, promote }),
+        _ => None,
+    }
+}
+
+fn drop_move(kind: Option<Kind>, to: Option<Square>) -> Option<Move>
+    ensures { result ≡ drop_read kind to }
+{
+    match (kind, to) {
+        (Some(kind), Some(to)) => Some(Move::Drop { kind, to }),
+        _ => None,
+    }
+}
+
+/// The move of four bytes: a drop where the second is a star, else a board move.
+fn read_short(bytes: &[u8]) -> Option<Move>
+    requires { length bytes.now ≡ 4 }
+    ensures { result ≡ short_read bytes.now }
+{
+    let to = read_square(bytes[2], bytes[3]);
+    if bytes[1] == b'*' {
+        drop_move(read_kind(bytes[0]), to)
+    } else {
+        board_move(read_square(bytes[0], bytes[1]), to, false)
+    }
+}
+
+/// The move of five bytes: a board move with a promotion, where the last is a plus.
+fn read_long(bytes: &[u8]) -> Option<Move>
+    requires { length bytes.now ≡ 5 }
+    ensures { result ≡ long_read bytes.now }
+{
+    if bytes[4] != b'+' {
+        return None;
+    }
+    let from = read_square(bytes[0], bytes[1]);
+    board_move(from, read_square(bytes[2], bytes[3]), true)
+}
+
+#[tactic(auto, unfolding(crate::specs::Reading::read))]
+fn read(bytes: &[u8]) -> Option<Move>
+    ensures { result ≡ read bytes.now }
+{
+    match bytes.len() {
+        4 => read_short(bytes),
+        5 => read_long(bytes),
+        _ => None,
+    }
+}
+
+/// The move of a move text (USI, moves), as `7g7f`, `8h2b+` or `G*5b`; `None` for any other text.
+/// The move need not be legal anywhere.
+pub fn read_move(bytes: &[u8]) -> Option<Move>
+    ensures { result ≡ move_of_text bytes.now }
+{
+    read(bytes)
+}
+
+/// The one text of the move (USI, moves).
+pub fn write_move(m: Move) -> ArrayVec<u8, 5>
+    ensures text { result.items ≡ text_of m }
+    ensures back { move_of_text (text_of m) ≡ Some m }
+{
+    let again = m;
+    again.code();
+    let mut text = ArrayVec::new();
+    match m {
+        Move::Board { from, to, promote } => {
+            push_square(&mut text, from);
+            push_square(&mut text, to);
+            if promote {
+                text.push(b'+');
+            }
+        }
+        Move::Drop { kind, to } => {
+            text.push(letter_of(kind));
+            text.push(b'*');
+            push_square(&mut text, to);
+        }
+    }
+    text
+}
+
+/// The upper-case letter of the kind.
+fn letter_of(kind: Kind) -> u8
+    ensures { result ≡ letter_of kind }
+{
+    match kind {
+        Kind::Pawn => b'P',
+        Kind::Lance => b'L',
+        Kind::Knight => b'N',
+        Kind::Silver => b'S',
+        Kind::Gold => b'G',
+        Kind::Bishop => b'B',
+        Kind::Rook => b'R',
+    }
+}
+
+/// Writes the file as a digit and the rank as a letter from `a` to `i`.
+fn push_square(text: &mut ArrayVec<u8, 5>, square: Square)
+    requires { length text.old.items < 4 }
+    ensures { text.new.items ≡ text.old.items ++ square_text square }
+{
+    let index = square.index();
+    text.push(b'1' + (index / 9) as u8);
+    text.push(b'a' + (index % 9) as u8);
+}

@@ -1,0 +1,92 @@
+//! The words of a text.
+
+ghost use Rattle.std.specs.Prelude.{◌≡◌, ◌≤◌, length, position};
+ghost use Rattle.std.specs.List.{position_or_len};
+ghost use Rattle.std.specs.Iterator.{item_count};
+ghost use Rattle.shogi_sfen.specs.Words.{is_blank, is_inner, words, GivesWord};
+
+use std::marker::Model;
+
+fn is_blank(byte: u8) -> bool
+    ensures { result ≡ is_blank byte }
+{
+    byte == b' ' || byte == b'\t'
+}
+
+fn first_inner(text: &[u8]) -> Option<usize>
+    ensures { result ≡ position is_inner text.now }
+{
+    text.iter().position(|byte| !is_blank(*byte))
+}
+
+fn first_blank(text: &[u8]) -> Option<usize>
+    ensures { result ≡ position is_blank text.now }
+{
+    text.iter().position(|byte| is_blank(*byte))
+}
+
+/// How many blanks the text begins with.
+fn blanks_len(text: &[u8]) -> usize
+    ensures value { result ≡ position_or_len is_inner text.now }
+    ensures bound { result ≤ length text.now }
+{
+    first_inner(text).unwrap_or(text.len())
+}
+
+/// How many bytes stand before the first blank.
+fn word_len(text: &[u8]) -> usize
+    ensures value { result ≡ position_or_len is_blank text.now }
+    ensures bound { result ≤ length text.now }
+{
+    first_blank(text).unwrap_or(text.len())
+}
+
+/// The words of a text that are still to come, seen as the bytes after the last word given.
+#[derive(Debug, Drop)]
+pub struct Words<'a> {
+    text: &'a [u8],
+}
+
+impl<'a> Model for Words<'a> {
+    ghost use Rattle.std.specs.Prelude.{List, ℕ};
+
+    ghost Value = { List ℕ };
+
+    ghost view = { λ w. w.text.now };
+}
+
+impl<'a> Words<'a> {
+    /// The words of the text.
+    pub fn of(text: &'a [u8]) -> Words<'a>
+        ensures { result ≡ text.now }
+    {
+        Words { text }
+    }
+
+    /// The bytes after the last word given; all of them where none was.
+    pub fn rest(&self) -> &'a [u8]
+        ensures { result.now ≡ self.now }
+    {
+        self.text
+    }
+}
+
+impl<'a> Iterator for Words<'a> {
+    type Item = &'a [u8];
+
+    ghost next_gives = { GivesWord };
+
+    ghost remaining = { item_count words };
+
+    /// The next word, or `None` where only blanks are left, which then stay the rest.
+    fn next(&mut self) -> Option<&'a [u8]> {
+        let text = self.text;
+        let (_, from) = text.split_at(blanks_len(text));
+        if from.is_empty() {
+            return None;
+        }
+        let (word, rest) = from.split_at(word_len(from));
+        self.text = rest;
+        Some(word)
+    }
+}

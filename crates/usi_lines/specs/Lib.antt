@@ -1,0 +1,6 @@
+pub mod Lines
+pub mod Commands
+pub mod Seen
+pub use Rattle.shogi_sfen.specs.Words
+pub use Rattle.shogi_sfen.specs.Numbers
+pub use Rattle.shogi_sfen.specs.MoveTexts

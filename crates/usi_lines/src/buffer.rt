@@ -1,0 +1,129 @@
+//! A byte stream that comes in pieces, cut into lines.
+
+ghost use Rattle.std.specs.Prelude.{◌≡◌, ◌≢◌, ◌↔◌, ◌≤◌, ℕ, false, List, [], ◌∷◌, ◌++◌, IsTrue, IsNone, IfSome, OnOk, OnErr, drop, vec_len};
+ghost use Rattle.usi_lines.specs.Lines.{Buffer, ahead};
+ghost use Rattle.usi_lines.specs.Seen.{line_of};
+
+use crate::line::{LINE_MAX, Line, line_len, without_return};
+use std::alloc::{AllocError, Allocator};
+use std::marker::Model;
+
+/// Why a piece was not taken.
+#[derive(Clone, Copy, Debug, PartialEq, Eq)]
+pub enum LineFault {
+    /// No memory for the piece.
+    OutOfMemory,
+}
+
+impl From<AllocError> for LineFault {
+    fn from(_error: AllocError) -> LineFault {
+        LineFault::OutOfMemory
+    }
+}
+
+/// The bytes of a stream that were not read as lines yet, in one buffer of the given allocator.
+#[derive(Drop)]
+pub struct LineBuffer<A: Allocator> {
+    bytes: Vec<u8, A>,
+    start: usize,
+    end: usize,
+    closed: bool,
+}
+
+impl<A: Allocator> Model for LineBuffer<A> {
+    ghost use Rattle.std.specs.Prelude.{drop};
+    ghost use Rattle.usi_lines.specs.Lines.{Buffer, IsSearched};
+
+    ghost Value = { Buffer };
+
+    ghost view = { λ b. record { unread = drop b.start b.bytes.items; closed = b.closed } };
+
+    ghost invariant = { λ b. IsSearched b.bytes.items b.start b.end };
+}
+
+/// Gives up the read bytes where they are more than half of the buffer, and tells where the unread
+/// ones begin: each byte is moved once at most, on average.
+fn compact<A: Allocator>(bytes: &mut Vec<u8, A>, start: usize) -> usize
+    requires { start ≤ vec_len bytes.old }
+    ensures kept { drop result bytes.new.items ≡ drop start bytes.old.items }
+    ensures within { result ≤ vec_len bytes.new }
+{
+    if start <= bytes.len() / 2 {
+        return start;
+    }
+    bytes.drain(..start);
+    0
+}
+
+impl<A: Allocator> LineBuffer<A> {
+    /// A buffer at the start of a stream. It allocates nothing yet.
+    pub fn new(alloc: A) -> LineBuffer<A>
+        ensures { result ≡ record { unread = []; closed = false } }
+    {
+        LineBuffer {
+            bytes: Vec::new(alloc),
+            start: 0,
+            end: 0,
+            closed: false,
+        }
+    }
+
+    /// Takes the next piece of the stream. After a line that is too long was dropped, pieces are
+    /// accepted and forgotten. `OutOfMemory` comes only where memory for the piece is refused, and
+    /// leaves all as it was.
+    pub fn feed(&mut self, piece: &[u8]) -> Result<(), LineFault>
+        ensures ok { OnOk result ((x : List ℕ) → ahead self.new x ≡ ahead self.old (piece.now ++ x)) }
+        ensures err { OnErr result (self.new ≡ self.old) }
+    {
+        if self.closed {
+            return Ok(());
+        }
+        let len = self.bytes.len();
+        self.bytes.extend_from_slice(piece)?;
+        if self.end == len {
+            self.end += line_len(piece);
+        }
+        Ok(())
+    }
+
+    /// Whether there is an unread line.
+    pub fn has_line(&self) -> bool
+        ensures { IsTrue result ↔ (ahead self.now [] ≢ []) }
+    {
+        !self.closed && (self.end < self.bytes.len() || self.end - self.start > LINE_MAX)
+    }
+
+    /// The first unread line, which stays unread; `None` where no line has ended yet.
+    pub fn next_line(&self) -> Option<Line<'_>>
+        ensures none { IsNone result ↔ (ahead self.now [] ≡ []) }
+        ensures first { IfSome result (λ line. (x : List ℕ) → ahead self.now x ≡ line_of line ∷ drop 1 (ahead self.now x)) }
+    {
+        if self.closed {
+            return None;
+        }
+        if self.end - self.start > LINE_MAX {
+            return Some(Line::TooLong);
+        }
+        if self.end == self.bytes.len() {
+            return None;
+        }
+        let line = &self.bytes[self.start..self.end];
+        Some(Line::Text(without_return(line)))
+    }
+
+    /// Moves past the first unread line. After `TooLong` there are no more lines.
+    pub fn drop_line(&mut self)
+        requires { ahead self.old [] ≢ [] }
+        ensures { (x : List ℕ) → ahead self.new x ≡ drop 1 (ahead self.old x) }
+    {
+        if self.end - self.start > LINE_MAX {
+            self.closed = true;
+            self.bytes.clear();
+            self.start = 0;
+            self.end = 0;
+            return;
+        }
+        self.start = compact(&mut self.bytes, self.end + 1);
+        self.end = self.start + line_len(&self.bytes[self.start..]);
+    }
+}

@@ -1,0 +1,45 @@
+//! The commands of USI.
+
+/// When a `bestmove` may be written (USI, go).
+#[derive(Clone, Copy, Debug, PartialEq, Eq)]
+pub enum Hold {
+    /// At once.
+    Nothing,
+    /// After `stop`, as under `go infinite`.
+    UntilStop,
+    /// After `ponderhit` or `stop`, as under `go ponder`.
+    UntilHit,
+}
+
+/// The command of a line (USI, commands of a front end).
+#[derive(Clone, Copy, Debug, PartialEq, Eq)]
+pub enum Command<'a> {
+    /// `usi`
+    Usi,
+    /// `isready`
+    IsReady,
+    /// `setoption name Depth value N`, with N clamped to 1 to 16
+    SetDepth(u8),
+    /// `usinewgame`
+    NewGame,
+    /// `position startpos`, with the bytes after that word
+    Start(&'a [u8]),
+    /// `position sfen`, with the bytes after that word
+    Sfen(&'a [u8]),
+    /// Any other `position` line
+    BadPosition,
+    /// `go`; the depth, from 1 to 16, is the number right after the first word `depth`
+    Go { depth: Option<u8>, hold: Hold },
+    /// `go` with the word `mate` after it
+    GoMate,
+    /// `stop`
+    Stop,
+    /// `ponderhit`
+    PonderHit,
+    /// `gameover`
+    GameOver,
+    /// `quit`
+    Quit,
+    /// A line without words or with another first word, and any other `setoption` line
+    Other,
+}

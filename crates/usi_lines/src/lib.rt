@@ -1,0 +1,15 @@
+//! Lines of a USI byte stream, and the command of each.
+#![tactic(auto)]
+
+mod buffer;
+mod command;
+mod line;
+mod option;
+mod read;
+#[cfg(test)]
+mod tests;
+
+pub use buffer::{LineBuffer, LineFault};
+pub use command::{Command, Hold};
+pub use line::{LINE_MAX, Line};
+pub use read::read_command;

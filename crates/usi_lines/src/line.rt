@@ -1,0 +1,37 @@
+//! A line of a byte stream.
+
+ghost use Rattle.std.specs.Prelude.{◌≡◌, ◌≤◌, length};
+ghost use Rattle.std.specs.List.{position_or_len};
+ghost use Rattle.std.specs.Str.Lines.{strip_carriage_return};
+ghost use Rattle.usi_lines.specs.Lines.{is_line_feed};
+
+use memchr::memchr;
+
+/// How many bytes a line may have before its LF, a CR right before it counted (own choice).
+pub const LINE_MAX: usize = 65_535;
+
+/// A line, without its LF and without the one CR right before it; or the end of all lines, where
+/// more than `LINE_MAX` bytes came without an LF.
+#[derive(Clone, Copy, Debug, PartialEq, Eq)]
+pub enum Line<'a> {
+    Text(&'a [u8]),
+    TooLong,
+}
+
+/// How many bytes stand before the first LF.
+pub fn line_len(bytes: &[u8]) -> usize
+    ensures value { result ≡ position_or_len is_line_feed bytes.now }
+    ensures bound { result ≤ length bytes.now }
+{
+    memchr(b'\n', bytes).unwrap_or(bytes.len())
+}
+
+/// The bytes without the one CR at their end.
+pub fn without_return(line: &[u8]) -> &[u8]
+    ensures { result.now ≡ strip_carriage_return line.now }
+{
+    match line {
+        [text @ .., b'\r'] => text,
+        _ => line,
+    }
+}

@@ -1,0 +1,92 @@
+//! The command of a line.
+
+ghost use Rattle.std.specs.Prelude.{◌≡◌};
+ghost use Rattle.shogi_sfen.specs.Words.{words, after_word};
+ghost use Rattle.usi_lines.specs.Commands.{command_of, named_by, position_of, go_of, hold_of, HasDepthInRange};
+ghost use Rattle.usi_lines.specs.Seen.{meaning_of};
+
+use crate::command::{Command, Hold};
+use crate::option::{find_depth, has, is, read_option};
+use shogi_sfen::words;
+
+/// What follows `position`.
+fn position(text: &[u8]) -> Command<'_>
+    ensures { meaning_of result ≡ position_of (words text.now) (after_word text.now) }
+{
+    let mut rest = words(text);
+    match rest.next() {
+        Some(word) if is(word, b"startpos") => Command::Start(rest.rest()),
+        Some(word) if is(word, b"sfen") => Command::Sfen(rest.rest()),
+        _ => Command::BadPosition,
+    }
+}
+
+fn hold(text: &[u8]) -> Hold
+    ensures { result ≡ hold_of (words text.now) }
+{
+    if has(text, b"infinite") {
+        Hold::UntilStop
+    } else if has(text, b"ponder") {
+        Hold::UntilHit
+    } else {
+        Hold::Nothing
+    }
+}
+
+/// What follows `go`.
+fn go(text: &[u8]) -> Command<'_>
+    ensures { meaning_of result ≡ go_of (words text.now) }
+{
+    if has(text, b"mate") {
+        return Command::GoMate;
+    }
+    Command::Go {
+        depth: find_depth(text),
+        hold: hold(text),
+    }
+}
+
+/// The command of a first word and the text after it.
+fn named<'a>(name: &[u8], text: &'a [u8]) -> Command<'a>
+    ensures { meaning_of result ≡ named_by name.now (words text.now) (after_word text.now) }
+{
+    if is(name, b"usi") {
+        Command::Usi
+    } else if is(name, b"isready") {
+        Command::IsReady
+    } else if is(name, b"usinewgame") {
+        Command::NewGame
+    } else if is(name, b"stop") {
+        Command::Stop
+    } else if is(name, b"ponderhit") {
+        Command::PonderHit
+    } else if is(name, b"gameover") {
+        Command::GameOver
+    } else if is(name, b"quit") {
+        Command::Quit
+    } else if is(name, b"setoption") {
+        match read_option(text) {
+            Some(depth) => Command::SetDepth(depth),
+            None => Command::Other,
+        }
+    } else if is(name, b"position") {
+        position(text)
+    } else if is(name, b"go") {
+        go(text)
+    } else {
+        Command::Other
+    }
+}
+
+/// The command of a line, for any bytes. The first word names it; words that mean nothing there
+/// have no effect (USI, commands of a front end; the clamping of depths is an own choice).
+pub fn read_command(line: &[u8]) -> Command<'_>
+    ensures command { meaning_of result ≡ command_of line.now }
+    ensures depth { HasDepthInRange (command_of line.now) }
+{
+    let mut rest = words(line);
+    match rest.next() {
+        None => Command::Other,
+        Some(name) => named(name, rest.rest()),
+    }
+}

@@ -1,0 +1,49 @@
+-- The info lines of a position, depth by depth.
+use Rattle.std.proofs.Common.{◌≡◌, ◌≢◌, ℕ, suc, ◌+◌, ◌<◌, List, [], ◌∷◌, ◌++◌, Option, Some, None, refl, sym, ap, ◌∙◌, add-one, append_assoc, inr}
+use Rattle.std.specs.Prelude.{is_some, false}
+use Rattle.shogi_core.specs.declared.moves.Move.{Move}
+use Rattle.shogi_core.specs.Position.{Shogi}
+use Rattle.shogi_moves.specs.LegalMoves.{legal_moves}
+use Rattle.shogi_search.specs.Minimax.{best, line}
+use Rattle.shogi_search.proofs.Lines.{line-none, line-leaf}
+use Rattle.shogi_search.proofs.Best.{none_iff}
+use Rattle.usi_session.specs.Texts.{info_line}
+use Rattle.usi_session.specs.Going.{info_lines, infos, infos_of, first, second}
+
+pub info_lines-start : (p : Shogi) → info_lines p 0 ≡ []
+unfolding info_lines
+info_lines-start p = refl
+
+-- one depth more
+pub info_lines-more : (p : Shogi) (done : ℕ) → info_lines p (done + 1) ≡ info_lines p done ++ info_line p (done + 1)
+unfolding info_lines
+info_lines-more p done = rw add-one refl
+
+-- what was said so far, and one depth more
+pub said_more : (p : Shogi) (done : ℕ) (old said more : List ℕ) → said ≡ old ++ info_lines p done → more ≡ said ++ info_line p (done + 1) → more ≡ old ++ info_lines p (done + 1)
+said_more p done old said more e f = f ∙ (ap (λ xs. xs ++ info_line p (done + 1)) e ∙ (append_assoc old (info_lines p done) (info_line p (done + 1)) ∙ ap (λ xs. old ++ xs) (sym (info_lines-more p done))))
+
+-- a list that is not other than empty is empty
+pub is_empty : (xs : List ℕ) → ((xs ≢ []) → ⊥) → xs ≡ []
+is_empty [] h = refl
+is_empty (x ∷ xs) h = absurd (h (λ e. cc))
+
+-- where no move is legal nothing is said
+pub infos-none : (p : Shogi) (depth : ℕ) → legal_moves p ≡ [] → infos p depth ≡ []
+infos-none p depth e = ap (infos_of p depth) e
+
+infos_some : (p : Shogi) (depth : ℕ) (codes : List ℕ) → codes ≢ [] → infos_of p depth codes ≡ info_lines p depth
+infos_some p depth [] h = absurd (h refl)
+infos_some p depth (code ∷ codes) h = refl
+
+-- where a move is legal each depth is said
+pub infos-some : (p : Shogi) (depth : ℕ) → legal_moves p ≢ [] → infos p depth ≡ info_lines p depth
+infos-some p depth h = infos_some p depth (legal_moves p) h
+
+none_is : (o : Option Move) → is_some o ≡ false → o ≡ None
+none_is None e = refl
+none_is (Some m) e = absurd (cc)
+
+-- where no move is legal the best line is empty
+pub line-empty : (p : Shogi) (depth : ℕ) → 0 < depth → legal_moves p ≡ [] → line p depth ≡ []
+line-empty p depth h e = line-none p depth h (none_is (best p depth) ((none_iff p depth (best p depth) refl).1 (inr e)))

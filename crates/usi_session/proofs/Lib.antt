@@ -1,0 +1,5 @@
+pub mod Appends
+pub mod Placed
+pub mod Walk
+pub mod Infos
+pub mod Steps

@@ -1,0 +1,29 @@
+-- The replies of a session to a stream of bytes (USI).
+use Rattle.std.specs.Prelude.{ℕ, List, [], ◌∷◌, ◌++◌, Bool, true, false, None}
+use Rattle.usi_lines.specs.Commands.{command_of}
+use Rattle.usi_lines.specs.Lines.{Line, Text, TooLong, lines}
+use Rattle.usi_session.specs.declared.state.State.{State}
+use Rattle.usi_session.specs.Answer.{Answer, answer, said, opening}
+use Rattle.usi_session.specs.Texts.{too_long_reply}
+
+-- the answer to a line; one that is too long ends the session
+abbrev pub answer_to : State → Line → Answer
+answer_to s (Text text) = answer s (command_of text)
+answer_to s TooLong = said (record s { held = None; is_over = true }) too_long_reply
+
+-- a session that is over answers nothing
+abbrev pub answer_unless : Bool → State → Line → Answer
+answer_unless true s line = said s []
+answer_unless false s line = answer_to s line
+
+abbrev pub answer_line : State → Line → Answer
+answer_line s line = answer_unless s.is_over s line
+
+-- the answers to the lines, one after another, from a state on
+unfoldable pub replies_from : State → List Line → List ℕ
+replies_from s [] = []
+replies_from s (line ∷ rest) = (answer_line s line).bytes ++ replies_from (answer_line s line).state rest
+
+-- the replies of a new session to a whole stream of bytes
+abbrev pub replies : List ℕ → List ℕ
+replies bytes = replies_from opening (lines bytes)

@@ -1,0 +1,61 @@
+-- The lines that a session writes, each with its LF (USI, the replies of an engine; names, options and the texts after `info string` are an own choice).
+use Rattle.std.specs.Prelude.{ℕ, ℤ, pos, negsuc, ◌+◌, ◌-◌, List, [], ◌∷◌, ◌++◌, codes, flat_map, Option, Some, None, nat_lt, cond, decimal}
+use Rattle.shogi_core.specs.declared.moves.Move.{Move}
+use Rattle.shogi_core.specs.Position.{Shogi}
+use Rattle.shogi_search.specs.Minimax.{value, line}
+use Rattle.shogi_sfen.specs.MoveTexts.{text_of}
+
+-- what `usi` is answered with
+abbrev pub usi_reply : List ℕ
+usi_reply =
+    codes "id name Shared Shogi Host\n" ++ codes "id author Shared Shogi Host Team\n"
+    ++ codes "option name Depth type spin default 3 min 1 max 16\n" ++ codes "usiok\n"
+
+-- what `isready` is answered with
+abbrev pub ready_reply : List ℕ
+ready_reply = codes "readyok\n"
+
+-- what `go mate` is answered with
+abbrev pub no_mate_reply : List ℕ
+no_mate_reply = codes "checkmate notimplemented\n"
+
+-- a `position` line that names no position: 0 for its form, 1 to 8 for the first fault of its SFEN
+abbrev pub bad_position : ℕ → List ℕ
+bad_position fault = codes "info string bad position " ++ (decimal fault ++ codes "\n")
+
+-- the word of this number after `moves` is no legal move
+abbrev pub illegal_move : ℕ → List ℕ
+illegal_move number = codes "info string illegal move " ++ (decimal number ++ codes "\n")
+
+-- what a line of 65,536 bytes or more is answered with
+abbrev pub too_long_reply : List ℕ
+too_long_reply = codes "info string line too long\n"
+
+-- hundredths of a pawn, or from 30,000 up a mate in plies (plies are an own choice)
+abbrev pub size_text : List ℕ → ℕ → ℕ → List ℕ
+size_text sign depth size =
+    cond (nat_lt size 30000) (codes "cp " ++ (sign ++ decimal size)) (codes "mate " ++ (sign ++ decimal (depth - (size - 30000))))
+
+-- a score at a depth, negative where the side to move stands worse
+abbrev pub score_text : ℕ → ℤ → List ℕ
+score_text depth (pos size) = size_text [] depth size
+score_text depth (negsuc size) = size_text (codes "-") depth (size + 1)
+
+-- each move after a space
+abbrev pub moves_text : List Move → List ℕ
+moves_text moves = flat_map (λ m. codes " " ++ text_of m) moves
+
+-- a value and a line of moves at a depth
+abbrev pub said_line : ℕ → ℤ → List Move → List ℕ
+said_line depth value moves =
+    (codes "info depth " ++ (decimal depth ++ codes " score ")) ++ (score_text depth value ++ (codes " pv" ++ (moves_text moves ++ codes "\n")))
+
+-- what is said of a position at a depth: its value and its best line
+abbrev pub info_line : Shogi → ℕ → List ℕ
+info_line p depth = said_line depth (value p depth) (line p depth)
+
+-- the move to play, with the reply to ponder on; none where no move is legal
+abbrev pub bestmove_line : Option Move → Option Move → List ℕ
+bestmove_line None ponder = codes "bestmove resign\n"
+bestmove_line (Some best) None = codes "bestmove " ++ (text_of best ++ codes "\n")
+bestmove_line (Some best) (Some ponder) = codes "bestmove " ++ (text_of best ++ (codes " ponder " ++ (text_of ponder ++ codes "\n")))

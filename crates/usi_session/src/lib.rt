@@ -1,0 +1,14 @@
+//! One USI session: bytes in, bytes out.
+#![tactic(auto)]
+
+mod answer;
+mod go;
+mod line;
+mod output;
+mod placing;
+mod session;
+mod state;
+mod text;
+
+pub use session::Session;
+pub use session::SessionFault;

@@ -1,0 +1,122 @@
+//! The lines that a session writes.
+
+ghost use Rattle.std.specs.Prelude.{◌≡◌, ◌++◌, ◌+◌, OnOk, codes, decimal, ℤ, flat_map};
+ghost use Rattle.shogi_sfen.specs.MoveTexts.{text_of};
+ghost use Rattle.usi_session.specs.Texts.{usi_reply, bad_position, illegal_move, size_text, score_text, moves_text, said_line, bestmove_line};
+
+use itoa::Buffer;
+use shogi_core::Move;
+use shogi_sfen::write_move;
+use std::alloc::{AllocError, Allocator};
+
+/// Appends the parts, one after another.
+fn write_parts<A: Allocator>(out: &mut Vec<u8, A>, parts: &[&[u8]]) -> Result<(), AllocError>
+    ensures { OnOk result (out.new.items ≡ out.old.items ++ flat_map (λ part. part.now) parts.now) }
+{
+    for part in parts {
+        out.extend_from_slice(part)?;
+    }
+    Ok(())
+}
+
+/// Names the program and its options (USI, usi).
+pub fn write_usi<A: Allocator>(out: &mut Vec<u8, A>) -> Result<(), AllocError>
+    ensures { OnOk result (out.new.items ≡ out.old.items ++ usi_reply) }
+{
+    out.extend_from_slice(b"id name Shared Shogi Host\nid author Shared Shogi Host Team\noption name Depth type spin default 3 min 1 max 16\nusiok\n")
+}
+
+/// Says that a `position` line names no position: 0 for its form, 1 to 8 for its first fault.
+pub fn write_bad_position<A: Allocator>(out: &mut Vec<u8, A>, fault: u8) -> Result<(), AllocError>
+    ensures { OnOk result (out.new.items ≡ out.old.items ++ bad_position fault) }
+{
+    let mut buffer = Buffer::new();
+    let digits = buffer.format(fault).as_bytes();
+    write_parts(out, &[b"info string bad position ", digits, b"\n"])
+}
+
+
+/// Says that the word of this number after `moves` is no legal move.
+pub fn write_illegal_move<A: Allocator>(out: &mut Vec<u8, A>, number: usize) -> Result<(), AllocError>
+    ensures { OnOk result (out.new.items ≡ out.old.items ++ illegal_move number) }
+{
+    let mut buffer = Buffer::new();
+    let digits = buffer.format(number).as_bytes();
+    write_parts(out, &[b"info string illegal move ", digits, b"\n"])
+}
+
+/// A value after its sign: hundredths of a pawn, or from 30,000 up the plies to a mate.
+fn write_size<A: Allocator>(out: &mut Vec<u8, A>, sign: &[u8], depth: u8, size: u32) -> Result<(), AllocError>
+    ensures { OnOk result (out.new.items ≡ out.old.items ++ size_text sign.now depth size) }
+{
+    let mut buffer = Buffer::new();
+    if size < 30000 {
+        let digits = buffer.format(size).as_bytes();
+        return write_parts(out, &[b"cp ", sign, digits]);
+    }
+    let plies = u32::from(depth).saturating_sub(size - 30000);
+    let digits = buffer.format(plies).as_bytes();
+    write_parts(out, &[b"mate ", sign, digits])
+}
+
+fn write_score<A: Allocator>(out: &mut Vec<u8, A>, depth: u8, value: i32) -> Result<(), AllocError>
+    ensures { OnOk result (out.new.items ≡ out.old.items ++ score_text depth value) }
+{
+    let sign: &[u8] = if value < 0 { b"-" } else { b"" };
+    write_size(out, sign, depth, value.unsigned_abs())
+}
+
+fn write_moves<A: Allocator>(out: &mut Vec<u8, A>, moves: &[Move]) -> Result<(), AllocError>
+    ensures { OnOk result (out.new.items ≡ out.old.items ++ moves_text moves.now) }
+{
+    for m in moves {
+        let text = write_move(*m);
+        write_parts(out, &[b" ", text.as_slice()])?;
+    }
+    Ok(())
+}
+
+/// The depth of an info line, from its start.
+fn write_head<A: Allocator>(out: &mut Vec<u8, A>, depth: u8) -> Result<(), AllocError>
+    ensures { OnOk result (out.new.items ≡ out.old.items ++ (codes "info depth " ++ (decimal depth ++ codes " score "))) }
+{
+    let mut buffer = Buffer::new();
+    let digits = buffer.format(depth).as_bytes();
+    write_parts(out, &[b"info depth ", digits, b" score "])
+}
+
+/// The best line of an info line, to its end.
+fn write_line<A: Allocator>(out: &mut Vec<u8, A>, moves: &[Move]) -> Result<(), AllocError>
+    ensures { OnOk result (out.new.items ≡ out.old.items ++ (codes " pv" ++ (moves_text moves.now ++ codes "\n"))) }
+{
+    out.extend_from_slice(b" pv")?;
+    write_moves(out, moves)?;
+    out.extend_from_slice(b"\n")?;
+    Ok(())
+}
+
+/// Says the value and the best line of a position at a depth (USI, info).
+#[tactic(auto, using(crate::proofs::Appends::after_three))]
+pub fn write_info<A: Allocator>(out: &mut Vec<u8, A>, depth: u8, value: i32, moves: &[Move]) -> Result<(), AllocError>
+    ensures { OnOk result (out.new.items ≡ out.old.items ++ said_line depth value moves.now) }
+{
+    write_head(out, depth)?;
+    write_score(out, depth, value)?;
+    write_line(out, moves)?;
+    Ok(())
+}
+
+/// Names the move to play, with the reply to ponder on (USI, bestmove).
+pub fn write_bestmove<A: Allocator>(out: &mut Vec<u8, A>, best: &Option<Move>, ponder: &Option<Move>) -> Result<(), AllocError>
+    ensures { OnOk result (out.new.items ≡ out.old.items ++ bestmove_line best.now ponder.now) }
+{
+    let Some(best) = best else {
+        return out.extend_from_slice(b"bestmove resign\n");
+    };
+    let best = write_move(*best);
+    let Some(ponder) = ponder else {
+        return write_parts(out, &[b"bestmove ", best.as_slice(), b"\n"]);
+    };
+    let ponder = write_move(*ponder);
+    write_parts(out, &[b"bestmove ", best.as_slice(), b" ponder ", ponder.as_slice(), b"\n"])
+}
