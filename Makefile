@@ -1,11 +1,27 @@
 # The commands of this repository. `rt` is the toolchain's command.
 
-.PHONY: test bench
+PREFIX ?= /usr/local
+PROGRAM = crates/usi_host/out/usi_host
+
+.PHONY: run build install test bench
+
+# Starts the program on standard input and output, and builds first what is not built yet.
+run: build
+	@$(PROGRAM)
+
+build:
+	@cd crates/usi_host && rt run < /dev/null > build.log 2>&1 || { cat build.log; rm -f build.log; exit 1; }
+	@rm -f crates/usi_host/build.log
+
+# Copies the built program to PREFIX/bin.
+install: build
+	install -d $(DESTDIR)$(PREFIX)/bin
+	install -m 755 $(PROGRAM) $(DESTDIR)$(PREFIX)/bin/usi_host
 
 # Proves every crate from nothing, tries each edit that must fail, and runs each test and program.
 test:
 	rt ci
 
-# Builds `measure` and prints how fast moves are counted.
+# Builds `measure` and prints how fast moves are counted and positions searched.
 bench:
 	bench/run.sh

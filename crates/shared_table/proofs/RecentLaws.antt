@@ -1,7 +1,6 @@
 -- The list of the most recently used pairs, as `lru` keeps it and as the table means it.
-use Rattle.std.proofs.Common.{◌≡◌, ◌∙◌, ◌≤◌, ◌+◌, ◌-◌, ◌⊎◌, ℕ, zero, suc, Bool, true, false, cond, List, [], ◌∷◌, Option, Some, None, Contains, ◌^◌, ◌==◌, IfSome, IfOk, eq-eqb, IsSome, IsOk, OnOk, OnErr, Result, Ok, Err, ◌<◌, ◌≢◌, refl, sym, ap, ap₂, subst, inl, inr, arith, length, take, option_map}
+use Rattle.std.proofs.Common.{◌≡◌, ◌∙◌, ◌≤◌, ◌+◌, ◌-◌, ◌⊎◌, ℕ, zero, suc, Bool, true, false, cond, List, [], ◌∷◌, Option, Some, None, Contains, ◌^◌, ◌==◌, IfSome, IfOk, eq-eqb, IsSome, IsOk, OnOk, OnErr, Result, Ok, Err, ◌<◌, refl, sym, ap, subst, inl, inr, arith, length, take, option_map}
 use Rattle.std.specs.Map.{lookup, lookup_entry, remove_entry}
-use Rattle.std.specs.Option.{option_map_or}
 use Rattle.std.specs.Prelude.{slice_get}
 use Rattle.std.proofs.lemmas.List.{take_all}
 use Rattle.lru.specs.LruCache.{LruCache, lru_cache, promoted, displaced, put_entries}

@@ -1,6 +1,7 @@
 //! What a position is worth by its material.
 #![tactic(auto)]
 
+mod gain;
 mod node;
 mod points;
 

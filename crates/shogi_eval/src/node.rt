@@ -7,25 +7,35 @@ ghost use Rattle.shogi_moves.specs.After.{after, after_code};
 ghost use Rattle.shogi_moves.specs.Legal.{is_legal};
 ghost use Rattle.shogi_eval.specs.Material.{material_of};
 
+use crate::gain::score_after;
 use crate::points::material;
 use shogi_core::{Move, Position};
 use shogi_moves::apply;
 use std::marker::Model;
 
-/// A position that moves are played from and whose material is asked for, seen as the position alone.
+/// A position with its material, which changes with each move that is played, seen as the position
+/// alone.
 #[derive(Clone, Copy, Debug)]
 pub struct Node {
     position: Position,
+    score: i32,
 }
 
 impl Model for Node {
+    ghost use Rattle.std.specs.Prelude.{◌≡◌, ℤ};
+    ghost use Rattle.std.proofs.Common.{ap, sym};
     ghost use Rattle.shogi_core.specs.Position.{Shogi};
+    ghost use Rattle.shogi_eval.specs.Material.{material_of};
 
     ghost Value = { Shogi };
 
     ghost view = { λ n. n.position };
 
-    ghost inverse = { λ p. record { position = p } };
+    ghost invariant = { λ n. n.score ≡ material_of n.position };
+
+    ghost inverse = { λ p. record { position = p; score = material_of p } };
+
+    ghost inverse_ok = { λ n h. ap (λ (s : ℤ). record { position = n.position; score = s }) (sym h) };
 }
 
 impl Node {
@@ -33,7 +43,8 @@ impl Node {
     pub fn of(position: Position) -> Node
         ensures { result ≡ position }
     {
-        Node { position }
+        let score = material(&position);
+        Node { position, score }
     }
 
     /// The position.
@@ -43,6 +54,13 @@ impl Node {
         self.position
     }
 
+    /// The position, where it stands.
+    pub fn as_position(&self) -> &Position
+        ensures { result.now ≡ self.now }
+    {
+        &self.position
+    }
+
     /// The node after a legal move.
     pub fn play(&self, m: Move) -> Node
         requires { is_legal self.now m ≡ true }
@@ -50,8 +68,10 @@ impl Node {
         ensures by_code { result ≡ after_code self.now (code_of m) }
         ensures valid { IsValid (after self.now m) }
     {
+        let score = score_after(&self.position, self.score, &m);
         Node {
             position: apply(&self.position, m),
+            score,
         }
     }
 
@@ -61,6 +81,7 @@ impl Node {
         ensures least { negsuc 25199 ≤ℤ result }
         ensures most { result ≤ℤ pos 25200 }
     {
-        material(&self.position)
+        self.position.validity();
+        self.score
     }
 }

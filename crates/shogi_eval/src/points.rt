@@ -6,7 +6,7 @@ ghost use Rattle.shogi_eval.specs.Material.{value_of, points_at, points_on_board
 use shogi_core::{Color, KINDS, Kind, Piece, Position, Role};
 
 /// What a piece of the role is worth on the board.
-fn value_of(role: Role) -> u32
+pub fn value_of(role: Role) -> u32
     ensures value { result ≡ value_of role }
     ensures range { result ≤ 1300 }
 {

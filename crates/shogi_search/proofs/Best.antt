@@ -1,15 +1,15 @@
 -- Where there is a best move.
-use Rattle.std.proofs.Common.{◌≡◌, ◌<◌, ◌≤◌, ◌-◌, ◌/◌, ◌%◌, ℕ, zero, suc, ℤ, ◌≤ℤ◌, List, [], ◌∷◌, ◌⊎◌, ◌==◌, Bool, true, false, Option, Some, None, refl, ap, ◌∙◌, sym, arith, subst, inl, inr, find, is_some}
-use Rattle.std.specs.Prelude.{◌↔◌, IsNone, int_lt}
-use Rattle.std.specs.Int.{int_max}
+use Rattle.std.proofs.Common.{◌≡◌, ◌<◌, ℕ, zero, suc, ℤ, List, [], ◌∷◌, ◌⊎◌, ◌==◌, Bool, true, false, Option, Some, None, refl, ap, ◌∙◌, sym, inl, inr, find, is_some}
+use Rattle.std.specs.Prelude.{◌↔◌, IsNone, IfSome, int_lt}
 use Rattle.std.specs.Ordering.{int_eq}
 use Rattle.std.proofs.lemmas.Bool.{or_left, or_right, or_cases, eq-eqb, eqb-true, cond_both, cases_lt, both_ways}
 use Rattle.shogi_core.specs.declared.moves.Move.{Move}
 use Rattle.shogi_core.specs.Codes.{move_of}
 use Rattle.shogi_core.specs.Position.{Shogi}
+use Rattle.shogi_moves.specs.Legal.{is_legal}
 use Rattle.shogi_moves.specs.LegalMoves.{legal_moves}
 use Rattle.shogi_moves.specs.Rising.{is_in}
-use Rattle.shogi_moves.proofs.LegalLaws.{legal_in, legal_code_below}
+use Rattle.shogi_moves.proofs.LegalLaws.{legal_in, legal_code_below, is_legal_code_of}
 use Rattle.shogi_search.specs.Minimax.{value, best, best_code, move_at, worth, lost, greatest, greatest_of}
 use Rattle.shogi_search.proofs.Equal.{same_int_eq}
 use Rattle.shogi_search.proofs.MinimaxLaws.{value-suc, best_code-leaf, best_code-suc, best-leaf, best-code}
@@ -91,3 +91,12 @@ none_iff p d o e = (
   λ n. best_none p d (sym e ∙ none_is o n),
   λ h. ap is_some (e ∙ none_best p d h),
 )
+
+legal_at : (p : Shogi) (d : ℕ) (o : Option ℕ) (m : Move) → best_code p d ≡ o → move_at o ≡ Some m → is_legal p m ≡ true
+legal_at p d None m q e = absurd (cc)
+legal_at p d (Some b) m q e = sym (is_legal_code_of p b m e) ∙ legal_in p 0 b (best_in p d b q)
+
+-- a best move is legal, said of the move
+pub legal_best : (p : Shogi) (d : ℕ) (o : Option Move) → o ≡ best p d → IfSome o (λ m. is_legal p m ≡ true)
+legal_best p d None e = tt
+legal_best p d (Some m) e = legal_at p d (best_code p d) m refl (sym (best-code p d (best_code p d) refl) ∙ sym e)

@@ -1,11 +1,11 @@
 -- How what is known of a node's moves changes while the search goes through them.
-use Rattle.std.proofs.Common.{◌≡◌, ◌<◌, ℕ, ℤ, pos, ◌-ℤ◌, ◌≤ℤ◌, ◌<ℤ◌, List, [], ◌∷◌, Bool, true, false, cond, Option, Some, None, refl, ap, ◌∙◌, sym, arith, subst, inl, inr, find}
+use Rattle.std.proofs.Common.{◌≡◌, ◌<◌, ℕ, ℤ, ◌≤ℤ◌, ◌<ℤ◌, List, [], ◌∷◌, Option, Some, None, refl, ap, sym, arith, subst, inl, inr, find}
 use Rattle.std.specs.Ordering.{int_eq}
 use Rattle.std.proofs.lemmas.Int.{ints}
-use Rattle.std.proofs.lemmas.Bool.{or_cases, eqb-true, or_left, or_right, or_from, ne_eqb, eq-eqb, cases_eq}
+use Rattle.std.proofs.lemmas.Bool.{or_left, or_right, or_from, ne_eqb, eq-eqb, cases_eq}
 use Rattle.std.proofs.lemmas.Bool.Decides.{nat_tests}
 use Rattle.shogi_search.specs.Minimax.{greatest_of}
-use Rattle.shogi_moves.specs.Rising.{is_in, IsRising}
+use Rattle.shogi_moves.specs.Rising.{IsRising}
 use Rattle.shogi_search.specs.Window.{bar, IsCovered}
 use Rattle.shogi_search.proofs.Greatest.{greatest_of-above, greatest_of-least, find_first}
 use Rattle.shogi_search.proofs.Equal.{same_int_eq, less_int_eq}

@@ -1,8 +1,7 @@
 -- The greatest of the moves' worth, and the first move that has it.
-use Rattle.std.proofs.Common.{◌≡◌, ◌<◌, ℕ, ℤ, ◌≤ℤ◌, ◌<ℤ◌, List, [], ◌∷◌, Bool, true, false, cond, Option, Some, None, refl, ap, ◌∙◌, sym, arith, subst, inl, inr, find}
-use Rattle.std.specs.Int.{int_max}
+use Rattle.std.proofs.Common.{◌≡◌, ◌<◌, ℕ, ℤ, ◌≤ℤ◌, List, [], ◌∷◌, Bool, true, false, Some, refl, ap, ◌∙◌, sym, arith, inl, inr, find}
 use Rattle.std.proofs.lemmas.Int.{ints, clamps}
-use Rattle.std.proofs.lemmas.Bool.{or_cases, eqb-true, or_left, or_right, or_from, ne_eqb, eq-eqb, cond-true, cond-false}
+use Rattle.std.proofs.lemmas.Bool.{or_cases, eqb-true, or_left, or_right, eq-eqb, cond-true, cond-false}
 use Rattle.shogi_search.specs.Minimax.{greatest, greatest_of}
 use Rattle.shogi_moves.specs.Rising.{is_in, IsRising}
 

@@ -1,5 +1,5 @@
 -- What is known of a position when the search leaves it.
-use Rattle.std.proofs.Common.{◌≡◌, ◌<◌, ◌≤◌, ◌+◌, ◌-◌, ◌*◌, ℕ, ℤ, pos, negsuc, ◌≤ℤ◌, List, [], ◌∷◌, true, ◌==◌, MatchOption, Option, Some, None, refl, ap, ◌∙◌, sym, arith, subst, find}
+use Rattle.std.proofs.Common.{◌≡◌, ◌<◌, ◌≤◌, ◌-◌, ℕ, ℤ, negsuc, ◌≤ℤ◌, List, [], ◌∷◌, Option, Some, None, refl, ap, ◌∙◌, arith, find}
 use Rattle.std.specs.Ordering.{int_eq}
 use Rattle.std.proofs.lemmas.Int.{ints}
 use Rattle.shogi_core.specs.declared.moves.Move.{Move}
@@ -7,9 +7,9 @@ use Rattle.shogi_core.specs.Codes.{code_of, move_of}
 use Rattle.shogi_core.specs.Position.{Shogi}
 use Rattle.shogi_core.specs.Validity.{IsValid}
 use Rattle.shogi_moves.specs.LegalMoves.{legal_moves}
-use Rattle.shogi_moves.specs.Rising.{is_in, IsRising}
+use Rattle.shogi_moves.specs.Rising.{IsRising}
 use Rattle.shogi_search.specs.Minimax.{value, best, best_code, worth, lost, greatest_of}
-use Rattle.shogi_search.specs.Window.{IsCovered, bar, code_at}
+use Rattle.shogi_search.specs.Window.{IsCovered, code_at}
 use Rattle.shogi_search.proofs.Cover.{ended_exact, ended_first, ended_low, at_end}
 use Rattle.shogi_search.proofs.MinimaxLaws.{value-above, best_code-above, best-code, value_within, Within}
 
@@ -58,3 +58,17 @@ pub found_none : (p : Shogi) (d : ℕ) (top : ℤ) (todo : List ℕ) (best_so_fa
 found_none p d top todo best_so_far h h' v e q c =
     let n : IsCovered (worth p (d - 1)) (legal_moves p) [] (negsuc 30999) top None = at_end _ _ _ _ _ _ _ e (ap code_at q) c in
     left_lost p d h (none_of p d (negsuc 30999) top h h' v n.reached refl (legal_moves p) refl n)
+
+-- without a best move and with a legal one
+pub found_low : (p : Shogi) (d : ℕ) (low top : ℤ) (todo : List ℕ) (best_so_far : Option Move) → 0 < d → todo ≡ [] → best_so_far ≡ None → (legal_moves p ≡ [] → ⊥) → IsCovered (worth p (d - 1)) (legal_moves p) todo low top (code_at best_so_far) → (value p d ≤ℤ top) × (top ≡ low)
+found_low p d low top todo best_so_far h e q ne c =
+    let n : IsCovered (worth p (d - 1)) (legal_moves p) [] low top None = at_end _ _ _ _ _ _ _ e (ap code_at q) c in
+    (left_low p d low top h ne n, n.reached)
+
+no_moves : (ms : List ℕ) → ((ms ≡ [] → ⊥) → ⊥) → ms ≡ []
+no_moves [] nn = refl
+no_moves (m ∷ ms) nn = absurd (nn (λ z. cc))
+
+-- without a legal move, as a test tells
+pub found_lost : (p : Shogi) (d : ℕ) → 0 < d → ((legal_moves p ≡ [] → ⊥) → ⊥) → IsFound p d (lost d) None
+found_lost p d h nn = left_lost p d h (no_moves (legal_moves p) nn)

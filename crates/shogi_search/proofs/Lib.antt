@@ -6,3 +6,8 @@ pub mod MinimaxLaws
 pub mod Left
 pub mod Best
 pub mod Lines
+pub mod Picks
+pub mod OrderLaws
+pub mod Entries
+pub mod Nodes
+pub mod Chains

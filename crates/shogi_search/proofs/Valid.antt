@@ -1,6 +1,6 @@
 -- A legal move leaves a valid position.
-use Rattle.std.proofs.Common.{◌≡◌, ℕ, ◌+◌, ◌-◌, ◌*◌, ◌/◌, ◌%◌, ◌<◌, ◌≤◌, Bool, true, Option, Some, None, arith, inl, inr, ◌∙◌, sym, subst, ap}
-use Rattle.std.specs.Prelude.{◌==◌, nat_lt, length, slice_set}
+use Rattle.std.proofs.Common.{◌≡◌, ℕ, ◌-◌, ◌/◌, ◌%◌, ◌<◌, ◌≤◌, Bool, true, Option, Some, None, arith, inl, inr, ◌∙◌, sym, subst}
+use Rattle.std.specs.Prelude.{◌==◌, nat_lt, length}
 use Rattle.std.proofs.lemmas.Grind.{common_steps}
 use Rattle.std.proofs.lemmas.Bool.{cases_lt, cond-true, cond-false, lt-ltb, le-ltb}
 use Rattle.shogi_core.specs.declared.moves.Move.{Move}
@@ -10,10 +10,10 @@ use Rattle.shogi_core.specs.declared.piece.Kind.{Kind}
 use Rattle.shogi_core.specs.declared.piece.Piece.{Piece}
 use Rattle.shogi_core.specs.Codes.{move_of, kind_at}
 use Rattle.shogi_core.specs.Position.{Shogi, Held}
-use Rattle.shogi_core.specs.Validity.{IsValid, fault_of}
+use Rattle.shogi_core.specs.Validity.{IsValid}
 use Rattle.shogi_core.specs.Movement.{piece_at}
 use Rattle.shogi_core.specs.Pieces.{kind_of}
-use Rattle.shogi_moves.specs.After.{after, after_code, with_captured, with_one_more, cells_after, hands_after}
+use Rattle.shogi_moves.specs.After.{after, after_code, with_captured, with_one_more}
 use Rattle.shogi_moves.specs.Legal.{is_legal}
 use Rattle.shogi_moves.specs.LegalMoves.{legal_moves}
 use Rattle.shogi_moves.specs.Rising.{is_in}

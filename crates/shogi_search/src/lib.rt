@@ -1,12 +1,23 @@
-//! Minimax at a fixed depth.
+//! Minimax at a fixed depth, over any memo and in slices.
 #![tactic(auto)]
 
+mod found;
+mod frame;
 mod memo;
-mod minimax;
+mod order;
+mod slices;
+mod stack;
+mod whole;
 mod window;
 
+pub use found::Found;
 pub use memo::{Entry, Memo, NoMemo};
-pub use minimax::{Found, search};
+pub use slices::Search;
+pub use whole::search;
 
+#[cfg(test)]
+mod fakes;
+#[cfg(test)]
+mod plain;
 #[cfg(test)]
 mod tests;

@@ -1,8 +1,10 @@
-//! Values and best moves of positions that others have computed.
+//! Values and best moves of positions that others have computed, and the search against plain minimax.
 
-use crate::{NoMemo, search};
-use shogi_core::{Color, Hands, Kind, Piece, Position, Role, Square};
-use shogi_moves::apply;
+use crate::fakes::{Counter, Oracle, Recorder};
+use crate::plain::negamax;
+use crate::{NoMemo, Search, search};
+use shogi_core::{Color, Hands, Kind, Move, Piece, Position, Role, Square};
+use shogi_moves::{apply, is_legal, next_legal};
 use std::process::Abort;
 use std::test::Fail;
 
@@ -167,4 +169,161 @@ fn horse_and_silver(rt: HostRuntime) -> Result<(), Fail> {
     assert_line(&rt, &p, 2, 30001, &[13375]);
     assert_line(&rt, &p, 3, 30002, &[13375]);
     Ok(())
+}
+
+// The position after the moves of these codes.
+fn played(rt: &impl Abort, codes: &[u16]) -> Position {
+    let mut p = Position::start();
+    for code in codes {
+        if let Some(m) = Move::of_code(*code) {
+            let tried = m;
+            assert!(rt; is_legal(&p, tried), "the move {code}");
+            p = apply(&p, m);
+        }
+    }
+    p
+}
+
+// Counts of steps that another program made over no memo, in the same order of visits.
+#[test]
+fn steps_from_the_opening(rt: HostRuntime) {
+    let start = Position::start();
+    assert_eq!(rt; search(&start, 1, &mut NoMemo).steps, 62);
+    assert_eq!(rt; search(&start, 2, &mut NoMemo).steps, 180);
+    let third = search(&start, 3, &mut NoMemo).steps;
+    assert!(rt; third <= 26401, "{third} steps");
+    assert!(rt; third <= 2500, "{third} steps");
+}
+
+// The root is asked first, then its best move at the depth below, then the first capture: 8h2b.
+#[test]
+fn order_of_calls(rt: HostRuntime) {
+    let p = played(&rt, &[9838, 3282]);
+    let capture = played(&rt, &[9838, 3282, 11360]);
+    let mut memo = Recorder::new();
+    let found = search(&p, 2, &mut memo);
+    assert!(rt; found.steps > 0);
+    for (call, position, depth) in [
+        (memo.first, &p, 2),
+        (memo.second, &p, 1),
+        (memo.third, &capture, 1),
+    ] {
+        let call = call.expect(&rt, "a call");
+        assert!(rt; call.position == *position, "at depth {depth}");
+        assert_eq!(rt; (call.depth, call.is_note), (depth, false));
+    }
+    for depth in [0, 1, 2] {
+        let mut memo = Recorder::new();
+        search(&p, depth, &mut memo);
+        let last = memo.last.expect(&rt, "a call");
+        assert!(rt;
+            last.position == p && last.is_note && last.noted_exact,
+            "the last call"
+        );
+        assert_eq!(rt; last.depth, depth);
+    }
+}
+
+// A step is no whole search: each asks and notes a few times.
+#[test]
+fn few_calls_in_a_step(rt: HostRuntime) {
+    let mut search = Search::start(&Position::start(), 3);
+    let mut memo = Counter { calls: 0 };
+    for made in 0..60000u64 {
+        let before = memo.calls;
+        let found = search.advance(&mut memo, 1);
+        assert!(rt; memo.calls.saturating_sub(before) <= 10, "in step {made}");
+        if let Some(found) = found {
+            assert_eq!(rt; (found.value, found.steps), (200, search.steps()));
+            return;
+        }
+    }
+    assert!(rt; false, "an end");
+}
+
+// Two searches by turns, the second over two memos at alternate calls.
+#[test]
+fn by_turns(rt: HostRuntime) {
+    let mut one = Search::start(&Position::start(), 3);
+    let mut two = Search::start(&Position::start(), 3);
+    for turn in 0..60000u64 {
+        let first = one.advance(&mut NoMemo, 1);
+        let second = if turn % 2 == 0 {
+            two.advance(&mut NoMemo, 1)
+        } else {
+            two.advance(&mut Oracle, 1)
+        };
+        if let (Some(first), Some(second)) = (first, second) {
+            for found in [first, second] {
+                assert_eq!(rt;
+                    (found.value, found.best.map(|m| m.code())),
+                    (200, Some(9838))
+                );
+            }
+            return;
+        }
+    }
+    assert!(rt; false, "an end");
+}
+
+// An exact answer at the root takes no step, for every budget; after the end the answer stays.
+#[test]
+fn exact_root(rt: HostRuntime) {
+    for budget in [0, 1, 1000] {
+        let mut search = Search::start(&Position::start(), 1);
+        let found = search.advance(&mut Oracle, budget);
+        assert!(rt; found.is_some(), "an end at once");
+        if let Some(found) = found {
+            assert_eq!(rt; (found.value, found.steps), (0, 0));
+        }
+        if let Some(again) = search.advance(&mut NoMemo, 1000) {
+            assert_eq!(rt; (again.value, again.steps, search.steps()), (0, 0, 0));
+        }
+    }
+}
+
+// The legal move after n others in the order of codes, or the last one.
+fn nth_move(p: &Position, n: u32) -> Option<Move> {
+    let mut chosen = next_legal(p, None)?;
+    for _ in 0..n {
+        let passed = chosen;
+        let Some(m) = next_legal(p, Some(passed)) else {
+            return Some(chosen);
+        };
+        chosen = m;
+    }
+    Some(chosen)
+}
+
+// A walk from the opening position that takes one of the legal moves in turn.
+#[test]
+fn agrees_with_plain_minimax(rt: HostRuntime) {
+    let mut p = Position::start();
+    for ply in 0..100u32 {
+        for depth in [0, 1, 2] {
+            let plain = negamax(&p, depth);
+            let found = search(&p, depth, &mut NoMemo);
+            assert_eq!(rt; found.value, plain.value, "at ply {ply} and depth {depth}");
+            assert!(rt; found.best == plain.best, "at ply {ply} and depth {depth}");
+            assert!(rt;
+                found.steps <= plain.steps,
+                "at ply {ply} and depth {depth}"
+            );
+            let over_oracle = search(&p, depth, &mut Oracle);
+            assert_eq!(rt;
+                over_oracle.value,
+                plain.value,
+                "at ply {ply} and depth {depth}"
+            );
+            assert!(rt;
+                over_oracle.best == plain.best,
+                "at ply {ply} and depth {depth}"
+            );
+        }
+        if let Some(m) = nth_move(&p, (ply * 7 + 3) % 31) {
+            let tried = m;
+            assert!(rt; is_legal(&p, tried));
+            p = apply(&p, m);
+        }
+    }
 }

@@ -2,3 +2,12 @@ pub mod Runs
 pub mod Digits
 pub mod Texts
 pub mod TextsFound
+pub mod RankLaws
+pub mod HandLaws
+pub mod TooManyHeld
+pub mod PositionLaws
+pub mod WriteLaws
+pub mod RanksBack
+pub mod HandsBack
+pub mod WrittenBack
+pub mod WordsBack

@@ -2,4 +2,9 @@ pub mod Words
 pub mod Numbers
 pub mod MoveTexts
 pub mod Reading
+pub mod BoardTexts
+pub mod Ranks
+pub mod HandTexts
+pub mod Sfen
+pub mod Written
 pub use Rattle.shogi_core.specs.Codes

@@ -1,8 +1,12 @@
 //! Words, moves and positions as text, as USI and SFEN write them.
 #![tactic(auto)]
 
+mod board_text;
+mod hand_text;
 mod move_text;
 mod number;
+mod position;
+mod position_text;
 mod split;
 #[cfg(test)]
 mod tests;
@@ -10,5 +14,7 @@ mod word;
 
 pub use move_text::{read_move, write_move};
 pub use number::read_number;
+pub use position::{SfenFault, read_position};
+pub use position_text::write_position;
 pub use split::words;
 pub use word::Words;

@@ -124,8 +124,9 @@ pub fn write_move(m: Move) -> ArrayVec<u8, 5>
 }
 
 /// The upper-case letter of the kind.
-fn letter_of(kind: Kind) -> u8
-    ensures { result ≡ letter_of kind }
+pub fn letter_of(kind: Kind) -> u8
+    ensures value { result ≡ letter_of kind }
+    ensures small { result < 91 }
 {
     match kind {
         Kind::Pawn => b'P',

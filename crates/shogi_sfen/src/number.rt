@@ -21,3 +21,10 @@ pub fn read_number(word: &[u8], most: u32) -> Option<u32>
     }
     Some(number as u32)
 }
+
+/// Whether the word is one or more digits, and nothing else.
+pub fn is_number(word: &[u8]) -> bool
+    ensures { result ≡ is_number word.now }
+{
+    read_number(word, 0).is_some()
+}

@@ -1,6 +1,7 @@
 //! Worked move texts and words, from the formats' own examples.
 
-use crate::{read_move, read_number, words, write_move};
+use crate::{read_move, read_number, read_position, words, write_move, write_position};
+use shogi_core::{Color, Kind, Position};
 use std::test::Fail;
 
 #[test]
@@ -58,4 +59,90 @@ fn numbers_of_any_length(rt: HostRuntime) {
     assert_eq!(rt; read_number(b"18446744073709551617", 16), Some(16));
     assert_eq!(rt; read_number(b"", 16), None);
     assert_eq!(rt; read_number(b"1x", 16), None);
+}
+
+#[test]
+fn positions_of_texts(rt: HostRuntime) -> Result<(), Fail> {
+    for (text, index) in [
+        (b"9/9/9/9/9/9/9/9/9 b - 12 moves".as_slice(), 24),
+        (b"9/9/9/9/9/9/9/9/9 b - moves".as_slice(), 21),
+        (b" 9/9/9/9/54/9/9/9/9 b\tPP1G2P".as_slice(), 28),
+        (
+            b"8l/1l+R2P3/p2pBG1pp/kps1p4/Nn1P2G2/P1P1P2PP/1PS6/1KSG3+r1/LN2+p3L w Sbgn3p 124".as_slice(),
+            78,
+        ),
+    ] {
+        let (_, end) = read_position(text)?;
+        assert_eq!(rt; end, index);
+    }
+    let start = b"lnsgkgsnl/1r5b1/ppppppppp/9/9/9/PPPPPPPPP/1B5R1/LNSGKGSNL b -";
+    let (position, _) = read_position(start)?;
+    assert!(rt; position == Position::start());
+    let (position, _) = read_position(b"9/9/9/9/54/9/9/9/9 b PP1G2P2p")?;
+    assert_eq!(rt; position.hand(Color::Black, Kind::Pawn), 4);
+    assert_eq!(rt; position.hand(Color::White, Kind::Pawn), 2);
+    assert_eq!(rt; position.hand(Color::Black, Kind::Gold), 1);
+    Ok(())
+}
+
+#[test]
+fn texts_of_positions(rt: HostRuntime) -> Result<(), Fail> {
+    for (text, written) in [
+        (
+            b"8l/1l+R2P3/p2pBG1pp/kps1p4/Nn1P2G2/P1P1P2PP/1PS6/1KSG3+r1/LN2+p3L w Sbgn3p 124".as_slice(),
+            b"8l/1l+R2P3/p2pBG1pp/kps1p4/Nn1P2G2/P1P1P2PP/1PS6/1KSG3+r1/LN2+p3L w Sbgn3p".as_slice(),
+        ),
+        (
+            b"9/9/9/9/54/9/9/9/9 b PP1G2P".as_slice(),
+            b"9/9/9/9/9/9/9/9/9 b G4P".as_slice(),
+        ),
+        (
+            b"9/9/9/9/9/9/9/9/9 w - 12 moves".as_slice(),
+            b"9/9/9/9/9/9/9/9/9 w -".as_slice(),
+        ),
+        (
+            b"9/9/9/9/9/9/9/9/9 b 2b18Pr".as_slice(),
+            b"9/9/9/9/9/9/9/9/9 b 18Pr2b".as_slice(),
+        ),
+    ] {
+        let (position, _) = read_position(text)?;
+        assert_eq!(rt; write_position(&position).as_slice(), written);
+    }
+    let start = write_position(&Position::start());
+    let text = b"lnsgkgsnl/1r5b1/ppppppppp/9/9/9/PPPPPPPPP/1B5R1/LNSGKGSNL b -";
+    assert_eq!(rt; start.as_slice(), text.as_slice());
+    Ok(())
+}
+
+#[test]
+fn faults_of_texts(rt: HostRuntime) {
+    for (text, number) in [
+        (b"".as_slice(), 1),
+        (b"9/9/9/9/9/9/9/9/91 x 0P".as_slice(), 1),
+        (b"9/9/9/9/9/9/9/9 b -".as_slice(), 1),
+        (b"9/9/9/9/9/9/9/9/9/9 b -".as_slice(), 1),
+        (b"9/9/9/9//9/9/9/9 b -".as_slice(), 1),
+        (b"+K8/9/9/9/9/9/9/9/9 b -".as_slice(), 1),
+        (b"+G8/9/9/9/9/9/9/9/9 b -".as_slice(), 1),
+        (b"8+/9/9/9/9/9/9/9/9 b -".as_slice(), 1),
+        (b"9/9/9/9/9/9/9/9/9".as_slice(), 2),
+        (b"9/9/9/9/9/9/9/9/9 b-".as_slice(), 2),
+        (b"9/9/9/9/9/9/9/9/9 W 0P".as_slice(), 2),
+        (b"9/9/9/9/9/9/9/9/9 b".as_slice(), 3),
+        (b"9/9/9/9/9/9/9/9/9 b 0P".as_slice(), 3),
+        (b"9/9/9/9/9/9/9/9/9 b 256P2".as_slice(), 3),
+        (b"9/9/9/9/9/9/9/9/9 b K".as_slice(), 3),
+        (b"9/9/9/9/9/9/9/9/9 b 19P".as_slice(), 4),
+        (b"9/9/9/9/9/9/9/9/9 b 256P".as_slice(), 4),
+        (b"9/9/9/9/9/9/9/9/9 b 18446744073709551617L".as_slice(), 4),
+        (b"4k4/9/9/9/9/9/9/9/3KK4 b -".as_slice(), 5),
+        (b"4k4/9/9/4P4/9/4P4/9/9/4K4 b -".as_slice(), 6),
+        (b"4k4/9/9/9/9/9/9/9/4p3K b -".as_slice(), 7),
+        (b"4k4/4P4/9/9/9/9/9/9/9 b -".as_slice(), 8),
+    ] {
+        match read_position(text) {
+            Ok(_) => assert_eq!(rt; 0, number),
+            Err(fault) => assert_eq!(rt; fault.number(), number),
+        }
+    }
 }

@@ -3,3 +3,4 @@ pub mod Placed
 pub mod Walk
 pub mod Infos
 pub mod Steps
+pub mod Settled

@@ -10,7 +10,7 @@ use Rattle.usi_session.specs.declared.placing.Refusal.{Refusal}
 use Rattle.usi_session.specs.declared.placing.Refusal.TheVariants as refusals
 use Rattle.usi_session.specs.declared.state.Held.{Held}
 use Rattle.usi_session.specs.declared.state.State.{State}
-use Rattle.usi_session.specs.Placing.{position_of_start}
+use Rattle.usi_session.specs.Placing.{position_of_start, position_of_sfen}
 use Rattle.usi_session.specs.Going.{first, second, infos}
 use Rattle.usi_session.specs.Texts.{usi_reply, ready_reply, no_mate_reply, bad_position, illegal_move, bestmove_line}
 
@@ -78,7 +78,7 @@ answer s IsReady = said s ready_reply
 answer s (SetDepth depth) = said (record s { depth = depth }) []
 answer s NewGame = said (record s { position = start; held = None }) []
 answer s (Start rest) = placed s (position_of_start rest)
-answer s (Sfen rest) = said s []
+answer s (Sfen rest) = placed s (position_of_sfen rest)
 answer s BadPosition = said s (bad_position 0)
 answer s (Go depth hold) = gone s (unwrap_or depth s.depth) hold
 answer s GoMate = said (dropped s) no_mate_reply

@@ -1,5 +1,5 @@
 -- What a `position` command leaves (USI, position; the order of refusals is an own choice).
-use Rattle.std.specs.Prelude.{ℕ, ◌+◌, List, [], ◌∷◌, codes, cond, Option, Some, None, Result, Ok, Err}
+use Rattle.std.specs.Prelude.{ℕ, ◌+◌, List, [], ◌∷◌, codes, cond, Option, Some, None, Result, Ok, Err, drop}
 use Rattle.std.specs.Str.{bytes_eq}
 use Rattle.shogi_core.specs.Position.{Shogi}
 use Rattle.shogi_core.specs.Start.{start}
@@ -7,7 +7,9 @@ use Rattle.shogi_core.specs.declared.moves.Move.{Move}
 use Rattle.shogi_moves.specs.After.{after}
 use Rattle.shogi_moves.specs.Legal.{is_legal}
 use Rattle.shogi_sfen.specs.MoveTexts.{move_of_text}
+use Rattle.shogi_sfen.specs.Sfen.{position_at, number_of_sfen_fault}
 use Rattle.shogi_sfen.specs.Words.{words}
+use Rattle.shogi_sfen.specs.declared.position.SfenFault.{SfenFault}
 use Rattle.usi_session.specs.declared.placing.Refusal.{Refusal}
 use Rattle.usi_session.specs.declared.placing.Refusal.TheVariants.{BadPosition, IllegalMove}
 
@@ -35,3 +37,12 @@ after_words p (word ∷ rest) = cond (bytes_eq word (codes "moves")) (after_move
 -- `position startpos ..`, after the word `startpos`
 abbrev pub position_of_start : List ℕ → Result Shogi Refusal
 position_of_start rest = after_words start (words rest)
+
+-- what follows the words of an SFEN, or the number of its fault
+abbrev pub after_sfen : List ℕ → Result (Shogi × ℕ) SfenFault → Result Shogi Refusal
+after_sfen rest (Ok (p, end)) = after_words p (words (drop end rest))
+after_sfen rest (Err fault) = Err (BadPosition (number_of_sfen_fault fault))
+
+-- `position sfen ..`, after the word `sfen`
+abbrev pub position_of_sfen : List ℕ → Result Shogi Refusal
+position_of_sfen rest = after_sfen rest (position_at rest)

@@ -8,7 +8,7 @@ ghost use Rattle.usi_session.specs.Answer.{answer, placed, gone, let_go, ponder_
 ghost use Rattle.usi_session.specs.Replies.{answer_to};
 
 use crate::go::write_infos;
-use crate::placing::{Refusal, position_of_start};
+use crate::placing::{Refusal, position_of_sfen, position_of_start};
 use crate::state::{Held, State};
 use crate::text::{write_bad_position, write_bestmove, write_illegal_move, write_usi};
 use shogi_core::Position;
@@ -101,6 +101,7 @@ pub fn answer<M: Memo, A: Allocator + Copy>(alloc: A, out: &mut Vec<u8, A>, stat
             state.held = None;
         }
         Command::Start(text) => place(out, state, position_of_start(text))?,
+        Command::Sfen(text) => place(out, state, position_of_sfen(text))?,
         Command::BadPosition => write_bad_position(out, 0)?,
         Command::Go { depth, hold } => {
             let depth = depth.unwrap_or(state.depth);
@@ -117,7 +118,7 @@ pub fn answer<M: Memo, A: Allocator + Copy>(alloc: A, out: &mut Vec<u8, A>, stat
             state.held = None;
             state.is_over = true;
         }
-        Command::Sfen(_) | Command::Other => {}
+        Command::Other => {}
     }
     Ok(0)
 }

@@ -3,11 +3,11 @@
 ghost use Rattle.std.specs.Prelude.{◌≡◌, ◌+◌, ◌≤◌, ◌<◌, ◌^◌, length};
 ghost use Rattle.shogi_sfen.specs.Words.{words};
 ghost use Rattle.shogi_sfen.specs.MoveTexts.{move_of_text};
-ghost use Rattle.usi_session.specs.Placing.{after_legal, after_moves, after_words, position_of_start};
+ghost use Rattle.usi_session.specs.Placing.{after_legal, after_moves, after_words, position_of_start, position_of_sfen};
 
 use shogi_core::Position;
 use shogi_moves::{apply, is_legal};
-use shogi_sfen::{read_move, words};
+use shogi_sfen::{read_move, read_position, words};
 
 /// Why a `position` line leaves the position as it was.
 #[derive(Clone, Copy, Debug, PartialEq, Eq)]
@@ -68,4 +68,19 @@ pub fn position_of_start(text: &[u8]) -> Result<Position, Refusal>
     ensures { result ≡ position_of_start text.now }
 {
     after_words(&Position::start(), text)
+}
+
+/// The position of `position sfen ..`, by the bytes after that word. A fault of the SFEN comes before
+/// one of what follows it.
+#[tactic(auto, using(crate::proofs::Placed::end_fits))]
+pub fn position_of_sfen(text: &[u8]) -> Result<Position, Refusal>
+    ensures { result ≡ position_of_sfen text.now }
+{
+    match read_position(text) {
+        Ok((position, end)) => {
+            let (_, rest) = text.split_at(end);
+            after_words(&position, rest)
+        }
+        Err(fault) => Err(Refusal::BadPosition(fault.number())),
+    }
 }

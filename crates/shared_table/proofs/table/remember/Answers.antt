@@ -1,5 +1,5 @@
-use Rattle.std.proofs.Common.{◌≡◌, ◌+◌, ◌<◌, ◌^◌, arith, cond, length, ◌==◌}
-use Rattle.shared_table.specs.Recent.{leaf_count, leaf_of}
+use Rattle.std.proofs.Common.{◌+◌, ◌<◌, ◌^◌, arith, cond, length, ◌==◌}
+use Rattle.shared_table.specs.Recent.{leaf_count}
 use Rattle.shared_table.proofs.RecentLaws.{leaf_fits, leaves_after, put_or_not}
 use Rattle.shared_table.proofs.table.remember.Goals as goal
 

@@ -1,4 +1,3 @@
-use Rattle.std.proofs.Common.{◌≡◌}
 use Rattle.shared_table.specs.KeyLaws.{key_same}
 use Rattle.shared_table.proofs.key.TableKey.is_same.Goals as goal
 

@@ -1,4 +1,3 @@
-use Rattle.std.proofs.Common.{◌≡◌}
 use Rattle.shared_table.specs.Keys.{key_of}
 use Rattle.shared_table.proofs.RecentLaws.{table_noted}
 use Rattle.shared_table.proofs.table.SharedTableMemo.note.Goals as goal

@@ -1,6 +1,6 @@
-use Rattle.std.proofs.Common.{◌≡◌, ◌∙◌, List, ap, arith, refl, sym}
-use Rattle.shared_table.specs.Keys.{is_same_key, key_of}
-use Rattle.shared_table.specs.Recent.{Pair, Table, entry_of, probed}
+use Rattle.std.proofs.Common.{◌∙◌, List, ap, sym}
+use Rattle.shared_table.specs.Keys.{key_of}
+use Rattle.shared_table.specs.Recent.{Pair, Table}
 use Rattle.shared_table.proofs.RecentLaws.{found_true, no_leaf_found, probed_none, promoted_is, table_probed}
 use Rattle.shared_table.proofs.table.SharedTableMemo.probe.Goals as goal
 

@@ -1,0 +1,69 @@
+//! What a move does to the material.
+
+ghost use Rattle.std.specs.Prelude.{◌≡◌, ◌≤◌, true};
+ghost use Rattle.shogi_moves.specs.After.{after};
+ghost use Rattle.shogi_moves.specs.Legal.{is_legal};
+ghost use Rattle.shogi_eval.specs.Material.{material_of, value_held, taken_gain, promotion_gain};
+
+use crate::points::value_of;
+use shogi_core::{Kind, Move, Piece, Position, Role};
+
+/// What a captured piece adds to the captor's hand.
+fn value_held(kind: Option<Kind>) -> u32
+    ensures value { result ≡ value_held kind }
+    ensures range { result ≤ 1300 }
+{
+    match kind {
+        None => 0,
+        Some(kind) => value_of(Role::from(kind)),
+    }
+}
+
+/// What a capture gains: the piece is lost to its side and comes to hand.
+fn taken_gain(cell: Option<Piece>) -> u32
+    ensures value { result ≡ taken_gain cell }
+    ensures range { result ≤ 2600 }
+{
+    match cell {
+        None => 0,
+        Some(piece) => value_of(piece.role) + value_held(piece.role.kind()),
+    }
+}
+
+/// What a promotion gains.
+fn promotion_gain(cell: Option<Piece>, promote: bool) -> u32
+    ensures value { result ≡ promotion_gain promote cell }
+    ensures range { result ≤ 1300 }
+{
+    match cell {
+        None => 0,
+        Some(piece) => {
+            if promote {
+                value_of(piece.role.promoted()).saturating_sub(value_of(piece.role))
+            } else {
+                0
+            }
+        }
+    }
+}
+
+/// The material after a legal move, from the side that is to move then.
+pub fn score_after(p: &Position, score: i32, m: &Move) -> i32
+    requires legal { is_legal p.now m.now ≡ true }
+    requires score { score ≡ material_of p.now }
+    ensures { result ≡ material_of (after p.now m.now) }
+{
+    p.validity();
+    match m {
+        Move::Board { from, to, promote } => {
+            from.index();
+            to.index();
+            let gain = taken_gain(p.at(*to)) + promotion_gain(p.at(*from), *promote);
+            0 - (score + gain as i32)
+        }
+        Move::Drop { to, .. } => {
+            to.index();
+            0 - score
+        }
+    }
+}

@@ -1,0 +1,10 @@
+use Rattle.std.proofs.Common.{◌∙◌, sym, ap}
+use Rattle.shogi_core.specs.Codes.{move_of}
+use Rattle.shogi_moves.proofs.LegalLaws.{listed_to_legal}
+use Rattle.shogi_search.proofs.Nodes.{waits}
+use Rattle.shogi_search.proofs.stack.child.Goals as goal
+
+pub play-requires : goal.play-requires
+play-requires c =
+    let w : _ = waits _ _ _ _ _ _ _ _ _ c.requires.waiting c.args.frame.now.covered in
+    listed_to_legal _ _ (sym (ap move_of c.code.ensures.code) ∙ c.code.ensures.back) w.is_listed

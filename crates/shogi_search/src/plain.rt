@@ -1,0 +1,74 @@
+//! Plain minimax over the whole tree, without windows or a memo, to compare with.
+
+ghost use Rattle.std.specs.Prelude.{◌≡◌, ◌≤◌, ◌*◌, ◌≤ℤ◌, true, pos, negsuc, [], ◌↔◌, ◌⊎◌, IfSome, IsNone};
+ghost use Rattle.shogi_moves.specs.Legal.{is_legal};
+ghost use Rattle.shogi_moves.specs.LegalMoves.{legal_moves};
+ghost use Rattle.shogi_search.specs.Minimax.{value, best, tree};
+
+use crate::found::Found;
+use crate::window::passes;
+use shogi_core::{Move, Position};
+use shogi_eval::material;
+use shogi_moves::{apply, has_legal, next_legal};
+
+/// The value at depth 0.
+#[tactic(auto, using(crate::proofs::MinimaxLaws::leaves))]
+fn leaf(p: &Position) -> i32
+    ensures value { result ≡ value p.now 0 }
+    ensures least { negsuc 29999 ≤ℤ result }
+    ensures most { result ≤ℤ pos 25200 }
+{
+    if has_legal(p) { material(p) } else { -30000 }
+}
+
+/// The value at a depth, the best move and the steps made.
+pub fn negamax(p: &Position, depth: u8) -> Found
+    requires { depth ≤ 16 }
+    ensures value { result.value ≡ value p.now depth }
+    ensures least { negsuc 30015 ≤ℤ result.value }
+    ensures most { result.value ≤ℤ pos 30016 }
+    ensures best { result.best ≡ best p.now depth }
+    ensures legal { IfSome result.best (λ m. is_legal p.now m ≡ true) }
+    ensures steps { result.steps ≤ 2 * tree p.now depth }
+{
+    p.validity();
+    if depth == 0 {
+        return Found {
+            value: leaf(p),
+            best: None,
+            steps: 2,
+        };
+    }
+    let mut top = -31000;
+    let mut best: Option<Move> = None;
+    let mut steps: u64 = 1;
+    let mut passed: Option<Move> = None;
+    'moves: while let Some(m) = next_legal(p, passed) {
+        let (visited, raising, tried) = (m, m, m);
+        let found = negamax(&apply(p, m), depth - 1);
+        let worth = -found.value;
+        steps = steps.saturating_add(found.steps);
+        passed = Some(visited);
+        if passes(worth, &tried, top, &best) {
+            top = worth;
+            best = Some(raising);
+        }
+    }
+    steps = steps.saturating_add(1);
+    let kept = best;
+    match best {
+        Some(m) => {
+            m.code();
+            Found {
+                value: top,
+                best: kept,
+                steps,
+            }
+        }
+        None => Found {
+            value: -30000 - depth as i32,
+            best: None,
+            steps,
+        },
+    }
+}

@@ -1,0 +1,23 @@
+use Rattle.std.proofs.Common.{◌∙◌, ◌<◌, ◌++◌, ◌∷◌, [], ℕ, List, ap, sym, subst}
+use Rattle.shogi_core.specs.Position.{Held, held}
+use Rattle.shogi_sfen.specs.Written.{written, board_text, side_text, hands_text}
+use Rattle.shogi_sfen.proofs.WriteLaws.{few_held, assembled}
+use Rattle.shogi_sfen.proofs.WordsBack.{written_back}
+use Rattle.shogi_sfen.proofs.position_text.write_position.Goals as goal
+
+pub push_hands-requires-clause-small : goal.push_hands-requires-clause-small
+push_hands-requires-clause-small c =
+    λ color kind. subst (λ (hands : Held). held hands color kind < 100) (sym c.hands.ensures) (few_held c.args.p.now c.validity.ensures color kind)
+
+pub returns-clause-back : goal.returns-clause-back
+returns-clause-back c = λ tail ends. written_back c.args.p.now c.validity.ensures tail ends
+
+pub returns-clause-text : goal.returns-clause-text
+unfolding written
+returns-clause-text c =
+    assembled (board_text c.args.p.now.cells) c.push.new.self.items c.push-2.new.self.items c.push-3.new.self.items c.push_hands.new.text.items (side_text c.args.p.now.side) (hands_text c.args.p.now.hands) c.side_letter.result
+    (c.push.ensures.items ∙ ap (λ (t : List ℕ). t ++ 32 ∷ []) (c.push_board.ensures.value ∙ ap board_text c.board.ensures))
+    c.push-2.ensures.items
+    (c.side_letter.ensures ∙ ap side_text c.side.ensures)
+    c.push-3.ensures.items
+    (c.push_hands.ensures ∙ ap (λ (hands : Held). c.push-3.new.self.items ++ hands_text hands) c.hands.ensures)

@@ -1,0 +1,59 @@
+-- A position as text (SFEN): a board, a side, hands, and a number that has no effect and may be absent.
+use Rattle.std.specs.Prelude.{◌≡◌, ℕ, ◌-◌, true, false, List, [], ◌∷◌, Option, Some, None, Result, Ok, Err, cond, codes, length, slice_get}
+use Rattle.std.specs.Option.{option_and_then, option_map_or}
+use Rattle.std.specs.Str.{bytes_eq}
+use Rattle.shogi_core.specs.declared.piece.Color.{Color}
+use Rattle.shogi_core.specs.declared.piece.Color.TheVariants.{Black, White}
+use Rattle.shogi_core.specs.declared.validity.PositionFault.{PositionFault}
+use Rattle.shogi_core.specs.Movement.{Cells}
+use Rattle.shogi_core.specs.Position.{Shogi, Held}
+use Rattle.shogi_core.specs.Validity.{fault_of, number_of_fault}
+use Rattle.shogi_sfen.specs.Words.{is_blank, words, after_word, rest_after}
+use Rattle.shogi_sfen.specs.Numbers.{is_number}
+use Rattle.shogi_sfen.specs.BoardTexts.{board_of}
+use Rattle.shogi_sfen.specs.HandTexts.{hands_of}
+use Rattle.shogi_sfen.specs.declared.position.SfenFault.{SfenFault}
+use Rattle.shogi_sfen.specs.declared.position.SfenFault.TheVariants.{BadBoard, BadSide, BadHand, Invalid}
+
+-- the side to move of a word
+abbrev pub side_of : List ℕ → Option Color
+side_of word = cond (bytes_eq word (codes "b")) (Some Black) (cond (bytes_eq word (codes "w")) (Some White) None)
+
+-- a position by the first of its faults, if it has one
+abbrev pub judged : Option PositionFault → Shogi → ℕ → Result (Shogi × ℕ) SfenFault
+judged None p end = Ok (p, end)
+judged (Some fault) p end = Err (Invalid fault)
+
+-- a position by its parts, and the first fault of those that are missing
+abbrev pub position_by : Option Cells → Option Color → Option Held → ℕ → Result (Shogi × ℕ) SfenFault
+position_by None side hands end = Err BadBoard
+position_by (Some cells) None hands end = Err BadSide
+position_by (Some cells) (Some side) None end = Err BadHand
+position_by (Some cells) (Some side) (Some hands) end =
+    let p : Shogi = record { cells = cells; hands = hands; side = side } in judged (fault_of p) p end
+
+-- what stands after a first word that is a number, or all where it is none
+abbrev pub past_number : List ℕ → List ℕ
+past_number text = cond (option_map_or is_number (slice_get (words text) 0) false) (after_word text) text
+
+-- the index right after the last word read: the third, or the fourth where that is a number
+abbrev pub end_of : List ℕ → ℕ
+end_of text = length text - length (past_number (rest_after 3 text))
+
+-- the position at the front of a text and the index after it, or the first fault
+unfoldable pub position_at : List ℕ → Result (Shogi × ℕ) SfenFault
+position_at text =
+    let ws = words text in
+    position_by (option_and_then board_of (slice_get ws 0)) (option_and_then side_of (slice_get ws 1)) (option_and_then hands_of (slice_get ws 2)) (end_of text)
+
+-- a word ends before these bytes: they are none, or begin with a space or a tab
+abbrev pub EndsWord : List ℕ → Type 0
+EndsWord [] = Unit {0}
+EndsWord (byte ∷ bytes) = is_blank byte ≡ true
+
+-- the number by which the host names a fault (own choice)
+abbrev pub number_of_sfen_fault : SfenFault → ℕ
+number_of_sfen_fault BadBoard = 1
+number_of_sfen_fault BadSide = 2
+number_of_sfen_fault BadHand = 3
+number_of_sfen_fault (Invalid fault) = number_of_fault fault

@@ -1,0 +1,71 @@
+//! Hands read from text.
+
+ghost use Rattle.std.specs.Prelude.{◌≡◌, ◌≤◌, min};
+ghost use Rattle.std.specs.Option.{option_map};
+ghost use Rattle.shogi_sfen.specs.HandTexts.{capped, capped_digit, capped_piece, capped_from, no_hands, hands_of};
+
+use crate::board_text::read_piece;
+use shogi_core::{Hands, Piece};
+
+/// One more digit of a count, of which the first is not 0; at 255 it stays.
+fn with_digit(count: Option<u8>, byte: u8) -> Option<u8>
+    requires { (48 ≤ byte) × (byte ≤ 57) }
+    ensures { result ≡ capped_digit count byte }
+{
+    if count.is_none() && byte == b'0' {
+        return None;
+    }
+    let number = count.unwrap_or(0) as u32 * 10 + (byte - b'0') as u32;
+    Some(number.min(255) as u8)
+}
+
+/// So many more of a piece, if it can be held; at 255 a count stays.
+fn with_piece(hands: Hands, n: u8, piece: Option<Piece>) -> Option<Hands>
+    ensures { result ≡ capped_piece hands n piece }
+{
+    let piece = piece?;
+    let kind = piece.role.kind()?;
+    let held = hands.count(piece.color, kind);
+    Some(hands.with(piece.color, kind, held.saturating_add(n)))
+}
+
+fn read_items(word: &[u8]) -> Option<Hands>
+    ensures { result ≡ capped_from no_hands None word.now }
+{
+    let mut hands = Hands::none();
+    let mut count = None;
+    for byte in word {
+        if byte.is_ascii_digit() {
+            match with_digit(count, *byte) {
+                None => return None,
+                Some(number) => count = Some(number),
+            }
+        } else {
+            match with_piece(hands, count.unwrap_or(1), read_piece(*byte)) {
+                None => return None,
+                Some(more) => {
+                    hands = more;
+                    count = None;
+                }
+            }
+        }
+    }
+    match count {
+        None => Some(hands),
+        Some(_) => None,
+    }
+}
+
+/// The hands of a text (SFEN, pieces in hand), if the word is one. A count that is greater than
+/// 255 is read as 255.
+pub fn read_hands(word: &[u8]) -> Option<Hands>
+    ensures { result ≡ option_map capped (hands_of word.now) }
+{
+    if word == b"-".as_slice() {
+        return Some(Hands::none());
+    }
+    if word.is_empty() {
+        return None;
+    }
+    read_items(word)
+}

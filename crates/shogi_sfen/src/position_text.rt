@@ -1,0 +1,207 @@
+//! A position written as text.
+
+ghost use Rattle.std.specs.Prelude.{◌≡◌, ◌≤◌, ◌<◌, ◌+◌, ◌*◌, ◌++◌, ℕ, List, Ok, [], ◌∷◌, length};
+ghost use Rattle.std.specs.List.{flat_map, range_with_len};
+ghost use Rattle.shogi_sfen.specs.Written.{is_promoted, letter_or_king, as_side, piece_text, run_text, cells_text, rank_cells, rank_text, board_text, side_text, held_text, side_held_text, hands_text, written};
+ghost use Rattle.shogi_core.specs.Pieces.{kind_of};
+ghost use Rattle.shogi_core.specs.Position.{held};
+ghost use Rattle.shogi_sfen.specs.Sfen.{position_at, end_of, EndsWord};
+ghost use Rattle.shogi_core.specs.declared.piece.Kind.{Kind};
+ghost use Rattle.shogi_core.specs.declared.piece.Color.{Color};
+
+use crate::board_text::Rank;
+use crate::move_text::letter_of;
+use arrayvec::ArrayVec;
+use shogi_core::{Board, Color, Hands, Kind, Piece, Position, Role, Square};
+
+/// The written text of a position.
+pub type Text = ArrayVec<u8, 256>;
+
+fn is_promoted(role: Role) -> bool
+    ensures { result ≡ is_promoted role }
+{
+    matches!(
+        role,
+        Role::PromotedPawn
+            | Role::PromotedLance
+            | Role::PromotedKnight
+            | Role::PromotedSilver
+            | Role::Horse
+            | Role::Dragon
+    )
+}
+
+fn letter_of_role(role: Role) -> u8
+    ensures value { result ≡ letter_or_king (kind_of role) }
+    ensures small { result < 91 }
+{
+    match role.kind() {
+        Some(kind) => letter_of(kind),
+        None => b'K',
+    }
+}
+
+fn as_side(color: Color, letter: u8) -> u8
+    requires { letter < 91 }
+    ensures { result ≡ as_side color letter }
+{
+    match color {
+        Color::Black => letter,
+        Color::White => letter + 32,
+    }
+}
+
+fn push_piece(text: &mut Text, piece: Piece)
+    requires { length text.old.items ≤ 250 }
+    ensures value { text.new.items ≡ text.old.items ++ piece_text piece }
+    ensures len { length text.new.items ≤ length text.old.items + 2 }
+{
+    if is_promoted(piece.role) {
+        text.push(b'+');
+    }
+    text.push(as_side(piece.color, letter_of_role(piece.role)));
+}
+
+fn push_run(text: &mut Text, run: u8)
+    requires room { length text.old.items ≤ 250 }
+    requires run { run ≤ 9 }
+    ensures value { text.new.items ≡ text.old.items ++ run_text run }
+    ensures len { length text.new.items ≤ length text.old.items + run }
+{
+    if run > 0 {
+        text.push(b'0' + run);
+    }
+}
+
+/// The nine squares of a rank, counted from 0, from file 9 to file 1.
+fn rank_cells(board: &Board, rank: usize) -> Rank
+    requires { rank < 9 }
+    ensures { result.items ≡ rank_cells board.now rank }
+{
+    let mut cells = ArrayVec::new();
+    for i in 0..9usize {
+        cells.push(board.at(Square::of_index((8 - i) * 9 + rank)));
+    }
+    cells
+}
+
+/// The squares of a rank, with each maximal run of empty ones as a digit.
+fn push_cells(text: &mut Text, cells: &Rank)
+    requires room { length text.old.items ≤ 230 }
+    ensures value { text.new.items ≡ text.old.items ++ cells_text 0 cells.now.items }
+    ensures len { length text.new.items ≤ length text.old.items + 18 }
+{
+    let mut run = 0;
+    for cell in cells.as_slice() {
+        match cell {
+            None => run += 1,
+            Some(piece) => {
+                push_run(text, run);
+                push_piece(text, *piece);
+                run = 0;
+            }
+        }
+    }
+    push_run(text, run);
+}
+
+/// A rank, with a slash before it where it is not the first.
+fn push_rank(text: &mut Text, board: &Board, rank: usize)
+    requires room { length text.old.items ≤ 200 }
+    requires rank { rank < 9 }
+    ensures value { text.new.items ≡ text.old.items ++ rank_text board.now rank }
+    ensures len { length text.new.items ≤ length text.old.items + 19 }
+{
+    if rank > 0 {
+        text.push(b'/');
+    }
+    push_cells(text, &rank_cells(board, rank));
+}
+
+fn push_board(text: &mut Text, board: &Board)
+    requires { text.old.items ≡ [] }
+    ensures value { text.new.items ≡ board_text board.now }
+    ensures len { length text.new.items ≤ 171 }
+{
+    for rank in 0..9usize {
+        push_rank(text, board, rank);
+    }
+}
+
+fn push_held(text: &mut Text, color: Color, kind: Kind, n: u8)
+    requires room { length text.old.items ≤ 250 }
+    requires small { n < 100 }
+    ensures value { text.new.items ≡ text.old.items ++ held_text color kind n }
+    ensures len { length text.new.items ≤ length text.old.items + 3 }
+{
+    if n == 0 {
+        return;
+    }
+    if n >= 10 {
+        text.push(b'0' + n / 10);
+        text.push(b'0' + n % 10);
+    } else if n >= 2 {
+        text.push(b'0' + n);
+    }
+    text.push(as_side(color, letter_of(kind)));
+}
+
+/// The kinds in their order in a text.
+const IN_TEXT: [Kind; 7] = [
+    Kind::Rook,
+    Kind::Bishop,
+    Kind::Gold,
+    Kind::Silver,
+    Kind::Knight,
+    Kind::Lance,
+    Kind::Pawn,
+];
+
+/// What a side holds.
+fn push_side_held(text: &mut Text, hands: Hands, color: Color)
+    requires room { length text.old.items ≤ 220 }
+    requires small { (kind : Kind) → held hands color kind < 100 }
+    ensures value { text.new.items ≡ text.old.items ++ side_held_text hands color }
+    ensures len { length text.new.items ≤ length text.old.items + 21 }
+{
+    for kind in IN_TEXT.iter() {
+        push_held(text, color, *kind, hands.count(color, *kind));
+    }
+}
+
+fn push_hands(text: &mut Text, hands: Hands)
+    requires room { length text.old.items ≤ 199 }
+    requires small { (color : Color) (kind : Kind) → held hands color kind < 100 }
+    ensures { text.new.items ≡ text.old.items ++ hands_text hands }
+{
+    let start = text.len();
+    push_side_held(text, hands, Color::Black);
+    push_side_held(text, hands, Color::White);
+    if text.len() == start {
+        text.push(b'-');
+    }
+}
+
+fn side_letter(side: Color) -> u8
+    ensures { result ∷ [] ≡ side_text side }
+{
+    match side {
+        Color::Black => b'b',
+        Color::White => b'w',
+    }
+}
+
+/// The one written text of the position (SFEN): board, side and hands, without a move number.
+pub fn write_position(p: &Position) -> ArrayVec<u8, 256>
+    ensures text { result.items ≡ written p.now }
+    ensures back { (tail : List ℕ) → EndsWord tail → position_at (written p.now ++ tail) ≡ Ok (p.now, end_of (written p.now ++ tail)) }
+{
+    let mut text = ArrayVec::new();
+    p.validity();
+    push_board(&mut text, &p.board());
+    text.push(b' ');
+    text.push(side_letter(p.side()));
+    text.push(b' ');
+    push_hands(&mut text, p.hands());
+    text
+}

@@ -1,0 +1,72 @@
+//! The shogi host as a program.
+#![tactic(auto)]
+
+ghost use Rattle.std.specs.Prelude.{◌≤◌, IfOk};
+ghost use Rattle.usi_host.specs.Answers.{HasRanges};
+
+mod words;
+
+use std::env;
+use std::io;
+use std::process::ExitCode;
+use usi_stdio::stdio;
+use words::{Job, WordsFault, read_words};
+
+/// The status of a run that ended early.
+const FAULT: u8 = 1;
+
+/// The status of a command line that is not accepted.
+const NOT_ACCEPTED: u8 = 2;
+
+/// The words after the program's name, read as a job.
+fn asked(rt: &HostRuntime) -> Result<Job, WordsFault>
+    ensures { IfOk result HasRanges }
+{
+    let mut words = Vec::new(rt.alloc());
+    let Ok(mut given) = env::args(rt) else {
+        return Err(WordsFault::NotAccepted {
+            text: String::from_str(rt.alloc(), "error: a word of the command line is not UTF-8\n")?,
+        });
+    };
+    let _program = given.next();
+    for word in given {
+        words.push(word).map_err(|_| WordsFault::OutOfMemory)?;
+    }
+    read_words(rt.alloc(), words.as_slice())
+}
+
+/// Writes the text to standard error, and gives the status.
+fn complain(rt: &HostRuntime, text: &str, status: u8) -> ExitCode {
+    let _ = eprint!(rt; "{text}");
+    ExitCode::from(status)
+}
+
+/// One session over standard input and output.
+fn run(rt: &HostRuntime, entries: usize) -> ExitCode
+    requires least { 1 ≤ entries }
+    requires most { entries ≤ 1000000 }
+{
+    let mut input = rt.reader();
+    let mut output = io::writer(rt);
+    match stdio(rt.alloc(), &mut input, &mut output, entries) {
+        Ok(()) => ExitCode::SUCCESS,
+        Err(fault) => {
+            let _ = eprintln!(rt; "usi_host: {fault}");
+            ExitCode::from(FAULT)
+        }
+    }
+}
+
+/// Does what the words of the command line ask for. The status is 0 where it was done, 1 where it
+/// ended early, and 2 where the words are not accepted.
+fn main(rt: HostRuntime) -> ExitCode {
+    match asked(&rt) {
+        Ok(Job::Stdio { entries }) => run(&rt, entries),
+        Ok(Job::Help { text }) => match print!(&rt; "{text}") {
+            Ok(()) => ExitCode::SUCCESS,
+            Err(_) => complain(&rt, "usi_host: write failed\n", FAULT),
+        },
+        Err(WordsFault::NotAccepted { text }) => complain(&rt, text.as_str(), NOT_ACCEPTED),
+        Err(WordsFault::OutOfMemory) => complain(&rt, "usi_host: out of memory\n", FAULT),
+    }
+}

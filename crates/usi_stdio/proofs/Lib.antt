@@ -1,0 +1,3 @@
+pub mod Writing
+pub mod Working
+pub mod Between

@@ -1,0 +1,35 @@
+use Rattle.std.proofs.Common.{sym, ◌∙◌, ap, take}
+use Rattle.usi_stdio.proofs.Between.{part_start, part_read, between_start, between_more, answered_at_end, answered_over, part_piece}
+use Rattle.usi_stdio.proofs.Working.{on_err}
+use Rattle.usi_stdio.proofs.streams.stdio.Goals as goal
+
+-- no table, and nothing was read
+pub returns-in_err-table-clause-fault : goal.returns-in_err-table-clause-fault
+returns-in_err-table-clause-fault g c = on_err _ (part_start _ _)
+
+pub pieces-init : goal.pieces-init
+pieces-init g c = between_start _ _ c.new-session.result c.new-session.ensures.opening c.new-session.ensures.due
+
+-- a read failed
+pub returns-in_err-n-clause-fault : goal.returns-in_err-n-clause-fault
+returns-in_err-n-clause-fault g c = on_err _ (part_read _ _ _ _ _ c.pieces.session c.pieces.invariant c.in_err-n.ensures.err)
+
+-- the input ended
+pub returns-then-n-eq0-clause-answered : goal.returns-then-n-eq0-clause-answered
+returns-then-n-eq0-clause-answered g c =
+    answered_at_end _ _ _ _ _ c.pieces.session (take c.in_ok-n.n c.read_piece.new.piece) c.pieces.invariant (ap (λ k. take k c.read_piece.new.piece) c.if-n-eq0.true) c.in_ok-n.ensures.given (c.in_ok-n.ensures.ended c.if-n-eq0.true)
+
+-- a front of the piece's answers was written
+pub returns-in_err-answer_piece-clause-fault : goal.returns-in_err-answer_piece-clause-fault
+returns-in_err-answer_piece-clause-fault g c =
+    on_err _ (part_piece _ _ _ _ _ _ c.pieces.session c.split_at.result.0.now c.pieces.invariant (rw c.split_at.ensures.front c.in_ok-n.ensures.given) c.in_err-answer_piece.ensures.err)
+
+-- the session is over
+pub returns-then-is_over-clause-answered : goal.returns-then-is_over-clause-answered
+returns-then-is_over-clause-answered g c =
+    answered_over _ _ _ _ _ _ c.pieces.session c.answer_piece.new.session c.split_at.result.0.now c.pieces.invariant (rw c.split_at.ensures.front c.in_ok-n.ensures.given) c.in_ok-answer_piece.ensures.ok (sym c.is_over.ensures ∙ c.if-is_over.true)
+
+-- one piece more
+pub pieces-preserved : goal.pieces-preserved
+pieces-preserved g c =
+    between_more _ _ _ _ _ _ c.pieces.session c.answer_piece.new.session c.split_at.result.0.now c.pieces.invariant (rw c.split_at.ensures.front c.in_ok-n.ensures.given) c.in_ok-answer_piece.ensures.ok (sym c.is_over.ensures ∙ c.if-is_over.false)

@@ -1,0 +1,54 @@
+-- One session over a reader and a writer: what is written is what the session's replies are to what was read (own choice).
+use Rattle.std.specs.Prelude.{◌≡◌, ℕ, List, [], ◌++◌, Option, ◌⊎◌, true, false}
+use Rattle.std.specs.Io.KnownBytes.{Appends, Consumes, IsAtEnd}
+use Rattle.usi_session.specs.Due.{Talk, due, is_pending, wants_input}
+use Rattle.usi_session.specs.Replies.{replies}
+
+-- the writer took the bytes but for those that are left
+pub record WritesBut (old new : Option (List ℕ)) (bytes left : List ℕ) : Type 0 where
+  pub done : List ℕ
+  pub appended : Appends old new done
+  pub split : bytes ≡ done ++ left
+
+-- the writer took a front of the bytes
+abbrev pub WritesFront : Option (List ℕ) → Option (List ℕ) → List ℕ → Type 0
+WritesFront old new bytes = (left : List ℕ) × WritesBut old new bytes left
+
+-- all replies to what was read were written, and the input ended or no further byte would be answered
+pub record IsAnswered (before after old new : Option (List ℕ)) : Type 0 where
+  pub read : List ℕ
+  pub consumed : Consumes before after read
+  pub written : Appends old new (replies read)
+  pub ended : IsAtEnd after ⊎ ((x : List ℕ) → replies (read ++ x) ≡ replies read)
+
+-- a front of the replies to what was read was written
+pub record IsAnsweredInPart (before after old new : Option (List ℕ)) : Type 0 where
+  pub read : List ℕ
+  pub consumed : Consumes before after read
+  pub written : WritesFront old new (replies read)
+
+-- the session's lines were answered, and all that was queued was written
+pub record IsWorkedOff (before after : Talk) (old new : Option (List ℕ)) : Type 0 where
+  pub made : List ℕ
+  pub written : Appends old new made
+  pub owed : (x : List ℕ) → due before x ≡ made ++ due after x
+  pub empty : after.queued ≡ []
+  pub settled : is_pending after ≡ false
+
+-- the same after a piece was fed
+pub record IsFedAndWorkedOff (before after : Talk) (piece : List ℕ) (old new : Option (List ℕ)) : Type 0 where
+  pub made : List ℕ
+  pub written : Appends old new made
+  pub owed : (x : List ℕ) → due before (piece ++ x) ≡ made ++ due after x
+  pub empty : after.queued ≡ []
+  pub settled : is_pending after ≡ false
+
+-- between two reads: what was written and what is owed are the replies, and the session may be fed
+pub record IsBetween (before after old new : Option (List ℕ)) (s : Talk) : Type 0 where
+  pub read : List ℕ
+  pub consumed : Consumes before after read
+  pub made : List ℕ
+  pub written : Appends old new made
+  pub owed : (x : List ℕ) → made ++ due s x ≡ replies (read ++ x)
+  pub empty : s.queued ≡ []
+  pub wants : wants_input s ≡ true

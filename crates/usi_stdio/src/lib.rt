@@ -1,0 +1,6 @@
+//! One session over any reader and writer.
+#![tactic(auto)]
+
+mod streams;
+
+pub use streams::{StdioFault, stdio};

@@ -1,0 +1,135 @@
+//! One session over a reader and a writer.
+
+ghost use Rattle.std.specs.Prelude.{◌≡◌, ◌<◌, ◌≤◌, [], true, length, take, IfOk, OnOk, OnErr};
+ghost use Rattle.std.specs.Io.KnownBytes.{Appends, Consumes, IsAtEnd, Keeps};
+ghost use Rattle.usi_stdio.specs.Stdio.{WritesFront, IsAnswered, IsAnsweredInPart, IsWorkedOff, IsFedAndWorkedOff};
+ghost use Rattle.usi_session.specs.Due.{due, wants_input};
+
+use shared_table::{SharedTable, TableFault};
+use shogi_search::Memo;
+use std::alloc::Allocator;
+use std::hash::{BuildHasherDefault, FoldHasher};
+use std::io::{Read, Write};
+use thiserror::Error;
+use usi_session::{Session, SessionFault};
+
+/// The most bytes that are read at once.
+const PIECE: usize = 4096;
+
+/// Why a run over a reader and a writer ended early.
+#[derive(Debug, PartialEq, Eq, Drop, Error)]
+pub enum StdioFault {
+    /// Memory was refused.
+    #[error("out of memory")]
+    OutOfMemory,
+    /// A read failed, or there were 18,446,744,073,709,551,615 of them.
+    #[error("read failed")]
+    ReadFailed,
+    /// A write or a flush failed, or a write took nothing.
+    #[error("write failed")]
+    WriteFailed,
+}
+
+impl From<SessionFault> for StdioFault {
+    fn from(fault: SessionFault) -> StdioFault {
+        match fault {
+            SessionFault::OutOfMemory => StdioFault::OutOfMemory,
+        }
+    }
+}
+
+impl From<TableFault> for StdioFault {
+    fn from(fault: TableFault) -> StdioFault {
+        match fault {
+            TableFault::OutOfMemory => StdioFault::OutOfMemory,
+        }
+    }
+}
+
+/// Writes the bytes, in as many writes as the writer needs.
+fn write_out<W: Write>(writer: &mut W, bytes: &[u8]) -> Result<(), StdioFault>
+    ensures ok { OnOk result (Appends (W.contents writer.old) (W.contents writer.new) bytes.now) }
+    ensures err { OnErr result (WritesFront (W.contents writer.old) (W.contents writer.new) bytes.now) }
+{
+    let mut rest = bytes;
+    'writes: while !rest.is_empty() {
+        match writer.write(rest) {
+            Ok(0) => return Err(StdioFault::WriteFailed),
+            Ok(n) => rest = rest.split_at(n).1,
+            Err(_) => return Err(StdioFault::WriteFailed),
+        }
+    }
+    Ok(())
+}
+
+/// Works off what was fed, and writes and takes all that is queued.
+fn work_off<A: Allocator + Copy, M: Memo, W: Write>(session: &mut Session<A>, memo: &mut M, writer: &mut W) -> Result<(), StdioFault>
+    requires { session.old.queued ≡ [] }
+    ensures ok { OnOk result (IsWorkedOff session.old session.new (W.contents writer.old) (W.contents writer.new)) }
+    ensures err { OnErr result (WritesFront (W.contents writer.old) (W.contents writer.new) (due session.old [])) }
+{
+    session.work(memo, u64::MAX)?;
+    write_out(writer, session.output())?;
+    let written = session.output().len();
+    session.take(written);
+    if writer.flush().is_err() {
+        return Err(StdioFault::WriteFailed);
+    }
+    Ok(())
+}
+
+/// Reads once, and gives the number of bytes at the front of the piece; 0 where the input ended.
+fn read_piece<R: Read>(reader: &mut R, piece: &mut [u8]) -> Result<usize, StdioFault>
+    requires { 0 < length piece.old }
+    ensures within { IfOk result (λ n. n ≤ length piece.new) }
+    ensures given { IfOk result (λ n. Consumes (R.remaining reader.old) (R.remaining reader.new) (take n piece.new)) }
+    ensures ended { IfOk result (λ n. n ≡ 0 → IsAtEnd (R.remaining reader.new)) }
+    ensures err { OnErr result (Keeps (R.remaining reader.old) (R.remaining reader.new)) }
+{
+    match reader.read(piece) {
+        Ok(n) => Ok(n),
+        Err(_) => Err(StdioFault::ReadFailed),
+    }
+}
+
+/// Feeds one piece, answers it, and writes the answers.
+fn answer_piece<A: Allocator + Copy, M: Memo, W: Write>(session: &mut Session<A>, memo: &mut M, writer: &mut W, piece: &[u8]) -> Result<(), StdioFault>
+    requires wants { wants_input session.old ≡ true }
+    requires empty { session.old.queued ≡ [] }
+    requires short { length piece.now ≤ 4096 }
+    ensures ok { OnOk result (IsFedAndWorkedOff session.old session.new piece.now (W.contents writer.old) (W.contents writer.new)) }
+    ensures err { OnErr result (WritesFront (W.contents writer.old) (W.contents writer.new) (due session.old piece.now)) }
+{
+    session.feed(piece)?;
+    work_off(session, memo, writer)
+}
+
+/// Runs one session: reads pieces of at most 4,096 bytes, answers each before the next and flushes,
+/// until the input ends or the session is over. Bytes after the last LF are no line. The table has
+/// `entries` entries, from 1 to 1,000,000.
+///
+/// `OutOfMemory` comes where memory was refused, `ReadFailed` where a read failed, and `WriteFailed`
+/// where a write or a flush failed or a write took nothing. After each of them what was written is a
+/// front of the replies to what was read.
+pub fn stdio<A: Allocator + Copy, R: Read, W: Write>(alloc: A, reader: &mut R, writer: &mut W, entries: usize) -> Result<(), StdioFault>
+    requires least { 1 ≤ entries }
+    requires most { entries ≤ 1000000 }
+    ensures answered { OnOk result (IsAnswered (R.remaining reader.old) (R.remaining reader.new) (W.contents writer.old) (W.contents writer.new)) }
+    ensures fault { OnErr result (IsAnsweredInPart (R.remaining reader.old) (R.remaining reader.new) (W.contents writer.old) (W.contents writer.new)) }
+{
+    let mut table = SharedTable::new(alloc, entries, BuildHasherDefault::<FoldHasher>::new())?;
+    let mut session = Session::new(alloc);
+    let mut piece = [0u8; PIECE];
+    'pieces: for _ in 0..u64::MAX {
+        let n = read_piece(reader, &mut piece)?;
+        if n == 0 {
+            return Ok(());
+        }
+        let (given, _) = piece.split_at(n);
+        answer_piece(&mut session, &mut table, writer, given)?;
+        if session.is_over() {
+            return Ok(());
+        }
+    }
+    Err(StdioFault::ReadFailed)
+}
