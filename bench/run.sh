@@ -1,17 +1,38 @@
 #!/bin/sh
-# Builds `measure` and prints how fast moves are counted, from the opening position.
-# Depths are the arguments, or 1 to 4.
+# Builds `measure` and prints how fast moves are counted and positions searched: a row for each
+# request, with the nodes of a count or the steps of a search, and how many of them in a second.
 set -eu
 cd "$(dirname "$0")/../crates/measure"
 log=$(rt run </dev/null 2>&1) || {
     printf '%s\n' "$log" >&2
     exit 1
 }
-[ $# -gt 0 ] || set -- 1 2 3 4
-printf '%-8s %6s %14s %10s %12s\n' request depth nodes seconds nodes/second
-for depth; do
-    printf 'perft %s\n' "$depth"
-done | out/measure | awk '{
-    rate = $4 > 0 ? sprintf("%d", $3 / $4) : "-"
-    printf "%-8s %6s %14s %10s %12s\n", $1, $2, $3, $4, rate
-}'
+
+many_drops='R8/2K1S1SSk/4B4/9/9/9/9/9/1L1L1L3 b RBGSNLP3g3n17p 1'
+middle_game='l6nl/5+P1gk/2np1S3/p1p4Pp/3P2Sp1/1PPb2P1P/P5GS1/R8/LN4bKL w RGgsn5p 1'
+columns='%-7s %-11s %5s %7s %6s %-6s %11s %8s %10s\n'
+
+# row NAME REQUEST: NAME is that of the position, REQUEST a line that `measure` reads.
+row() {
+    printf '%s\n' "$2" | out/measure | awk -v columns="$columns" -v name="$1" -v request="$2" '
+        function rate(count, seconds) { return seconds > 0 ? int(count / seconds) : "-" }
+        BEGIN { split(request, words) }
+        $1 == "perft" { printf columns, $1, name, $2, "-", "-", "-", $3, $4, rate($3, $4) }
+        $1 == "search" { printf columns, $1, name, $2, words[3], $3, $4, $5, $6, rate($5, $6) }
+    '
+}
+
+# shellcheck disable=SC2059
+printf "$columns" request position depth entries value best nodes/steps seconds per-second
+for depth in 1 2 3 4; do
+    row opening "perft $depth"
+done
+row many-drops "perft 1 $many_drops"
+for entries in 0 100000; do
+    for depth in 1 2 3 4 5; do
+        row opening "search $depth $entries"
+    done
+done
+for depth in 1 2 3; do
+    row middle-game "search $depth 0 $middle_game"
+done

@@ -1,5 +1,5 @@
-//! Times the counting of moves: reads requests from standard input, one a line, and answers each
-//! with one line.
+//! Times the counting of moves and the search: reads requests from standard input, one a line, and
+//! answers each with one line.
 #![tactic(auto)]
 
 mod answer;
@@ -13,7 +13,7 @@ fn main(rt: HostRuntime) -> io::Result<()> {
         let number = index.saturating_add(1);
         match line {
             Ok(line) => match request::read(line.as_str()) {
-                Ok(request) => answer::answer(&rt, request)?,
+                Ok(request) => answer::answer(&rt, number, &request)?,
                 Err(refusal) => answer::refuse(&rt, number, refusal)?,
             },
             Err(error) if error.kind() == io::ErrorKind::InvalidData => {

@@ -6,9 +6,8 @@ ghost use Rattle.usi_host.specs.Answers.{HasRanges};
 
 mod words;
 
-use std::env;
-use std::io;
 use std::process::ExitCode;
+use std::{env, io};
 use usi_stdio::stdio;
 use words::{Job, WordsFault, read_words};
 
@@ -25,7 +24,10 @@ fn asked(rt: &HostRuntime) -> Result<Job, WordsFault>
     let mut words = Vec::new(rt.alloc());
     let Ok(mut given) = env::args(rt) else {
         return Err(WordsFault::NotAccepted {
-            text: String::from_str(rt.alloc(), "error: a word of the command line is not UTF-8\n")?,
+            text: String::from_str(
+                rt.alloc(),
+                "error: a word of the command line is not UTF-8\n",
+            )?,
         });
     };
     let _program = given.next();

@@ -17,7 +17,11 @@ use std::alloc::{AllocError, Allocator};
 use usi_lines::{Command, Hold, Line, read_command};
 
 /// Takes the position that was reached, or says why there is none.
-fn place<A: Allocator>(out: &mut Vec<u8, A>, state: &mut State, outcome: Result<Position, Refusal>) -> Result<(), AllocError>
+fn place<A: Allocator>(
+    out: &mut Vec<u8, A>,
+    state: &mut State,
+    outcome: Result<Position, Refusal>,
+) -> Result<(), AllocError>
     ensures bytes { OnOk result (out.new.items ≡ out.old.items ++ (placed state.old outcome).bytes) }
     ensures state { OnOk result (state.new ≡ (placed state.old outcome).state) }
 {
@@ -32,7 +36,14 @@ fn place<A: Allocator>(out: &mut Vec<u8, A>, state: &mut State, outcome: Result<
 }
 
 /// Searches the position, says what was found at each depth, and writes or holds the bestmove.
-fn go<M: Memo, A: Allocator + Copy>(alloc: A, out: &mut Vec<u8, A>, state: &mut State, depth: u8, hold: Hold, memo: &mut M) -> Result<u64, AllocError>
+fn go<M: Memo, A: Allocator + Copy>(
+    alloc: A,
+    out: &mut Vec<u8, A>,
+    state: &mut State,
+    depth: u8,
+    hold: Hold,
+    memo: &mut M,
+) -> Result<u64, AllocError>
     requires low { 1 ≤ depth }
     requires high { depth ≤ 16 }
     ensures bytes { OnOk result (out.new.items ≡ out.old.items ++ (gone state.old depth hold).bytes) }
@@ -83,7 +94,13 @@ fn hit<A: Allocator>(out: &mut Vec<u8, A>, state: &mut State) -> Result<(), Allo
 }
 
 /// Answers a command, and gives the steps of search that were made for it.
-pub fn answer<M: Memo, A: Allocator + Copy>(alloc: A, out: &mut Vec<u8, A>, state: &mut State, command: Command<'_>, memo: &mut M) -> Result<u64, AllocError>
+pub fn answer<M: Memo, A: Allocator + Copy>(
+    alloc: A,
+    out: &mut Vec<u8, A>,
+    state: &mut State,
+    command: Command<'_>,
+    memo: &mut M,
+) -> Result<u64, AllocError>
     requires low { 1 ≤ state.old.depth }
     requires high { state.old.depth ≤ 16 }
     requires depth { HasDepthInRange (meaning_of command) }
@@ -124,7 +141,13 @@ pub fn answer<M: Memo, A: Allocator + Copy>(alloc: A, out: &mut Vec<u8, A>, stat
 }
 
 /// Answers a line; one that is too long ends the session.
-pub fn answer_line<M: Memo, A: Allocator + Copy>(alloc: A, out: &mut Vec<u8, A>, state: &mut State, line: Line<'_>, memo: &mut M) -> Result<u64, AllocError>
+pub fn answer_line<M: Memo, A: Allocator + Copy>(
+    alloc: A,
+    out: &mut Vec<u8, A>,
+    state: &mut State,
+    line: Line<'_>,
+    memo: &mut M,
+) -> Result<u64, AllocError>
     requires low { 1 ≤ state.old.depth }
     requires high { state.old.depth ≤ 16 }
     ensures bytes { OnOk result (out.new.items ≡ out.old.items ++ (answer_to state.old (line_of line.entry)).bytes) }

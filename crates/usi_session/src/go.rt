@@ -21,7 +21,13 @@ pub struct Choice {
 }
 
 /// Says the value and the best line at one depth.
-fn write_depth<M: Memo, A: Allocator>(alloc: A, out: &mut Vec<u8, A>, p: &Position, depth: u8, memo: &mut M) -> Result<Choice, AllocError>
+fn write_depth<M: Memo, A: Allocator>(
+    alloc: A,
+    out: &mut Vec<u8, A>,
+    p: &Position,
+    depth: u8,
+    memo: &mut M,
+) -> Result<Choice, AllocError>
     requires low { 1 ≤ depth }
     requires high { depth ≤ 16 }
     ensures said { OnOk result (out.new.items ≡ out.old.items ++ info_line p.now depth) }
@@ -39,7 +45,13 @@ fn write_depth<M: Memo, A: Allocator>(alloc: A, out: &mut Vec<u8, A>, p: &Positi
 
 /// Says the value and the best line at each depth from 1 to the given one, and nothing where no move
 /// is legal. The choice is that of the last depth.
-pub fn write_infos<M: Memo, A: Allocator + Copy>(alloc: A, out: &mut Vec<u8, A>, p: &Position, depth: u8, memo: &mut M) -> Result<Choice, AllocError>
+pub fn write_infos<M: Memo, A: Allocator + Copy>(
+    alloc: A,
+    out: &mut Vec<u8, A>,
+    p: &Position,
+    depth: u8,
+    memo: &mut M,
+) -> Result<Choice, AllocError>
     requires low { 1 ≤ depth }
     requires high { depth ≤ 16 }
     ensures said { OnOk result (out.new.items ≡ out.old.items ++ infos p.now depth) }

@@ -10,5 +10,4 @@ mod session;
 mod state;
 mod text;
 
-pub use session::Session;
-pub use session::SessionFault;
+pub use session::{Session, SessionFault};

@@ -17,7 +17,12 @@ pub struct BestLine<A: Allocator> {
 }
 
 /// Searches the position, and then along its best line; `steps` counts all of that.
-pub fn best_line<M: Memo, A: Allocator>(alloc: A, p: &Position, depth: u8, memo: &mut M) -> Result<BestLine<A>, AllocError>
+pub fn best_line<M: Memo, A: Allocator>(
+    alloc: A,
+    p: &Position,
+    depth: u8,
+    memo: &mut M,
+) -> Result<BestLine<A>, AllocError>
     requires low { 1 ≤ depth }
     requires high { depth ≤ 16 }
     ensures value { IfOk result (λ found. found.value ≡ value p.now depth) }

@@ -23,7 +23,9 @@ fn write_parts<A: Allocator>(out: &mut Vec<u8, A>, parts: &[&[u8]]) -> Result<()
 pub fn write_usi<A: Allocator>(out: &mut Vec<u8, A>) -> Result<(), AllocError>
     ensures { OnOk result (out.new.items ≡ out.old.items ++ usi_reply) }
 {
-    out.extend_from_slice(b"id name Shared Shogi Host\nid author Shared Shogi Host Team\noption name Depth type spin default 3 min 1 max 16\nusiok\n")
+    out.extend_from_slice(
+        b"id name Shared Shogi Host\nid author Shared Shogi Host Team\noption name Depth type spin default 3 min 1 max 16\nusiok\n",
+    )
 }
 
 /// Says that a `position` line names no position: 0 for its form, 1 to 8 for its first fault.
@@ -35,9 +37,11 @@ pub fn write_bad_position<A: Allocator>(out: &mut Vec<u8, A>, fault: u8) -> Resu
     write_parts(out, &[b"info string bad position ", digits, b"\n"])
 }
 
-
 /// Says that the word of this number after `moves` is no legal move.
-pub fn write_illegal_move<A: Allocator>(out: &mut Vec<u8, A>, number: usize) -> Result<(), AllocError>
+pub fn write_illegal_move<A: Allocator>(
+    out: &mut Vec<u8, A>,
+    number: usize,
+) -> Result<(), AllocError>
     ensures { OnOk result (out.new.items ≡ out.old.items ++ illegal_move number) }
 {
     let mut buffer = Buffer::new();
@@ -46,7 +50,12 @@ pub fn write_illegal_move<A: Allocator>(out: &mut Vec<u8, A>, number: usize) -> 
 }
 
 /// A value after its sign: hundredths of a pawn, or from 30,000 up the plies to a mate.
-fn write_size<A: Allocator>(out: &mut Vec<u8, A>, sign: &[u8], depth: u8, size: u32) -> Result<(), AllocError>
+fn write_size<A: Allocator>(
+    out: &mut Vec<u8, A>,
+    sign: &[u8],
+    depth: u8,
+    size: u32,
+) -> Result<(), AllocError>
     ensures { OnOk result (out.new.items ≡ out.old.items ++ size_text sign.now depth size) }
 {
     let mut buffer = Buffer::new();
@@ -97,7 +106,12 @@ fn write_line<A: Allocator>(out: &mut Vec<u8, A>, moves: &[Move]) -> Result<(), 
 
 /// Says the value and the best line of a position at a depth (USI, info).
 #[tactic(auto, using(crate::proofs::Appends::after_three))]
-pub fn write_info<A: Allocator>(out: &mut Vec<u8, A>, depth: u8, value: i32, moves: &[Move]) -> Result<(), AllocError>
+pub fn write_info<A: Allocator>(
+    out: &mut Vec<u8, A>,
+    depth: u8,
+    value: i32,
+    moves: &[Move],
+) -> Result<(), AllocError>
     ensures { OnOk result (out.new.items ≡ out.old.items ++ said_line depth value moves.now) }
 {
     write_head(out, depth)?;
@@ -107,7 +121,11 @@ pub fn write_info<A: Allocator>(out: &mut Vec<u8, A>, depth: u8, value: i32, mov
 }
 
 /// Names the move to play, with the reply to ponder on (USI, bestmove).
-pub fn write_bestmove<A: Allocator>(out: &mut Vec<u8, A>, best: &Option<Move>, ponder: &Option<Move>) -> Result<(), AllocError>
+pub fn write_bestmove<A: Allocator>(
+    out: &mut Vec<u8, A>,
+    best: &Option<Move>,
+    ponder: &Option<Move>,
+) -> Result<(), AllocError>
     ensures { OnOk result (out.new.items ≡ out.old.items ++ bestmove_line best.now ponder.now) }
 {
     let Some(best) = best else {
@@ -118,5 +136,14 @@ pub fn write_bestmove<A: Allocator>(out: &mut Vec<u8, A>, best: &Option<Move>, p
         return write_parts(out, &[b"bestmove ", best.as_slice(), b"\n"]);
     };
     let ponder = write_move(*ponder);
-    write_parts(out, &[b"bestmove ", best.as_slice(), b" ponder ", ponder.as_slice(), b"\n"])
+    write_parts(
+        out,
+        &[
+            b"bestmove ",
+            best.as_slice(),
+            b" ponder ",
+            ponder.as_slice(),
+            b"\n",
+        ],
+    )
 }

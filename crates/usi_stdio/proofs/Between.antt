@@ -1,11 +1,11 @@
 -- A run over a reader and a writer, between two reads and at its ends.
 use Rattle.std.proofs.Common.{◌≡◌, ℕ, List, [], ◌++◌, Option, refl, sym, ap, ◌∙◌, append_assoc, append-nil, true, false, inl, inr}
 use Rattle.std.specs.Io.KnownBytes.{Appends, Consumes, IsAtEnd, Keeps}
-use Rattle.std.proofs.KnownBytes.{Appends-nil, Appends-trans, Consumes-nil, Consumes-trans, Consumes-kept, Keeps-refl}
-use Rattle.usi_session.specs.Due.{Talk, due, is_pending, wants_input, new_talk}
+use Rattle.std.proofs.KnownBytes.{Appends-nil, Appends-trans, Consumes-nil, Consumes-trans, Consumes-kept}
+use Rattle.usi_session.specs.Due.{Talk, due, new_talk}
 use Rattle.usi_session.specs.Replies.{replies}
 use Rattle.usi_session.proofs.Settled.{due-over, due-wanting, wants_after, new_wants}
-use Rattle.usi_stdio.specs.Stdio.{WritesBut, WritesFront, IsAnswered, IsAnsweredInPart, IsFedAndWorkedOff, IsBetween}
+use Rattle.usi_stdio.specs.Stdio.{WritesFront, IsAnswered, IsAnsweredInPart, IsFedAndWorkedOff, IsBetween}
 
 -- nothing was read or written
 pub part_start : (before old : Option (List ℕ)) → IsAnsweredInPart before before old old
@@ -83,9 +83,12 @@ pub part_piece : (before mid after old part new : Option (List ℕ)) (s : Talk) 
 part_piece before mid after old part new s piece b consumed (left, w) = record {
   read = b.read ++ piece;
   consumed = Consumes-trans before mid after b.read piece b.consumed consumed;
-  written = (left, record {
-    done = b.made ++ w.done;
-    appended = Appends-trans old part new b.made w.done b.written w.appended;
-    split = sym (b.owed piece) ∙ (ap (λ xs. b.made ++ xs) w.split ∙ sym (append_assoc b.made w.done left));
-  });
+  written = (
+    left,
+    record {
+      done = b.made ++ w.done;
+      appended = Appends-trans old part new b.made w.done b.written w.appended;
+      split = sym (b.owed piece) ∙ (ap (λ xs. b.made ++ xs) w.split ∙ sym (append_assoc b.made w.done left));
+    },
+  );
 }

@@ -1,20 +1,23 @@
 -- A session that is worked off and written.
-use Rattle.std.proofs.Common.{◌≡◌, ℕ, List, [], ◌++◌, length, Option, refl, sym, ap, ◌∙◌, append_assoc, take, drop, false, arith, Result, OnErr, Ok, Err}
+use Rattle.std.proofs.Common.{◌≡◌, ℕ, List, ◌++◌, length, Option, sym, ap, ◌∙◌, append_assoc, take, drop, false, arith, Result, OnErr, Ok, Err}
 use Rattle.std.specs.Io.KnownBytes.{Appends, Keeps}
 use Rattle.std.proofs.KnownBytes.{Appends-kept}
 use Rattle.std.proofs.lemmas.List.{take_all, drop_all}
 use Rattle.usi_lines.specs.Lines.{ahead}
 use Rattle.usi_session.specs.Replies.{replies_from}
 use Rattle.usi_session.specs.Due.{Talk, due, is_pending}
-use Rattle.usi_stdio.specs.Stdio.{WritesBut, WritesFront, IsWorkedOff}
+use Rattle.usi_stdio.specs.Stdio.{WritesFront, IsWorkedOff}
 
 -- a front of a front
 pub front_of_more : (old new : Option (List ℕ)) (bytes more all : List ℕ) → WritesFront old new bytes → all ≡ bytes ++ more → WritesFront old new all
-front_of_more old new bytes more all (left, w) e = (left ++ more, record {
-  done = w.done;
-  appended = w.appended;
-  split = e ∙ (ap (λ xs. xs ++ more) w.split ∙ append_assoc w.done left more);
-})
+front_of_more old new bytes more all (left, w) e = (
+  left ++ more,
+  record {
+    done = w.done;
+    appended = w.appended;
+    split = e ∙ (ap (λ xs. xs ++ more) w.split ∙ append_assoc w.done left more);
+  },
+)
 
 -- all that was queued was written, taken and flushed
 pub worked_off : (before mid after : Talk) (old written new : Option (List ℕ)) (out : List ℕ) (n : ℕ) → ((x : List ℕ) → due mid x ≡ due before x) → is_pending mid ≡ false → out ≡ mid.queued → Appends old written out → Keeps written new → n ≡ length out

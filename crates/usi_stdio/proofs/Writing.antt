@@ -1,8 +1,8 @@
 -- Bytes that are written in several writes.
-use Rattle.std.proofs.Common.{◌≡◌, ℕ, List, [], ◌++◌, length, Option, refl, sym, ap, ◌∙◌, append_assoc, append-nil}
+use Rattle.std.proofs.Common.{◌≡◌, ℕ, List, [], ◌++◌, Option, refl, sym, ap, ◌∙◌, append_assoc, append-nil}
 use Rattle.std.specs.Io.KnownBytes.{Appends}
 use Rattle.std.proofs.KnownBytes.{Appends-nil, Appends-trans}
-use Rattle.usi_stdio.specs.Stdio.{WritesBut, WritesFront}
+use Rattle.usi_stdio.specs.Stdio.{WritesBut}
 
 -- nothing is written yet
 pub writes_start : (old : Option (List ℕ)) (bytes : List ℕ) → WritesBut old old bytes bytes

@@ -63,7 +63,11 @@ fn write_out<W: Write>(writer: &mut W, bytes: &[u8]) -> Result<(), StdioFault>
 }
 
 /// Works off what was fed, and writes and takes all that is queued.
-fn work_off<A: Allocator + Copy, M: Memo, W: Write>(session: &mut Session<A>, memo: &mut M, writer: &mut W) -> Result<(), StdioFault>
+fn work_off<A: Allocator + Copy, M: Memo, W: Write>(
+    session: &mut Session<A>,
+    memo: &mut M,
+    writer: &mut W,
+) -> Result<(), StdioFault>
     requires { session.old.queued ≡ [] }
     ensures ok { OnOk result (IsWorkedOff session.old session.new (W.contents writer.old) (W.contents writer.new)) }
     ensures err { OnErr result (WritesFront (W.contents writer.old) (W.contents writer.new) (due session.old [])) }
@@ -93,7 +97,12 @@ fn read_piece<R: Read>(reader: &mut R, piece: &mut [u8]) -> Result<usize, StdioF
 }
 
 /// Feeds one piece, answers it, and writes the answers.
-fn answer_piece<A: Allocator + Copy, M: Memo, W: Write>(session: &mut Session<A>, memo: &mut M, writer: &mut W, piece: &[u8]) -> Result<(), StdioFault>
+fn answer_piece<A: Allocator + Copy, M: Memo, W: Write>(
+    session: &mut Session<A>,
+    memo: &mut M,
+    writer: &mut W,
+    piece: &[u8],
+) -> Result<(), StdioFault>
     requires wants { wants_input session.old ≡ true }
     requires empty { session.old.queued ≡ [] }
     requires short { length piece.now ≤ 4096 }
@@ -111,7 +120,12 @@ fn answer_piece<A: Allocator + Copy, M: Memo, W: Write>(session: &mut Session<A>
 /// `OutOfMemory` comes where memory was refused, `ReadFailed` where a read failed, and `WriteFailed`
 /// where a write or a flush failed or a write took nothing. After each of them what was written is a
 /// front of the replies to what was read.
-pub fn stdio<A: Allocator + Copy, R: Read, W: Write>(alloc: A, reader: &mut R, writer: &mut W, entries: usize) -> Result<(), StdioFault>
+pub fn stdio<A: Allocator + Copy, R: Read, W: Write>(
+    alloc: A,
+    reader: &mut R,
+    writer: &mut W,
+    entries: usize,
+) -> Result<(), StdioFault>
     requires least { 1 ≤ entries }
     requires most { entries ≤ 1000000 }
     ensures answered { OnOk result (IsAnswered (R.remaining reader.old) (R.remaining reader.new) (W.contents writer.old) (W.contents writer.new)) }

@@ -17,9 +17,12 @@ overflow_add-number c =
 pub loop-word-preserved : goal.loop-word-preserved
 loop-word-preserved c =
     let all = c.loop-word.invariant.2 in
-    let fits = c.loop-word.invariant.3 in
-    (tt, tt, all ∙ after_moves-next _ _ _ _ _ _ c.in-Some.ensures.steps.0 (sym c.after_legal.ensures ∙ c.in-Some-after_legal.is),
-      let n : length (words c.loop-word.rest) ≡ length (words c.next.new.self) + 1 = ap length c.in-Some.ensures.steps.0 ∙ omega arith in omega arith)
+    let fits = c.loop-word.invariant.3 in (
+      tt,
+      tt,
+      all ∙ after_moves-next _ _ _ _ _ _ c.in-Some.ensures.steps.0 (sym c.after_legal.ensures ∙ c.in-Some-after_legal.is),
+      let n : length (words c.loop-word.rest) ≡ length (words c.next.new.self) + 1 = ap length c.in-Some.ensures.steps.0 ∙ omega arith in omega arith,
+    )
 
 pub returns : goal.returns
 returns c = let all = c.loop-word.invariant.2 in sym (all ∙ after_moves-none _ _ _ c.in_default.ensures.steps.0)

@@ -9,7 +9,7 @@ use Rattle.usi_stdio.proofs.streams.work_off.Goals as goal
 pub returns-in_err-write_out-clause-err : goal.returns-in_err-write_out-clause-err
 returns-in_err-write_out-clause-err g c =
     let front : WritesFront (g.W.Write.contents c.args.writer.now) (g.W.Write.contents c.write_out.new.writer) (due c.args.session.now []) =
-        front_of_due _ _ c.args.session.now c.work.new.self c.output.result.now [] (c.work.ensures.due []) c.output.ensures c.in_err-write_out.ensures.err in
+    front_of_due _ _ c.args.session.now c.work.new.self c.output.result.now [] (c.work.ensures.due []) c.output.ensures c.in_err-write_out.ensures.err in
     search rules
 
 -- all that was queued was written, taken and flushed

@@ -1,0 +1,15 @@
+//! Tests that cross crates: worked rows through a session and through the program's streams.
+#![tactic(auto)]
+
+#[cfg(test)]
+mod fakes;
+#[cfg(test)]
+mod memory;
+#[cfg(test)]
+mod positions;
+#[cfg(test)]
+mod rows;
+#[cfg(test)]
+mod sessions;
+#[cfg(test)]
+mod streams;
