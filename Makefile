@@ -22,6 +22,7 @@ install: build
 test:
 	rt ci
 
-# Builds `measure` and prints how fast moves are counted and positions searched.
+# Prints how fast moves are counted, positions searched, and `go` answered by the program.
 bench:
 	bench/run.sh
+	bench/go.sh

@@ -180,37 +180,44 @@ fn writers_of_one_byte_and_of_none(rt: HostRuntime) -> Result<(), Fail> {
     Ok(())
 }
 
-// Heaps from nothing to enough: out of memory with a front of the answer, or all of it.
-#[test]
-fn refused_memory(rt: HostRuntime) -> Result<(), Fail> {
-    let row = Row {
-        sent: "usi\ngo infinite depth 2\nposition startpos moves 7g7f 7g7f\nstop\nquit\n",
-        answer: &[],
-    };
-    let mut whole = Vec::new(rt.alloc());
-    let mut reader = row.sent.as_bytes();
-    stdio(rt.alloc(), &mut reader, &mut whole, 4)?;
-    let (mut refused, mut begun, mut passed) = (false, false, false);
+// Heaps of growing sizes, from nothing on: out of memory with a front of the answer, or all of it.
+fn assert_refusals(
+    rt: &impl Abort,
+    alloc: Global,
+    sent: &str,
+    entries: usize,
+    step: usize,
+) -> Result<(), Fail> {
+    assert!(rt; entries >= 1 && entries <= 1000000);
+    let mut whole = Vec::new(alloc);
+    let mut reader = sent.as_bytes();
+    stdio(alloc, &mut reader, &mut whole, entries)?;
+    let (mut refused, mut passed) = (false, false);
     for blocks in 0..120usize {
-        let heap = LocalHeap::new(rt.alloc(), blocks * 32)?;
-        let mut reader = FailingReader::new(row.sent.as_bytes(), 16, usize::MAX);
-        let mut writer = Vec::new(rt.alloc());
-        match stdio(&heap, &mut reader, &mut writer, 4) {
+        let heap = LocalHeap::new(alloc, blocks.saturating_mul(step))?;
+        let mut reader = FailingReader::new(sent.as_bytes(), 16, usize::MAX);
+        let mut writer = Vec::new(alloc);
+        match stdio(&heap, &mut reader, &mut writer, entries) {
             Ok(()) => {
                 passed = true;
                 assert_eq!(rt; writer, whole, "{blocks} blocks");
             }
             Err(fault) => {
+                refused = true;
                 assert_eq!(rt; fault, StdioFault::OutOfMemory, "{blocks} blocks");
                 assert!(rt; whole.starts_with(writer.as_slice()), "{blocks} blocks");
-                if writer.is_empty() {
-                    refused = true;
-                } else {
-                    begun = true;
-                }
             }
         }
     }
-    assert!(rt; refused && begun && passed, "{refused} {begun} {passed}");
+    assert!(rt; refused && passed, "{refused} {passed}");
     Ok(())
+}
+
+#[test]
+fn refused_memory(rt: HostRuntime) -> Result<(), Fail> {
+    let many = "usi\ngo infinite depth 2\nposition startpos moves 7g7f 7g7f\nstop\nquit\n";
+    assert_refusals(&rt, rt.alloc(), many, 4, 32)?;
+    let deep = "position startpos\ngo depth 3\n";
+    assert_refusals(&rt, rt.alloc(), deep, 1, 32)?;
+    assert_refusals(&rt, rt.alloc(), deep, 4096, 4096)
 }
