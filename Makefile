@@ -10,7 +10,8 @@ run: build
 	@$(PROGRAM)
 
 build:
-	@cd crates/usi_host && rt run < /dev/null > build.log 2>&1 || { cat build.log; rm -f build.log; exit 1; }
+	@[ -x $(PROGRAM) ] || echo 'Proving and building the program; the first time takes some minutes.' >&2
+	@cd crates/usi_host && rt run < /dev/null > build.log 2>&1 || { cat build.log >&2; rm -f build.log; exit 1; }
 	@rm -f crates/usi_host/build.log
 
 # Copies the built program to PREFIX/bin.

@@ -13,3 +13,5 @@ mod rows;
 mod sessions;
 #[cfg(test)]
 mod streams;
+#[cfg(test)]
+mod tables;

@@ -1,14 +1,14 @@
 -- The info lines of a position, depth by depth.
-use Rattle.std.proofs.Common.{◌≡◌, ◌≢◌, ℕ, suc, ◌+◌, ◌<◌, List, [], ◌∷◌, ◌++◌, Option, Some, None, refl, sym, ap, ◌∙◌, add-one, append_assoc, inr}
+use Rattle.std.proofs.Common.{◌≡◌, ◌≢◌, ℕ, ◌+◌, ◌<◌, List, [], ◌∷◌, ◌++◌, Option, Some, None, refl, sym, ap, ◌∙◌, add-one, append_assoc, inr}
 use Rattle.std.specs.Prelude.{is_some, false}
 use Rattle.shogi_core.specs.declared.moves.Move.{Move}
 use Rattle.shogi_core.specs.Position.{Shogi}
 use Rattle.shogi_moves.specs.LegalMoves.{legal_moves}
 use Rattle.shogi_search.specs.Minimax.{best, line}
-use Rattle.shogi_search.proofs.Lines.{line-none, line-leaf}
+use Rattle.shogi_search.proofs.Lines.{line-none}
 use Rattle.shogi_search.proofs.Best.{none_iff}
 use Rattle.usi_session.specs.Texts.{info_line}
-use Rattle.usi_session.specs.Going.{info_lines, infos, infos_of, first, second}
+use Rattle.usi_session.specs.Going.{info_lines, infos, infos_of}
 
 pub info_lines-start : (p : Shogi) → info_lines p 0 ≡ []
 unfolding info_lines

@@ -1,6 +1,5 @@
 -- One move more of a `position` line.
-use Rattle.std.proofs.Common.{◌≡◌, ℕ, ◌+◌, ◌≤◌, ◌<◌, List, [], ◌∷◌, length, Option, Some, None, Result, Ok, Err, refl, sym, ap, ◌∙◌, arith, cond}
-use Rattle.std.specs.Prelude.{filter, count_by}
+use Rattle.std.proofs.Common.{◌≡◌, ℕ, ◌+◌, ◌≤◌, List, [], ◌∷◌, length, Option, Some, None, Ok, Err, refl, ap, arith}
 use Rattle.std.specs.List.{slice_split}
 use Rattle.std.proofs.lemmas.List.Splits.{length-slice_split}
 use Rattle.std.proofs.lemmas.List.Sums.{length-filter, count_by-le-length}
@@ -12,8 +11,7 @@ use Rattle.shogi_core.specs.declared.validity.PositionFault.{PositionFault}
 use Rattle.shogi_sfen.specs.Sfen.{position_at, position_by, judged, end_of}
 use Rattle.shogi_sfen.specs.Words.{words, has_bytes, is_blank}
 use Rattle.shogi_sfen.specs.MoveTexts.{move_of_text}
-use Rattle.usi_session.specs.declared.placing.Refusal.{Refusal}
-use Rattle.usi_session.specs.declared.placing.Refusal.TheVariants.{BadPosition, IllegalMove}
+use Rattle.usi_session.specs.declared.placing.Refusal.TheVariants.{IllegalMove}
 use Rattle.usi_session.specs.Placing.{after_legal, after_moves}
 
 -- no word is left

@@ -1,5 +1,5 @@
 -- What a session that is settled or over still owes.
-use Rattle.std.proofs.Common.{◌≡◌, ℕ, List, [], ◌∷◌, ◌++◌, refl, sym, ap, ◌∙◌, false, true, Bool, append-nil}
+use Rattle.std.proofs.Common.{◌≡◌, ℕ, List, [], ◌∷◌, ◌++◌, refl, ap, ◌∙◌, false, true, Bool, append-nil}
 use Rattle.std.specs.Prelude.{◌&&◌, not, nat_lt, length}
 use Rattle.usi_lines.specs.Lines.{Line, ahead, lines}
 use Rattle.usi_session.specs.declared.state.State.{State}

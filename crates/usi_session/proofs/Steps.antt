@@ -1,5 +1,5 @@
 -- One line more is answered.
-use Rattle.std.proofs.Common.{◌≡◌, ℕ, ◌<◌, List, ◌∷◌, ◌++◌, length, refl, sym, ap, ◌∙◌, arith, append_assoc, false, Bool}
+use Rattle.std.proofs.Common.{◌≡◌, ℕ, ◌<◌, List, ◌∷◌, ◌++◌, length, sym, ap, ◌∙◌, arith, append_assoc, false, Bool}
 use Rattle.std.specs.Prelude.{drop}
 use Rattle.usi_lines.specs.Lines.{Line}
 use Rattle.usi_session.specs.declared.state.State.{State}

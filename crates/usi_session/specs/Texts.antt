@@ -1,5 +1,5 @@
 -- The lines that a session writes, each with its LF (USI, the replies of an engine; names, options and the texts after `info string` are an own choice).
-use Rattle.std.specs.Prelude.{ℕ, ℤ, pos, negsuc, ◌+◌, ◌-◌, List, [], ◌∷◌, ◌++◌, codes, flat_map, Option, Some, None, nat_lt, cond, decimal}
+use Rattle.std.specs.Prelude.{ℕ, ℤ, pos, negsuc, ◌+◌, ◌-◌, List, [], ◌++◌, codes, flat_map, Option, Some, None, nat_lt, cond, decimal}
 use Rattle.shogi_core.specs.declared.moves.Move.{Move}
 use Rattle.shogi_core.specs.Position.{Shogi}
 use Rattle.shogi_search.specs.Minimax.{value, line}

@@ -1,5 +1,4 @@
-use Rattle.std.proofs.Common.{◌≡◌, ◌++◌, ◌≢◌, [], ◌∷◌, ap, sym, ◌∙◌, arith, rules, append-nil}
-use Rattle.shogi_core.specs.declared.moves.Move.{Move}
+use Rattle.std.proofs.Common.{◌≡◌, [], ap, sym, arith, rules, append-nil}
 use Rattle.shogi_moves.specs.LegalMoves.{legal_moves}
 use Rattle.shogi_search.proofs.Lines.{line-leaf}
 use Rattle.usi_session.specs.Going.{first, second}

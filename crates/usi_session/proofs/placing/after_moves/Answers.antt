@@ -1,4 +1,4 @@
-use Rattle.std.proofs.Common.{rules, arith, sym, ◌∙◌, ◌≡◌, ◌∷◌, ◌+◌, ◌≤◌, length, ap, List, ℕ}
+use Rattle.std.proofs.Common.{arith, sym, ◌∙◌, ◌≡◌, ◌+◌, length, ap}
 use Rattle.shogi_sfen.specs.Words.{words}
 use Rattle.usi_session.proofs.Placed.{after_moves-none, after_moves-next, after_moves-illegal, length-words}
 use Rattle.usi_session.proofs.placing.after_moves.Goals as goal
