@@ -1,6 +1,6 @@
 //! Which squares a piece reaches.
 
-ghost use Rattle.std.specs.Prelude.{◌≡◌, ◌<◌};
+ghost use Rattle.std.specs.Prelude.{◌≡◌, ◌<◌, ◌+◌, ◌⊎◌, false};
 ghost use Rattle.shogi_core.specs.Movement.{reaches, has_step, has_slide, slides, leads, seen_by};
 
 use crate::board::Board;
@@ -39,14 +39,24 @@ fn slides(board: &Board, offset: Offset, color: Color, from: Square, to: Square)
     false
 }
 
+/// Whether a step or a jump may lead from the one square to the other: one file over and two ranks
+/// on is an index of 11 more.
+fn is_near(from: Square, to: Square) -> bool
+    ensures { result ≡ false → (from + 11 < to) ⊎ (to + 11 < from) }
+{
+    from.index() <= to.index() + 11 && to.index() <= from.index() + 11
+}
+
+#[tactic(auto, using(crate::proofs::Near::no_step))]
 fn has_step(piece: Piece, from: Square, to: Square) -> bool
     ensures { result ≡ has_step piece from to }
 {
-    piece
-        .role
-        .steps()
-        .iter()
-        .any(|offset| leads(1, *offset, piece.color, from, to))
+    is_near(from, to)
+        && piece
+            .role
+            .steps()
+            .iter()
+            .any(|offset| leads(1, *offset, piece.color, from, to))
 }
 
 fn has_slide(board: &Board, piece: Piece, from: Square, to: Square) -> bool

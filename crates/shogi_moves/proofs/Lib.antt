@@ -7,4 +7,5 @@ pub mod Keeps
 pub mod LegalLaws
 pub mod NoSafeLaws
 pub mod NextLaws
+pub mod CaptureLaws
 pub mod Paths

@@ -76,10 +76,10 @@ unfolding is_safe
 not_held p kind to e = rw e refl
 
 -- what a code is the code of
-board_code : (code : ℕ) → code < 13122 → move_of code ≡ Some (Board (code / 2 / 81) (code / 2 % 81) (code % 2 == 1))
+pub board_code : (code : ℕ) → code < 13122 → move_of code ≡ Some (Board (code / 2 / 81) (code / 2 % 81) (code % 2 == 1))
 board_code code h = cond-true (nat_lt code 13122) _ _ (lt-ltb code 13122 h)
 
-drop_code : (code : ℕ) → 13122 ≤ code → code < 13689 → move_of code ≡ Some (Drop (kind_at ((code - 13122) / 81)) ((code - 13122) % 81))
+pub drop_code : (code : ℕ) → 13122 ≤ code → code < 13689 → move_of code ≡ Some (Drop (kind_at ((code - 13122) / 81)) ((code - 13122) % 81))
 drop_code code low high = cond-false (nat_lt code 13122) _ _ (le-ltb code 13122 low) ∙ cond-true (nat_lt code 13689) _ _ (lt-ltb code 13689 high)
 
 -- no piece of the side to move stands on the square
@@ -126,7 +126,7 @@ unfolding is_legal
 legal_unsafe p None e = refl
 legal_unsafe p (Some m) e = rw e refl
 
-legal_code_unsafe : (p : Shogi) (code : ℕ) → is_safe_code p code ≡ false → is_legal_code p code ≡ false
+pub legal_code_unsafe : (p : Shogi) (code : ℕ) → is_safe_code p code ≡ false → is_legal_code p code ≡ false
 unfolding is_legal_code
 legal_code_unsafe p code e = legal_unsafe p (move_of code) e
 

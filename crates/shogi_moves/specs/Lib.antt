@@ -3,6 +3,7 @@ pub mod After
 pub mod Legal
 pub mod LegalMoves
 pub mod NoSafe
+pub mod Captures
 pub use Rattle.shogi_core.specs.Attack
 pub use Rattle.shogi_core.specs.Codes
 pub use Rattle.shogi_core.specs.Validity

@@ -108,7 +108,7 @@ pub fn is_pawn_mate(p: &Position, m: &Move) -> bool
 }
 
 #[tactic(auto, unfolding(crate::specs::Legal::is_legal))]
-fn is_legal_move(p: &Position, m: &Move) -> bool
+pub fn is_legal_move(p: &Position, m: &Move) -> bool
     ensures { result ≡ is_legal p.now m.now }
 {
     is_safe(p, m) && !is_pawn_mate(p, m)

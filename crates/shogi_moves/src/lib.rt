@@ -3,6 +3,7 @@
 
 mod after;
 mod attack;
+mod capture;
 mod count;
 mod legal;
 mod next;
@@ -12,6 +13,7 @@ mod tests;
 
 pub use after::apply;
 pub use attack::{in_check, is_attacked};
+pub use capture::next_legal_of;
 pub use count::perft;
 pub use legal::is_legal;
 pub use next::{has_legal, next_legal};

@@ -48,7 +48,7 @@ fn skip_drop(p: &Position, kind: Kind, code: u16) -> u16
 
 /// The first code from the given one on that is worth a test.
 #[tactic(auto, using(crate::proofs::NoSafeLaws::no_safe_here))]
-fn skip(p: &Position, code: u16) -> u16
+pub fn skip(p: &Position, code: u16) -> u16
     requires { code < 13689 }
     ensures bounds { (code ≤ result) × (result ≤ 13689) }
     ensures idle { HasNoSafe p.now code result }

@@ -9,6 +9,7 @@ use Rattle.shogi_core.specs.Codes.{code_of, move_of}
 use Rattle.shogi_core.specs.Position.{Shogi}
 use Rattle.shogi_core.proofs.CodesBack.{code_of-board, code_of-drop}
 use Rattle.shogi_moves.specs.After.{after_code}
+use Rattle.shogi_moves.specs.Captures.{is_capture}
 use Rattle.shogi_moves.specs.LegalMoves.{legal_moves}
 use Rattle.shogi_moves.specs.Rising.{is_in}
 use Rattle.shogi_moves.proofs.LegalLaws.{legal_in, legal_code_below}
@@ -16,15 +17,11 @@ use Rattle.shogi_search.specs.declared.order.Cursor.{Cursor}
 use Rattle.shogi_search.specs.declared.order.Cursor.TheVariants.{First, Captures}
 use Rattle.shogi_search.specs.Minimax.{tree, subtrees, best, best_code, move_at}
 use Rattle.shogi_search.specs.Window.{IsCovered}
-use Rattle.shogi_search.specs.Order.{captures, is_capture, picks, is_first, todo}
+use Rattle.shogi_search.specs.Order.{picks, is_first, todo}
 use Rattle.shogi_search.proofs.Best.{best_in}
 use Rattle.shogi_search.proofs.MinimaxLaws.{best-code}
 use Rattle.shogi_search.proofs.Valid.{board_of, drop_of}
 use Rattle.shogi_search.proofs.Picks.{AreApart, two_parts, three_parts, in_cases, in_head, in_tail, is_in-append_left, is_in-append_right, is_in-append_cases, is_in-filter, is_in-filter_from}
-
-pub is_capture_of : (p : Shogi) (m : Move) → move_of (code_of m) ≡ Some m → is_capture p (code_of m) ≡ captures p (Some m)
-unfolding is_capture
-is_capture_of p m e = ap (captures p) e
 
 -- no move is both a capture and none
 apart : (p : Shogi) (first : Option Move) → AreApart (picks p first true) (picks p first false)
@@ -35,8 +32,7 @@ apart p first n a b =
     cc
 
 not_itself : (p : Shogi) (f : Move) (c : Bool) → picks p (Some f) c (code_of f) ≡ false
-not_itself p f true = and_right _ _ (not_from_true _ (eq-eqb (code_of f) (code_of f) refl))
-not_itself p f false = and_right _ _ (not_from_true _ (eq-eqb (code_of f) (code_of f) refl))
+not_itself p f c = and_right _ _ (not_from_true _ (eq-eqb (code_of f) (code_of f) refl))
 
 -- a move that is not the first one is a capture or one of the rest
 in_parts : (p : Shogi) (first : Option Move) (n : ℕ) → is_in n (legal_moves p) ≡ true → is_first first n ≡ false → is_in n (filter (picks p first true) (legal_moves p) ++ filter (picks p first false) (legal_moves p)) ≡ true

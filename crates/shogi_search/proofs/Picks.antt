@@ -1,21 +1,44 @@
 -- The visits of a node's moves are its moves, in another order.
-use Rattle.std.proofs.Common.{◌≡◌, ◌≤◌, ◌+◌, ℕ, List, [], ◌∷◌, ◌++◌, ◌⊎◌, Bool, true, false, ◌==◌, filter, ap, ◌∙◌, sym, arith, subst, inl, inr}
+use Rattle.std.proofs.Common.{◌≡◌, ◌≤◌, ◌+◌, ℕ, List, [], ◌∷◌, ◌++◌, ◌⊎◌, Bool, true, false, ◌==◌, filter, Option, not, refl, ap, ◌∙◌, sym, arith, subst, inl, inr}
+use Rattle.std.specs.Prelude.{cond, ◌&&◌}
 use Rattle.std.specs.List.{sum_by}
 use Rattle.std.proofs.lemmas.List.Sums.{sum_by-cons}
 use Rattle.std.proofs.lemmas.Bool.{cond_both, cases_Bool, or_cases, eqb-true, or_left, or_right, cond-true, cond-false}
+use Rattle.shogi_core.specs.declared.moves.Move.{Move}
+use Rattle.shogi_core.specs.Position.{Shogi}
+use Rattle.shogi_moves.specs.Captures.{is_of_sort}
 use Rattle.shogi_moves.specs.Rising.{is_in}
+use Rattle.shogi_search.specs.Order.{is_first, picks}
 
--- a pick at the head of a list, and no pick there
-pub filter-pick : (t : ℕ → Bool) (m : ℕ) (xs rest : List ℕ) → xs ≡ m ∷ rest → t m ≡ true → filter t xs ≡ m ∷ filter t rest
-filter-pick t m xs rest e h = ap (filter t) e ∙ cond-true (t m) _ _ h
+-- a test of two parts keeps what the second keeps of what the first keeps
+filter-both : (p : Shogi) (first : Option Move) (capture : Bool) (xs : List ℕ) → filter (picks p first capture) xs ≡ filter (λ n. not (is_first first n)) (filter (is_of_sort p capture) xs)
+filter-both p first capture [] = refl
+filter-both p first capture (m ∷ xs) = elim (cases_Bool (is_of_sort p capture m)) [
+  | inl sort ↦ (
+      let here : filter (is_of_sort p capture) (m ∷ xs) ≡ m ∷ filter (is_of_sort p capture) xs = cond-true _ _ _ sort in
+      ap (λ (b : Bool). cond b (m ∷ filter (picks p first capture) xs) (filter (picks p first capture) xs)) (ap (λ (b : Bool). b && not (is_first first m)) sort)
+      ∙ ap (λ (ys : List ℕ). cond (not (is_first first m)) (m ∷ ys) ys) (filter-both p first capture xs)
+      ∙ ap (filter (λ n. not (is_first first n))) (sym here))
+  | inr other ↦ (
+      let gone : filter (is_of_sort p capture) (m ∷ xs) ≡ filter (is_of_sort p capture) xs = cond-false _ _ _ other in
+      ap (λ (b : Bool). cond b (m ∷ filter (picks p first capture) xs) (filter (picks p first capture) xs)) (ap (λ (b : Bool). b && not (is_first first m)) other)
+      ∙ filter-both p first capture xs
+      ∙ ap (filter (λ n. not (is_first first n))) (sym gone))
+]
 
-pub filter-other : (t : ℕ → Bool) (m : ℕ) (xs rest : List ℕ) → xs ≡ m ∷ rest → t m ≡ false → filter t xs ≡ filter t rest
-filter-other t m xs rest e h = ap (filter t) e ∙ cond-false (t m) _ _ h
+-- the next of a sort is a pick, or it is the remembered move and is passed, or there is none
+pub pick-found : (p : Shogi) (first : Option Move) (capture : Bool) (m : ℕ) (xs rest : List ℕ) → filter (is_of_sort p capture) xs ≡ m ∷ filter (is_of_sort p capture) rest → is_first first m ≡ false → filter (picks p first capture) xs ≡ m ∷ filter (picks p first capture) rest
+pick-found p first capture m xs rest e h =
+    filter-both p first capture xs ∙ ap (filter (λ n. not (is_first first n))) e ∙ cond-true _ _ _ (ap not h) ∙ ap (λ (ys : List ℕ). m ∷ ys) (sym (filter-both p first capture rest))
 
-pub filter-none : (t : ℕ → Bool) (xs : List ℕ) → xs ≡ [] → filter t xs ≡ []
-filter-none t xs e = ap (filter t) e
+pub pick-passed : (p : Shogi) (first : Option Move) (capture : Bool) (m : ℕ) (xs rest : List ℕ) → filter (is_of_sort p capture) xs ≡ m ∷ filter (is_of_sort p capture) rest → is_first first m ≡ true → filter (picks p first capture) xs ≡ filter (picks p first capture) rest
+pick-passed p first capture m xs rest e h =
+    filter-both p first capture xs ∙ ap (filter (λ n. not (is_first first n))) e ∙ cond-false _ _ _ (ap not h) ∙ sym (filter-both p first capture rest)
 
-pub ruleset picked = (filter-pick, filter-other, filter-none)
+pub pick-none : (p : Shogi) (first : Option Move) (capture : Bool) (xs : List ℕ) → filter (is_of_sort p capture) xs ≡ [] → filter (picks p first capture) xs ≡ []
+pick-none p first capture xs e = filter-both p first capture xs ∙ ap (filter (λ n. not (is_first first n))) e
+
+pub ruleset picked = (pick-found, pick-passed, pick-none)
 
 pub in_cases : (n m : ℕ) (xs : List ℕ) → is_in n (m ∷ xs) ≡ true → ((n == m) ≡ true) ⊎ (is_in n xs ≡ true)
 in_cases n m xs h = or_cases (n == m) (is_in n xs) h

@@ -3,10 +3,10 @@
 ghost use Rattle.std.specs.Prelude.{◌≡◌, ◌<◌, ◌++◌, [], ◌∷◌, MatchOption, Some, None, filter, true};
 ghost use Rattle.shogi_core.specs.Codes.{code_of};
 ghost use Rattle.shogi_moves.specs.LegalMoves.{legal_above};
-ghost use Rattle.shogi_search.specs.Order.{is_capture, is_first, picks, todo};
+ghost use Rattle.shogi_search.specs.Order.{is_first, picks, todo};
 
 use shogi_core::{Move, Position};
-use shogi_moves::next_legal;
+use shogi_moves::next_legal_of;
 
 /// How far the visits of a node's moves have come: what was remembered, and the last move of the
 /// captures or of the rest that is passed.
@@ -25,18 +25,6 @@ pub struct Visit {
     pub rest: Cursor,
 }
 
-/// Whether the move takes a piece.
-#[tactic(auto, using(crate::proofs::OrderLaws::is_capture_of))]
-fn is_capture(p: &Position, m: &Move) -> bool
-    ensures { result ≡ is_capture p.now (code_of m.now) }
-{
-    m.code();
-    match m {
-        Move::Board { to, .. } => p.at(*to).is_some(),
-        Move::Drop { .. } => false,
-    }
-}
-
 /// Whether it is the remembered move.
 fn is_first(first: &Option<Move>, m: &Move) -> bool
     ensures { result ≡ is_first first.now (code_of m.now) }
@@ -44,17 +32,6 @@ fn is_first(first: &Option<Move>, m: &Move) -> bool
     match first {
         Some(f) => m.code() == f.code(),
         None => false,
-    }
-}
-
-/// Whether a move is a capture, or none, and is not the remembered move.
-fn is_pick(p: &Position, first: &Option<Move>, capture: bool, m: &Move) -> bool
-    ensures { result ≡ picks p.now first.now capture (code_of m.now) }
-{
-    if capture {
-        is_capture(p, m) && !is_first(first, m)
-    } else {
-        !is_capture(p, m) && !is_first(first, m)
     }
 }
 
@@ -69,8 +46,8 @@ fn next_pick(
     ensures { MatchOption result (filter (picks p.now first.now capture) (legal_above p.now passed.now) ≡ []) (λ m. filter (picks p.now first.now capture) (legal_above p.now passed.now) ≡ code_of m ∷ filter (picks p.now first.now capture) (legal_above p.now (Some m))) }
 {
     let mut at = *passed;
-    'picks: while let Some(m) = next_legal(p, at) {
-        if is_pick(p, first, capture, &m) {
+    'picks: while let Some(m) = next_legal_of(p, capture, at) {
+        if !is_first(first, &m) {
             return Some(m);
         }
         at = Some(m);

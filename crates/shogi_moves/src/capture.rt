@@ -1,0 +1,146 @@
+//! The legal captures, and the other legal moves, in the order of their codes.
+
+ghost use Rattle.std.specs.Prelude.{◌≡◌, ◌≤◌, ◌<◌, ◌*◌, ◌+◌, true, false, [], ◌∷◌, IfSome, IsNone, MatchOption, Some, is_some, filter};
+ghost use Rattle.shogi_core.specs.Codes.{code_of};
+ghost use Rattle.shogi_core.specs.Movement.{piece_at};
+ghost use Rattle.shogi_moves.specs.Captures.{captures, sorted, is_of_sort, is_wanted, HasNoneWanted};
+ghost use Rattle.shogi_moves.specs.Legal.{is_legal};
+ghost use Rattle.shogi_moves.specs.LegalMoves.{legal_from, legal_above};
+
+use crate::legal::is_legal_move;
+use crate::safe::skip;
+use shogi_core::{Move, Position, Square, is_of};
+
+/// Whether the move takes a piece.
+fn is_capture(p: &Position, m: &Move) -> bool
+    ensures { result ≡ captures p.now (Some m.now) }
+{
+    match m {
+        Move::Board { to, .. } => p.at(*to).is_some(),
+        Move::Drop { .. } => false,
+    }
+}
+
+/// Whether the move is of the sort: a capture, or another move.
+fn is_of_sort(p: &Position, capture: bool, m: &Move) -> bool
+    ensures { result ≡ sorted capture (captures p.now (Some m.now)) }
+{
+    if capture {
+        is_capture(p, m)
+    } else {
+        !is_capture(p, m)
+    }
+}
+
+/// Whether a board move to the square is of the sort.
+fn is_target(p: &Position, capture: bool, to: Square) -> bool
+    ensures { result ≡ sorted capture (is_some (piece_at p.now.cells to)) }
+{
+    if capture {
+        p.at(to).is_some()
+    } else {
+        p.at(to).is_none()
+    }
+}
+
+/// The first code after those of a target that is not of the sort, and of all such targets that
+/// follow it; where no piece of the side to move stands, the first after those of the square.
+#[tactic(auto, using(crate::proofs::CaptureLaws::idle))]
+fn skip_targets(p: &Position, capture: bool, from: Square, to: Square, code: u16) -> u16
+    requires code { ((from * 81 + to) * 2 ≤ code) × (code ≤ (from * 81 + to) * 2 + 1) }
+    requires other { sorted capture (is_some (piece_at p.now.cells to)) ≡ false }
+    ensures bounds { (code < result) × (result ≤ 13122) }
+    ensures none { HasNoneWanted p.now capture code result }
+{
+    let first = from.index() as u16 * 162;
+    if !is_of(p.at(from), p.side()) {
+        return first + 162;
+    }
+    let mut next = to.index() + 1;
+    'targets: while next < 81 && !is_target(p, capture, Square::of_index(next)) {
+        next += 1;
+    }
+    first + next as u16 * 2
+}
+
+/// The end of the codes, where drops are not of the sort.
+#[tactic(auto, using(crate::proofs::CaptureLaws::none_drop))]
+fn skip_drops(p: &Position, capture: bool, code: u16) -> u16
+    requires code { (13122 ≤ code) × (code < 13689) }
+    requires other { sorted capture false ≡ false }
+    ensures bounds { (code < result) × (result ≤ 13689) }
+    ensures none { HasNoneWanted p.now capture code result }
+{
+    13689
+}
+
+/// The first code from the given one on that is worth a test.
+#[tactic(auto, using(crate::proofs::CaptureLaws::idle))]
+fn skip_sort(p: &Position, capture: bool, code: u16) -> u16
+    requires { code < 13689 }
+    ensures bounds { (code ≤ result) × (result ≤ 13689) }
+    ensures none { HasNoneWanted p.now capture code result }
+{
+    let Some(m) = Move::of_code(code) else {
+        return code;
+    };
+    if is_of_sort(p, capture, &m) {
+        return skip(p, code);
+    }
+    match &m {
+        Move::Board { from, to, .. } => skip_targets(p, capture, *from, *to, code),
+        Move::Drop { to, .. } => {
+            to.index();
+            skip_drops(p, capture, code)
+        }
+    }
+}
+
+/// The move of the code, if it is legal and of the sort.
+#[tactic(auto, using(crate::proofs::CaptureLaws::wanted))]
+fn wanted_of(p: &Position, capture: bool, code: u16) -> Option<Move>
+    ensures none { IsNone result → is_wanted p.now capture code ≡ false }
+    ensures wanted { IfSome result (λ m. is_wanted p.now capture code ≡ true) }
+    ensures legal { IfSome result (λ m. is_legal p.now m ≡ true) }
+    ensures code { IfSome result (λ m. code_of m ≡ code) }
+{
+    let m = Move::of_code(code)?;
+    if is_of_sort(p, capture, &m) && is_legal_move(p, &m) {
+        Some(m)
+    } else {
+        None
+    }
+}
+
+/// The legal move of the sort of least code from the given one on.
+#[tactic(auto, using(crate::proofs::CaptureLaws::steps))]
+fn least_wanted(p: &Position, capture: bool, first: u16) -> Option<Move>
+    requires { first ≤ 13689 }
+    ensures next { MatchOption result (filter (is_of_sort p.now capture) (legal_from p.now first) ≡ []) (λ m. filter (is_of_sort p.now capture) (legal_from p.now first) ≡ code_of m ∷ filter (is_of_sort p.now capture) (legal_from p.now (code_of m + 1))) }
+    ensures legal { IfSome result (λ m. is_legal p.now m ≡ true) }
+{
+    let mut code = first;
+    'codes: while code < 13689 {
+        let next = skip_sort(p, capture, code);
+        if next == code {
+            if let Some(m) = wanted_of(p, capture, code) {
+                return Some(m);
+            }
+            code += 1;
+        } else {
+            code = next;
+        }
+    }
+    None
+}
+
+/// As `next_legal`, among the captures alone where `capture` holds, and else among the other moves.
+pub fn next_legal_of(p: &Position, capture: bool, after: Option<Move>) -> Option<Move>
+    ensures next { MatchOption result (filter (is_of_sort p.now capture) (legal_above p.now after) ≡ []) (λ m. filter (is_of_sort p.now capture) (legal_above p.now after) ≡ code_of m ∷ filter (is_of_sort p.now capture) (legal_above p.now (Some m))) }
+    ensures legal { IfSome result (λ m. is_legal p.now m ≡ true) }
+{
+    match after {
+        None => least_wanted(p, capture, 0),
+        Some(m) => least_wanted(p, capture, m.code() + 1),
+    }
+}
