@@ -11,3 +11,4 @@ pub mod RanksBack
 pub mod HandsBack
 pub mod WrittenBack
 pub mod WordsBack
+pub mod SpelledRanks

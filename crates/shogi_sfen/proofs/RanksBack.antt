@@ -12,7 +12,7 @@ use Rattle.shogi_sfen.specs.declared.board_text.Item.TheVariants.{Run}
 use Rattle.shogi_sfen.specs.BoardTexts.{item_of, is_plus, joined, onto_item, rank_from, only_nine, rank_of}
 use Rattle.shogi_sfen.specs.Written.{piece_text, run_text, cells_text}
 
-run_item : (n : ℕ) → 1 ≤ n → n ≤ 9 → item_of false (n + 48) ≡ Run n
+pub run_item : (n : ℕ) → 1 ≤ n → n ≤ 9 → item_of false (n + 48) ≡ Run n
 run_item n low high =
     cond-false (n + 48 == 43) _ _ (ne_eqb (n + 48) 43 (λ e. omega arith))
     ∙ (cond-true (nat_lt 48 (n + 48) && nat_lt (n + 48) 58) _ _ (and_from _ _ (lt-ltb 48 (n + 48) (omega arith)) (lt-ltb (n + 48) 58 (omega arith)))
@@ -29,7 +29,7 @@ run_back (suc k) rest more h e =
     ∙ (ap (λ (i : Item). onto_item i (rank_from (is_plus i) rest)) (run_item (suc k) (omega arith) h)
     ∙ ap (joined (replicate (suc k) None)) e)
 
-piece_back : (color : Color) (role : Role) (rest : List ℕ) (more : Option Cells) → rank_from false rest ≡ more
+pub piece_back : (color : Color) (role : Role) (rest : List ℕ) (more : Option Cells) → rank_from false rest ≡ more
     → rank_from false (piece_text (record { color = color; role = role }) ++ rest) ≡ joined (Some (record { color = color; role = role }) ∷ []) more
 piece_back Black Pawn rest more e = ap (joined (Some (record { color = Black; role = Pawn }) ∷ [])) e
 piece_back White Pawn rest more e = ap (joined (Some (record { color = White; role = Pawn }) ∷ [])) e

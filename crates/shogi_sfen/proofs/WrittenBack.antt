@@ -92,13 +92,13 @@ plain_digit n =
     and_from _ _ (not_from_false (n + 48 == 47) (ne_eqb (n + 48) 47 (λ e. omega arith)))
     (not_from_false _ (or_from (n + 48 == 32) (n + 48 == 9) (ne_eqb (n + 48) 32 (λ e. omega arith)) (ne_eqb (n + 48) 9 (λ e. omega arith))))
 
-plain_both : (xs ys : List ℕ) → list_all is_plain xs ≡ true → list_all is_plain ys ≡ true → list_all is_plain (xs ++ ys) ≡ true
+pub plain_both : (xs ys : List ℕ) → list_all is_plain xs ≡ true → list_all is_plain ys ≡ true → list_all is_plain (xs ++ ys) ≡ true
 plain_both xs ys e f = list_all-append is_plain xs ys ∙ and_from (list_all is_plain xs) (list_all is_plain ys) e f
 
 plain_run : (n : ℕ) → list_all is_plain (run_text n) ≡ true
 plain_run n = cond_both (n == 0) [] ((n + 48) ∷ []) (λ (t : List ℕ). list_all is_plain t ≡ true) (λ e. refl) (λ e. and_from (is_plain (n + 48)) true (plain_digit n) refl)
 
-plain_piece : (color : Color) (role : Role) → list_all is_plain (piece_text (record { color = color; role = role })) ≡ true
+pub plain_piece : (color : Color) (role : Role) → list_all is_plain (piece_text (record { color = color; role = role })) ≡ true
 plain_piece Black Pawn = refl
 plain_piece White Pawn = refl
 plain_piece Black role = refl
@@ -110,7 +110,7 @@ plain_cells (None ∷ cells) run = plain_cells cells (run + 1)
 plain_cells (Some piece ∷ cells) run =
     plain_both (run_text run) (piece_text piece ++ cells_text 0 cells) (plain_run run) (plain_both (piece_text piece) (cells_text 0 cells) (plain_piece piece.color piece.role) (plain_cells cells 0))
 
-no_slash : (text : List ℕ) → list_all is_plain text ≡ true → All (λ x. is_slash x ≡ false) text
+pub no_slash : (text : List ℕ) → list_all is_plain text ≡ true → All (λ x. is_slash x ≡ false) text
 no_slash text e = λ k d below. not-true (is_slash (get_or text k d)) ((and_parts (not (is_slash (get_or text k d))) (not (is_blank (get_or text k d))) (AllPass-from_list_all is_plain text e k d below)).0)
 
 no_blank : (text : List ℕ) → list_all is_plain text ≡ true → All (λ x. is_blank x ≡ false) text

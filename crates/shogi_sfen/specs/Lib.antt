@@ -7,4 +7,5 @@ pub mod Ranks
 pub mod HandTexts
 pub mod Sfen
 pub mod Written
+pub mod Spelling
 pub use Rattle.shogi_core.specs.Codes

@@ -1,0 +1,104 @@
+-- How positions are spelled (SFEN): all the texts of a rank, a board, hands and a position. It says what the texts of a meaning are, and not how a text is read.
+use Rattle.std.specs.Prelude.{◌≡◌, ◌≢◌, ℕ, ◌+◌, ◌<◌, ◌≤◌, ◌==◌, ◌&&◌, Bool, true, List, [], ◌∷◌, ◌++◌, Some, None, cond, length, replicate, get_or, slice_get}
+use Rattle.std.specs.List.{flat_map, sum_by, list_all, join_with_byte, AllByRecursion}
+use Rattle.std.specs.Option.{IsSomeAnd}
+use Rattle.std.specs.Char.{is_ascii_digit}
+use Rattle.shogi_core.specs.declared.piece.Color.{Color}
+use Rattle.shogi_core.specs.declared.piece.Kind.{Kind}
+use Rattle.shogi_core.specs.declared.piece.Piece.{Piece}
+use Rattle.shogi_core.specs.Movement.{Cells}
+use Rattle.shogi_core.specs.Pieces.{is_same_color, number_of}
+use Rattle.shogi_core.specs.Position.{Shogi, Held, held}
+use Rattle.shogi_sfen.specs.Numbers as numbers
+use Rattle.shogi_sfen.specs.MoveTexts.{letter_of}
+use Rattle.shogi_sfen.specs.Written.{as_side, piece_text, rank_cells, side_text, or_hyphen}
+
+-- a part of a rank: so many empty squares, or a piece
+pub data Part : Type 0 where
+  Empty : (n : ℕ) → Part
+  Occupied : (piece : Piece) → Part
+
+-- one to nine empty squares
+abbrev pub IsPart : Part → Type 0
+IsPart (Empty n) = (1 ≤ n) × (n ≤ 9)
+IsPart (Occupied piece) = Unit {0}
+
+-- its squares
+abbrev pub part_squares : Part → Cells
+part_squares (Empty n) = replicate n None
+part_squares (Occupied piece) = Some piece ∷ []
+
+-- its text: one digit, or a plus where the piece is promoted and its letter, upper case for Black, lower case for White
+abbrev pub part_text : Part → List ℕ
+part_text (Empty n) = (n + 48) ∷ []
+part_text (Occupied piece) = piece_text piece
+
+-- a rank's text is that of parts whose squares are its nine; empty squares may be cut into runs in any way
+pub record SpellsRank (text : List ℕ) (cells : Cells) : Type 0 where
+  pub parts : List Part
+  pub each : AllByRecursion IsPart parts
+  pub squares : flat_map part_squares parts ≡ cells
+  pub nine : length cells ≡ 9
+  pub spelled : flat_map part_text parts ≡ text
+
+-- a board's text is that of its nine ranks, from a to i and each from file 9 to file 1, with a slash between each two
+pub record SpellsBoard (text : List ℕ) (cells : Cells) : Type 0 where
+  pub squares : length cells ≡ 81
+  pub ranks : List (List ℕ)
+  pub nine : length ranks ≡ 9
+  pub each : (rank : ℕ) → rank < 9 → SpellsRank (get_or ranks rank []) (rank_cells cells rank)
+  pub spelled : join_with_byte 47 ranks ≡ text
+
+-- an entry of hands: the digits of a count, which may be none, and a kind that a side holds
+pub record Entry : Type 0 where
+  pub digits : List ℕ
+  pub color : Color
+  pub kind : Kind
+
+-- no digits, or digits of which the first is not 0
+abbrev pub IsCount : List ℕ → Type 0
+IsCount [] = Unit {0}
+IsCount (first ∷ others) = (list_all is_ascii_digit (first ∷ others) ≡ true) × (first ≢ 48)
+
+-- one where no count is written, and else the number that the digits write
+abbrev pub count_of : List ℕ → ℕ
+count_of [] = 1
+count_of (first ∷ others) = numbers.number_of (first ∷ others)
+
+-- the count, and the letter of the kind
+abbrev pub entry_text : Entry → List ℕ
+entry_text entry = entry.digits ++ as_side entry.color (letter_of entry.kind) ∷ []
+
+-- the entry is of this side and kind
+abbrev pub is_entry_of : Color → Kind → Entry → Bool
+is_entry_of color kind entry = is_same_color entry.color color && number_of entry.kind == number_of kind
+
+-- how many of a kind it gives a side
+abbrev pub count_in : Color → Kind → Entry → ℕ
+count_in color kind entry = cond (is_entry_of color kind entry) (count_of entry.digits) 0
+
+-- hands' text is a hyphen for nothing, or that of entries in any order, whose counts add up to what each side holds
+pub record SpellsHands (text : List ℕ) (hands : Held) : Type 0 where
+  pub places : length hands ≡ 14
+  pub entries : List Entry
+  pub each : AllByRecursion (λ entry. IsCount entry.digits) entries
+  pub sums : (color : Color) (kind : Kind) → held hands color kind ≡ sum_by (count_in color kind) entries
+  pub spelled : or_hyphen (flat_map entry_text entries) ≡ text
+
+-- a position's first three words are texts of its board, its side and its hands
+pub record Spells (words : List (List ℕ)) (p : Shogi) : Type 0 where
+  pub board : IsSomeAnd (slice_get words 0) (λ text. SpellsBoard text p.cells)
+  pub side : IsSomeAnd (slice_get words 1) (λ text. text ≡ side_text p.side)
+  pub hands : IsSomeAnd (slice_get words 2) (λ text. SpellsHands text p.hands)
+
+-- a text that some board has
+abbrev pub IsBoard : List ℕ → Type 0
+IsBoard text = (cells : Cells) × SpellsBoard text cells
+
+-- a text of a side to move
+abbrev pub IsSide : List ℕ → Type 0
+IsSide text = (side : Color) × (text ≡ side_text side)
+
+-- a text that some hands have
+abbrev pub AreHands : List ℕ → Type 0
+AreHands text = (hands : Held) × SpellsHands text hands
