@@ -12,3 +12,4 @@ pub mod HandsBack
 pub mod WrittenBack
 pub mod WordsBack
 pub mod SpelledRanks
+pub mod SpelledBoards

@@ -163,13 +163,17 @@ module _ (cells : Cells) where
       ∙ (ap (λ (r : ℕ). get_or (f r) i None) which
       ∙ get_or-map-range_with_len (λ i. piece_at cells ((8 - i) * 9 + rank)) 0 9 i i None hi (zero-add i)))
 
+  -- the squares of the ranks, put in their places, are the board
+  pub board_from-ranks : length cells ≡ 81 → board_from (flat_map (rank_cells cells) (range_with_len 0 9)) ≡ cells
+  board_from-ranks len =
+      sym (arranged cells (flat_map (rank_cells cells) (range_with_len 0 9)) len (λ k below.
+      sym (square_at_place (k % 9) (8 - k / 9) (omega arith) (omega arith) ∙ ap (λ (s : ℕ). piece_at cells s) (omega arith))))
+
   pub board_of-board_text : length cells ≡ 81 → board_of (board_text cells) ≡ Some cells
   unfolding board_of board_text
   board_of-board_text len =
       let all : slice_split is_slash (flat_map (rank_text cells) (range_with_len 0 9)) ≡ map part (range_with_len 0 9) = parts_from 8 0 in
       let nine : (length (map part (range_with_len 0 9)) == 9) ≡ true = eq-eqb (length (map part (range_with_len 0 9))) 9 (length-map-range_with_len part 0 9) in
-      let squares : Cells = flat_map (rank_cells cells) (range_with_len 0 9) in
       ap (λ (ps : List (List ℕ)). option_map board_from (squares_of ps)) all
       ∙ (ap (option_map board_from) (cond-true (length (map part (range_with_len 0 9)) == 9) (ranks_of (map part (range_with_len 0 9))) None nine ∙ ranks_back 9 0)
-      ∙ ap Some (sym (arranged cells squares len (λ k below.
-      sym (square_at_place (k % 9) (8 - k / 9) (omega arith) (omega arith) ∙ ap (λ (s : ℕ). piece_at cells s) (omega arith))))))
+      ∙ ap Some (board_from-ranks len))
