@@ -15,7 +15,7 @@ number_of-more bs i h = digits_value_more 10 bs i h
 pub min-more : (most n m d : ℕ) → m ≡ min most n → min most (m * 10 + d) ≡ min most (n * 10 + d)
 min-more most n m d e = omega arith
 
-in_range : (c : ℕ) → is_ascii_digit c ≡ true → digit_value c ≡ c - 48
+pub in_range : (c : ℕ) → is_ascii_digit c ≡ true → digit_value c ≡ c - 48
 in_range c e =
     let h = and_parts (nat_le 48 c) (nat_le c 57) e in
     let low : 48 ≤ c = leb-true 48 c h.0 in

@@ -21,7 +21,7 @@ abbrev pub added : Held → Color → Kind → ℕ → Held
 added hands color kind n = set hands (place_of color kind) (held hands color kind + n)
 
 -- a letter, behind a count or none
-letter_back : (color : Color) (kind : Kind) (hands : Held) (count : Option ℕ) (rest : List ℕ)
+pub letter_back : (color : Color) (kind : Kind) (hands : Held) (count : Option ℕ) (rest : List ℕ)
     → hands_from hands count (as_side color (letter_of kind) ∷ rest) ≡ hands_from (added hands color kind (unwrap_or count 1)) None rest
 letter_back Black kinds.Pawn hands None rest = refl
 letter_back Black kinds.Pawn hands (Some n) rest = refl

@@ -13,3 +13,4 @@ pub mod WrittenBack
 pub mod WordsBack
 pub mod SpelledRanks
 pub mod SpelledBoards
+pub mod SpelledHands

@@ -56,12 +56,12 @@ number_at (suc (suc (suc (suc (suc (suc zero)))))) h = refl
 number_at (suc (suc (suc (suc (suc (suc (suc n))))))) h = absurd (omega arith)
 
 -- the side and the kind of a place
-record Holder (i : ℕ) : Type 0 where
-  color : Color
-  kind : Kind
-  place : place_of color kind ≡ i
+pub record Holder (i : ℕ) : Type 0 where
+  pub color : Color
+  pub kind : Kind
+  pub place : place_of color kind ≡ i
 
-holder : (i : ℕ) → i < 14 → Holder i
+pub holder : (i : ℕ) → i < 14 → Holder i
 holder i h = elim (cases_lt i 7) [
   | inl below ↦ record { color = Black; kind = kind_at i; place = number_at i below }
   | inr above ↦ record { color = White; kind = kind_at (i - 7); place = let n : number_of (kind_at (i - 7)) ≡ i - 7 = number_at (i - 7) (omega arith) in omega arith }
@@ -132,7 +132,7 @@ after_digit : (o : Option ℕ) (len : ℕ) (f : ℕ → Option Held) → ((n : �
 after_digit None len f h = tt
 after_digit (Some n) len f h = h n
 
-hands_from-len : (bytes : List ℕ) (hands : Held) (count : Option ℕ) → IfSome (hands_from hands count bytes) (λ out. length out ≡ length hands)
+pub hands_from-len : (bytes : List ℕ) (hands : Held) (count : Option ℕ) → IfSome (hands_from hands count bytes) (λ out. length out ≡ length hands)
 hands_from-len [] hands None = refl
 hands_from-len [] hands (Some n) = tt
 hands_from-len (byte ∷ bytes) hands count =

@@ -61,7 +61,7 @@ all_back (x0 ∷ x1 ∷ x2 ∷ x3 ∷ x4 ∷ x5 ∷ x6 ∷ x7 ∷ x8 ∷ x9 ∷ 
 all_back (x0 ∷ x1 ∷ x2 ∷ x3 ∷ x4 ∷ x5 ∷ x6 ∷ x7 ∷ x8 ∷ x9 ∷ x10 ∷ x11 ∷ x12 ∷ x13 ∷ []) e = simp zero-add
 all_back (x0 ∷ x1 ∷ x2 ∷ x3 ∷ x4 ∷ x5 ∷ x6 ∷ x7 ∷ x8 ∷ x9 ∷ x10 ∷ x11 ∷ x12 ∷ x13 ∷ y ∷ more) e = absurd (omega arith)
 
-finished : (text : List ℕ) (hands : Held) → hands_from no_hands None text ≡ Some hands → hands_of (or_hyphen text) ≡ Some hands
+pub finished : (text : List ℕ) (hands : Held) → hands_from no_hands None text ≡ Some hands → hands_of (or_hyphen text) ≡ Some hands
 unfolding hands_of
 finished [] hands e = e
 finished (b ∷ bs) hands e = elim (cases_Bool (bytes_eq (b ∷ bs) (codes "-"))) [
