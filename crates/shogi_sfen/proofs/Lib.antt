@@ -14,3 +14,4 @@ pub mod WordsBack
 pub mod SpelledRanks
 pub mod SpelledBoards
 pub mod SpelledHands
+pub mod SpelledPositions

@@ -91,14 +91,14 @@ pub record Spells (words : List (List ℕ)) (p : Shogi) : Type 0 where
   pub side : IsSomeAnd (slice_get words 1) (λ text. text ≡ side_text p.side)
   pub hands : IsSomeAnd (slice_get words 2) (λ text. SpellsHands text p.hands)
 
--- a text that some board has
-abbrev pub IsBoard : List ℕ → Type 0
-IsBoard text = (cells : Cells) × SpellsBoard text cells
+-- the first word is a board's text
+abbrev pub HasBoard : List (List ℕ) → Type 0
+HasBoard words = IsSomeAnd (slice_get words 0) (λ text. (cells : Cells) × SpellsBoard text cells)
 
--- a text of a side to move
-abbrev pub IsSide : List ℕ → Type 0
-IsSide text = (side : Color) × (text ≡ side_text side)
+-- the second word is a side's text
+abbrev pub HasSide : List (List ℕ) → Type 0
+HasSide words = IsSomeAnd (slice_get words 1) (λ text. (side : Color) × (text ≡ side_text side))
 
--- a text that some hands have
-abbrev pub AreHands : List ℕ → Type 0
-AreHands text = (hands : Held) × SpellsHands text hands
+-- the third word is the text of some hands
+abbrev pub HasHands : List (List ℕ) → Type 0
+HasHands words = IsSomeAnd (slice_get words 2) (λ text. (hands : Held) × SpellsHands text hands)

@@ -1,11 +1,17 @@
 //! A position read from text.
 
-ghost use Rattle.std.specs.Prelude.{◌≡◌, ◌≤◌, false, length};
+ghost use Rattle.std.specs.Prelude.{◌≡◌, ◌≤◌, ◌↔◌, false, length, Some, Ok, Err, IfOk};
 ghost use Rattle.std.specs.Option.{option_map, option_and_then, option_copied, option_map_or};
 ghost use Rattle.shogi_sfen.specs.Numbers.{is_number};
 ghost use Rattle.shogi_sfen.specs.BoardTexts.{board_of};
 ghost use Rattle.shogi_sfen.specs.HandTexts.{hands_of, capped};
-ghost use Rattle.shogi_sfen.specs.Sfen.{side_of, position_at, past_number, number_of_sfen_fault};
+ghost use Rattle.shogi_sfen.specs.Words.{words};
+ghost use Rattle.shogi_sfen.specs.Spelling.{Spells, HasBoard, HasSide, HasHands};
+ghost use Rattle.shogi_sfen.specs.Sfen.{side_of, position_at, past_number, end_of, number_of_sfen_fault};
+ghost use Rattle.shogi_sfen.specs.declared.position.SfenFault.TheVariants.{BadBoard, BadSide, BadHand, Invalid};
+ghost use Rattle.shogi_core.specs.declared.validity.PositionFault.{PositionFault};
+ghost use Rattle.shogi_core.specs.Position.{Shogi};
+ghost use Rattle.shogi_core.specs.Validity.{fault_of, IsValid};
 
 use crate::board_text::read_board;
 use crate::hand_text::read_hands;
@@ -101,11 +107,7 @@ fn after_number(text: &[u8]) -> &[u8]
     }
 }
 
-/// The position at the front of a text (SFEN): a board, a side, hands, and a number that has no
-/// effect and may be absent; and the index right after the last of these words. The first fault is
-/// told, in the order of `SfenFault`; a missing word is the fault of its place, and a count in hand
-/// that no set has is `TooMany`, however long it is.
-pub fn read_position(text: &[u8]) -> Result<(Position, usize), SfenFault>
+fn position_at(text: &[u8]) -> Result<(Position, usize), SfenFault>
     ensures { result ≡ position_at text.now }
 {
     let mut rest = words(text);
@@ -124,4 +126,20 @@ pub fn read_position(text: &[u8]) -> Result<(Position, usize), SfenFault>
     };
     let after = after_number(rest.rest());
     Ok((position, text.len() - after.len()))
+}
+
+/// The position at the front of a text (SFEN): a board, a side, hands, and a number that has no
+/// effect and may be absent; and the index right after the last of these words. The first fault is
+/// told, in the order of `SfenFault`; a missing word is the fault of its place, and a count in hand
+/// that no set has is `TooMany`, however long it is.
+pub fn read_position(text: &[u8]) -> Result<(Position, usize), SfenFault>
+    ensures value { result ≡ position_at text.now }
+    ensures spelled { IfOk result (λ found. Spells (words text.now) found.0 × IsValid found.0) }
+    ensures read { (p : Shogi) → Spells (words text.now) p → IsValid p → result ≡ Ok (p, end_of text.now) }
+    ensures bad_board { (result ≡ Err BadBoard) ↔ (HasBoard (words text.now) → ⊥) }
+    ensures bad_side { (result ≡ Err BadSide) ↔ (HasBoard (words text.now) × (HasSide (words text.now) → ⊥)) }
+    ensures bad_hand { (result ≡ Err BadHand) ↔ (HasBoard (words text.now) × HasSide (words text.now) × (HasHands (words text.now) → ⊥)) }
+    ensures invalid { (fault : PositionFault) → (result ≡ Err (Invalid fault)) ↔ ((p : Shogi) × Spells (words text.now) p × (fault_of p ≡ Some fault)) }
+{
+    position_at(text)
 }
