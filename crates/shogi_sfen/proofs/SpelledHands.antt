@@ -25,7 +25,7 @@ use Rattle.shogi_sfen.specs.MoveTexts.{letter_of}
 use Rattle.shogi_sfen.specs.BoardTexts.{piece_named}
 use Rattle.shogi_sfen.specs.HandTexts.{with_kind, with_piece, with_digit, hands_from, no_hands, hands_of}
 use Rattle.shogi_sfen.specs.Written.{letter_or_king, as_side, or_hyphen}
-use Rattle.shogi_sfen.specs.Spelling.{Entry, IsCount, count_of, entry_text, count_in, SpellsHands}
+use Rattle.shogi_sfen.specs.Spelling.{Entry, IsCount, count_written, entry_text, count_in, SpellsHands}
 use Rattle.shogi_sfen.proofs.Digits.{in_range}
 use Rattle.shogi_sfen.proofs.HandLaws.{exact_byte}
 use Rattle.shogi_sfen.proofs.TooManyHeld.{Holder, holder, hands_from-len}
@@ -141,20 +141,20 @@ by_piece hands n byte more (Some piece) p e =
     by_kind hands n byte more piece (kind_of piece.role) refl name.letter e
 
 -- what was counted before a letter
-counted : (ds : List ℕ) (count : Option ℕ) → IsBegun ds count → IsCount ds × (count_of ds ≡ unwrap_or count 1)
+counted : (ds : List ℕ) (count : Option ℕ) → IsBegun ds count → IsCount ds × (count_written ds ≡ unwrap_or count 1)
 unfolding IsBegun
-counted ds None begun = subst (λ (xs : List ℕ). IsCount xs × (count_of xs ≡ 1)) (sym begun) (tt, refl)
+counted ds None begun = subst (λ (xs : List ℕ). IsCount xs × (count_written xs ≡ 1)) (sym begun) (tt, refl)
 counted [] (Some n) begun = let some : 0 < 0 = begun.2 in absurd (omega arith)
 counted (d ∷ ds) (Some n) begun = (begun.0, begun.1)
 
-one_entry : (entry : Entry) (text : List ℕ) (start more hands : Held) → length start ≡ 14 → IsCount entry.digits → added start entry.color entry.kind (count_of entry.digits) ≡ more
+one_entry : (entry : Entry) (text : List ℕ) (start more hands : Held) → length start ≡ 14 → IsCount entry.digits → added start entry.color entry.kind (count_written entry.digits) ≡ more
     → IsHeldFrom text more hands → IsHeldFrom (entry_text entry ++ text) start hands
 one_entry entry text start more hands len count same h = record {
   entries = entry ∷ h.entries;
   each = (count, h.each);
   sums = λ color kind.
       let now : held more color kind ≡ held start color kind + count_in color kind entry =
-      ap (λ (hs : Held). held hs color kind) (sym same) ∙ held-added start entry.color color entry.kind kind (count_of entry.digits) len in
+      ap (λ (hs : Held). held hs color kind) (sym same) ∙ held-added start entry.color color entry.kind kind (count_written entry.digits) len in
       let later : held hands color kind ≡ held more color kind + sum_by (count_in color kind) h.entries = h.sums color kind in
       let all : sum_by (count_in color kind) (entry ∷ h.entries) ≡ count_in color kind entry + sum_by (count_in color kind) h.entries = sum_by-cons (count_in color kind) entry h.entries in
       omega arith;
@@ -184,7 +184,7 @@ held_from (byte ∷ bytes) start count ds hands len begun e = elim (cases_Bool (
       let l : IsLetterFor start n byte s.next = by_piece start n byte s.next (piece_named byte) refl s.found in
       let c = counted ds count begun in
       let entry : Entry = record { digits = ds; color = l.color; kind = l.kind } in
-      let same : added start l.color l.kind (count_of ds) ≡ s.next = ap (added start l.color l.kind) c.1 ∙ l.same in
+      let same : added start l.color l.kind (count_written ds) ≡ s.next = ap (added start l.color l.kind) c.1 ∙ l.same in
       let grown : length s.next ≡ 14 = ap length (sym l.same) ∙ (length-set start (place_of l.color l.kind) (held start l.color l.kind + n) ∙ len) in
       let others : IsHeldFrom bytes s.next hands = held_from bytes s.next None [] hands grown refl s.later in
       subst (λ (t : List ℕ). IsHeldFrom t start hands) (append_assoc ds (as_side l.color (letter_of l.kind) ∷ []) bytes ∙ ap (λ (b : ℕ). ds ++ b ∷ bytes) l.letter)
@@ -237,7 +237,7 @@ digits_read (d ∷ ds) hands n rest all =
     ∙ (ap (λ (k : ℕ). hands_from hands (Some (n * 10 + k)) (ds ++ rest)) (sym (in_range d parts.0)) ∙ digits_read ds hands (n * 10 + digit_value d) rest parts.1)
 
 count_read : (ds : List ℕ) (hands : Held) (color : Color) (kind : Kind) (rest : List ℕ) → IsCount ds
-    → hands_from hands None (ds ++ as_side color (letter_of kind) ∷ rest) ≡ hands_from (added hands color kind (count_of ds)) None rest
+    → hands_from hands None (ds ++ as_side color (letter_of kind) ∷ rest) ≡ hands_from (added hands color kind (count_written ds)) None rest
 count_read [] hands color kind rest h = letter_back color kind hands None rest
 count_read (d ∷ ds) hands color kind rest h =
     let parts = and_parts (is_ascii_digit d) (list_all is_ascii_digit ds) h.0 in
@@ -258,16 +258,16 @@ record AreRead (entries : List Entry) (start : Held) : Type 0 where
 are_read : (entries : List Entry) (start : Held) → AllByRecursion (λ entry. IsCount entry.digits) entries → length start ≡ 14 → AreRead entries start
 are_read [] start each len = record { hands = start; read = refl; len = len; sums = λ color kind. omega arith }
 are_read (entry ∷ entries) start each len =
-    let next : Held = added start entry.color entry.kind (count_of entry.digits) in
+    let next : Held = added start entry.color entry.kind (count_written entry.digits) in
     let others : AreRead entries next =
-    are_read entries next each.1 (length-set start (place_of entry.color entry.kind) (held start entry.color entry.kind + count_of entry.digits) ∙ len) in
+    are_read entries next each.1 (length-set start (place_of entry.color entry.kind) (held start entry.color entry.kind + count_written entry.digits) ∙ len) in
     record {
       hands = others.hands;
       read = ap (hands_from start None) (append_assoc entry.digits (as_side entry.color (letter_of entry.kind) ∷ []) (flat_map entry_text entries))
           ∙ (count_read entry.digits start entry.color entry.kind (flat_map entry_text entries) each.0 ∙ others.read);
       len = others.len;
       sums = λ color kind.
-          let now : held next color kind ≡ held start color kind + count_in color kind entry = held-added start entry.color color entry.kind kind (count_of entry.digits) len in
+          let now : held next color kind ≡ held start color kind + count_in color kind entry = held-added start entry.color color entry.kind kind (count_written entry.digits) len in
           let later : held others.hands color kind ≡ held next color kind + sum_by (count_in color kind) entries = others.sums color kind in
           let all : sum_by (count_in color kind) (entry ∷ entries) ≡ count_in color kind entry + sum_by (count_in color kind) entries = sum_by-cons (count_in color kind) entry entries in
           omega arith;

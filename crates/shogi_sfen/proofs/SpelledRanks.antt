@@ -14,7 +14,7 @@ use Rattle.shogi_sfen.specs.declared.board_text.Item.{Item}
 use Rattle.shogi_sfen.specs.declared.board_text.Item.TheVariants.{Plus, Run, Square, Wrong}
 use Rattle.shogi_sfen.specs.BoardTexts.{role_named, piece_of, piece_named, promoted_piece, promoted_from, item_from, item_of, is_plus, joined, onto_item, rank_from, only_nine, rank_of, is_slash}
 use Rattle.shogi_sfen.specs.Written.{is_promoted, letter_or_king, as_side, piece_text}
-use Rattle.shogi_sfen.specs.Spelling.{Part, Empty, Occupied, IsPart, part_squares, part_text, SpellsRank}
+use Rattle.shogi_sfen.specs.Spelling.{RankItem, Empty, Occupied, IsRankItem, item_squares, item_text, SpellsRank}
 use Rattle.shogi_sfen.proofs.RanksBack.{run_item, piece_back}
 use Rattle.shogi_sfen.proofs.WrittenBack.{is_plain, plain_digit, plain_both, plain_piece, no_slash}
 
@@ -131,19 +131,19 @@ behind : Bool → List ℕ → List ℕ
 behind true bytes = 43 ∷ bytes
 behind false bytes = bytes
 
--- parts whose squares and texts these are
+-- items whose squares and texts these are
 record IsSpelled (text : List ℕ) (cells : Cells) : Type 0 where
-  parts : List Part
-  each : AllByRecursion IsPart parts
-  squares : flat_map part_squares parts ≡ cells
-  spelled : flat_map part_text parts ≡ text
+  items : List RankItem
+  each : AllByRecursion IsRankItem items
+  squares : flat_map item_squares items ≡ cells
+  spelled : flat_map item_text items ≡ text
 
-one_more : (part : Part) (text : List ℕ) (cells : Cells) → IsPart part → IsSpelled text cells → IsSpelled (part_text part ++ text) (part_squares part ++ cells)
-one_more part text cells h s = record {
-  parts = part ∷ s.parts;
+one_more : (item : RankItem) (text : List ℕ) (cells : Cells) → IsRankItem item → IsSpelled text cells → IsSpelled (item_text item ++ text) (item_squares item ++ cells)
+one_more item text cells h s = record {
+  items = item ∷ s.items;
   each = (h, s.each);
-  squares = ap (λ (c : Cells). part_squares part ++ c) s.squares;
-  spelled = ap (λ (t : List ℕ). part_text part ++ t) s.spelled;
+  squares = ap (λ (c : Cells). item_squares item ++ c) s.squares;
+  spelled = ap (λ (t : List ℕ). item_text item ++ t) s.spelled;
 }
 
 -- what is left after the first squares
@@ -183,7 +183,7 @@ by_item false byte bytes cells Wrong e h ih = cc
 spelled_from : (bytes : List ℕ) (plus : Bool) (cells : Cells) → rank_from plus bytes ≡ Some cells → IsSpelled (behind plus bytes) cells
 unfolding behind
 spelled_from [] true cells e = cc
-spelled_from [] false cells e = record { parts = []; each = tt; squares = cc; spelled = refl }
+spelled_from [] false cells e = record { items = []; each = tt; squares = cc; spelled = refl }
 spelled_from (byte ∷ bytes) plus cells e = by_item plus byte bytes cells (item_of plus byte) refl e (λ q others f. spelled_from bytes q others f)
 
 record IsNine (o : Option Cells) (cells : Cells) : Type 0 where
@@ -204,27 +204,27 @@ unfolding rank_of behind
 SpellsRank-read text cells e =
     let n : IsNine (rank_from false text) cells = nine (rank_from false text) cells e in
     let s : IsSpelled text cells = spelled_from text false cells n.same in
-    record { parts = s.parts; each = s.each; squares = s.squares; nine = n.nine; spelled = s.spelled }
+    record { items = s.items; each = s.each; squares = s.squares; nine = n.nine; spelled = s.spelled }
 
-parts_read : (parts : List Part) → AllByRecursion IsPart parts → rank_from false (flat_map part_text parts) ≡ Some (flat_map part_squares parts)
-parts_read [] each = refl
-parts_read (Empty n ∷ parts) each =
-    ap (λ (i : Item). onto_item i (rank_from (is_plus i) (flat_map part_text parts))) (run_item n each.0.0 each.0.1)
-    ∙ ap (joined (replicate n None)) (parts_read parts each.1)
-parts_read (Occupied piece ∷ parts) each = piece_back piece.color piece.role (flat_map part_text parts) (Some (flat_map part_squares parts)) (parts_read parts each.1)
+items_read : (items : List RankItem) → AllByRecursion IsRankItem items → rank_from false (flat_map item_text items) ≡ Some (flat_map item_squares items)
+items_read [] each = refl
+items_read (Empty n ∷ items) each =
+    ap (λ (i : Item). onto_item i (rank_from (is_plus i) (flat_map item_text items))) (run_item n each.0.0 each.0.1)
+    ∙ ap (joined (replicate n None)) (items_read items each.1)
+items_read (Occupied piece ∷ items) each = piece_back piece.color piece.role (flat_map item_text items) (Some (flat_map item_squares items)) (items_read items each.1)
 
 -- a rank that is spelled is read
 pub rank_of-spelled : (text : List ℕ) (cells : Cells) → SpellsRank text cells → rank_of text ≡ Some cells
 unfolding rank_of
 rank_of-spelled text cells s =
     ap (λ (t : List ℕ). only_nine (rank_from false t)) (sym s.spelled)
-    ∙ (ap only_nine (parts_read s.parts s.each ∙ ap Some s.squares) ∙ cond-true (length cells == 9) (Some cells) None (eq-eqb (length cells) 9 s.nine))
+    ∙ (ap only_nine (items_read s.items s.each ∙ ap Some s.squares) ∙ cond-true (length cells == 9) (Some cells) None (eq-eqb (length cells) 9 s.nine))
 
-plain_parts : (parts : List Part) → list_all is_plain (flat_map part_text parts) ≡ true
-plain_parts [] = refl
-plain_parts (Empty n ∷ parts) = and_from (is_plain (n + 48)) (list_all is_plain (flat_map part_text parts)) (plain_digit n) (plain_parts parts)
-plain_parts (Occupied piece ∷ parts) = plain_both (piece_text piece) (flat_map part_text parts) (plain_piece piece.color piece.role) (plain_parts parts)
+plain_items : (items : List RankItem) → list_all is_plain (flat_map item_text items) ≡ true
+plain_items [] = refl
+plain_items (Empty n ∷ items) = and_from (is_plain (n + 48)) (list_all is_plain (flat_map item_text items)) (plain_digit n) (plain_items items)
+plain_items (Occupied piece ∷ items) = plain_both (piece_text piece) (flat_map item_text items) (plain_piece piece.color piece.role) (plain_items items)
 
 -- there is no slash in it
 pub no_slash_in : (text : List ℕ) (cells : Cells) → SpellsRank text cells → All (λ x. is_slash x ≡ false) text
-no_slash_in text cells s = no_slash text (subst (λ (t : List ℕ). list_all is_plain t ≡ true) s.spelled (plain_parts s.parts))
+no_slash_in text cells s = no_slash text (subst (λ (t : List ℕ). list_all is_plain t ≡ true) s.spelled (plain_items s.items))

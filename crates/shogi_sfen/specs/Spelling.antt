@@ -13,35 +13,35 @@ use Rattle.shogi_sfen.specs.Numbers as numbers
 use Rattle.shogi_sfen.specs.MoveTexts.{letter_of}
 use Rattle.shogi_sfen.specs.Written.{as_side, piece_text, rank_cells, side_text, or_hyphen}
 
--- a part of a rank: so many empty squares, or a piece
-pub data Part : Type 0 where
-  Empty : (n : ℕ) → Part
-  Occupied : (piece : Piece) → Part
+-- an item of a rank: so many empty squares, or a piece
+pub data RankItem : Type 0 where
+  Empty : (n : ℕ) → RankItem
+  Occupied : (piece : Piece) → RankItem
 
--- one to nine empty squares
-abbrev pub IsPart : Part → Type 0
-IsPart (Empty n) = (1 ≤ n) × (n ≤ 9)
-IsPart (Occupied piece) = Unit {0}
+-- a run is of one to nine squares
+abbrev pub IsRankItem : RankItem → Type 0
+IsRankItem (Empty n) = (1 ≤ n) × (n ≤ 9)
+IsRankItem (Occupied piece) = Unit {0}
 
 -- its squares
-abbrev pub part_squares : Part → Cells
-part_squares (Empty n) = replicate n None
-part_squares (Occupied piece) = Some piece ∷ []
+abbrev pub item_squares : RankItem → Cells
+item_squares (Empty n) = replicate n None
+item_squares (Occupied piece) = Some piece ∷ []
 
 -- its text: one digit, or a plus where the piece is promoted and its letter, upper case for Black, lower case for White
-abbrev pub part_text : Part → List ℕ
-part_text (Empty n) = (n + 48) ∷ []
-part_text (Occupied piece) = piece_text piece
+abbrev pub item_text : RankItem → List ℕ
+item_text (Empty n) = (n + 48) ∷ []
+item_text (Occupied piece) = piece_text piece
 
--- a rank's text is that of parts whose squares are its nine; empty squares may be cut into runs in any way
+-- a rank's text is that of items whose squares are its nine; empty squares may be cut into runs in any way
 pub record SpellsRank (text : List ℕ) (cells : Cells) : Type 0 where
-  pub parts : List Part
-  pub each : AllByRecursion IsPart parts
-  pub squares : flat_map part_squares parts ≡ cells
+  pub items : List RankItem
+  pub each : AllByRecursion IsRankItem items
+  pub squares : flat_map item_squares items ≡ cells
   pub nine : length cells ≡ 9
-  pub spelled : flat_map part_text parts ≡ text
+  pub spelled : flat_map item_text items ≡ text
 
--- a board's text is that of its nine ranks, from a to i and each from file 9 to file 1, with a slash between each two
+-- a board's text is that of its nine ranks, from a to i and each from file 9 to file 1, with a slash (47) between each two
 pub record SpellsBoard (text : List ℕ) (cells : Cells) : Type 0 where
   pub squares : length cells ≡ 81
   pub ranks : List (List ℕ)
@@ -55,15 +55,15 @@ pub record Entry : Type 0 where
   pub color : Color
   pub kind : Kind
 
--- no digits, or digits of which the first is not 0
+-- no digits, or digits of which the first is not 0 (48)
 abbrev pub IsCount : List ℕ → Type 0
 IsCount [] = Unit {0}
 IsCount (first ∷ others) = (list_all is_ascii_digit (first ∷ others) ≡ true) × (first ≢ 48)
 
 -- one where no count is written, and else the number that the digits write
-abbrev pub count_of : List ℕ → ℕ
-count_of [] = 1
-count_of (first ∷ others) = numbers.number_of (first ∷ others)
+abbrev pub count_written : List ℕ → ℕ
+count_written [] = 1
+count_written (first ∷ others) = numbers.number_of (first ∷ others)
 
 -- the count, and the letter of the kind
 abbrev pub entry_text : Entry → List ℕ
@@ -75,7 +75,7 @@ is_entry_of color kind entry = is_same_color entry.color color && number_of entr
 
 -- how many of a kind it gives a side
 abbrev pub count_in : Color → Kind → Entry → ℕ
-count_in color kind entry = cond (is_entry_of color kind entry) (count_of entry.digits) 0
+count_in color kind entry = cond (is_entry_of color kind entry) (count_written entry.digits) 0
 
 -- hands' text is a hyphen for nothing, or that of entries in any order, whose counts add up to what each side holds
 pub record SpellsHands (text : List ℕ) (hands : Held) : Type 0 where

@@ -107,6 +107,7 @@ fn after_number(text: &[u8]) -> &[u8]
     }
 }
 
+/// The position at the front of a text, or its first fault, word by word.
 fn position_at(text: &[u8]) -> Result<(Position, usize), SfenFault>
     ensures { result ≡ position_at text.now }
 {

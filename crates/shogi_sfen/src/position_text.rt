@@ -5,7 +5,9 @@ ghost use Rattle.std.specs.List.{flat_map, range_with_len};
 ghost use Rattle.shogi_sfen.specs.Written.{is_promoted, letter_or_king, as_side, piece_text, run_text, cells_text, rank_cells, rank_text, board_text, side_text, held_text, side_held_text, hands_text, written};
 ghost use Rattle.shogi_core.specs.Pieces.{kind_of};
 ghost use Rattle.shogi_core.specs.Position.{held};
+ghost use Rattle.shogi_sfen.specs.Words.{words};
 ghost use Rattle.shogi_sfen.specs.Sfen.{position_at, end_of, EndsWord};
+ghost use Rattle.shogi_sfen.specs.Spelling.{Spells};
 ghost use Rattle.shogi_core.specs.declared.piece.Kind.{Kind};
 ghost use Rattle.shogi_core.specs.declared.piece.Color.{Color};
 
@@ -195,6 +197,7 @@ fn side_letter(side: Color) -> u8
 pub fn write_position(p: &Position) -> ArrayVec<u8, 256>
     ensures text { result.items ≡ written p.now }
     ensures back { (tail : List ℕ) → EndsWord tail → position_at (written p.now ++ tail) ≡ Ok (p.now, end_of (written p.now ++ tail)) }
+    ensures spelled { (tail : List ℕ) → EndsWord tail → Spells (words (written p.now ++ tail)) p.now }
 {
     let mut text = ArrayVec::new();
     p.validity();

@@ -1,5 +1,9 @@
 use Rattle.std.proofs.Common.{◌∙◌, ◌<◌, ◌++◌, ◌∷◌, [], ℕ, List, ap, sym, subst}
-use Rattle.shogi_core.specs.Position.{Held, held}
+use Rattle.std.specs.Prelude.{Result, Ok}
+use Rattle.shogi_core.specs.Position.{Shogi, Held, held}
+use Rattle.shogi_sfen.specs.declared.position.SfenFault.{SfenFault}
+use Rattle.shogi_sfen.specs.Sfen.{end_of}
+use Rattle.shogi_sfen.proofs.SpelledPositions.{read-spelled}
 use Rattle.shogi_sfen.specs.Written.{written, board_text, side_text, hands_text}
 use Rattle.shogi_sfen.proofs.WriteLaws.{few_held, assembled}
 use Rattle.shogi_sfen.proofs.WordsBack.{written_back}
@@ -11,6 +15,12 @@ push_hands-requires-clause-small c =
 
 pub returns-clause-back : goal.returns-clause-back
 returns-clause-back c = λ tail ends. written_back c.args.p.now c.validity.ensures tail ends
+
+pub returns-clause-spelled : goal.returns-clause-spelled
+returns-clause-spelled c = λ tail ends.
+    let text : List ℕ = written c.args.p.now ++ tail in
+    let r : Result (Shogi × ℕ) SfenFault = Ok (c.args.p.now, end_of text) in
+    (read-spelled text r (sym (written_back c.args.p.now c.validity.ensures tail ends))).0
 
 pub returns-clause-text : goal.returns-clause-text
 unfolding written
