@@ -1,5 +1,5 @@
 -- A board is read exactly where it is spelled.
-use Rattle.std.proofs.Common.{◌≡◌, ℕ, ◌+◌, ◌-◌, ◌*◌, ◌/◌, ◌%◌, ◌<◌, Bool, true, false, cond, refl, sym, ◌∙◌, ap, subst, arith, List, [], ◌∷◌, ◌++◌, length, get_or, Option, Some, None, zero-add}
+use Rattle.std.proofs.Common.{◌≡◌, ℕ, ◌+◌, ◌-◌, ◌*◌, ◌<◌, Bool, true, false, cond, refl, sym, ◌∙◌, ap, arith, List, [], ◌∷◌, ◌++◌, length, get_or, Option, Some, None, zero-add}
 use Rattle.std.specs.Prelude.{◌==◌, zero, suc, map}
 use Rattle.std.specs.List.{flat_map, range_with_len, slice_split, join_with_byte, All}
 use Rattle.std.specs.Option.{option_map}

@@ -1,12 +1,12 @@
 -- Hands are read exactly where they are spelled.
-use Rattle.std.proofs.Common.{◌≡◌, ◌≢◌, ℕ, ◌+◌, ◌-◌, ◌*◌, ◌<◌, Bool, true, false, cond, refl, sym, ◌∙◌, ap, subst, arith, List, [], ◌∷◌, ◌++◌, length, get_or, set, Option, Some, None, inl, inr, append_assoc, length-set, get_or-set_same, get_or-set_other}
+use Rattle.std.proofs.Common.{◌≡◌, ℕ, ◌+◌, ◌-◌, ◌*◌, ◌<◌, Bool, true, false, cond, refl, sym, ◌∙◌, ap, subst, arith, List, [], ◌∷◌, ◌++◌, length, get_or, set, Option, Some, None, inl, inr, append_assoc, length-set, get_or-set_same, get_or-set_other}
 use Rattle.std.specs.Prelude.{◌==◌, ◌&&◌, IfSome, unwrap_or, codes}
 use Rattle.std.specs.List.{flat_map, sum_by, list_all, AllByRecursion}
 use Rattle.std.specs.Option.{option_and_then}
 use Rattle.std.specs.Char.{is_ascii_digit, digit_value}
 use Rattle.std.specs.Str.{bytes_eq}
 use Rattle.std.specs.Str.Parse.{digits_value, digits_value_after}
-use Rattle.std.proofs.lemmas.Bool.{cond-true, cond-false, and_parts, and_from, eqb-true, eqb-false, eq-eqb, ne_eqb, cases_Bool, cases_eq}
+use Rattle.std.proofs.lemmas.Bool.{cond-true, cond-false, and_parts, and_from, eqb-false, eq-eqb, ne_eqb, cases_Bool, cases_eq}
 use Rattle.std.proofs.lemmas.List.{ext_get_or, length_push}
 use Rattle.std.proofs.lemmas.List.Sums.{sum_by-cons}
 use Rattle.std.proofs.lemmas.List.Folds.{list_all-append}
@@ -107,10 +107,11 @@ unfolding IsBegun
 next_digit ds None byte n digit begun e =
     subst (λ (xs : List ℕ). IsBegun (xs ++ byte ∷ []) (Some n)) (sym begun) (one_digit (byte == 48) byte n refl digit e)
 next_digit ds (Some m) byte n digit begun e =
-    let value : m * 10 + (byte - 48) ≡ n = cc in
-    (counted_on ds byte begun.2 digit begun.0,
-    digits_value_push 10 ds byte ∙ (ap (λ (k : ℕ). k * 10 + digit_value byte) begun.1 ∙ (ap (λ (d : ℕ). m * 10 + d) (in_range byte digit) ∙ value)),
-    let len : length (ds ++ byte ∷ []) ≡ length ds + 1 = length_push ds byte in omega arith)
+    let value : m * 10 + (byte - 48) ≡ n = cc in (
+      counted_on ds byte begun.2 digit begun.0,
+      digits_value_push 10 ds byte ∙ (ap (λ (k : ℕ). k * 10 + digit_value byte) begun.1 ∙ (ap (λ (d : ℕ). m * 10 + d) (in_range byte digit) ∙ value)),
+      let len : length (ds ++ byte ∷ []) ≡ length ds + 1 = length_push ds byte in omega arith,
+    )
 
 -- a step that was taken, and what follows it
 record Steps {A : Type 0} (o : Option A) (f : A → Option Held) (hands : Held) : Type 0 where

@@ -133,9 +133,10 @@ module _ (ws : List (List ℕ)) where
     no_side : (b : Option Cells) (s : Option Color) (h : Option Held) → option_and_then board_of (slice_get ws 0) ≡ b → option_and_then side_of (slice_get ws 1) ≡ s → position_by b s h end ≡ Err BadSide
         → HasBoard ws × (HasSide ws → ⊥)
     no_side None s h eb es e = cc
-    no_side (Some cells) None h eb es e =
-        (some_with (slice_get ws 0) SpellsBoard cells (board_word (slice_get ws 0) cells eb),
-        none_with (slice_get ws 1) (λ text side. text ≡ side_text side) side_of (side_word-read (slice_get ws 1)) es)
+    no_side (Some cells) None h eb es e = (
+      some_with (slice_get ws 0) SpellsBoard cells (board_word (slice_get ws 0) cells eb),
+      none_with (slice_get ws 1) (λ text side. text ≡ side_text side) side_of (side_word-read (slice_get ws 1)) es,
+    )
     no_side (Some cells) (Some side) None eb es e = cc
     no_side (Some cells) (Some side) (Some hands) eb es e = absurd (not_of_text (fault_of (parts cells hands side)) (parts cells hands side) end BadSide (λ f g. cc) e)
 
@@ -149,10 +150,11 @@ module _ (ws : List (List ℕ)) where
         → position_by b s h end ≡ Err BadHand → HasBoard ws × HasSide ws × (HasHands ws → ⊥)
     no_hands None s h eb es eh e = cc
     no_hands (Some cells) None h eb es eh e = cc
-    no_hands (Some cells) (Some side) None eb es eh e =
-        (some_with (slice_get ws 0) SpellsBoard cells (board_word (slice_get ws 0) cells eb),
-        some_with (slice_get ws 1) (λ text side. text ≡ side_text side) side (side_word (slice_get ws 1) side es),
-        none_with (slice_get ws 2) SpellsHands hands_of (hands_word-read (slice_get ws 2)) eh)
+    no_hands (Some cells) (Some side) None eb es eh e = (
+      some_with (slice_get ws 0) SpellsBoard cells (board_word (slice_get ws 0) cells eb),
+      some_with (slice_get ws 1) (λ text side. text ≡ side_text side) side (side_word (slice_get ws 1) side es),
+      none_with (slice_get ws 2) SpellsHands hands_of (hands_word-read (slice_get ws 2)) eh,
+    )
     no_hands (Some cells) (Some side) (Some hands) eb es eh e = absurd (not_of_text (fault_of (parts cells hands side)) (parts cells hands side) end BadHand (λ f g. cc) e)
 
     no_hands-told : (b : Option Cells) (s : Option Color) (h : Option Held) → option_and_then board_of (slice_get ws 0) ≡ b → option_and_then side_of (slice_get ws 1) ≡ s → option_and_then hands_of (slice_get ws 2) ≡ h
@@ -195,9 +197,10 @@ module _ (text : List ℕ) (r : Result (Shogi × ℕ) SfenFault) (told : r ≡ p
   told-bad_hand = (λ e. no_hands (words text) (end_of text) b s h refl refl refl (sym said ∙ e), λ n. said ∙ no_hands-told (words text) (end_of text) b s h refl refl refl n.0 n.1 n.2)
 
   pub told-invalid : (fault : PositionFault) → (r ≡ Err (Invalid fault)) ↔ ((p : Shogi) × Spells (words text) p × (fault_of p ≡ Some fault))
-  told-invalid fault =
-      (λ e. faulty (words text) (end_of text) b s h fault refl refl refl (sym said ∙ e),
-      λ f. spelled-read f.0 f.1 ∙ ap (λ (o : Option PositionFault). judged o f.0 (end_of text)) f.2)
+  told-invalid fault = (
+    λ e. faulty (words text) (end_of text) b s h fault refl refl refl (sym said ∙ e),
+    λ f. spelled-read f.0 f.1 ∙ ap (λ (o : Option PositionFault). judged o f.0 (end_of text)) f.2,
+  )
 
 -- a position that is read is spelled, and valid
 pub read-spelled : (text : List ℕ) (r : Result (Shogi × ℕ) SfenFault) → r ≡ position_at text → IfOk r (λ got. Spells (words text) got.0 × IsValid got.0)
