@@ -165,8 +165,10 @@ by_item true byte bytes cells (Run n) e h ih = absurd (not_run (promoted_from (p
 by_item false byte bytes cells (Run n) e h ih =
     let j : Joins (replicate n None) (rank_from false bytes) cells = joins (replicate n None) (rank_from false bytes) cells h in
     let r = run_byte byte n e in
+    let low : 1 ≤ n = r.1.0 in
+    let high : n ≤ 9 = r.1.1 in
     subst (λ (b : ℕ). IsSpelled (b ∷ bytes) cells) (sym r.0)
-    (subst (IsSpelled ((n + 48) ∷ bytes)) j.all (one_more (Empty n) bytes j.others r.1 (ih false j.others j.found)))
+    (subst (IsSpelled ((n + 48) ∷ bytes)) j.all (one_more (Empty n) bytes j.others (omega arith, omega arith) (ih false j.others j.found)))
 by_item true byte bytes cells (Square piece) e h ih =
     let j : Joins (Some piece ∷ []) (rank_from false bytes) cells = joins (Some piece ∷ []) (rank_from false bytes) cells h in
     let text : piece_text piece ≡ 43 ∷ byte ∷ [] = promoted_text byte (piece_named byte) piece refl (a_piece (promoted_from (piece_named byte)) piece e) in
