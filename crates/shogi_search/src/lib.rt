@@ -16,7 +16,13 @@ pub use slices::Search;
 pub use whole::search;
 
 #[cfg(test)]
+mod agreement;
+#[cfg(test)]
 mod fakes;
+#[cfg(test)]
+mod forgetful;
+#[cfg(test)]
+mod games;
 #[cfg(test)]
 mod plain;
 #[cfg(test)]

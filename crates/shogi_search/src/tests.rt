@@ -1,19 +1,18 @@
-//! Values and best moves of positions that others have computed, and the search against plain minimax.
+//! Values and best moves of positions that others have computed, and the calls of the memo.
 
 use crate::fakes::{Counter, Oracle, Recorder};
-use crate::plain::negamax;
 use crate::{NoMemo, Search, search};
 use shogi_core::{Color, Hands, Kind, Move, Piece, Position, Role, Square};
-use shogi_moves::{apply, is_legal, next_legal};
+use shogi_moves::{apply, is_legal};
 use std::process::Abort;
 use std::test::Fail;
 
-type Placed = (u8, u8, Color, Role);
+pub type Placed = (u8, u8, Color, Role);
 
-type Held = (Color, Kind, u8);
+pub type Held = (Color, Kind, u8);
 
 // The position of pieces by file and rank, and of what is held.
-fn position(pieces: &[Placed], held: &[Held], side: Color) -> Result<Position, Fail> {
+pub fn position(pieces: &[Placed], held: &[Held], side: Color) -> Result<Position, Fail> {
     let mut cells: [Option<Piece>; 81] = [None; 81];
     for &(file, rank, color, role) in pieces {
         let square = Square::new(file, rank).ok_or("a square")?;
@@ -278,52 +277,6 @@ fn exact_root(rt: HostRuntime) {
         }
         if let Some(again) = search.advance(&mut NoMemo, 1000) {
             assert_eq!(rt; (again.value, again.steps, search.steps()), (0, 0, 0));
-        }
-    }
-}
-
-// The legal move after n others in the order of codes, or the last one.
-fn nth_move(p: &Position, n: u32) -> Option<Move> {
-    let mut chosen = next_legal(p, None)?;
-    for _ in 0..n {
-        let passed = chosen;
-        let Some(m) = next_legal(p, Some(passed)) else {
-            return Some(chosen);
-        };
-        chosen = m;
-    }
-    Some(chosen)
-}
-
-// A walk from the opening position that takes one of the legal moves in turn.
-#[test]
-fn agrees_with_plain_minimax(rt: HostRuntime) {
-    let mut p = Position::start();
-    for ply in 0..100u32 {
-        for depth in [0, 1, 2] {
-            let plain = negamax(&p, depth);
-            let found = search(&p, depth, &mut NoMemo);
-            assert_eq!(rt; found.value, plain.value, "at ply {ply} and depth {depth}");
-            assert!(rt; found.best == plain.best, "at ply {ply} and depth {depth}");
-            assert!(rt;
-                found.steps <= plain.steps,
-                "at ply {ply} and depth {depth}"
-            );
-            let over_oracle = search(&p, depth, &mut Oracle);
-            assert_eq!(rt;
-                over_oracle.value,
-                plain.value,
-                "at ply {ply} and depth {depth}"
-            );
-            assert!(rt;
-                over_oracle.best == plain.best,
-                "at ply {ply} and depth {depth}"
-            );
-        }
-        if let Some(m) = nth_move(&p, (ply * 7 + 3) % 31) {
-            let tried = m;
-            assert!(rt; is_legal(&p, tried));
-            p = apply(&p, m);
         }
     }
 }

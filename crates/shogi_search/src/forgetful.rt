@@ -1,0 +1,97 @@
+//! A memory for the tests that forgets each second note, and the oldest one where it is full.
+
+ghost use Rattle.std.specs.Prelude.{◌≡◌, ◌<◌, ◌&&◌, ◌==◌, true, Option, option_map, Some, None, false};
+ghost use Rattle.std.specs.Option.{option_map_or};
+ghost use Rattle.std.specs.List.{find};
+
+use crate::memo::{Entry, Memo};
+use shogi_core::Position;
+use std::marker::Model;
+
+/// What was noted of a position at a depth.
+#[derive(Clone, Copy, Debug)]
+pub struct Kept {
+    position: Position,
+    depth: u8,
+    entry: Entry,
+}
+
+impl Model for Kept {
+    ghost use Rattle.std.specs.Prelude.{ℕ};
+    ghost use Rattle.shogi_core.specs.Position.{Shogi};
+    ghost use Rattle.shogi_search.specs.Minimax.{IsTrueEntry};
+    ghost use Rattle.shogi_search.specs.declared.memo.Entry.{Entry};
+
+    ghost Value = { Shogi × (ℕ × Entry) };
+
+    ghost view = { λ kept. (kept.position, (kept.depth, kept.entry)) };
+
+    ghost invariant = { λ kept. IsTrueEntry kept.position kept.depth kept.entry };
+
+    ghost inverse = { λ v. record { position = v.0; depth = v.1.0; entry = v.1.1 } };
+}
+
+/// Whether the positions are the same.
+fn is_same(a: &Position, b: &Position) -> bool
+    ensures value { result ≡ ⟦<Position as PartialEq>⟧.eq a.now b.now }
+    ensures same { result ≡ true → a.now ≡ b.now }
+{
+    a == b
+}
+
+impl Kept {
+    /// Whether it is of this position at this depth.
+    fn is_of(&self, p: &Position, d: u8) -> bool
+        ensures value { result ≡ (self.now.1.0 == d && ⟦<Position as PartialEq>⟧.eq self.now.0 p.now) }
+        ensures same { result ≡ true → (self.now.0 ≡ p.now) }
+    {
+        self.depth == d && is_same(&self.position, p)
+    }
+}
+
+/// Up to 64 entries.
+#[derive(Clone, Copy, Debug)]
+pub struct Forgetful {
+    pub slots: [Option<Kept>; 64],
+    pub next: usize,
+    pub keeps: bool,
+    ghost inside: { next < 64 },
+}
+
+impl Forgetful {
+    pub fn new() -> Self {
+        Forgetful {
+            slots: [None; 64],
+            next: 0,
+            keeps: true,
+        }
+    }
+}
+
+impl Memo for Forgetful {
+    ghost answers = { λ memo p d. option_map_or (λ slot. option_map (λ kept. kept.1.1) slot) (find (λ slot. option_map_or (λ kept. kept.1.0 == d && ⟦<Position as PartialEq>⟧.eq kept.0 p) slot false) memo.slots) None };
+
+    fn probe(&mut self, p: &Position, d: u8) -> Option<Entry> {
+        'slots: for slot in &self.slots {
+            if let Some(kept) = slot {
+                if kept.is_of(p, d) {
+                    return Some(kept.entry);
+                }
+            }
+        }
+        None
+    }
+
+    fn note(&mut self, p: &Position, d: u8, entry: Entry) {
+        self.keeps = !self.keeps;
+        if self.keeps {
+            return;
+        }
+        self.slots[self.next] = Some(Kept {
+            position: *p,
+            depth: d,
+            entry,
+        });
+        self.next = (self.next + 1) % 64;
+    }
+}
