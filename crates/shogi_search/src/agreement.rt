@@ -50,7 +50,7 @@ fn walk(rt: &impl Abort, codes: &[u16]) {
     let (mut known, mut forgotten) = (false, false);
     for (at, code) in codes.iter().enumerate() {
         for depth in 1..4u8 {
-            if perft(&p, depth - 1) <= Some(1000) {
+            if perft(&p, depth - 1) <= Some(1500) {
                 if assert_agrees(rt, &p, at, depth, &mut memo) {
                     known = true;
                 } else {

@@ -49,19 +49,19 @@ impl Kept {
     }
 }
 
-/// Up to 64 entries.
+/// Up to 512 entries.
 #[derive(Clone, Copy, Debug)]
 pub struct Forgetful {
-    pub slots: [Option<Kept>; 64],
+    pub slots: [Option<Kept>; 512],
     pub next: usize,
     pub keeps: bool,
-    ghost inside: { next < 64 },
+    ghost inside: { next < 512 },
 }
 
 impl Forgetful {
     pub fn new() -> Self {
         Forgetful {
-            slots: [None; 64],
+            slots: [None; 512],
             next: 0,
             keeps: true,
         }
@@ -92,6 +92,6 @@ impl Memo for Forgetful {
             depth: d,
             entry,
         });
-        self.next = (self.next + 1) % 64;
+        self.next = (self.next + 1) % 512;
     }
 }
