@@ -1,5 +1,6 @@
 -- Which entries end a question (own choice).
 use Rattle.std.specs.Prelude.{ℤ, ◌≤ℤ◌, Option, Some, None}
+use Rattle.shogi_core.specs.declared.moves.Move.{Move}
 use Rattle.shogi_search.specs.declared.memo.Entry.{Entry}
 use Rattle.shogi_search.specs.declared.memo.Entry.TheVariants.{Exact, AtLeast, AtMost}
 
@@ -15,3 +16,10 @@ IsExactly None = ⊥
 IsExactly (Some (Exact v m)) = Unit {0}
 IsExactly (Some (AtLeast v)) = ⊥
 IsExactly (Some (AtMost v)) = ⊥
+
+-- the best move, where the answer is the value itself
+abbrev pub move_in : Option Entry → Option Move
+move_in None = None
+move_in (Some (Exact v m)) = m
+move_in (Some (AtLeast v)) = None
+move_in (Some (AtMost v)) = None

@@ -42,15 +42,15 @@ fn assert_agrees(rt: &impl Abort, p: &Position, at: usize, depth: u8, memo: &mut
     again.steps == 0
 }
 
-// Walks through a game up to its mate, and searches each position at the depths from 1 to 3 whose
-// trees are small enough. The memo is the same all along; it keeps some roots and forgets others.
+// Walks through a game up to its mate, and searches each position at depths 0 to 2, and at 3 where
+// two plies have few paths. The memo is the same all along; it keeps some roots and forgets others.
 fn walk(rt: &impl Abort, codes: &[u16]) {
     let mut memo = Forgetful::new();
     let mut p = Position::start();
     let (mut known, mut forgotten) = (false, false);
     for (at, code) in codes.iter().enumerate() {
-        for depth in 1..4u8 {
-            if perft(&p, depth - 1) <= Some(1500) {
+        for depth in 0..4u8 {
+            if perft(&p, depth.saturating_sub(1)) <= Some(1500) {
                 if assert_agrees(rt, &p, at, depth, &mut memo) {
                     known = true;
                 } else {

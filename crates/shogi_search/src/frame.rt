@@ -1,6 +1,6 @@
 //! A node of the tree while the search goes through its moves.
 
-ghost use Rattle.std.specs.Prelude.{◌≡◌, ◌≤◌, ◌<◌, ◌-◌, ◌+◌, ◌*◌, ◌≤ℤ◌, ◌<ℤ◌, ℕ, pos, negsuc, [], ◌∷◌, Some, None, true, false, IsTrue, ◌↔◌, ◌≢◌};
+ghost use Rattle.std.specs.Prelude.{◌≡◌, ◌≤◌, ◌<◌, ◌-◌, ◌+◌, ◌*◌, ◌≤ℤ◌, ◌<ℤ◌, ℕ, pos, negsuc, [], ◌∷◌, Some, None, true, false, IsTrue, ◌↔◌, ◌≢◌, MatchOption};
 ghost use Rattle.std.specs.Option.{ForSome};
 ghost use Rattle.std.proofs.Props.{props};
 ghost use Rattle.shogi_core.specs.Codes.{code_of};
@@ -74,6 +74,8 @@ impl Frame {
         ensures high { result.high ≡ high }
         ensures counted { 1 + 2 * subtrees position (depth - 1) (todo position result.cursor) < 2 * tree position depth }
         ensures waiting { result.waiting ≡ false }
+        ensures leaf { depth ≡ 0 → result.cursor ≡ Cursor.Done }
+        ensures first { 0 < depth → MatchOption first (result.cursor ≡ Cursor.Captures None None) (λ f. result.cursor ≡ Cursor.First f) }
     {
         position.as_position().validity();
         Frame {

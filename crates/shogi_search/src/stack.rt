@@ -9,7 +9,7 @@ ghost use Rattle.shogi_moves.specs.Legal.{is_legal};
 ghost use Rattle.shogi_moves.specs.LegalMoves.{legal_moves};
 ghost use Rattle.shogi_moves.specs.Rising.{is_in};
 ghost use Rattle.shogi_search.specs.Minimax.{value, best, tree, negated, IsTrueEntry};
-ghost use Rattle.shogi_search.specs.Entries.{Settles};
+ghost use Rattle.shogi_search.specs.Entries.{Settles, move_in};
 ghost use Rattle.shogi_search.specs.Order.{todo};
 ghost use Rattle.shogi_search.specs.Stack.{IsChain, left_of_stack};
 ghost use Rattle.shogi_search.specs.Window.{bar, code_at};
@@ -41,7 +41,9 @@ fn settles(entry: &Entry, low: i32, high: i32) -> bool
 /// The best move one ply less deep, where the memo has it.
 #[tactic(auto, using(crate::proofs::OrderLaws::best_listed))]
 pub fn remembered<M: Memo>(p: &Position, depth: u8, memo: &mut M) -> Option<Move>
-    ensures { ForSome result (λ f. is_in (code_of f) (legal_moves p.now) ≡ true) }
+    ensures listed { ForSome result (λ f. is_in (code_of f) (legal_moves p.now) ≡ true) }
+    ensures shallow { depth < 2 → result ≡ None }
+    ensures deep { 2 ≤ depth → result ≡ move_in (M.answers memo.old p.now (depth - 1)) }
 {
     if depth < 2 {
         return None;

@@ -1,6 +1,6 @@
 //! Values and best moves of positions that others have computed, and the calls of the memo.
 
-use crate::fakes::{Counter, Oracle, Recorder};
+use crate::fakes::{Counter, Oracle, Recalling, Recorder};
 use crate::{NoMemo, Search, search};
 use shogi_core::{Color, Hands, Kind, Move, Piece, Position, Role, Square};
 use shogi_moves::{apply, is_legal};
@@ -220,6 +220,26 @@ fn order_of_calls(rt: HostRuntime) {
             "the last call"
         );
         assert_eq!(rt; last.depth, depth);
+    }
+}
+
+// The best move one ply less deep is visited before the first capture: 8h2b+ before 8h2b.
+#[test]
+fn remembered_move_first(rt: HostRuntime) {
+    let p = played(&rt, &[9838, 3282]);
+    let best = played(&rt, &[9838, 3282, 11361]);
+    let mut memo = Recalling {
+        recorder: Recorder::new(),
+    };
+    search(&p, 2, &mut memo);
+    for (call, position, depth) in [
+        (memo.recorder.first, &p, 2),
+        (memo.recorder.second, &p, 1),
+        (memo.recorder.third, &best, 1),
+    ] {
+        let call = call.expect(&rt, "a call");
+        assert!(rt; call.position == *position, "at depth {depth}");
+        assert_eq!(rt; (call.depth, call.is_note), (depth, false));
     }
 }
 
