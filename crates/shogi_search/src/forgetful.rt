@@ -49,7 +49,7 @@ impl Kept {
     }
 }
 
-/// Up to 512 entries.
+/// Up to 512 entries, the place of the next one, and whether the next note is kept.
 #[derive(Clone, Copy, Debug)]
 pub struct Forgetful {
     pub slots: [Option<Kept>; 512],
@@ -83,15 +83,14 @@ impl Memo for Forgetful {
     }
 
     fn note(&mut self, p: &Position, d: u8, entry: Entry) {
-        self.keeps = !self.keeps;
         if self.keeps {
-            return;
+            self.slots[self.next] = Some(Kept {
+                position: *p,
+                depth: d,
+                entry,
+            });
+            self.next = (self.next + 1) % 512;
         }
-        self.slots[self.next] = Some(Kept {
-            position: *p,
-            depth: d,
-            entry,
-        });
-        self.next = (self.next + 1) % 512;
+        self.keeps = !self.keeps;
     }
 }

@@ -1,6 +1,6 @@
 //! Games between other programs, by the codes of their moves.
 
-/// Fairy-Stockfish to depth 9 against itself to depth 7: White is mated.
+/// Fairy-Stockfish to depth 9 against itself to depth 7, from 2g2f 3c3d on: White is mated.
 ///
 /// 2g2f 3c3d 6i6h 3a3b 7g7f 2b8h 7i8h B*6e B*2b 6e4g+ 3i3h 4g6e 2b1a+ 2a3c 8h7g 7c7d 6g6f
 /// 6e5d 3h4g 7d7e L*5f 5d6d 7f7e 6d7e P*7f 7e6d 1a2b 8b5b 5i6i 5c5d 2b1c 5d5e 1c4f 6a6b 6i7i
@@ -18,7 +18,7 @@ pub const FIRST: [u16; 101] = [
     13572, 9022, 13663, 9204, 9027, 10842, 9510, 7584, 7420, 12302, 12790,
 ];
 
-/// Fairy-Stockfish to depth 8 against itself: Black is mated.
+/// Fairy-Stockfish to depth 8 against itself, from 5g5f 5c5d on: Black is mated.
 ///
 /// 5g5f 5c5d 1g1f 8b5b 6i6h 6a6b 4g4f 5d5e 5f5e 5b5e 2h5h 5e5h 4i5h R*5d 7g7f 3c3d 8h2b 3a2b
 /// B*6e 5d5b 6e4c+ B*7d R*2h 4a3b 4c3d 7d6e 3d5b 6b5b R*8e B*7d 8e6e 7d6e P*5e 7a6b B*8b R*9b
