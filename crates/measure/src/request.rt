@@ -1,10 +1,15 @@
 //! What a line asks for.
 
-ghost use Rattle.std.specs.Prelude.{◌≤◌, ◌<◌, IfOk, IfSome};
+ghost use Rattle.std.specs.Prelude.{◌≡◌, ◌≤◌, ◌<◌, IfOk, IfSome};
+ghost use Rattle.std.specs.Option.{option_copied};
+ghost use Rattle.std.specs.Str.{bytes_eq};
+ghost use Rattle.shogi_sfen.specs.Sfen.{position_at};
+ghost use Rattle.shogi_sfen.specs.Words.{words};
 ghost use Rattle.measure.specs.Ranges.{HasRange};
+ghost use Rattle.measure.specs.Requests.{number_to, alone, of_sfen, place_of, placed, perft_of, search_of, request_of};
 
 use shogi_core::{Position, PositionFault};
-use shogi_sfen::{SfenFault, Words, read_number, read_position, words};
+use shogi_sfen::{SfenFault, read_number, read_position, words};
 use std::fmt;
 
 /// The greatest depth that may be asked for.
@@ -78,95 +83,124 @@ fn reason(fault: SfenFault) -> &'static str {
     }
 }
 
+fn is(word: &[u8], name: &[u8]) -> bool
+    ensures { result ≡ bytes_eq word.now name.now }
+{
+    word == name
+}
+
+/// The number of a word, where there is one and it is at most `most`.
 fn read_up_to(word: Option<&[u8]>, most: u32) -> Option<u32>
     requires { most < 4294967295 }
-    ensures { IfSome result (λ number. number ≤ most) }
+    ensures { result ≡ number_to most (option_copied word.entry) }
 {
     let number = read_number(word?, most + 1)?;
     if number > most { None } else { Some(number) }
 }
 
-fn read_depth(word: Option<&[u8]>) -> Result<u8, Refusal>
-    ensures { IfOk result (λ depth. depth ≤ 16) }
+fn read_depth(word: Option<&[u8]>) -> Option<u8>
+    ensures number { result ≡ number_to 16 (option_copied word.entry) }
+    ensures bound { IfSome result (λ depth. depth ≤ 16) }
 {
-    match read_up_to(word, MOST_DEPTH) {
-        Some(depth) => Ok(depth as u8),
-        None => Err(Refusal::BadDepth),
-    }
+    Some(read_up_to(word, MOST_DEPTH)? as u8)
 }
 
-fn read_entries(word: Option<&[u8]>) -> Result<usize, Refusal>
-    ensures { IfOk result (λ entries. entries ≤ 1000000) }
+fn read_entries(word: Option<&[u8]>) -> Option<usize>
+    ensures number { result ≡ number_to 1000000 (option_copied word.entry) }
+    ensures bound { IfSome result (λ entries. entries ≤ 1000000) }
 {
-    match read_up_to(word, MOST_ENTRIES) {
-        Some(entries) => Ok(entries as usize),
-        None => Err(Refusal::BadEntries),
-    }
+    Some(read_up_to(word, MOST_ENTRIES)? as usize)
 }
 
-fn no_words(text: &[u8]) -> Result<(), Refusal> {
+/// The position, where no word stands in the text after it.
+fn alone(position: Position, text: &[u8]) -> Result<Position, Refusal>
+    ensures { result ≡ alone position (words text.now) }
+{
     match words(text).next() {
         Some(_) => Err(Refusal::FurtherWords),
-        None => Ok(()),
+        None => Ok(position),
     }
 }
 
-fn read_sfen(text: &[u8]) -> Result<Position, Refusal> {
-    let (position, end) = read_position(text).map_err(Refusal::BadPosition)?;
-    no_words(text.get(end..).unwrap_or_default())?;
-    Ok(position)
+#[tactic(auto, using(crate::proofs::Reading::end_fits))]
+fn read_sfen(text: &[u8]) -> Result<Position, Refusal>
+    ensures { result ≡ of_sfen text.now (position_at text.now) }
+{
+    match read_position(text) {
+        Ok((position, end)) => {
+            let (_, rest) = text.split_at(end);
+            alone(position, rest)
+        }
+        Err(fault) => Err(Refusal::BadPosition(fault)),
+    }
 }
 
 /// The position that ends a line: `startpos` or an SFEN, and the opening position where there is none.
-fn read_place(text: &[u8]) -> Result<Position, Refusal> {
+#[tactic(auto, unfolding(crate::specs::Requests::place_of))]
+fn read_place(text: &[u8]) -> Result<Position, Refusal>
+    ensures { result ≡ place_of text.now }
+{
     let mut rest = words(text);
     match rest.next() {
         None => Ok(Position::start()),
-        Some(b"startpos") => {
-            no_words(rest.rest())?;
-            Ok(Position::start())
-        }
+        Some(word) if is(word, b"startpos") => alone(Position::start(), rest.rest()),
         Some(_) => read_sfen(text),
     }
 }
 
-fn read_perft(mut rest: Words<'_>) -> Result<Request, Refusal>
-    ensures depth { IfOk result (λ request. request.depth ≤ 16) }
-    ensures entries { IfOk result (λ request. HasRange request.work) }
+/// The work at the position that ends the line, where that is one.
+fn placed(work: Work, depth: u8, place: Result<Position, Refusal>) -> Result<Request, Refusal>
+    ensures { result ≡ placed work depth place }
 {
-    let depth = read_depth(rest.next())?;
-    let position = read_place(rest.rest())?;
+    let position = place?;
     Ok(Request {
-        work: Work::Perft,
+        work,
         depth,
         position,
     })
 }
 
-fn read_search(mut rest: Words<'_>) -> Result<Request, Refusal>
+/// What follows `perft`.
+fn read_perft(text: &[u8]) -> Result<Request, Refusal>
+    ensures request { result ≡ perft_of text.now }
     ensures depth { IfOk result (λ request. request.depth ≤ 16) }
     ensures entries { IfOk result (λ request. HasRange request.work) }
 {
-    let depth = read_depth(rest.next())?;
-    let entries = read_entries(rest.next())?;
-    let position = read_place(rest.rest())?;
-    Ok(Request {
-        work: Work::Search { entries },
-        depth,
-        position,
-    })
+    let mut rest = words(text);
+    let Some(depth) = read_depth(rest.next()) else {
+        return Err(Refusal::BadDepth);
+    };
+    placed(Work::Perft, depth, read_place(rest.rest()))
+}
+
+/// What follows `search`.
+fn read_search(text: &[u8]) -> Result<Request, Refusal>
+    ensures request { result ≡ search_of text.now }
+    ensures depth { IfOk result (λ request. request.depth ≤ 16) }
+    ensures entries { IfOk result (λ request. HasRange request.work) }
+{
+    let mut rest = words(text);
+    let Some(depth) = read_depth(rest.next()) else {
+        return Err(Refusal::BadDepth);
+    };
+    let Some(entries) = read_entries(rest.next()) else {
+        return Err(Refusal::BadEntries);
+    };
+    placed(Work::Search { entries }, depth, read_place(rest.rest()))
 }
 
 /// The request of a line, its depth at most 16 and its entries at most 1,000,000, or why it has none:
 /// the first fault from the left.
+#[tactic(auto, unfolding(crate::specs::Requests::request_of))]
 pub fn read(line: &str) -> Result<Request, Refusal>
+    ensures request { result ≡ request_of line.now }
     ensures depth { IfOk result (λ request. request.depth ≤ 16) }
     ensures entries { IfOk result (λ request. HasRange request.work) }
 {
     let mut rest = words(line.as_bytes());
     match rest.next() {
-        Some(b"perft") => read_perft(rest),
-        Some(b"search") => read_search(rest),
+        Some(word) if is(word, b"perft") => read_perft(rest.rest()),
+        Some(word) if is(word, b"search") => read_search(rest.rest()),
         _ => Err(Refusal::UnknownWord),
     }
 }
