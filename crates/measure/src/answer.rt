@@ -1,6 +1,7 @@
 //! What a request is answered by.
 
-ghost use Rattle.std.specs.Prelude.{◌≤◌};
+ghost use Rattle.std.specs.Prelude.{◌≤◌, Some};
+ghost use Rattle.measure.specs.Answers.{IsCounted, IsFound, reply_text, best_text, count_text};
 ghost use Rattle.measure.specs.Ranges.{HasRange};
 
 use crate::request::{Refusal, Request, Work};
@@ -14,20 +15,83 @@ use std::rt::Clock;
 use std::time::Instant;
 use std::{fmt, io};
 
+/// What a request is answered by, without its time.
+#[derive(Clone, Copy, Debug)]
+enum Reply {
+    /// How many sequences of so many legal moves there are, or `None` from 2^64 up.
+    Perft { depth: u8, count: Option<u64> },
+    /// What a search at the depth found.
+    Search { depth: u8, found: Found },
+}
+
+impl fmt::Display for Reply {
+    ghost output = { λ reply. Some (reply_text reply) };
+
+    fn fmt<W: fmt::Write>(&self, f: &mut fmt::Formatter<W>) -> fmt::Result {
+        match self {
+            Reply::Perft { depth, count } => {
+                let count = Count(*count);
+                write!(f, "perft {depth} {count}")
+            }
+            Reply::Search { depth, found } => {
+                let Found { value, best, steps } = *found;
+                let best = BestMove(best);
+                write!(f, "search {depth} {value} {best} {steps}")
+            }
+        }
+    }
+}
+
+/// A count as it is printed: a number, or `too-many`.
+#[derive(Clone, Copy, Debug)]
+struct Count(Option<u64>);
+
+impl fmt::Display for Count {
+    ghost output = { λ count. Some (count_text count.0) };
+
+    fn fmt<W: fmt::Write>(&self, f: &mut fmt::Formatter<W>) -> fmt::Result {
+        match self.0 {
+            Some(count) => write!(f, "{count}"),
+            None => write!(f, "too-many"),
+        }
+    }
+}
+
 /// A best move as it is printed: its USI text, or `none`.
 #[derive(Clone, Copy, Debug)]
 struct BestMove(Option<Move>);
 
 impl fmt::Display for BestMove {
+    ghost output = { λ best. Some (best_text best.0) };
+
     fn fmt<W: fmt::Write>(&self, f: &mut fmt::Formatter<W>) -> fmt::Result {
         let Some(best) = self.0 else {
             return write!(f, "none");
         };
-        for byte in write_move(best).as_slice() {
-            write!(f, "{}", *byte as char)?;
+        let text = write_move(best);
+        match str::from_utf8(text.as_slice()) {
+            Ok(text) => write!(f, "{text}"),
+            Err(_) => Err(fmt::Error),
         }
-        Ok(())
     }
+}
+
+/// Counts the sequences of so many legal moves.
+fn counted(position: &Position, depth: u8) -> Reply
+    requires { depth ≤ 16 }
+    ensures { IsCounted position.now depth result }
+{
+    let count = perft(position, depth);
+    Reply::Perft { depth, count }
+}
+
+/// Searches at the depth.
+fn found<M: Memo>(position: &Position, depth: u8, memo: &mut M) -> Reply
+    requires { depth ≤ 16 }
+    ensures { IsFound position.now depth result }
+{
+    let found = search(position, depth, memo);
+    Reply::Search { depth, found }
 }
 
 /// Prints the answer to the request of the line of this number, or why there is none.
@@ -58,12 +122,9 @@ fn answer_perft(rt: &(impl Print + Clock), position: &Position, depth: u8) -> io
     requires { depth ≤ 16 }
 {
     let start = Instant::now(rt)?;
-    let count = perft(position, depth);
+    let reply = counted(position, depth);
     let seconds = start.elapsed(rt)?.as_secs_f64();
-    match count {
-        Some(count) => println!(rt; "perft {depth} {count} {seconds:.3}"),
-        None => println!(rt; "perft {depth} too-many {seconds:.3}"),
-    }
+    println!(rt; "{reply} {seconds:.3}")
 }
 
 fn answer_search<M: Memo>(
@@ -75,8 +136,7 @@ fn answer_search<M: Memo>(
     requires { depth ≤ 16 }
 {
     let start = Instant::now(rt)?;
-    let Found { value, best, steps } = search(position, depth, memo);
+    let reply = found(position, depth, memo);
     let seconds = start.elapsed(rt)?.as_secs_f64();
-    let best = BestMove(best);
-    println!(rt; "search {depth} {value} {best} {steps} {seconds:.3}")
+    println!(rt; "{reply} {seconds:.3}")
 }

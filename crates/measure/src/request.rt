@@ -1,10 +1,11 @@
 //! What a line asks for.
 
-ghost use Rattle.std.specs.Prelude.{◌≡◌, ◌≤◌, ◌<◌, IfOk, IfSome};
+ghost use Rattle.std.specs.Prelude.{◌≡◌, ◌≤◌, ◌<◌, IfOk, IfSome, Some};
 ghost use Rattle.std.specs.Option.{option_copied};
 ghost use Rattle.std.specs.Str.{bytes_eq};
 ghost use Rattle.shogi_sfen.specs.Sfen.{position_at};
 ghost use Rattle.shogi_sfen.specs.Words.{words};
+ghost use Rattle.measure.specs.Answers.{fault_text, refusal_text};
 ghost use Rattle.measure.specs.Ranges.{HasRange};
 ghost use Rattle.measure.specs.Requests.{number_to, alone, of_sfen, place_of, placed, perft_of, search_of, request_of};
 
@@ -56,20 +57,30 @@ pub enum Refusal {
 }
 
 impl fmt::Display for Refusal {
+    ghost output = { λ refusal. Some (refusal_text refusal) };
+
     fn fmt<W: fmt::Write>(&self, f: &mut fmt::Formatter<W>) -> fmt::Result {
-        match self {
-            Refusal::UnknownWord => write!(f, "the first word is neither `perft` nor `search`"),
-            Refusal::BadDepth => write!(f, "the depth is not a number from 0 to 16"),
-            Refusal::BadEntries => write!(f, "the entries are not a number from 0 to 1000000"),
-            Refusal::BadPosition(fault) => write!(f, "{}", reason(*fault)),
-            Refusal::FurtherWords => write!(f, "words follow the request"),
-            Refusal::NotText => write!(f, "it is not UTF-8"),
-            Refusal::OutOfMemory => write!(f, "there is no memory for the table"),
-        }
+        write!(f, "{}", reason(*self))
     }
 }
 
-fn reason(fault: SfenFault) -> &'static str {
+fn reason(refusal: Refusal) -> &'static str
+    ensures { result.now ≡ refusal_text refusal }
+{
+    match refusal {
+        Refusal::UnknownWord => "the first word is neither `perft` nor `search`",
+        Refusal::BadDepth => "the depth is not a number from 0 to 16",
+        Refusal::BadEntries => "the entries are not a number from 0 to 1000000",
+        Refusal::BadPosition(fault) => fault_reason(fault),
+        Refusal::FurtherWords => "words follow the request",
+        Refusal::NotText => "it is not UTF-8",
+        Refusal::OutOfMemory => "there is no memory for the table",
+    }
+}
+
+fn fault_reason(fault: SfenFault) -> &'static str
+    ensures { result.now ≡ fault_text fault }
+{
     match fault {
         SfenFault::BadBoard => "the position is neither `startpos` nor begins with a board",
         SfenFault::BadSide => "the side to move is neither `b` nor `w`",
@@ -204,3 +215,6 @@ pub fn read(line: &str) -> Result<Request, Refusal>
         _ => Err(Refusal::UnknownWord),
     }
 }
+
+#[cfg(test)]
+mod tests;
