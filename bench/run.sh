@@ -10,6 +10,7 @@ log=$(rt run </dev/null 2>&1) || {
 
 many_drops='R8/2K1S1SSk/4B4/9/9/9/9/9/1L1L1L3 b RBGSNLP3g3n17p 1'
 middle_game='l6nl/5+P1gk/2np1S3/p1p4Pp/3P2Sp1/1PPb2P1P/P5GS1/R8/LN4bKL w RGgsn5p 1'
+played_game='8l/1l+R2P3/p2pBG1pp/kps1p4/Nn1P2G2/P1P1P2PP/1PS6/1KSG3+r1/LN2+p3L w Sbgn3p 124'
 columns='%-7s %-11s %5s %7s %6s %-6s %11s %8s %10s\n'
 
 # row NAME REQUEST: NAME is that of the position, REQUEST a line that `measure` reads.
@@ -28,11 +29,17 @@ for depth in 1 2 3 4; do
     row opening "perft $depth"
 done
 row many-drops "perft 1 $many_drops"
-for entries in 0 100000; do
-    for depth in 1 2 3 4 5; do
+for depth in 1 2 3 4 5 6; do
+    row opening "search $depth 0"
+done
+for entries in 4096 1000000; do
+    for depth in 3 4 5; do
         row opening "search $depth $entries"
     done
 done
-for depth in 1 2 3; do
+for depth in 1 2 3 4; do
     row middle-game "search $depth 0 $middle_game"
+done
+for depth in 1 2 3 4; do
+    row played-game "search $depth 0 $played_game"
 done

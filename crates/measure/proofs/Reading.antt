@@ -1,9 +1,8 @@
 -- A request read word by word, and the end of an SFEN.
-use Rattle.std.proofs.Common.{◌≡◌, ◌∙◌, ◌∷◌, ℕ, ◌≤◌, List, length, Option, Some, None, Bor, refl, sym, ap, arith}
-use Rattle.std.specs.Prelude.{Result, Ok, Err, slice_get, codes}
+use Rattle.std.proofs.Common.{◌≡◌, ◌∙◌, ℕ, ◌≤◌, List, length, Option, Some, None, Bor, sym, ap, arith}
+use Rattle.std.specs.Prelude.{Ok, Err, slice_get}
 use Rattle.std.specs.Option.{option_copied}
 use Rattle.shogi_core.specs.Position.{Shogi, Held}
-use Rattle.shogi_core.specs.Start.{start}
 use Rattle.shogi_core.specs.Movement.{Cells}
 use Rattle.shogi_core.specs.Validity.{fault_of}
 use Rattle.shogi_core.specs.declared.piece.Color.{Color}
@@ -13,7 +12,7 @@ use Rattle.shogi_sfen.specs.Sfen.{position_at, position_by, judged, end_of}
 use Rattle.shogi_sfen.proofs.PositionLaws.{gives_first, gives_more}
 use Rattle.measure.specs.declared.request.Refusal.TheVariants.{BadDepth, BadEntries}
 use Rattle.measure.specs.declared.request.Work.TheVariants.{Perft, Search}
-use Rattle.measure.specs.Requests.{number_to, alone, place_by, place_of, placed, perft_by, perft_of, search_by, search_of}
+use Rattle.measure.specs.Requests.{number_to, place_of, placed, perft_by, perft_of, search_by, search_of}
 
 judged_end : (fault : Option PositionFault) (p q : Shogi) (e end : ℕ) → judged fault p e ≡ Ok (q, end) → e ≡ end
 judged_end None p q e end h = let same : (p, e) ≡ (q, end) = cc in ap (λ (x : Shogi × ℕ). x.1) same

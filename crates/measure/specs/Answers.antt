@@ -5,7 +5,6 @@ use Rattle.shogi_core.specs.declared.moves.Move.{Move}
 use Rattle.shogi_core.specs.declared.validity.PositionFault.TheVariants.{TooMany, TwoKings, TwoPawns, DeadPiece, KingOpen}
 use Rattle.shogi_core.specs.Position.{Shogi}
 use Rattle.shogi_moves.specs.LegalMoves.{paths}
-use Rattle.shogi_search.specs.declared.found.Found.{Found}
 use Rattle.shogi_search.specs.Minimax.{value, best, tree}
 use Rattle.shogi_sfen.specs.MoveTexts.{text_of}
 use Rattle.shogi_sfen.specs.declared.position.SfenFault.{SfenFault}

@@ -140,3 +140,6 @@ fn answer_search<M: Memo>(
     let seconds = start.elapsed(rt)?.as_secs_f64();
     println!(rt; "{reply} {seconds:.3}")
 }
+
+#[cfg(test)]
+mod tests;

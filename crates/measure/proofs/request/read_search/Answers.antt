@@ -1,4 +1,4 @@
-use Rattle.std.proofs.Common.{◌≡◌, ◌∙◌, ap, subst, ℕ, List}
+use Rattle.std.proofs.Common.{◌∙◌, ap, subst, ℕ, List}
 use Rattle.shogi_sfen.specs.Words.{GivesWord}
 use Rattle.measure.specs.declared.request.Work.TheVariants.{Search}
 use Rattle.measure.specs.Requests.{place_of, placed}
