@@ -5,25 +5,32 @@ use Rattle.shogi_core.specs.declared.moves.Move.{Move}
 use Rattle.shogi_core.specs.declared.validity.PositionFault.TheVariants.{TooMany, TwoKings, TwoPawns, DeadPiece, KingOpen}
 use Rattle.shogi_core.specs.Position.{Shogi}
 use Rattle.shogi_moves.specs.LegalMoves.{paths}
+use Rattle.shogi_search.specs.declared.found.Found.{Found}
 use Rattle.shogi_search.specs.Minimax.{value, best, tree}
 use Rattle.shogi_sfen.specs.MoveTexts.{text_of}
 use Rattle.shogi_sfen.specs.declared.position.SfenFault.{SfenFault}
 use Rattle.shogi_sfen.specs.declared.position.SfenFault.TheVariants.{BadBoard, BadSide, BadHand, Invalid}
 use Rattle.measure.specs.declared.answer.Reply.{Reply}
 use Rattle.measure.specs.declared.answer.Reply.TheVariants.{Perft, Search}
+use Rattle.measure.specs.declared.request.Work.{Work}
+use Rattle.measure.specs.declared.request.Work.TheVariants as works
 use Rattle.measure.specs.declared.request.Refusal.{Refusal}
 use Rattle.measure.specs.declared.request.Refusal.TheVariants.{UnknownWord, BadDepth, BadEntries, BadPosition, FurtherWords, NotText, OutOfMemory}
 
--- the number of sequences of so many legal moves, which is left out from 2^64 up
-abbrev pub IsCounted : Shogi → ℕ → Reply → Type 0
-IsCounted p n (Perft depth (Some count)) = (depth ≡ n) × (count ≡ paths p n)
-IsCounted p n (Perft depth None) = (depth ≡ n) × (2 ^ 64 ≤ paths p n)
-IsCounted p n (Search depth found) = ⊥
+-- how many sequences of n legal moves there are, which is left out from 2^64 up
+abbrev pub IsCount : Shogi → ℕ → Option ℕ → Type 0
+IsCount p n (Some count) = count ≡ paths p n
+IsCount p n None = 2 ^ 64 ≤ paths p n
 
 -- the value and the best move at a depth, after at most two steps for each node of the tree
-abbrev pub IsFound : Shogi → ℕ → Reply → Type 0
-IsFound p n (Perft depth count) = ⊥
-IsFound p n (Search depth found) = (depth ≡ n) × (found.value ≡ value p n) × (found.best ≡ best p n) × (found.steps ≤ 2 * tree p n)
+abbrev pub IsFound : Shogi → ℕ → Found → Type 0
+IsFound p n found = (found.value ≡ value p n) × (found.best ≡ best p n) × (found.steps ≤ 2 * tree p n)
+
+-- the reply to the work at a position, to the depth asked for
+abbrev pub IsReply : Work → Shogi → ℕ → Reply → Type 0
+IsReply works.Perft p n (Perft depth count) = (depth ≡ n) × IsCount p n count
+IsReply (works.Search entries) p n (Search depth found) = (depth ≡ n) × IsFound p n found
+IsReply _ p n _ = ⊥
 
 -- a best move, or `none`
 abbrev pub best_text : Option Move → List ℕ

@@ -17,12 +17,12 @@ use Rattle.measure.specs.declared.request.Work.TheVariants.{Perft, Search}
 abbrev pub at_most : ℕ → ℕ → Option ℕ
 at_most most n = cond (nat_lt most n) None (Some n)
 
--- the number of a word, where there is one, it is digits of any number, and what they write is at most this
+-- the number that a word of digits writes, where there is such a word and its number is at most this
 abbrev pub number_to : ℕ → Option (List ℕ) → Option ℕ
 number_to most None = None
 number_to most (Some word) = cond (is_number word) (at_most most (number_of word)) None
 
--- a position, where no word follows it
+-- a position, where no word follows
 abbrev pub alone : Shogi → List (List ℕ) → Result Shogi Refusal
 alone p [] = Ok p
 alone p (word ∷ more) = Err FurtherWords

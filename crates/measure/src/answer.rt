@@ -1,12 +1,12 @@
 //! What a request is answered by.
 
 ghost use Rattle.std.specs.Prelude.{◌≤◌, Some};
-ghost use Rattle.measure.specs.Answers.{IsCounted, IsFound, reply_text, best_text, count_text};
+ghost use Rattle.measure.specs.Answers.{IsReply, reply_text, best_text, count_text};
 ghost use Rattle.measure.specs.Ranges.{HasRange};
 
 use crate::request::{Refusal, Request, Work};
 use shared_table::SharedTable;
-use shogi_core::{Move, Position};
+use shogi_core::Move;
 use shogi_moves::perft;
 use shogi_search::{Found, Memo, NoMemo, search};
 use shogi_sfen::write_move;
@@ -76,22 +76,23 @@ impl fmt::Display for BestMove {
     }
 }
 
-/// Counts the sequences of so many legal moves.
-fn counted(position: &Position, depth: u8) -> Reply
-    requires { depth ≤ 16 }
-    ensures { IsCounted position.now depth result }
+/// Does what the request asks for. Only a search asks the memo.
+fn reply_to<M: Memo>(request: &Request, memo: &mut M) -> Reply
+    requires { request.now.depth ≤ 16 }
+    ensures { IsReply request.now.work request.now.position request.now.depth result }
 {
-    let count = perft(position, depth);
-    Reply::Perft { depth, count }
-}
-
-/// Searches at the depth.
-fn found<M: Memo>(position: &Position, depth: u8, memo: &mut M) -> Reply
-    requires { depth ≤ 16 }
-    ensures { IsFound position.now depth result }
-{
-    let found = search(position, depth, memo);
-    Reply::Search { depth, found }
+    let depth = request.depth;
+    let position = &request.position;
+    match request.work {
+        Work::Perft => {
+            let count = perft(position, depth);
+            Reply::Perft { depth, count }
+        }
+        Work::Search { .. } => {
+            let found = search(position, depth, memo);
+            Reply::Search { depth, found }
+        }
+    }
 }
 
 /// Prints the answer to the request of the line of this number, or why there is none.
@@ -99,14 +100,12 @@ pub fn answer(rt: &HostRuntime, number: usize, request: &Request) -> io::Result<
     requires depth { request.now.depth ≤ 16 }
     requires entries { HasRange request.now.work }
 {
-    let position = &request.position;
     match request.work {
-        Work::Perft => answer_perft(rt, position, request.depth),
-        Work::Search { entries: 0 } => answer_search(rt, position, request.depth, &mut NoMemo),
+        Work::Perft | Work::Search { entries: 0 } => answer_over(rt, request, &mut NoMemo),
         Work::Search { entries } => {
             let hasher = BuildHasherDefault::<FoldHasher>::new();
             match SharedTable::new(rt.alloc(), entries, hasher) {
-                Ok(mut table) => answer_search(rt, position, request.depth, &mut table),
+                Ok(mut table) => answer_over(rt, request, &mut table),
                 Err(_) => refuse(rt, number, Refusal::OutOfMemory),
             }
         }
@@ -118,25 +117,16 @@ pub fn refuse(rt: &impl Eprint, number: usize, refusal: Refusal) -> io::Result<(
     eprintln!(rt; "measure: line {number}: {refusal}")
 }
 
-fn answer_perft(rt: &(impl Print + Clock), position: &Position, depth: u8) -> io::Result<()>
-    requires { depth ≤ 16 }
-{
-    let start = Instant::now(rt)?;
-    let reply = counted(position, depth);
-    let seconds = start.elapsed(rt)?.as_secs_f64();
-    println!(rt; "{reply} {seconds:.3}")
-}
-
-fn answer_search<M: Memo>(
+/// Prints the answer over the memo, with its time.
+fn answer_over<M: Memo>(
     rt: &(impl Print + Clock),
-    position: &Position,
-    depth: u8,
+    request: &Request,
     memo: &mut M,
 ) -> io::Result<()>
-    requires { depth ≤ 16 }
+    requires { request.now.depth ≤ 16 }
 {
     let start = Instant::now(rt)?;
-    let reply = found(position, depth, memo);
+    let reply = reply_to(request, memo);
     let seconds = start.elapsed(rt)?.as_secs_f64();
     println!(rt; "{reply} {seconds:.3}")
 }

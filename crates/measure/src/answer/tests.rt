@@ -1,6 +1,6 @@
-use super::{Reply, counted, found};
-use crate::request::Refusal;
-use shogi_core::{Kind, Move, Position, PositionFault, Square};
+use super::{Reply, reply_to};
+use crate::request::{Refusal, read};
+use shogi_core::{Kind, Move, PositionFault, Square};
 use shogi_search::{Found, NoMemo};
 use shogi_sfen::SfenFault;
 use std::test::Fail;
@@ -50,12 +50,17 @@ fn texts_of_replies(rt: HostRuntime) -> Result<(), Fail> {
 // least code is best.
 #[test]
 fn replies_of_the_opening_position(rt: HostRuntime) -> Result<(), Fail> {
-    let position = Position::start();
-    for (depth, wanted) in [(0, "perft 0 1"), (1, "perft 1 30"), (2, "perft 2 900")] {
-        let text = format!(in rt.alloc(); "{}", counted(&position, depth))?;
+    for (line, wanted) in [
+        ("perft 0", "perft 0 1"),
+        ("perft 1", "perft 1 30"),
+        ("perft 2 startpos", "perft 2 900"),
+    ] {
+        let request = read(line)?;
+        let text = format!(in rt.alloc(); "{}", reply_to(&request, &mut NoMemo))?;
         assert_eq!(rt; text.as_str(), wanted);
     }
-    let text = format!(in rt.alloc(); "{}", found(&position, 1, &mut NoMemo))?;
+    let request = read("search 1 0")?;
+    let text = format!(in rt.alloc(); "{}", reply_to(&request, &mut NoMemo))?;
     assert!(rt; text.as_str().starts_with("search 1 0 1g1f "), "{text}");
     Ok(())
 }
