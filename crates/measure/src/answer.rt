@@ -71,6 +71,7 @@ impl fmt::Display for BestMove {
         let text = write_move(best);
         match str::from_utf8(text.as_slice()) {
             Ok(text) => write!(f, "{text}"),
+            // The text of a move is ASCII.
             Err(_) => Err(fmt::Error),
         }
     }
