@@ -2,6 +2,7 @@
 
 ghost use Rattle.std.specs.Prelude.{◌≡◌, ◌≤ℤ◌, true, pos, negsuc};
 ghost use Rattle.shogi_core.specs.Codes.{code_of};
+ghost use Rattle.shogi_core.specs.Start.{start};
 ghost use Rattle.shogi_core.specs.Validity.{IsValid};
 ghost use Rattle.shogi_moves.specs.After.{after, after_code};
 ghost use Rattle.shogi_moves.specs.Legal.{is_legal};
@@ -45,6 +46,17 @@ impl Node {
     {
         let score = material(&position);
         Node { position, score }
+    }
+
+    /// The node of the opening position, whose sides have the same.
+    #[tactic(auto, using(crate::proofs::Opening::start_even))]
+    pub fn start() -> Node
+        ensures { result ≡ start }
+    {
+        Node {
+            position: Position::start(),
+            score: 0,
+        }
     }
 
     /// The position.

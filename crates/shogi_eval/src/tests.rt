@@ -9,6 +9,7 @@ use std::test::Fail;
 fn even_at_the_opening(rt: HostRuntime) {
     let start = Position::start();
     assert_eq!(rt; material(&start), 0);
+    assert_eq!(rt; Node::start().score(), 0);
     if let Some(m) = next_legal(&start, None) {
         let node = Node::of(start).play(m);
         assert_eq!(rt; (node.score(), node.position().side()), (0, Color::White));

@@ -47,6 +47,7 @@ fn skip_drop(p: &Position, kind: Kind, code: u16) -> u16
 }
 
 /// The first code from the given one on that is worth a test.
+#[inline(always)]
 #[tactic(auto, using(crate::proofs::NoSafeLaws::no_safe_here))]
 pub fn skip(p: &Position, code: u16) -> u16
     requires { code < 13689 }

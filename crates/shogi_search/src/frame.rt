@@ -17,7 +17,7 @@ ghost use Rattle.shogi_search.specs.Window.{IsCovered, bar, code_at};
 use crate::memo::Entry;
 use crate::order::{Cursor, moves_at, next_visit};
 use crate::window::bar;
-use shogi_core::{Kind, Move, Position, Square};
+use shogi_core::{Kind, Move, Square};
 use shogi_eval::Node;
 use shogi_moves::has_legal;
 
@@ -239,6 +239,6 @@ impl Frame {
 
 impl Default for Frame {
     fn default() -> Self {
-        Frame::new(Node::of(Position::start()), 0, -1, 1, None)
+        Frame::new(Node::start(), 0, -1, 1, None)
     }
 }
