@@ -1,33 +1,12 @@
--- A request read word by word, and the end of an SFEN.
-use Rattle.std.proofs.Common.{◌≡◌, ◌∙◌, ℕ, ◌≤◌, List, length, Option, Some, None, Bor, sym, ap, arith}
-use Rattle.std.specs.Prelude.{Ok, Err, slice_get}
+-- A request read word by word.
+use Rattle.std.proofs.Common.{◌≡◌, ◌∙◌, ℕ, List, Option, Some, None, Bor, sym, ap}
+use Rattle.std.specs.Prelude.{Err, slice_get}
 use Rattle.std.specs.Option.{option_copied}
-use Rattle.shogi_core.specs.Position.{Shogi, Held}
-use Rattle.shogi_core.specs.Movement.{Cells}
-use Rattle.shogi_core.specs.Validity.{fault_of}
-use Rattle.shogi_core.specs.declared.piece.Color.{Color}
-use Rattle.shogi_core.specs.declared.validity.PositionFault.{PositionFault}
 use Rattle.shogi_sfen.specs.Words.{words, after_word, GivesWord}
-use Rattle.shogi_sfen.specs.Sfen.{position_at, position_by, judged, end_of}
 use Rattle.shogi_sfen.proofs.PositionLaws.{gives_first, gives_more}
 use Rattle.measure.specs.declared.request.Refusal.TheVariants.{BadDepth, BadEntries}
 use Rattle.measure.specs.declared.request.Work.TheVariants.{Perft, Search}
 use Rattle.measure.specs.Requests.{number_to, place_of, placed, perft_by, perft_of, search_by, search_of}
-
-judged_end : (fault : Option PositionFault) (p q : Shogi) (e end : ℕ) → judged fault p e ≡ Ok (q, end) → e ≡ end
-judged_end None p q e end h = let same : (p, e) ≡ (q, end) = cc in ap (λ (x : Shogi × ℕ). x.1) same
-judged_end (Some fault) p q e end h = absurd (cc)
-
-parts_end : (cells : Option Cells) (side : Option Color) (hands : Option Held) (e : ℕ) (q : Shogi) (end : ℕ) → position_by cells side hands e ≡ Ok (q, end) → e ≡ end
-parts_end None side hands e q end h = absurd (cc)
-parts_end (Some cells) None hands e q end h = absurd (cc)
-parts_end (Some cells) (Some side) None e q end h = absurd (cc)
-parts_end (Some cells) (Some side) (Some hands) e q end h = judged_end (fault_of (record { cells = cells; hands = hands; side = side })) _ q e end h
-
--- an SFEN ends within its text
-pub end_fits : (text : List ℕ) (p : Shogi) (end : ℕ) → position_at text ≡ Ok (p, end) → end ≤ length text
-unfolding position_at
-end_fits text p end h = let same : end_of text ≡ end = parts_end _ _ _ _ _ _ h in omega arith
 
 module _ (text rest : List ℕ) (depth : Option (Bor (List ℕ))) (first : GivesWord text depth rest) where
   -- the depth of `perft` is none

@@ -133,7 +133,6 @@ fn alone(position: Position, text: &[u8]) -> Result<Position, Refusal>
     }
 }
 
-#[tactic(auto, using(crate::proofs::Reading::end_fits))]
 fn read_sfen(text: &[u8]) -> Result<Position, Refusal>
     ensures { result ≡ of_sfen text.now (position_at text.now) }
 {

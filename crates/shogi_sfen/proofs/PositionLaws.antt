@@ -1,6 +1,6 @@
 -- A position word by word.
 use Rattle.std.proofs.Common.{◌≡◌, ℕ, ◌-◌, ◌≤◌, refl, sym, ◌∙◌, ap, arith, List, length, Option, Some, None, Bor}
-use Rattle.std.specs.Prelude.{suc, IfSome, MatchOption, Result, Ok, Err, slice_get}
+use Rattle.std.specs.Prelude.{suc, IfOk, IfSome, MatchOption, Result, Ok, Err, slice_get}
 use Rattle.std.specs.List.{position_or_len}
 use Rattle.std.specs.Option.{option_map, option_and_then, option_copied}
 use Rattle.std.proofs.lemmas.List.{length-drop}
@@ -13,6 +13,7 @@ use Rattle.shogi_sfen.specs.Words.{is_blank, words, from_word, after_word, Gives
 use Rattle.shogi_sfen.specs.BoardTexts.{board_of}
 use Rattle.shogi_sfen.specs.HandTexts.{hands_of, capped}
 use Rattle.shogi_sfen.specs.Sfen.{side_of, judged, position_by, position_at, past_number, end_of}
+use Rattle.shogi_sfen.specs.declared.position.SfenFault.{SfenFault}
 use Rattle.shogi_sfen.specs.declared.position.SfenFault.TheVariants.{BadBoard, BadSide, BadHand, Invalid}
 use Rattle.shogi_sfen.proofs.TooManyHeld.{parts, judged-capped, hands_of-len}
 
@@ -111,3 +112,19 @@ gives_after_hands text rest (Some word) hands g e = g.1
 pub ends_at : (text r1 r2 r3 after : List ℕ) → r1 ≡ after_word text → r2 ≡ after_word r1 → r3 ≡ after_word r2 → after ≡ past_number r3 → length text - length after ≡ end_of text
 ends_at text r1 r2 r3 after a b c d =
     ap (λ (t : List ℕ). length text - length t) (d ∙ ap past_number (c ∙ (ap after_word b ∙ ap (λ (t : List ℕ). after_word (after_word t)) a)))
+
+judged_end : (fault : Option PositionFault) (p q : Shogi) (e end : ℕ) → judged fault p e ≡ Ok (q, end) → e ≡ end
+judged_end None p q e end h = let same : (p, e) ≡ (q, end) = cc in ap (λ (x : Shogi × ℕ). x.1) same
+judged_end (Some fault) p q e end h = absurd (cc)
+
+parts_end : (cells : Option Cells) (side : Option Color) (hands : Option Held) (e : ℕ) (q : Shogi) (end : ℕ) → position_by cells side hands e ≡ Ok (q, end) → e ≡ end
+parts_end None side hands e q end h = absurd (cc)
+parts_end (Some cells) None hands e q end h = absurd (cc)
+parts_end (Some cells) (Some side) None e q end h = absurd (cc)
+parts_end (Some cells) (Some side) (Some hands) e q end h = judged_end (fault_of (record { cells = cells; hands = hands; side = side })) _ q e end h
+
+-- a position ends within its text
+pub end_within : (text : List ℕ) (r : Result (Shogi × ℕ) SfenFault) → r ≡ position_at text → IfOk r (λ got. got.1 ≤ length text)
+unfolding position_at
+end_within text (Ok got) told = let same : end_of text ≡ got.1 = parts_end _ _ _ _ got.0 got.1 (sym told) in omega arith
+end_within text (Err fault) told = tt

@@ -135,6 +135,7 @@ fn position_at(text: &[u8]) -> Result<(Position, usize), SfenFault>
 /// that no set has is `TooMany`, however long it is.
 pub fn read_position(text: &[u8]) -> Result<(Position, usize), SfenFault>
     ensures value { result ≡ position_at text.now }
+    ensures within { IfOk result (λ found. found.1 ≤ length text.now) }
     ensures spelled { IfOk result (λ found. Spells (words text.now) found.0 × IsValid found.0) }
     ensures read { (p : Shogi) → Spells (words text.now) p → IsValid p → result ≡ Ok (p, end_of text.now) }
     ensures bad_board { (result ≡ Err BadBoard) ↔ (HasBoard (words text.now) → ⊥) }

@@ -1,14 +1,9 @@
 -- One move more of a `position` line.
-use Rattle.std.proofs.Common.{◌≡◌, ℕ, ◌+◌, ◌≤◌, List, [], ◌∷◌, length, Option, Some, None, Ok, Err, refl, ap, arith}
+use Rattle.std.proofs.Common.{◌≡◌, ℕ, ◌+◌, ◌≤◌, List, [], ◌∷◌, length, Some, None, Ok, Err, refl, arith}
 use Rattle.std.specs.List.{slice_split}
 use Rattle.std.proofs.lemmas.List.Splits.{length-slice_split}
 use Rattle.std.proofs.lemmas.List.Sums.{length-filter, count_by-le-length}
-use Rattle.shogi_core.specs.Position.{Shogi, Held}
-use Rattle.shogi_core.specs.Movement.{Cells}
-use Rattle.shogi_core.specs.Validity.{fault_of}
-use Rattle.shogi_core.specs.declared.piece.Color.{Color}
-use Rattle.shogi_core.specs.declared.validity.PositionFault.{PositionFault}
-use Rattle.shogi_sfen.specs.Sfen.{position_at, position_by, judged, end_of}
+use Rattle.shogi_core.specs.Position.{Shogi}
 use Rattle.shogi_sfen.specs.Words.{words, has_bytes, is_blank}
 use Rattle.shogi_sfen.specs.MoveTexts.{move_of_text}
 use Rattle.usi_session.specs.declared.placing.Refusal.TheVariants.{IllegalMove}
@@ -35,18 +30,3 @@ unfolding words
 length-words text =
     let parts : List (List ℕ) = slice_split is_blank text in
     omega (arith, length-filter has_bytes parts, count_by-le-length has_bytes parts, length-slice_split is_blank text, count_by-le-length is_blank text)
-
-judged_end : (fault : Option PositionFault) (p q : Shogi) (e end : ℕ) → judged fault p e ≡ Ok (q, end) → e ≡ end
-judged_end None p q e end h = let same : (p, e) ≡ (q, end) = cc in ap (λ (x : Shogi × ℕ). x.1) same
-judged_end (Some fault) p q e end h = absurd (cc)
-
-parts_end : (cells : Option Cells) (side : Option Color) (hands : Option Held) (e : ℕ) (q : Shogi) (end : ℕ) → position_by cells side hands e ≡ Ok (q, end) → e ≡ end
-parts_end None side hands e q end h = absurd (cc)
-parts_end (Some cells) None hands e q end h = absurd (cc)
-parts_end (Some cells) (Some side) None e q end h = absurd (cc)
-parts_end (Some cells) (Some side) (Some hands) e q end h = judged_end (fault_of (record { cells = cells; hands = hands; side = side })) _ q e end h
-
--- an SFEN ends within its text
-pub end_fits : (text : List ℕ) (p : Shogi) (end : ℕ) → position_at text ≡ Ok (p, end) → end ≤ length text
-unfolding position_at
-end_fits text p end h = let same : end_of text ≡ end = parts_end _ _ _ _ _ _ h in omega arith

@@ -72,7 +72,6 @@ pub fn position_of_start(text: &[u8]) -> Result<Position, Refusal>
 
 /// The position of `position sfen ..`, by the bytes after that word. A fault of the SFEN comes before
 /// one of what follows it.
-#[tactic(auto, using(crate::proofs::Placed::end_fits))]
 pub fn position_of_sfen(text: &[u8]) -> Result<Position, Refusal>
     ensures { result ≡ position_of_sfen text.now }
 {
