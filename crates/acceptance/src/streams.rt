@@ -9,20 +9,21 @@ use std::process::Abort;
 use std::test::Fail;
 use usi_stdio::{StdioFault, stdio};
 
-fn assert_row(rt: &impl Abort, alloc: Global, row: Row) -> Result<(), Fail> {
+fn assert_row(rt: &impl Abort, alloc: Global, row: &Row, entries: usize) -> Result<(), Fail> {
+    assert!(rt; entries >= 1 && entries <= 1000000);
     let mut reader = row.sent.as_bytes();
     let mut writer = Vec::new(alloc);
     let answer = joined(alloc, row.answer)?;
     let sent = row.sent;
     assert_eq!(rt;
-        stdio(alloc, &mut reader, &mut writer, 4096),
+        stdio(alloc, &mut reader, &mut writer, entries),
         Ok(()),
-        "after {sent:?}"
+        "after {sent:?} with {entries} entries"
     );
     assert_eq!(rt;
         std::str::from_utf8(writer.as_slice())?,
         answer.as_str(),
-        "after {sent:?}"
+        "after {sent:?} with {entries} entries"
     );
     Ok(())
 }
@@ -30,7 +31,7 @@ fn assert_row(rt: &impl Abort, alloc: Global, row: Row) -> Result<(), Fail> {
 #[test]
 fn rows_of_quick_lines(rt: HostRuntime) -> Result<(), Fail> {
     for row in QUICK {
-        assert_row(&rt, rt.alloc(), row)?;
+        assert_row(&rt, rt.alloc(), &row, 4096)?;
     }
     Ok(())
 }
@@ -38,7 +39,9 @@ fn rows_of_quick_lines(rt: HostRuntime) -> Result<(), Fail> {
 #[test]
 fn rows_of_deep_searches(rt: HostRuntime) -> Result<(), Fail> {
     for row in DEEP {
-        assert_row(&rt, rt.alloc(), row)?;
+        for entries in [1, 2, 4096] {
+            assert_row(&rt, rt.alloc(), &row, entries)?;
+        }
     }
     Ok(())
 }
@@ -46,10 +49,10 @@ fn rows_of_deep_searches(rt: HostRuntime) -> Result<(), Fail> {
 #[test]
 fn rows_of_positions(rt: HostRuntime) -> Result<(), Fail> {
     for row in MATES {
-        assert_row(&rt, rt.alloc(), row)?;
+        assert_row(&rt, rt.alloc(), &row, 4096)?;
     }
     for row in MOVES {
-        assert_row(&rt, rt.alloc(), row)?;
+        assert_row(&rt, rt.alloc(), &row, 4096)?;
     }
     Ok(())
 }
