@@ -7,7 +7,7 @@ use Rattle.shogi_core.specs.Cell.{is_of}
 use Rattle.shogi_core.specs.Codes.{move_of}
 use Rattle.shogi_core.specs.Movement.{piece_at}
 use Rattle.shogi_core.specs.Position.{Shogi}
-use Rattle.shogi_moves.specs.Captures.{captures, sorted, is_capture, is_of_sort, is_wanted, HasNoneWanted}
+use Rattle.shogi_moves.specs.Captures.{captures, is_asked, is_capture, is_of_sort, is_wanted, HasNoneWanted}
 use Rattle.shogi_moves.specs.Legal.{is_legal, is_legal_code, is_legal_move}
 use Rattle.shogi_moves.specs.LegalMoves.{legal_from}
 use Rattle.shogi_moves.specs.NoSafe.{HasNoSafe}
@@ -35,25 +35,25 @@ pub none_square : (p : Shogi) (capture : Bool) (from code end : ℕ) → from < 
 none_square p capture from code end small low high e = none_safe p capture code end (idle_square p from code end small low high e)
 
 -- the target is of the other sort
-pub none_target : (p : Shogi) (capture : Bool) (from to code end : ℕ) → from < 81 → to < 81 → from * 162 + to * 2 ≤ code → end ≤ from * 162 + to * 2 + 2 → sorted capture (is_some (piece_at p.cells to)) ≡ false → HasNoneWanted p capture code end
+pub none_target : (p : Shogi) (capture : Bool) (from to code end : ℕ) → from < 81 → to < 81 → from * 162 + to * 2 ≤ code → end ≤ from * 162 + to * 2 + 2 → is_asked capture (is_some (piece_at p.cells to)) ≡ false → HasNoneWanted p capture code end
 none_target p capture from to code end hf ht low high e = record {
   none = λ c above below.
       let there : c / 2 % 81 ≡ to = omega arith in
       let sort : is_capture p c ≡ is_some (piece_at p.cells (c / 2 % 81)) = sort_of p c _ (board_code c (omega arith)) in
-      and_right _ _ (ap (sorted capture) (sort ∙ ap (λ (k : ℕ). is_some (piece_at p.cells k)) there) ∙ e);
+      and_right _ _ (ap (is_asked capture) (sort ∙ ap (λ (k : ℕ). is_some (piece_at p.cells k)) there) ∙ e);
 }
 
 -- drops take nothing
-pub none_drop : (p : Shogi) (capture : Bool) (code end : ℕ) → 13122 ≤ code → end ≤ 13689 → sorted capture false ≡ false → HasNoneWanted p capture code end
+pub none_drop : (p : Shogi) (capture : Bool) (code end : ℕ) → 13122 ≤ code → end ≤ 13689 → is_asked capture false ≡ false → HasNoneWanted p capture code end
 none_drop p capture code end low high e = record {
-  none = λ c above below. and_right _ _ (ap (sorted capture) (sort_of p c _ (drop_code c (omega arith) (omega arith))) ∙ e);
+  none = λ c above below. and_right _ _ (ap (is_asked capture) (sort_of p c _ (drop_code c (omega arith) (omega arith))) ∙ e);
 }
 
 -- such runs join, so they grow target by target
 none_join : (p : Shogi) (capture : Bool) (first middle end : ℕ) → HasNoneWanted p capture first middle → HasNoneWanted p capture middle end → HasNoneWanted p capture first end
 none_join p capture first middle end h k = record { none = λ code low high. elim (cases_lt code middle) [ inl below ↦ h.none code low below | inr above ↦ k.none code above high ] }
 
-pub none_grows : (p : Shogi) (capture : Bool) (from to code : ℕ) → from < 81 → to < 81 → code ≤ from * 162 + to * 2 → sorted capture (is_some (piece_at p.cells to)) ≡ false → HasNoneWanted p capture code (from * 162 + to * 2) → HasNoneWanted p capture code (from * 162 + (to + 1) * 2)
+pub none_grows : (p : Shogi) (capture : Bool) (from to code : ℕ) → from < 81 → to < 81 → code ≤ from * 162 + to * 2 → is_asked capture (is_some (piece_at p.cells to)) ≡ false → HasNoneWanted p capture code (from * 162 + to * 2) → HasNoneWanted p capture code (from * 162 + (to + 1) * 2)
 none_grows p capture from to code hf ht low e h = none_join p capture code (from * 162 + to * 2) (from * 162 + (to + 1) * 2) h (none_target p capture from to (from * 162 + to * 2) (from * 162 + (to + 1) * 2) hf ht (omega arith) (omega arith) e)
 
 pub ruleset idle = (none_safe, none_here, none_square, none_target, none_drop)
@@ -95,13 +95,13 @@ pub unwanted_none : (p : Shogi) (capture : Bool) (code : ℕ) → move_of code �
 unfolding is_legal_code
 unwanted_none p capture code e = left_fails _ _ (ap (is_legal_move p) e)
 
-pub unwanted_sort : (p : Shogi) (capture : Bool) (code : ℕ) (m : Move) → move_of code ≡ Some m → sorted capture (captures p (Some m)) ≡ false → is_wanted p capture code ≡ false
-unwanted_sort p capture code m back e = and_right _ _ (ap (sorted capture) (sort_of p code m back) ∙ e)
+pub unwanted_sort : (p : Shogi) (capture : Bool) (code : ℕ) (m : Move) → move_of code ≡ Some m → is_asked capture (captures p (Some m)) ≡ false → is_wanted p capture code ≡ false
+unwanted_sort p capture code m back e = and_right _ _ (ap (is_asked capture) (sort_of p code m back) ∙ e)
 
 pub unwanted_illegal : (p : Shogi) (capture : Bool) (code : ℕ) (m : Move) → move_of code ≡ Some m → is_legal p m ≡ false → is_wanted p capture code ≡ false
 unwanted_illegal p capture code m back e = left_fails _ _ (is_legal_code_of p code m back ∙ e)
 
-pub wanted_if : (p : Shogi) (capture : Bool) (code : ℕ) (m : Move) → move_of code ≡ Some m → sorted capture (captures p (Some m)) ≡ true → is_legal p m ≡ true → is_wanted p capture code ≡ true
-wanted_if p capture code m back sort legal = and_from _ _ (is_legal_code_of p code m back ∙ legal) (ap (sorted capture) (sort_of p code m back) ∙ sort)
+pub wanted_if : (p : Shogi) (capture : Bool) (code : ℕ) (m : Move) → move_of code ≡ Some m → is_asked capture (captures p (Some m)) ≡ true → is_legal p m ≡ true → is_wanted p capture code ≡ true
+wanted_if p capture code m back sort legal = and_from _ _ (is_legal_code_of p code m back ∙ legal) (ap (is_asked capture) (sort_of p code m back) ∙ sort)
 
 pub ruleset wanted = (unwanted_none, unwanted_sort, unwanted_illegal, wanted_if)

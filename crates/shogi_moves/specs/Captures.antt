@@ -18,13 +18,13 @@ unfoldable pub is_capture : Shogi → ℕ → Bool
 is_capture p code = captures p (move_of code)
 
 -- captures, or all but captures, as asked
-abbrev pub sorted : Bool → Bool → Bool
-sorted true takes = takes
-sorted false takes = not takes
+abbrev pub is_asked : Bool → Bool → Bool
+is_asked true takes = takes
+is_asked false takes = not takes
 
 -- the code is that of a move of the sort
 abbrev pub is_of_sort : Shogi → Bool → ℕ → Bool
-is_of_sort p capture code = sorted capture (is_capture p code)
+is_of_sort p capture code = is_asked capture (is_capture p code)
 
 -- the code is that of a legal move of the sort
 abbrev pub is_wanted : Shogi → Bool → ℕ → Bool

@@ -3,7 +3,7 @@
 ghost use Rattle.std.specs.Prelude.{◌≡◌, ◌≤◌, ◌<◌, ◌*◌, ◌+◌, true, false, [], ◌∷◌, IfSome, IsNone, MatchOption, Some, is_some, filter};
 ghost use Rattle.shogi_core.specs.Codes.{code_of};
 ghost use Rattle.shogi_core.specs.Movement.{piece_at};
-ghost use Rattle.shogi_moves.specs.Captures.{captures, sorted, is_of_sort, is_wanted, HasNoneWanted};
+ghost use Rattle.shogi_moves.specs.Captures.{captures, is_asked, is_of_sort, is_wanted, HasNoneWanted};
 ghost use Rattle.shogi_moves.specs.Legal.{is_legal};
 ghost use Rattle.shogi_moves.specs.LegalMoves.{legal_from, legal_above};
 
@@ -21,26 +21,11 @@ fn is_capture(p: &Position, m: &Move) -> bool
     }
 }
 
-/// Whether the move is of the sort: a capture, or another move.
-fn is_of_sort(p: &Position, capture: bool, m: &Move) -> bool
-    ensures { result ≡ sorted capture (captures p.now (Some m.now)) }
+/// Whether what takes a piece, or takes none, is of the sort that is asked for.
+fn is_asked(capture: bool, takes: bool) -> bool
+    ensures { result ≡ is_asked capture takes }
 {
-    if capture {
-        is_capture(p, m)
-    } else {
-        !is_capture(p, m)
-    }
-}
-
-/// Whether a board move to the square is of the sort.
-fn is_target(p: &Position, capture: bool, to: Square) -> bool
-    ensures { result ≡ sorted capture (is_some (piece_at p.now.cells to)) }
-{
-    if capture {
-        p.at(to).is_some()
-    } else {
-        p.at(to).is_none()
-    }
+    if capture { takes } else { !takes }
 }
 
 /// The first code after those of a target that is not of the sort, and of all such targets that
@@ -48,7 +33,7 @@ fn is_target(p: &Position, capture: bool, to: Square) -> bool
 #[tactic(auto, using(crate::proofs::CaptureLaws::idle))]
 fn skip_targets(p: &Position, capture: bool, from: Square, to: Square, code: u16) -> u16
     requires code { ((from * 81 + to) * 2 ≤ code) × (code ≤ (from * 81 + to) * 2 + 1) }
-    requires other { sorted capture (is_some (piece_at p.now.cells to)) ≡ false }
+    requires other { is_asked capture (is_some (piece_at p.now.cells to)) ≡ false }
     ensures bounds { (code < result) × (result ≤ 13122) }
     ensures none { HasNoneWanted p.now capture code result }
 {
@@ -57,7 +42,7 @@ fn skip_targets(p: &Position, capture: bool, from: Square, to: Square, code: u16
         return first + 162;
     }
     let mut next = to.index() + 1;
-    'targets: while next < 81 && !is_target(p, capture, Square::of_index(next)) {
+    'targets: while next < 81 && !is_asked(capture, p.at(Square::of_index(next)).is_some()) {
         next += 1;
     }
     first + next as u16 * 2
@@ -67,7 +52,7 @@ fn skip_targets(p: &Position, capture: bool, from: Square, to: Square, code: u16
 #[tactic(auto, using(crate::proofs::CaptureLaws::none_drop))]
 fn skip_drops(p: &Position, capture: bool, code: u16) -> u16
     requires code { (13122 ≤ code) × (code < 13689) }
-    requires other { sorted capture false ≡ false }
+    requires other { is_asked capture false ≡ false }
     ensures bounds { (code < result) × (result ≤ 13689) }
     ensures none { HasNoneWanted p.now capture code result }
 {
@@ -84,7 +69,7 @@ fn skip_sort(p: &Position, capture: bool, code: u16) -> u16
     let Some(m) = Move::of_code(code) else {
         return code;
     };
-    if is_of_sort(p, capture, &m) {
+    if is_asked(capture, is_capture(p, &m)) {
         return skip(p, code);
     }
     match &m {
@@ -105,7 +90,7 @@ fn wanted_of(p: &Position, capture: bool, code: u16) -> Option<Move>
     ensures code { IfSome result (λ m. code_of m ≡ code) }
 {
     let m = Move::of_code(code)?;
-    if is_of_sort(p, capture, &m) && is_legal_move(p, &m) {
+    if is_asked(capture, is_capture(p, &m)) && is_legal_move(p, &m) {
         Some(m)
     } else {
         None
