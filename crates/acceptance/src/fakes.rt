@@ -1,4 +1,4 @@
-//! A reader and a writer that fail at a chosen call.
+//! A reader and a writer that fail at a chosen call, and a writer that notes its flushes.
 
 use std::alloc::Global;
 use std::io::{Error, ErrorKind, Read, Result, Write};
@@ -86,5 +86,47 @@ impl Write for FailingWriter {
         }
         self.flushes -= 1;
         Ok(())
+    }
+}
+
+/// Takes all bytes, and notes how many it had at each flush.
+#[derive(Drop)]
+pub struct NotingWriter {
+    written: Vec<u8>,
+    flushed: Vec<usize>,
+}
+
+impl NotingWriter {
+    pub fn new(alloc: Global) -> NotingWriter {
+        NotingWriter {
+            written: Vec::new(alloc),
+            flushed: Vec::new(alloc),
+        }
+    }
+
+    /// The bytes that were taken.
+    pub fn written(&self) -> &[u8] {
+        self.written.as_slice()
+    }
+
+    /// How many bytes had been taken at each flush.
+    pub fn flushed(&self) -> &[usize] {
+        self.flushed.as_slice()
+    }
+}
+
+impl Write for NotingWriter {
+    fn write(&mut self, buf: &[u8]) -> Result<usize> {
+        match self.written.extend_from_slice(buf) {
+            Ok(()) => Ok(buf.len()),
+            Err(_) => Err(Error::from(ErrorKind::OutOfMemory)),
+        }
+    }
+
+    fn flush(&mut self) -> Result<()> {
+        match self.flushed.push(self.written.len()) {
+            Ok(()) => Ok(()),
+            Err(_) => Err(Error::from(ErrorKind::OutOfMemory)),
+        }
     }
 }

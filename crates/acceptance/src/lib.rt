@@ -12,6 +12,8 @@ mod rows;
 #[cfg(test)]
 mod sessions;
 #[cfg(test)]
+mod slices;
+#[cfg(test)]
 mod streams;
 #[cfg(test)]
 mod tables;

@@ -17,7 +17,8 @@ usiok
 
 const READY: &str = "readyok\n";
 
-const INFO_ONE: &str = "info depth 1 score cp 0 pv 1g1f\n";
+/// What is said of the opening position at depth 1.
+pub const INFO_ONE: &str = "info depth 1 score cp 0 pv 1g1f\n";
 
 const BEST_ONE: &str = "bestmove 1g1f\n";
 
@@ -51,6 +52,22 @@ pub const STORED: Row = Row {
     sent: "usi\nisready\nposition startpos moves 7g7f\nquit\nisready\n",
     answer: &[USI, READY],
 };
+
+/// The opening position at depths 1 to 3.
+pub const SLICED: [Row; 3] = [
+    Row {
+        sent: "go depth 1\n",
+        answer: &[INFO_ONE, BEST_ONE],
+    },
+    Row {
+        sent: "go depth 2\n",
+        answer: &[INFO_TWO, BEST_TWO],
+    },
+    Row {
+        sent: "go depth 3\nisready\n",
+        answer: &[INFO_THREE, BEST_THREE, READY],
+    },
+];
 
 /// Searches of the opening position to depth 3.
 pub const DEEP: [Row; 6] = [

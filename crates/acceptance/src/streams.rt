@@ -183,7 +183,8 @@ fn writers_of_one_byte_and_of_none(rt: HostRuntime) -> Result<(), Fail> {
     Ok(())
 }
 
-// Heaps of growing sizes, from nothing on: out of memory with a front of the answer, or all of it.
+// Heaps of growing sizes, from nothing on: out of memory with a front of the answer, or all of it. The
+// largest block is the search in hand, and the small ones come before and after it.
 fn assert_refusals(
     rt: &impl Abort,
     alloc: Global,
@@ -196,19 +197,20 @@ fn assert_refusals(
     let mut reader = sent.as_bytes();
     stdio(alloc, &mut reader, &mut whole, entries)?;
     let (mut refused, mut passed) = (false, false);
-    for blocks in 0..120usize {
-        let heap = LocalHeap::new(alloc, blocks.saturating_mul(step))?;
+    for blocks in 0..200usize {
+        let size = blocks.saturating_mul(step);
+        let heap = LocalHeap::new(alloc, size)?;
         let mut reader = FailingReader::new(sent.as_bytes(), 16, usize::MAX);
         let mut writer = Vec::new(alloc);
         match stdio(&heap, &mut reader, &mut writer, entries) {
             Ok(()) => {
                 passed = true;
-                assert_eq!(rt; writer, whole, "{blocks} blocks");
+                assert_eq!(rt; writer, whole, "{size} bytes");
             }
             Err(fault) => {
                 refused = true;
-                assert_eq!(rt; fault, StdioFault::OutOfMemory, "{blocks} blocks");
-                assert!(rt; whole.starts_with(writer.as_slice()), "{blocks} blocks");
+                assert_eq!(rt; fault, StdioFault::OutOfMemory, "{size} bytes");
+                assert!(rt; whole.starts_with(writer.as_slice()), "{size} bytes");
             }
         }
     }
@@ -218,9 +220,11 @@ fn assert_refusals(
 
 #[test]
 fn refused_memory(rt: HostRuntime) -> Result<(), Fail> {
+    let quick = "usi\nposition startpos moves 7g7f 7g7f\nstop\nquit\n";
+    assert_refusals(&rt, rt.alloc(), quick, 4, 32)?;
     let many = "usi\ngo infinite depth 2\nposition startpos moves 7g7f 7g7f\nstop\nquit\n";
-    assert_refusals(&rt, rt.alloc(), many, 4, 32)?;
+    assert_refusals(&rt, rt.alloc(), many, 4, 320)?;
     let deep = "position startpos\ngo depth 3\n";
-    assert_refusals(&rt, rt.alloc(), deep, 1, 32)?;
+    assert_refusals(&rt, rt.alloc(), deep, 1, 320)?;
     assert_refusals(&rt, rt.alloc(), deep, 4096, 4096)
 }

@@ -20,6 +20,17 @@ pub enum Move {
     },
 }
 
+/// Some move, for tables that are not filled yet.
+impl Default for Move {
+    fn default() -> Move {
+        Move::Board {
+            from: Square::default(),
+            to: Square::default(),
+            promote: false,
+        }
+    }
+}
+
 /// The kind of a number from 0 to 6.
 fn kind_at(n: usize) -> Kind
     ensures { result ≡ kind_at n }

@@ -9,7 +9,7 @@ use crate::piece::Color;
 use std::marker::Model;
 
 /// A square, seen as its index: `1a` is 0, `1i` is 8, `5a` is 36 and `9i` is 80.
-#[derive(Clone, Copy, Debug, PartialEq, Eq, Hash)]
+#[derive(Clone, Copy, Debug, Default, PartialEq, Eq, Hash)]
 pub struct Square {
     index: u8,
 }

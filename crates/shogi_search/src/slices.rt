@@ -1,6 +1,6 @@
 //! A search that goes on in slices.
 
-ghost use Rattle.std.specs.Prelude.{◌≡◌, ◌≤◌, ◌<◌, ◌+◌, ◌*◌, ◌-◌, ◌^◌, ◌≤ℤ◌, pos, negsuc, true, false, Some, None, IfSome, IfNone, IsSome, min};
+ghost use Rattle.std.specs.Prelude.{◌≡◌, ◌≤◌, ◌<◌, ◌+◌, ◌*◌, ◌-◌, ◌^◌, ◌≤ℤ◌, pos, negsuc, true, false, Some, None, IfSome, IfNone, OnSome, IsSome, min};
 ghost use Rattle.std.specs.Option.{ForSome};
 ghost use Rattle.shogi_moves.specs.Legal.{is_legal};
 ghost use Rattle.shogi_search.specs.Minimax.{value, best, tree, IsTrueEntry};
@@ -114,6 +114,8 @@ impl Search {
         ensures bound { IfSome result (λ f. f.steps ≤ 2 * tree self.old.root self.old.depth) }
         ensures root { (self.new.root ≡ self.old.root) × (self.new.depth ≡ self.old.depth) }
         ensures found { self.new.found ≡ result }
+        ensures over { OnSome result (self.new.left ≡ 0) }
+        ensures unfinished { IfNone result (0 < self.new.left) }
 
         // Until the end the whole budget is used.
         ensures all { IfNone result (self.new.steps ≡ min (self.old.steps + budget) (2 ^ 64 - 1)) }
@@ -148,6 +150,9 @@ impl Search {
         ensures fell { self.new.steps + left_of self.new ≤ self.old.steps + left_of self.old }
 
         ensures again { ForSome self.old.found (λ f. (result ≡ Some f) × (self.new ≡ self.old) × (memo.new ≡ memo.old)) }
+        // Once it has ended nothing is left, and until then something is.
+        ensures over { OnSome result (self.new.left ≡ 0) }
+        ensures unfinished { IfNone result (0 < self.new.left) }
         ensures known { self.old.begun ≡ false → IsExactly (M.answers memo.old self.old.root self.old.depth) → IsSome result × (self.new.steps ≡ self.old.steps) }
     {
         if self.found.is_some() {

@@ -1,5 +1,6 @@
 pub mod Appends
 pub mod Placed
+pub mod HandLaws
 pub mod Walk
 pub mod Infos
 pub mod Steps

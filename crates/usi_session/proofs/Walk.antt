@@ -1,30 +1,51 @@
--- The walk along a best line.
-use Rattle.std.proofs.Common.{◌≡◌, ℕ, ◌-◌, ◌<◌, ◌≤◌, List, [], ◌∷◌, ◌++◌, Option, Some, None, IfSome, sym, ap, ◌∙◌, arith, append_assoc}
+-- The walk along the best line, one search at a time.
+use Rattle.std.proofs.Common.{◌≡◌, ℕ, ◌+◌, ◌-◌, ◌*◌, ◌<◌, ◌≤◌, ℤ, List, [], ◌∷◌, ◌++◌, Option, Some, None, sym, ap, ◌∙◌, arith, append_assoc, append-nil}
 use Rattle.shogi_core.specs.declared.moves.Move.{Move}
 use Rattle.shogi_core.specs.Position.{Shogi}
 use Rattle.shogi_moves.specs.After.{after}
-use Rattle.shogi_search.specs.Minimax.{best, line}
-use Rattle.shogi_search.proofs.Lines.{line-above, line-leaf}
-use Rattle.usi_session.specs.Going.{then_on}
+use Rattle.shogi_search.specs.Minimax.{value, best, line, tree, chase, then_chase}
+use Rattle.shogi_search.proofs.Lines.{line-leaf, line-none, line-some, chase-above}
+use Rattle.shogi_search.proofs.MinimaxLaws.{best-leaf}
+use Rattle.usi_session.specs.Texts.{info_line, said_line}
+use Rattle.usi_session.specs.InHand.{InHand, at_depth, load_of, lines_on}
+use Rattle.usi_session.proofs.HandLaws.{lines_on-more, load_at_depth}
 
--- from the start it is the whole line
-pub then_on-start : (p : Shogi) (depth : ℕ) (b : Option Move) → 0 < depth → b ≡ best p depth → then_on p depth b ≡ line p depth
-then_on-start p depth b h e = rw e (sym (line-above p depth h))
+-- there is no best move: the line ends
+pub walked_none : (moves all : List Move) (at : Shogi) (plies : ℕ) (b : Option Move) → 0 < plies → b ≡ best at plies → b ≡ None → moves ++ line at plies ≡ all → moves ++ line at 0 ≡ all
+walked_none moves all at plies b h e n w =
+    ap (λ xs. moves ++ xs) (line-leaf at ∙ sym (line-none at plies h (sym e ∙ n))) ∙ w
 
--- one move on, with plies left
-pub walk_on : (moves all : List Move) (at next : Shogi) (left : ℕ) (m : Move) (b : Option Move) → 0 < left - 1 → next ≡ after at m → b ≡ best next (left - 1) → moves ++ then_on at left (Some m) ≡ all → (moves ++ m ∷ []) ++ then_on next (left - 1) b ≡ all
-walk_on moves all at next left m b h e f whole =
-    let same : then_on next (left - 1) b ≡ line (after at m) (left - 1) = then_on-start next (left - 1) b h f ∙ ap (λ q. line q (left - 1)) e in
-    append_assoc moves (m ∷ []) (then_on next (left - 1) b) ∙ (ap (λ rest. moves ++ m ∷ rest) same ∙ whole)
+-- one move on
+pub walked_some : (moves more all : List Move) (at next : Shogi) (plies : ℕ) (m : Move) (b : Option Move) → 0 < plies → b ≡ best at plies → b ≡ Some m → more ≡ moves ++ m ∷ [] → next ≡ after at m → moves ++ line at plies ≡ all → more ++ line next (plies - 1) ≡ all
+walked_some moves more all at next plies m b h e n f g w =
+    ap (λ xs. xs ++ line next (plies - 1)) f
+    ∙ (append_assoc moves (m ∷ []) (line next (plies - 1))
+    ∙ (ap (λ q. moves ++ m ∷ line q (plies - 1)) g
+    ∙ (ap (λ xs. moves ++ xs) (sym (line-some at plies m h (sym e ∙ n))) ∙ w)))
 
--- the last move of the line
-pub walk_ends : (moves all : List Move) (at : Shogi) (left : ℕ) (m : Move) → left - 1 ≤ 0 → moves ++ then_on at left (Some m) ≡ all → (moves ++ m ∷ []) ++ [] ≡ all
-walk_ends moves all at left m h whole =
-    let none : left - 1 ≡ 0 = omega arith in
-    let ends : line (after at m) (left - 1) ≡ [] = ap (λ n. line (after at m) n) none ∙ line-leaf (after at m) in
-    append_assoc moves (m ∷ []) [] ∙ (ap (λ rest. moves ++ m ∷ rest) (sym ends) ∙ whole)
+-- the line is whole
+pub walked_all : (moves all : List Move) (at : Shogi) (plies : ℕ) → plies ≡ 0 → moves ++ line at plies ≡ all → moves ≡ all
+walked_all moves all at plies e w =
+    sym (append-nil moves) ∙ (ap (λ xs. moves ++ xs) (sym (ap (line at) e ∙ line-leaf at)) ∙ w)
 
--- plies are left for whatever is there
-pub lasts : (n : ℕ) (b : Option Move) → 0 < n → IfSome b (λ m. 0 < n)
-lasts n None h = tt
-lasts n (Some m) h = h
+-- no search follows a whole line
+pub load_ends : (next : Shogi) (plies rest left more : ℕ) → plies ≡ 0 → left ≡ 0 → left + (then_chase (λ q. chase q (plies - 1)) next (best next plies) + rest) ≤ more + rest
+load_ends next plies rest left more e f = let b : best next 0 ≡ None = best-leaf next in rw (e, b, f) (omega arith)
+
+-- the next search along the line, and those after it, cost what was said of them before
+pub load_goes_on : (at next : Shogi) (plies rest left : ℕ) (m : Move) (b : Option Move) → 0 < plies - 1 → b ≡ best at plies → b ≡ Some m → next ≡ after at m → left ≡ 2 * tree next (plies - 1) → left + (then_chase (λ q. chase q (plies - 1 - 1)) next (best next (plies - 1)) + rest) ≤ then_chase (λ q. chase q (plies - 1)) at (best at plies) + rest
+load_goes_on at next plies rest left m b h e n g f =
+    let s : best at plies ≡ Some m = sym e ∙ n in
+    let c : chase next (plies - 1) ≡ 2 * tree next (plies - 1) + then_chase (λ q. chase q (plies - 1 - 1)) next (best next (plies - 1)) = chase-above next (plies - 1) h in
+    rw (s, ← g) (omega arith)
+
+-- a depth that was told is a line more
+pub told_more : (p : Shogi) (told depth : ℕ) (old new : List ℕ) (v : ℤ) (moves : List Move) → told < depth → v ≡ value p (told + 1) → moves ≡ line p (told + 1) → new ≡ old ++ said_line (told + 1) v moves → new ++ lines_on p (told + 1) (depth - (told + 1)) ≡ old ++ lines_on p told (depth - told)
+told_more p told depth old new v moves h e f g =
+    let said : new ≡ old ++ info_line p (told + 1) = rw (← e, ← f) g in
+    ap (λ xs. xs ++ lines_on p (told + 1) (depth - (told + 1))) said
+    ∙ (append_assoc old (info_line p (told + 1)) (lines_on p (told + 1) (depth - (told + 1))) ∙ ap (λ xs. old ++ xs) (sym (lines_on-more p told depth h)))
+
+-- the next depth, and those above it, cost no more
+pub load_next_depth : (s : InHand) → s.told + 1 < s.depth → load_of (at_depth s.root s.depth s.hold (s.told + 1)) ≤ load_of s
+load_next_depth s h = omega (arith, load_at_depth s.root s.depth s.hold (s.told + 1) h)

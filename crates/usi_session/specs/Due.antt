@@ -1,36 +1,69 @@
 -- A session between two calls, and what it owes (own choice).
-use Rattle.std.specs.Prelude.{ℕ, ◌≤◌, List, [], ◌∷◌, ◌++◌, length, Bool, true, false, ◌&&◌, not, nat_lt}
+use Rattle.std.specs.Prelude.{◌≡◌, ℕ, ◌+◌, ◌*◌, ◌≤◌, List, [], ◌∷◌, ◌++◌, length, Bool, true, false, ◌&&◌, ◌||◌, not, nat_lt, cond, Option, None, Some, is_some, ◌<◌}
 use Rattle.usi_lines.specs.Lines.{Buffer, Line, ahead}
 use Rattle.usi_session.specs.declared.state.State.{State}
-use Rattle.usi_session.specs.Answer.{opening}
+use Rattle.usi_session.specs.Answer.{Answer, opening}
+use Rattle.usi_session.specs.InHand.{InHand, goes_on_if, load_of_if, turns_of_if}
 use Rattle.usi_session.specs.Replies.{replies_from}
+use Rattle.usi_session.specs.Costs.{costs_from}
 
--- the state after the lines that were answered, the replies not yet taken, and what was fed and not yet answered
+-- the state after the lines that were answered, the `go` in hand, the replies not yet taken, and what was fed and not yet answered
 pub record Talk : Type 0 where
   pub state : State
+  pub going : Option InHand
   pub queued : List ℕ
   pub input : Buffer
 
--- what is owed once these further bytes were fed: the queued bytes, and the replies to the lines ahead
+-- what the `go` in hand still says, and then the replies to the lines from the state after it
+abbrev pub owed_after : Answer → List Line → List ℕ
+owed_after a ahead = a.bytes ++ replies_from a.state ahead
+
+-- nothing, where the session is over
+abbrev pub owed : State → Option InHand → List Line → List ℕ
+owed s going ahead = cond s.is_over [] (owed_after (goes_on_if s going) ahead)
+
+-- what is owed once these further bytes were fed: the queued bytes, the rest of the `go` in hand, and the replies to the lines ahead
 abbrev pub due : Talk → List ℕ → List ℕ
-due s further = s.queued ++ replies_from s.state (ahead s.input further)
+due s further = s.queued ++ owed s.state s.going (ahead s.input further)
+
+-- the steps that may still be made: for the `go` in hand, and for each `go` in these lines
+abbrev pub load_ahead : State → Option InHand → List Line → ℕ
+load_ahead s going ahead = load_of_if going + costs_from (goes_on_if s going).state ahead
+
+-- the same for the lines that are there
+abbrev pub load : Talk → ℕ
+load s = load_ahead s.state s.going (ahead s.input [])
 
 -- a line is there
 abbrev pub has_line : List Line → Bool
 has_line [] = false
 has_line (line ∷ rest) = true
 
--- alive, with an unread line
+-- alive, with a `go` in hand or an unread line
 abbrev pub is_pending : Talk → Bool
-is_pending s = not s.state.is_over && has_line (ahead s.input [])
+is_pending s = not s.state.is_over && (is_some s.going || has_line (ahead s.input []))
+
+-- a `go` is in hand, and a search of it is not at its end
+abbrev pub IsSearching : Option InHand → Type 0
+IsSearching None = ⊥
+IsSearching (Some go) = (0 < go.plies) × (0 < go.left)
+
+-- the line of the depth in hand is whole
+abbrev pub IsWhole : Option InHand → Type 0
+IsWhole None = ⊥
+IsWhole (Some go) = go.plies ≡ 0
+
+-- the turns that may still be taken: at most so many for each line, and one for each search that may end
+abbrev pub turns : Talk → ℕ
+turns s = 400 * length (ahead s.input []) + turns_of_if s.going
 
 -- alive, nothing pending, and fewer than 65,536 bytes queued
 abbrev pub wants_input : Talk → Bool
-wants_input s = not s.state.is_over && not (has_line (ahead s.input [])) && nat_lt (length s.queued) 65536
+wants_input s = not s.state.is_over && not (is_some s.going || has_line (ahead s.input [])) && nat_lt (length s.queued) 65536
 
 -- nothing read, nothing queued
 abbrev pub new_talk : Talk
-new_talk = record { state = opening; queued = []; input = record { unread = []; closed = false } }
+new_talk = record { state = opening; going = None; queued = []; input = record { unread = []; closed = false } }
 
 -- from 1 to 16
 pub record IsDepth (depth : ℕ) : Type 0 where

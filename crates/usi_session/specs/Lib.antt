@@ -3,4 +3,7 @@ pub mod Placing
 pub mod Going
 pub mod Answer
 pub mod Replies
+pub mod InHand
+pub mod Walked
+pub mod Costs
 pub mod Due

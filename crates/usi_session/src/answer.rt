@@ -1,18 +1,23 @@
 //! The answers to commands.
 
-ghost use Rattle.std.specs.Prelude.{◌≡◌, ◌≤◌, ◌++◌, OnOk, unwrap_or, Result};
+ghost use Rattle.std.specs.Prelude.{◌≡◌, ◌≤◌, ◌++◌, IfOk, OnOk, unwrap_or, Result, None, true, false, []};
 ghost use Rattle.shogi_core.specs.Position.{Shogi};
 ghost use Rattle.usi_lines.specs.Seen.{meaning_of, line_of};
 ghost use Rattle.usi_lines.specs.Commands.{HasDepthInRange};
-ghost use Rattle.usi_session.specs.Answer.{answer, placed, gone, let_go, ponder_hit};
+ghost use Rattle.usi_session.specs.Answer.{answer, placed, gone, released, let_go, ponder_hit};
+ghost use Rattle.usi_session.specs.Costs.{cost_of_command, cost_to};
 ghost use Rattle.usi_session.specs.Replies.{answer_to};
+ghost use Rattle.usi_session.specs.InHand.{goes_on_if, with_rest, load_of_if, turns_of_if};
+ghost use Rattle.shogi_search.specs.Minimax.{cost};
 
-use crate::go::write_infos;
+use crate::going::Going;
 use crate::placing::{Refusal, position_of_sfen, position_of_start};
 use crate::state::{Held, State};
-use crate::text::{write_bad_position, write_bestmove, write_illegal_move, write_usi};
+use crate::text::{
+    write_bad_position, write_bestmove, write_illegal_move, write_no_mate, write_usi,
+};
 use shogi_core::Position;
-use shogi_search::Memo;
+use shogi_moves::has_legal;
 use std::alloc::{AllocError, Allocator};
 use usi_lines::{Command, Hold, Line, read_command};
 
@@ -35,35 +40,53 @@ fn place<A: Allocator>(
     }
 }
 
-/// Searches the position, says what was found at each depth, and writes or holds the bestmove.
-fn go<M: Memo, A: Allocator + Copy>(
+/// Writes a bestmove or holds it. What was held is dropped.
+pub fn release<A: Allocator>(
+    out: &mut Vec<u8, A>,
+    state: &mut State,
+    choice: Held,
+) -> Result<(), AllocError>
+    ensures bytes { OnOk result (out.new.items ≡ out.old.items ++ (released state.old [] choice choice.until).bytes) }
+    ensures state { OnOk result (state.new ≡ (released state.old [] choice choice.until).state) }
+{
+    match choice.until {
+        Hold::Nothing => {
+            write_bestmove(out, &choice.best, &choice.ponder)?;
+            state.held = None;
+        }
+        Hold::UntilStop | Hold::UntilHit => state.held = Some(choice),
+    }
+    Ok(())
+}
+
+/// Takes a `go` in hand; where no move is legal it is answered at once.
+fn go<A: Allocator + Copy>(
     alloc: A,
     out: &mut Vec<u8, A>,
     state: &mut State,
     depth: u8,
     hold: Hold,
-    memo: &mut M,
-) -> Result<u64, AllocError>
+) -> Result<Option<Going<A>>, AllocError>
     requires low { 1 ≤ depth }
     requires high { depth ≤ 16 }
-    ensures bytes { OnOk result (out.new.items ≡ out.old.items ++ (gone state.old depth hold).bytes) }
-    ensures state { OnOk result (state.new ≡ (gone state.old depth hold).state) }
+    ensures bytes { IfOk result (λ going. with_rest out.new.items state.new going ≡ out.old.items ++ (gone state.old depth hold).bytes) }
+    ensures state { IfOk result (λ going. (goes_on_if state.new going).state ≡ (gone state.old depth hold).state) }
+    ensures load { IfOk result (λ going. load_of_if going ≤ cost state.old.position depth) }
+    ensures turns { IfOk result (λ going. turns_of_if going ≤ 300) }
+    ensures depth { OnOk result (state.new.depth ≡ state.old.depth) }
+    ensures alive { OnOk result (state.new.is_over ≡ state.old.is_over) }
 {
-    let choice = write_infos(alloc, out, &state.position, depth, memo)?;
-    match hold {
-        Hold::Nothing => {
-            write_bestmove(out, &choice.best, &choice.ponder)?;
-            state.held = None;
-        }
-        Hold::UntilStop | Hold::UntilHit => {
-            state.held = Some(Held {
-                best: choice.best,
-                ponder: choice.ponder,
-                until: hold,
-            });
-        }
+    if has_legal(&state.position) {
+        let going = Going::start(alloc, &state.position, depth, hold)?;
+        return Ok(Some(going));
     }
-    Ok(choice.steps)
+    let choice = Held {
+        best: None,
+        ponder: None,
+        until: hold,
+    };
+    release(out, state, choice)?;
+    Ok(None)
 }
 
 /// Writes the held bestmove, if there is one, and holds nothing any more.
@@ -93,19 +116,21 @@ fn hit<A: Allocator>(out: &mut Vec<u8, A>, state: &mut State) -> Result<(), Allo
     }
 }
 
-/// Answers a command, and gives the steps of search that were made for it.
-pub fn answer<M: Memo, A: Allocator + Copy>(
+/// Answers a command, or takes a `go` in hand.
+pub fn answer<A: Allocator + Copy>(
     alloc: A,
     out: &mut Vec<u8, A>,
     state: &mut State,
     command: Command<'_>,
-    memo: &mut M,
-) -> Result<u64, AllocError>
+) -> Result<Option<Going<A>>, AllocError>
     requires low { 1 ≤ state.old.depth }
     requires high { state.old.depth ≤ 16 }
     requires depth { HasDepthInRange (meaning_of command) }
-    ensures bytes { OnOk result (out.new.items ≡ out.old.items ++ (answer state.old (meaning_of command.entry)).bytes) }
-    ensures state { OnOk result (state.new ≡ (answer state.old (meaning_of command.entry)).state) }
+    ensures bytes { IfOk result (λ going. with_rest out.new.items state.new going ≡ out.old.items ++ (answer state.old (meaning_of command.entry)).bytes) }
+    ensures state { IfOk result (λ going. (goes_on_if state.new going).state ≡ (answer state.old (meaning_of command.entry)).state) }
+    ensures load { IfOk result (λ going. load_of_if going ≤ cost_of_command state.old (meaning_of command.entry)) }
+    ensures turns { IfOk result (λ going. turns_of_if going ≤ 300) }
+    ensures over { IfOk result (λ going. state.old.is_over ≡ false → state.new.is_over ≡ true → going ≡ None) }
     ensures low { OnOk result (1 ≤ state.new.depth) }
     ensures high { OnOk result (state.new.depth ≤ 16) }
 {
@@ -122,10 +147,10 @@ pub fn answer<M: Memo, A: Allocator + Copy>(
         Command::BadPosition => write_bad_position(out, 0)?,
         Command::Go { depth, hold } => {
             let depth = depth.unwrap_or(state.depth);
-            return go(alloc, out, state, depth, hold, memo);
+            return go(alloc, out, state, depth, hold);
         }
         Command::GoMate => {
-            out.extend_from_slice(b"checkmate notimplemented\n")?;
+            write_no_mate(out)?;
             state.held = None;
         }
         Command::Stop => stop(out, state)?,
@@ -137,31 +162,33 @@ pub fn answer<M: Memo, A: Allocator + Copy>(
         }
         Command::Other => {}
     }
-    Ok(0)
+    Ok(None)
 }
 
-/// Answers a line; one that is too long ends the session.
-pub fn answer_line<M: Memo, A: Allocator + Copy>(
+/// Answers a line, or takes its `go` in hand; one that is too long ends the session.
+pub fn answer_line<A: Allocator + Copy>(
     alloc: A,
     out: &mut Vec<u8, A>,
     state: &mut State,
     line: Line<'_>,
-    memo: &mut M,
-) -> Result<u64, AllocError>
+) -> Result<Option<Going<A>>, AllocError>
     requires low { 1 ≤ state.old.depth }
     requires high { state.old.depth ≤ 16 }
-    ensures bytes { OnOk result (out.new.items ≡ out.old.items ++ (answer_to state.old (line_of line.entry)).bytes) }
-    ensures state { OnOk result (state.new ≡ (answer_to state.old (line_of line.entry)).state) }
+    ensures bytes { IfOk result (λ going. with_rest out.new.items state.new going ≡ out.old.items ++ (answer_to state.old (line_of line.entry)).bytes) }
+    ensures state { IfOk result (λ going. (goes_on_if state.new going).state ≡ (answer_to state.old (line_of line.entry)).state) }
+    ensures load { IfOk result (λ going. load_of_if going ≤ cost_to state.old (line_of line.entry)) }
+    ensures turns { IfOk result (λ going. turns_of_if going ≤ 300) }
+    ensures over { IfOk result (λ going. state.old.is_over ≡ false → state.new.is_over ≡ true → going ≡ None) }
     ensures low { OnOk result (1 ≤ state.new.depth) }
     ensures high { OnOk result (state.new.depth ≤ 16) }
 {
     match line {
-        Line::Text(text) => answer(alloc, out, state, read_command(text), memo),
+        Line::Text(text) => answer(alloc, out, state, read_command(text)),
         Line::TooLong => {
             out.extend_from_slice(b"info string line too long\n")?;
             state.held = None;
             state.is_over = true;
-            Ok(0)
+            Ok(None)
         }
     }
 }

@@ -2,8 +2,7 @@
 #![tactic(auto)]
 
 mod answer;
-mod go;
-mod line;
+mod going;
 mod output;
 mod placing;
 mod session;

@@ -1,11 +1,12 @@
 //! One USI session.
 
-ghost use Rattle.std.specs.Prelude.{◌≡◌, ◌≤◌, ◌++◌, ℕ, List, [], true, false, OnOk, OnErr, length, take, drop, ◌<◌};
-ghost use Rattle.usi_session.specs.Due.{Talk, due, is_pending, wants_input, new_talk};
+ghost use Rattle.std.specs.Prelude.{◌≡◌, ◌≤◌, ◌++◌, ℕ, List, [], true, false, OnOk, OnErr, IfOk, OnSome, IfSome, IfNone, None, length, take, drop, ◌<◌, ◌+◌};
+ghost use Rattle.usi_session.specs.Due.{Talk, due, load, turns, is_pending, wants_input, new_talk, IsSearching, IsWhole};
 ghost use Rattle.usi_session.specs.Replies.{replies};
 ghost use Rattle.usi_lines.specs.Lines.{ahead};
 
-use crate::answer::answer_line;
+use crate::answer::{answer_line, release};
+use crate::going::Going;
 use crate::output::Output;
 use crate::state::State;
 use shogi_core::Position;
@@ -35,6 +36,7 @@ pub struct Session<A: Allocator + Copy> {
     input: LineBuffer<A>,
     output: Output<A>,
     state: State,
+    going: Option<Going<A>>,
 }
 
 impl<A: Allocator + Copy> Model for Session<A> {
@@ -43,7 +45,7 @@ impl<A: Allocator + Copy> Model for Session<A> {
 
     ghost Value = { Talk };
 
-    ghost view = { λ s. record { state = s.state; queued = s.output; input = s.input } };
+    ghost view = { λ s. record { state = s.state; going = s.going; queued = s.output; input = s.input } };
 
     ghost invariant = { λ s. IsDepth s.state.depth };
 }
@@ -64,6 +66,7 @@ impl<A: Allocator + Copy> Session<A> {
                 held: None,
                 is_over: false,
             },
+            going: None,
         }
     }
 
@@ -74,6 +77,7 @@ impl<A: Allocator + Copy> Session<A> {
         ensures due { OnOk result ((x : List ℕ) → due self.new x ≡ due self.old (piece.now ++ x)) }
         ensures queued { self.new.queued ≡ self.old.queued }
         ensures state { self.new.state ≡ self.old.state }
+        ensures going { self.new.going ≡ self.old.going }
         ensures err { OnErr result (self.new ≡ self.old) }
     {
         match self.input.feed(piece) {
@@ -82,54 +86,118 @@ impl<A: Allocator + Copy> Session<A> {
         }
     }
 
-    /// Answers the first unread line. Where memory is refused nothing changed but the memo.
-    #[tactic(auto, using(crate::proofs::Steps::due_on, crate::proofs::Steps::fewer))]
-    fn answer_next<M: Memo>(&mut self, memo: &mut M) -> Result<u64, SessionFault>
-        requires { is_pending self.old ≡ true }
+    /// Answers the first unread line, or takes its `go` in hand. Where memory is refused nothing changed.
+    fn answer_next(&mut self) -> Result<(), SessionFault>
+        requires idle { self.old.going ≡ None }
+        requires pending { is_pending self.old ≡ true }
         ensures due { (x : List ℕ) → due self.new x ≡ due self.old x }
-        ensures fewer { OnOk result (length (ahead self.new.input []) < length (ahead self.old.input [])) }
+        ensures load { load self.new ≤ load self.old }
+        ensures fewer { OnOk result (turns self.new < turns self.old) }
         ensures err { OnErr result (self.new ≡ self.old) }
     {
         let Some(line) = self.input.next_line() else {
-            return Ok(0);
+            return Ok(());
         };
         let mut state = self.state;
         let mut reply = Vec::new(self.alloc);
-        let steps = answer_line(self.alloc, &mut reply, &mut state, line, memo)?;
+        let going = answer_line(self.alloc, &mut reply, &mut state, line)?;
         self.output.push(reply.as_slice())?;
         self.state = state;
+        self.going = going;
         self.input.drop_line();
-        Ok(steps)
+        Ok(())
     }
 
-    /// Answers the pending lines in order, and gives the steps of search that were made. It does not
-    /// look at the budget yet, and a success leaves nothing pending. On `OutOfMemory` the lines so far
-    /// were answered whole, what is owed stays as it was, and a later call goes on; the memo may have
-    /// changed.
-    pub fn work<M: Memo>(&mut self, memo: &mut M, _budget: u64) -> Result<u64, SessionFault>
+    /// Tells the depth in hand, once its line is whole, and takes the next depth in hand or ends the
+    /// `go`. Where memory is refused nothing changed.
+    fn tell_next(&mut self) -> Result<(), SessionFault>
+        requires whole { IsWhole self.old.going }
+        requires pending { is_pending self.old ≡ true }
         ensures due { (x : List ℕ) → due self.new x ≡ due self.old x }
-        ensures done { OnOk result (is_pending self.new ≡ false) }
+        ensures load { load self.new ≤ load self.old }
+        ensures fewer { OnOk result (turns self.new < turns self.old) }
+        ensures err { OnErr result (self.new ≡ self.old) }
     {
-        let mut steps: u64 = 0;
-        'lines: while self.pending() {
-            let made = self.answer_next(memo)?;
-            steps = steps.saturating_add(made);
+        let Some(going) = &mut self.going else {
+            return Ok(());
+        };
+        let mut reply = Vec::new(self.alloc);
+        going.tell(&mut reply)?;
+        if !going.is_last() {
+            self.output.push(reply.as_slice())?;
+            going.next();
+            return Ok(());
         }
-        Ok(steps)
+        let mut state = self.state;
+        release(&mut reply, &mut state, going.choice())?;
+        self.output.push(reply.as_slice())?;
+        self.state = state;
+        self.going = None;
+        Ok(())
     }
 
-    /// Whether it is alive and has an unread line. A held `bestmove` is not pending.
+    /// Makes steps of the search in hand, or what needs none: tells a depth, or answers a line. Tells
+    /// how many steps were made, or nothing where the budget was used up within a search.
+    fn turn<M: Memo>(&mut self, memo: &mut M, budget: u64) -> Result<Option<u64>, SessionFault>
+        requires pending { is_pending self.old ≡ true }
+        ensures due { (x : List ℕ) → due self.new x ≡ due self.old x }
+        ensures spent { IfOk result (λ made. IfNone made ((budget + load self.new ≤ load self.old) × IsSearching self.new.going)) }
+        ensures within { IfOk result (λ made. IfSome made (λ n. n ≤ budget)) }
+        ensures made { IfOk result (λ made. IfSome made (λ n. n + load self.new ≤ load self.old)) }
+        ensures fewer { IfOk result (λ made. OnSome made (turns self.new < turns self.old)) }
+        ensures err { OnErr result (self.new ≡ self.old) }
+    {
+        match &mut self.going {
+            None => {
+                self.answer_next()?;
+                Ok(Some(0))
+            }
+            Some(going) => {
+                if going.is_searching() {
+                    return Ok(going.advance(memo, budget));
+                }
+                self.tell_next()?;
+                Ok(Some(0))
+            }
+        }
+    }
+
+    /// Answers the pending lines in order, with at most so many steps of search, and gives the number
+    /// of steps made. Where something is still pending the budget is used up, and a search is in hand.
+    /// On `OutOfMemory` what is owed stays as it was, and a later call goes on; the memo may have
+    /// changed.
+    pub fn work<M: Memo>(&mut self, memo: &mut M, budget: u64) -> Result<u64, SessionFault>
+        ensures due { (x : List ℕ) → due self.new x ≡ due self.old x }
+        ensures within { IfOk result (λ n. n ≤ budget) }
+        ensures made { IfOk result (λ n. n + load self.new ≤ load self.old) }
+        ensures spent { IfOk result (λ n. is_pending self.new ≡ true → (n ≡ budget) × IsSearching self.new.going) }
+        ensures enough { load self.old ≤ budget → OnOk result (is_pending self.new ≡ false) }
+        ensures err { OnErr result (load self.new ≤ load self.old) }
+    {
+        let mut left = budget;
+        'turns: while self.pending() {
+            match self.turn(memo, left)? {
+                Some(made) => left -= made,
+                None => return Ok(budget),
+            }
+        }
+        Ok(budget - left)
+    }
+
+    /// Whether it is alive and has a `go` in hand or an unread line. A held `bestmove` is not pending.
     pub fn pending(&self) -> bool
         ensures { result ≡ is_pending self.now }
     {
-        !self.state.is_over && self.input.has_line()
+        !self.state.is_over && (self.going.is_some() || self.input.has_line())
     }
 
     /// Whether it may be fed: alive, nothing pending, and fewer than 65,536 bytes queued.
     pub fn wants_input(&self) -> bool
         ensures { result ≡ wants_input self.now }
     {
-        !self.state.is_over && !self.input.has_line() && self.output.as_slice().len() < 65536
+        !self.state.is_over
+            && !(self.going.is_some() || self.input.has_line())
+            && self.output.as_slice().len() < 65536
     }
 
     /// The queued bytes.
@@ -144,6 +212,7 @@ impl<A: Allocator + Copy> Session<A> {
         requires { n ≤ length self.old.queued }
         ensures queued { self.new.queued ≡ drop n self.old.queued }
         ensures state { self.new.state ≡ self.old.state }
+        ensures going { self.new.going ≡ self.old.going }
         ensures input { self.new.input ≡ self.old.input }
         ensures due { (x : List ℕ) → due self.old x ≡ take n self.old.queued ++ due self.new x }
     {

@@ -2,7 +2,7 @@
 
 ghost use Rattle.std.specs.Prelude.{◌≡◌, ◌++◌, ◌+◌, OnOk, codes, decimal, ℤ, flat_map};
 ghost use Rattle.shogi_sfen.specs.MoveTexts.{text_of};
-ghost use Rattle.usi_session.specs.Texts.{usi_reply, bad_position, illegal_move, size_text, score_text, moves_text, said_line, bestmove_line};
+ghost use Rattle.usi_session.specs.Texts.{usi_reply, no_mate_reply, bad_position, illegal_move, size_text, score_text, moves_text, said_line, bestmove_line};
 
 use itoa::Buffer;
 use shogi_core::Move;
@@ -26,6 +26,13 @@ pub fn write_usi<A: Allocator>(out: &mut Vec<u8, A>) -> Result<(), AllocError>
     out.extend_from_slice(
         b"id name Shared Shogi Host\nid author Shared Shogi Host Team\noption name Depth type spin default 3 min 1 max 16\nusiok\n",
     )
+}
+
+/// Says that there is no mate solver (USI, checkmate).
+pub fn write_no_mate<A: Allocator>(out: &mut Vec<u8, A>) -> Result<(), AllocError>
+    ensures { OnOk result (out.new.items ≡ out.old.items ++ no_mate_reply) }
+{
+    out.extend_from_slice(b"checkmate notimplemented\n")
 }
 
 /// Says that a `position` line names no position: 0 for its form, 1 to 8 for its first fault.

@@ -1,12 +1,9 @@
--- A session that is worked off and written.
-use Rattle.std.proofs.Common.{◌≡◌, ℕ, List, ◌++◌, length, Option, sym, ap, ◌∙◌, append_assoc, take, drop, false, arith, Result, OnErr, Ok, Err}
+-- A session whose replies are written slice by slice.
+use Rattle.std.proofs.Common.{◌≡◌, ℕ, ◌+◌, ◌*◌, ◌≤◌, ◌<◌, List, [], ◌++◌, Option, refl, sym, ap, ◌∙◌, append_assoc, append-nil, true, false, arith, cond, Bool, Result, OnErr, Ok, Err}
 use Rattle.std.specs.Io.KnownBytes.{Appends, Keeps}
-use Rattle.std.proofs.KnownBytes.{Appends-kept}
-use Rattle.std.proofs.lemmas.List.{take_all, drop_all}
-use Rattle.usi_lines.specs.Lines.{ahead}
-use Rattle.usi_session.specs.Replies.{replies_from}
-use Rattle.usi_session.specs.Due.{Talk, due, is_pending}
-use Rattle.usi_stdio.specs.Stdio.{WritesFront, IsWorkedOff}
+use Rattle.std.proofs.KnownBytes.{Appends-nil, Appends-trans, Appends-kept}
+use Rattle.usi_session.specs.Due.{Talk, due, is_pending, load}
+use Rattle.usi_stdio.specs.Stdio.{WritesFront, IsWritten, IsWorkedOn, slices_of}
 
 -- a front of a front
 pub front_of_more : (old new : Option (List ℕ)) (bytes more all : List ℕ) → WritesFront old new bytes → all ≡ bytes ++ more → WritesFront old new all
@@ -19,24 +16,59 @@ front_of_more old new bytes more all (left, w) e = (
   },
 )
 
--- all that was queued was written, taken and flushed
-pub worked_off : (before mid after : Talk) (old written new : Option (List ℕ)) (out : List ℕ) (n : ℕ) → ((x : List ℕ) → due mid x ≡ due before x) → is_pending mid ≡ false → out ≡ mid.queued → Appends old written out → Keeps written new → n ≡ length out
-    → after.queued ≡ drop n mid.queued → after.state ≡ mid.state → after.input ≡ mid.input → ((x : List ℕ) → due mid x ≡ take n mid.queued ++ due after x) → IsWorkedOff before after old new
-worked_off before mid after old written new out n kept settled same appended flushed count queued state input owed =
-    let all : n ≡ length mid.queued = count ∙ ap length same in
-    let whole : take n mid.queued ≡ mid.queued = take_all n mid.queued (omega arith) in
-    record {
-      made = out;
-      written = Appends-kept old written new out appended flushed;
-      owed = λ x. sym (kept x) ∙ (owed x ∙ ap (λ xs. xs ++ due after x) (whole ∙ sym same));
-      empty = queued ∙ drop_all n mid.queued (omega arith);
-      settled = rw (state, input) settled;
-    }
+-- all of the bytes are a front of them
+pub front_of_all : (old mid new : Option (List ℕ)) (bytes : List ℕ) → Appends old mid bytes → Keeps mid new → WritesFront old new bytes
+front_of_all old mid new bytes appended kept = ([], record { done = bytes; appended = Appends-kept old mid new bytes appended kept; split = sym (append-nil bytes) })
+
+-- what is queued, and then what is owed without it
+pub due-queued : (s : Talk) (x : List ℕ) → due s x ≡ s.queued ++ due (record s { queued = [] }) x
+due-queued s x = refl
 
 -- a front of what is queued is a front of what is owed
-pub front_of_due : (old new : Option (List ℕ)) (before mid : Talk) (out x : List ℕ) → due mid x ≡ due before x → out ≡ mid.queued → WritesFront old new out → WritesFront old new (due before x)
-front_of_due old new before mid out x kept same front =
-    front_of_more old new out (replies_from mid.state (ahead mid.input x)) (due before x) front (sym kept ∙ ap (λ xs. xs ++ replies_from mid.state (ahead mid.input x)) (sym same))
+pub front_of_due : (old new : Option (List ℕ)) (before mid : Talk) → due mid [] ≡ due before [] → WritesFront old new mid.queued → WritesFront old new (due before [])
+front_of_due old new before mid kept front =
+    front_of_more old new mid.queued (due (record mid { queued = [] }) []) (due before []) front (sym kept ∙ due-queued mid [])
+
+-- a slice kept what is owed, and all that it queued was written
+pub worked_on : (before mid after : Talk) (old new : Option (List ℕ)) → ((x : List ℕ) → due mid x ≡ due before x) → IsWritten mid after old new → IsWorkedOn before after old new
+worked_on before mid after old new kept w = record {
+  made = mid.queued;
+  written = w.written;
+  owed = λ x. sym (kept x) ∙ (due-queued mid x ∙ ap (λ (t : Talk). mid.queued ++ due t x) (sym w.rest));
+  empty = ap (λ (t : Talk). t.queued) w.rest;
+}
+
+-- before the first slice
+pub worked_none : (s : Talk) (old : Option (List ℕ)) → s.queued ≡ [] → IsWorkedOn s s old old
+worked_none s old empty = record { made = []; written = Appends-nil old; owed = λ x. refl; empty = empty }
+
+-- one slice more
+pub worked_more : (before mid after : Talk) (old part new : Option (List ℕ)) → IsWorkedOn before mid old part → IsWorkedOn mid after part new → IsWorkedOn before after old new
+worked_more before mid after old part new a b = record {
+  made = a.made ++ b.made;
+  written = Appends-trans old part new a.made b.made a.written b.written;
+  owed = λ x. a.owed x ∙ (ap (λ xs. a.made ++ xs) (b.owed x) ∙ sym (append_assoc a.made b.made (due after x)));
+  empty = b.empty;
+}
+
+-- the slice was cut short by a fault
+pub worked_front : (before mid : Talk) (old part new : Option (List ℕ)) → IsWorkedOn before mid old part → WritesFront part new (due mid []) → WritesFront old new (due before [])
+worked_front before mid old part new a (left, w) = (
+  left,
+  record {
+    done = a.made ++ w.done;
+    appended = Appends-trans old part new a.made w.done a.written w.appended;
+    split = a.owed [] ∙ (ap (λ xs. a.made ++ xs) w.split ∙ sym (append_assoc a.made w.done left));
+  },
+)
+
+-- a slice that leaves something pending has used its budget
+pub slices_fall : (before mid after : Talk) (n slice : ℕ) → 0 < slice → is_pending before ≡ true → n + load mid ≤ load before → (is_pending mid ≡ true → n ≡ slice) → after ≡ record mid { queued = [] } → slices_of after < slices_of before
+slices_fall before mid after n slice some pending made spent rest = fall (is_pending mid) refl
+  where
+  fall : (b : Bool) → is_pending mid ≡ b → slices_of after < slices_of before
+  fall true e = let m : n ≡ slice = spent e in rw (rest, e, pending) (omega arith)
+  fall false e = rw (rest, e, pending) (omega arith)
 
 -- what holds after a fault
 pub on_err : {T E : Type 0} {P : Type 0} (r : Result T E) → P → OnErr r P

@@ -1,7 +1,7 @@
 -- One session over a reader and a writer: what is written is what the session's replies are to what was read (own choice).
-use Rattle.std.specs.Prelude.{◌≡◌, ℕ, List, [], ◌++◌, Option, ◌⊎◌, true, false}
+use Rattle.std.specs.Prelude.{◌≡◌, ℕ, ◌+◌, ◌*◌, List, [], ◌++◌, Option, ◌⊎◌, true, false, cond}
 use Rattle.std.specs.Io.KnownBytes.{Appends, Consumes, IsAtEnd}
-use Rattle.usi_session.specs.Due.{Talk, due, is_pending, wants_input}
+use Rattle.usi_session.specs.Due.{Talk, due, load, is_pending, wants_input}
 use Rattle.usi_session.specs.Replies.{replies}
 
 -- the writer took the bytes but for those that are left
@@ -27,15 +27,23 @@ pub record IsAnsweredInPart (before after old new : Option (List ℕ)) : Type 0 
   pub consumed : Consumes before after read
   pub written : WritesFront old new (replies read)
 
--- the session's lines were answered, and all that was queued was written
-pub record IsWorkedOff (before after : Talk) (old new : Option (List ℕ)) : Type 0 where
+-- all that was queued was written and taken, and nothing else changed
+pub record IsWritten (before after : Talk) (old new : Option (List ℕ)) : Type 0 where
+  pub written : Appends old new before.queued
+  pub rest : after ≡ record before { queued = [] }
+
+-- what was made was written at once: nothing waits, and the rest is owed
+pub record IsWorkedOn (before after : Talk) (old new : Option (List ℕ)) : Type 0 where
   pub made : List ℕ
   pub written : Appends old new made
   pub owed : (x : List ℕ) → due before x ≡ made ++ due after x
   pub empty : after.queued ≡ []
-  pub settled : is_pending after ≡ false
 
--- the same after a piece was fed
+-- falls with each slice, since a slice makes a step where something is pending after it
+abbrev pub slices_of : Talk → ℕ
+slices_of s = 2 * load s + cond (is_pending s) 1 0
+
+-- a piece was fed and answered in full, and the answers were written
 pub record IsFedAndWorkedOff (before after : Talk) (piece : List ℕ) (old new : Option (List ℕ)) : Type 0 where
   pub made : List ℕ
   pub written : Appends old new made

@@ -1,9 +1,9 @@
 //! One session over a reader and a writer.
 
-ghost use Rattle.std.specs.Prelude.{◌≡◌, ◌<◌, ◌≤◌, [], true, length, take, IfOk, OnOk, OnErr};
+ghost use Rattle.std.specs.Prelude.{◌≡◌, ◌<◌, ◌≤◌, [], true, false, length, take, IfOk, OnOk, OnErr};
 ghost use Rattle.std.specs.Io.KnownBytes.{Appends, Consumes, IsAtEnd, Keeps};
-ghost use Rattle.usi_stdio.specs.Stdio.{WritesFront, IsAnswered, IsAnsweredInPart, IsWorkedOff, IsFedAndWorkedOff};
-ghost use Rattle.usi_session.specs.Due.{due, wants_input};
+ghost use Rattle.usi_stdio.specs.Stdio.{WritesFront, IsAnswered, IsAnsweredInPart, IsWritten, IsWorkedOn, IsFedAndWorkedOff, slices_of};
+ghost use Rattle.usi_session.specs.Due.{due, is_pending, wants_input};
 
 use shared_table::{SharedTable, TableFault};
 use shogi_search::Memo;
@@ -15,6 +15,9 @@ use usi_session::{Session, SessionFault};
 
 /// The most bytes that are read at once.
 const PIECE: usize = 4096;
+
+/// The most steps of search before what is queued is written.
+const SLICE: u64 = 1000;
 
 /// Why a run over a reader and a writer ended early.
 #[derive(Debug, PartialEq, Eq, Drop, Error)]
@@ -62,22 +65,55 @@ fn write_out<W: Write>(writer: &mut W, bytes: &[u8]) -> Result<(), StdioFault>
     Ok(())
 }
 
-/// Works off what was fed, and writes and takes all that is queued.
+/// Writes, flushes and takes all that is queued. Where nothing is, the writer is left alone.
+fn write_queued<A: Allocator + Copy, W: Write>(
+    session: &mut Session<A>,
+    writer: &mut W,
+) -> Result<(), StdioFault>
+    ensures ok { OnOk result (IsWritten session.old session.new (W.contents writer.old) (W.contents writer.new)) }
+    ensures err { OnErr result (WritesFront (W.contents writer.old) (W.contents writer.new) session.old.queued) }
+{
+    let queued = session.output().len();
+    if queued == 0 {
+        return Ok(());
+    }
+    write_out(writer, session.output())?;
+    if writer.flush().is_err() {
+        return Err(StdioFault::WriteFailed);
+    }
+    session.take(queued);
+    Ok(())
+}
+
+/// Works one slice, and writes what it queued.
+fn work_slice<A: Allocator + Copy, M: Memo, W: Write>(
+    session: &mut Session<A>,
+    memo: &mut M,
+    writer: &mut W,
+) -> Result<(), StdioFault>
+    requires pending { is_pending session.old ≡ true }
+    requires empty { session.old.queued ≡ [] }
+    ensures ok { OnOk result (IsWorkedOn session.old session.new (W.contents writer.old) (W.contents writer.new)) }
+    ensures fewer { OnOk result (slices_of session.new < slices_of session.old) }
+    ensures err { OnErr result (WritesFront (W.contents writer.old) (W.contents writer.new) (due session.old [])) }
+{
+    session.work(memo, SLICE)?;
+    write_queued(session, writer)
+}
+
+/// Works off what was fed, slice by slice, and writes what each slice queued.
 fn work_off<A: Allocator + Copy, M: Memo, W: Write>(
     session: &mut Session<A>,
     memo: &mut M,
     writer: &mut W,
 ) -> Result<(), StdioFault>
     requires { session.old.queued ≡ [] }
-    ensures ok { OnOk result (IsWorkedOff session.old session.new (W.contents writer.old) (W.contents writer.new)) }
+    ensures ok { OnOk result (IsWorkedOn session.old session.new (W.contents writer.old) (W.contents writer.new)) }
+    ensures settled { OnOk result (is_pending session.new ≡ false) }
     ensures err { OnErr result (WritesFront (W.contents writer.old) (W.contents writer.new) (due session.old [])) }
 {
-    session.work(memo, u64::MAX)?;
-    write_out(writer, session.output())?;
-    let written = session.output().len();
-    session.take(written);
-    if writer.flush().is_err() {
-        return Err(StdioFault::WriteFailed);
+    'slices: while session.pending() {
+        work_slice(session, memo, writer)?;
     }
     Ok(())
 }
@@ -113,9 +149,10 @@ fn answer_piece<A: Allocator + Copy, M: Memo, W: Write>(
     work_off(session, memo, writer)
 }
 
-/// Runs one session: reads pieces of at most 4,096 bytes, answers each before the next and flushes,
-/// until the input ends or the session is over. Bytes after the last LF are no line. The table has
-/// `entries` entries, from 1 to 1,000,000.
+/// Runs one session: reads pieces of at most 4,096 bytes and answers each before the next, until the
+/// input ends or the session is over. Replies are written and flushed as they are found: the info line
+/// of a depth comes before the next 1,000 steps of search are made. Bytes after the last LF are no line.
+/// The table has `entries` entries, from 1 to 1,000,000.
 ///
 /// `OutOfMemory` comes where memory was refused, `ReadFailed` where a read failed, and `WriteFailed`
 /// where a write or a flush failed or a write took nothing. After each of them what was written is a

@@ -1,12 +1,15 @@
-use Rattle.std.proofs.Common.{◌≡◌, ℕ, List, [], length}
-use Rattle.usi_lines.specs.Lines.{ahead}
-use Rattle.usi_session.specs.Due.{due}
+use Rattle.std.proofs.Common.{◌≡◌, ◌≤◌, ◌+◌, ℕ, List}
+use Rattle.usi_session.specs.Due.{due, load, turns}
 use Rattle.usi_session.proofs.session.Session.work.Given as goal
 
--- what is owed stays
-abbrev pub invariant-lines : goal.invariant-lines
-invariant-lines g l = (x : List ℕ) → due l.self x ≡ due l.fn.self x
+-- what is owed stays, and what was made is no longer left
+abbrev pub invariant-turns : goal.invariant-turns
+invariant-turns g l = record {
+  due : (x : List ℕ) → due l.self x ≡ due l.fn.self x;
+  within : l.left ≤ l.budget;
+  made : l.budget + load l.self ≤ load l.fn.self + l.left;
+}
 
--- each turn answers a line
-abbrev pub decreases-lines : goal.decreases-lines
-decreases-lines g l = length (ahead l.self.input [])
+-- each turn answers a line, tells a depth, or ends a search
+abbrev pub decreases-turns : goal.decreases-turns
+decreases-turns g l = turns l.self

@@ -1,0 +1,235 @@
+//! Sessions that are worked in slices, and lines that are written as they are found.
+
+use crate::fakes::{FailingWriter, NotingWriter};
+use crate::rows::{CUT, DEEP, INFO_ONE, QUICK, Row, SLICED, joined};
+use shared_table::SharedTable;
+use shogi_search::{Memo, NoMemo};
+use std::alloc::Global;
+use std::hash::{BuildHasherDefault, FoldHasher};
+use std::process::Abort;
+use std::test::Fail;
+use usi_session::Session;
+use usi_stdio::{StdioFault, stdio};
+
+// The most slices that a test works.
+const SLICES: u64 = 100_000;
+
+// A session that was fed the row, and nothing more.
+fn fed(rt: &impl Abort, alloc: Global, sent: &str) -> Result<Session<Global>, Fail> {
+    let mut session = Session::new(alloc);
+    assert!(rt; session.wants_input() && sent.as_bytes().len() <= 4096);
+    session.feed(sent.as_bytes())?;
+    Ok(session)
+}
+
+// Works slice by slice until nothing is pending, and gives the sum of the steps made. A slice that
+// leaves something pending has used its budget.
+fn worked<M: Memo>(
+    rt: &impl Abort,
+    session: &mut Session<Global>,
+    memo: &mut M,
+    budget: u64,
+) -> Result<u64, Fail> {
+    let mut steps: u64 = 0;
+    for _ in 0..SLICES {
+        if !session.pending() {
+            return Ok(steps);
+        }
+        let made = session.work(memo, budget)?;
+        assert!(rt; made <= budget);
+        if session.pending() {
+            assert_eq!(rt; made, budget, "still pending");
+        }
+        steps = steps.saturating_add(made);
+    }
+    Err(Fail::from("it never ends"))
+}
+
+// Works the row with this budget: its answer is that of the row, whatever the budget.
+fn assert_worked<M: Memo>(
+    rt: &impl Abort,
+    alloc: Global,
+    memo: &mut M,
+    row: &Row,
+    budget: u64,
+) -> Result<u64, Fail> {
+    let mut session = fed(rt, alloc, row.sent)?;
+    let steps = worked(rt, &mut session, memo, budget)?;
+    let answer = joined(alloc, row.answer)?;
+    let sent = row.sent;
+    assert_eq!(rt;
+        std::str::from_utf8(session.output())?,
+        answer.as_str(),
+        "after {sent:?} with a budget of {budget}"
+    );
+    Ok(steps)
+}
+
+// The loads are counts of the whole tree: 31 positions at depth 1, 931 at depth 2 and 26,401 at depth 3,
+// each counted twice, for every search along the best lines.
+#[test]
+fn every_budget_gives_the_same_bytes_and_steps(rt: HostRuntime) -> Result<(), Fail> {
+    for (row, load) in SLICED.into_iter().zip([62u64, 1_986, 57_142]) {
+        let whole = assert_worked(&rt, rt.alloc(), &mut NoMemo, &row, u64::MAX)?;
+        assert!(rt; whole <= load, "{whole} steps");
+        for budget in 1..71u64 {
+            let steps = assert_worked(&rt, rt.alloc(), &mut NoMemo, &row, budget)?;
+            assert_eq!(rt; steps, whole, "with a budget of {budget}");
+        }
+    }
+    Ok(())
+}
+
+#[test]
+fn depth_one_takes_62_steps(rt: HostRuntime) -> Result<(), Fail> {
+    let [row, ..] = SLICED;
+    for budget in [1, 61, 62, 63, u64::MAX] {
+        let steps = assert_worked(&rt, rt.alloc(), &mut NoMemo, &row, budget)?;
+        assert_eq!(rt; steps, 62, "with a budget of {budget}");
+    }
+    Ok(())
+}
+
+// A load of 62: a budget of 61 leaves the last step to be made, and 62 leaves nothing.
+#[test]
+fn a_budget_of_the_load_is_enough(rt: HostRuntime) -> Result<(), Fail> {
+    let mut session = fed(&rt, rt.alloc(), "go depth 1\nisready\n")?;
+    assert_eq!(rt; session.work(&mut NoMemo, 61)?, 61);
+    assert!(rt; session.pending() && session.output().is_empty());
+    assert_eq!(rt; session.work(&mut NoMemo, 1)?, 1);
+    assert!(rt; !session.pending());
+    assert!(rt; session.output().starts_with(INFO_ONE.as_bytes()));
+    assert!(rt; session.output().ends_with(b"bestmove 1g1f\nreadyok\n"));
+    Ok(())
+}
+
+// With no budget the lines before a search are answered, and no step is made.
+#[test]
+fn a_budget_of_nothing(rt: HostRuntime) -> Result<(), Fail> {
+    let mut session = fed(&rt, rt.alloc(), "isready\ngo depth 1\nisready\n")?;
+    for _ in 0..3 {
+        assert_eq!(rt; session.work(&mut NoMemo, 0)?, 0);
+        assert!(rt; session.pending() && !session.wants_input());
+        assert_eq!(rt; std::str::from_utf8(session.output())?, "readyok\n");
+    }
+    Ok(())
+}
+
+#[test]
+fn rows_with_a_budget_of_one(rt: HostRuntime) -> Result<(), Fail> {
+    for row in QUICK {
+        assert_worked(&rt, rt.alloc(), &mut NoMemo, &row, 1)?;
+    }
+    let hasher = BuildHasherDefault::<FoldHasher>::new();
+    let mut table = SharedTable::new(rt.alloc(), 4096, hasher)?;
+    for row in DEEP {
+        assert_worked(&rt, rt.alloc(), &mut table, &row, 1)?;
+    }
+    Ok(())
+}
+
+// The search is cut after each number of steps, once over each memo.
+#[test]
+fn go_infinite_and_stop_cut_anywhere(rt: HostRuntime) -> Result<(), Fail> {
+    let sent = "go infinite depth 2\nstop\nstop\nisready\n";
+    let answer =
+        "info depth 1 score cp 0 pv 1g1f\ninfo depth 2 score cp 0 pv 1g1f 1a1b\nbestmove 1g1f ponder 1a1b\nreadyok\n";
+    for cut in 0..320u64 {
+        let mut session = fed(&rt, rt.alloc(), sent)?;
+        session.work(&mut NoMemo, cut)?;
+        let queued = session.output().len();
+        assert!(rt;
+            answer.as_bytes().starts_with(session.output()),
+            "cut at {cut}"
+        );
+        session.take(queued);
+        let hasher = BuildHasherDefault::<FoldHasher>::new();
+        let mut table = SharedTable::new(rt.alloc(), 1, hasher)?;
+        session.work(&mut table, u64::MAX)?;
+        assert!(rt; !session.pending(), "cut at {cut}");
+        assert!(rt;
+            answer.as_bytes().ends_with(session.output()),
+            "cut at {cut}"
+        );
+        assert_eq!(rt;
+            queued.saturating_add(session.output().len()),
+            answer.len(),
+            "cut at {cut}"
+        );
+    }
+    Ok(())
+}
+
+// Two sessions take turns, step by step, over one table of one entry.
+#[test]
+fn two_sessions_by_turns(rt: HostRuntime) -> Result<(), Fail> {
+    let hasher = BuildHasherDefault::<FoldHasher>::new();
+    let mut table = SharedTable::new(rt.alloc(), 1, hasher)?;
+    let [one, two, three] = SLICED;
+    let mut first = fed(&rt, rt.alloc(), three.sent)?;
+    let mut second = fed(&rt, rt.alloc(), two.sent)?;
+    for _ in 0..SLICES {
+        if !first.pending() && !second.pending() {
+            break;
+        }
+        first.work(&mut table, 1)?;
+        second.work(&mut table, 1)?;
+    }
+    for (session, row) in [(first, three), (second, two)] {
+        let answer = joined(rt.alloc(), row.answer)?;
+        assert!(rt; !session.pending());
+        assert_eq!(rt; std::str::from_utf8(session.output())?, answer.as_str());
+    }
+    assert_worked(&rt, rt.alloc(), &mut table, &one, 1)?;
+    Ok(())
+}
+
+// The first two depths take fewer than 1,000 steps together, and the third takes more: the first slice
+// is written before the search at depth 3 has made its last step.
+#[test]
+fn lines_are_flushed_as_they_are_found(rt: HostRuntime) -> Result<(), Fail> {
+    let mut reader = CUT.sent.as_bytes();
+    let mut writer = NotingWriter::new(rt.alloc());
+    stdio(rt.alloc(), &mut reader, &mut writer, 4096)?;
+    let answer = joined(rt.alloc(), CUT.answer)?;
+    assert_eq!(rt; std::str::from_utf8(writer.written())?, answer.as_str());
+    let flushed = writer.flushed();
+    let first = flushed.first().copied().unwrap_or(0);
+    let begun = answer.as_bytes().get(..first).unwrap_or(b"");
+    assert!(rt; begun.starts_with(INFO_ONE.as_bytes()), "{first} bytes");
+    assert!(rt;
+        !std::str::from_utf8(begun)?.contains("depth 3"),
+        "{first} bytes"
+    );
+    assert_eq!(rt; flushed.last().copied(), Some(answer.len()));
+    Ok(())
+}
+
+// Nothing is flushed where nothing was written.
+#[test]
+fn lines_without_a_reply_are_not_flushed(rt: HostRuntime) -> Result<(), Fail> {
+    let mut reader = b"position startpos\nusinewgame\n".as_slice();
+    let mut writer = NotingWriter::new(rt.alloc());
+    stdio(rt.alloc(), &mut reader, &mut writer, 1)?;
+    assert!(rt; writer.written().is_empty() && writer.flushed().is_empty());
+    Ok(())
+}
+
+// A search to depth 16 would not end: a front end that is gone is noticed at the line of depth 1.
+#[test]
+fn a_front_end_that_is_gone(rt: HostRuntime) -> Result<(), Fail> {
+    for (writes, flushes) in [
+        (0, usize::MAX),
+        (1, usize::MAX),
+        (usize::MAX, 0),
+        (usize::MAX, 1),
+    ] {
+        let mut reader = b"go depth 16\n".as_slice();
+        let mut writer = FailingWriter::new(rt.alloc(), 4096, writes, flushes);
+        assert_eq!(rt;
+            stdio(rt.alloc(), &mut reader, &mut writer, 4096),
+            Err(StdioFault::WriteFailed)
+        );
+    }
+    Ok(())
+}

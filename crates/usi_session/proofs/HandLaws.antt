@@ -1,0 +1,96 @@
+-- What a `go` in hand owes and costs, one depth or one search at a time.
+use Rattle.std.proofs.Common.{◌≡◌, ◌≢◌, ℕ, zero, suc, ◌+◌, ◌-◌, ◌<◌, List, [], ◌++◌, refl, sym, ap, ◌∙◌, arith, append_assoc, append-nil}
+use Rattle.shogi_core.specs.Position.{Shogi}
+use Rattle.shogi_moves.specs.LegalMoves.{legal_moves}
+use Rattle.shogi_search.specs.Minimax.{chase, cost}
+use Rattle.shogi_search.proofs.Lines.{chase-above, cost-none, cost-suc}
+use Rattle.usi_lines.specs.declared.command.Hold.{Hold}
+use Rattle.usi_lines.specs.declared.command.Hold.TheVariants.{Nothing, UntilStop, UntilHit}
+use Rattle.usi_session.specs.declared.state.State.{State}
+use Rattle.usi_session.specs.declared.state.Held.{Held}
+use Rattle.usi_session.specs.Texts.{info_line}
+use Rattle.usi_session.specs.Going.{info_lines, infos}
+use Rattle.usi_session.specs.Answer.{released}
+use Rattle.usi_session.specs.InHand.{lines_on, costs_on, at_depth, load_of}
+use Rattle.usi_session.proofs.Infos.{info_lines-start, info_lines-more, infos-some}
+
+lines_on-start : (p : Shogi) (told : ℕ) → lines_on p told 0 ≡ []
+unfolding lines_on
+lines_on-start p told = refl
+
+lines_on-suc : (p : Shogi) (told more : ℕ) → lines_on p told (suc more) ≡ info_line p (told + 1) ++ lines_on p (told + 1) more
+unfolding lines_on
+lines_on-suc p told more = refl
+
+-- all depths were told
+pub lines_on-none : (p : Shogi) (told depth : ℕ) → told ≡ depth → lines_on p told (depth - told) ≡ []
+lines_on-none p told depth e = let n : depth - told ≡ 0 = omega arith in rw n (lines_on-start p told)
+
+-- the next depth, and those above it
+pub lines_on-more : (p : Shogi) (told depth : ℕ) → told < depth → lines_on p told (depth - told) ≡ info_line p (told + 1) ++ lines_on p (told + 1) (depth - (told + 1))
+lines_on-more p told depth h =
+    let n : depth - told ≡ suc (depth - (told + 1)) = omega arith in rw n (lines_on-suc p told (depth - (told + 1)))
+
+-- the depths that were told, and so many above them
+lines_on-from : (p : Shogi) (more told : ℕ) → info_lines p (told + more) ≡ info_lines p told ++ lines_on p told more
+lines_on-from p zero told = let n : told + 0 ≡ told = omega arith in rw (n, lines_on-start p told, append-nil (info_lines p told)) refl
+lines_on-from p (suc more) told =
+    let n : told + suc more ≡ (told + 1) + more = omega arith in
+    rw (n, lines_on-suc p told more, lines_on-from p more (told + 1), info_lines-more p told) (append_assoc (info_lines p told) (info_line p (told + 1)) (lines_on p (told + 1) more))
+
+-- before the first depth all is still to be said
+pub lines_on-all : (p : Shogi) (depth : ℕ) → legal_moves p ≢ [] → lines_on p 0 (depth - 0) ≡ infos p depth
+lines_on-all p depth h =
+    let n : depth - 0 ≡ depth = omega arith in
+    let m : 0 + depth ≡ depth = omega arith in
+    let whole : info_lines p (0 + depth) ≡ info_lines p 0 ++ lines_on p 0 depth = lines_on-from p depth 0 in
+    let same : info_lines p depth ≡ lines_on p 0 depth = ap (info_lines p) (sym m) ∙ whole ∙ ap (λ xs. xs ++ lines_on p 0 depth) (info_lines-start p) in
+    rw n (sym same ∙ sym (infos-some p depth h))
+
+costs_on-start : (p : Shogi) (told : ℕ) → costs_on p told 0 ≡ 0
+unfolding costs_on
+costs_on-start p told = refl
+
+costs_on-suc : (p : Shogi) (told more : ℕ) → costs_on p told (suc more) ≡ chase p (told + 1) + costs_on p (told + 1) more
+unfolding costs_on
+costs_on-suc p told more = refl
+
+costs_on-more : (p : Shogi) (told depth : ℕ) → told < depth → costs_on p told (depth - told) ≡ chase p (told + 1) + costs_on p (told + 1) (depth - (told + 1))
+costs_on-more p told depth h =
+    let n : depth - told ≡ suc (depth - (told + 1)) = omega arith in rw n (costs_on-suc p told (depth - (told + 1)))
+
+costs_on-from : (p : Shogi) (more told : ℕ) → cost p (told + more) ≡ cost p told + costs_on p told more
+costs_on-from p zero told = let n : told + 0 ≡ told = omega arith in rw (n, costs_on-start p told) (omega arith)
+costs_on-from p (suc more) told =
+    let n : told + suc more ≡ (told + 1) + more = omega arith in
+    let m : cost p (told + 1) ≡ cost p told + chase p (told + 1) = (let k : told + 1 ≡ suc told = omega arith in rw k (cost-suc p told)) in
+    rw (n, costs_on-suc p told more, costs_on-from p more (told + 1), m) (omega arith)
+
+-- a depth whose first search has made no step costs it and the depths above it
+pub load_at_depth : (p : Shogi) (depth : ℕ) (hold : Hold) (told : ℕ) → told < depth → load_of (at_depth p depth hold told) ≡ costs_on p told (depth - told)
+load_at_depth p depth hold told h =
+    omega (arith, costs_on-more p told depth h, chase-above p (told + 1) (omega arith))
+
+-- the first depth costs what all depths cost
+pub load_at_first : (p : Shogi) (depth : ℕ) (hold : Hold) → 0 < depth → load_of (at_depth p depth hold 0) ≡ cost p depth
+load_at_first p depth hold h =
+    let n : depth - 0 ≡ depth = omega arith in
+    let m : 0 + depth ≡ depth = omega arith in
+    let whole : cost p (0 + depth) ≡ cost p 0 + costs_on p 0 depth = costs_on-from p depth 0 in
+    load_at_depth p depth hold 0 h ∙ ap (costs_on p 0) n ∙ sym (ap (cost p) (sym m) ∙ whole ∙ omega (arith, cost-none p))
+
+-- what is said before the bestmove, and then the bestmove
+pub released-bytes : (s : State) (infos : List ℕ) (held : Held) (hold : Hold) → (released s infos held hold).bytes ≡ infos ++ (released s [] held hold).bytes
+released-bytes s infos held Nothing = refl
+released-bytes s infos held UntilStop = sym (append-nil infos)
+released-bytes s infos held UntilHit = sym (append-nil infos)
+
+pub released-state : (s : State) (infos : List ℕ) (held : Held) (hold : Hold) → (released s infos held hold).state ≡ (released s [] held hold).state
+released-state s infos held Nothing = refl
+released-state s infos held UntilStop = refl
+released-state s infos held UntilHit = refl
+
+pub released-over : (s : State) (infos : List ℕ) (held : Held) (hold : Hold) → (released s infos held hold).state.is_over ≡ s.is_over
+released-over s infos held Nothing = refl
+released-over s infos held UntilStop = refl
+released-over s infos held UntilHit = refl

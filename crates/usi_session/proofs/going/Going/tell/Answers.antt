@@ -1,0 +1,9 @@
+use Rattle.std.proofs.Common.{rules}
+use Rattle.std.proofs.lemmas.Result.{on_ok_weaker}
+use Rattle.usi_session.proofs.Walk.{walked_all, told_more}
+use Rattle.usi_session.proofs.going.Going.tell.Goals as goal
+
+pub returns : goal.returns
+returns g c =
+    let s = c.self.inside in
+    rw (← c.self.view_is) (on_ok_weaker c.write_info.result (λ e. told_more s.root s.told s.depth _ _ s.value s.moves.items (search rules) (search rules) (walked_all _ _ s.at s.plies (search rules) c.self.invariant.walked) (search rules)) c.write_info.ensures)

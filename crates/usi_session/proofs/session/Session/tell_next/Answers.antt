@@ -1,0 +1,12 @@
+use Rattle.std.proofs.Common.{◌≡◌, ap, ◌∙◌, rules, false}
+use Rattle.usi_lines.specs.Lines.{ahead}
+use Rattle.usi_session.specs.Due.{Talk}
+use Rattle.usi_session.proofs.Steps.{due_ends, pending_alive}
+use Rattle.usi_session.proofs.session.Session.tell_next.Goals as goal
+
+pub returns-clause-due : goal.returns-clause-due
+returns-clause-due g c = λ x.
+    let s = c.self.inside in
+    let alive : s.state.is_over ≡ false = ap (λ (t : Talk). t.state.is_over) c.self.view_is ∙ pending_alive c.args.self.now c.requires.pending in
+    rw (← c.self.view_is) (due_ends s.state c.release.new.state s.output c.push-2.new.self c.tell.new.out.items c.release.new.out.items c.in-Some.going s.going c.choice.result (ahead s.input x)
+    alive c.in-Some.is (search rules) (search rules) (search rules) (search rules) (search rules) (search rules))

@@ -1,0 +1,25 @@
+-- The steps that the `go` lines among unread lines may cost.
+use Rattle.std.specs.Prelude.{ℕ, ◌+◌, List, [], ◌∷◌, unwrap_or, cond}
+use Rattle.shogi_search.specs.Minimax.{cost}
+use Rattle.usi_lines.specs.Commands.{Command, Go, command_of}
+use Rattle.usi_lines.specs.Lines.{Line, Text, TooLong}
+use Rattle.usi_session.specs.declared.state.State.{State}
+use Rattle.usi_session.specs.Replies.{answer_line}
+
+-- a `go` costs the searches of its depth from the position where it stands; no other command costs a step
+abbrev pub cost_of_command : State → Command → ℕ
+cost_of_command s (Go depth hold) = cost s.position (unwrap_or depth s.depth)
+cost_of_command s _ = 0
+
+abbrev pub cost_to : State → Line → ℕ
+cost_to s (Text text) = cost_of_command s (command_of text)
+cost_to s TooLong = 0
+
+-- a session that is over answers nothing
+abbrev pub cost_of_line : State → Line → ℕ
+cost_of_line s line = cond s.is_over 0 (cost_to s line)
+
+-- the costs of the lines, one after another, from a state on
+unfoldable pub costs_from : State → List Line → ℕ
+costs_from s [] = 0
+costs_from s (line ∷ rest) = cost_of_line s line + costs_from (answer_line s line).state rest

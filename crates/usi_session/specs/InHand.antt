@@ -1,0 +1,67 @@
+-- A `go` in hand: what it still owes, and the steps that it may still make (own choice).
+use Rattle.std.specs.Prelude.{ℕ, zero, suc, ◌+◌, ◌-◌, ◌*◌, List, [], ◌++◌, Option, Some, None}
+use Rattle.shogi_core.specs.Position.{Shogi}
+use Rattle.shogi_search.specs.Minimax.{best, tree, chase, then_chase}
+use Rattle.usi_lines.specs.declared.command.Hold.{Hold}
+use Rattle.usi_session.specs.declared.state.State.{State}
+use Rattle.usi_session.specs.Texts.{info_line}
+use Rattle.usi_session.specs.Answer.{Answer, found, released, said}
+
+-- where it was asked, how deep, what the bestmove is held until, the depths that were told, and of the search in hand
+-- the plies that it looks ahead (none where the line of this depth is whole), its position, and what is left of it
+pub record InHand : Type 0 where
+  pub root : Shogi
+  pub depth : ℕ
+  pub hold : Hold
+  pub told : ℕ
+  pub plies : ℕ
+  pub at : Shogi
+  pub left : ℕ
+
+-- one depth is in hand: its first search has made no step yet
+abbrev pub at_depth : Shogi → ℕ → Hold → ℕ → InHand
+at_depth p depth hold told = record { root = p; depth = depth; hold = hold; told = told; plies = told + 1; at = p; left = 2 * tree p (told + 1) }
+
+-- what is said of a position at each of so many depths above those that were told
+unfoldable pub lines_on : Shogi → ℕ → ℕ → List ℕ
+lines_on p told zero = []
+lines_on p told (suc more) = info_line p (told + 1) ++ lines_on p (told + 1) more
+
+-- the steps that may be made for the best lines of each of so many depths above those that were told
+unfoldable pub costs_on : Shogi → ℕ → ℕ → ℕ
+costs_on p told zero = 0
+costs_on p told (suc more) = chase p (told + 1) + costs_on p (told + 1) more
+
+-- what it still says, and the state after it: by the question alone, and not by how far the search is
+abbrev pub goes_on : State → InHand → Answer
+goes_on s go = released s (lines_on go.root go.told (go.depth - go.told)) (found go.root go.depth go.hold) go.hold
+
+-- nothing more, where none is in hand
+abbrev pub goes_on_if : State → Option InHand → Answer
+goes_on_if s None = said s []
+goes_on_if s (Some go) = goes_on s go
+
+-- these bytes, and what the `go` in hand still says after them
+abbrev pub with_rest : List ℕ → State → Option InHand → List ℕ
+with_rest bytes s None = bytes
+with_rest bytes s (Some go) = bytes ++ (goes_on s go).bytes
+
+-- the steps of the searches after the one in hand: along the line of this depth, and at the depths above
+abbrev pub after_search : InHand → ℕ
+after_search go = then_chase (λ q. chase q (go.plies - 1)) go.at (best go.at go.plies) + costs_on go.root (go.told + 1) (go.depth - (go.told + 1))
+
+-- what is left of the search in hand, and the steps of those after it
+abbrev pub load_of : InHand → ℕ
+load_of go = go.left + after_search go
+
+abbrev pub load_of_if : Option InHand → ℕ
+load_of_if None = 0
+load_of_if (Some go) = load_of go
+
+-- the searches that may still end: each ply of each depth counts
+abbrev pub turns_of : InHand → ℕ
+turns_of go = 18 * (go.depth - go.told) + go.plies
+
+abbrev pub turns_of_if : Option InHand → ℕ
+turns_of_if None = 0
+turns_of_if (Some go) = turns_of go + 1

@@ -1,0 +1,16 @@
+-- What a `go` in hand knows of the best line that it follows (own choice).
+use Rattle.std.specs.Prelude.{ℕ, ℤ, List, ◌≡◌, ◌+◌, ◌<◌, ◌≤◌, ◌++◌, length}
+use Rattle.shogi_core.specs.Position.{Shogi}
+use Rattle.shogi_core.specs.declared.moves.Move.{Move}
+use Rattle.shogi_search.specs.Minimax.{value, line}
+use Rattle.shogi_search.specs.Progress.{Progress}
+
+-- the moves so far are the front of the best line of the depth after those that were told; the search in hand is of the position after them, and the value is known once the first search has ended
+pub record IsWalked (root : Shogi) (depth told plies : ℕ) (at : Shogi) (found : ℤ) (moves : List Move) (search : Progress) : Type 0 where
+  pub low : told < depth
+  pub high : depth ≤ 16
+  pub within : length moves + plies ≤ told + 1
+  pub started : told < plies → at ≡ root
+  pub valued : plies ≤ told → found ≡ value root (told + 1)
+  pub walked : moves ++ line at plies ≡ line root (told + 1)
+  pub searched : 0 < plies → (search.root ≡ at) × (search.depth ≡ plies)
