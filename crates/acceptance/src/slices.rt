@@ -184,6 +184,19 @@ fn two_sessions_by_turns(rt: HostRuntime) -> Result<(), Fail> {
     Ok(())
 }
 
+// Each root along the best lines is known from the first session, so the second makes no step.
+#[test]
+fn a_second_session_finds_what_the_first_one_searched(rt: HostRuntime) -> Result<(), Fail> {
+    let hasher = BuildHasherDefault::<FoldHasher>::new();
+    let mut table = SharedTable::new(rt.alloc(), 4096, hasher)?;
+    for row in SLICED {
+        let steps = assert_worked(&rt, rt.alloc(), &mut table, &row, 1)?;
+        assert!(rt; steps > 0);
+        assert_eq!(rt; assert_worked(&rt, rt.alloc(), &mut table, &row, 0)?, 0);
+    }
+    Ok(())
+}
+
 // The first two depths take fewer than 1,000 steps together, and the third takes more: the first slice
 // is written before the search at depth 3 has made its last step.
 #[test]
