@@ -19,10 +19,6 @@ pub info_lines-more : (p : Shogi) (done : ℕ) → info_lines p (done + 1) ≡ i
 unfolding info_lines
 info_lines-more p done = rw add-one refl
 
--- what was said so far, and one depth more
-pub said_more : (p : Shogi) (done : ℕ) (old said more : List ℕ) → said ≡ old ++ info_lines p done → more ≡ said ++ info_line p (done + 1) → more ≡ old ++ info_lines p (done + 1)
-said_more p done old said more e f = f ∙ (ap (λ xs. xs ++ info_line p (done + 1)) e ∙ (append_assoc old (info_lines p done) (info_line p (done + 1)) ∙ ap (λ xs. old ++ xs) (sym (info_lines-more p done))))
-
 -- a list that is not other than empty is empty
 pub is_empty : (xs : List ℕ) → ((xs ≢ []) → ⊥) → xs ≡ []
 is_empty [] h = refl

@@ -27,7 +27,3 @@ infos_of p depth (code ∷ codes) = info_lines p depth
 -- what is said of a position before the bestmove
 abbrev pub infos : Shogi → ℕ → List ℕ
 infos p depth = infos_of p depth (legal_moves p)
-
--- what a line goes on with after its best move
-abbrev pub then_on : Shogi → ℕ → Option Move → List Move
-then_on p left best = then_line (λ q. line q (left - 1)) p best

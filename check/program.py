@@ -1,0 +1,265 @@
+#!/usr/bin/env python3
+"""Runs the built program as a front end or an operator would, and looks at what it writes, at its
+exit status, and at when its lines come. Its one argument is the program; without it, the program that
+`make build` makes. Its last line is `N passed, M failed`."""
+
+import os
+import resource
+import select
+import subprocess
+import sys
+import tempfile
+import time
+
+TOP = os.path.dirname(os.path.dirname(os.path.abspath(__file__)))
+PROGRAM = os.path.join(TOP, "crates", "usi_host", "out", "usi_host")
+
+# The longest that a run may take, in seconds.
+PATIENCE = 60
+
+USI = (
+    b"id name Shared Shogi Host\n"
+    b"id author Shared Shogi Host Team\n"
+    b"option name Depth type spin default 3 min 1 max 16\n"
+    b"usiok\n"
+)
+DEPTH_ONE = b"info depth 1 score cp 0 pv 1g1f\n"
+DEPTH_THREE = (
+    DEPTH_ONE
+    + b"info depth 2 score cp 0 pv 1g1f 1a1b\n"
+    + b"info depth 3 score cp 200 pv 7g7f 4c4d 8h4d\n"
+    + b"bestmove 7g7f ponder 4c4d\n"
+)
+
+
+class Wrong(Exception):
+    """What was seen is not what was wanted."""
+
+
+def want(seen, wanted, what):
+    if seen != wanted:
+        raise Wrong(f"{what}: {seen!r}, wanted {wanted!r}")
+
+
+def run(words, sent=b"", **how):
+    """Runs the program to its end on these bytes: its status, its output, its complaints."""
+    how.setdefault("stdout", subprocess.PIPE)
+    if "stdin" not in how:
+        how["input"] = sent
+    ended = subprocess.run(
+        [PROGRAM, *words], stderr=subprocess.PIPE, timeout=PATIENCE, check=False, **how
+    )
+    return ended.returncode, ended.stdout, ended.stderr
+
+
+def start(words=()):
+    """Starts the program with a pipe at each end."""
+    return subprocess.Popen(
+        [PROGRAM, *words],
+        stdin=subprocess.PIPE,
+        stdout=subprocess.PIPE,
+        stderr=subprocess.PIPE,
+        bufsize=0,
+    )
+
+
+def line_of(running):
+    """The next line, or fewer bytes where none comes in time."""
+    line = b""
+    until = time.monotonic() + PATIENCE
+    while not line.endswith(b"\n"):
+        ready, _, _ = select.select([running.stdout], [], [], max(0, until - time.monotonic()))
+        byte = running.stdout.read(1) if ready else b""
+        if not byte:
+            break
+        line += byte
+    return line
+
+
+def ends(running, status, complaint):
+    """It ends by itself with this status, and complains of this alone."""
+    try:
+        _, complaints = running.communicate(timeout=PATIENCE)
+    except subprocess.TimeoutExpired:
+        running.kill()
+        running.communicate()
+        raise Wrong("it did not end") from None
+    want(running.returncode, status, "status")
+    want(complaints, complaint, "standard error")
+
+
+def no_words_are_a_session():
+    want(run([], b"usi\nisready\nquit\nisready\n"), (0, USI + b"readyok\n", b""), "a session")
+
+
+def stdio_is_the_same():
+    want(run(["stdio"], b"go\n"), (0, DEPTH_THREE, b""), "stdio")
+
+
+def the_table_may_have_one_entry_or_a_million():
+    for entries in ("1", "1000000"):
+        want(run(["stdio", "--entries", entries], b"go\n"), (0, DEPTH_THREE, b""), entries)
+
+
+def a_last_line_without_its_end_is_no_line():
+    want(run([], b"isready\nisready"), (0, b"readyok\n", b""), "a last line without LF")
+
+
+def a_line_that_is_too_long_ends_the_session():
+    sent = b"x" * 65_536 + b"\nisready\n"
+    want(run([], sent), (0, b"info string line too long\n", b""), "a line that is too long")
+
+
+def help_is_no_fault():
+    for words in (["--help"], ["-h"], ["help"], ["stdio", "--help"], ["help", "stdio"]):
+        status, text, complaints = run(words)
+        want((status, complaints), (0, b""), f"{words}")
+        if b"--entries" not in text and b"stdio" not in text:
+            raise Wrong(f"{words}: no help in {text!r}")
+
+
+def other_words_are_refused():
+    for words in (
+        ["sdtio"],
+        ["--entries", "1"],
+        ["stdio", "--entries"],
+        ["stdio", "--entries", "0"],
+        ["stdio", "--entries", "1000001"],
+        ["stdio", "--entries", "-1"],
+        ["stdio", "--entries", "many"],
+        ["stdio", "1"],
+        [b"stdio\xff"],
+    ):
+        status, text, complaints = run(words)
+        want((status, text), (2, b""), f"{words}")
+        if not complaints.endswith(b"\n"):
+            raise Wrong(f"{words}: standard error is {complaints!r}")
+
+
+def a_full_device_is_a_failed_write():
+    with open("/dev/full", "wb") as full:
+        status, _, complaints = run([], b"usi\n", stdout=full)
+    want((status, complaints), (1, b"usi_host: write failed\n"), "a full device")
+
+
+def a_folder_is_a_failed_read():
+    folder = os.open(TOP, os.O_RDONLY)
+    try:
+        seen = run([], stdin=folder)
+    finally:
+        os.close(folder)
+    want(seen, (1, b"", b"usi_host: read failed\n"), "a folder as input")
+
+
+def want_of_memory_is_told():
+    """The table takes several bytes for each entry before the first note: a limit that lets a small
+    one be made refuses a large one, so the number of entries is not ignored."""
+
+    def limited():
+        resource.setrlimit(resource.RLIMIT_AS, (8 << 20, 8 << 20))
+
+    small = run(["stdio", "--entries", "1"], b"isready\n", preexec_fn=limited)
+    want(small, (0, b"readyok\n", b""), "a table of one entry")
+    large = run(["stdio", "--entries", "1000000"], b"isready\n", preexec_fn=limited)
+    want(large, (1, b"", b"usi_host: out of memory\n"), "a table of a million")
+
+
+def quit_ends_it_while_the_input_stays_open():
+    running = start()
+    running.stdin.write(b"isready\nquit\n")
+    want(line_of(running), b"readyok\n", "isready")
+    until = time.monotonic() + PATIENCE
+    while running.poll() is None:
+        if time.monotonic() > until:
+            running.kill()
+            raise Wrong("it reads on after quit")
+        time.sleep(0.01)
+    ends(running, 0, b"")
+
+
+def each_line_is_answered_before_the_next_is_read():
+    running = start()
+    for sent, answer in ((b"isready\n", b"readyok\n"), (b"go depth 1\n", DEPTH_ONE)):
+        running.stdin.write(sent)
+        want(line_of(running), answer, f"{sent}")
+    want(line_of(running), b"bestmove 1g1f\n", "bestmove")
+    running.stdin.close()
+    running.stdin = None
+    ends(running, 0, b"")
+
+
+def info_lines_come_as_they_are_found():
+    """Depth 16 would not end in years: what comes, comes before the end."""
+    running = start()
+    running.stdin.write(b"go depth 16\n")
+    for line in DEPTH_THREE.splitlines(keepends=True)[:3]:
+        want(line_of(running), line, "an info line")
+    running.kill()
+    running.communicate()
+
+
+def a_front_end_that_is_gone_is_noticed():
+    running = start()
+    running.stdin.write(b"go depth 16\n")
+    want(line_of(running), DEPTH_ONE, "the first info line")
+    running.stdout.close()
+    running.stdout = None
+    ends(running, 1, b"usi_host: write failed\n")
+
+
+def a_closed_output_is_a_failed_write():
+    reading, writing = os.pipe()
+    os.close(reading)
+    with os.fdopen(writing, "wb") as closed:
+        status, _, complaints = run([], b"usi\n", stdout=closed)
+    want((status, complaints), (1, b"usi_host: write failed\n"), "a closed pipe")
+
+
+def a_file_is_as_good_as_a_pipe():
+    with tempfile.TemporaryFile() as sent, tempfile.TemporaryFile() as written:
+        sent.write(b"go\n")
+        sent.seek(0)
+        status, _, complaints = run([], stdin=sent, stdout=written)
+        written.seek(0)
+        want((status, written.read(), complaints), (0, DEPTH_THREE, b""), "files")
+
+
+CHECKS = (
+    no_words_are_a_session,
+    stdio_is_the_same,
+    the_table_may_have_one_entry_or_a_million,
+    a_last_line_without_its_end_is_no_line,
+    a_line_that_is_too_long_ends_the_session,
+    help_is_no_fault,
+    other_words_are_refused,
+    a_full_device_is_a_failed_write,
+    a_closed_output_is_a_failed_write,
+    a_folder_is_a_failed_read,
+    want_of_memory_is_told,
+    quit_ends_it_while_the_input_stays_open,
+    each_line_is_answered_before_the_next_is_read,
+    info_lines_come_as_they_are_found,
+    a_front_end_that_is_gone_is_noticed,
+    a_file_is_as_good_as_a_pipe,
+)
+
+
+def main():
+    global PROGRAM
+    if len(sys.argv) > 1:
+        PROGRAM = os.path.abspath(sys.argv[1])
+    failed = 0
+    for check in CHECKS:
+        try:
+            check()
+            verdict = "ok"
+        except (Wrong, OSError, subprocess.SubprocessError) as why:
+            failed += 1
+            verdict = f"FAILED: {why}"
+        print(f"program {check.__name__} ... {verdict}", flush=True)
+    print(f"{len(CHECKS) - failed} passed, {failed} failed")
+    return 1 if failed else 0
+
+
+if __name__ == "__main__":
+    sys.exit(main())
