@@ -1,6 +1,8 @@
-//! A reader and a writer that fail at a chosen call, and a writer that notes its flushes.
+//! A reader and a writer that fail at a chosen call, a writer that notes its flushes, and a reader that watches
+//! one.
 
 use std::alloc::Global;
+use std::cell::Cell;
 use std::io::{Error, ErrorKind, Read, Result, Write};
 
 /// Gives its bytes in pieces, and fails once it was read from so many times.
@@ -128,5 +130,84 @@ impl Write for NotingWriter {
             Ok(()) => Ok(()),
             Err(_) => Err(Error::from(ErrorKind::OutOfMemory)),
         }
+    }
+}
+
+/// How many bytes were written and flushed so far, as a reader may look at it.
+#[derive(Drop)]
+pub struct Watch {
+    written: Cell<usize>,
+    flushed: Cell<usize>,
+}
+
+impl Watch {
+    pub fn new() -> Watch {
+        Watch {
+            written: Cell::new(0),
+            flushed: Cell::new(0),
+        }
+    }
+}
+
+/// Takes all bytes, and tells the watch how many.
+#[derive(Drop)]
+pub struct WatchedWriter<'a> {
+    watch: &'a Watch,
+}
+
+impl<'a> WatchedWriter<'a> {
+    pub fn new(watch: &'a Watch) -> WatchedWriter<'a> {
+        WatchedWriter { watch }
+    }
+}
+
+impl Write for WatchedWriter<'_> {
+    fn write(&mut self, buf: &[u8]) -> Result<usize> {
+        let written = self.watch.written.get();
+        self.watch.written.set(written.saturating_add(buf.len()));
+        Ok(buf.len())
+    }
+
+    fn flush(&mut self) -> Result<()> {
+        self.watch.flushed.set(self.watch.written.get());
+        Ok(())
+    }
+}
+
+/// Gives one piece a read, and fails where the answers to the pieces before it, of so many bytes each,
+/// are not flushed.
+#[derive(Drop)]
+pub struct WatchingReader<'a> {
+    watch: &'a Watch,
+    pieces: &'a [(&'static str, usize)],
+    next: usize,
+    owed: usize,
+}
+
+impl<'a> WatchingReader<'a> {
+    pub fn new(watch: &'a Watch, pieces: &'a [(&'static str, usize)]) -> WatchingReader<'a> {
+        WatchingReader {
+            watch,
+            pieces,
+            next: 0,
+            owed: 0,
+        }
+    }
+}
+
+impl Read for WatchingReader<'_> {
+    fn read(&mut self, buf: &mut [u8]) -> Result<usize> {
+        if self.watch.flushed.get() != self.owed {
+            return Err(Error::from(ErrorKind::TimedOut));
+        }
+        let Some((piece, answer)) = self.pieces.get(self.next) else {
+            return Ok(0);
+        };
+        let bytes = piece.as_bytes();
+        let n = buf.len().min(bytes.len());
+        buf[..n].copy_from_slice(&bytes[..n]);
+        self.owed = self.owed.saturating_add(*answer);
+        self.next = self.next.saturating_add(1);
+        Ok(n)
     }
 }

@@ -1,6 +1,6 @@
 //! Rows through the program's streams, and streams that fail.
 
-use crate::fakes::{FailingReader, FailingWriter};
+use crate::fakes::{FailingReader, FailingWriter, Watch, WatchedWriter, WatchingReader};
 use crate::positions::{FAULTS, MATES, MOVES};
 use crate::rows::{DEEP, QUICK, Row, STORED, joined};
 use linked_list_allocator::LocalHeap;
@@ -180,6 +180,34 @@ fn writers_of_one_byte_and_of_none(rt: HostRuntime) -> Result<(), Fail> {
     assert!(rt; assert_front(&rt, rt.alloc(), narrow)?);
     let stalled = FailingWriter::new(rt.alloc(), 0, usize::MAX, usize::MAX);
     assert!(rt; !assert_front(&rt, rt.alloc(), stalled)?);
+    Ok(())
+}
+
+// The second read would fail.
+#[test]
+fn nothing_is_read_after_quit(rt: HostRuntime) -> Result<(), Fail> {
+    let mut reader = FailingReader::new(STORED.sent.as_bytes(), 4096, 1);
+    let mut writer = Vec::new(rt.alloc());
+    stdio(rt.alloc(), &mut reader, &mut writer, 1)?;
+    let answer = joined(rt.alloc(), STORED.answer)?;
+    assert_eq!(rt; std::str::from_utf8(writer.as_slice())?, answer.as_str());
+    Ok(())
+}
+
+// Each piece with the number of bytes of its answer.
+#[test]
+fn each_piece_is_answered_and_flushed_before_the_next_read(rt: HostRuntime) -> Result<(), Fail> {
+    let pieces = [
+        ("isready\n", 8),
+        ("isre", 0),
+        ("ady\nposition startpos\n", 8),
+        ("go depth 1\n", 46),
+        ("isready\nisready\n", 16),
+    ];
+    let watch = Watch::new();
+    let mut reader = WatchingReader::new(&watch, &pieces);
+    let mut writer = WatchedWriter::new(&watch);
+    stdio(rt.alloc(), &mut reader, &mut writer, 1)?;
     Ok(())
 }
 

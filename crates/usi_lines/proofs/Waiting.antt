@@ -127,3 +127,7 @@ module _ (bytes : List ℕ) (start end : ℕ) (s : IsSearched bytes start end) w
       → ahead (record { unread = unread; closed = closed }) x ≡ drop 1 (ahead (open_buffer closed) x)
   dropped_text true unread e below fits x = refl
   dropped_text false unread e below fits x = ap (λ (r : List ℕ). lines (r ++ x)) e ∙ ap (drop 1) (sym (ahead_text below fits x))
+
+-- a line that is too long is no text
+pub no_text : {text : List ℕ} {rest : List Line} → TooLong ∷ [] ≡ Text text ∷ rest → ⊥
+no_text e = cc

@@ -1,7 +1,7 @@
 //! A byte stream that comes in pieces, cut into lines.
 
-ghost use Rattle.std.specs.Prelude.{◌≡◌, ◌≢◌, ◌↔◌, ◌≤◌, ℕ, false, List, [], ◌∷◌, ◌++◌, IsTrue, IsNone, IfSome, OnOk, OnErr, drop, vec_len};
-ghost use Rattle.usi_lines.specs.Lines.{Buffer, ahead};
+ghost use Rattle.std.specs.Prelude.{◌≡◌, ◌≢◌, ◌↔◌, ◌≤◌, ℕ, false, true, List, [], ◌∷◌, ◌++◌, IsTrue, IsNone, IsOk, IfSome, OnOk, OnErr, drop, vec_len};
+ghost use Rattle.usi_lines.specs.Lines.{Buffer, ahead, TooLong};
 ghost use Rattle.usi_lines.specs.Seen.{line_of};
 
 use crate::line::{LINE_MAX, Line, line_len, without_return};
@@ -73,6 +73,7 @@ impl<A: Allocator> LineBuffer<A> {
     /// leaves all as it was.
     pub fn feed(&mut self, piece: &[u8]) -> Result<(), LineFault>
         ensures ok { OnOk result ((x : List ℕ) → ahead self.new x ≡ ahead self.old (piece.now ++ x)) }
+        ensures closed { self.old.closed ≡ true → IsOk result × (self.new ≡ self.old) }
         ensures err { OnErr result (self.new ≡ self.old) }
     {
         if self.closed {
@@ -114,7 +115,8 @@ impl<A: Allocator> LineBuffer<A> {
     /// Moves past the first unread line. After `TooLong` there are no more lines.
     pub fn drop_line(&mut self)
         requires { ahead self.old [] ≢ [] }
-        ensures { (x : List ℕ) → ahead self.new x ≡ drop 1 (ahead self.old x) }
+        ensures rest { (x : List ℕ) → ahead self.new x ≡ drop 1 (ahead self.old x) }
+        ensures too_long { ahead self.old [] ≡ TooLong ∷ [] → self.new.closed ≡ true }
     {
         if self.end - self.start > LINE_MAX {
             self.closed = true;

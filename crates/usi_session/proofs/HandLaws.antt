@@ -89,3 +89,9 @@ pub released-state : (s : State) (infos : List ℕ) (held : Held) (hold : Hold) 
 released-state s infos held Nothing = refl
 released-state s infos held UntilStop = refl
 released-state s infos held UntilHit = refl
+
+-- a `go` ends no session
+pub released-over : (s : State) (infos : List ℕ) (held : Held) (hold : Hold) → (released s infos held hold).state.is_over ≡ s.is_over
+released-over s infos held Nothing = refl
+released-over s infos held UntilStop = refl
+released-over s infos held UntilHit = refl

@@ -1,11 +1,13 @@
 -- What a session that is settled or over still owes.
 use Rattle.std.proofs.Common.{◌≡◌, ℕ, List, [], ◌∷◌, ◌++◌, refl, ap, ◌∙◌, false, true, Bool, append-nil, Option, Some, None}
-use Rattle.std.specs.Prelude.{◌&&◌, ◌||◌, not, nat_lt, length, cond, is_some}
+use Rattle.std.specs.Prelude.{◌-◌, ◌&&◌, ◌||◌, not, nat_lt, length, cond, is_some}
 use Rattle.usi_lines.specs.Lines.{Line, ahead, lines}
 use Rattle.usi_session.specs.declared.state.State.{State}
-use Rattle.usi_session.specs.InHand.{InHand, goes_on_if}
-use Rattle.usi_session.specs.Due.{Talk, due, owed, owed_after, has_line, is_pending, wants_input, new_talk}
-use Rattle.usi_session.specs.Replies.{replies_from, answer_unless}
+use Rattle.usi_session.specs.InHand.{InHand, goes_on_if, lines_on}
+use Rattle.usi_session.specs.Answer.{found}
+use Rattle.usi_session.proofs.HandLaws.{released-over}
+use Rattle.usi_session.specs.Due.{Talk, due, state_due, owed, owed_after, has_line, is_pending, wants_input, new_talk}
+use Rattle.usi_session.specs.Replies.{replies_from, state_from, is_over_after, answer_unless}
 
 -- no line, no reply
 pub replies_from-none : (s : State) → replies_from s [] ≡ []
@@ -40,6 +42,41 @@ pub due-settled : (s : Talk) → is_pending s ≡ false → due s [] ≡ s.queue
 due-settled s settled =
     ap (λ xs. s.queued ++ xs) (nothing_owed s.state.is_over s.state s.going (ahead s.input []) settled) ∙ append-nil s.queued
 
+-- no line, no change
+state_from-none : (s : State) → state_from s [] ≡ s
+unfolding state_from
+state_from-none s = refl
+
+over_stays : (over : Bool) (s : State) (line : Line) → over ≡ true → (answer_unless over s line).state ≡ s
+over_stays true s line e = refl
+over_stays false s line e = absurd (cc)
+
+-- a session that is over stays as it is
+state_from-over : (s : State) (ahead : List Line) → s.is_over ≡ true → state_from s ahead ≡ s
+unfolding state_from
+state_from-over s [] over = refl
+state_from-over s (line ∷ rest) over = ap (λ (t : State). state_from t rest) (over_stays s.is_over s line over) ∙ state_from-over s rest over
+
+goes_on-over : (s : State) (going : Option InHand) → (goes_on_if s going).state.is_over ≡ s.is_over
+goes_on-over s None = refl
+goes_on-over s (Some go) = released-over s (lines_on go.root go.told (go.depth - go.told)) (found go.root go.depth go.hold) go.hold
+
+-- a session that is over will be over
+pub state_due-over : (s : Talk) (x : List ℕ) → s.state.is_over ≡ true → (state_due s x).is_over ≡ true
+state_due-over s x over =
+    let ended : (goes_on_if s.state s.going).state.is_over ≡ true = goes_on-over s.state s.going ∙ over in
+    ap (λ (t : State). t.is_over) (state_from-over (goes_on_if s.state s.going).state (ahead s.input x) ended) ∙ ended
+
+idle_state : (over : Bool) (s : State) (going : Option InHand) (xs : List Line) → over ≡ false → (not over && (is_some going || has_line xs)) ≡ false → state_from (goes_on_if s going).state xs ≡ s
+idle_state true s going xs alive e = absurd (cc)
+idle_state false s None [] alive e = state_from-none s
+idle_state false s None (line ∷ rest) alive e = absurd (cc)
+idle_state false s (Some go) xs alive e = absurd (cc)
+
+-- alive, with nothing pending, its state is the one after all that it was sent
+pub state_due-settled : (s : Talk) → s.state.is_over ≡ false → is_pending s ≡ false → state_due s [] ≡ s.state
+state_due-settled s alive settled = idle_state s.state.is_over s.state s.going (ahead s.input []) alive settled
+
 both_false : (over : Bool) → (not over && false) ≡ false
 both_false true = refl
 both_false false = refl
@@ -68,3 +105,19 @@ wants_after s alive settled empty =
 pub new_wants : wants_input new_talk ≡ true
 unfolding lines
 new_wants = refl
+
+alive_of : (over settled short : Bool) → (not over && not settled && short) ≡ true → over ≡ false
+alive_of false settled short e = refl
+alive_of true settled short e = absurd (cc)
+
+-- a session that wants input is not over, and all that it was sent is answered
+pub state_due-wanting : (s : Talk) → wants_input s ≡ true → (state_due s []).is_over ≡ false
+state_due-wanting s wants =
+    let alive : s.state.is_over ≡ false = alive_of s.state.is_over (is_some s.going || has_line (ahead s.input [])) (nat_lt (length s.queued) 65536) wants in
+    let settled : is_pending s ≡ false = settled_of s.state.is_over (is_some s.going || has_line (ahead s.input [])) (nat_lt (length s.queued) 65536) wants in
+    ap (λ (t : State). t.is_over) (state_due-settled s alive settled) ∙ alive
+
+-- no session is over before it was sent anything
+pub opening_alive : is_over_after [] ≡ false
+unfolding lines state_from
+opening_alive = refl

@@ -7,7 +7,7 @@ use Rattle.usi_session.specs.Answer.{found, released}
 use Rattle.usi_session.proofs.HandLaws.{lines_on-none, released-bytes, released-state}
 use Rattle.usi_lines.specs.Lines.{Line}
 use Rattle.usi_session.specs.declared.state.State.{State}
-use Rattle.usi_session.specs.Replies.{replies_from, answer_to, answer_unless}
+use Rattle.usi_session.specs.Replies.{replies_from, state_from, answer_to, answer_unless}
 use Rattle.usi_session.specs.InHand.{InHand, goes_on, goes_on_if, with_rest, load_of_if, lines_on}
 use Rattle.usi_session.specs.Costs.{costs_from, cost_to}
 use Rattle.usi_session.specs.Due.{Talk, owed, owed_after, load_ahead, is_pending, has_line}
@@ -23,6 +23,10 @@ costs_from-alive : (s : State) (line : Line) (rest : List Line) → s.is_over �
 unfolding costs_from
 costs_from-alive s line rest alive =
     ap (λ (over : Bool). cond over 0 (cost_to s line) + costs_from (answer_unless over s line).state rest) alive
+
+state_from-alive : (s : State) (line : Line) (rest : List Line) → s.is_over ≡ false → state_from s (line ∷ rest) ≡ state_from (answer_to s line).state rest
+unfolding state_from
+state_from-alive s line rest alive = ap (λ (over : Bool). state_from (answer_unless over s line).state rest) alive
 
 owed_either : (over : Bool) (s : State) (going : Option InHand) (ahead : List Line) → s.is_over ≡ over → (over ≡ true → going ≡ None) → cond over [] (owed_after (goes_on_if s going) ahead) ≡ owed_after (goes_on_if s going) ahead
 owed_either false s going ahead e h = refl
@@ -59,6 +63,24 @@ load_on s next idle going line all rest alive i e h less =
     let whole : costs_from s all ≡ cost_to s line + costs_from (answer_to s line).state rest = ap (costs_from s) e ∙ costs_from-alive s line rest alive in
     let same : costs_from (goes_on_if next going).state rest ≡ costs_from (answer_to s line).state rest = ap (λ (t : State). costs_from t rest) h in
     rw i (omega arith)
+
+-- the state after all lines is that after the `go` of a line and the lines behind it
+pub state_on : (s next : State) (idle going : Option InHand) (line : Line) (all rest : List Line) → s.is_over ≡ false → idle ≡ None → all ≡ line ∷ rest → (goes_on_if next going).state ≡ (answer_to s line).state → state_from (goes_on_if next going).state rest ≡ state_from (goes_on_if s idle).state all
+state_on s next idle going line all rest alive i e h =
+    ap (λ (t : State). state_from t rest) h ∙ (sym (state_from-alive s line rest alive) ∙ (ap (state_from s) (sym e) ∙ ap (λ (o : Option InHand). state_from (goes_on_if s o).state all) (sym i)))
+
+-- a `go` that has told a depth more leads to the same state
+pub state_told : (s : State) (go more : InHand) (going : Option InHand) (ahead : List Line) → going ≡ Some go → more.root ≡ go.root → more.depth ≡ go.depth → more.hold ≡ go.hold → state_from (goes_on s more).state ahead ≡ state_from (goes_on_if s going).state ahead
+state_told s go more going ahead i r d h =
+    let same : (goes_on s more).state ≡ (goes_on s go).state = released-state s (lines_on more.root more.told (more.depth - more.told)) (found more.root more.depth more.hold) more.hold
+    ∙ (rw (r, d, h) (sym (released-state s (lines_on go.root go.told (go.depth - go.told)) (found go.root go.depth go.hold) go.hold))) in
+    ap (λ (t : State). state_from t ahead) same ∙ ap (λ (o : Option InHand). state_from (goes_on_if s o).state ahead) (sym i)
+
+-- and so does its end
+pub state_ends : (s next : State) (go : InHand) (going : Option InHand) (held : Held) (ahead : List Line) → going ≡ Some go → held ≡ found go.root go.depth go.hold → next ≡ (released s [] held held.until).state → state_from next ahead ≡ state_from (goes_on_if s going).state ahead
+state_ends s next go going held ahead i e h =
+    let state : (goes_on s go).state ≡ next = released-state s (lines_on go.root go.told (go.depth - go.told)) (found go.root go.depth go.hold) go.hold ∙ (ap (λ (k : Held). (released s [] k k.until).state) (sym e) ∙ sym h) in
+    ap (λ (t : State). state_from t ahead) (sym state) ∙ ap (λ (o : Option InHand). state_from (goes_on_if s o).state ahead) (sym i)
 
 -- the last depth was told, and the bestmove written or held
 pub due_ends : (s next : State) (queued more said reply : List ℕ) (go : InHand) (going : Option InHand) (held : Held) (ahead : List Line) → s.is_over ≡ false → going ≡ Some go → go.told + 1 ≡ go.depth → held ≡ found go.root go.depth go.hold

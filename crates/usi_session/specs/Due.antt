@@ -4,7 +4,7 @@ use Rattle.usi_lines.specs.Lines.{Buffer, Line, ahead}
 use Rattle.usi_session.specs.declared.state.State.{State}
 use Rattle.usi_session.specs.Answer.{Answer, opening}
 use Rattle.usi_session.specs.InHand.{InHand, goes_on_if, load_of_if, turns_of_if}
-use Rattle.usi_session.specs.Replies.{replies_from}
+use Rattle.usi_session.specs.Replies.{replies_from, state_from}
 use Rattle.usi_session.specs.Costs.{costs_from}
 
 -- the state after the lines that were answered, the `go` in hand, the replies not yet taken, and what was fed and not yet answered
@@ -25,6 +25,10 @@ owed s going ahead = cond s.is_over [] (owed_after (goes_on_if s going) ahead)
 -- what is owed once these further bytes were fed: the queued bytes, the rest of the `go` in hand, and the replies to the lines ahead
 abbrev pub due : Talk → List ℕ → List ℕ
 due s further = s.queued ++ owed s.state s.going (ahead s.input further)
+
+-- the state once these further bytes were fed and all was answered
+abbrev pub state_due : Talk → List ℕ → State
+state_due s further = state_from (goes_on_if s.state s.going).state (ahead s.input further)
 
 -- the steps that may still be made: for the `go` in hand, and for each `go` in these lines
 abbrev pub load_ahead : State → Option InHand → List Line → ℕ

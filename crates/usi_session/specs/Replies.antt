@@ -24,6 +24,15 @@ unfoldable pub replies_from : State → List Line → List ℕ
 replies_from s [] = []
 replies_from s (line ∷ rest) = (answer_line s line).bytes ++ replies_from (answer_line s line).state rest
 
+-- the state after the lines
+unfoldable pub state_from : State → List Line → State
+state_from s [] = s
+state_from s (line ∷ rest) = state_from (answer_line s line).state rest
+
+-- whether a session is over once it was sent these bytes
+abbrev pub is_over_after : List ℕ → Bool
+is_over_after bytes = (state_from opening (lines bytes)).is_over
+
 -- the replies of a new session to a whole stream of bytes
 abbrev pub replies : List ℕ → List ℕ
 replies bytes = replies_from opening (lines bytes)

@@ -1,9 +1,10 @@
 //! One USI session.
 
 ghost use Rattle.std.specs.Prelude.{◌≡◌, ◌≤◌, ◌++◌, ℕ, List, [], true, false, OnOk, OnErr, IfOk, OnSome, IfSome, IfNone, None, length, take, drop, ◌<◌, ◌+◌};
-ghost use Rattle.usi_session.specs.Due.{Talk, due, load, turns, is_pending, wants_input, new_talk, IsSearching, IsWhole};
-ghost use Rattle.usi_session.specs.Replies.{replies};
-ghost use Rattle.usi_lines.specs.Lines.{ahead};
+ghost use Rattle.usi_session.specs.Due.{Talk, due, state_due, load, turns, is_pending, wants_input, new_talk, IsSearching, IsWhole};
+ghost use Rattle.usi_session.specs.Replies.{replies, state_from};
+ghost use Rattle.usi_session.specs.Answer.{opening};
+ghost use Rattle.usi_lines.specs.Lines.{ahead, lines};
 
 use crate::answer::{answer_line, release};
 use crate::going::Going;
@@ -55,6 +56,7 @@ impl<A: Allocator + Copy> Session<A> {
     pub fn new(alloc: A) -> Session<A>
         ensures opening { result ≡ new_talk }
         ensures due { (x : List ℕ) → due result x ≡ replies x }
+        ensures after { (x : List ℕ) → state_due result x ≡ state_from opening (lines x) }
     {
         Session {
             alloc,
@@ -75,6 +77,7 @@ impl<A: Allocator + Copy> Session<A> {
         requires wants { wants_input self.old ≡ true }
         requires short { length piece.now ≤ 4096 }
         ensures due { OnOk result ((x : List ℕ) → due self.new x ≡ due self.old (piece.now ++ x)) }
+        ensures after { OnOk result ((x : List ℕ) → state_due self.new x ≡ state_due self.old (piece.now ++ x)) }
         ensures queued { self.new.queued ≡ self.old.queued }
         ensures state { self.new.state ≡ self.old.state }
         ensures going { self.new.going ≡ self.old.going }
@@ -91,6 +94,7 @@ impl<A: Allocator + Copy> Session<A> {
         requires idle { self.old.going ≡ None }
         requires pending { is_pending self.old ≡ true }
         ensures due { (x : List ℕ) → due self.new x ≡ due self.old x }
+        ensures after { (x : List ℕ) → state_due self.new x ≡ state_due self.old x }
         ensures load { load self.new ≤ load self.old }
         ensures fewer { OnOk result (turns self.new < turns self.old) }
         ensures err { OnErr result (self.new ≡ self.old) }
@@ -114,6 +118,7 @@ impl<A: Allocator + Copy> Session<A> {
         requires whole { IsWhole self.old.going }
         requires pending { is_pending self.old ≡ true }
         ensures due { (x : List ℕ) → due self.new x ≡ due self.old x }
+        ensures after { (x : List ℕ) → state_due self.new x ≡ state_due self.old x }
         ensures load { load self.new ≤ load self.old }
         ensures fewer { OnOk result (turns self.new < turns self.old) }
         ensures err { OnErr result (self.new ≡ self.old) }
@@ -141,6 +146,7 @@ impl<A: Allocator + Copy> Session<A> {
     fn turn<M: Memo>(&mut self, memo: &mut M, budget: u64) -> Result<Option<u64>, SessionFault>
         requires pending { is_pending self.old ≡ true }
         ensures due { (x : List ℕ) → due self.new x ≡ due self.old x }
+        ensures after { (x : List ℕ) → state_due self.new x ≡ state_due self.old x }
         ensures spent { IfOk result (λ made. IfNone made ((budget + load self.new ≤ load self.old) × IsSearching self.new.going)) }
         ensures within { IfOk result (λ made. IfSome made (λ n. n ≤ budget)) }
         ensures made { IfOk result (λ made. IfSome made (λ n. n + load self.new ≤ load self.old)) }
@@ -168,6 +174,7 @@ impl<A: Allocator + Copy> Session<A> {
     /// changed.
     pub fn work<M: Memo>(&mut self, memo: &mut M, budget: u64) -> Result<u64, SessionFault>
         ensures due { (x : List ℕ) → due self.new x ≡ due self.old x }
+        ensures after { (x : List ℕ) → state_due self.new x ≡ state_due self.old x }
         ensures within { IfOk result (λ n. n ≤ budget) }
         ensures made { IfOk result (λ n. n + load self.new ≤ load self.old) }
         ensures spent { IfOk result (λ n. is_pending self.new ≡ true → (n ≡ budget) × IsSearching self.new.going) }

@@ -1,11 +1,30 @@
 -- A run over a reader and a writer, between two reads and at its ends.
-use Rattle.std.proofs.Common.{◌≡◌, ℕ, List, [], ◌++◌, Option, refl, sym, ap, ◌∙◌, append_assoc, append-nil, true, false, inl, inr}
+use Rattle.std.proofs.Common.{◌≡◌, ℕ, List, [], ◌++◌, Option, refl, sym, ap, ◌∙◌, append_assoc, append-nil, true, false, inl, inr, length, ◌≤◌, arith}
 use Rattle.std.specs.Io.KnownBytes.{Appends, Consumes, IsAtEnd, Keeps}
 use Rattle.std.proofs.KnownBytes.{Appends-nil, Appends-trans, Consumes-nil, Consumes-trans, Consumes-kept}
-use Rattle.usi_session.specs.Due.{Talk, due, new_talk}
-use Rattle.usi_session.specs.Replies.{replies}
-use Rattle.usi_session.proofs.Settled.{due-over, due-wanting, wants_after, new_wants}
-use Rattle.usi_stdio.specs.Stdio.{WritesFront, IsAnswered, IsAnsweredInPart, IsFedAndWorkedOff, IsBetween}
+use Rattle.usi_lines.specs.Lines.{lines}
+use Rattle.usi_session.specs.declared.state.State.{State}
+use Rattle.usi_session.specs.Answer.{opening}
+use Rattle.usi_session.specs.Due.{Talk, due, state_due, new_talk}
+use Rattle.usi_session.specs.Replies.{replies, state_from, is_over_after}
+use Rattle.usi_session.proofs.Settled.{due-over, due-wanting, state_due-over, state_due-wanting, wants_after, new_wants, opening_alive}
+use Rattle.usi_stdio.specs.Stdio.{WritesFront, StopsInTime, IsAnswered, IsAnsweredInPart, IsFedAndWorkedOff, IsBetween}
+
+-- a piece that is read while the session wants input
+stops_at : (before mid old part : Option (List ℕ)) (s : Talk) (piece : List ℕ) → (b : IsBetween before mid old part s) → length piece ≤ 4096 → StopsInTime (b.read ++ piece)
+stops_at before mid old part s piece b short = record {
+  front = b.read;
+  piece = piece;
+  split = refl;
+  short = short;
+  alive = ap (λ xs. is_over_after xs) (sym (append-nil b.read)) ∙ (ap (λ (t : State). t.is_over) (sym (b.left [])) ∙ state_due-wanting s b.wants);
+}
+
+-- nothing further was read
+stops_between : (before mid old part : Option (List ℕ)) (s : Talk) → (b : IsBetween before mid old part s) → StopsInTime b.read
+stops_between before mid old part s b =
+    let all : StopsInTime (b.read ++ []) = stops_at before mid old part s [] b (omega arith) in
+    rw (append-nil b.read) at all
 
 -- nothing was read or written
 pub part_start : (before old : Option (List ℕ)) → IsAnsweredInPart before before old old
@@ -13,16 +32,18 @@ part_start before old = record {
   read = [];
   consumed = Consumes-nil before;
   written = (replies [], record { done = []; appended = Appends-nil old; split = refl });
+  stops = record { front = []; piece = []; split = refl; short = omega arith; alive = opening_alive };
 }
 
 -- before the first read
-pub between_start : (before old : Option (List ℕ)) (s : Talk) → s ≡ new_talk → ((x : List ℕ) → due s x ≡ replies x) → IsBetween before before old old s
-between_start before old s new owed = record {
+pub between_start : (before old : Option (List ℕ)) (s : Talk) → s ≡ new_talk → ((x : List ℕ) → due s x ≡ replies x) → ((x : List ℕ) → state_due s x ≡ state_from opening (lines x)) → IsBetween before before old old s
+between_start before old s new owed left = record {
   read = [];
   consumed = Consumes-nil before;
   made = [];
   written = Appends-nil old;
   owed = owed;
+  left = left;
   empty = ap (λ (t : Talk). t.queued) new;
   wants = rw new new_wants;
 }
@@ -32,6 +53,10 @@ worked : (before mid after old part new : Option (List ℕ)) (s t : Talk) (piece
 worked before mid after old part new s t piece b _ w x =
     append_assoc b.made w.made (due t x) ∙ (ap (λ xs. b.made ++ xs) (sym (w.owed x)) ∙ (b.owed (piece ++ x) ∙ ap replies (sym (append_assoc b.read piece x))))
 
+left_more : (before mid old part new : Option (List ℕ)) (s t : Talk) (piece : List ℕ) → (b : IsBetween before mid old part s) → (w : IsFedAndWorkedOff s t piece part new) → (x : List ℕ) → state_due t x ≡ state_from opening (lines ((b.read ++ piece) ++ x))
+left_more before mid old part new s t piece b w x =
+    w.left x ∙ (b.left (piece ++ x) ∙ ap (λ xs. state_from opening (lines xs)) (sym (append_assoc b.read piece x)))
+
 pub between_more : (before mid after old part new : Option (List ℕ)) (s t : Talk) (piece : List ℕ) → IsBetween before mid old part s → Consumes mid after piece → IsFedAndWorkedOff s t piece part new → t.state.is_over ≡ false → IsBetween before after old new t
 between_more before mid after old part new s t piece b consumed w alive = record {
   read = b.read ++ piece;
@@ -39,6 +64,7 @@ between_more before mid after old part new s t piece b consumed w alive = record
   made = b.made ++ w.made;
   written = Appends-trans old part new b.made w.made b.written w.written;
   owed = worked before mid after old part new s t piece b w w;
+  left = left_more before mid old part new s t piece b w;
   empty = w.empty;
   wants = wants_after t alive w.settled w.empty;
 }
@@ -55,20 +81,31 @@ answered_at_end before mid after old new s none b e consumed ended = record {
   consumed = (let all : Consumes before after (b.read ++ none) = Consumes-trans before mid after b.read none b.consumed consumed in let same : b.read ++ none ≡ b.read = ap (λ xs. b.read ++ xs) e ∙ append-nil b.read in rw same at all);
   written = rw (← all_written before mid old new s b) b.written;
   ended = inl ended;
+  stops = stops_between before mid old new s b;
 }
 
 -- the session is over
-pub answered_over : (before mid after old part new : Option (List ℕ)) (s t : Talk) (piece : List ℕ) → IsBetween before mid old part s → Consumes mid after piece → IsFedAndWorkedOff s t piece part new → t.state.is_over ≡ true → IsAnswered before after old new
-answered_over before mid after old part new s t piece b consumed w over =
-    let same : (x : List ℕ) → b.made ++ w.made ≡ replies ((b.read ++ piece) ++ x) = λ x. sym (append-nil (b.made ++ w.made)) ∙ (ap (λ xs. (b.made ++ w.made) ++ xs) (sym (due-over t x over ∙ w.empty)) ∙ worked before mid after old part new s t piece b w w x) in
-    let all : b.made ++ w.made ≡ replies (b.read ++ piece) = same [] ∙ ap replies (append-nil (b.read ++ piece)) in
+pub answered_over : (before mid after old part new : Option (List ℕ)) (s t : Talk) (piece : List ℕ) → IsBetween before mid old part s → Consumes mid after piece → IsFedAndWorkedOff s t piece part new → t.state.is_over ≡ true → length piece ≤ 4096 → IsAnswered before after old new
+answered_over before mid after old part new s t piece b consumed w over short =
+    let all : b.made ++ w.made ≡ replies (b.read ++ piece) =
+    sym (append-nil (b.made ++ w.made)) ∙ (ap (λ xs. (b.made ++ w.made) ++ xs) (sym (due-over t [] over ∙ w.empty)) ∙ (worked before mid after old part new s t piece b w w [] ∙ ap replies (append-nil (b.read ++ piece)))) in
     let appended : Appends old new (b.made ++ w.made) = Appends-trans old part new b.made w.made b.written w.written in
     record {
       read = b.read ++ piece;
       consumed = Consumes-trans before mid after b.read piece b.consumed consumed;
       written = rw all at appended;
-      ended = inr (λ x. sym (same x) ∙ all);
+      ended = inr (ap (λ xs. is_over_after xs) (sym (append-nil (b.read ++ piece))) ∙ (ap (λ (q : State). q.is_over) (sym (left_more before mid old part new s t piece b w [])) ∙ state_due-over t [] over));
+      stops = stops_at before mid old part s piece b short;
     }
+
+-- no further read is tried
+pub part_between : (before mid old new : Option (List ℕ)) (s : Talk) → IsBetween before mid old new s → IsAnsweredInPart before mid old new
+part_between before mid old new s b = record {
+  read = b.read;
+  consumed = b.consumed;
+  written = ([], record { done = b.made; appended = b.written; split = sym (all_written before mid old new s b) ∙ sym (append-nil b.made) });
+  stops = stops_between before mid old new s b;
+}
 
 -- a read failed
 pub part_read : (before mid after old new : Option (List ℕ)) (s : Talk) → IsBetween before mid old new s → Keeps mid after → IsAnsweredInPart before after old new
@@ -76,11 +113,13 @@ part_read before mid after old new s b kept = record {
   read = b.read;
   consumed = Consumes-kept before mid after b.read b.consumed kept;
   written = ([], record { done = b.made; appended = b.written; split = sym (all_written before mid old new s b) ∙ sym (append-nil b.made) });
+  stops = stops_between before mid old new s b;
 }
 
 -- memory was refused for a piece, or a write of its answers failed
-pub part_piece : (before mid after old part new : Option (List ℕ)) (s : Talk) (piece : List ℕ) → IsBetween before mid old part s → Consumes mid after piece → WritesFront part new (due s piece) → IsAnsweredInPart before after old new
-part_piece before mid after old part new s piece b consumed (left, w) = record {
+pub part_piece : (before mid after old part new : Option (List ℕ)) (s : Talk) (piece : List ℕ) → IsBetween before mid old part s → Consumes mid after piece → WritesFront part new (due s piece) → length piece ≤ 4096 → IsAnsweredInPart before after old new
+part_piece before mid after old part new s piece b consumed (left, w) short = record {
+  stops = stops_at before mid old part s piece b short;
   read = b.read ++ piece;
   consumed = Consumes-trans before mid after b.read piece b.consumed consumed;
   written = (

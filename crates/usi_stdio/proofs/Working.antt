@@ -2,7 +2,7 @@
 use Rattle.std.proofs.Common.{◌≡◌, ℕ, ◌+◌, ◌*◌, ◌≤◌, ◌<◌, List, [], ◌++◌, Option, refl, sym, ap, ◌∙◌, append_assoc, append-nil, true, false, arith, cond, Bool, Result, OnErr, Ok, Err}
 use Rattle.std.specs.Io.KnownBytes.{Appends, Keeps}
 use Rattle.std.proofs.KnownBytes.{Appends-nil, Appends-trans, Appends-kept}
-use Rattle.usi_session.specs.Due.{Talk, due, is_pending, load}
+use Rattle.usi_session.specs.Due.{Talk, due, state_due, is_pending, load}
 use Rattle.usi_stdio.specs.Stdio.{WritesFront, IsWritten, IsWorkedOn, slices_of}
 
 -- a front of a front
@@ -30,23 +30,25 @@ front_of_due old new before mid kept front =
     front_of_more old new mid.queued (due (record mid { queued = [] }) []) (due before []) front (sym kept ∙ due-queued mid [])
 
 -- a slice kept what is owed, and all that it queued was written
-pub worked_on : (before mid after : Talk) (old new : Option (List ℕ)) → ((x : List ℕ) → due mid x ≡ due before x) → IsWritten mid after old new → IsWorkedOn before after old new
-worked_on before mid after old new kept w = record {
+pub worked_on : (before mid after : Talk) (old new : Option (List ℕ)) → ((x : List ℕ) → due mid x ≡ due before x) → ((x : List ℕ) → state_due mid x ≡ state_due before x) → IsWritten mid after old new → IsWorkedOn before after old new
+worked_on before mid after old new kept left w = record {
   made = mid.queued;
   written = w.written;
   owed = λ x. sym (kept x) ∙ (due-queued mid x ∙ ap (λ (t : Talk). mid.queued ++ due t x) (sym w.rest));
+  left = λ x. ap (λ (t : Talk). state_due t x) w.rest ∙ left x;
   empty = ap (λ (t : Talk). t.queued) w.rest;
 }
 
 -- before the first slice
 pub worked_none : (s : Talk) (old : Option (List ℕ)) → s.queued ≡ [] → IsWorkedOn s s old old
-worked_none s old empty = record { made = []; written = Appends-nil old; owed = λ x. refl; empty = empty }
+worked_none s old empty = record { made = []; written = Appends-nil old; owed = λ x. refl; left = λ x. refl; empty = empty }
 
 -- one slice more
 pub worked_more : (before mid after : Talk) (old part new : Option (List ℕ)) → IsWorkedOn before mid old part → IsWorkedOn mid after part new → IsWorkedOn before after old new
 worked_more before mid after old part new a b = record {
   made = a.made ++ b.made;
   written = Appends-trans old part new a.made b.made a.written b.written;
+  left = λ x. b.left x ∙ a.left x;
   owed = λ x. a.owed x ∙ (ap (λ xs. a.made ++ xs) (b.owed x) ∙ sym (append_assoc a.made b.made (due after x)));
   empty = b.empty;
 }

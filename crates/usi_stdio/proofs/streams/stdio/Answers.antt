@@ -1,5 +1,5 @@
-use Rattle.std.proofs.Common.{sym, ◌∙◌, ap, take}
-use Rattle.usi_stdio.proofs.Between.{part_start, part_read, between_start, between_more, answered_at_end, answered_over, part_piece}
+use Rattle.std.proofs.Common.{sym, ◌∙◌, ap, take, rules}
+use Rattle.usi_stdio.proofs.Between.{part_start, part_between, part_read, between_start, between_more, answered_at_end, answered_over, part_piece}
 use Rattle.usi_stdio.proofs.Working.{on_err}
 use Rattle.usi_stdio.proofs.streams.stdio.Goals as goal
 
@@ -8,7 +8,7 @@ pub returns-in_err-table-clause-fault : goal.returns-in_err-table-clause-fault
 returns-in_err-table-clause-fault g c = on_err _ (part_start _ _)
 
 pub pieces-init : goal.pieces-init
-pieces-init g c = between_start _ _ c.new-session.result c.new-session.ensures.opening c.new-session.ensures.due
+pieces-init g c = between_start _ _ c.new-session.result c.new-session.ensures.opening c.new-session.ensures.due c.new-session.ensures.after
 
 -- a read failed
 pub returns-in_err-n-clause-fault : goal.returns-in_err-n-clause-fault
@@ -22,14 +22,18 @@ returns-then-n-eq0-clause-answered g c =
 -- a front of the piece's answers was written
 pub returns-in_err-answer_piece-clause-fault : goal.returns-in_err-answer_piece-clause-fault
 returns-in_err-answer_piece-clause-fault g c =
-    on_err _ (part_piece _ _ _ _ _ _ c.pieces.session c.split_at.result.0.now c.pieces.invariant (rw c.split_at.ensures.front c.in_ok-n.ensures.given) c.in_err-answer_piece.ensures.err)
+    on_err _ (part_piece _ _ _ _ _ _ c.pieces.session c.split_at.result.0.now c.pieces.invariant (rw c.split_at.ensures.front c.in_ok-n.ensures.given) c.in_err-answer_piece.ensures.err (search rules))
 
 -- the session is over
 pub returns-then-is_over-clause-answered : goal.returns-then-is_over-clause-answered
 returns-then-is_over-clause-answered g c =
-    answered_over _ _ _ _ _ _ c.pieces.session c.answer_piece.new.session c.split_at.result.0.now c.pieces.invariant (rw c.split_at.ensures.front c.in_ok-n.ensures.given) c.in_ok-answer_piece.ensures.ok (sym c.is_over.ensures ∙ c.if-is_over.true)
+    answered_over _ _ _ _ _ _ c.pieces.session c.answer_piece.new.session c.split_at.result.0.now c.pieces.invariant (rw c.split_at.ensures.front c.in_ok-n.ensures.given) c.in_ok-answer_piece.ensures.ok (sym c.is_over.ensures ∙ c.if-is_over.true) (search rules)
 
 -- one piece more
 pub pieces-preserved : goal.pieces-preserved
 pieces-preserved g c =
     between_more _ _ _ _ _ _ c.pieces.session c.answer_piece.new.session c.split_at.result.0.now c.pieces.invariant (rw c.split_at.ensures.front c.in_ok-n.ensures.given) c.in_ok-answer_piece.ensures.ok (sym c.is_over.ensures ∙ c.if-is_over.false)
+
+-- the greatest number of reads was made
+pub returns-clause-fault : goal.returns-clause-fault
+returns-clause-fault g c = part_between _ _ _ _ c.pieces.session c.pieces.invariant
