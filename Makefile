@@ -19,9 +19,10 @@ install: build
 	install -d $(DESTDIR)$(PREFIX)/bin
 	install -m 755 $(PROGRAM) $(DESTDIR)$(PREFIX)/bin/usi_host
 
-# Proves every crate from nothing, tries each edit that must fail, and runs each test and program.
+# Proves every crate from nothing, tries each edit that must fail, runs each test and program, and then
+# the built program as its users run it.
 test:
-	rt ci
+	@check/gate.sh
 
 # Prints how fast moves are counted, positions searched, and `go` answered by the program.
 bench:

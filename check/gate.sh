@@ -1,0 +1,21 @@
+#!/usr/bin/env bash
+# The gate. First `rt ci`: every proof from nothing, each edit that must be refused, each test, each
+# program. Then the program is built and run as its users run it. The last line counts both.
+set -uo pipefail
+cd "$(dirname "$0")/.."
+log=$(mktemp)
+trap 'rm -f "$log"' EXIT
+
+status=0
+rt ci | tee "$log" || status=1
+if [ $status -eq 0 ]; then
+    if make --no-print-directory build; then
+        check/program.py | tee -a "$log" || status=1
+    else
+        echo '0 passed, 1 failed' | tee -a "$log"
+        status=1
+    fi
+fi
+awk '/^[0-9]+ passed, [0-9]+ failed$/ { passed += $1; failed += $3 }
+     END { print passed + 0 " passed, " failed + 0 " failed" }' "$log"
+exit $status
