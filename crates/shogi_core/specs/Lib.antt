@@ -9,3 +9,8 @@ pub mod Validity
 pub mod Faultless
 pub mod Start
 pub mod Codes
+pub mod Bits
+pub mod Masks
+pub mod Lines
+pub mod Rays
+pub mod Steps

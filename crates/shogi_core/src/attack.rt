@@ -1,12 +1,19 @@
-//! Attacks and checks.
+//! Attacks and checks, seen from the square that is attacked.
 
-ghost use Rattle.std.specs.Prelude.{◌≡◌};
+ghost use Rattle.std.specs.Prelude.{◌≡◌, ◌<◌, ◌^◌, ℕ};
 ghost use Rattle.shogi_core.specs.Attack.{is_attacked_from, is_attacked, is_open_king, in_check};
+ghost use Rattle.shogi_core.specs.Bits.{has_bit};
+ghost use Rattle.shogi_core.specs.Cell.{is_king};
+ghost use Rattle.shogi_core.specs.Lines.{are_lined, is_seen};
+ghost use Rattle.shogi_core.specs.Movement.{piece_at};
 
+use crate::bits::{cleared, lowest};
 use crate::board::Board;
 use crate::cell::{is_king, is_of};
 use crate::piece::Color;
 use crate::square::Square;
+use crate::steps::jump_squares;
+use crate::targets::{diagonal_squares, straight_squares};
 
 fn is_attacked_from(board: &Board, color: Color, square: Square, from: Square) -> bool
     ensures { result ≡ is_attacked_from board.now color square from }
@@ -20,29 +27,65 @@ fn is_open_king(board: &Board, color: Color, square: Square) -> bool
     is_king(board.at(square), color) && board.is_attacked(color.opponent(), square)
 }
 
+/// The squares on open lines with the square, the first piece on each line included.
+#[tactic(auto, using(crate::proofs::SeenLaws::seen))]
+fn lined_squares(board: &Board, from: usize) -> u128
+    requires { from < 81 }
+    ensures fits { result < 2 ^ 81 }
+    ensures bits { (b : ℕ) → b < 81 → has_bit result b ≡ are_lined board.now from b }
+{
+    straight_squares(board, Color::Black, from) | diagonal_squares(board, Color::Black, from)
+}
+
+/// The squares from which a piece could reach the square: those on open lines, and knights' jumps.
+#[tactic(auto, using(crate::proofs::SeenLaws::seen))]
+fn seen_squares(board: &Board, from: usize) -> u128
+    requires { from < 81 }
+    ensures fits { result < 2 ^ 81 }
+    ensures bits { (b : ℕ) → b < 81 → has_bit result b ≡ is_seen board.now from b }
+{
+    lined_squares(board, from) | jump_squares(from)
+}
+
 impl Board {
+    /// The squares on open lines with the square: on its file, its rank or a diagonal, with no
+    /// piece between.
+    pub fn lined(&self, square: Square) -> u128
+        ensures fits { result < 2 ^ 81 }
+        ensures bits { (n : ℕ) → n < 81 → has_bit result n ≡ are_lined self.now square n }
+    {
+        square.index();
+        lined_squares(self, square.index())
+    }
+
     /// Whether a piece of the side reaches the square, whoever stands there.
-    #[tactic(auto, using(crate::proofs::Below::some_below_more, crate::proofs::Below::some_below_none, crate::proofs::Below::some_below_at))]
+    #[tactic(auto, using(crate::proofs::SeenLaws::attackers))]
     pub fn is_attacked(&self, by: Color, square: Square) -> bool
         ensures { result ≡ is_attacked self.now by square }
     {
-        for from in 0..81 {
+        let mut left = self.own(by) & seen_squares(self, square.index());
+        while left != 0 {
+            let from = lowest(left);
             if is_attacked_from(self, by, square, Square::of_index(from)) {
                 return true;
             }
+            left = cleared(left, from);
         }
         false
     }
 
     /// Whether a king of the side is attacked; a side without a king is never in check.
-    #[tactic(auto, using(crate::proofs::Below::some_below_more, crate::proofs::Below::some_below_none, crate::proofs::Below::some_below_at), unfolding(crate::specs::Attack::in_check))]
+    #[tactic(auto, using(crate::proofs::SeenLaws::open_kings), unfolding(crate::specs::Attack::in_check))]
     pub fn in_check(&self, side: Color) -> bool
         ensures { result ≡ in_check self.now side }
     {
-        for square in 0..81 {
+        let mut left = self.kings(side);
+        while left != 0 {
+            let square = lowest(left);
             if is_open_king(self, side, Square::of_index(square)) {
                 return true;
             }
+            left = cleared(left, square);
         }
         false
     }

@@ -1,29 +1,97 @@
 //! The board: what stands on each square.
 
-ghost use Rattle.std.specs.Prelude.{◌≡◌, slice_set};
+ghost use Rattle.std.specs.Prelude.{◌≡◌, ◌<◌, ◌^◌, ℕ, length, slice_set, cond, ◌==◌, not, is_none};
+ghost use Rattle.shogi_core.specs.Bits.{has_bit, mask_below};
+ghost use Rattle.shogi_core.specs.Cell.{is_of, is_king};
+ghost use Rattle.shogi_core.specs.Masks.{own_of, kings_of, is_any_king};
 ghost use Rattle.shogi_core.specs.Movement.{piece_at};
 
-use crate::piece::Piece;
+use crate::bits::{with, without};
+use crate::cell::is_of;
+use crate::piece::{Color, Piece};
 use crate::square::Square;
 use std::marker::Model;
 
 /// A board, seen as its 81 cells by index. It need not be part of a valid position.
-#[derive(Clone, Copy, Debug, PartialEq, Eq, Hash)]
+#[derive(Clone, Copy, Debug)]
+#[derive_where(PartialEq, Eq, Hash)]
 pub struct Board {
     cells: [Option<Piece>; 81],
+    #[derive_where(skip(EqHashOrd))]
+    black: u128,
+    #[derive_where(skip(EqHashOrd))]
+    white: u128,
+    #[derive_where(skip(EqHashOrd))]
+    kings: u128,
 }
 
 impl Model for Board {
     ghost use Rattle.std.specs.Prelude.{List, Option, ◌≡◌, length};
     ghost use Rattle.shogi_core.specs.declared.piece.Piece.{Piece};
+    ghost use Rattle.shogi_core.specs.declared.piece.Color.TheVariants.{Black, White};
+    ghost use Rattle.shogi_core.specs.Masks.{own_of, kings_of};
+    ghost use Rattle.std.proofs.Common.{ap, sym, ◌∙◌};
 
     ghost Value = { List (Option Piece) };
 
     ghost view = { λ b. b.cells };
 
-    ghost invariant = { λ b. length b.cells ≡ 81 };
+    ghost invariant = { λ b. (length b.cells ≡ 81) × (b.black ≡ own_of b.cells Black) × (b.white ≡ own_of b.cells White) × (b.kings ≡ kings_of b.cells) };
 
-    ghost inverse = { λ cells. record { cells = cells } };
+    ghost inverse = { λ cells. record { cells = cells; black = own_of cells Black; white = own_of cells White; kings = kings_of cells } };
+
+    ghost inverse_ok = { λ b h. ap (λ black. record { cells = b.cells; black = black; white = own_of b.cells White; kings = kings_of b.cells }) (sym h.1) ∙ (ap (λ white. record { cells = b.cells; black = b.black; white = white; kings = kings_of b.cells }) (sym h.2) ∙ ap (λ kings. record { cells = b.cells; black = b.black; white = b.white; kings = kings }) (sym h.3)) };
+}
+
+/// The squares on which pieces of the side stand.
+#[tactic(auto, using(crate::proofs::MaskLaws::mask_steps), unfolding(crate::specs::Masks::places_of))]
+fn own_squares(cells: &[Option<Piece>; 81], color: Color) -> u128
+    ensures { result ≡ own_of cells.now color }
+{
+    let mut mask = 0;
+    for square in 0..81 {
+        if is_of(cells[square], color) {
+            mask |= 1 << square;
+        }
+    }
+    mask
+}
+
+/// Whether a king of either side stands there.
+fn is_any_king(cell: Option<Piece>) -> bool
+    ensures { result ≡ is_any_king cell }
+{
+    match cell {
+        None => false,
+        Some(piece) => piece.role.is_king(),
+    }
+}
+
+/// The squares on which kings stand.
+#[tactic(auto, using(crate::proofs::MaskLaws::mask_steps), unfolding(crate::specs::Masks::places_of))]
+fn king_squares(cells: &[Option<Piece>; 81]) -> u128
+    ensures { result ≡ kings_of cells.now }
+{
+    let mut mask = 0;
+    for square in 0..81 {
+        if is_any_king(cells[square]) {
+            mask |= 1 << square;
+        }
+    }
+    mask
+}
+
+/// The mask with the bit of the square set or clear.
+#[tactic(auto, using(crate::proofs::MaskLaws::marks))]
+fn marked(mask: u128, square: usize, on: bool) -> u128
+    requires { square < 81 }
+    ensures { (n : ℕ) → has_bit result n ≡ cond (n == square) on (has_bit mask n) }
+{
+    if on {
+        with(mask, square)
+    } else {
+        without(mask, square)
+    }
 }
 
 impl Board {
@@ -31,7 +99,12 @@ impl Board {
     pub fn of(cells: [Option<Piece>; 81]) -> Board
         ensures { result ≡ cells }
     {
-        Board { cells }
+        Board {
+            cells,
+            black: own_squares(&cells, Color::Black),
+            white: own_squares(&cells, Color::White),
+            kings: king_squares(&cells),
+        }
     }
 
     /// The 81 cells by index.
@@ -39,6 +112,45 @@ impl Board {
         ensures { result.now ≡ self.now }
     {
         &self.cells
+    }
+
+    /// The squares on which pieces of the side stand: bit n is that of the square of index n.
+    #[tactic(auto, using(crate::proofs::MaskLaws::own_bits))]
+    pub fn own(&self, color: Color) -> u128
+        ensures mask { result ≡ own_of self.now color }
+        ensures bits { (n : ℕ) → n < 81 → has_bit result n ≡ is_of color (piece_at self.now n) }
+        ensures fits { result < 2 ^ 81 }
+    {
+        match color {
+            Color::Black => self.black,
+            Color::White => self.white,
+        }
+    }
+
+    /// The squares on which a piece stands.
+    #[tactic(auto, using(crate::proofs::LineBits::occupied_bits))]
+    pub fn occupied(&self) -> u128
+        ensures { (n : ℕ) → n < 81 → has_bit result n ≡ not (is_none (piece_at self.now n)) }
+    {
+        self.own(Color::Black) | self.own(Color::White)
+    }
+
+    /// The empty squares.
+    #[tactic(auto, using(crate::proofs::LineBits::free_bits))]
+    pub fn free(&self) -> u128
+        ensures bits { (n : ℕ) → n < 81 → has_bit result n ≡ is_none (piece_at self.now n) }
+        ensures fits { result < 2 ^ 81 }
+    {
+        !self.occupied() & 2417851639229258349412351
+    }
+
+    /// The squares on which kings of the side stand.
+    #[tactic(auto, using(crate::proofs::MaskLaws::king_bits))]
+    pub fn kings(&self, color: Color) -> u128
+        ensures bits { (n : ℕ) → n < 81 → has_bit result n ≡ is_king color (piece_at self.now n) }
+        ensures fits { result < 2 ^ 81 }
+    {
+        self.kings & self.own(color)
     }
 
     /// What stands on the square.
@@ -49,11 +161,16 @@ impl Board {
     }
 
     /// The board with this on the square, and all else as it was.
+    #[tactic(auto, using(crate::proofs::MaskLaws::own_bits))]
     pub fn put(self, square: Square, piece: Option<Piece>) -> Board
         ensures { result ≡ slice_set self square piece }
     {
         let mut board = self;
-        board.cells[square.index()] = piece;
+        let index = square.index();
+        board.cells[index] = piece;
+        board.black = marked(board.black, index, is_of(piece, Color::Black));
+        board.white = marked(board.white, index, is_of(piece, Color::White));
+        board.kings = marked(board.kings, index, is_any_king(piece));
         board
     }
 }

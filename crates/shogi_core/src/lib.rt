@@ -2,16 +2,20 @@
 #![tactic(auto)]
 
 mod attack;
+pub mod bits;
 mod board;
 mod cell;
 mod hands;
+mod lines;
 mod moves;
 mod offset;
 mod piece;
 mod position;
-mod reach;
+mod rays;
 mod square;
 mod start;
+mod steps;
+mod targets;
 #[cfg(test)]
 mod tests;
 mod validity;

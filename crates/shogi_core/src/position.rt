@@ -1,6 +1,10 @@
 //! Positions: what stands on the board, what each side holds, and whose turn it is.
 
-ghost use Rattle.std.specs.Prelude.{◌≡◌, Ok, Err, None, Some, MatchOption};
+ghost use Rattle.std.specs.Prelude.{ℕ, ◌<◌, ◌^◌, is_none, ◌≡◌, Ok, Err, None, Some, MatchOption};
+ghost use Rattle.shogi_core.specs.Attack.{in_check};
+ghost use Rattle.shogi_core.specs.Bits.{has_bit};
+ghost use Rattle.shogi_core.specs.Cell.{is_of, is_king};
+ghost use Rattle.shogi_core.specs.Lines.{are_lined};
 ghost use Rattle.shogi_core.specs.Movement.{reaches, piece_at};
 ghost use Rattle.shogi_core.specs.Position.{Shogi, held};
 ghost use Rattle.shogi_core.specs.Validity.{IsValid, fault_of};
@@ -103,6 +107,53 @@ impl Position {
         ensures { result ≡ reaches self.now.cells from to }
     {
         self.board.reaches(from, to)
+    }
+
+    /// The squares that the piece on the square reaches, bit n that of index n.
+    pub fn targets(&self, from: Square) -> u128
+        ensures bits { (n : ℕ) → n < 81 → has_bit result n ≡ reaches self.now.cells from n }
+        ensures fits { result < 2 ^ 81 }
+    {
+        self.board.targets(from)
+    }
+
+    /// The squares on which pieces of the side stand.
+    pub fn own(&self, color: Color) -> u128
+        ensures bits { (n : ℕ) → n < 81 → has_bit result n ≡ is_of color (piece_at self.now.cells n) }
+        ensures fits { result < 2 ^ 81 }
+    {
+        self.board.own(color)
+    }
+
+    /// The empty squares.
+    pub fn free(&self) -> u128
+        ensures bits { (n : ℕ) → n < 81 → has_bit result n ≡ is_none (piece_at self.now.cells n) }
+        ensures fits { result < 2 ^ 81 }
+    {
+        self.board.free()
+    }
+
+    /// The squares on which kings of the side stand.
+    pub fn kings(&self, color: Color) -> u128
+        ensures bits { (n : ℕ) → n < 81 → has_bit result n ≡ is_king color (piece_at self.now.cells n) }
+        ensures fits { result < 2 ^ 81 }
+    {
+        self.board.kings(color)
+    }
+
+    /// The squares on open lines with the square.
+    pub fn lined(&self, square: Square) -> u128
+        ensures bits { (n : ℕ) → n < 81 → has_bit result n ≡ are_lined self.now.cells square n }
+        ensures fits { result < 2 ^ 81 }
+    {
+        self.board.lined(square)
+    }
+
+    /// Whether a king of the side is attacked.
+    pub fn in_check(&self, color: Color) -> bool
+        ensures { result ≡ in_check self.now.cells color }
+    {
+        self.board.in_check(color)
     }
 
     /// Tells that the position is valid.

@@ -1,8 +1,9 @@
-use Rattle.std.proofs.Common.{rules, arith}
-use Rattle.shogi_core.specs.Attack.{is_open_king, in_check}
+use Rattle.std.proofs.Common.{rules}
+use Rattle.shogi_core.specs.Attack.{in_check, is_open_king}
 use Rattle.shogi_core.proofs.Below.{some_below_found}
 use Rattle.shogi_core.proofs.board.Board.in_check.Goals as goal
 
 pub returns-then-is_open_king : goal.returns-then-is_open_king
 unfolding in_check
-returns-then-is_open_king c = some_below_found 81 (is_open_king c.args.self.now c.args.side) c.loop-square.square (omega arith) (search rules)
+returns-then-is_open_king c =
+    some_below_found 81 (is_open_king c.args.self.now c.args.side) c.lowest-square.result c.lowest-square.ensures.bound (search rules)

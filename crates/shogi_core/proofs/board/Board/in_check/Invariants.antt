@@ -1,7 +1,10 @@
-use Rattle.std.proofs.Common.{◌≡◌, false}
-use Rattle.shogi_core.specs.Below.{some_below}
+use Rattle.std.proofs.Common.{◌<◌, ◌^◌}
 use Rattle.shogi_core.specs.Attack.{is_open_king}
+use Rattle.shogi_core.proofs.SeenLaws.{Covers}
 use Rattle.shogi_core.proofs.board.Board.in_check.Given as goal
 
-abbrev pub invariant-loop-square : goal.invariant-loop-square
-invariant-loop-square l = some_below l.square (is_open_king l.self l.side) ≡ false
+abbrev pub invariant-loop-left : goal.invariant-loop-left
+invariant-loop-left l = record { covers : Covers l.left (is_open_king l.self l.fn.side); fits : l.left < 2 ^ 81 }
+
+abbrev pub decreases-loop-left : goal.decreases-loop-left
+decreases-loop-left l = l.left

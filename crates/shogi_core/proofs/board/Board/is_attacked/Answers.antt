@@ -1,7 +1,16 @@
-use Rattle.std.proofs.Common.{rules, arith}
+use Rattle.std.proofs.Common.{rules}
 use Rattle.shogi_core.specs.Attack.{is_attacked_from}
 use Rattle.shogi_core.proofs.Below.{some_below_found}
+use Rattle.shogi_core.proofs.LineBits.{and_fits}
+use Rattle.shogi_core.proofs.SeenLaws.{attackers_first}
 use Rattle.shogi_core.proofs.board.Board.is_attacked.Goals as goal
 
+pub loop-left-init : goal.loop-left-init
+loop-left-init c = record {
+  covers = attackers_first c.args.self.now c.args.by c.args.square c.own.result c.seen_squares.result c.own.ensures.bits (rw c.index.ensures.index at c.seen_squares.ensures.bits);
+  fits = and_fits c.own.result c.seen_squares.result c.own.ensures.fits;
+}
+
 pub returns-then-is_attacked_from : goal.returns-then-is_attacked_from
-returns-then-is_attacked_from c = some_below_found 81 (is_attacked_from c.args.self.now c.args.by c.args.square) c.loop-from.from (omega arith) (search rules)
+returns-then-is_attacked_from c =
+    some_below_found 81 (is_attacked_from c.args.self.now c.args.by c.args.square) c.lowest-from.result c.lowest-from.ensures.bound (search rules)

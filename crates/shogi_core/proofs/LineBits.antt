@@ -1,0 +1,191 @@
+-- The masks that slides are made of.
+use Rattle.std.proofs.Common.{◌≡◌, Bool, ◌≢◌, ℕ, ◌+◌, ◌-◌, ◌*◌, ◌/◌, ◌^◌, ◌<◌, ◌≤◌, true, false, not, refl, sym, ap, ◌∙◌, arith, inl, inr, Option, Some, None, [], div-lt_iff_lt-mul, le-div_iff_mul-le, bit_and, bit_or, pow_pos}
+use Rattle.std.specs.Prelude.{◌==◌, ◌&&◌, ◌||◌, zero, suc, is_none}
+use Rattle.std.specs.Int.{bit_at, trailing_zeros, w128}
+use Rattle.std.specs.Int.Count.{count_leading_zeros}
+use Rattle.std.proofs.lemmas.Int.{ints}
+use Rattle.std.proofs.lemmas.Nat.{leading_top, and_le_l, and_le_r}
+use Rattle.std.proofs.lemmas.Nat.Bits.{bit_at-trailing_zeros, bit_at_not, bit_at_ones}
+use Rattle.std.proofs.lemmas.Bool.{cases_lt, true_from_ne_false, both_ways, and_parts, and_from, not-true, eq-eqb, ne_eqb}
+use native.Mathlib.Nat.{pow-suc}
+use Rattle.shogi_core.specs.declared.offset.Offset.{Offset}
+use Rattle.shogi_core.specs.declared.piece.Color.{Color}
+use Rattle.shogi_core.specs.declared.piece.Color.TheVariants.{Black, White}
+use Rattle.shogi_core.specs.declared.piece.Piece.{Piece}
+use Rattle.shogi_core.specs.Bits.{has_bit}
+use Rattle.shogi_core.specs.Cell.{is_of}
+use Rattle.shogi_core.specs.Pieces.{is_same_color}
+use Rattle.shogi_core.specs.Movement.{Cells, away, slides_past, slides, piece_at}
+use Rattle.shogi_core.proofs.BitLaws.{next_none, next_some, has_bit-or, has_bit-and, has_bit-none, has_bit-above, has_bit-mask, mask_fits}
+use Rattle.shogi_core.specs.Rays.{is_on_ray, ray_of, direction_at}
+use Rattle.shogi_core.proofs.Back.{away_is, leads_is}
+use Rattle.shogi_core.proofs.Exposed.{some_below_which}
+use Rattle.shogi_core.proofs.RayLaws.{rises, falls, nearer, nearer_down, slides_free, slides_to_first}
+
+someone : (cell : Option Piece) → (is_of Black cell || is_of White cell) ≡ not (is_none cell)
+someone None = refl
+someone (Some piece) = one piece.color
+  where
+    one : (color : Color) → (is_same_color Black color || is_same_color White color) ≡ true
+    one Black = refl
+    one White = refl
+
+pub occupied_bits : (cells : Cells) (a b n : ℕ) → has_bit a n ≡ is_of Black (piece_at cells n) → has_bit b n ≡ is_of White (piece_at cells n) → has_bit (bit_or a b) n ≡ not (is_none (piece_at cells n))
+occupied_bits cells a b n p q = has_bit-or a b n ∙ (rw (p, q) (someone (piece_at cells n)))
+
+-- ---- the lowest and the highest bit
+
+below_bits : (m n : ℕ) → m < 2 ^ 81 → has_bit m n ≡ true → n < 81
+below_bits m n fits e = elim (cases_lt n 81) [
+  | inl low ↦ low
+  | inr high ↦ absurd (both_ways (has_bit m n) (has_bit-above m 81 n fits high) e)
+]
+
+pub lowest_set : (m : ℕ) → m ≢ 0 → m < 2 ^ 81 → (trailing_zeros w128 m < 81) × (has_bit m (trailing_zeros w128 m) ≡ true) × ((n : ℕ) → has_bit m n ≡ true → trailing_zeros w128 m ≤ n)
+unfolding has_bit
+lowest_set m some fits =
+    let low = bit_at-trailing_zeros w128 m (omega arith) (omega arith) in (
+      below_bits m (trailing_zeros w128 m) fits (eq-eqb _ 1 low.1),
+      eq-eqb _ 1 low.1,
+      λ n e. elim (cases_lt n (trailing_zeros w128 m)) [
+        | inr le ↦ le
+        | inl lt ↦ absurd (both_ways (has_bit m n) (ne_eqb (bit_at m n) 1 (λ one. let none : bit_at m n ≡ 0 = low.2 n lt in omega arith)) e)
+      ],
+    )
+
+pub ruleset lowest_bit = (lowest_set)
+
+top_bit : (m k : ℕ) → 2 ^ k ≤ m → m < 2 ^ suc k → bit_at m k ≡ 1
+top_bit m k low high =
+    let p : 0 < 2 ^ k = pow_pos k in
+    let twice : 2 ^ suc k ≡ 2 ^ k * 2 = pow-suc 2 k in
+    let a : m / 2 ^ k < 2 = (div-lt_iff_lt-mul p).1 (omega arith) in
+    let b : 1 ≤ m / 2 ^ k = (le-div_iff_mul-le p).1 (omega arith) in
+    omega arith
+
+pub highest_set : (m : ℕ) → m ≢ 0 → m < 2 ^ 81 → (count_leading_zeros 128 m ≤ 127) × (127 - count_leading_zeros 128 m < 81) × (has_bit m (127 - count_leading_zeros 128 m) ≡ true) × ((n : ℕ) → has_bit m n ≡ true → n ≤ 127 - count_leading_zeros 128 m)
+unfolding has_bit
+highest_set m some fits =
+    let top = leading_top 128 m (omega arith) (omega arith) in
+    let j : 127 - count_leading_zeros 128 m ≡ top.0 = omega (arith, top.1) in (
+      omega (arith, top.1),
+      rw j (below_bits m top.0 fits (eq-eqb _ 1 (top_bit m top.0 top.2 top.3))),
+      rw j (eq-eqb _ 1 (top_bit m top.0 top.2 top.3)),
+      λ n e. rw j (elim (cases_lt top.0 n) [
+        | inr le ↦ le
+        | inl lt ↦ absurd (both_ways (has_bit m n) (has_bit-above m (suc top.0) n top.3 (omega arith)) e)
+      ]),
+    )
+
+pub ruleset highest_bit = (highest_set)
+
+-- ---- a slide
+
+pub has_bit-not : (m n : ℕ) → m < 2 ^ 128 → n < 128 → has_bit (2 ^ 128 - 1 - m) n ≡ not (has_bit m n)
+unfolding has_bit
+has_bit-not m n fits h = ap (λ x. x == 1) (bit_at_not w128 m n fits h) ∙ go (bit_at m n) (omega arith)
+  where
+    go : (x : ℕ) → x < 2 → (1 - x == 1) ≡ not (x == 1)
+    go zero l = refl
+    go (suc zero) l = refl
+    go (suc (suc x)) l = absurd (omega arith)
+
+pub has_bit-ray : (o : Offset) (a b : ℕ) → b < 81 → has_bit (ray_of o a) b ≡ is_on_ray o a b
+unfolding ray_of
+has_bit-ray o a b h = has_bit-mask 81 (is_on_ray o a) b h
+
+pub ray_fits : (o : Offset) (a : ℕ) → ray_of o a < 2 ^ 81
+unfolding ray_of
+ray_fits o a = mask_fits 81 (is_on_ray o a)
+
+on_board : (o : Offset) (a b : ℕ) → is_on_ray o a b ≡ true → b < 81
+on_board o a b e =
+    let which = some_below_which 8 (slides_past [] o a b) e in
+    (away_is (which.0 + 1) o a b (leads_is _ b ((and_parts _ _ which.2).0))).2
+
+pub direction_rises : (d : ℕ) → d < 4 → rises (direction_at d)
+direction_rises zero h = omega (arith, ints)
+direction_rises (suc zero) h = omega (arith, ints)
+direction_rises (suc (suc zero)) h = omega (arith, ints)
+direction_rises (suc (suc (suc zero))) h = omega (arith, ints)
+direction_rises (suc (suc (suc (suc d)))) h = absurd (omega arith)
+
+pub direction_falls : (d : ℕ) → 4 ≤ d → d < 8 → falls (direction_at d)
+direction_falls zero g h = absurd (omega arith)
+direction_falls (suc zero) g h = absurd (omega arith)
+direction_falls (suc (suc zero)) g h = absurd (omega arith)
+direction_falls (suc (suc (suc zero))) g h = absurd (omega arith)
+direction_falls (suc (suc (suc (suc zero)))) g h = omega (arith, ints)
+direction_falls (suc (suc (suc (suc (suc zero))))) g h = omega (arith, ints)
+direction_falls (suc (suc (suc (suc (suc (suc zero)))))) g h = omega (arith, ints)
+direction_falls (suc (suc (suc (suc (suc (suc (suc zero))))))) g h = omega (arith, ints)
+direction_falls (suc (suc (suc (suc (suc (suc (suc (suc d)))))))) g h = absurd (omega arith)
+
+module _ (cells : Cells) (o : Offset) (a occ : ℕ) (occupied : (n : ℕ) → n < 81 → has_bit occ n ≡ not (is_none (piece_at cells n))) where
+  -- a piece on the line has its bit
+  bit_there : (x : ℕ) → is_on_ray o a x ≡ true → is_none (piece_at cells x) ≡ false → has_bit (bit_and (ray_of o a) occ) x ≡ true
+  bit_there x on taken =
+      let low : x < 81 = on_board o a x on in
+      has_bit-and (ray_of o a) occ x ∙ and_from _ _ (has_bit-ray o a x low ∙ on) (occupied x low ∙ ap not taken)
+
+  -- a bit is that of a piece on the line
+  there_bit : (x : ℕ) → x < 81 → has_bit (bit_and (ray_of o a) occ) x ≡ true → (is_on_ray o a x ≡ true) × (is_none (piece_at cells x) ≡ false)
+  there_bit x low e =
+      let parts : (has_bit (ray_of o a) x ≡ true) × (has_bit occ x ≡ true) = and_parts _ _ (sym (has_bit-and (ray_of o a) occ x) ∙ e) in
+      (sym (has_bit-ray o a x low) ∙ parts.0, not-true _ (sym (occupied x low) ∙ parts.1))
+
+  pub free_line : bit_and (ray_of o a) occ ≡ 0 → (b : ℕ) → b < 81 → has_bit (ray_of o a) b ≡ slides cells o a b
+  free_line none b h = has_bit-ray o a b h ∙ slides_free cells o a (λ x on. true_from_ne_false (is_none (piece_at cells x)) (λ taken.
+      both_ways (has_bit 0 x) (has_bit-none x) (ap (λ m. has_bit m x) (sym none) ∙ bit_there x on taken))) b
+
+  module _ (f : ℕ) (low : f < 81) (set : has_bit (bit_and (ray_of o a) occ) f ≡ true) where
+    cut_line : (nearest : (m n x : ℕ) → away m o a ≡ Some f → away n o a ≡ Some x → has_bit (bit_and (ray_of o a) occ) x ≡ true → m ≤ n)
+        → ((i j x : ℕ) → away i o a ≡ Some x → away j o a ≡ Some x → i ≤ j)
+        → (b : ℕ) → b < 81 → has_bit (bit_and (ray_of o a) (2 ^ 128 - 1 - ray_of o f)) b ≡ slides cells o a b
+    cut_line nearest apart b h =
+        let here : (is_on_ray o a f ≡ true) × (is_none (piece_at cells f) ≡ false) = there_bit f low set in
+        let which = some_below_which 8 (slides_past [] o a f) here.0 in
+        let small : ray_of o f < 2 ^ 81 = ray_fits o f in
+        has_bit-and (ray_of o a) (2 ^ 128 - 1 - ray_of o f) b
+        ∙ (rw (has_bit-ray o a b h, has_bit-not (ray_of o f) b (omega arith) (omega arith), has_bit-ray o f b h)
+        (slides_to_first cells o a f which.0 which.1 which.2 here.1
+        (λ m x l at on taken. (let le : which.0 + 1 ≤ m + 1 = nearest (which.0 + 1) (m + 1) x (leads_is _ f ((and_parts _ _ which.2).0)) at (bit_there x on taken) in omega arith))
+        apart b))
+
+    pub rising_line : rises o → ((n : ℕ) → has_bit (bit_and (ray_of o a) occ) n ≡ true → f ≤ n) → (b : ℕ) → b < 81 → has_bit (bit_and (ray_of o a) (2 ^ 128 - 1 - ray_of o f)) b ≡ slides cells o a b
+    rising_line up least = cut_line (λ m n x ef ex e. nearer o a f x m n up ef ex (least x e)) (λ i j x ei ej. nearer o a x x i j up ei ej (omega arith))
+
+    pub falling_line : falls o → ((n : ℕ) → has_bit (bit_and (ray_of o a) occ) n ≡ true → n ≤ f) → (b : ℕ) → b < 81 → has_bit (bit_and (ray_of o a) (2 ^ 128 - 1 - ray_of o f)) b ≡ slides cells o a b
+    falling_line down greatest = cut_line (λ m n x ef ex e. nearer_down o a f x m n down ef ex (greatest x e)) (λ i j x ei ej. nearer_down o a x x i j down ei ej (omega arith))
+
+pub and_fits : (a b : ℕ) → a < 2 ^ 81 → bit_and a b < 2 ^ 81
+and_fits a b h = omega (arith, and_le_l a b)
+
+pub ruleset line_squares = (free_line, and_fits)
+
+pub next_81 : (m n : ℕ) → m < 2 ^ 81 → 0 < m / 2 ^ n → n + trailing_zeros w128 (m / 2 ^ n) < 81
+next_81 m n fits some = let at = next_some m n (omega arith) some in below_bits m (n + trailing_zeros w128 (m / 2 ^ n)) fits at.1
+
+pub next_bit : (m n : ℕ) → m < 2 ^ 128 → 0 < m / 2 ^ n → has_bit m (n + trailing_zeros w128 (m / 2 ^ n)) ≡ true
+next_bit m n fits some = (next_some m n fits some).1
+
+pub next_skips : (m n i : ℕ) → m < 2 ^ 128 → 0 < m / 2 ^ n → n ≤ i → i < n + trailing_zeros w128 (m / 2 ^ n) → has_bit m i ≡ false
+next_skips m n i fits some low high = (next_some m n fits some).2 i low high
+
+pub ruleset next_bits = (next_none, next_81, next_bit, next_skips)
+
+has_bit-all : (n : ℕ) → n < 81 → has_bit (2 ^ 81 - 1) n ≡ true
+unfolding has_bit
+has_bit-all n h = eq-eqb _ 1 (bit_at_ones 81 n h)
+
+not_not : (a b : Bool) → b ≡ true → (not (not a) && b) ≡ a
+not_not true b e = e
+not_not false b e = refl
+
+pub free_bit : (m n : ℕ) (free : Bool) → m < 2 ^ 128 → n < 81 → has_bit m n ≡ not free → has_bit (bit_and (2 ^ 128 - 1 - m) (2 ^ 81 - 1)) n ≡ free
+free_bit m n free fits h e = has_bit-and (2 ^ 128 - 1 - m) (2 ^ 81 - 1) n ∙ (rw (has_bit-not m n fits (omega arith), e) (not_not free (has_bit (2 ^ 81 - 1) n) (has_bit-all n h)))
+
+pub free_fits : (a : ℕ) → bit_and a (2 ^ 81 - 1) < 2 ^ 81
+free_fits a = omega (arith, and_le_r a (2 ^ 81 - 1))
+
+pub ruleset free_bits = (free_bit, free_fits)

@@ -1,0 +1,156 @@
+-- A square that a piece reaches is one from which its square is seen.
+use Rattle.std.proofs.Common.{◌≡◌, ℕ, pos, negsuc, ◌-◌, ◌*◌, ◌%◌, ◌^◌, ◌<◌, Bool, true, false, not, refl, sym, ap, ◌∙◌, arith, inl, inr, Option, Some, None, bit_and, bit_or, List, [], ◌∷◌, ◌++◌}
+use Rattle.std.specs.Prelude.{◌==◌, ◌&&◌, ◌||◌}
+use Rattle.std.specs.List.{list_any, list_all}
+use Rattle.std.proofs.lemmas.Nat.{and_le_l, or_lt}
+use Rattle.std.proofs.lemmas.List.Folds.{list_any-append}
+use Rattle.std.proofs.lemmas.Bool.{cases_eq, false_from_ne_true, both_ways, and_parts, and_from, or_cases, or_left, or_right, eq-eqb, not_from_false, ne_eqb}
+use Rattle.shogi_core.specs.declared.offset.Offset.{Offset}
+use Rattle.shogi_core.specs.declared.piece.Color.{Color}
+use Rattle.shogi_core.specs.declared.piece.Color.TheVariants.{Black, White}
+use Rattle.shogi_core.specs.declared.piece.Role.{Role}
+use Rattle.shogi_core.specs.declared.piece.Role.TheVariants.{King}
+use Rattle.shogi_core.specs.declared.piece.Piece.{Piece}
+use Rattle.shogi_core.specs.Attack.{is_attacked_from, is_open_king}
+use Rattle.shogi_core.specs.Below.{some_below}
+use Rattle.shogi_core.specs.Bits.{has_bit}
+use Rattle.shogi_core.specs.Cell.{is_of, is_king}
+use Rattle.shogi_core.specs.Movement.{Cells, leads, by, slides, slides_past, is_clear, seen_by, slides_of, steps_of, has_slide, has_step, cell_reaches, reaches, piece_at, straight, diagonal}
+use Rattle.shogi_core.proofs.BitLaws.{has_bit-and, has_bit-or, has_bit-none, has_bit-without}
+use Rattle.shogi_core.proofs.Below.{all_below_none, some_below_at, some_below_no, some_below_found}
+use Rattle.shogi_core.proofs.LineBits.{and_fits}
+use Rattle.shogi_core.specs.Lines.{back, around, are_lined, is_jump, is_seen}
+use Rattle.shogi_core.proofs.Back.{away_back, leads_is, is_leads, slides_past_back}
+use Rattle.shogi_core.proofs.Exposed.{same_way, list_any_among, list_any_kept, some_below_which}
+
+-- ---- bits
+
+pub cleared_less : (m n : ℕ) → m < 2 ^ 128 → n < 128 → has_bit m n ≡ true → bit_and m (2 ^ 128 - 1 - 1 * 2 ^ n % 2 ^ 128) < m
+cleared_less m n fits h e = elim (cases_eq (bit_and m (2 ^ 128 - 1 - 1 * 2 ^ n % 2 ^ 128)) m) [
+  | inl same ↦ absurd (both_ways (has_bit m n) (ap (λ x. has_bit x n) (sym same) ∙ (has_bit-without m n n fits h ∙ rw (e, eq-eqb n n refl) refl)) e)
+  | inr other ↦ omega (arith, and_le_l m (2 ^ 128 - 1 - 1 * 2 ^ n % 2 ^ 128))
+]
+
+pub ruleset cleared = (cleared_less, has_bit-without)
+
+-- ---- lines
+
+black_sees : (test : Offset → Bool) (os : List Offset) → list_any (λ o. test (seen_by Black o)) os ≡ list_any test os
+black_sees test os = refl
+
+pub lined_bits : (cells : Cells) (a b m n : ℕ) → has_bit m b ≡ list_any (λ o. slides cells (seen_by Black o) a b) straight → has_bit n b ≡ list_any (λ o. slides cells (seen_by Black o) a b) diagonal → has_bit (bit_or m n) b ≡ are_lined cells a b
+unfolding are_lined
+lined_bits cells a b m n p q = has_bit-or m n b ∙ (rw (p, q) (sym (list_any-append (λ o. slides cells o a b) straight diagonal)))
+
+pub seen_bits : (cells : Cells) (a b m n : ℕ) → has_bit m b ≡ are_lined cells a b → has_bit n b ≡ is_jump a b → has_bit (bit_or m n) b ≡ is_seen cells a b
+unfolding is_seen
+seen_bits cells a b m n p q = has_bit-or m n b ∙ (rw (p, q) refl)
+
+pub or_fits_again : (a b : ℕ) → a < 2 ^ 81 → b < 2 ^ 81 → bit_or a b < 2 ^ 81
+or_fits_again a b h l = or_lt 81 a b h l
+
+pub ruleset seen = (lined_bits, seen_bits, or_fits_again)
+
+-- ---- from the other end
+
+pub slides_back : (cells : Cells) (o : Offset) (a b : ℕ) → a < 81 → slides cells o a b ≡ true → slides cells (back o) b a ≡ true
+slides_back cells o a b h e =
+    let which = some_below_which 8 (slides_past cells o a b) e in
+    some_below_at 8 (slides_past cells (back o) b a) which.0 which.1 (slides_past_back cells o a b which.0 h which.2)
+
+slides_back_around : (color : Color) (role : Role) → list_all (λ o. list_any (same_way (back (seen_by color o))) around) (slides_of role) ≡ true
+slides_back_around Black King = refl
+slides_back_around Black _ = refl
+slides_back_around White King = refl
+slides_back_around White _ = refl
+
+around_back : list_all (λ o. list_any (same_way (back o)) around) around ≡ true
+around_back = refl
+
+jumps : List Offset
+jumps = by (pos 1) (negsuc 1) ∷ by (negsuc 0) (negsuc 1) ∷ by (pos 1) (pos 2) ∷ by (negsuc 0) (pos 2) ∷ []
+
+steps_back_near : (color : Color) (role : Role) → list_all (λ o. list_any (same_way (back (seen_by color o))) (around ++ jumps)) (steps_of role) ≡ true
+unfolding jumps
+steps_back_near Black King = refl
+steps_back_near Black _ = refl
+steps_back_near White King = refl
+steps_back_near White _ = refl
+
+-- lines run both ways
+pub lined_back : (cells : Cells) (a b : ℕ) → a < 81 → are_lined cells a b ≡ true → are_lined cells b a ≡ true
+unfolding are_lined
+lined_back cells a b h e =
+    list_any_among (λ o. slides cells o b a) back around around around_back
+    (list_any_kept (λ o. slides cells o a b) (λ o. slides cells (back o) b a) around (λ o e. slides_back cells o a b h e) e)
+
+slide_seen : (cells : Cells) (piece : Piece) (a b : ℕ) → a < 81 → has_slide cells piece a b ≡ true → are_lined cells b a ≡ true
+unfolding are_lined
+slide_seen cells piece a b h e =
+    list_any_among (λ o. slides cells o b a) (λ o. back (seen_by piece.color o)) (slides_of piece.role) around (slides_back_around piece.color piece.role)
+    (list_any_kept (λ o. slides cells (seen_by piece.color o) a b) (λ o. slides cells (back (seen_by piece.color o)) b a) (slides_of piece.role) (λ o e. slides_back cells (seen_by piece.color o) a b h e) e)
+
+leads_back : (o : Offset) (a b : ℕ) → a < 81 → leads 1 o a b ≡ true → leads 1 (back o) b a ≡ true
+leads_back o a b h e = is_leads _ a (away_back 1 o a b h (leads_is _ b e))
+
+step_slides : (cells : Cells) (o : Offset) (a b : ℕ) → leads 1 o a b ≡ true → slides cells o a b ≡ true
+step_slides cells o a b e = some_below_at 8 (slides_past cells o a b) 0 (omega arith) (and_from _ _ e (all_below_none (is_clear cells o a)))
+
+jump_either : (a b : ℕ) → list_any (λ o. leads 1 o a b) jumps ≡ is_jump a b
+unfolding jumps
+jump_either a b = five (leads 1 (by (pos 1) (negsuc 1)) a b) (leads 1 (by (negsuc 0) (negsuc 1)) a b) (leads 1 (by (pos 1) (pos 2)) a b) (leads 1 (by (negsuc 0) (pos 2)) a b)
+  where
+    five : (p q r s : Bool) → (p || (q || (r || (s || false)))) ≡ ((p || (q || false)) || (r || (s || false)))
+    five true q r s = refl
+    five false true r s = refl
+    five false false r s = refl
+
+step_seen : (cells : Cells) (piece : Piece) (a b : ℕ) → a < 81 → has_step piece a b ≡ true → is_seen cells b a ≡ true
+unfolding are_lined is_seen
+step_seen cells piece a b h e =
+    let near : list_any (λ o. leads 1 o b a) (around ++ jumps) ≡ true =
+    list_any_among (λ o. leads 1 o b a) (λ o. back (seen_by piece.color o)) (steps_of piece.role) (around ++ jumps) (steps_back_near piece.color piece.role)
+    (list_any_kept (λ o. leads 1 (seen_by piece.color o) a b) (λ o. leads 1 (back (seen_by piece.color o)) b a) (steps_of piece.role) (λ o e. leads_back (seen_by piece.color o) a b h e) e) in
+    elim (or_cases (list_any (λ o. leads 1 o b a) around) (list_any (λ o. leads 1 o b a) jumps) (sym (list_any-append (λ o. leads 1 o b a) around jumps) ∙ near)) [
+      | inl close ↦ or_left (list_any (λ o. slides cells o b a) around) (is_jump b a) (list_any_kept (λ o. leads 1 o b a) (λ o. slides cells o b a) around (λ o e. step_slides cells o b a e) close)
+      | inr far ↦ or_right (list_any (λ o. slides cells o b a) around) (is_jump b a) (sym (jump_either b a) ∙ far)
+    ]
+
+pub reaches_seen : (cells : Cells) (a b : ℕ) → a < 81 → reaches cells a b ≡ true → is_seen cells b a ≡ true
+unfolding reaches is_seen
+reaches_seen cells a b h e = go (piece_at cells a) e
+  where
+    go : (cell : Option Piece) → cell_reaches cells cell a b ≡ true → is_seen cells b a ≡ true
+    go None e = absurd (cc)
+    go (Some piece) e = elim (or_cases (has_step piece a b) (has_slide cells piece a b) e) [
+      | inl step ↦ step_seen cells piece a b h step
+      | inr slide ↦ or_left (are_lined cells b a) (is_jump b a) (slide_seen cells piece a b h slide)
+    ]
+
+-- ---- the squares that are left to try
+
+-- the squares below 81 that pass are all among those of the mask
+pub record Covers (left : ℕ) (test : ℕ → Bool) : Type 0 where
+  pub all : (a : ℕ) → a < 81 → test a ≡ true → has_bit left a ≡ true
+
+pub covers_less : (left next from : ℕ) (test : ℕ → Bool) → Covers left test → test from ≡ false → ((i : ℕ) → has_bit next i ≡ (has_bit left i && not (i == from))) → Covers next test
+covers_less left next from test rest fails bits = record {
+  all = λ a h e. bits a ∙ and_from _ _ (rest.all a h e) (not_from_false _ (ne_eqb a from (λ same. both_ways (test from) fails (ap test (sym same) ∙ e))));
+}
+
+pub covers_none : (test : ℕ → Bool) → Covers 0 test → false ≡ some_below 81 test
+covers_none test rest = sym (some_below_no 81 test (λ a h. false_from_ne_true _ (λ e. both_ways (has_bit 0 a) (has_bit-none a) (rest.all a h e))))
+
+pub attackers_first : (cells : Cells) (color : Color) (square m n : ℕ) → ((a : ℕ) → a < 81 → has_bit m a ≡ is_of color (piece_at cells a)) → ((a : ℕ) → a < 81 → has_bit n a ≡ is_seen cells square a) → Covers (bit_and m n) (is_attacked_from cells color square)
+attackers_first cells color square m n own seen = record {
+  all = λ a h e. (
+      let parts : (is_of color (piece_at cells a) ≡ true) × (reaches cells a square ≡ true) = and_parts _ _ e in
+      has_bit-and m n a ∙ and_from _ _ (own a h ∙ parts.0) (seen a h ∙ reaches_seen cells a square h parts.1));
+}
+
+pub kings_first : (cells : Cells) (color : Color) (m : ℕ) → ((a : ℕ) → a < 81 → has_bit m a ≡ is_king color (piece_at cells a)) → Covers m (is_open_king cells color)
+kings_first cells color m kings = record { all = λ a h e. kings a h ∙ (and_parts _ _ e).0 }
+
+pub ruleset attackers = (attackers_first, covers_less, covers_none, some_below_found, and_fits)
+
+pub ruleset open_kings = (kings_first, covers_less, covers_none, some_below_found)

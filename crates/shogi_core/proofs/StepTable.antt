@@ -1,0 +1,44 @@
+-- The table of steps holds the squares to which they lead.
+use Rattle.std.proofs.Common.{◌≡◌, ℕ, ◌+◌, ◌*◌, ◌/◌, ◌%◌, ◌^◌, ◌<◌, Bool, true, refl, ◌∙◌, arith, get_or, List}
+use Rattle.std.specs.Prelude.{◌==◌}
+use Rattle.std.proofs.lemmas.Bool.{agree_below_at, eqb-true}
+use Rattle.shogi_core.specs.declared.offset.Offset.{Offset}
+use Rattle.shogi_core.specs.declared.piece.Color.{Color}
+use Rattle.shogi_core.specs.declared.piece.Color.TheVariants.{Black, White}
+use Rattle.shogi_core.specs.Bits.{mask_below, has_bit}
+use Rattle.shogi_core.specs.Movement.{away}
+use Rattle.shogi_core.proofs.BitLaws.{has_bit-mask, mask_fits}
+use Rattle.shogi_core.specs.Steps.{steps_at, color_number, color_at, is_step, steps_mask}
+use Rattle.shogi_core.specs.declared.steps.TheConstants.{STEPS}
+
+abbrev is_right_at : ℕ → Bool
+is_right_at i = get_or STEPS i 0 == steps_mask (color_at (i / 81 % 2)) (steps_at (i / 162)) (i % 81)
+
+right_at : (i : ℕ) → i < 1296 → is_right_at i ≡ true
+unfolding steps_mask mask_below away
+right_at i h = agree_below_at is_right_at (λ _. true) 1296 i refl h
+
+color_back : (color : Color) → color_at (color_number color) ≡ color
+color_back Black = refl
+color_back White = refl
+
+color_below : (color : Color) → color_number color < 2
+color_below Black = omega arith
+color_below White = omega arith
+
+pub steps_right : (k a : ℕ) (color : Color) (os : List Offset) → steps_at k ≡ os → k < 8 → a < 81 → get_or STEPS ((k * 2 + color_number color) * 81 + a) 0 ≡ steps_mask color os a
+steps_right k a color os e h l =
+    let low : color_number color < 2 = color_below color in
+    let i : ℕ = (k * 2 + color_number color) * 81 + a in
+    let one : ((k * 2 + color_number color) * 81 + a) / 81 % 2 ≡ color_number color = omega arith in
+    let two : ((k * 2 + color_number color) * 81 + a) / 162 ≡ k = omega arith in
+    let three : ((k * 2 + color_number color) * 81 + a) % 81 ≡ a = omega arith in
+    eqb-true _ _ (right_at ((k * 2 + color_number color) * 81 + a) (omega arith)) ∙ rw (one, two, three, color_back color, e) refl
+
+pub has_bit-steps : (color : Color) (os : List Offset) (a b : ℕ) → b < 81 → has_bit (steps_mask color os a) b ≡ is_step color os a b
+unfolding steps_mask
+has_bit-steps color os a b h = has_bit-mask 81 (is_step color os a) b h
+
+pub steps_fit : (color : Color) (os : List Offset) (a : ℕ) → steps_mask color os a < 2 ^ 81
+unfolding steps_mask
+steps_fit color os a = mask_fits 81 (is_step color os a)

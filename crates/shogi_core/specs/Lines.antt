@@ -1,0 +1,39 @@
+-- Lines and slides seen from both ends.
+use Rattle.std.specs.Prelude.{ℕ, pos, ◌-ℤ◌, ◌++◌, ◌&&◌, ◌||◌, Bool, List}
+use Rattle.std.specs.List.{list_any}
+use Rattle.shogi_core.specs.declared.offset.Offset.{Offset}
+use Rattle.shogi_core.specs.Movement.{Cells, by, straight, diagonal, slides, piece_at, steps_of}
+use Rattle.shogi_core.specs.Below.{some_below}
+use Rattle.shogi_core.specs.Cell.{is_king}
+use Rattle.shogi_core.specs.declared.piece.Color.{Color}
+use Rattle.shogi_core.specs.declared.piece.Color.TheVariants.{Black, White}
+use Rattle.shogi_core.specs.declared.piece.Role.TheVariants.{Knight}
+use Rattle.shogi_core.specs.Steps.{is_step}
+
+-- the other way
+abbrev pub back : Offset → Offset
+back o = by (pos 0 -ℤ o.file) (pos 0 -ℤ o.rank)
+
+-- the eight directions of lines
+abbrev pub around : List Offset
+around = straight ++ diagonal
+
+-- the squares lie on a file, a rank or a diagonal, and each square between is empty
+unfoldable pub are_lined : Cells → ℕ → ℕ → Bool
+are_lined cells a b = list_any (λ o. slides cells o a b) around
+
+-- the square lies on an open line with a king of the side
+abbrev pub is_line_to_king : Cells → Color → ℕ → ℕ → Bool
+is_line_to_king cells color square king = is_king color (piece_at cells king) && are_lined cells square king
+
+-- the square lies on an open line with some king of the side
+unfoldable pub is_lined_with_king : Cells → Color → ℕ → Bool
+is_lined_with_king cells color square = some_below 81 (is_line_to_king cells color square)
+
+-- a knight of either side jumps from a to b
+abbrev pub is_jump : ℕ → ℕ → Bool
+is_jump a b = is_step Black (steps_of Knight) a b || is_step White (steps_of Knight) a b
+
+-- b lies on an open line with a, or a knight's jump away
+unfoldable pub is_seen : Cells → ℕ → ℕ → Bool
+is_seen cells a b = are_lined cells a b || is_jump a b

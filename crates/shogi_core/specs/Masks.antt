@@ -1,0 +1,28 @@
+-- Sets of squares as masks of 81 bits: bit n is the square of index n (own choice).
+use Rattle.std.specs.Prelude.{ℕ, Bool, false, Option, Some, None}
+use Rattle.shogi_core.specs.declared.piece.Color.{Color}
+use Rattle.shogi_core.specs.Bits.{mask_below}
+use Rattle.shogi_core.specs.Cell.{is_of, is_king_role}
+use Rattle.shogi_core.specs.Movement.{Cells, piece_at}
+use Rattle.shogi_core.specs.declared.piece.Piece.{Piece}
+
+-- what stands on the square passes the test
+abbrev pub passes : (Option Piece → Bool) → Cells → ℕ → Bool
+passes test cells square = test (piece_at cells square)
+
+-- the squares on which there stands what passes the test
+unfoldable pub places_of : (Option Piece → Bool) → Cells → ℕ
+places_of test cells = mask_below 81 (passes test cells)
+
+-- the squares on which pieces of the side stand
+abbrev pub own_of : Cells → Color → ℕ
+own_of cells color = places_of (is_of color) cells
+
+-- a king of either side
+abbrev pub is_any_king : Option Piece → Bool
+is_any_king None = false
+is_any_king (Some piece) = is_king_role piece.role
+
+-- the squares on which kings stand
+abbrev pub kings_of : Cells → ℕ
+kings_of cells = places_of is_any_king cells

@@ -1,0 +1,82 @@
+//! Sets of squares as the bits of a number: bit n is the square of index n.
+
+ghost use Rattle.std.specs.Prelude.{◌≡◌, ◌≢◌, ◌<◌, ◌≤◌, ◌^◌, ◌==◌, ◌&&◌, ◌||◌, not, true, false, ℕ};
+ghost use Rattle.shogi_core.specs.Bits.{has_bit};
+
+/// Whether bit n is set.
+#[tactic(auto, using(crate::proofs::BitLaws::bit_tests))]
+pub fn has(mask: u128, n: usize) -> bool
+    requires { n < 128 }
+    ensures { result ≡ has_bit mask n }
+{
+    (mask >> n) & 1 == 1
+}
+
+/// With bit n set.
+#[tactic(auto, using(crate::proofs::BitLaws::bit_tests))]
+pub fn with(mask: u128, n: usize) -> u128
+    requires { n < 128 }
+    ensures { (i : ℕ) → has_bit result i ≡ (has_bit mask i || (i == n)) }
+{
+    mask | (1 << n)
+}
+
+/// With bit n clear.
+#[tactic(auto, using(crate::proofs::BitLaws::bit_tests))]
+pub fn without(mask: u128, n: usize) -> u128
+    requires { n < 128 }
+    ensures { (i : ℕ) → has_bit result i ≡ (has_bit mask i && not (i == n)) }
+{
+    mask & !(1 << n)
+}
+
+/// Without bit n, which is set.
+#[tactic(auto, using(crate::proofs::SeenLaws::cleared))]
+pub fn cleared(mask: u128, n: usize) -> u128
+    requires n { n < 128 }
+    requires set { has_bit mask n ≡ true }
+    ensures bits { (i : ℕ) → has_bit result i ≡ (has_bit mask i && not (i == n)) }
+    ensures less { result < mask }
+{
+    mask & !(1 << n)
+}
+
+/// The place of the lowest set bit.
+#[tactic(auto, using(crate::proofs::LineBits::lowest_bit))]
+pub fn lowest(mask: u128) -> usize
+    requires some { mask ≢ 0 }
+    requires fits { mask < 2 ^ 81 }
+    ensures bound { result < 81 }
+    ensures set { has_bit mask result ≡ true }
+    ensures least { (n : ℕ) → has_bit mask n ≡ true → result ≤ n }
+{
+    mask.trailing_zeros() as usize
+}
+
+/// The place of the highest set bit.
+#[tactic(auto, using(crate::proofs::LineBits::highest_bit))]
+pub fn highest(mask: u128) -> usize
+    requires some { mask ≢ 0 }
+    requires fits { mask < 2 ^ 81 }
+    ensures bound { result < 81 }
+    ensures set { has_bit mask result ≡ true }
+    ensures greatest { (n : ℕ) → has_bit mask n ≡ true → n ≤ result }
+{
+    127 - mask.leading_zeros() as usize
+}
+
+/// The place of the lowest set bit from n on, and 81 where there is none.
+#[tactic(auto, using(crate::proofs::LineBits::next_bits))]
+pub fn next_of(mask: u128, n: usize) -> usize
+    requires n { n ≤ 81 }
+    requires fits { mask < 2 ^ 81 }
+    ensures bounds { (n ≤ result) × (result ≤ 81) }
+    ensures none { (i : ℕ) → n ≤ i → i < result → has_bit mask i ≡ false }
+    ensures set { result < 81 → has_bit mask result ≡ true }
+{
+    let rest = mask >> n;
+    if rest == 0 {
+        return 81;
+    }
+    n + rest.trailing_zeros() as usize
+}

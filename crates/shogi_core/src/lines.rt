@@ -1,0 +1,56 @@
+//! Slides by masks.
+
+ghost use Rattle.std.specs.Prelude.{◌≡◌, ◌≢◌, ◌<◌, ◌≤◌, ◌^◌, ◌&&◌, ℕ, not, true, false, is_none};
+ghost use Rattle.shogi_core.specs.Bits.{has_bit};
+ghost use Rattle.shogi_core.specs.Movement.{piece_at, slides};
+ghost use Rattle.shogi_core.specs.Rays.{ray_of, direction_at};
+
+use crate::bits::{highest, lowest};
+use crate::board::Board;
+use crate::rays::ray;
+
+/// The squares that a slide reaches in a direction in which indexes rise.
+#[tactic(auto, using(crate::proofs::LineBits::line_squares))]
+fn rising_squares(board: &Board, direction: usize, from: usize) -> u128
+    requires direction { direction < 4 }
+    requires from { from < 81 }
+    ensures fits { result < 2 ^ 81 }
+    ensures bits { (b : ℕ) → b < 81 → has_bit result b ≡ slides board.now (direction_at direction) from b }
+{
+    let line = ray(direction, from);
+    let taken = line & board.occupied();
+    if taken == 0 {
+        return line;
+    }
+    line & !ray(direction, lowest(taken))
+}
+
+/// The squares that a slide reaches in a direction in which indexes fall.
+#[tactic(auto, using(crate::proofs::LineBits::line_squares))]
+fn falling_squares(board: &Board, direction: usize, from: usize) -> u128
+    requires direction { (4 ≤ direction) × (direction < 8) }
+    requires from { from < 81 }
+    ensures fits { result < 2 ^ 81 }
+    ensures bits { (b : ℕ) → b < 81 → has_bit result b ≡ slides board.now (direction_at direction) from b }
+{
+    let line = ray(direction, from);
+    let taken = line & board.occupied();
+    if taken == 0 {
+        return line;
+    }
+    line & !ray(direction, highest(taken))
+}
+
+/// The squares that a slide in the direction reaches.
+pub fn slide_squares(board: &Board, direction: usize, from: usize) -> u128
+    requires direction { direction < 8 }
+    requires from { from < 81 }
+    ensures fits { result < 2 ^ 81 }
+    ensures bits { (b : ℕ) → b < 81 → has_bit result b ≡ slides board.now (direction_at direction) from b }
+{
+    if direction < 4 {
+        rising_squares(board, direction, from)
+    } else {
+        falling_squares(board, direction, from)
+    }
+}

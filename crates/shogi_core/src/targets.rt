@@ -1,0 +1,91 @@
+//! The squares that a piece reaches, as a mask.
+
+ghost use Rattle.std.specs.Prelude.{◌≡◌, ◌<◌, ◌^◌, ◌||◌, ℕ};
+ghost use Rattle.std.specs.List.{list_any};
+ghost use Rattle.shogi_core.specs.Bits.{has_bit};
+ghost use Rattle.shogi_core.specs.Movement.{reaches, has_slide, slides, straight, diagonal, forward, seen_by};
+
+use crate::bits::has;
+use crate::board::Board;
+use crate::lines::slide_squares;
+use crate::piece::{Color, Piece, Role};
+use crate::square::Square;
+use crate::steps::step_squares;
+
+/// The squares that slides along ranks and files reach.
+#[tactic(auto, using(crate::proofs::TargetLaws::four_ways))]
+pub fn straight_squares(board: &Board, color: Color, from: usize) -> u128
+    requires { from < 81 }
+    ensures fits { result < 2 ^ 81 }
+    ensures bits { (b : ℕ) → b < 81 → has_bit result b ≡ list_any (λ o. slides board.now (seen_by color o) from b) straight }
+{
+    slide_squares(board, 4, from)
+        | slide_squares(board, 0, from)
+        | slide_squares(board, 2, from)
+        | slide_squares(board, 6, from)
+}
+
+/// The squares that slides along diagonals reach.
+#[tactic(auto, using(crate::proofs::TargetLaws::four_ways))]
+pub fn diagonal_squares(board: &Board, color: Color, from: usize) -> u128
+    requires { from < 81 }
+    ensures fits { result < 2 ^ 81 }
+    ensures bits { (b : ℕ) → b < 81 → has_bit result b ≡ list_any (λ o. slides board.now (seen_by color o) from b) diagonal }
+{
+    slide_squares(board, 1, from)
+        | slide_squares(board, 7, from)
+        | slide_squares(board, 3, from)
+        | slide_squares(board, 5, from)
+}
+
+/// The squares that a slide forward reaches.
+#[tactic(auto, using(crate::proofs::TargetLaws::one_way))]
+fn forward_squares(board: &Board, color: Color, from: usize) -> u128
+    requires { from < 81 }
+    ensures fits { result < 2 ^ 81 }
+    ensures bits { (b : ℕ) → b < 81 → has_bit result b ≡ list_any (λ o. slides board.now (seen_by color o) from b) forward }
+{
+    match color {
+        Color::Black => slide_squares(board, 4, from),
+        Color::White => slide_squares(board, 0, from),
+    }
+}
+
+/// The squares that slides of the piece reach.
+#[tactic(auto, using(crate::proofs::TargetLaws::no_bits))]
+fn piece_slides(board: &Board, piece: Piece, from: usize) -> u128
+    requires { from < 81 }
+    ensures fits { result < 2 ^ 81 }
+    ensures bits { (b : ℕ) → b < 81 → has_bit result b ≡ has_slide board.now piece from b }
+{
+    match piece.role {
+        Role::Lance => forward_squares(board, piece.color, from),
+        Role::Bishop | Role::Horse => diagonal_squares(board, piece.color, from),
+        Role::Rook | Role::Dragon => straight_squares(board, piece.color, from),
+        _ => 0,
+    }
+}
+
+impl Board {
+    /// The squares that the piece on the square reaches, bit n that of index n; none where it is
+    /// empty.
+    #[tactic(auto, using(crate::proofs::TargetLaws::no_bits), unfolding(crate::specs::Movement::reaches))]
+    pub fn targets(&self, from: Square) -> u128
+        ensures bits { (n : ℕ) → n < 81 → has_bit result n ≡ reaches self.now from n }
+        ensures fits { result < 2 ^ 81 }
+    {
+        let index = from.index();
+        match self.at(from) {
+            None => 0,
+            Some(piece) => step_squares(piece, index) | piece_slides(self, piece, index),
+        }
+    }
+
+    /// Whether the piece on the one square has a step, a jump or a free slide to the other.
+    pub fn reaches(&self, from: Square, to: Square) -> bool
+        ensures { result ≡ reaches self.now from to }
+    {
+        to.index();
+        has(self.targets(from), to.index())
+    }
+}
