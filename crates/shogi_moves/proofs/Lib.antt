@@ -9,3 +9,5 @@ pub mod NoSafeLaws
 pub mod NextLaws
 pub mod CaptureLaws
 pub mod Paths
+pub mod GuardLaws
+pub mod RunLaws

@@ -20,7 +20,7 @@ use Rattle.shogi_moves.specs.NoSafe.{HasNoSafe}
 use Rattle.shogi_moves.proofs.LegalLaws.{none_beyond, legal_from_skips}
 
 -- the kind of a number of a kind
-kind_back : (kind : Kind) → kind_at (number_of kind) ≡ kind
+pub kind_back : (kind : Kind) → kind_at (number_of kind) ≡ kind
 kind_back kinds.Pawn = refl
 kind_back _ = refl
 

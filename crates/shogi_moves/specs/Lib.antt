@@ -7,3 +7,6 @@ pub mod Captures
 pub use Rattle.shogi_core.specs.Attack
 pub use Rattle.shogi_core.specs.Codes
 pub use Rattle.shogi_core.specs.Validity
+pub mod Guards
+pub mod Walks
+pub mod Candidates

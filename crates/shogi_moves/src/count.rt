@@ -4,7 +4,7 @@ ghost use Rattle.std.specs.Prelude.{◌≡◌, ◌≤◌, ◌^◌, ◌↔◌, If
 ghost use Rattle.shogi_moves.specs.LegalMoves.{paths};
 
 use crate::after::apply;
-use crate::next::next_legal;
+use crate::walk::Walk;
 use shogi_core::Position;
 
 /// How many sequences of n legal moves there are from the position, with `None` exactly where the
@@ -19,12 +19,10 @@ pub fn perft(p: &Position, n: u8) -> Option<u64>
         return Some(1);
     }
     let mut total: u64 = 0;
-    let mut passed = None;
-    'moves: while let Some(m) = next_legal(p, passed) {
-        let again = m;
+    let mut walk = Walk::new(p);
+    'moves: while let Some(m) = walk.next() {
         let count = perft(&apply(p, m), n - 1)?;
         total = total.checked_add(count)?;
-        passed = Some(again);
     }
     Some(total)
 }

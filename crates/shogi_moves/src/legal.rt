@@ -3,11 +3,15 @@
 ghost use Rattle.std.specs.Prelude.{◌≡◌, ◌↔◌, IsTrue, true};
 ghost use Rattle.shogi_core.specs.Codes.{code_of};
 ghost use Rattle.shogi_moves.specs.Legal.{is_legal, is_safe, is_right, is_right_board_move, is_right_drop, may_promote, is_pawn_kind, is_mated, is_pawn_drop, is_pawn_mate, can_promote, in_zone};
+ghost use Rattle.shogi_core.specs.declared.moves.Move.TheVariants as moves;
+ghost use Rattle.shogi_moves.specs.Candidates.{is_candidate};
+ghost use Rattle.shogi_moves.specs.Guards.{Guards};
 ghost use Rattle.shogi_moves.specs.LegalMoves.{legal_moves};
 ghost use Rattle.shogi_moves.specs.Rising.{is_in};
 
 use crate::after::{apply_safe, cells_after, dropped, moved};
 use crate::attack::in_check;
+use crate::guard::{Guard, is_calm};
 use crate::safe::has_safe;
 use shogi_core::{Color, Kind, Move, Piece, Position, Role, Square, is_dead, is_of};
 
@@ -82,6 +86,45 @@ pub fn is_safe(p: &Position, m: &Move) -> bool
     ensures { result ≡ is_safe p.now m.now }
 {
     is_right(p, m) && !cells_after(&p.board(), p.side(), m).in_check(p.side())
+}
+
+/// Whether the candidate obeys the rules on promotion, and so all rules apart from checks.
+#[tactic(auto, using(crate::proofs::RunLaws::candidate_right))]
+fn is_right_candidate(p: &Position, from: Square, to: Square, promote: bool) -> bool
+    requires { is_candidate p.now (moves.Board from to promote) ≡ true }
+    ensures { result ≡ is_right_board_move p.now.cells p.now.side from to promote }
+{
+    let piece = p.at(from);
+    (!promote || may_promote(piece, from, to)) && !is_dead(moved(piece, promote), to.index())
+}
+
+/// `is_safe` of a candidate, with what is kept of the position.
+#[tactic(auto, using(crate::proofs::GuardLaws::quiet), unfolding(crate::specs::Legal::is_safe))]
+pub fn is_safe_guarded(p: &Position, guard: &Guard, m: &Move) -> bool
+    requires guard { Guards p.now guard.now.checked guard.now.exposed }
+    requires candidate { is_candidate p.now m.now ≡ true }
+    ensures { result ≡ is_safe p.now m.now }
+{
+    p.validity();
+    match m {
+        Move::Board { from, to, promote } => {
+            from.index();
+            to.index();
+            let right = is_right_candidate(p, *from, *to, *promote);
+            if is_calm(guard, *from) {
+                return right;
+            }
+            right && !cells_after(&p.board(), p.side(), m).in_check(p.side())
+        }
+        Move::Drop { kind, to } => {
+            to.index();
+            let right = is_right_drop(p, *kind, *to);
+            if !guard.checked {
+                return right;
+            }
+            right && !cells_after(&p.board(), p.side(), m).in_check(p.side())
+        }
+    }
 }
 
 fn is_mated(p: &Position) -> bool

@@ -5,11 +5,13 @@ mod after;
 mod attack;
 mod capture;
 mod count;
+mod guard;
 mod legal;
 mod next;
 mod safe;
 #[cfg(test)]
 mod tests;
+mod walk;
 
 pub use after::apply;
 pub use attack::{in_check, is_attacked};
@@ -17,3 +19,4 @@ pub use capture::next_legal_of;
 pub use count::perft;
 pub use legal::is_legal;
 pub use next::{has_legal, next_legal};
+pub use walk::Walk;

@@ -1,24 +1,28 @@
 //! The legal moves in the order of their codes.
 
-ghost use Rattle.std.specs.Prelude.{◌≡◌, ◌≢◌, ◌↔◌, ◌≤◌, ◌+◌, true, false, [], ◌∷◌, IsTrue, IfSome, IsNone, MatchOption, Some};
+ghost use Rattle.std.specs.Prelude.{◌≡◌, ◌≢◌, ◌↔◌, ◌≤◌, ◌<◌, ◌+◌, true, false, [], ◌∷◌, IsTrue, IfSome, IsNone, MatchOption, Some};
 ghost use Rattle.shogi_core.specs.Codes.{code_of};
+ghost use Rattle.shogi_moves.specs.Guards.{Guards};
 ghost use Rattle.shogi_moves.specs.Legal.{is_legal};
 ghost use Rattle.shogi_moves.specs.LegalMoves.{legal_from, legal_above, legal_moves};
 ghost use Rattle.shogi_moves.specs.Rising.{IsRising};
 
+use crate::guard::{Guard, guard_of};
 use crate::legal::is_pawn_mate;
-use crate::safe::least_safe;
+use crate::safe::least_guarded;
 use shogi_core::{Move, Position};
 
 /// The legal move of least code from the given one on.
 #[tactic(auto, using(crate::proofs::NextLaws::steps))]
-fn least_from(p: &Position, first: u16) -> Option<Move>
-    requires { first ≤ 13689 }
+pub fn least_from(p: &Position, guard: &Guard, first: u16) -> Option<Move>
+    requires first { first ≤ 13689 }
+    requires guard { Guards p.now guard.now.checked guard.now.exposed }
+    ensures code { IfSome result (λ m. code_of m < 13689) }
     ensures next { MatchOption result (legal_from p.now first ≡ []) (λ m. legal_from p.now first ≡ code_of m ∷ legal_from p.now (code_of m + 1)) }
     ensures legal { IfSome result (λ m. is_legal p.now m ≡ true) }
 {
     let mut code = first;
-    while let Some(m) = least_safe(p, code) {
+    while let Some(m) = least_guarded(p, guard, code) {
         if !is_pawn_mate(p, &m) {
             return Some(m);
         }
@@ -37,8 +41,8 @@ pub fn next_legal(p: &Position, after: Option<Move>) -> Option<Move>
     ensures rising { IsRising (legal_moves p.now) }
 {
     match after {
-        None => least_from(p, 0),
-        Some(m) => least_from(p, m.code() + 1),
+        None => least_from(p, &guard_of(p), 0),
+        Some(m) => least_from(p, &guard_of(p), m.code() + 1),
     }
 }
 

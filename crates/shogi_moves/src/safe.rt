@@ -1,47 +1,57 @@
 //! The safe moves in the order of their codes: legal but for mate by the drop of a pawn.
 
-ghost use Rattle.std.specs.Prelude.{◌≡◌, ◌≤◌, ◌<◌, ◌*◌, ◌+◌, true, false, IfSome, IsNone, Some};
+ghost use Rattle.std.specs.Prelude.{◌≡◌, ◌≤◌, ◌<◌, ◌*◌, ◌+◌, true, false, Bool, IfSome, IsNone, Some};
 ghost use Rattle.shogi_core.specs.Codes.{code_of, move_of};
 ghost use Rattle.shogi_core.specs.Below.{some_below};
 ghost use Rattle.shogi_core.specs.Pieces.{number_of};
 ghost use Rattle.shogi_moves.specs.Legal.{is_safe, is_safe_code};
+ghost use Rattle.shogi_core.specs.declared.moves.Move.{Move};
+ghost use Rattle.shogi_core.specs.declared.moves.Move.TheVariants as moves;
+ghost use Rattle.shogi_moves.specs.Candidates.{is_candidate};
+ghost use Rattle.shogi_moves.specs.Guards.{Guards};
 ghost use Rattle.shogi_moves.specs.NoSafe.{HasNoSafe};
 
-use crate::legal::is_safe;
-use shogi_core::{Kind, Move, Position, Square, is_of};
+use crate::guard::{Guard, guard_of};
+use crate::legal::is_safe_guarded;
+use shogi_core::bits::next_of;
+use shogi_core::{Kind, Move, Position, Square};
 
 /// The first code from that of the board move on which is worth a test: codes of a square
 /// without a piece of the side to move, and of a target that it cannot go to, are left out.
-#[tactic(auto, using(crate::proofs::NoSafeLaws::idle_board))]
+#[tactic(auto, using(crate::proofs::RunLaws::board_runs, crate::proofs::NoSafeLaws::no_safe_here))]
 fn skip_board(p: &Position, from: Square, to: Square, code: u16) -> u16
     requires { ((from * 81 + to) * 2 ≤ code) × (code ≤ (from * 81 + to) * 2 + 1) }
     ensures bounds { (code ≤ result) × (result ≤ 13122) }
     ensures idle { HasNoSafe p.now code result }
+    ensures candidate { (promote : Bool) → result ≡ code → is_candidate p.now (moves.Board from to promote) ≡ true }
 {
-    let side = p.side();
-    let first = from.index() as u16 * 162;
-    if !is_of(p.at(from), side) {
-        return first + 162;
+    let own = p.own(p.side());
+    let square = next_of(own, from.index());
+    if square != from.index() {
+        return square as u16 * 162;
     }
-    let past = first + to.index() as u16 * 2 + 2;
-    if is_of(p.at(to), side) {
-        return past;
-    }
-    if !p.reaches(from, to) {
-        return past;
+    let target = next_of(p.targets(from) & !own, to.index());
+    if target != to.index() {
+        return (square * 162 + target * 2) as u16;
     }
     code
 }
 
-/// The same from the code of a drop on: the codes of a kind that is not held are left out.
-#[tactic(auto, using(crate::proofs::NoSafeLaws::idle_drop))]
-fn skip_drop(p: &Position, kind: Kind, code: u16) -> u16
-    requires { (13122 + number_of kind * 81 ≤ code) × (code < 13203 + number_of kind * 81) }
+/// The same from the code of a drop on: the codes of a kind that is not held, and of squares that
+/// are not empty, are left out.
+#[tactic(auto, using(crate::proofs::NoSafeLaws::idle_drop, crate::proofs::RunLaws::run_drops, crate::proofs::NoSafeLaws::no_safe_here))]
+fn skip_drop(p: &Position, kind: Kind, to: Square, code: u16) -> u16
+    requires { code ≡ 13122 + number_of kind * 81 + to }
     ensures bounds { (code ≤ result) × (result ≤ 13689) }
     ensures idle { HasNoSafe p.now code result }
 {
+    let first = 13122 + kind.number() * 81;
     if p.hand(p.side(), kind) == 0 {
-        return 13203 + kind.number() as u16 * 81;
+        return (first + 81) as u16;
+    }
+    let target = next_of(p.free(), to.index());
+    if target != to.index() {
+        return (first + target) as u16;
     }
     code
 }
@@ -53,6 +63,7 @@ pub fn skip(p: &Position, code: u16) -> u16
     requires { code < 13689 }
     ensures bounds { (code ≤ result) × (result ≤ 13689) }
     ensures idle { HasNoSafe p.now code result }
+    ensures candidate { (m : Move) → result ≡ code → move_of code ≡ Some m → is_candidate p.now m ≡ true }
 {
     let Some(m) = Move::of_code(code) else {
         return code;
@@ -61,26 +72,33 @@ pub fn skip(p: &Position, code: u16) -> u16
         Move::Board { from, to, .. } => skip_board(p, *from, *to, code),
         Move::Drop { kind, to } => {
             to.index();
-            skip_drop(p, *kind, code)
+            skip_drop(p, *kind, *to, code)
         }
     }
 }
 
 /// The move of the code, if it is safe.
-fn safe_of(p: &Position, code: u16) -> Option<Move>
+fn safe_of(p: &Position, guard: &Guard, code: u16) -> Option<Move>
+    requires guard { Guards p.now guard.now.checked guard.now.exposed }
+    requires candidate { (m : Move) → move_of code ≡ Some m → is_candidate p.now m ≡ true }
     ensures none { IsNone result → is_safe_code p.now code ≡ false }
     ensures safe { IfSome result (λ m. is_safe p.now m ≡ true) }
     ensures code { IfSome result (λ m. code_of m ≡ code) }
     ensures back { IfSome result (λ m. move_of code ≡ Some m) }
 {
     let m = Move::of_code(code)?;
-    if is_safe(p, &m) { Some(m) } else { None }
+    if is_safe_guarded(p, guard, &m) {
+        Some(m)
+    } else {
+        None
+    }
 }
 
 /// The safe move of least code from the given one on.
 #[tactic(auto, using(crate::proofs::NoSafeLaws::no_safe_here, crate::proofs::NoSafeLaws::no_safe_join, crate::proofs::NoSafeLaws::no_safe_one))]
-pub fn least_safe(p: &Position, first: u16) -> Option<Move>
-    requires { first ≤ 13689 }
+pub fn least_guarded(p: &Position, guard: &Guard, first: u16) -> Option<Move>
+    requires first { first ≤ 13689 }
+    requires guard { Guards p.now guard.now.checked guard.now.exposed }
     ensures none { IsNone result → HasNoSafe p.now first 13689 }
     ensures idle { IfSome result (λ m. HasNoSafe p.now first (code_of m)) }
     ensures above { IfSome result (λ m. first ≤ code_of m) }
@@ -91,7 +109,7 @@ pub fn least_safe(p: &Position, first: u16) -> Option<Move>
     while code < 13689 {
         let next = skip(p, code);
         if next == code {
-            if let Some(m) = safe_of(p, code) {
+            if let Some(m) = safe_of(p, guard, code) {
                 return Some(m);
             }
             code += 1;
@@ -100,6 +118,18 @@ pub fn least_safe(p: &Position, first: u16) -> Option<Move>
         }
     }
     None
+}
+
+/// The same, where nothing of the position is kept.
+pub fn least_safe(p: &Position, first: u16) -> Option<Move>
+    requires { first ≤ 13689 }
+    ensures none { IsNone result → HasNoSafe p.now first 13689 }
+    ensures idle { IfSome result (λ m. HasNoSafe p.now first (code_of m)) }
+    ensures above { IfSome result (λ m. first ≤ code_of m) }
+    ensures safe { IfSome result (λ m. is_safe p.now m ≡ true) }
+    ensures back { IfSome result (λ m. move_of (code_of m) ≡ Some m) }
+{
+    least_guarded(p, &guard_of(p), first)
 }
 
 /// Whether some move is safe.

@@ -1,5 +1,5 @@
 use Rattle.std.proofs.Common.{◌≡◌, ◌+◌, ◌-◌, ◌<◌, ◌^◌, length}
-use Rattle.shogi_moves.specs.LegalMoves.{legal_above, paths}
+use Rattle.shogi_moves.specs.LegalMoves.{paths}
 use Rattle.shogi_moves.proofs.Paths.{paths_by}
 use Rattle.shogi_moves.proofs.count.+perft.Given as goal
 
@@ -9,9 +9,10 @@ decreases-perft l = l.n
 -- what is counted and what is left make the whole
 abbrev pub invariant-moves : goal.invariant-moves
 invariant-moves l = record {
-  whole : l.total + paths_by l.p (l.n - 1) (legal_above l.p l.passed) ≡ paths l.p l.n;
+  whole : l.total + paths_by l.p (l.n - 1) l.walk.codes ≡ paths l.p l.n;
+  same : l.walk.position ≡ l.p;
   fits : l.total < 2 ^ 64;
 }
 
 abbrev pub decreases-moves : goal.decreases-moves
-decreases-moves l = length (legal_above l.p l.passed)
+decreases-moves l = length l.walk.codes

@@ -1,6 +1,6 @@
 use Rattle.std.proofs.Common.{◌≤◌, ◌-◌}
 use Rattle.shogi_moves.specs.NoSafe.{HasNoSafe}
-use Rattle.shogi_moves.proofs.safe.least_safe.Given as goal
+use Rattle.shogi_moves.proofs.safe.least_guarded.Given as goal
 
 abbrev pub invariant-loop-code : goal.invariant-loop-code
 invariant-loop-code l = record {

@@ -1,0 +1,195 @@
+-- Moves that cannot leave the mover's king attacked.
+use Rattle.std.proofs.Common.{◌≡◌, ℕ, ◌<◌, ◌^◌, ◌⊎◌, Bool, true, false, refl, sym, ap, subst, ◌∙◌, arith, inl, inr, Option, Some, None, set, length, get_or-set_same, get_or-set_other, length-set, bit_or}
+use Rattle.std.specs.Prelude.{◌==◌, ◌&&◌, not, is_none}
+use Rattle.std.proofs.lemmas.Nat.{or_lt}
+use Rattle.std.proofs.lemmas.Bool.{cases_eq, false_from_ne_true, both_ways, and_parts, and_from, or_left, or_right, not_from_false, not-true, ne_eqb}
+use Rattle.shogi_core.specs.declared.piece.Color.{Color}
+use Rattle.shogi_core.specs.declared.piece.Color.TheVariants.{Black, White}
+use Rattle.shogi_core.specs.declared.piece.Kind.{Kind}
+use Rattle.shogi_core.specs.declared.piece.Kind.TheVariants as kinds
+use Rattle.shogi_core.specs.declared.piece.Piece.{Piece}
+use Rattle.shogi_core.specs.declared.moves.Move.TheVariants.{Board, Drop}
+use Rattle.shogi_core.specs.Attack.{in_check}
+use Rattle.shogi_core.specs.Bits.{has_bit}
+use Rattle.shogi_core.specs.Cell.{is_of, is_king, is_king_role}
+use Rattle.shogi_core.specs.Lines.{are_lined, is_line_to_king, is_lined_with_king}
+use Rattle.shogi_core.specs.Movement.{Cells, piece_at}
+use Rattle.shogi_core.specs.Pieces.{opponent_of, is_same_color, role_of}
+use Rattle.shogi_core.specs.Position.{Shogi}
+use Rattle.shogi_core.proofs.Below.{some_below_no}
+use Rattle.shogi_core.proofs.BitLaws.{has_bit-or, has_bit-none}
+use Rattle.shogi_core.proofs.Exposed.{check_was}
+use Rattle.shogi_core.proofs.SeenLaws.{lined_back}
+use Rattle.shogi_moves.specs.After.{cells_after, moved, dropped}
+use Rattle.shogi_moves.specs.Guards.{Guards, Exposes}
+use Rattle.shogi_moves.specs.Legal.{is_safe, is_right_board_move, is_right_drop}
+use Rattle.shogi_moves.proofs.MovedPieces.{is_king-moved}
+
+-- ---- the squares that are on open lines with a king
+
+pub exposes_first : (cells : Cells) (side : Color) (m : ℕ) → ((n : ℕ) → n < 81 → has_bit m n ≡ is_king side (piece_at cells n)) → Exposes cells side m m
+exposes_first cells side m bits = record {
+  kings = λ n h e. bits n h ∙ e;
+  lines = λ k n h l e out lined. absurd (both_ways (has_bit m k) out (bits k h ∙ e));
+}
+
+pub exposes_more : (cells : Cells) (side : Color) (left next exposed king line : ℕ) → Exposes cells side left exposed → ((i : ℕ) → has_bit next i ≡ (has_bit left i && not (i == king)))
+    → ((n : ℕ) → n < 81 → has_bit line n ≡ are_lined cells king n) → Exposes cells side next (bit_or exposed line)
+exposes_more cells side left next exposed king line h bits lined = record {
+  kings = λ n l e. has_bit-or exposed line n ∙ or_left _ _ (h.kings n l e);
+  lines = λ k n l r e out on. has_bit-or exposed line n ∙ elim (cases_eq k king) [
+    | inl same ↦ or_right (has_bit exposed n) (has_bit line n) (lined n r ∙ subst (λ (j : ℕ). are_lined cells j n ≡ true) same on)
+    | inr other ↦ or_left _ _ (h.lines k n l r e (false_from_ne_true (has_bit left k) (λ set. both_ways (has_bit next k) out (bits k ∙ and_from _ _ set (not_from_false _ (ne_eqb k king other))))) on)
+  ];
+}
+
+pub guards_from : (p : Shogi) (checked : Bool) (exposed : ℕ) → Exposes p.cells p.side 0 exposed → exposed < 2 ^ 81 → checked ≡ in_check p.cells p.side → Guards p checked exposed
+unfolding is_lined_with_king
+guards_from p checked exposed h fits e = record {
+  check = e;
+  kings = λ n l out. false_from_ne_true _ (λ king. both_ways (has_bit exposed n) out (h.kings n l king));
+  lines = λ n l out. some_below_no 81 (is_line_to_king p.cells p.side n) (λ k r. false_from_ne_true _ (λ line. (
+      let parts : (is_king p.side (piece_at p.cells k) ≡ true) × (are_lined p.cells n k ≡ true) = and_parts _ _ line in
+      both_ways (has_bit exposed n) out (h.lines k n r l parts.0 (has_bit-none k) (lined_back p.cells n k l parts.1)))));
+  fits = fits;
+}
+
+-- ---- a piece that moves
+
+other_side : (side : Color) (cell : Option Piece) → is_of side cell ≡ true → is_of (opponent_of side) cell ≡ false
+other_side side None e = refl
+other_side side (Some piece) e = go side piece.color e
+  where
+    go : (a b : Color) → is_same_color a b ≡ true → is_same_color (opponent_of a) b ≡ false
+    go Black Black e = refl
+    go White White e = refl
+    go Black White e = absurd (cc)
+    go White Black e = absurd (cc)
+
+is_of-moved : (side : Color) (promote : Bool) (cell : Option Piece) → is_of side (moved promote cell) ≡ is_of side cell
+is_of-moved side promote None = refl
+is_of-moved side promote (Some piece) = refl
+
+own_some : (side : Color) (cell : Option Piece) → is_of side cell ≡ true → is_none cell ≡ false
+own_some side None e = absurd (cc)
+own_some side (Some piece) e = refl
+
+module _ (cells : Cells) (side : Color) (from to : ℕ) (v : Option Piece) (len : length cells ≡ 81) (hf : from < 81) (ht : to < 81) where
+  after_it : Cells
+  after_it = set (set cells from None) to v
+
+  look : (x : ℕ) → ((x ≡ to) × (piece_at (set (set cells from None) to v) x ≡ v)) ⊎ (((x ≡ from) × (piece_at (set (set cells from None) to v) x ≡ None)) ⊎ (piece_at (set (set cells from None) to v) x ≡ piece_at cells x))
+  look x = elim (cases_eq x to) [
+    | inl there ↦ inl (there, rw there (get_or-set_same (set cells from None) to v None (omega (arith, length-set cells from None))))
+    | inr other ↦ elim (cases_eq x from) [
+      | inl here ↦ inr (inl (here, get_or-set_other (set cells from None) to x v None other ∙ rw here (get_or-set_same cells from None None (omega arith))))
+      | inr off ↦ inr (inr (get_or-set_other (set cells from None) to x v None other ∙ get_or-set_other cells from x None None off))
+    ]
+  ]
+
+  pub quiet_set : is_of side v ≡ true → is_king side v ≡ false → is_lined_with_king cells side from ≡ false → in_check cells side ≡ false → in_check (set (set cells from None) to v) side ≡ false
+  quiet_set own plain free safe =
+      check_was cells (set (set cells from None) to v) (λ x. x ≡ from)
+      (λ x e. elim (look x) [
+        | inl there ↦ absurd (both_ways (is_none v) (own_some side v own) (ap is_none (sym there.1) ∙ e))
+        | inr rest ↦ elim rest [ inl here ↦ inr here.0 | inr same ↦ inl (ap is_none (sym same) ∙ e) ]
+      ])
+      side
+      (λ a e. elim (look a) [
+        | inl there ↦ absurd (both_ways (is_of (opponent_of side) v) (other_side side v own) (ap (is_of (opponent_of side)) (sym there.1) ∙ e))
+        | inr rest ↦ elim rest [ inl here ↦ absurd (let clash : false ≡ true = ap (is_of (opponent_of side)) (sym here.1) ∙ e in cc) | inr same ↦ sym same ]
+      ])
+      (λ k e. elim (look k) [
+        | inl there ↦ absurd (both_ways (is_king side v) plain (ap (is_king side) (sym there.1) ∙ e))
+        | inr rest ↦ elim rest [ inl here ↦ absurd (let clash : false ≡ true = ap (is_king side) (sym here.1) ∙ e in cc) | inr same ↦ sym same ]
+      ])
+      (λ x left. subst (λ (y : ℕ). is_lined_with_king cells side y ≡ false) (sym left) free)
+      safe
+
+pub quiet_board : (cells : Cells) (side : Color) (from to : ℕ) (promote : Bool) → length cells ≡ 81 → from < 81 → to < 81 → is_of side (piece_at cells from) ≡ true → is_king side (piece_at cells from) ≡ false
+    → is_lined_with_king cells side from ≡ false → in_check cells side ≡ false → in_check (cells_after cells side (Board from to promote)) side ≡ false
+quiet_board cells side from to promote len hf ht own plain free safe =
+    quiet_set cells side from to (moved promote (piece_at cells from)) len hf ht (is_of-moved side promote (piece_at cells from) ∙ own) (is_king-moved side promote (piece_at cells from) ∙ plain) free safe
+
+-- ---- a piece that is dropped
+
+dropped_of : (side : Color) (kind : Kind) → is_of side (dropped side kind) ≡ true
+dropped_of Black kind = refl
+dropped_of White kind = refl
+
+dropped_plain : (side : Color) (kind : Kind) → is_king side (dropped side kind) ≡ false
+dropped_plain side kind = go (is_same_color side side) (role_plain kind)
+  where
+    role_plain : (kind : Kind) → is_king_role (role_of kind) ≡ false
+    role_plain kinds.Pawn = refl
+    role_plain _ = refl
+
+    go : (a : Bool) {b : Bool} → b ≡ false → (a && b) ≡ false
+    go true e = e
+    go false e = refl
+
+pub quiet_drop : (cells : Cells) (side : Color) (kind : Kind) (to : ℕ) → length cells ≡ 81 → to < 81 → in_check cells side ≡ false → in_check (cells_after cells side (Drop kind to)) side ≡ false
+quiet_drop cells side kind to len ht safe =
+    check_was cells (set cells to (dropped side kind)) (λ x. ⊥)
+    (λ x e. elim (look x) [
+      | inl there ↦ absurd (let clash : false ≡ true = ap is_none (sym there) ∙ e in cc)
+      | inr same ↦ inl (ap is_none (sym same) ∙ e)
+    ])
+    side
+    (λ a e. elim (look a) [
+      | inl there ↦ absurd (both_ways (is_of (opponent_of side) (dropped side kind)) (other_side side (dropped side kind) (dropped_of side kind)) (ap (is_of (opponent_of side)) (sym there) ∙ e))
+      | inr same ↦ sym same
+    ])
+    (λ k e. elim (look k) [
+      | inl there ↦ absurd (both_ways (is_king side (dropped side kind)) (dropped_plain side kind) (ap (is_king side) (sym there) ∙ e))
+      | inr same ↦ sym same
+    ])
+    (λ x left. absurd left)
+    safe
+  where
+    look : (x : ℕ) → (piece_at (set cells to (dropped side kind)) x ≡ dropped side kind) ⊎ (piece_at (set cells to (dropped side kind)) x ≡ piece_at cells x)
+    look x = elim (cases_eq x to) [
+      | inl there ↦ inl (rw there (get_or-set_same cells to (dropped side kind) None (omega arith)))
+      | inr other ↦ inr (get_or-set_other cells to x (dropped side kind) None other)
+    ]
+
+-- ---- what a guard tells of a move
+
+pub quiet_board_safe : (p : Shogi) (checked : Bool) (exposed from to : ℕ) (promote : Bool) → Guards p checked exposed → length p.cells ≡ 81 → from < 81 → to < 81 → checked ≡ false → has_bit exposed from ≡ false
+    → is_right_board_move p.cells p.side from to promote ≡ is_safe p (Board from to promote)
+unfolding is_safe
+quiet_board_safe p checked exposed from to promote g len hf ht calm off = go (is_right_board_move p.cells p.side from to promote) refl
+  where
+    go : (right : Bool) → is_right_board_move p.cells p.side from to promote ≡ right → right ≡ (right && not (in_check (cells_after p.cells p.side (Board from to promote)) p.side))
+    go false e = refl
+    go true e =
+        let four = and_parts _ _ e in
+        let three = and_parts _ _ (four.0) in
+        let two = and_parts _ _ (three.0) in
+        let one = and_parts _ _ (two.0) in
+        sym (ap not (quiet_board p.cells p.side from to promote len hf ht one.0 (g.kings from hf off) (g.lines from hf off) (sym g.check ∙ calm)))
+
+pub quiet_drop_safe : (p : Shogi) (checked : Bool) (exposed to : ℕ) (kind : Kind) → Guards p checked exposed → length p.cells ≡ 81 → to < 81 → checked ≡ false
+    → is_right_drop p.cells p.hands p.side kind to ≡ is_safe p (Drop kind to)
+unfolding is_safe
+quiet_drop_safe p checked exposed to kind g len ht calm = go (is_right_drop p.cells p.hands p.side kind to)
+  where
+    go : (right : Bool) → right ≡ (right && not (in_check (cells_after p.cells p.side (Drop kind to)) p.side))
+    go false = refl
+    go true = sym (ap not (quiet_drop p.cells p.side kind to len ht (sym g.check ∙ calm)))
+
+pub exposed_fits : (a b : ℕ) → a < 2 ^ 81 → b < 2 ^ 81 → bit_or a b < 2 ^ 81
+exposed_fits a b h l = or_lt 81 a b h l
+
+pub ruleset exposing = (exposes_first, exposes_more, exposed_fits)
+
+calm_parts : (a b : Bool) → (not a && not b) ≡ true → (a ≡ false) × (b ≡ false)
+calm_parts a b e = let parts : (not a ≡ true) × (not b ≡ true) = and_parts (not a) (not b) e in (not-true a parts.0, not-true b parts.1)
+
+pub calm_board_safe : (p : Shogi) (checked : Bool) (exposed from to : ℕ) (promote : Bool) → Guards p checked exposed → length p.cells ≡ 81 → from < 81 → to < 81 → (not checked && not (has_bit exposed from)) ≡ true
+    → is_right_board_move p.cells p.side from to promote ≡ is_safe p (Board from to promote)
+calm_board_safe p checked exposed from to promote g len hf ht calm =
+    let parts : (checked ≡ false) × (has_bit exposed from ≡ false) = calm_parts checked (has_bit exposed from) calm in
+    quiet_board_safe p checked exposed from to promote g len hf ht parts.0 parts.1
+
+pub ruleset quiet = (calm_board_safe, quiet_drop_safe)

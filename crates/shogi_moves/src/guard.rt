@@ -1,0 +1,51 @@
+//! What is kept of a position, so that most of its moves need no look at checks.
+
+ghost use Rattle.std.specs.Prelude.{◌≡◌, ◌<◌, ◌^◌, ◌&&◌, not, false};
+ghost use Rattle.shogi_core.specs.Bits.{has_bit};
+ghost use Rattle.shogi_moves.specs.Guards.{Guards, Exposes};
+
+use shogi_core::bits::{cleared, has, lowest};
+use shogi_core::{Color, Position, Square};
+
+/// Whether the side to move is in check, and the squares of its king and of open lines with it.
+#[derive(Clone, Copy)]
+pub struct Guard {
+    pub checked: bool,
+    pub exposed: u128,
+}
+
+/// The squares of kings of the side, and of open lines with them.
+#[tactic(auto, using(crate::proofs::GuardLaws::exposing))]
+fn exposed_squares(p: &Position, side: Color) -> u128
+    ensures fits { result < 2 ^ 81 }
+    ensures all { Exposes p.now.cells side 0 result }
+{
+    let mut left = p.kings(side);
+    let mut exposed = left;
+    while left != 0 {
+        let king = lowest(left);
+        exposed |= p.lined(Square::of_index(king));
+        left = cleared(left, king);
+    }
+    exposed
+}
+
+/// What is kept of the position.
+#[tactic(auto, using(crate::proofs::GuardLaws::guards_from))]
+pub fn guard_of(p: &Position) -> Guard
+    ensures { Guards p.now result.checked result.exposed }
+{
+    let side = p.side();
+    Guard {
+        checked: p.in_check(side),
+        exposed: exposed_squares(p, side),
+    }
+}
+
+/// Whether no move of the piece on the square can leave its king attacked.
+pub fn is_calm(guard: &Guard, from: Square) -> bool
+    ensures { result ≡ (not guard.now.checked && not (has_bit guard.now.exposed from)) }
+{
+    from.index();
+    !guard.checked && !has(guard.exposed, from.index())
+}
