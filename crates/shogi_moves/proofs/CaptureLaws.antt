@@ -50,7 +50,7 @@ none_drop p capture code end low high e = record {
 }
 
 -- such runs join, so they grow target by target
-none_join : (p : Shogi) (capture : Bool) (first middle end : ℕ) → HasNoneWanted p capture first middle → HasNoneWanted p capture middle end → HasNoneWanted p capture first end
+pub none_join : (p : Shogi) (capture : Bool) (first middle end : ℕ) → HasNoneWanted p capture first middle → HasNoneWanted p capture middle end → HasNoneWanted p capture first end
 none_join p capture first middle end h k = record { none = λ code low high. elim (cases_lt code middle) [ inl below ↦ h.none code low below | inr above ↦ k.none code above high ] }
 
 pub none_grows : (p : Shogi) (capture : Bool) (from to code : ℕ) → from < 81 → to < 81 → code ≤ from * 162 + to * 2 → is_asked capture (is_some (piece_at p.cells to)) ≡ false → HasNoneWanted p capture code (from * 162 + to * 2) → HasNoneWanted p capture code (from * 162 + (to + 1) * 2)

@@ -183,7 +183,7 @@ exposed_fits a b h l = or_lt 81 a b h l
 
 pub ruleset exposing = (exposes_first, exposes_more, exposed_fits)
 
-calm_parts : (a b : Bool) → (not a && not b) ≡ true → (a ≡ false) × (b ≡ false)
+pub calm_parts : (a b : Bool) → (not a && not b) ≡ true → (a ≡ false) × (b ≡ false)
 calm_parts a b e = let parts : (not a ≡ true) × (not b ≡ true) = and_parts (not a) (not b) e in (not-true a parts.0, not-true b parts.1)
 
 pub calm_board_safe : (p : Shogi) (checked : Bool) (exposed from to : ℕ) (promote : Bool) → Guards p checked exposed → length p.cells ≡ 81 → from < 81 → to < 81 → (not checked && not (has_bit exposed from)) ≡ true

@@ -11,3 +11,6 @@ pub mod CaptureLaws
 pub mod Paths
 pub mod GuardLaws
 pub mod RunLaws
+pub mod ZoneLaws
+pub mod EndLaws
+pub mod SweepLaws

@@ -10,3 +10,5 @@ pub use Rattle.shogi_core.specs.Validity
 pub mod Guards
 pub mod Walks
 pub mod Candidates
+pub mod Ends
+pub mod Sweeps

@@ -8,7 +8,7 @@ use shogi_core::bits::{cleared, has, lowest};
 use shogi_core::{Color, Position, Square};
 
 /// Whether the side to move is in check, and the squares of its king and of open lines with it.
-#[derive(Clone, Copy)]
+#[derive(Clone, Copy, Debug)]
 pub struct Guard {
     pub checked: bool,
     pub exposed: u128,

@@ -15,7 +15,7 @@ use crate::guard::{Guard, is_calm};
 use crate::safe::has_safe;
 use shogi_core::{Color, Kind, Move, Piece, Position, Role, Square, is_dead, is_of};
 
-fn can_promote(role: Role) -> bool
+pub fn can_promote(role: Role) -> bool
     ensures { result ≡ can_promote role }
 {
     matches!(
@@ -24,7 +24,7 @@ fn can_promote(role: Role) -> bool
     )
 }
 
-fn in_zone(color: Color, square: Square) -> bool
+pub fn in_zone(color: Color, square: Square) -> bool
     ensures { result ≡ in_zone color square }
 {
     match color {
@@ -43,7 +43,7 @@ fn may_promote(cell: Option<Piece>, from: Square, to: Square) -> bool
     }
 }
 
-fn is_pawn_kind(kind: Kind) -> bool
+pub fn is_pawn_kind(kind: Kind) -> bool
     ensures { result ≡ is_pawn_kind kind }
 {
     matches!(kind, Kind::Pawn)

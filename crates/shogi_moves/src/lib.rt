@@ -5,18 +5,23 @@ mod after;
 mod attack;
 mod capture;
 mod count;
+mod ends;
 mod guard;
 mod legal;
 mod next;
 mod safe;
 #[cfg(test)]
 mod tests;
+mod sweep;
 mod walk;
+mod zones;
 
 pub use after::apply;
 pub use attack::{in_check, is_attacked};
 pub use capture::next_legal_of;
 pub use count::perft;
+pub use guard::{Guard, guard_of};
 pub use legal::is_legal;
 pub use next::{has_legal, next_legal};
+pub use sweep::{BoardSweep, DropSweep};
 pub use walk::Walk;

@@ -12,10 +12,10 @@ use Rattle.shogi_moves.specs.After.{after_code}
 use Rattle.shogi_moves.specs.LegalMoves.{legal_moves}
 use Rattle.shogi_moves.specs.Rising.{is_in}
 use Rattle.shogi_search.specs.declared.order.Cursor.{Cursor}
-use Rattle.shogi_search.specs.declared.order.Cursor.TheVariants.{First, Captures, Done}
+use Rattle.shogi_search.specs.declared.order.Cursor.TheVariants.{First, Start, Done}
 use Rattle.shogi_search.specs.Minimax.{tree, subtrees, value, worth, lost, greatest_of}
 use Rattle.shogi_search.specs.Window.{IsCovered, bar}
-use Rattle.shogi_search.specs.Order.{todo}
+use Rattle.shogi_search.specs.Order.{todo, IsKept}
 use Rattle.shogi_search.specs.Visits.{moves_at, pending}
 use Rattle.shogi_search.proofs.MinimaxLaws.{tree-above, tree-leaf, value-above, value_within, Within}
 use Rattle.shogi_search.proofs.OrderLaws.{IsWhole, whole, whole_covered}
@@ -48,11 +48,12 @@ gone_through f p (suc d) m ms low top b w h e c = subst (λ (x : Bool). IsCovere
 pub record IsNew (f : ℕ → ℤ) (p : Shogi) (d : ℕ) (low : ℤ) (cursor : Cursor) : Type 0 where
   pub covered : IsCovered f (moves_at p d) (todo p cursor) low low None
   pub counted : 1 + 2 * subtrees p (d - 1) (todo p cursor) < 2 * tree p d
+  pub kept : IsKept p cursor
 
 new_leaf : (f : ℕ → ℤ) (p : Shogi) (low : ℤ) → IsNew f p 0 low Done
-new_leaf f p low = record { covered = IsCovered-start f [] low; counted = omega (arith, tree-leaf p) }
+new_leaf f p low = record { covered = IsCovered-start f [] low; counted = omega (arith, tree-leaf p); kept = tt }
 
-pub new_node : (f : ℕ → ℤ) (p : Shogi) (d : ℕ) (low : ℤ) (first : Option Move) (cursor : Cursor) → (d ≡ 0 → cursor ≡ Done) → (0 < d → MatchOption first (cursor ≡ Captures None None) (λ k. cursor ≡ First k)) → ForSome first (λ k. is_in (code_of k) (legal_moves p) ≡ true) → IsNew f p d low cursor
+pub new_node : (f : ℕ → ℤ) (p : Shogi) (d : ℕ) (low : ℤ) (first : Option Move) (cursor : Cursor) → (d ≡ 0 → cursor ≡ Done) → (0 < d → MatchOption first (cursor ≡ Start None) (λ k. cursor ≡ First k)) → ForSome first (λ k. is_in (code_of k) (legal_moves p) ≡ true) → IsNew f p d low cursor
 new_node f p zero low first cursor a b l = subst (λ (c : Cursor). IsNew f p 0 low c) (sym (a refl)) (new_leaf f p low)
 new_node f p (suc d) low first cursor a b l =
     let deep : 0 < suc d = omega arith in
@@ -60,7 +61,12 @@ new_node f p (suc d) low first cursor a b l =
     record {
       covered = whole_covered p (suc d - 1) cursor f low w;
       counted = omega (arith, tree-above p (suc d) deep, w.counted);
+      kept = kept_at first cursor (b deep);
     }
+  where
+    kept_at : (first : Option Move) (cursor : Cursor) → MatchOption first (cursor ≡ Start None) (λ k. cursor ≡ First k) → IsKept p cursor
+    kept_at None cursor e = subst (IsKept p) (sym e) tt
+    kept_at (Some k) cursor e = subst (IsKept p) (sym e) tt
 
 -- a move that is worth so much
 pub cut : (p : Shogi) (d m : ℕ) (v : ℤ) → 0 < d → is_in m (legal_moves p) ≡ true → v ≤ℤ worth p (d - 1) m → v ≤ℤ value p d

@@ -14,7 +14,7 @@ use Rattle.shogi_moves.specs.LegalMoves.{legal_moves}
 use Rattle.shogi_moves.specs.Rising.{is_in}
 use Rattle.shogi_moves.proofs.LegalLaws.{legal_in, legal_code_below}
 use Rattle.shogi_search.specs.declared.order.Cursor.{Cursor}
-use Rattle.shogi_search.specs.declared.order.Cursor.TheVariants.{First, Captures}
+use Rattle.shogi_search.specs.declared.order.Cursor.TheVariants.{First, Start}
 use Rattle.shogi_search.specs.Minimax.{tree, subtrees, best, best_code, move_at}
 use Rattle.shogi_search.specs.Window.{IsCovered}
 use Rattle.shogi_search.specs.Order.{picks, is_first, todo}
@@ -55,7 +55,7 @@ pub record IsWhole (p : Shogi) (d : ℕ) (cursor : Cursor) : Type 0 where
   pub each : (n : ℕ) → is_in n (legal_moves p) ≡ true → is_in n (todo p cursor) ≡ true
   pub counted : subtrees p d (todo p cursor) ≤ subtrees p d (legal_moves p)
 
-whole_captures : (p : Shogi) (d : ℕ) → IsWhole p d (Captures None None)
+whole_captures : (p : Shogi) (d : ℕ) → IsWhole p d (Start None)
 whole_captures p d = record {
   among = of_parts p None;
   each = λ n i. in_parts p None n i refl;
@@ -76,7 +76,7 @@ whole_first p d f i =
           omega (arith, three_parts g (picks p (Some f) true) (picks p (Some f) false) (code_of f) (apart p (Some f)) (not_itself p f true) (not_itself p f false) (legal_moves p) i, sum_by-cons g (code_of f) (A ++ B), sum_by-append g A B);
     }
 
-pub whole : (p : Shogi) (d : ℕ) (first : Option Move) (cursor : Cursor) → ForSome first (λ f. is_in (code_of f) (legal_moves p) ≡ true) → MatchOption first (cursor ≡ Captures None None) (λ f. cursor ≡ First f) → IsWhole p d cursor
+pub whole : (p : Shogi) (d : ℕ) (first : Option Move) (cursor : Cursor) → ForSome first (λ f. is_in (code_of f) (legal_moves p) ≡ true) → MatchOption first (cursor ≡ Start None) (λ f. cursor ≡ First f) → IsWhole p d cursor
 whole p d None cursor l e = subst (λ (c : Cursor). IsWhole p d c) (sym e) (whole_captures p d)
 whole p d (Some f) cursor l e = subst (λ (c : Cursor). IsWhole p d c) (sym e) (whole_first p d f (l f refl))
 

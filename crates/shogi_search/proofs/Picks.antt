@@ -7,8 +7,10 @@ use Rattle.std.proofs.lemmas.Bool.{cond_both, cases_Bool, or_cases, eqb-true, or
 use Rattle.shogi_core.specs.declared.moves.Move.{Move}
 use Rattle.shogi_core.specs.Position.{Shogi}
 use Rattle.shogi_moves.specs.Captures.{is_of_sort}
+use Rattle.shogi_moves.specs.LegalMoves.{legal_from}
 use Rattle.shogi_moves.specs.Rising.{is_in}
-use Rattle.shogi_search.specs.Order.{is_first, picks}
+use Rattle.shogi_moves.proofs.SweepLaws.{no_captures}
+use Rattle.shogi_search.specs.Order.{is_first, picks, picks_from}
 
 -- a test of two parts keeps what the second keeps of what the first keeps
 filter-both : (p : Shogi) (first : Option Move) (capture : Bool) (xs : List ℕ) → filter (picks p first capture) xs ≡ filter (λ n. not (is_first first n)) (filter (is_of_sort p capture) xs)
@@ -38,7 +40,20 @@ pick-passed p first capture m xs rest e h =
 pub pick-none : (p : Shogi) (first : Option Move) (capture : Bool) (xs : List ℕ) → filter (is_of_sort p capture) xs ≡ [] → filter (picks p first capture) xs ≡ []
 pick-none p first capture xs e = filter-both p first capture xs ∙ ap (filter (λ n. not (is_first first n))) e
 
-pub ruleset picked = (pick-found, pick-passed, pick-none)
+-- a sort that goes on from another code goes on so without the remembered move
+pub pick-same : (p : Shogi) (first : Option Move) (capture : Bool) (xs ys : List ℕ) → filter (is_of_sort p capture) xs ≡ filter (is_of_sort p capture) ys → filter (picks p first capture) xs ≡ filter (picks p first capture) ys
+pick-same p first capture xs ys e = filter-both p first capture xs ∙ ap (filter (λ n. not (is_first first n))) e ∙ sym (filter-both p first capture ys)
+
+-- drops take nothing
+pub no_drop_taken : (p : Shogi) (first : Option Move) → picks_from p first true 13122 ≡ []
+no_drop_taken p first = pick-none p first true (legal_from p 13122) (no_captures p)
+
+pub captures_end : (p : Shogi) (first : Option Move) (code : ℕ) (ys : List ℕ) → picks_from p first true code ≡ picks_from p first true 13122 → (picks_from p first true code ++ ys) ≡ ys
+captures_end p first code ys e = ap (λ (xs : List ℕ). xs ++ ys) (e ∙ no_drop_taken p first)
+
+pub ruleset no_capture_left = (captures_end)
+
+pub ruleset picked = (pick-found, pick-passed, pick-none, pick-same)
 
 pub in_cases : (n m : ℕ) (xs : List ℕ) → is_in n (m ∷ xs) ≡ true → ((n == m) ≡ true) ⊎ (is_in n xs ≡ true)
 in_cases n m xs h = or_cases (n == m) (is_in n xs) h

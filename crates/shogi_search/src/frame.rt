@@ -10,7 +10,7 @@ ghost use Rattle.shogi_moves.specs.LegalMoves.{legal_moves};
 ghost use Rattle.shogi_moves.specs.Rising.{is_in};
 ghost use Rattle.shogi_search.specs.Minimax.{value, tree, worth, negated, subtrees, IsTrueEntry};
 ghost use Rattle.shogi_search.specs.Entries.{Settles};
-ghost use Rattle.shogi_search.specs.Order.{todo};
+ghost use Rattle.shogi_search.specs.Order.{todo, IsKept, IsKept-prop};
 ghost use Rattle.shogi_search.specs.Visits.{moves_at, pending};
 ghost use Rattle.shogi_search.specs.Window.{IsCovered, bar, code_at};
 
@@ -40,6 +40,7 @@ pub struct Frame {
     ghost open: { top <ℤ high },
     ghost most: { high ≤ℤ pos 31000 },
     ghost covered: { IsCovered (worth position (depth - 1)) (moves_at position depth) (pending waiting (code_of asked) (todo position cursor)) low top (code_at top_move) } by { Prim.hlevel props },
+    ghost kept: { IsKept position cursor } by { IsKept-prop position cursor },
     ghost beaten: { ForSome cut (λ v. (v ≤ℤ value position depth) × (high ≤ℤ v)) },
 }
 
@@ -75,7 +76,7 @@ impl Frame {
         ensures counted { 1 + 2 * subtrees position (depth - 1) (todo position result.cursor) < 2 * tree position depth }
         ensures waiting { result.waiting ≡ false }
         ensures leaf { depth ≡ 0 → result.cursor ≡ Cursor.Done }
-        ensures first { 0 < depth → MatchOption first (result.cursor ≡ Cursor.Captures None None) (λ f. result.cursor ≡ Cursor.First f) }
+        ensures first { 0 < depth → MatchOption first (result.cursor ≡ Cursor.Start None) (λ f. result.cursor ≡ Cursor.First f) }
     {
         position.as_position().validity();
         Frame {

@@ -14,5 +14,6 @@ invariant_of-self c =
       «open» = c.args.self.now.«open»;
       most = c.args.self.now.most;
       covered = c.args.self.now.covered;
+      kept = c.args.self.now.kept;
       beaten = cuts _ _ _ c.args.value _ (omega (arith, ints)) (cut c.args.self.now.position c.args.self.now.depth (code_of c.args.self.now.asked) c.args.value w.deep w.is_listed c.requires.worth) c.requires.high;
     }

@@ -8,3 +8,6 @@ invariant_of-result-clause-covered c = (new_node _ _ _ _ _ _ c.moves_at.ensures.
 
 pub returns-clause-counted : goal.returns-clause-counted
 returns-clause-counted c = (new_node (worth c.args.position (c.args.depth - 1)) _ _ c.args.low _ _ c.moves_at.ensures.leaf c.moves_at.ensures.inner c.requires.first).counted
+
+pub invariant_of-result-clause-kept : goal.invariant_of-result-clause-kept
+invariant_of-result-clause-kept c = (new_node (worth c.args.position (c.args.depth - 1)) _ _ c.args.low _ _ c.moves_at.ensures.leaf c.moves_at.ensures.inner c.requires.first).kept

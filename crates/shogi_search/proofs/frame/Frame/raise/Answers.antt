@@ -14,5 +14,6 @@ invariant_of-self c =
       «open» = omega (arith, ints, c.requires.«open»);
       most = c.args.self.now.most;
       covered = at_depth _ _ _ _ _ _ _ w.deep (IsCovered-raise _ _ _ _ _ _ _ _ w.covered (omega (arith, ints, c.requires.is)) (omega (arith, ints, c.requires.above)));
+      kept = c.args.self.now.kept;
       beaten = c.args.self.now.beaten;
     }

@@ -1,0 +1,371 @@
+-- Where a piece may legally end.
+use Rattle.std.proofs.Common.{◌≡◌, ℕ, ◌-◌, ◌^◌, ◌<◌, Bool, true, false, not, Option, Some, None, refl, sym, ap, ◌∙◌, arith, inl, inr, subst, bit_and, length, cond, set, get_or-set_same, get_or-set_other, length-set, ◌⊎◌}
+use Rattle.std.specs.Prelude.{◌&&◌, ◌||◌, ◌==◌, is_none, is_some, ◌%◌, ◌/◌, nat_lt}
+use Rattle.std.proofs.lemmas.Bool.{cases_eq, cases_Bool, ne_eqb, eq-eqb, and_parts, and_from, both_ways, lt-ltb}
+use Rattle.shogi_core.specs.declared.moves.Move.{Move}
+use Rattle.shogi_core.specs.declared.moves.Move.TheVariants.{Board, Drop}
+use Rattle.shogi_core.specs.declared.piece.Color.{Color}
+use Rattle.shogi_core.specs.declared.piece.Kind.{Kind}
+use Rattle.shogi_core.specs.declared.piece.Kind.TheVariants as kinds
+use Rattle.shogi_core.specs.Validity.{pawns_on_file}
+use Rattle.shogi_core.specs.declared.piece.Color.TheVariants.{Black, White}
+use Rattle.shogi_core.specs.declared.piece.Role.{Role}
+use Rattle.shogi_core.specs.declared.piece.Role.TheVariants.{Pawn, Lance, Knight, Silver, Gold, Bishop, Rook, King, PromotedPawn, PromotedLance, PromotedKnight, PromotedSilver, Horse, Dragon}
+use Rattle.shogi_core.specs.declared.piece.Piece.{Piece}
+use Rattle.shogi_core.specs.Attack.{in_check}
+use Rattle.shogi_core.specs.Bits.{has_bit}
+use Rattle.shogi_core.specs.Cell.{is_of, is_dead, is_dead_role, is_king, is_king_role}
+use Rattle.shogi_core.specs.Codes.{move_of, code_of}
+use Rattle.shogi_core.specs.Movement.{Cells, piece_at, reaches}
+use Rattle.shogi_core.specs.Pieces.{opponent_of, is_same_color, promoted}
+use Rattle.shogi_core.specs.Position.{Shogi, held}
+use Rattle.shogi_core.proofs.BitLaws.{has_bit-and, has_bit-none}
+use Rattle.shogi_core.proofs.Exposed.{check_was}
+use Rattle.shogi_core.proofs.CodesBack.{move_of-board, move_of-drop}
+use Rattle.shogi_core.proofs.LineBits.{has_bit-not, and_fits}
+use Rattle.shogi_moves.specs.After.{moved, cells_after, dropped}
+use Rattle.shogi_moves.specs.Captures.{captures, is_asked, is_capture, is_wanted}
+use Rattle.shogi_moves.specs.Ends.{is_end, is_unchecked, Sifts}
+use Rattle.shogi_moves.specs.Guards.{Guards}
+use Rattle.shogi_moves.specs.Legal.{is_safe, is_legal, is_right_board_move, may_promote, can_promote, in_zone, is_right_drop, is_pawn_kind, is_pawn_mate}
+use Rattle.shogi_moves.proofs.CaptureLaws.{sort_of}
+use Rattle.shogi_moves.proofs.GuardLaws.{quiet_board, quiet_drop_safe, calm_parts}
+use Rattle.shogi_moves.proofs.LegalLaws.{is_legal_code_of}
+
+-- ---- squares are tried one by one
+
+start_same : (a t : Bool) → a ≡ (a && (t || a))
+start_same true true = refl
+start_same true false = refl
+start_same false t = refl
+
+pub sift_first : (m : ℕ) (test : ℕ → Bool) → Sifts m m m test
+sift_first m test = record { within = λ n e. e; bits = λ n h. start_same (has_bit m n) (test n) }
+
+at_end : (a t : Bool) → (a && (t || false)) ≡ (a && t)
+at_end a true = refl
+at_end a false = refl
+
+pub sift_done : (m kept : ℕ) (test : ℕ → Bool) → Sifts m 0 kept test → (n : ℕ) → n < 81 → has_bit kept n ≡ (has_bit m n && test n)
+sift_done m kept test s n h = s.bits n h ∙ (rw (has_bit-none n) (at_end (has_bit m n) (test n)))
+
+-- the next square is among those kept
+pub sift_there : (m left kept to : ℕ) (test : ℕ → Bool) → Sifts m left kept test → to < 81 → has_bit left to ≡ true → has_bit kept to ≡ true
+sift_there m left kept to test s h e = s.bits to h ∙ and_from _ _ (s.within to e) (go (test to) (has_bit left to) e)
+  where
+    go : (t l : Bool) → l ≡ true → (t || l) ≡ true
+    go true l e = refl
+    go false l e = e
+
+less_within : (m left next to : ℕ) → ((n : ℕ) → has_bit left n ≡ true → has_bit m n ≡ true) → ((i : ℕ) → has_bit next i ≡ (has_bit left i && not (i == to))) → (n : ℕ) → has_bit next n ≡ true → has_bit m n ≡ true
+less_within m left next to w b n e = w n ((and_parts (has_bit left n) (not (n == to)) (sym (b n) ∙ e)).0)
+
+pub sift_kept : (m left next kept to : ℕ) (test : ℕ → Bool) → Sifts m left kept test → test to ≡ true → ((i : ℕ) → has_bit next i ≡ (has_bit left i && not (i == to))) → Sifts m next kept test
+sift_kept m left next kept to test s t b = record {
+  within = less_within m left next to s.within b;
+  bits = λ n h. s.bits n h ∙ ap (λ x. has_bit m n && x) (elim (cases_eq n to) [
+    | inl same ↦ (let yes : test n ≡ true = ap test same ∙ t in rw yes refl)
+    | inr other ↦ (let no : (n == to) ≡ false = ne_eqb n to other in rw (b n, no) (go (test n) (has_bit left n)))
+  ]);
+}
+  where
+    go : (t l : Bool) → (t || l) ≡ (t || (l && not false))
+    go true l = refl
+    go false true = refl
+    go false false = refl
+
+pub sift_dropped : (m left next kept less to : ℕ) (test : ℕ → Bool) → Sifts m left kept test → test to ≡ false → ((i : ℕ) → has_bit next i ≡ (has_bit left i && not (i == to))) → ((i : ℕ) → has_bit less i ≡ (has_bit kept i && not (i == to))) → Sifts m next less test
+sift_dropped m left next kept less to test s t b d = record {
+  within = less_within m left next to s.within b;
+  bits = λ n h. d n ∙ elim (cases_eq n to) [
+    | inl same ↦ (
+        let yes : (n == to) ≡ true = eq-eqb n to same in
+        let no : test n ≡ false = ap test same ∙ t in
+        rw (b n, yes, no) (gone (has_bit kept n) (has_bit m n) (has_bit left n)))
+    | inr other ↦ (let no : (n == to) ≡ false = ne_eqb n to other in rw (b n, no) (more (has_bit kept n) ∙ (s.bits n h ∙ ap (λ x. has_bit m n && (test n || x)) (sym (more (has_bit left n))))))
+  ];
+}
+  where
+    more : (a : Bool) → (a && not false) ≡ a
+    more true = refl
+    more false = refl
+
+    gone : (k m l : Bool) → (k && not true) ≡ (m && (false || (l && not true)))
+    gone true true true = refl
+    gone true true false = refl
+    gone true false l = refl
+    gone false true true = refl
+    gone false true false = refl
+    gone false false l = refl
+
+pub ruleset sifting = (sift_first, sift_done, sift_there, sift_kept, sift_dropped)
+
+-- ---- a calm piece leaves its king unattacked anywhere
+
+all_kept : (a b : Bool) → b ≡ true → a ≡ (a && b)
+all_kept true b e = sym e
+all_kept false b e = refl
+
+pub calm_kept : (p : Shogi) (checked : Bool) (exposed ends from n : ℕ) → Guards p checked exposed → length p.cells ≡ 81 → from < 81 → n < 81 → is_of p.side (piece_at p.cells from) ≡ true → (not checked && not (has_bit exposed from)) ≡ true
+    → has_bit ends n ≡ (has_bit ends n && is_unchecked p (Board from n false))
+calm_kept p checked exposed ends from n g len hf hn own calm =
+    let parts : (checked ≡ false) × (has_bit exposed from ≡ false) = calm_parts checked (has_bit exposed from) calm in
+    all_kept (has_bit ends n) (is_unchecked p (Board from n false))
+    (ap not (quiet_board p.cells p.side from n false len hf hn own (g.kings from hf parts.1) (g.lines from hf parts.1) (sym g.check ∙ parts.0)))
+
+pub ruleset calm_ends = (calm_kept)
+
+-- ---- what is wanted of the move of a piece
+
+pub wanted_move : (p : Shogi) (capture : Bool) (m : Move) → move_of (code_of m) ≡ Some m → is_wanted p capture (code_of m) ≡ (is_legal p m && is_asked capture (captures p (Some m)))
+wanted_move p capture m back = rw (is_legal_code_of p (code_of m) m back, sort_of p (code_of m) m back) refl
+
+alone : (a : Bool) → (a && true) ≡ a
+alone true = refl
+alone false = refl
+
+pub legal_board : (p : Shogi) (from to : ℕ) (promote : Bool) → is_legal p (Board from to promote) ≡ (is_right_board_move p.cells p.side from to promote && is_unchecked p (Board from to promote))
+unfolding is_legal is_safe
+legal_board p from to promote = alone (is_right_board_move p.cells p.side from to promote && is_unchecked p (Board from to promote))
+
+mix : (other reach may live safe asked : Bool) → (((((other && reach) && may) && live) && safe) && asked) ≡ (((reach && (other && asked)) && safe) && (may && live))
+mix false true may live safe asked = refl
+mix false false may live safe asked = refl
+mix true false may live safe asked = refl
+mix true true false live safe false = refl
+mix true true false live false true = refl
+mix true true false live true true = refl
+mix true true true false safe false = refl
+mix true true true false false true = refl
+mix true true true false true true = refl
+mix true true true true true true = refl
+mix true true true true true false = refl
+mix true true true true false true = refl
+mix true true true true false false = refl
+
+asked_end : (capture : Bool) (side : Color) (cell : Option Piece) → (not (is_of side cell) && is_asked capture (is_some cell)) ≡ is_end capture side cell
+asked_end true side None = refl
+asked_end false side None = refl
+asked_end true Black (Some piece) = go piece.color
+  where
+    go : (c : Color) → (not (is_same_color Black c) && true) ≡ is_same_color White c
+    go Black = refl
+    go White = refl
+asked_end true White (Some piece) = go piece.color
+  where
+    go : (c : Color) → (not (is_same_color White c) && true) ≡ is_same_color Black c
+    go Black = refl
+    go White = refl
+asked_end false side (Some piece) = go (not (is_of side (Some piece)))
+  where
+    go : (b : Bool) → (b && false) ≡ false
+    go true = refl
+    go false = refl
+
+-- promotion changes nothing for the king
+moved_own : (side : Color) (promote : Bool) (cell : Option Piece) → is_of side (moved promote cell) ≡ is_of side cell
+moved_own side promote None = refl
+moved_own side promote (Some piece) = refl
+
+other_side : (side : Color) (cell : Option Piece) → is_of side cell ≡ true → is_of (opponent_of side) cell ≡ false
+other_side side None e = refl
+other_side Black (Some piece) e = go piece.color e
+  where
+    go : (c : Color) → is_same_color Black c ≡ true → is_same_color White c ≡ false
+    go Black e = refl
+    go White e = absurd (cc)
+other_side White (Some piece) e = go piece.color e
+  where
+    go : (c : Color) → is_same_color White c ≡ true → is_same_color Black c ≡ false
+    go White e = refl
+    go Black e = absurd (cc)
+
+some_moved : (promote : Bool) (cell : Option Piece) → is_none (moved promote cell) ≡ is_none cell
+some_moved promote None = refl
+some_moved promote (Some piece) = refl
+
+-- what moves with the one choice or the other differs in its role alone, and not where it is a king
+king_same : (side : Color) (a b : Bool) (cell : Option Piece) → is_king side (moved b cell) ≡ true → moved a cell ≡ moved b cell
+king_same side a b None e = refl
+king_same side a b (Some piece) e = go a b piece.role (king_of (is_same_color side piece.color) _ e)
+  where
+    made : Role → Option Piece
+    made role = Some (record { color = piece.color; role = role })
+
+    king_of : (x y : Bool) → (x && y) ≡ true → y ≡ true
+    king_of x y h = (and_parts x y h).1
+
+    clash : (role : Role) → is_king_role (promoted role) ≡ true → role ≡ King
+    clash King e = refl
+    clash Pawn e = absurd (cc)
+    clash Lance e = absurd (cc)
+    clash Knight e = absurd (cc)
+    clash Silver e = absurd (cc)
+    clash Gold e = absurd (cc)
+    clash Bishop e = absurd (cc)
+    clash Rook e = absurd (cc)
+    clash PromotedPawn e = absurd (cc)
+    clash PromotedLance e = absurd (cc)
+    clash PromotedKnight e = absurd (cc)
+    clash PromotedSilver e = absurd (cc)
+    clash Horse e = absurd (cc)
+    clash Dragon e = absurd (cc)
+
+    crown : (role : Role) → is_king_role role ≡ true → role ≡ King
+    crown King e = refl
+    crown Pawn e = absurd (cc)
+    crown Lance e = absurd (cc)
+    crown Knight e = absurd (cc)
+    crown Silver e = absurd (cc)
+    crown Gold e = absurd (cc)
+    crown Bishop e = absurd (cc)
+    crown Rook e = absurd (cc)
+    crown PromotedPawn e = absurd (cc)
+    crown PromotedLance e = absurd (cc)
+    crown PromotedKnight e = absurd (cc)
+    crown PromotedSilver e = absurd (cc)
+    crown Horse e = absurd (cc)
+    crown Dragon e = absurd (cc)
+
+    go : (a b : Bool) (role : Role) → is_king_role (cond b (promoted role) role) ≡ true → made (cond a (promoted role) role) ≡ made (cond b (promoted role) role)
+    go true true role e = refl
+    go false false role e = refl
+    go true false role e = rw (crown role e) refl
+    go false true role e = rw (clash role e) refl
+
+module _ (cells : Cells) (side : Color) (from to : ℕ) (a b : Bool) (len : length cells ≡ 81) (ht : to < 81) (own : is_of side (piece_at cells from) ≡ true) where
+  look : (x : ℕ) → ((piece_at (cells_after cells side (Board from to a)) x ≡ moved a (piece_at cells from)) × (piece_at (cells_after cells side (Board from to b)) x ≡ moved b (piece_at cells from))) ⊎ (piece_at (cells_after cells side (Board from to a)) x ≡ piece_at (cells_after cells side (Board from to b)) x)
+  look x = elim (cases_eq x to) [
+    | inl there ↦ inl (rw there (get_or-set_same (set cells from None) to (moved a (piece_at cells from)) None (omega (arith, length-set cells from None)), get_or-set_same (set cells from None) to (moved b (piece_at cells from)) None (omega (arith, length-set cells from None))))
+    | inr other ↦ inr (get_or-set_other (set cells from None) to x (moved a (piece_at cells from)) None other ∙ sym (get_or-set_other (set cells from None) to x (moved b (piece_at cells from)) None other))
+  ]
+
+  unchecked_if : in_check (cells_after cells side (Board from to a)) side ≡ false → in_check (cells_after cells side (Board from to b)) side ≡ false
+  unchecked_if safe =
+      check_was (cells_after cells side (Board from to a)) (cells_after cells side (Board from to b)) (λ x. ⊥)
+      (λ x e. elim (look x) [
+        | inl both ↦ inl (ap is_none both.0 ∙ (some_moved a (piece_at cells from) ∙ (sym (some_moved b (piece_at cells from)) ∙ (sym (ap is_none both.1) ∙ e))))
+        | inr same ↦ inl (ap is_none same ∙ e)
+      ])
+      side
+      (λ x e. elim (look x) [
+        | inl both ↦ absurd (both_ways (is_of (opponent_of side) (moved b (piece_at cells from))) (other_side side (moved b (piece_at cells from)) (moved_own side b (piece_at cells from) ∙ own)) (sym (ap (is_of (opponent_of side)) both.1) ∙ e))
+        | inr same ↦ same
+      ])
+      (λ x e. elim (look x) [
+        | inl both ↦ both.0 ∙ (king_same side a b (piece_at cells from) (sym (ap (is_king side) both.1) ∙ e) ∙ sym both.1)
+        | inr same ↦ same
+      ])
+      (λ x left. absurd left)
+      safe
+
+same_tests : (a b : Bool) → (a ≡ false → b ≡ false) → (b ≡ false → a ≡ false) → a ≡ b
+same_tests true true f g = refl
+same_tests false false f g = refl
+same_tests true false f g = g refl
+same_tests false true f g = sym (f refl)
+
+pub unchecked_either : (p : Shogi) (from to : ℕ) (promote : Bool) → length p.cells ≡ 81 → to < 81 → is_of p.side (piece_at p.cells from) ≡ true → is_unchecked p (Board from to promote) ≡ is_unchecked p (Board from to false)
+unchecked_either p from to promote len ht own = ap not (same_tests (in_check (cells_after p.cells p.side (Board from to promote)) p.side) (in_check (cells_after p.cells p.side (Board from to false)) p.side)
+    (unchecked_if p.cells p.side from to promote false len ht own) (unchecked_if p.cells p.side from to false promote len ht own))
+
+-- the legal ends with a choice on promotion
+pub wanted_board : (p : Shogi) (capture promote : Bool) (from to : ℕ) → length p.cells ≡ 81 → from < 81 → to < 81 → is_of p.side (piece_at p.cells from) ≡ true
+    → is_wanted p capture (code_of (Board from to promote)) ≡ (((reaches p.cells from to && is_end capture p.side (piece_at p.cells to)) && is_unchecked p (Board from to false)) && ((not promote || may_promote (piece_at p.cells from) from to) && not (is_dead to (moved promote (piece_at p.cells from)))))
+wanted_board p capture promote from to len hf ht own =
+    wanted_move p capture (Board from to promote) (move_of-board from to promote hf ht)
+    ∙ (rw (legal_board p from to promote, unchecked_either p from to promote len ht own, own)
+    (mix (not (is_of p.side (piece_at p.cells to))) (reaches p.cells from to) (not promote || may_promote (piece_at p.cells from) from to) (not (is_dead to (moved promote (piece_at p.cells from)))) (is_unchecked p (Board from to false)) (is_asked capture (is_some (piece_at p.cells to)))
+    ∙ (rw (asked_end capture p.side (piece_at p.cells to)) refl)))
+
+still : (n : ℕ) (cell : Option Piece) → is_dead n (moved false cell) ≡ is_dead n cell
+still n None = refl
+still n (Some piece) = refl
+
+-- a promoted piece can always move again
+alive : (from n : ℕ) (cell : Option Piece) → (may_promote cell from n && not (is_dead n (moved true cell))) ≡ may_promote cell from n
+alive from n None = refl
+alive from n (Some piece) = go piece.role (in_zone piece.color from || in_zone piece.color n)
+  where
+    go : (role : Role) (z : Bool) → ((can_promote role && z) && not (is_dead_role piece.color (promoted role) (n % 9))) ≡ (can_promote role && z)
+    go role false = low role
+      where
+        low : (role : Role) → ((can_promote role && false) && not (is_dead_role piece.color (promoted role) (n % 9))) ≡ (can_promote role && false)
+        low Pawn = refl
+        low _ = refl
+    go role true = live piece.color role
+      where
+        live : (color : Color) (role : Role) → ((can_promote role && true) && not (is_dead_role color (promoted role) (n % 9))) ≡ (can_promote role && true)
+        live Black Pawn = refl
+        live Black _ = refl
+        live White Pawn = refl
+        live White _ = refl
+
+pub plain_ends : (p : Shogi) (capture : Bool) (from n targets sort ends dead : ℕ) → length p.cells ≡ 81 → from < 81 → n < 81 → is_of p.side (piece_at p.cells from) ≡ true
+    → has_bit targets n ≡ reaches p.cells from n → has_bit sort n ≡ is_end capture p.side (piece_at p.cells n)
+    → has_bit ends n ≡ (has_bit (bit_and targets sort) n && is_unchecked p (Board from n false)) → dead < 2 ^ 81 → has_bit dead n ≡ is_dead n (piece_at p.cells from)
+    → has_bit (bit_and ends (2 ^ 128 - 1 - dead)) n ≡ is_wanted p capture (code_of (Board from n false))
+plain_ends p capture from n targets sort ends dead len hf hn own t s e fits d =
+    has_bit-and ends (2 ^ 128 - 1 - dead) n
+    ∙ (rw (e, has_bit-and targets sort n, t, s, has_bit-not dead n (omega arith) (omega arith), d)
+    (sym (wanted_board p capture false from n len hf hn own ∙ (rw (still n (piece_at p.cells from)) refl))))
+
+pub promoting_ends : (p : Shogi) (capture : Bool) (from n targets sort ends promoting : ℕ) → length p.cells ≡ 81 → from < 81 → n < 81 → is_of p.side (piece_at p.cells from) ≡ true
+    → has_bit targets n ≡ reaches p.cells from n → has_bit sort n ≡ is_end capture p.side (piece_at p.cells n)
+    → has_bit ends n ≡ (has_bit (bit_and targets sort) n && is_unchecked p (Board from n false)) → has_bit promoting n ≡ may_promote (piece_at p.cells from) from n
+    → has_bit (bit_and ends promoting) n ≡ is_wanted p capture (code_of (Board from n true))
+promoting_ends p capture from n targets sort ends promoting len hf hn own t s e m =
+    has_bit-and ends promoting n
+    ∙ (rw (e, has_bit-and targets sort n, t, s, m)
+    (sym (wanted_board p capture true from n len hf hn own ∙ (rw (alive from n (piece_at p.cells from)) refl))))
+
+pub ruleset ending = (and_fits, plain_ends, promoting_ends)
+
+-- ---- drops
+
+four : (a b c d : Bool) → a ≡ true → ((b && c) && d) ≡ (((a && b) && c) && d)
+four a b c d e = rw e refl
+
+first_fails : (a b c d : Bool) → a ≡ false → false ≡ (((a && b) && c) && d)
+first_fails a b c d e = rw e refl
+
+pub right_none : (p : Shogi) (kind : Kind) (n : ℕ) → held p.hands p.side kind ≡ 0 → has_bit 0 n ≡ is_right_drop p.cells p.hands p.side kind n
+right_none p kind n e = has_bit-none n ∙ (rw e refl)
+
+pub right_pawn : (p : Shogi) (kind : Kind) (free dead files n : ℕ) → n < 81 → 0 < held p.hands p.side kind → is_pawn_kind kind ≡ true → has_bit free n ≡ is_none (piece_at p.cells n) → dead < 2 ^ 81 → has_bit dead n ≡ is_dead n (dropped p.side kind)
+    → files < 2 ^ 81 → has_bit files n ≡ nat_lt 0 (pawns_on_file p.side (n / 9) p.cells)
+    → has_bit (bit_and (bit_and free (2 ^ 128 - 1 - dead)) (2 ^ 128 - 1 - files)) n ≡ is_right_drop p.cells p.hands p.side kind n
+right_pawn p kind free dead files n h some pawn f df d ff b =
+    has_bit-and (bit_and free (2 ^ 128 - 1 - dead)) (2 ^ 128 - 1 - files) n
+    ∙ (rw (has_bit-and free (2 ^ 128 - 1 - dead) n, has_bit-not dead n (omega arith) (omega arith), has_bit-not files n (omega arith) (omega arith), f, d, b, pawn)
+    (four (nat_lt 0 (held p.hands p.side kind)) (is_none (piece_at p.cells n)) (not (is_dead n (dropped p.side kind))) (not (nat_lt 0 (pawns_on_file p.side (n / 9) p.cells))) (lt-ltb 0 (held p.hands p.side kind) some)))
+
+pub right_other : (p : Shogi) (kind : Kind) (free dead n : ℕ) → n < 81 → 0 < held p.hands p.side kind → is_pawn_kind kind ≡ false → has_bit free n ≡ is_none (piece_at p.cells n) → dead < 2 ^ 81 → has_bit dead n ≡ is_dead n (dropped p.side kind)
+    → has_bit (bit_and free (2 ^ 128 - 1 - dead)) n ≡ is_right_drop p.cells p.hands p.side kind n
+right_other p kind free dead n h some other f df d =
+    has_bit-and free (2 ^ 128 - 1 - dead) n
+    ∙ (rw (has_bit-not dead n (omega arith) (omega arith), f, d, other)
+    (sym (alone (is_none (piece_at p.cells n) && not (is_dead n (dropped p.side kind)))) ∙ four (nat_lt 0 (held p.hands p.side kind)) (is_none (piece_at p.cells n)) (not (is_dead n (dropped p.side kind))) true (lt-ltb 0 (held p.hands p.side kind) some)))
+
+pub ruleset dropping = (right_none, right_pawn, right_other, and_fits)
+
+pub safe_tried : (p : Shogi) (kind : Kind) (n a ends : ℕ) → has_bit ends n ≡ is_right_drop p.cells p.hands p.side kind n → has_bit a n ≡ (has_bit ends n && is_unchecked p (Drop kind n)) → has_bit a n ≡ is_safe p (Drop kind n)
+unfolding is_safe
+safe_tried p kind n a ends r e = e ∙ (rw r refl)
+
+pub safe_calm : (p : Shogi) (checked : Bool) (exposed n ends : ℕ) (kind : Kind) → Guards p checked exposed → length p.cells ≡ 81 → n < 81 → checked ≡ false → has_bit ends n ≡ is_right_drop p.cells p.hands p.side kind n → has_bit ends n ≡ is_safe p (Drop kind n)
+safe_calm p checked exposed n ends kind g len h calm r = r ∙ quiet_drop_safe p checked exposed n kind g len h calm
+
+pub ruleset safe_dropping = (safe_tried, safe_calm)
+
+pub legal_drop : (p : Shogi) (kind : Kind) (n : ℕ) → n < 81 → is_wanted p false (code_of (Drop kind n)) ≡ (is_safe p (Drop kind n) && not (is_pawn_mate p (Drop kind n)))
+unfolding is_legal
+legal_drop p kind n h = wanted_move p false (Drop kind n) (move_of-drop kind n h) ∙ alone (is_safe p (Drop kind n) && not (is_pawn_mate p (Drop kind n)))
+
+pub legal_pawn : (p : Shogi) (ends kept n : ℕ) → n < 81 → has_bit ends n ≡ is_safe p (Drop kinds.Pawn n) → has_bit kept n ≡ (has_bit ends n && not (is_pawn_mate p (Drop kinds.Pawn n))) → has_bit kept n ≡ is_wanted p false (code_of (Drop kinds.Pawn n))
+legal_pawn p ends kept n h s e = e ∙ (rw s (sym (legal_drop p kinds.Pawn n h)))
+
+pub legal_other : (p : Shogi) (kind : Kind) (ends n : ℕ) → n < 81 → is_pawn_kind kind ≡ false → has_bit ends n ≡ is_safe p (Drop kind n) → has_bit ends n ≡ is_wanted p false (code_of (Drop kind n))
+legal_other p kind ends n h other s = s ∙ (sym (legal_drop p kind n h ∙ (rw other (alone (is_safe p (Drop kind n))))))
+
+pub ruleset legal_dropping = (legal_pawn, legal_other)

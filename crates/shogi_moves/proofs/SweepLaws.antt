@@ -1,0 +1,265 @@
+-- Ways through the legal moves of a sort.
+use Rattle.std.proofs.Common.{◌≡◌, ◌≢◌, ℕ, ◌+◌, ◌-◌, ◌*◌, ◌/◌, ◌%◌, ◌^◌, ◌<◌, ◌≤◌, ◌⊎◌, Bool, true, false, not, Option, Some, None, [], ◌∷◌, filter, refl, sym, ap, ◌∙◌, arith, inl, inr, subst, bit_or, bit_and}
+use Rattle.std.specs.Prelude.{◌&&◌, ◌||◌, ◌==◌, cond}
+use Rattle.std.proofs.lemmas.Bool.{cases_eq, cases_lt, cases_Bool, ne_eqb, eq-eqb, and_parts, and_from, both_ways, or_left, or_right, or_parts, or_cases, false_from_ne_true}
+use Rattle.shogi_core.specs.declared.moves.Move.{Move}
+use Rattle.shogi_core.specs.declared.moves.Move.TheVariants.{Board, Drop}
+use Rattle.shogi_core.specs.declared.piece.Kind.{Kind}
+use Rattle.shogi_core.specs.Bits.{has_bit}
+use Rattle.shogi_core.specs.Cell.{is_of}
+use Rattle.shogi_core.specs.Codes.{move_of, code_of}
+use Rattle.shogi_core.specs.Movement.{piece_at}
+use Rattle.shogi_core.specs.Pieces.{number_of}
+use Rattle.shogi_core.specs.Position.{Shogi}
+use Rattle.shogi_core.proofs.BitLaws.{has_bit-or, has_bit-none}
+use Rattle.shogi_core.proofs.CodesBack.{move_of-board, move_of-drop}
+use Rattle.shogi_core.proofs.Faults.{number_below}
+use Rattle.shogi_core.proofs.LineBits.{and_fits}
+use Rattle.shogi_moves.specs.Captures.{captures, is_asked, is_of_sort, is_wanted, HasNoneWanted}
+use Rattle.shogi_moves.specs.Guards.{Guards}
+use Rattle.shogi_moves.specs.Legal.{is_legal}
+use Rattle.shogi_moves.specs.LegalMoves.{legal_from}
+use Rattle.shogi_moves.specs.NoSafe.{HasNoSafe}
+use Rattle.shogi_moves.specs.Sweeps.{wanted_from, Keeps, KeepsBoard, KeepsDrop}
+use Rattle.shogi_moves.proofs.CaptureLaws.{none_safe, none_square, none_drop, none_join, wanted_jumps, wanted_found, wanted_end}
+use Rattle.shogi_moves.proofs.EndLaws.{wanted_move}
+use Rattle.shogi_moves.proofs.RunLaws.{run_squares}
+use Rattle.shogi_moves.proofs.ZoneLaws.{more_fits}
+
+-- ---- no piece of the side stands on the square
+
+pub no_ends : (p : Shogi) (capture promote : Bool) (from n : ℕ) → from < 81 → n < 81 → is_of p.side (piece_at p.cells from) ≡ false → has_bit 0 n ≡ is_wanted p capture (code_of (Board from n promote))
+no_ends p capture promote from n hf hn e =
+    has_bit-none n ∙ sym ((none_square p capture from (from * 162) (from * 162 + 162) hf (omega arith) (omega arith) e).none (code_of (Board from n promote)) (low promote) (high promote))
+  where
+    low : (b : Bool) → from * 162 ≤ code_of (Board from n b)
+    low true = omega arith
+    low false = omega arith
+
+    high : (b : Bool) → code_of (Board from n b) < from * 162 + 162
+    high true = omega arith
+    high false = omega arith
+
+pub ruleset no_piece = (no_ends)
+
+-- ---- what is kept of a mask
+
+pub keeps_first : (test : ℕ → Bool) (place : ℕ → ℕ) (code mask : ℕ) → mask < 2 ^ 81 → ((n : ℕ) → n < 81 → has_bit mask n ≡ test (place n)) → ((n : ℕ) → code ≤ place n) → Keeps test place code mask
+keeps_first test place code mask fits bits low = record {
+  fits = fits;
+  set = λ n h e. (low n, sym (bits n h) ∙ e);
+  clear = λ n h e _. sym (bits n h) ∙ e;
+}
+
+-- the codes below those of the first square that is left
+keeps_later : (test : ℕ → Bool) (place : ℕ → ℕ) (code next mask : ℕ) → Keeps test place code mask → code ≤ next → ((n : ℕ) → n < 81 → has_bit mask n ≡ true → next ≤ place n) → Keeps test place next mask
+keeps_later test place code next mask k up above = record {
+  fits = k.fits;
+  set = λ n h e. (above n h e, (k.set n h e).1);
+  clear = λ n h e l. k.clear n h e (omega arith);
+}
+
+keeps_less : (test : ℕ → Bool) (place : ℕ → ℕ) (code next mask less to : ℕ) → Keeps test place code mask → code ≤ next → less < mask → ((i : ℕ) → has_bit less i ≡ (has_bit mask i && not (i == to)))
+    → ((n : ℕ) → n < 81 → has_bit mask n ≡ true → n ≢ to → next ≤ place n) → place to < next → Keeps test place next less
+keeps_less test place code next mask less to k up small bits above gone = record {
+  fits = omega (arith, k.fits);
+  set = λ n h e. (
+      let parts : (has_bit mask n ≡ true) × (not (n == to) ≡ true) = and_parts (has_bit mask n) (not (n == to)) (sym (bits n) ∙ e) in
+      (above n h parts.0 (λ same. both_ways (not (n == to)) (ap not (eq-eqb n to same)) parts.1), (k.set n h parts.0).1));
+  clear = λ n h e l. elim (cases_eq n to) [
+    | inl same ↦ absurd (let there : next ≤ place to = subst (λ (x : ℕ). next ≤ place x) same l in omega arith)
+    | inr other ↦ k.clear n h (sym (more (has_bit mask n) (n == to) (ne_eqb n to other)) ∙ (sym (bits n) ∙ e)) (omega arith)
+  ];
+}
+  where
+    more : (a b : Bool) → b ≡ false → (a && not b) ≡ a
+    more true b e = rw e refl
+    more false b e = refl
+
+-- ---- the ends of a piece
+
+either : (plain promoting n : ℕ) → bit_or plain promoting ≡ 0 → (has_bit plain n ≡ false) × (has_bit promoting n ≡ false)
+either plain promoting n none = or_parts (has_bit plain n) (has_bit promoting n) (sym (has_bit-or plain promoting n) ∙ (ap (λ m. has_bit m n) none ∙ has_bit-none n))
+
+-- a code of the piece is that of an end, without or with promotion
+at_code : (from c : ℕ) → from * 162 ≤ c → c < from * 162 + 162 → (c ≡ code_of (Board from (c / 2 % 81) false)) ⊎ (c ≡ code_of (Board from (c / 2 % 81) true))
+at_code from c low high = elim (cases_eq (c % 2) 0) [ inl even ↦ inl (omega arith) | inr odd ↦ inr (omega arith) ]
+
+pub none_left : (p : Shogi) (capture : Bool) (from code plain promoting : ℕ) → KeepsBoard p capture from code plain promoting → bit_or plain promoting ≡ 0 → HasNoneWanted p capture code (from * 162 + 162)
+none_left p capture from code plain promoting k none = record {
+  none = λ c above below. (
+      let low : from * 162 ≤ code = k.low in
+      let out = either plain promoting (c / 2 % 81) none in
+      elim (at_code from c (omega arith) below) [
+        | inl at ↦ ap (is_wanted p capture) at ∙ k.plains.clear (c / 2 % 81) (omega arith) out.0 (omega arith)
+        | inr at ↦ ap (is_wanted p capture) at ∙ k.promotings.clear (c / 2 % 81) (omega arith) out.1 (omega arith)
+      ]);
+}
+
+pub keeps_square : (p : Shogi) (capture : Bool) (from plain promoting : ℕ) → plain < 2 ^ 81 → promoting < 2 ^ 81
+    → ((n : ℕ) → n < 81 → has_bit plain n ≡ is_wanted p capture (code_of (Board from n false))) → ((n : ℕ) → n < 81 → has_bit promoting n ≡ is_wanted p capture (code_of (Board from n true)))
+    → KeepsBoard p capture from (from * 162) plain promoting
+keeps_square p capture from plain promoting pf qf pb qb = record {
+  low = omega arith;
+  high = omega arith;
+  plains = keeps_first (is_wanted p capture) (λ n. code_of (Board from n false)) (from * 162) plain pf pb (λ n. omega arith);
+  promotings = keeps_first (is_wanted p capture) (λ n. code_of (Board from n true)) (from * 162) promoting qf qb (λ n. omega arith);
+}
+
+pub record IsTaken (p : Shogi) (capture : Bool) (code : ℕ) (m : Move) : Type 0 where
+  pub next : wanted_from p capture code ≡ code_of m ∷ wanted_from p capture (code_of m + 1)
+  pub legal : is_legal p m ≡ true
+
+taken_from : (p : Shogi) (capture : Bool) (code : ℕ) (m : Move) → move_of (code_of m) ≡ Some m → code_of m < 13689 → code ≤ code_of m → is_wanted p capture (code_of m) ≡ true → HasNoneWanted p capture code (code_of m) → IsTaken p capture code m
+taken_from p capture code m back small low wanted none = record {
+  next = wanted_jumps p capture code (code_of m) low (omega arith) none ∙ wanted_found p capture (code_of m) small wanted;
+  legal = (and_parts (is_legal p m) (is_asked capture (captures p (Some m))) (sym (wanted_move p capture m back) ∙ wanted)).0;
+}
+
+module _ (p : Shogi) (capture : Bool) (from code plain promoting to : ℕ) (k : KeepsBoard p capture from code plain promoting) (hf : from < 81) (ht : to < 81) (least : (n : ℕ) → has_bit (bit_or plain promoting) n ≡ true → to ≤ n) where
+  -- neither end below the first is one
+  below : (n : ℕ) → n < to → (has_bit plain n ≡ false) × (has_bit promoting n ≡ false)
+  below n h = or_parts (has_bit plain n) (has_bit promoting n) (sym (has_bit-or plain promoting n) ∙ false_from_ne_true (has_bit (bit_or plain promoting) n) (λ e. (let le : to ≤ n = least n e in omega arith)))
+
+  plain_above : (n : ℕ) → has_bit plain n ≡ true → to ≤ n
+  plain_above n e = least n (has_bit-or plain promoting n ∙ or_left (has_bit plain n) (has_bit promoting n) e)
+
+  promoting_above : (n : ℕ) → has_bit promoting n ≡ true → to ≤ n
+  promoting_above n e = least n (has_bit-or plain promoting n ∙ or_right (has_bit plain n) (has_bit promoting n) e)
+
+  pub plain_taken : has_bit plain to ≡ true → IsTaken p capture code (Board from to false)
+  plain_taken e =
+      let low : from * 162 ≤ code = k.low in
+      let here : (code ≤ code_of (Board from to false)) × (is_wanted p capture (code_of (Board from to false)) ≡ true) = k.plains.set to ht e in
+      taken_from p capture code (Board from to false) (move_of-board from to false hf ht) (omega arith) here.0 here.1 (record {
+        none = λ c above under. (
+            let out = below (c / 2 % 81) (omega arith) in
+            elim (at_code from c (omega arith) (omega arith)) [
+              | inl at ↦ ap (is_wanted p capture) at ∙ k.plains.clear (c / 2 % 81) (omega arith) out.0 (omega arith)
+              | inr at ↦ ap (is_wanted p capture) at ∙ k.promotings.clear (c / 2 % 81) (omega arith) out.1 (omega arith)
+            ]);
+      })
+
+  pub plain_kept : (next : ℕ) → has_bit plain to ≡ true → next < plain → ((i : ℕ) → has_bit next i ≡ (has_bit plain i && not (i == to))) → KeepsBoard p capture from (code_of (Board from to false) + 1) next promoting
+  plain_kept next e less bits =
+      let low : from * 162 ≤ code = k.low in
+      let here : code ≤ code_of (Board from to false) = (k.plains.set to ht e).0 in
+      record {
+        low = omega arith;
+        high = omega arith;
+        plains = keeps_less (is_wanted p capture) (λ n. code_of (Board from n false)) code (code_of (Board from to false) + 1) plain next to k.plains (omega arith) less bits (λ n h set other. (let le : to ≤ n = plain_above n set in omega arith)) (omega arith);
+        promotings = keeps_later (is_wanted p capture) (λ n. code_of (Board from n true)) code (code_of (Board from to false) + 1) promoting k.promotings (omega arith) (λ n h set. (let le : to ≤ n = promoting_above n set in omega arith));
+      }
+
+  pub promoting_set : bit_or plain promoting ≢ 0 → has_bit (bit_or plain promoting) to ≡ true → has_bit plain to ≡ false → has_bit promoting to ≡ true
+  promoting_set some e out = elim (or_cases (has_bit plain to) (has_bit promoting to) (sym (has_bit-or plain promoting to) ∙ e)) [ inl one ↦ absurd (both_ways (has_bit plain to) out one) | inr other ↦ other ]
+
+  pub promoting_taken : has_bit plain to ≡ false → has_bit promoting to ≡ true → IsTaken p capture code (Board from to true)
+  promoting_taken out e =
+      let low : from * 162 ≤ code = k.low in
+      let here : (code ≤ code_of (Board from to true)) × (is_wanted p capture (code_of (Board from to true)) ≡ true) = k.promotings.set to ht e in
+      taken_from p capture code (Board from to true) (move_of-board from to true hf ht) (omega arith) here.0 here.1 (record {
+        none = λ c above under. (elim (at_code from c (omega arith) (omega arith)) [
+          | inl at ↦ ap (is_wanted p capture) at ∙ k.plains.clear (c / 2 % 81) (omega arith) (elim (cases_eq (c / 2 % 81) to) [
+            | inl same ↦ subst (λ (x : ℕ). has_bit plain x ≡ false) (sym same) out
+            | inr other ↦ (below (c / 2 % 81) (omega arith)).0
+          ]) (omega arith)
+          | inr at ↦ ap (is_wanted p capture) at ∙ k.promotings.clear (c / 2 % 81) (omega arith) ((below (c / 2 % 81) (omega arith)).1) (omega arith)
+        ]);
+      })
+
+  pub promoting_kept : (next : ℕ) → has_bit plain to ≡ false → has_bit promoting to ≡ true → next < promoting → ((i : ℕ) → has_bit next i ≡ (has_bit promoting i && not (i == to))) → KeepsBoard p capture from (code_of (Board from to true) + 1) plain next
+  promoting_kept next out e less bits =
+      let low : from * 162 ≤ code = k.low in
+      let here : code ≤ code_of (Board from to true) = (k.promotings.set to ht e).0 in
+      record {
+        low = omega arith;
+        high = omega arith;
+        plains = keeps_later (is_wanted p capture) (λ n. code_of (Board from n false)) code (code_of (Board from to true) + 1) plain k.plains (omega arith) (λ n h set. (
+            let le : to ≤ n = plain_above n set in
+            let ne : n ≢ to = λ same. both_ways (has_bit plain to) out (ap (has_bit plain) (sym same) ∙ set) in
+            omega arith));
+        promotings = keeps_less (is_wanted p capture) (λ n. code_of (Board from n true)) code (code_of (Board from to true) + 1) promoting next to k.promotings (omega arith) less bits (λ n h set other. (let le : to ≤ n = promoting_above n set in omega arith)) (omega arith);
+      }
+
+-- ---- from one piece to the next
+
+-- no piece of the side stands on the squares between
+pub none_between : (p : Shogi) (capture : Bool) (own from next : ℕ) → next ≤ 81 → ((n : ℕ) → n < 81 → has_bit own n ≡ is_of p.side (piece_at p.cells n)) → ((n : ℕ) → from ≤ n → n < next → has_bit own n ≡ false) → HasNoneWanted p capture (from * 162) (next * 162)
+none_between p capture own from next h bits none = none_safe p capture (from * 162) (next * 162) (run_squares p own from next (from * 162) (omega arith) h bits none)
+
+-- one more piece that has none
+pub none_more : (p : Shogi) (capture : Bool) (own code from next plain promoting : ℕ) → HasNoneWanted p capture code (from * 162) → KeepsBoard p capture from (from * 162) plain promoting → bit_or plain promoting ≡ 0
+    → next ≤ 81 → ((n : ℕ) → n < 81 → has_bit own n ≡ is_of p.side (piece_at p.cells n)) → ((n : ℕ) → from + 1 ≤ n → n < next → has_bit own n ≡ false) → HasNoneWanted p capture code (next * 162)
+none_more p capture own code from next plain promoting before k none h bits free =
+    none_join p capture code (from * 162) (next * 162) before
+    (none_join p capture (from * 162) (from * 162 + 162) (next * 162) (none_left p capture from (from * 162) plain promoting k none)
+    (subst (λ (x : ℕ). HasNoneWanted p capture x (next * 162)) (omega arith) (none_between p capture own (from + 1) next h bits free)))
+
+pub none_first : (p : Shogi) (capture : Bool) (own code from next plain promoting : ℕ) → KeepsBoard p capture from code plain promoting → bit_or plain promoting ≡ 0
+    → next ≤ 81 → ((n : ℕ) → n < 81 → has_bit own n ≡ is_of p.side (piece_at p.cells n)) → ((n : ℕ) → from + 1 ≤ n → n < next → has_bit own n ≡ false) → HasNoneWanted p capture code (next * 162)
+none_first p capture own code from next plain promoting k none h bits free =
+    none_join p capture code (from * 162 + 162) (next * 162) (none_left p capture from code plain promoting k none)
+    (subst (λ (x : ℕ). HasNoneWanted p capture x (next * 162)) (omega arith) (none_between p capture own (from + 1) next h bits free))
+
+-- ---- drops
+
+pub keeps_kind : (p : Shogi) (kind : Kind) (ends : ℕ) → ends < 2 ^ 81 → ((n : ℕ) → n < 81 → has_bit ends n ≡ is_wanted p false (code_of (Drop kind n))) → KeepsDrop p kind (13122 + number_of kind * 81) ends
+keeps_kind p kind ends fits bits = record {
+  low = omega arith;
+  high = omega arith;
+  drops = keeps_first (is_wanted p false) (λ n. code_of (Drop kind n)) (13122 + number_of kind * 81) ends fits bits (λ n. omega arith);
+}
+
+pub no_drop_left : (p : Shogi) (kind : Kind) (code : ℕ) → KeepsDrop p kind code 0 → HasNoneWanted p false code (13203 + number_of kind * 81)
+no_drop_left p kind code k = record {
+  none = λ c above below. (
+      let low : 13122 + number_of kind * 81 ≤ code = k.low in
+      let at : c ≡ code_of (Drop kind (c - 13122 - number_of kind * 81)) = omega arith in
+      ap (is_wanted p false) at ∙ k.drops.clear (c - 13122 - number_of kind * 81) (omega arith) (has_bit-none (c - 13122 - number_of kind * 81)) (omega arith));
+}
+
+-- one more kind that has none
+pub no_drop_more : (p : Shogi) (kind next : Kind) (code : ℕ) → HasNoneWanted p false code (13203 + number_of kind * 81) → number_of next ≡ number_of kind + 1 → KeepsDrop p next (13122 + number_of next * 81) 0 → HasNoneWanted p false code (13203 + number_of next * 81)
+no_drop_more p kind next code before e k =
+    let here : 13203 + number_of kind * 81 ≡ 13122 + number_of next * 81 = omega arith in
+    none_join p false code (13122 + number_of next * 81) (13203 + number_of next * 81) (subst (λ (x : ℕ). HasNoneWanted p false code x) here before) (no_drop_left p next (13122 + number_of next * 81) k)
+
+pub no_drop_to : (p : Shogi) (kind next : Kind) (code : ℕ) → HasNoneWanted p false code (13203 + number_of kind * 81) → number_of next ≡ number_of kind + 1 → code ≤ 13203 + number_of kind * 81 → wanted_from p false code ≡ wanted_from p false (13122 + number_of next * 81)
+no_drop_to p kind next code before e low =
+    let seven : number_of next < 7 = number_below next in
+    let here : 13203 + number_of kind * 81 ≡ 13122 + number_of next * 81 = omega arith in
+    wanted_jumps p false code (13122 + number_of next * 81) (omega arith) (omega arith) (subst (λ (x : ℕ). HasNoneWanted p false code x) here before)
+
+pub no_drop_end : (p : Shogi) (kind : Kind) (code : ℕ) → HasNoneWanted p false code (13203 + number_of kind * 81) → number_of kind ≡ 6 → code ≤ 13203 + number_of kind * 81 → wanted_from p false code ≡ []
+no_drop_end p kind code before e low =
+    let here : 13203 + number_of kind * 81 ≡ 13689 = omega arith in
+    wanted_jumps p false code 13689 (omega arith) (omega arith) (subst (λ (x : ℕ). HasNoneWanted p false code x) here before) ∙ wanted_end p false 13689 (omega arith)
+
+module _ (p : Shogi) (kind : Kind) (code ends to : ℕ) (k : KeepsDrop p kind code ends) (ht : to < 81) (set : has_bit ends to ≡ true) (least : (n : ℕ) → has_bit ends n ≡ true → to ≤ n) where
+  pub drop_taken : IsTaken p false code (Drop kind to)
+  drop_taken =
+      let seven : number_of kind < 7 = number_below kind in
+      let low : 13122 + number_of kind * 81 ≤ code = k.low in
+      let here : (code ≤ code_of (Drop kind to)) × (is_wanted p false (code_of (Drop kind to)) ≡ true) = k.drops.set to ht set in
+      taken_from p false code (Drop kind to) (move_of-drop kind to ht) (omega arith) here.0 here.1 (record {
+        none = λ c above under. (
+            let at : c ≡ code_of (Drop kind (c - 13122 - number_of kind * 81)) = omega arith in
+            ap (is_wanted p false) at ∙ k.drops.clear (c - 13122 - number_of kind * 81) (omega arith) (false_from_ne_true (has_bit ends (c - 13122 - number_of kind * 81)) (λ e. (let le : to ≤ c - 13122 - number_of kind * 81 = least (c - 13122 - number_of kind * 81) e in omega arith))) (omega arith));
+      })
+
+  pub drop_kept : (next : ℕ) → next < ends → ((i : ℕ) → has_bit next i ≡ (has_bit ends i && not (i == to))) → KeepsDrop p kind (code_of (Drop kind to) + 1) next
+  drop_kept next less bits =
+      let low : 13122 + number_of kind * 81 ≤ code = k.low in
+      let here : code ≤ code_of (Drop kind to) = (k.drops.set to ht set).0 in
+      record {
+        low = omega arith;
+        high = omega arith;
+        drops = keeps_less (is_wanted p false) (λ n. code_of (Drop kind n)) code (code_of (Drop kind to) + 1) ends next to k.drops (omega arith) less bits (λ n h e other. (let le : to ≤ n = least n e in omega arith)) (omega arith);
+      }
+
+-- drops take nothing
+pub no_captures : (p : Shogi) → wanted_from p true 13122 ≡ []
+no_captures p = wanted_jumps p true 13122 13689 (omega arith) (omega arith) (none_drop p true 13122 13689 (omega arith) (omega arith) refl) ∙ wanted_end p true 13689 (omega arith)
+
+pub ruleset sweeping = (keeps_square, more_fits, wanted_jumps)

@@ -1,0 +1,153 @@
+-- Squares by rank, as masks.
+use Rattle.std.proofs.Common.{◌≡◌, ℕ, ◌<◌, ◌+◌, ◌*◌, ◌^◌, Bool, true, false, refl, ap, ◌∙◌, sym, arith, get_or, bit_or, inl, inr}
+use Rattle.std.specs.Prelude.{◌%◌, ◌/◌, ◌==◌, ◌&&◌, ◌||◌, nat_lt}
+use Rattle.std.proofs.lemmas.Bool.{agree_below_at, ltb-true, lt-ltb, le-ltb, cases_lt, cases_eq, eq-eqb, ne_eqb}
+use Rattle.std.proofs.lemmas.Nat.{or_lt}
+use Rattle.shogi_core.specs.Bits.{has_bit}
+use Rattle.shogi_core.specs.declared.piece.Color.{Color}
+use Rattle.shogi_core.specs.declared.piece.Color.TheVariants.{Black, White}
+use Rattle.shogi_core.specs.declared.piece.Piece.{Piece}
+use Rattle.shogi_core.specs.declared.piece.Role.{Role}
+use Rattle.shogi_core.proofs.BitLaws.{has_bit-none, has_bit-or}
+use Rattle.shogi_core.specs.Movement.{Cells}
+use Rattle.shogi_core.specs.Validity.{pawns_on_file}
+use Rattle.shogi_moves.specs.declared.zones.TheConstants.{FILES}
+use Rattle.shogi_moves.specs.Legal.{in_zone, can_promote}
+
+pub first_rank : (n : ℕ) → n < 81 → has_bit 4731607904558235517441 n ≡ nat_lt (n % 9) 1
+unfolding has_bit
+first_rank n h = agree_below_at (λ n. has_bit 4731607904558235517441 n) (λ n. nat_lt (n % 9) 1) 81 n refl h
+
+pub first_ranks : (n : ℕ) → n < 81 → has_bit 14194823713674706552323 n ≡ nat_lt (n % 9) 2
+unfolding has_bit
+first_ranks n h = agree_below_at (λ n. has_bit 14194823713674706552323 n) (λ n. nat_lt (n % 9) 2) 81 n refl h
+
+pub last_rank : (n : ℕ) → n < 81 → has_bit 1211291623566908292464896 n ≡ nat_lt 7 (n % 9)
+unfolding has_bit
+last_rank n h = agree_below_at (λ n. has_bit 1211291623566908292464896 n) (λ n. nat_lt 7 (n % 9)) 81 n refl h
+
+pub last_ranks : (n : ℕ) → n < 81 → has_bit 1816937435350362438697344 n ≡ nat_lt 6 (n % 9)
+unfolding has_bit
+last_ranks n h = agree_below_at (λ n. has_bit 1816937435350362438697344 n) (λ n. nat_lt 6 (n % 9)) 81 n refl h
+
+pub no_squares : (n : ℕ) → n < 81 → has_bit 0 n ≡ false
+no_squares n h = has_bit-none n
+
+pub black_zone : (n : ℕ) → n < 81 → has_bit 33121255331907648622087 n ≡ nat_lt (n % 9) 3
+unfolding has_bit
+black_zone n h = agree_below_at (λ n. has_bit 33121255331907648622087 n) (λ n. nat_lt (n % 9) 3) 81 n refl h
+
+pub white_zone : (n : ℕ) → n < 81 → has_bit 2119760341242089511813568 n ≡ nat_lt 5 (n % 9)
+unfolding has_bit
+white_zone n h = agree_below_at (λ n. has_bit 2119760341242089511813568 n) (λ n. nat_lt 5 (n % 9)) 81 n refl h
+
+pub all_squares : (n : ℕ) → n < 81 → has_bit 2417851639229258349412351 n ≡ true
+unfolding has_bit
+all_squares n h = agree_below_at (λ n. has_bit 2417851639229258349412351 n) (λ n. true) 81 n refl h
+
+both_true : (a b c : Bool) → a ≡ true → b ≡ true → true ≡ (a && (b || c))
+both_true a b c p q = rw (p, q) refl
+
+right_alone : (a b c : Bool) → a ≡ true → b ≡ false → c ≡ (a && (b || c))
+right_alone a b c p q = rw (p, q) refl
+
+none_of : (a b : Bool) → a ≡ false → false ≡ (a && b)
+none_of a b p = rw p refl
+
+-- the piece does not promote; it may from anywhere in the zone; it may to the zone
+pub promotes_never : (role : Role) (color : Color) (from n : ℕ) → n < 81 → can_promote role ≡ false → has_bit 0 n ≡ (can_promote role && (in_zone color from || in_zone color n))
+promotes_never role color from n h e = has_bit-none n ∙ none_of (can_promote role) (in_zone color from || in_zone color n) e
+
+pub promotes_all : (role : Role) (color : Color) (from n : ℕ) → n < 81 → can_promote role ≡ true → in_zone color from ≡ true → has_bit 2417851639229258349412351 n ≡ (can_promote role && (in_zone color from || in_zone color n))
+promotes_all role color from n h e z = all_squares n h ∙ both_true (can_promote role) (in_zone color from) (in_zone color n) e z
+
+pub promotes_there : (role : Role) (color : Color) (from n m : ℕ) → has_bit m n ≡ in_zone color n → can_promote role ≡ true → in_zone color from ≡ false → has_bit m n ≡ (can_promote role && (in_zone color from || in_zone color n))
+promotes_there role color from n m b e z = b ∙ right_alone (can_promote role) (in_zone color from) (in_zone color n) e z
+
+pub ruleset dead_bits = (first_rank, first_ranks, last_rank, last_ranks, no_squares)
+pub ruleset zone_bits = (black_zone, white_zone)
+pub ruleset promoting_bits = (no_squares, promotes_never, promotes_all, promotes_there)
+
+-- ---- files
+
+is_right_at : ℕ → Bool
+is_right_at i = has_bit (get_or FILES (i / 81) 0) (i % 81)
+
+is_file_at : ℕ → Bool
+is_file_at i = i % 81 / 9 == i / 81
+
+files_right_at : (i : ℕ) → i < 729 → has_bit (get_or FILES (i / 81) 0) (i % 81) ≡ (i % 81 / 9 == i / 81)
+unfolding has_bit
+files_right_at i h = agree_below_at (λ i. has_bit (get_or FILES (i / 81) 0) (i % 81)) (λ i. i % 81 / 9 == i / 81) 729 i refl h
+
+pub files_right : (f n : ℕ) → f < 9 → n < 81 → has_bit (get_or FILES f 0) n ≡ (n / 9 == f)
+files_right f n h l =
+    let first : (f * 81 + n) / 81 ≡ f = omega arith in
+    let second : (f * 81 + n) % 81 ≡ n = omega arith in
+    rw (first, second) at (files_right_at (f * 81 + n) (omega arith))
+
+files_fit_at : (f : ℕ) → f < 9 → nat_lt (get_or FILES f 0) (2 ^ 81) ≡ true
+files_fit_at f h = agree_below_at (λ f. nat_lt (get_or FILES f 0) (2 ^ 81)) (λ _. true) 9 f refl h
+
+pub files_fit : (f : ℕ) → f < 9 → get_or FILES f 0 < 2 ^ 81
+files_fit f h = ltb-true (get_or FILES f 0) (2 ^ 81) (files_fit_at f h)
+
+-- the files below f on which a pawn stands
+pub record HasFiles (cells : Cells) (side : Color) (f mask : ℕ) : Type 0 where
+  pub bits : (n : ℕ) → n < 81 → has_bit mask n ≡ (nat_lt (n / 9) f && nat_lt 0 (pawns_on_file side (n / 9) cells))
+
+pub files_first : (cells : Cells) (side : Color) → HasFiles cells side 0 0
+files_first cells side = record { bits = λ n h. has_bit-none n ∙ (rw (le-ltb (n / 9) 0 (omega arith)) refl) }
+
+pub files_done : (cells : Cells) (side : Color) (mask : ℕ) → HasFiles cells side 9 mask → (n : ℕ) → n < 81 → has_bit mask n ≡ nat_lt 0 (pawns_on_file side (n / 9) cells)
+files_done cells side mask h n l = let low : nat_lt (n / 9) 9 ≡ true = lt-ltb (n / 9) 9 (omega arith) in h.bits n l ∙ (rw low refl)
+
+next_file : (n f : ℕ) → (nat_lt n (f + 1)) ≡ (nat_lt n f || n == f)
+next_file n f = elim (cases_lt n f) [
+  | inl low ↦ rw (lt-ltb n f low, lt-ltb n (f + 1) (omega arith)) refl
+  | inr high ↦ elim (cases_eq n f) [
+    | inl same ↦ rw (le-ltb n f high, eq-eqb n f same, lt-ltb n (f + 1) (omega arith)) refl
+    | inr other ↦ rw (le-ltb n f high, ne_eqb n f other, le-ltb n (f + 1) (omega arith)) refl
+  ]
+]
+
+pub files_more : (cells : Cells) (side : Color) (f mask file : ℕ) → HasFiles cells side f mask → ((n : ℕ) → n < 81 → has_bit file n ≡ (n / 9 == f && nat_lt 0 (pawns_on_file side f cells))) → HasFiles cells side (f + 1) (bit_or mask file)
+files_more cells side f mask file h bits = record {
+  bits = λ n low. has_bit-or mask file n ∙ (rw (h.bits n low, bits n low, next_file (n / 9) f) (elim (cases_eq (n / 9) f) [
+    | inl same ↦ rw same (joined (nat_lt f f) (f == f) (nat_lt 0 (pawns_on_file side f cells)))
+    | inr other ↦ rw (ne_eqb (n / 9) f other) (kept (nat_lt (n / 9) f) (nat_lt 0 (pawns_on_file side (n / 9) cells)))
+  ]));
+}
+  where
+    joined : (a b c : Bool) → ((a && c) || (b && c)) ≡ ((a || b) && c)
+    joined true true true = refl
+    joined true false true = refl
+    joined true true false = refl
+    joined true false false = refl
+    joined false b c = refl
+
+    kept : (a b : Bool) → ((a && b) || false) ≡ ((a || false) && b)
+    kept true true = refl
+    kept true false = refl
+    kept false b = refl
+
+pub file_there : (f n pawns : ℕ) → f < 9 → n < 81 → 0 < pawns → has_bit (get_or FILES f 0) n ≡ (n / 9 == f && nat_lt 0 pawns)
+file_there f n pawns h l some = files_right f n h l ∙ (rw (lt-ltb 0 pawns some) (alone (n / 9 == f)))
+  where
+    alone : (a : Bool) → a ≡ (a && true)
+    alone true = refl
+    alone false = refl
+
+pub file_not : (f n pawns : ℕ) → pawns ≡ 0 → has_bit 0 n ≡ (n / 9 == f && nat_lt 0 pawns)
+file_not f n pawns none = has_bit-none n ∙ (rw none (gone (n / 9 == f)))
+  where
+    gone : (a : Bool) → false ≡ (a && false)
+    gone true = refl
+    gone false = refl
+
+pub more_fits : (a b : ℕ) → a < 2 ^ 81 → b < 2 ^ 81 → bit_or a b < 2 ^ 81
+more_fits a b h l = or_lt 81 a b h l
+
+pub ruleset file_bits = (file_there, file_not, files_fit)
+
+pub ruleset file_loop = (files_first, files_done, files_more, more_fits)

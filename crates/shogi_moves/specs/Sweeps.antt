@@ -1,0 +1,45 @@
+-- What is kept on the way through the moves of a sort: the ends still to come of the present piece.
+use Rattle.std.specs.Prelude.{ℕ, ◌≡◌, ◌≤◌, ◌<◌, ◌+◌, ◌*◌, ◌^◌, Bool, true, false, List, filter}
+use Rattle.shogi_core.specs.declared.moves.Move.TheVariants.{Board, Drop}
+use Rattle.shogi_core.specs.declared.piece.Kind.{Kind}
+use Rattle.shogi_core.specs.Bits.{has_bit}
+use Rattle.shogi_core.specs.Codes.{code_of}
+use Rattle.shogi_core.specs.Pieces.{number_of}
+use Rattle.shogi_core.specs.Position.{Shogi}
+use Rattle.shogi_moves.specs.declared.sweep.BoardSweep.{BoardSweep}
+use Rattle.shogi_moves.specs.declared.sweep.DropSweep.{DropSweep}
+use Rattle.shogi_moves.specs.Captures.{is_of_sort, is_wanted}
+use Rattle.shogi_moves.specs.Guards.{Guards}
+use Rattle.shogi_moves.specs.LegalMoves.{legal_from}
+
+-- the legal moves of the sort from a code on
+abbrev pub wanted_from : Shogi → Bool → ℕ → List ℕ
+wanted_from p capture first = filter (is_of_sort p capture) (legal_from p first)
+
+-- the mask has the squares whose codes pass, from a code on
+pub record Keeps (test : ℕ → Bool) (place : ℕ → ℕ) (code mask : ℕ) : Type 0 where
+  pub fits : mask < 2 ^ 81
+  pub set : (n : ℕ) → n < 81 → has_bit mask n ≡ true → (code ≤ place n) × (test (place n) ≡ true)
+  pub clear : (n : ℕ) → n < 81 → has_bit mask n ≡ false → code ≤ place n → test (place n) ≡ false
+
+-- the ends still to come of the piece on a square
+pub record KeepsBoard (p : Shogi) (capture : Bool) (from code plain promoting : ℕ) : Type 0 where
+  pub low : from * 162 ≤ code
+  pub high : code ≤ from * 162 + 162
+  pub plains : Keeps (is_wanted p capture) (λ n. code_of (Board from n false)) code plain
+  pub promotings : Keeps (is_wanted p capture) (λ n. code_of (Board from n true)) code promoting
+
+-- the ends still to come of a held kind
+pub record KeepsDrop (p : Shogi) (kind : Kind) (code ends : ℕ) : Type 0 where
+  pub low : 13122 + number_of kind * 81 ≤ code
+  pub high : code ≤ 13203 + number_of kind * 81
+  pub drops : Keeps (is_wanted p false) (λ n. code_of (Drop kind n)) code ends
+
+-- the same of what a sweep holds, with what is known of the position
+pub record IsBoardSweep (p : Shogi) (capture : Bool) (s : BoardSweep) : Type 0 where
+  pub guard : Guards p s.guard.checked s.guard.exposed
+  pub ends : KeepsBoard p capture s.from s.code s.ends.plain s.ends.promoting
+
+pub record IsDropSweep (p : Shogi) (s : DropSweep) : Type 0 where
+  pub guard : Guards p s.guard.checked s.guard.exposed
+  pub ends : KeepsDrop p s.kind s.code s.ends

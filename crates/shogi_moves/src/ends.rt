@@ -1,0 +1,204 @@
+//! Where the pieces of the side to move may legally end.
+
+ghost use Rattle.std.specs.Prelude.{◌≡◌, ◌<◌, ◌^◌, ◌&&◌, ℕ, not, true, false};
+ghost use Rattle.shogi_core.specs.declared.moves.Move.TheVariants as moves;
+ghost use Rattle.shogi_core.specs.declared.piece.Kind.TheVariants as kinds;
+ghost use Rattle.shogi_moves.specs.Legal.{is_right_drop, is_safe, is_pawn_mate};
+ghost use Rattle.shogi_core.specs.Bits.{has_bit};
+ghost use Rattle.shogi_core.specs.Cell.{is_of};
+ghost use Rattle.shogi_core.specs.Codes.{code_of};
+ghost use Rattle.shogi_core.specs.Movement.{piece_at};
+ghost use Rattle.shogi_moves.specs.Captures.{is_wanted};
+ghost use Rattle.shogi_moves.specs.Ends.{is_end, is_unchecked};
+ghost use Rattle.shogi_moves.specs.Guards.{Guards};
+
+use crate::after::{cells_after, dropped};
+use crate::legal::{is_pawn_kind, is_pawn_mate};
+use crate::guard::{Guard, is_calm};
+use crate::zones::{dead_squares, pawn_files, promoting_squares};
+use shogi_core::bits::{cleared, lowest};
+use shogi_core::{Kind, Move, Position, Square};
+
+/// The legal ends of a piece, without and with promotion.
+#[derive(Clone, Copy, Debug)]
+pub struct Ends {
+    pub plain: u128,
+    pub promoting: u128,
+}
+
+/// Where captures end, or the other moves.
+fn ends_of_sort(p: &Position, capture: bool) -> u128
+    ensures bits { (n : ℕ) → n < 81 → has_bit result n ≡ is_end capture p.now.side (piece_at p.now.cells n) }
+    ensures fits { result < 2 ^ 81 }
+{
+    if capture {
+        p.own(p.side().opponent())
+    } else {
+        p.free()
+    }
+}
+
+/// Whether the move leaves the mover's king unattacked.
+fn is_unchecked(p: &Position, m: &Move) -> bool
+    ensures { result ≡ is_unchecked p.now m.now }
+{
+    !cells_after(&p.board(), p.side(), m).in_check(p.side())
+}
+
+/// Those of the ends that leave the king unattacked, each of them tried.
+#[tactic(auto, using(crate::proofs::EndLaws::sifting))]
+fn tried_ends(p: &Position, from: Square, ends: u128) -> u128
+    requires { ends < 2 ^ 81 }
+    ensures bits { (n : ℕ) → n < 81 → has_bit result n ≡ (has_bit ends n && is_unchecked p.now (moves.Board from n false)) }
+    ensures fits { result < 2 ^ 81 }
+{
+    let mut left = ends;
+    let mut kept = ends;
+    while left != 0 {
+        let to = lowest(left);
+        let m = Move::Board {
+            from,
+            to: Square::of_index(to),
+            promote: false,
+        };
+        if !is_unchecked(p, &m) {
+            kept = cleared(kept, to);
+        }
+        left = cleared(left, to);
+    }
+    kept
+}
+
+/// Those of the ends that leave the king unattacked.
+#[tactic(auto, using(crate::proofs::EndLaws::calm_ends))]
+fn safe_ends(p: &Position, guard: &Guard, from: Square, ends: u128) -> u128
+    requires guard { Guards p.now guard.now.checked guard.now.exposed }
+    requires own { is_of p.now.side (piece_at p.now.cells from) ≡ true }
+    requires fits { ends < 2 ^ 81 }
+    ensures bits { (n : ℕ) → n < 81 → has_bit result n ≡ (has_bit ends n && is_unchecked p.now (moves.Board from n false)) }
+    ensures fits { result < 2 ^ 81 }
+{
+    p.validity();
+    from.index();
+    if is_calm(guard, from) {
+        ends
+    } else {
+        tried_ends(p, from, ends)
+    }
+}
+
+/// The legal ends of one of the pieces of the side to move, for captures or for the other moves.
+#[tactic(auto, using(crate::proofs::EndLaws::ending))]
+pub fn board_ends(p: &Position, guard: &Guard, capture: bool, from: Square) -> Ends
+    requires guard { Guards p.now guard.now.checked guard.now.exposed }
+    requires own { is_of p.now.side (piece_at p.now.cells from) ≡ true }
+    ensures plain { (n : ℕ) → n < 81 → has_bit result.plain n ≡ is_wanted p.now capture (code_of (moves.Board from n false)) }
+    ensures promoting { (n : ℕ) → n < 81 → has_bit result.promoting n ≡ is_wanted p.now capture (code_of (moves.Board from n true)) }
+    ensures plain_fits { result.plain < 2 ^ 81 }
+    ensures promoting_fits { result.promoting < 2 ^ 81 }
+{
+    p.validity();
+    from.index();
+    let among = p.targets(from) & ends_of_sort(p, capture);
+    let ends = safe_ends(p, guard, from, among);
+    let piece = p.at(from);
+    Ends {
+        plain: ends & !dead_squares(piece),
+        promoting: ends & promoting_squares(piece, from),
+    }
+}
+
+/// Where one of the held pieces may be dropped by the rules on drops, apart from checks.
+#[tactic(auto, using(crate::proofs::EndLaws::dropping))]
+fn right_drops(p: &Position, kind: Kind) -> u128
+    ensures bits { (n : ℕ) → n < 81 → has_bit result n ≡ is_right_drop p.now.cells p.now.hands p.now.side kind n }
+    ensures fits { result < 2 ^ 81 }
+{
+    let side = p.side();
+    if p.hand(side, kind) == 0 {
+        return 0;
+    }
+    let ends = p.free() & !dead_squares(dropped(side, kind));
+    if is_pawn_kind(kind) {
+        ends & !pawn_files(p, side)
+    } else {
+        ends
+    }
+}
+
+/// Those of the ends of a drop that leave the king unattacked, each of them tried.
+#[tactic(auto, using(crate::proofs::EndLaws::sifting))]
+fn tried_drops(p: &Position, kind: Kind, ends: u128) -> u128
+    requires { ends < 2 ^ 81 }
+    ensures bits { (n : ℕ) → n < 81 → has_bit result n ≡ (has_bit ends n && is_unchecked p.now (moves.Drop kind n)) }
+    ensures fits { result < 2 ^ 81 }
+{
+    let mut left = ends;
+    let mut kept = ends;
+    while left != 0 {
+        let to = lowest(left);
+        let m = Move::Drop {
+            kind,
+            to: Square::of_index(to),
+        };
+        if !is_unchecked(p, &m) {
+            kept = cleared(kept, to);
+        }
+        left = cleared(left, to);
+    }
+    kept
+}
+
+/// Where one of the held pieces may be dropped, apart from mate by a pawn.
+#[tactic(auto, using(crate::proofs::EndLaws::safe_dropping))]
+fn safe_drops(p: &Position, guard: &Guard, kind: Kind) -> u128
+    requires guard { Guards p.now guard.now.checked guard.now.exposed }
+    ensures bits { (n : ℕ) → n < 81 → has_bit result n ≡ is_safe p.now (moves.Drop kind n) }
+    ensures fits { result < 2 ^ 81 }
+{
+    p.validity();
+    let ends = right_drops(p, kind);
+    if guard.checked {
+        tried_drops(p, kind, ends)
+    } else {
+        ends
+    }
+}
+
+/// Those of the safe drops of a pawn that do not mate, each of them tried.
+#[tactic(auto, using(crate::proofs::EndLaws::sifting))]
+fn fair_drops(p: &Position, ends: u128) -> u128
+    requires fits { ends < 2 ^ 81 }
+    requires safe { (n : ℕ) → n < 81 → has_bit ends n ≡ is_safe p.now (moves.Drop kinds.Pawn n) }
+    ensures bits { (n : ℕ) → n < 81 → has_bit result n ≡ (has_bit ends n && not (is_pawn_mate p.now (moves.Drop kinds.Pawn n))) }
+    ensures fits { result < 2 ^ 81 }
+{
+    let mut left = ends;
+    let mut kept = ends;
+    while left != 0 {
+        let to = lowest(left);
+        let m = Move::Drop {
+            kind: Kind::Pawn,
+            to: Square::of_index(to),
+        };
+        if is_pawn_mate(p, &m) {
+            kept = cleared(kept, to);
+        }
+        left = cleared(left, to);
+    }
+    kept
+}
+
+/// Where one of the held pieces may legally be dropped.
+#[tactic(auto, using(crate::proofs::EndLaws::legal_dropping))]
+pub fn drop_ends(p: &Position, guard: &Guard, kind: Kind) -> u128
+    requires guard { Guards p.now guard.now.checked guard.now.exposed }
+    ensures bits { (n : ℕ) → n < 81 → has_bit result n ≡ is_wanted p.now false (code_of (moves.Drop kind n)) }
+    ensures fits { result < 2 ^ 81 }
+{
+    let ends = safe_drops(p, guard, kind);
+    match kind {
+        Kind::Pawn => fair_drops(p, ends),
+        _ => ends,
+    }
+}

@@ -1,0 +1,239 @@
+//! Ways through the legal moves of a sort, which keep the ends of the present piece.
+
+ghost use Rattle.std.specs.Prelude.{◌≡◌, ◌≢◌, ◌<◌, ◌≤◌, ◌+◌, ◌*◌, ◌^◌, ◌∷◌, [], ℕ, true, false, IfSome, MatchOption, bit_or};
+ghost use Rattle.shogi_core.specs.declared.moves.Move.TheVariants as moves;
+ghost use Rattle.shogi_core.specs.Bits.{has_bit};
+ghost use Rattle.shogi_core.specs.Cell.{is_of};
+ghost use Rattle.shogi_core.specs.Codes.{code_of};
+ghost use Rattle.shogi_core.specs.Movement.{piece_at};
+ghost use Rattle.shogi_core.specs.Pieces.{number_of};
+ghost use Rattle.shogi_moves.specs.Captures.{is_wanted, HasNoneWanted};
+ghost use Rattle.shogi_moves.specs.Guards.{Guards};
+ghost use Rattle.shogi_moves.specs.Legal.{is_legal};
+ghost use Rattle.shogi_moves.specs.Sweeps.{wanted_from, IsBoardSweep, IsDropSweep};
+
+use crate::ends::{Ends, board_ends, drop_ends};
+use crate::guard::{Guard, guard_of};
+use shogi_core::bits::{cleared, has, lowest, next_of};
+use shogi_core::{Kind, Move, Position, Square, is_of};
+
+/// What is still to come of the board moves of a sort, in the order of codes: the legal ends of
+/// the piece on one square, and all of those above it.
+#[derive(Clone, Copy, Debug)]
+pub struct BoardSweep {
+    pub guard: Guard,
+    pub from: Square,
+    pub ends: Ends,
+    pub code: u16,
+}
+
+/// What is still to come of the drops, in the order of codes.
+#[derive(Clone, Copy, Debug)]
+pub struct DropSweep {
+    pub guard: Guard,
+    pub kind: Kind,
+    pub ends: u128,
+    pub code: u16,
+}
+
+/// The legal ends of what stands on the square; none where that is no piece of the side to move.
+#[tactic(auto, using(crate::proofs::SweepLaws::no_piece))]
+fn ends_on(p: &Position, guard: &Guard, capture: bool, from: Square) -> Ends
+    requires guard { Guards p.now guard.now.checked guard.now.exposed }
+    ensures plain { (n : ℕ) → n < 81 → has_bit result.plain n ≡ is_wanted p.now capture (code_of (moves.Board from n false)) }
+    ensures promoting { (n : ℕ) → n < 81 → has_bit result.promoting n ≡ is_wanted p.now capture (code_of (moves.Board from n true)) }
+    ensures plain_fits { result.plain < 2 ^ 81 }
+    ensures promoting_fits { result.promoting < 2 ^ 81 }
+{
+    from.index();
+    if is_of(p.at(from), p.side()) {
+        board_ends(p, guard, capture, from)
+    } else {
+        Ends {
+            plain: 0,
+            promoting: 0,
+        }
+    }
+}
+
+impl BoardSweep {
+    /// Through all board moves of the sort.
+    #[tactic(auto, using(crate::proofs::SweepLaws::sweeping))]
+    pub fn new(p: &Position, guard: Guard, capture: bool) -> BoardSweep
+        requires guard { Guards p.now guard.checked guard.exposed }
+        ensures kept { IsBoardSweep p.now capture result }
+        ensures code { result.code ≡ 0 }
+    {
+        let from = Square::of_index(0);
+        BoardSweep {
+            guard,
+            from,
+            ends: ends_on(p, &guard, capture, from),
+            code: 0,
+        }
+    }
+
+    /// The next of the ends of the present piece.
+    #[tactic(auto, using(crate::proofs::SweepLaws::sweeping))]
+    fn take(&mut self, p: &Position, capture: bool) -> Move
+        requires kept { IsBoardSweep p.now capture self.old }
+        requires some { bit_or self.old.ends.plain self.old.ends.promoting ≢ 0 }
+        ensures kept { IsBoardSweep p.now capture self.new }
+        ensures next { wanted_from p.now capture self.old.code ≡ code_of result ∷ wanted_from p.now capture self.new.code }
+        ensures legal { is_legal p.now result ≡ true }
+    {
+        let (from, plain, promoting) = (self.from, self.ends.plain, self.ends.promoting);
+        from.index();
+        let to = lowest(plain | promoting);
+        let end = Square::of_index(to);
+        if has(plain, to) {
+            let m = Move::Board {
+                from,
+                to: end,
+                promote: false,
+            };
+            let found = m;
+            self.ends.plain = cleared(plain, to);
+            self.code = m.code() + 1;
+            return found;
+        }
+        let m = Move::Board {
+            from,
+            to: end,
+            promote: true,
+        };
+        let found = m;
+        self.ends.promoting = cleared(promoting, to);
+        self.code = m.code() + 1;
+        found
+    }
+
+    /// Goes on to the next piece that has a move of the sort, if there is one.
+    #[tactic(auto, using(crate::proofs::SweepLaws::sweeping))]
+    fn refill(&mut self, p: &Position, capture: bool) -> bool
+        requires kept { IsBoardSweep p.now capture self.old }
+        requires none { bit_or self.old.ends.plain self.old.ends.promoting ≡ 0 }
+        ensures kept { IsBoardSweep p.now capture self.new }
+        ensures some { result ≡ true → (bit_or self.new.ends.plain self.new.ends.promoting ≢ 0) × (wanted_from p.now capture self.old.code ≡ wanted_from p.now capture self.new.code) }
+        ensures end { result ≡ false → wanted_from p.now capture self.old.code ≡ wanted_from p.now capture 13122 }
+    {
+        let (own, guard) = (p.own(p.side()), self.guard);
+        let mut square = next_of(own, self.from.index() + 1);
+        'squares: while square < 81 {
+            let from = Square::of_index(square);
+            let ends = board_ends(p, &guard, capture, from);
+            if ends.plain | ends.promoting != 0 {
+                self.from = from;
+                self.ends = ends;
+                self.code = (square * 162) as u16;
+                return true;
+            }
+            square = next_of(own, square + 1);
+        }
+        false
+    }
+
+    /// The next of the moves, or `None` where no board move of the sort is left.
+    #[tactic(auto, using(crate::proofs::SweepLaws::sweeping))]
+    pub fn next(&mut self, p: &Position, capture: bool) -> Option<Move>
+        requires kept { IsBoardSweep p.now capture self.old }
+        ensures kept { IsBoardSweep p.now capture self.new }
+        ensures next { MatchOption result (wanted_from p.now capture self.old.code ≡ wanted_from p.now capture 13122) (λ m. wanted_from p.now capture self.old.code ≡ code_of m ∷ wanted_from p.now capture self.new.code) }
+        ensures legal { IfSome result (λ m. is_legal p.now m ≡ true) }
+    {
+        if self.ends.plain | self.ends.promoting == 0 {
+            if !self.refill(p, capture) {
+                return None;
+            }
+        }
+        Some(self.take(p, capture))
+    }
+}
+
+/// The kind after this one in the order of kinds.
+fn next_kind(kind: Kind) -> Option<Kind>
+    ensures { MatchOption result (number_of kind ≡ 6) (λ k. number_of k ≡ number_of kind + 1) }
+{
+    match kind {
+        Kind::Pawn => Some(Kind::Lance),
+        Kind::Lance => Some(Kind::Knight),
+        Kind::Knight => Some(Kind::Silver),
+        Kind::Silver => Some(Kind::Gold),
+        Kind::Gold => Some(Kind::Bishop),
+        Kind::Bishop => Some(Kind::Rook),
+        Kind::Rook => None,
+    }
+}
+
+impl DropSweep {
+    /// Through all drops.
+    #[tactic(auto, using(crate::proofs::SweepLaws::keeps_kind))]
+    pub fn new(p: &Position, guard: Guard) -> DropSweep
+        requires guard { Guards p.now guard.checked guard.exposed }
+        ensures kept { IsDropSweep p.now result }
+        ensures code { result.code ≡ 13122 }
+    {
+        DropSweep {
+            guard,
+            kind: Kind::Pawn,
+            ends: drop_ends(p, &guard, Kind::Pawn),
+            code: 13122,
+        }
+    }
+
+    /// The next of the ends of the present kind.
+    fn take(&mut self, p: &Position) -> Move
+        requires kept { IsDropSweep p.now self.old }
+        requires some { self.old.ends ≢ 0 }
+        ensures kept { IsDropSweep p.now self.new }
+        ensures next { wanted_from p.now false self.old.code ≡ code_of result ∷ wanted_from p.now false self.new.code }
+        ensures legal { is_legal p.now result ≡ true }
+    {
+        let (kind, ends) = (self.kind, self.ends);
+        let to = lowest(ends);
+        let end = Square::of_index(to);
+        let m = Move::Drop { kind, to: end };
+        let found = m;
+        self.ends = cleared(ends, to);
+        self.code = m.code() + 1;
+        found
+    }
+
+    /// Goes on to the next kind that has a legal drop, if there is one.
+    fn refill(&mut self, p: &Position) -> bool
+        requires kept { IsDropSweep p.now self.old }
+        requires none { self.old.ends ≡ 0 }
+        ensures kept { IsDropSweep p.now self.new }
+        ensures some { result ≡ true → (self.new.ends ≢ 0) × (wanted_from p.now false self.old.code ≡ wanted_from p.now false self.new.code) }
+        ensures end { result ≡ false → wanted_from p.now false self.old.code ≡ [] }
+    {
+        let guard = self.guard;
+        let mut kind = self.kind;
+        'kinds: while let Some(next) = next_kind(kind) {
+            let ends = drop_ends(p, &guard, next);
+            if ends != 0 {
+                self.kind = next;
+                self.ends = ends;
+                self.code = (13122 + next.number() * 81) as u16;
+                return true;
+            }
+            kind = next;
+        }
+        false
+    }
+
+    /// The next of the drops, or `None` where none is left.
+    pub fn next(&mut self, p: &Position) -> Option<Move>
+        requires kept { IsDropSweep p.now self.old }
+        ensures kept { IsDropSweep p.now self.new }
+        ensures next { MatchOption result (wanted_from p.now false self.old.code ≡ []) (λ m. wanted_from p.now false self.old.code ≡ code_of m ∷ wanted_from p.now false self.new.code) }
+        ensures legal { IfSome result (λ m. is_legal p.now m ≡ true) }
+    {
+        if self.ends == 0 {
+            if !self.refill(p) {
+                return None;
+            }
+        }
+        Some(self.take(p))
+    }
+}

@@ -1,0 +1,94 @@
+//! Squares by rank, as masks.
+
+ghost use Rattle.std.specs.Prelude.{◌≡◌, ◌<◌, ◌^◌, ◌/◌, ◌==◌, ◌&&◌, ℕ, nat_lt};
+ghost use Rattle.shogi_core.specs.Bits.{has_bit};
+ghost use Rattle.shogi_core.specs.Cell.{is_dead};
+ghost use Rattle.shogi_core.specs.Validity.{pawns_on_file};
+ghost use Rattle.shogi_moves.specs.Legal.{in_zone, may_promote};
+
+use crate::legal::{can_promote, in_zone};
+use shogi_core::{Board, Color, Piece, Position, Role, Square};
+
+/// The squares on which the piece could never move again.
+#[tactic(auto, using(crate::proofs::ZoneLaws::dead_bits))]
+pub fn dead_squares(cell: Option<Piece>) -> u128
+    ensures bits { (n : ℕ) → n < 81 → has_bit result n ≡ is_dead n cell }
+    ensures fits { result < 2 ^ 81 }
+{
+    let Some(piece) = cell else { return 0 };
+    match (piece.color, piece.role) {
+        (Color::Black, Role::Pawn | Role::Lance) => 4731607904558235517441,
+        (Color::Black, Role::Knight) => 14194823713674706552323,
+        (Color::White, Role::Pawn | Role::Lance) => 1211291623566908292464896,
+        (Color::White, Role::Knight) => 1816937435350362438697344,
+        _ => 0,
+    }
+}
+
+/// The squares of the zone in which the side promotes.
+#[tactic(auto, using(crate::proofs::ZoneLaws::zone_bits))]
+fn zone_squares(color: Color) -> u128
+    ensures bits { (n : ℕ) → n < 81 → has_bit result n ≡ in_zone color n }
+    ensures fits { result < 2 ^ 81 }
+{
+    match color {
+        Color::Black => 33121255331907648622087,
+        Color::White => 2119760341242089511813568,
+    }
+}
+
+/// The squares on which the piece may promote.
+#[tactic(auto, using(crate::proofs::ZoneLaws::promoting_bits))]
+pub fn promoting_squares(cell: Option<Piece>, from: Square) -> u128
+    ensures bits { (n : ℕ) → n < 81 → has_bit result n ≡ may_promote cell from n }
+    ensures fits { result < 2 ^ 81 }
+{
+    let Some(piece) = cell else { return 0 };
+    if !can_promote(piece.role) {
+        return 0;
+    }
+    if in_zone(piece.color, from) {
+        return 2417851639229258349412351;
+    }
+    zone_squares(piece.color)
+}
+
+const FILES: [u128; 9] = [
+    511,
+    261632,
+    133955584,
+    68585259008,
+    35115652612096,
+    17979214137393152,
+    9205357638345293824,
+    4713143110832790437888,
+    2413129272746388704198656,
+];
+
+/// The squares of the file, if an unpromoted pawn of the side stands on it.
+#[tactic(auto, using(crate::proofs::ZoneLaws::file_bits))]
+fn pawn_file(board: &Board, side: Color, file: usize) -> u128
+    requires { file < 9 }
+    ensures bits { (n : ℕ) → n < 81 → has_bit result n ≡ (n / 9 == file && nat_lt 0 (pawns_on_file side file board.now)) }
+    ensures fits { result < 2 ^ 81 }
+{
+    if board.pawns_on_file(side, file) > 0 {
+        FILES[file]
+    } else {
+        0
+    }
+}
+
+/// The squares of the files on which an unpromoted pawn of the side stands.
+#[tactic(auto, using(crate::proofs::ZoneLaws::file_loop))]
+pub fn pawn_files(p: &Position, side: Color) -> u128
+    ensures bits { (n : ℕ) → n < 81 → has_bit result n ≡ nat_lt 0 (pawns_on_file side (n / 9) p.now.cells) }
+    ensures fits { result < 2 ^ 81 }
+{
+    let board = p.board();
+    let mut mask = 0;
+    for file in 0..9 {
+        mask |= pawn_file(&board, side, file);
+    }
+    mask
+}
