@@ -1,10 +1,12 @@
 -- The opening position has no fault.
 use Rattle.std.proofs.Common.{◌≡◌, refl, None, false}
-use Rattle.shogi_core.specs.declared.piece.Color.TheVariants.{White}
+use Rattle.shogi_core.specs.declared.piece.Color.TheVariants.{Black, White}
 use Rattle.shogi_core.specs.Below.{some_below, all_below}
 use Rattle.shogi_core.specs.Movement.{reaches, away}
 use Rattle.shogi_core.specs.Attack.{in_check}
 use Rattle.shogi_core.specs.Validity.{fault_of, has_two_pawns, has_dead_piece}
+use Rattle.shogi_core.specs.Bits.{mask_below}
+use Rattle.shogi_core.specs.Masks.{places_of, own_of, kings_of}
 use Rattle.shogi_core.specs.Start.{start, start_cells}
 
 pub start_pawns : has_two_pawns start_cells ≡ false
@@ -22,3 +24,17 @@ start_shut = refl
 pub start_fine : fault_of start ≡ None
 unfolding fault_of some_below all_below reaches away in_check
 start_fine = refl
+
+-- its masks
+pub start_black : 1515295121079352776950080 ≡ own_of start_cells Black
+unfolding places_of mask_below
+start_black = refl
+
+pub start_white : 23676486266864887139845 ≡ own_of start_cells White
+unfolding places_of mask_below
+start_white = refl
+
+pub start_kings : 17660905521152 ≡ kings_of start_cells
+unfolding places_of mask_below
+start_kings = refl
+

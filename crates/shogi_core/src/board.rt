@@ -5,11 +5,13 @@ ghost use Rattle.shogi_core.specs.Bits.{has_bit, mask_below};
 ghost use Rattle.shogi_core.specs.Cell.{is_of, is_king};
 ghost use Rattle.shogi_core.specs.Masks.{own_of, kings_of, is_any_king};
 ghost use Rattle.shogi_core.specs.Movement.{piece_at};
+ghost use Rattle.shogi_core.specs.Start.{start_cells};
 
 use crate::bits::{with, without};
 use crate::cell::is_of;
 use crate::piece::{Color, Piece};
 use crate::square::Square;
+use crate::start::START;
 use std::marker::Model;
 
 /// A board, seen as its 81 cells by index. It need not be part of a valid position.
@@ -104,6 +106,18 @@ impl Board {
             black: own_squares(&cells, Color::Black),
             white: own_squares(&cells, Color::White),
             kings: king_squares(&cells),
+        }
+    }
+
+    /// The board of the opening position, whose masks are known.
+    pub fn start() -> Board
+        ensures { result ≡ start_cells }
+    {
+        Board {
+            cells: START,
+            black: 1515295121079352776950080,
+            white: 23676486266864887139845,
+            kings: 17660905521152,
         }
     }
 

@@ -8,7 +8,7 @@ use crate::hands::Hands;
 use crate::piece::{Color, Piece, Role};
 use crate::position::Position;
 
-const START: [Option<Piece>; 81] = [
+pub const START: [Option<Piece>; 81] = [
     Some(Piece {
         color: Color::White,
         role: Role::Lance,
@@ -218,6 +218,6 @@ impl Position {
     pub fn start() -> Position
         ensures { result ≡ start }
     {
-        Position::of_valid(Board::of(START), Hands::none(), Color::Black)
+        Position::of_valid(Board::start(), Hands::none(), Color::Black)
     }
 }
