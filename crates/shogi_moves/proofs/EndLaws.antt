@@ -1,7 +1,7 @@
 -- Where a piece may legally end.
 use Rattle.std.proofs.Common.{◌≡◌, ℕ, ◌-◌, ◌^◌, ◌<◌, Bool, true, false, not, Option, Some, None, refl, sym, ap, ◌∙◌, arith, inl, inr, subst, bit_and, length, cond, set, get_or-set_same, get_or-set_other, length-set, ◌⊎◌}
 use Rattle.std.specs.Prelude.{◌&&◌, ◌||◌, ◌==◌, is_none, is_some, ◌%◌, ◌/◌, nat_lt}
-use Rattle.std.proofs.lemmas.Bool.{cases_eq, cases_Bool, ne_eqb, eq-eqb, and_parts, and_from, both_ways, lt-ltb}
+use Rattle.std.proofs.lemmas.Bool.{cases_eq, cases_Bool, ne_eqb, eq-eqb, and_parts, and_from, both_ways, lt-ltb, not-true}
 use Rattle.shogi_core.specs.declared.moves.Move.{Move}
 use Rattle.shogi_core.specs.declared.moves.Move.TheVariants.{Board, Drop}
 use Rattle.shogi_core.specs.declared.piece.Color.{Color}
@@ -31,6 +31,7 @@ use Rattle.shogi_moves.specs.Legal.{is_safe, is_legal, is_right_board_move, may_
 use Rattle.shogi_moves.proofs.CaptureLaws.{sort_of}
 use Rattle.shogi_moves.proofs.GuardLaws.{quiet_board, quiet_drop_safe, calm_parts}
 use Rattle.shogi_moves.proofs.LegalLaws.{is_legal_code_of}
+use Rattle.shogi_moves.proofs.MovedPieces.{is_king-moved}
 
 -- ---- squares are tried one by one
 
@@ -113,7 +114,61 @@ calm_kept p checked exposed ends from n g len hf hn own calm =
     all_kept (has_bit ends n) (is_unchecked p (Board from n false))
     (ap not (quiet_board p.cells p.side from n false len hf hn own (g.kings from hf parts.1) (g.lines from hf parts.1) (sym g.check ∙ parts.0)))
 
-pub ruleset calm_ends = (calm_kept)
+moved_own : (side : Color) (promote : Bool) (cell : Option Piece) → is_of side (moved promote cell) ≡ is_of side cell
+moved_own side promote None = refl
+moved_own side promote (Some piece) = refl
+
+other_side : (side : Color) (cell : Option Piece) → is_of side cell ≡ true → is_of (opponent_of side) cell ≡ false
+other_side side None e = refl
+other_side Black (Some piece) e = go piece.color e
+  where
+    go : (c : Color) → is_same_color Black c ≡ true → is_same_color White c ≡ false
+    go Black e = refl
+    go White e = absurd (cc)
+other_side White (Some piece) e = go piece.color e
+  where
+    go : (c : Color) → is_same_color White c ≡ true → is_same_color Black c ≡ false
+    go White e = refl
+    go Black e = absurd (cc)
+
+-- a piece of the side on a square more opens no line
+pub filled : (cells : Cells) (side : Color) (to : ℕ) (v : Option Piece) → length cells ≡ 81 → to < 81 → is_of side v ≡ true → is_king side v ≡ false → in_check cells side ≡ false → in_check (set cells to v) side ≡ false
+filled cells side to v len ht own plain safe =
+    check_was cells (set cells to v) (λ x. ⊥)
+    (λ x e. elim (look x) [
+      | inl there ↦ absurd (both_ways (is_none v) (someone v own) (ap is_none (sym there) ∙ e))
+      | inr same ↦ inl (ap is_none (sym same) ∙ e)
+    ])
+    side
+    (λ x e. elim (look x) [
+      | inl there ↦ absurd (both_ways (is_of (opponent_of side) v) (other_side side v own) (ap (is_of (opponent_of side)) (sym there) ∙ e))
+      | inr same ↦ sym same
+    ])
+    (λ x e. elim (look x) [
+      | inl there ↦ absurd (both_ways (is_king side v) plain (ap (is_king side) (sym there) ∙ e))
+      | inr same ↦ sym same
+    ])
+    (λ x left. absurd left)
+    safe
+  where
+    someone : (v : Option Piece) → is_of side v ≡ true → is_none v ≡ false
+    someone None e = absurd (cc)
+    someone (Some piece) e = refl
+
+    look : (x : ℕ) → (piece_at (set cells to v) x ≡ v) ⊎ (piece_at (set cells to v) x ≡ piece_at cells x)
+    look x = elim (cases_eq x to) [
+      | inl there ↦ inl (rw there (get_or-set_same cells to v None (omega arith)))
+      | inr other ↦ inr (get_or-set_other cells to x v None other)
+    ]
+
+-- a piece without which there is no check may end anywhere
+pub free_kept : (p : Shogi) (ends from n : ℕ) → length p.cells ≡ 81 → from < 81 → n < 81 → is_of p.side (piece_at p.cells from) ≡ true → is_king p.side (piece_at p.cells from) ≡ false → not (in_check (set p.cells from None) p.side) ≡ true
+    → has_bit ends n ≡ (has_bit ends n && is_unchecked p (Board from n false))
+free_kept p ends from n len hf hn own plain free =
+    all_kept (has_bit ends n) (is_unchecked p (Board from n false))
+    (ap not (filled (set p.cells from None) p.side n (moved false (piece_at p.cells from)) (length-set p.cells from None ∙ len) hn (moved_own p.side false (piece_at p.cells from) ∙ own) (is_king-moved p.side false (piece_at p.cells from) ∙ plain) (not-true _ free)))
+
+pub ruleset calm_ends = (calm_kept, free_kept)
 
 -- ---- what is wanted of the move of a piece
 
@@ -163,23 +218,6 @@ asked_end false side (Some piece) = go (not (is_of side (Some piece)))
     go false = refl
 
 -- promotion changes nothing for the king
-moved_own : (side : Color) (promote : Bool) (cell : Option Piece) → is_of side (moved promote cell) ≡ is_of side cell
-moved_own side promote None = refl
-moved_own side promote (Some piece) = refl
-
-other_side : (side : Color) (cell : Option Piece) → is_of side cell ≡ true → is_of (opponent_of side) cell ≡ false
-other_side side None e = refl
-other_side Black (Some piece) e = go piece.color e
-  where
-    go : (c : Color) → is_same_color Black c ≡ true → is_same_color White c ≡ false
-    go Black e = refl
-    go White e = absurd (cc)
-other_side White (Some piece) e = go piece.color e
-  where
-    go : (c : Color) → is_same_color White c ≡ true → is_same_color Black c ≡ false
-    go White e = refl
-    go Black e = absurd (cc)
-
 some_moved : (promote : Bool) (cell : Option Piece) → is_none (moved promote cell) ≡ is_none cell
 some_moved promote None = refl
 some_moved promote (Some piece) = refl

@@ -1,9 +1,10 @@
 //! Where the pieces of the side to move may legally end.
 
-ghost use Rattle.std.specs.Prelude.{◌≡◌, ◌<◌, ◌^◌, ◌&&◌, ℕ, not, true, false};
+ghost use Rattle.std.specs.Prelude.{◌≡◌, ◌<◌, ◌^◌, ◌&&◌, ℕ, not, true, false, None, slice_set};
 ghost use Rattle.shogi_core.specs.declared.moves.Move.TheVariants as moves;
 ghost use Rattle.shogi_core.specs.declared.piece.Kind.TheVariants as kinds;
 ghost use Rattle.shogi_moves.specs.Legal.{is_right_drop, is_safe, is_pawn_mate};
+ghost use Rattle.shogi_core.specs.Attack.{in_check};
 ghost use Rattle.shogi_core.specs.Bits.{has_bit};
 ghost use Rattle.shogi_core.specs.Cell.{is_of};
 ghost use Rattle.shogi_core.specs.Codes.{code_of};
@@ -16,7 +17,7 @@ use crate::after::{cells_after, dropped};
 use crate::legal::{is_pawn_kind, is_pawn_mate};
 use crate::guard::{Guard, is_calm};
 use crate::zones::{dead_squares, pawn_files, promoting_squares};
-use shogi_core::bits::{cleared, lowest};
+use shogi_core::bits::{cleared, has, lowest};
 use shogi_core::{Kind, Move, Position, Square};
 
 /// The legal ends of a piece, without and with promotion.
@@ -69,6 +70,14 @@ fn tried_ends(p: &Position, from: Square, ends: u128) -> u128
     kept
 }
 
+/// Whether the king is unattacked once the piece is lifted off its square: there is no check, and
+/// the piece is not pinned.
+fn is_free(p: &Position, from: Square) -> bool
+    ensures { result ≡ not (in_check (slice_set p.now.cells from None) p.now.side) }
+{
+    !p.board().put(from, None).in_check(p.side())
+}
+
 /// Those of the ends that leave the king unattacked.
 #[tactic(auto, using(crate::proofs::EndLaws::calm_ends))]
 fn safe_ends(p: &Position, guard: &Guard, from: Square, ends: u128) -> u128
@@ -81,10 +90,12 @@ fn safe_ends(p: &Position, guard: &Guard, from: Square, ends: u128) -> u128
     p.validity();
     from.index();
     if is_calm(guard, from) {
-        ends
-    } else {
-        tried_ends(p, from, ends)
+        return ends;
     }
+    if !has(p.kings(p.side()), from.index()) && is_free(p, from) {
+        return ends;
+    }
+    tried_ends(p, from, ends)
 }
 
 /// The legal ends of one of the pieces of the side to move, for captures or for the other moves.
