@@ -14,3 +14,4 @@ pub mod RunLaws
 pub mod ZoneLaws
 pub mod EndLaws
 pub mod SweepLaws
+pub mod TallyLaws

@@ -1,5 +1,5 @@
 -- Sequences of legal moves, counted by their first moves.
-use Rattle.std.proofs.Common.{◌≡◌, ℕ, ◌+◌, ◌-◌, ◌≤◌, List, [], ◌∷◌, refl, arith}
+use Rattle.std.proofs.Common.{◌≡◌, ℕ, ◌+◌, ◌-◌, ◌≤◌, List, [], ◌∷◌, refl, arith, length}
 use Rattle.std.specs.Prelude.{zero, suc, sum_by}
 use Rattle.std.proofs.lemmas.List.Sums.{sum_by-cons}
 use Rattle.shogi_core.specs.Position.{Shogi}
@@ -33,5 +33,14 @@ paths_by-more p n code codes = sum_by-cons (λ code. paths (after_code p code) n
 -- the first move's share of what is left
 pub paths_by-left : (p : Shogi) (n code : ℕ) (codes rest : List ℕ) (child : Shogi) → codes ≡ code ∷ rest → child ≡ after_code p code → paths_by p n codes ≡ paths child n + paths_by p n rest
 paths_by-left p n code codes rest child e f = rw (e, f) (paths_by-more p n code rest)
+
+-- one move: as many as are legal
+pub paths_one : (p : Shogi) → paths p 1 ≡ length (legal_moves p)
+unfolding paths
+paths_one p = go (legal_moves p)
+  where
+    go : (codes : List ℕ) → sum_by (λ code. paths (after_code p code) 0) codes ≡ length codes
+    go [] = refl
+    go (code ∷ codes) = omega (arith, sum_by-cons (λ code. paths (after_code p code) 0) code codes, go codes)
 
 pub ruleset steps = (paths_none, paths_step, paths_by-none)

@@ -151,7 +151,7 @@ impl BoardSweep {
 }
 
 /// The kind after this one in the order of kinds.
-fn next_kind(kind: Kind) -> Option<Kind>
+pub fn next_kind(kind: Kind) -> Option<Kind>
     ensures { MatchOption result (number_of kind ≡ 6) (λ k. number_of k ≡ number_of kind + 1) }
 {
     match kind {

@@ -1,0 +1,15 @@
+use Rattle.std.proofs.Common.{◌≡◌, ◌-◌, ◌+◌, ◌<◌, ◌≤◌, ◌*◌, true, length}
+use Rattle.shogi_core.specs.Bits.{has_bit}
+use Rattle.shogi_moves.specs.Sweeps.{wanted_from}
+use Rattle.shogi_moves.proofs.count.count_board.Given as goal
+
+abbrev pub invariant-squares : goal.invariant-squares
+invariant-squares l = record {
+  whole : l.total + length (wanted_from l.p l.capture (l.square * 162)) ≡ length (wanted_from l.p l.capture 0);
+  bound : l.total ≤ l.square * 162;
+  within : l.square ≤ 81;
+  mine : l.square < 81 → has_bit l.own l.square ≡ true;
+}
+
+abbrev pub decreases-squares : goal.decreases-squares
+decreases-squares l = 81 - l.square
