@@ -15,3 +15,4 @@ pub mod ZoneLaws
 pub mod EndLaws
 pub mod SweepLaws
 pub mod TallyLaws
+pub mod DropChecks
