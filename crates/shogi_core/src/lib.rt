@@ -28,4 +28,5 @@ pub use offset::Offset;
 pub use piece::{Color, KINDS, Kind, Piece, Role};
 pub use position::Position;
 pub use square::Square;
+pub use steps::step_squares;
 pub use validity::PositionFault;

@@ -18,7 +18,7 @@ use crate::legal::{is_pawn_kind, is_pawn_mate};
 use crate::guard::{Guard, is_calm};
 use crate::zones::{dead_squares, pawn_files, promoting_squares};
 use shogi_core::bits::{cleared, has, lowest};
-use shogi_core::{Kind, Move, Position, Square};
+use shogi_core::{Kind, Move, Piece, Position, Role, Square, step_squares};
 
 /// The legal ends of a piece, without and with promotion.
 #[derive(Clone, Copy, Debug)]
@@ -176,6 +176,38 @@ fn safe_drops(p: &Position, guard: &Guard, kind: Kind) -> u128
     }
 }
 
+/// Whether a pawn of the side to move would attack the other king from the square.
+#[tactic(auto, using(crate::proofs::DropChecks::far_pawn))]
+fn faces_king(p: &Position, to: Square) -> bool
+    ensures far { result ≡ false → is_pawn_mate p.now (moves.Drop kinds.Pawn to) ≡ false }
+{
+    p.validity();
+    let side = p.side();
+    let pawn = Piece {
+        color: side,
+        role: Role::Pawn,
+    };
+    to.index();
+    step_squares(pawn, to.index()) & p.kings(side.opponent()) != 0
+}
+
+/// Whether the safe drop of a pawn mates.
+fn is_mate(p: &Position, to: Square) -> bool
+    requires { is_safe p.now (moves.Drop kinds.Pawn to) ≡ true }
+    ensures { result ≡ is_pawn_mate p.now (moves.Drop kinds.Pawn to) }
+{
+    if !faces_king(p, to) {
+        return false;
+    }
+    is_pawn_mate(
+        p,
+        &Move::Drop {
+            kind: Kind::Pawn,
+            to,
+        },
+    )
+}
+
 /// Those of the safe drops of a pawn that do not mate, each of them tried.
 #[tactic(auto, using(crate::proofs::EndLaws::sifting))]
 fn fair_drops(p: &Position, ends: u128) -> u128
@@ -188,11 +220,7 @@ fn fair_drops(p: &Position, ends: u128) -> u128
     let mut kept = ends;
     while left != 0 {
         let to = lowest(left);
-        let m = Move::Drop {
-            kind: Kind::Pawn,
-            to: Square::of_index(to),
-        };
-        if is_pawn_mate(p, &m) {
+        if is_mate(p, Square::of_index(to)) {
             kept = cleared(kept, to);
         }
         left = cleared(left, to);
