@@ -1,5 +1,5 @@
 -- The stack grows and shrinks at its top.
-use Rattle.std.proofs.Common.{◌≡◌, ◌<◌, ◌+◌, ◌-◌, ◌*◌, ℕ, ℤ, List, [], ◌∷◌, ◌++◌, true, length, ap, ◌∙◌, sym, arith, subst}
+use Rattle.std.proofs.Common.{◌≡◌, ◌<◌, ◌+◌, ◌-◌, ◌*◌, ℕ, ℤ, List, [], ◌∷◌, ◌++◌, true, length, ◌≤◌, Option, Some, None, ap, ◌∙◌, sym, arith, subst}
 use Rattle.shogi_core.specs.Codes.{code_of}
 use Rattle.shogi_core.specs.Position.{Shogi}
 use Rattle.shogi_moves.specs.After.{after_code}
@@ -8,7 +8,7 @@ use Rattle.shogi_search.specs.declared.order.Cursor.{Cursor}
 use Rattle.shogi_search.specs.Minimax.{negated, subtrees, tree}
 use Rattle.shogi_search.specs.Order.{todo}
 use Rattle.shogi_search.specs.Window.{bar, code_at}
-use Rattle.shogi_search.specs.Stack.{IsAt, IsChain, left_of_frame}
+use Rattle.shogi_search.specs.Stack.{IsAt, IsChain, left_of_frame, left_of_answer}
 use Rattle.shogi_search.proofs.MinimaxLaws.{subtrees-next}
 
 -- a node is the child that another one waits for
@@ -80,18 +80,40 @@ chain_height p d low high (h ∷ fs) f c =
     omega arith
 
 -- one move less is left of a node
-pub left_next : (f g : Frame) (q : Shogi) → g.position ≡ f.position → g.depth ≡ f.depth → q ≡ after_code g.position (code_of g.asked) → todo f.position f.cursor ≡ code_of g.asked ∷ todo f.position g.cursor → left_of_frame f ≡ 2 * tree q (g.depth - 1) + left_of_frame g
-left_next f g q e h a n =
+pub left_next : (f g : Frame) (q : Shogi) → g.position ≡ f.position → g.depth ≡ f.depth → g.answer ≡ None → q ≡ after_code g.position (code_of g.asked) → todo f.position f.cursor ≡ code_of g.asked ∷ todo f.position g.cursor → 2 * tree q (g.depth - 1) + left_of_frame g ≤ left_of_frame f
+left_next f g q e h k a n =
     let s : subtrees f.position (f.depth - 1) (todo f.position f.cursor) ≡ tree q (f.depth - 1) + subtrees f.position (f.depth - 1) (todo f.position g.cursor) = subtrees-next f.position (f.depth - 1) (code_of g.asked) q _ _ (a ∙ ap (λ (x : Shogi). after_code x (code_of g.asked)) e) n in
     let t : subtrees g.position (g.depth - 1) (todo g.position g.cursor) ≡ subtrees f.position (f.depth - 1) (todo f.position g.cursor) = ap (λ (x : Shogi). subtrees x (g.depth - 1) (todo x g.cursor)) e ∙ ap (λ (x : ℕ). subtrees f.position (x - 1) (todo f.position g.cursor)) h in
     let u : tree q (g.depth - 1) ≡ tree q (f.depth - 1) = ap (λ (x : ℕ). tree q (x - 1)) h in
-    omega arith
+    let v : left_of_answer g.answer ≡ 0 = ap left_of_answer k in
+    omega (arith, s, t, u, v)
 
-pub left_same : (f g : Frame) → g.position ≡ f.position → g.depth ≡ f.depth → g.cursor ≡ f.cursor → left_of_frame g ≡ left_of_frame f
-left_same f g e h k =
-    ap (λ (x : Shogi). 1 + 2 * subtrees x (g.depth - 1) (todo x g.cursor)) e
-    ∙ ap (λ (x : ℕ). 1 + 2 * subtrees f.position (x - 1) (todo f.position g.cursor)) h
-    ∙ ap (λ (x : Cursor). 1 + 2 * subtrees f.position (f.depth - 1) (todo f.position x)) k
+moves_same : (f g : Frame) → g.position ≡ f.position → g.depth ≡ f.depth → g.cursor ≡ f.cursor → subtrees g.position (g.depth - 1) (todo g.position g.cursor) ≡ subtrees f.position (f.depth - 1) (todo f.position f.cursor)
+moves_same f g e h k =
+    ap (λ (x : Shogi). subtrees x (g.depth - 1) (todo x g.cursor)) e
+    ∙ ap (λ (x : ℕ). subtrees f.position (x - 1) (todo f.position g.cursor)) h
+    ∙ ap (λ (x : Cursor). subtrees f.position (f.depth - 1) (todo f.position x)) k
+
+-- without an answer, no more is left than with one
+pub left_same : (f g : Frame) → g.position ≡ f.position → g.depth ≡ f.depth → g.cursor ≡ f.cursor → g.answer ≡ None → left_of_frame g ≤ left_of_frame f
+left_same f g e h k a =
+    let v : left_of_answer g.answer ≡ 0 = ap left_of_answer a in
+    omega (arith, moves_same f g e h k, v)
+
+-- a leaf that is valued and not taken in yet
+pub left_heard : (f g : Frame) → g.position ≡ f.position → g.depth ≡ f.depth → g.cursor ≡ f.cursor → left_of_frame g ≤ left_of_frame f + 1
+left_heard f g e h k = omega (arith, moves_same f g e h k, one g.answer)
+  where
+    one : (answer : Option ℤ) → left_of_answer answer ≤ 1
+    one None = omega arith
+    one (Some v) = omega arith
+
+-- and that is taken in
+pub left_taken : (f g : Frame) (v : ℤ) → f.answer ≡ Some v → g.position ≡ f.position → g.depth ≡ f.depth → g.cursor ≡ f.cursor → g.answer ≡ None → left_of_frame g < left_of_frame f
+left_taken f g v i e h k a =
+    let one : left_of_answer f.answer ≡ 1 = ap left_of_answer i in
+    let none : left_of_answer g.answer ≡ 0 = ap left_of_answer a in
+    omega (arith, moves_same f g e h k, one, none)
 
 pub pushed : (p : Shogi) (d : ℕ) (low high : ℤ) (all fs : List Frame) (f q : Frame) → all ≡ fs ++ f ∷ [] → IsChain p d low high fs f → IsChild f q → IsChain p d low high all q
 pushed p d low high all fs f q e c k = subst (λ (xs : List Frame). IsChain p d low high xs q) (sym e) (chain_push p d low high fs f q c k)

@@ -1,5 +1,5 @@
 -- Nodes of any depth: a leaf goes through no moves.
-use Rattle.std.proofs.Common.{◌≡◌, ◌<◌, ◌≤◌, ◌+◌, ◌-◌, ◌*◌, ℕ, zero, suc, ℤ, negsuc, ◌≤ℤ◌, List, [], ◌∷◌, Bool, true, false, ◌==◌, Option, Some, None, MatchOption, refl, sym, arith, subst}
+use Rattle.std.proofs.Common.{◌≡◌, ◌<◌, ◌≤◌, ◌+◌, ◌-◌, ◌*◌, ℕ, zero, suc, ℤ, negsuc, ◌≤ℤ◌, List, [], ◌∷◌, Bool, true, false, ◌==◌, Option, Some, None, MatchOption, refl, sym, ap, ◌∙◌, arith, subst}
 use Rattle.std.specs.Option.{ForSome}
 use Rattle.std.proofs.lemmas.Bool.{or_left, eq-eqb}
 use Rattle.std.proofs.lemmas.Bool.Decides.{nat_tests}
@@ -13,11 +13,11 @@ use Rattle.shogi_moves.specs.LegalMoves.{legal_moves}
 use Rattle.shogi_moves.specs.Rising.{is_in}
 use Rattle.shogi_search.specs.declared.order.Cursor.{Cursor}
 use Rattle.shogi_search.specs.declared.order.Cursor.TheVariants.{First, Start, Done}
-use Rattle.shogi_search.specs.Minimax.{tree, subtrees, value, worth, lost, greatest_of}
+use Rattle.shogi_search.specs.Minimax.{tree, subtrees, value, best, worth, lost, greatest_of}
 use Rattle.shogi_search.specs.Window.{IsCovered, bar}
 use Rattle.shogi_search.specs.Order.{todo, IsKept}
 use Rattle.shogi_search.specs.Visits.{moves_at, pending}
-use Rattle.shogi_search.proofs.MinimaxLaws.{tree-above, tree-leaf, value-above, value_within, Within}
+use Rattle.shogi_search.proofs.MinimaxLaws.{tree-above, tree-leaf, best-leaf, value-above, value_within, Within}
 use Rattle.shogi_search.proofs.OrderLaws.{IsWhole, whole, whole_covered}
 use Rattle.shogi_search.proofs.Cover.{IsCovered-start}
 use Rattle.shogi_search.proofs.Valid.{after_valid}
@@ -94,3 +94,7 @@ bar_least p d low top rest (Some b) m ok h l c =
     let e : worth p (d - 1) b ≡ top = c.reached.1 in
     let t : negsuc 30016 ≤ℤ top = omega (arith, ints) in
     (omega (arith, ints), bar_falls_one top b m t)
+
+-- what is known of a leaf, as an entry of its depth
+pub leaf_true : (q : Shogi) (d : ℕ) (v : ℤ) → d ≡ 1 → value q 0 ≡ v → (value q (d - 1) ≡ v) × (best q (d - 1) ≡ None)
+leaf_true q d v e h = let z : d - 1 ≡ 0 = omega arith in (ap (value q) z ∙ h, ap (best q) z ∙ best-leaf q)

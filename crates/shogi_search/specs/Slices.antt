@@ -35,5 +35,5 @@ pub record IsSearch (s : Inside) : Type 0 where
   pub shallow : s.depth ≤ 16
   pub known : ForSome s.found (IsKnown s)
   pub chain : s.found ≡ None → s.started ≡ true → IsChain s.root s.depth (negsuc 30999) (pos 31000) s.stack.waiting.items s.stack.top
-  pub free : s.found ≡ None → s.started ≡ true → s.stack.top.cut ≡ None → s.stack.top.waiting ≡ false
+  pub free : s.found ≡ None → s.started ≡ true → s.stack.top.cut ≡ None → s.stack.top.answer ≡ None → s.stack.top.waiting ≡ false
   pub counted : s.steps + left_in s.found s.started (2 * tree s.root s.depth) (left_of_stack s.stack.waiting.items s.stack.top) ≤ 2 * tree s.root s.depth

@@ -1,6 +1,6 @@
 //! A node of the tree while the search goes through its moves.
 
-ghost use Rattle.std.specs.Prelude.{◌≡◌, ◌≤◌, ◌<◌, ◌-◌, ◌+◌, ◌*◌, ◌≤ℤ◌, ◌<ℤ◌, ℕ, pos, negsuc, [], ◌∷◌, Some, None, true, false, IsTrue, ◌↔◌, ◌≢◌, MatchOption};
+ghost use Rattle.std.specs.Prelude.{◌≡◌, ◌≤◌, ◌<◌, ◌-◌, ◌+◌, ◌*◌, ◌≤ℤ◌, ◌<ℤ◌, ℕ, pos, negsuc, [], ◌∷◌, Some, None, true, false, IsTrue, IsSome, ◌↔◌, ◌≢◌, MatchOption};
 ghost use Rattle.std.specs.Option.{ForSome};
 ghost use Rattle.std.proofs.Props.{props};
 ghost use Rattle.shogi_core.specs.Codes.{code_of};
@@ -21,7 +21,8 @@ use shogi_core::{Kind, Move, Square};
 use shogi_eval::Node;
 use shogi_moves::has_legal;
 
-/// A node of any depth, and what is known of the moves gone through.
+/// A node of any depth, and what is known of the moves gone through. Where the move that waits leads
+/// to a leaf, its answer is the leaf's value, until the next step takes it in.
 #[derive(Clone, Copy)]
 pub struct Frame {
     pub position: Node,
@@ -33,6 +34,7 @@ pub struct Frame {
     pub cursor: Cursor,
     pub waiting: bool,
     pub asked: Move,
+    pub answer: Option<i32>,
     pub cut: Option<i32>,
     ghost valid: { IsValid position },
     ghost shallow: { depth ≤ 16 },
@@ -41,6 +43,7 @@ pub struct Frame {
     ghost most: { high ≤ℤ pos 31000 },
     ghost covered: { IsCovered (worth position (depth - 1)) (moves_at position depth) (pending waiting (code_of asked) (todo position cursor)) low top (code_at top_move) } by { Prim.hlevel props },
     ghost kept: { IsKept position cursor } by { IsKept-prop position cursor },
+    ghost answered: { ForSome answer (λ v. (waiting ≡ true) × (depth ≡ 1) × (value (after_code position (code_of asked)) 0 ≡ v)) },
     ghost beaten: { ForSome cut (λ v. (v ≤ℤ value position depth) × (high ≤ℤ v)) },
 }
 
@@ -53,7 +56,7 @@ fn can_move(node: &Node) -> bool
 
 /// The value at depth 0.
 #[tactic(auto, using(crate::proofs::MinimaxLaws::leaves))]
-fn leaf(node: &Node) -> i32
+pub fn leaf(node: &Node) -> i32
     ensures value { result ≡ value node.now 0 }
     ensures least { negsuc 29999 ≤ℤ result }
     ensures most { result ≤ℤ pos 25200 }
@@ -75,6 +78,7 @@ impl Frame {
         ensures high { result.high ≡ high }
         ensures counted { 1 + 2 * subtrees position (depth - 1) (todo position result.cursor) < 2 * tree position depth }
         ensures waiting { result.waiting ≡ false }
+        ensures answer { result.answer ≡ None }
         ensures leaf { depth ≡ 0 → result.cursor ≡ Cursor.Done }
         ensures first { 0 < depth → MatchOption first (result.cursor ≡ Cursor.Start None) (λ f. result.cursor ≡ Cursor.First f) }
     {
@@ -92,6 +96,7 @@ impl Frame {
                 kind: Kind::Pawn,
                 to: Square::of_index(0),
             },
+            answer: None,
             cut: None,
         }
     }
@@ -129,6 +134,7 @@ impl Frame {
         requires free { self.old.waiting ≡ false }
         ensures none { result ≡ false → (self.new ≡ self.old) × (todo self.old.position self.old.cursor ≡ []) }
         ensures next { result ≡ true → (todo self.old.position self.old.cursor ≡ code_of self.new.asked ∷ todo self.old.position self.new.cursor) × (self.new.waiting ≡ true) }
+        ensures answer { self.new.answer ≡ None }
         ensures position { self.new.position ≡ self.old.position }
         ensures depth { self.new.depth ≡ self.old.depth }
         ensures low { self.new.low ≡ self.old.low }
@@ -168,6 +174,7 @@ impl Frame {
         requires truth { IsTrueEntry (after_code self.old.position (code_of self.old.asked)) (self.old.depth - 1) entry.now }
         requires settled { Settles (negated self.old.high) (negated (bar self.old.top (code_at self.old.top_move) (code_of self.old.asked))) entry.now }
         ensures free { self.new.cut ≡ None → self.new.waiting ≡ false }
+        ensures answer { self.new.answer ≡ None }
         ensures cursor { self.new.cursor ≡ self.old.cursor }
         ensures position { self.new.position ≡ self.old.position }
         ensures depth { self.new.depth ≡ self.old.depth }
@@ -196,12 +203,14 @@ impl Frame {
         requires worth { value ≤ℤ worth self.old.position (self.old.depth - 1) (code_of self.old.asked) }
         requires high { self.old.high ≤ℤ value }
         ensures free { self.new.cut ≡ None → self.new.waiting ≡ false }
+        ensures answer { self.new.answer ≡ None }
         ensures cursor { self.new.cursor ≡ self.old.cursor }
         ensures position { self.new.position ≡ self.old.position }
         ensures depth { self.new.depth ≡ self.old.depth }
         ensures low { self.new.low ≡ self.old.low }
         ensures high { self.new.high ≡ self.old.high }
     {
+        self.answer = None;
         self.cut = Some(value);
     }
 
@@ -210,12 +219,14 @@ impl Frame {
         requires waiting { self.old.waiting ≡ true }
         requires below { worth self.old.position (self.old.depth - 1) (code_of self.old.asked) ≤ℤ bar self.old.top (code_at self.old.top_move) (code_of self.old.asked) }
         ensures free { self.new.cut ≡ None → self.new.waiting ≡ false }
+        ensures answer { self.new.answer ≡ None }
         ensures cursor { self.new.cursor ≡ self.old.cursor }
         ensures position { self.new.position ≡ self.old.position }
         ensures depth { self.new.depth ≡ self.old.depth }
         ensures low { self.new.low ≡ self.old.low }
         ensures high { self.new.high ≡ self.old.high }
     {
+        self.answer = None;
         self.waiting = false;
     }
 
@@ -226,6 +237,7 @@ impl Frame {
         requires above { bar self.old.top (code_at self.old.top_move) (code_of self.old.asked) <ℤ value }
         requires open { value <ℤ self.old.high }
         ensures free { self.new.cut ≡ None → self.new.waiting ≡ false }
+        ensures answer { self.new.answer ≡ None }
         ensures cursor { self.new.cursor ≡ self.old.cursor }
         ensures position { self.new.position ≡ self.old.position }
         ensures depth { self.new.depth ≡ self.old.depth }
@@ -234,7 +246,23 @@ impl Frame {
     {
         self.top = value;
         self.top_move = Some(self.asked);
+        self.answer = None;
         self.waiting = false;
+    }
+
+    /// Keeps the value of the leaf to which the move that waits leads.
+    pub fn hear(&mut self, found: i32)
+        requires waiting { self.old.waiting ≡ true }
+        requires last { self.old.depth ≡ 1 }
+        requires value { value (after_code self.old.position (code_of self.old.asked)) 0 ≡ found }
+        ensures answer { IsSome self.new.answer }
+        ensures cursor { self.new.cursor ≡ self.old.cursor }
+        ensures position { self.new.position ≡ self.old.position }
+        ensures depth { self.new.depth ≡ self.old.depth }
+        ensures low { self.new.low ≡ self.old.low }
+        ensures high { self.new.high ≡ self.old.high }
+    {
+        self.answer = Some(found);
     }
 }
 

@@ -14,7 +14,7 @@ ghost use Rattle.shogi_search.specs.Order.{todo};
 ghost use Rattle.shogi_search.specs.Stack.{IsChain, left_of_stack};
 ghost use Rattle.shogi_search.specs.Window.{bar, code_at};
 
-use crate::frame::Frame;
+use crate::frame::{Frame, leaf};
 use crate::memo::{Entry, Memo};
 use arrayvec::ArrayVec;
 use shogi_core::{Move, Position};
@@ -64,13 +64,14 @@ fn child(frame: &Frame) -> Node
     frame.position.play(m)
 }
 
-/// Goes on with the move that has begun to wait on top: by the memo's answer, or into its child.
+/// Goes on with the move that has begun to wait on top: by the memo's answer, by the value of a
+/// leaf, which the next step takes in, or into its child.
 fn descend<M: Memo>(stack: &mut Stack, root: &Position, depth: u8, memo: &mut M)
     requires shallow { depth ≤ 16 }
     requires chain { IsChain root.now depth (negsuc 30999) (pos 31000) stack.old.waiting.items stack.old.top }
     requires waiting { stack.old.top.waiting ≡ true }
     ensures chain { IsChain root.now depth (negsuc 30999) (pos 31000) stack.new.waiting.items stack.new.top }
-    ensures free { stack.new.top.cut ≡ None → stack.new.top.waiting ≡ false }
+    ensures free { stack.new.top.cut ≡ None → stack.new.top.answer ≡ None → stack.new.top.waiting ≡ false }
     ensures left { left_of_stack stack.new.waiting.items stack.new.top < left_of_stack stack.old.waiting.items stack.old.top + 2 * tree (after_code stack.old.top.position (code_of stack.old.top.asked)) (stack.old.top.depth - 1) }
 {
     let bar = stack.top.bar();
@@ -83,6 +84,10 @@ fn descend<M: Memo>(stack: &mut Stack, root: &Position, depth: u8, memo: &mut M)
             return;
         }
     }
+    if below == 0 {
+        stack.top.hear(leaf(&p));
+        return;
+    }
     let first = remembered(p.as_position(), below, memo);
     let frame = Frame::new(p, below, low, high, first);
     stack.waiting.push(stack.top);
@@ -94,7 +99,7 @@ fn leave<M: Memo>(stack: &mut Stack, root: &Position, depth: u8, memo: &mut M) -
     requires chain { IsChain root.now depth (negsuc 30999) (pos 31000) stack.old.waiting.items stack.old.top }
     requires done { stack.old.top.cut ≡ None → (stack.old.top.waiting ≡ false) × (todo stack.old.top.position stack.old.top.cursor ≡ []) }
     ensures chain { IfNone result (IsChain root.now depth (negsuc 30999) (pos 31000) stack.new.waiting.items stack.new.top) }
-    ensures free { IfNone result (stack.new.top.cut ≡ None → stack.new.top.waiting ≡ false) }
+    ensures free { IfNone result (stack.new.top.cut ≡ None → stack.new.top.answer ≡ None → stack.new.top.waiting ≡ false) }
     ensures left { IfNone result (left_of_stack stack.new.waiting.items stack.new.top < left_of_stack stack.old.waiting.items stack.old.top) }
     ensures truth { IfSome result (IsTrueEntry root.now depth) }
     ensures settled { IfSome result (Settles (negsuc 30999) (pos 31000)) }
@@ -116,15 +121,19 @@ fn leave<M: Memo>(stack: &mut Stack, root: &Position, depth: u8, memo: &mut M) -
 fn step<M: Memo>(stack: &mut Stack, root: &Position, depth: u8, memo: &mut M) -> Option<Entry>
     requires shallow { depth ≤ 16 }
     requires chain { IsChain root.now depth (negsuc 30999) (pos 31000) stack.old.waiting.items stack.old.top }
-    requires free { stack.old.top.cut ≡ None → stack.old.top.waiting ≡ false }
+    requires free { stack.old.top.cut ≡ None → stack.old.top.answer ≡ None → stack.old.top.waiting ≡ false }
     ensures chain { IfNone result (IsChain root.now depth (negsuc 30999) (pos 31000) stack.new.waiting.items stack.new.top) }
-    ensures free { IfNone result (stack.new.top.cut ≡ None → stack.new.top.waiting ≡ false) }
+    ensures free { IfNone result (stack.new.top.cut ≡ None → stack.new.top.answer ≡ None → stack.new.top.waiting ≡ false) }
     ensures left { IfNone result (left_of_stack stack.new.waiting.items stack.new.top < left_of_stack stack.old.waiting.items stack.old.top) }
     ensures truth { IfSome result (IsTrueEntry root.now depth) }
     ensures settled { IfSome result (Settles (negsuc 30999) (pos 31000)) }
 {
     if stack.top.cut.is_some() {
         return leave(stack, root, depth, memo);
+    }
+    if let Some(value) = stack.top.answer {
+        stack.top.take(&Entry::Exact(value, None));
+        return None;
     }
     if stack.top.ask() {
         descend(stack, root, depth, memo);
@@ -144,9 +153,9 @@ pub fn run<M: Memo>(
 ) -> Option<Entry>
     requires shallow { depth ≤ 16 }
     requires chain { IsChain root.now depth (negsuc 30999) (pos 31000) stack.old.waiting.items stack.old.top }
-    requires free { stack.old.top.cut ≡ None → stack.old.top.waiting ≡ false }
+    requires free { stack.old.top.cut ≡ None → stack.old.top.answer ≡ None → stack.old.top.waiting ≡ false }
     ensures chain { IfNone result (IsChain root.now depth (negsuc 30999) (pos 31000) stack.new.waiting.items stack.new.top) }
-    ensures free { IfNone result (stack.new.top.cut ≡ None → stack.new.top.waiting ≡ false) }
+    ensures free { IfNone result (stack.new.top.cut ≡ None → stack.new.top.answer ≡ None → stack.new.top.waiting ≡ false) }
     ensures left { IfNone result (left_of_stack stack.new.waiting.items stack.new.top + budget ≤ left_of_stack stack.old.waiting.items stack.old.top) }
     ensures all { IfNone result (steps.new ≡ min (steps.old + budget) (2 ^ 64 - 1)) }
     ensures most { steps.new ≤ steps.old + budget }

@@ -1,4 +1,4 @@
-use Rattle.std.proofs.Common.{arith}
+use Rattle.std.proofs.Common.{arith, rules}
 use Rattle.std.proofs.lemmas.Int.{ints}
 use Rattle.shogi_core.specs.Codes.{code_of}
 use Rattle.shogi_search.proofs.Nodes.{waits, cut, cuts}
@@ -15,5 +15,6 @@ invariant_of-self c =
       most = c.args.self.now.most;
       covered = c.args.self.now.covered;
       kept = c.args.self.now.kept;
+      answered = search rules;
       beaten = cuts _ _ _ c.args.value _ (omega (arith, ints)) (cut c.args.self.now.position c.args.self.now.depth (code_of c.args.self.now.asked) c.args.value w.deep w.is_listed c.requires.worth) c.requires.high;
     }

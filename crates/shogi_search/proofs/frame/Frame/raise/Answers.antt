@@ -1,4 +1,4 @@
-use Rattle.std.proofs.Common.{arith}
+use Rattle.std.proofs.Common.{arith, rules}
 use Rattle.std.proofs.lemmas.Int.{ints}
 use Rattle.shogi_search.proofs.Cover.{IsCovered-raise}
 use Rattle.shogi_search.proofs.Nodes.{waits, at_depth}
@@ -15,5 +15,6 @@ invariant_of-self c =
       most = c.args.self.now.most;
       covered = at_depth _ _ _ _ _ _ _ w.deep (IsCovered-raise _ _ _ _ _ _ _ _ w.covered (omega (arith, ints, c.requires.is)) (omega (arith, ints, c.requires.above)));
       kept = c.args.self.now.kept;
+      answered = search rules;
       beaten = c.args.self.now.beaten;
     }
