@@ -27,7 +27,7 @@ use Rattle.shogi_moves.specs.After.{moved, cells_after, dropped}
 use Rattle.shogi_moves.specs.Captures.{captures, is_asked, is_capture, is_wanted}
 use Rattle.shogi_moves.specs.Ends.{is_end, is_unchecked, Sifts}
 use Rattle.shogi_moves.specs.Guards.{Guards}
-use Rattle.shogi_moves.specs.Legal.{is_safe, is_legal, is_right_board_move, may_promote, can_promote, in_zone, is_right_drop, is_pawn_kind, is_pawn_mate}
+use Rattle.shogi_moves.specs.Legal.{is_safe, is_legal, is_legal_code, is_right_board_move, may_promote, can_promote, in_zone, is_right_drop, is_pawn_kind, is_pawn_mate}
 use Rattle.shogi_moves.proofs.CaptureLaws.{sort_of}
 use Rattle.shogi_moves.proofs.GuardLaws.{quiet_board, quiet_drop_safe, calm_parts}
 use Rattle.shogi_moves.proofs.LegalLaws.{is_legal_code_of}
@@ -359,6 +359,46 @@ promoting_ends p capture from n targets sort ends promoting len hf hn own t s e 
 
 pub ruleset ending = (and_fits, plain_ends, promoting_ends)
 
+-- ---- all legal ends of a piece, captures and others
+
+mix_all : (other reach may live safe : Bool) → ((((other && reach) && may) && live) && safe) ≡ (((reach && other) && safe) && (may && live))
+mix_all false true may live safe = refl
+mix_all false false may live safe = refl
+mix_all true false may live safe = refl
+mix_all true true false live true = refl
+mix_all true true false live false = refl
+mix_all true true true false true = refl
+mix_all true true true false false = refl
+mix_all true true true true true = refl
+mix_all true true true true false = refl
+
+pub legal_board_code : (p : Shogi) (promote : Bool) (from to : ℕ) → length p.cells ≡ 81 → from < 81 → to < 81 → is_of p.side (piece_at p.cells from) ≡ true
+    → is_legal_code p (code_of (Board from to promote)) ≡ (((reaches p.cells from to && not (is_of p.side (piece_at p.cells to))) && is_unchecked p (Board from to false)) && ((not promote || may_promote (piece_at p.cells from) from to) && not (is_dead to (moved promote (piece_at p.cells from)))))
+legal_board_code p promote from to len hf ht own =
+    is_legal_code_of p (code_of (Board from to promote)) (Board from to promote) (move_of-board from to promote hf ht)
+    ∙ (rw (legal_board p from to promote, unchecked_either p from to promote len ht own, own)
+    (mix_all (not (is_of p.side (piece_at p.cells to))) (reaches p.cells from to) (not promote || may_promote (piece_at p.cells from) from to) (not (is_dead to (moved promote (piece_at p.cells from)))) (is_unchecked p (Board from to false))))
+
+pub plain_legal : (p : Shogi) (from n targets own ends dead : ℕ) → length p.cells ≡ 81 → from < 81 → n < 81 → is_of p.side (piece_at p.cells from) ≡ true
+    → has_bit targets n ≡ reaches p.cells from n → own < 2 ^ 81 → has_bit own n ≡ is_of p.side (piece_at p.cells n)
+    → has_bit ends n ≡ (has_bit (bit_and targets (2 ^ 128 - 1 - own)) n && is_unchecked p (Board from n false)) → dead < 2 ^ 81 → has_bit dead n ≡ is_dead n (piece_at p.cells from)
+    → has_bit (bit_and ends (2 ^ 128 - 1 - dead)) n ≡ is_legal_code p (code_of (Board from n false))
+plain_legal p from n targets own ends dead len hf hn mine t of o e fits d =
+    has_bit-and ends (2 ^ 128 - 1 - dead) n
+    ∙ (rw (e, has_bit-and targets (2 ^ 128 - 1 - own) n, has_bit-not own n (omega arith) (omega arith), t, o, has_bit-not dead n (omega arith) (omega arith), d)
+    (sym (legal_board_code p false from n len hf hn mine ∙ (rw (still n (piece_at p.cells from)) refl))))
+
+pub promoting_legal : (p : Shogi) (from n targets own ends promoting : ℕ) → length p.cells ≡ 81 → from < 81 → n < 81 → is_of p.side (piece_at p.cells from) ≡ true
+    → has_bit targets n ≡ reaches p.cells from n → own < 2 ^ 81 → has_bit own n ≡ is_of p.side (piece_at p.cells n)
+    → has_bit ends n ≡ (has_bit (bit_and targets (2 ^ 128 - 1 - own)) n && is_unchecked p (Board from n false)) → has_bit promoting n ≡ may_promote (piece_at p.cells from) from n
+    → has_bit (bit_and ends promoting) n ≡ is_legal_code p (code_of (Board from n true))
+promoting_legal p from n targets own ends promoting len hf hn mine t of o e m =
+    has_bit-and ends promoting n
+    ∙ (rw (e, has_bit-and targets (2 ^ 128 - 1 - own) n, has_bit-not own n (omega arith) (omega arith), t, o, m)
+    (sym (legal_board_code p true from n len hf hn mine ∙ (rw (alive from n (piece_at p.cells from)) refl))))
+
+pub ruleset ending_all = (and_fits, plain_legal, promoting_legal)
+
 -- ---- drops
 
 four : (a b c d : Bool) → a ≡ true → ((b && c) && d) ≡ (((a && b) && c) && d)
@@ -407,3 +447,8 @@ pub legal_other : (p : Shogi) (kind : Kind) (ends n : ℕ) → n < 81 → is_paw
 legal_other p kind ends n h other s = s ∙ (sym (legal_drop p kind n h ∙ (rw other (alone (is_safe p (Drop kind n))))))
 
 pub ruleset legal_dropping = (legal_pawn, legal_other)
+
+-- a drop takes nothing, so it is wanted where it is legal
+pub drop_wanted : (p : Shogi) (kind : Kind) (n : ℕ) → n < 81 → is_wanted p false (code_of (Drop kind n)) ≡ is_legal_code p (code_of (Drop kind n))
+drop_wanted p kind n h =
+    wanted_move p false (Drop kind n) (move_of-drop kind n h) ∙ (alone (is_legal p (Drop kind n)) ∙ sym (is_legal_code_of p (code_of (Drop kind n)) (Drop kind n) (move_of-drop kind n h)))

@@ -16,3 +16,4 @@ pub mod EndLaws
 pub mod SweepLaws
 pub mod TallyLaws
 pub mod DropChecks
+pub mod ExistenceLaws

@@ -78,11 +78,11 @@ keeps_less test place code next mask less to k up small bits above gone = record
 
 -- ---- the ends of a piece
 
-either : (plain promoting n : ℕ) → bit_or plain promoting ≡ 0 → (has_bit plain n ≡ false) × (has_bit promoting n ≡ false)
+pub either : (plain promoting n : ℕ) → bit_or plain promoting ≡ 0 → (has_bit plain n ≡ false) × (has_bit promoting n ≡ false)
 either plain promoting n none = or_parts (has_bit plain n) (has_bit promoting n) (sym (has_bit-or plain promoting n) ∙ (ap (λ m. has_bit m n) none ∙ has_bit-none n))
 
 -- a code of the piece is that of an end, without or with promotion
-at_code : (from c : ℕ) → from * 162 ≤ c → c < from * 162 + 162 → (c ≡ code_of (Board from (c / 2 % 81) false)) ⊎ (c ≡ code_of (Board from (c / 2 % 81) true))
+pub at_code : (from c : ℕ) → from * 162 ≤ c → c < from * 162 + 162 → (c ≡ code_of (Board from (c / 2 % 81) false)) ⊎ (c ≡ code_of (Board from (c / 2 % 81) true))
 at_code from c low high = elim (cases_eq (c % 2) 0) [ inl even ↦ inl (omega arith) | inr odd ↦ inr (omega arith) ]
 
 pub none_left : (p : Shogi) (capture : Bool) (from code plain promoting : ℕ) → KeepsBoard p capture from code plain promoting → bit_or plain promoting ≡ 0 → HasNoneWanted p capture code (from * 162 + 162)

@@ -1,4 +1,4 @@
--- The moves of a sort are counted by the bits of their ends.
+-- The legal moves are counted by the bits of their ends.
 use Rattle.std.proofs.Common.{◌≡◌, ℕ, ◌+◌, ◌-◌, ◌*◌, ◌/◌, ◌%◌, ◌^◌, ◌<◌, ◌≤◌, Bool, true, false, cond, refl, sym, ap, ◌∙◌, arith, inl, inr, length, List, [], ◌∷◌, filter, not}
 use Rattle.std.specs.Prelude.{zero, suc, ◌==◌, count_ones}
 use Rattle.std.specs.Int.{bit_at}
@@ -16,10 +16,11 @@ use Rattle.shogi_core.proofs.Faults.{number_below}
 use Rattle.shogi_core.specs.Bits.{has_bit}
 use Rattle.shogi_core.specs.Codes.{code_of}
 use Rattle.shogi_core.specs.Position.{Shogi}
-use Rattle.shogi_moves.specs.Captures.{is_wanted, is_of_sort, is_capture}
-use Rattle.shogi_moves.specs.Sweeps.{wanted_from}
-use Rattle.shogi_moves.proofs.CaptureLaws.{skip_one, wanted_found, wanted_jumps}
-use Rattle.shogi_moves.proofs.SweepLaws.{none_between}
+use Rattle.shogi_moves.specs.Legal.{is_legal_code}
+use Rattle.shogi_moves.specs.LegalMoves.{legal_from}
+use Rattle.shogi_moves.proofs.LegalLaws.{legal_from_found, legal_from_skips}
+use Rattle.shogi_moves.proofs.NoSafeLaws.{legal_from_jumps}
+use Rattle.shogi_moves.proofs.RunLaws.{run_squares}
 
 abbrev digit : Bool → ℕ
 digit b = cond b 1 0
@@ -66,85 +67,85 @@ ones_tally (suc k) m h =
 
 -- ---- a code more
 
-code_more : (p : Shogi) (capture : Bool) (code : ℕ) → code < 13689 → length (wanted_from p capture code) ≡ cond (is_wanted p capture code) 1 0 + length (wanted_from p capture (code + 1))
-code_more p capture code h = elim (cases_Bool (is_wanted p capture code)) [
-  | inl yes_it ↦ (let e : length (wanted_from p capture code) ≡ length (code ∷ wanted_from p capture (code + 1)) = ap length (wanted_found p capture code h yes_it) in rw yes_it (omega arith))
-  | inr not_it ↦ (let e : length (wanted_from p capture code) ≡ length (wanted_from p capture (code + 1)) = ap length (skip_one p capture code h not_it) in rw not_it (omega arith))
+code_more : (p : Shogi) (code : ℕ) → code < 13689 → length (legal_from p code) ≡ cond (is_legal_code p code) 1 0 + length (legal_from p (code + 1))
+code_more p code h = elim (cases_Bool (is_legal_code p code)) [
+  | inl yes_it ↦ (let e : length (legal_from p code) ≡ length (code ∷ legal_from p (code + 1)) = ap length (legal_from_found p code h yes_it) in rw yes_it (omega arith))
+  | inr not_it ↦ (let e : length (legal_from p code) ≡ length (legal_from p (code + 1)) = ap length (legal_from_skips p code h not_it) in rw not_it (omega arith))
 ]
 
 -- the codes of a piece, two for each square
-pairs : (p : Shogi) (capture : Bool) (from k s : ℕ) → from < 81 → s + k ≤ 81
-    → length (wanted_from p capture (from * 162 + s * 2)) ≡ (tally k (λ i. is_wanted p capture (code_of (Board from (i + s) false))) + tally k (λ i. is_wanted p capture (code_of (Board from (i + s) true)))) + length (wanted_from p capture (from * 162 + (s + k) * 2))
+pairs : (p : Shogi) (from k s : ℕ) → from < 81 → s + k ≤ 81
+    → length (legal_from p (from * 162 + s * 2)) ≡ (tally k (λ i. is_legal_code p (code_of (Board from (i + s) false))) + tally k (λ i. is_legal_code p (code_of (Board from (i + s) true)))) + length (legal_from p (from * 162 + (s + k) * 2))
 unfolding tally
-pairs p capture from zero s h l =
+pairs p from zero s h l =
     let same : from * 162 + s * 2 ≡ from * 162 + (s + 0) * 2 = omega arith in
-    let e : length (wanted_from p capture (from * 162 + s * 2)) ≡ length (wanted_from p capture (from * 162 + (s + 0) * 2)) = ap (λ (c : ℕ). length (wanted_from p capture c)) same in
+    let e : length (legal_from p (from * 162 + s * 2)) ≡ length (legal_from p (from * 162 + (s + 0) * 2)) = ap (λ (c : ℕ). length (legal_from p c)) same in
     omega arith
-pairs p capture from (suc k) s h l =
-    let W : ℕ → ℕ = λ (c : ℕ). length (wanted_from p capture c) in
-    let first = code_more p capture (from * 162 + s * 2) (omega arith) in
-    let second = code_more p capture (from * 162 + s * 2 + 1) (omega arith) in
-    let rest = pairs p capture from k (s + 1) h (omega arith) in
+pairs p from (suc k) s h l =
+    let W : ℕ → ℕ = λ (c : ℕ). length (legal_from p c) in
+    let first = code_more p (from * 162 + s * 2) (omega arith) in
+    let second = code_more p (from * 162 + s * 2 + 1) (omega arith) in
+    let rest = pairs p from k (s + 1) h (omega arith) in
     let plain : code_of (Board from (0 + s) false) ≡ from * 162 + s * 2 = omega arith in
     let promoting : code_of (Board from (0 + s) true) ≡ from * 162 + s * 2 + 1 = omega arith in
     let on : from * 162 + s * 2 + 1 + 1 ≡ from * 162 + (s + 1) * 2 = omega arith in
     let end : from * 162 + (s + 1 + k) * 2 ≡ from * 162 + (s + suc k) * 2 = omega arith in
-    let onw = ap (λ (c : ℕ). length (wanted_from p capture c)) on in
-    let endw = ap (λ (c : ℕ). length (wanted_from p capture c)) end in
-    let pw = ap (λ (c : ℕ). digit (is_wanted p capture c)) plain in
-    let qw = ap (λ (c : ℕ). digit (is_wanted p capture c)) promoting in
-    let pt = tally_same k (λ i. is_wanted p capture (code_of (Board from (i + (s + 1)) false))) (λ i. is_wanted p capture (code_of (Board from (i + 1 + s) false))) (λ i l. ap (λ (n : ℕ). is_wanted p capture (code_of (Board from n false))) (omega arith)) in
-    let qt = tally_same k (λ i. is_wanted p capture (code_of (Board from (i + (s + 1)) true))) (λ i. is_wanted p capture (code_of (Board from (i + 1 + s) true))) (λ i l. ap (λ (n : ℕ). is_wanted p capture (code_of (Board from n true))) (omega arith)) in
+    let onw = ap (λ (c : ℕ). length (legal_from p c)) on in
+    let endw = ap (λ (c : ℕ). length (legal_from p c)) end in
+    let pw = ap (λ (c : ℕ). digit (is_legal_code p c)) plain in
+    let qw = ap (λ (c : ℕ). digit (is_legal_code p c)) promoting in
+    let pt = tally_same k (λ i. is_legal_code p (code_of (Board from (i + (s + 1)) false))) (λ i. is_legal_code p (code_of (Board from (i + 1 + s) false))) (λ i l. ap (λ (n : ℕ). is_legal_code p (code_of (Board from n false))) (omega arith)) in
+    let qt = tally_same k (λ i. is_legal_code p (code_of (Board from (i + (s + 1)) true))) (λ i. is_legal_code p (code_of (Board from (i + 1 + s) true))) (λ i l. ap (λ (n : ℕ). is_legal_code p (code_of (Board from n true))) (omega arith)) in
     omega (arith, first, second, rest, onw, endw, pw, qw, pt, qt)
 
 -- the moves of a piece are as many as the bits of its ends
-pub counted_board : (p : Shogi) (capture : Bool) (from plain promoting : ℕ) → from < 81 → plain < 2 ^ 81 → promoting < 2 ^ 81
-    → ((n : ℕ) → n < 81 → has_bit plain n ≡ is_wanted p capture (code_of (Board from n false))) → ((n : ℕ) → n < 81 → has_bit promoting n ≡ is_wanted p capture (code_of (Board from n true)))
-    → length (wanted_from p capture (from * 162)) ≡ (count_ones plain + count_ones promoting) + length (wanted_from p capture (from * 162 + 162))
-counted_board p capture from plain promoting h pf qf pb qb =
-    let all = pairs p capture from 81 0 h (omega arith) in
+pub counted_board : (p : Shogi) (from plain promoting : ℕ) → from < 81 → plain < 2 ^ 81 → promoting < 2 ^ 81
+    → ((n : ℕ) → n < 81 → has_bit plain n ≡ is_legal_code p (code_of (Board from n false))) → ((n : ℕ) → n < 81 → has_bit promoting n ≡ is_legal_code p (code_of (Board from n true)))
+    → length (legal_from p (from * 162)) ≡ (count_ones plain + count_ones promoting) + length (legal_from p (from * 162 + 162))
+counted_board p from plain promoting h pf qf pb qb =
+    let all = pairs p from 81 0 h (omega arith) in
     let start : from * 162 + 0 * 2 ≡ from * 162 = omega arith in
-    let startw = ap (λ (c : ℕ). length (wanted_from p capture c)) start in
+    let startw = ap (λ (c : ℕ). length (legal_from p c)) start in
     let end : from * 162 + (0 + 81) * 2 ≡ from * 162 + 162 = omega arith in
-    let endw = ap (λ (c : ℕ). length (wanted_from p capture c)) end in
+    let endw = ap (λ (c : ℕ). length (legal_from p c)) end in
     let a = ones_tally 81 plain pf in
     let b = ones_tally 81 promoting qf in
-    let c = tally_same 81 (has_bit plain) (λ i. is_wanted p capture (code_of (Board from (i + 0) false))) (λ i l. pb i l ∙ ap (λ (n : ℕ). is_wanted p capture (code_of (Board from n false))) (omega arith)) in
-    let d = tally_same 81 (has_bit promoting) (λ i. is_wanted p capture (code_of (Board from (i + 0) true))) (λ i l. qb i l ∙ ap (λ (n : ℕ). is_wanted p capture (code_of (Board from n true))) (omega arith)) in
+    let c = tally_same 81 (has_bit plain) (λ i. is_legal_code p (code_of (Board from (i + 0) false))) (λ i l. pb i l ∙ ap (λ (n : ℕ). is_legal_code p (code_of (Board from n false))) (omega arith)) in
+    let d = tally_same 81 (has_bit promoting) (λ i. is_legal_code p (code_of (Board from (i + 0) true))) (λ i l. qb i l ∙ ap (λ (n : ℕ). is_legal_code p (code_of (Board from n true))) (omega arith)) in
     omega (arith, all, startw, endw, a, b, c, d)
 
 -- ---- drops
 
 singles : (p : Shogi) (kind : Kind) (k s : ℕ) → s + k ≤ 81
-    → length (wanted_from p false (13122 + number_of kind * 81 + s)) ≡ tally k (λ i. is_wanted p false (code_of (Drop kind (i + s)))) + length (wanted_from p false (13122 + number_of kind * 81 + (s + k)))
+    → length (legal_from p (13122 + number_of kind * 81 + s)) ≡ tally k (λ i. is_legal_code p (code_of (Drop kind (i + s)))) + length (legal_from p (13122 + number_of kind * 81 + (s + k)))
 unfolding tally
 singles p kind zero s l =
     let same : 13122 + number_of kind * 81 + s ≡ 13122 + number_of kind * 81 + (s + 0) = omega arith in
-    let e : length (wanted_from p false (13122 + number_of kind * 81 + s)) ≡ length (wanted_from p false (13122 + number_of kind * 81 + (s + 0))) = ap (λ (c : ℕ). length (wanted_from p false c)) same in
+    let e : length (legal_from p (13122 + number_of kind * 81 + s)) ≡ length (legal_from p (13122 + number_of kind * 81 + (s + 0))) = ap (λ (c : ℕ). length (legal_from p c)) same in
     omega arith
 singles p kind (suc k) s l =
     let seven : number_of kind < 7 = number_below kind in
-    let first = code_more p false (13122 + number_of kind * 81 + s) (omega arith) in
+    let first = code_more p (13122 + number_of kind * 81 + s) (omega arith) in
     let rest = singles p kind k (s + 1) (omega arith) in
     let here : code_of (Drop kind (0 + s)) ≡ 13122 + number_of kind * 81 + s = omega arith in
     let on : 13122 + number_of kind * 81 + s + 1 ≡ 13122 + number_of kind * 81 + (s + 1) = omega arith in
     let end : 13122 + number_of kind * 81 + (s + 1 + k) ≡ 13122 + number_of kind * 81 + (s + suc k) = omega arith in
-    let onw = ap (λ (c : ℕ). length (wanted_from p false c)) on in
-    let endw = ap (λ (c : ℕ). length (wanted_from p false c)) end in
-    let hw = ap (λ (c : ℕ). digit (is_wanted p false c)) here in
-    let t = tally_same k (λ i. is_wanted p false (code_of (Drop kind (i + (s + 1))))) (λ i. is_wanted p false (code_of (Drop kind (i + 1 + s)))) (λ i l. ap (λ (n : ℕ). is_wanted p false (code_of (Drop kind n))) (omega arith)) in
+    let onw = ap (λ (c : ℕ). length (legal_from p c)) on in
+    let endw = ap (λ (c : ℕ). length (legal_from p c)) end in
+    let hw = ap (λ (c : ℕ). digit (is_legal_code p c)) here in
+    let t = tally_same k (λ i. is_legal_code p (code_of (Drop kind (i + (s + 1))))) (λ i. is_legal_code p (code_of (Drop kind (i + 1 + s)))) (λ i l. ap (λ (n : ℕ). is_legal_code p (code_of (Drop kind n))) (omega arith)) in
     omega (arith, first, rest, onw, endw, hw, t)
 
-pub counted_drop : (p : Shogi) (kind : Kind) (ends : ℕ) → ends < 2 ^ 81 → ((n : ℕ) → n < 81 → has_bit ends n ≡ is_wanted p false (code_of (Drop kind n)))
-    → length (wanted_from p false (13122 + number_of kind * 81)) ≡ count_ones ends + length (wanted_from p false (13203 + number_of kind * 81))
+pub counted_drop : (p : Shogi) (kind : Kind) (ends : ℕ) → ends < 2 ^ 81 → ((n : ℕ) → n < 81 → has_bit ends n ≡ is_legal_code p (code_of (Drop kind n)))
+    → length (legal_from p (13122 + number_of kind * 81)) ≡ count_ones ends + length (legal_from p (13203 + number_of kind * 81))
 counted_drop p kind ends fits bits =
     let all = singles p kind 81 0 (omega arith) in
     let start : 13122 + number_of kind * 81 + 0 ≡ 13122 + number_of kind * 81 = omega arith in
-    let startw = ap (λ (c : ℕ). length (wanted_from p false c)) start in
+    let startw = ap (λ (c : ℕ). length (legal_from p c)) start in
     let end : 13122 + number_of kind * 81 + (0 + 81) ≡ 13203 + number_of kind * 81 = omega arith in
-    let endw = ap (λ (c : ℕ). length (wanted_from p false c)) end in
+    let endw = ap (λ (c : ℕ). length (legal_from p c)) end in
     let a = ones_tally 81 ends fits in
-    let b = tally_same 81 (has_bit ends) (λ i. is_wanted p false (code_of (Drop kind (i + 0)))) (λ i l. bits i l ∙ ap (λ (n : ℕ). is_wanted p false (code_of (Drop kind n))) (omega arith)) in
+    let b = tally_same 81 (has_bit ends) (λ i. is_legal_code p (code_of (Drop kind (i + 0)))) (λ i l. bits i l ∙ ap (λ (n : ℕ). is_legal_code p (code_of (Drop kind n))) (omega arith)) in
     omega (arith, all, startw, endw, a, b)
 
 -- a mask of squares has 81 bits at most
@@ -152,15 +153,5 @@ pub ones_most : (m : ℕ) → m < 2 ^ 81 → count_ones m ≤ 81
 ones_most m h = omega (arith, ones_tally 81 m h, tally_most 81 (has_bit m))
 
 -- squares without a piece of the side add nothing
-pub counted_between : (p : Shogi) (capture : Bool) (own from next : ℕ) → from ≤ next → next ≤ 81 → ((n : ℕ) → n < 81 → has_bit own n ≡ is_of p.side (piece_at p.cells n)) → ((n : ℕ) → from ≤ n → n < next → has_bit own n ≡ false) → length (wanted_from p capture (from * 162)) ≡ length (wanted_from p capture (next * 162))
-counted_between p capture own from next up h bits none = ap length (wanted_jumps p capture (from * 162) (next * 162) (omega arith) (omega arith) (none_between p capture own from next h bits none))
-
--- each move is of one sort
-pub both_sorts : (p : Shogi) (xs : List ℕ) → length xs ≡ length (filter (is_of_sort p true) xs) + length (filter (is_of_sort p false) xs)
-both_sorts p [] = refl
-both_sorts p (x ∷ xs) = go (is_capture p x) (both_sorts p xs)
-  where
-    go : (b : Bool) → length xs ≡ length (filter (is_of_sort p true) xs) + length (filter (is_of_sort p false) xs)
-        → length (x ∷ xs) ≡ length (cond b (x ∷ filter (is_of_sort p true) xs) (filter (is_of_sort p true) xs)) + length (cond (not b) (x ∷ filter (is_of_sort p false) xs) (filter (is_of_sort p false) xs))
-    go true e = omega arith
-    go false e = omega arith
+pub counted_between : (p : Shogi) (own from next : ℕ) → from ≤ next → next ≤ 81 → ((n : ℕ) → n < 81 → has_bit own n ≡ is_of p.side (piece_at p.cells n)) → ((n : ℕ) → from ≤ n → n < next → has_bit own n ≡ false) → length (legal_from p (from * 162)) ≡ length (legal_from p (next * 162))
+counted_between p own from next up h bits none = ap length (legal_from_jumps p (from * 162) (next * 162) (omega arith) (omega arith) (run_squares p own from next (from * 162) (omega arith) h bits none))

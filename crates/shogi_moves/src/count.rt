@@ -1,29 +1,28 @@
 //! Counting sequences of legal moves.
 
-ghost use Rattle.std.specs.Prelude.{◌≡◌, ◌≤◌, ◌<◌, ◌^◌, ◌+◌, ◌↔◌, IfSome, IsNone, length, true, false};
-ghost use Rattle.shogi_moves.specs.LegalMoves.{paths};
+ghost use Rattle.std.specs.Prelude.{◌≡◌, ◌≤◌, ◌<◌, ◌^◌, ◌+◌, ◌↔◌, IfSome, IsNone, length};
+ghost use Rattle.shogi_moves.specs.LegalMoves.{legal_from, legal_moves, paths};
 ghost use Rattle.shogi_moves.specs.Guards.{Guards};
-ghost use Rattle.shogi_moves.specs.Sweeps.{wanted_from};
 
 use crate::after::apply;
 use crate::walk::Walk;
-use crate::ends::{board_ends, drop_ends};
+use crate::ends::{drop_ends, legal_ends};
 use crate::guard::{Guard, guard_of};
 use crate::sweep::next_kind;
 use shogi_core::bits::next_of;
 use shogi_core::{Kind, Position, Square};
 
-/// How many board moves of the sort are legal.
-fn count_board(p: &Position, guard: &Guard, capture: bool) -> u64
+/// How many board moves are legal.
+fn count_board(p: &Position, guard: &Guard) -> u64
     requires guard { Guards p.now guard.now.checked guard.now.exposed }
-    ensures count { result + length (wanted_from p.now capture 13122) ≡ length (wanted_from p.now capture 0) }
+    ensures count { result + length (legal_from p.now 13122) ≡ length (legal_moves p.now) }
     ensures bound { result ≤ 13122 }
 {
     let own = p.own(p.side());
     let mut total: u64 = 0;
     let mut square = next_of(own, 0);
     'squares: while square < 81 {
-        let ends = board_ends(p, guard, capture, Square::of_index(square));
+        let ends = legal_ends(p, guard, Square::of_index(square));
         total += (ends.plain.count_ones() + ends.promoting.count_ones()) as u64;
         square = next_of(own, square + 1);
     }
@@ -33,7 +32,7 @@ fn count_board(p: &Position, guard: &Guard, capture: bool) -> u64
 /// How many drops are legal.
 fn count_drops(p: &Position, guard: &Guard) -> u64
     requires guard { Guards p.now guard.now.checked guard.now.exposed }
-    ensures count { result ≡ length (wanted_from p.now false 13122) }
+    ensures count { result ≡ length (legal_from p.now 13122) }
     ensures bound { result ≤ 567 }
 {
     let mut kind = Kind::Pawn;
@@ -51,7 +50,7 @@ fn count_legal(p: &Position) -> u64
     ensures bound { result < 2 ^ 64 }
 {
     let guard = guard_of(p);
-    count_board(p, &guard, true) + count_board(p, &guard, false) + count_drops(p, &guard)
+    count_board(p, &guard) + count_drops(p, &guard)
 }
 
 /// How many sequences of n legal moves there are from the position, with `None` exactly where the

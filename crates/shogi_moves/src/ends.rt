@@ -3,7 +3,7 @@
 ghost use Rattle.std.specs.Prelude.{◌≡◌, ◌<◌, ◌^◌, ◌&&◌, ℕ, not, true, false, None, slice_set};
 ghost use Rattle.shogi_core.specs.declared.moves.Move.TheVariants as moves;
 ghost use Rattle.shogi_core.specs.declared.piece.Kind.TheVariants as kinds;
-ghost use Rattle.shogi_moves.specs.Legal.{is_right_drop, is_safe, is_pawn_mate};
+ghost use Rattle.shogi_moves.specs.Legal.{is_legal_code, is_right_drop, is_safe, is_pawn_mate};
 ghost use Rattle.shogi_core.specs.Attack.{in_check};
 ghost use Rattle.shogi_core.specs.Bits.{has_bit};
 ghost use Rattle.shogi_core.specs.Cell.{is_of};
@@ -111,6 +111,28 @@ pub fn board_ends(p: &Position, guard: &Guard, capture: bool, from: Square) -> E
     p.validity();
     from.index();
     let among = p.targets(from) & ends_of_sort(p, capture);
+    let ends = safe_ends(p, guard, from, among);
+    let piece = p.at(from);
+    Ends {
+        plain: ends & !dead_squares(piece),
+        promoting: ends & promoting_squares(piece, from),
+    }
+}
+
+/// All legal ends of one of the pieces of the side to move.
+#[tactic(auto, using(crate::proofs::EndLaws::ending_all))]
+pub fn legal_ends(p: &Position, guard: &Guard, from: Square) -> Ends
+    requires guard { Guards p.now guard.now.checked guard.now.exposed }
+    requires own { is_of p.now.side (piece_at p.now.cells from) ≡ true }
+    ensures plain { (n : ℕ) → n < 81 → has_bit result.plain n ≡ is_legal_code p.now (code_of (moves.Board from n false)) }
+    ensures promoting { (n : ℕ) → n < 81 → has_bit result.promoting n ≡ is_legal_code p.now (code_of (moves.Board from n true)) }
+    ensures plain_fits { result.plain < 2 ^ 81 }
+    ensures promoting_fits { result.promoting < 2 ^ 81 }
+{
+    p.validity();
+    from.index();
+    let own = p.own(p.side());
+    let among = p.targets(from) & !own;
     let ends = safe_ends(p, guard, from, among);
     let piece = p.at(from);
     Ends {

@@ -1,6 +1,7 @@
 //! What is kept of a position, so that most of its moves need no look at checks.
 
 ghost use Rattle.std.specs.Prelude.{◌≡◌, ◌<◌, ◌^◌, ◌&&◌, not, false};
+ghost use Rattle.shogi_core.specs.Attack.{in_check};
 ghost use Rattle.shogi_core.specs.Bits.{has_bit};
 ghost use Rattle.shogi_moves.specs.Guards.{Guards, Exposes};
 
@@ -30,15 +31,33 @@ fn exposed_squares(p: &Position, side: Color) -> u128
     exposed
 }
 
-/// What is kept of the position.
+/// What is kept of a position of which it is known whether the side to move is in check.
 #[tactic(auto, using(crate::proofs::GuardLaws::guards_from))]
+pub fn full_guard(p: &Position, checked: bool) -> Guard
+    requires { checked ≡ in_check p.now.cells p.now.side }
+    ensures { Guards p.now result.checked result.exposed }
+{
+    Guard {
+        checked,
+        exposed: exposed_squares(p, p.side()),
+    }
+}
+
+/// What is kept of the position.
 pub fn guard_of(p: &Position) -> Guard
     ensures { Guards p.now result.checked result.exposed }
 {
-    let side = p.side();
+    full_guard(p, p.in_check(p.side()))
+}
+
+/// What is kept where no piece is looked for that may leave its square: each is held to be exposed.
+#[tactic(auto, using(crate::proofs::ExistenceLaws::guards_rough))]
+pub fn rough_guard(p: &Position) -> Guard
+    ensures { Guards p.now result.checked result.exposed }
+{
     Guard {
-        checked: p.in_check(side),
-        exposed: exposed_squares(p, side),
+        checked: p.in_check(p.side()),
+        exposed: 2417851639229258349412351,
     }
 }
 

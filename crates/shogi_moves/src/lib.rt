@@ -6,13 +6,14 @@ mod attack;
 mod capture;
 mod count;
 mod ends;
+mod existence;
 mod guard;
 mod legal;
 mod next;
 mod safe;
+mod sweep;
 #[cfg(test)]
 mod tests;
-mod sweep;
 mod walk;
 mod zones;
 
@@ -20,8 +21,9 @@ pub use after::apply;
 pub use attack::{in_check, is_attacked};
 pub use capture::next_legal_of;
 pub use count::perft;
+pub use existence::has_legal;
 pub use guard::{Guard, guard_of};
 pub use legal::is_legal;
-pub use next::{has_legal, next_legal};
+pub use next::next_legal;
 pub use sweep::{BoardSweep, DropSweep};
 pub use walk::Walk;

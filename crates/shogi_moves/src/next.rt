@@ -1,6 +1,6 @@
 //! The legal moves in the order of their codes.
 
-ghost use Rattle.std.specs.Prelude.{◌≡◌, ◌≢◌, ◌↔◌, ◌≤◌, ◌<◌, ◌+◌, true, false, [], ◌∷◌, IsTrue, IfSome, IsNone, MatchOption, Some};
+ghost use Rattle.std.specs.Prelude.{◌≡◌, ◌≤◌, ◌<◌, ◌+◌, true, [], ◌∷◌, IfSome, MatchOption, Some};
 ghost use Rattle.shogi_core.specs.Codes.{code_of};
 ghost use Rattle.shogi_moves.specs.Guards.{Guards};
 ghost use Rattle.shogi_moves.specs.Legal.{is_legal};
@@ -44,11 +44,4 @@ pub fn next_legal(p: &Position, after: Option<Move>) -> Option<Move>
         None => least_from(p, &guard_of(p), 0),
         Some(m) => least_from(p, &guard_of(p), m.code() + 1),
     }
-}
-
-/// Whether some move is legal.
-pub fn has_legal(p: &Position) -> bool
-    ensures { IsTrue result ↔ (legal_moves p.now ≢ []) }
-{
-    next_legal(p, None).is_some()
 }

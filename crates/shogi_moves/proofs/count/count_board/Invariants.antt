@@ -1,11 +1,11 @@
 use Rattle.std.proofs.Common.{◌≡◌, ◌-◌, ◌+◌, ◌<◌, ◌≤◌, ◌*◌, true, length}
 use Rattle.shogi_core.specs.Bits.{has_bit}
-use Rattle.shogi_moves.specs.Sweeps.{wanted_from}
+use Rattle.shogi_moves.specs.LegalMoves.{legal_from}
 use Rattle.shogi_moves.proofs.count.count_board.Given as goal
 
 abbrev pub invariant-squares : goal.invariant-squares
 invariant-squares l = record {
-  whole : l.total + length (wanted_from l.p l.capture (l.square * 162)) ≡ length (wanted_from l.p l.capture 0);
+  whole : l.total + length (legal_from l.p (l.square * 162)) ≡ length (legal_from l.p 0);
   bound : l.total ≤ l.square * 162;
   within : l.square ≤ 81;
   mine : l.square < 81 → has_bit l.own l.square ≡ true;

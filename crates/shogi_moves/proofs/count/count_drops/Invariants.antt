@@ -1,11 +1,11 @@
 use Rattle.std.proofs.Common.{◌≡◌, ◌-◌, ◌+◌, ◌≤◌, ◌*◌, false, length}
 use Rattle.shogi_core.specs.Pieces.{number_of}
-use Rattle.shogi_moves.specs.Sweeps.{wanted_from}
+use Rattle.shogi_moves.specs.LegalMoves.{legal_from}
 use Rattle.shogi_moves.proofs.count.count_drops.Given as goal
 
 abbrev pub invariant-kinds : goal.invariant-kinds
 invariant-kinds l = record {
-  whole : l.total + length (wanted_from l.p false (13203 + number_of l.kind * 81)) ≡ length (wanted_from l.p false 13122);
+  whole : l.total + length (legal_from l.p (13203 + number_of l.kind * 81)) ≡ length (legal_from l.p 13122);
   bound : l.total ≤ 81 + number_of l.kind * 81;
 }
 

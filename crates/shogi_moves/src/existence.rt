@@ -1,0 +1,59 @@
+//! Whether some move is legal.
+
+ghost use Rattle.std.specs.Prelude.{◌≡◌, ◌≢◌, ◌↔◌, true, false, [], IsTrue};
+ghost use Rattle.shogi_moves.specs.Guards.{Guards};
+ghost use Rattle.shogi_moves.specs.LegalMoves.{legal_from, legal_moves};
+
+use crate::ends::{drop_ends, legal_ends};
+use crate::guard::{Guard, full_guard, rough_guard};
+use crate::sweep::next_kind;
+use shogi_core::bits::next_of;
+use shogi_core::{Kind, Position, Square};
+
+/// Whether a piece on the board has a legal move.
+fn has_board_move(p: &Position, guard: &Guard) -> bool
+    requires { Guards p.now guard.now.checked guard.now.exposed }
+    ensures some { result ≡ true → legal_moves p.now ≢ [] }
+    ensures none { result ≡ false → legal_moves p.now ≡ legal_from p.now 13122 }
+{
+    let own = p.own(p.side());
+    let mut square = next_of(own, 0);
+    'squares: while square < 81 {
+        let ends = legal_ends(p, guard, Square::of_index(square));
+        if ends.plain | ends.promoting != 0 {
+            return true;
+        }
+        square = next_of(own, square + 1);
+    }
+    false
+}
+
+/// Whether a held piece has a legal drop.
+fn has_drop(p: &Position, guard: &Guard) -> bool
+    requires { Guards p.now guard.now.checked guard.now.exposed }
+    ensures some { result ≡ true → legal_moves p.now ≢ [] }
+    ensures none { result ≡ false → legal_from p.now 13122 ≡ [] }
+{
+    let mut kind = Kind::Pawn;
+    if drop_ends(p, guard, kind) != 0 {
+        return true;
+    }
+    'kinds: while let Some(next) = next_kind(kind) {
+        if drop_ends(p, guard, next) != 0 {
+            return true;
+        }
+        kind = next;
+    }
+    false
+}
+
+/// Whether some move is legal.
+pub fn has_legal(p: &Position) -> bool
+    ensures { IsTrue result ↔ (legal_moves p.now ≢ []) }
+{
+    let rough = rough_guard(p);
+    if rough.checked {
+        return has_board_move(p, &rough) || has_drop(p, &rough);
+    }
+    has_drop(p, &rough) || has_board_move(p, &full_guard(p, false))
+}
