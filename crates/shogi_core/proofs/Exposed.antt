@@ -198,3 +198,74 @@ module _ (old new : Cells) (Left : ℕ → Type 0) (opened : (x : ℕ) → is_no
       both_ways (is_attacked new (opponent_of color) k)
       (attacked_was_but (opponent_of color) k (λ a own. elim (kept a own) [ inl same ↦ inl same | inr short ↦ inr (short k l parts.0) ])
       (λ x left. false_from_ne_true _ (λ lined. both_ways (is_line_to_king old color x k) (some_below_not 81 (is_line_to_king old color x) k (free x left) l) (and_from _ _ king lined))) shut) parts.1))
+
+-- ---- a check that stays
+
+module _ (old new : Cells) (to : ℕ) (shut : (x : ℕ) → is_none (piece_at old x) ≡ true → (is_none (piece_at new x) ≡ true) ⊎ (x ≡ to)) where
+  -- a clear square is clear after the move, or the move ends there
+  stays_clear : (o : Offset) (a i : ℕ) → is_clear old o a i ≡ true → (is_clear new o a i ≡ true) ⊎ (away (i + 1) o a ≡ Some to)
+  stays_clear o a i e = found (away (i + 1) o a) refl e
+    where
+      found : (s : Option ℕ) → away (i + 1) o a ≡ s → is_empty old s ≡ true → (is_clear new o a i ≡ true) ⊎ (away (i + 1) o a ≡ Some to)
+      found None at e = absurd (cc)
+      found (Some x) at e = elim (shut x e) [
+        | inl still ↦ inl (ap (is_empty new) at ∙ still)
+        | inr there ↦ inr (at ∙ ap Some there)
+      ]
+
+  -- where the end is on no such line with s, a slide to s is still there
+  slide_stays : (o : Offset) (a s : ℕ) → slides old o to s ≡ false → slides old o a s ≡ true → slides new o a s ≡ true
+  slide_stays o a s off e =
+      let which = some_below_which 8 (slides_past old o a s) e in
+      let n = which.0 in
+      let parts : (leads (n + 1) o a s ≡ true) × (all_below n (is_clear old o a) ≡ true) = and_parts _ _ which.2 in
+      some_below_at 8 (slides_past new o a s) n which.1 (and_from _ _ parts.0 (all_below_yes n (is_clear new o a) (λ i l. elim (stays_clear o a i (all_below_at n (is_clear old o a) i parts.1 l)) [
+        | inl clear ↦ clear
+        | inr at ↦ absurd (
+            let sum : i + 1 + (n - suc i + 1) ≡ n + 1 = omega arith in
+            let led : away (n - suc i + 1) o to ≡ Some s = away_on (i + 1) (n - suc i + 1) o a to at ∙ (ap (λ (k : ℕ). away k o a) sum ∙ leads_is _ s parts.0) in
+            both_ways (slides old o to s) off
+            (some_below_at 8 (slides_past old o to s) (n - suc i) (omega (arith, which.1)) (and_from _ _ (is_leads _ s led) (all_below_yes (n - suc i) (is_clear old o to) (λ j m.
+                let further : i + 1 + (j + 1) ≡ i + 1 + j + 1 = omega arith in
+                ap (is_empty old) (away_on (i + 1) (j + 1) o a to at ∙ ap (λ (k : ℕ). away k o a) further) ∙ all_below_at n (is_clear old o a) (i + 1 + j) parts.1 (omega arith))))))
+      ])))
+
+  has_slide_stays : (piece : Piece) (a s : ℕ) → are_lined old to s ≡ false → has_slide old piece a s ≡ true → has_slide new piece a s ≡ true
+  unfolding are_lined
+  has_slide_stays piece a s off e = each (slides_of piece.role) (slides_around piece.color piece.role) e
+    where
+      each : (os : List Offset) → list_all (λ o. list_any (same_way (seen_by piece.color o)) around) os ≡ true → list_any (λ o. slides old (seen_by piece.color o) a s) os ≡ true → list_any (λ o. slides new (seen_by piece.color o) a s) os ≡ true
+      each [] all e = e
+      each (o ∷ os) all e =
+          let parts : (list_any (same_way (seen_by piece.color o)) around ≡ true) × (list_all (λ p. list_any (same_way (seen_by piece.color p)) around) os ≡ true) = and_parts _ _ all in
+          let far : slides old (seen_by piece.color o) to s ≡ false = false_from_ne_true _ (λ lined. both_ways (list_any (λ d. slides old d to s) around) off (one_of (λ d. slides old d to s) (seen_by piece.color o) around parts.0 lined)) in
+          elim (or_cases _ _ e) [
+            | inl here ↦ or_left _ _ (slide_stays (seen_by piece.color o) a s far here)
+            | inr later ↦ or_right (slides new (seen_by piece.color o) a s) _ (each os parts.1 later)
+          ]
+
+  -- a move that takes no attacker, moves no king and ends on no open line with one leaves the check
+  pub check_stays : (color : Color) → ((a : ℕ) → is_of (opponent_of color) (piece_at old a) ≡ true → piece_at new a ≡ piece_at old a)
+      → ((k : ℕ) → is_king color (piece_at old k) ≡ true → piece_at new k ≡ piece_at old k)
+      → is_lined_with_king old color to ≡ false → in_check old color ≡ true → in_check new color ≡ true
+  unfolding in_check is_lined_with_king reaches
+  check_stays color kept kings off check =
+      let which = some_below_which 81 (is_open_king old color) check in
+      let k = which.0 in
+      let parts : (is_king color (piece_at old k) ≡ true) × (is_attacked old (opponent_of color) k ≡ true) = and_parts _ _ which.2 in
+      let who = some_below_which 81 (is_attacked_from old (opponent_of color) k) parts.1 in
+      let a = who.0 in
+      let both : (is_of (opponent_of color) (piece_at old a) ≡ true) × (reaches old a k ≡ true) = and_parts _ _ who.2 in
+      let same : piece_at new a ≡ piece_at old a = kept a both.0 in
+      let far : are_lined old to k ≡ false = false_from_ne_true _ (λ lined. both_ways (is_line_to_king old color to k) (some_below_not 81 (is_line_to_king old color to) k off which.1) (and_from _ _ parts.0 lined)) in
+      some_below_at 81 (is_open_king new color) k which.1
+      (and_from _ _ (ap (is_king color) (kings k parts.0) ∙ parts.0)
+      (some_below_at 81 (is_attacked_from new (opponent_of color) k) a who.1
+      (and_from _ _ (ap (is_of (opponent_of color)) same ∙ both.0) (ap (λ cell. cell_reaches new cell a k) same ∙ reached (piece_at old a) a k far both.1))))
+    where
+      reached : (cell : Option Piece) (a s : ℕ) → are_lined old to s ≡ false → cell_reaches old cell a s ≡ true → cell_reaches new cell a s ≡ true
+      reached None a s off e = e
+      reached (Some piece) a s off e = elim (or_cases (has_step piece a s) (has_slide old piece a s) e) [
+        | inl step ↦ or_left (has_step piece a s) (has_slide new piece a s) step
+        | inr slide ↦ or_right (has_step piece a s) (has_slide new piece a s) (has_slide_stays piece a s off slide)
+      ]

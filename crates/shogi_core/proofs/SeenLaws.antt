@@ -90,7 +90,7 @@ slide_seen cells piece a b h e =
     list_any_among (λ o. slides cells o b a) (λ o. back (seen_by piece.color o)) (slides_of piece.role) around (slides_back_around piece.color piece.role)
     (list_any_kept (λ o. slides cells (seen_by piece.color o) a b) (λ o. slides cells (back (seen_by piece.color o)) b a) (slides_of piece.role) (λ o e. slides_back cells (seen_by piece.color o) a b h e) e)
 
-leads_back : (o : Offset) (a b : ℕ) → a < 81 → leads 1 o a b ≡ true → leads 1 (back o) b a ≡ true
+pub leads_back : (o : Offset) (a b : ℕ) → a < 81 → leads 1 o a b ≡ true → leads 1 (back o) b a ≡ true
 leads_back o a b h e = is_leads _ a (away_back 1 o a b h (leads_is _ b e))
 
 step_slides : (cells : Cells) (o : Offset) (a b : ℕ) → leads 1 o a b ≡ true → slides cells o a b ≡ true

@@ -73,6 +73,13 @@ impl Position {
         self.board
     }
 
+    /// The board, lent.
+    pub fn as_board(&self) -> &Board
+        ensures { result.now ≡ self.now.cells }
+    {
+        &self.board
+    }
+
     /// What both sides hold.
     pub fn hands(&self) -> Hands
         ensures { result ≡ self.now.hands }

@@ -1,7 +1,7 @@
 -- A drop uncovers nothing: the other king is attacked after it by the dropped piece or not at all.
-use Rattle.std.proofs.Common.{◌≡◌, ℕ, ◌<◌, ◌⊎◌, Bool, true, false, Option, Some, None, refl, sym, ap, ◌∙◌, arith, inl, inr, set, length, bit_and, get_or-set_same, get_or-set_other}
-use Rattle.std.specs.Prelude.{is_none, ◌&&◌, ◌||◌, not}
-use Rattle.std.proofs.lemmas.Bool.{cases_eq, both_ways}
+use Rattle.std.proofs.Common.{◌≡◌, ℕ, pos, negsuc, ◌<◌, ◌⊎◌, Bool, true, false, Option, Some, None, refl, sym, ap, ◌∙◌, arith, inl, inr, set, length, bit_or, subst, get_or-set_same, get_or-set_other}
+use Rattle.std.specs.Prelude.{is_none, ◌&&◌, ◌||◌, ◌==◌, not}
+use Rattle.std.proofs.lemmas.Bool.{cases_eq, both_ways, false_from_ne_true, and_from, or_left, or_right, not_from_false, ne_eqb}
 use Rattle.shogi_core.specs.declared.piece.Color.{Color}
 use Rattle.shogi_core.specs.declared.piece.Color.TheVariants.{Black, White}
 use Rattle.shogi_core.specs.declared.piece.Kind.{Kind}
@@ -12,15 +12,19 @@ use Rattle.shogi_core.specs.declared.piece.Role.TheVariants.{Pawn}
 use Rattle.shogi_core.specs.Attack.{in_check}
 use Rattle.shogi_core.specs.Bits.{has_bit}
 use Rattle.shogi_core.specs.Validity.{IsValid}
-use Rattle.shogi_core.proofs.BitLaws.{has_bit-and, has_bit-none}
+use Rattle.shogi_core.proofs.BitLaws.{has_bit-or, has_bit-none}
 use Rattle.shogi_core.proofs.Faults.{faultless_from}
 use Rattle.shogi_core.specs.Cell.{is_of, is_king}
-use Rattle.shogi_core.specs.Movement.{Cells, piece_at, reaches, has_step}
+use Rattle.shogi_core.specs.Movement.{Cells, piece_at, reaches, has_step, leads, by}
 use Rattle.shogi_core.specs.Pieces.{opponent_of}
 use Rattle.shogi_core.specs.Position.{Shogi}
+use Rattle.shogi_core.specs.Lines.{back}
+use Rattle.shogi_core.specs.declared.offset.Offset.{Offset}
 use Rattle.shogi_core.proofs.Exposed.{check_was_but}
+use Rattle.shogi_core.proofs.SeenLaws.{leads_back}
 use Rattle.shogi_moves.specs.After.{cells_after, dropped}
 use Rattle.shogi_moves.specs.Legal.{is_pawn_mate}
+use Rattle.shogi_moves.proofs.ZoneLaws.{more_fits}
 
 no_king : (side : Color) (kind : Kind) → is_king (opponent_of side) (dropped side kind) ≡ false
 no_king Black kind = refl
@@ -59,28 +63,46 @@ pub fair_pawn : (p : Shogi) (to : ℕ) → length p.cells ≡ 81 → to < 81 →
     → is_pawn_mate p (Drop kinds.Pawn to) ≡ false
 fair_pawn p to len ht safe short = rw (drop_shut p.cells p.side kinds.Pawn to len ht safe short) refl
 
-not_both : (a b : Bool) → (a && b) ≡ false → b ≡ true → a ≡ false
-not_both true b e h = absurd (both_ways b e h)
-not_both false b e h = refl
-
 step_alone : (a : Bool) → (a || false) ≡ a
 step_alone true = refl
 step_alone false = refl
-
-pawn : Color → Piece
-pawn side = record { color = side; role = Pawn }
 
 pawn_reaches : (cells : Cells) (side : Color) (to k : ℕ) → length cells ≡ 81 → to < 81 → reaches (cells_after cells side (Drop kinds.Pawn to)) to k ≡ has_step (record { color = side; role = Pawn }) to k
 unfolding reaches
 pawn_reaches cells side to k len ht = rw (get_or-set_same cells to (dropped side kinds.Pawn) None (omega arith)) (step_alone (has_step (record { color = side; role = Pawn }) to k))
 
-pub far_pawn : (p : Shogi) (to steps kings : ℕ) → IsValid p → to < 81 → ((k : ℕ) → k < 81 → has_bit steps k ≡ has_step (record { color = p.side; role = Pawn }) to k) → ((k : ℕ) → k < 81 → has_bit kings k ≡ is_king (opponent_of p.side) (piece_at p.cells k))
-    → bit_and steps kings ≡ 0 → is_pawn_mate p (Drop kinds.Pawn to) ≡ false
-far_pawn p to steps kings v ht s b none = fair_pawn p to v.cells_fit ht (faultless_from p v.no_fault).shut (λ k h king.
-    pawn_reaches p.cells p.side to k v.cells_fit ht ∙ (sym (s k h) ∙ not_both (has_bit steps k) (has_bit kings k) (sym (has_bit-and steps kings k) ∙ (ap (λ m. has_bit m k) none ∙ has_bit-none k)) (b k h ∙ old_king k king)))
+step_back : (o : Offset) (n k : ℕ) → n < 81 → (leads 1 o n k || false) ≡ true → (leads 1 (back o) k n || false) ≡ true
+step_back o n k h e = step_alone (leads 1 (back o) k n) ∙ leads_back o n k h (sym (step_alone (leads 1 o n k)) ∙ e)
+
+-- a pawn of the other side on the king's square would step to where a pawn attacks it from
+pub pawn_back : (side : Color) (n k : ℕ) → n < 81 → has_step (record { color = side; role = Pawn }) n k ≡ true → has_step (record { color = opponent_of side; role = Pawn }) k n ≡ true
+pawn_back Black n k h e = step_back (by (pos 0) (negsuc 0)) n k h e
+pawn_back White n k h e = step_back (by (pos 0) (pos 1)) n k h e
+
+-- all squares are among the faces that a pawn may attack a king from which is not left
+pub record IsFacing (p : Shogi) (left faces : ℕ) : Type 0 where
+  pub all : (k n : ℕ) → k < 81 → n < 81 → is_king (opponent_of p.side) (piece_at p.cells k) ≡ true → has_bit left k ≡ false → has_step (record { color = opponent_of p.side; role = Pawn }) k n ≡ true → has_bit faces n ≡ true
+
+pub facing_first : (p : Shogi) (kings : ℕ) → ((k : ℕ) → k < 81 → has_bit kings k ≡ is_king (opponent_of p.side) (piece_at p.cells k)) → IsFacing p kings 0
+facing_first p kings bits = record { all = λ k n h l king out step. absurd (both_ways (has_bit kings k) out (bits k h ∙ king)) }
+
+pub facing_more : (p : Shogi) (left next faces king steps : ℕ) → IsFacing p left faces → ((i : ℕ) → has_bit next i ≡ (has_bit left i && not (i == king))) → ((n : ℕ) → n < 81 → has_bit steps n ≡ has_step (record { color = opponent_of p.side; role = Pawn }) king n) → IsFacing p next (bit_or faces steps)
+facing_more p left next faces king steps f bits s = record {
+  all = λ k n h l crown out step. has_bit-or faces steps n ∙ elim (cases_eq k king) [
+    | inl same ↦ or_right (has_bit faces n) (has_bit steps n) (s n l ∙ subst (λ (j : ℕ). has_step (record { color = opponent_of p.side; role = Pawn }) j n ≡ true) same step)
+    | inr other ↦ or_left _ _ (f.all k n h l crown (false_from_ne_true (has_bit left k) (λ set. both_ways (has_bit next k) out (bits k ∙ and_from _ _ set (not_from_false _ (ne_eqb k king other))))) step)
+  ];
+}
+
+pub far_pawn : (p : Shogi) (to faces : ℕ) → IsValid p → to < 81 → IsFacing p 0 faces → has_bit faces to ≡ false → not (is_pawn_mate p (Drop kinds.Pawn to)) ≡ true
+far_pawn p to faces v ht f out = ap not (fair_pawn p to v.cells_fit ht (faultless_from p v.no_fault).shut (λ k h king.
+    pawn_reaches p.cells p.side to k v.cells_fit ht
+    ∙ false_from_ne_true (has_step (record { color = p.side; role = Pawn }) to k) (λ step. both_ways (has_bit faces to) out (f.all k to h ht (old_king k king) (has_bit-none k) (pawn_back p.side to k ht step)))))
   where
     old_king : (k : ℕ) → is_king (opponent_of p.side) (piece_at (cells_after p.cells p.side (Drop kinds.Pawn to)) k) ≡ true → is_king (opponent_of p.side) (piece_at p.cells k) ≡ true
     old_king k e = elim (look p.cells p.side kinds.Pawn to v.cells_fit ht k) [
       | inl there ↦ absurd (both_ways (is_king (opponent_of p.side) (dropped p.side kinds.Pawn)) (no_king p.side kinds.Pawn) (ap (is_king (opponent_of p.side)) (sym there.1) ∙ e))
       | inr same ↦ ap (is_king (opponent_of p.side)) (sym same) ∙ e
     ]
+
+pub ruleset facing = (facing_first, far_pawn, more_fits)

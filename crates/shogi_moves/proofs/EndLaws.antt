@@ -1,5 +1,5 @@
 -- Where a piece may legally end.
-use Rattle.std.proofs.Common.{◌≡◌, ℕ, ◌-◌, ◌^◌, ◌<◌, Bool, true, false, not, Option, Some, None, refl, sym, ap, ◌∙◌, arith, inl, inr, subst, bit_and, length, cond, set, get_or-set_same, get_or-set_other, length-set, ◌⊎◌}
+use Rattle.std.proofs.Common.{◌≡◌, ◌≢◌, ℕ, ◌-◌, ◌^◌, ◌<◌, Bool, true, false, not, Option, Some, None, refl, sym, ap, ◌∙◌, arith, inl, inr, subst, bit_and, bit_or, length, cond, set, get_or-set_same, get_or-set_other, length-set, ◌⊎◌}
 use Rattle.std.specs.Prelude.{◌&&◌, ◌||◌, ◌==◌, is_none, is_some, ◌%◌, ◌/◌, nat_lt}
 use Rattle.std.proofs.lemmas.Bool.{cases_eq, cases_Bool, ne_eqb, eq-eqb, and_parts, and_from, both_ways, lt-ltb, not-true}
 use Rattle.shogi_core.specs.declared.moves.Move.{Move}
@@ -12,14 +12,14 @@ use Rattle.shogi_core.specs.declared.piece.Color.TheVariants.{Black, White}
 use Rattle.shogi_core.specs.declared.piece.Role.{Role}
 use Rattle.shogi_core.specs.declared.piece.Role.TheVariants.{Pawn, Lance, Knight, Silver, Gold, Bishop, Rook, King, PromotedPawn, PromotedLance, PromotedKnight, PromotedSilver, Horse, Dragon}
 use Rattle.shogi_core.specs.declared.piece.Piece.{Piece}
-use Rattle.shogi_core.specs.Attack.{in_check}
+use Rattle.shogi_core.specs.Attack.{in_check, is_attacked}
 use Rattle.shogi_core.specs.Bits.{has_bit}
 use Rattle.shogi_core.specs.Cell.{is_of, is_dead, is_dead_role, is_king, is_king_role}
 use Rattle.shogi_core.specs.Codes.{move_of, code_of}
 use Rattle.shogi_core.specs.Movement.{Cells, piece_at, reaches}
 use Rattle.shogi_core.specs.Pieces.{opponent_of, is_same_color, promoted}
 use Rattle.shogi_core.specs.Position.{Shogi, held}
-use Rattle.shogi_core.proofs.BitLaws.{has_bit-and, has_bit-none}
+use Rattle.shogi_core.proofs.BitLaws.{has_bit-and, has_bit-or, has_bit-none}
 use Rattle.shogi_core.proofs.Exposed.{check_was}
 use Rattle.shogi_core.proofs.CodesBack.{move_of-board, move_of-drop}
 use Rattle.shogi_core.proofs.LineBits.{has_bit-not, and_fits}
@@ -29,7 +29,7 @@ use Rattle.shogi_moves.specs.Ends.{is_end, is_unchecked, Sifts}
 use Rattle.shogi_moves.specs.Guards.{Guards}
 use Rattle.shogi_moves.specs.Legal.{is_safe, is_legal, is_legal_code, is_right_board_move, may_promote, can_promote, in_zone, is_right_drop, is_pawn_kind, is_pawn_mate}
 use Rattle.shogi_moves.proofs.CaptureLaws.{sort_of}
-use Rattle.shogi_moves.proofs.GuardLaws.{quiet_board, quiet_drop_safe, calm_parts}
+use Rattle.shogi_moves.proofs.GuardLaws.{quiet_board, king_set, stays_set, stays_drop, quiet_drop_safe, calm_parts}
 use Rattle.shogi_moves.proofs.LegalLaws.{is_legal_code_of}
 use Rattle.shogi_moves.proofs.MovedPieces.{is_king-moved}
 
@@ -99,7 +99,23 @@ sift_dropped m left next kept less to test s t b d = record {
     gone false true false = refl
     gone false false l = refl
 
-pub ruleset sifting = (sift_first, sift_done, sift_there, sift_kept, sift_dropped)
+-- squares from which no pawn mates need not be tried
+pub sift_some : (m faces : ℕ) (test : ℕ → Bool) → ((n : ℕ) → n < 81 → has_bit faces n ≡ false → test n ≡ true) → Sifts m (bit_and m faces) m test
+sift_some m faces test far = record {
+  within = λ n e. (and_parts (has_bit m n) (has_bit faces n) (sym (has_bit-and m faces n) ∙ e)).0;
+  bits = λ n h. rw (has_bit-and m faces n) (go (has_bit m n) (has_bit faces n) (test n) (far n h));
+}
+  where
+    go : (a f t : Bool) → (f ≡ false → t ≡ true) → a ≡ (a && (t || (a && f)))
+    go false f t h = refl
+    go true true t h = sym (all t)
+      where
+        all : (t : Bool) → (t || true) ≡ true
+        all true = refl
+        all false = refl
+    go true false t h = sym (ap (λ x. x || false) (h refl))
+
+pub ruleset sifting = (sift_first, and_fits, sift_done, sift_there, sift_kept, sift_dropped)
 
 -- ---- a calm piece leaves its king unattacked anywhere
 
@@ -168,7 +184,52 @@ free_kept p ends from n len hf hn own plain free =
     all_kept (has_bit ends n) (is_unchecked p (Board from n false))
     (ap not (filled (set p.cells from None) p.side n (moved false (piece_at p.cells from)) (length-set p.cells from None ∙ len) hn (moved_own p.side false (piece_at p.cells from) ∙ own) (is_king-moved p.side false (piece_at p.cells from) ∙ plain) (not-true _ free)))
 
-pub ruleset calm_ends = (calm_kept, free_kept)
+-- ---- the king, and answers to a check
+
+-- no other king of the side
+pub lone_king : (p : Shogi) (kings rest from : ℕ) → ((n : ℕ) → n < 81 → has_bit kings n ≡ is_king p.side (piece_at p.cells n)) → ((i : ℕ) → has_bit rest i ≡ (has_bit kings i && not (i == from))) → rest ≡ 0 → (x : ℕ) → x < 81 → x ≢ from → is_king p.side (piece_at p.cells x) ≡ false
+lone_king p kings rest from b r none x h other =
+    sym (b x h) ∙ go (has_bit kings x) (x == from) (ne_eqb x from other) (sym (r x) ∙ (ap (λ m. has_bit m x) none ∙ has_bit-none x))
+  where
+    go : (a e : Bool) → e ≡ false → (a && not e) ≡ false → a ≡ false
+    go true e f h = absurd (both_ways (not e) h (ap not f))
+    go false e f h = refl
+
+pub king_steps : (p : Shogi) (from to : ℕ) → length p.cells ≡ 81 → from < 81 → to < 81 → is_of p.side (piece_at p.cells from) ≡ true → ((x : ℕ) → x < 81 → x ≢ from → is_king p.side (piece_at p.cells x) ≡ false)
+    → is_attacked (set p.cells from None) (opponent_of p.side) to ≡ false → true ≡ is_unchecked p (Board from to false)
+king_steps p from to len hf ht own lone safe = sym (ap not (king_set p.cells p.side from to (moved false (piece_at p.cells from)) len hf ht (moved_own p.side false (piece_at p.cells from) ∙ own) lone safe))
+
+-- what no answer can be is left out
+pub narrowed : (ends exposed others n : ℕ) (u : Bool) → (has_bit exposed n ≡ false → has_bit others n ≡ false → u ≡ false) → (has_bit (bit_and ends (bit_or exposed others)) n && u) ≡ (has_bit ends n && u)
+narrowed ends exposed others n u cut = rw (has_bit-and ends (bit_or exposed others) n, has_bit-or exposed others n) (go (has_bit ends n) (has_bit exposed n) (has_bit others n) u cut)
+  where
+    go : (a b c u : Bool) → (b ≡ false → c ≡ false → u ≡ false) → ((a && (b || c)) && u) ≡ (a && u)
+    go true true c u f = refl
+    go true false true u f = refl
+    go true false false u f = sym (f refl refl)
+    go false b c u f = refl
+
+pub narrowed_drops : (ends exposed n : ℕ) (u : Bool) → (has_bit ends n ≡ true → has_bit exposed n ≡ false → u ≡ false) → (has_bit (bit_and ends exposed) n && u) ≡ (has_bit ends n && u)
+narrowed_drops ends exposed n u cut = rw (has_bit-and ends exposed n) (go (has_bit ends n) (has_bit exposed n) u cut)
+  where
+    go : (a b u : Bool) → (a ≡ true → b ≡ false → u ≡ false) → ((a && b) && u) ≡ (a && u)
+    go true true u f = refl
+    go true false u f = sym (f refl refl)
+    go false b u f = refl
+
+pub no_answer : (p : Shogi) (checked : Bool) (exposed others from n : ℕ) → Guards p checked exposed → checked ≡ true → length p.cells ≡ 81 → from < 81 → n < 81 → is_of p.side (piece_at p.cells from) ≡ true → is_king p.side (piece_at p.cells from) ≡ false
+    → has_bit others n ≡ is_of (opponent_of p.side) (piece_at p.cells n) → has_bit exposed n ≡ false → has_bit others n ≡ false → is_unchecked p (Board from n false) ≡ false
+no_answer p checked exposed others from n g c len hf hn own plain o out none =
+    ap not (stays_set p.cells p.side from n (moved false (piece_at p.cells from)) len hf hn own plain (sym o ∙ none) (g.kings n hn out) (g.lines n hn out) (sym g.check ∙ c))
+
+pub no_answer_drop : (p : Shogi) (checked : Bool) (exposed ends n : ℕ) (kind : Kind) → Guards p checked exposed → checked ≡ true → n < 81 → has_bit ends n ≡ is_right_drop p.cells p.hands p.side kind n → has_bit ends n ≡ true → has_bit exposed n ≡ false → is_unchecked p (Drop kind n) ≡ false
+no_answer_drop p checked exposed ends n kind g c hn r e out =
+    let three = and_parts _ _ (sym r ∙ e) in
+    let two = and_parts _ _ three.0 in
+    let one = and_parts _ _ two.0 in
+    ap not (stays_drop p.cells p.side kind n one.1 (g.lines n hn out) (sym g.check ∙ c))
+
+pub ruleset calm_ends = (calm_kept, free_kept, and_fits)
 
 -- ---- what is wanted of the move of a piece
 

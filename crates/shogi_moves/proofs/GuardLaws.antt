@@ -1,5 +1,5 @@
 -- Moves that cannot leave the mover's king attacked.
-use Rattle.std.proofs.Common.{◌≡◌, ℕ, ◌<◌, ◌^◌, ◌⊎◌, Bool, true, false, refl, sym, ap, subst, ◌∙◌, arith, inl, inr, Option, Some, None, set, length, get_or-set_same, get_or-set_other, length-set, bit_or}
+use Rattle.std.proofs.Common.{◌≡◌, ◌≢◌, ℕ, ◌<◌, ◌^◌, ◌⊎◌, Bool, true, false, refl, sym, ap, subst, ◌∙◌, arith, inl, inr, Option, Some, None, set, length, get_or-set_same, get_or-set_other, length-set, bit_or}
 use Rattle.std.specs.Prelude.{◌==◌, ◌&&◌, not, is_none}
 use Rattle.std.proofs.lemmas.Nat.{or_lt}
 use Rattle.std.proofs.lemmas.Bool.{cases_eq, false_from_ne_true, both_ways, and_parts, and_from, or_left, or_right, not_from_false, not-true, ne_eqb}
@@ -9,7 +9,7 @@ use Rattle.shogi_core.specs.declared.piece.Kind.{Kind}
 use Rattle.shogi_core.specs.declared.piece.Kind.TheVariants as kinds
 use Rattle.shogi_core.specs.declared.piece.Piece.{Piece}
 use Rattle.shogi_core.specs.declared.moves.Move.TheVariants.{Board, Drop}
-use Rattle.shogi_core.specs.Attack.{in_check}
+use Rattle.shogi_core.specs.Attack.{in_check, is_attacked, is_open_king}
 use Rattle.shogi_core.specs.Bits.{has_bit}
 use Rattle.shogi_core.specs.Cell.{is_of, is_king, is_king_role}
 use Rattle.shogi_core.specs.Lines.{are_lined, is_line_to_king, is_lined_with_king}
@@ -18,7 +18,7 @@ use Rattle.shogi_core.specs.Pieces.{opponent_of, is_same_color, role_of}
 use Rattle.shogi_core.specs.Position.{Shogi}
 use Rattle.shogi_core.proofs.Below.{some_below_no}
 use Rattle.shogi_core.proofs.BitLaws.{has_bit-or, has_bit-none}
-use Rattle.shogi_core.proofs.Exposed.{check_was}
+use Rattle.shogi_core.proofs.Exposed.{check_was, check_stays, attacked_was}
 use Rattle.shogi_core.proofs.SeenLaws.{lined_back}
 use Rattle.shogi_moves.specs.After.{cells_after, moved, dropped}
 use Rattle.shogi_moves.specs.Guards.{Guards, Exposes}
@@ -106,6 +106,67 @@ module _ (cells : Cells) (side : Color) (from to : ℕ) (v : Option Piece) (len 
       (λ x left. subst (λ (y : ℕ). is_lined_with_king cells side y ≡ false) (sym left) free)
       safe
 
+  -- a move that takes no attacker and ends on no open line with a king leaves the check
+  pub stays_set : is_of side (piece_at cells from) ≡ true → is_king side (piece_at cells from) ≡ false → is_of (opponent_of side) (piece_at cells to) ≡ false → is_king side (piece_at cells to) ≡ false → is_lined_with_king cells side to ≡ false
+      → in_check cells side ≡ true → in_check (set (set cells from None) to v) side ≡ true
+  stays_set own plain none bare off check =
+      check_stays cells (set (set cells from None) to v) to
+      (λ x e. elim (look x) [
+        | inl there ↦ inr there.0
+        | inr rest ↦ elim rest [ inl here ↦ inl (ap is_none here.1) | inr same ↦ inl (ap is_none same ∙ e) ]
+      ])
+      side
+      (λ a e. elim (look a) [
+        | inl there ↦ absurd (both_ways (is_of (opponent_of side) (piece_at cells to)) none (subst (λ (y : ℕ). is_of (opponent_of side) (piece_at cells y) ≡ true) there.0 e))
+        | inr rest ↦ elim rest [
+          | inl here ↦ absurd (both_ways (is_of (opponent_of side) (piece_at cells from)) (other_side side (piece_at cells from) own) (subst (λ (y : ℕ). is_of (opponent_of side) (piece_at cells y) ≡ true) here.0 e))
+          | inr same ↦ same
+        ]
+      ])
+      (λ k e. elim (look k) [
+        | inl there ↦ absurd (both_ways (is_king side (piece_at cells to)) bare (subst (λ (y : ℕ). is_king side (piece_at cells y) ≡ true) there.0 e))
+        | inr rest ↦ elim rest [
+          | inl here ↦ absurd (both_ways (is_king side (piece_at cells from)) plain (subst (λ (y : ℕ). is_king side (piece_at cells y) ≡ true) here.0 e))
+          | inr same ↦ same
+        ]
+      ])
+      off check
+
+  -- a king that is the only one is attacked after its move only where it would be with its square left empty
+  pub king_set : is_of side v ≡ true → ((x : ℕ) → x < 81 → x ≢ from → is_king side (piece_at cells x) ≡ false) → is_attacked (set cells from None) (opponent_of side) to ≡ false → in_check (set (set cells from None) to v) side ≡ false
+  unfolding in_check
+  king_set own lone safe = some_below_no 81 (is_open_king (set (set cells from None) to v) side) (λ k l. false_from_ne_true (is_open_king (set (set cells from None) to v) side k) (λ e.
+      let parts : (is_king side (piece_at (set (set cells from None) to v) k) ≡ true) × (is_attacked (set (set cells from None) to v) (opponent_of side) k ≡ true) = and_parts _ _ e in
+      elim (cases_eq k to) [
+        | inl there ↦ both_ways (is_attacked (set (set cells from None) to v) (opponent_of side) to)
+            (attacked_was (set cells from None) (set (set cells from None) to v) (λ x. ⊥)
+            (λ x f. elim (cases_eq x to) [
+              | inl at ↦ absurd (both_ways (is_none v) (own_some side v own) (ap is_none (sym (filled_at x at)) ∙ f))
+              | inr other ↦ inl (ap is_none (sym (get_or-set_other (set cells from None) to x v None other)) ∙ f)
+            ])
+            (opponent_of side) to
+            (λ a f. elim (cases_eq a to) [
+              | inl at ↦ absurd (both_ways (is_of (opponent_of side) v) (other_side side v own) (ap (is_of (opponent_of side)) (sym (filled_at a at)) ∙ f))
+              | inr other ↦ sym (get_or-set_other (set cells from None) to a v None other)
+            ])
+            (λ x left. absurd left)
+            safe)
+            (subst (λ (y : ℕ). is_attacked (set (set cells from None) to v) (opponent_of side) y ≡ true) there parts.1)
+        | inr other ↦ elim (look k) [
+          | inl there ↦ other there.0
+          | inr rest ↦ elim rest [
+            | inl here ↦ (let clash : false ≡ true = ap (is_king side) (sym here.1) ∙ parts.0 in cc)
+            | inr same ↦ elim (cases_eq k from) [
+              | inl left ↦ (let gone : piece_at (set (set cells from None) to v) k ≡ None = get_or-set_other (set cells from None) to k v None other ∙ rw left (get_or-set_same cells from None None (omega arith)) in let clash : false ≡ true = ap (is_king side) (sym gone) ∙ parts.0 in cc)
+              | inr off ↦ both_ways (is_king side (piece_at cells k)) (lone k l off) (ap (is_king side) (sym same) ∙ parts.0)
+            ]
+          ]
+        ]
+      ]))
+    where
+      filled_at : (x : ℕ) → x ≡ to → piece_at (set (set cells from None) to v) x ≡ v
+      filled_at x at = rw at (get_or-set_same (set cells from None) to v None (omega (arith, length-set cells from None)))
+
 pub quiet_board : (cells : Cells) (side : Color) (from to : ℕ) (promote : Bool) → length cells ≡ 81 → from < 81 → to < 81 → is_of side (piece_at cells from) ≡ true → is_king side (piece_at cells from) ≡ false
     → is_lined_with_king cells side from ≡ false → in_check cells side ≡ false → in_check (cells_after cells side (Board from to promote)) side ≡ false
 quiet_board cells side from to promote len hf ht own plain free safe =
@@ -152,6 +213,33 @@ quiet_drop cells side kind to len ht safe =
       | inl there ↦ inl (rw there (get_or-set_same cells to (dropped side kind) None (omega arith)))
       | inr other ↦ inr (get_or-set_other cells to x (dropped side kind) None other)
     ]
+
+-- the same of a drop
+pub stays_drop : (cells : Cells) (side : Color) (kind : Kind) (to : ℕ) → is_none (piece_at cells to) ≡ true → is_lined_with_king cells side to ≡ false → in_check cells side ≡ true → in_check (cells_after cells side (Drop kind to)) side ≡ true
+stays_drop cells side kind to free off check =
+    check_stays cells (set cells to (dropped side kind)) to
+    (λ x e. elim (cases_eq x to) [
+      | inl there ↦ inr there
+      | inr other ↦ inl (ap is_none (get_or-set_other cells to x (dropped side kind) None other) ∙ e)
+    ])
+    side
+    (λ a e. elim (cases_eq a to) [
+      | inl there ↦ absurd (both_ways (is_of (opponent_of side) (piece_at cells to)) (nobody (opponent_of side) (piece_at cells to) free) (subst (λ (y : ℕ). is_of (opponent_of side) (piece_at cells y) ≡ true) there e))
+      | inr other ↦ get_or-set_other cells to a (dropped side kind) None other
+    ])
+    (λ k e. elim (cases_eq k to) [
+      | inl there ↦ absurd (both_ways (is_king side (piece_at cells to)) (no_crown (piece_at cells to) free) (subst (λ (y : ℕ). is_king side (piece_at cells y) ≡ true) there e))
+      | inr other ↦ get_or-set_other cells to k (dropped side kind) None other
+    ])
+    off check
+  where
+    nobody : (color : Color) (cell : Option Piece) → is_none cell ≡ true → is_of color cell ≡ false
+    nobody color None e = refl
+    nobody color (Some piece) e = absurd (cc)
+
+    no_crown : (cell : Option Piece) → is_none cell ≡ true → is_king side cell ≡ false
+    no_crown None e = refl
+    no_crown (Some piece) e = absurd (cc)
 
 -- ---- what a guard tells of a move
 

@@ -72,7 +72,7 @@ fn after_board(p: &Position, from: Square, to: Square, promote: bool) -> Positio
     p.validity();
     from.index();
     to.index();
-    let board = p.board();
+    let board = p.as_board();
     let cells = board
         .put(from, None)
         .put(to, moved(board.at(from), promote));
@@ -88,7 +88,7 @@ fn after_drop(p: &Position, kind: Kind, to: Square) -> Position
     p.validity();
     to.index();
     let side = p.side();
-    let cells = p.board().put(to, dropped(side, kind));
+    let cells = p.as_board().put(to, dropped(side, kind));
     let hands = p.hands().with(side, kind, p.hand(side, kind) - 1);
     Position::of_valid(cells, hands, side.opponent())
 }

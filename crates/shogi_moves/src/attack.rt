@@ -10,12 +10,12 @@ use shogi_core::{Color, Position, Square};
 pub fn is_attacked(p: &Position, square: Square, by: Color) -> bool
     ensures { result ≡ is_attacked p.now.cells by square }
 {
-    p.board().is_attacked(by, square)
+    p.as_board().is_attacked(by, square)
 }
 
 /// Whether the king of the side to move is attacked; a side without a king is never in check.
 pub fn in_check(p: &Position) -> bool
     ensures { result ≡ in_check p.now.cells p.now.side }
 {
-    p.board().in_check(p.side())
+    p.as_board().in_check(p.side())
 }

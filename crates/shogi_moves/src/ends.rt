@@ -1,12 +1,12 @@
 //! Where the pieces of the side to move may legally end.
 
-ghost use Rattle.std.specs.Prelude.{◌≡◌, ◌<◌, ◌^◌, ◌&&◌, ℕ, not, true, false, None, slice_set};
+ghost use Rattle.std.specs.Prelude.{◌≡◌, ◌≢◌, ◌<◌, ◌^◌, ◌&&◌, ℕ, not, true, false, None, slice_set};
 ghost use Rattle.shogi_core.specs.declared.moves.Move.TheVariants as moves;
 ghost use Rattle.shogi_core.specs.declared.piece.Kind.TheVariants as kinds;
 ghost use Rattle.shogi_moves.specs.Legal.{is_legal_code, is_right_drop, is_safe, is_pawn_mate};
 ghost use Rattle.shogi_core.specs.Attack.{in_check};
 ghost use Rattle.shogi_core.specs.Bits.{has_bit};
-ghost use Rattle.shogi_core.specs.Cell.{is_of};
+ghost use Rattle.shogi_core.specs.Cell.{is_of, is_king};
 ghost use Rattle.shogi_core.specs.Codes.{code_of};
 ghost use Rattle.shogi_core.specs.Movement.{piece_at};
 ghost use Rattle.shogi_moves.specs.Captures.{is_wanted};
@@ -18,7 +18,7 @@ use crate::legal::{is_pawn_kind, is_pawn_mate};
 use crate::guard::{Guard, is_calm};
 use crate::zones::{dead_squares, pawn_files, promoting_squares};
 use shogi_core::bits::{cleared, has, lowest};
-use shogi_core::{Kind, Move, Piece, Position, Role, Square, step_squares};
+use shogi_core::{Board, Kind, Move, Piece, Position, Role, Square, step_squares};
 
 /// The legal ends of a piece, without and with promotion.
 #[derive(Clone, Copy, Debug)]
@@ -43,7 +43,7 @@ fn ends_of_sort(p: &Position, capture: bool) -> u128
 fn is_unchecked(p: &Position, m: &Move) -> bool
     ensures { result ≡ is_unchecked p.now m.now }
 {
-    !cells_after(&p.board(), p.side(), m).in_check(p.side())
+    !cells_after(p.as_board(), p.side(), m).in_check(p.side())
 }
 
 /// Those of the ends that leave the king unattacked, each of them tried.
@@ -75,7 +75,52 @@ fn tried_ends(p: &Position, from: Square, ends: u128) -> u128
 fn is_free(p: &Position, from: Square) -> bool
     ensures { result ≡ not (in_check (slice_set p.now.cells from None) p.now.side) }
 {
-    !p.board().put(from, None).in_check(p.side())
+    !p.as_board().put(from, None).in_check(p.side())
+}
+
+/// Whether the only king of the side to move may go from the one square to the other. Where nothing
+/// attacks that square once the king is lifted off its own, nothing does after the move.
+#[tactic(auto, using(crate::proofs::EndLaws::king_steps))]
+fn is_king_safe(p: &Position, lifted: &Board, from: Square, to: Square) -> bool
+    requires own { is_of p.now.side (piece_at p.now.cells from) ≡ true }
+    requires lifted { lifted.now ≡ slice_set p.now.cells from None }
+    requires lone { (x : ℕ) → x < 81 → x ≢ from → is_king p.now.side (piece_at p.now.cells x) ≡ false }
+    ensures { result ≡ is_unchecked p.now (moves.Board from to false) }
+{
+    p.validity();
+    from.index();
+    to.index();
+    if !lifted.is_attacked(p.side().opponent(), to) {
+        return true;
+    }
+    let m = Move::Board {
+        from,
+        to,
+        promote: false,
+    };
+    is_unchecked(p, &m)
+}
+
+/// Those of the ends on which the only king of the side to move is unattacked.
+#[tactic(auto, using(crate::proofs::EndLaws::sifting))]
+fn king_ends(p: &Position, from: Square, ends: u128) -> u128
+    requires own { is_of p.now.side (piece_at p.now.cells from) ≡ true }
+    requires lone { (x : ℕ) → x < 81 → x ≢ from → is_king p.now.side (piece_at p.now.cells x) ≡ false }
+    requires fits { ends < 2 ^ 81 }
+    ensures bits { (n : ℕ) → n < 81 → has_bit result n ≡ (has_bit ends n && is_unchecked p.now (moves.Board from n false)) }
+    ensures fits { result < 2 ^ 81 }
+{
+    let lifted = p.as_board().put(from, None);
+    let mut left = ends;
+    let mut kept = ends;
+    while left != 0 {
+        let to = lowest(left);
+        if !is_king_safe(p, &lifted, from, Square::of_index(to)) {
+            kept = cleared(kept, to);
+        }
+        left = cleared(left, to);
+    }
+    kept
 }
 
 /// Those of the ends that leave the king unattacked.
@@ -92,7 +137,18 @@ fn safe_ends(p: &Position, guard: &Guard, from: Square, ends: u128) -> u128
     if is_calm(guard, from) {
         return ends;
     }
-    if !has(p.kings(p.side()), from.index()) && is_free(p, from) {
+    let kings = p.kings(p.side());
+    if has(kings, from.index()) {
+        if cleared(kings, from.index()) == 0 {
+            return king_ends(p, from, ends);
+        }
+        return tried_ends(p, from, ends);
+    }
+    if guard.checked {
+        let theirs = p.own(p.side().opponent());
+        return tried_ends(p, from, ends & (guard.exposed | theirs));
+    }
+    if is_free(p, from) {
         return ends;
     }
     tried_ends(p, from, ends)
@@ -192,45 +248,35 @@ fn safe_drops(p: &Position, guard: &Guard, kind: Kind) -> u128
     p.validity();
     let ends = right_drops(p, kind);
     if guard.checked {
-        tried_drops(p, kind, ends)
+        tried_drops(p, kind, ends & guard.exposed)
     } else {
         ends
     }
 }
 
-/// Whether a pawn of the side to move would attack the other king from the square.
-#[tactic(auto, using(crate::proofs::DropChecks::far_pawn))]
-fn faces_king(p: &Position, to: Square) -> bool
-    ensures far { result ≡ false → is_pawn_mate p.now (moves.Drop kinds.Pawn to) ≡ false }
+/// The squares from which a pawn of the side to move would attack a king of the other side.
+#[tactic(auto, using(crate::proofs::DropChecks::facing))]
+fn facing_squares(p: &Position) -> u128
+    ensures fits { result < 2 ^ 81 }
+    ensures far { (n : ℕ) → n < 81 → has_bit result n ≡ false → not (is_pawn_mate p.now (moves.Drop kinds.Pawn n)) ≡ true }
 {
     p.validity();
-    let side = p.side();
+    let opponent = p.side().opponent();
     let pawn = Piece {
-        color: side,
+        color: opponent,
         role: Role::Pawn,
     };
-    to.index();
-    step_squares(pawn, to.index()) & p.kings(side.opponent()) != 0
-}
-
-/// Whether the safe drop of a pawn mates.
-fn is_mate(p: &Position, to: Square) -> bool
-    requires { is_safe p.now (moves.Drop kinds.Pawn to) ≡ true }
-    ensures { result ≡ is_pawn_mate p.now (moves.Drop kinds.Pawn to) }
-{
-    if !faces_king(p, to) {
-        return false;
+    let mut left = p.kings(opponent);
+    let mut faces = 0;
+    while left != 0 {
+        let king = lowest(left);
+        faces |= step_squares(pawn, king);
+        left = cleared(left, king);
     }
-    is_pawn_mate(
-        p,
-        &Move::Drop {
-            kind: Kind::Pawn,
-            to,
-        },
-    )
+    faces
 }
 
-/// Those of the safe drops of a pawn that do not mate, each of them tried.
+/// Those of the safe drops of a pawn that do not mate; those that face a king are tried.
 #[tactic(auto, using(crate::proofs::EndLaws::sifting))]
 fn fair_drops(p: &Position, ends: u128) -> u128
     requires fits { ends < 2 ^ 81 }
@@ -238,11 +284,15 @@ fn fair_drops(p: &Position, ends: u128) -> u128
     ensures bits { (n : ℕ) → n < 81 → has_bit result n ≡ (has_bit ends n && not (is_pawn_mate p.now (moves.Drop kinds.Pawn n))) }
     ensures fits { result < 2 ^ 81 }
 {
-    let mut left = ends;
+    let mut left = ends & facing_squares(p);
     let mut kept = ends;
     while left != 0 {
         let to = lowest(left);
-        if is_mate(p, Square::of_index(to)) {
+        let m = Move::Drop {
+            kind: Kind::Pawn,
+            to: Square::of_index(to),
+        };
+        if is_pawn_mate(p, &m) {
             kept = cleared(kept, to);
         }
         left = cleared(left, to);

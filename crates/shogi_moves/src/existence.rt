@@ -53,7 +53,8 @@ pub fn has_legal(p: &Position) -> bool
 {
     let rough = rough_guard(p);
     if rough.checked {
-        return has_board_move(p, &rough) || has_drop(p, &rough);
+        let guard = full_guard(p, true);
+        return has_board_move(p, &guard) || has_drop(p, &guard);
     }
     has_drop(p, &rough) || has_board_move(p, &full_guard(p, false))
 }

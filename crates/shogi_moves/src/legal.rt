@@ -68,7 +68,7 @@ fn is_right_drop(p: &Position, kind: Kind, to: Square) -> bool
     p.hand(side, kind) > 0
         && p.at(to).is_none()
         && !is_dead(dropped(side, kind), to.index())
-        && !(is_pawn_kind(kind) && p.board().pawns_on_file(side, to.index() / 9) > 0)
+        && !(is_pawn_kind(kind) && p.as_board().pawns_on_file(side, to.index() / 9) > 0)
 }
 
 fn is_right(p: &Position, m: &Move) -> bool
@@ -85,7 +85,7 @@ fn is_right(p: &Position, m: &Move) -> bool
 pub fn is_safe(p: &Position, m: &Move) -> bool
     ensures { result ≡ is_safe p.now m.now }
 {
-    is_right(p, m) && !cells_after(&p.board(), p.side(), m).in_check(p.side())
+    is_right(p, m) && !cells_after(p.as_board(), p.side(), m).in_check(p.side())
 }
 
 /// Whether the candidate obeys the rules on promotion, and so all rules apart from checks.
@@ -114,7 +114,7 @@ pub fn is_safe_guarded(p: &Position, guard: &Guard, m: &Move) -> bool
             if is_calm(guard, *from) {
                 return right;
             }
-            right && !cells_after(&p.board(), p.side(), m).in_check(p.side())
+            right && !cells_after(p.as_board(), p.side(), m).in_check(p.side())
         }
         Move::Drop { kind, to } => {
             to.index();
@@ -122,7 +122,7 @@ pub fn is_safe_guarded(p: &Position, guard: &Guard, m: &Move) -> bool
             if !guard.checked {
                 return right;
             }
-            right && !cells_after(&p.board(), p.side(), m).in_check(p.side())
+            right && !cells_after(p.as_board(), p.side(), m).in_check(p.side())
         }
     }
 }

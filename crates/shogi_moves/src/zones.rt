@@ -85,7 +85,7 @@ pub fn pawn_files(p: &Position, side: Color) -> u128
     ensures bits { (n : ℕ) → n < 81 → has_bit result n ≡ nat_lt 0 (pawns_on_file side (n / 9) p.now.cells) }
     ensures fits { result < 2 ^ 81 }
 {
-    let board = p.board();
+    let board = p.as_board();
     let mut mask = 0;
     for file in 0..9 {
         mask |= pawn_file(&board, side, file);
