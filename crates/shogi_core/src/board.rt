@@ -174,17 +174,24 @@ impl Board {
         self.cells[square.index()]
     }
 
-    /// The board with this on the square, and all else as it was.
+    /// Puts this on the square, and leaves all else as it is.
     #[tactic(auto, using(crate::proofs::MaskLaws::own_bits))]
+    pub fn set(&mut self, square: Square, piece: Option<Piece>)
+        ensures { self.new ≡ slice_set self.old square piece }
+    {
+        let index = square.index();
+        self.cells[index] = piece;
+        self.black = marked(self.black, index, is_of(piece, Color::Black));
+        self.white = marked(self.white, index, is_of(piece, Color::White));
+        self.kings = marked(self.kings, index, is_any_king(piece));
+    }
+
+    /// The board with this on the square, and all else as it was.
     pub fn put(self, square: Square, piece: Option<Piece>) -> Board
         ensures { result ≡ slice_set self square piece }
     {
         let mut board = self;
-        let index = square.index();
-        board.cells[index] = piece;
-        board.black = marked(board.black, index, is_of(piece, Color::Black));
-        board.white = marked(board.white, index, is_of(piece, Color::White));
-        board.kings = marked(board.kings, index, is_any_king(piece));
+        board.set(square, piece);
         board
     }
 }

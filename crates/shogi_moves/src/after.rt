@@ -45,12 +45,15 @@ pub fn dropped(color: Color, kind: Kind) -> Option<Piece>
 pub fn cells_after(board: &Board, side: Color, m: &Move) -> Board
     ensures { result ≡ cells_after board.now side m.now }
 {
+    let mut cells = *board;
     match m {
-        Move::Board { from, to, promote } => board
-            .put(*from, None)
-            .put(*to, moved(board.at(*from), *promote)),
-        Move::Drop { kind, to } => board.put(*to, dropped(side, *kind)),
+        Move::Board { from, to, promote } => {
+            cells.set(*from, None);
+            cells.set(*to, moved(board.at(*from), *promote));
+        }
+        Move::Drop { kind, to } => cells.set(*to, dropped(side, *kind)),
     }
+    cells
 }
 
 fn with_captured(hands: Hands, side: Color, cell: Option<Piece>) -> Hands
@@ -72,12 +75,12 @@ fn after_board(p: &Position, from: Square, to: Square, promote: bool) -> Positio
     p.validity();
     from.index();
     to.index();
-    let board = p.as_board();
-    let cells = board
-        .put(from, None)
-        .put(to, moved(board.at(from), promote));
-    let hands = with_captured(p.hands(), p.side(), board.at(to));
-    Position::of_valid(cells, hands, p.side().opponent())
+    let (piece, taken) = (p.at(from), p.at(to));
+    let mut board = p.board();
+    board.set(from, None);
+    board.set(to, moved(piece, promote));
+    let hands = with_captured(p.hands(), p.side(), taken);
+    Position::of_valid(board, hands, p.side().opponent())
 }
 
 #[tactic(auto, using(crate::proofs::Keeps::no_fault_after_drop))]
@@ -88,9 +91,10 @@ fn after_drop(p: &Position, kind: Kind, to: Square) -> Position
     p.validity();
     to.index();
     let side = p.side();
-    let cells = p.as_board().put(to, dropped(side, kind));
+    let mut board = p.board();
+    board.set(to, dropped(side, kind));
     let hands = p.hands().with(side, kind, p.hand(side, kind) - 1);
-    Position::of_valid(cells, hands, side.opponent())
+    Position::of_valid(board, hands, side.opponent())
 }
 
 /// The position after a safe move.

@@ -28,16 +28,13 @@ fn has_board_move(p: &Position, guard: &Guard) -> bool
     false
 }
 
-/// Whether a held piece has a legal drop.
-fn has_drop(p: &Position, guard: &Guard) -> bool
+/// Whether a held piece other than a pawn has a legal drop.
+fn has_piece_drop(p: &Position, guard: &Guard) -> bool
     requires { Guards p.now guard.now.checked guard.now.exposed }
     ensures some { result ≡ true → legal_moves p.now ≢ [] }
-    ensures none { result ≡ false → legal_from p.now 13122 ≡ [] }
+    ensures none { result ≡ false → legal_from p.now 13203 ≡ [] }
 {
     let mut kind = Kind::Pawn;
-    if drop_ends(p, guard, kind) != 0 {
-        return true;
-    }
     'kinds: while let Some(next) = next_kind(kind) {
         if drop_ends(p, guard, next) != 0 {
             return true;
@@ -47,14 +44,24 @@ fn has_drop(p: &Position, guard: &Guard) -> bool
     false
 }
 
-/// Whether some move is legal.
+/// Whether a held pawn has a legal drop.
+fn has_pawn_drop(p: &Position, guard: &Guard) -> bool
+    requires { Guards p.now guard.now.checked guard.now.exposed }
+    ensures some { result ≡ true → legal_moves p.now ≢ [] }
+    ensures none { result ≡ false → legal_from p.now 13122 ≡ legal_from p.now 13203 }
+{
+    drop_ends(p, guard, Kind::Pawn) != 0
+}
+
+/// Whether some move is legal. Drops are looked for first where no check is to be answered: their
+/// ends need no look at the pieces on the board.
 pub fn has_legal(p: &Position) -> bool
     ensures { IsTrue result ↔ (legal_moves p.now ≢ []) }
 {
     let rough = rough_guard(p);
-    if rough.checked {
-        let guard = full_guard(p, true);
-        return has_board_move(p, &guard) || has_drop(p, &guard);
+    if !rough.checked && has_piece_drop(p, &rough) {
+        return true;
     }
-    has_drop(p, &rough) || has_board_move(p, &full_guard(p, false))
+    let guard = full_guard(p, rough.checked);
+    has_board_move(p, &guard) || has_piece_drop(p, &guard) || has_pawn_drop(p, &guard)
 }
