@@ -4,12 +4,16 @@
 mod after;
 mod attack;
 mod capture;
+#[cfg(test)]
+mod comparison;
 mod count;
 mod ends;
 mod existence;
 mod guard;
 mod legal;
 mod next;
+#[cfg(test)]
+mod plain;
 mod safe;
 mod sweep;
 #[cfg(test)]

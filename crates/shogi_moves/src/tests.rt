@@ -65,7 +65,7 @@ fn board(text: &[u8]) -> [Option<Piece>; 81] {
 }
 
 /// The position of a board as in SFEN, with a letter for each piece held.
-fn position(text: &[u8], held: &[u8], side: Color) -> Result<Position, &'static str> {
+pub fn position(text: &[u8], held: &[u8], side: Color) -> Result<Position, &'static str> {
     let mut hands = Hands::none();
     for letter in held {
         if let Some(kind) = kind(*letter) {
@@ -86,7 +86,7 @@ fn square(file: u8, rank: u8) -> Square {
 }
 
 /// The move of a text as in USI, with a space behind a shorter one.
-fn read(text: &[u8; 5]) -> Move {
+pub fn read(text: &[u8; 5]) -> Move {
     let to = square(text[2], text[3]);
     match kind(text[0]) {
         Some(kind) => Move::Drop { kind, to },
