@@ -1,0 +1,6 @@
+pub mod Ids
+pub mod Sees
+pub mod Chains
+pub mod OneSession
+pub mod Kept
+pub mod Rounds

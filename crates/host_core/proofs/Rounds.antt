@@ -1,0 +1,147 @@
+-- A round, session by session.
+use Rattle.std.proofs.Common.{◌≡◌, ℕ, zero, suc, ◌+◌, ◌-◌, ◌≤◌, List, [], ◌∷◌, ◌++◌, Bool, true, false, cond, Option, Some, None, length, drop, count_by, refl, sym, ap, ◌∙◌, arith, append_assoc, append-nil, length-append}
+use Rattle.std.specs.Prelude.{slice_index_or, IsSome}
+use Rattle.std.proofs.lemmas.List.{drop-drop, drop-set-lt}
+use Rattle.std.proofs.lemmas.List.Sums.{sum_by-cons}
+use Rattle.session_slots.specs.declared.id.SessionId.{SessionId}
+use Rattle.session_slots.specs.Order.{first_open}
+use Rattle.session_slots.specs.Slots.{OpenSession, OpenSessions, find, IsBelow}
+use Rattle.session_slots.proofs.Finds.{slot_of}
+use Rattle.usi_session.specs.Due.{Talk, is_pending}
+use Rattle.host_core.specs.Events.{Outcome, Opened, Done, Worked, Gave, Refused, Work}
+use Rattle.host_core.specs.ById.{pending_of}
+use Rattle.host_core.specs.Steps.{HostState, Stepped, OnSession}
+use Rattle.host_core.specs.Sessions.{Works}
+use Rattle.host_core.specs.Rounds.{pending_from, pending_ids, works, has_worked, was_refused, IsRound, RoundTo}
+use Rattle.host_core.proofs.Chains.{run-start, run-last}
+
+suc_plus : (i : ℕ) → suc i + 1 ≡ suc (i + 1)
+suc_plus i = omega arith
+
+-- a slot with a session
+pending_opened : (slot : ℕ) (slots_ : List (Option OpenSession)) (i : ℕ) (o : OpenSession) → slice_index_or slots_ i None ≡ Some o → pending_from slot (drop i slots_) ≡ cond (is_pending o.session) (record { slot = slot; generation = o.generation } ∷ pending_from (slot + 1) (drop (i + 1) slots_)) (pending_from (slot + 1) (drop (i + 1) slots_))
+pending_opened slot [] zero o e = absurd (cc)
+pending_opened slot [] (suc i) o e = absurd (cc)
+pending_opened slot (None ∷ rest) zero o e = absurd (cc)
+pending_opened slot (Some p ∷ rest) zero o e = (let same : p ≡ o = cc in rw same refl)
+pending_opened slot (x ∷ rest) (suc i) o e = rw (suc_plus i) (pending_opened slot rest i o e)
+
+-- from a slot on, the next open session stands here, and the slots before it add nothing
+record Skips (slot : ℕ) (slots : List (Option OpenSession)) (id : SessionId) : Type 0 where
+  from : slot ≤ id.slot
+  rest : pending_from slot slots ≡ pending_from id.slot (drop (id.slot - slot) slots)
+
+skips_here : (slot : ℕ) (slots : List (Option OpenSession)) (id : SessionId) → id.slot ≡ slot → Skips slot slots id
+skips_here slot slots id e =
+    let none : id.slot - slot ≡ 0 = omega arith in
+    record { from = omega arith; rest = rw (none, e) refl }
+
+skips_one : (slot : ℕ) (rest : List (Option OpenSession)) (id : SessionId) → Skips (slot + 1) rest id → Skips slot (None ∷ rest) id
+skips_one slot rest id s =
+    let from : slot + 1 ≤ id.slot = s.from in
+    let more : id.slot - slot ≡ suc (id.slot - (slot + 1)) = omega arith in
+    record { from = omega arith; rest = s.rest ∙ ap (λ n. pending_from id.slot (drop n (None ∷ rest))) (sym more) }
+
+skips : (slot : ℕ) (slots : List (Option OpenSession)) (id : SessionId) → first_open slot slots ≡ Some id → Skips slot slots id
+skips slot [] id e = absurd (cc)
+skips slot (None ∷ rest) id e = skips_one slot rest id (skips (slot + 1) rest id e)
+skips slot (Some o ∷ rest) id e =
+    let same : record { slot = slot; generation = o.generation } ≡ id = cc in
+    skips_here slot (Some o ∷ rest) id (ap (λ (i : SessionId). i.slot) (sym same))
+
+-- the next open session stands no lower
+pub next_from : (slot : ℕ) (slots : List (Option OpenSession)) (id : SessionId) → first_open slot slots ≡ Some id → slot ≤ id.slot
+next_from slot slots id e = (skips slot slots id e).from
+
+-- where no more session is open none is pending
+none_open : (slot : ℕ) (slots : List (Option OpenSession)) → first_open slot slots ≡ None → pending_from slot slots ≡ []
+none_open slot [] e = refl
+none_open slot (None ∷ rest) e = none_open (slot + 1) rest e
+none_open slot (Some o ∷ rest) e = absurd (cc)
+
+works-last : (budget : ℕ) (ids : List SessionId) (os : List Outcome) (id : SessionId) (o : Outcome) → length ids ≡ length os → works budget (ids ++ id ∷ []) (os ++ o ∷ []) ≡ works budget ids os ++ record { event = Work id budget; outcome = o } ∷ []
+works-last budget [] [] id o h = refl
+works-last budget [] (p ∷ os) id o h = absurd (omega arith)
+works-last budget (i ∷ ids) [] id o h = absurd (omega arith)
+works-last budget (i ∷ ids) (p ∷ os) id o h = ap (λ rest. record { event = Work i budget; outcome = p } ∷ rest) (works-last budget ids os id o (omega arith))
+
+count-last : (test : Outcome → Bool) (os : List Outcome) (o : Outcome) → count_by test (os ++ o ∷ []) ≡ count_by test os + cond (test o) 1 0
+count-last test [] o = grind (arith, sum_by-cons (λ p. cond (test p) 1 0) o [])
+count-last test (p ∷ os) o = omega (arith, count-last test os o, sum_by-cons (λ q. cond (test q) 1 0) p os, sum_by-cons (λ q. cond (test q) 1 0) p (os ++ o ∷ []))
+
+-- a `Work` succeeded or was refused
+counted_on : (budget : ℕ) (old new : HostState) (id : SessionId) (o : Outcome) (found : Option Talk) → OnSession (Works budget) old id found o new → cond (has_worked o) 1 0 + cond (was_refused o) 1 0 ≡ 1
+counted_on budget old new id o None u = rw u.refused refl
+counted_on budget old new id (Worked steps) (Some s) c = refl
+counted_on budget old new id (Refused fault) (Some s) c = refl
+counted_on budget old new id Done (Some s) c = absurd c.went
+counted_on budget old new id (Opened at) (Some s) c = absurd c.went
+counted_on budget old new id (Gave bytes) (Some s) c = absurd c.went
+
+-- before the first slot
+pub round_start : (h : HostState) (budget : ℕ) → RoundTo h budget 0 0 0 h
+round_start h budget = record { ids = []; so_far = record { outcomes = []; each = refl; run = run-start h; worked_is = refl; refused_is = refl; all = refl }; rest = refl }
+
+-- at the next open session
+pub round_skip : (old : HostState) (budget slot worked refused : ℕ) (now : HostState) (id : SessionId) → RoundTo old budget slot worked refused now → first_open slot (drop slot now.slots.slots) ≡ Some id → RoundTo old budget id.slot worked refused now
+round_skip old budget slot worked refused now id r e =
+    let s : Skips slot (drop slot now.slots.slots) id = skips slot (drop slot now.slots.slots) id e in
+    let from : slot ≤ id.slot = s.from in
+    let there : slot + (id.slot - slot) ≡ id.slot = omega arith in
+    let same : pending_from slot (drop slot now.slots.slots) ≡ pending_from id.slot (drop id.slot now.slots.slots) =
+    s.rest ∙ ap (pending_from id.slot) (drop-drop (id.slot - slot) slot now.slots.slots ∙ ap (λ n. drop n now.slots.slots) there) in
+    record { ids = r.ids; so_far = r.so_far; rest = ap (λ xs. r.ids ++ xs) (sym same) ∙ r.rest }
+
+-- what is pending from the slot of an open session on
+pending_at : (h : HostState) (id : SessionId) (t : Talk) → find h.slots id ≡ Some t → pending_from id.slot (drop id.slot h.slots.slots) ≡ cond (is_pending t) (id ∷ pending_from (id.slot + 1) (drop (id.slot + 1) h.slots.slots)) (pending_from (id.slot + 1) (drop (id.slot + 1) h.slots.slots))
+pending_at h id t e = pending_opened id.slot h.slots.slots id.slot (record { generation = id.generation; session = t }) (slot_of id.generation (slice_index_or h.slots.slots id.slot None) t e)
+
+passes : (old : HostState) (budget : ℕ) (id : SessionId) (worked refused : ℕ) (now : HostState) (found : Option Talk) → find now.slots id ≡ found → IsSome found → pending_of found ≡ false → RoundTo old budget id.slot worked refused now → RoundTo old budget (id.slot + 1) worked refused now
+passes old budget id worked refused now None e some idle r = absurd (cc)
+passes old budget id worked refused now (Some t) e some idle r =
+    let gone : pending_from id.slot (drop id.slot now.slots.slots) ≡ pending_from (id.slot + 1) (drop (id.slot + 1) now.slots.slots) =
+    pending_at now id t e ∙ ap (λ b. cond b (id ∷ pending_from (id.slot + 1) (drop (id.slot + 1) now.slots.slots)) (pending_from (id.slot + 1) (drop (id.slot + 1) now.slots.slots))) idle in
+    record { ids = r.ids; so_far = r.so_far; rest = ap (λ xs. r.ids ++ xs) (sym gone) ∙ r.rest }
+
+-- a session that has nothing pending
+pub round_pass : (old : HostState) (budget : ℕ) (id : SessionId) (worked refused : ℕ) (now : HostState) → IsSome (find now.slots id) → pending_of (find now.slots id) ≡ false → RoundTo old budget id.slot worked refused now → RoundTo old budget (id.slot + 1) worked refused now
+round_pass old budget id worked refused now some idle r = passes old budget id worked refused now (find now.slots id) refl some idle r
+
+-- the later slots are what they were
+works_later : (budget : ℕ) (h next : HostState) (id : SessionId) (o : Outcome) (found : Option Talk) → OnSession (Works budget) h id found o next → drop (id.slot + 1) next.slots.slots ≡ drop (id.slot + 1) h.slots.slots
+works_later budget h next id o None u = ap (λ (x : HostState). drop (id.slot + 1) x.slots.slots) u.same
+works_later budget h next id o (Some s) c = ap (λ (q : OpenSessions). drop (id.slot + 1) q.slots) c.slots_are ∙ drop-set-lt (id.slot + 1) h.slots.slots id.slot _ (omega arith)
+
+first_pending : (h : HostState) (id : SessionId) (found : Option Talk) → find h.slots id ≡ found → pending_of found ≡ true → pending_from id.slot (drop id.slot h.slots.slots) ≡ id ∷ pending_from (id.slot + 1) (drop (id.slot + 1) h.slots.slots)
+first_pending h id None e pending = absurd (cc)
+first_pending h id (Some t) e pending =
+    pending_at h id t e ∙ ap (λ b. cond b (id ∷ pending_from (id.slot + 1) (drop (id.slot + 1) h.slots.slots)) (pending_from (id.slot + 1) (drop (id.slot + 1) h.slots.slots))) pending
+
+-- a session that has something pending
+pub round_more : (old : HostState) (budget : ℕ) (id : SessionId) (worked refused : ℕ) (now next : HostState) (o : Outcome) (w r : ℕ) → RoundTo old budget id.slot worked refused now → pending_of (find now.slots id) ≡ true
+    → IsBelow now.slots → Stepped now (Work id budget) o next → w ≡ worked + cond (has_worked o) 1 0 → r ≡ refused + cond (was_refused o) 1 0 → RoundTo old budget (id.slot + 1) w r next
+round_more old budget id worked refused now next o w r t pending below stepped f g =
+    let a : IsRound old budget t.ids worked refused now = t.so_far in
+    let e : pending_from id.slot (drop id.slot now.slots.slots) ≡ id ∷ pending_from (id.slot + 1) (drop (id.slot + 1) now.slots.slots) = first_pending now id (find now.slots id) refl pending in
+    let one : cond (has_worked o) 1 0 + cond (was_refused o) 1 0 ≡ 1 = counted_on budget now next id o (find now.slots id) stepped in
+    record {
+      ids = t.ids ++ id ∷ [];
+      so_far = record {
+        outcomes = a.outcomes ++ o ∷ [];
+        each = omega (arith, a.each, length-append t.ids (id ∷ []), length-append a.outcomes (o ∷ []));
+        run = rw (works-last budget t.ids a.outcomes id o a.each) (run-last old now (works budget t.ids a.outcomes) next _ a.run (record { below = below; stepped = stepped }));
+        worked_is = f ∙ (ap (λ n. n + cond (has_worked o) 1 0) a.worked_is ∙ sym (count-last has_worked a.outcomes o));
+        refused_is = g ∙ (ap (λ n. n + cond (was_refused o) 1 0) a.refused_is ∙ sym (count-last was_refused a.outcomes o));
+        all = omega (arith, a.all, one, f, g, length-append t.ids (id ∷ []));
+      };
+      rest =
+          append_assoc t.ids (id ∷ []) (pending_from (id.slot + 1) (drop (id.slot + 1) next.slots.slots))
+          ∙ (ap (λ xs. t.ids ++ id ∷ pending_from (id.slot + 1) xs) (works_later budget now next id o (find now.slots id) stepped) ∙ (ap (λ xs. t.ids ++ xs) (sym e) ∙ t.rest));
+    }
+
+-- behind the last open session
+pub round_all : (old : HostState) (budget slot worked refused : ℕ) (now : HostState) → RoundTo old budget slot worked refused now → first_open slot (drop slot now.slots.slots) ≡ None → IsRound old budget (pending_ids old) worked refused now
+round_all old budget slot worked refused now t e =
+    let all : t.ids ≡ pending_ids old = sym (append-nil t.ids) ∙ (ap (λ xs. t.ids ++ xs) (sym (none_open slot (drop slot now.slots.slots) e)) ∙ t.rest) in
+    let r : IsRound old budget t.ids worked refused now = t.so_far in
+    rw all at r

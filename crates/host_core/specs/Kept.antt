@@ -1,0 +1,28 @@
+-- What an event leaves as it was (own choice).
+use Rattle.std.specs.Prelude.{◌≡◌, Bool, true, false}
+use Rattle.session_slots.specs.declared.id.SessionId.{SessionId}
+use Rattle.session_slots.specs.Slots.{find}
+use Rattle.host_core.specs.Events.{Event, Open, Feed, Work, Take, Close, Outcome, Opened, Refused}
+use Rattle.host_core.specs.Made.{is_same_id}
+use Rattle.host_core.specs.Steps.{HostState}
+
+-- the event names the id, or is answered with it
+abbrev pub names : SessionId → Event → Outcome → Bool
+names id Open (Opened at) = is_same_id at id
+names id Open _ = false
+names id (Feed at piece) outcome = is_same_id at id
+names id (Work at budget) outcome = is_same_id at id
+names id (Take at n) outcome = is_same_id at id
+names id (Close at) outcome = is_same_id at id
+
+-- each session that is not named is what it was
+abbrev pub KeepsOthers : HostState → Event → Outcome → HostState → Type 0
+KeepsOthers old event outcome new = (id : SessionId) → names id event outcome ≡ false → find new.slots id ≡ find old.slots id
+
+-- refused, and no `Work`
+abbrev pub is_refused : Event → Outcome → Bool
+is_refused Open (Refused fault) = true
+is_refused (Feed at piece) (Refused fault) = true
+is_refused (Take at n) (Refused fault) = true
+is_refused (Close at) (Refused fault) = true
+is_refused _ _ = false

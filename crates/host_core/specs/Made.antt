@@ -1,0 +1,53 @@
+-- What was stored and what was made for one session, by events and their outcomes alone (own choice).
+use Rattle.std.specs.Prelude.{ℕ, List, [], ◌∷◌, ◌++◌, Bool, false, ◌&&◌, ◌||◌, ◌==◌, cond}
+use Rattle.session_slots.specs.declared.id.SessionId.{SessionId}
+use Rattle.host_core.specs.Events.{Event, Open, Feed, Take, Outcome, Opened, Done, Gave}
+
+-- an event with its outcome
+pub record Step : Type 0 where
+  pub event : Event
+  pub outcome : Outcome
+
+-- each event with its outcome
+abbrev pub steps_of : {E O : Type 0} → (E → Event) → (O → Outcome) → List E → List O → List Step
+steps_of event outcome [] os = []
+steps_of event outcome (e ∷ es) [] = []
+steps_of event outcome (e ∷ es) (o ∷ os) = record { event = event e; outcome = outcome o } ∷ steps_of event outcome es os
+
+-- two ids are the same
+abbrev pub is_same_id : SessionId → SessionId → Bool
+is_same_id a b = a.slot == b.slot && a.generation == b.generation
+
+-- the bytes that an event stored for an id: those of a `Feed` of it that was done
+abbrev pub own_by : SessionId → Event → Outcome → List ℕ
+own_by id (Feed at piece) Done = cond (is_same_id at id) piece []
+own_by id _ _ = []
+
+-- the bytes that were stored for an id, in order: its own input
+abbrev pub own : SessionId → List Step → List ℕ
+own id [] = []
+own id (step ∷ rest) = own_by id step.event step.outcome ++ own id rest
+
+-- the bytes that an event handed out from an id
+abbrev pub taken_by : SessionId → Event → Outcome → List ℕ
+taken_by id (Take at n) (Gave bytes) = cond (is_same_id at id) bytes []
+taken_by id _ _ = []
+
+-- the bytes that were handed out from an id, in order
+abbrev pub taken : SessionId → List Step → List ℕ
+taken id [] = []
+taken id (step ∷ rest) = taken_by id step.event step.outcome ++ taken id rest
+
+-- the bytes made for an id: those that were handed out, and then those that are queued for it at the end
+abbrev pub made : SessionId → List Step → List ℕ → List ℕ
+made id steps queued = taken id steps ++ queued
+
+-- an `Open` was answered with this id
+abbrev pub opens : SessionId → Event → Outcome → Bool
+opens id Open (Opened at) = is_same_id at id
+opens id _ _ = false
+
+-- an `Open` of the steps was answered with this id
+abbrev pub is_opened : SessionId → List Step → Bool
+is_opened id [] = false
+is_opened id (step ∷ rest) = opens id step.event step.outcome || is_opened id rest

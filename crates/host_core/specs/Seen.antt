@@ -1,0 +1,32 @@
+-- Events and outcomes of the code as those of the definitions.
+use Rattle.std.specs.Prelude.{ℕ, List, Result, Ok, Err}
+use Rattle.host_core.specs.declared.event.Event as code_event
+use Rattle.host_core.specs.declared.event.Event.TheVariants as event
+use Rattle.host_core.specs.declared.event.Outcome as code_outcome
+use Rattle.host_core.specs.declared.event.Outcome.TheVariants as outcome
+use Rattle.host_core.specs.declared.event.HostFault.{HostFault}
+use Rattle.host_core.specs.Events as events
+use Rattle.host_core.specs.Made.{Step, steps_of}
+
+abbrev pub event_of : code_event.Event → events.Event
+event_of event.Open = events.Open
+event_of (event.Feed id piece) = events.Feed id piece.now
+event_of (event.Work id budget) = events.Work id budget
+event_of (event.Take id n) = events.Take id n
+event_of (event.Close id) = events.Close id
+
+abbrev pub outcome_of : {A : Type 0} → code_outcome.Outcome A → events.Outcome
+outcome_of (outcome.Opened id) = events.Opened id
+outcome_of outcome.Done = events.Done
+outcome_of (outcome.Worked steps) = events.Worked steps
+outcome_of (outcome.Gave bytes) = events.Gave bytes
+outcome_of (outcome.Refused fault) = events.Refused fault
+
+-- each event of a run with its outcome
+abbrev pub answered : {A : Type 0} → List code_event.Event → List (code_outcome.Outcome A) → List Step
+answered {A} es os = steps_of event_of (outcome_of {A = A}) es os
+
+-- the outcome of a `Take` of these bytes, where the bytes themselves are not handed out
+abbrev pub passed_of : {U : Type 0} → List ℕ → Result U HostFault → events.Outcome
+passed_of bytes (Ok done) = events.Gave bytes
+passed_of bytes (Err fault) = events.Refused fault

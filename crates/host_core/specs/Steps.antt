@@ -1,0 +1,69 @@
+-- One event of a host: its outcome, and the host after it (own choice).
+use Rattle.std.specs.Prelude.{◌≡◌, ℕ, ◌+◌, [], Option, Some, None}
+use Rattle.session_slots.specs.declared.id.SessionId.{SessionId}
+use Rattle.session_slots.specs.Slots.{OpenSessions, find, with_session, count, Opens, OthersKept, IsFull}
+use Rattle.shared_table.specs.Recent.{Table}
+use Rattle.usi_session.specs.Due.{Talk}
+use Rattle.host_core.specs.declared.event.HostFault.TheVariants.{Full, OutOfMemory, UnknownSession}
+use Rattle.host_core.specs.Events.{Event, Open, Feed, Work, Take, Close, Outcome, Opened, Done, Refused}
+use Rattle.host_core.specs.Sessions.{Feeds, Works, Takes}
+
+-- the table that all sessions share, and the open sessions
+pub record HostState : Type 0 where
+  pub table : Table
+  pub slots : OpenSessions
+
+-- no session was opened yet, and the table is empty
+abbrev pub new_host : ℕ → ℕ → HostState
+new_host max entries = record { table = record { pairs = []; capacity = entries }; slots = record { max = max; next = 0; slots = [] } }
+
+-- no session is open under the id
+pub record Unknown (old : HostState) (outcome : Outcome) (new : HostState) : Type 0 where
+  pub refused : outcome ≡ Refused UnknownSession
+  pub same : new ≡ old
+
+-- the session of the id answered, and no other changed
+pub record Changed (goes : Talk → Outcome → Talk → Type 0) (old : HostState) (id : SessionId) (session : Talk) (outcome : Outcome) (new : HostState) : Type 0 where
+  pub after : Talk
+  pub went : goes session outcome after
+  pub slots_are : new.slots ≡ with_session old.slots id after
+
+-- the session of the id answers, where it is open
+abbrev pub OnSession : (Talk → Outcome → Talk → Type 0) → HostState → SessionId → Option Talk → Outcome → HostState → Type 0
+OnSession goes old id None outcome new = Unknown old outcome new
+OnSession goes old id (Some session) outcome new = Changed goes old id session outcome new
+
+-- a session was opened where there was room
+pub record OpenedAs (old : HostState) (id : SessionId) (new : HostState) : Type 0 where
+  pub room : IsFull old.slots → ⊥
+  pub opens : Opens old.slots new.slots id
+  pub table_is : new.table ≡ old.table
+
+-- `Full` exactly where there is no room; `OutOfMemory` only where there is
+abbrev pub IsOpened : HostState → Outcome → HostState → Type 0
+IsOpened old (Opened id) new = OpenedAs old id new
+IsOpened old (Refused Full) new = IsFull old.slots × (new ≡ old)
+IsOpened old (Refused OutOfMemory) new = (IsFull old.slots → ⊥) × (new ≡ old)
+IsOpened old _ new = ⊥
+
+-- the session of the id is open no more, and no other changed
+pub record Closed (old : HostState) (id : SessionId) (outcome : Outcome) (new : HostState) : Type 0 where
+  pub done : outcome ≡ Done
+  pub none : find new.slots id ≡ None
+  pub others : OthersKept old.slots new.slots id
+  pub max_is : new.slots.max ≡ old.slots.max
+  pub next_is : new.slots.next ≡ old.slots.next
+  pub count_is : count new.slots + 1 ≡ count old.slots
+  pub table_is : new.table ≡ old.table
+
+abbrev pub IsClosed : HostState → SessionId → Option Talk → Outcome → HostState → Type 0
+IsClosed old id None outcome new = Unknown old outcome new
+IsClosed old id (Some session) outcome new = Closed old id outcome new
+
+-- each event with its outcome, and the host after it; only `Work` may change the table
+abbrev pub Stepped : HostState → Event → Outcome → HostState → Type 0
+Stepped old Open outcome new = IsOpened old outcome new
+Stepped old (Feed id piece) outcome new = OnSession (Feeds piece) old id (find old.slots id) outcome new × (new.table ≡ old.table)
+Stepped old (Work id budget) outcome new = OnSession (Works budget) old id (find old.slots id) outcome new
+Stepped old (Take id n) outcome new = OnSession (Takes n) old id (find old.slots id) outcome new × (new.table ≡ old.table)
+Stepped old (Close id) outcome new = IsClosed old id (find old.slots id) outcome new

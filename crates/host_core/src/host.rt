@@ -1,0 +1,263 @@
+//! A host of sessions.
+
+ghost use Rattle.std.specs.Prelude.{◌≡◌, ◌≤◌, ◌<◌, ◌+◌, ◌-◌, ◌^◌, IfOk, IsErrOf, IsSome, OnErr, Err, true, length, take, vec_len};
+ghost use Rattle.session_slots.specs.Slots.{find, IsBelow};
+ghost use Rattle.shared_table.specs.Recent.{AreTrue};
+ghost use Rattle.host_core.specs.ById.{IsOutput, queued_of, pending_of, wants_input_of, is_over_of};
+ghost use Rattle.host_core.specs.Events.{Open, Feed, Work, Take, Close};
+ghost use Rattle.host_core.specs.Headline.{FrontOfReplies, AllReplies, GoesOn};
+ghost use Rattle.host_core.specs.Kept.{KeepsOthers, is_refused};
+ghost use Rattle.host_core.specs.Rounds.{pending_ids, IsRound, RoundTo};
+ghost use Rattle.host_core.specs.Runs.{IsRun};
+ghost use Rattle.host_core.specs.Seen.{event_of, outcome_of, answered, passed_of};
+ghost use Rattle.host_core.specs.Steps.{HostState, Stepped, new_host};
+ghost use Rattle.host_core.specs.declared.event.HostFault.TheVariants.{OutOfMemory};
+
+use crate::event::{Event, HostFault, Outcome};
+use crate::round::{Round, counted};
+use crate::serve;
+use session_slots::{SessionId, SlotFault, Slots};
+use shared_table::SharedTable;
+use std::alloc::Allocator;
+use std::hash::BuildHasher;
+use std::marker::Model;
+
+/// Sessions over one table of searched positions. Each is answered as if it were alone; what the
+/// others searched can only save it steps.
+#[derive(Drop)]
+pub struct Host<S: BuildHasher, A: Allocator + Copy> {
+    alloc: A,
+    table: SharedTable<S, A>,
+    slots: Slots<A>,
+}
+
+impl<S: BuildHasher, A: Allocator + Copy> Model for Host<S, A> {
+    ghost use Rattle.host_core.specs.Steps.{HostState};
+
+    ghost Value = { HostState };
+
+    ghost view = { λ h. record { table = h.table; slots = h.slots } };
+}
+
+impl<S: BuildHasher, A: Allocator + Copy> Host<S, A> {
+    /// No session yet, and an empty table: at most so many sessions at a time, from 1 to 1,024, and at
+    /// most so many entries, from 1 to 1,000,000. Its one fault is `OutOfMemory`.
+    pub fn new(alloc: A, slots: usize, entries: usize, hasher: S) -> Result<Host<S, A>, HostFault>
+    where
+        S: Drop,
+        requires least_slots { 1 ≤ slots }
+        requires most_slots { slots ≤ 1024 }
+        requires least_entries { 1 ≤ entries }
+        requires most_entries { entries ≤ 1000000 }
+        ensures new { IfOk result (λ host. host ≡ new_host slots entries) }
+        ensures fault { OnErr result (result ≡ Err OutOfMemory) }
+    {
+        let Ok(table) = SharedTable::new(alloc, entries, hasher) else {
+            return Err(HostFault::OutOfMemory);
+        };
+        Ok(Host {
+            alloc,
+            table,
+            slots: Slots::new(alloc, slots),
+        })
+    }
+
+    /// Tells that each entry of the table is true, and that each id which finds a session has a
+    /// generation below the next one.
+    pub fn validity(&self)
+        ensures truth { AreTrue self.now.table.pairs }
+        ensures below { IsBelow self.now.slots }
+    {
+        let _ = self.table.entries();
+        self.slots.validity();
+    }
+
+    /// Answers one event. The session that it names answers as by its own call, and each other one is
+    /// left as it was. A refusal leaves all as it was, but for `Work` (see `Event::Work`).
+    pub fn step(&mut self, event: Event<'_>) -> Outcome<A>
+        ensures stepped { Stepped self.old (event_of event.entry) (outcome_of result) self.new }
+        ensures others { KeepsOthers self.old (event_of event.entry) (outcome_of result) self.new }
+        ensures refused { is_refused (event_of event.entry) (outcome_of result) ≡ true → self.new ≡ self.old }
+        ensures truth { AreTrue self.new.table.pairs }
+        ensures below { IsBelow self.old.slots }
+    {
+        self.validity();
+        let outcome = self.answer(event);
+        self.validity();
+        outcome
+    }
+
+    /// Answers the events in order, with one outcome for each. `OutOfMemory` comes before the first
+    /// event, and leaves the host as it was.
+    ///
+    /// For each session that an event opened, the bytes made for it are a front of the replies to the
+    /// bytes stored for it, and all of them where it is open at the end with nothing pending. A session
+    /// that was open before goes on from what it owed.
+    pub fn run(&mut self, events: &[Event<'_>]) -> Result<Vec<Outcome<A>, A>, HostFault>
+        ensures chain { IfOk result (λ outcomes. IsRun self.old (answered events.now outcomes.items) self.new) }
+        ensures each { IfOk result (λ outcomes. vec_len outcomes ≡ length events.now) }
+        ensures front { IfOk result (λ outcomes. FrontOfReplies (answered events.now outcomes.items) self.new) }
+        ensures all { IfOk result (λ outcomes. AllReplies (answered events.now outcomes.items) self.new) }
+        ensures before { IfOk result (λ outcomes. GoesOn self.old (answered events.now outcomes.items) self.new) }
+        ensures fault { OnErr result (result ≡ Err OutOfMemory) }
+        ensures err { OnErr result (self.new ≡ self.old) }
+    {
+        let Ok(mut outcomes) = Vec::with_capacity(self.alloc, events.len()) else {
+            return Err(HostFault::OutOfMemory);
+        };
+        for event in events {
+            let outcome = self.step(*event);
+            outcomes.push_reserved(outcome);
+        }
+        Ok(outcomes)
+    }
+
+    /// One `Work` with this budget for each session that is pending as the call starts, by rising slot,
+    /// and for no other.
+    pub fn round(&mut self, budget: u64) -> Round
+        ensures { IsRound self.old budget (pending_ids self.old) result.worked result.refused self.new }
+    {
+        let mut round = Round {
+            worked: 0,
+            refused: 0,
+        };
+        let mut after = None;
+        while let Some(id) = self.slots.next_open(after) {
+            round = self.round_at(id, budget, round);
+            after = Some(id.slot);
+        }
+        round
+    }
+
+    /// Drops the first n queued bytes of a session: `Take`, without handing the bytes out, so that it
+    /// takes no memory. Refused `UnknownSession`, or `NotReady` where fewer bytes are queued.
+    pub fn pass(&mut self, id: SessionId, n: usize) -> Result<(), HostFault>
+        ensures taken { Stepped self.old (Take id n) (passed_of (take n (queued_of (find self.old.slots id))) result) self.new }
+        ensures no_memory { IsErrOf result OutOfMemory → ⊥ }
+        ensures below { IsBelow self.old.slots }
+    {
+        self.validity();
+        match self.slots.get_mut(id) {
+            Some(session) => serve::pass(session, n),
+            None => Err(HostFault::UnknownSession),
+        }
+    }
+
+    /// The queued bytes of a session, or `None` where none is open under the id.
+    pub fn output(&self, id: SessionId) -> Option<&[u8]>
+        ensures { IsOutput (find self.now.slots id) result }
+    {
+        match self.slots.get(id) {
+            Some(session) => Some(session.output()),
+            None => None,
+        }
+    }
+
+    /// Whether the session has something pending: a `go` in hand or an unread line, and it has not
+    /// ended. No where none is open under the id.
+    pub fn pending(&self, id: SessionId) -> bool
+        ensures { result ≡ pending_of (find self.now.slots id) }
+    {
+        match self.slots.get(id) {
+            Some(session) => session.pending(),
+            None => false,
+        }
+    }
+
+    /// Whether the session may be fed: it has not ended, nothing is pending, and fewer than 65,536
+    /// bytes are queued. No where none is open under the id.
+    pub fn wants_input(&self, id: SessionId) -> bool
+        ensures { result ≡ wants_input_of (find self.now.slots id) }
+    {
+        match self.slots.get(id) {
+            Some(session) => session.wants_input(),
+            None => false,
+        }
+    }
+
+    /// Whether the session has ended, by `quit` or a line that was too long. No where none is open
+    /// under the id.
+    pub fn is_over(&self, id: SessionId) -> bool
+        ensures { result ≡ is_over_of (find self.now.slots id) }
+    {
+        match self.slots.get(id) {
+            Some(session) => session.is_over(),
+            None => false,
+        }
+    }
+
+    fn answer(&mut self, event: Event<'_>) -> Outcome<A>
+        ensures { Stepped self.old (event_of event.entry) (outcome_of result) self.new }
+    {
+        match event {
+            Event::Open => self.open(),
+            Event::Feed(id, piece) => self.feed(id, piece),
+            Event::Work(id, budget) => self.work(id, budget),
+            Event::Take(id, n) => self.take(id, n),
+            Event::Close(id) => self.close(id),
+        }
+    }
+
+    fn open(&mut self) -> Outcome<A>
+        ensures { Stepped self.old Open (outcome_of result) self.new }
+    {
+        match self.slots.open() {
+            Ok(id) => Outcome::Opened(id),
+            Err(SlotFault::Full) => Outcome::Refused(HostFault::Full),
+            Err(SlotFault::OutOfMemory) => Outcome::Refused(HostFault::OutOfMemory),
+        }
+    }
+
+    fn feed(&mut self, id: SessionId, piece: &[u8]) -> Outcome<A>
+        ensures { Stepped self.old (Feed id piece.now) (outcome_of result) self.new }
+    {
+        match self.slots.get_mut(id) {
+            Some(session) => serve::feed(session, piece),
+            None => Outcome::Refused(HostFault::UnknownSession),
+        }
+    }
+
+    fn work(&mut self, id: SessionId, budget: u64) -> Outcome<A>
+        ensures { Stepped self.old (Work id budget) (outcome_of result) self.new }
+    {
+        match self.slots.get_mut(id) {
+            Some(session) => serve::work(session, &mut self.table, budget),
+            None => Outcome::Refused(HostFault::UnknownSession),
+        }
+    }
+
+    fn take(&mut self, id: SessionId, n: usize) -> Outcome<A>
+        ensures { Stepped self.old (Take id n) (outcome_of result) self.new }
+    {
+        let alloc = self.alloc;
+        match self.slots.get_mut(id) {
+            Some(session) => serve::take(alloc, session, n),
+            None => Outcome::Refused(HostFault::UnknownSession),
+        }
+    }
+
+    fn close(&mut self, id: SessionId) -> Outcome<A>
+        ensures { Stepped self.old (Close id) (outcome_of result) self.new }
+    {
+        match self.slots.close(id) {
+            Some(_) => Outcome::Done,
+            None => Outcome::Refused(HostFault::UnknownSession),
+        }
+    }
+
+    /// What a round does with an open session: a `Work` where something is pending.
+    fn round_at(&mut self, id: SessionId, budget: u64, round: Round) -> Round
+        requires open { IsSome (find self.old.slots id) }
+        requires not_last { id.slot < 2 ^ 64 - 1 }
+        requires few { round.worked + round.refused ≤ id.slot }
+        ensures goes_on { (start : HostState) → RoundTo start budget id.slot round.worked round.refused self.old → RoundTo start budget (id.slot + 1) result.worked result.refused self.new }
+        ensures few { result.worked + result.refused ≤ id.slot + 1 }
+    {
+        if !self.pending(id) {
+            return round;
+        }
+        self.validity();
+        let outcome = self.work(id, budget);
+        counted(round, &outcome)
+    }
+}

@@ -1,0 +1,17 @@
+//! Many sessions over one table, one event at a time.
+#![tactic(auto)]
+
+mod bytes;
+mod event;
+mod host;
+mod laws;
+mod round;
+mod serve;
+#[cfg(test)]
+mod tests;
+
+pub use bytes::Bytes;
+pub use event::{Event, HostFault, Outcome};
+pub use host::Host;
+pub use laws::isolation;
+pub use round::Round;

@@ -1,0 +1,74 @@
+//! What one session answers to the events that name it.
+
+ghost use Rattle.std.specs.Prelude.{take, IsErrOf};
+ghost use Rattle.host_core.specs.Seen.{outcome_of, passed_of};
+ghost use Rattle.host_core.specs.Sessions.{Feeds, Works, Takes};
+ghost use Rattle.host_core.specs.declared.event.HostFault.TheVariants.{OutOfMemory};
+
+use crate::bytes::Bytes;
+use crate::event::{HostFault, Outcome};
+use shogi_search::Memo;
+use std::alloc::Allocator;
+use usi_session::Session;
+
+/// The most bytes of one feed.
+const PIECE: usize = 4096;
+
+/// Stores the bytes, where the session may be fed.
+pub fn feed<A: Allocator + Copy>(session: &mut Session<A>, piece: &[u8]) -> Outcome<A>
+    ensures { Feeds piece.now session.old (outcome_of result) session.new }
+{
+    if piece.len() > PIECE || !session.wants_input() {
+        return Outcome::Refused(HostFault::NotReady);
+    }
+    match session.feed(piece) {
+        Ok(()) => Outcome::Done,
+        Err(_) => Outcome::Refused(HostFault::OutOfMemory),
+    }
+}
+
+/// Goes on by at most so many steps. A session with nothing pending is left as it is.
+pub fn work<A: Allocator + Copy, M: Memo>(
+    session: &mut Session<A>,
+    memo: &mut M,
+    budget: u64,
+) -> Outcome<A>
+    ensures { Works budget session.old (outcome_of result) session.new }
+{
+    if !session.pending() {
+        return Outcome::Worked(0);
+    }
+    match session.work(memo, budget) {
+        Ok(steps) => Outcome::Worked(steps),
+        Err(_) => Outcome::Refused(HostFault::OutOfMemory),
+    }
+}
+
+/// Hands out the first n bytes of the queue.
+pub fn take<A: Allocator + Copy>(alloc: A, session: &mut Session<A>, n: usize) -> Outcome<A>
+    ensures { Takes n session.old (outcome_of result) session.new }
+{
+    let output = session.output();
+    if n > output.len() {
+        return Outcome::Refused(HostFault::NotReady);
+    }
+    match Bytes::copy_of(alloc, output.split_at(n).0) {
+        Ok(bytes) => {
+            session.take(n);
+            Outcome::Gave(bytes)
+        }
+        Err(_) => Outcome::Refused(HostFault::OutOfMemory),
+    }
+}
+
+/// Drops the first n bytes of the queue.
+pub fn pass<A: Allocator + Copy>(session: &mut Session<A>, n: usize) -> Result<(), HostFault>
+    ensures taken { Takes n session.old (passed_of (take n session.old.queued) result) session.new }
+    ensures no_memory { IsErrOf result OutOfMemory → ⊥ }
+{
+    if n > session.output().len() {
+        return Err(HostFault::NotReady);
+    }
+    session.take(n);
+    Ok(())
+}

@@ -1,0 +1,5 @@
+pub mod Slots
+pub mod Bounds
+pub mod LendsSlot
+pub mod Lends
+pub mod Order
