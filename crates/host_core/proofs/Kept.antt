@@ -1,4 +1,5 @@
 -- What a step leaves as it was.
+use Rattle.std.specs.Prelude.{Result, Ok, Err, OnErr}
 use Rattle.std.proofs.Common.{◌≡◌, ℕ, true, false, List, Option, Some, None, refl, ap, ◌∙◌}
 use Rattle.session_slots.specs.declared.id.SessionId.{SessionId}
 use Rattle.session_slots.specs.Slots.{find, with_session}
@@ -11,6 +12,7 @@ use Rattle.host_core.specs.Sessions.{Feeds, Works, Takes}
 use Rattle.host_core.specs.Steps.{HostState, Changed, OnSession, IsOpened, IsClosed, Stepped}
 use Rattle.host_core.specs.Made.{is_same_id}
 use Rattle.host_core.specs.Kept.{names, is_refused}
+use Rattle.host_core.specs.Seen.{passed_of}
 use Rattle.host_core.proofs.Ids.{other_id}
 
 on_other : (goes : Talk → Outcome → Talk → Type 0) (old new : HostState) (at id : SessionId) (o : Outcome) (found : Option Talk) → find old.slots at ≡ found → is_same_id at id ≡ false → OnSession goes old at found o new → find new.slots id ≡ find old.slots id
@@ -91,3 +93,8 @@ refused_same old new (Close at) (Opened id) p r = absurd (cc)
 refused_same old new (Close at) Done p r = absurd (cc)
 refused_same old new (Close at) (Worked steps) p r = absurd (cc)
 refused_same old new (Close at) (Gave bytes) p r = absurd (cc)
+
+-- bytes that were not passed leave all as it was
+pub not_passed : {U : Type 0} (old new : HostState) (id : SessionId) (n : ℕ) (bytes : List ℕ) (r : Result U HostFault) → Stepped old (Take id n) (passed_of bytes r) new → OnErr r (new ≡ old)
+not_passed old new id n bytes (Ok done) p = tt
+not_passed old new id n bytes (Err fault) p = refused_same old new (Take id n) (Refused fault) p refl

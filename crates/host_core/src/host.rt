@@ -134,13 +134,12 @@ impl<S: BuildHasher, A: Allocator + Copy> Host<S, A> {
     pub fn pass(&mut self, id: SessionId, n: usize) -> Result<(), HostFault>
         ensures taken { Stepped self.old (Take id n) (passed_of (take n (queued_of (find self.old.slots id))) result) self.new }
         ensures no_memory { IsErrOf result OutOfMemory → ⊥ }
+        ensures others { KeepsOthers self.old (Take id n) (passed_of (take n (queued_of (find self.old.slots id))) result) self.new }
+        ensures err { OnErr result (self.new ≡ self.old) }
         ensures below { IsBelow self.old.slots }
     {
         self.validity();
-        match self.slots.get_mut(id) {
-            Some(session) => serve::pass(session, n),
-            None => Err(HostFault::UnknownSession),
-        }
+        self.drop_front(id, n)
     }
 
     /// The queued bytes of a session, or `None` where none is open under the id.
@@ -233,6 +232,16 @@ impl<S: BuildHasher, A: Allocator + Copy> Host<S, A> {
         match self.slots.get_mut(id) {
             Some(session) => serve::take(alloc, session, n),
             None => Outcome::Refused(HostFault::UnknownSession),
+        }
+    }
+
+    fn drop_front(&mut self, id: SessionId, n: usize) -> Result<(), HostFault>
+        ensures taken { Stepped self.old (Take id n) (passed_of (take n (queued_of (find self.old.slots id))) result) self.new }
+        ensures no_memory { IsErrOf result OutOfMemory → ⊥ }
+    {
+        match self.slots.get_mut(id) {
+            Some(session) => serve::pass(session, n),
+            None => Err(HostFault::UnknownSession),
         }
     }
 
