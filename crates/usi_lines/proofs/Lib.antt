@@ -1,3 +1,4 @@
 pub mod LineLaws
 pub mod Waiting
 pub mod CommandLaws
+pub mod Cutting

@@ -3,6 +3,7 @@
 
 mod buffer;
 mod command;
+mod first;
 mod line;
 mod option;
 mod read;
@@ -11,5 +12,6 @@ mod tests;
 
 pub use buffer::{LineBuffer, LineFault};
 pub use command::{Command, Hold};
+pub use first::{FirstLine, first_line};
 pub use line::{LINE_MAX, Line};
 pub use read::read_command;

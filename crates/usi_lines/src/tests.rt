@@ -1,6 +1,6 @@
 //! Lines cut at any place, the greatest length, and the table of commands.
 
-use crate::{Command, Hold, LINE_MAX, Line, LineBuffer, read_command};
+use crate::{Command, Hold, LINE_MAX, Line, LineBuffer, first_line, read_command};
 use std::process::Abort;
 use std::test::Fail;
 
@@ -47,6 +47,21 @@ fn one_byte_more_ends_the_lines(rt: HostRuntime) -> Result<(), Fail> {
     buffer.drop_line();
     buffer.feed(b"usi\n")?;
     assert!(rt; !buffer.has_line());
+    Ok(())
+}
+
+#[test]
+fn lines_of_a_stream_that_is_all_there(rt: HostRuntime) -> Result<(), Fail> {
+    let first = first_line(b"usi\r\nisready\nquit").ok_or("a line")?;
+    assert!(rt; first.line == Line::Text(b"usi".as_slice()));
+    let second = first_line(first.rest).ok_or("a line")?;
+    assert!(rt; second.line == Line::Text(b"isready".as_slice()));
+    assert!(rt; first_line(second.rest).is_none());
+
+    let text = vec![in rt.alloc(); b'x'; LINE_MAX + 1]?;
+    assert!(rt; first_line(&text[..LINE_MAX]).is_none());
+    let long = first_line(text.as_slice()).ok_or("a line")?;
+    assert!(rt; long.line == Line::TooLong && first_line(long.rest).is_none());
     Ok(())
 }
 

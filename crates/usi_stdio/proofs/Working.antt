@@ -1,5 +1,5 @@
 -- A session whose replies are written slice by slice.
-use Rattle.std.proofs.Common.{◌≡◌, ℕ, ◌+◌, ◌*◌, ◌≤◌, ◌<◌, List, [], ◌++◌, Option, refl, sym, ap, ◌∙◌, append_assoc, append-nil, true, false, arith, cond, Bool, Result, OnErr, Ok, Err}
+use Rattle.std.proofs.Common.{◌≡◌, ℕ, ◌+◌, ◌≤◌, ◌<◌, List, [], ◌++◌, Option, refl, sym, ap, ◌∙◌, append_assoc, append-nil, true, false, arith, Bool, Result, OnErr, Ok, Err}
 use Rattle.std.specs.Io.KnownBytes.{Appends, Keeps}
 use Rattle.std.proofs.KnownBytes.{Appends-nil, Appends-trans, Appends-kept}
 use Rattle.usi_session.specs.Due.{Talk, due, state_due, is_pending, load}
@@ -68,9 +68,9 @@ worked_front before mid old part new a (left, w) = (
 pub slices_fall : (before mid after : Talk) (n slice : ℕ) → 0 < slice → is_pending before ≡ true → n + load mid ≤ load before → (is_pending mid ≡ true → n ≡ slice) → after ≡ record mid { queued = [] } → slices_of after < slices_of before
 slices_fall before mid after n slice some pending made spent rest = fall (is_pending mid) refl
   where
-  fall : (b : Bool) → is_pending mid ≡ b → slices_of after < slices_of before
-  fall true e = let m : n ≡ slice = spent e in rw (rest, e, pending) (omega arith)
-  fall false e = rw (rest, e, pending) (omega arith)
+    fall : (b : Bool) → is_pending mid ≡ b → slices_of after < slices_of before
+    fall true e = let m : n ≡ slice = spent e in rw (rest, e, pending) (omega arith)
+    fall false e = rw (rest, e, pending) (omega arith)
 
 -- what holds after a fault
 pub on_err : {T E : Type 0} {P : Type 0} (r : Result T E) → P → OnErr r P

@@ -3,4 +3,4 @@
 
 mod streams;
 
-pub use streams::{StdioFault, stdio};
+pub use streams::{StdioFault, stdio, write_out};

@@ -1,8 +1,9 @@
 //! One session over a reader and a writer.
 
-ghost use Rattle.std.specs.Prelude.{◌≡◌, ◌<◌, ◌≤◌, [], true, false, length, take, IfOk, OnOk, OnErr};
+ghost use Rattle.std.specs.Prelude.{◌≡◌, ◌<◌, ◌≤◌, [], true, false, length, take, IfOk, OnOk, OnErr, Err};
 ghost use Rattle.std.specs.Io.KnownBytes.{Appends, Consumes, IsAtEnd, Keeps};
 ghost use Rattle.usi_stdio.specs.Stdio.{WritesFront, IsAnswered, IsAnsweredInPart, IsWritten, IsWorkedOn, IsFedAndWorkedOff, slices_of};
+ghost use Rattle.usi_stdio.specs.declared.streams.StdioFault.TheVariants.{WriteFailed};
 ghost use Rattle.usi_session.specs.Due.{due, is_pending, wants_input};
 
 use shared_table::{SharedTable, TableFault};
@@ -49,10 +50,13 @@ impl From<TableFault> for StdioFault {
     }
 }
 
-/// Writes the bytes, in as many writes as the writer needs.
-fn write_out<W: Write>(writer: &mut W, bytes: &[u8]) -> Result<(), StdioFault>
+/// Writes the bytes, in as many writes as the writer needs, and flushes. It takes no memory. Its one
+/// fault is `WriteFailed`, where a write or the flush failed or a write took nothing; then a front of
+/// the bytes was written.
+pub fn write_out<W: Write>(writer: &mut W, bytes: &[u8]) -> Result<(), StdioFault>
     ensures ok { OnOk result (Appends (W.contents writer.old) (W.contents writer.new) bytes.now) }
     ensures err { OnErr result (WritesFront (W.contents writer.old) (W.contents writer.new) bytes.now) }
+    ensures fault { OnErr result (result ≡ Err WriteFailed) }
 {
     let mut rest = bytes;
     'writes: while !rest.is_empty() {
@@ -61,6 +65,9 @@ fn write_out<W: Write>(writer: &mut W, bytes: &[u8]) -> Result<(), StdioFault>
             Ok(n) => rest = rest.split_at(n).1,
             Err(_) => return Err(StdioFault::WriteFailed),
         }
+    }
+    if writer.flush().is_err() {
+        return Err(StdioFault::WriteFailed);
     }
     Ok(())
 }
@@ -78,9 +85,6 @@ fn write_queued<A: Allocator + Copy, W: Write>(
         return Ok(());
     }
     write_out(writer, session.output())?;
-    if writer.flush().is_err() {
-        return Err(StdioFault::WriteFailed);
-    }
     session.take(queued);
     Ok(())
 }
