@@ -1,0 +1,4 @@
+pub mod Rounds
+pub mod Transcripts
+pub mod Names
+pub mod Ends

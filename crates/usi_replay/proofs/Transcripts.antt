@@ -1,0 +1,372 @@
+-- A script that is being played, step by step.
+use Rattle.std.proofs.Common.{◌≡◌, ◌≢◌, ℕ, zero, suc, ◌+◌, ◌<◌, ◌≤◌, List, [], ◌∷◌, ◌++◌, Bool, true, false, cond, Option, Some, None, length, set, get_or, count_by, refl, sym, ap, ◌∙◌, arith, append_assoc, append-nil, length-set, ◌==◌}
+use Rattle.std.proofs.lemmas.Bool.{eqb-true}
+use Rattle.std.proofs.lemmas.List.{set-get_or, get_or-set_same}
+use Rattle.std.proofs.lemmas.List.Sums.{sum_by-cons, sum_by-set}
+use Rattle.session_slots.specs.declared.id.SessionId.{SessionId}
+use Rattle.session_slots.specs.Slots.{find}
+use Rattle.usi_session.specs.Due.{Talk, due}
+use Rattle.usi_session.specs.Replies.{replies}
+use Rattle.usi_session.proofs.Settled.{due-settled}
+use Rattle.host_core.specs.Steps.{HostState}
+use Rattle.host_core.specs.ById.{pending_of}
+use Rattle.usi_replay.specs.Script.{Opening, has_session}
+use Rattle.usi_replay.specs.Sessions.{OwesTheSame, KeepsDue, KeepsAllBut, IsCollected, IsFed}
+use Rattle.usi_replay.specs.Playback.{Transcript, no_transcript, no_opening, open_id, Owes, HasMade, IsTranscriptOf, floor_after, IsAbove, AreTranscripts, IsPlayback, KeepsPlayback, HasAllReplies, with_more, IsSent}
+
+-- sessions that went on owe the same
+owes_due : (f g : Option Talk) (made text : List ℕ) → OwesTheSame f g → Owes f made text → Owes g made text
+owes_due None g made text h o = absurd o
+owes_due (Some s) None made text h o = absurd h
+owes_due (Some s) (Some t) made text h o = λ x. ap (λ xs. made ++ xs) (h x) ∙ o x
+
+made_due : (old new : HostState) (id : Option SessionId) (used refused : Bool) (text made : List ℕ) → KeepsDue old new → HasMade old id used refused text made → HasMade new id used refused text made
+made_due old new None used refused text made k m = m
+made_due old new (Some id) true refused text made k m = (m.0, owes_due (find old.slots id) (find new.slots id) made text (k.owed id) m.1)
+made_due old new (Some id) false refused text made k m = m
+
+of_due : (old new : HostState) (o : Opening) (e : Transcript) → KeepsDue old new → IsTranscriptOf old o e → IsTranscriptOf new o e
+of_due old new o e k i = record { name_is = i.name_is; used_is = i.used_is; made_is = made_due old new e.id e.in_use o.refused o.text e.made k i.made_is }
+
+pub transcripts_due : (old new : HostState) (low : ℕ) (os : List Opening) (es : List Transcript) → KeepsDue old new → AreTranscripts old low os es → AreTranscripts new low os es
+unfolding AreTranscripts
+transcripts_due old new low [] [] k t = (let n : new.slots.next ≡ old.slots.next = k.next_is in rw n t)
+transcripts_due old new low [] (e ∷ es) k t = absurd t
+transcripts_due old new low (o ∷ os) [] k t = absurd t
+transcripts_due old new low (o ∷ os) (e ∷ es) k t = (of_due old new o e k t.0, t.1, transcripts_due old new (floor_after low e.id) os es k t.2)
+
+-- the others are left as they were
+made_other : (old new : HostState) (at : SessionId) (id : Option SessionId) (used refused : Bool) (text made : List ℕ) → ((other : SessionId) → other ≢ at → find new.slots other ≡ find old.slots other) → ((other : SessionId) → id ≡ Some other → other ≢ at) → HasMade old id used refused text made → HasMade new id used refused text made
+made_other old new at None used refused text made k apart m = m
+made_other old new at (Some other) true refused text made k apart m = (m.0, rw (k other (apart other refl)) m.1)
+made_other old new at (Some other) false refused text made k apart m = m
+
+of_other : (old new : HostState) (at : SessionId) (o : Opening) (e : Transcript) → ((other : SessionId) → other ≢ at → find new.slots other ≡ find old.slots other) → ((other : SessionId) → e.id ≡ Some other → other ≢ at) → IsTranscriptOf old o e → IsTranscriptOf new o e
+of_other old new at o e k apart i = record { name_is = i.name_is; used_is = i.used_is; made_is = made_other old new at e.id e.in_use o.refused o.text e.made k apart i.made_is }
+
+floor_up : (low : ℕ) (id : Option SessionId) → IsAbove low id → low ≤ floor_after low id
+floor_up low None a = omega arith
+floor_up low (Some id) a = (let b : low ≤ id.generation = a in omega arith)
+
+floor_past : (low : ℕ) (id : Option SessionId) (at : SessionId) → id ≡ Some at → at.generation < floor_after low id
+floor_past low id at e = rw e (omega arith)
+
+above_of : (low : ℕ) (id : Option SessionId) (at : SessionId) → id ≡ Some at → IsAbove low id → low ≤ at.generation
+above_of low id at e a = rw e at a
+
+differ_below : (a b : SessionId) → a.generation < b.generation → a ≢ b
+differ_below a b lt same = (let e : a.generation ≡ b.generation = ap (λ (i : SessionId). i.generation) same in absurd (omega arith))
+
+differ_above : (a b : SessionId) → b.generation < a.generation → a ≢ b
+differ_above a b lt same = (let e : a.generation ≡ b.generation = ap (λ (i : SessionId). i.generation) same in absurd (omega arith))
+
+pub record KeepsOnly (old new : HostState) (at : SessionId) : Type 0 where
+  pub others : (other : SessionId) → other ≢ at → find new.slots other ≡ find old.slots other
+  pub next_is : new.slots.next ≡ old.slots.next
+
+pub keeps_only : (old new : HostState) (at : SessionId) → KeepsAllBut old new at → KeepsOnly old new at
+keeps_only old new at k = record { others = k.others; next_is = k.next_is }
+
+transcripts_later : (old new : HostState) (at : SessionId) (low : ℕ) (os : List Opening) (es : List Transcript) → KeepsOnly old new at → at.generation < low → AreTranscripts old low os es → AreTranscripts new low os es
+unfolding AreTranscripts
+transcripts_later old new at low [] [] k lt t = (let n : new.slots.next ≡ old.slots.next = k.next_is in rw n t)
+transcripts_later old new at low [] (e ∷ es) k lt t = absurd t
+transcripts_later old new at low (o ∷ os) [] k lt t = absurd t
+transcripts_later old new at low (o ∷ os) (e ∷ es) k lt t =
+    let up : low ≤ floor_after low e.id = floor_up low e.id t.1 in
+    (of_other old new at o e k.others (λ other f. (let a : low ≤ other.generation = above_of low e.id other f t.1 in differ_above other at (omega arith))) t.0, t.1, transcripts_later old new at (floor_after low e.id) os es k (omega arith) t.2)
+
+member_above : (h : HostState) (low : ℕ) (os : List Opening) (es : List Transcript) (i : ℕ) (at : SessionId) → AreTranscripts h low os es → i < length es → (get_or es i no_transcript).id ≡ Some at → low ≤ at.generation
+unfolding AreTranscripts
+member_above h low [] [] i at t lt e = absurd (omega arith)
+member_above h low [] (k ∷ es) i at t lt e = absurd t
+member_above h low (o ∷ os) [] i at t lt e = absurd t
+member_above h low (o ∷ os) (k ∷ es) zero at t lt e = above_of low k.id at e t.1
+member_above h low (o ∷ os) (k ∷ es) (suc i) at t lt e =
+    let up : low ≤ floor_after low k.id = floor_up low k.id t.1 in
+    let m : floor_after low k.id ≤ at.generation = member_above h (floor_after low k.id) os es i at t.2 (omega arith) e in
+    omega arith
+
+-- one `+` line goes on, and no other
+pub transcripts_set : (old new : HostState) (at : SessionId) (low : ℕ) (os : List Opening) (es : List Transcript) (i : ℕ) (o : Opening) (e : Transcript) → KeepsOnly old new at → AreTranscripts old low os es → i < length es → (get_or es i no_transcript).id ≡ Some at → e.id ≡ Some at → IsTranscriptOf new o e → AreTranscripts new low (set os i o) (set es i e)
+unfolding AreTranscripts
+transcripts_set old new at low [] [] i o e k t lt was is of = absurd (omega arith)
+transcripts_set old new at low [] (f ∷ es) i o e k t lt was is of = absurd t
+transcripts_set old new at low (p ∷ os) [] i o e k t lt was is of = absurd t
+transcripts_set old new at low (p ∷ os) (f ∷ es) zero o e k t lt was is of =
+    let same : e.id ≡ f.id = is ∙ sym was in
+    (of, rw same t.1, rw same (transcripts_later old new at (floor_after low f.id) os es k (floor_past low f.id at was) t.2))
+transcripts_set old new at low (p ∷ os) (f ∷ es) (suc i) o e k t lt was is of =
+    let m : floor_after low f.id ≤ at.generation = member_above old (floor_after low f.id) os es i at t.2 (omega arith) was in (
+      of_other old new at p f k.others (λ other g. (let a : other.generation < floor_after low f.id = floor_past low f.id other g in differ_below other at (omega arith))) t.0,
+      t.1,
+      transcripts_set old new at (floor_after low f.id) os es i o e k t.2 (omega arith) was is of,
+    )
+
+-- a `+` line that has no session
+pub transcripts_text : (h : HostState) (low : ℕ) (os : List Opening) (es : List Transcript) (i : ℕ) (o : Opening) (e : Transcript) → AreTranscripts h low os es → i < length es → e.id ≡ (get_or es i no_transcript).id → IsTranscriptOf h o e → AreTranscripts h low (set os i o) (set es i e)
+unfolding AreTranscripts
+transcripts_text h low [] [] i o e t lt same of = absurd (omega arith)
+transcripts_text h low [] (f ∷ es) i o e t lt same of = absurd t
+transcripts_text h low (p ∷ os) [] i o e t lt same of = absurd t
+transcripts_text h low (p ∷ os) (f ∷ es) zero o e t lt same of = (of, rw same t.1, rw same t.2)
+transcripts_text h low (p ∷ os) (f ∷ es) (suc i) o e t lt same of = (t.0, t.1, transcripts_text h (floor_after low f.id) os es i o e t.2 (omega arith) same of)
+
+pub transcripts_get : (h : HostState) (low : ℕ) (os : List Opening) (es : List Transcript) (i : ℕ) → AreTranscripts h low os es → i < length es → IsTranscriptOf h (get_or os i no_opening) (get_or es i no_transcript)
+unfolding AreTranscripts
+transcripts_get h low [] [] i t lt = absurd (omega arith)
+transcripts_get h low [] (f ∷ es) i t lt = absurd t
+transcripts_get h low (p ∷ os) [] i t lt = absurd t
+transcripts_get h low (p ∷ os) (f ∷ es) zero t lt = t.0
+transcripts_get h low (p ∷ os) (f ∷ es) (suc i) t lt = transcripts_get h (floor_after low f.id) os es i t.2 (omega arith)
+
+pub transcripts_len : (h : HostState) (low : ℕ) (os : List Opening) (es : List Transcript) → AreTranscripts h low os es → length os ≡ length es
+unfolding AreTranscripts
+transcripts_len h low [] [] t = refl
+transcripts_len h low [] (f ∷ es) t = absurd t
+transcripts_len h low (p ∷ os) [] t = absurd t
+transcripts_len h low (p ∷ os) (f ∷ es) t = (let r = transcripts_len h (floor_after low f.id) os es t.2 in omega (arith, r))
+
+transcripts_low : (h : HostState) (low : ℕ) (os : List Opening) (es : List Transcript) → AreTranscripts h low os es → low ≤ h.slots.next
+unfolding AreTranscripts
+transcripts_low h low [] [] t = t
+transcripts_low h low [] (f ∷ es) t = absurd t
+transcripts_low h low (p ∷ os) [] t = absurd t
+transcripts_low h low (p ∷ os) (f ∷ es) t = (let r = transcripts_low h (floor_after low f.id) os es t.2 in let up = floor_up low f.id t.1 in omega (arith, r, up))
+
+-- one with_more `+` line, with a session
+pub transcripts_open : (old new : HostState) (at : SessionId) (low : ℕ) (os : List Opening) (es : List Transcript) (o : Opening) (e : Transcript) → ((other : SessionId) → other ≢ at → find new.slots other ≡ find old.slots other) → at.generation ≡ old.slots.next → new.slots.next ≡ old.slots.next + 1 → e.id ≡ Some at → IsTranscriptOf new o e → AreTranscripts old low os es → AreTranscripts new low (os ++ o ∷ []) (es ++ e ∷ [])
+unfolding AreTranscripts
+transcripts_open old new at low [] [] o e k g n is of t =
+    let b : low ≤ old.slots.next = t in
+    (of, rw is (omega arith), rw is (omega arith))
+transcripts_open old new at low [] (f ∷ es) o e k g n is of t = absurd t
+transcripts_open old new at low (p ∷ os) [] o e k g n is of t = absurd t
+transcripts_open old new at low (p ∷ os) (f ∷ es) o e k g n is of t =
+    let l : floor_after low f.id ≤ old.slots.next = transcripts_low old (floor_after low f.id) os es t.2 in (
+      of_other old new at p f k (λ other h. (let a : other.generation < floor_after low f.id = floor_past low f.id other h in differ_below other at (omega arith))) t.0,
+      t.1,
+      transcripts_open old new at (floor_after low f.id) os es o e k g n is of t.2,
+    )
+
+-- one with_more, that was refused
+pub transcripts_refused : (h : HostState) (low : ℕ) (os : List Opening) (es : List Transcript) (o : Opening) (e : Transcript) → e.id ≡ None → IsTranscriptOf h o e → AreTranscripts h low os es → AreTranscripts h low (os ++ o ∷ []) (es ++ e ∷ [])
+unfolding AreTranscripts
+transcripts_refused h low [] [] o e is of t = (of, rw is tt, rw is t)
+transcripts_refused h low [] (f ∷ es) o e is of t = absurd t
+transcripts_refused h low (p ∷ os) [] o e is of t = absurd t
+transcripts_refused h low (p ∷ os) (f ∷ es) o e is of t = (t.0, t.1, transcripts_refused h (floor_after low f.id) os es o e is of t.2)
+
+-- as many hold a session, where a `+` line changes that does so before and after or neither
+pub held_set : (os : List Opening) (i : ℕ) (o : Opening) → i < length os → has_session o ≡ has_session (get_or os i no_opening) → count_by has_session (set os i o) ≡ count_by has_session os
+held_set os i o lt e =
+    let u = sum_by-set (λ (q : Opening). cond (has_session q) 1 0) os i o no_opening lt in
+    let f : ◌≡◌ {A = ℕ} (cond (has_session o) 1 0) (cond (has_session (get_or os i no_opening)) 1 0) = ap (λ (b : Bool). cond b 1 0) e in
+    omega (arith, u, f)
+
+-- one fewer
+pub held_freed : (os : List Opening) (i : ℕ) (o : Opening) → i < length os → has_session o ≡ false → has_session (get_or os i no_opening) ≡ true → count_by has_session (set os i o) + 1 ≡ count_by has_session os
+held_freed os i o lt e f =
+    let u = sum_by-set (λ (q : Opening). cond (has_session q) 1 0) os i o no_opening lt in
+    let a : ◌≡◌ {A = ℕ} (cond (has_session o) 1 0) 0 = ap (λ (b : Bool). cond b 1 0) e in
+    let b : ◌≡◌ {A = ℕ} (cond (has_session (get_or os i no_opening)) 1 0) 1 = ap (λ (b : Bool). cond b 1 0) f in
+    omega (arith, u, a, b)
+
+pub held_last : (os : List Opening) (o : Opening) → count_by has_session (os ++ o ∷ []) ≡ count_by has_session os + cond (has_session o) 1 0
+held_last [] o = grind (arith, sum_by-cons (λ p. cond (has_session p) 1 0) o [])
+held_last (p ∷ os) o = omega (arith, held_last os o, sum_by-cons (λ q. cond (has_session q) 1 0) p os, sum_by-cons (λ q. cond (has_session q) 1 0) p (os ++ o ∷ []))
+
+-- what a transcript with an open session has
+pub record HasOpenId (e : Transcript) (id : SessionId) : Type 0 where
+  pub used : e.in_use ≡ true
+  pub id_is : e.id ≡ Some id
+
+open_id_by : (used : Bool) (id : Option SessionId) (at : SessionId) → cond used id None ≡ Some at → (used ≡ true) × (id ≡ Some at)
+open_id_by true id at e = (refl, e)
+open_id_by false id at e = absurd (cc)
+
+pub has_open_id : (e : Transcript) (at : SessionId) → open_id e ≡ Some at → HasOpenId e at
+has_open_id e at f = (let p = open_id_by e.in_use e.id at f in record { used = p.0; id_is = p.1 })
+
+owes_handed : (f g : Option Talk) (made text out : List ℕ) → IsCollected f g made out → Owes f made text → Owes g out text
+owes_handed None g made text out h o = absurd o
+owes_handed (Some s) None made text out h o = absurd h
+owes_handed (Some s) (Some t) made text out h o = λ x. ap (λ xs. xs ++ due t x) h.0 ∙ (append_assoc made s.queued (due t x) ∙ (ap (λ xs. made ++ xs) (sym (h.1 x)) ∙ o x))
+
+all_handed : (f g : Option Talk) (made text out : List ℕ) → pending_of f ≡ false → IsCollected f g made out → Owes f made text → out ≡ replies text
+all_handed None g made text out p h o = absurd o
+all_handed (Some s) None made text out p h o = absurd h
+all_handed (Some s) (Some t) made text out p h o = h.0 ∙ (ap (λ xs. made ++ xs) (sym (due-settled s p)) ∙ (o [] ∙ ap replies (append-nil text)))
+
+pub made_live : (h : HostState) (o : Opening) (e : Transcript) (id : SessionId) → HasOpenId e id → IsTranscriptOf h o e → (o.refused ≡ false) × Owes (find h.slots id) e.made o.text
+made_live h o e id l i = (let m : HasMade h e.id e.in_use o.refused o.text e.made = i.made_is in rw (l.id_is, l.used) at m)
+
+of_live : (h : HostState) (o : Opening) (e : Transcript) (id : SessionId) → HasOpenId e id → e.name ≡ o.name → e.in_use ≡ o.in_use → o.refused ≡ false → Owes (find h.slots id) e.made o.text → IsTranscriptOf h o e
+of_live h o e id l n u r w = record { name_is = n; used_is = u; made_is = rw (l.id_is, l.used) (r, w) }
+
+-- a session was settled, and what it had queued was kept
+pub record IsTaken (old mid new : HostState) (id : SessionId) (before after : Transcript) : Type 0 where
+  pub due : KeepsDue old mid
+  pub settled : pending_of (find mid.slots id) ≡ false
+  pub others : KeepsAllBut mid new id
+  pub handed : IsCollected (find mid.slots id) (find new.slots id) before.made after.made
+  pub rest : after ≡ record before { made = after.made }
+  pub open_id_is : open_id before ≡ Some id
+
+pub taken_all : (old mid new : HostState) (id : SessionId) (o : Opening) (before after : Transcript) → IsTaken old mid new id before after → IsTranscriptOf old o before → HasAllReplies o after
+taken_all old mid new id o before after t i =
+    let l : HasOpenId before id = has_open_id before id t.open_id_is in
+    all_handed (find mid.slots id) (find new.slots id) before.made o.text after.made t.settled t.handed (made_live mid o before id l (of_due old mid o before t.due i)).1
+
+live_after : (old mid new : HostState) (id : SessionId) (before after : Transcript) → IsTaken old mid new id before after → HasOpenId after id
+live_after old mid new id before after t =
+    let l : HasOpenId before id = has_open_id before id t.open_id_is in
+    record { used = ap (λ (k : Transcript). k.in_use) t.rest ∙ l.used; id_is = ap (λ (k : Transcript). k.id) t.rest ∙ l.id_is }
+
+taken_of : (old mid new : HostState) (id : SessionId) (o : Opening) (before after : Transcript) → IsTaken old mid new id before after → IsTranscriptOf old o before → IsTranscriptOf new o after
+taken_of old mid new id o before after t i =
+    let l : HasOpenId before id = has_open_id before id t.open_id_is in
+    let m = made_live mid o before id l (of_due old mid o before t.due i) in
+    of_live new o after id (live_after old mid new id before after t) (ap (λ (k : Transcript). k.name) t.rest ∙ i.name_is) (ap (λ (k : Transcript). k.in_use) t.rest ∙ i.used_is) m.0 (owes_handed (find mid.slots id) (find new.slots id) before.made o.text after.made t.handed m.1)
+
+pub taken_played : (old mid new : HostState) (id : SessionId) (es : List Transcript) (i : ℕ) (after : Transcript) → i < length es → IsTaken old mid new id (get_or es i no_transcript) after → KeepsPlayback old es new (set es i after)
+taken_played old mid new id es i after lt t slots os p =
+    let l : HasOpenId (get_or es i no_transcript) id = has_open_id (get_or es i no_transcript) id t.open_id_is in
+    let of : IsTranscriptOf new (get_or os i no_opening) after = taken_of old mid new id (get_or os i no_opening) (get_or es i no_transcript) after t (transcripts_get old 0 os es i p.tells lt) in
+    let s : AreTranscripts new 0 (set os i (get_or os i no_opening)) (set es i after) = transcripts_set mid new id 0 os es i (get_or os i no_opening) after (keeps_only mid new id t.others) (transcripts_due old mid 0 os es t.due p.tells) lt l.id_is (live_after old mid new id (get_or es i no_transcript) after t).id_is of in
+    record {
+      tells = rw (set-get_or os i no_opening) at s;
+      count_is = t.others.count_is ∙ (t.due.count_is ∙ p.count_is);
+      max_is = t.others.max_is ∙ (t.due.max_is ∙ p.max_is);
+      few = (let a : new.slots.next ≡ mid.slots.next = t.others.next_is in let b : mid.slots.next ≡ old.slots.next = t.due.next_is in let c : old.slots.next ≤ length es = p.few in grind (arith, length-set));
+    }
+
+pub any_default : {X : Type 0} (xs : List X) (i : ℕ) (d e : X) → i < length xs → get_or xs i d ≡ get_or xs i e
+any_default [] i d e lt = absurd (omega arith)
+any_default (x ∷ xs) zero d e lt = refl
+any_default (x ∷ xs) (suc i) d e lt = any_default xs i d e (omega arith)
+
+pub item_is : (es : List Transcript) (i : ℕ) (x : Transcript) → i < length es → x ≡ get_or es i x → get_or es i no_transcript ≡ x
+item_is es i x lt e = any_default es i no_transcript x lt ∙ sym e
+
+pub taken_at : (old mid new : HostState) (id : SessionId) (es : List Transcript) (i : ℕ) (x y after : Transcript) → i < length es → x ≡ get_or es i x → y ≡ get_or es i y → open_id x ≡ Some id → KeepsDue old mid → pending_of (find mid.slots id) ≡ false → KeepsAllBut mid new id → IsCollected (find mid.slots id) (find new.slots id) y.made after.made → after ≡ record y { made = after.made } → IsTaken old mid new id (get_or es i no_transcript) after
+taken_at old mid new id es i x y after lt e f l due settled others handed rest =
+    let a : get_or es i no_transcript ≡ x = item_is es i x lt e in
+    let b : get_or es i no_transcript ≡ y = item_is es i y lt f in
+    record { due = due; settled = settled; others = others; handed = rw b handed; rest = rw b rest; open_id_is = rw a l }
+
+-- a piece was fed to a `+` line
+fed_by : (f g : Option Talk) (made text piece : List ℕ) → IsFed f g piece → Owes f made text → Owes g made (text ++ piece)
+fed_by None g made text piece h o = absurd o
+fed_by (Some s) None made text piece h o = absurd h
+fed_by (Some s) (Some t) made text piece h o = λ x. ap (λ xs. made ++ xs) (h x) ∙ (o (piece ++ x) ∙ ap replies (sym (append_assoc text piece x)))
+
+held_same : (o p : Opening) → o.in_use ≡ p.in_use → o.refused ≡ p.refused → has_session o ≡ has_session p
+held_same o p e f = rw (e, f) refl
+
+pub fed_live : (old new : HostState) (id : SessionId) (es : List Transcript) (i : ℕ) (x : Transcript) (piece : List ℕ) → i < length es → x ≡ get_or es i x → open_id x ≡ Some id → KeepsAllBut old new id → IsFed (find old.slots id) (find new.slots id) piece → IsSent old es new es i piece
+fed_live old new id es i x piece lt e l others fed slots os p =
+    let a : get_or es i no_transcript ≡ x = item_is es i x lt e in
+    let li : HasOpenId (get_or es i no_transcript) id = has_open_id (get_or es i no_transcript) id (ap open_id a ∙ l) in
+    let of : IsTranscriptOf old (get_or os i no_opening) (get_or es i no_transcript) = transcripts_get old 0 os es i p.tells lt in
+    let m = made_live old (get_or os i no_opening) (get_or es i no_transcript) id li of in
+    let now : IsTranscriptOf new (with_more piece (get_or os i no_opening)) (get_or es i no_transcript) = of_live new (with_more piece (get_or os i no_opening)) (get_or es i no_transcript) id li of.name_is of.used_is m.0 (fed_by (find old.slots id) (find new.slots id) (get_or es i no_transcript).made (get_or os i no_opening).text piece fed m.1) in
+    let s : AreTranscripts new 0 (set os i (with_more piece (get_or os i no_opening))) (set es i (get_or es i no_transcript)) = transcripts_set old new id 0 os es i (with_more piece (get_or os i no_opening)) (get_or es i no_transcript) (keeps_only old new id others) p.tells lt li.id_is li.id_is now in
+    let n : length os ≡ length es = transcripts_len old 0 os es p.tells in
+    record {
+      tells = rw (set-get_or es i no_transcript) at s;
+      count_is = others.count_is ∙ (p.count_is ∙ sym (held_set os i (with_more piece (get_or os i no_opening)) (omega arith) refl));
+      max_is = others.max_is ∙ p.max_is;
+      few = (let b : new.slots.next ≡ old.slots.next = others.next_is in let c : old.slots.next ≤ length es = p.few in omega arith);
+    }
+
+pub id_none : (used : Bool) (id : Option SessionId) → used ≡ true → cond used id None ≡ None → id ≡ None
+id_none true id u e = e
+id_none false id u e = absurd (cc)
+
+pub none_made : (h : HostState) (id : Option SessionId) (used refused : Bool) (text made : List ℕ) → id ≡ None → HasMade h id used refused text made → refused ≡ true
+none_made h id used refused text made e m = rw e at m
+
+pub made_none : (h : HostState) (id : Option SessionId) (used refused : Bool) (text made : List ℕ) → id ≡ None → refused ≡ true → HasMade h id used refused text made
+made_none h id used refused text made e m = rw e m
+
+pub fed_refused : (h : HostState) (es : List Transcript) (i : ℕ) (x : Transcript) (piece : List ℕ) → i < length es → x ≡ get_or es i x → (get_or es i no_transcript).in_use ≡ true → open_id x ≡ None → IsSent h es h es i piece
+fed_refused h es i x piece lt e used l slots os p =
+    let a : get_or es i no_transcript ≡ x = item_is es i x lt e in
+    let none : (get_or es i no_transcript).id ≡ None = id_none (get_or es i no_transcript).in_use (get_or es i no_transcript).id used (ap open_id a ∙ l) in
+    let of : IsTranscriptOf h (get_or os i no_opening) (get_or es i no_transcript) = transcripts_get h 0 os es i p.tells lt in
+    let now : IsTranscriptOf h (with_more piece (get_or os i no_opening)) (get_or es i no_transcript) = record { name_is = of.name_is; used_is = of.used_is; made_is = made_none h (get_or es i no_transcript).id _ _ _ _ none (none_made h (get_or es i no_transcript).id _ _ _ _ none of.made_is) } in
+    let s : AreTranscripts h 0 (set os i (with_more piece (get_or os i no_opening))) (set es i (get_or es i no_transcript)) = transcripts_text h 0 os es i (with_more piece (get_or os i no_opening)) (get_or es i no_transcript) p.tells lt refl now in
+    let n : length os ≡ length es = transcripts_len h 0 os es p.tells in
+    record {
+      tells = rw (set-get_or es i no_transcript) at s;
+      count_is = p.count_is ∙ sym (held_set os i (with_more piece (get_or os i no_opening)) (omega arith) refl);
+      max_is = p.max_is;
+      few = p.few;
+    }
+
+-- one piece after another
+pub played_fed : (old mid new : HostState) (es fs gs : List Transcript) (i : ℕ) (piece : List ℕ) → KeepsPlayback old es mid fs → IsSent mid fs new gs i piece → IsSent old es new gs i piece
+played_fed old mid new es fs gs i piece a b slots os p = b slots os (a slots os p)
+
+pub fed_played : (old mid new : HostState) (es fs gs : List Transcript) (i : ℕ) (piece : List ℕ) → IsSent old es mid fs i piece → KeepsPlayback mid fs new gs → IsSent old es new gs i piece
+fed_played old mid new es fs gs i piece a b slots os p = b slots (set os i (with_more piece (get_or os i no_opening))) (a slots os p)
+
+set_twice : (os : List Opening) (i : ℕ) (a b : Opening) → set (set os i a) i b ≡ set os i b
+set_twice [] i a b = refl
+set_twice (o ∷ os) zero a b = refl
+set_twice (o ∷ os) (suc i) a b = ap (λ rest. o ∷ rest) (set_twice os i a b)
+
+more_more : (os : List Opening) (i : ℕ) (xs ys : List ℕ) → i < length os → set (set os i (with_more xs (get_or os i no_opening))) i (with_more ys (get_or (set os i (with_more xs (get_or os i no_opening))) i no_opening)) ≡ set os i (with_more (xs ++ ys) (get_or os i no_opening))
+more_more os i xs ys lt =
+    let o : Opening = get_or os i no_opening in
+    let same : get_or (set os i (with_more xs o)) i no_opening ≡ with_more xs o = get_or-set_same os i (with_more xs o) no_opening lt in
+    let text : with_more ys (with_more xs o) ≡ with_more (xs ++ ys) o = ap (λ (t : List ℕ). (let r : Opening = record o { text = t } in r)) (append_assoc o.text xs ys) in
+    set_twice os i (with_more xs o) (with_more ys (get_or (set os i (with_more xs o)) i no_opening)) ∙ ap (set os i) (ap (with_more ys) same ∙ text)
+
+pub fed_more : (old mid new : HostState) (es fs gs : List Transcript) (i : ℕ) (xs ys all : List ℕ) → i < length es → all ≡ xs ++ ys → IsSent old es mid fs i xs → IsSent mid fs new gs i ys → IsSent old es new gs i all
+fed_more old mid new es fs gs i xs ys all lt e a b slots os p =
+    let q : IsPlayback slots mid (set os i (with_more xs (get_or os i no_opening))) fs = a slots os p in
+    let n : length os ≡ length es = transcripts_len old 0 os es p.tells in
+    let r : IsPlayback slots new (set (set os i (with_more xs (get_or os i no_opening))) i (with_more ys (get_or (set os i (with_more xs (get_or os i no_opening))) i no_opening))) gs = b slots (set os i (with_more xs (get_or os i no_opening))) q in
+    rw e (rw (more_more os i xs ys (omega arith)) at r)
+
+pub fed_none : (h : HostState) (es : List Transcript) (i : ℕ) → IsSent h es h es i []
+fed_none h es i slots os p =
+    let o : Opening = get_or os i no_opening in
+    let same : with_more [] o ≡ o = ap (λ (t : List ℕ). (let r : Opening = record o { text = t } in r)) (append-nil o.text) in
+    rw (ap (set os i) same ∙ set-get_or os i no_opening) p
+
+-- so much of a text was fed
+pub record IsFedTo (old : HostState) (es : List Transcript) (now : HostState) (fs : List Transcript) (i : ℕ) (text rest : List ℕ) : Type 0 where
+  pub done : List ℕ
+  pub split : text ≡ done ++ rest
+  pub fed : IsSent old es now fs i done
+
+pub fed_start : (h : HostState) (es : List Transcript) (i : ℕ) (text : List ℕ) → IsFedTo h es h es i text text
+fed_start h es i text = record { done = []; split = refl; fed = fed_none h es i }
+
+pub fed_next : (old mid new : HostState) (es fs gs : List Transcript) (i : ℕ) (text rest piece left : List ℕ) → i < length es → IsFedTo old es mid fs i text rest → IsSent mid fs new gs i piece → rest ≡ piece ++ left → IsFedTo old es new gs i text left
+fed_next old mid new es fs gs i text rest piece left lt f b e = record {
+  done = f.done ++ piece;
+  split = f.split ∙ (ap (λ xs. f.done ++ xs) e ∙ sym (append_assoc f.done piece left));
+  fed = fed_more old mid new es fs gs i f.done piece (f.done ++ piece) lt refl f.fed b;
+}
+
+pub fed_whole : (old mid new end : HostState) (es fs gs hs : List Transcript) (i : ℕ) (text rest : List ℕ) → i < length es → IsFedTo old es mid fs i text rest → rest ≡ [] → IsSent mid fs new gs i (10 ∷ []) → KeepsPlayback new gs end hs → IsSent old es end hs i (text ++ 10 ∷ [])
+fed_whole old mid new end es fs gs hs i text rest lt f none b last =
+    let same : text ≡ f.done = f.split ∙ (ap (λ xs. f.done ++ xs) none ∙ append-nil f.done) in
+    fed_played old new end es gs hs i (text ++ 10 ∷ []) (fed_more old mid new es fs gs i f.done (10 ∷ []) (text ++ 10 ∷ []) lt (rw same refl) f.fed b) last
+
+pub rounds_played : (old new : HostState) (es : List Transcript) → KeepsDue old new → KeepsPlayback old es new es
+rounds_played old new es k slots os p = record {
+  tells = transcripts_due old new 0 os es k p.tells;
+  count_is = k.count_is ∙ p.count_is;
+  max_is = k.max_is ∙ p.max_is;
+  few = (let b : new.slots.next ≡ old.slots.next = k.next_is in let c : old.slots.next ≤ length es = p.few in omega arith);
+}
+
+-- an empty list, by a test of its length
+pub empty_list : (xs : List ℕ) (b : Bool) → b ≡ (length xs == 0) → b ≡ true → xs ≡ []
+empty_list [] b e f = refl
+empty_list (x ∷ xs) b e f = (let z : length (x ∷ xs) ≡ 0 = eqb-true (length (x ∷ xs)) 0 (sym e ∙ f) in absurd (omega arith))

@@ -1,0 +1,5 @@
+pub mod Script
+pub mod Replayed
+pub mod Seen
+pub mod Sessions
+pub mod Playback

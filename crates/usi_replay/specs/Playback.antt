@@ -1,0 +1,122 @@
+-- A script that is being replayed: what is kept, beside the `+` lines so far.
+use Rattle.std.specs.Prelude.{◌≡◌, ◌≢◌, ℕ, ◌+◌, ◌≤◌, List, [], ◌∷◌, ◌++◌, Bool, true, false, ◌&&◌, ◌==◌, cond, Option, Some, None, count_by, codes, is_some, length, get_or, set}
+use Rattle.session_slots.specs.declared.id.SessionId.{SessionId}
+use Rattle.session_slots.specs.Slots.{find, count}
+use Rattle.usi_session.specs.Due.{Talk, due}
+use Rattle.usi_session.specs.Replies.{replies}
+use Rattle.usi_lines.specs.Lines.{lines}
+use Rattle.host_core.specs.Steps.{HostState}
+use Rattle.usi_replay.specs.Script.{ScriptLine, Opening, has_session, closed_opening, new_opening, openings_after, read_from, read_script, output}
+
+-- what is kept for a `+` line: its name, whether that is in use, its session's id if it got one, and the bytes made so far
+pub record Transcript : Type 0 where
+  pub name : ℕ
+  pub in_use : Bool
+  pub id : Option SessionId
+  pub made : List ℕ
+
+-- what stands for those past the end
+abbrev pub no_transcript : Transcript
+no_transcript = record { name = 0; in_use = false; id = None; made = [] }
+
+abbrev pub no_opening : Opening
+no_opening = record { name = 0; in_use = false; refused = false; text = [] }
+
+-- the name is in use for it
+abbrev pub is_transcript_under : ℕ → Transcript → Bool
+is_transcript_under name t = t.in_use && t.name == name
+
+-- the id, while its session is open
+abbrev pub open_id : Transcript → Option SessionId
+open_id t = cond t.in_use t.id None
+
+-- the bytes made and those that the session owes are the replies to the texts
+abbrev pub Owes : Option Talk → List ℕ → List ℕ → Type 0
+Owes None made text = ⊥
+Owes (Some s) made text = (x : List ℕ) → made ++ due s x ≡ replies (text ++ x)
+
+-- what was made: nothing without a session, all where it is closed, and all but what is owed where it is open
+abbrev pub HasMade : HostState → Option SessionId → Bool → Bool → List ℕ → List ℕ → Type 0
+HasMade h None used refused text made = refused ≡ true
+HasMade h (Some id) true refused text made = (refused ≡ false) × Owes (find h.slots id) made text
+HasMade h (Some id) false refused text made = (refused ≡ false) × (made ≡ replies text)
+
+-- it is of this `+` line
+pub record IsTranscriptOf (h : HostState) (o : Opening) (t : Transcript) : Type 0 where
+  pub name_is : t.name ≡ o.name
+  pub used_is : t.in_use ≡ o.in_use
+  pub made_is : HasMade h t.id t.in_use o.refused o.text t.made
+
+-- the least generation that later ids may have
+abbrev pub floor_after : ℕ → Option SessionId → ℕ
+floor_after low None = low
+floor_after low (Some id) = id.generation + 1
+
+abbrev pub IsAbove : ℕ → Option SessionId → Type 0
+IsAbove low None = Unit {0}
+IsAbove low (Some id) = low ≤ id.generation
+
+-- each is of its `+` line, and ids come by rising generation
+unfoldable pub AreTranscripts : HostState → ℕ → List Opening → List Transcript → Type 0
+AreTranscripts h low [] [] = low ≤ h.slots.next
+AreTranscripts h low [] (t ∷ ts) = ⊥
+AreTranscripts h low (o ∷ os) [] = ⊥
+AreTranscripts h low (o ∷ os) (t ∷ ts) = IsTranscriptOf h o t × IsAbove low t.id × AreTranscripts h (floor_after low t.id) os ts
+
+-- these `+` lines were replayed over a host of so many slots
+pub record IsPlayback (slots : ℕ) (h : HostState) (os : List Opening) (ts : List Transcript) : Type 0 where
+  pub tells : AreTranscripts h 0 os ts
+  pub count_is : count h.slots ≡ count_by has_session os
+  pub max_is : h.slots.max ≡ slots
+  pub few : h.slots.next ≤ length ts
+
+-- it goes on without a further line
+abbrev pub KeepsPlayback : HostState → List Transcript → HostState → List Transcript → Type 0
+KeepsPlayback h ts new us = (slots : ℕ) (os : List Opening) → IsPlayback slots h os ts → IsPlayback slots new os us
+
+-- a `+` line with more texts
+abbrev pub with_more : List ℕ → Opening → Opening
+with_more piece o = record o { text = o.text ++ piece }
+
+-- bytes were sent to the `+` line of this place
+abbrev pub IsSent : HostState → List Transcript → HostState → List Transcript → ℕ → List ℕ → Type 0
+IsSent h ts new us i piece = (slots : ℕ) (os : List Opening) → IsPlayback slots h os ts → IsPlayback slots new (set os i (with_more piece (get_or os i no_opening))) us
+
+-- all that the session replies was kept
+abbrev pub HasAllReplies : Opening → Transcript → Type 0
+HasAllReplies o t = t.made ≡ replies o.text
+
+-- all that the session of this place replies is kept, while it is open
+abbrev pub CollectsAll : HostState → List Transcript → List Transcript → ℕ → Type 0
+CollectsAll h ts us i = (slots : ℕ) (os : List Opening) → IsPlayback slots h os ts → open_id (get_or us i no_transcript) ≢ None → HasAllReplies (get_or os i no_opening) (get_or us i no_transcript)
+
+-- the name of the `+` line of this place is free
+abbrev pub IsClosedAt : HostState → List Transcript → HostState → List Transcript → ℕ → Type 0
+IsClosedAt h ts new us i = (slots : ℕ) (os : List Opening) → IsPlayback slots h os ts → IsPlayback slots new (set os i (closed_opening (get_or os i no_opening))) us
+
+-- one `+` line more
+abbrev pub IsOpenedUnder : HostState → List Transcript → HostState → List Transcript → ℕ → Type 0
+IsOpenedUnder h ts new us name = (slots : ℕ) (os : List Opening) → IsPlayback slots h os ts → IsPlayback slots new (os ++ new_opening slots name os ∷ []) us
+
+-- the output of the `+` lines
+abbrev pub IsWhole : HostState → List Transcript → List ℕ → Type 0
+IsWhole h ts out = (slots : ℕ) (os : List Opening) → IsPlayback slots h os ts → out ≡ output os
+
+-- what is written for it
+abbrev pub transcript_section : Transcript → List ℕ
+transcript_section t = codes "== " ++ (t.name ∷ 10 ∷ cond (is_some t.id) t.made (codes "refused 1\n"))
+
+-- a script was replayed up to here: so many lines were read, and the rest is left
+pub record IsReadTo (slots : ℕ) (h : HostState) (ts : List Transcript) (bytes : List ℕ) (number : ℕ) (rest : List ℕ) : Type 0 where
+  pub openings : List Opening
+  pub play : IsPlayback slots h openings ts
+  pub comes : read_script slots bytes ≡ read_from slots (number + 1) (lines rest) openings
+
+-- the `+` lines after a good line; none after a bad one
+abbrev pub LeadsTo : Bool → ℕ → Option (List Opening) → HostState → List Transcript → Type 0
+LeadsTo true slots after new ts = (next : List Opening) × (after ≡ Some next) × IsPlayback slots new next ts
+LeadsTo false slots after new ts = after ≡ None
+
+-- what a line did, and whether it was good
+abbrev pub Plays : Bool → HostState → List Transcript → ScriptLine → HostState → List Transcript → Type 0
+Plays good old ts line new us = (slots : ℕ) (os : List Opening) → IsPlayback slots old os ts → LeadsTo good slots (openings_after slots line os) new us

@@ -1,0 +1,61 @@
+-- What `replay` does with its reader and its writer (own choice).
+use Rattle.std.specs.Prelude.{◌≡◌, ℕ, List, Option, Result, Ok, Err}
+use Rattle.std.specs.Io.KnownBytes.{Appends, Consumes, IsAtEnd, Keeps}
+use Rattle.usi_stdio.specs.Stdio.{WritesFront}
+use Rattle.usi_replay.specs.declared.fault.ReplayFault.{ReplayFault}
+use Rattle.usi_replay.specs.declared.fault.ReplayFault.TheVariants.{OutOfMemory, ReadFailed, WriteFailed, BadScript}
+use Rattle.usi_replay.specs.Script.{Opening, read_script, output}
+
+-- all that the reader had was read
+pub record IsAllRead (before after : Option (List ℕ)) (bytes : List ℕ) : Type 0 where
+  pub consumed : Consumes before after bytes
+  pub ended : IsAtEnd after
+
+-- all was read, and is a script that comes to this
+pub record IsScript (slots : ℕ) (before after : Option (List ℕ)) (comes : Result (List Opening) ℕ) : Type 0 where
+  pub bytes : List ℕ
+  pub consumed : Consumes before after bytes
+  pub ended : IsAtEnd after
+  pub comes_to : read_script slots bytes ≡ comes
+
+-- the script's output was written
+pub record IsReplayed (slots : ℕ) (before after old new : Option (List ℕ)) : Type 0 where
+  pub openings : List Opening
+  pub read : IsScript slots before after (Ok openings)
+  pub written : Appends old new (output openings)
+
+-- a front of it was written
+pub record IsReplayedInPart (slots : ℕ) (before after old new : Option (List ℕ)) : Type 0 where
+  pub openings : List Opening
+  pub read : IsScript slots before after (Ok openings)
+  pub written : WritesFront old new (output openings)
+
+-- the first bad line has this number, and nothing was written
+pub record IsBadAt (slots : ℕ) (before after old new : Option (List ℕ)) (line : ℕ) : Type 0 where
+  pub read : IsScript slots before after (Err line)
+  pub written : Keeps old new
+
+-- what a fault leaves: only a write that failed leaves anything written
+abbrev pub IsFault : ℕ → Option (List ℕ) → Option (List ℕ) → Option (List ℕ) → Option (List ℕ) → ReplayFault → Type 0
+IsFault slots before after old new OutOfMemory = Keeps old new
+IsFault slots before after old new ReadFailed = Keeps old new
+IsFault slots before after old new WriteFailed = IsReplayedInPart slots before after old new
+IsFault slots before after old new (BadScript line) = IsBadAt slots before after old new line
+
+-- a fault of the reading alone
+abbrev pub IsReadFault : ReplayFault → Type 0
+IsReadFault OutOfMemory = Unit {0}
+IsReadFault ReadFailed = Unit {0}
+IsReadFault WriteFailed = ⊥
+IsReadFault (BadScript line) = ⊥
+
+-- the output of a script
+abbrev pub IsOutputOf : ℕ → List ℕ → List ℕ → Type 0
+IsOutputOf slots bytes out = (os : List Opening) × (read_script slots bytes ≡ Ok os) × (out ≡ output os)
+
+-- a fault of the answering alone
+abbrev pub IsAnswerFault : ℕ → List ℕ → ReplayFault → Type 0
+IsAnswerFault slots bytes OutOfMemory = Unit {0}
+IsAnswerFault slots bytes ReadFailed = ⊥
+IsAnswerFault slots bytes WriteFailed = ⊥
+IsAnswerFault slots bytes (BadScript line) = read_script slots bytes ≡ Err line

@@ -1,0 +1,12 @@
+//! Scripts of many sessions over one host.
+#![tactic(auto)]
+
+mod fault;
+mod playback;
+mod script_line;
+mod sessions;
+mod streams;
+mod transcript;
+
+pub use fault::ReplayFault;
+pub use streams::replay;

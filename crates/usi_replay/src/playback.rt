@@ -1,0 +1,219 @@
+//! A script that is being replayed over a host.
+
+ghost use Rattle.std.specs.Prelude.{◌≡◌, ◌≤◌, ◌<◌, ◌++◌, ◌∷◌, [], IfOk, OnOk, length, get_or, true};
+ghost use Rattle.std.specs.List.{position_or_len};
+ghost use Rattle.usi_lines.specs.Seen.{line_of};
+ghost use Rattle.usi_replay.specs.Script.{Open, Close, Send, meaning};
+ghost use Rattle.usi_replay.specs.Playback.{KeepsPlayback, CollectsAll, IsSent, IsClosedAt, IsOpenedUnder, IsWhole, Plays, transcript_section, is_transcript_under, no_transcript};
+
+use crate::script_line::{ScriptLine, meaning};
+use crate::sessions;
+use crate::transcript::Transcript;
+use host_core::Host;
+use std::alloc::{AllocError, Allocator};
+use std::hash::BuildHasher;
+use usi_lines::Line;
+
+/// The most bytes that a session is fed at once.
+const PIECE: usize = 4096;
+
+/// Adds what is written for a `+` line.
+fn add_section<A: Allocator>(
+    out: &mut Vec<u8, A>,
+    transcript: &Transcript<A>,
+) -> Result<(), AllocError>
+    ensures { OnOk result (out.new.items ≡ out.old.items ++ transcript_section transcript.now) }
+{
+    out.extend_from_slice(b"== ")?;
+    out.extend_from_slice(&[transcript.name(), b'\n'])?;
+    out.extend_from_slice(transcript.answer())
+}
+
+/// A script that is being replayed: the host, the most steps of a session in a round, and one
+/// transcript for each `+` line so far, in their order.
+#[derive(Drop)]
+pub struct Playback<S: BuildHasher, A: Allocator + Copy> {
+    pub alloc: A,
+    pub slice: u64,
+    pub host: Host<S, A>,
+    pub transcripts: Vec<Transcript<A>, A>,
+}
+
+impl<S: BuildHasher, A: Allocator + Copy> Playback<S, A> {
+    /// The place of the `+` line for which the name is in use, or the number of all of them.
+    fn place_of(&self, name: u8) -> usize
+        ensures value { result ≡ position_or_len (is_transcript_under name) self.now.transcripts.items }
+        ensures within { result ≤ length self.now.transcripts.items }
+    {
+        for i in 0..self.transcripts.len() {
+            if self.transcripts[i].is_under(name) {
+                return i;
+            }
+        }
+        self.transcripts.len()
+    }
+
+    /// Rounds until the session of a `+` line has nothing pending; all that it made is kept.
+    fn collect(&mut self, place: usize) -> Result<(), AllocError>
+        requires within { place < length self.old.transcripts.items }
+        requires some { 1 ≤ self.old.slice }
+        ensures kept { OnOk result (KeepsPlayback self.old.host self.old.transcripts.items
+            self.new.host self.new.transcripts.items) }
+        ensures all { OnOk result (CollectsAll self.old.host self.old.transcripts.items
+            self.new.transcripts.items place) }
+        ensures used { OnOk result ((get_or self.new.transcripts.items place no_transcript).in_use
+            ≡ (get_or self.old.transcripts.items place no_transcript).in_use) }
+        ensures len { length self.new.transcripts.items ≡ length self.old.transcripts.items }
+        ensures slice { self.new.slice ≡ self.old.slice }
+    {
+        let Some(id) = self.transcripts[place].open_id() else {
+            return Ok(());
+        };
+        sessions::settle(&mut self.host, id, self.slice)?;
+        sessions::take_output(&mut self.host, id, &mut self.transcripts[place])?;
+        Ok(())
+    }
+
+    /// Feeds a piece of at most 4,096 bytes to a `+` line, once nothing of its session is pending. It
+    /// is dropped where there is no session, or where the session is over.
+    fn feed(&mut self, place: usize, piece: &[u8]) -> Result<(), AllocError>
+        requires within { place < length self.old.transcripts.items }
+        requires some { 1 ≤ self.old.slice }
+        requires used { (get_or self.old.transcripts.items place no_transcript).in_use ≡ true }
+        ensures fed { OnOk result (IsSent self.old.host self.old.transcripts.items
+            self.new.host self.new.transcripts.items place piece.now) }
+        ensures used { OnOk result ((get_or self.new.transcripts.items place no_transcript).in_use ≡ true) }
+        ensures len { length self.new.transcripts.items ≡ length self.old.transcripts.items }
+        ensures slice { self.new.slice ≡ self.old.slice }
+    {
+        self.collect(place)?;
+        let Some(id) = self.transcripts[place].open_id() else {
+            return Ok(());
+        };
+        sessions::feed(&mut self.host, id, piece)?;
+        Ok(())
+    }
+
+    /// Feeds a text and an LF to a `+` line, and makes one round.
+    fn send(&mut self, place: usize, text: &[u8]) -> Result<(), AllocError>
+        requires within { place < length self.old.transcripts.items }
+        requires some { 1 ≤ self.old.slice }
+        requires used { (get_or self.old.transcripts.items place no_transcript).in_use ≡ true }
+        ensures fed { OnOk result (IsSent self.old.host self.old.transcripts.items
+            self.new.host self.new.transcripts.items place (text.now ++ 10 ∷ [])) }
+        ensures slice { self.new.slice ≡ self.old.slice }
+    {
+        let mut rest = text;
+        'pieces: while !rest.is_empty() {
+            let (piece, left) = rest.split_at(rest.len().min(PIECE));
+            self.feed(place, piece)?;
+            rest = left;
+        }
+        self.feed(place, b"\n")?;
+        sessions::work_round(&mut self.host, self.slice)?;
+        Ok(())
+    }
+
+    /// Frees the name of a `+` line, once nothing of its session is pending.
+    fn close(&mut self, place: usize) -> Result<(), AllocError>
+        requires within { place < length self.old.transcripts.items }
+        requires some { 1 ≤ self.old.slice }
+        requires used { (get_or self.old.transcripts.items place no_transcript).in_use ≡ true }
+        ensures closed { OnOk result (IsClosedAt self.old.host self.old.transcripts.items
+            self.new.host self.new.transcripts.items place) }
+        ensures slice { self.new.slice ≡ self.old.slice }
+    {
+        self.collect(place)?;
+        sessions::close(&mut self.host, self.transcripts[place].open_id());
+        self.transcripts[place].close();
+        Ok(())
+    }
+
+    /// Opens a session under a name that is free, or notes that it was refused, and makes one round.
+    fn open(&mut self, name: u8) -> Result<(), AllocError>
+        requires { 1 ≤ self.old.slice }
+        ensures opened { OnOk result (IsOpenedUnder self.old.host self.old.transcripts.items
+            self.new.host self.new.transcripts.items name) }
+        ensures slice { self.new.slice ≡ self.old.slice }
+    {
+        self.transcripts.reserve(1)?;
+        let id = sessions::open(&mut self.host)?;
+        self.transcripts
+            .push_reserved(Transcript::new(self.alloc, name, id));
+        sessions::work_round(&mut self.host, self.slice)?;
+        Ok(())
+    }
+
+    /// Does `+` and a name; no where the name is in use.
+    fn open_line(&mut self, name: u8) -> Result<bool, AllocError>
+        requires { 1 ≤ self.old.slice }
+        ensures done { IfOk result (λ good. Plays good self.old.host self.old.transcripts.items
+            (Open name) self.new.host self.new.transcripts.items) }
+        ensures slice { self.new.slice ≡ self.old.slice }
+    {
+        if self.place_of(name) < self.transcripts.len() {
+            return Ok(false);
+        }
+        self.open(name)?;
+        Ok(true)
+    }
+
+    /// Does `-` and a name; no where the name is not in use.
+    fn close_line(&mut self, name: u8) -> Result<bool, AllocError>
+        requires { 1 ≤ self.old.slice }
+        ensures done { IfOk result (λ good. Plays good self.old.host self.old.transcripts.items
+            (Close name) self.new.host self.new.transcripts.items) }
+        ensures slice { self.new.slice ≡ self.old.slice }
+    {
+        let place = self.place_of(name);
+        if place >= self.transcripts.len() {
+            return Ok(false);
+        }
+        self.close(place)?;
+        Ok(true)
+    }
+
+    /// Does a name and a text; no where the name is not in use.
+    fn send_line(&mut self, name: u8, text: &[u8]) -> Result<bool, AllocError>
+        requires { 1 ≤ self.old.slice }
+        ensures done { IfOk result (λ good. Plays good self.old.host self.old.transcripts.items
+            (Send name text.now) self.new.host self.new.transcripts.items) }
+        ensures slice { self.new.slice ≡ self.old.slice }
+    {
+        let place = self.place_of(name);
+        if place >= self.transcripts.len() {
+            return Ok(false);
+        }
+        self.send(place, text)?;
+        Ok(true)
+    }
+
+    /// Does what a line of the script means; no where the line is bad.
+    pub fn play_line(&mut self, line: Line<'_>) -> Result<bool, AllocError>
+        requires { 1 ≤ self.old.slice }
+        ensures done { IfOk result (λ good. Plays good self.old.host self.old.transcripts.items
+            (meaning (line_of line.entry)) self.new.host self.new.transcripts.items) }
+        ensures slice { self.new.slice ≡ self.old.slice }
+    {
+        match meaning(line) {
+            ScriptLine::Empty => Ok(true),
+            ScriptLine::Open(name) => self.open_line(name),
+            ScriptLine::Close(name) => self.close_line(name),
+            ScriptLine::Send(name, text) => self.send_line(name, text),
+            ScriptLine::Bad => Ok(false),
+        }
+    }
+
+    /// Rounds until nothing is pending; the output of the whole script.
+    pub fn finish(&mut self) -> Result<Vec<u8, A>, AllocError>
+        requires { 1 ≤ self.old.slice }
+        ensures { IfOk result (λ out. IsWhole self.old.host self.old.transcripts.items out.items) }
+    {
+        let mut out = Vec::new(self.alloc);
+        for i in 0..self.transcripts.len() {
+            self.collect(i)?;
+            add_section(&mut out, &self.transcripts[i])?;
+        }
+        Ok(out)
+    }
+}

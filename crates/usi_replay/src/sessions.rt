@@ -1,0 +1,107 @@
+//! The sessions of a host: worked off, fed, opened and closed.
+
+ghost use Rattle.std.specs.Prelude.{◌≡◌, ◌≤◌, ◌<◌, true, false, IfOk, OnOk};
+ghost use Rattle.session_slots.specs.Slots.{find};
+ghost use Rattle.session_slots.specs.declared.id.SessionId.{SessionId};
+ghost use Rattle.host_core.specs.ById.{pending_of};
+ghost use Rattle.usi_replay.specs.Sessions.{KeepsDue, KeepsAllBut, IsCollected, IsFed, IsOpenedAs, IsClosedAs, works_left};
+
+use crate::transcript::Transcript;
+use host_core::{Event, Host, HostFault, Outcome};
+use session_slots::SessionId;
+use std::alloc::{AllocError, Allocator};
+use std::hash::BuildHasher;
+
+/// One round: every pending session goes on by at most so many steps.
+pub fn work_round<S: BuildHasher, A: Allocator + Copy>(
+    host: &mut Host<S, A>,
+    slice: u64,
+) -> Result<(), AllocError>
+    requires { 1 ≤ slice }
+    ensures due { OnOk result (KeepsDue host.old host.new) }
+    ensures fewer { OnOk result ((id : SessionId) → pending_of (find host.old.slots id) ≡ true
+        → works_left (find host.new.slots id) < works_left (find host.old.slots id)) }
+{
+    if host.round(slice).refused != 0 {
+        return Err(AllocError);
+    }
+    Ok(())
+}
+
+/// Rounds until the session has nothing pending.
+pub fn settle<S: BuildHasher, A: Allocator + Copy>(
+    host: &mut Host<S, A>,
+    id: SessionId,
+    slice: u64,
+) -> Result<(), AllocError>
+    requires { 1 ≤ slice }
+    ensures due { OnOk result (KeepsDue host.old host.new) }
+    ensures settled { OnOk result (pending_of (find host.new.slots id) ≡ false) }
+{
+    'rounds: while host.pending(id) {
+        work_round(host, slice)?;
+    }
+    Ok(())
+}
+
+/// Moves what the session has queued into its transcript.
+pub fn take_output<S: BuildHasher, A: Allocator + Copy>(
+    host: &mut Host<S, A>,
+    id: SessionId,
+    transcript: &mut Transcript<A>,
+) -> Result<(), AllocError>
+    ensures others { OnOk result (KeepsAllBut host.old host.new id) }
+    ensures collected { OnOk result (IsCollected (find host.old.slots id) (find host.new.slots id)
+        transcript.old.made transcript.new.made) }
+    ensures rest { OnOk result (transcript.new ≡ record transcript.old { made = transcript.new.made }) }
+{
+    let Some(bytes) = host.output(id) else {
+        return Ok(());
+    };
+    transcript.append(bytes)?;
+    let n = bytes.len();
+    if host.pass(id, n).is_err() {
+        return Err(AllocError);
+    }
+    Ok(())
+}
+
+/// Feeds a piece of at most 4,096 bytes, or drops it where the session is over.
+pub fn feed<S: BuildHasher, A: Allocator + Copy>(
+    host: &mut Host<S, A>,
+    id: SessionId,
+    piece: &[u8],
+) -> Result<(), AllocError>
+    ensures others { OnOk result (KeepsAllBut host.old host.new id) }
+    ensures fed { OnOk result (IsFed (find host.old.slots id) (find host.new.slots id) piece.now) }
+{
+    if host.is_over(id) {
+        return Ok(());
+    }
+    let Outcome::Done = host.step(Event::Feed(id, piece)) else {
+        return Err(AllocError);
+    };
+    Ok(())
+}
+
+/// Opens a session; `None` where as many are open as may be.
+pub fn open<S: BuildHasher, A: Allocator + Copy>(
+    host: &mut Host<S, A>,
+) -> Result<Option<SessionId>, AllocError>
+    ensures { IfOk result (λ id. IsOpenedAs host.old id host.new) }
+{
+    match host.step(Event::Open) {
+        Outcome::Opened(id) => Ok(Some(id)),
+        Outcome::Refused(HostFault::Full) => Ok(None),
+        _ => Err(AllocError),
+    }
+}
+
+/// Closes a session, if there is one.
+pub fn close<S: BuildHasher, A: Allocator + Copy>(host: &mut Host<S, A>, id: Option<SessionId>)
+    ensures { IsClosedAs host.old id host.new }
+{
+    if let Some(id) = id {
+        host.step(Event::Close(id));
+    }
+}

@@ -1,0 +1,128 @@
+//! A script over a reader and a writer.
+
+ghost use Rattle.std.specs.Prelude.{◌≡◌, ◌≤◌, MatchResult, OnOk, IfOk, IfErr};
+ghost use Rattle.usi_replay.specs.Replayed.{IsReplayed, IsFault, IsAllRead, IsReadFault, IsOutputOf, IsAnswerFault};
+
+use crate::fault::ReplayFault;
+use crate::playback::Playback;
+use host_core::Host;
+use std::alloc::Allocator;
+use std::hash::{BuildHasherDefault, FoldHasher};
+use std::io::{Read, Write};
+use usi_lines::first_line;
+use usi_stdio::write_out;
+
+/// The most bytes that are read at once.
+const PIECE: usize = 4096;
+
+/// Reads all that comes.
+fn read_all<A: Allocator, R: Read>(alloc: A, reader: &mut R) -> Result<Vec<u8, A>, ReplayFault>
+    ensures read { IfOk result (λ bytes. IsAllRead (R.remaining reader.old) (R.remaining reader.new) bytes.items) }
+    ensures fault { IfErr result IsReadFault }
+{
+    let mut bytes = Vec::new(alloc);
+    let mut piece = [0u8; PIECE];
+    'pieces: for _ in 0..u64::MAX {
+        let Ok(n) = reader.read(&mut piece) else {
+            return Err(ReplayFault::ReadFailed);
+        };
+        if n == 0 {
+            return Ok(bytes);
+        }
+        let (given, _) = piece.split_at(n);
+        if bytes.extend_from_slice(given).is_err() {
+            return Err(ReplayFault::OutOfMemory);
+        }
+    }
+    Err(ReplayFault::ReadFailed)
+}
+
+/// The output of a script.
+fn output_of<A: Allocator + Copy>(
+    alloc: A,
+    script: &[u8],
+    slots: usize,
+    entries: usize,
+    slice: u64,
+) -> Result<Vec<u8, A>, ReplayFault>
+    requires least_slots { 1 ≤ slots }
+    requires most_slots { slots ≤ 1024 }
+    requires least_entries { 1 ≤ entries }
+    requires most_entries { entries ≤ 1000000 }
+    requires least_slice { 1 ≤ slice }
+    ensures { MatchResult result (λ out. IsOutputOf slots script.now out.items) (IsAnswerFault slots script.now) }
+{
+    let hasher = BuildHasherDefault::<FoldHasher>::new();
+    let Ok(host) = Host::new(alloc, slots, entries, hasher) else {
+        return Err(ReplayFault::OutOfMemory);
+    };
+    let mut playback = Playback {
+        alloc,
+        slice,
+        host,
+        transcripts: Vec::new(alloc),
+    };
+    let mut rest = script;
+    let mut number: u64 = 0;
+    'lines: while let Some(first) = first_line(rest) {
+        number += 1;
+        let Ok(good) = playback.play_line(first.line) else {
+            return Err(ReplayFault::OutOfMemory);
+        };
+        if !good {
+            return Err(ReplayFault::BadScript { line: number });
+        }
+        rest = first.rest;
+    }
+    let Ok(out) = playback.finish() else {
+        return Err(ReplayFault::OutOfMemory);
+    };
+    Ok(out)
+}
+
+/// Replays a script of many sessions over one host of at most `slots` sessions, from 1 to 1,024, that
+/// share a table of `entries` entries, from 1 to 1,000,000. In each round every pending session goes on
+/// by at most `slice` steps of search, at least 1. The lines of a script are those of a USI stream; an
+/// unfinished last line is ignored (own choice, as the whole form of scripts):
+///
+/// - an empty line is skipped;
+/// - `+A`, with a letter from `A` to `Z`, opens a session under the name `A`, or refuses it where as
+///   many are open as may be;
+/// - `A text` sends a line to the session `A`, once it has answered what it was sent before;
+/// - `-A` closes the session `A`, once it has answered all, and frees the name.
+///
+/// Any other line, a name that is opened while it is in use, or used while it is not, is bad.
+///
+/// The output has, for each `+` line in the order of the script, the line `== A` and all replies to the
+/// lines that this session was sent, or the line `refused 1`. Neither `entries` nor `slice` changes it.
+/// The whole script is read first, nothing is written before all of it was answered, and no memory is
+/// taken once writing began. It flushes at the end.
+///
+/// `OutOfMemory` comes where memory was refused, `ReadFailed` where a read failed, and `BadScript` names
+/// the first bad line, counted from 1; after each of them nothing was written. `WriteFailed` comes where
+/// a write or the flush failed or a write took nothing; then a front of the output was written.
+pub fn replay<A: Allocator + Copy, R: Read, W: Write>(
+    alloc: A,
+    reader: &mut R,
+    writer: &mut W,
+    slots: usize,
+    entries: usize,
+    slice: u64,
+) -> Result<(), ReplayFault>
+    requires least_slots { 1 ≤ slots }
+    requires most_slots { slots ≤ 1024 }
+    requires least_entries { 1 ≤ entries }
+    requires most_entries { entries ≤ 1000000 }
+    requires least_slice { 1 ≤ slice }
+    ensures replayed { OnOk result (IsReplayed slots (R.remaining reader.old) (R.remaining reader.new)
+        (W.contents writer.old) (W.contents writer.new)) }
+    ensures fault { IfErr result (IsFault slots (R.remaining reader.old) (R.remaining reader.new)
+        (W.contents writer.old) (W.contents writer.new)) }
+{
+    let script = read_all(alloc, reader)?;
+    let out = output_of(alloc, script.as_slice(), slots, entries, slice)?;
+    if write_out(writer, out.as_slice()).is_err() {
+        return Err(ReplayFault::WriteFailed);
+    }
+    Ok(())
+}
