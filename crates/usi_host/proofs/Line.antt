@@ -1,5 +1,5 @@
 -- The command line, and its answers at words that are written out.
-use Rattle.std.proofs.Common.{◌≡◌, ◌∷◌, ◌∙◌, ℕ, true, List, [], Result, Ok, Err, Option, Some, None, IfOk, IfErr, codes, refl, sym, ap, subst, inl, inr, lit≤, lit<}
+use Rattle.std.proofs.Common.{◌≡◌, ◌∷◌, ◌∙◌, true, List, [], Result, Ok, Err, Option, Some, None, IfOk, IfErr, codes, refl, sym, ap, subst, inl, inr, lit≤, lit<}
 use Rattle.std.specs.Prelude.{MatchResult}
 use Rattle.clap.specs.Words.{App, FailsBy, HasMatchesOf, IsAmong, Kinds, Row, Text, fault_of, is_simple, is_simple_and_free, kind_of, subcommand_of, subcommand_rows_of}
 use Rattle.clap.specs.Kinds.{HasKind}
@@ -10,12 +10,13 @@ use Rattle.clap.specs.declared.error.kind.ErrorKind.{ErrorKind}
 use Rattle.clap.specs.declared.error.kind.ErrorKind.TheVariants as kinds
 use Rattle.clap.specs.declared.parser.matches.ArgMatches.{ArgMatches}
 use Rattle.clap.specs.declared.parser.matches.ValueSource.TheVariants.{DefaultValue}
-use Rattle.usi_host.specs.Answers.{GivesStdio, IsAnswerTo, IsAskedBy, IsJobOf, IsRefusedFor}
-use Rattle.usi_host.specs.CommandLine.{HasEntries, HasNoEntries, IsEntries, IsNumber, command_line, command_of, faults_of}
+use Rattle.usi_host.specs.Answers.{Gives, HasRanges, IsAnswerTo, IsAskedBy, IsJobOf, IsRefusedFor, IsReplayOf, IsStdioOf, NamesJob, NamesNoJob}
+use Rattle.usi_host.specs.CommandLine.{IsNumber, NamesNumber, command_line, command_of, faults_of}
 use Rattle.usi_host.specs.declared.words.Job.{Job}
-use Rattle.usi_host.specs.declared.words.Job.TheVariants.{Stdio, Help}
+use Rattle.usi_host.specs.declared.words.Job.TheVariants.{Stdio, Replay, Help}
 use Rattle.usi_host.specs.declared.words.WordsFault.{WordsFault}
 use Rattle.usi_host.specs.declared.words.WordsFault.TheVariants.{OutOfMemory, NotAccepted}
+use Rattle.usi_host.proofs.Numbers.{names_once}
 
 pub line_is_simple : is_simple command_line ≡ true
 unfolding clap_on_literals
@@ -33,22 +34,38 @@ pub bare_command : command_of [] ≡ None
 unfolding clap_on_literals
 bare_command = refl
 
+-- an option that is left out, with its default
+abbrev row : Text → Text → Row
+row name usual = record {
+  id = name;
+  values = usual ∷ [];
+  count = None;
+  source = Some DefaultValue;
+  reading = AsWritten;
+}
+
+-- the options of `stdio` and of `replay` where none is given
+abbrev stdio_rows : List Row
+stdio_rows = row (codes "entries") (codes "4096") ∷ []
+
+abbrev replay_rows : List Row
+replay_rows = row (codes "slots") (codes "64") ∷ row (codes "entries") (codes "4096") ∷ row (codes "slice") (codes "1000") ∷ []
+
 pub stdio_faults : faults_of (codes "stdio" ∷ []) ≡ []
 unfolding clap_on_literals
 stdio_faults = refl
 
-pub stdio_command_is : command_of (codes "stdio" ∷ []) ≡ Some (
-  codes "stdio",
-  record {
-    id = codes "entries";
-    values = codes "4096" ∷ [];
-    count = None;
-    source = Some DefaultValue;
-    reading = AsWritten;
-  } ∷ [],
-)
+pub stdio_command_is : command_of (codes "stdio" ∷ []) ≡ Some (codes "stdio", stdio_rows)
 unfolding clap_on_literals
 stdio_command_is = refl
+
+pub replay_faults : faults_of (codes "replay" ∷ []) ≡ []
+unfolding clap_on_literals
+replay_faults = refl
+
+pub replay_command_is : command_of (codes "replay" ∷ []) ≡ Some (codes "replay", replay_rows)
+unfolding clap_on_literals
+replay_command_is = refl
 
 -- what the parse of the words gives
 pub record IsParsedLine (words : List Text) (parsed : Result ArgMatches Error) : Type 0 where
@@ -67,13 +84,21 @@ parsed_line app words (Err e) is ok fails = record {
   kinds = subst (λ (a : App). HasKind (fault_of a words) e) is (fails (ap is_simple_and_free is ∙ line_is_free));
 }
 
+-- no command names a help
+no_help : (command : Option (Text × List Row)) (job : Job) (text : _) → job ≡ Help text → NamesJob command job → ⊥
+no_help None job text e is = let bad : Help text ≡ Stdio 4096 = sym e ∙ is in cc
+no_help (Some command) job text e (inl is) = rw e at is.1
+no_help (Some command) job text e (inr is) = rw e at is.1
+
 -- a job is one that the words ask for
 pub line_asked : (words : List Text) (parsed : Result ArgMatches Error) (r : Result Job WordsFault) → IsParsedLine words parsed
     → MatchResult parsed (λ m. IsJobOf (subcommand_rows_of m) r) (λ e. IsAnswerTo (kind_of e) r)
     → IfOk r (IsAskedBy words)
-line_asked words (Ok m) (Ok (Stdio n)) line is = (line.kinds, subst (λ (c : Option (Text × List Row)). HasEntries c n) line.matches is)
-line_asked words (Ok m) (Ok (Help text)) line is = absurd is
-line_asked words (Err e) (Ok (Stdio n)) line is = absurd is
+line_asked words (Ok m) (Ok (Stdio entries)) line is = (line.kinds, subst (λ (c : Option (Text × List Row)). NamesJob c (Stdio entries)) line.matches is)
+line_asked words (Ok m) (Ok (Replay slots entries slice)) line is = (line.kinds, subst (λ (c : Option (Text × List Row)). NamesJob c (Replay slots entries slice)) line.matches is)
+line_asked words (Ok m) (Ok (Help text)) line is = absurd (no_help (subcommand_rows_of m) (Help text) text refl is)
+line_asked words (Err e) (Ok (Stdio entries)) line is = absurd is
+line_asked words (Err e) (Ok (Replay slots entries slice)) line is = absurd is
 line_asked words (Err e) (Ok (Help text)) line is = elim line.kinds [
   | inl memory ↦ let bad : kinds.DisplayHelp ≡ kinds.OutOfMemory = sym is ∙ memory in cc
   | inr among ↦ subst (λ (k : ErrorKind). IsAmong k (faults_of words)) is among
@@ -87,53 +112,90 @@ pub line_refused : (words : List Text) (parsed : Result ArgMatches Error) (r : R
 line_refused words parsed (Ok job) line is = tt
 line_refused words parsed (Err OutOfMemory) line is = tt
 line_refused words (Ok m) (Err (NotAccepted text)) line is =
-    inr (subst (λ (c : Option (Text × List Row)). HasNoEntries c) line.matches is)
+    inr (subst (λ (c : Option (Text × List Row)). NamesNoJob c) line.matches is)
 line_refused words (Err e) (Err (NotAccepted text)) line is = elim line.kinds [
   | inl memory ↦ absurd (is.1 memory)
   | inr among ↦ inl (kind_of e, among, is.0)
 ]
 
--- words without a mistake that name n entries give one session with n entries
-pub gives_stdio : (words : List Text) (n : ℕ) (r : Result Job WordsFault) → faults_of words ≡ []
-    → HasEntries (command_of words) n → IsEntries n → ((m : ℕ) → HasEntries (command_of words) m → m ≡ n)
-    → IfOk r (IsAskedBy words) → IfErr r (IsRefusedFor words) → GivesStdio n r
-gives_stdio words n (Ok (Stdio m)) none has range only asked refused = inl (ap (λ (e : ℕ). Ok (Stdio e)) (only m asked.1))
-gives_stdio words n (Ok (Help text)) none has range only asked refused = absurd (rw none at asked)
-gives_stdio words n (Err OutOfMemory) none has range only asked refused = inr refl
-gives_stdio words n (Err (NotAccepted text)) none has range only asked refused = elim refused [
+-- words without a mistake that name one job only give it
+gives : (words : List Text) (job : Job) (r : Result Job WordsFault) → faults_of words ≡ []
+    → NamesJob (command_of words) job → HasRanges job → ((other : Job) → NamesJob (command_of words) other → other ≡ job)
+    → IfOk r (IsAskedBy words) → IfErr r (IsRefusedFor words) → Gives job r
+gives words job (Ok (Stdio entries)) none names range only asked refused = inl (ap Ok (only (Stdio entries) asked.1))
+gives words job (Ok (Replay slots entries slice)) none names range only asked refused = inl (ap Ok (only (Replay slots entries slice) asked.1))
+gives words job (Ok (Help text)) none names range only asked refused = absurd (rw none at asked)
+gives words job (Err OutOfMemory) none names range only asked refused = inr refl
+gives words job (Err (NotAccepted text)) none names range only asked refused = elim refused [
   | inl mistake ↦ absurd (subst (λ (k : Kinds). IsAmong mistake.0 k) none mistake.1)
-  | inr no_entries ↦ absurd (no_entries n range has)
+  | inr no_job ↦ absurd (no_job job range names)
 ]
 
-four_thousand : IsNumber (codes "4096") 4096
-four_thousand = ((lit< tt, (lit< tt, (lit< tt, (lit< tt, (lit< tt, tt))))), refl)
+-- words whose command is known
+gives_of : (words : List Text) (job : Job) (command : Option (Text × List Row)) (r : Result Job WordsFault) → faults_of words ≡ []
+    → command_of words ≡ command → NamesJob command job → HasRanges job → ((other : Job) → NamesJob command other → other ≡ job)
+    → IfOk r (IsAskedBy words) → IfErr r (IsRefusedFor words) → Gives job r
+gives_of words job command r none is names range only asked refused =
+    gives words job r none (subst (λ (c : Option (Text × List Row)). NamesJob c job) (sym is) names) range
+    (λ other has. only other (subst (λ (c : Option (Text × List Row)). NamesJob c other) is has)) asked refused
 
 pub gives_bare : (words : List Text) (r : Result Job WordsFault) → words ≡ []
-    → IfOk r (IsAskedBy words) → IfErr r (IsRefusedFor words) → GivesStdio 4096 r
+    → IfOk r (IsAskedBy words) → IfErr r (IsRefusedFor words) → Gives (Stdio 4096) r
 gives_bare words r is asked refused =
-    gives_stdio [] 4096 r bare_faults (subst (λ (c : Option (Text × List Row)). HasEntries c 4096) (sym bare_command) refl) (lit≤ tt, lit≤ tt)
-    (λ m has. subst (λ (c : Option (Text × List Row)). HasEntries c m) bare_command has)
+    gives_of [] (Stdio 4096) None r bare_faults bare_command refl (lit≤ tt, lit≤ tt) (λ other has. has)
     (subst (λ (w : List Text). IfOk r (IsAskedBy w)) is asked) (subst (λ (w : List Text). IfErr r (IsRefusedFor w)) is refused)
 
-pub gives_default : (words : List Text) (r : Result Job WordsFault) → words ≡ codes "stdio" ∷ []
-    → IfOk r (IsAskedBy words) → IfErr r (IsRefusedFor words) → GivesStdio 4096 r
-gives_default words r is asked refused =
-    gives_stdio (codes "stdio" ∷ []) 4096 r stdio_faults
-    (subst (λ (c : Option (Text × List Row)). HasEntries c 4096) (sym stdio_command_is) (codes "4096", refl, four_thousand)) (lit≤ tt, lit≤ tt)
-    (λ m has. default_only m (subst (λ (c : Option (Text × List Row)). HasEntries c m) stdio_command_is has))
+is_64 : IsNumber (codes "64") 64
+is_64 = ((lit< tt, (lit< tt, (lit< tt, tt))), refl)
+
+is_4096 : IsNumber (codes "4096") 4096
+is_4096 = ((lit< tt, (lit< tt, (lit< tt, (lit< tt, (lit< tt, tt))))), refl)
+
+is_1000 : IsNumber (codes "1000") 1000
+is_1000 = ((lit< tt, (lit< tt, (lit< tt, (lit< tt, (lit< tt, tt))))), refl)
+
+stdio_entries : NamesNumber (codes "entries") stdio_rows 4096
+stdio_entries = (codes "4096", refl, is_4096)
+
+stdio_only : (job : Job) → IsStdioOf stdio_rows job → job ≡ Stdio 4096
+stdio_only (Stdio entries) is = ap Stdio (names_once (codes "entries") stdio_rows entries 4096 is stdio_entries)
+stdio_only (Replay slots entries slice) is = absurd is
+stdio_only (Help text) is = absurd is
+
+stdio_names : (job : Job) → NamesJob (Some (codes "stdio", stdio_rows)) job → job ≡ Stdio 4096
+stdio_names job (inl is) = stdio_only job is.1
+stdio_names job (inr is) = let bad : codes "stdio" ≡ codes "replay" = is.0 in cc
+
+pub gives_stdio : (words : List Text) (r : Result Job WordsFault) → words ≡ codes "stdio" ∷ []
+    → IfOk r (IsAskedBy words) → IfErr r (IsRefusedFor words) → Gives (Stdio 4096) r
+gives_stdio words r is asked refused =
+    gives_of (codes "stdio" ∷ []) (Stdio 4096) (Some (codes "stdio", stdio_rows)) r stdio_faults stdio_command_is (inl (refl, stdio_entries)) (lit≤ tt, lit≤ tt) stdio_names
     (subst (λ (w : List Text). IfOk r (IsAskedBy w)) is asked) (subst (λ (w : List Text). IfErr r (IsRefusedFor w)) is refused)
-  where
-    default_only : (m : ℕ) → HasEntries (Some (
-      codes "stdio",
-      record {
-        id = codes "entries";
-        values = codes "4096" ∷ [];
-        count = None;
-        source = Some DefaultValue;
-        reading = AsWritten;
-      } ∷ [],
-    )) m → m ≡ 4096
-    default_only m has =
-        let same : Some (codes "4096") ≡ Some has.0 = has.1 in
-        let text : has.0 ≡ codes "4096" = cc in
-        (rw text at has.2).1
+
+replay_slots : NamesNumber (codes "slots") replay_rows 64
+replay_slots = (codes "64", refl, is_64)
+
+replay_entries : NamesNumber (codes "entries") replay_rows 4096
+replay_entries = (codes "4096", refl, is_4096)
+
+replay_slice : NamesNumber (codes "slice") replay_rows 1000
+replay_slice = (codes "1000", refl, is_1000)
+
+replay_only : (job : Job) → IsReplayOf replay_rows job → job ≡ Replay 64 4096 1000
+replay_only (Stdio entries) is = absurd is
+replay_only (Replay slots entries slice) is =
+    let a : slots ≡ 64 = names_once (codes "slots") replay_rows slots 64 is.0 replay_slots in
+    let b : entries ≡ 4096 = names_once (codes "entries") replay_rows entries 4096 is.1 replay_entries in
+    let c : slice ≡ 1000 = names_once (codes "slice") replay_rows slice 1000 is.2 replay_slice in
+    λ k. Replay (a k) (b k) (c k)
+replay_only (Help text) is = absurd is
+
+replay_names : (job : Job) → NamesJob (Some (codes "replay", replay_rows)) job → job ≡ Replay 64 4096 1000
+replay_names job (inl is) = let bad : codes "replay" ≡ codes "stdio" = is.0 in cc
+replay_names job (inr is) = replay_only job is.1
+
+pub gives_replay : (words : List Text) (r : Result Job WordsFault) → words ≡ codes "replay" ∷ []
+    → IfOk r (IsAskedBy words) → IfErr r (IsRefusedFor words) → Gives (Replay 64 4096 1000) r
+gives_replay words r is asked refused =
+    gives_of (codes "replay" ∷ []) (Replay 64 4096 1000) (Some (codes "replay", replay_rows)) r replay_faults replay_command_is (inr (refl, (replay_slots, replay_entries, replay_slice))) ((lit≤ tt, lit≤ tt), (lit≤ tt, lit≤ tt), (lit≤ tt, lit≤ tt)) replay_names
+    (subst (λ (w : List Text). IfOk r (IsAskedBy w)) is asked) (subst (λ (w : List Text). IfErr r (IsRefusedFor w)) is refused)

@@ -1,48 +1,75 @@
 -- When each answer to the words comes.
-use Rattle.std.specs.Prelude.{◌≡◌, ◌≢◌, ◌⊎◌, ℕ, List, [], Option, Result, Ok, Err, ⊤}
+use Rattle.std.specs.Prelude.{◌≡◌, ◌≢◌, ◌⊎◌, List, [], Option, Some, None, Result, Ok, Err, ⊤, codes}
 use Rattle.clap.specs.Words.{IsAmong, Row, Text}
 use Rattle.clap.specs.declared.error.kind.ErrorKind.{ErrorKind}
 use Rattle.clap.specs.declared.error.kind.ErrorKind.TheVariants as kinds
-use Rattle.usi_host.specs.CommandLine.{HasEntries, HasNoEntries, IsEntries, command_of, faults_of}
+use Rattle.usi_host.specs.CommandLine.{IsFromOne, NamesNumber, command_of, faults_of}
 use Rattle.usi_host.specs.declared.words.Job.{Job}
-use Rattle.usi_host.specs.declared.words.Job.TheVariants.{Stdio, Help}
+use Rattle.usi_host.specs.declared.words.Job.TheVariants.{Stdio, Replay, Help}
 use Rattle.usi_host.specs.declared.words.WordsFault.{WordsFault}
 use Rattle.usi_host.specs.declared.words.WordsFault.TheVariants.{OutOfMemory, NotAccepted}
 
 -- the numbers of the job lie in their ranges
 abbrev pub HasRanges : Job → Type 0
-HasRanges (Stdio entries) = IsEntries entries
+HasRanges (Stdio entries) = IsFromOne 1000000 entries
+HasRanges (Replay slots entries slice) = IsFromOne 1024 slots × IsFromOne 1000000 entries × IsFromOne 1000000000 slice
 HasRanges (Help text) = ⊤
+
+-- the job is `stdio`, with the number that these options name
+abbrev pub IsStdioOf : List Row → Job → Type 0
+IsStdioOf options (Stdio entries) = NamesNumber (codes "entries") options entries
+IsStdioOf options _ = ⊥
+
+-- the job is `replay`, with the numbers that these options name
+abbrev pub IsReplayOf : List Row → Job → Type 0
+IsReplayOf options (Replay slots entries slice) =
+    NamesNumber (codes "slots") options slots × NamesNumber (codes "entries") options entries × NamesNumber (codes "slice") options slice
+IsReplayOf options _ = ⊥
+
+-- the command names the job; without a command it is `stdio` with 4096 entries
+abbrev pub NamesJob : Option (Text × List Row) → Job → Type 0
+NamesJob None job = job ≡ Stdio 4096
+NamesJob (Some command) job = ((command.0 ≡ codes "stdio") × IsStdioOf command.1 job) ⊎ ((command.0 ≡ codes "replay") × IsReplayOf command.1 job)
+
+-- these options name no `stdio`, no `replay`, whose numbers lie in their ranges
+abbrev pub NamesNoStdio : List Row → Type 0
+NamesNoStdio options = (job : Job) → HasRanges job → IsStdioOf options job → ⊥
+
+abbrev pub NamesNoReplay : List Row → Type 0
+NamesNoReplay options = (job : Job) → HasRanges job → IsReplayOf options job → ⊥
+
+-- the command names no job whose numbers lie in their ranges
+abbrev pub NamesNoJob : Option (Text × List Row) → Type 0
+NamesNoJob command = (job : Job) → HasRanges job → NamesJob command job → ⊥
 
 -- the words ask for the job
 abbrev pub IsAskedBy : List Text → Job → Type 0
-IsAskedBy words (Stdio entries) = (faults_of words ≡ []) × HasEntries (command_of words) entries
 IsAskedBy words (Help text) = IsAmong kinds.DisplayHelp (faults_of words)
+IsAskedBy words job = (faults_of words ≡ []) × NamesJob (command_of words) job
 
--- the words have a mistake, or name no number of entries that a table may have
+-- the words have a mistake, or name no job whose numbers lie in their ranges
 abbrev pub HasMistake : List Text → Type 0
 HasMistake words = ((kind : ErrorKind) × IsAmong kind (faults_of words) × (kind ≢ kinds.DisplayHelp))
-    ⊎ HasNoEntries (command_of words)
+    ⊎ NamesNoJob (command_of words)
 
 -- words that are not accepted have a mistake
 abbrev pub IsRefusedFor : List Text → WordsFault → Type 0
 IsRefusedFor words OutOfMemory = ⊤
 IsRefusedFor words (NotAccepted text) = HasMistake words
 
--- one session with this many entries, or memory ran out
-abbrev pub GivesStdio : ℕ → Result Job WordsFault → Type 0
-GivesStdio entries result = (result ≡ Ok (Stdio entries)) ⊎ (result ≡ Err OutOfMemory)
+-- this job, or memory ran out
+abbrev pub Gives : Job → Result Job WordsFault → Type 0
+Gives job result = (result ≡ Ok job) ⊎ (result ≡ Err OutOfMemory)
 
 -- the answer to a command line that was read
 abbrev pub IsJobOf : Option (Text × List Row) → Result Job WordsFault → Type 0
-IsJobOf command (Ok (Stdio entries)) = HasEntries command entries
-IsJobOf command (Ok (Help text)) = ⊥
+IsJobOf command (Ok job) = NamesJob command job
 IsJobOf command (Err OutOfMemory) = ⊤
-IsJobOf command (Err (NotAccepted text)) = HasNoEntries command
+IsJobOf command (Err (NotAccepted text)) = NamesNoJob command
 
 -- the answer to an error of this kind
 abbrev pub IsAnswerTo : ErrorKind → Result Job WordsFault → Type 0
-IsAnswerTo kind (Ok (Stdio entries)) = ⊥
 IsAnswerTo kind (Ok (Help text)) = kind ≡ kinds.DisplayHelp
+IsAnswerTo kind (Ok job) = ⊥
 IsAnswerTo kind (Err OutOfMemory) = ⊤
 IsAnswerTo kind (Err (NotAccepted text)) = (kind ≢ kinds.DisplayHelp) × (kind ≢ kinds.OutOfMemory)

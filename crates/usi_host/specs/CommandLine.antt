@@ -1,30 +1,50 @@
 -- What the words after the program's name ask for, as `clap` reads them (own choice).
-use Rattle.std.specs.Prelude.{◌≡◌, ◌∷◌, ◌≤◌, ℕ, true, List, [], Option, Some, None, codes}
+use Rattle.std.specs.Prelude.{◌≡◌, ◌∷◌, ◌≤◌, ℕ, true, List, [], Option, Some, codes}
 use Rattle.std.specs.Str.Parse.{IsNumeral, digits_value, without_leading_plus}
 use Rattle.clap.specs.Words.{App, Kinds, Row, Rule, Text, fault_of, new_app, new_rule, one_of, subcommand_of, with_rule, with_subcommand}
 use Rattle.clap.specs.declared.builder.value_parser.ValueParser.TheVariants as parser
 
--- the option `--entries N`, a number from 1 to 1000000, and 4096 where it is left out
-abbrev pub entries_option : Rule
-entries_option = record (new_rule (codes "entries")) {
-  long = Some (codes "entries");
+-- the option `--NAME N`, a number from 1 to `most`, and `usual` where it is left out
+abbrev pub number_option : Text → ℕ → Text → Rule
+number_option name most usual = record (new_rule name) {
+  long = Some name;
   value_names = 1;
-  defaults = codes "4096" ∷ [];
-  parser = Some (parser.Unsigned 1 1000000);
+  defaults = usual ∷ [];
+  parser = Some (parser.Unsigned 1 most);
 }
+
+-- how many sessions may be open: `--slots N`, from 1 to 1024, and 64 where it is left out
+abbrev pub slots_option : Rule
+slots_option = number_option (codes "slots") 1024 (codes "64")
+
+-- how many entries the table has: `--entries N`, from 1 to 1000000, and 4096 where it is left out
+abbrev pub entries_option : Rule
+entries_option = number_option (codes "entries") 1000000 (codes "4096")
+
+-- how many steps a session may make in a round: `--slice N`, from 1 to 1000000000, and 1000 where it is left out
+abbrev pub slice_option : Rule
+slice_option = number_option (codes "slice") 1000000000 (codes "1000")
 
 -- the command `stdio`
 abbrev pub stdio_command : App
 stdio_command = with_rule (new_app (codes "stdio")) entries_option
+
+-- the command `replay`
+abbrev pub replay_command : App
+replay_command = with_rule (with_rule (with_rule (new_app (codes "replay")) slots_option) entries_option) slice_option
 
 -- the program without a command
 abbrev pub bare_line : App
 bare_line = let app = new_app (codes "usi_host") in
     record app { top = record app.top { no_binary_name = true } }
 
--- the command line: the program with its one command
+-- the program with the command `stdio` alone
+abbrev pub stdio_line : App
+stdio_line = with_subcommand bare_line stdio_command.top
+
+-- the command line: the program with its two commands
 abbrev pub command_line : App
-command_line = with_subcommand bare_line stdio_command.top
+command_line = with_subcommand stdio_line replay_command.top
 
 -- the kinds of mistake for which the words are refused, or a request for help; none where they are a command line
 abbrev pub faults_of : List Text → Kinds
@@ -39,20 +59,11 @@ abbrev pub IsNumber : Text → ℕ → Type 0
 IsNumber text n =
     IsNumeral 10 (without_leading_plus text) × (n ≡ digits_value 10 (without_leading_plus text))
 
--- the options name n entries
-abbrev pub NamesEntries : List Row → ℕ → Type 0
-NamesEntries options n =
-    (text : Text) × (one_of (codes "entries") options ≡ Some text) × IsNumber text n
+-- the option of this name has the number n
+abbrev pub NamesNumber : Text → List Row → ℕ → Type 0
+NamesNumber name options n =
+    (text : Text) × (one_of name options ≡ Some text) × IsNumber text n
 
--- the command has n entries: 4096 where there is no command
-abbrev pub HasEntries : Option (Text × List Row) → ℕ → Type 0
-HasEntries None n = n ≡ 4096
-HasEntries (Some command) n = NamesEntries command.1 n
-
--- a table may have from 1 to 1000000 entries
-abbrev pub IsEntries : ℕ → Type 0
-IsEntries n = (1 ≤ n) × (n ≤ 1000000)
-
--- the command names no number of entries that a table may have
-abbrev pub HasNoEntries : Option (Text × List Row) → Type 0
-HasNoEntries command = (n : ℕ) → IsEntries n → HasEntries command n → ⊥
+-- a number from 1 to `most`
+abbrev pub IsFromOne : ℕ → ℕ → Type 0
+IsFromOne most n = (1 ≤ n) × (n ≤ most)

@@ -1,13 +1,15 @@
 //! The shogi host as a program.
 #![tactic(auto)]
 
-ghost use Rattle.std.specs.Prelude.{◌≤◌, IfOk};
+ghost use Rattle.std.specs.Prelude.{◌≡◌, ◌≤◌, IfOk};
 ghost use Rattle.usi_host.specs.Answers.{HasRanges};
+ghost use Rattle.usi_host.specs.Statuses.{replay_status};
 
 mod words;
 
 use std::process::ExitCode;
 use std::{env, io};
+use usi_replay::{ReplayFault, replay};
 use usi_stdio::stdio;
 use words::{Job, WordsFault, read_words};
 
@@ -16,6 +18,9 @@ const FAULT: u8 = 1;
 
 /// The status of a command line that is not accepted.
 const NOT_ACCEPTED: u8 = 2;
+
+/// The status of a script that has a bad line.
+const BAD_SCRIPT: u8 = 3;
 
 /// The words after the program's name, read as a job.
 fn asked(rt: &HostRuntime) -> Result<Job, WordsFault>
@@ -59,11 +64,47 @@ fn run(rt: &HostRuntime, entries: usize) -> ExitCode
     }
 }
 
+/// The status of a script that was not replayed.
+fn status_of(fault: &ReplayFault) -> u8
+    ensures { result ≡ replay_status fault.now }
+{
+    match fault {
+        ReplayFault::BadScript { .. } => BAD_SCRIPT,
+        _ => FAULT,
+    }
+}
+
+/// A script on standard input, and its output on standard output.
+fn run_script(rt: &HostRuntime, slots: usize, entries: usize, slice: u64) -> ExitCode
+    requires least_slots { 1 ≤ slots }
+    requires most_slots { slots ≤ 1024 }
+    requires least_entries { 1 ≤ entries }
+    requires most_entries { entries ≤ 1000000 }
+    requires least_slice { 1 ≤ slice }
+{
+    let mut input = rt.reader();
+    let mut output = io::writer(rt);
+    match replay(rt.alloc(), &mut input, &mut output, slots, entries, slice) {
+        Ok(()) => ExitCode::SUCCESS,
+        Err(fault) => {
+            let _ = eprintln!(rt; "usi_host: {fault}");
+            ExitCode::from(status_of(&fault))
+        }
+    }
+}
+
 /// Does what the words of the command line ask for. The status is 0 where it was done, 1 where it
-/// ended early, and 2 where the words are not accepted.
+/// ended early, 2 where the words are not accepted, and 3 where a script has a bad line.
 fn main(rt: HostRuntime) -> ExitCode {
     match asked(&rt) {
         Ok(Job::Stdio { entries }) => run(&rt, entries),
+        Ok(
+            Job::Replay {
+                slots,
+                entries,
+                slice,
+            },
+        ) => run_script(&rt, slots, entries, slice),
         Ok(Job::Help { text }) => match print!(&rt; "{text}") {
             Ok(()) => ExitCode::SUCCESS,
             Err(_) => complain(&rt, "usi_host: write failed\n", FAULT),

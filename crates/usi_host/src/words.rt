@@ -2,8 +2,9 @@
 ghost use Rattle.std.specs.Prelude.{◌≡◌, ◌∷◌, ℕ, false, [], IfErr, IfNone, IfOk, IfSome, MatchResult, codes, map};
 ghost use Rattle.clap.specs.Words.{app_of, found_of, kind_of, rows_of, rule_of, subcommand_rows_of};
 ghost use Rattle.clap.specs.declared.builder.command.Command.TheViews.{out-Command as fields_of};
-ghost use Rattle.usi_host.specs.Answers.{GivesStdio, HasRanges, IsAnswerTo, IsAskedBy, IsJobOf, IsRefusedFor};
-ghost use Rattle.usi_host.specs.CommandLine.{HasEntries, HasNoEntries, IsEntries, NamesEntries, command_line, entries_option, stdio_command};
+ghost use Rattle.usi_host.specs.Answers.{Gives, HasRanges, IsAnswerTo, IsAskedBy, IsJobOf, IsRefusedFor, IsReplayOf, IsStdioOf, NamesJob, NamesNoJob, NamesNoReplay, NamesNoStdio};
+ghost use Rattle.usi_host.specs.CommandLine.{IsFromOne, NamesNumber, command_line, entries_option, replay_command, slice_option, slots_option, stdio_command, stdio_line};
+ghost use Rattle.usi_host.specs.declared.words.Job.TheVariants.{Stdio, Replay};
 ghost use Rattle.usi_host.specs.declared.words.WordsFault.TheVariants.{OutOfMemory};
 
 use clap::builder::ValueParser;
@@ -13,19 +14,36 @@ use std::alloc::{AllocError, Global};
 use std::convert::AsStr;
 
 /// The most entries that the table may be asked for (own choice).
-pub const MOST_ENTRIES: usize = 1_000_000;
+const MOST_ENTRIES: usize = 1_000_000;
 
-/// The entries of the table where the words name no number (own choice).
-pub const USUAL_ENTRIES: usize = 4096;
+/// The most sessions that may be asked for (own choice).
+const MOST_SLOTS: usize = 1024;
+
+/// The most steps of search in a round that may be asked for (own choice).
+const MOST_STEPS: usize = 1_000_000_000;
+
+/// The entries of the table where the words name no command (own choice).
+const USUAL_ENTRIES: usize = 4096;
 
 /// What the words ask for.
 #[derive(Debug, PartialEq, Eq, Drop)]
 pub enum Job {
-    /// One session over standard input and output, with a table of `entries` entries, 1 to
-    /// `MOST_ENTRIES`.
-    Stdio { entries: usize },
+    /// One session over standard input and output, with a table of `entries` entries, 1 to 1,000,000.
+    Stdio {
+        entries: usize,
+    },
+    /// A script on standard input, over a host of at most `slots` sessions, 1 to 1,024, that share a
+    /// table of `entries` entries, 1 to 1,000,000; in each round a session goes on by at most `slice`
+    /// steps of search, 1 to 1,000,000,000.
+    Replay {
+        slots: usize,
+        entries: usize,
+        slice: u64,
+    },
     /// The text of a help that was asked for.
-    Help { text: String },
+    Help {
+        text: String,
+    },
 }
 
 /// Why the words name no job.
@@ -45,15 +63,16 @@ impl From<AllocError> for WordsFault {
     }
 }
 
-/// Reads the words that follow the program's name: none or `stdio` for one session, with
-/// `--entries N` after `stdio`, and `--help`, `-h` or `help` for help. Every other line is
-/// `NotAccepted`. The texts are those of `clap`.
+/// Reads the words that follow the program's name: none or `stdio` for one session, with `--entries N`
+/// after `stdio`; `replay` for a script, with `--slots N`, `--entries N` and `--slice N`; and `--help`,
+/// `-h` or `help` for help. Every other line is `NotAccepted`. The texts are those of `clap`.
 pub fn read_words<'a, S: AsStr>(alloc: Global, words: &'a [S]) -> Result<Job, WordsFault>
     ensures ranges { IfOk result HasRanges }
     ensures asked { IfOk result (IsAskedBy (map S.text words.entry.now)) }
     ensures refused { IfErr result (IsRefusedFor (map S.text words.entry.now)) }
-    ensures bare { words.entry.now ≡ [] → GivesStdio 4096 result }
-    ensures stdio { map S.text words.entry.now ≡ codes "stdio" ∷ [] → GivesStdio 4096 result }
+    ensures bare { words.entry.now ≡ [] → Gives (Stdio 4096) result }
+    ensures stdio { map S.text words.entry.now ≡ codes "stdio" ∷ [] → Gives (Stdio 4096) result }
+    ensures replay { map S.text words.entry.now ≡ codes "replay" ∷ [] → Gives (Replay 64 4096 1000) result }
 {
     let line = command_line(alloc)?;
     answer_to(alloc, line.try_get_matches_from(words))
@@ -75,35 +94,62 @@ fn job_of(alloc: Global, matches: &ArgMatches<'_>) -> Result<Job, WordsFault>
     ensures ranges { IfOk result HasRanges }
     ensures job { IsJobOf (subcommand_rows_of matches.now) result }
 {
-    match entries_of(matches) {
-        Some(entries) => Ok(Job::Stdio { entries }),
+    match named_job(matches) {
+        Some(job) => Ok(job),
         None => Err(WordsFault::NotAccepted {
-            text: String::from_str(alloc, "error: --entries takes a number from 1 to 1000000\n")?,
+            text: String::from_str(alloc, "error: a number is out of its range\n")?,
         }),
     }
 }
 
-// The entries of the only command, `stdio`, where they lie in their range.
-fn entries_of(matches: &ArgMatches<'_>) -> Option<usize>
-    ensures some { IfSome result (λ n. IsEntries n × HasEntries (subcommand_rows_of matches.now) n) }
-    ensures none { IfNone result (HasNoEntries (subcommand_rows_of matches.now)) }
+/// The job that the command names, where its numbers lie in their ranges.
+fn named_job(matches: &ArgMatches<'_>) -> Option<Job>
+    ensures some { IfSome result (λ job. HasRanges job × NamesJob (subcommand_rows_of matches.now) job) }
+    ensures none { IfNone result (NamesNoJob (subcommand_rows_of matches.now)) }
 {
-    let Some((_, stdio)) = matches.subcommand() else {
-        return Some(USUAL_ENTRIES);
+    let Some((name, options)) = matches.subcommand() else {
+        return Some(Job::Stdio {
+            entries: USUAL_ENTRIES,
+        });
     };
-    named_entries(stdio)
+    if name == "stdio" {
+        return stdio_job(options);
+    }
+    if name == "replay" {
+        return replay_job(options);
+    }
+    None
 }
 
-fn named_entries(stdio: &ArgMatches<'_>) -> Option<usize>
-    ensures some { IfSome result (λ n. IsEntries n × NamesEntries (rows_of (found_of stdio.now)) n) }
-    ensures none { IfNone result ((n : ℕ) → IsEntries n → NamesEntries (rows_of (found_of stdio.now)) n → ⊥) }
+fn stdio_job(options: &ArgMatches<'_>) -> Option<Job>
+    ensures some { IfSome result (λ job. HasRanges job × IsStdioOf (rows_of (found_of options.now)) job) }
+    ensures none { IfNone result (NamesNoStdio (rows_of (found_of options.now))) }
 {
-    let entries = stdio.get_one::<usize>("entries")?;
-    if entries >= 1 && entries <= MOST_ENTRIES {
-        Some(entries)
-    } else {
-        None
-    }
+    let entries = number_of(options, "entries", MOST_ENTRIES)?;
+    Some(Job::Stdio { entries })
+}
+
+fn replay_job(options: &ArgMatches<'_>) -> Option<Job>
+    ensures some { IfSome result (λ job. HasRanges job × IsReplayOf (rows_of (found_of options.now)) job) }
+    ensures none { IfNone result (NamesNoReplay (rows_of (found_of options.now))) }
+{
+    let slots = number_of(options, "slots", MOST_SLOTS)?;
+    let entries = number_of(options, "entries", MOST_ENTRIES)?;
+    let slice = number_of(options, "slice", MOST_STEPS)?;
+    Some(Job::Replay {
+        slots,
+        entries,
+        slice: slice as u64,
+    })
+}
+
+/// The number of an option, where it lies from 1 to `most`.
+fn number_of(options: &ArgMatches<'_>, name: &str, most: usize) -> Option<usize>
+    ensures some { IfSome result (λ n. IsFromOne most n × NamesNumber name.now (rows_of (found_of options.now)) n) }
+    ensures none { IfNone result ((n : ℕ) → IsFromOne most n → NamesNumber name.now (rows_of (found_of options.now)) n → ⊥) }
+{
+    let n = options.get_one::<usize>(name)?;
+    if n >= 1 && n <= most { Some(n) } else { None }
 }
 
 fn text_of(alloc: Global, error: &Error) -> Result<Job, WordsFault>
@@ -124,6 +170,12 @@ fn text_of(alloc: Global, error: &Error) -> Result<Job, WordsFault>
 fn command_line<'a>(alloc: Global) -> Result<Command<'a>, AllocError>
     ensures { IfOk result (λ line. app_of line ≡ command_line) }
 {
+    stdio_line(alloc)?.subcommand(replay_command(alloc)?)
+}
+
+fn stdio_line<'a>(alloc: Global) -> Result<Command<'a>, AllocError>
+    ensures { IfOk result (λ line. app_of line ≡ stdio_line) }
+{
     Command::new(alloc, "usi_host")
         .no_binary_name(true)
         .bin_name("usi_host")?
@@ -142,6 +194,30 @@ fn stdio_command<'a>(alloc: Global) -> Result<Command<'a>, AllocError>
         .arg(entries_option(alloc))
 }
 
+fn replay_command<'a>(alloc: Global) -> Result<Command<'a>, AllocError>
+    ensures app { IfOk result (λ command. app_of command ≡ replay_command) }
+    ensures local { IfOk result (λ command. (fields_of command).has_globals ≡ false) }
+{
+    Command::new(alloc, "replay")
+        .about("Runs many sessions from one script on standard input")
+        .after_help(REPLAY_EXAMPLE)
+        .arg(slots_option(alloc))?
+        .arg(entries_option(alloc))?
+        .arg(slice_option(alloc))
+}
+
+fn slots_option<'a>(alloc: Global) -> Arg<'a>
+    ensures rule { rule_of result ≡ slots_option }
+    ensures local { result.global ≡ false }
+{
+    Arg::new(alloc, "slots")
+        .long("slots")
+        .value_name("N")
+        .value_parser(ValueParser::unsigned(1, 1024))
+        .default_value("64")
+        .help("How many sessions may be open at a time, from 1 to 1024")
+}
+
 fn entries_option<'a>(alloc: Global) -> Arg<'a>
     ensures rule { rule_of result ≡ entries_option }
     ensures local { result.global ≡ false }
@@ -154,6 +230,18 @@ fn entries_option<'a>(alloc: Global) -> Arg<'a>
         .help("How many searched positions the table keeps, from 1 to 1000000")
 }
 
+fn slice_option<'a>(alloc: Global) -> Arg<'a>
+    ensures rule { rule_of result ≡ slice_option }
+    ensures local { result.global ≡ false }
+{
+    Arg::new(alloc, "slice")
+        .long("slice")
+        .value_name("N")
+        .value_parser(ValueParser::unsigned(1, 1_000_000_000))
+        .default_value("1000")
+        .help("How many steps of search a session makes in its turn, from 1 to 1000000000")
+}
+
 const ABOUT: &str =
     "A shogi engine for programs that speak USI: it answers `go` by a search of fixed depth";
 
@@ -163,13 +251,33 @@ const AFTER_HELP: &str =
 Options of stdio:
   --entries N  how many searched positions the table keeps, from 1 to 1000000 [default: 4096]
 
+Options of replay:
+  --slots N    how many sessions may be open at a time, from 1 to 1024 [default: 64]
+  --entries N  how many searched positions they share, from 1 to 1000000 [default: 4096]
+  --slice N    how many steps of search a session makes in its turn, from 1 to 1000000000
+               [default: 1000]; it changes no output
+
 Examples:
   usi_host
   usi_host stdio --entries 100000
-  printf 'position startpos\\ngo depth 3\\nquit\\n' | usi_host";
+  printf 'position startpos\\ngo depth 3\\nquit\\n' | usi_host
+  printf '+A\\n+B\\nA go depth 1\\nB usi\\n' | usi_host replay --slots 2";
 
 const STDIO_EXAMPLE: &str = "Example:
   usi_host stdio --entries 100000";
+
+const REPLAY_EXAMPLE: &str = "Lines of a script:
+  +A      opens a session under the name A, a letter from A to Z
+  A TEXT  sends the line TEXT to the session A
+  -A      closes the session A once it has answered, and frees the name
+Empty lines are skipped. Any other line, a name that is opened twice, or used while it is
+not open, is bad: nothing is written then, and the status is 3.
+
+The output has for each + line, in their order, the line `== A` and all replies of that
+session, or `refused 1` where as many sessions were open as may be.
+
+Example:
+  printf '+A\\n+B\\nA go depth 1\\nB usi\\n' | usi_host replay --slots 2";
 
 #[cfg(test)]
 mod tests;

@@ -20,8 +20,35 @@ fn entries_of_accepted_words(rt: HostRuntime) -> Result<(), Fail> {
 }
 
 #[test]
+fn numbers_of_a_replay(rt: HostRuntime) -> Result<(), Fail> {
+    let rows: [(&[&str], usize, usize, u64); 6] = [
+        (&["replay"], 64, 4096, 1000),
+        (&["replay", "--slots", "2", "--slice", "1"], 2, 4096, 1),
+        (&["replay", "--slice=1000000000"], 64, 4096, 1_000_000_000),
+        (&["replay", "--slots", "1024"], 1024, 4096, 1000),
+        (&["replay", "--entries", "1000000"], 64, 1_000_000, 1000),
+        (
+            &["replay", "--slice", "7", "--entries", "1", "--slots", "1"],
+            1,
+            1,
+            7,
+        ),
+    ];
+    for (words, slots, entries, slice) in rows {
+        let job = read_words(rt.alloc(), words)?;
+        let wanted = Job::Replay {
+            slots,
+            entries,
+            slice,
+        };
+        assert_eq!(rt; job, wanted, "for {words:?}");
+    }
+    Ok(())
+}
+
+#[test]
 fn refused_words(rt: HostRuntime) {
-    let rows: [&[&str]; 12] = [
+    let rows: [&[&str]; 20] = [
         &["stdio", "--entries", "0"],
         &["stdio", "--entries", "1000001"],
         &["stdio", "--entries", "18446744073709551616"],
@@ -32,8 +59,16 @@ fn refused_words(rt: HostRuntime) {
         &["stdio", "more"],
         &["--entries", "1"],
         &["go"],
-        &["replay"],
         &["serve"],
+        &["replay", "--slots", "0"],
+        &["replay", "--slots", "1025"],
+        &["replay", "--entries", "0"],
+        &["replay", "--entries", "1000001"],
+        &["replay", "--slice", "0"],
+        &["replay", "--slice", "1000000001"],
+        &["replay", "--slots", "1", "--slots", "2"],
+        &["replay", "script"],
+        &["stdio", "--slots", "1"],
     ];
     for words in rows {
         let refused = matches!(
@@ -55,22 +90,37 @@ fn help_of(alloc: Global, words: &[&str]) -> Option<String> {
 
 #[test]
 fn help_has_what_a_user_needs(rt: HostRuntime) -> Result<(), Fail> {
-    let rows: [&[&str]; 5] = [
-        &["--help"],
-        &["-h"],
-        &["help"],
-        &["stdio", "--help"],
-        &["help", "stdio"],
+    let stdio = [
+        "--entries",
+        "from 1 to 1000000",
+        "default: 4096",
+        "usi_host stdio",
     ];
-    for words in rows {
+    let replay = [
+        "--slots",
+        "from 1 to 1024",
+        "default: 64",
+        "--slice",
+        "from 1 to 1000000000",
+        "default: 1000]",
+        "usi_host replay --slots 2",
+    ];
+    let script = ["+A ", "A TEXT", "-A ", "refused 1", "status is 3"];
+    let rows: [(&[&str], &[&[&str]]); 7] = [
+        (&["--help"], &[&stdio, &replay]),
+        (&["-h"], &[&stdio, &replay]),
+        (&["help"], &[&stdio, &replay]),
+        (&["stdio", "--help"], &[&stdio]),
+        (&["help", "stdio"], &[&stdio]),
+        (&["replay", "--help"], &[&replay, &script]),
+        (&["help", "replay"], &[&replay, &script]),
+    ];
+    for (words, groups) in rows {
         let text = help_of(rt.alloc(), words).ok_or("help")?;
-        for part in [
-            "--entries",
-            "from 1 to 1000000",
-            "default: 4096",
-            "usi_host stdio",
-        ] {
-            assert!(rt; text.as_str().contains(part), "{part} for {words:?}");
+        for parts in groups {
+            for part in *parts {
+                assert!(rt; text.as_str().contains(part), "{part} for {words:?}");
+            }
         }
     }
     Ok(())
@@ -79,8 +129,9 @@ fn help_has_what_a_user_needs(rt: HostRuntime) -> Result<(), Fail> {
 // With `rt try --test --fail-alloc N`, want of memory is the only other answer.
 #[test]
 fn only_memory_changes_an_answer(rt: HostRuntime) {
-    let rows: [(&[&str], &str); 4] = [
+    let rows: [(&[&str], &str); 5] = [
         (&["stdio", "--entries", "7"], ""),
+        (&["replay", "--slots", "7"], ""),
         (&["go"], "try '--help'"),
         (&["--help"], "usi_host stdio --entries 100000\n"),
         (&["stdio", "--help"], "default: 4096"),
@@ -89,6 +140,13 @@ fn only_memory_changes_an_answer(rt: HostRuntime) {
         let answered = match read_words(rt.alloc(), words) {
             Err(WordsFault::OutOfMemory) => true,
             Ok(Job::Stdio { entries }) => entries == 7,
+            Ok(
+                Job::Replay {
+                    slots,
+                    entries,
+                    slice,
+                },
+            ) => slots == 7 && entries == 4096 && slice == 1000,
             Ok(Job::Help { text }) => text.as_str().contains(part),
             Err(WordsFault::NotAccepted { text }) => text.as_str().contains(part),
         };

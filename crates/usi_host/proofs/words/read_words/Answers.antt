@@ -1,5 +1,5 @@
 use Rattle.std.proofs.Common.{map, ap}
-use Rattle.usi_host.proofs.Line.{gives_bare, gives_default, line_asked, line_refused, parsed_line}
+use Rattle.usi_host.proofs.Line.{gives_bare, gives_replay, gives_stdio, line_asked, line_refused, parsed_line}
 use Rattle.usi_host.proofs.words.read_words.Goals as goal
 
 pub returns-clause-asked : goal.returns-clause-asked
@@ -21,5 +21,10 @@ returns-clause-bare g c = λ none.
 
 pub returns-clause-stdio : goal.returns-clause-stdio
 returns-clause-stdio g c = λ is.
-    gives_default (map g.S.AsStr.text c.args.words.now) c.answer_to.result is
+    gives_stdio (map g.S.AsStr.text c.args.words.now) c.answer_to.result is
+    (returns-clause-asked g c) (returns-clause-refused g c)
+
+pub returns-clause-replay : goal.returns-clause-replay
+returns-clause-replay g c = λ is.
+    gives_replay (map g.S.AsStr.text c.args.words.now) c.answer_to.result is
     (returns-clause-asked g c) (returns-clause-refused g c)

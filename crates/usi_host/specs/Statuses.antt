@@ -1,0 +1,11 @@
+-- The status with which the program ends (own choice).
+use Rattle.std.specs.Prelude.{ℕ}
+use Rattle.usi_replay.specs.declared.fault.ReplayFault.{ReplayFault}
+use Rattle.usi_replay.specs.declared.fault.ReplayFault.TheVariants.{OutOfMemory, ReadFailed, WriteFailed, BadScript}
+
+-- 3 for a bad script, 1 for any other fault
+abbrev pub replay_status : ReplayFault → ℕ
+replay_status (BadScript line) = 3
+replay_status OutOfMemory = 1
+replay_status ReadFailed = 1
+replay_status WriteFailed = 1
