@@ -10,6 +10,8 @@ mod positions;
 #[cfg(test)]
 mod rows;
 #[cfg(test)]
+mod scripts;
+#[cfg(test)]
 mod sessions;
 #[cfg(test)]
 mod slices;
