@@ -111,7 +111,15 @@ def a_line_that_is_too_long_ends_the_session():
 
 
 def help_is_no_fault():
-    for words in (["--help"], ["-h"], ["help"], ["stdio", "--help"], ["help", "stdio"]):
+    for words in (
+        ["--help"],
+        ["-h"],
+        ["help"],
+        ["stdio", "--help"],
+        ["help", "stdio"],
+        ["replay", "--help"],
+        ["help", "replay"],
+    ):
         status, text, complaints = run(words)
         want((status, complaints), (0, b""), f"{words}")
         if b"--entries" not in text and b"stdio" not in text:
@@ -128,6 +136,12 @@ def other_words_are_refused():
         ["stdio", "--entries", "-1"],
         ["stdio", "--entries", "many"],
         ["stdio", "1"],
+        ["stdio", "--slots", "1"],
+        ["replay", "--slots", "0"],
+        ["replay", "--slots", "1025"],
+        ["replay", "--entries", "0"],
+        ["replay", "--slice", "0"],
+        ["replay", "--slice", "1000000001"],
         [b"stdio\xff"],
     ):
         status, text, complaints = run(words)
@@ -136,19 +150,39 @@ def other_words_are_refused():
             raise Wrong(f"{words}: standard error is {complaints!r}")
 
 
+def a_script_has_its_output():
+    sent = b"+A\n+B\nA go depth 1\nB go\nA quit\nB quit\n"
+    written = b"== A\n" + DEPTH_ONE + b"bestmove 1g1f\n== B\n" + DEPTH_THREE
+    for words in ([], ["--slots", "2", "--entries", "1", "--slice", "1"]):
+        want(run(["replay", *words], sent), (0, written, b""), f"{words}")
+
+
+def a_session_too_many_is_refused():
+    seen = run(["replay", "--slots", "1"], b"+A\n+B\nB isready\nA isready\n")
+    want(seen, (0, b"== A\nreadyok\n== B\nrefused 1\n", b""), "one slot")
+
+
+def a_bad_script_has_a_status_of_its_own():
+    for sent, number in ((b"A go\n", b"1"), (b"+A\nA usi\n\n+A\n", b"4")):
+        wanted = (3, b"", b"usi_host: bad script line " + number + b"\n")
+        want(run(["replay"], sent), wanted, f"{sent}")
+
+
 def a_full_device_is_a_failed_write():
-    with open("/dev/full", "wb") as full:
-        status, _, complaints = run([], b"usi\n", stdout=full)
-    want((status, complaints), (1, b"usi_host: write failed\n"), "a full device")
+    for words, sent in (([], b"usi\n"), (["replay"], b"+A\n")):
+        with open("/dev/full", "wb") as full:
+            status, _, complaints = run(words, sent, stdout=full)
+        want((status, complaints), (1, b"usi_host: write failed\n"), f"{words}")
 
 
 def a_folder_is_a_failed_read():
-    folder = os.open(TOP, os.O_RDONLY)
-    try:
-        seen = run([], stdin=folder)
-    finally:
-        os.close(folder)
-    want(seen, (1, b"", b"usi_host: read failed\n"), "a folder as input")
+    for words in ([], ["replay"]):
+        folder = os.open(TOP, os.O_RDONLY)
+        try:
+            seen = run(words, stdin=folder)
+        finally:
+            os.close(folder)
+        want(seen, (1, b"", b"usi_host: read failed\n"), f"{words}")
 
 
 def want_of_memory_is_told():
@@ -160,8 +194,9 @@ def want_of_memory_is_told():
 
     small = run(["stdio", "--entries", "1"], b"isready\n", preexec_fn=limited)
     want(small, (0, b"readyok\n", b""), "a table of one entry")
-    large = run(["stdio", "--entries", "1000000"], b"isready\n", preexec_fn=limited)
-    want(large, (1, b"", b"usi_host: out of memory\n"), "a table of a million")
+    for command, sent in (("stdio", b"isready\n"), ("replay", b"+A\n")):
+        large = run([command, "--entries", "1000000"], sent, preexec_fn=limited)
+        want(large, (1, b"", b"usi_host: out of memory\n"), f"{command}, a table of a million")
 
 
 def quit_ends_it_while_the_input_stays_open():
@@ -232,6 +267,9 @@ CHECKS = (
     a_line_that_is_too_long_ends_the_session,
     help_is_no_fault,
     other_words_are_refused,
+    a_script_has_its_output,
+    a_session_too_many_is_refused,
+    a_bad_script_has_a_status_of_its_own,
     a_full_device_is_a_failed_write,
     a_closed_output_is_a_failed_write,
     a_folder_is_a_failed_read,
