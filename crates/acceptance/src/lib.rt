@@ -4,11 +4,15 @@
 #[cfg(test)]
 mod fakes;
 #[cfg(test)]
+mod hosts;
+#[cfg(test)]
 mod memory;
 #[cfg(test)]
 mod positions;
 #[cfg(test)]
 mod rows;
+#[cfg(test)]
+mod schedules;
 #[cfg(test)]
 mod scripts;
 #[cfg(test)]

@@ -22,13 +22,17 @@ pub const INFO_ONE: &str = "info depth 1 score cp 0 pv 1g1f\n";
 
 const BEST_ONE: &str = "bestmove 1g1f\n";
 
+/// What `go depth 1` says of the opening position.
+pub const INFO_AND_BEST_ONE: &str = "info depth 1 score cp 0 pv 1g1f\nbestmove 1g1f\n";
+
 const INFO_TWO: &str = "info depth 1 score cp 0 pv 1g1f
 info depth 2 score cp 0 pv 1g1f 1a1b
 ";
 
 const BEST_TWO: &str = "bestmove 1g1f ponder 1a1b\n";
 
-const INFO_THREE: &str = "info depth 1 score cp 0 pv 1g1f
+/// What `go` says of the opening position at depths 1 to 3.
+pub const INFO_THREE: &str = "info depth 1 score cp 0 pv 1g1f
 info depth 2 score cp 0 pv 1g1f 1a1b
 info depth 3 score cp 200 pv 7g7f 4c4d 8h4d
 ";
