@@ -1,5 +1,5 @@
 -- What one session has of one step.
-use Rattle.std.proofs.Common.{◌≡◌, ℕ, ◌+◌, ◌<◌, ◌≤◌, Bool, true, false, List, [], ◌++◌, Option, Some, None, cond, refl, sym, ap, ◌∙◌, arith}
+use Rattle.std.proofs.Common.{◌≡◌, ℕ, ◌+◌, ◌≤◌, Bool, true, false, List, [], ◌++◌, Option, Some, None, cond, refl, sym, ap, ◌∙◌, arith}
 use Rattle.session_slots.specs.declared.id.SessionId.{SessionId}
 use Rattle.session_slots.specs.Slots.{OpenSessions, find, Opens}
 use Rattle.session_slots.proofs.Finds.{find-with_session, find-with_session-other}
@@ -133,10 +133,9 @@ sees old new id (Close at) o p = closed old new at id o (find old.slots at) p
 pub record Rises (old new : HostState) (id : SessionId) (opened : Bool) : Type 0 where
   pub rises : old.slots.next ≤ new.slots.next
   pub fresh : opened ≡ true → id.generation ≡ old.slots.next
-  pub passed : opened ≡ true → id.generation < new.slots.next
 
 same_next : (old new : HostState) (id : SessionId) → new.slots.next ≡ old.slots.next → Rises old new id false
-same_next old new id e = record { rises = omega arith; fresh = λ f. absurd (cc); passed = λ f. absurd (cc) }
+same_next old new id e = record { rises = omega arith; fresh = λ f. absurd (cc) }
 
 rises_same : (old new : HostState) (id : SessionId) → new ≡ old → Rises old new id false
 rises_same old new id e = same_next old new id (ap (λ (h : HostState). h.slots.next) e)
@@ -149,10 +148,10 @@ rises_opened : (b : Bool) (old new : HostState) (at id : SessionId) → is_same_
 rises_opened true old new at id e p =
     let g : id.generation ≡ old.slots.next = ap (λ (i : SessionId). i.generation) (sym (same_id at id e)) ∙ p.generation_is in
     let n : new.slots.next ≡ old.slots.next + 1 = p.next_is in
-    record { rises = omega arith; fresh = λ _. g; passed = λ _. omega arith }
+    record { rises = omega arith; fresh = λ _. g }
 rises_opened false old new at id e p =
     let n : new.slots.next ≡ old.slots.next + 1 = p.next_is in
-    record { rises = omega arith; fresh = λ f. absurd (cc); passed = λ f. absurd (cc) }
+    record { rises = omega arith; fresh = λ f. absurd (cc) }
 
 rises_open : (old new : HostState) (id : SessionId) (o : Outcome) → IsOpened old o new → Rises old new id (opens id Open o)
 rises_open old new id (Opened at) p = rises_opened (is_same_id at id) old new at id refl p.opens
