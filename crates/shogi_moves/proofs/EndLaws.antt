@@ -29,7 +29,7 @@ use Rattle.shogi_moves.specs.Ends.{is_end, is_unchecked, Sifts}
 use Rattle.shogi_moves.specs.Guards.{Guards}
 use Rattle.shogi_moves.specs.Legal.{is_safe, is_legal, is_legal_code, is_right_board_move, may_promote, can_promote, in_zone, is_right_drop, is_pawn_kind, is_pawn_mate}
 use Rattle.shogi_moves.proofs.CaptureLaws.{sort_of}
-use Rattle.shogi_moves.proofs.GuardLaws.{quiet_board, king_set, stays_set, stays_drop, quiet_drop_safe, calm_parts}
+use Rattle.shogi_moves.proofs.GuardLaws.{calm_safe, filled, king_set, stays_set, stays_drop, quiet_drop_safe, calm_parts}
 use Rattle.shogi_moves.proofs.LegalLaws.{is_legal_code_of}
 use Rattle.shogi_moves.proofs.MovedPieces.{is_king-moved}
 
@@ -128,7 +128,7 @@ pub calm_kept : (p : Shogi) (checked : Bool) (exposed ends from n : ℕ) → Gua
 calm_kept p checked exposed ends from n g len hf hn own calm =
     let parts : (checked ≡ false) × (has_bit exposed from ≡ false) = calm_parts checked (has_bit exposed from) calm in
     all_kept (has_bit ends n) (is_unchecked p (Board from n false))
-    (ap not (quiet_board p.cells p.side from n false len hf hn own (g.kings from hf parts.1) (g.lines from hf parts.1) (sym g.check ∙ parts.0)))
+    (ap not (calm_safe p checked exposed from n false g len hf hn own parts.0 parts.1))
 
 moved_own : (side : Color) (promote : Bool) (cell : Option Piece) → is_of side (moved promote cell) ≡ is_of side cell
 moved_own side promote None = refl
@@ -146,36 +146,6 @@ other_side White (Some piece) e = go piece.color e
     go : (c : Color) → is_same_color White c ≡ true → is_same_color Black c ≡ false
     go White e = refl
     go Black e = absurd (cc)
-
--- a piece of the side on a square more opens no line
-pub filled : (cells : Cells) (side : Color) (to : ℕ) (v : Option Piece) → length cells ≡ 81 → to < 81 → is_of side v ≡ true → is_king side v ≡ false → in_check cells side ≡ false → in_check (set cells to v) side ≡ false
-filled cells side to v len ht own plain safe =
-    check_was cells (set cells to v) (λ x. ⊥)
-    (λ x e. elim (look x) [
-      | inl there ↦ absurd (both_ways (is_none v) (someone v own) (ap is_none (sym there) ∙ e))
-      | inr same ↦ inl (ap is_none (sym same) ∙ e)
-    ])
-    side
-    (λ x e. elim (look x) [
-      | inl there ↦ absurd (both_ways (is_of (opponent_of side) v) (other_side side v own) (ap (is_of (opponent_of side)) (sym there) ∙ e))
-      | inr same ↦ sym same
-    ])
-    (λ x e. elim (look x) [
-      | inl there ↦ absurd (both_ways (is_king side v) plain (ap (is_king side) (sym there) ∙ e))
-      | inr same ↦ sym same
-    ])
-    (λ x left. absurd left)
-    safe
-  where
-    someone : (v : Option Piece) → is_of side v ≡ true → is_none v ≡ false
-    someone None e = absurd (cc)
-    someone (Some piece) e = refl
-
-    look : (x : ℕ) → (piece_at (set cells to v) x ≡ v) ⊎ (piece_at (set cells to v) x ≡ piece_at cells x)
-    look x = elim (cases_eq x to) [
-      | inl there ↦ inl (rw there (get_or-set_same cells to v None (omega arith)))
-      | inr other ↦ inr (get_or-set_other cells to x v None other)
-    ]
 
 -- a piece without which there is no check may end anywhere
 pub free_kept : (p : Shogi) (ends from n : ℕ) → length p.cells ≡ 81 → from < 81 → n < 81 → is_of p.side (piece_at p.cells from) ≡ true → is_king p.side (piece_at p.cells from) ≡ false → not (in_check (set p.cells from None) p.side) ≡ true
@@ -220,14 +190,14 @@ narrowed_drops ends exposed n u cut = rw (has_bit-and ends exposed n) (go (has_b
 pub no_answer : (p : Shogi) (checked : Bool) (exposed others from n : ℕ) → Guards p checked exposed → checked ≡ true → length p.cells ≡ 81 → from < 81 → n < 81 → is_of p.side (piece_at p.cells from) ≡ true → is_king p.side (piece_at p.cells from) ≡ false
     → has_bit others n ≡ is_of (opponent_of p.side) (piece_at p.cells n) → has_bit exposed n ≡ false → has_bit others n ≡ false → is_unchecked p (Board from n false) ≡ false
 no_answer p checked exposed others from n g c len hf hn own plain o out none =
-    ap not (stays_set p.cells p.side from n (moved false (piece_at p.cells from)) len hf hn own plain (sym o ∙ none) (g.kings n hn out) (g.lines n hn out) (sym g.check ∙ c))
+    ap not (stays_set p.cells p.side from n (moved false (piece_at p.cells from)) len hf hn own plain (sym o ∙ none) (g.kings n hn out) (g.lines c n hn out) (sym g.check ∙ c))
 
 pub no_answer_drop : (p : Shogi) (checked : Bool) (exposed ends n : ℕ) (kind : Kind) → Guards p checked exposed → checked ≡ true → n < 81 → has_bit ends n ≡ is_right_drop p.cells p.hands p.side kind n → has_bit ends n ≡ true → has_bit exposed n ≡ false → is_unchecked p (Drop kind n) ≡ false
 no_answer_drop p checked exposed ends n kind g c hn r e out =
     let three = and_parts _ _ (sym r ∙ e) in
     let two = and_parts _ _ three.0 in
     let one = and_parts _ _ two.0 in
-    ap not (stays_drop p.cells p.side kind n one.1 (g.lines n hn out) (sym g.check ∙ c))
+    ap not (stays_drop p.cells p.side kind n one.1 (g.lines c n hn out) (sym g.check ∙ c))
 
 pub ruleset calm_ends = (calm_kept, free_kept, and_fits)
 

@@ -28,7 +28,8 @@ pub guards_rough : (p : Shogi) (checked : Bool) → checked ≡ in_check p.cells
 guards_rough p checked e = record {
   check = e;
   kings = λ n h out. absurd (both_ways (has_bit 2417851639229258349412351 n) out (all_squares n h));
-  lines = λ n h out. absurd (both_ways (has_bit 2417851639229258349412351 n) out (all_squares n h));
+  lines = λ _ n h out. absurd (both_ways (has_bit 2417851639229258349412351 n) out (all_squares n h));
+  free = λ _ n h out own. absurd (both_ways (has_bit 2417851639229258349412351 n) out (all_squares n h));
   fits = omega arith;
 }
 

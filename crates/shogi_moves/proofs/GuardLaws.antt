@@ -1,8 +1,8 @@
 -- Moves that cannot leave the mover's king attacked.
-use Rattle.std.proofs.Common.{◌≡◌, ◌≢◌, ℕ, ◌<◌, ◌^◌, ◌⊎◌, Bool, true, false, refl, sym, ap, subst, ◌∙◌, arith, inl, inr, Option, Some, None, set, length, get_or-set_same, get_or-set_other, length-set, bit_or}
+use Rattle.std.proofs.Common.{◌≡◌, ◌≢◌, ℕ, ◌-◌, ◌<◌, ◌^◌, ◌⊎◌, Bool, true, false, refl, sym, ap, subst, ◌∙◌, arith, inl, inr, Option, Some, None, set, length, get_or-set_same, get_or-set_other, length-set, bit_and, bit_or}
 use Rattle.std.specs.Prelude.{◌==◌, ◌&&◌, not, is_none}
 use Rattle.std.proofs.lemmas.Nat.{or_lt}
-use Rattle.std.proofs.lemmas.Bool.{cases_eq, false_from_ne_true, both_ways, and_parts, and_from, or_left, or_right, not_from_false, not-true, ne_eqb}
+use Rattle.std.proofs.lemmas.Bool.{cases_Bool, cases_eq, false_from_ne_true, both_ways, and_parts, and_from, or_left, or_right, not_from_false, not-true, ne_eqb}
 use Rattle.shogi_core.specs.declared.piece.Color.{Color}
 use Rattle.shogi_core.specs.declared.piece.Color.TheVariants.{Black, White}
 use Rattle.shogi_core.specs.declared.piece.Kind.{Kind}
@@ -17,8 +17,9 @@ use Rattle.shogi_core.specs.Movement.{Cells, piece_at}
 use Rattle.shogi_core.specs.Pieces.{opponent_of, is_same_color, role_of}
 use Rattle.shogi_core.specs.Position.{Shogi}
 use Rattle.shogi_core.proofs.Below.{some_below_no}
-use Rattle.shogi_core.proofs.BitLaws.{has_bit-or, has_bit-none}
+use Rattle.shogi_core.proofs.BitLaws.{has_bit-and, has_bit-or, has_bit-none}
 use Rattle.shogi_core.proofs.Exposed.{check_was, check_stays, attacked_was}
+use Rattle.shogi_core.proofs.LineBits.{has_bit-not}
 use Rattle.shogi_core.proofs.SeenLaws.{lined_back}
 use Rattle.shogi_moves.specs.After.{cells_after, moved, dropped}
 use Rattle.shogi_moves.specs.Guards.{Guards, Exposes}
@@ -43,17 +44,6 @@ exposes_more cells side left next exposed king line h bits lined = record {
   ];
 }
 
-pub guards_from : (p : Shogi) (checked : Bool) (exposed : ℕ) → Exposes p.cells p.side 0 exposed → exposed < 2 ^ 81 → checked ≡ in_check p.cells p.side → Guards p checked exposed
-unfolding is_lined_with_king
-guards_from p checked exposed h fits e = record {
-  check = e;
-  kings = λ n l out. false_from_ne_true _ (λ king. both_ways (has_bit exposed n) out (h.kings n l king));
-  lines = λ n l out. some_below_no 81 (is_line_to_king p.cells p.side n) (λ k r. false_from_ne_true _ (λ line. (
-      let parts : (is_king p.side (piece_at p.cells k) ≡ true) × (are_lined p.cells n k ≡ true) = and_parts _ _ line in
-      both_ways (has_bit exposed n) out (h.lines k n r l parts.0 (has_bit-none k) (lined_back p.cells n k l parts.1)))));
-  fits = fits;
-}
-
 -- ---- a piece that moves
 
 other_side : (side : Color) (cell : Option Piece) → is_of side cell ≡ true → is_of (opponent_of side) cell ≡ false
@@ -73,6 +63,166 @@ is_of-moved side promote (Some piece) = refl
 own_some : (side : Color) (cell : Option Piece) → is_of side cell ≡ true → is_none cell ≡ false
 own_some side None e = absurd (cc)
 own_some side (Some piece) e = refl
+
+-- ---- a piece that is lifted off
+
+-- off the king's lines that opens no check
+lifted_calm : (cells : Cells) (side : Color) (n : ℕ) → length cells ≡ 81 → n < 81 → is_lined_with_king cells side n ≡ false → in_check cells side ≡ false → in_check (set cells n None) side ≡ false
+lifted_calm cells side n len h off safe =
+    check_was cells (set cells n None) (λ x. x ≡ n)
+    (λ x e. elim (cases_eq x n) [ inl here ↦ inr here | inr other ↦ inl (ap is_none (sym (get_or-set_other cells n x None None other)) ∙ e) ])
+    side
+    (λ a e. elim (cases_eq a n) [
+      | inl here ↦ absurd (let clash : false ≡ true = ap (is_of (opponent_of side)) (sym (lifted_at a here)) ∙ e in cc)
+      | inr other ↦ sym (get_or-set_other cells n a None None other)
+    ])
+    (λ k e. elim (cases_eq k n) [
+      | inl here ↦ absurd (let clash : false ≡ true = ap (is_king side) (sym (lifted_at k here)) ∙ e in cc)
+      | inr other ↦ sym (get_or-set_other cells n k None None other)
+    ])
+    (λ x left. subst (λ (y : ℕ). is_lined_with_king cells side y ≡ false) (sym left) off)
+    safe
+  where
+    lifted_at : (x : ℕ) → x ≡ n → piece_at (set cells n None) x ≡ None
+    lifted_at x here = rw here (get_or-set_same cells n None None (omega arith))
+
+pub guards_from : (p : Shogi) (checked : Bool) (exposed : ℕ) → length p.cells ≡ 81 → Exposes p.cells p.side 0 exposed → exposed < 2 ^ 81 → checked ≡ in_check p.cells p.side → Guards p checked exposed
+unfolding is_lined_with_king
+guards_from p checked exposed len h fits e = record {
+  check = e;
+  kings = λ n l out. false_from_ne_true _ (λ king. both_ways (has_bit exposed n) out (h.kings n l king));
+  lines = λ _. off_lines;
+  free = λ c n l out own. lifted_calm p.cells p.side n len l (off_lines n l out) (sym e ∙ c);
+  fits = fits;
+}
+  where
+    off_lines : (n : ℕ) → n < 81 → has_bit exposed n ≡ false → is_lined_with_king p.cells p.side n ≡ false
+    off_lines n l out = some_below_no 81 (is_line_to_king p.cells p.side n) (λ k r. false_from_ne_true _ (λ line. (
+        let parts : (is_king p.side (piece_at p.cells k) ≡ true) × (are_lined p.cells n k ≡ true) = and_parts _ _ line in
+        both_ways (has_bit exposed n) out (h.lines k n r l parts.0 (has_bit-none k) (lined_back p.cells n k l parts.1)))))
+
+-- a piece of the side on a square more opens no line
+pub filled : (cells : Cells) (side : Color) (to : ℕ) (v : Option Piece) → length cells ≡ 81 → to < 81 → is_of side v ≡ true → is_king side v ≡ false → in_check cells side ≡ false → in_check (set cells to v) side ≡ false
+filled cells side to v len ht own plain safe =
+    check_was cells (set cells to v) (λ x. ⊥)
+    (λ x e. elim (look x) [
+      | inl there ↦ absurd (both_ways (is_none v) (own_some side v own) (ap is_none (sym there) ∙ e))
+      | inr same ↦ inl (ap is_none (sym same) ∙ e)
+    ])
+    side
+    (λ x e. elim (look x) [
+      | inl there ↦ absurd (both_ways (is_of (opponent_of side) v) (other_side side v own) (ap (is_of (opponent_of side)) (sym there) ∙ e))
+      | inr same ↦ sym same
+    ])
+    (λ x e. elim (look x) [
+      | inl there ↦ absurd (both_ways (is_king side v) plain (ap (is_king side) (sym there) ∙ e))
+      | inr same ↦ sym same
+    ])
+    (λ x left. absurd left)
+    safe
+  where
+    look : (x : ℕ) → (piece_at (set cells to v) x ≡ v) ⊎ (piece_at (set cells to v) x ≡ piece_at cells x)
+    look x = elim (cases_eq x to) [
+      | inl there ↦ inl (rw there (get_or-set_same cells to v None (omega arith)))
+      | inr other ↦ inr (get_or-set_other cells to x v None other)
+    ]
+
+-- ---- all pieces that may be pinned are lifted off at once
+
+-- of the first squares those that are not left are empty; only pieces of the side that are no kings were lifted off
+pub record IsLifted (cells lifted : Cells) (side : Color) (first left : ℕ) : Type 0 where
+  pub fit : length lifted ≡ 81
+  pub stands : (x : ℕ) → (piece_at lifted x ≡ piece_at cells x) ⊎ ((piece_at lifted x ≡ None) × (is_of side (piece_at cells x) ≡ true) × (is_king side (piece_at cells x) ≡ false))
+  pub gone : (x : ℕ) → has_bit first x ≡ true → has_bit left x ≡ false → piece_at lifted x ≡ None
+  pub within : (x : ℕ) → has_bit left x ≡ true → has_bit first x ≡ true
+
+pub lift_first : (cells : Cells) (side : Color) (first : ℕ) → length cells ≡ 81 → IsLifted cells cells side first first
+lift_first cells side first len = record {
+  fit = len;
+  stands = λ x. inl refl;
+  gone = λ x f l. absurd (both_ways (has_bit first x) l f);
+  within = λ x e. e;
+}
+
+-- those that are lifted off are pieces of the side, and no kings
+pub mine : (p : Shogi) (own exposed kings x : ℕ) → kings < 2 ^ 81 → x < 81 → ((n : ℕ) → n < 81 → has_bit own n ≡ is_of p.side (piece_at p.cells n)) → ((n : ℕ) → n < 81 → has_bit kings n ≡ is_king p.side (piece_at p.cells n))
+    → has_bit (bit_and (bit_and own exposed) (2 ^ 128 - 1 - kings)) x ≡ true → (is_of p.side (piece_at p.cells x) ≡ true) × (is_king p.side (piece_at p.cells x) ≡ false)
+mine p own exposed kings x fits h o k e =
+    let both : (has_bit (bit_and own exposed) x ≡ true) × (has_bit (2 ^ 128 - 1 - kings) x ≡ true) = and_parts _ _ (sym (has_bit-and (bit_and own exposed) (2 ^ 128 - 1 - kings) x) ∙ e) in
+    let here : (has_bit own x ≡ true) × (has_bit exposed x ≡ true) = and_parts _ _ (sym (has_bit-and own exposed x) ∙ both.0) in
+    (sym (o x h) ∙ here.0, sym (k x h) ∙ not-true (has_bit kings x) (sym (has_bit-not kings x (omega arith) (omega arith)) ∙ both.1))
+
+pub lift_more : (cells lifted : Cells) (side : Color) (first left next s : ℕ) → IsLifted cells lifted side first left → s < 81 → has_bit left s ≡ true → (is_of side (piece_at cells s) ≡ true) × (is_king side (piece_at cells s) ≡ false)
+    → ((i : ℕ) → has_bit next i ≡ (has_bit left i && not (i == s))) → IsLifted cells (set lifted s None) side first next
+lift_more cells lifted side first left next s l h set_s own bits = record {
+  fit = length-set lifted s None ∙ l.fit;
+  stands = λ x. elim (cases_eq x s) [
+    | inl here ↦ inr (out x here, subst (λ (y : ℕ). is_of side (piece_at cells y) ≡ true) (sym here) own.0, subst (λ (y : ℕ). is_king side (piece_at cells y) ≡ false) (sym here) own.1)
+    | inr other ↦ elim (l.stands x) [
+      | inl same ↦ inl (get_or-set_other lifted s x None None other ∙ same)
+      | inr off ↦ inr (get_or-set_other lifted s x None None other ∙ off.0, off.1, off.2)
+    ]
+  ];
+  gone = λ x f n. elim (cases_eq x s) [
+    | inl here ↦ out x here
+    | inr other ↦ get_or-set_other lifted s x None None other ∙ l.gone x f (kept (has_bit left x) (x == s) (ne_eqb x s other) (sym (bits x) ∙ n))
+  ];
+  within = λ x e. l.within x ((and_parts (has_bit left x) (not (x == s)) (sym (bits x) ∙ e)).0);
+}
+  where
+    out : (x : ℕ) → x ≡ s → piece_at (set lifted s None) x ≡ None
+    out x here = rw here (get_or-set_same lifted s None None (omega (arith, l.fit)))
+
+    kept : (a b : Bool) → b ≡ false → (a && not b) ≡ false → a ≡ false
+    kept true b e f = absurd (both_ways (not b) f (ap not e))
+    kept false b e f = refl
+
+-- where that gives no check, no piece is pinned
+pub all_loose : (p : Shogi) (own exposed kings : ℕ) (lifted : Cells) → Guards p false exposed → length p.cells ≡ 81 → kings < 2 ^ 81 → ((n : ℕ) → n < 81 → has_bit own n ≡ is_of p.side (piece_at p.cells n)) → ((n : ℕ) → n < 81 → has_bit kings n ≡ is_king p.side (piece_at p.cells n))
+    → IsLifted p.cells lifted p.side (bit_and (bit_and own exposed) (2 ^ 128 - 1 - kings)) 0 → in_check lifted p.side ≡ false → Guards p false kings
+all_loose p own exposed kings lifted g len fits o k l safe = record {
+  check = g.check;
+  kings = λ n h out. sym (k n h) ∙ out;
+  lines = λ c. absurd (cc);
+  free = λ c n h out here. elim (cases_Bool (has_bit exposed n)) [
+    | inl among ↦ loose n h (l.gone n (has_bit-and (bit_and own exposed) (2 ^ 128 - 1 - kings) n ∙ and_from _ _ (has_bit-and own exposed n ∙ and_from _ _ (o n h ∙ here) among) (has_bit-not kings n (omega arith) (omega arith) ∙ ap not out)) (has_bit-none n))
+    | inr off ↦ g.free refl n h off here
+  ];
+  fits = fits;
+}
+  where
+    loose : (n : ℕ) → n < 81 → piece_at lifted n ≡ None → in_check (set p.cells n None) p.side ≡ false
+    loose n h gone =
+        check_was lifted (set p.cells n None) (λ x. ⊥)
+        (λ x e. elim (cases_eq x n) [
+          | inl here ↦ inl (rw here (ap is_none gone))
+          | inr other ↦ elim (l.stands x) [
+            | inl same ↦ inl (ap is_none same ∙ (ap is_none (sym (get_or-set_other p.cells n x None None other)) ∙ e))
+            | inr off ↦ inl (ap is_none off.0)
+          ]
+        ])
+        p.side
+        (λ a e. elim (cases_eq a n) [
+          | inl here ↦ absurd (let clash : false ≡ true = ap (is_of (opponent_of p.side)) (sym (out a here)) ∙ e in cc)
+          | inr other ↦ elim (l.stands a) [
+            | inl same ↦ same ∙ sym (get_or-set_other p.cells n a None None other)
+            | inr off ↦ absurd (both_ways (is_of (opponent_of p.side) (piece_at p.cells a)) (other_side p.side (piece_at p.cells a) off.1) (ap (is_of (opponent_of p.side)) (sym (get_or-set_other p.cells n a None None other)) ∙ e))
+          ]
+        ])
+        (λ q e. elim (cases_eq q n) [
+          | inl here ↦ absurd (let clash : false ≡ true = ap (is_king p.side) (sym (out q here)) ∙ e in cc)
+          | inr other ↦ elim (l.stands q) [
+            | inl same ↦ same ∙ sym (get_or-set_other p.cells n q None None other)
+            | inr off ↦ absurd (both_ways (is_king p.side (piece_at p.cells q)) off.2 (ap (is_king p.side) (sym (get_or-set_other p.cells n q None None other)) ∙ e))
+          ]
+        ])
+        (λ x left. absurd left)
+        safe
+      where
+        out : (x : ℕ) → x ≡ n → piece_at (set p.cells n None) x ≡ None
+        out x here = rw here (get_or-set_same p.cells n None None (omega arith))
+
+pub ruleset loosening = (lift_first, all_loose)
 
 module _ (cells : Cells) (side : Color) (from to : ℕ) (v : Option Piece) (len : length cells ≡ 81) (hf : from < 81) (ht : to < 81) where
   after_it : Cells
@@ -243,6 +393,12 @@ stays_drop cells side kind to free off check =
 
 -- ---- what a guard tells of a move
 
+-- a piece that is not exposed leaves no check, wherever it goes
+pub calm_safe : (p : Shogi) (checked : Bool) (exposed from to : ℕ) (promote : Bool) → Guards p checked exposed → length p.cells ≡ 81 → from < 81 → to < 81 → is_of p.side (piece_at p.cells from) ≡ true → checked ≡ false → has_bit exposed from ≡ false
+    → in_check (cells_after p.cells p.side (Board from to promote)) p.side ≡ false
+calm_safe p checked exposed from to promote g len hf ht own calm off =
+    filled (set p.cells from None) p.side to (moved promote (piece_at p.cells from)) (length-set p.cells from None ∙ len) ht (is_of-moved p.side promote (piece_at p.cells from) ∙ own) (is_king-moved p.side promote (piece_at p.cells from) ∙ g.kings from hf off) (g.free calm from hf off own)
+
 pub quiet_board_safe : (p : Shogi) (checked : Bool) (exposed from to : ℕ) (promote : Bool) → Guards p checked exposed → length p.cells ≡ 81 → from < 81 → to < 81 → checked ≡ false → has_bit exposed from ≡ false
     → is_right_board_move p.cells p.side from to promote ≡ is_safe p (Board from to promote)
 unfolding is_safe
@@ -255,7 +411,7 @@ quiet_board_safe p checked exposed from to promote g len hf ht calm off = go (is
         let three = and_parts _ _ (four.0) in
         let two = and_parts _ _ (three.0) in
         let one = and_parts _ _ (two.0) in
-        sym (ap not (quiet_board p.cells p.side from to promote len hf ht one.0 (g.kings from hf off) (g.lines from hf off) (sym g.check ∙ calm)))
+        sym (ap not (calm_safe p checked exposed from to promote g len hf ht one.0 calm off))
 
 pub quiet_drop_safe : (p : Shogi) (checked : Bool) (exposed to : ℕ) (kind : Kind) → Guards p checked exposed → length p.cells ≡ 81 → to < 81 → checked ≡ false
     → is_right_drop p.cells p.hands p.side kind to ≡ is_safe p (Drop kind to)

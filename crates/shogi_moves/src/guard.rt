@@ -8,7 +8,8 @@ ghost use Rattle.shogi_moves.specs.Guards.{Guards, Exposes};
 use shogi_core::bits::{cleared, has, lowest};
 use shogi_core::{Color, Position, Square};
 
-/// Whether the side to move is in check, and the squares of its king and of open lines with it.
+/// Whether the side to move is in check, and a mask with its king: in check also the squares on open
+/// lines with the king, and else the pieces that may be pinned.
 #[derive(Clone, Copy, Debug)]
 pub struct Guard {
     pub checked: bool,
@@ -37,17 +38,46 @@ pub fn full_guard(p: &Position, checked: bool) -> Guard
     requires { checked ≡ in_check p.now.cells p.now.side }
     ensures { Guards p.now result.checked result.exposed }
 {
+    p.validity();
     Guard {
         checked,
         exposed: exposed_squares(p, p.side()),
     }
 }
 
+/// The exposed squares where there is no check: those of the king alone, if all other exposed
+/// pieces of the side may be lifted off at once without one, so that none is pinned.
+#[tactic(auto, using(crate::proofs::GuardLaws::loosening))]
+fn loosened(p: &Position, exposed: u128) -> u128
+    requires { Guards p.now false exposed }
+    ensures { Guards p.now false result }
+{
+    p.validity();
+    let side = p.side();
+    let kings = p.kings(side);
+    let mut lifted = p.board();
+    let first = p.own(side) & exposed & !kings;
+    let mut left = first;
+    while left != 0 {
+        let square = lowest(left);
+        lifted.set(Square::of_index(square), None);
+        left = cleared(left, square);
+    }
+    if lifted.in_check(side) { exposed } else { kings }
+}
+
 /// What is kept of the position.
 pub fn guard_of(p: &Position) -> Guard
     ensures { Guards p.now result.checked result.exposed }
 {
-    full_guard(p, p.in_check(p.side()))
+    let guard = full_guard(p, p.in_check(p.side()));
+    if guard.checked {
+        return guard;
+    }
+    Guard {
+        checked: false,
+        exposed: loosened(p, guard.exposed),
+    }
 }
 
 /// What is kept where no piece is looked for that may leave its square: each is held to be exposed.
