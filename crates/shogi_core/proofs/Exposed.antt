@@ -199,6 +199,40 @@ module _ (old new : Cells) (Left : ℕ → Type 0) (opened : (x : ℕ) → is_no
       (attacked_was_but (opponent_of color) k (λ a own. elim (kept a own) [ inl same ↦ inl same | inr short ↦ inr (short k l parts.0) ])
       (λ x left. false_from_ne_true _ (λ lined. both_ways (is_line_to_king old color x k) (some_below_not 81 (is_line_to_king old color x) k (free x left) l) (and_from _ _ king lined))) shut) parts.1))
 
+  -- what reaches a square after the move reached it before, from where it stands after
+  pub reach_was : (cell : Option Piece) (a s : ℕ) → ((x : ℕ) → Left x → are_lined old x s ≡ false) → cell_reaches new cell a s ≡ true → cell_reaches old cell a s ≡ true
+  reach_was None a s free e = e
+  reach_was (Some piece) a s free e = elim (or_cases (has_step piece a s) (has_slide new piece a s) e) [
+    | inl step ↦ or_left (has_step piece a s) (has_slide old piece a s) step
+    | inr slide ↦ or_right (has_step piece a s) (has_slide old piece a s) (has_slide_was piece a s free slide)
+  ]
+
+  -- an open line was one before
+  pub lined_was : (a s : ℕ) → ((x : ℕ) → Left x → are_lined old x s ≡ false) → are_lined new a s ≡ true → are_lined old a s ≡ true
+  unfolding are_lined
+  lined_was a s free e = each around refl e
+    where
+      each : (os : List Offset) → list_all (λ o. list_any (same_way o) around) os ≡ true → list_any (λ o. slides new o a s) os ≡ true → list_any (λ o. slides old o a s) around ≡ true
+      each [] all e = absurd (cc)
+      each (o ∷ os) all e =
+          let parts : (list_any (same_way o) around ≡ true) × (list_all (λ p. list_any (same_way p) around) os ≡ true) = and_parts _ _ all in
+          elim (or_cases _ _ e) [
+            | inl here ↦ elim (slides_was o a s here) [
+              | inl lined ↦ absurd (both_ways (list_any (λ d. slides old d lined.0 s) around) (free lined.0 lined.1) (one_of (λ d. slides old d lined.0 s) o around parts.0 lined.2))
+              | inr was ↦ one_of (λ d. slides old d a s) o around parts.0 was
+            ]
+            | inr later ↦ each os parts.1 later
+          ]
+
+  pub line_to_king_was : (color : Color) (a : ℕ) → ((k : ℕ) → is_king color (piece_at new k) ≡ true → piece_at old k ≡ piece_at new k)
+      → ((x : ℕ) → Left x → is_lined_with_king old color x ≡ false) → is_lined_with_king old color a ≡ false → is_lined_with_king new color a ≡ false
+  unfolding is_lined_with_king
+  line_to_king_was color a kings free off = some_below_no 81 (is_line_to_king new color a) (λ k l. false_from_ne_true (is_line_to_king new color a k) (λ e.
+      let parts : (is_king color (piece_at new k) ≡ true) × (are_lined new a k ≡ true) = and_parts _ _ e in
+      let king : is_king color (piece_at old k) ≡ true = ap (is_king color) (kings k parts.0) ∙ parts.0 in
+      both_ways (is_line_to_king old color a k) (some_below_not 81 (is_line_to_king old color a) k off l)
+      (and_from _ _ king (lined_was a k (λ x left. false_from_ne_true _ (λ lined. both_ways (is_line_to_king old color x k) (some_below_not 81 (is_line_to_king old color x) k (free x left) l) (and_from _ _ king lined))) parts.1))))
+
 -- ---- a check that stays
 
 module _ (old new : Cells) (to : ℕ) (shut : (x : ℕ) → is_none (piece_at old x) ≡ true → (is_none (piece_at new x) ≡ true) ⊎ (x ≡ to)) where

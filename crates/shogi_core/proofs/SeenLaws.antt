@@ -116,16 +116,18 @@ step_seen cells piece a b h e =
       | inr far ↦ or_right (list_any (λ o. slides cells o b a) around) (is_jump b a) (sym (jump_either b a) ∙ far)
     ]
 
+-- whatever stands on a, where it reaches b
+pub cell_seen : (cells : Cells) (cell : Option Piece) (a b : ℕ) → a < 81 → cell_reaches cells cell a b ≡ true → is_seen cells b a ≡ true
+unfolding is_seen
+cell_seen cells None a b h e = absurd (cc)
+cell_seen cells (Some piece) a b h e = elim (or_cases (has_step piece a b) (has_slide cells piece a b) e) [
+  | inl step ↦ step_seen cells piece a b h step
+  | inr slide ↦ or_left (are_lined cells b a) (is_jump b a) (slide_seen cells piece a b h slide)
+]
+
 pub reaches_seen : (cells : Cells) (a b : ℕ) → a < 81 → reaches cells a b ≡ true → is_seen cells b a ≡ true
-unfolding reaches is_seen
-reaches_seen cells a b h e = go (piece_at cells a) e
-  where
-    go : (cell : Option Piece) → cell_reaches cells cell a b ≡ true → is_seen cells b a ≡ true
-    go None e = absurd (cc)
-    go (Some piece) e = elim (or_cases (has_step piece a b) (has_slide cells piece a b) e) [
-      | inl step ↦ step_seen cells piece a b h step
-      | inr slide ↦ or_left (are_lined cells b a) (is_jump b a) (slide_seen cells piece a b h slide)
-    ]
+unfolding reaches
+reaches_seen cells a b h e = cell_seen cells (piece_at cells a) a b h e
 
 -- ---- the squares that are left to try
 

@@ -58,6 +58,16 @@ impl Board {
         lined_squares(self, square.index())
     }
 
+    /// The squares from which a piece could reach the square: those on open lines with it, and a
+    /// knight's jump away.
+    pub fn seen(&self, square: Square) -> u128
+        ensures fits { result < 2 ^ 81 }
+        ensures bits { (n : ℕ) → n < 81 → has_bit result n ≡ is_seen self.now square n }
+    {
+        square.index();
+        seen_squares(self, square.index())
+    }
+
     /// Whether a piece of the side reaches the square, whoever stands there.
     #[tactic(auto, using(crate::proofs::SeenLaws::attackers))]
     pub fn is_attacked(&self, by: Color, square: Square) -> bool

@@ -26,12 +26,12 @@ use Rattle.shogi_moves.specs.After.{cells_after, dropped}
 use Rattle.shogi_moves.specs.Legal.{is_pawn_mate}
 use Rattle.shogi_moves.proofs.ZoneLaws.{more_fits}
 
-no_king : (side : Color) (kind : Kind) → is_king (opponent_of side) (dropped side kind) ≡ false
+pub no_king : (side : Color) (kind : Kind) → is_king (opponent_of side) (dropped side kind) ≡ false
 no_king Black kind = refl
 no_king White kind = refl
 
 module _ (cells : Cells) (side : Color) (kind : Kind) (to : ℕ) (len : length cells ≡ 81) (ht : to < 81) where
-  look : (x : ℕ) → ((x ≡ to) × (piece_at (cells_after cells side (Drop kind to)) x ≡ dropped side kind)) ⊎ (piece_at (cells_after cells side (Drop kind to)) x ≡ piece_at cells x)
+  pub look : (x : ℕ) → ((x ≡ to) × (piece_at (cells_after cells side (Drop kind to)) x ≡ dropped side kind)) ⊎ (piece_at (cells_after cells side (Drop kind to)) x ≡ piece_at cells x)
   look x = elim (cases_eq x to) [
     | inl there ↦ inl (there, rw there (get_or-set_same cells to (dropped side kind) None (omega arith)))
     | inr other ↦ inr (get_or-set_other cells to x (dropped side kind) None other)

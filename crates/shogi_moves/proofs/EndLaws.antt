@@ -347,7 +347,7 @@ wanted_board p capture promote from to len hf ht own =
     (mix (not (is_of p.side (piece_at p.cells to))) (reaches p.cells from to) (not promote || may_promote (piece_at p.cells from) from to) (not (is_dead to (moved promote (piece_at p.cells from)))) (is_unchecked p (Board from to false)) (is_asked capture (is_some (piece_at p.cells to)))
     ∙ (rw (asked_end capture p.side (piece_at p.cells to)) refl)))
 
-still : (n : ℕ) (cell : Option Piece) → is_dead n (moved false cell) ≡ is_dead n cell
+pub still : (n : ℕ) (cell : Option Piece) → is_dead n (moved false cell) ≡ is_dead n cell
 still n None = refl
 still n (Some piece) = refl
 

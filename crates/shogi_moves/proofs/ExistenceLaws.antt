@@ -70,7 +70,7 @@ kind_without p kind ends bits none =
         ∙ (sym (bits (c - 13122 - number_of kind * 81) there)
         ∙ (ap (λ m. has_bit m (c - 13122 - number_of kind * 81)) none ∙ has_bit-none (c - 13122 - number_of kind * 81))))))
 
-some_legal : (p : Shogi) (code : ℕ) → is_legal_code p code ≡ true → legal_moves p ≢ []
+pub some_legal : (p : Shogi) (code : ℕ) → is_legal_code p code ≡ true → legal_moves p ≢ []
 some_legal p code e none = let clash : false ≡ true = ap (λ codes. is_in code codes) (sym none) ∙ in_legal p 0 code (omega arith) e in cc
 
 -- a piece with an end has a move

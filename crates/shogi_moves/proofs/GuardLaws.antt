@@ -46,7 +46,7 @@ exposes_more cells side left next exposed king line h bits lined = record {
 
 -- ---- a piece that moves
 
-other_side : (side : Color) (cell : Option Piece) → is_of side cell ≡ true → is_of (opponent_of side) cell ≡ false
+pub other_side : (side : Color) (cell : Option Piece) → is_of side cell ≡ true → is_of (opponent_of side) cell ≡ false
 other_side side None e = refl
 other_side side (Some piece) e = go side piece.color e
   where
@@ -56,11 +56,11 @@ other_side side (Some piece) e = go side piece.color e
     go Black White e = absurd (cc)
     go White Black e = absurd (cc)
 
-is_of-moved : (side : Color) (promote : Bool) (cell : Option Piece) → is_of side (moved promote cell) ≡ is_of side cell
+pub is_of-moved : (side : Color) (promote : Bool) (cell : Option Piece) → is_of side (moved promote cell) ≡ is_of side cell
 is_of-moved side promote None = refl
 is_of-moved side promote (Some piece) = refl
 
-own_some : (side : Color) (cell : Option Piece) → is_of side cell ≡ true → is_none cell ≡ false
+pub own_some : (side : Color) (cell : Option Piece) → is_of side cell ≡ true → is_none cell ≡ false
 own_some side None e = absurd (cc)
 own_some side (Some piece) e = refl
 
@@ -228,7 +228,7 @@ module _ (cells : Cells) (side : Color) (from to : ℕ) (v : Option Piece) (len 
   after_it : Cells
   after_it = set (set cells from None) to v
 
-  look : (x : ℕ) → ((x ≡ to) × (piece_at (set (set cells from None) to v) x ≡ v)) ⊎ (((x ≡ from) × (piece_at (set (set cells from None) to v) x ≡ None)) ⊎ (piece_at (set (set cells from None) to v) x ≡ piece_at cells x))
+  pub look : (x : ℕ) → ((x ≡ to) × (piece_at (set (set cells from None) to v) x ≡ v)) ⊎ (((x ≡ from) × (piece_at (set (set cells from None) to v) x ≡ None)) ⊎ (piece_at (set (set cells from None) to v) x ≡ piece_at cells x))
   look x = elim (cases_eq x to) [
     | inl there ↦ inl (there, rw there (get_or-set_same (set cells from None) to v None (omega (arith, length-set cells from None))))
     | inr other ↦ elim (cases_eq x from) [
@@ -324,7 +324,7 @@ quiet_board cells side from to promote len hf ht own plain free safe =
 
 -- ---- a piece that is dropped
 
-dropped_of : (side : Color) (kind : Kind) → is_of side (dropped side kind) ≡ true
+pub dropped_of : (side : Color) (kind : Kind) → is_of side (dropped side kind) ≡ true
 dropped_of Black kind = refl
 dropped_of White kind = refl
 

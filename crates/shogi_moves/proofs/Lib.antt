@@ -17,3 +17,4 @@ pub mod SweepLaws
 pub mod TallyLaws
 pub mod DropChecks
 pub mod ExistenceLaws
+pub mod ReplyLaws

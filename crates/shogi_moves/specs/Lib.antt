@@ -12,3 +12,4 @@ pub mod Walks
 pub mod Candidates
 pub mod Ends
 pub mod Sweeps
+pub mod Replies

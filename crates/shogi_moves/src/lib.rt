@@ -14,6 +14,7 @@ mod legal;
 mod next;
 #[cfg(test)]
 mod plain;
+mod replies;
 mod safe;
 mod sweep;
 #[cfg(test)]
@@ -29,5 +30,6 @@ pub use existence::has_legal;
 pub use guard::{Guard, guard_of};
 pub use legal::is_legal;
 pub use next::next_legal;
+pub use replies::Replies;
 pub use sweep::{BoardSweep, DropSweep};
 pub use walk::Walk;

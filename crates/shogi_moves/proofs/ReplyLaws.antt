@@ -1,0 +1,290 @@
+-- After most moves the other side has a legal move.
+use Rattle.std.proofs.Common.{◌≡◌, ◌≢◌, ℕ, ◌-◌, ◌*◌, ◌%◌, ◌^◌, ◌<◌, ◌⊎◌, Bool, true, false, not, Option, Some, None, [], refl, sym, ap, subst, ◌∙◌, arith, inl, inr, set, length, length-set, bit_and, bit_or}
+use Rattle.std.specs.Prelude.{◌==◌, ◌&&◌, ◌||◌, is_none}
+use Rattle.std.specs.Int.{trailing_zeros, w128}
+use Rattle.std.proofs.lemmas.Bool.{cases_eq, false_from_ne_true, both_ways, and_parts, and_from, or_left, or_right, not-true, not_from_false, ne_eqb, eq-eqb}
+use Rattle.shogi_core.specs.declared.moves.Move.TheVariants.{Board, Drop}
+use Rattle.shogi_core.specs.declared.piece.Color.{Color}
+use Rattle.shogi_core.specs.declared.piece.Kind.{Kind}
+use Rattle.shogi_core.specs.declared.piece.Piece.{Piece}
+use Rattle.shogi_core.specs.Attack.{in_check}
+use Rattle.shogi_core.specs.Below.{some_below}
+use Rattle.shogi_core.specs.Bits.{has_bit}
+use Rattle.shogi_core.specs.Cell.{is_of, is_king, is_dead}
+use Rattle.shogi_core.specs.Codes.{code_of}
+use Rattle.shogi_core.specs.Lines.{are_lined, is_jump, is_line_to_king, is_lined_with_king, is_seen}
+use Rattle.shogi_core.specs.Movement.{Cells, piece_at, reaches, cell_reaches, has_step, has_slide}
+use Rattle.shogi_core.specs.Pieces.{opponent_of}
+use Rattle.shogi_core.specs.Position.{Shogi, Held}
+use Rattle.shogi_core.specs.Validity.{IsValid}
+use Rattle.shogi_core.proofs.Below.{some_below_no, some_below_at}
+use Rattle.shogi_core.proofs.BitLaws.{has_bit-and, has_bit-or, has_bit-none, has_bit-without}
+use Rattle.shogi_core.proofs.CodesBack.{move_of-board}
+use Rattle.shogi_core.proofs.Exposed.{some_below_which, line_to_king_was}
+use Rattle.shogi_core.proofs.Faults.{faultless_from}
+use Rattle.shogi_core.proofs.LineBits.{lowest_set, and_fits, has_bit-not}
+use Rattle.shogi_core.proofs.Replies.{no_check}
+use Rattle.shogi_core.proofs.SeenLaws.{lined_back}
+use Rattle.shogi_moves.specs.After.{after, cells_after, moved, dropped}
+use Rattle.shogi_moves.specs.Legal.{is_legal, is_legal_code, is_right_board_move}
+use Rattle.shogi_moves.specs.LegalMoves.{legal_moves}
+use Rattle.shogi_moves.specs.Replies.{cell_steps, is_open_step, is_spare, Sees, IsReplies}
+use Rattle.shogi_moves.proofs.DropChecks as drops
+use Rattle.shogi_moves.proofs.EndLaws.{legal_board, still}
+use Rattle.shogi_moves.proofs.ExistenceLaws.{some_legal}
+use Rattle.shogi_moves.proofs.GuardLaws.{look, other_side, own_some, is_of-moved, dropped_of, quiet_board}
+use Rattle.shogi_moves.proofs.LegalLaws.{is_legal_code_of}
+
+-- ---- what a king sees
+
+pub sees_first : (cells : Cells) (side : Color) (m : ℕ) → ((n : ℕ) → n < 81 → has_bit m n ≡ is_king side (piece_at cells n)) → Sees cells side m m
+sees_first cells side m bits = record {
+  kings = λ n h e. bits n h ∙ e;
+  squares = λ k n h l e out seen. absurd (both_ways (has_bit m k) out (bits k h ∙ e));
+}
+
+pub sees_more : (cells : Cells) (side : Color) (left next sight king squares : ℕ) → Sees cells side left sight → ((i : ℕ) → has_bit next i ≡ (has_bit left i && not (i == king)))
+    → ((n : ℕ) → n < 81 → has_bit squares n ≡ is_seen cells king n) → Sees cells side next (bit_or sight squares)
+sees_more cells side left next sight king squares h bits seen = record {
+  kings = λ n l e. has_bit-or sight squares n ∙ or_left _ _ (h.kings n l e);
+  squares = λ k n l r e out on. has_bit-or sight squares n ∙ elim (cases_eq k king) [
+    | inl same ↦ or_right (has_bit sight n) (has_bit squares n) (seen n r ∙ subst (λ (j : ℕ). is_seen cells j n ≡ true) same on)
+    | inr other ↦ or_left _ _ (h.squares k n l r e (false_from_ne_true (has_bit left k) (λ set. both_ways (has_bit next k) out (bits k ∙ and_from _ _ set (not_from_false _ (ne_eqb k king other))))) on)
+  ];
+}
+
+pub ruleset seeing = (sees_first)
+
+-- off the sight of the kings: on no open line with one
+unlined : (cells : Cells) (side : Color) (sight n : ℕ) → Sees cells side 0 sight → n < 81 → has_bit sight n ≡ false → is_lined_with_king cells side n ≡ false
+unfolding is_lined_with_king is_seen
+unlined cells side sight n s h out = some_below_no 81 (is_line_to_king cells side n) (λ k l. false_from_ne_true (is_line_to_king cells side n k) (λ e. (
+    let parts : (is_king side (piece_at cells k) ≡ true) × (are_lined cells n k ≡ true) = and_parts _ _ e in
+    both_ways (has_bit sight n) out (s.squares k n l h parts.0 (has_bit-none k) (or_left (are_lined cells k n) (is_jump k n) (lined_back cells n k h parts.1))))))
+
+unseen : (cells : Cells) (side : Color) (sight n : ℕ) → Sees cells side 0 sight → n < 81 → has_bit sight n ≡ false → (k : ℕ) → k < 81 → is_king side (piece_at cells k) ≡ true → is_seen cells k n ≡ false
+unseen cells side sight n s h out k l king = false_from_ne_true (is_seen cells k n) (λ e. both_ways (has_bit sight n) out (s.squares k n l h king (has_bit-none k) e))
+
+-- ---- a spare piece has a legal move
+
+steps_reach : (cells : Cells) (cell : Option Piece) (a t : ℕ) → cell_steps cell a t ≡ true → cell_reaches cells cell a t ≡ true
+steps_reach cells None a t e = absurd (cc)
+steps_reach cells (Some piece) a t e = or_left (has_step piece a t) (has_slide cells piece a t) e
+
+right_step : (new : Cells) (color : Color) (a t : ℕ) → is_of color (piece_at new a) ≡ true → is_of color (piece_at new t) ≡ false → reaches new a t ≡ true → is_dead t (piece_at new a) ≡ false → is_right_board_move new color a t false ≡ true
+right_step new color a t own free reach alive = rw (own, free, reach, still t (piece_at new a), alive) refl
+
+module _ (old new : Cells) (hands : Held) (color : Color) (Left : ℕ → Type 0) (opened : (x : ℕ) → is_none (piece_at new x) ≡ true → (is_none (piece_at old x) ≡ true) ⊎ Left x) where
+  replied : (to : ℕ) → length new ≡ 81 → to < 81
+      → ((a : ℕ) → is_of (opponent_of color) (piece_at new a) ≡ true → (piece_at old a ≡ piece_at new a) ⊎ (a ≡ to))
+      → ((k : ℕ) → is_king color (piece_at new k) ≡ true → piece_at old k ≡ piece_at new k)
+      → ((x : ℕ) → Left x → is_lined_with_king old color x ≡ false)
+      → ((k : ℕ) → k < 81 → is_king color (piece_at old k) ≡ true → is_seen old k to ≡ false)
+      → in_check old color ≡ false
+      → ((a : ℕ) → is_of color (piece_at old a) ≡ true → a ≢ to → piece_at new a ≡ piece_at old a)
+      → ((t : ℕ) → is_of color (piece_at old t) ≡ false → is_of color (piece_at new t) ≡ false)
+      → (a : ℕ) → a < 81 → a ≢ to → is_spare old color a ≡ true → legal_moves (record { cells = new; hands = hands; side = color }) ≢ []
+  unfolding is_spare reaches
+  replied to len ht kept kings free far safe stays clear a ha other e =
+      let q : Shogi = record { cells = new; hands = hands; side = color } in
+      let four = and_parts (is_of color (piece_at old a) && not (is_king color (piece_at old a)) && not (is_lined_with_king old color a)) (some_below 81 (is_open_step old color a)) e in
+      let three = and_parts (is_of color (piece_at old a) && not (is_king color (piece_at old a))) (not (is_lined_with_king old color a)) four.0 in
+      let two : (is_of color (piece_at old a) ≡ true) × (not (is_king color (piece_at old a)) ≡ true) = and_parts (is_of color (piece_at old a)) (not (is_king color (piece_at old a))) three.0 in
+      let which = some_below_which 81 (is_open_step old color a) four.1 in
+      let t = which.0 in
+      let step = and_parts (cell_steps (piece_at old a) a which.0 && not (is_of color (piece_at old which.0))) (not (is_dead which.0 (piece_at old a))) which.2 in
+      let walk : (cell_steps (piece_at old a) a which.0 ≡ true) × (not (is_of color (piece_at old which.0)) ≡ true) = and_parts (cell_steps (piece_at old a) a which.0) (not (is_of color (piece_at old which.0))) step.0 in
+      let same : piece_at new a ≡ piece_at old a = stays a two.0 other in
+      let own : is_of color (piece_at new a) ≡ true = ap (is_of color) same ∙ two.0 in
+      let open_end : is_of color (piece_at new which.0) ≡ false = clear which.0 (not-true _ walk.1) in
+      let reach : reaches new a which.0 ≡ true = ap (λ cell. cell_reaches new cell a which.0) same ∙ steps_reach new (piece_at old a) a which.0 walk.0 in
+      let alive : is_dead which.0 (piece_at new a) ≡ false = ap (is_dead which.0) same ∙ not-true _ step.1 in
+      let plain : is_king color (piece_at new a) ≡ false = ap (is_king color) same ∙ not-true _ two.1 in
+      let off : is_lined_with_king new color a ≡ false = line_to_king_was old new Left opened color a kings free (not-true _ three.1) in
+      let shut : in_check new color ≡ false = no_check old new Left opened color to ht kept kings free far safe in
+      some_legal q (code_of (Board a which.0 false))
+      (is_legal_code_of q (code_of (Board a which.0 false)) (Board a which.0 false) (move_of-board a which.0 false ha which.1)
+      ∙ (legal_board q a which.0 false
+      ∙ and_from _ _ (right_step new color a which.0 own open_end reach alive) (ap not (quiet_board new color a which.0 false len ha which.1 own plain off shut))))
+
+-- ---- after a board move, and after a drop
+
+crowned : (color : Color) (cell : Option Piece) → is_of color cell ≡ false → is_king color cell ≡ false
+crowned color None e = refl
+crowned color (Some piece) e = rw e refl
+
+pub replied_board : (p : Shogi) (from to : ℕ) (promote : Bool) (sight spare a : ℕ) → IsValid p → IsReplies p sight spare → from < 81 → to < 81 → is_of p.side (piece_at p.cells from) ≡ true → has_bit sight from ≡ false → has_bit sight to ≡ false
+    → a < 81 → has_bit spare a ≡ true → a ≢ to → legal_moves (after p (Board from to promote)) ≢ []
+replied_board p from to promote sight spare a v r hf ht own out off ha some other =
+    replied p.cells (cells_after p.cells p.side (Board from to promote)) (after p (Board from to promote)).hands (opponent_of p.side) (λ x. x ≡ from)
+    (λ x e. elim (see x) [
+      | inl there ↦ absurd (both_ways (is_none w) (own_some p.side w mine) (ap is_none (sym there.1) ∙ e))
+      | inr rest ↦ elim rest [ inl here ↦ inr here.0 | inr same ↦ inl (ap is_none (sym same) ∙ e) ]
+    ])
+    to (length-set (set p.cells from None) to w ∙ (length-set p.cells from None ∙ v.cells_fit)) ht
+    (λ x e. elim (see x) [
+      | inl there ↦ inr there.0
+      | inr rest ↦ elim rest [ inl here ↦ absurd (let clash : false ≡ true = ap (is_of (opponent_of (opponent_of p.side))) (sym here.1) ∙ e in cc) | inr same ↦ inl (sym same) ]
+    ])
+    (λ k e. elim (see k) [
+      | inl there ↦ absurd (both_ways (is_king (opponent_of p.side) w) (crowned (opponent_of p.side) w (other_side p.side w mine)) (ap (is_king (opponent_of p.side)) (sym there.1) ∙ e))
+      | inr rest ↦ elim rest [ inl here ↦ absurd (let clash : false ≡ true = ap (is_king (opponent_of p.side)) (sym here.1) ∙ e in cc) | inr same ↦ sym same ]
+    ])
+    (λ x left. subst (λ (y : ℕ). is_lined_with_king p.cells (opponent_of p.side) y ≡ false) (sym left) (unlined p.cells (opponent_of p.side) sight from r.sees hf out))
+    (unseen p.cells (opponent_of p.side) sight to r.sees ht off)
+    (faultless_from p v.no_fault).shut
+    (λ x e ne. elim (see x) [
+      | inl there ↦ absurd (ne there.0)
+      | inr rest ↦ elim rest [
+        | inl here ↦ absurd (both_ways (is_of (opponent_of p.side) (piece_at p.cells from)) (other_side p.side (piece_at p.cells from) own) (subst (λ (y : ℕ). is_of (opponent_of p.side) (piece_at p.cells y) ≡ true) here.0 e))
+        | inr same ↦ same
+      ]
+    ])
+    (λ t e. elim (see t) [
+      | inl there ↦ ap (is_of (opponent_of p.side)) there.1 ∙ other_side p.side w mine
+      | inr rest ↦ elim rest [ inl here ↦ ap (is_of (opponent_of p.side)) here.1 | inr same ↦ ap (is_of (opponent_of p.side)) same ∙ e ]
+    ])
+    a ha other (r.spares a ha some)
+  where
+    w : Option Piece
+    w = moved promote (piece_at p.cells from)
+
+    mine : is_of p.side (moved promote (piece_at p.cells from)) ≡ true
+    mine = is_of-moved p.side promote (piece_at p.cells from) ∙ own
+
+    see : (x : ℕ) → ((x ≡ to) × (piece_at (set (set p.cells from None) to (moved promote (piece_at p.cells from))) x ≡ moved promote (piece_at p.cells from))) ⊎ (((x ≡ from) × (piece_at (set (set p.cells from None) to (moved promote (piece_at p.cells from))) x ≡ None)) ⊎ (piece_at (set (set p.cells from None) to (moved promote (piece_at p.cells from))) x ≡ piece_at p.cells x))
+    see x = look p.cells p.side from to (moved promote (piece_at p.cells from)) v.cells_fit hf ht x
+
+pub replied_drop : (p : Shogi) (kind : Kind) (to sight spare a : ℕ) → IsValid p → IsReplies p sight spare → to < 81 → has_bit sight to ≡ false
+    → a < 81 → has_bit spare a ≡ true → a ≢ to → legal_moves (after p (Drop kind to)) ≢ []
+replied_drop p kind to sight spare a v r ht off ha some other =
+    replied p.cells (cells_after p.cells p.side (Drop kind to)) (after p (Drop kind to)).hands (opponent_of p.side) (λ x. ⊥)
+    (λ x e. elim (see x) [
+      | inl there ↦ absurd (let clash : false ≡ true = ap is_none (sym there.1) ∙ e in cc)
+      | inr same ↦ inl (ap is_none (sym same) ∙ e)
+    ])
+    to (length-set p.cells to (dropped p.side kind) ∙ v.cells_fit) ht
+    (λ x e. elim (see x) [ inl there ↦ inr there.0 | inr same ↦ inl (sym same) ])
+    (λ k e. elim (see k) [
+      | inl there ↦ absurd (both_ways (is_king (opponent_of p.side) (dropped p.side kind)) (drops.no_king p.side kind) (ap (is_king (opponent_of p.side)) (sym there.1) ∙ e))
+      | inr same ↦ sym same
+    ])
+    (λ x left. absurd left)
+    (unseen p.cells (opponent_of p.side) sight to r.sees ht off)
+    (faultless_from p v.no_fault).shut
+    (λ x e ne. elim (see x) [ inl there ↦ absurd (ne there.0) | inr same ↦ same ])
+    (λ t e. elim (see t) [
+      | inl there ↦ ap (is_of (opponent_of p.side)) there.1 ∙ other_side p.side (dropped p.side kind) (dropped_of p.side kind)
+      | inr same ↦ ap (is_of (opponent_of p.side)) same ∙ e
+    ])
+    a ha other (r.spares a ha some)
+  where
+    see : (x : ℕ) → ((x ≡ to) × (piece_at (cells_after p.cells p.side (Drop kind to)) x ≡ dropped p.side kind)) ⊎ (piece_at (cells_after p.cells p.side (Drop kind to)) x ≡ piece_at p.cells x)
+    see x = drops.look p.cells p.side kind to v.cells_fit ht x
+
+-- ---- spare pieces are found one by one
+
+-- what is left and what is kept are pieces of the side off the sight of its kings; what is kept and not left is spare
+pub record IsSifted (cells : Cells) (side : Color) (sight left kept : ℕ) : Type 0 where
+  pub own : (a : ℕ) → a < 81 → has_bit left a ≡ true → (is_of side (piece_at cells a) ≡ true) × (has_bit sight a ≡ false)
+  pub within : (a : ℕ) → has_bit left a ≡ true → has_bit kept a ≡ true
+  pub spare : (a : ℕ) → a < 81 → has_bit kept a ≡ true → (has_bit left a ≡ true) ⊎ (is_spare cells side a ≡ true)
+
+pub sifted_first : (cells : Cells) (side : Color) (sight own : ℕ) → sight < 2 ^ 128 → ((n : ℕ) → n < 81 → has_bit own n ≡ is_of side (piece_at cells n)) → IsSifted cells side sight (bit_and own (2 ^ 128 - 1 - sight)) (bit_and own (2 ^ 128 - 1 - sight))
+sifted_first cells side sight own fits bits = record {
+  own = λ a h e. (
+      let parts : (has_bit own a ≡ true) × (has_bit (2 ^ 128 - 1 - sight) a ≡ true) = and_parts _ _ (sym (has_bit-and own (2 ^ 128 - 1 - sight) a) ∙ e) in
+      (sym (bits a h) ∙ parts.0, not-true _ (sym (has_bit-not sight a fits (omega arith)) ∙ parts.1)));
+  within = λ a e. e;
+  spare = λ a h e. inl e;
+}
+
+spare_if : (cells : Cells) (side : Color) (sight a : ℕ) → Sees cells side 0 sight → a < 81 → is_of side (piece_at cells a) ≡ true → has_bit sight a ≡ false → some_below 81 (is_open_step cells side a) ≡ true → is_spare cells side a ≡ true
+unfolding is_spare
+spare_if cells side sight a s h own off step =
+    rw (own, unlined cells side sight a s h off, false_from_ne_true (is_king side (piece_at cells a)) (λ king. both_ways (has_bit sight a) off (s.kings a h king)), step) refl
+
+pub sifted_found : (cells : Cells) (side : Color) (sight left kept next from : ℕ) → Sees cells side 0 sight → IsSifted cells side sight left kept → from < 81 → has_bit left from ≡ true → some_below 81 (is_open_step cells side from) ≡ true
+    → ((i : ℕ) → has_bit next i ≡ (has_bit left i && not (i == from))) → IsSifted cells side sight next kept
+sifted_found cells side sight left kept next from s f hf here step bits = record {
+  own = λ a h e. f.own a h ((and_parts (has_bit left a) (not (a == from)) (sym (bits a) ∙ e)).0);
+  within = λ a e. f.within a ((and_parts (has_bit left a) (not (a == from)) (sym (bits a) ∙ e)).0);
+  spare = λ a h e. elim (cases_eq a from) [
+    | inl same ↦ inr (let own = f.own from hf here in subst (λ (y : ℕ). is_spare cells side y ≡ true) (sym same) (spare_if cells side sight from s hf own.0 own.1 step))
+    | inr other ↦ elim (f.spare a h e) [
+      | inl still ↦ inl (bits a ∙ and_from _ _ still (not_from_false _ (ne_eqb a from other)))
+      | inr spare ↦ inr spare
+    ]
+  ];
+}
+
+pub sifted_dropped : (cells : Cells) (side : Color) (sight left kept next less from : ℕ) → IsSifted cells side sight left kept → ((i : ℕ) → has_bit next i ≡ (has_bit left i && not (i == from))) → ((i : ℕ) → has_bit less i ≡ (has_bit kept i && not (i == from))) → IsSifted cells side sight next less
+sifted_dropped cells side sight left kept next less from f bits gone = record {
+  own = λ a h e. f.own a h ((and_parts (has_bit left a) (not (a == from)) (sym (bits a) ∙ e)).0);
+  within = λ a e. (let parts = and_parts (has_bit left a) (not (a == from)) (sym (bits a) ∙ e) in gone a ∙ and_from _ _ (f.within a parts.0) parts.1);
+  spare = λ a h e. (
+      let parts = and_parts (has_bit kept a) (not (a == from)) (sym (gone a) ∙ e) in
+      elim (f.spare a h parts.0) [
+        | inl still ↦ inl (bits a ∙ and_from _ _ still parts.1)
+        | inr spare ↦ inr spare
+      ]);
+}
+
+pub sifted_done : (cells : Cells) (side : Color) (sight left kept : ℕ) → left < 2 ^ 128 → IsSifted cells side sight left kept → (a : ℕ) → a < 81 → has_bit (bit_and kept (2 ^ 128 - 1 - left)) a ≡ true → is_spare cells side a ≡ true
+sifted_done cells side sight left kept fits f a h e =
+    let parts : (has_bit kept a ≡ true) × (has_bit (2 ^ 128 - 1 - left) a ≡ true) = and_parts _ _ (sym (has_bit-and kept (2 ^ 128 - 1 - left) a) ∙ e) in
+    elim (f.spare a h parts.0) [
+      | inl still ↦ absurd (both_ways (has_bit left a) (not-true _ (sym (has_bit-not left a fits (omega arith)) ∙ parts.1)) still)
+      | inr spare ↦ spare
+    ]
+
+pub ruleset sifting = (sifted_first, sifted_found, sifted_dropped, sifted_done, and_fits)
+
+-- an end that the step has, as a bit
+pub step_found : (cells : Cells) (side : Color) (piece : Piece) (a steps own dead : ℕ) → piece_at cells a ≡ Some piece → steps < 2 ^ 81 → own < 2 ^ 81 → dead < 2 ^ 81 → ((n : ℕ) → n < 81 → has_bit steps n ≡ has_step piece a n) → ((n : ℕ) → n < 81 → has_bit own n ≡ is_of side (piece_at cells n)) → ((n : ℕ) → n < 81 → has_bit dead n ≡ is_dead n (piece_at cells a))
+    → bit_and (bit_and steps (2 ^ 128 - 1 - own)) (2 ^ 128 - 1 - dead) ≢ 0 → some_below 81 (is_open_step cells side a) ≡ true
+step_found cells side piece a steps own dead stands sf wf df s o d some =
+    let m : ℕ = bit_and (bit_and steps (2 ^ 128 - 1 - own)) (2 ^ 128 - 1 - dead) in
+    let low = lowest_set (bit_and (bit_and steps (2 ^ 128 - 1 - own)) (2 ^ 128 - 1 - dead)) some (and_fits (bit_and steps (2 ^ 128 - 1 - own)) (2 ^ 128 - 1 - dead) (and_fits steps (2 ^ 128 - 1 - own) sf)) in
+    found (trailing_zeros w128 (bit_and (bit_and steps (2 ^ 128 - 1 - own)) (2 ^ 128 - 1 - dead))) low.0 low.1
+  where
+    found : (t : ℕ) → t < 81 → has_bit (bit_and (bit_and steps (2 ^ 128 - 1 - own)) (2 ^ 128 - 1 - dead)) t ≡ true → some_below 81 (is_open_step cells side a) ≡ true
+    found t h e =
+        let two : (has_bit (bit_and steps (2 ^ 128 - 1 - own)) t ≡ true) × (has_bit (2 ^ 128 - 1 - dead) t ≡ true) = and_parts _ _ (sym (has_bit-and (bit_and steps (2 ^ 128 - 1 - own)) (2 ^ 128 - 1 - dead) t) ∙ e) in
+        let one : (has_bit steps t ≡ true) × (has_bit (2 ^ 128 - 1 - own) t ≡ true) = and_parts _ _ (sym (has_bit-and steps (2 ^ 128 - 1 - own) t) ∙ two.0) in
+        some_below_at 81 (is_open_step cells side a) t h
+        (and_from _ _ (and_from _ _ (ap (λ cell. cell_steps cell a t) stands ∙ (sym (s t h) ∙ one.0))
+        (ap not (sym (o t h)) ∙ (sym (has_bit-not own t (omega arith) (omega arith)) ∙ one.1)))
+        (ap not (sym (d t h)) ∙ (sym (has_bit-not dead t (omega arith) (omega arith)) ∙ two.1)))
+
+pub unknown_sees : (cells : Cells) (side : Color) (all : ℕ) → ((n : ℕ) → n < 81 → has_bit all n ≡ true) → Sees cells side 0 all
+unknown_sees cells side all every = record { kings = λ n h e. every n h; squares = λ k n h l e out seen. every n l }
+
+-- a spare piece on another square than the end
+pub another : (spare to : ℕ) → spare < 2 ^ 81 → to < 81 → bit_and spare (2 ^ 128 - 1 - 1 * 2 ^ to % 2 ^ 128) ≢ 0 → (a : ℕ) × (a < 81) × (has_bit spare a ≡ true) × (a ≢ to)
+another spare to fits h some =
+    let low = lowest_set (bit_and spare (2 ^ 128 - 1 - 1 * 2 ^ to % 2 ^ 128)) some (and_fits spare (2 ^ 128 - 1 - 1 * 2 ^ to % 2 ^ 128) fits) in
+    let a : ℕ = trailing_zeros w128 (bit_and spare (2 ^ 128 - 1 - 1 * 2 ^ to % 2 ^ 128)) in
+    let parts = and_parts (has_bit spare (trailing_zeros w128 (bit_and spare (2 ^ 128 - 1 - 1 * 2 ^ to % 2 ^ 128)))) (not (trailing_zeros w128 (bit_and spare (2 ^ 128 - 1 - 1 * 2 ^ to % 2 ^ 128)) == to)) (sym (has_bit-without spare to (trailing_zeros w128 (bit_and spare (2 ^ 128 - 1 - 1 * 2 ^ to % 2 ^ 128))) (omega arith) (omega arith)) ∙ low.1) in
+    (trailing_zeros w128 (bit_and spare (2 ^ 128 - 1 - 1 * 2 ^ to % 2 ^ 128)), low.0, parts.0, λ same. both_ways _ (ap not (eq-eqb _ to same)) parts.1)
+
+-- the legal board move is one of one's own piece
+legal_own : (p : Shogi) (from to : ℕ) (promote : Bool) → is_legal p (Board from to promote) ≡ true → is_of p.side (piece_at p.cells from) ≡ true
+legal_own p from to promote e =
+    let parts = and_parts _ _ (sym (legal_board p from to promote) ∙ e) in
+    let four = and_parts _ _ parts.0 in
+    let three = and_parts _ _ four.0 in
+    let two = and_parts _ _ three.0 in
+    (and_parts _ _ two.0).0
+
+pub certain_board : (p : Shogi) (from to start end : ℕ) (promote : Bool) (sight spare : ℕ) → IsValid p → IsReplies p sight spare → from < 81 → to < 81 → start ≡ from → end ≡ to → is_legal p (Board from to promote) ≡ true → has_bit sight start ≡ false → has_bit sight end ≡ false
+    → bit_and spare (2 ^ 128 - 1 - 1 * 2 ^ end % 2 ^ 128) ≢ 0 → legal_moves (after p (Board from to promote)) ≢ []
+certain_board p from to start end promote sight spare v r hf ht s e legal out off some =
+    let a = another spare end r.fits (omega arith) some in
+    replied_board p from to promote sight spare a.0 v r hf ht (legal_own p from to promote legal) (subst (λ (y : ℕ). has_bit sight y ≡ false) s out) (subst (λ (y : ℕ). has_bit sight y ≡ false) e off) a.1 a.2 (λ same. a.3 (same ∙ sym e))
+
+pub certain_drop : (p : Shogi) (kind : Kind) (to end sight spare : ℕ) → IsValid p → IsReplies p sight spare → to < 81 → end ≡ to → has_bit sight end ≡ false
+    → bit_and spare (2 ^ 128 - 1 - 1 * 2 ^ end % 2 ^ 128) ≢ 0 → legal_moves (after p (Drop kind to)) ≢ []
+certain_drop p kind to end sight spare v r ht e off some =
+    let a = another spare end r.fits (omega arith) some in
+    replied_drop p kind to sight spare a.0 v r ht (subst (λ (y : ℕ). has_bit sight y ≡ false) e off) a.1 a.2 (λ same. a.3 (same ∙ sym e))

@@ -1,0 +1,15 @@
+use Rattle.std.proofs.Common.{arith}
+use Rattle.std.proofs.lemmas.Bool.{both_ways}
+use Rattle.shogi_core.specs.Bits.{has_bit}
+use Rattle.shogi_core.specs.Pieces.{opponent_of}
+use Rattle.shogi_core.proofs.BitLaws.{has_bit-none}
+use Rattle.shogi_moves.proofs.ReplyLaws.{unknown_sees}
+use Rattle.shogi_moves.proofs.ZoneLaws.{all_squares}
+use Rattle.shogi_moves.proofs.replies.Replies.unknown.Goals as goal
+
+pub returns : goal.returns
+returns c = record {
+  sees = unknown_sees c.args.p.now.cells (opponent_of c.args.p.now.side) 2417851639229258349412351 all_squares;
+  spares = λ a h e. absurd (both_ways (has_bit 0 a) (has_bit-none a) e);
+  fits = omega arith;
+}

@@ -1,0 +1,35 @@
+-- What is kept of a position to tell that after most of its moves the other side is in no check and has a legal move.
+use Rattle.std.specs.Prelude.{ℕ, ◌≡◌, ◌<◌, ◌^◌, ◌&&◌, Bool, true, false, not, Option, Some, None}
+use Rattle.shogi_core.specs.declared.piece.Color.{Color}
+use Rattle.shogi_core.specs.declared.piece.Piece.{Piece}
+use Rattle.shogi_core.specs.Below.{some_below}
+use Rattle.shogi_core.specs.Bits.{has_bit}
+use Rattle.shogi_core.specs.Cell.{is_of, is_king, is_dead}
+use Rattle.shogi_core.specs.Lines.{is_seen, is_lined_with_king}
+use Rattle.shogi_core.specs.Movement.{Cells, piece_at, has_step}
+use Rattle.shogi_core.specs.Pieces.{opponent_of}
+use Rattle.shogi_core.specs.Position.{Shogi}
+
+-- a step or a jump of what stands on a leads to t
+abbrev pub cell_steps : Option Piece → ℕ → ℕ → Bool
+cell_steps None a t = false
+cell_steps (Some piece) a t = has_step piece a t
+
+-- the piece on a may step to t: none of its own stands there, and it can move again from there without promotion
+abbrev pub is_open_step : Cells → Color → ℕ → ℕ → Bool
+is_open_step cells side a t = cell_steps (piece_at cells a) a t && not (is_of side (piece_at cells t)) && not (is_dead t (piece_at cells a))
+
+-- a piece of the side with such a step, which is no king and on no open line with one
+unfoldable pub is_spare : Cells → Color → ℕ → Bool
+is_spare cells side a = is_of side (piece_at cells a) && not (is_king side (piece_at cells a)) && not (is_lined_with_king cells side a) && some_below 81 (is_open_step cells side a)
+
+-- a mask with the kings of a side and all squares that those see which are not left
+pub record Sees (cells : Cells) (side : Color) (left sight : ℕ) : Type 0 where
+  pub kings : (n : ℕ) → n < 81 → is_king side (piece_at cells n) ≡ true → has_bit sight n ≡ true
+  pub squares : (k n : ℕ) → k < 81 → n < 81 → is_king side (piece_at cells k) ≡ true → has_bit left k ≡ false → is_seen cells k n ≡ true → has_bit sight n ≡ true
+
+-- such a mask for the side that is not to move, and some of its spare pieces
+pub record IsReplies (p : Shogi) (sight spare : ℕ) : Type 0 where
+  pub sees : Sees p.cells (opponent_of p.side) 0 sight
+  pub spares : (a : ℕ) → a < 81 → has_bit spare a ≡ true → is_spare p.cells (opponent_of p.side) a ≡ true
+  pub fits : spare < 2 ^ 81

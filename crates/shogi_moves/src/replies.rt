@@ -1,0 +1,128 @@
+//! Whether the other side surely has a legal move after a move, without making it.
+
+ghost use Rattle.std.specs.Prelude.{◌≡◌, ◌≢◌, ◌<◌, ◌^◌, ℕ, [], true};
+ghost use Rattle.shogi_core.specs.Below.{some_below};
+ghost use Rattle.shogi_core.specs.Bits.{has_bit};
+ghost use Rattle.shogi_core.specs.Pieces.{opponent_of};
+ghost use Rattle.shogi_moves.specs.After.{after};
+ghost use Rattle.shogi_moves.specs.Legal.{is_legal};
+ghost use Rattle.shogi_moves.specs.LegalMoves.{legal_moves};
+ghost use Rattle.shogi_moves.specs.Replies.{is_open_step, is_spare, Sees, IsReplies};
+
+use crate::zones::dead_squares;
+use shogi_core::bits::{cleared, has, lowest};
+use shogi_core::{Color, Move, Position, Square, step_squares};
+
+/// What is kept of a position to tell that after most of its moves the other side is in no check
+/// and has a legal move: what its king sees, and pieces of it that have an open step.
+#[derive(Clone, Copy, Debug)]
+pub struct Replies {
+    pub sight: u128,
+    pub spare: u128,
+}
+
+/// The squares of kings of the side, of open lines with them, and a knight's jump away.
+#[tactic(auto, using(crate::proofs::ReplyLaws::seeing))]
+fn sight_squares(p: &Position, side: Color) -> u128
+    ensures { Sees p.now.cells side 0 result }
+{
+    let mut left = p.kings(side);
+    let mut sight = left;
+    while left != 0 {
+        let king = lowest(left);
+        sight |= p.as_board().seen(Square::of_index(king));
+        left = cleared(left, king);
+    }
+    sight
+}
+
+/// Whether what stands on the square has a step to where none of the side's own stands, and from
+/// where it can move again without promotion.
+fn has_open_step(p: &Position, side: Color, from: Square) -> bool
+    ensures { result ≡ true → some_below 81 (is_open_step p.now.cells side from) ≡ true }
+{
+    let cell = p.at(from);
+    match cell {
+        None => false,
+        Some(piece) => {
+            from.index();
+            step_squares(piece, from.index()) & !p.own(side) & !dead_squares(cell) != 0
+        }
+    }
+}
+
+/// Two pieces of the side that see no king of their own and have an open step, or fewer where
+/// there are no more.
+fn spare_pieces(p: &Position, side: Color, sight: u128) -> u128
+    requires { Sees p.now.cells side 0 sight }
+    ensures spares { (a : ℕ) → a < 81 → has_bit result a ≡ true → is_spare p.now.cells side a ≡ true }
+    ensures fits { result < 2 ^ 81 }
+{
+    let mut left = p.own(side) & !sight;
+    let mut kept = left;
+    let mut found = 0u8;
+    while left != 0 && found < 2 {
+        let from = lowest(left);
+        if has_open_step(p, side, Square::of_index(from)) {
+            found += 1;
+        } else {
+            kept = cleared(kept, from);
+        }
+        left = cleared(left, from);
+    }
+    kept & !left
+}
+
+impl Replies {
+    /// What is kept of the position.
+    pub fn of(p: &Position) -> Replies
+        ensures { IsReplies p.now result.sight result.spare }
+    {
+        let opponent = p.side().opponent();
+        let sight = sight_squares(p, opponent);
+        Replies {
+            sight,
+            spare: spare_pieces(p, opponent, sight),
+        }
+    }
+
+    /// Nothing is known: each square is held to be seen.
+    pub fn unknown(p: &Position) -> Replies
+        ensures { IsReplies p.now result.sight result.spare }
+    {
+        let _ = p;
+        Replies {
+            sight: 2417851639229258349412351,
+            spare: 0,
+        }
+    }
+
+    /// Whether it is certain that the other side has a legal move after the legal move.
+    pub fn is_certain(&self, p: &Position, m: &Move) -> bool
+        requires kept { IsReplies p.now self.now.sight self.now.spare }
+        requires legal { is_legal p.now m.now ≡ true }
+        ensures { result ≡ true → legal_moves (after p.now m.now) ≢ [] }
+    {
+        p.validity();
+        match m {
+            Move::Board { from, to, .. } => {
+                let start = from.index();
+                let end = to.index();
+                if has(self.sight, start) {
+                    return false;
+                }
+                if has(self.sight, end) {
+                    return false;
+                }
+                self.spare & !(1 << end) != 0
+            }
+            Move::Drop { to, .. } => {
+                let end = to.index();
+                if has(self.sight, end) {
+                    return false;
+                }
+                self.spare & !(1 << end) != 0
+            }
+        }
+    }
+}
