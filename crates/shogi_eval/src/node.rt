@@ -87,6 +87,14 @@ impl Node {
         }
     }
 
+    /// The material after a legal move, from the side that is to move then; nothing is played.
+    pub fn score_after(&self, m: &Move) -> i32
+        requires { is_legal self.now m.now ≡ true }
+        ensures { result ≡ material_of (after self.now m.now) }
+    {
+        score_after(&self.position, self.score, m)
+    }
+
     /// The material of the position, from the side to move (see `material`).
     pub fn score(&self) -> i32
         ensures value { result ≡ material_of self.now }

@@ -1,12 +1,13 @@
 //! A node of the tree while the search goes through its moves.
 
-ghost use Rattle.std.specs.Prelude.{◌≡◌, ◌≤◌, ◌<◌, ◌-◌, ◌+◌, ◌*◌, ◌≤ℤ◌, ◌<ℤ◌, ℕ, pos, negsuc, [], ◌∷◌, Some, None, true, false, IsTrue, IsSome, ◌↔◌, ◌≢◌, MatchOption};
+ghost use Rattle.std.specs.Prelude.{◌≡◌, ◌≤◌, ◌<◌, ◌-◌, ◌+◌, ◌*◌, ◌≤ℤ◌, ◌<ℤ◌, ℕ, pos, negsuc, [], ◌∷◌, Some, None, true, false, IsTrue, IsSome, IfSome, ◌↔◌, ◌≢◌, MatchOption};
 ghost use Rattle.std.specs.Option.{ForSome};
 ghost use Rattle.std.proofs.Props.{props};
 ghost use Rattle.shogi_core.specs.Codes.{code_of};
 ghost use Rattle.shogi_core.specs.Validity.{IsValid};
 ghost use Rattle.shogi_moves.specs.After.{after_code};
 ghost use Rattle.shogi_moves.specs.LegalMoves.{legal_moves};
+ghost use Rattle.shogi_moves.specs.Replies.{IsReplies};
 ghost use Rattle.shogi_moves.specs.Rising.{is_in};
 ghost use Rattle.shogi_search.specs.Minimax.{value, tree, worth, negated, subtrees, IsTrueEntry};
 ghost use Rattle.shogi_search.specs.Entries.{Settles};
@@ -19,7 +20,7 @@ use crate::order::{Cursor, moves_at, next_visit};
 use crate::window::bar;
 use shogi_core::{Kind, Move, Square};
 use shogi_eval::Node;
-use shogi_moves::has_legal;
+use shogi_moves::{Replies, has_legal};
 
 /// A node of any depth, and what is known of the moves gone through. Where the move that waits leads
 /// to a leaf, its answer is the leaf's value, until the next step takes it in.
@@ -35,6 +36,7 @@ pub struct Frame {
     pub waiting: bool,
     pub asked: Move,
     pub answer: Option<i32>,
+    pub replies: Replies,
     pub cut: Option<i32>,
     ghost valid: { IsValid position },
     ghost shallow: { depth ≤ 16 },
@@ -44,6 +46,7 @@ pub struct Frame {
     ghost covered: { IsCovered (worth position (depth - 1)) (moves_at position depth) (pending waiting (code_of asked) (todo position cursor)) low top (code_at top_move) } by { Prim.hlevel props },
     ghost kept: { IsKept position cursor } by { IsKept-prop position cursor },
     ghost answered: { ForSome answer (λ v. (waiting ≡ true) × (depth ≡ 1) × (value (after_code position (code_of asked)) 0 ≡ v)) },
+    ghost known: { IsReplies position replies.sight replies.spare } by { Prim.hlevel props },
     ghost beaten: { ForSome cut (λ v. (v ≤ℤ value position depth) × (high ≤ℤ v)) },
 }
 
@@ -64,9 +67,28 @@ pub fn leaf(node: &Node) -> i32
     if can_move(node) { node.score() } else { -30000 }
 }
 
+/// What tells of the leaves after the moves, if that is asked for.
+fn replies_of(node: &Node, ahead: bool) -> Replies
+    ensures { IsReplies node.now result.sight result.spare }
+{
+    if ahead {
+        Replies::of(node.as_position())
+    } else {
+        Replies::unknown(node.as_position())
+    }
+}
+
 impl Frame {
-    /// A node that is entered, with the move to visit first.
-    pub fn new(position: Node, depth: u8, low: i32, high: i32, first: Option<Move>) -> Self
+    /// A node that is entered, with the move to visit first; `ahead` asks for what tells of leaves
+    /// without making them.
+    pub fn new(
+        position: Node,
+        depth: u8,
+        low: i32,
+        high: i32,
+        first: Option<Move>,
+        ahead: bool,
+    ) -> Self
         requires shallow { depth ≤ 16 }
         requires least { negsuc 30999 ≤ℤ low }
         requires open { low <ℤ high }
@@ -97,6 +119,7 @@ impl Frame {
                 to: Square::of_index(0),
             },
             answer: None,
+            replies: replies_of(&position, ahead),
             cut: None,
         }
     }
@@ -250,6 +273,19 @@ impl Frame {
         self.waiting = false;
     }
 
+    /// The value at depth 0 of the position to which the move that waits leads, where it is certain
+    /// without making the move that a move is legal there.
+    pub fn certain_leaf(&self) -> Option<i32>
+        requires waiting { self.now.waiting ≡ true }
+        ensures value { IfSome result (λ v. value (after_code self.now.position (code_of self.now.asked)) 0 ≡ v) }
+    {
+        self.asked.code();
+        if self.replies.is_certain(self.position.as_position(), &self.asked) {
+            return Some(self.position.score_after(&self.asked));
+        }
+        None
+    }
+
     /// Keeps the value of the leaf to which the move that waits leads.
     pub fn hear(&mut self, found: i32)
         requires waiting { self.old.waiting ≡ true }
@@ -268,6 +304,6 @@ impl Frame {
 
 impl Default for Frame {
     fn default() -> Self {
-        Frame::new(Node::start(), 0, -1, 1, None)
+        Frame::new(Node::start(), 0, -1, 1, None, false)
     }
 }

@@ -1,6 +1,6 @@
 //! What is remembered of searched positions.
 
-ghost use Rattle.std.specs.Prelude.{◌≡◌, ◌≤◌, ℕ, Option, IfSome};
+ghost use Rattle.std.specs.Prelude.{◌≡◌, ◌≤◌, ℕ, Option, None, IfSome, false};
 ghost use Rattle.shogi_core.specs.Position.{Shogi};
 ghost use Rattle.shogi_search.specs.Minimax.{IsTrueEntry};
 ghost use Rattle.shogi_search.specs.declared.memo.Entry.{Entry};
@@ -23,6 +23,13 @@ pub enum Entry {
 pub trait Memo {
     ghost answers: { Self → Shogi → ℕ → Option Entry };
 
+    /// Whether anything may ever be answered at the depth.
+    fn keeps(&self, _d: u8) -> bool
+        ensures none { result ≡ false → (p : Shogi) → answers self.now p _d ≡ None }
+    {
+        true
+    }
+
     /// What is known of the position at the depth.
     fn probe(&mut self, p: &Position, d: u8) -> Option<Entry>
         ensures answer { result ≡ answers self.old p.now d }
@@ -40,6 +47,10 @@ pub struct NoMemo;
 
 impl Memo for NoMemo {
     ghost answers = { λ _ p d. Option.None };
+
+    fn keeps(&self, _d: u8) -> bool {
+        false
+    }
 
     fn probe(&mut self, _p: &Position, _d: u8) -> Option<Entry> {
         None

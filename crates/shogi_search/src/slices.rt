@@ -10,7 +10,7 @@ ghost use Rattle.shogi_search.specs.Progress.{untouched, left_of};
 use crate::found::Found;
 use crate::frame::Frame;
 use crate::memo::{Entry, Memo};
-use crate::stack::{Stack, remembered, run};
+use crate::stack::{Stack, looks_ahead, remembered, run};
 use arrayvec::ArrayVec;
 use shogi_core::Position;
 use shogi_eval::Node;
@@ -99,7 +99,8 @@ impl Search {
         let first = remembered(&self.root, self.depth, memo);
         let root = Node::of(self.root);
         self.stack.waiting.clear();
-        self.stack.top = Frame::new(root, self.depth, -31000, 31000, first);
+        let ahead = looks_ahead(self.depth, memo);
+        self.stack.top = Frame::new(root, self.depth, -31000, 31000, first, ahead);
         self.started = true;
         self.steps = self.steps.saturating_add(1);
     }

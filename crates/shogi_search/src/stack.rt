@@ -64,6 +64,13 @@ fn child(frame: &Frame) -> Node
     frame.position.play(m)
 }
 
+/// Whether a node's children are leaves that the memo need not be asked for.
+pub fn looks_ahead<M: Memo>(depth: u8, memo: &M) -> bool
+    ensures { result ≡ true → depth ≡ 1 }
+{
+    depth == 1 && !memo.keeps(0)
+}
+
 /// Goes on with the move that has begun to wait on top: by the memo's answer, by the value of a
 /// leaf, which the next step takes in, or into its child.
 fn descend<M: Memo>(stack: &mut Stack, root: &Position, depth: u8, memo: &mut M)
@@ -75,6 +82,12 @@ fn descend<M: Memo>(stack: &mut Stack, root: &Position, depth: u8, memo: &mut M)
     ensures left { left_of_stack stack.new.waiting.items stack.new.top < left_of_stack stack.old.waiting.items stack.old.top + 2 * tree (after_code stack.old.top.position (code_of stack.old.top.asked)) (stack.old.top.depth - 1) }
 {
     let bar = stack.top.bar();
+    if looks_ahead(stack.top.depth, memo) {
+        if let Some(value) = stack.top.certain_leaf() {
+            stack.top.hear(value);
+            return;
+        }
+    }
     let p = child(&stack.top);
     let below = stack.top.depth - 1;
     let (low, high) = (-stack.top.high, -bar);
@@ -89,7 +102,7 @@ fn descend<M: Memo>(stack: &mut Stack, root: &Position, depth: u8, memo: &mut M)
         return;
     }
     let first = remembered(p.as_position(), below, memo);
-    let frame = Frame::new(p, below, low, high, first);
+    let frame = Frame::new(p, below, low, high, first, looks_ahead(below, memo));
     stack.waiting.push(stack.top);
     stack.top = frame;
 }

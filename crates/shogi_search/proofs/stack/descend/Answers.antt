@@ -41,8 +41,16 @@ take-requires-clause-settled g c =
 
 pub returns-then-below-eq0-clause-chain : goal.returns-then-below-eq0-clause-chain
 returns-then-below-eq0-clause-chain g c =
-    chain_same _ _ _ _ _ _ _ c.requires.chain (record { position = c.hear.ensures.position; depth = c.hear.ensures.depth; low_is = c.hear.ensures.low; high_is = c.hear.ensures.high })
+    chain_same _ _ _ _ _ _ _ c.requires.chain (record { position = c.hear-then-below-eq0.ensures.position; depth = c.hear-then-below-eq0.ensures.depth; low_is = c.hear-then-below-eq0.ensures.low; high_is = c.hear-then-below-eq0.ensures.high })
 
 pub returns-then-below-eq0-clause-left : goal.returns-then-below-eq0-clause-left
 returns-then-below-eq0-clause-left g c =
+    omega (arith, left_heard c.args.stack.now.top c.hear-then-below-eq0.new.self c.hear-then-below-eq0.ensures.position c.hear-then-below-eq0.ensures.depth c.hear-then-below-eq0.ensures.cursor, tree-positive (after_code c.args.stack.now.top.position (code_of c.args.stack.now.top.asked)) (c.args.stack.now.top.depth - 1))
+
+pub returns-in-Some-clause-chain : goal.returns-in-Some-clause-chain
+returns-in-Some-clause-chain g c =
+    chain_same _ _ _ _ _ _ _ c.requires.chain (record { position = c.hear.ensures.position; depth = c.hear.ensures.depth; low_is = c.hear.ensures.low; high_is = c.hear.ensures.high })
+
+pub returns-in-Some-clause-left : goal.returns-in-Some-clause-left
+returns-in-Some-clause-left g c =
     omega (arith, left_heard c.args.stack.now.top c.hear.new.self c.hear.ensures.position c.hear.ensures.depth c.hear.ensures.cursor, tree-positive (after_code c.args.stack.now.top.position (code_of c.args.stack.now.top.asked)) (c.args.stack.now.top.depth - 1))

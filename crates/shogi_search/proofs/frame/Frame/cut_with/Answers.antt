@@ -16,5 +16,6 @@ invariant_of-self c =
       covered = c.args.self.now.covered;
       kept = c.args.self.now.kept;
       answered = search rules;
+      known = c.args.self.now.known;
       beaten = cuts _ _ _ c.args.value _ (omega (arith, ints)) (cut c.args.self.now.position c.args.self.now.depth (code_of c.args.self.now.asked) c.args.value w.deep w.is_listed c.requires.worth) c.requires.high;
     }

@@ -16,5 +16,6 @@ invariant_of-self c =
       covered = at_depth _ _ _ _ _ _ _ w.deep (IsCovered-raise _ _ _ _ _ _ _ _ w.covered (omega (arith, ints, c.requires.is)) (omega (arith, ints, c.requires.above)));
       kept = c.args.self.now.kept;
       answered = search rules;
+      known = c.args.self.now.known;
       beaten = c.args.self.now.beaten;
     }
