@@ -260,8 +260,8 @@ module _ (old new : Cells) (to : ℕ) (shut : (x : ℕ) → is_none (piece_at ol
             let led : away (n - suc i + 1) o to ≡ Some s = away_on (i + 1) (n - suc i + 1) o a to at ∙ (ap (λ (k : ℕ). away k o a) sum ∙ leads_is _ s parts.0) in
             both_ways (slides old o to s) off
             (some_below_at 8 (slides_past old o to s) (n - suc i) (omega (arith, which.1)) (and_from _ _ (is_leads _ s led) (all_below_yes (n - suc i) (is_clear old o to) (λ j m.
-                let further : i + 1 + (j + 1) ≡ i + 1 + j + 1 = omega arith in
-                ap (is_empty old) (away_on (i + 1) (j + 1) o a to at ∙ ap (λ (k : ℕ). away k o a) further) ∙ all_below_at n (is_clear old o a) (i + 1 + j) parts.1 (omega arith))))))
+            let further : i + 1 + (j + 1) ≡ i + 1 + j + 1 = omega arith in
+            ap (is_empty old) (away_on (i + 1) (j + 1) o a to at ∙ ap (λ (k : ℕ). away k o a) further) ∙ all_below_at n (is_clear old o a) (i + 1 + j) parts.1 (omega arith))))))
       ])))
 
   has_slide_stays : (piece : Piece) (a s : ℕ) → are_lined old to s ≡ false → has_slide old piece a s ≡ true → has_slide new piece a s ≡ true

@@ -37,4 +37,3 @@ start_white = refl
 pub start_kings : 17660905521152 ≡ kings_of start_cells
 unfolding places_of mask_below
 start_kings = refl
-

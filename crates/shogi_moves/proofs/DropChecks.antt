@@ -1,5 +1,5 @@
 -- A drop uncovers nothing: the other king is attacked after it by the dropped piece or not at all.
-use Rattle.std.proofs.Common.{◌≡◌, ℕ, pos, negsuc, ◌<◌, ◌⊎◌, Bool, true, false, Option, Some, None, refl, sym, ap, ◌∙◌, arith, inl, inr, set, length, bit_or, subst, get_or-set_same, get_or-set_other}
+use Rattle.std.proofs.Common.{◌≡◌, ℕ, pos, negsuc, ◌<◌, ◌⊎◌, Bool, true, false, None, refl, sym, ap, ◌∙◌, arith, inl, inr, length, bit_or, subst, get_or-set_same, get_or-set_other}
 use Rattle.std.specs.Prelude.{is_none, ◌&&◌, ◌||◌, ◌==◌, not}
 use Rattle.std.proofs.lemmas.Bool.{cases_eq, both_ways, false_from_ne_true, and_from, or_left, or_right, not_from_false, ne_eqb}
 use Rattle.shogi_core.specs.declared.piece.Color.{Color}
@@ -7,14 +7,13 @@ use Rattle.shogi_core.specs.declared.piece.Color.TheVariants.{Black, White}
 use Rattle.shogi_core.specs.declared.piece.Kind.{Kind}
 use Rattle.shogi_core.specs.declared.piece.Kind.TheVariants as kinds
 use Rattle.shogi_core.specs.declared.moves.Move.TheVariants.{Drop}
-use Rattle.shogi_core.specs.declared.piece.Piece.{Piece}
 use Rattle.shogi_core.specs.declared.piece.Role.TheVariants.{Pawn}
 use Rattle.shogi_core.specs.Attack.{in_check}
 use Rattle.shogi_core.specs.Bits.{has_bit}
 use Rattle.shogi_core.specs.Validity.{IsValid}
 use Rattle.shogi_core.proofs.BitLaws.{has_bit-or, has_bit-none}
 use Rattle.shogi_core.proofs.Faults.{faultless_from}
-use Rattle.shogi_core.specs.Cell.{is_of, is_king}
+use Rattle.shogi_core.specs.Cell.{is_king}
 use Rattle.shogi_core.specs.Movement.{Cells, piece_at, reaches, has_step, leads, by}
 use Rattle.shogi_core.specs.Pieces.{opponent_of}
 use Rattle.shogi_core.specs.Position.{Shogi}

@@ -1,7 +1,7 @@
 -- Where a piece may legally end.
-use Rattle.std.proofs.Common.{◌≡◌, ◌≢◌, ℕ, ◌-◌, ◌^◌, ◌<◌, Bool, true, false, not, Option, Some, None, refl, sym, ap, ◌∙◌, arith, inl, inr, subst, bit_and, bit_or, length, cond, set, get_or-set_same, get_or-set_other, length-set, ◌⊎◌}
+use Rattle.std.proofs.Common.{◌≡◌, ◌≢◌, ℕ, ◌-◌, ◌^◌, ◌<◌, Bool, true, false, not, Option, Some, None, refl, sym, ap, ◌∙◌, arith, inl, inr, bit_and, bit_or, length, cond, set, get_or-set_same, get_or-set_other, length-set, ◌⊎◌}
 use Rattle.std.specs.Prelude.{◌&&◌, ◌||◌, ◌==◌, is_none, is_some, ◌%◌, ◌/◌, nat_lt}
-use Rattle.std.proofs.lemmas.Bool.{cases_eq, cases_Bool, ne_eqb, eq-eqb, and_parts, and_from, both_ways, lt-ltb, not-true}
+use Rattle.std.proofs.lemmas.Bool.{cases_eq, ne_eqb, eq-eqb, and_parts, and_from, both_ways, lt-ltb, not-true}
 use Rattle.shogi_core.specs.declared.moves.Move.{Move}
 use Rattle.shogi_core.specs.declared.moves.Move.TheVariants.{Board, Drop}
 use Rattle.shogi_core.specs.declared.piece.Color.{Color}
@@ -24,7 +24,7 @@ use Rattle.shogi_core.proofs.Exposed.{check_was}
 use Rattle.shogi_core.proofs.CodesBack.{move_of-board, move_of-drop}
 use Rattle.shogi_core.proofs.LineBits.{has_bit-not, and_fits}
 use Rattle.shogi_moves.specs.After.{moved, cells_after, dropped}
-use Rattle.shogi_moves.specs.Captures.{captures, is_asked, is_capture, is_wanted}
+use Rattle.shogi_moves.specs.Captures.{captures, is_asked, is_wanted}
 use Rattle.shogi_moves.specs.Ends.{is_end, is_unchecked, Sifts}
 use Rattle.shogi_moves.specs.Guards.{Guards}
 use Rattle.shogi_moves.specs.Legal.{is_safe, is_legal, is_legal_code, is_right_board_move, may_promote, can_promote, in_zone, is_right_drop, is_pawn_kind, is_pawn_mate}

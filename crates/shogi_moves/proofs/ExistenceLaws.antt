@@ -63,12 +63,12 @@ pub kind_without : (p : Shogi) (kind : Kind) (ends : ℕ) → ((n : ℕ) → n <
 kind_without p kind ends bits none =
     let seven : number_of kind < 7 = number_below kind in
     run_without p (13122 + number_of kind * 81) (13203 + number_of kind * 81) (omega arith) (omega arith) (λ c low high. (
-        let at : c ≡ code_of (Drop kind (c - 13122 - number_of kind * 81)) = omega arith in
-        let there : c - 13122 - number_of kind * 81 < 81 = omega arith in
-        ap (is_legal_code p) at
-        ∙ (sym (drop_wanted p kind (c - 13122 - number_of kind * 81) there)
-        ∙ (sym (bits (c - 13122 - number_of kind * 81) there)
-        ∙ (ap (λ m. has_bit m (c - 13122 - number_of kind * 81)) none ∙ has_bit-none (c - 13122 - number_of kind * 81))))))
+    let at : c ≡ code_of (Drop kind (c - 13122 - number_of kind * 81)) = omega arith in
+    let there : c - 13122 - number_of kind * 81 < 81 = omega arith in
+    ap (is_legal_code p) at
+    ∙ (sym (drop_wanted p kind (c - 13122 - number_of kind * 81) there)
+    ∙ (sym (bits (c - 13122 - number_of kind * 81) there)
+    ∙ (ap (λ m. has_bit m (c - 13122 - number_of kind * 81)) none ∙ has_bit-none (c - 13122 - number_of kind * 81))))))
 
 pub some_legal : (p : Shogi) (code : ℕ) → is_legal_code p code ≡ true → legal_moves p ≢ []
 some_legal p code e none = let clash : false ≡ true = ap (λ codes. is_in code codes) (sym none) ∙ in_legal p 0 code (omega arith) e in cc

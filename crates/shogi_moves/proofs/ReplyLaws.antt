@@ -1,6 +1,6 @@
 -- After most moves the other side has a legal move.
 use Rattle.std.proofs.Common.{◌≡◌, ◌≢◌, ℕ, ◌-◌, ◌*◌, ◌%◌, ◌^◌, ◌<◌, ◌⊎◌, Bool, true, false, not, Option, Some, None, [], refl, sym, ap, subst, ◌∙◌, arith, inl, inr, set, length, length-set, bit_and, bit_or}
-use Rattle.std.specs.Prelude.{◌==◌, ◌&&◌, ◌||◌, is_none}
+use Rattle.std.specs.Prelude.{◌==◌, ◌&&◌, is_none}
 use Rattle.std.specs.Int.{trailing_zeros, w128}
 use Rattle.std.proofs.lemmas.Bool.{cases_eq, false_from_ne_true, both_ways, and_parts, and_from, or_left, or_right, not-true, not_from_false, ne_eqb, eq-eqb}
 use Rattle.shogi_core.specs.declared.moves.Move.TheVariants.{Board, Drop}
@@ -26,7 +26,7 @@ use Rattle.shogi_core.proofs.LineBits.{lowest_set, and_fits, has_bit-not}
 use Rattle.shogi_core.proofs.Replies.{no_check}
 use Rattle.shogi_core.proofs.SeenLaws.{lined_back}
 use Rattle.shogi_moves.specs.After.{after, cells_after, moved, dropped}
-use Rattle.shogi_moves.specs.Legal.{is_legal, is_legal_code, is_right_board_move}
+use Rattle.shogi_moves.specs.Legal.{is_legal, is_right_board_move}
 use Rattle.shogi_moves.specs.LegalMoves.{legal_moves}
 use Rattle.shogi_moves.specs.Replies.{cell_steps, is_open_step, is_spare, Sees, IsReplies}
 use Rattle.shogi_moves.proofs.DropChecks as drops

@@ -1,7 +1,7 @@
 -- Ways through the legal moves of a sort.
-use Rattle.std.proofs.Common.{◌≡◌, ◌≢◌, ℕ, ◌+◌, ◌-◌, ◌*◌, ◌/◌, ◌%◌, ◌^◌, ◌<◌, ◌≤◌, ◌⊎◌, Bool, true, false, not, Option, Some, None, [], ◌∷◌, filter, refl, sym, ap, ◌∙◌, arith, inl, inr, subst, bit_or, bit_and}
-use Rattle.std.specs.Prelude.{◌&&◌, ◌||◌, ◌==◌, cond}
-use Rattle.std.proofs.lemmas.Bool.{cases_eq, cases_lt, cases_Bool, ne_eqb, eq-eqb, and_parts, and_from, both_ways, or_left, or_right, or_parts, or_cases, false_from_ne_true}
+use Rattle.std.proofs.Common.{◌≡◌, ◌≢◌, ℕ, ◌+◌, ◌-◌, ◌*◌, ◌/◌, ◌%◌, ◌^◌, ◌<◌, ◌≤◌, ◌⊎◌, Bool, true, false, not, Some, [], ◌∷◌, refl, sym, ap, ◌∙◌, arith, inl, inr, subst, bit_or}
+use Rattle.std.specs.Prelude.{◌&&◌, ◌==◌}
+use Rattle.std.proofs.lemmas.Bool.{cases_eq, ne_eqb, eq-eqb, and_parts, both_ways, or_left, or_right, or_parts, or_cases, false_from_ne_true}
 use Rattle.shogi_core.specs.declared.moves.Move.{Move}
 use Rattle.shogi_core.specs.declared.moves.Move.TheVariants.{Board, Drop}
 use Rattle.shogi_core.specs.declared.piece.Kind.{Kind}
@@ -14,12 +14,8 @@ use Rattle.shogi_core.specs.Position.{Shogi}
 use Rattle.shogi_core.proofs.BitLaws.{has_bit-or, has_bit-none}
 use Rattle.shogi_core.proofs.CodesBack.{move_of-board, move_of-drop}
 use Rattle.shogi_core.proofs.Faults.{number_below}
-use Rattle.shogi_core.proofs.LineBits.{and_fits}
-use Rattle.shogi_moves.specs.Captures.{captures, is_asked, is_of_sort, is_wanted, HasNoneWanted}
-use Rattle.shogi_moves.specs.Guards.{Guards}
+use Rattle.shogi_moves.specs.Captures.{captures, is_asked, is_wanted, HasNoneWanted}
 use Rattle.shogi_moves.specs.Legal.{is_legal}
-use Rattle.shogi_moves.specs.LegalMoves.{legal_from}
-use Rattle.shogi_moves.specs.NoSafe.{HasNoSafe}
 use Rattle.shogi_moves.specs.Sweeps.{wanted_from, Keeps, KeepsBoard, KeepsDrop}
 use Rattle.shogi_moves.proofs.CaptureLaws.{none_safe, none_square, none_drop, none_join, wanted_jumps, wanted_found, wanted_end}
 use Rattle.shogi_moves.proofs.EndLaws.{wanted_move}

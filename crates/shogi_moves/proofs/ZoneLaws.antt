@@ -1,12 +1,10 @@
 -- Squares by rank, as masks.
-use Rattle.std.proofs.Common.{◌≡◌, ℕ, ◌<◌, ◌+◌, ◌*◌, ◌^◌, Bool, true, false, refl, ap, ◌∙◌, sym, arith, get_or, bit_or, inl, inr}
+use Rattle.std.proofs.Common.{◌≡◌, ℕ, ◌<◌, ◌+◌, ◌*◌, ◌^◌, Bool, true, false, refl, ◌∙◌, arith, get_or, bit_or, inl, inr}
 use Rattle.std.specs.Prelude.{◌%◌, ◌/◌, ◌==◌, ◌&&◌, ◌||◌, nat_lt}
 use Rattle.std.proofs.lemmas.Bool.{agree_below_at, ltb-true, lt-ltb, le-ltb, cases_lt, cases_eq, eq-eqb, ne_eqb}
 use Rattle.std.proofs.lemmas.Nat.{or_lt}
 use Rattle.shogi_core.specs.Bits.{has_bit}
 use Rattle.shogi_core.specs.declared.piece.Color.{Color}
-use Rattle.shogi_core.specs.declared.piece.Color.TheVariants.{Black, White}
-use Rattle.shogi_core.specs.declared.piece.Piece.{Piece}
 use Rattle.shogi_core.specs.declared.piece.Role.{Role}
 use Rattle.shogi_core.proofs.BitLaws.{has_bit-none, has_bit-or}
 use Rattle.shogi_core.specs.Movement.{Cells}
@@ -65,7 +63,9 @@ pub promotes_there : (role : Role) (color : Color) (from n m : ℕ) → has_bit 
 promotes_there role color from n m b e z = b ∙ right_alone (can_promote role) (in_zone color from) (in_zone color n) e z
 
 pub ruleset dead_bits = (first_rank, first_ranks, last_rank, last_ranks, no_squares)
+
 pub ruleset zone_bits = (black_zone, white_zone)
+
 pub ruleset promoting_bits = (no_squares, promotes_never, promotes_all, promotes_there)
 
 -- ---- files

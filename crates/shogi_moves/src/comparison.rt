@@ -1,8 +1,7 @@
 //! The bodies by masks against the plain ones, on worked positions and on those of a played game.
 
-use crate::plain;
 use crate::tests::{position, read};
-use crate::{Walk, apply, has_legal, in_check, is_legal, next_legal, next_legal_of, perft};
+use crate::{Walk, apply, has_legal, in_check, is_legal, next_legal, next_legal_of, perft, plain};
 use shogi_core::Color::{Black, White};
 use shogi_core::{Color, Move, Position, Square};
 use std::process::Abort;
@@ -39,8 +38,14 @@ fn assert_moves(rt: &impl Abort, p: &Position, at: usize) {
         if legal {
             count = count.saturating_add(1);
             passed = next_legal(p, passed);
-            assert!(rt; passed == Some(m), "the move {code} is next in position {at}");
-            assert!(rt; walk.next() == Some(m), "the move {code} is walked in position {at}");
+            assert!(rt;
+                passed == Some(m),
+                "the move {code} is next in position {at}"
+            );
+            assert!(rt;
+                walk.next() == Some(m),
+                "the move {code} is walked in position {at}"
+            );
             let capture = plain::takes(p, &m);
             if capture {
                 taken = next_legal_of(p, true, taken);
@@ -51,11 +56,26 @@ fn assert_moves(rt: &impl Abort, p: &Position, at: usize) {
             }
         }
     }
-    assert!(rt; next_legal(p, passed).is_none() && walk.next().is_none(), "position {at}");
-    assert!(rt; next_legal_of(p, true, taken).is_none(), "no capture more in position {at}");
-    assert!(rt; next_legal_of(p, false, quiet).is_none(), "no quiet move more in position {at}");
-    assert!(rt; has_legal(p) == passed.is_some(), "whether a move is legal in position {at}");
-    assert!(rt; perft(p, 1) == Some(count), "the number of moves in position {at}");
+    assert!(rt;
+        next_legal(p, passed).is_none() && walk.next().is_none(),
+        "position {at}"
+    );
+    assert!(rt;
+        next_legal_of(p, true, taken).is_none(),
+        "no capture more in position {at}"
+    );
+    assert!(rt;
+        next_legal_of(p, false, quiet).is_none(),
+        "no quiet move more in position {at}"
+    );
+    assert!(rt;
+        has_legal(p) == passed.is_some(),
+        "whether a move is legal in position {at}"
+    );
+    assert!(rt;
+        perft(p, 1) == Some(count),
+        "the number of moves in position {at}"
+    );
 }
 
 // Each square is reached and attacked alike, and each side is in check alike.
@@ -78,9 +98,15 @@ fn assert_attacks(rt: &impl Abort, p: &Position, at: usize) {
         }
     }
     for color in [Black, White] {
-        assert!(rt; board.in_check(color) == plain::in_check(&board, color), "position {at}");
+        assert!(rt;
+            board.in_check(color) == plain::in_check(&board, color),
+            "position {at}"
+        );
     }
-    assert!(rt; in_check(p) == plain::in_check(&board, p.side()), "position {at}");
+    assert!(rt;
+        in_check(p) == plain::in_check(&board, p.side()),
+        "position {at}"
+    );
 }
 
 fn assert_same(rt: &impl Abort, p: &Position, at: usize) {

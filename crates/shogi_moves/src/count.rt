@@ -5,10 +5,10 @@ ghost use Rattle.shogi_moves.specs.LegalMoves.{legal_from, legal_moves, paths};
 ghost use Rattle.shogi_moves.specs.Guards.{Guards};
 
 use crate::after::apply;
-use crate::walk::Walk;
 use crate::ends::{drop_ends, legal_ends};
 use crate::guard::{Guard, guard_of};
 use crate::sweep::next_kind;
+use crate::walk::Walk;
 use shogi_core::bits::next_of;
 use shogi_core::{Kind, Position, Square};
 

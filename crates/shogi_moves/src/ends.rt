@@ -14,8 +14,8 @@ ghost use Rattle.shogi_moves.specs.Ends.{is_end, is_unchecked};
 ghost use Rattle.shogi_moves.specs.Guards.{Guards};
 
 use crate::after::{cells_after, dropped};
-use crate::legal::{is_pawn_kind, is_pawn_mate};
 use crate::guard::{Guard, is_calm};
+use crate::legal::{is_pawn_kind, is_pawn_mate};
 use crate::zones::{dead_squares, pawn_files, promoting_squares};
 use shogi_core::bits::{cleared, has, lowest};
 use shogi_core::{Board, Kind, Move, Piece, Position, Role, Square, step_squares};

@@ -63,7 +63,11 @@ fn loosened(p: &Position, exposed: u128) -> u128
         lifted.set(Square::of_index(square), None);
         left = cleared(left, square);
     }
-    if lifted.in_check(side) { exposed } else { kings }
+    if lifted.in_check(side) {
+        exposed
+    } else {
+        kings
+    }
 }
 
 /// What is kept of the position.

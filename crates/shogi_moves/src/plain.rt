@@ -166,7 +166,8 @@ fn has_safe(p: &Position) -> bool {
 
 fn mates_by_pawn(p: &Position, m: &Move) -> bool {
     let Move::Drop {
-        kind: Kind::Pawn, ..
+        kind: Kind::Pawn,
+        ..
     } = m
     else {
         return false;

@@ -5,7 +5,7 @@ use Rattle.shogi_core.specs.declared.moves.Move.{Move}
 use Rattle.shogi_core.specs.Codes.{code_of}
 use Rattle.shogi_core.specs.Position.{Shogi}
 use Rattle.shogi_moves.specs.Captures.{is_of_sort}
-use Rattle.shogi_moves.specs.LegalMoves.{legal_moves, legal_from}
+use Rattle.shogi_moves.specs.LegalMoves.{legal_from}
 use Rattle.shogi_moves.specs.Sweeps.{IsBoardSweep, IsDropSweep}
 use Rattle.shogi_search.specs.declared.order.Cursor.{Cursor}
 use Rattle.shogi_search.specs.declared.order.Cursor.TheVariants.{First, Start, Captures, Quiets, Drops, Done}

@@ -280,7 +280,10 @@ impl Frame {
         ensures value { IfSome result (λ v. value (after_code self.now.position (code_of self.now.asked)) 0 ≡ v) }
     {
         self.asked.code();
-        if self.replies.is_certain(self.position.as_position(), &self.asked) {
+        if self
+            .replies
+            .is_certain(self.position.as_position(), &self.asked)
+        {
             return Some(self.position.score_after(&self.asked));
         }
         None

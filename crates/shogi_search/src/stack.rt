@@ -71,9 +71,10 @@ pub fn looks_ahead<M: Memo>(depth: u8, memo: &M) -> bool
     depth == 1 && !memo.keeps(0)
 }
 
-/// Goes on with the move that has begun to wait on top: by the memo's answer, by the value of a
-/// leaf, which the next step takes in, or into its child.
-fn descend<M: Memo>(stack: &mut Stack, root: &Position, depth: u8, memo: &mut M)
+/// Goes on with the move that has begun to wait on top, and makes its child: by the memo's answer,
+/// by the value of a leaf, which the next step takes in, or into the child.
+#[inline(never)]
+fn enter_child<M: Memo>(stack: &mut Stack, root: &Position, depth: u8, memo: &mut M)
     requires shallow { depth ≤ 16 }
     requires chain { IsChain root.now depth (negsuc 30999) (pos 31000) stack.old.waiting.items stack.old.top }
     requires waiting { stack.old.top.waiting ≡ true }
@@ -82,12 +83,6 @@ fn descend<M: Memo>(stack: &mut Stack, root: &Position, depth: u8, memo: &mut M)
     ensures left { left_of_stack stack.new.waiting.items stack.new.top < left_of_stack stack.old.waiting.items stack.old.top + 2 * tree (after_code stack.old.top.position (code_of stack.old.top.asked)) (stack.old.top.depth - 1) }
 {
     let bar = stack.top.bar();
-    if looks_ahead(stack.top.depth, memo) {
-        if let Some(value) = stack.top.certain_leaf() {
-            stack.top.hear(value);
-            return;
-        }
-    }
     let p = child(&stack.top);
     let below = stack.top.depth - 1;
     let (low, high) = (-stack.top.high, -bar);
@@ -107,7 +102,26 @@ fn descend<M: Memo>(stack: &mut Stack, root: &Position, depth: u8, memo: &mut M)
     stack.top = frame;
 }
 
+/// The same; where a leaf is certain to have a legal move, its value is told without making it.
+fn descend<M: Memo>(stack: &mut Stack, root: &Position, depth: u8, memo: &mut M)
+    requires shallow { depth ≤ 16 }
+    requires chain { IsChain root.now depth (negsuc 30999) (pos 31000) stack.old.waiting.items stack.old.top }
+    requires waiting { stack.old.top.waiting ≡ true }
+    ensures chain { IsChain root.now depth (negsuc 30999) (pos 31000) stack.new.waiting.items stack.new.top }
+    ensures free { stack.new.top.cut ≡ None → stack.new.top.answer ≡ None → stack.new.top.waiting ≡ false }
+    ensures left { left_of_stack stack.new.waiting.items stack.new.top < left_of_stack stack.old.waiting.items stack.old.top + 2 * tree (after_code stack.old.top.position (code_of stack.old.top.asked)) (stack.old.top.depth - 1) }
+{
+    if looks_ahead(stack.top.depth, memo) {
+        if let Some(value) = stack.top.certain_leaf() {
+            stack.top.hear(value);
+            return;
+        }
+    }
+    enter_child(stack, root, depth, memo)
+}
+
 /// Leaves the node on top, and gives what is known of the root where that was it.
+#[inline(never)]
 fn leave<M: Memo>(stack: &mut Stack, root: &Position, depth: u8, memo: &mut M) -> Option<Entry>
     requires chain { IsChain root.now depth (negsuc 30999) (pos 31000) stack.old.waiting.items stack.old.top }
     requires done { stack.old.top.cut ≡ None → (stack.old.top.waiting ≡ false) × (todo stack.old.top.position stack.old.top.cursor ≡ []) }

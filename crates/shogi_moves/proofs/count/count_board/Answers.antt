@@ -14,7 +14,7 @@ squares-init c = record {
 pub squares-preserved : goal.squares-preserved
 squares-preserved c =
     let block = counted_board c.args.p.now c.squares.square c.legal_ends-ends.result.plain c.legal_ends-ends.result.promoting (omega arith) c.legal_ends-ends.ensures.plain_fits c.legal_ends-ends.ensures.promoting_fits
-        (rw c.of_index.ensures at c.legal_ends-ends.ensures.plain) (rw c.of_index.ensures at c.legal_ends-ends.ensures.promoting) in
+    (rw c.of_index.ensures at c.legal_ends-ends.ensures.plain) (rw c.of_index.ensures at c.legal_ends-ends.ensures.promoting) in
     let on : c.squares.square * 162 + 162 ≡ (c.squares.square + 1) * 162 = omega arith in
     let onw = ap (λ (x : ℕ). length (legal_from c.args.p.now x)) on in
     let between = counted_between c.args.p.now c.own-own.result (c.squares.square + 1) c.next_of-square-in-squares.result (omega arith) (omega arith) (rw c.side.ensures at c.own-own.ensures.bits) c.next_of-square-in-squares.ensures.none in

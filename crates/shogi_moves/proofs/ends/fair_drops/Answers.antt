@@ -1,8 +1,7 @@
-use Rattle.std.proofs.Common.{◌≡◌, subst, not, arith}
+use Rattle.std.proofs.Common.{◌≡◌, not, arith}
 use Rattle.shogi_core.specs.declared.moves.Move.TheVariants.{Drop}
 use Rattle.shogi_core.specs.declared.piece.Kind.TheVariants as kinds
 use Rattle.shogi_moves.specs.Legal.{is_pawn_mate}
-use Rattle.shogi_moves.specs.Ends.{Sifts}
 use Rattle.shogi_core.proofs.LineBits.{and_fits}
 use Rattle.shogi_moves.proofs.EndLaws.{sift_done, sift_some}
 use Rattle.shogi_moves.proofs.ends.fair_drops.Goals as goal

@@ -1,6 +1,6 @@
-use Rattle.std.proofs.Common.{◌≡◌, subst, false, arith}
+use Rattle.std.proofs.Common.{◌≡◌, false, arith}
 use Rattle.shogi_core.specs.declared.moves.Move.TheVariants.{Board}
-use Rattle.shogi_moves.specs.Ends.{is_unchecked, Sifts}
+use Rattle.shogi_moves.specs.Ends.{is_unchecked}
 use Rattle.shogi_moves.proofs.EndLaws.{sift_done}
 use Rattle.shogi_moves.proofs.ends.king_ends.Goals as goal
 

@@ -1,4 +1,4 @@
-use Rattle.std.proofs.Common.{arith, ◌∙◌}
+use Rattle.std.proofs.Common.{◌∙◌}
 use Rattle.shogi_core.specs.declared.moves.Move.TheVariants.{Drop}
 use Rattle.shogi_moves.specs.Ends.{is_unchecked}
 use Rattle.shogi_moves.proofs.EndLaws.{narrowed_drops, no_answer_drop, safe_tried, safe_calm}

@@ -1,6 +1,6 @@
-use Rattle.std.proofs.Common.{◌≡◌, subst, arith}
+use Rattle.std.proofs.Common.{◌≡◌, arith}
 use Rattle.shogi_core.specs.declared.moves.Move.TheVariants.{Drop}
-use Rattle.shogi_moves.specs.Ends.{is_unchecked, Sifts}
+use Rattle.shogi_moves.specs.Ends.{is_unchecked}
 use Rattle.shogi_moves.proofs.EndLaws.{sift_done}
 use Rattle.shogi_moves.proofs.ends.tried_drops.Goals as goal
 

@@ -1,4 +1,4 @@
-use Rattle.std.proofs.Common.{arith, true, false, sym, ◌∙◌, rules}
+use Rattle.std.proofs.Common.{arith, true, false, rules}
 use Rattle.shogi_moves.proofs.SweepLaws.{no_ends}
 use Rattle.shogi_moves.proofs.sweep.ends_on.Goals as goal
 

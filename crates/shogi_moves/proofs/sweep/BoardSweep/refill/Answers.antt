@@ -1,6 +1,5 @@
-use Rattle.std.proofs.Common.{◌≡◌, ◌≤◌, ◌+◌, ◌*◌, arith, sym, ap, ◌∙◌, refl, subst, ℕ}
-use Rattle.shogi_moves.specs.Captures.{HasNoneWanted}
-use Rattle.shogi_moves.specs.Sweeps.{wanted_from, KeepsBoard}
+use Rattle.std.proofs.Common.{◌≡◌, ◌*◌, arith, refl}
+use Rattle.shogi_moves.specs.Sweeps.{KeepsBoard}
 use Rattle.shogi_moves.proofs.CaptureLaws.{wanted_jumps}
 use Rattle.shogi_moves.proofs.SweepLaws.{none_first, none_more, keeps_square}
 use Rattle.shogi_moves.proofs.sweep.BoardSweep.refill.Goals as goal

@@ -1,4 +1,4 @@
-use Rattle.std.proofs.Common.{◌≡◌, ◌≤◌, ◌+◌, ◌*◌, arith, sym, ap, ◌∙◌, refl, subst, ℕ}
+use Rattle.std.proofs.Common.{◌≡◌, ◌+◌, ◌*◌, arith, refl, subst, ℕ}
 use Rattle.shogi_core.specs.Pieces.{number_of}
 use Rattle.shogi_moves.specs.Sweeps.{KeepsDrop}
 use Rattle.shogi_moves.proofs.SweepLaws.{keeps_kind, no_drop_left, no_drop_more, no_drop_to, no_drop_end}
