@@ -129,7 +129,7 @@ fn answer_over<M: Memo>(
     let start = Instant::now(rt)?;
     let reply = reply_to(request, memo);
     let seconds = start.elapsed(rt)?.as_secs_f64();
-    println!(rt; "{reply} {seconds:.3}")
+    println!(rt; "{reply} {seconds:.6}")
 }
 
 #[cfg(test)]
