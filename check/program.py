@@ -52,6 +52,11 @@ def run(words, sent=b"", **how):
     return ended.returncode, ended.stdout, ended.stderr
 
 
+def limited():
+    """Leaves the program 8 MiB of addresses, for the table and all else."""
+    resource.setrlimit(resource.RLIMIT_AS, (8 << 20, 8 << 20))
+
+
 def start(words=()):
     """Starts the program with a pipe at each end."""
     return subprocess.Popen(
@@ -111,18 +116,15 @@ def a_line_that_is_too_long_ends_the_session():
 
 
 def help_is_no_fault():
-    for words in (
-        ["--help"],
-        ["-h"],
-        ["help"],
-        ["stdio", "--help"],
-        ["help", "stdio"],
-        ["replay", "--help"],
-        ["help", "replay"],
-    ):
+    for words in (["--help"], ["-h"], ["help"], ["stdio", "--help"], ["help", "stdio"]):
         status, text, complaints = run(words)
         want((status, complaints), (0, b""), f"{words}")
         if b"--entries" not in text and b"stdio" not in text:
+            raise Wrong(f"{words}: no help in {text!r}")
+    for words in (["replay", "--help"], ["help", "replay"]):
+        status, text, complaints = run(words)
+        want((status, complaints), (0, b""), f"{words}")
+        if b"--slots" not in text or b"--slice" not in text or b"refused 1" not in text:
             raise Wrong(f"{words}: no help in {text!r}")
 
 
@@ -136,13 +138,15 @@ def other_words_are_refused():
         ["stdio", "--entries", "-1"],
         ["stdio", "--entries", "many"],
         ["stdio", "1"],
+        [b"stdio\xff"],
         ["stdio", "--slots", "1"],
+        ["replay", "script"],
         ["replay", "--slots", "0"],
         ["replay", "--slots", "1025"],
         ["replay", "--entries", "0"],
+        ["replay", "--entries", "1000001"],
         ["replay", "--slice", "0"],
         ["replay", "--slice", "1000000001"],
-        [b"stdio\xff"],
     ):
         status, text, complaints = run(words)
         want((status, text), (2, b""), f"{words}")
@@ -150,53 +154,28 @@ def other_words_are_refused():
             raise Wrong(f"{words}: standard error is {complaints!r}")
 
 
-def a_script_has_its_output():
-    sent = b"+A\n+B\nA go depth 1\nB go\nA quit\nB quit\n"
-    written = b"== A\n" + DEPTH_ONE + b"bestmove 1g1f\n== B\n" + DEPTH_THREE
-    for words in ([], ["--slots", "2", "--entries", "1", "--slice", "1"]):
-        want(run(["replay", *words], sent), (0, written, b""), f"{words}")
-
-
-def a_session_too_many_is_refused():
-    seen = run(["replay", "--slots", "1"], b"+A\n+B\nB isready\nA isready\n")
-    want(seen, (0, b"== A\nreadyok\n== B\nrefused 1\n", b""), "one slot")
-
-
-def a_bad_script_has_a_status_of_its_own():
-    for sent, number in ((b"A go\n", b"1"), (b"+A\nA usi\n\n+A\n", b"4")):
-        wanted = (3, b"", b"usi_host: bad script line " + number + b"\n")
-        want(run(["replay"], sent), wanted, f"{sent}")
-
-
 def a_full_device_is_a_failed_write():
-    for words, sent in (([], b"usi\n"), (["replay"], b"+A\n")):
-        with open("/dev/full", "wb") as full:
-            status, _, complaints = run(words, sent, stdout=full)
-        want((status, complaints), (1, b"usi_host: write failed\n"), f"{words}")
+    with open("/dev/full", "wb") as full:
+        status, _, complaints = run([], b"usi\n", stdout=full)
+    want((status, complaints), (1, b"usi_host: write failed\n"), "a full device")
 
 
 def a_folder_is_a_failed_read():
-    for words in ([], ["replay"]):
-        folder = os.open(TOP, os.O_RDONLY)
-        try:
-            seen = run(words, stdin=folder)
-        finally:
-            os.close(folder)
-        want(seen, (1, b"", b"usi_host: read failed\n"), f"{words}")
+    folder = os.open(TOP, os.O_RDONLY)
+    try:
+        seen = run([], stdin=folder)
+    finally:
+        os.close(folder)
+    want(seen, (1, b"", b"usi_host: read failed\n"), "a folder as input")
 
 
 def want_of_memory_is_told():
     """The table takes several bytes for each entry before the first note: a limit that lets a small
     one be made refuses a large one, so the number of entries is not ignored."""
-
-    def limited():
-        resource.setrlimit(resource.RLIMIT_AS, (8 << 20, 8 << 20))
-
     small = run(["stdio", "--entries", "1"], b"isready\n", preexec_fn=limited)
     want(small, (0, b"readyok\n", b""), "a table of one entry")
-    for command, sent in (("stdio", b"isready\n"), ("replay", b"+A\n")):
-        large = run([command, "--entries", "1000000"], sent, preexec_fn=limited)
-        want(large, (1, b"", b"usi_host: out of memory\n"), f"{command}, a table of a million")
+    large = run(["stdio", "--entries", "1000000"], b"isready\n", preexec_fn=limited)
+    want(large, (1, b"", b"usi_host: out of memory\n"), "a table of a million")
 
 
 def quit_ends_it_while_the_input_stays_open():
@@ -259,6 +238,60 @@ def a_file_is_as_good_as_a_pipe():
         want((status, written.read(), complaints), (0, DEPTH_THREE, b""), "files")
 
 
+def a_replay_writes_what_its_sessions_reply():
+    script = b"+A\n+B\nB usi\n-B\nA setoption name Depth value 1\n-A\n+A\nA go\n-A\n"
+    output = b"== A\n== B\nrefused 1\n== A\n" + DEPTH_THREE
+    want(run(["replay", "--slots", "1"], script), (0, output, b""), "one slot")
+    want(run(["replay"]), (0, b"", b""), "an empty script")
+
+
+def neither_entries_nor_slices_change_a_replay():
+    script = b"+A\n+B\nA go depth 1\nB go depth 3\nA quit\nB quit\n"
+    output = b"== A\n" + DEPTH_ONE + b"bestmove 1g1f\n== B\n" + DEPTH_THREE
+    for entries in ("1", "4096"):
+        for slice_ in ("1", "7", "1000", "1000000000"):
+            words = ["replay", "--slots", "2", "--entries", entries, "--slice", slice_]
+            want(run(words, script), (0, output, b""), f"{words}")
+
+
+def the_first_bad_line_of_a_script_is_named():
+    for script, line in (
+        (b"A go\n", 1),
+        (b"+A\n+A\n", 2),
+        (b"-B\n", 1),
+        (b"+A\nA isready\n?\n?\n", 3),
+        (b"+A\nA " + b"x" * 65_534, 2),
+    ):
+        complaint = b"usi_host: bad script line %d\n" % line
+        want(run(["replay"], script), (3, b"", complaint), f"{script[:40]}")
+
+
+def a_replay_writes_nothing_before_its_script_ends():
+    running = start(["replay"])
+    running.stdin.write(b"+A\nA isready\n")
+    ready, _, _ = select.select([running.stdout], [], [], 0.5)
+    want(ready, [], "what can be read before the end")
+    running.stdin.close()
+    running.stdin = None
+    want(line_of(running) + line_of(running), b"== A\nreadyok\n", "the output")
+    ends(running, 0, b"")
+
+
+def a_replay_tells_its_faults():
+    with open("/dev/full", "wb") as full:
+        status, _, complaints = run(["replay"], b"+A\nA usi\n", stdout=full)
+    want((status, complaints), (1, b"usi_host: write failed\n"), "a full device")
+    folder = os.open(TOP, os.O_RDONLY)
+    try:
+        seen = run(["replay"], stdin=folder)
+    finally:
+        os.close(folder)
+    want(seen, (1, b"", b"usi_host: read failed\n"), "a folder as input")
+
+    large = run(["replay", "--entries", "1000000"], b"+A\nA isready\n", preexec_fn=limited)
+    want(large, (1, b"", b"usi_host: out of memory\n"), "a table of a million")
+
+
 CHECKS = (
     no_words_are_a_session,
     stdio_is_the_same,
@@ -267,9 +300,6 @@ CHECKS = (
     a_line_that_is_too_long_ends_the_session,
     help_is_no_fault,
     other_words_are_refused,
-    a_script_has_its_output,
-    a_session_too_many_is_refused,
-    a_bad_script_has_a_status_of_its_own,
     a_full_device_is_a_failed_write,
     a_closed_output_is_a_failed_write,
     a_folder_is_a_failed_read,
@@ -279,6 +309,11 @@ CHECKS = (
     info_lines_come_as_they_are_found,
     a_front_end_that_is_gone_is_noticed,
     a_file_is_as_good_as_a_pipe,
+    a_replay_writes_what_its_sessions_reply,
+    neither_entries_nor_slices_change_a_replay,
+    the_first_bad_line_of_a_script_is_named,
+    a_replay_writes_nothing_before_its_script_ends,
+    a_replay_tells_its_faults,
 )
 
 
