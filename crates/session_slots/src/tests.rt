@@ -17,7 +17,14 @@ fn a_slot_is_used_again_under_a_new_id(rt: HostRuntime) -> Result<(), Fail> {
     assert_eq!(rt; (third.slot, third.generation), (first.slot, 2));
     assert!(rt; slots.get(first).is_none() && slots.get_mut(first).is_none());
     assert!(rt; slots.get(second).is_some() && slots.get_mut(third).is_some());
-    assert!(rt; slots.get(SessionId { slot: 7, generation: 1 }).is_none());
+    assert!(rt;
+        slots
+            .get(SessionId {
+                slot: 7,
+                generation: 1
+            })
+            .is_none()
+    );
 
     assert_eq!(rt; slots.next_open(None), Some(third));
     assert_eq!(rt; slots.next_open(Some(third.slot)), Some(second));
