@@ -66,6 +66,18 @@ impl<S: BuildHasher + Drop, A: Allocator + Clone> SharedTable<S, A> {
 }
 
 impl<S: BuildHasher, A: Allocator> SharedTable<S, A> {
+    /// Tells that no key is held twice, that there are at most as many entries as the capacity, which
+    /// is from 1 to 1,000,000, and that each entry is true.
+    pub fn validity(&self)
+        ensures keys { IsDistinct is_same_key (keys_of self.now.pairs) }
+        ensures fits { length self.now.pairs ≤ self.now.capacity }
+        ensures least { 1 ≤ self.now.capacity }
+        ensures most { self.now.capacity ≤ 1000000 }
+        ensures truth { AreTrue self.now.pairs }
+    {
+        self.len();
+    }
+
     /// The entry of the position at the depth. The order stays.
     pub fn peek(&self, p: &Position, d: u8) -> Option<Entry>
         ensures { result ≡ entry_of self.now.pairs (key_of p.now d) }

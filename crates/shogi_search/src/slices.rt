@@ -121,6 +121,7 @@ impl Search {
         // Until the end the whole budget is used.
         ensures all { IfNone result (self.new.steps ≡ min (self.old.steps + budget) (2 ^ 64 - 1)) }
         ensures left { IfNone result (left_of self.new + budget ≤ left_of self.old) }
+        ensures rises { self.old.steps ≤ self.new.steps }
         ensures most { self.new.steps ≤ self.old.steps + budget }
         ensures fell { self.new.steps + left_of self.new ≤ self.old.steps + left_of self.old }
     {
@@ -147,6 +148,7 @@ impl Search {
         // Until the end the whole budget is used.
         ensures all { IfNone result (self.new.steps ≡ min (self.old.steps + budget) (2 ^ 64 - 1)) }
         ensures left { IfNone result (left_of self.new + budget ≤ left_of self.old) }
+        ensures rises { self.old.steps ≤ self.new.steps }
         ensures most { self.new.steps ≤ self.old.steps + budget }
         ensures fell { self.new.steps + left_of self.new ≤ self.old.steps + left_of self.old }
 

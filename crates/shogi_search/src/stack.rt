@@ -185,6 +185,7 @@ pub fn run<M: Memo>(
     ensures free { IfNone result (stack.new.top.cut ≡ None → stack.new.top.answer ≡ None → stack.new.top.waiting ≡ false) }
     ensures left { IfNone result (left_of_stack stack.new.waiting.items stack.new.top + budget ≤ left_of_stack stack.old.waiting.items stack.old.top) }
     ensures all { IfNone result (steps.new ≡ min (steps.old + budget) (2 ^ 64 - 1)) }
+    ensures rises { steps.old ≤ steps.new }
     ensures most { steps.new ≤ steps.old + budget }
     ensures fell { IfSome result (λ _. steps.new ≤ steps.old + left_of_stack stack.old.waiting.items stack.old.top) }
     ensures truth { IfSome result (IsTrueEntry root.now depth) }

@@ -3,5 +3,6 @@ pub mod Placed
 pub mod HandLaws
 pub mod Walk
 pub mod Infos
+pub mod WholeReplies
 pub mod Steps
 pub mod Settled

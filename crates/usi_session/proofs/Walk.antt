@@ -39,10 +39,14 @@ load_goes_on at next plies rest left m b h e n g f =
     let c : chase next (plies - 1) ≡ 2 * tree next (plies - 1) + then_chase (λ q. chase q (plies - 1 - 1)) next (best next (plies - 1)) = chase-above next (plies - 1) h in
     rw (s, ← g) (omega arith)
 
+-- what is written of a depth is its info line
+pub told_line : (p : Shogi) (told : ℕ) (old new : List ℕ) (v : ℤ) (moves : List Move) → v ≡ value p (told + 1) → moves ≡ line p (told + 1) → new ≡ old ++ said_line (told + 1) v moves → new ≡ old ++ info_line p (told + 1)
+told_line p told old new v moves e f g = rw (← e, ← f) g
+
 -- a depth that was told is a line more
 pub told_more : (p : Shogi) (told depth : ℕ) (old new : List ℕ) (v : ℤ) (moves : List Move) → told < depth → v ≡ value p (told + 1) → moves ≡ line p (told + 1) → new ≡ old ++ said_line (told + 1) v moves → new ++ lines_on p (told + 1) (depth - (told + 1)) ≡ old ++ lines_on p told (depth - told)
 told_more p told depth old new v moves h e f g =
-    let said : new ≡ old ++ info_line p (told + 1) = rw (← e, ← f) g in
+    let said : new ≡ old ++ info_line p (told + 1) = told_line p told old new v moves e f g in
     ap (λ xs. xs ++ lines_on p (told + 1) (depth - (told + 1))) said
     ∙ (append_assoc old (info_line p (told + 1)) (lines_on p (told + 1) (depth - (told + 1))) ∙ ap (λ xs. old ++ xs) (sym (lines_on-more p told depth h)))
 

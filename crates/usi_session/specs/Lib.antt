@@ -7,3 +7,4 @@ pub mod InHand
 pub mod Walked
 pub mod Costs
 pub mod Due
+pub mod WholeLines

@@ -1,6 +1,6 @@
 //! The answers to commands.
 
-ghost use Rattle.std.specs.Prelude.{◌≡◌, ◌≤◌, ◌++◌, IfOk, OnOk, unwrap_or, Result, None, true, false, []};
+ghost use Rattle.std.specs.Prelude.{◌≡◌, ◌≤◌, ◌++◌, IfOk, OnOk, OnSome, unwrap_or, Result, None, true, false, []};
 ghost use Rattle.shogi_core.specs.Position.{Shogi};
 ghost use Rattle.usi_lines.specs.Seen.{meaning_of, line_of};
 ghost use Rattle.usi_lines.specs.Commands.{HasDepthInRange};
@@ -73,6 +73,7 @@ fn go<A: Allocator + Copy>(
     ensures state { IfOk result (λ going. (goes_on_if state.new going).state ≡ (gone state.old depth hold).state) }
     ensures load { IfOk result (λ going. load_of_if going ≤ cost state.old.position depth) }
     ensures turns { IfOk result (λ going. turns_of_if going ≤ 300) }
+    ensures quiet { IfOk result (λ going. OnSome going (out.new.items ≡ out.old.items)) }
     ensures depth { OnOk result (state.new.depth ≡ state.old.depth) }
     ensures alive { OnOk result (state.new.is_over ≡ state.old.is_over) }
 {
@@ -130,6 +131,7 @@ pub fn answer<A: Allocator + Copy>(
     ensures state { IfOk result (λ going. (goes_on_if state.new going).state ≡ (answer state.old (meaning_of command.entry)).state) }
     ensures load { IfOk result (λ going. load_of_if going ≤ cost_of_command state.old (meaning_of command.entry)) }
     ensures turns { IfOk result (λ going. turns_of_if going ≤ 300) }
+    ensures quiet { IfOk result (λ going. OnSome going (out.new.items ≡ out.old.items)) }
     ensures over { IfOk result (λ going. state.old.is_over ≡ false → state.new.is_over ≡ true → going ≡ None) }
     ensures low { OnOk result (1 ≤ state.new.depth) }
     ensures high { OnOk result (state.new.depth ≤ 16) }
@@ -178,6 +180,7 @@ pub fn answer_line<A: Allocator + Copy>(
     ensures state { IfOk result (λ going. (goes_on_if state.new going).state ≡ (answer_to state.old (line_of line.entry)).state) }
     ensures load { IfOk result (λ going. load_of_if going ≤ cost_to state.old (line_of line.entry)) }
     ensures turns { IfOk result (λ going. turns_of_if going ≤ 300) }
+    ensures quiet { IfOk result (λ going. OnSome going (out.new.items ≡ out.old.items)) }
     ensures over { IfOk result (λ going. state.old.is_over ≡ false → state.new.is_over ≡ true → going ≡ None) }
     ensures low { OnOk result (1 ≤ state.new.depth) }
     ensures high { OnOk result (state.new.depth ≤ 16) }

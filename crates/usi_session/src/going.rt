@@ -4,6 +4,7 @@ ghost use Rattle.std.specs.Prelude.{◌≡◌, ◌≢◌, ◌≤◌, ◌<◌, �
 ghost use Rattle.shogi_search.specs.Minimax.{value, best};
 ghost use Rattle.usi_session.specs.Answer.{found};
 ghost use Rattle.usi_session.specs.Going.{first, second};
+ghost use Rattle.usi_session.specs.Texts.{info_line};
 ghost use Rattle.usi_session.specs.InHand.{at_depth, lines_on, after_search, load_of, turns_of};
 
 use crate::state::Held;
@@ -137,7 +138,8 @@ impl<A: Allocator> Going<A> {
     /// Says the value and the best line of the depth in hand, once its line is whole.
     pub fn tell<B: Allocator>(&self, out: &mut Vec<u8, B>) -> Result<(), AllocError>
         requires whole { self.now.plies ≡ 0 }
-        ensures { OnOk result (out.new.items ++ lines_on self.now.root (self.now.told + 1) (self.now.depth - (self.now.told + 1)) ≡ out.old.items ++ lines_on self.now.root self.now.told (self.now.depth - self.now.told)) }
+        ensures told { OnOk result (out.new.items ≡ out.old.items ++ info_line self.now.root (self.now.told + 1)) }
+        ensures rest { OnOk result (out.new.items ++ lines_on self.now.root (self.now.told + 1) (self.now.depth - (self.now.told + 1)) ≡ out.old.items ++ lines_on self.now.root self.now.told (self.now.depth - self.now.told)) }
     {
         write_info(out, self.told + 1, self.value, self.moves.as_slice())
     }

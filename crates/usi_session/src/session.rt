@@ -4,6 +4,7 @@ ghost use Rattle.std.specs.Prelude.{◌≡◌, ◌≤◌, ◌++◌, ℕ, List, [
 ghost use Rattle.usi_session.specs.Due.{Talk, due, state_due, load, turns, is_pending, wants_input, new_talk, IsSearching, IsWhole};
 ghost use Rattle.usi_session.specs.Replies.{replies, state_from};
 ghost use Rattle.usi_session.specs.Answer.{opening};
+ghost use Rattle.usi_session.specs.WholeLines.{GrowsByLines};
 ghost use Rattle.usi_lines.specs.Lines.{ahead, lines};
 
 use crate::answer::{answer_line, release};
@@ -97,6 +98,7 @@ impl<A: Allocator + Copy> Session<A> {
         ensures after { (x : List ℕ) → state_due self.new x ≡ state_due self.old x }
         ensures load { load self.new ≤ load self.old }
         ensures fewer { OnOk result (turns self.new < turns self.old) }
+        ensures grown { GrowsByLines self.old.queued self.new.queued }
         ensures err { OnErr result (self.new ≡ self.old) }
     {
         let Some(line) = self.input.next_line() else {
@@ -121,6 +123,7 @@ impl<A: Allocator + Copy> Session<A> {
         ensures after { (x : List ℕ) → state_due self.new x ≡ state_due self.old x }
         ensures load { load self.new ≤ load self.old }
         ensures fewer { OnOk result (turns self.new < turns self.old) }
+        ensures grown { GrowsByLines self.old.queued self.new.queued }
         ensures err { OnErr result (self.new ≡ self.old) }
     {
         let Some(going) = &mut self.going else {
@@ -151,6 +154,7 @@ impl<A: Allocator + Copy> Session<A> {
         ensures within { IfOk result (λ made. IfSome made (λ n. n ≤ budget)) }
         ensures made { IfOk result (λ made. IfSome made (λ n. n + load self.new ≤ load self.old)) }
         ensures fewer { IfOk result (λ made. OnSome made (turns self.new < turns self.old)) }
+        ensures grown { GrowsByLines self.old.queued self.new.queued }
         ensures err { OnErr result (self.new ≡ self.old) }
     {
         match &mut self.going {
@@ -171,7 +175,7 @@ impl<A: Allocator + Copy> Session<A> {
     /// Answers the pending lines in order, with at most so many steps of search, and gives the number
     /// of steps made. Where something is still pending the budget is used up, and a search is in hand.
     /// On `OutOfMemory` what is owed stays as it was, and a later call goes on; the memo may have
-    /// changed.
+    /// changed. Either way the queue has only grown, by whole lines.
     pub fn work<M: Memo>(&mut self, memo: &mut M, budget: u64) -> Result<u64, SessionFault>
         ensures due { (x : List ℕ) → due self.new x ≡ due self.old x }
         ensures after { (x : List ℕ) → state_due self.new x ≡ state_due self.old x }
@@ -179,6 +183,7 @@ impl<A: Allocator + Copy> Session<A> {
         ensures made { IfOk result (λ n. n + load self.new ≤ load self.old) }
         ensures spent { IfOk result (λ n. is_pending self.new ≡ true → (n ≡ budget) × IsSearching self.new.going) }
         ensures enough { load self.old ≤ budget → OnOk result (is_pending self.new ≡ false) }
+        ensures grown { GrowsByLines self.old.queued self.new.queued }
         ensures err { OnErr result (load self.new ≤ load self.old) }
     {
         let mut left = budget;

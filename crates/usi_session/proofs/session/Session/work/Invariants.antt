@@ -1,5 +1,6 @@
 use Rattle.std.proofs.Common.{◌≡◌, ◌≤◌, ◌+◌, ℕ, List}
 use Rattle.usi_session.specs.Due.{due, state_due, load, turns}
+use Rattle.usi_session.specs.WholeLines.{GrowsByLines}
 use Rattle.usi_session.proofs.session.Session.work.Given as goal
 
 -- what is owed stays, and what was made is no longer left
@@ -8,6 +9,7 @@ invariant-turns g l = record {
   due : (x : List ℕ) → due l.self x ≡ due l.fn.self x;
   after : (x : List ℕ) → state_due l.self x ≡ state_due l.fn.self x;
   within : l.left ≤ l.budget;
+  grown : GrowsByLines l.fn.self.queued l.self.queued;
   made : l.budget + load l.self ≤ load l.fn.self + l.left;
 }
 

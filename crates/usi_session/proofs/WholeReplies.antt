@@ -1,0 +1,127 @@
+-- Every reply is whole lines.
+use Rattle.std.proofs.Common.{◌≡◌, ℕ, ◌+◌, ◌-◌, ℤ, zero, suc, List, [], ◌∷◌, ◌++◌, refl, sym, ap, ◌∙◌, append_assoc, append-nil, Option, Some, None, Result, Ok, Err}
+use Rattle.std.specs.Prelude.{codes, decimal, OnSome}
+use Rattle.shogi_core.specs.Position.{Shogi}
+use Rattle.shogi_core.specs.declared.moves.Move.{Move}
+use Rattle.shogi_moves.specs.LegalMoves.{legal_moves}
+use Rattle.shogi_search.specs.Minimax.{value, line}
+use Rattle.usi_lines.specs.Commands.{Command, Usi, IsReady, SetDepth, NewGame, Start, Sfen, BadPosition, Go, GoMate, Stop, PonderHit, GameOver, Quit, Other, command_of}
+use Rattle.usi_lines.specs.Lines.{Line, Text, TooLong}
+use Rattle.usi_lines.specs.declared.command.Hold.{Hold}
+use Rattle.usi_lines.specs.declared.command.Hold.TheVariants.{Nothing, UntilStop, UntilHit}
+use Rattle.usi_session.specs.declared.placing.Refusal.{Refusal}
+use Rattle.usi_session.specs.declared.placing.Refusal.TheVariants as refusals
+use Rattle.usi_session.specs.declared.state.Held.{Held}
+use Rattle.usi_session.specs.declared.state.State.{State}
+use Rattle.usi_session.specs.Texts.{score_text, moves_text, said_line, info_line, bestmove_line, bad_position, illegal_move}
+use Rattle.usi_session.specs.Placing.{position_of_start, position_of_sfen}
+use Rattle.usi_session.specs.Going.{info_lines, infos, infos_of}
+use Rattle.usi_session.specs.Answer.{answer, placed, released, let_go, hit, ponder_hit, held_line, found}
+use Rattle.usi_session.specs.Replies.{answer_to}
+use Rattle.usi_session.specs.InHand.{InHand, with_rest}
+use Rattle.usi_session.specs.WholeLines.{last_byte, AreWholeLines, GrowsByLines}
+
+last_byte-then : (before : ℕ) (xs ys : List ℕ) → last_byte before (xs ++ ys) ≡ last_byte (last_byte before xs) ys
+last_byte-then before [] ys = refl
+last_byte-then before (x ∷ xs) ys = last_byte-then x xs ys
+
+-- lines after lines are lines
+lines_then : (xs ys : List ℕ) → AreWholeLines xs → AreWholeLines ys → AreWholeLines (xs ++ ys)
+lines_then xs ys e f = last_byte-then 10 xs ys ∙ (ap (λ b. last_byte b ys) e ∙ f)
+
+-- the last byte is LF, whatever stands before
+abbrev EndsInLf : List ℕ → Type 0
+EndsInLf ys = (before : ℕ) → last_byte before ys ≡ 10
+
+lf : EndsInLf (codes "\n")
+lf before = refl
+
+after : (xs ys : List ℕ) → EndsInLf ys → EndsInLf (xs ++ ys)
+after xs ys e before = last_byte-then before xs ys ∙ e (last_byte before xs)
+
+info_ends : (p : Shogi) (depth : ℕ) → EndsInLf (info_line p depth)
+info_ends p depth =
+    after (codes "info depth " ++ (decimal depth ++ codes " score ")) _ (after (score_text depth (value p depth)) _
+    (after (codes " pv") _ (after (moves_text (line p depth)) _ lf)))
+
+pub info_whole : (p : Shogi) (depth : ℕ) → AreWholeLines (info_line p depth)
+info_whole p depth = info_ends p depth 10
+
+bestmove_whole : (best ponder : Option Move) → AreWholeLines (bestmove_line best ponder)
+bestmove_whole None ponder = refl
+bestmove_whole (Some best) None = after (codes "bestmove ") _ (after _ _ lf) 10
+bestmove_whole (Some best) (Some ponder) = after (codes "bestmove ") _ (after _ _ (after (codes " ponder ") _ (after _ _ lf))) 10
+
+info_lines-whole : (p : Shogi) (depth : ℕ) → AreWholeLines (info_lines p depth)
+unfolding info_lines
+info_lines-whole p zero = refl
+info_lines-whole p (suc depth) = lines_then (info_lines p depth) (info_line p (suc depth)) (info_lines-whole p depth) (info_whole p (suc depth))
+
+infos_of-whole : (p : Shogi) (depth : ℕ) (moves : List ℕ) → AreWholeLines (infos_of p depth moves)
+infos_of-whole p depth [] = refl
+infos_of-whole p depth (m ∷ rest) = info_lines-whole p depth
+
+released-whole : (s : State) (infos : List ℕ) (held : Held) (hold : Hold) → AreWholeLines infos → AreWholeLines (released s infos held hold).bytes
+released-whole s infos held Nothing e = lines_then infos (held_line held) e (bestmove_whole held.best held.ponder)
+released-whole s infos held UntilStop e = e
+released-whole s infos held UntilHit e = e
+
+placed-whole : (s : State) (outcome : Result Shogi Refusal) → AreWholeLines (placed s outcome).bytes
+placed-whole s (Ok p) = refl
+placed-whole s (Err (refusals.BadPosition fault)) = after (codes "info string bad position ") _ (after (decimal fault) _ lf) 10
+placed-whole s (Err (refusals.IllegalMove number)) = after (codes "info string illegal move ") _ (after (decimal number) _ lf) 10
+
+let_go-whole : (s : State) (held : Option Held) → AreWholeLines (let_go s held).bytes
+let_go-whole s None = refl
+let_go-whole s (Some held) = bestmove_whole held.best held.ponder
+
+hit-whole : (s : State) (held : Held) (hold : Hold) → AreWholeLines (hit s held hold).bytes
+hit-whole s held UntilHit = bestmove_whole held.best held.ponder
+hit-whole s held UntilStop = refl
+hit-whole s held Nothing = refl
+
+ponder_hit-whole : (s : State) (held : Option Held) → AreWholeLines (ponder_hit s held).bytes
+ponder_hit-whole s None = refl
+ponder_hit-whole s (Some held) = hit-whole s held held.until
+
+answer-whole : (s : State) (command : Command) → AreWholeLines (answer s command).bytes
+answer-whole s Usi = refl
+answer-whole s IsReady = refl
+answer-whole s (SetDepth depth) = refl
+answer-whole s NewGame = refl
+answer-whole s (Start rest) = placed-whole s (position_of_start rest)
+answer-whole s (Sfen rest) = placed-whole s (position_of_sfen rest)
+answer-whole s BadPosition = after (codes "info string bad position ") _ (after (decimal 0) _ lf) 10
+answer-whole s (Go depth hold) = released-whole s _ _ hold (infos_of-whole s.position _ (legal_moves s.position))
+answer-whole s GoMate = refl
+answer-whole s Stop = let_go-whole s s.held
+answer-whole s PonderHit = ponder_hit-whole s s.held
+answer-whole s GameOver = refl
+answer-whole s Quit = refl
+answer-whole s Other = refl
+
+answer_to-whole : (s : State) (line : Line) → AreWholeLines (answer_to s line).bytes
+answer_to-whole s (Text text) = answer-whole s (command_of text)
+answer_to-whole s TooLong = refl
+
+-- a line is answered at once, or nothing is said yet of the `go` that is taken in hand
+pub reply_whole : (s next : State) (reply : List ℕ) (going : Option InHand) (line : Line) → with_rest reply next going ≡ (answer_to s line).bytes → OnSome going (reply ≡ []) → AreWholeLines reply
+reply_whole s next reply None line e quiet = ap (last_byte 10) e ∙ answer_to-whole s line
+reply_whole s next reply (Some go) line e quiet = ap (last_byte 10) quiet
+
+-- the last depth is told, and the bestmove written or held
+pub end_whole : (s : State) (p : Shogi) (depth : ℕ) (told reply : List ℕ) (held : Held) → told ≡ info_line p depth → reply ≡ told ++ (released s [] held held.until).bytes → AreWholeLines reply
+end_whole s p depth told reply held e f =
+    ap (last_byte 10) f ∙ lines_then told _ (ap (last_byte 10) e ∙ info_whole p depth) (released-whole s [] held held.until refl)
+
+-- nothing came
+pub grows_by_none : (queued : List ℕ) → GrowsByLines queued queued
+grows_by_none queued = record { lines = []; after_is = sym (append-nil queued); whole = refl }
+
+-- one growth after another
+pub grows_then : {a b c : List ℕ} → GrowsByLines a b → GrowsByLines b c → GrowsByLines a c
+grows_then {a} {b} {c} g h = record {
+  lines = g.lines ++ h.lines;
+  after_is = h.after_is ∙ (ap (λ xs. xs ++ h.lines) g.after_is ∙ append_assoc a g.lines h.lines);
+  whole = lines_then g.lines h.lines g.whole h.whole;
+}

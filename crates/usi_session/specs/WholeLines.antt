@@ -1,0 +1,17 @@
+-- Bytes that are whole lines, each with its LF (USI: every reply is a line).
+use Rattle.std.specs.Prelude.{◌≡◌, ℕ, List, [], ◌∷◌, ◌++◌}
+
+-- the last of these bytes, or this one where there is none
+abbrev pub last_byte : ℕ → List ℕ → ℕ
+last_byte before [] = before
+last_byte before (byte ∷ rest) = last_byte byte rest
+
+-- no byte, or the last one is LF
+abbrev pub AreWholeLines : List ℕ → Type 0
+AreWholeLines bytes = last_byte 10 bytes ≡ 10
+
+-- nothing that was queued is gone, and whole lines came after it
+pub record GrowsByLines (before after : List ℕ) : Type 0 where
+  pub lines : List ℕ
+  pub after_is : after ≡ before ++ lines
+  pub whole : AreWholeLines lines
