@@ -75,6 +75,7 @@ impl<S: BuildHasher, A: Allocator> SharedTable<S, A> {
         ensures most { self.now.capacity ≤ 1000000 }
         ensures truth { AreTrue self.now.pairs }
     {
+        let _ = &self.leaves;
         self.len();
     }
 

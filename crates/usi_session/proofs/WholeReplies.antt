@@ -1,10 +1,11 @@
 -- Every reply is whole lines.
 use Rattle.std.proofs.Common.{◌≡◌, ℕ, ◌+◌, ◌-◌, ℤ, zero, suc, List, [], ◌∷◌, ◌++◌, refl, sym, ap, ◌∙◌, append_assoc, append-nil, Option, Some, None, Result, Ok, Err}
-use Rattle.std.specs.Prelude.{codes, decimal, OnSome}
+use Rattle.std.specs.Prelude.{codes, decimal, OnSome, unwrap_or}
 use Rattle.shogi_core.specs.Position.{Shogi}
 use Rattle.shogi_core.specs.declared.moves.Move.{Move}
 use Rattle.shogi_moves.specs.LegalMoves.{legal_moves}
 use Rattle.shogi_search.specs.Minimax.{value, line}
+use Rattle.shogi_sfen.specs.MoveTexts.{text_of}
 use Rattle.usi_lines.specs.Commands.{Command, Usi, IsReady, SetDepth, NewGame, Start, Sfen, BadPosition, Go, GoMate, Stop, PonderHit, GameOver, Quit, Other, command_of}
 use Rattle.usi_lines.specs.Lines.{Line, Text, TooLong}
 use Rattle.usi_lines.specs.declared.command.Hold.{Hold}
@@ -30,27 +31,37 @@ lines_then : (xs ys : List ℕ) → AreWholeLines xs → AreWholeLines ys → Ar
 lines_then xs ys e f = last_byte-then 10 xs ys ∙ (ap (λ b. last_byte b ys) e ∙ f)
 
 -- the last byte is LF, whatever stands before
-abbrev EndsInLf : List ℕ → Type 0
-EndsInLf ys = (before : ℕ) → last_byte before ys ≡ 10
+record EndsInLf (bytes : List ℕ) : Type 0 where
+  pub ends : (before : ℕ) → last_byte before bytes ≡ 10
 
 lf : EndsInLf (codes "\n")
-lf before = refl
+lf = record { ends = λ before. refl }
 
-after : (xs ys : List ℕ) → EndsInLf ys → EndsInLf (xs ++ ys)
-after xs ys e before = last_byte-then before xs ys ∙ e (last_byte before xs)
+after : (xs : List ℕ) {ys : List ℕ} → EndsInLf ys → EndsInLf (xs ++ ys)
+after xs {ys} e = record { ends = λ before. last_byte-then before xs ys ∙ e.ends (last_byte before xs) }
 
 info_ends : (p : Shogi) (depth : ℕ) → EndsInLf (info_line p depth)
 info_ends p depth =
-    after (codes "info depth " ++ (decimal depth ++ codes " score ")) _ (after (score_text depth (value p depth)) _
-    (after (codes " pv") _ (after (moves_text (line p depth)) _ lf)))
+    after (codes "info depth " ++ (decimal depth ++ codes " score ")) (after (score_text depth (value p depth))
+    (after (codes " pv") (after (moves_text (line p depth)) lf)))
 
 pub info_whole : (p : Shogi) (depth : ℕ) → AreWholeLines (info_line p depth)
-info_whole p depth = info_ends p depth 10
+info_whole p depth = (info_ends p depth).ends 10
+
+bestmove_ends : (best ponder : Option Move) → EndsInLf (bestmove_line best ponder)
+bestmove_ends None ponder = after (codes "bestmove resign") lf
+bestmove_ends (Some best) None = after (codes "bestmove ") (after (text_of best) lf)
+bestmove_ends (Some best) (Some ponder) =
+    after (codes "bestmove ") (after (text_of best) (after (codes " ponder ") (after (text_of ponder) lf)))
 
 bestmove_whole : (best ponder : Option Move) → AreWholeLines (bestmove_line best ponder)
-bestmove_whole None ponder = refl
-bestmove_whole (Some best) None = after (codes "bestmove ") _ (after _ _ lf) 10
-bestmove_whole (Some best) (Some ponder) = after (codes "bestmove ") _ (after _ _ (after (codes " ponder ") _ (after _ _ lf))) 10
+bestmove_whole best ponder = (bestmove_ends best ponder).ends 10
+
+bad_position-ends : (fault : ℕ) → EndsInLf (bad_position fault)
+bad_position-ends fault = after (codes "info string bad position ") (after (decimal fault) lf)
+
+illegal_move-ends : (number : ℕ) → EndsInLf (illegal_move number)
+illegal_move-ends number = after (codes "info string illegal move ") (after (decimal number) lf)
 
 info_lines-whole : (p : Shogi) (depth : ℕ) → AreWholeLines (info_lines p depth)
 unfolding info_lines
@@ -68,8 +79,8 @@ released-whole s infos held UntilHit e = e
 
 placed-whole : (s : State) (outcome : Result Shogi Refusal) → AreWholeLines (placed s outcome).bytes
 placed-whole s (Ok p) = refl
-placed-whole s (Err (refusals.BadPosition fault)) = after (codes "info string bad position ") _ (after (decimal fault) _ lf) 10
-placed-whole s (Err (refusals.IllegalMove number)) = after (codes "info string illegal move ") _ (after (decimal number) _ lf) 10
+placed-whole s (Err (refusals.BadPosition fault)) = (bad_position-ends fault).ends 10
+placed-whole s (Err (refusals.IllegalMove number)) = (illegal_move-ends number).ends 10
 
 let_go-whole : (s : State) (held : Option Held) → AreWholeLines (let_go s held).bytes
 let_go-whole s None = refl
@@ -91,8 +102,8 @@ answer-whole s (SetDepth depth) = refl
 answer-whole s NewGame = refl
 answer-whole s (Start rest) = placed-whole s (position_of_start rest)
 answer-whole s (Sfen rest) = placed-whole s (position_of_sfen rest)
-answer-whole s BadPosition = after (codes "info string bad position ") _ (after (decimal 0) _ lf) 10
-answer-whole s (Go depth hold) = released-whole s _ _ hold (infos_of-whole s.position _ (legal_moves s.position))
+answer-whole s BadPosition = (bad_position-ends 0).ends 10
+answer-whole s (Go depth hold) = released-whole s (infos s.position (unwrap_or depth s.depth)) (found s.position (unwrap_or depth s.depth) hold) hold (infos_of-whole s.position (unwrap_or depth s.depth) (legal_moves s.position))
 answer-whole s GoMate = refl
 answer-whole s Stop = let_go-whole s s.held
 answer-whole s PonderHit = ponder_hit-whole s s.held
@@ -109,10 +120,14 @@ pub reply_whole : (s next : State) (reply : List ℕ) (going : Option InHand) (l
 reply_whole s next reply None line e quiet = ap (last_byte 10) e ∙ answer_to-whole s line
 reply_whole s next reply (Some go) line e quiet = ap (last_byte 10) quiet
 
+-- a depth is told
+pub told_whole : (p : Shogi) (depth : ℕ) (told : List ℕ) → told ≡ info_line p depth → AreWholeLines told
+told_whole p depth told e = ap (last_byte 10) e ∙ info_whole p depth
+
 -- the last depth is told, and the bestmove written or held
 pub end_whole : (s : State) (p : Shogi) (depth : ℕ) (told reply : List ℕ) (held : Held) → told ≡ info_line p depth → reply ≡ told ++ (released s [] held held.until).bytes → AreWholeLines reply
 end_whole s p depth told reply held e f =
-    ap (last_byte 10) f ∙ lines_then told _ (ap (last_byte 10) e ∙ info_whole p depth) (released-whole s [] held held.until refl)
+    ap (last_byte 10) f ∙ lines_then told (released s [] held held.until).bytes (told_whole p depth told e) (released-whole s [] held held.until refl)
 
 -- nothing came
 pub grows_by_none : (queued : List ℕ) → GrowsByLines queued queued
