@@ -1,6 +1,7 @@
 //! The table: a bounded map whose entries are ordered by their last use.
 
-ghost use Rattle.std.specs.Prelude.{◌≡◌, ◌≤◌, ◌⊎◌, ◌==◌, cond, [], length, None, IfOk};
+ghost use Rattle.std.specs.Prelude.{◌≡◌, ◌≤◌, ◌⊎◌, ◌==◌, ◌&&◌, not, cond, [], length, None, IfOk, false};
+ghost use Rattle.shogi_core.specs.Position.{Shogi};
 ghost use Rattle.lru.specs.LruCache.{lru_cache, promoted};
 ghost use Rattle.std.specs.List.{IsDistinct};
 ghost use Rattle.std.specs.Map.{keys_of};
@@ -114,6 +115,14 @@ impl<S: BuildHasher, A: Allocator + Clone> Memo for SharedTable<S, A> {
     ghost use Rattle.shogi_search.specs.Minimax.{IsTrueEntry};
 
     ghost answers = { λ table p d. entry_of table.pairs (key_of p d) };
+
+    /// Depth 0 only while an entry of that depth is held, and every other depth.
+    fn keeps(&self, d: u8) -> bool
+        ensures none { result ≡ false → (p : Shogi) → entry_of self.now.pairs (key_of p d) ≡ None }
+        ensures kept { result ≡ not (d == 0 && leaf_count self.now.pairs == 0) }
+    {
+        d > 0 || self.leaves > 0
+    }
 
     fn probe(&mut self, p: &Position, d: u8) -> Option<Entry>
         ensures answer { result ≡ entry_of self.old.pairs (key_of p.now d) }
