@@ -23,6 +23,9 @@ USI = (
     b"option name Depth type spin default 3 min 1 max 16\n"
     b"usiok\n"
 )
+NOT_UTF_8 = (
+    b"error: a word of the command line is not UTF-8; for more information, try '--help'.\n"
+)
 DEPTH_ONE = b"info depth 1 score cp 0 pv 1g1f\n"
 DEPTH_THREE = (
     DEPTH_ONE
@@ -138,7 +141,6 @@ def other_words_are_refused():
         ["stdio", "--entries", "-1"],
         ["stdio", "--entries", "many"],
         ["stdio", "1"],
-        [b"stdio\xff"],
         ["stdio", "--slots", "1"],
         ["replay", "script"],
         ["replay", "--slots", "0"],
@@ -150,8 +152,22 @@ def other_words_are_refused():
     ):
         status, text, complaints = run(words)
         want((status, text), (2, b""), f"{words}")
-        if not complaints.endswith(b"\n"):
+        if b"--help" not in complaints or not complaints.endswith(b"\n"):
             raise Wrong(f"{words}: standard error is {complaints!r}")
+
+
+def a_word_that_is_not_utf_8_is_refused_in_one_line():
+    for words in (
+        [b"\xff"],
+        [b"stdio\xff"],
+        [b"stdio", b"--entries", b"1\x80"],
+        [b"\xe3\x81", b"--help"],
+    ):
+        want(run(words), (2, b"", NOT_UTF_8), f"{words}")
+    status, text, complaints = run(["将棋"])
+    want((status, text), (2, b""), "a word in UTF-8")
+    if complaints == NOT_UTF_8 or "将棋".encode() not in complaints:
+        raise Wrong(f"a word in UTF-8: standard error is {complaints!r}")
 
 
 def a_full_device_is_a_failed_write():
@@ -176,6 +192,15 @@ def want_of_memory_is_told():
     want(small, (0, b"readyok\n", b""), "a table of one entry")
     large = run(["stdio", "--entries", "1000000"], b"isready\n", preexec_fn=limited)
     want(large, (1, b"", b"usi_host: out of memory\n"), "a table of a million")
+
+
+def want_of_memory_for_the_words_is_told():
+    """Each word takes 256 bytes and more while it is read: 50,000 of them do not fit into the limit,
+    and a few do."""
+    few = run(["stdio"] + ["x"] * 5, preexec_fn=limited)
+    want((few[0], few[1]), (2, b""), "a few words")
+    many = run(["stdio"] + ["x"] * 50_000, preexec_fn=limited)
+    want(many, (1, b"", b"usi_host: out of memory\n"), "50,000 words")
 
 
 def quit_ends_it_while_the_input_stays_open():
@@ -300,10 +325,12 @@ CHECKS = (
     a_line_that_is_too_long_ends_the_session,
     help_is_no_fault,
     other_words_are_refused,
+    a_word_that_is_not_utf_8_is_refused_in_one_line,
     a_full_device_is_a_failed_write,
     a_closed_output_is_a_failed_write,
     a_folder_is_a_failed_read,
     want_of_memory_is_told,
+    want_of_memory_for_the_words_is_told,
     quit_ends_it_while_the_input_stays_open,
     each_line_is_answered_before_the_next_is_read,
     info_lines_come_as_they_are_found,

@@ -27,7 +27,8 @@ pub fn without(mask: u128, n: usize) -> u128
     requires { n < 128 }
     ensures { (i : ℕ) → has_bit result i ≡ (has_bit mask i && not (i == n)) }
 {
-    mask & !(1 << n)
+    let bit = 1 << n;
+    mask & !bit
 }
 
 /// Without bit n, which is set.

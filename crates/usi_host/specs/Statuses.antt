@@ -1,5 +1,7 @@
 -- The status with which the program ends (own choice).
 use Rattle.std.specs.Prelude.{ℕ}
+use Rattle.usi_host.specs.declared.words.WordsFault.{WordsFault}
+use Rattle.usi_host.specs.declared.words.WordsFault.TheVariants as words
 use Rattle.usi_replay.specs.declared.fault.ReplayFault.{ReplayFault}
 use Rattle.usi_replay.specs.declared.fault.ReplayFault.TheVariants.{OutOfMemory, ReadFailed, WriteFailed, BadScript}
 
@@ -9,3 +11,8 @@ replay_status (BadScript line) = 3
 replay_status OutOfMemory = 1
 replay_status ReadFailed = 1
 replay_status WriteFailed = 1
+
+-- 1 where memory ran out, 2 where the words are not accepted
+abbrev pub words_status : WordsFault → ℕ
+words_status words.OutOfMemory = 1
+words_status (words.NotAccepted text) = 2

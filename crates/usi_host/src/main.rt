@@ -5,19 +5,15 @@ ghost use Rattle.std.specs.Prelude.{◌≡◌, ◌≤◌, IfOk};
 ghost use Rattle.usi_host.specs.Answers.{HasRanges};
 ghost use Rattle.usi_host.specs.Statuses.{replay_status};
 
+mod refusal;
 mod words;
 
+use refusal::{FAULT, complaint, status, unread_words};
 use std::process::ExitCode;
 use std::{env, io};
 use usi_replay::{ReplayFault, replay};
 use usi_stdio::stdio;
 use words::{Job, WordsFault, read_words};
-
-/// The status of a run that ended early.
-const FAULT: u8 = 1;
-
-/// The status of a command line that is not accepted.
-const NOT_ACCEPTED: u8 = 2;
 
 /// The status of a script that has a bad line.
 const BAD_SCRIPT: u8 = 3;
@@ -26,16 +22,12 @@ const BAD_SCRIPT: u8 = 3;
 fn asked(rt: &HostRuntime) -> Result<Job, WordsFault>
     ensures { IfOk result HasRanges }
 {
-    let mut words = Vec::new(rt.alloc());
-    let Ok(mut given) = env::args(rt) else {
-        return Err(WordsFault::NotAccepted {
-            text: String::from_str(
-                rt.alloc(),
-                "error: a word of the command line is not UTF-8\n",
-            )?,
-        });
+    let mut given = match env::args(rt) {
+        Ok(given) => given,
+        Err(error) => return Err(unread_words(rt.alloc(), error.kind())),
     };
     let _program = given.next();
+    let mut words = Vec::new(rt.alloc());
     for word in given {
         words.push(word).map_err(|_| WordsFault::OutOfMemory)?;
     }
@@ -109,7 +101,6 @@ fn main(rt: HostRuntime) -> ExitCode {
             Ok(()) => ExitCode::SUCCESS,
             Err(_) => complain(&rt, "usi_host: write failed\n", FAULT),
         },
-        Err(WordsFault::NotAccepted { text }) => complain(&rt, text.as_str(), NOT_ACCEPTED),
-        Err(WordsFault::OutOfMemory) => complain(&rt, "usi_host: out of memory\n", FAULT),
+        Err(fault) => complain(&rt, complaint(&fault), status(&fault)),
     }
 }

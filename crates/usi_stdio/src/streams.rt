@@ -155,8 +155,9 @@ fn answer_piece<A: Allocator + Copy, M: Memo, W: Write>(
 
 /// Runs one session: reads pieces of at most 4,096 bytes and answers each before the next, until the
 /// input ends or the session is over. Replies are written and flushed as they are found: the info line
-/// of a depth comes before the next 1,000 steps of search are made. Bytes after the last LF are no line.
-/// The table has `entries` entries, from 1 to 1,000,000.
+/// of a depth comes before the next 1,000 steps of search are made. Bytes after the last LF are no
+/// line, but for 65,536 or more, which are a line that is too long. The table has `entries` entries,
+/// from 1 to 1,000,000.
 ///
 /// `OutOfMemory` comes where memory was refused, `ReadFailed` where a read failed, and `WriteFailed`
 /// where a write or a flush failed or a write took nothing. After each of them what was written is a

@@ -1,0 +1,18 @@
+-- What is said of words that could not be read, or that name no job (own choice).
+use Rattle.std.specs.Prelude.{◌≡◌, ℕ, List, ⊤, codes, string_bytes}
+use Rattle.usi_host.specs.declared.words.WordsFault.{WordsFault}
+use Rattle.usi_host.specs.declared.words.WordsFault.TheVariants.{OutOfMemory, NotAccepted}
+
+-- one line, which points to the help
+abbrev pub not_utf_8 : List ℕ
+not_utf_8 = codes "error: a word of the command line is not UTF-8; for more information, try '--help'.\n"
+
+-- where words are not accepted, this is what is said
+abbrev pub Says : List ℕ → WordsFault → Type 0
+Says text OutOfMemory = ⊤
+Says text (NotAccepted said) = string_bytes said ≡ text
+
+-- the text on standard error
+abbrev pub complaint_of : WordsFault → List ℕ
+complaint_of OutOfMemory = codes "usi_host: out of memory\n"
+complaint_of (NotAccepted text) = string_bytes text
