@@ -54,25 +54,32 @@ impl Notes {
             return Ok(None);
         }
         let kept = self.kept.remove(place);
+        let entry = kept.entry;
         self.kept.push(kept)?;
-        Ok(Some(kept.entry))
+        Ok(Some(entry))
+    }
+
+    fn forget(&mut self, p: &Position, depth: u8) {
+        let Some(place) = self.place_of(p, depth) else {
+            return;
+        };
+        if place < self.kept.len() {
+            self.kept.remove(place);
+        }
     }
 
     fn note(&mut self, p: &Position, depth: u8, entry: Entry) -> Result<(), AllocError> {
         self.calls = self.calls.saturating_add(1);
-        if let Some(place) = self.place_of(p, depth) {
-            if place < self.kept.len() {
-                self.kept.remove(place);
-            }
-        }
+        self.forget(p, depth);
         self.kept.push(Kept {
             position: *p,
             depth,
             entry,
         })?;
-        if self.kept.len() > self.most {
-            self.kept.remove(0);
+        if self.kept.len() <= self.most {
+            return Ok(());
         }
+        self.kept.remove(0);
         Ok(())
     }
 
@@ -85,13 +92,14 @@ impl Notes {
         high: i32,
     ) -> Result<Option<Entry>, AllocError> {
         let known = self.ask(p, depth)?;
-        match known {
-            Some(entry) if settles(&entry, low, high) => {
+        let answer = known;
+        if let Some(entry) = &known {
+            if settles(entry, low, high) {
                 self.step(1);
-                Ok(known)
+                return Ok(answer);
             }
-            _ => Ok(None),
         }
+        Ok(None)
     }
 
     fn step(&mut self, steps: u64) {
@@ -196,7 +204,8 @@ fn visit(
                 };
                 if worth >= high {
                     let cut = Entry::AtLeast(worth);
-                    notes.note(p, depth, cut)?;
+                    let noted = cut;
+                    notes.note(p, depth, noted)?;
                     return Ok(cut);
                 }
                 if exact && worth > bar {
@@ -206,15 +215,20 @@ fn visit(
             }
         }
     }
-    let entry = if best.is_some() {
-        Entry::Exact(top, best)
-    } else if branches.is_empty() {
-        Entry::Exact((-30000i32).saturating_sub(i32::from(depth)), None)
-    } else {
-        Entry::AtMost(top)
-    };
-    notes.note(p, depth, entry)?;
+    let entry = closed(top, best, depth, branches.is_empty());
+    let noted = entry;
+    notes.note(p, depth, noted)?;
     Ok(entry)
+}
+
+/// What is known of a node that nothing cut off.
+fn closed(top: i32, best: Option<Move>, depth: u8, is_lost: bool) -> Entry {
+    let found = best;
+    match best {
+        Some(_) => Entry::Exact(top, found),
+        None if is_lost => Entry::Exact((-30000i32).saturating_sub(i32::from(depth)), None),
+        None => Entry::AtMost(top),
+    }
 }
 
 /// The value and the best move, by a search from the root on. The steps and the calls are added up.

@@ -46,10 +46,11 @@ impl<M: Memo> Memo for Recorder<M> {
     }
 
     fn note(&mut self, p: &Position, d: u8, entry: Entry) {
+        let noted = entry;
         let _ = self.calls.push(Call {
             position: *p,
             depth: d,
-            noted: Some(entry),
+            noted: Some(noted),
         });
         self.memo.note(p, d, entry);
     }

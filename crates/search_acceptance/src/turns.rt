@@ -94,15 +94,27 @@ fn assert_last_call<M: Memo + Drop>(
     Ok(found)
 }
 
+fn assert_last_calls(
+    rt: &impl Abort,
+    alloc: Global,
+    depth: u8,
+    value: i32,
+    code: u16,
+) -> Result<(), Fail>
+    requires { depth ≤ 16 }
+{
+    let found = assert_last_call(rt, alloc, NoMemo, depth)?;
+    assert_found(rt, &found, value, code);
+    let found = assert_last_call(rt, alloc, table_of(alloc, 1)?, depth)?;
+    assert_found(rt, &found, value, code);
+    Ok(())
+}
+
 #[test]
 fn the_last_call_notes_the_root(rt: HostRuntime) -> Result<(), Fail> {
     for (depth, value, code) in OPENING {
         assert!(rt; depth <= 16);
-        let found = assert_last_call(&rt, rt.alloc(), NoMemo, depth)?;
-        assert_found(&rt, &found, value, code);
-        let table = table_of(rt.alloc(), 1)?;
-        let found = assert_last_call(&rt, rt.alloc(), table, depth)?;
-        assert_found(&rt, &found, value, code);
+        assert_last_calls(&rt, rt.alloc(), depth, value, code)?;
     }
     Ok(())
 }
