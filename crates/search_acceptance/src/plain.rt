@@ -3,15 +3,22 @@
 use shogi_core::{Move, Position};
 use shogi_eval::material;
 use shogi_moves::{Walk, apply, has_legal};
-use shogi_search::Entry;
 use std::alloc::{AllocError, Global};
+
+/// What is known of a value: all, with the code of the best move, or a bound.
+#[derive(Clone, Copy, Debug)]
+enum Known {
+    Exact(i32, Option<u16>),
+    AtLeast(i32),
+    AtMost(i32),
+}
 
 /// What was noted of a position at a depth.
 #[derive(Clone, Copy, Debug)]
 struct Kept {
     position: Position,
     depth: u8,
-    entry: Entry,
+    known: Known,
 }
 
 /// What was noted, the most recently used last, and what was counted.
@@ -45,7 +52,7 @@ impl Notes {
         None
     }
 
-    fn ask(&mut self, p: &Position, depth: u8) -> Result<Option<Entry>, AllocError> {
+    fn ask(&mut self, p: &Position, depth: u8) -> Result<Option<Known>, AllocError> {
         self.calls = self.calls.saturating_add(1);
         let Some(place) = self.place_of(p, depth) else {
             return Ok(None);
@@ -54,9 +61,9 @@ impl Notes {
             return Ok(None);
         }
         let kept = self.kept.remove(place);
-        let entry = kept.entry;
-        self.kept.push(kept)?;
-        Ok(Some(entry))
+        let known = kept.known;
+        self.keep(kept)?;
+        Ok(Some(known))
     }
 
     fn forget(&mut self, p: &Position, depth: u8) {
@@ -68,19 +75,27 @@ impl Notes {
         }
     }
 
-    fn note(&mut self, p: &Position, depth: u8, entry: Entry) -> Result<(), AllocError> {
+    fn note(&mut self, p: &Position, depth: u8, known: Known) -> Result<(), AllocError> {
         self.calls = self.calls.saturating_add(1);
         self.forget(p, depth);
-        self.kept.push(Kept {
+        let kept = Kept {
             position: *p,
             depth,
-            entry,
-        })?;
-        if self.kept.len() <= self.most {
-            return Ok(());
-        }
-        self.kept.remove(0);
+            known,
+        };
+        self.keep(kept)
+    }
+
+    fn keep(&mut self, kept: Kept) -> Result<(), AllocError> {
+        self.kept.push(kept)?;
+        self.drop_oldest();
         Ok(())
+    }
+
+    fn drop_oldest(&mut self) {
+        if self.kept.len() > self.most {
+            self.kept.remove(0);
+        }
     }
 
     /// What was noted, where it is enough for the window; that is a step.
@@ -90,7 +105,7 @@ impl Notes {
         depth: u8,
         low: i32,
         high: i32,
-    ) -> Result<Option<Entry>, AllocError> {
+    ) -> Result<Option<Known>, AllocError> {
         let known = self.ask(p, depth)?;
         let answer = known;
         if let Some(entry) = &known {
@@ -110,16 +125,14 @@ impl Notes {
 /// A legal move, where it leads, and when it is visited: 0 the remembered move, 1 a capture, 2 the rest.
 #[derive(Clone, Copy, Debug)]
 struct Branch {
-    m: Move,
+    code: u16,
     position: Position,
     turn: u8,
 }
 
-fn turn_of(p: &Position, m: &Move, first: &Option<Move>) -> u8 {
-    if let Some(f) = first {
-        if f.code() == m.code() {
-            return 0;
-        }
+fn turn_of(p: &Position, m: &Move, first: Option<u16>) -> u8 {
+    if first == Some(m.code()) {
+        return 0;
     }
     match m {
         Move::Board { to, .. } if p.at(*to).is_some() => 1,
@@ -128,17 +141,13 @@ fn turn_of(p: &Position, m: &Move, first: &Option<Move>) -> u8 {
 }
 
 /// The legal moves by rising code.
-fn branches_of(
-    alloc: Global,
-    p: &Position,
-    first: &Option<Move>,
-) -> Result<Vec<Branch>, AllocError> {
+fn branches_of(alloc: Global, p: &Position, first: Option<u16>) -> Result<Vec<Branch>, AllocError> {
     let mut branches = Vec::new(alloc);
     let mut walk = Walk::new(p);
     'moves: while let Some(m) = walk.next() {
         let tried = m;
         branches.push(Branch {
-            m,
+            code: m.code(),
             position: apply(p, tried),
             turn: turn_of(p, &m, first),
         })?;
@@ -151,18 +160,18 @@ fn leaf(p: &Position) -> i32 {
 }
 
 /// What a move has to be worth more than: one less for a lesser code than that of the best one.
-fn bar(top: i32, best: &Option<Move>, m: &Move) -> i32 {
+fn bar(top: i32, best: Option<u16>, code: u16) -> i32 {
     match best {
-        Some(b) if m.code() < b.code() => top.saturating_sub(1),
+        Some(b) if code < b => top.saturating_sub(1),
         _ => top,
     }
 }
 
-fn settles(entry: &Entry, low: i32, high: i32) -> bool {
+fn settles(entry: &Known, low: i32, high: i32) -> bool {
     match entry {
-        Entry::Exact(_, _) => true,
-        Entry::AtLeast(v) => *v >= high,
-        Entry::AtMost(v) => *v <= low,
+        Known::Exact(_, _) => true,
+        Known::AtLeast(v) => *v >= high,
+        Known::AtMost(v) => *v <= low,
     }
 }
 
@@ -174,43 +183,43 @@ fn visit(
     low: i32,
     high: i32,
     notes: &mut Notes,
-) -> Result<Entry, AllocError> {
+) -> Result<Known, AllocError> {
     notes.step(2);
     if depth == 0 {
-        return Ok(Entry::Exact(leaf(p), None));
+        return Ok(Known::Exact(leaf(p), None));
     }
     let below = depth - 1;
     let mut first = None;
     if depth > 1 {
-        if let Some(Entry::Exact(_, remembered)) = notes.ask(p, below)? {
+        if let Some(Known::Exact(_, remembered)) = notes.ask(p, below)? {
             first = remembered;
         }
     }
-    let branches = branches_of(alloc, p, &first)?;
+    let branches = branches_of(alloc, p, first)?;
     let (mut top, mut best) = (low, None);
     for turn in 0..3u8 {
         for branch in branches.as_slice() {
             if branch.turn == turn {
-                let bar = bar(top, &best, &branch.m);
+                let bar = bar(top, best, branch.code);
                 let (under, over) = (high.saturating_neg(), bar.saturating_neg());
                 let entry = match notes.answer(&branch.position, below, under, over)? {
                     Some(entry) => entry,
                     None => visit(alloc, &branch.position, below, under, over, notes)?,
                 };
                 let (worth, exact) = match entry {
-                    Entry::Exact(v, _) => (v.saturating_neg(), true),
-                    Entry::AtMost(v) => (v.saturating_neg(), false),
-                    Entry::AtLeast(v) => (v.saturating_neg(), false),
+                    Known::Exact(v, _) => (v.saturating_neg(), true),
+                    Known::AtMost(v) => (v.saturating_neg(), false),
+                    Known::AtLeast(v) => (v.saturating_neg(), false),
                 };
                 if worth >= high {
-                    let cut = Entry::AtLeast(worth);
+                    let cut = Known::AtLeast(worth);
                     let noted = cut;
                     notes.note(p, depth, noted)?;
                     return Ok(cut);
                 }
                 if exact && worth > bar {
                     top = worth;
-                    best = Some(branch.m);
+                    best = Some(branch.code);
                 }
             }
         }
@@ -222,34 +231,33 @@ fn visit(
 }
 
 /// What is known of a node that nothing cut off.
-fn closed(top: i32, best: Option<Move>, depth: u8, is_lost: bool) -> Entry {
-    let found = best;
+fn closed(top: i32, best: Option<u16>, depth: u8, is_lost: bool) -> Known {
     match best {
-        Some(_) => Entry::Exact(top, found),
-        None if is_lost => Entry::Exact((-30000i32).saturating_sub(i32::from(depth)), None),
-        None => Entry::AtMost(top),
+        Some(_) => Known::Exact(top, best),
+        None if is_lost => Known::Exact((-30000i32).saturating_sub(i32::from(depth)), None),
+        None => Known::AtMost(top),
     }
 }
 
-/// The value and the best move, by a search from the root on. The steps and the calls are added up.
+/// The value and the code of the best move, by a search from the root on. The steps and the calls are added up.
 pub fn search_plainly(
     alloc: Global,
     p: &Position,
     depth: u8,
     notes: &mut Notes,
-) -> Result<Option<(i32, Option<Move>)>, AllocError> {
+) -> Result<Option<(i32, Option<u16>)>, AllocError> {
     let mut entry = notes.ask(p, depth)?;
-    if !matches!(entry, Some(Entry::Exact(_, _))) {
+    if !matches!(entry, Some(Known::Exact(_, _))) {
         entry = Some(visit(alloc, p, depth, -31000, 31000, notes)?);
     }
     match entry {
-        Some(Entry::Exact(value, best)) => Ok(Some((value, best))),
+        Some(Known::Exact(value, best)) => Ok(Some((value, best))),
         _ => Ok(None),
     }
 }
 
-/// The value and the best move by plain minimax: every move of the whole tree, nothing remembered.
-pub fn minimax(p: &Position, depth: u8) -> (i32, Option<Move>) {
+/// The value and the code of the best move by plain minimax: every move of the whole tree, nothing remembered.
+pub fn minimax(p: &Position, depth: u8) -> (i32, Option<u16>) {
     if depth == 0 {
         return (leaf(p), None);
     }
@@ -261,7 +269,7 @@ pub fn minimax(p: &Position, depth: u8) -> (i32, Option<Move>) {
         let worth = value.saturating_neg();
         if best.is_none() || worth > top {
             top = worth;
-            best = Some(m);
+            best = Some(m.code());
         }
     }
     (top, best)
