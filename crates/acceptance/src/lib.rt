@@ -6,6 +6,8 @@ mod fakes;
 #[cfg(test)]
 mod hosts;
 #[cfg(test)]
+mod long;
+#[cfg(test)]
 mod memory;
 #[cfg(test)]
 mod positions;
@@ -21,5 +23,3 @@ mod sessions;
 mod slices;
 #[cfg(test)]
 mod streams;
-#[cfg(test)]
-mod tables;

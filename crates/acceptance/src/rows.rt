@@ -9,7 +9,8 @@ pub struct Row {
     pub answer: &'static [&'static str],
 }
 
-const USI: &str = "id name Shared Shogi Host
+/// The answer to `usi`.
+pub const USI: &str = "id name Shared Shogi Host
 id author Shared Shogi Host Team
 option name Depth type spin default 3 min 1 max 16
 usiok

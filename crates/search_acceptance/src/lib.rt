@@ -1,0 +1,15 @@
+//! Tests of the search and the table together: counts of steps, what is asked and noted, and slices.
+#![tactic(auto)]
+
+#[cfg(test)]
+mod counts;
+#[cfg(test)]
+mod plain;
+#[cfg(test)]
+mod recorder;
+#[cfg(test)]
+mod remembered;
+#[cfg(test)]
+mod tables;
+#[cfg(test)]
+mod turns;

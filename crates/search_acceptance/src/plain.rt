@@ -1,0 +1,276 @@
+//! The search written plainly, to count with: it calls itself, and remembers in a list.
+
+use shogi_core::{Move, Position};
+use shogi_eval::material;
+use shogi_moves::{Walk, apply, has_legal};
+use std::alloc::{AllocError, Global};
+
+/// What is known of a value: all, with the code of the best move, or a bound.
+#[derive(Clone, Copy, Debug)]
+enum Known {
+    Exact(i32, Option<u16>),
+    AtLeast(i32),
+    AtMost(i32),
+}
+
+/// What was noted of a position at a depth.
+#[derive(Clone, Copy, Debug)]
+struct Kept {
+    position: Position,
+    depth: u8,
+    known: Known,
+}
+
+/// What was noted, the most recently used last, and what was counted.
+#[derive(Drop)]
+pub struct Notes {
+    kept: Vec<Kept>,
+    most: usize,
+    /// Nodes entered, nodes left, and children that a note answered.
+    pub steps: u64,
+    /// Questions and notes.
+    pub calls: usize,
+}
+
+impl Notes {
+    /// Room for so many; with room for none nothing is remembered.
+    pub fn new(alloc: Global, most: usize) -> Notes {
+        Notes {
+            kept: Vec::new(alloc),
+            most,
+            steps: 0,
+            calls: 0,
+        }
+    }
+
+    fn place_of(&self, p: &Position, depth: u8) -> Option<usize> {
+        for (place, kept) in self.kept.as_slice().iter().enumerate() {
+            if kept.depth == depth && kept.position == *p {
+                return Some(place);
+            }
+        }
+        None
+    }
+
+    fn ask(&mut self, p: &Position, depth: u8) -> Result<Option<Known>, AllocError> {
+        self.calls = self.calls.saturating_add(1);
+        let Some(place) = self.place_of(p, depth) else {
+            return Ok(None);
+        };
+        if place >= self.kept.len() {
+            return Ok(None);
+        }
+        let kept = self.kept.remove(place);
+        let known = kept.known;
+        self.keep(kept)?;
+        Ok(Some(known))
+    }
+
+    fn forget(&mut self, p: &Position, depth: u8) {
+        let Some(place) = self.place_of(p, depth) else {
+            return;
+        };
+        if place < self.kept.len() {
+            self.kept.remove(place);
+        }
+    }
+
+    fn note(&mut self, p: &Position, depth: u8, known: Known) -> Result<(), AllocError> {
+        self.calls = self.calls.saturating_add(1);
+        self.forget(p, depth);
+        let kept = Kept {
+            position: *p,
+            depth,
+            known,
+        };
+        self.keep(kept)
+    }
+
+    fn keep(&mut self, kept: Kept) -> Result<(), AllocError> {
+        self.kept.push(kept)?;
+        self.drop_oldest();
+        Ok(())
+    }
+
+    fn drop_oldest(&mut self) {
+        if self.kept.len() > self.most {
+            self.kept.remove(0);
+        }
+    }
+
+    /// What was noted, where it is enough for the window; that is a step.
+    fn answer(
+        &mut self,
+        p: &Position,
+        depth: u8,
+        low: i32,
+        high: i32,
+    ) -> Result<Option<Known>, AllocError> {
+        let known = self.ask(p, depth)?;
+        let answer = known;
+        if let Some(entry) = &known {
+            if settles(entry, low, high) {
+                self.step(1);
+                return Ok(answer);
+            }
+        }
+        Ok(None)
+    }
+
+    fn step(&mut self, steps: u64) {
+        self.steps = self.steps.saturating_add(steps);
+    }
+}
+
+/// A legal move, where it leads, and when it is visited: 0 the remembered move, 1 a capture, 2 the rest.
+#[derive(Clone, Copy, Debug)]
+struct Branch {
+    code: u16,
+    position: Position,
+    turn: u8,
+}
+
+fn turn_of(p: &Position, m: &Move, first: Option<u16>) -> u8 {
+    if first == Some(m.code()) {
+        return 0;
+    }
+    match m {
+        Move::Board { to, .. } if p.at(*to).is_some() => 1,
+        _ => 2,
+    }
+}
+
+/// The legal moves by rising code.
+fn branches_of(alloc: Global, p: &Position, first: Option<u16>) -> Result<Vec<Branch>, AllocError> {
+    let mut branches = Vec::new(alloc);
+    let mut walk = Walk::new(p);
+    'moves: while let Some(m) = walk.next() {
+        let tried = m;
+        branches.push(Branch {
+            code: m.code(),
+            position: apply(p, tried),
+            turn: turn_of(p, &m, first),
+        })?;
+    }
+    Ok(branches)
+}
+
+fn leaf(p: &Position) -> i32 {
+    if has_legal(p) { material(p) } else { -30000 }
+}
+
+/// What a move has to be worth more than: one less for a lesser code than that of the best one.
+fn bar(top: i32, best: Option<u16>, code: u16) -> i32 {
+    match best {
+        Some(b) if code < b => top.saturating_sub(1),
+        _ => top,
+    }
+}
+
+fn settles(entry: &Known, low: i32, high: i32) -> bool {
+    match entry {
+        Known::Exact(_, _) => true,
+        Known::AtLeast(v) => *v >= high,
+        Known::AtMost(v) => *v <= low,
+    }
+}
+
+/// Enters a node, goes through its moves, and leaves it.
+fn visit(
+    alloc: Global,
+    p: &Position,
+    depth: u8,
+    low: i32,
+    high: i32,
+    notes: &mut Notes,
+) -> Result<Known, AllocError> {
+    notes.step(2);
+    if depth == 0 {
+        return Ok(Known::Exact(leaf(p), None));
+    }
+    let below = depth - 1;
+    let mut first = None;
+    if depth > 1 {
+        if let Some(Known::Exact(_, remembered)) = notes.ask(p, below)? {
+            first = remembered;
+        }
+    }
+    let branches = branches_of(alloc, p, first)?;
+    let (mut top, mut best) = (low, None);
+    for turn in 0..3u8 {
+        for branch in branches.as_slice() {
+            if branch.turn == turn {
+                let bar = bar(top, best, branch.code);
+                let (under, over) = (high.saturating_neg(), bar.saturating_neg());
+                let entry = match notes.answer(&branch.position, below, under, over)? {
+                    Some(entry) => entry,
+                    None => visit(alloc, &branch.position, below, under, over, notes)?,
+                };
+                let (worth, exact) = match entry {
+                    Known::Exact(v, _) => (v.saturating_neg(), true),
+                    Known::AtMost(v) => (v.saturating_neg(), false),
+                    Known::AtLeast(v) => (v.saturating_neg(), false),
+                };
+                if worth >= high {
+                    let cut = Known::AtLeast(worth);
+                    let noted = cut;
+                    notes.note(p, depth, noted)?;
+                    return Ok(cut);
+                }
+                if exact && worth > bar {
+                    top = worth;
+                    best = Some(branch.code);
+                }
+            }
+        }
+    }
+    let entry = closed(top, best, depth, branches.is_empty());
+    let noted = entry;
+    notes.note(p, depth, noted)?;
+    Ok(entry)
+}
+
+/// What is known of a node that nothing cut off.
+fn closed(top: i32, best: Option<u16>, depth: u8, is_lost: bool) -> Known {
+    match best {
+        Some(_) => Known::Exact(top, best),
+        None if is_lost => Known::Exact((-30000i32).saturating_sub(i32::from(depth)), None),
+        None => Known::AtMost(top),
+    }
+}
+
+/// The value and the code of the best move, by a search from the root on. The steps and the calls are added up.
+pub fn search_plainly(
+    alloc: Global,
+    p: &Position,
+    depth: u8,
+    notes: &mut Notes,
+) -> Result<Option<(i32, Option<u16>)>, AllocError> {
+    let mut entry = notes.ask(p, depth)?;
+    if !matches!(entry, Some(Known::Exact(_, _))) {
+        entry = Some(visit(alloc, p, depth, -31000, 31000, notes)?);
+    }
+    match entry {
+        Some(Known::Exact(value, best)) => Ok(Some((value, best))),
+        _ => Ok(None),
+    }
+}
+
+/// The value and the code of the best move by plain minimax: every move of the whole tree, nothing remembered.
+pub fn minimax(p: &Position, depth: u8) -> (i32, Option<u16>) {
+    if depth == 0 {
+        return (leaf(p), None);
+    }
+    let (mut top, mut best) = ((-30000i32).saturating_sub(i32::from(depth)), None);
+    let mut walk = Walk::new(p);
+    'moves: while let Some(m) = walk.next() {
+        let tried = m;
+        let (value, _) = minimax(&apply(p, tried), depth - 1);
+        let worth = value.saturating_neg();
+        if best.is_none() || worth > top {
+            top = worth;
+            best = Some(m.code());
+        }
+    }
+    (top, best)
+}

@@ -1,0 +1,57 @@
+//! A memory that records its calls and leaves the rest to another one.
+
+use shogi_core::Position;
+use shogi_search::{Entry, Memo};
+use std::alloc::Global;
+
+/// A call: a question, or a note and what was noted.
+#[derive(Clone, Copy, Debug)]
+pub struct Call {
+    pub position: Position,
+    pub depth: u8,
+    pub noted: Option<Entry>,
+}
+
+/// Another memory, and the calls that it had.
+#[derive(Drop)]
+pub struct Recorder<M: Memo> {
+    memo: M,
+    calls: Vec<Call>,
+}
+
+impl<M: Memo> Recorder<M> {
+    pub fn new(alloc: Global, memo: M) -> Recorder<M> {
+        Recorder {
+            memo,
+            calls: Vec::new(alloc),
+        }
+    }
+
+    /// The calls, the first one first; where memory was refused, one is missing.
+    pub fn calls(&self) -> &[Call] {
+        self.calls.as_slice()
+    }
+}
+
+impl<M: Memo> Memo for Recorder<M> {
+    ghost answers = { λ recorder p d. M.answers recorder.memo p d };
+
+    fn probe(&mut self, p: &Position, d: u8) -> Option<Entry> {
+        let _ = self.calls.push(Call {
+            position: *p,
+            depth: d,
+            noted: None,
+        });
+        self.memo.probe(p, d)
+    }
+
+    fn note(&mut self, p: &Position, d: u8, entry: Entry) {
+        let noted = entry;
+        let _ = self.calls.push(Call {
+            position: *p,
+            depth: d,
+            noted: Some(noted),
+        });
+        self.memo.note(p, d, entry);
+    }
+}

@@ -1,0 +1,212 @@
+//! What a search leaves in a table, and what it finds there.
+
+ghost use Rattle.std.specs.Prelude.{◌≤◌};
+
+use shared_table::{SharedTable, TableFault};
+use shogi_core::{Color, Hands, Move, Piece, Position, Role, Square};
+use shogi_moves::{apply, next_legal};
+use shogi_search::{Entry, Memo, NoMemo, search};
+use std::alloc::{AllocError, Global};
+use std::hash::{BuildHasherDefault, FoldHasher};
+use std::process::Abort;
+use std::test::Fail;
+
+/// A table with a hash without a seed.
+pub type TestTable = SharedTable<BuildHasherDefault<FoldHasher>, Global>;
+
+pub fn table_of(alloc: Global, capacity: usize) -> Result<TestTable, TableFault>
+    requires least { 1 ≤ capacity }
+    requires most { capacity ≤ 1000000 }
+{
+    SharedTable::new(alloc, capacity, BuildHasherDefault::<FoldHasher>::new())
+}
+
+/// The position of pieces by file and rank, with nothing held.
+pub fn placed(pieces: &[(u8, u8, Color, Role)], side: Color) -> Result<Position, Fail> {
+    let mut cells: [Option<Piece>; 81] = [None; 81];
+    for &(file, rank, color, role) in pieces {
+        let square = Square::new(file, rank).ok_or("a square")?;
+        cells[square.index()] = Some(Piece { color, role });
+    }
+    Ok(Position::new(cells, Hands::none(), side)?)
+}
+
+/// Two kings and two pawns, far apart: `4k4/4p4/9/9/9/9/9/4P4/4K4 b -`.
+pub fn two_pawns() -> Result<Position, Fail> {
+    let pieces = [
+        (5, 1, Color::White, Role::King),
+        (5, 2, Color::White, Role::Pawn),
+        (5, 8, Color::Black, Role::Pawn),
+        (5, 9, Color::Black, Role::King),
+    ];
+    placed(&pieces, Color::Black)
+}
+
+/// The positions after one legal move, in the order of codes.
+fn children(alloc: Global, p: &Position) -> Result<Vec<Position>, AllocError> {
+    let mut reached = Vec::new(alloc);
+    let mut passed = None;
+    'moves: while let Some(m) = next_legal(p, passed) {
+        let (tried, visited) = (m, m);
+        reached.push(apply(p, tried))?;
+        passed = Some(visited);
+    }
+    Ok(reached)
+}
+
+/// Notes the value and the best move that a search without a memory finds.
+fn note_exact<M: Memo>(memo: &mut M, p: &Position, depth: u8)
+    requires { depth ≤ 16 }
+{
+    let found = search(p, depth, &mut NoMemo);
+    memo.note(p, depth, Entry::Exact(found.value, found.best));
+}
+
+// Depth 0 is asked for last before depth 2 comes, so depth 1 is the one that goes.
+#[test]
+fn two_entries(rt: HostRuntime) -> Result<(), Fail> {
+    let start = Position::start();
+    let mut table = table_of(rt.alloc(), 2)?;
+    note_exact(&mut table, &start, 0);
+    note_exact(&mut table, &start, 1);
+    assert!(rt; table.probe(&start, 0) == Some(Entry::Exact(0, None)));
+    note_exact(&mut table, &start, 2);
+
+    let mut depths = [99, 99, 99];
+    let mut count = 0usize;
+    for (key, _) in table.entries() {
+        assert!(rt; key.position == start && count < 3);
+        depths[count] = key.depth;
+        count += 1;
+    }
+    assert_eq!(rt; (depths, count), ([2, 0, 99], 2));
+    assert!(rt; table.peek(&start, 1).is_none());
+    assert_eq!(rt; table.len(), 2);
+
+    let again = search(&start, 2, &mut table);
+    assert_eq!(rt;
+        (again.value, again.best.map(|m| m.code()), again.steps),
+        (0, Some(982), 0)
+    );
+    Ok(())
+}
+
+// With each child known, the root is entered, each child is answered, and the root is left.
+fn assert_known_children(
+    rt: &impl Abort,
+    alloc: Global,
+    root: &Position,
+    depth: u8,
+) -> Result<(), Fail>
+    requires { depth ≤ 15 }
+{
+    let mut table = table_of(alloc, 100000)?;
+    let after = children(alloc, root)?;
+    for p in after.as_slice() {
+        search(p, depth, &mut table);
+    }
+    let found = search(root, depth + 1, &mut table);
+    let steps = (after.len() as u64).saturating_add(2);
+    assert_eq!(rt; found.steps, steps, "children at depth {depth}");
+    Ok(())
+}
+
+#[test]
+fn children_searched_before(rt: HostRuntime) -> Result<(), Fail> {
+    let start = Position::start();
+    assert_eq!(rt; children(rt.alloc(), &start)?.len(), 30);
+    for depth in 0..4u8 {
+        assert_known_children(&rt, rt.alloc(), &start, depth)?;
+    }
+    let pawns = two_pawns()?;
+    for depth in 0..8u8 {
+        assert_known_children(&rt, rt.alloc(), &pawns, depth)?;
+    }
+    Ok(())
+}
+
+/// What a search one ply deeper left of the positions after each move: how many entries there are,
+/// and how many of them are exact.
+fn left_of(alloc: Global, root: &Position, depth: u8) -> Result<(usize, usize), Fail>
+    requires { depth ≤ 15 }
+{
+    let mut table = table_of(alloc, 100000)?;
+    search(root, depth + 1, &mut table);
+    let (mut entries, mut exact) = (0usize, 0usize);
+    let after = children(alloc, root)?;
+    for p in after.as_slice() {
+        match table.peek(p, depth) {
+            Some(Entry::Exact(_, _)) => {
+                entries = entries.saturating_add(1);
+                exact = exact.saturating_add(1);
+            }
+            Some(_) => entries = entries.saturating_add(1),
+            None => {}
+        }
+    }
+    Ok((entries, exact))
+}
+
+// Another program counted the exact ones after three plies.
+#[test]
+fn children_left_in_the_table(rt: HostRuntime) -> Result<(), Fail> {
+    let start = Position::start();
+    assert_eq!(rt; left_of(rt.alloc(), &start, 2)?, (30, 2));
+    for depth in [1, 3] {
+        assert_eq!(rt;
+            left_of(rt.alloc(), &start, depth)?.0,
+            30,
+            "at depth {depth}"
+        );
+    }
+    let pawns = two_pawns()?;
+    let moves = children(rt.alloc(), &pawns)?.len();
+    for depth in 1..8u8 {
+        assert_eq!(rt;
+            left_of(rt.alloc(), &pawns, depth)?.0,
+            moves,
+            "at depth {depth}"
+        );
+    }
+    Ok(())
+}
+
+// A mate is cheap to search at every depth: White's king on 5a, Black's gold before it on a pawn.
+#[test]
+fn notes_at_every_depth(rt: HostRuntime) -> Result<(), Fail> {
+    let pieces = [
+        (5, 1, Color::White, Role::King),
+        (5, 2, Color::Black, Role::Gold),
+        (5, 3, Color::Black, Role::Pawn),
+    ];
+    let mated = placed(&pieces, Color::White)?;
+    let mut table = table_of(rt.alloc(), 17)?;
+    for depth in 0..=16u8 {
+        note_exact(&mut table, &mated, depth);
+        assert_eq!(rt; table.len(), usize::from(depth).saturating_add(1));
+    }
+    for depth in 0..=16u8 {
+        let lost = Some(Entry::Exact((-30000i32).saturating_sub(i32::from(depth)), None));
+        assert_eq!(rt; table.peek(&mated, depth), lost);
+        assert_eq!(rt; table.probe(&mated, depth), lost);
+    }
+    Ok(())
+}
+
+#[test]
+fn tables_of_every_size(rt: HostRuntime) -> Result<(), Fail> {
+    let start = Position::start();
+    for capacity in [
+        1usize, 2, 3, 1000, 4096, 65536, 100000, 499999, 500000, 500001, 999999, 1000000,
+    ] {
+        assert!(rt; capacity >= 1 && capacity <= 1000000);
+        let mut table = table_of(rt.alloc(), capacity)?;
+        assert!(rt; table.len() == 0 && table.probe(&start, 1).is_none());
+        note_exact(&mut table, &start, 1);
+        assert_eq!(rt;
+            table.peek(&start, 1),
+            Some(Entry::Exact(0, Move::of_code(982)))
+        );
+    }
+    Ok(())
+}

@@ -1,0 +1,120 @@
+//! Searches that go on in slices: two by turns, and the calls of one that makes a step at a time.
+
+ghost use Rattle.std.specs.Prelude.{◌≤◌};
+
+use crate::recorder::Recorder;
+use crate::tables::{TestTable, table_of};
+use shogi_core::Position;
+use shogi_search::{Entry, Found, Memo, NoMemo, Search};
+use std::alloc::Global;
+use std::process::Abort;
+use std::test::Fail;
+
+/// Depths from the opening position, with the value and the code of the best move as another program
+/// found them: 1g1f twice, then 7g7f twice.
+const OPENING: [(u8, i32, u16); 4] = [(1, 0, 982), (2, 0, 982), (3, 200, 9838), (4, 0, 9838)];
+
+fn assert_found(rt: &impl Abort, found: &Found, value: i32, code: u16) {
+    assert_eq!(rt;
+        (found.value, found.best.map(|m| m.code())),
+        (value, Some(code))
+    );
+}
+
+/// Goes on by turns, a step each, until both have ended: the first over the table, the second over the
+/// table and over no memory at alternate calls.
+fn by_turns(
+    first: &mut Search,
+    second: &mut Search,
+    table: &mut TestTable,
+) -> Option<(Found, Found)> {
+    for turn in 0..100000u64 {
+        let one = first.advance(table, 1);
+        let two = if turn % 2 == 0 {
+            second.advance(table, 1)
+        } else {
+            second.advance(&mut NoMemo, 1)
+        };
+        if let (Some(one), Some(two)) = (one, two) {
+            return Some((one, two));
+        }
+    }
+    None
+}
+
+#[test]
+fn two_searches_by_turns_over_one_table(rt: HostRuntime) -> Result<(), Fail> {
+    for capacity in [1usize, 100] {
+        for (depth, value, code) in OPENING {
+            assert!(rt; depth <= 16);
+            let mut table = table_of(rt.alloc(), capacity)?;
+            let mut first = Search::start(&Position::start(), depth);
+            let mut second = Search::start(&Position::start(), depth);
+            let (one, two) = by_turns(&mut first, &mut second, &mut table).ok_or("an end")?;
+            assert_found(&rt, &one, value, code);
+            assert_found(&rt, &two, value, code);
+            assert_eq!(rt; (one.steps, two.steps), (first.steps(), second.steps()));
+        }
+    }
+    Ok(())
+}
+
+fn step_by_step<M: Memo>(search: &mut Search, memo: &mut M) -> Option<Found> {
+    for _ in 0..100000u64 {
+        let found = search.advance(memo, 1);
+        if found.is_some() {
+            return found;
+        }
+    }
+    None
+}
+
+// The last call notes what was found at the root, and after the end there is none.
+fn assert_last_call<M: Memo + Drop>(
+    rt: &impl Abort,
+    alloc: Global,
+    memo: M,
+    depth: u8,
+) -> Result<Found, Fail>
+    requires { depth ≤ 16 }
+{
+    let start = Position::start();
+    let mut search = Search::start(&start, depth);
+    let mut recorder = Recorder::new(alloc, memo);
+    let found = step_by_step(&mut search, &mut recorder).ok_or("an end")?;
+    let calls = recorder.calls().len();
+    let last = recorder.calls().last().copied().ok_or("a call")?;
+    assert!(rt; last.position == start && last.depth == depth);
+    assert!(rt; last.noted == Some(Entry::Exact(found.value, found.best)));
+    for budget in [0, 1, 1000, u64::MAX] {
+        assert!(rt; search.advance(&mut recorder, budget) == Some(found));
+        assert_eq!(rt; recorder.calls().len(), calls, "with {budget} steps");
+    }
+    assert_eq!(rt; search.steps(), found.steps);
+    Ok(found)
+}
+
+fn assert_last_calls(
+    rt: &impl Abort,
+    alloc: Global,
+    depth: u8,
+    value: i32,
+    code: u16,
+) -> Result<(), Fail>
+    requires { depth ≤ 16 }
+{
+    let found = assert_last_call(rt, alloc, NoMemo, depth)?;
+    assert_found(rt, &found, value, code);
+    let found = assert_last_call(rt, alloc, table_of(alloc, 1)?, depth)?;
+    assert_found(rt, &found, value, code);
+    Ok(())
+}
+
+#[test]
+fn the_last_call_notes_the_root(rt: HostRuntime) -> Result<(), Fail> {
+    for (depth, value, code) in OPENING {
+        assert!(rt; depth <= 16);
+        assert_last_calls(&rt, rt.alloc(), depth, value, code)?;
+    }
+    Ok(())
+}
