@@ -1,0 +1,4 @@
+pub mod Peers
+pub mod Runs
+pub mod Parts
+pub mod Visits
