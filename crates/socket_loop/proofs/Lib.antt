@@ -2,3 +2,8 @@ pub mod Peers
 pub mod Runs
 pub mod Parts
 pub mod Visits
+pub mod Accepting
+pub mod Marks
+pub mod Quiet
+pub mod Pending
+pub mod Turning

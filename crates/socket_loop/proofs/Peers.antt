@@ -153,7 +153,7 @@ moves_each a b number m o n =
       | inr apart ↦ kept_move a b n (o n apart)
     ]
 
-told_failure : {T : Type 0} (r : Result T WireFault) (a b : Option Bool) → TellsFailure r a b → OnlyRises a b
+pub told_failure : {T : Type 0} (r : Result T WireFault) (a b : Option Bool) → TellsFailure r a b → OnlyRises a b
 told_failure (Ok x) a b t = stays_rise a b t
 told_failure (Err e) a b t = raised_rise a b t
 
@@ -196,6 +196,9 @@ gave_move a b number bytes p = moves_each a b number (record {
   shut = stays_rise _ _ p.shut;
   failed = p.failed;
 }) p.others
+
+pub away_moves : (a b : Told) (number : ℕ) (gave took : List ℕ) → OnlyRises (a.is_shut number) (b.is_shut number) → OnlyRises (a.has_failed number) (b.has_failed number) → Consumes (a.unread number) (b.unread number) gave → Appends (a.written number) (b.written number) took → KeepsOthers a b number → AllMove a b
+away_moves a b number gave took shut failed unread written others = moves_each a b number (record { gave = gave; unread = unread; took = took; written = written; shut = shut; failed = failed }) others
 
 -- ---- what is left to be read
 

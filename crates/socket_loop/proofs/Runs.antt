@@ -1,7 +1,7 @@
 -- Runs of a host, one after the other.
-use Rattle.std.proofs.Common.{◌≡◌, ℕ, ◌<◌, ◌≤◌, Bool, true, false, List, [], ◌∷◌, ◌++◌, Option, Some, None, refl, sym, ap, ◌∙◌, arith, append_assoc}
+use Rattle.std.proofs.Common.{◌≡◌, ◌⊎◌, ℕ, ◌<◌, ◌≤◌, Bool, true, false, List, [], ◌∷◌, ◌++◌, Option, Some, None, refl, sym, ap, ◌∙◌, arith, append_assoc, inl, inr}
 use Rattle.std.specs.Prelude.{◌||◌}
-use Rattle.std.proofs.lemmas.Bool.{or_left, or_right}
+use Rattle.std.proofs.lemmas.Bool.{or_left, or_right, or_cases}
 use Rattle.session_slots.specs.declared.id.SessionId.{SessionId}
 use Rattle.session_slots.specs.Slots.{find}
 use Rattle.usi_session.specs.Due.{Talk}
@@ -74,6 +74,13 @@ closes_more false y z f e = f e
 pub closes_neither : (id : SessionId) (a b : List Step) → closes id a ≡ false → closes id b ≡ false → closes id (a ++ b) ≡ false
 closes_neither id [] b e f = f
 closes_neither id (s ∷ rest) b e f = closes_more (closes_by id s.event) (closes id rest) (closes id (rest ++ b)) (λ g. closes_neither id rest b g f) e
+
+pub closes_either : (id : SessionId) (a b : List Step) → closes id (a ++ b) ≡ true → (closes id a ≡ true) ⊎ (closes id b ≡ true)
+closes_either id [] b e = inr e
+closes_either id (s ∷ rest) b e = elim (or_cases (closes_by id s.event) (closes id (rest ++ b)) e) [
+  | inl now ↦ inl (or_left (closes_by id s.event) (closes id rest) now)
+  | inr later ↦ elim (closes_either id rest b later) [ inl first ↦ inl (or_right (closes_by id s.event) (closes id rest) first) | inr second ↦ inr second ]
+]
 
 pub starves_left : (id : SessionId) (a b : List Step) → starves id a ≡ true → starves id (a ++ b) ≡ true
 starves_left id [] b e = absurd (cc)

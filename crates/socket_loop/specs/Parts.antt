@@ -183,3 +183,8 @@ pub record KeepsMarks (bound : ℕ) (old : Told) (held : List Connection) (new :
 
 abbrev pub KeepsAllMarks : ℕ → Told → List Connection → Told → List Connection → Type 0
 KeepsAllMarks bound old held new now = (number : ℕ) → KeepsMarks bound old held new now number
+
+-- no further connection is marked
+pub record AddsNoMark (held now : List Connection) (number : ℕ) : Type 0 where
+  pub ended : IsMarked reads_ended now number → IsMarked reads_ended held number
+  pub shut : IsMarked was_shut now number → IsMarked was_shut held number

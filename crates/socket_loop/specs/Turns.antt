@@ -18,7 +18,7 @@ use Rattle.socket_loop.specs.declared.connection.Link.{Link}
 use Rattle.socket_loop.specs.declared.connection.Connection.{Connection}
 use Rattle.socket_loop.specs.Told.{Told, KeepsPeer, KeepsOthers, KeepsAll, IsRaised, OnlyRises}
 use Rattle.socket_loop.specs.Links.{IsTied, IsAmong, IsApart, IsMarked, links_of, reads_ended, was_shut}
-use Rattle.socket_loop.specs.Parts.{AllMove, AreAll, IsAdmission, IsInput, IsOutput, IsEnd, Carried, IsEmptied}
+use Rattle.socket_loop.specs.Parts.{AllMove, AreAll, IsAdmission, IsInput, IsOutput, IsEnd, Carried, IsEmptied, closes}
 
 -- the budget of each round, and the connections
 pub record LoopState : Type 0 where
@@ -92,12 +92,13 @@ pub record IsTurnedAway (from to : ℕ) (accepted : List Accepted) (old new : To
   pub shut : IsRaised (old.is_shut number) (new.is_shut number)
   pub failed : OnlyRises (old.has_failed number) (new.has_failed number)
 
--- a new connection has a session
-pub record IsNew (from to : ℕ) (accepted : List Accepted) (old new : Told) (steps : List Step) (link : Link) : Type 0 where
+-- a new connection has a session, of this generation or a later one
+pub record IsNew (from to : ℕ) (accepted : List Accepted) (next : ℕ) (old new : Told) (steps : List Step) (link : Link) : Type 0 where
   pub least : from ≤ link.number
   pub most : link.number < to
   pub answered : IsOneOf accepted (record { number = link.number; outcome = Opened link.id })
   pub opened : is_opened link.id steps ≡ true
+  pub fresh : next ≤ link.id.generation
   pub kept : KeepsPeer old new link.number
 
 -- new connections were accepted: each number keeps what is told of it, or was turned away
@@ -113,8 +114,10 @@ pub record Accepts (links : List Link) (from : ℕ) (old : Told) (before : HostS
   pub kept : (number : ℕ) → number < from → KeepsPeer old new number
   pub each : (number : ℕ) → KeepsPeer old new number ⊎ IsTurnedAway from to accepted old new number
   pub all : AllMove old new
+  pub closed_below : (id : SessionId) → closes id steps ≡ true → id.generation < after.slots.next
+  pub spared : Fits links from before → (link : Link) → IsAmong met link → closes link.id steps ≡ false
   pub stay : (link : Link) → IsAmong links link → IsAmong met link
-  pub are : (link : Link) → IsAmong met link → IsAmong links link ⊎ IsNew from to accepted old new steps link
+  pub are : (link : Link) → IsAmong met link → IsAmong links link ⊎ IsNew from to accepted before.slots.next old new steps link
   pub fits : Fits links from before → Fits met to after
 
 -- a session was opened, or not

@@ -3,11 +3,11 @@
 
 mod connection;
 mod memory;
-
-pub mod visit;
+mod turn;
+mod visit;
 mod wire;
 
 pub use connection::{Connection, Link};
 pub use memory::{MemoryWire, Peer};
-
+pub use turn::{Loop, Turn};
 pub use wire::{Got, Wire, WireFault};
