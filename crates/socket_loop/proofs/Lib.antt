@@ -5,5 +5,6 @@ pub mod Visits
 pub mod Accepting
 pub mod Marks
 pub mod Quiet
+pub mod Stirs
 pub mod Pending
 pub mod Turning

@@ -1,5 +1,5 @@
 -- A turn of a loop (own choice).
-use Rattle.std.specs.Prelude.{◌≡◌, ◌<◌, ◌≤◌, ◌⊎◌, ⊤, ℕ, List, [], ◌∷◌, ◌++◌, codes, map, true, IsSome, Option, Some, Bool, false, ◌||◌, Result, Ok, Err}
+use Rattle.std.specs.Prelude.{◌≡◌, ◌<◌, ◌≤◌, ◌⊎◌, ⊤, ℕ, List, [], ◌∷◌, ◌++◌, codes, map, true, IsSome, Option, None, Some, Bool, false, ◌||◌, not, filter, length, Result, Ok, Err}
 use Rattle.std.specs.Io.KnownBytes.{Keeps, Appends, Consumes}
 use Rattle.session_slots.specs.declared.id.SessionId.{SessionId}
 use Rattle.session_slots.specs.Slots.{find}
@@ -190,6 +190,55 @@ ServesNew links old now new after = (link : Link) → IsAmong now link → IsAmo
 abbrev pub IsQuiet : {X : Type 0} → Bool → Told → X → Told → X → Type 0
 IsQuiet moved old held new now = moved ≡ false → KeepsAll old new × (now ≡ held)
 
+-- ---- what moves
+
+-- a connection that is told of gave at least one byte
+abbrev pub IsShorter : Option (List ℕ) → Option (List ℕ) → Type 0
+IsShorter None new = ⊤
+IsShorter (Some bytes) None = ⊥
+IsShorter (Some bytes) (Some left) = length left < length bytes
+
+-- a connection that is told of took at least one byte
+abbrev pub IsLonger : Option (List ℕ) → Option (List ℕ) → Type 0
+IsLonger None new = ⊤
+IsLonger (Some bytes) None = ⊥
+IsLonger (Some bytes) (Some more) = length bytes < length more
+
+abbrev pub Transfers : Told → Told → ℕ → Type 0
+Transfers old new number = IsShorter (old.unread number) (new.unread number) ⊎ IsLonger (old.written number) (new.written number)
+
+-- the marks of a connection stay once they are made
+pub record KeepsMade (old new : Connection) : Type 0 where
+  pub ended : old.has_ended ≡ true → new.has_ended ≡ true
+  pub shut : old.is_shut ≡ true → new.is_shut ≡ true
+
+-- the reads of a connection ended, or it was shut
+abbrev pub EndsOrShuts : Connection → Connection → Type 0
+EndsOrShuts old new = ((old.has_ended ≡ false) × (new.has_ended ≡ true)) ⊎ ((old.is_shut ≡ false) × (new.is_shut ≡ true))
+
+abbrev pub AllKeepMade : List Connection → List Connection → Type 0
+AllKeepMade [] [] = ⊤
+AllKeepMade [] (y ∷ ys) = ⊥
+AllKeepMade (x ∷ xs) [] = ⊥
+AllKeepMade (x ∷ xs) (y ∷ ys) = KeepsMade x y × AllKeepMade xs ys
+
+-- place by place, the reads of one of them ended, or it was shut
+abbrev pub OneEndsOrShuts : List Connection → List Connection → Type 0
+OneEndsOrShuts [] ys = ⊥
+OneEndsOrShuts (x ∷ xs) [] = ⊥
+OneEndsOrShuts (x ∷ xs) (y ∷ ys) = EndsOrShuts x y ⊎ OneEndsOrShuts xs ys
+
+-- a connection gave or took at least one byte, or ended, or was shut
+abbrev pub Stirs : Told → List Connection → Told → List Connection → Type 0
+Stirs old held new now = ((number : ℕ) × Transfers old new number) ⊎ OneEndsOrShuts held now
+
+-- the same, where those that were shut are held no more
+pub record StirsHeld (old : Told) (held : List Connection) (new : Told) (now : List Connection) : Type 0 where
+  pub last : List Connection
+  pub links : links_of last ≡ links_of held
+  pub left : now ≡ filter (λ connection. not connection.is_shut) last
+  pub stirs : Stirs old held new last
+
 -- a session of one of these is pending
 abbrev pub any_pending : HostState → List Link → Bool
 any_pending host [] = false
@@ -198,3 +247,7 @@ any_pending host (link ∷ rest) = pending_of (find host.slots link.id) || any_p
 -- the wire still knows each connection that it knew
 abbrev pub StaysKnown : Told → Told → Type 0
 StaysKnown old new = (number : ℕ) → IsSome (old.written number) → IsSome (new.written number)
+
+-- a connection was accepted, gave or took at least one byte, ended or was shut, or the session of one that is held is pending
+abbrev pub HasMoved : ℕ → Told → List Connection → ℕ → Told → List Connection → HostState → Type 0
+HasMoved from old held to new now host = (from < to) ⊎ (StirsHeld old held new now ⊎ (any_pending host (links_of now) ≡ true))

@@ -1,10 +1,10 @@
 //! A loop that serves the sessions of a host to the connections of a wire.
 
-ghost use Rattle.std.specs.Prelude.{false, Ok, ◌≡◌, ◌≤◌, ◌<◌, ℕ, List, [], length, not, filter};
+ghost use Rattle.std.specs.Prelude.{true, false, Ok, ◌≡◌, ◌≤◌, ◌<◌, ℕ, List, [], length, not, filter};
 ghost use Rattle.host_core.specs.Steps.{HostState};
 ghost use Rattle.socket_loop.specs.Links.{links_of};
 ghost use Rattle.socket_loop.specs.Parts.{Serves, IsInput, IsOutput, IsEnd, KeepsAllMarks, AddsNoMark};
-ghost use Rattle.socket_loop.specs.Turns.{any_pending, host_full, Accepts, Admits, Fits, GoesOnServing, IsAway, IsOpening, IsQuiet, IsTurn, ServesNew, StaysKnown};
+ghost use Rattle.socket_loop.specs.Turns.{any_pending, host_full, Accepts, Admits, AllKeepMade, Fits, GoesOnServing, HasMoved, IsAway, IsOpening, IsQuiet, IsTurn, ServesNew, StaysKnown, Stirs};
 ghost use Rattle.socket_loop.specs.declared.connection.Connection.{Connection};
 
 use crate::connection::{Connection, Link};
@@ -131,6 +131,7 @@ impl<A: Allocator + Copy> Loop<A> {
         ensures quiet { IsQuiet result (W.told wire.old) self.old.held (W.told wire.new) self.new.held }
         ensures accepts { Accepts (links_of self.old.held) (W.bound wire.old) (W.told wire.old) host.old (links_of self.new.held) (W.bound wire.new) (W.told wire.new) host.new }
         ensures marks { (number : ℕ) → AddsNoMark self.old.held self.new.held number }
+        ensures accepted { result ≡ true → W.bound wire.old < W.bound wire.new }
         ensures slice { self.new.slice ≡ self.old.slice }
     {
         let mut moved = false;
@@ -149,6 +150,8 @@ impl<A: Allocator + Copy> Loop<A> {
         ensures quiet { IsQuiet result (W.told wire.old) self.old.held (W.told wire.new) self.new.held }
         ensures serves { (marks : List Connection) → Serves IsInput marks (W.bound wire.old) (links_of self.old.held) (W.told wire.old) host.old (W.told wire.new) host.new }
         ensures marks { KeepsAllMarks (W.bound wire.old) (W.told wire.old) self.old.held (W.told wire.new) self.new.held }
+        ensures stirs { result ≡ true → Stirs (W.told wire.old) self.old.held (W.told wire.new) self.new.held }
+        ensures made { AllKeepMade self.old.held self.new.held }
         ensures links { links_of self.new.held ≡ links_of self.old.held }
         ensures bound { W.bound wire.new ≡ W.bound wire.old }
         ensures slice { self.new.slice ≡ self.old.slice }
@@ -166,6 +169,8 @@ impl<A: Allocator + Copy> Loop<A> {
         ensures quiet { IsQuiet result (W.told wire.old) self.old.held (W.told wire.new) self.new.held }
         ensures serves { (marks : List Connection) → Serves IsOutput marks (W.bound wire.old) (links_of self.old.held) (W.told wire.old) host.old (W.told wire.new) host.new }
         ensures marks { KeepsAllMarks (W.bound wire.old) (W.told wire.old) self.old.held (W.told wire.new) self.new.held }
+        ensures stirs { result ≡ true → Stirs (W.told wire.old) self.old.held (W.told wire.new) self.new.held }
+        ensures made { AllKeepMade self.old.held self.new.held }
         ensures links { links_of self.new.held ≡ links_of self.old.held }
         ensures bound { W.bound wire.new ≡ W.bound wire.old }
         ensures slice { self.new.slice ≡ self.old.slice }
@@ -183,6 +188,8 @@ impl<A: Allocator + Copy> Loop<A> {
         ensures quiet { IsQuiet result (W.told wire.old) self.old.held (W.told wire.new) self.new.held }
         ensures serves { Serves IsEnd self.old.held (W.bound wire.old) (links_of self.old.held) (W.told wire.old) host.old (W.told wire.new) host.new }
         ensures marks { KeepsAllMarks (W.bound wire.old) (W.told wire.old) self.old.held (W.told wire.new) self.new.held }
+        ensures stirs { result ≡ true → Stirs (W.told wire.old) self.old.held (W.told wire.new) self.new.held }
+        ensures made { AllKeepMade self.old.held self.new.held }
         ensures links { links_of self.new.held ≡ links_of self.old.held }
         ensures bound { W.bound wire.new ≡ W.bound wire.old }
         ensures slice { self.new.slice ≡ self.old.slice }
@@ -217,6 +224,7 @@ impl<A: Allocator + Copy> Loop<A> {
     /// The five parts of a turn.
     fn take_turn<W: Wire, S: BuildHasher>(&mut self, host: &mut Host<S, A>, wire: &mut W) -> Turn
         requires fits { Fits (links_of self.old.held) (W.bound wire.old) host.old }
+        ensures moved { result.moved ≡ true → HasMoved (W.bound wire.old) (W.told wire.old) self.old.held (W.bound wire.new) (W.told wire.new) self.new.held host.new }
         ensures pending { result.moved ≡ false → any_pending host.new (links_of self.new.held) ≡ false }
         ensures quiet { IsQuiet result.moved (W.told wire.old) (filter (λ c. not c.is_shut) self.old.held) (W.told wire.new) self.new.held }
         ensures turned { IsTurn self.old.slice self.old.held (W.bound wire.old) (W.told wire.old) host.old self.new.held (W.bound wire.new) (W.told wire.new) host.new }
@@ -245,6 +253,7 @@ impl<A: Allocator + Copy> Loop<A> {
     /// it failed, a feed of its session was refused for memory, or it was finished with.
     pub fn turn<W: Wire, S: BuildHasher>(&mut self, host: &mut Host<S, A>, wire: &mut W) -> Turn
         requires fits { Fits (links_of self.old.held) (W.bound wire.old) host.old }
+        ensures moved { result.moved ≡ true → HasMoved (W.bound wire.old) (W.told wire.old) self.old.held (W.bound wire.new) (W.told wire.new) self.new.held host.new }
         ensures pending { result.moved ≡ false → any_pending host.new (links_of self.new.held) ≡ false }
         ensures quiet { IsQuiet result.moved (W.told wire.old) (filter (λ c. not c.is_shut) self.old.held) (W.told wire.new) self.new.held }
         ensures turned { IsTurn self.old.slice self.old.held (W.bound wire.old) (W.told wire.old) host.old self.new.held (W.bound wire.new) (W.told wire.new) host.new }

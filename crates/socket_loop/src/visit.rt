@@ -1,13 +1,14 @@
 //! What a turn does with one connection.
 
 ghost use Rattle.std.specs.Prelude.{◌≡◌, ◌<◌, ◌≤◌, ◌⊎◌, [], ◌∷◌, List, length, true, false, not, ◌&&◌};
+ghost use Rattle.std.specs.Io.KnownBytes.{Keeps};
 ghost use Rattle.host_core.specs.ById.{wants_input_of};
 ghost use Rattle.host_core.specs.Seen.{outcome_of};
 ghost use Rattle.session_slots.specs.Slots.{find};
 ghost use Rattle.socket_loop.specs.Links.{IsMarked, reads_ended};
 ghost use Rattle.socket_loop.specs.Parts.{Serves, GaveBytes, IsClosing, IsEmptied, IsEnd, IsGone, IsInput, IsOutput, is_done, is_finished_with};
 ghost use Rattle.socket_loop.specs.Told.{IsRaised, Shuts, Told};
-ghost use Rattle.socket_loop.specs.Turns.{IsQuiet};
+ghost use Rattle.socket_loop.specs.Turns.{EndsOrShuts, IsQuiet, KeepsMade, Transfers};
 ghost use Rattle.socket_loop.specs.declared.connection.Connection.{Connection};
 
 use crate::connection::Connection;
@@ -55,6 +56,8 @@ fn feed_from<W: Wire, S: BuildHasher, A: Allocator + Copy>(
     requires few { length piece.now ≤ 4096 }
     ensures serves { (marks : List Connection) (before : Told) → GaveBytes before (W.told wire.old) connection.old.link.number piece.now → Serves IsInput marks (W.bound wire.old) (connection.old.link ∷ []) before host.old (W.told wire.new) host.new }
     ensures shut { connection.new.is_shut ≡ true → (connection.old.is_shut ≡ true) ⊎ (connection.old.link.number < W.bound wire.old → IsRaised ((W.told wire.old).is_shut connection.old.link.number) ((W.told wire.new).is_shut connection.old.link.number)) }
+    ensures unread { Keeps ((W.told wire.old).unread connection.old.link.number) ((W.told wire.new).unread connection.old.link.number) }
+    ensures made { KeepsMade connection.old connection.new }
     ensures ended { connection.new.has_ended ≡ connection.old.has_ended }
     ensures link { connection.new.link ≡ connection.old.link }
     ensures bound { W.bound wire.new ≡ W.bound wire.old }
@@ -76,6 +79,8 @@ pub fn read_from<W: Wire, S: BuildHasher, A: Allocator + Copy>(
     wire: &mut W,
 ) -> bool
     ensures quiet { IsQuiet result (W.told wire.old) connection.old (W.told wire.new) connection.new }
+    ensures stirs { result ≡ true → Transfers (W.told wire.old) (W.told wire.new) connection.old.link.number ⊎ EndsOrShuts connection.old connection.new }
+    ensures made { KeepsMade connection.old connection.new }
     ensures serves { (marks : List Connection) → Serves IsInput marks (W.bound wire.old) (connection.old.link ∷ []) (W.told wire.old) host.old (W.told wire.new) host.new }
     ensures ended { connection.new.has_ended ≡ true → (connection.old.has_ended ≡ true) ⊎ IsEmptied ((W.told wire.old).unread connection.old.link.number) ((W.told wire.new).unread connection.old.link.number) }
     ensures shut { connection.new.is_shut ≡ true → (connection.old.is_shut ≡ true) ⊎ (connection.old.link.number < W.bound wire.old → IsRaised ((W.told wire.old).is_shut connection.old.link.number) ((W.told wire.new).is_shut connection.old.link.number)) }
@@ -115,6 +120,8 @@ pub fn write_to<W: Wire, S: BuildHasher, A: Allocator + Copy>(
     wire: &mut W,
 ) -> bool
     ensures quiet { IsQuiet result (W.told wire.old) connection.old (W.told wire.new) connection.new }
+    ensures stirs { result ≡ true → Transfers (W.told wire.old) (W.told wire.new) connection.old.link.number ⊎ EndsOrShuts connection.old connection.new }
+    ensures made { KeepsMade connection.old connection.new }
     ensures serves { (marks : List Connection) → Serves IsOutput marks (W.bound wire.old) (connection.old.link ∷ []) (W.told wire.old) host.old (W.told wire.new) host.new }
     ensures ended { connection.new.has_ended ≡ connection.old.has_ended }
     ensures shut { connection.new.is_shut ≡ true → (connection.old.is_shut ≡ true) ⊎ (connection.old.link.number < W.bound wire.old → IsRaised ((W.told wire.old).is_shut connection.old.link.number) ((W.told wire.new).is_shut connection.old.link.number)) }
@@ -167,6 +174,8 @@ pub fn close_if_finished<W: Wire, S: BuildHasher, A: Allocator + Copy>(
     wire: &mut W,
 ) -> bool
     ensures quiet { IsQuiet result (W.told wire.old) connection.old (W.told wire.new) connection.new }
+    ensures stirs { result ≡ true → Transfers (W.told wire.old) (W.told wire.new) connection.old.link.number ⊎ EndsOrShuts connection.old connection.new }
+    ensures made { KeepsMade connection.old connection.new }
     ensures finished { result ≡ (not connection.old.is_shut && is_finished_with connection.old.has_ended (find host.old.slots connection.old.link.id)) }
     ensures unchanged { result ≡ false → host.new ≡ host.old }
     ensures serves { (marks : List Connection) → (connection.old.has_ended ≡ true → IsMarked reads_ended marks connection.old.link.number) → Serves IsEnd marks (W.bound wire.old) (connection.old.link ∷ []) (W.told wire.old) host.old (W.told wire.new) host.new }

@@ -1,6 +1,8 @@
+use Rattle.std.proofs.Common.{inl}
 use Rattle.socket_loop.proofs.Peers.{nothing_keeps, ended_keeps}
 use Rattle.socket_loop.proofs.Parts.{serves_same, serves_wire}
 use Rattle.socket_loop.proofs.Visits.{read_fault, serves_fault, shut_after}
+use Rattle.socket_loop.proofs.Stirs.{read_shorter}
 use Rattle.socket_loop.proofs.visit.read_from.Goals as goal
 
 pub returns-then-connection-clause-serves : goal.returns-then-connection-clause-serves
@@ -18,3 +20,6 @@ returns-in-Err-clause-serves g c = λ marks.
 
 pub returns-in-Ok-Bytes-clause-shut : goal.returns-in-Ok-Bytes-clause-shut
 returns-in-Ok-Bytes-clause-shut g c = λ e. shut_after _ _ _ c.in-Ok-Bytes.ensures.read.shut (rw c.in-Ok-Bytes.ensures.bound at c.feed_from.ensures.shut e)
+
+pub returns-in-Ok-Bytes-clause-stirs : goal.returns-in-Ok-Bytes-clause-stirs
+returns-in-Ok-Bytes-clause-stirs g c = λ e. inl (inl (read_shorter _ (g.W.Wire.told c.read.new.self) (g.W.Wire.told c.feed_from.new.wire) c.args.connection.now.link.number c.in-Ok-Bytes.n c.read.new.buf (rw c.in-Ok-Bytes.field-0-is at c.in-Ok-Bytes.ensures.read) c.feed_from.ensures.unread))

@@ -1,4 +1,4 @@
-use Rattle.std.proofs.Common.{rules}
+use Rattle.std.proofs.Common.{rules, ◌≡◌, ◌≤◌, ◌<◌, arith}
 use Rattle.socket_loop.proofs.Accepting.{accepts_start, accepts_stop, accepts_more, number_rises}
 use Rattle.socket_loop.proofs.Marks.{adds_same, adds_then}
 use Rattle.socket_loop.proofs.Peers.{kept_same}
@@ -6,7 +6,7 @@ use Rattle.socket_loop.proofs.Quiet.{quiet_stop}
 use Rattle.socket_loop.proofs.turn.Loop.accept_all.Goals as goal
 
 pub loop-init : goal.loop-init
-loop-init g c = record { so_far = accepts_start _ _ _ _; marks = adds_same _; quiet = λ q. (kept_same _, search rules); slice = search rules }
+loop-init g c = record { so_far = accepts_start _ _ _ _; marks = adds_same _; quiet = λ q. (kept_same _, search rules); accepted = λ e. absurd (cc); slice = search rules }
 
 -- no connection waits
 pub returns-in_default-clause-accepts : goal.returns-in_default-clause-accepts
@@ -21,6 +21,12 @@ loop-preserved g c = record {
   so_far = rw c.admit.ensures.bound (accepts_more _ _ _ _ _ c.in-Ok-Some.number _ _ _ _ _ _ _ _ c.loop.invariant.so_far (search rules) (search rules) c.accept.ensures.kept c.admit.ensures.admits);
   marks = adds_then _ _ _ c.loop.invariant.marks c.admit.ensures.marks;
   quiet = λ q. absurd (cc);
+  accepted = λ e. (
+      let u : g.W.Wire.bound c.args.wire.now ≤ g.W.Wire.bound c.loop.wire = c.loop.invariant.so_far.rises in
+      let v : g.W.Wire.bound c.loop.wire ≤ c.in-Ok-Some.number = search rules in
+      let w : c.in-Ok-Some.number < g.W.Wire.bound c.accept.new.self = search rules in
+      let x : g.W.Wire.bound c.admit.new.wire ≡ g.W.Wire.bound c.accept.new.self = c.admit.ensures.bound in
+      omega arith);
   slice = search rules;
 }
 
