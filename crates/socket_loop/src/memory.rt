@@ -264,7 +264,8 @@ impl<A: Allocator + Copy> Wire for MemoryWire<A> {
 
     fn shut(&mut self, number: u64) {
         if self.is_open(number) {
-            self.peers[number as usize].is_shut = true;
+            let peer = &mut self.peers[number as usize];
+            peer.is_shut = true;
         }
     }
 
