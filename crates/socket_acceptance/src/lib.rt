@@ -1,0 +1,13 @@
+//! Tests of the loop that serves sessions to connections, over a wire in memory.
+#![tactic(auto)]
+
+#[cfg(test)]
+mod faults;
+#[cfg(test)]
+mod limits;
+#[cfg(test)]
+mod peers;
+#[cfg(test)]
+mod random;
+#[cfg(test)]
+mod scene;

@@ -1,0 +1,144 @@
+//! A host, a wire in memory and the loop between them.
+
+ghost use Rattle.std.specs.Prelude.{◌≤◌};
+
+use host_core::Host;
+use socket_loop::{Loop, MemoryWire, Wire};
+use std::alloc::Global;
+use std::hash::{BuildHasherDefault, FoldHasher};
+use std::marker::Model;
+use std::test::Fail;
+
+/// What `go depth 1` from the opening position is answered.
+pub const ANSWER: &[u8] = b"info depth 1 score cp 0 pv 1g1f\nbestmove 1g1f\n";
+/// What a connection is told that finds the host full.
+pub const HOST_FULL: &[u8] = b"info string host full\n";
+/// `go depth 1` and `quit`, in two pieces.
+pub const GO_AND_QUIT: &[&[u8]] = &[b"go de", b"pth 1\nquit\n"];
+
+/// A host whose table has a hash without a seed.
+pub type TestHost = Host<BuildHasherDefault<FoldHasher>, Global>;
+
+/// A host, a wire in memory, and a loop that serves one to the other.
+#[derive(Drop)]
+pub struct Scene {
+    alloc: Global,
+    host: TestHost,
+    wire: MemoryWire<Global>,
+    turns: Loop<Global>,
+}
+
+impl Model for Scene {
+    ghost use Rattle.socket_loop.specs.Links.{links_of};
+    ghost use Rattle.socket_loop.specs.Turns.{Fits, LoopState};
+
+    ghost Value = { LoopState };
+
+    ghost view = { λ s. s.turns };
+
+    ghost invariant = { λ s. Fits (links_of s.turns.held) (⟦<MemoryWire<Global> as Wire>⟧.bound s.wire) s.host };
+}
+
+impl Scene {
+    /// No connection yet: a host of so many slots, 1 to 1,024, with 4,096 entries, and rounds of this
+    /// budget.
+    pub fn new(alloc: Global, slots: usize, slice: u64) -> Result<Scene, Fail>
+        requires least { 1 ≤ slots }
+        requires most { slots ≤ 1024 }
+        requires slice { 1 ≤ slice }
+    {
+        let host = Host::new(alloc, slots, 4096, BuildHasherDefault::<FoldHasher>::new())?;
+        Ok(Scene {
+            alloc,
+            host,
+            wire: MemoryWire::new(alloc),
+            turns: Loop::new(alloc, slice),
+        })
+    }
+
+    /// A new peer that gives these pieces, and then ends.
+    pub fn connect(&mut self, pieces: &[&[u8]]) -> Result<u64, Fail> {
+        let mut all = Vec::new(self.alloc);
+        for piece in pieces {
+            all.push(Vec::from_slice(self.alloc, piece)?)?;
+        }
+        Ok(self.wire.connect(all).map_err(|_| "memory for a peer")?)
+    }
+
+    /// A new peer that gives these bytes in pieces of so many, and then ends.
+    pub fn connect_cut(&mut self, bytes: &[u8], size: usize) -> Result<u64, Fail>
+        requires { 1 ≤ size }
+    {
+        let mut all = Vec::new(self.alloc);
+        for piece in bytes.chunks(size) {
+            all.push(Vec::from_slice(self.alloc, piece)?)?;
+        }
+        Ok(self.wire.connect(all).map_err(|_| "memory for a peer")?)
+    }
+
+    /// Each write of the connection takes at most so many bytes.
+    pub fn narrow(&mut self, number: u64, most: usize) {
+        if (number as usize) < self.wire.peers.len() {
+            self.wire.narrow(number, most);
+        }
+    }
+
+    /// The n-th call of the wire from now on fails.
+    pub fn fail_at(&mut self, n: u64)
+        requires { 1 ≤ n }
+    {
+        self.wire.fail_at(n);
+    }
+
+    /// One turn, and whether it moved.
+    pub fn turn(&mut self) -> bool {
+        self.turns.turn(&mut self.host, &mut self.wire).moved
+    }
+
+    /// So many turns, and whether the last one moved.
+    pub fn turn_times(&mut self, count: usize) -> bool {
+        let mut moved = false;
+        for _ in 0..count {
+            moved = self.turn();
+        }
+        moved
+    }
+
+    /// What was written to the connection.
+    pub fn written(&self, number: u64) -> &[u8] {
+        if (number as usize) < self.wire.peers.len() {
+            self.wire.written(number)
+        } else {
+            b""
+        }
+    }
+
+    /// Whether the connection was shut.
+    pub fn is_shut(&self, number: u64) -> bool {
+        (number as usize) < self.wire.peers.len() && self.wire.is_shut(number)
+    }
+
+    /// Whether a read or a write of the connection has failed.
+    pub fn has_failed(&self, number: u64) -> bool {
+        match self.wire.peers.get(number as usize) {
+            Some(peer) => peer.has_failed,
+            None => false,
+        }
+    }
+
+    /// How many bytes of the connection were not read.
+    pub fn bytes_left(&self, number: u64) -> usize {
+        let mut left = 0usize;
+        if let Some(peer) = self.wire.peers.get(number as usize) {
+            for piece in peer.pieces.as_slice() {
+                left = left.saturating_add(piece.len());
+            }
+        }
+        left
+    }
+
+    /// How many calls of the wire have failed.
+    pub fn faults(&self) -> u64 {
+        self.wire.faults()
+    }
+}

@@ -1,0 +1,373 @@
+-- New connections.
+use Rattle.std.proofs.Common.{◌≡◌, ◌⊎◌, ℕ, zero, suc, ◌+◌, ◌<◌, ◌≤◌, Bool, true, false, List, [], ◌∷◌, ◌++◌, Option, Some, None, Result, Ok, Err, map, drop, refl, sym, ap, ◌∙◌, subst, arith, take-append-drop, inl, inr}
+use Rattle.std.specs.Prelude.{insert, ◌||◌}
+use Rattle.std.proofs.lemmas.Bool.{cases_eq, or_cases}
+use Rattle.std.proofs.lemmas.List.{map-append}
+use Rattle.std.specs.Io.KnownBytes.{Keeps, Appends}
+use Rattle.std.proofs.KnownBytes.{Appends-kept, Keeps-refl, Keeps-trans}
+use Rattle.session_slots.specs.declared.id.SessionId.{SessionId}
+use Rattle.session_slots.specs.Slots.{Opens}
+use Rattle.host_core.specs.Steps.{HostState}
+use Rattle.host_core.specs.Events.{Outcome, Opened, Open, Close}
+use Rattle.host_core.specs.Made.{Step, own, taken, is_opened, is_same_id}
+use Rattle.host_core.specs.Runs.{IsStep, IsRun}
+use Rattle.host_core.specs.Headline.{IsFrontOf}
+use Rattle.host_core.proofs.Chains.{run-start}
+use Rattle.host_core.proofs.Ids.{same_id, is_same_id-refl}
+use Rattle.socket_loop.specs.declared.connection.Link.{Link}
+use Rattle.socket_loop.specs.declared.connection.Connection.{Connection}
+use Rattle.socket_loop.specs.declared.wire.WireFault.{WireFault}
+use Rattle.socket_loop.specs.Told.{Told, KeepsPeer, KeepsAll, Writes, Shuts, IsRaised, OnlyRises, bytes_written, GivesNumber}
+use Rattle.socket_loop.specs.Links.{Ties, IsTied, IsAmong, links_of}
+use Rattle.socket_loop.specs.Parts.{AllMove, AreAll, IsAdmission, IsClosing, closes}
+use Rattle.socket_loop.specs.Turns.{Fits, Accepted, IsOneOf, IsTurnedAway, IsAway, IsNew, Accepts, Admits, openings, told_to}
+use Rattle.socket_loop.proofs.Peers.{kept_same, kept_then, all_kept, moves_then, away_moves, stays_raised, rises_then, stays_rise, told_failure, raised_rises, Consumes-none, Appends-none, Keeps-Appends}
+use Rattle.socket_loop.proofs.Runs.{run-one, run-two, run-append, own-append, taken-append, openings-append, closes_neither, closes_either, all_append, next_rises, step_rises, opened_left, opened_right}
+
+-- ---- turned away
+
+written_front : (r : Result ℕ WireFault) (bytes : List ℕ) → IsFrontOf (bytes_written r bytes) bytes
+written_front (Ok n) bytes = (drop n bytes, take-append-drop n bytes)
+written_front (Err e) bytes = (bytes, refl)
+
+-- a text was written, as far as it went, and the connection shut
+pub away : (a b c : Told) (bound number : ℕ) (r : Result ℕ WireFault) (bytes text : List ℕ) → bytes ≡ text → Writes a b number r bytes → Shuts bound b c number → IsAway bound text a c number
+away a b c bound number r bytes text e w s = record {
+  unread = Keeps-trans _ _ _ w.unread s.unread;
+  bytes = bytes_written r bytes;
+  front = subst (λ (xs : List ℕ). IsFrontOf (bytes_written r bytes) xs) e (written_front r bytes);
+  appended = Appends-kept _ _ _ _ w.appended s.written;
+  shut = λ lt. stays_raised _ _ _ w.shut (s.shut lt);
+  only_rises = rises_then _ _ _ (stays_rise _ _ w.shut) s.only_rises;
+  failed = rises_then _ _ _ (told_failure r _ _ w.failed) (stays_rise _ _ s.failed);
+  others = λ other differs. kept_then a b c other (w.others other differs) (s.others other differs);
+}
+
+-- it was shut without a word
+pub away_mute : (a b : Told) (bound number : ℕ) (text : List ℕ) → Shuts bound a b number → IsAway bound text a b number
+away_mute a b bound number text s = record {
+  unread = s.unread;
+  bytes = [];
+  front = (text, refl);
+  appended = Appends-none _ _ s.written;
+  shut = s.shut;
+  only_rises = s.only_rises;
+  failed = stays_rise _ _ s.failed;
+  others = s.others;
+}
+
+away_move : (a b : Told) (bound number : ℕ) (text : List ℕ) → IsAway bound text a b number → AllMove a b
+away_move a b bound number text w = away_moves a b number [] w.bytes w.only_rises w.failed (Consumes-none _ _ w.unread) w.appended w.others
+
+-- ---- nothing new is held
+
+fits_more : (ls : List Link) (from to : ℕ) (h i : HostState) → from ≤ to → h.slots.next ≤ i.slots.next → Fits ls from h → Fits ls to i
+fits_more ls from to h i r n f = λ l m.
+    let u : l.number < from = (f l m).number in
+    let v : l.id.generation < h.slots.next = (f l m).opened in
+    record { tied = (f l m).tied; number = omega arith; opened = omega arith }
+
+pub accepts_none : (ls : List Link) (from to : ℕ) (a b : Told) (h : HostState) → from ≤ to → KeepsAll a b → Accepts ls from a h ls to b h
+accepts_none ls from to a b h rises k = record {
+  steps = [];
+  kinds = tt;
+  chain = run-start h;
+  no_own = λ id. refl;
+  no_taken = λ id. refl;
+  rises = rises;
+  accepted = [];
+  answers = refl;
+  kept = λ n l. k n;
+  each = λ n. inl (k n);
+  all = all_kept a b k;
+  closed_below = λ id e. absurd (cc);
+  spared = λ fit l m. refl;
+  stay = λ l m. m;
+  are = λ l m. inl m;
+  fits = fits_more ls from to h h rises (omega arith);
+}
+
+pub accepts_start : (ls : List Link) (from : ℕ) (a : Told) (h : HostState) → Accepts ls from a h ls from a h
+accepts_start ls from a h = accepts_none ls from from a a h (omega arith) (kept_same a)
+
+away_each : (a b c : Told) (from number to n : ℕ) (o : Outcome) → KeepsAll a b → from ≤ number → number < to → IsAway to (told_to o) b c number → KeepsPeer a c n ⊎ IsTurnedAway from to (record { number = number; outcome = o } ∷ []) a c n
+away_each a b c from number to n o k least most w =
+    elim (cases_eq n number) [
+      | inl same ↦ inr (rw same (record {
+        least = least;
+        most = most;
+        outcome = o;
+        answered = inl refl;
+        unread = Keeps-trans _ _ _ (k number).unread w.unread;
+        bytes = w.bytes;
+        front = w.front;
+        appended = Keeps-Appends _ _ _ _ (k number).written w.appended;
+        shut = stays_raised _ _ _ (k number).shut (w.shut most);
+        failed = rises_then _ _ _ (stays_rise _ _ (k number).failed) w.failed;
+      }))
+      | inr apart ↦ inl (kept_then a b c n (k n) (w.others n apart))
+    ]
+
+closes_one : (a b : SessionId) → (is_same_id a b || false) ≡ true → a ≡ b
+closes_one a b e = elim (or_cases (is_same_id a b) false e) [ inl same ↦ same_id a b same | inr other ↦ absurd (cc) ]
+
+closes_apart_at : (a b : SessionId) (c : Bool) → is_same_id a b ≡ c → (a ≡ b → ⊥) → (c || false) ≡ false
+closes_apart_at a b true e f = absurd (f (same_id a b e))
+closes_apart_at a b false e f = refl
+
+closes_apart : (a b : SessionId) → (a ≡ b → ⊥) → (is_same_id a b || false) ≡ false
+closes_apart a b f = closes_apart_at a b (is_same_id a b) refl f
+
+-- a new connection was turned away
+admits_none : (ls : List Link) (a b : Told) (h i : HostState) (number to : ℕ) (o : Outcome) (steps : List Step) → AreAll IsAdmission steps → IsRun h steps i → ((id : SessionId) → own id steps ≡ []) → ((id : SessionId) → taken id steps ≡ []) → openings steps ≡ o ∷ [] → ((id : SessionId) → closes id steps ≡ true → id.generation < i.slots.next) → ((id : SessionId) → id.generation < h.slots.next → closes id steps ≡ false) → IsAway to (told_to o) a b number → Admits ls a h number to ls b i
+admits_none ls a b h i number to o steps kinds r no_own no_taken answers below old_stay w = λ from old kept least most.
+    record {
+      steps = steps;
+      kinds = kinds;
+      chain = r;
+      no_own = no_own;
+      no_taken = no_taken;
+      rises = omega arith;
+      accepted = record { number = number; outcome = o } ∷ [];
+      answers = answers;
+      kept = λ n l. kept_then old a b n (kept n) (w.others n (λ e. (let f : n ≡ number = e in absurd (omega arith))));
+      each = λ n. away_each old a b from number to n o kept least most w;
+      all = moves_then old a b (all_kept old a kept) (away_move a b to number (told_to o) w);
+      closed_below = below;
+      spared = λ fit l m. old_stay l.id (fit l m).opened;
+      stay = λ l m. m;
+      are = λ l m. inl m;
+      fits = fits_more ls from to h i (omega arith) (next_rises h i steps r);
+    }
+
+-- its session was not opened
+pub admits_away : (ls : List Link) (a b : Told) (h i : HostState) (number to : ℕ) (o : Outcome) → IsAway to (told_to o) a b number → IsStep h (record { event = Open; outcome = o }) i → Admits ls a h number to ls b i
+admits_away ls a b h i number to o w s = admits_none ls a b h i number to o (record { event = Open; outcome = o } ∷ []) (tt, tt) (run-one h i _ s) (λ x. refl) (λ x. refl) refl (λ x e. absurd (cc)) (λ x lt. refl) w
+
+-- there was no memory to hold it
+pub admits_closed : (ls : List Link) (a b : Told) (h m i : HostState) (number to : ℕ) (id : SessionId) → Shuts to a b number → IsStep h (record { event = Open; outcome = Opened id }) m → IsClosing m id i → Admits ls a h number to ls b i
+admits_closed ls a b h m i number to id s opening close =
+    admits_none ls a b h i number to (Opened id) (record { event = Open; outcome = Opened id } ∷ record { event = Close id; outcome = close.outcome } ∷ []) (tt, (tt, tt)) (run-two h m i _ _ opening close.step) (λ x. refl) (λ x. refl) refl
+    (λ x e. (
+    let same : id ≡ x = closes_one id x e in
+    let g : id.generation ≡ x.generation = ap (λ (y : SessionId). y.generation) same in
+    let o : id.generation ≡ h.slots.next = opening.stepped.opens.generation_is in
+    let n : m.slots.next ≡ h.slots.next + 1 = opening.stepped.opens.next_is in
+    let u : m.slots.next ≤ i.slots.next = step_rises m i (Close id) close.outcome close.step.stepped in
+    omega arith))
+    (λ x lt. closes_apart id x (λ e. (
+    let g : id.generation ≡ x.generation = ap (λ (y : SessionId). y.generation) e in
+    let o : id.generation ≡ h.slots.next = opening.stepped.opens.generation_is in
+    absurd (omega arith))))
+    (away_mute a b to number [] s)
+
+-- ---- one more is held
+
+among_insert : (held : List Connection) (place : ℕ) (c : Connection) (l : Link) → IsAmong (links_of (insert held place c)) l → (l ≡ c.link) ⊎ IsAmong (links_of held) l
+among_insert [] zero c l m = m
+among_insert [] (suc i) c l m = m
+among_insert (x ∷ xs) zero c l m = m
+among_insert (x ∷ xs) (suc i) c l (inl e) = inr (inl e)
+among_insert (x ∷ xs) (suc i) c l (inr m) = elim (among_insert xs i c l m) [ inl e ↦ inl e | inr n ↦ inr (inr n) ]
+
+insert_among : (held : List Connection) (place : ℕ) (c : Connection) (l : Link) → IsAmong (links_of held) l → IsAmong (links_of (insert held place c)) l
+insert_among [] i c l m = absurd m
+insert_among (x ∷ xs) zero c l m = inr m
+insert_among (x ∷ xs) (suc i) c l (inl e) = inl e
+insert_among (x ∷ xs) (suc i) c l (inr m) = inr (insert_among xs i c l m)
+
+tied_insert : (held : List Connection) (place : ℕ) (c : Connection) (l : Link) → Ties c.link l → IsTied (links_of held) l → IsTied (links_of (insert held place c)) l
+tied_insert [] zero c l t u = (t, tt)
+tied_insert [] (suc i) c l t u = (t, tt)
+tied_insert (x ∷ xs) zero c l t u = (t, u)
+tied_insert (x ∷ xs) (suc i) c l t u = (u.0, tied_insert xs i c l t u.1)
+
+-- a link that none of these has
+fresh_tied : (ls : List Link) (k : Link) → ((l : Link) → IsAmong ls l → Ties l k) → IsTied ls k
+fresh_tied [] k f = tt
+fresh_tied (x ∷ xs) k f = (f x (inl refl), fresh_tied xs k (λ l m. f l (inr m)))
+
+same_ties : (k l : Link) → l ≡ k → Ties k l
+same_ties k l e = record { by_number = λ _. ap (λ (x : Link). x.id) (sym e); by_id = λ _. ap (λ (x : Link). x.number) (sym e) }
+
+apart_ties : (k l : Link) → k.number < l.number → k.id.generation < l.id.generation → Ties k l
+apart_ties k l n g = record {
+  by_number = λ e. (let f : k.number ≡ l.number = e in absurd (omega arith));
+  by_id = λ e. (let f : k.id.generation ≡ l.id.generation = ap (λ (x : SessionId). x.generation) e in absurd (omega arith));
+}
+
+ties_apart : (k l : Link) → k.number < l.number → k.id.generation < l.id.generation → Ties l k
+ties_apart k l n g = record {
+  by_number = λ e. (let f : l.number ≡ k.number = e in absurd (omega arith));
+  by_id = λ e. (let f : l.id.generation ≡ k.id.generation = ap (λ (x : SessionId). x.generation) e in absurd (omega arith));
+}
+
+-- the new link, and those from before
+fits_new : (held : List Connection) (place : ℕ) (c : Connection) (from to : ℕ) (h i : HostState) → from ≤ c.link.number → c.link.number < to → c.link.id.generation ≡ h.slots.next → i.slots.next ≡ h.slots.next + 1 → Fits (links_of held) from h → Fits (links_of (insert held place c)) to i
+fits_new held place c from to h i least most g n f = λ l m.
+    elim (among_insert held place c l m) [
+      | inl same ↦
+          let num : l.number ≡ c.link.number = ap (λ (x : Link). x.number) same in
+          let gen : l.id.generation ≡ c.link.id.generation = ap (λ (x : Link). x.id.generation) same in
+          record {
+            tied = tied_insert held place c l (same_ties c.link l same) (fresh_tied (links_of held) l (λ k among. (
+                let u : k.number < from = (f k among).number in
+                let v : k.id.generation < h.slots.next = (f k among).opened in
+                apart_ties k l (omega arith) (omega arith))));
+            number = omega arith;
+            opened = omega arith;
+          }
+      | inr old ↦
+          let u : l.number < from = (f l old).number in
+          let v : l.id.generation < h.slots.next = (f l old).opened in
+          record { tied = tied_insert held place c l (ties_apart l c.link (omega arith) (omega arith)) (f l old).tied; number = omega arith; opened = omega arith }
+    ]
+
+opened_true : (id : SessionId) → is_opened id (record { event = Open; outcome = Opened id } ∷ []) ≡ true
+opened_true id = ap (λ (b : Bool). b || false) (is_same_id-refl id)
+
+pub admits_new : (held : List Connection) (place : ℕ) (c : Connection) (a : Told) (h i : HostState) (to : ℕ) → IsStep h (record { event = Open; outcome = Opened c.link.id }) i → Admits (links_of held) a h c.link.number to (links_of (insert held place c)) a i
+admits_new held place c a h i to s = λ from old kept least most.
+    let o : Opens h.slots i.slots c.link.id = s.stepped.opens in
+    record {
+      steps = record { event = Open; outcome = Opened c.link.id } ∷ [];
+      kinds = (tt, tt);
+      chain = run-one h i _ s;
+      no_own = λ id. refl;
+      no_taken = λ id. refl;
+      rises = omega arith;
+      accepted = record { number = c.link.number; outcome = Opened c.link.id } ∷ [];
+      answers = refl;
+      kept = λ n l. kept n;
+      each = λ n. inl (kept n);
+      all = all_kept old a kept;
+      closed_below = λ id e. absurd (cc);
+      spared = λ fit l m. refl;
+      stay = λ l m. insert_among held place c l m;
+      are = λ l m. elim (among_insert held place c l m) [ inl same ↦ inr (rw same (record { least = least; most = most; answered = inl refl; opened = opened_true c.link.id; fresh = (let g : c.link.id.generation ≡ h.slots.next = o.generation_is in omega arith); kept = kept c.link.number })) | inr was ↦ inl was ];
+      fits = fits_new held place c from to h i least most o.generation_is o.next_is;
+    }
+
+-- ---- one after the other
+
+one_left : (x y : List Accepted) (e : Accepted) → IsOneOf x e → IsOneOf (x ++ y) e
+one_left [] y e p = absurd p
+one_left (f ∷ x) y e (inl p) = inl p
+one_left (f ∷ x) y e (inr p) = inr (one_left x y e p)
+
+one_right : (x y : List Accepted) (e : Accepted) → IsOneOf y e → IsOneOf (x ++ y) e
+one_right [] y e p = p
+one_right (f ∷ x) y e p = inr (one_right x y e p)
+
+-- turned away, and nothing after that
+turned_then : (f m t : ℕ) (x y : List Accepted) (a b c : Told) (n : ℕ) → m ≤ t → IsTurnedAway f m x a b n → KeepsPeer b c n → IsTurnedAway f t (x ++ y) a c n
+turned_then f m t x y a b c n v w k =
+    let u : n < m = w.most in
+    record {
+      least = w.least;
+      most = omega arith;
+      outcome = w.outcome;
+      answered = one_left x y _ w.answered;
+      unread = Keeps-trans _ _ _ w.unread k.unread;
+      bytes = w.bytes;
+      front = w.front;
+      appended = Appends-kept _ _ _ _ w.appended k.written;
+      shut = raised_rises _ _ _ w.shut (stays_rise _ _ k.shut);
+      failed = rises_then _ _ _ w.failed (stays_rise _ _ k.failed);
+    }
+
+-- nothing, and then turned away
+then_away : (f m t : ℕ) (x y : List Accepted) (a b c : Told) (n : ℕ) → f ≤ m → KeepsPeer a b n → IsTurnedAway m t y b c n → IsTurnedAway f t (x ++ y) a c n
+then_away f m t x y a b c n v k w =
+    let u : m ≤ n = w.least in
+    record {
+      least = omega arith;
+      most = w.most;
+      outcome = w.outcome;
+      answered = one_right x y _ w.answered;
+      unread = Keeps-trans _ _ _ k.unread w.unread;
+      bytes = w.bytes;
+      front = w.front;
+      appended = Keeps-Appends _ _ _ _ k.written w.appended;
+      shut = stays_raised _ _ _ k.shut w.shut;
+      failed = rises_then _ _ _ (stays_rise _ _ k.failed) w.failed;
+    }
+
+each_then : (f m t : ℕ) (x y : List Accepted) (a b c : Told) (n : ℕ) → f ≤ m → m ≤ t → KeepsPeer a b n ⊎ IsTurnedAway f m x a b n → KeepsPeer b c n ⊎ IsTurnedAway m t y b c n → (n < m → KeepsPeer b c n) → KeepsPeer a c n ⊎ IsTurnedAway f t (x ++ y) a c n
+each_then f m t x y a b c n u v (inl k) (inl q) s = inl (kept_then a b c n k q)
+each_then f m t x y a b c n u v (inl k) (inr w) s = inr (then_away f m t x y a b c n u k w)
+each_then f m t x y a b c n u v (inr w) q s = inr (turned_then f m t x y a b c n v w (s w.most))
+
+kept_before : (f m : ℕ) (x : List Accepted) (a b : Told) (n : ℕ) → m ≤ n → KeepsPeer a b n ⊎ IsTurnedAway f m x a b n → KeepsPeer a b n
+kept_before f m x a b n u (inl k) = k
+kept_before f m x a b n u (inr w) = (let y : n < m = w.most in absurd (omega arith))
+
+new_then : (g f m t : ℕ) (x y : List Accepted) (a b c : Told) (s r : List Step) (l : Link) → m ≤ t → IsNew f m x g a b s l → (l.number < m → KeepsPeer b c l.number) → IsNew f t (x ++ y) g a c (s ++ r) l
+new_then g f m t x y a b c s r l v n k =
+    let u : l.number < m = n.most in
+    record { least = n.least; most = omega arith; answered = one_left x y _ n.answered; opened = opened_left l.id s r n.opened; fresh = n.fresh; kept = kept_then a b c l.number n.kept (k u) }
+
+then_new : (g k f m t : ℕ) (x y : List Accepted) (a b c : Told) (s r : List Step) (l : Link) → g ≤ k → f ≤ m → KeepsPeer a b l.number ⊎ IsTurnedAway f m x a b l.number → IsNew m t y k b c r l → IsNew f t (x ++ y) g a c (s ++ r) l
+then_new g k f m t x y a b c s r l w u e n =
+    let v : m ≤ l.number = n.least in
+    let z : k ≤ l.id.generation = n.fresh in
+    record { least = omega arith; most = n.most; answered = one_right x y _ n.answered; opened = opened_right l.id s r n.opened; fresh = omega arith; kept = kept_then a b c l.number (kept_before f m x a b l.number v e) n.kept }
+
+are_then : (ls : List Link) (g f m t : ℕ) (x y : List Accepted) (a b c : Told) (s r : List Step) (l : Link) → m ≤ t → IsAmong ls l ⊎ IsNew f m x g a b s l → (l.number < m → KeepsPeer b c l.number) → IsAmong ls l ⊎ IsNew f t (x ++ y) g a c (s ++ r) l
+are_then ls g f m t x y a b c s r l v (inl old) k = inl old
+are_then ls g f m t x y a b c s r l v (inr n) k = inr (new_then g f m t x y a b c s r l v n k)
+
+pub accepts_then : (ls ms ns : List Link) (f m t : ℕ) (a b c : Told) (h i j : HostState) → Accepts ls f a h ms m b i → Accepts ms m b i ns t c j → Accepts ls f a h ns t c j
+accepts_then ls ms ns f m t a b c h i j p q =
+    let u : f ≤ m = p.rises in
+    let v : m ≤ t = q.rises in
+    let w : h.slots.next ≤ i.slots.next = next_rises h i p.steps p.chain in
+    let z : i.slots.next ≤ j.slots.next = next_rises i j q.steps q.chain in
+    record {
+      steps = p.steps ++ q.steps;
+      kinds = all_append IsAdmission p.steps q.steps p.kinds q.kinds;
+      chain = run-append h i j p.steps q.steps p.chain q.chain;
+      no_own = λ id. own-append id p.steps q.steps ∙ rw (p.no_own id, q.no_own id) refl;
+      no_taken = λ id. taken-append id p.steps q.steps ∙ rw (p.no_taken id, q.no_taken id) refl;
+      rises = omega arith;
+      accepted = p.accepted ++ q.accepted;
+      answers = openings-append p.steps q.steps ∙ (ap (λ xs. xs ++ openings q.steps) p.answers ∙ (ap (λ xs. map (λ (x : Accepted). x.outcome) p.accepted ++ xs) q.answers ∙ sym (map-append (λ (x : Accepted). x.outcome) p.accepted q.accepted)));
+      kept = λ n lt. kept_then a b c n (p.kept n lt) (q.kept n (omega arith));
+      each = λ n. each_then f m t p.accepted q.accepted a b c n u v (p.each n) (q.each n) (q.kept n);
+      all = moves_then a b c p.all q.all;
+      closed_below = λ id e. elim (closes_either id p.steps q.steps e) [
+        | inl first ↦ (let y : id.generation < i.slots.next = p.closed_below id first in omega arith)
+        | inr second ↦ q.closed_below id second
+      ];
+      spared = λ fit l among. closes_neither l.id p.steps q.steps (spared_first p q fit l among (q.are l among)) (q.spared (p.fits fit) l among);
+      stay = λ l among. q.stay l (p.stay l among);
+      are = λ l among. elim (q.are l among) [
+        | inl mid ↦ are_then ls h.slots.next f m t p.accepted q.accepted a b c p.steps q.steps l v (p.are l mid) (q.kept l.number)
+        | inr new ↦ inr (then_new h.slots.next i.slots.next f m t p.accepted q.accepted a b c p.steps q.steps l w u (p.each l.number) new)
+      ];
+      fits = λ fit. q.fits (p.fits fit);
+    }
+  where
+    no_close : (id : SessionId) (steps : List Step) (x : Bool) → closes id steps ≡ x → (closes id steps ≡ true → ⊥) → closes id steps ≡ false
+    no_close id steps true e f = absurd (f e)
+    no_close id steps false e f = e
+
+    spared_first : (p_ : Accepts ls f a h ms m b i) (q_ : Accepts ms m b i ns t c j) → Fits ls f h → (l : Link) → IsAmong ns l → IsAmong ms l ⊎ IsNew m t q_.accepted i.slots.next b c q_.steps l → closes l.id p_.steps ≡ false
+    spared_first p_ q_ fit l among (inl mid) = p_.spared fit l mid
+    spared_first p_ q_ fit l among (inr new) = no_close l.id p_.steps (closes l.id p_.steps) refl (λ e. (
+        let y : l.id.generation < i.slots.next = p_.closed_below l.id e in
+        let z : i.slots.next ≤ l.id.generation = new.fresh in
+        absurd (omega arith)))
+
+-- no connection waits, or the wire fails
+pub accepts_stop : (ls ms : List Link) (f m : ℕ) (t : ℕ) (a b c : Told) (h i : HostState) → Accepts ls f a h ms m b i → m ≤ t → KeepsAll b c → Accepts ls f a h ms t c i
+accepts_stop ls ms f m t a b c h i p u k = accepts_then ls ms ms f m t a b c h i i p (accepts_none ms m t b c i u k)
+
+-- a connection was accepted, and admitted
+pub accepts_more : (ls ms ns : List Link) (f m number t : ℕ) (a b c d : Told) (h i j : HostState) → Accepts ls f a h ms m b i → m ≤ number → number < t → KeepsAll b c → Admits ms c i number t ns d j → Accepts ls f a h ns t d j
+accepts_more ls ms ns f m number t a b c d h i j p u v k q = accepts_then ls ms ns f m t a b d h i j p (q m b k u v)
+
+pub number_rises : (old new : ℕ) (r : Result (Option ℕ) WireFault) → GivesNumber old new r → old ≤ new
+number_rises old new (Ok (Some n)) p = (let u : old ≤ n = p.0 in let v : n < new = p.1 in omega arith)
+number_rises old new (Ok None) p = (let u : new ≡ old = p in omega arith)
+number_rises old new (Err e) p = p

@@ -1,0 +1,10 @@
+pub mod Peers
+pub mod Runs
+pub mod Parts
+pub mod Visits
+pub mod Accepting
+pub mod Marks
+pub mod Quiet
+pub mod Stirs
+pub mod Pending
+pub mod Turning

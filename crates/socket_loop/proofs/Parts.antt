@@ -1,0 +1,186 @@
+-- Parts of a turn, one after the other.
+use Rattle.std.proofs.Common.{◌≡◌, ◌≢◌, ◌⊎◌, ℕ, zero, suc, ◌+◌, ◌<◌, ◌≤◌, Bool, true, false, List, [], ◌∷◌, ◌++◌, Option, Some, None, Ok, Err, length, get_or, set, refl, sym, ap, ◌∙◌, subst, arith, append_assoc, append-nil, inl, inr}
+use Rattle.std.proofs.lemmas.Bool.{cases_eq, or_left}
+use Rattle.std.proofs.lemmas.List.{get_or-map, length-map}
+use Rattle.std.proofs.Math.Seq.{map-set_same}
+use Rattle.std.specs.Prelude.{◌||◌}
+use Rattle.std.specs.Io.KnownBytes.{Appends, Consumes}
+use Rattle.std.proofs.KnownBytes.{Appends-trans, Consumes-trans}
+use Rattle.session_slots.specs.declared.id.SessionId.{SessionId}
+use Rattle.session_slots.specs.Slots.{find}
+use Rattle.host_core.specs.Steps.{HostState}
+use Rattle.host_core.specs.Events.{Event, Outcome, Close}
+use Rattle.host_core.specs.Made.{Step, own, taken, is_same_id}
+use Rattle.host_core.specs.Runs.{IsRun}
+use Rattle.host_core.specs.Rounds.{IsRound, works}
+use Rattle.host_core.proofs.Chains.{run-start}
+use Rattle.host_core.proofs.OneSession.{gone, IsGone as IsOut}
+use Rattle.host_core.proofs.Ids.{same_id, is_same_id-refl}
+use Rattle.socket_loop.specs.declared.connection.Link.{Link}
+use Rattle.socket_loop.specs.declared.connection.Connection.{Connection}
+use Rattle.socket_loop.specs.Told.{Told, KeepsPeer, KeepsAll, Stays, IsRaised, OnlyRises}
+use Rattle.socket_loop.specs.Links.{IsTied, IsApart, links_of}
+use Rattle.socket_loop.specs.Parts.{IsGone, IsClosing, AreAll, closes, starves, AllMove, Finished, Cause, IsSpared, IsShutDown, Carried, Carries, Serves}
+use Rattle.socket_loop.proofs.Peers.{stays_then, stays_raised, raised_rises, rises_raised, kept_same, kept_then, all_kept, moves_then, Consumes-none, Appends-none}
+use Rattle.socket_loop.proofs.Runs.{run-one, run-append, own-append, taken-append, own-works, taken-works, closes-works, closes_left, closes_right, closes_neither, starves_left, starves_right, all_append, next_rises}
+
+-- ---- why a connection is shut
+
+finished_left : (m : List Connection) (h : HostState) (s t : List Step) (l : Link) → Finished m h s l → Finished m h (s ++ t) l
+finished_left m h s t l f = record {
+  earlier = f.earlier;
+  later = f.later ++ t;
+  steps_are = ap (λ (xs : List Step). xs ++ t) f.steps_are ∙ append_assoc f.earlier f.later t;
+  moment = f.moment;
+  run = f.run;
+  has_ended = f.has_ended;
+  marked = f.marked;
+  finished = f.finished;
+}
+
+finished_right : (m : List Connection) (h i : HostState) (s t : List Step) (l : Link) → IsRun h s i → Finished m i t l → Finished m h (s ++ t) l
+finished_right m h i s t l r f = record {
+  earlier = s ++ f.earlier;
+  later = f.later;
+  steps_are = ap (λ (xs : List Step). s ++ xs) f.steps_are ∙ sym (append_assoc s f.earlier f.later);
+  moment = f.moment;
+  run = run-append h i f.moment s f.earlier r f.run;
+  has_ended = f.has_ended;
+  marked = f.marked;
+  finished = f.finished;
+}
+
+cause_left : (m : List Connection) (a b c : Told) (h : HostState) (s t : List Step) (l : Link) → AllMove b c → Cause m a h s b l → Cause m a h (s ++ t) c l
+cause_left m a b c h s t l k (inl failed) = inl (raised_rises _ _ _ failed (k l.number).failed)
+cause_left m a b c h s t l k (inr (inl starved)) = inr (inl (starves_left l.id s t starved))
+cause_left m a b c h s t l k (inr (inr f)) = inr (inr (finished_left m h s t l f))
+
+cause_right : (m : List Connection) (a b c : Told) (h i : HostState) (s t : List Step) (l : Link) → AllMove a b → IsRun h s i → Cause m b i t c l → Cause m a h (s ++ t) c l
+cause_right m a b c h i s t l k r (inl failed) = inl (rises_raised _ _ _ (k l.number).failed failed)
+cause_right m a b c h i s t l k r (inr (inl starved)) = inr (inl (starves_right l.id s t starved))
+cause_right m a b c h i s t l k r (inr (inr f)) = inr (inr (finished_right m h i s t l r f))
+
+ends_then : (m : List Connection) (n : ℕ) (a b c : Told) (h i : HostState) (s t : List Step) (l : Link) → AllMove a b → AllMove b c → IsRun h s i → IsSpared a s b l ⊎ IsShutDown m n a h s b l → IsSpared b t c l ⊎ IsShutDown m n b i t c l
+    → IsSpared a (s ++ t) c l ⊎ IsShutDown m n a h (s ++ t) c l
+ends_then m n a b c h i s t l j k r (inl p) (inl q) = inl (record { shut = stays_then _ _ _ p.shut q.shut; closed = closes_neither l.id s t p.closed q.closed })
+ends_then m n a b c h i s t l j k r (inl p) (inr q) =
+    inr (record { shut = λ lt. stays_raised _ _ _ p.shut (q.shut lt); closed = closes_right l.id s t q.closed; cause = cause_right m a b c h i s t l j r q.cause })
+ends_then m n a b c h i s t l j k r (inr p) q =
+    inr (record { shut = λ lt. raised_rises _ _ _ (p.shut lt) (k l.number).shut; closed = closes_left l.id s t p.closed; cause = cause_left m a b c h s t l k p.cause })
+
+-- ---- one connection
+
+-- nothing of it happened
+pub carried_nothing : (m : List Connection) (n : ℕ) (a b : Told) (h i : HostState) (s : List Step) (l : Link) → own l.id s ≡ [] → taken l.id s ≡ [] → closes l.id s ≡ false → KeepsPeer a b l.number → Carried m n a h s b i l
+carried_nothing m n a b h i s l o g e k = record {
+  lost = [];
+  consumed = rw o (Consumes-none _ _ k.unread);
+  appended = rw g (Appends-none _ _ k.written);
+  whole = inl refl;
+  ends = inl (record { shut = k.shut; closed = e });
+}
+
+lost_whole : (h i : HostState) (id : SessionId) (lost more : List ℕ) → (lost ≡ []) ⊎ IsGone h id → (more ≡ []) ⊎ IsGone i id → (IsGone h id → IsGone i id) → (lost ++ more ≡ []) ⊎ IsGone i id
+lost_whole h i id lost more (inl e) (inl f) k = inl (rw (e, f) refl)
+lost_whole h i id lost more (inl e) (inr g) k = inr g
+lost_whole h i id lost more (inr g) w k = inr (k g)
+
+out_gone : (h i : HostState) (id : SessionId) (steps : List Step) → IsRun h steps i → IsGone h id → IsOut id steps i
+out_gone h i id steps r g = gone h i id steps g.none g.below r
+
+stays_gone : (h i : HostState) (id : SessionId) (steps : List Step) → IsRun h steps i → IsGone h id → IsGone i id
+stays_gone h i id steps r g =
+    let n : h.slots.next ≤ i.slots.next = next_rises h i steps r in
+    let b : id.generation < h.slots.next = g.below in
+    record { none = (out_gone h i id steps r g).none; below = omega arith }
+
+-- what came after bytes that were lost
+lost_order : (o lost p more : List ℕ) → (lost ≡ []) ⊎ (p ≡ []) → (o ++ lost) ++ (p ++ more) ≡ (o ++ p) ++ (lost ++ more)
+lost_order o lost p more (inl e) = rw e (ap (λ xs. xs ++ (p ++ more)) (append-nil o) ∙ sym (append_assoc o p more))
+lost_order o lost p more (inr e) = rw e (append_assoc o lost more ∙ ap (λ xs. xs ++ (lost ++ more)) (sym (append-nil o)))
+
+lost_then : (h i : HostState) (id : SessionId) (steps : List Step) (lost : List ℕ) → IsRun h steps i → (lost ≡ []) ⊎ IsGone h id → (lost ≡ []) ⊎ (own id steps ≡ [])
+lost_then h i id steps lost r (inl e) = inl e
+lost_then h i id steps lost r (inr g) = inr (out_gone h i id steps r g).no_own
+
+pub carried_then : (m : List Connection) (n : ℕ) (a b c : Told) (h i j : HostState) (l : Link) (s t : List Step) → AllMove a b → AllMove b c → IsRun h s i → IsRun i t j → Carried m n a h s b i l → Carried m n b i t c j l → Carried m n a h (s ++ t) c j l
+carried_then m n a b c h i j l s t before after r q x y = record {
+  lost = x.lost ++ y.lost;
+  consumed = rw (own-append l.id s t)
+      (subst (Consumes (a.unread l.number) (c.unread l.number)) (lost_order (own l.id s) x.lost (own l.id t) y.lost (lost_then i j l.id t x.lost q x.whole))
+      (Consumes-trans _ _ _ (own l.id s ++ x.lost) (own l.id t ++ y.lost) x.consumed y.consumed));
+  appended = rw (taken-append l.id s t) (Appends-trans _ _ _ (taken l.id s) (taken l.id t) x.appended y.appended);
+  whole = lost_whole i j l.id x.lost y.lost x.whole y.whole (stays_gone i j l.id t q);
+  ends = ends_then m n a b c h i s t l before after r x.ends y.ends;
+}
+
+-- ---- many connections
+
+pub carries_then : (m : List Connection) (n : ℕ) (ls : List Link) (s t : List Step) (a b c : Told) (h i j : HostState) → Carries m n ls a h s b i → Carries m n ls b i t c j → Carries m n ls a h (s ++ t) c j
+carries_then m n ls s t a b c h i j p q = record {
+  chain = run-append h i j s t p.chain q.chain;
+  carried = λ l tied. carried_then m n a b c h i j l s t p.all q.all p.chain q.chain (p.carried l tied) (q.carried l tied);
+  others = λ x apart. kept_then a b c x (p.others x apart) (q.others x apart);
+  all = moves_then a b c p.all q.all;
+}
+
+-- no session gets or gives bytes, or is closed
+pub carries_quiet : (m : List Connection) (n : ℕ) (ls : List Link) (steps : List Step) (a b : Told) (h i : HostState) → IsRun h steps i → KeepsAll a b → ((id : SessionId) → own id steps ≡ []) → ((id : SessionId) → taken id steps ≡ []) → ((id : SessionId) → closes id steps ≡ false) → Carries m n ls a h steps b i
+carries_quiet m n ls steps a b h i r k o g e = record {
+  chain = r;
+  carried = λ l tied. carried_nothing m n a b h i steps l (o l.id) (g l.id) (e l.id) (k l.number);
+  others = λ x apart. k x;
+  all = all_kept a b k;
+}
+
+pub carries_round : (m : List Connection) (n : ℕ) (ls : List Link) (a : Told) (h i : HostState) (budget : ℕ) (ids : List SessionId) (worked refused : ℕ) → (r : IsRound h budget ids worked refused i) → Carries m n ls a h (works budget ids r.outcomes) a i
+carries_round m n ls a h i budget ids worked refused r =
+    carries_quiet m n ls (works budget ids r.outcomes) a a h i r.run (kept_same a) (λ id. own-works id budget ids r.outcomes) (λ id. taken-works id budget ids r.outcomes) (λ id. closes-works id budget ids r.outcomes)
+
+tied_at : (ls : List Link) (i : ℕ) (d : Link) (l : Link) → i < length ls → IsTied ls l → IsTied (get_or ls i d ∷ []) l
+tied_at [] i d l h t = absurd (omega arith)
+tied_at (k ∷ ks) zero d l h t = (t.0, tt)
+tied_at (k ∷ ks) (suc i) d l h t = tied_at ks i d l (omega arith) t.1
+
+apart_at : (ls : List Link) (i : ℕ) (d : Link) (n : ℕ) → i < length ls → IsApart ls n → IsApart (get_or ls i d ∷ []) n
+apart_at [] i d n h t = absurd (omega arith)
+apart_at (k ∷ ks) zero d n h t = (t.0, tt)
+apart_at (k ∷ ks) (suc i) d n h t = apart_at ks i d n (omega arith) t.1
+
+carries_at : (m : List Connection) (n : ℕ) (ls : List Link) (i : ℕ) (d : Link) (s : List Step) (a b : Told) (h j : HostState) → i < length ls → Carries m n (get_or ls i d ∷ []) a h s b j → Carries m n ls a h s b j
+carries_at m n ls i d s a b h j lt w = record {
+  chain = w.chain;
+  carried = λ l tied. w.carried l (tied_at ls i d l lt tied);
+  others = λ x apart. w.others x (apart_at ls i d x lt apart);
+  all = w.all;
+}
+
+pub serves_then : (kind : Event → Type 0) (m : List Connection) (n : ℕ) (ls : List Link) (a b c : Told) (h i j : HostState) → Serves kind m n ls a h b i → Serves kind m n ls b i c j → Serves kind m n ls a h c j
+serves_then kind m n ls a b c h i j p q = record {
+  steps = p.steps ++ q.steps;
+  kinds = all_append kind p.steps q.steps p.kinds q.kinds;
+  carries = carries_then m n ls p.steps q.steps a b c h i j p.carries q.carries;
+}
+
+serves_at : (kind : Event → Type 0) (m : List Connection) (n : ℕ) (ls : List Link) (i : ℕ) (d : Link) (a b : Told) (h j : HostState) → i < length ls → Serves kind m n (get_or ls i d ∷ []) a h b j → Serves kind m n ls a h b j
+serves_at kind m n ls i d a b h j lt s = record { steps = s.steps; kinds = s.kinds; carries = carries_at m n ls i d s.steps a b h j lt s.carries }
+
+pub serves_wire : (kind : Event → Type 0) (m : List Connection) (n : ℕ) (ls : List Link) (a b : Told) (h : HostState) → KeepsAll a b → Serves kind m n ls a h b h
+serves_wire kind m n ls a b h k = record { steps = []; kinds = tt; carries = carries_quiet m n ls [] a b h h (run-start h) k (λ id. refl) (λ id. refl) (λ id. refl) }
+
+pub serves_same : (kind : Event → Type 0) (m : List Connection) (n : ℕ) (ls : List Link) (a : Told) (h : HostState) → Serves kind m n ls a h a h
+serves_same kind m n ls a h = serves_wire kind m n ls a a h (kept_same a)
+
+links_at : (items : List Connection) (i : ℕ) (d : Connection) (e : Link) → i < length items → get_or (links_of items) i e ≡ (get_or items i d).link
+links_at items i d e lt = get_or-map (λ (c : Connection). c.link) items i d e lt
+
+-- the connection at an index was served
+pub serves_next : (kind : Event → Type 0) (m : List Connection) (n : ℕ) (items : List Connection) (ls : List Link) (i : ℕ) (d : Connection) (a b c : Told) (h j k : HostState) → i < length items → links_of items ≡ ls → Serves kind m n ls a h b j → Serves kind m n ((get_or items i d).link ∷ []) b j c k → Serves kind m n ls a h c k
+serves_next kind m n items ls i d a b c h j k lt e s t =
+    let e_ : Link = d.link in
+    let at : Serves kind m n (get_or (links_of items) i e_ ∷ []) b j c k = subst (λ (x : Link). Serves kind m n (x ∷ []) b j c k) (sym (links_at items i d e_ lt)) t in
+    let one : Serves kind m n (links_of items) b j c k = serves_at kind m n (links_of items) i e_ b c j k (omega (arith, length-map items (λ (x : Connection). x.link))) at in
+    serves_then kind m n ls a b c h j k s (rw e at one)
+
+pub links_set : (items : List Connection) (i : ℕ) (d y : Connection) → y.link ≡ (get_or items i d).link → links_of (set items i y) ≡ links_of items
+links_set items i d y e = map-set_same (λ (x : Connection). x.link) items i y d e

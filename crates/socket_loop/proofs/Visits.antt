@@ -1,0 +1,282 @@
+-- What a turn does with one connection.
+use Rattle.std.proofs.Common.{◌≡◌, ◌≢◌, ◌⊎◌, ℕ, ◌<◌, ◌≤◌, Bool, true, false, List, [], ◌∷◌, ◌++◌, Option, Some, None, Result, Ok, Err, cond, take, length, refl, sym, ap, ◌∙◌, subst, arith, append-nil, inl, inr}
+use Rattle.std.proofs.lemmas.Bool.{cases_eq, or_left, both_ways}
+use Rattle.std.specs.Prelude.{IsSome, IsErrOf, ◌||◌}
+use Rattle.std.specs.Borrow.{Bor}
+use Rattle.std.specs.Io.KnownBytes.{Keeps, Appends, Consumes}
+use Rattle.std.proofs.KnownBytes.{Consumes-kept, Consumes-nil, Keeps-trans, Keeps-refl}
+use Rattle.session_slots.specs.declared.id.SessionId.{SessionId}
+use Rattle.session_slots.specs.Slots.{find, IsBelow}
+use Rattle.usi_session.specs.Due.{Talk, wants_input}
+use Rattle.host_core.specs.declared.event.HostFault.{HostFault}
+use Rattle.host_core.specs.declared.event.HostFault.TheVariants.{Full, OutOfMemory, UnknownSession, NotReady}
+use Rattle.host_core.specs.Steps.{HostState, Stepped, OnSession, Changed}
+use Rattle.host_core.specs.Sessions.{Feeds, Takes}
+use Rattle.host_core.specs.ById.{IsOutput as IsQueue, wants_input_of, queued_of}
+use Rattle.host_core.specs.Events.{Event, Outcome, Opened, Worked, Done, Gave, Refused, Feed, Take, Close}
+use Rattle.host_core.specs.Seen.{passed_of}
+use Rattle.host_core.specs.Made.{Step, own, taken, is_same_id}
+use Rattle.host_core.specs.Runs.{IsStep, IsRun}
+use Rattle.host_core.proofs.Chains.{run-start}
+use Rattle.host_core.proofs.Ids.{same_id, is_same_id-refl}
+use Rattle.socket_loop.specs.declared.connection.Link.{Link}
+use Rattle.socket_loop.specs.declared.connection.Connection.{Connection}
+use Rattle.socket_loop.specs.declared.wire.Got.{Got}
+use Rattle.socket_loop.specs.declared.wire.Got.TheVariants.{Bytes}
+use Rattle.socket_loop.specs.declared.wire.WireFault.{WireFault}
+use Rattle.socket_loop.specs.Told.{Told, KeepsAll, KeepsPeer, Stays, IsRaised, Reads, Writes, Shuts}
+use Rattle.socket_loop.specs.Links.{Ties, IsMarked, reads_ended}
+use Rattle.socket_loop.specs.Parts.{GaveBytes, IsGone, IsClosing, AllMove, AreAll, IsInput, IsOutput, IsEnd, starves, closes, Cause, IsSpared, IsShutDown, Carried, Carries, Serves, is_done, is_finished_with}
+use Rattle.socket_loop.proofs.Peers.{kept_same, kept_then, moves_then, writes_move, shuts_move, gave_move, stays_rise, raised_rise, stays_raised, raised_rises, stays-refl, rises-refl, Consumes-none, Keeps-nothing, Appends-none}
+use Rattle.socket_loop.proofs.Runs.{run-one, run-two, step_rises}
+use Rattle.socket_loop.proofs.Parts.{carried_nothing}
+
+id_apart : (a b : SessionId) (c : Bool) → is_same_id a b ≡ c → (a ≡ b → ⊥) → is_same_id a b ≡ false
+id_apart a b true e f = absurd (f (same_id a b e))
+id_apart a b false e f = e
+
+other_id : (a b : SessionId) → (a ≡ b → ⊥) → is_same_id a b ≡ false
+other_id a b f = id_apart a b (is_same_id a b) refl f
+
+this_id : (a b : SessionId) → a ≡ b → is_same_id a b ≡ true
+this_id a b e = ap (is_same_id a) (sym e) ∙ is_same_id-refl a
+
+at_id : (a b : SessionId) (xs : List ℕ) → a ≡ b → cond (is_same_id a b) xs [] ≡ xs
+at_id a b xs e = ap (λ (c : Bool). cond c xs []) (this_id a b e)
+
+off_id : (a b : SessionId) (xs : List ℕ) → (a ≡ b → ⊥) → cond (is_same_id a b) xs [] ≡ []
+off_id a b xs f = ap (λ (c : Bool). cond c xs []) (other_id a b f)
+
+or_false : (x : Bool) → x ≡ true → (x || false) ≡ true
+or_false x e = or_left x false e
+
+closes_this : (h : Link) (id : SessionId) → h.id ≡ id → (is_same_id h.id id || false) ≡ true
+closes_this h id e = or_left (is_same_id h.id id) false (this_id h.id id e)
+
+closes_other : (h : Link) (id : SessionId) → (h.id ≡ id → ⊥) → (is_same_id h.id id || false) ≡ false
+closes_other h id f = ap (λ (b : Bool). b || false) (other_id h.id id f)
+
+gave_others : (a b : Told) (h : Link) (bytes : List ℕ) (x : ℕ) → GaveBytes a b h.number bytes → h.number ≢ x → KeepsPeer a b x
+gave_others a b h bytes x g apart = g.others x (λ e. apart (sym e))
+
+-- ---- reads
+
+pub gave : (a b : Told) (number n : ℕ) (buf : List ℕ) → Reads a b number (Ok (Bytes n)) buf → GaveBytes a b number (take n buf)
+gave a b number n buf r = record { consumed = r.consumed; written = r.written; shut = r.shut; failed = stays_rise _ _ r.failed; others = r.others }
+
+-- a read that failed gave nothing
+pub read_fault : (a b : Told) (number : ℕ) (e : WireFault) (buf : List ℕ) → Reads a b number (Err e) buf → GaveBytes a b number []
+read_fault a b number e buf r = record { consumed = r.consumed; written = r.written; shut = r.shut; failed = raised_rise _ _ r.failed; others = r.others }
+
+-- a write that failed took nothing
+pub write_fault : (a b : Told) (number : ℕ) (e : WireFault) (buf : List ℕ) → Writes a b number (Err e) buf → GaveBytes a b number []
+write_fault a b number e buf w = record { consumed = Consumes-none _ _ w.unread; written = Keeps-nothing _ _ w.appended; shut = w.shut; failed = raised_rise _ _ w.failed; others = w.others }
+
+pub gave_nothing : (a : Told) (number : ℕ) → GaveBytes a a number []
+gave_nothing a number = record { consumed = Consumes-nil _; written = Keeps-refl _; shut = stays-refl _; failed = rises-refl _; others = λ x apart. kept_same a x }
+
+carried_fed : (m : List Connection) (bound : ℕ) (h : Link) (a b : Told) (before after : HostState) (piece : List ℕ) (l : Link) → Ties h l → GaveBytes a b h.number piece → Carried m bound a before (record { event = Feed h.id piece; outcome = Done } ∷ []) b after l
+carried_fed m bound h a b before after piece l t g =
+    elim (cases_eq h.number l.number) [
+      | inl same ↦
+          let at : cond (is_same_id h.id l.id) piece [] ≡ piece = at_id h.id l.id piece (t.by_number same) in
+          let u : Consumes (a.unread l.number) (b.unread l.number) piece = rw same at g.consumed in
+          let w : Keeps (a.written l.number) (b.written l.number) = rw same at g.written in
+          let f : Stays (a.is_shut l.number) (b.is_shut l.number) = rw same at g.shut in
+          record {
+            lost = [];
+            consumed = rw at (subst (Consumes (a.unread l.number) (b.unread l.number)) (sym (append-nil (piece ++ []) ∙ append-nil piece)) u);
+            appended = Appends-none _ _ w;
+            whole = inl refl;
+            ends = inl (record { shut = f; closed = refl });
+          }
+      | inr apart ↦
+          let off : cond (is_same_id h.id l.id) piece [] ≡ [] = off_id h.id l.id piece (λ e. apart (t.by_id e)) in
+          carried_nothing m bound a b before after (record { event = Feed h.id piece; outcome = Done } ∷ []) l (rw off refl) refl refl (gave_others a b h piece l.number g apart)
+    ]
+
+-- what was read was stored
+pub serves_fed : (m : List Connection) (bound : ℕ) (h : Link) (a b : Told) (before after : HostState) (piece : List ℕ) (o : Outcome) → is_done o ≡ true → GaveBytes a b h.number piece → IsStep before (record { event = Feed h.id piece; outcome = o }) after → Serves IsInput m bound (h ∷ []) a before b after
+serves_fed m bound h a b before after piece Done e g s = record {
+  steps = record { event = Feed h.id piece; outcome = Done } ∷ [];
+  kinds = (tt, tt);
+  carries = record {
+    chain = run-one before after _ s;
+    carried = λ l tied. carried_fed m bound h a b before after piece l tied.0 g;
+    others = λ x apart. gave_others a b h piece x g apart.0;
+    all = gave_move a b h.number piece g;
+  };
+}
+serves_fed m bound h a b before after piece (Opened id) e g s = absurd (cc)
+serves_fed m bound h a b before after piece (Worked n) e g s = absurd (cc)
+serves_fed m bound h a b before after piece (Gave bytes) e g s = absurd (cc)
+serves_fed m bound h a b before after piece (Refused fault) e g s = absurd (cc)
+
+-- ---- shutting
+
+same_link : (h l : Link) → h.number ≡ l.number → h.id ≡ l.id → h ≡ l
+same_link h l e f = λ i. record { number = e i; id = f i }
+
+-- steps in which a session is closed, and nothing of it or of another one happens else
+record Closing (id : SessionId) (steps : List Step) : Type 0 where
+  pub no_own : (other : SessionId) → own other steps ≡ []
+  pub no_taken : (other : SessionId) → taken other steps ≡ []
+  pub this : (other : SessionId) → id ≡ other → closes other steps ≡ true
+  pub no_other : (other : SessionId) → (id ≡ other → ⊥) → closes other steps ≡ false
+
+shut_ends : (m : List Connection) (bound : ℕ) (h : Link) (a b c : Told) (before after : HostState) (steps : List Step) (piece : List ℕ) (l : Link) → Ties h l → GaveBytes a b h.number piece → Shuts bound b c h.number → Closing h.id steps → (piece ≡ []) ⊎ IsGone after h.id → Cause m a before steps c h → Carried m bound a before steps c after l
+shut_ends m bound h a b c before after steps piece l t g s closing whole why =
+    elim (cases_eq h.number l.number) [
+      | inl same ↦
+          let id : h.id ≡ l.id = t.by_number same in
+          let u : Consumes (a.unread l.number) (c.unread l.number) piece = rw same at (Consumes-kept _ _ _ piece g.consumed s.unread) in
+          let w : Keeps (a.written l.number) (c.written l.number) = rw same at (Keeps-trans _ _ _ g.written s.written) in
+          let f : l.number < bound → IsRaised (a.is_shut l.number) (c.is_shut l.number) = rw same at (λ (lt : h.number < bound). stays_raised (a.is_shut h.number) (b.is_shut h.number) (c.is_shut h.number) g.shut (s.shut lt)) in
+          let none : own l.id steps ≡ [] = closing.no_own l.id in
+          let no_taken : taken l.id steps ≡ [] = closing.no_taken l.id in
+          record {
+            lost = piece;
+            consumed = rw none u;
+            appended = rw no_taken (Appends-none _ _ w);
+            whole = (rw id at whole);
+            ends = inr (record { shut = f; closed = closing.this l.id id; cause = subst (λ (x : Link). Cause m a before steps c x) (same_link h l same id) why });
+          }
+      | inr apart ↦
+          let kept : KeepsPeer a c l.number = kept_then a b c l.number (gave_others a b h piece l.number g apart) (s.others l.number (λ e. apart (sym e))) in
+          carried_nothing m bound a c before after steps l (closing.no_own l.id) (closing.no_taken l.id) (closing.no_other l.id (λ e. apart (t.by_id e))) kept
+    ]
+
+serves_closing : (kind : Event → Type 0) (m : List Connection) (bound : ℕ) (h : Link) (a b c : Told) (before after : HostState) (steps : List Step) (piece : List ℕ) → AreAll kind steps → IsRun before steps after → GaveBytes a b h.number piece → Shuts bound b c h.number → Closing h.id steps → (piece ≡ []) ⊎ IsGone after h.id → Cause m a before steps c h → Serves kind m bound (h ∷ []) a before c after
+serves_closing kind m bound h a b c before after steps piece kinds chain g s closing whole why = record {
+  steps = steps;
+  kinds = kinds;
+  carries = record {
+    chain = chain;
+    carried = λ l tied. shut_ends m bound h a b c before after steps piece l tied.0 g s closing whole why;
+    others = λ x apart. kept_then a b c x (gave_others a b h piece x g apart.0) (s.others x (λ e. apart.0 (sym e)));
+    all = moves_then a b c (gave_move a b h.number piece g) (shuts_move bound b c h.number s);
+  };
+}
+
+closing_alone : (h : Link) (o : Outcome) → Closing h.id (record { event = Close h.id; outcome = o } ∷ [])
+closing_alone h o = record { no_own = λ x. refl; no_taken = λ x. refl; this = λ x e. closes_this h x e; no_other = λ x f. closes_other h x f }
+
+failed_through : (a b c : Told) (bound : ℕ) (number : ℕ) → IsRaised (a.has_failed number) (b.has_failed number) → Shuts bound b c number → IsRaised (a.has_failed number) (c.has_failed number)
+failed_through a b c bound number e s = raised_rises _ _ _ e (stays_rise _ _ s.failed)
+
+-- a read or a write failed, and the connection was shut
+pub serves_fault : (kind : Event → Type 0) (m : List Connection) (bound : ℕ) (h : Link) (a b c : Told) (before after : HostState) → kind (Close h.id) → GaveBytes a b h.number [] → IsRaised (a.has_failed h.number) (b.has_failed h.number) → Shuts bound b c h.number → IsClosing before h.id after → Serves kind m bound (h ∷ []) a before c after
+serves_fault kind m bound h a b c before after can g e s close =
+    serves_closing kind m bound h a b c before after (record { event = Close h.id; outcome = close.outcome } ∷ []) [] (can, tt) (run-one before after _ close.step) g s (closing_alone h close.outcome) (inl refl) (inl (failed_through a b c bound h.number e s))
+
+-- it was finished with, and the connection was shut
+pub serves_finished : (m : List Connection) (bound : ℕ) (h : Link) (a c : Told) (before after : HostState) (has_ended : Bool) → (has_ended ≡ true → IsMarked reads_ended m h.number) → is_finished_with has_ended (find before.slots h.id) ≡ true → Shuts bound a c h.number → IsClosing before h.id after → Serves IsEnd m bound (h ∷ []) a before c after
+serves_finished m bound h a c before after has_ended marked finished s close =
+    serves_closing IsEnd m bound h a a c before after (record { event = Close h.id; outcome = close.outcome } ∷ []) [] (tt, tt) (run-one before after _ close.step) (gave_nothing a h.number) s (closing_alone h close.outcome) (inl refl)
+    (inr (inr (record { earlier = []; later = record { event = Close h.id; outcome = close.outcome } ∷ []; steps_are = refl; moment = before; run = run-start before; has_ended = has_ended; marked = marked; finished = finished })))
+
+-- a feed of a session that wants input is refused for memory alone
+pub refused_for_memory : (before after : HostState) (id : SessionId) (piece : List ℕ) (o : Outcome) (found : Option Talk) → find before.slots id ≡ found → wants_input_of found ≡ true → length piece ≤ 4096 → OnSession (Feeds piece) before id found o after → is_done o ≡ false → o ≡ Refused OutOfMemory
+refused_for_memory before after id piece o None e w few p d = absurd (cc)
+refused_for_memory before after id piece Done (Some t) e w few p d = absurd (cc)
+refused_for_memory before after id piece (Opened x) (Some t) e w few p d = absurd p.went
+refused_for_memory before after id piece (Worked x) (Some t) e w few p d = absurd p.went
+refused_for_memory before after id piece (Gave x) (Some t) e w few p d = absurd p.went
+refused_for_memory before after id piece (Refused Full) (Some t) e w few p d = absurd p.went
+refused_for_memory before after id piece (Refused UnknownSession) (Some t) e w few p d = absurd p.went
+refused_for_memory before after id piece (Refused OutOfMemory) (Some t) e w few p d = refl
+refused_for_memory before after id piece (Refused NotReady) (Some t) e w few p d = absurd (p.went.0 (w, few))
+
+-- what was read was refused for memory, and the connection was shut
+pub serves_starved : (m : List Connection) (bound : ℕ) (h : Link) (a b c : Told) (before mid after : HostState) (piece : List ℕ) (o : Outcome) → wants_input_of (find before.slots h.id) ≡ true → length piece ≤ 4096 → is_done o ≡ false → GaveBytes a b h.number piece → Shuts bound b c h.number → IsStep before (record { event = Feed h.id piece; outcome = o }) mid → IsClosing mid h.id after → IsGone after h.id → Serves IsInput m bound (h ∷ []) a before c after
+serves_starved m bound h a b c before mid after piece o wants few d g s step close out =
+    let is : o ≡ Refused OutOfMemory = refused_for_memory before mid h.id piece o (find before.slots h.id) refl wants few step.stepped.0 d in
+    starved (rw is at step)
+  where
+    closing : Closing h.id (record { event = Feed h.id piece; outcome = Refused OutOfMemory } ∷ record { event = Close h.id; outcome = close.outcome } ∷ [])
+    closing = record { no_own = λ x. refl; no_taken = λ x. refl; this = λ x e. closes_this h x e; no_other = λ x f. closes_other h x f }
+
+    starved : IsStep before (record { event = Feed h.id piece; outcome = Refused OutOfMemory }) mid → Serves IsInput m bound (h ∷ []) a before c after
+    starved first =
+        serves_closing IsInput m bound h a b c before after (record { event = Feed h.id piece; outcome = Refused OutOfMemory } ∷ record { event = Close h.id; outcome = close.outcome } ∷ []) piece (tt, (tt, tt)) (run-two before mid after _ _ first close.step) g s closing (inr out)
+        (inr (inl (or_left (is_same_id h.id h.id) (false || false) (is_same_id-refl h.id))))
+
+wants_some : (f : Option Talk) → wants_input_of f ≡ true → IsSome f
+wants_some None e = absurd (cc)
+wants_some (Some t) e = refl
+
+-- a session that wanted input has an id from before
+pub wanted_below : (host mid : HostState) (id : SessionId) (event : Event) (o : Outcome) → wants_input_of (find host.slots id) ≡ true → IsBelow host.slots → Stepped host event o mid → id.generation < mid.slots.next
+wanted_below host mid id event o e below s =
+    let b : id.generation < host.slots.next = below id (wants_some (find host.slots id) e) in
+    let r : host.slots.next ≤ mid.slots.next = step_rises host mid event o s in
+    omega arith
+
+-- ---- writes
+
+queue_of : (found : Option Talk) (bytes : Bor (List ℕ)) → IsQueue found (Some bytes) → queued_of found ≡ bytes.now
+queue_of None bytes p = absurd p
+queue_of (Some t) bytes p = sym p
+
+pub has_queue : (host : HostState) (id : SessionId) (bytes : Bor (List ℕ)) → IsQueue (find host.slots id) (Some bytes) → queued_of (find host.slots id) ≡ bytes.now
+has_queue host id bytes p = queue_of (find host.slots id) bytes p
+
+is_open : (found : Option Talk) (bytes : Bor (List ℕ)) → IsQueue found (Some bytes) → IsSome found
+is_open None bytes p = absurd p
+is_open (Some t) bytes p = refl
+
+pub has_session : (host : HostState) (id : SessionId) (bytes : Bor (List ℕ)) → IsQueue (find host.slots id) (Some bytes) → IsSome (find host.slots id)
+has_session host id bytes p = is_open (find host.slots id) bytes p
+
+carried_passed : (m : List Connection) (bound : ℕ) (h : Link) (a b : Told) (before after : HostState) (n : ℕ) (bytes : List ℕ) (l : Link) → Ties h l → Writes a b h.number (Ok n) bytes → Carried m bound a before (record { event = Take h.id n; outcome = Gave (take n bytes) } ∷ []) b after l
+carried_passed m bound h a b before after n bytes l t w =
+    elim (cases_eq h.number l.number) [
+      | inl same ↦
+          let at : cond (is_same_id h.id l.id) (take n bytes) [] ≡ take n bytes = at_id h.id l.id (take n bytes) (t.by_number same) in
+          let u : Appends (a.written l.number) (b.written l.number) (take n bytes) = rw same at w.appended in
+          let k : Keeps (a.unread l.number) (b.unread l.number) = rw same at w.unread in
+          let f : Stays (a.is_shut l.number) (b.is_shut l.number) = rw same at w.shut in
+          record {
+            lost = [];
+            consumed = Consumes-none _ _ k;
+            appended = rw at (subst (Appends (a.written l.number) (b.written l.number)) (sym (append-nil (take n bytes))) u);
+            whole = inl refl;
+            ends = inl (record { shut = f; closed = refl });
+          }
+      | inr apart ↦
+          let off : cond (is_same_id h.id l.id) (take n bytes) [] ≡ [] = off_id h.id l.id (take n bytes) (λ e. apart (t.by_id e)) in
+          carried_nothing m bound a b before after (record { event = Take h.id n; outcome = Gave (take n bytes) } ∷ []) l refl (rw off refl) refl (w.others l.number (λ e. apart (sym e)))
+    ]
+
+-- a passing that was asked for no more than is queued is done
+passed_done : {U : Type 0} (before after : HostState) (id : SessionId) (n : ℕ) (bytes : List ℕ) (r : Result U HostFault) (found : Option Talk) → find before.slots id ≡ found → IsSome found → queued_of found ≡ bytes → n ≤ length bytes → OnSession (Takes n) before id found (passed_of (take n (queued_of found)) r) after → (IsErrOf r OutOfMemory → ⊥) → passed_of (take n (queued_of found)) r ≡ Gave (take n bytes)
+passed_done before after id n bytes r None e some q few p none = absurd (cc)
+passed_done before after id n bytes (Ok u) (Some t) e some q few p none = ap (λ (xs : List ℕ). Gave (take n xs)) q
+passed_done before after id n bytes (Err Full) (Some t) e some q few p none = absurd p.went
+passed_done before after id n bytes (Err UnknownSession) (Some t) e some q few p none = absurd p.went
+passed_done before after id n bytes (Err OutOfMemory) (Some t) e some q few p none = absurd (none refl)
+passed_done before after id n bytes (Err NotReady) (Some t) e some q few p none = (let l : length t.queued ≡ length bytes = ap length q in let m : length t.queued < n = p.went.0 in absurd (omega arith))
+
+-- what was written was passed
+pub serves_passed : {U : Type 0} (m : List Connection) (bound : ℕ) (h : Link) (a b : Told) (before after : HostState) (n : ℕ) (bytes : Bor (List ℕ)) (r : Result U HostFault) → IsQueue (find before.slots h.id) (Some bytes) → n ≤ length bytes.now → Writes a b h.number (Ok n) bytes.now → IsBelow before.slots
+    → Stepped before (Take h.id n) (passed_of (take n (queued_of (find before.slots h.id))) r) after → (IsErrOf r OutOfMemory → ⊥) → Serves IsOutput m bound (h ∷ []) a before b after
+serves_passed m bound h a b before after n bytes r queue few w below p none =
+    let is : passed_of (take n (queued_of (find before.slots h.id))) r ≡ Gave (take n bytes.now) = passed_done before after h.id n bytes.now r (find before.slots h.id) refl (has_session before h.id bytes queue) (has_queue before h.id bytes queue) few p.0 none in
+    passed (rw is at p)
+  where
+    passed : Stepped before (Take h.id n) (Gave (take n bytes.now)) after → Serves IsOutput m bound (h ∷ []) a before b after
+    passed s = record {
+      steps = record { event = Take h.id n; outcome = Gave (take n bytes.now) } ∷ [];
+      kinds = (tt, tt);
+      carries = record {
+        chain = run-one before after _ (record { below = below; stepped = s });
+        carried = λ l tied. carried_passed m bound h a b before after n bytes.now l tied.0 w;
+        others = λ x apart. w.others x (λ e. apart.0 (sym e));
+        all = writes_move a b h.number (Ok n) bytes.now w;
+      };
+    }
+
+-- a connection that was shut, after a call that kept its flag
+pub shut_after : {P Q : Type 0} (a b c : Option Bool) → Stays a b → P ⊎ (Q → IsRaised b c) → P ⊎ (Q → IsRaised a c)
+shut_after a b c s (inl p) = inl p
+shut_after a b c s (inr f) = inr (λ q. stays_raised a b c s (f q))

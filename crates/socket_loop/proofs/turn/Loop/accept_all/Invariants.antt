@@ -1,0 +1,15 @@
+use Rattle.std.proofs.Common.{◌≡◌, ◌<◌, ℕ, true}
+use Rattle.socket_loop.specs.Links.{links_of}
+use Rattle.socket_loop.specs.Parts.{AddsNoMark}
+use Rattle.socket_loop.specs.Turns.{Accepts, IsQuiet}
+use Rattle.socket_loop.proofs.turn.Loop.accept_all.Given as goal
+
+-- the connections so far were accepted
+abbrev pub invariant-loop : goal.invariant-loop
+invariant-loop g l = record {
+  so_far : Accepts (links_of l.fn.self.held) (g.W.Wire.bound l.fn.wire) (g.W.Wire.told l.fn.wire) l.fn.host (links_of l.self.held) (g.W.Wire.bound l.wire) (g.W.Wire.told l.wire) l.host;
+  marks : (number : ℕ) → AddsNoMark l.fn.self.held l.self.held number;
+  quiet : IsQuiet l.moved (g.W.Wire.told l.fn.wire) l.fn.self.held (g.W.Wire.told l.wire) l.self.held;
+  accepted : l.moved ≡ true → g.W.Wire.bound l.fn.wire < g.W.Wire.bound l.wire;
+  slice : l.self.slice ≡ l.fn.self.slice;
+}

@@ -1,0 +1,58 @@
+use Rattle.std.proofs.Common.{rules, ◌≡◌, ◌≤◌, ◌∙◌, arith, []}
+use Rattle.socket_loop.specs.Links.{links_of}
+use Rattle.socket_loop.proofs.Turning.{turned, turn_fits, serves_rises}
+use Rattle.socket_loop.proofs.Quiet.{quiet_turn}
+use Rattle.socket_loop.proofs.Runs.{next_rises}
+use Rattle.socket_loop.proofs.Stirs.{moved_turn}
+use Rattle.socket_loop.proofs.turn.Loop.take_turn.Goals as goal
+
+pub returns-clause-turned : goal.returns-clause-turned
+returns-clause-turned g c =
+    let same : links_of c.close_all-has_shut.new.self.held ≡ links_of c.accept_all-has_accepted.new.self.held = c.close_all-has_shut.ensures.links ∙ (c.write_all-has_written.ensures.links ∙ c.read_all-has_read.ensures.links) in
+    let slice : c.self.inside.slice ≡ c.args.self.now.slice = search rules in
+    let bound_read = c.read_all-has_read.ensures.bound in
+    let bound_written = c.write_all-has_written.ensures.bound ∙ bound_read in
+    rw (c.close_all-has_shut.ensures.bound ∙ bound_written, c.let_go.ensures.held) (
+    turned c.args.self.now.slice c.args.self.now.held c.accept_all-has_accepted.new.self.held c.read_all-has_read.new.self.held c.write_all-has_written.new.self.held c.close_all-has_shut.new.self.held _ _ _ _ _ _ _ _ _ _ _ _ _ c.round-round.result.worked c.round-round.result.refused c.requires.fits
+    c.accept_all-has_accepted.ensures.accepts
+    c.accept_all-has_accepted.ensures.marks
+    (c.read_all-has_read.ensures.serves c.write_all-has_written.new.self.held)
+    c.read_all-has_read.ensures.marks
+    (rw slice at c.round-round.ensures)
+    (rw (bound_read, c.read_all-has_read.ensures.links) at (c.write_all-has_written.ensures.serves c.write_all-has_written.new.self.held))
+    (rw bound_read at c.write_all-has_written.ensures.marks)
+    (rw (bound_written, c.write_all-has_written.ensures.links, c.read_all-has_read.ensures.links) at c.close_all-has_shut.ensures.serves)
+    (rw bound_written at c.close_all-has_shut.ensures.marks)
+    same)
+
+pub returns-clause-fits : goal.returns-clause-fits
+returns-clause-fits g c =
+    let same : links_of c.close_all-has_shut.new.self.held ≡ links_of c.accept_all-has_accepted.new.self.held = c.close_all-has_shut.ensures.links ∙ (c.write_all-has_written.ensures.links ∙ c.read_all-has_read.ensures.links) in
+    let bound = c.close_all-has_shut.ensures.bound ∙ (c.write_all-has_written.ensures.bound ∙ c.read_all-has_read.ensures.bound) in
+    let u : c.accept_all-has_accepted.new.host.slots.next ≤ c.read_all-has_read.new.host.slots.next = serves_rises _ _ _ _ _ _ _ _ (c.read_all-has_read.ensures.serves c.args.self.now.held) in
+    let v : c.read_all-has_read.new.host.slots.next ≤ c.round-round.new.self.slots.next = next_rises _ _ _ c.round-round.ensures.run in
+    let w : c.round-round.new.self.slots.next ≤ c.write_all-has_written.new.host.slots.next = serves_rises _ _ _ _ _ _ _ _ (c.write_all-has_written.ensures.serves c.args.self.now.held) in
+    let x : c.write_all-has_written.new.host.slots.next ≤ c.close_all-has_shut.new.host.slots.next = serves_rises _ _ _ _ _ _ _ _ c.close_all-has_shut.ensures.serves in
+    rw (bound, c.let_go.ensures.held) (
+    turn_fits c.args.self.now.held c.accept_all-has_accepted.new.self.held c.close_all-has_shut.new.self.held _ _ _ _ _ _ _ c.requires.fits
+    c.accept_all-has_accepted.ensures.accepts
+    (omega arith)
+    same)
+
+pub returns-clause-quiet : goal.returns-clause-quiet
+returns-clause-quiet g c =
+    rw c.let_go.ensures.held (
+    quiet_turn c.accept_all-has_accepted.result c.read_all-has_read.result c.write_all-has_written.result c.close_all-has_shut.result _ _ _ _ _ _ c.args.self.now.held c.accept_all-has_accepted.new.self.held c.read_all-has_read.new.self.held c.write_all-has_written.new.self.held c.close_all-has_shut.new.self.held _
+    c.accept_all-has_accepted.ensures.quiet c.read_all-has_read.ensures.quiet c.write_all-has_written.ensures.quiet c.close_all-has_shut.ensures.quiet)
+
+pub returns-clause-moved : goal.returns-clause-moved
+returns-clause-moved g c =
+    let same : links_of c.close_all-has_shut.new.self.held ≡ links_of c.accept_all-has_accepted.new.self.held = c.close_all-has_shut.ensures.links ∙ (c.write_all-has_written.ensures.links ∙ c.read_all-has_read.ensures.links) in
+    let bound = c.close_all-has_shut.ensures.bound ∙ (c.write_all-has_written.ensures.bound ∙ c.read_all-has_read.ensures.bound) in
+    rw bound (
+    moved_turn c.accept_all-has_accepted.result c.read_all-has_read.result c.write_all-has_written.result c.close_all-has_shut.result c.is_pending-is_pending.result _ _ _ _ _ _ _ c.args.self.now.held c.accept_all-has_accepted.new.self.held c.read_all-has_read.new.self.held c.write_all-has_written.new.self.held c.close_all-has_shut.new.self.held _ c.close_all-has_shut.new.host
+    c.accept_all-has_accepted.ensures.accepted c.accept_all-has_accepted.ensures.quiet
+    (c.read_all-has_read.ensures.serves []).carries.all (c.write_all-has_written.ensures.serves []).carries.all c.close_all-has_shut.ensures.serves.carries.all
+    c.read_all-has_read.ensures.made c.write_all-has_written.ensures.made c.close_all-has_shut.ensures.made
+    c.read_all-has_read.ensures.stirs c.write_all-has_written.ensures.stirs c.close_all-has_shut.ensures.stirs
+    same c.let_go.ensures.held c.is_pending-is_pending.ensures)

@@ -1,0 +1,25 @@
+use Rattle.std.proofs.Common.{inl}
+use Rattle.socket_loop.proofs.Peers.{nothing_keeps, ended_keeps}
+use Rattle.socket_loop.proofs.Parts.{serves_same, serves_wire}
+use Rattle.socket_loop.proofs.Visits.{read_fault, serves_fault, shut_after}
+use Rattle.socket_loop.proofs.Stirs.{read_shorter}
+use Rattle.socket_loop.proofs.visit.read_from.Goals as goal
+
+pub returns-then-connection-clause-serves : goal.returns-then-connection-clause-serves
+returns-then-connection-clause-serves g c = λ marks. serves_same _ _ _ _ _ _
+
+pub returns-in-Ok-Nothing-clause-serves : goal.returns-in-Ok-Nothing-clause-serves
+returns-in-Ok-Nothing-clause-serves g c = λ marks. serves_wire _ _ _ _ _ _ _ (nothing_keeps _ _ c.args.connection.now.link.number c.read.new.buf (rw c.in-Ok-Nothing.field-0-is at c.in-Ok-Nothing.ensures.read))
+
+pub returns-in-Ok-Ended-clause-serves : goal.returns-in-Ok-Ended-clause-serves
+returns-in-Ok-Ended-clause-serves g c = λ marks. serves_wire _ _ _ _ _ _ _ (ended_keeps _ _ c.args.connection.now.link.number c.read.new.buf (rw c.in-Ok-Ended.field-0-is at c.in-Ok-Ended.ensures.read))
+
+pub returns-in-Err-clause-serves : goal.returns-in-Err-clause-serves
+returns-in-Err-clause-serves g c = λ marks.
+    serves_fault _ marks _ c.args.connection.now.link _ _ _ _ _ tt (read_fault _ _ c.args.connection.now.link.number c.in-Err.field-0 c.read.new.buf c.in-Err.ensures.read) c.in-Err.ensures.read.failed (rw c.in-Err.ensures.bound at c.shut_down.ensures.shuts) c.shut_down.ensures.closed
+
+pub returns-in-Ok-Bytes-clause-shut : goal.returns-in-Ok-Bytes-clause-shut
+returns-in-Ok-Bytes-clause-shut g c = λ e. shut_after _ _ _ c.in-Ok-Bytes.ensures.read.shut (rw c.in-Ok-Bytes.ensures.bound at c.feed_from.ensures.shut e)
+
+pub returns-in-Ok-Bytes-clause-stirs : goal.returns-in-Ok-Bytes-clause-stirs
+returns-in-Ok-Bytes-clause-stirs g c = λ e. inl (inl (read_shorter _ (g.W.Wire.told c.read.new.self) (g.W.Wire.told c.feed_from.new.wire) c.args.connection.now.link.number c.in-Ok-Bytes.n c.read.new.buf (rw c.in-Ok-Bytes.field-0-is at c.in-Ok-Bytes.ensures.read) c.feed_from.ensures.unread))

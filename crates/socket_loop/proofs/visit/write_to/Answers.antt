@@ -1,0 +1,25 @@
+use Rattle.std.proofs.Common.{rules, inl, inr}
+use Rattle.socket_loop.proofs.Parts.{serves_same}
+use Rattle.socket_loop.proofs.Visits.{write_fault, serves_fault, serves_passed}
+use Rattle.socket_loop.proofs.Stirs.{write_longer}
+use Rattle.socket_loop.proofs.visit.write_to.Goals as goal
+
+pub returns-then-connection-clause-serves : goal.returns-then-connection-clause-serves
+returns-then-connection-clause-serves g c = λ marks. serves_same _ _ _ _ _ _
+
+pub returns-in_default-clause-serves : goal.returns-in_default-clause-serves
+returns-in_default-clause-serves g c = λ marks. serves_same _ _ _ _ _ _
+
+pub returns-then-is_empty-clause-serves : goal.returns-then-is_empty-clause-serves
+returns-then-is_empty-clause-serves g c = λ marks. serves_same _ _ _ _ _ _
+
+pub returns-in-Ok-clause-serves : goal.returns-in-Ok-clause-serves
+returns-in-Ok-clause-serves g c = λ marks.
+    serves_passed marks _ c.args.connection.now.link _ _ _ _ c.in-Ok.n c.in-Some.bytes c.pass-passed.result c.in-Some.ensures c.in-Ok.ensures.written.within c.in-Ok.ensures.written c.pass-passed.ensures.below c.pass-passed.ensures.taken c.pass-passed.ensures.no_memory
+
+pub returns-in-Err-clause-serves : goal.returns-in-Err-clause-serves
+returns-in-Err-clause-serves g c = λ marks.
+    serves_fault _ marks _ c.args.connection.now.link _ _ _ _ _ tt (write_fault _ _ c.args.connection.now.link.number c.in-Err.field-0 c.in-Some.bytes.now c.in-Err.ensures.written) c.in-Err.ensures.written.failed (rw c.in-Err.ensures.bound at c.shut_down.ensures.shuts) c.shut_down.ensures.closed
+
+pub returns-in-Ok-clause-stirs : goal.returns-in-Ok-clause-stirs
+returns-in-Ok-clause-stirs g c = λ e. inl (inr (write_longer _ _ c.args.connection.now.link.number c.in-Ok.n c.in-Some.bytes.now (search rules) c.in-Ok.ensures.written))

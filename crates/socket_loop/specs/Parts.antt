@@ -1,0 +1,190 @@
+-- Parts of a turn: what they do to the host and to the connections of a wire (own choice).
+use Rattle.std.specs.Prelude.{◌≡◌, ◌<◌, ◌⊎◌, ⊤, ℕ, List, [], ◌∷◌, ◌++◌, Option, None, Some, Bool, true, false, ◌&&◌, ◌||◌, not, ◌==◌, length}
+use Rattle.std.specs.Io.KnownBytes.{Keeps, Appends, Consumes}
+use Rattle.session_slots.specs.declared.id.SessionId.{SessionId}
+use Rattle.session_slots.specs.Slots.{find}
+use Rattle.usi_session.specs.Due.{Talk, is_pending}
+use Rattle.host_core.specs.declared.event.HostFault.TheVariants.{OutOfMemory}
+use Rattle.host_core.specs.Steps.{HostState}
+use Rattle.host_core.specs.Events.{Outcome, Event, Opened, Done, Worked, Gave, Refused, Open, Feed, Work, Take, Close}
+use Rattle.host_core.specs.Made.{Step, own, taken, is_same_id}
+use Rattle.host_core.specs.Runs.{IsStep, IsRun}
+use Rattle.socket_loop.specs.declared.connection.Link.{Link}
+use Rattle.socket_loop.specs.declared.connection.Connection.{Connection}
+use Rattle.socket_loop.specs.Told.{Told, KeepsPeer, KeepsOthers, Stays, IsRaised, OnlyRises}
+use Rattle.socket_loop.specs.Links.{IsTied, IsApart, IsMarked, reads_ended, was_shut}
+
+-- ---- steps of a host
+
+-- the id was opened once, and is open no more
+pub record IsGone (host : HostState) (id : SessionId) : Type 0 where
+  pub none : find host.slots id ≡ None
+  pub below : id.generation < host.slots.next
+
+-- the session was closed, where it was open
+pub record IsClosing (old : HostState) (id : SessionId) (new : HostState) : Type 0 where
+  pub outcome : Outcome
+  pub step : IsStep old (record { event = Close id; outcome = outcome }) new
+
+-- the event was done
+abbrev pub is_done : Outcome → Bool
+is_done Done = true
+is_done (Opened id) = false
+is_done (Worked steps) = false
+is_done (Gave bytes) = false
+is_done (Refused fault) = false
+
+-- each event of the steps is one of these
+abbrev pub AreAll : (Event → Type 0) → List Step → Type 0
+AreAll kind [] = ⊤
+AreAll kind (step ∷ rest) = kind step.event × AreAll kind rest
+
+-- sessions are opened or closed
+abbrev pub IsAdmission : Event → Type 0
+IsAdmission Open = ⊤
+IsAdmission (Feed id piece) = ⊥
+IsAdmission (Work id budget) = ⊥
+IsAdmission (Take id n) = ⊥
+IsAdmission (Close id) = ⊤
+
+-- sessions are fed or closed
+abbrev pub IsInput : Event → Type 0
+IsInput Open = ⊥
+IsInput (Feed id piece) = ⊤
+IsInput (Work id budget) = ⊥
+IsInput (Take id n) = ⊥
+IsInput (Close id) = ⊤
+
+-- bytes are taken from sessions, or sessions are closed
+abbrev pub IsOutput : Event → Type 0
+IsOutput Open = ⊥
+IsOutput (Feed id piece) = ⊥
+IsOutput (Work id budget) = ⊥
+IsOutput (Take id n) = ⊤
+IsOutput (Close id) = ⊤
+
+-- sessions are closed
+abbrev pub IsEnd : Event → Type 0
+IsEnd Open = ⊥
+IsEnd (Feed id piece) = ⊥
+IsEnd (Work id budget) = ⊥
+IsEnd (Take id n) = ⊥
+IsEnd (Close id) = ⊤
+
+abbrev pub closes_by : SessionId → Event → Bool
+closes_by id (Close other) = is_same_id other id
+closes_by id Open = false
+closes_by id (Feed other piece) = false
+closes_by id (Work other budget) = false
+closes_by id (Take other n) = false
+
+-- a session is closed in the steps
+abbrev pub closes : SessionId → List Step → Bool
+closes id [] = false
+closes id (step ∷ rest) = closes_by id step.event || closes id rest
+
+abbrev pub starves_by : SessionId → Event → Outcome → Bool
+starves_by id (Feed other piece) (Refused OutOfMemory) = is_same_id other id
+starves_by id _ _ = false
+
+-- a `Feed` of a session is refused for memory in the steps
+abbrev pub starves : SessionId → List Step → Bool
+starves id [] = false
+starves id (step ∷ rest) = starves_by id step.event step.outcome || starves id rest
+
+-- ---- one connection
+
+-- bytes of any connection leave at the front and are written at the end, and its flags only rise
+pub record Moves (old new : Told) (number : ℕ) : Type 0 where
+  pub gave : List ℕ
+  pub unread : Consumes (old.unread number) (new.unread number) gave
+  pub took : List ℕ
+  pub written : Appends (old.written number) (new.written number) took
+  pub shut : OnlyRises (old.is_shut number) (new.is_shut number)
+  pub failed : OnlyRises (old.has_failed number) (new.has_failed number)
+
+abbrev pub AllMove : Told → Told → Type 0
+AllMove old new = (number : ℕ) → Moves old new number
+
+-- a connection gave these bytes, and nothing else changed, but that a call of it may have failed
+pub record GaveBytes (old new : Told) (number : ℕ) (bytes : List ℕ) : Type 0 where
+  pub consumed : Consumes (old.unread number) (new.unread number) bytes
+  pub written : Keeps (old.written number) (new.written number)
+  pub shut : Stays (old.is_shut number) (new.is_shut number)
+  pub failed : OnlyRises (old.has_failed number) (new.has_failed number)
+  pub others : KeepsOthers old new number
+
+-- the host no longer has the session; or it is over, or the reads have ended, and nothing is pending or queued
+abbrev pub is_finished_with : Bool → Option Talk → Bool
+is_finished_with has_ended None = true
+is_finished_with has_ended (Some t) = (has_ended || t.state.is_over) && (length t.queued == 0) && not (is_pending t)
+
+-- at some moment of the steps a connection was finished with; these are the connections whose reads may have ended
+pub record Finished (marks : List Connection) (before : HostState) (steps : List Step) (link : Link) : Type 0 where
+  pub earlier : List Step
+  pub later : List Step
+  pub steps_are : steps ≡ earlier ++ later
+  pub moment : HostState
+  pub run : IsRun before earlier moment
+  pub has_ended : Bool
+  pub marked : has_ended ≡ true → IsMarked reads_ended marks link.number
+  pub finished : is_finished_with has_ended (find moment.slots link.id) ≡ true
+
+-- why a connection is shut: a read or a write of it failed, a `Feed` of its session was refused for memory, or it was finished with
+abbrev pub Cause : List Connection → Told → HostState → List Step → Told → Link → Type 0
+Cause marks old before steps new link =
+    IsRaised (old.has_failed link.number) (new.has_failed link.number) ⊎ ((starves link.id steps ≡ true) ⊎ Finished marks before steps link)
+
+-- a connection is not shut, and its session is not closed
+pub record IsSpared (old : Told) (steps : List Step) (new : Told) (link : Link) : Type 0 where
+  pub shut : Stays (old.is_shut link.number) (new.is_shut link.number)
+  pub closed : closes link.id steps ≡ false
+
+-- a connection is shut and its session is closed, for a cause of its own
+pub record IsShutDown (marks : List Connection) (bound : ℕ) (old : Told) (before : HostState) (steps : List Step) (new : Told) (link : Link) : Type 0 where
+  pub shut : link.number < bound → IsRaised (old.is_shut link.number) (new.is_shut link.number)
+  pub closed : closes link.id steps ≡ true
+  pub cause : Cause marks old before steps new link
+
+-- a connection gave the bytes that were stored for its session and took those that were taken from it; it lost bytes only where its session is gone; it is shut only for a cause of its own
+pub record Carried (marks : List Connection) (bound : ℕ) (old : Told) (before : HostState) (steps : List Step) (new : Told) (after : HostState) (link : Link) : Type 0 where
+  pub lost : List ℕ
+  pub consumed : Consumes (old.unread link.number) (new.unread link.number) (own link.id steps ++ lost)
+  pub appended : Appends (old.written link.number) (new.written link.number) (taken link.id steps)
+  pub whole : (lost ≡ []) ⊎ IsGone after link.id
+  pub ends : IsSpared old steps new link ⊎ IsShutDown marks bound old before steps new link
+
+-- ---- many connections
+
+-- these steps of the host, with these connections, and with no other
+pub record Carries (marks : List Connection) (bound : ℕ) (links : List Link) (old : Told) (before : HostState) (steps : List Step) (new : Told) (after : HostState) : Type 0 where
+  pub chain : IsRun before steps after
+  pub carried : (link : Link) → IsTied links link → Carried marks bound old before steps new after link
+  pub others : (number : ℕ) → IsApart links number → KeepsPeer old new number
+  pub all : AllMove old new
+
+-- some steps of this kind, with these connections
+pub record Serves (kind : Event → Type 0) (marks : List Connection) (bound : ℕ) (links : List Link) (old : Told) (before : HostState) (new : Told) (after : HostState) : Type 0 where
+  pub steps : List Step
+  pub kinds : AreAll kind steps
+  pub carries : Carries marks bound links old before steps new after
+
+-- ---- marks
+
+-- a connection that is told of has nothing left to be read
+abbrev pub IsEmptied : Option (List ℕ) → Option (List ℕ) → Type 0
+IsEmptied None new = ⊤
+IsEmptied (Some bytes) new = new ≡ Some []
+
+-- where the reads of a connection have ended, they had ended before, or nothing is left; where it was shut, it was shut before, or the wire tells so
+pub record KeepsMarks (bound : ℕ) (old : Told) (held : List Connection) (new : Told) (now : List Connection) (number : ℕ) : Type 0 where
+  pub ended : IsMarked reads_ended now number → IsMarked reads_ended held number ⊎ IsEmptied (old.unread number) (new.unread number)
+  pub shut : IsMarked was_shut now number → IsMarked was_shut held number ⊎ (number < bound → IsRaised (old.is_shut number) (new.is_shut number))
+
+abbrev pub KeepsAllMarks : ℕ → Told → List Connection → Told → List Connection → Type 0
+KeepsAllMarks bound old held new now = (number : ℕ) → KeepsMarks bound old held new now number
+
+-- no further connection is marked
+pub record AddsNoMark (held now : List Connection) (number : ℕ) : Type 0 where
+  pub ended : IsMarked reads_ended now number → IsMarked reads_ended held number
+  pub shut : IsMarked was_shut now number → IsMarked was_shut held number

@@ -1,0 +1,253 @@
+-- A turn of a loop (own choice).
+use Rattle.std.specs.Prelude.{◌≡◌, ◌<◌, ◌≤◌, ◌⊎◌, ⊤, ℕ, List, [], ◌∷◌, ◌++◌, codes, map, true, IsSome, Option, None, Some, Bool, false, ◌||◌, not, filter, length, Result, Ok, Err}
+use Rattle.std.specs.Io.KnownBytes.{Keeps, Appends, Consumes}
+use Rattle.session_slots.specs.declared.id.SessionId.{SessionId}
+use Rattle.session_slots.specs.Slots.{find}
+use Rattle.usi_session.specs.Due.{Talk, due}
+use Rattle.usi_session.specs.Replies.{replies}
+use Rattle.host_core.specs.declared.event.HostFault.{HostFault}
+use Rattle.host_core.specs.declared.event.HostFault.TheVariants.{Full}
+use Rattle.host_core.specs.Steps.{HostState}
+use Rattle.host_core.specs.ById.{pending_of}
+use Rattle.host_core.specs.Events.{Event, Outcome, Opened, Done, Worked, Gave, Refused, Open, Feed, Work, Take, Close}
+use Rattle.host_core.specs.Made.{Step, own, taken, is_opened}
+use Rattle.host_core.specs.Runs.{IsStep, IsRun}
+use Rattle.host_core.specs.Rounds.{IsRound, works, pending_ids}
+use Rattle.host_core.specs.Headline.{EndsFrom, IsFrontOf}
+use Rattle.socket_loop.specs.declared.connection.Link.{Link}
+use Rattle.socket_loop.specs.declared.connection.Connection.{Connection}
+use Rattle.socket_loop.specs.Told.{Told, KeepsPeer, KeepsOthers, KeepsAll, IsRaised, OnlyRises}
+use Rattle.socket_loop.specs.Links.{IsTied, IsAmong, IsApart, IsMarked, links_of, reads_ended, was_shut}
+use Rattle.socket_loop.specs.Parts.{AllMove, AreAll, IsAdmission, IsInput, IsOutput, IsEnd, Carried, IsEmptied, closes}
+
+-- the budget of each round, and the connections
+pub record LoopState : Type 0 where
+  pub slice : ℕ
+  pub held : List Connection
+
+-- ---- the condition of a turn
+
+-- a number that was given by the wire, and an id that was opened by the host; each number has one id
+pub record FitsOne (links : List Link) (bound : ℕ) (host : HostState) (link : Link) : Type 0 where
+  pub tied : IsTied links link
+  pub number : link.number < bound
+  pub opened : link.id.generation < host.slots.next
+
+abbrev pub Fits : List Link → ℕ → HostState → Type 0
+Fits links bound host = (link : Link) → IsAmong links link → FitsOne links bound host link
+
+-- ---- new connections
+
+-- a connection that was accepted, and how the host answered its `Open`
+pub record Accepted : Type 0 where
+  pub number : ℕ
+  pub outcome : Outcome
+
+abbrev pub IsOneOf : List Accepted → Accepted → Type 0
+IsOneOf [] new = ⊥
+IsOneOf (first ∷ rest) new = (new ≡ first) ⊎ IsOneOf rest new
+
+abbrev pub openings_by : Event → Outcome → List Outcome
+openings_by Open outcome = outcome ∷ []
+openings_by (Feed id piece) outcome = []
+openings_by (Work id budget) outcome = []
+openings_by (Take id n) outcome = []
+openings_by (Close id) outcome = []
+
+-- how each `Open` of the steps was answered
+abbrev pub openings : List Step → List Outcome
+openings [] = []
+openings (step ∷ rest) = openings_by step.event step.outcome ++ openings rest
+
+-- `info string host full` and LF
+abbrev pub host_full : List ℕ
+host_full = codes "info string host full\n"
+
+-- what a connection is told that got no session: that the host is full, where it is, and nothing for want of memory
+abbrev pub told_to : Outcome → List ℕ
+told_to (Refused Full) = host_full
+told_to _ = []
+
+-- a connection was written a front of a text, and shut
+pub record IsAway (bound : ℕ) (text : List ℕ) (old new : Told) (number : ℕ) : Type 0 where
+  pub unread : Keeps (old.unread number) (new.unread number)
+  pub bytes : List ℕ
+  pub front : IsFrontOf bytes text
+  pub appended : Appends (old.written number) (new.written number) bytes
+  pub shut : number < bound → IsRaised (old.is_shut number) (new.is_shut number)
+  pub only_rises : OnlyRises (old.is_shut number) (new.is_shut number)
+  pub failed : OnlyRises (old.has_failed number) (new.has_failed number)
+  pub others : KeepsOthers old new number
+
+-- a new connection was turned away: it was written a front of what it is told, and shut
+pub record IsTurnedAway (from to : ℕ) (accepted : List Accepted) (old new : Told) (number : ℕ) : Type 0 where
+  pub least : from ≤ number
+  pub most : number < to
+  pub outcome : Outcome
+  pub answered : IsOneOf accepted (record { number = number; outcome = outcome })
+  pub unread : Keeps (old.unread number) (new.unread number)
+  pub bytes : List ℕ
+  pub front : IsFrontOf bytes (told_to outcome)
+  pub appended : Appends (old.written number) (new.written number) bytes
+  pub shut : IsRaised (old.is_shut number) (new.is_shut number)
+  pub failed : OnlyRises (old.has_failed number) (new.has_failed number)
+
+-- a new connection has a session, of this generation or a later one
+pub record IsNew (from to : ℕ) (accepted : List Accepted) (next : ℕ) (old new : Told) (steps : List Step) (link : Link) : Type 0 where
+  pub least : from ≤ link.number
+  pub most : link.number < to
+  pub answered : IsOneOf accepted (record { number = link.number; outcome = Opened link.id })
+  pub opened : is_opened link.id steps ≡ true
+  pub fresh : next ≤ link.id.generation
+  pub kept : KeepsPeer old new link.number
+
+-- new connections were accepted: each number keeps what is told of it, or was turned away
+pub record Accepts (links : List Link) (from : ℕ) (old : Told) (before : HostState) (met : List Link) (to : ℕ) (new : Told) (after : HostState) : Type 0 where
+  pub steps : List Step
+  pub kinds : AreAll IsAdmission steps
+  pub chain : IsRun before steps after
+  pub no_own : (id : SessionId) → own id steps ≡ []
+  pub no_taken : (id : SessionId) → taken id steps ≡ []
+  pub rises : from ≤ to
+  pub accepted : List Accepted
+  pub answers : openings steps ≡ map (λ new. new.outcome) accepted
+  pub kept : (number : ℕ) → number < from → KeepsPeer old new number
+  pub each : (number : ℕ) → KeepsPeer old new number ⊎ IsTurnedAway from to accepted old new number
+  pub all : AllMove old new
+  pub closed_below : (id : SessionId) → closes id steps ≡ true → id.generation < after.slots.next
+  pub spared : Fits links from before → (link : Link) → IsAmong met link → closes link.id steps ≡ false
+  pub stay : (link : Link) → IsAmong links link → IsAmong met link
+  pub are : (link : Link) → IsAmong met link → IsAmong links link ⊎ IsNew from to accepted before.slots.next old new steps link
+  pub fits : Fits links from before → Fits met to after
+
+-- a session was opened, or not
+abbrev pub opening_of : Result SessionId HostFault → Outcome
+opening_of (Ok id) = Opened id
+opening_of (Err fault) = Refused fault
+
+abbrev pub IsOpening : HostState → Result SessionId HostFault → HostState → Type 0
+IsOpening old result new = IsStep old (record { event = Open; outcome = opening_of result }) new
+
+-- of a new connection, from any state of the wire that told the same
+abbrev pub Admits : List Link → Told → HostState → ℕ → ℕ → List Link → Told → HostState → Type 0
+Admits links told before number to met new after =
+    (from : ℕ) (old : Told) → KeepsAll old told → from ≤ number → number < to → Accepts links from old before met to new after
+
+-- ---- a turn
+
+-- accept, read, work, write and shut, in this order, and with one round
+pub record IsTurn (slice : ℕ) (held : List Connection) (from : ℕ) (old : Told) (before : HostState) (now : List Connection) (to : ℕ) (new : Told) (after : HostState) : Type 0 where
+  pub met : List Link
+  pub admissions : List Step
+  pub inputs : List Step
+  pub outputs : List Step
+  pub ends : List Step
+  pub admissions_are : AreAll IsAdmission admissions
+  pub inputs_are : AreAll IsInput inputs
+  pub outputs_are : AreAll IsOutput outputs
+  pub ends_are : AreAll IsEnd ends
+  pub start : HostState
+  pub end : HostState
+  pub worked : ℕ
+  pub refused : ℕ
+  pub to_round : IsRun before (admissions ++ inputs) start
+  pub round : IsRound start slice (pending_ids start) worked refused end
+  pub from_round : IsRun end (outputs ++ ends) after
+  pub steps : List Step
+  pub steps_are : steps ≡ (admissions ++ inputs) ++ (works slice (pending_ids start) round.outcomes ++ (outputs ++ ends))
+  pub chain : IsRun before steps after
+  pub accepted : List Accepted
+  pub answers : openings admissions ≡ map (λ item. item.outcome) accepted
+  pub marks : List Connection
+  pub marked : (number : ℕ) → IsMarked reads_ended marks number → IsMarked reads_ended held number ⊎ IsEmptied (old.unread number) (new.unread number)
+  pub stay : (link : Link) → IsAmong (links_of held) link → IsAmong met link
+  pub are : (link : Link) → IsAmong met link → IsAmong (links_of held) link ⊎ (is_opened link.id steps ≡ true)
+  pub left : (link : Link) → IsAmong (links_of now) link → IsAmong met link
+  pub gone : (link : Link) → IsAmong met link → IsAmong (links_of now) link ⊎ (IsMarked was_shut held link.number ⊎ (link.number < to → IsRaised (old.is_shut link.number) (new.is_shut link.number)))
+  pub carried : (link : Link) → IsAmong met link → Carried marks to old before steps new after link
+  pub others : (number : ℕ) → IsApart met number → KeepsPeer old new number ⊎ IsTurnedAway from to accepted old new number
+  pub all : AllMove old new
+
+-- what was read from a connection, and written to it: all that its session owes to what was read, but for what it owes still; or, where it is closed, a front of it
+pub record Served (owes : List ℕ → List ℕ) (old new : Told) (number : ℕ) (now : Option Talk) : Type 0 where
+  pub read : List ℕ
+  pub lost : List ℕ
+  pub written : List ℕ
+  pub consumed : Consumes (old.unread number) (new.unread number) (read ++ lost)
+  pub appended : Appends (old.written number) (new.written number) written
+  pub ends : EndsFrom owes read written now
+  pub whole : IsSome now → lost ≡ []
+
+-- each connection that was held before, with its session open
+abbrev pub GoesOnServing : List Link → Told → HostState → Told → HostState → Type 0
+GoesOnServing links old before new after = (link : Link) (s : Talk) → IsAmong links link → find before.slots link.id ≡ Some s → Served (due s) old new link.number (find after.slots link.id)
+
+-- each connection that is held after, and was not before
+abbrev pub ServesNew : List Link → Told → List Link → Told → HostState → Type 0
+ServesNew links old now new after = (link : Link) → IsAmong now link → IsAmong links link ⊎ Served replies old new link.number (find after.slots link.id)
+
+-- where nothing moved, all that is told stays, and the connections are as they were
+abbrev pub IsQuiet : {X : Type 0} → Bool → Told → X → Told → X → Type 0
+IsQuiet moved old held new now = moved ≡ false → KeepsAll old new × (now ≡ held)
+
+-- ---- what moves
+
+-- a connection that is told of gave at least one byte
+abbrev pub IsShorter : Option (List ℕ) → Option (List ℕ) → Type 0
+IsShorter None new = ⊤
+IsShorter (Some bytes) None = ⊥
+IsShorter (Some bytes) (Some left) = length left < length bytes
+
+-- a connection that is told of took at least one byte
+abbrev pub IsLonger : Option (List ℕ) → Option (List ℕ) → Type 0
+IsLonger None new = ⊤
+IsLonger (Some bytes) None = ⊥
+IsLonger (Some bytes) (Some more) = length bytes < length more
+
+abbrev pub Transfers : Told → Told → ℕ → Type 0
+Transfers old new number = IsShorter (old.unread number) (new.unread number) ⊎ IsLonger (old.written number) (new.written number)
+
+-- the marks of a connection stay once they are made
+pub record KeepsMade (old new : Connection) : Type 0 where
+  pub ended : old.has_ended ≡ true → new.has_ended ≡ true
+  pub shut : old.is_shut ≡ true → new.is_shut ≡ true
+
+-- the reads of a connection ended, or it was shut
+abbrev pub EndsOrShuts : Connection → Connection → Type 0
+EndsOrShuts old new = ((old.has_ended ≡ false) × (new.has_ended ≡ true)) ⊎ ((old.is_shut ≡ false) × (new.is_shut ≡ true))
+
+abbrev pub AllKeepMade : List Connection → List Connection → Type 0
+AllKeepMade [] [] = ⊤
+AllKeepMade [] (y ∷ ys) = ⊥
+AllKeepMade (x ∷ xs) [] = ⊥
+AllKeepMade (x ∷ xs) (y ∷ ys) = KeepsMade x y × AllKeepMade xs ys
+
+-- place by place, the reads of one of them ended, or it was shut
+abbrev pub OneEndsOrShuts : List Connection → List Connection → Type 0
+OneEndsOrShuts [] ys = ⊥
+OneEndsOrShuts (x ∷ xs) [] = ⊥
+OneEndsOrShuts (x ∷ xs) (y ∷ ys) = EndsOrShuts x y ⊎ OneEndsOrShuts xs ys
+
+-- a connection gave or took at least one byte, or ended, or was shut
+abbrev pub Stirs : Told → List Connection → Told → List Connection → Type 0
+Stirs old held new now = ((number : ℕ) × Transfers old new number) ⊎ OneEndsOrShuts held now
+
+-- the same, where those that were shut are held no more
+pub record StirsHeld (old : Told) (held : List Connection) (new : Told) (now : List Connection) : Type 0 where
+  pub last : List Connection
+  pub links : links_of last ≡ links_of held
+  pub left : now ≡ filter (λ connection. not connection.is_shut) last
+  pub stirs : Stirs old held new last
+
+-- a session of one of these is pending
+abbrev pub any_pending : HostState → List Link → Bool
+any_pending host [] = false
+any_pending host (link ∷ rest) = pending_of (find host.slots link.id) || any_pending host rest
+
+-- the wire still knows each connection that it knew
+abbrev pub StaysKnown : Told → Told → Type 0
+StaysKnown old new = (number : ℕ) → IsSome (old.written number) → IsSome (new.written number)
+
+-- a connection was accepted, gave or took at least one byte, ended or was shut, or the session of one that is held is pending
+abbrev pub HasMoved : ℕ → Told → List Connection → ℕ → Told → List Connection → HostState → Type 0
+HasMoved from old held to new now host = (from < to) ⊎ (StirsHeld old held new now ⊎ (any_pending host (links_of now) ≡ true))

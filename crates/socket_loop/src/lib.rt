@@ -1,0 +1,13 @@
+//! A loop that serves the sessions of a host to connections.
+#![tactic(auto)]
+
+mod connection;
+mod memory;
+mod turn;
+mod visit;
+mod wire;
+
+pub use connection::{Connection, Link};
+pub use memory::{MemoryWire, Peer};
+pub use turn::{Loop, Turn};
+pub use wire::{Got, Wire, WireFault};

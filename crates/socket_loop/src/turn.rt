@@ -1,0 +1,268 @@
+//! A loop that serves the sessions of a host to the connections of a wire.
+
+ghost use Rattle.std.specs.Prelude.{true, false, Ok, ◌≡◌, ◌≤◌, ◌<◌, ℕ, List, [], length, not, filter};
+ghost use Rattle.host_core.specs.Steps.{HostState};
+ghost use Rattle.socket_loop.specs.Links.{links_of};
+ghost use Rattle.socket_loop.specs.Parts.{Serves, IsInput, IsOutput, IsEnd, KeepsAllMarks, AddsNoMark};
+ghost use Rattle.socket_loop.specs.Turns.{any_pending, host_full, Accepts, Admits, AllKeepMade, Fits, GoesOnServing, HasMoved, IsAway, IsOpening, IsQuiet, IsTurn, ServesNew, StaysKnown, Stirs};
+ghost use Rattle.socket_loop.specs.declared.connection.Connection.{Connection};
+
+use crate::connection::{Connection, Link};
+use crate::visit::{close_if_finished, read_from, shut_down, write_to};
+use crate::wire::Wire;
+use host_core::{Event, Host, HostFault, Outcome};
+use session_slots::SessionId;
+use std::alloc::Allocator;
+use std::hash::BuildHasher;
+use std::marker::Model;
+
+/// What a turn did.
+#[derive(Clone, Copy, Debug, PartialEq, Eq)]
+pub struct Turn {
+    /// A connection was accepted, gave or took at least one byte, ended or was shut, or the session of
+    /// a connection is still pending.
+    pub moved: bool,
+}
+
+/// The connections that are served, by rising slot of their sessions, and the budget of each round.
+#[derive(Drop)]
+pub struct Loop<A: Allocator + Copy> {
+    slice: u64,
+    held: Vec<Connection, A>,
+}
+
+impl<A: Allocator + Copy> Model for Loop<A> {
+    ghost use Rattle.socket_loop.specs.Turns.{LoopState};
+
+    ghost Value = { LoopState };
+
+    ghost view = { λ l. record { slice = l.slice; held = l.held.items } };
+}
+
+/// The place for a connection whose session has this slot.
+fn place_of(held: &[Connection], slot: usize) -> usize
+    ensures { result ≤ length held.now }
+{
+    for place in 0..held.len() {
+        if held[place].link.id.slot > slot {
+            return place;
+        }
+    }
+    held.len()
+}
+
+/// Opens a session.
+fn open_in<S: BuildHasher, A: Allocator + Copy>(
+    host: &mut Host<S, A>,
+) -> Result<SessionId, HostFault>
+    ensures { IsOpening host.old result host.new }
+{
+    match host.step(Event::Open) {
+        Outcome::Opened(id) => Ok(id),
+        Outcome::Refused(fault) => Err(fault),
+        _ => Err(HostFault::OutOfMemory),
+    }
+}
+
+/// Drops the connections that were shut.
+fn drop_shut<A: Allocator>(held: &mut Vec<Connection, A>)
+    ensures { held.new.items ≡ filter (λ c. not c.is_shut) held.old.items }
+{
+    held.retain(|connection| !connection.is_shut);
+}
+
+/// Tells a connection that the host is full, in one write, and shuts it.
+fn turn_away<W: Wire>(wire: &mut W, number: u64)
+    ensures away { IsAway (W.bound wire.old) host_full (W.told wire.old) (W.told wire.new) number }
+    ensures bound { W.bound wire.new ≡ W.bound wire.old }
+{
+    let _written = wire.write(number, b"info string host full\n");
+    wire.shut(number);
+}
+
+impl<A: Allocator + Copy> Loop<A> {
+    /// No connection yet. Each round has this budget, which is at least 1.
+    pub fn new(alloc: A, slice: u64) -> Loop<A>
+        requires { 1 ≤ slice }
+        ensures { result ≡ record { slice = slice; held = [] } }
+    {
+        Loop {
+            slice,
+            held: Vec::new(alloc),
+        }
+    }
+
+    /// Holds a new connection with its session; where memory is refused, both end.
+    fn hold<W: Wire, S: BuildHasher>(&mut self, host: &mut Host<S, A>, wire: &mut W, link: Link)
+        ensures admits { (before : HostState) → IsOpening before (Ok link.id) host.old → Admits (links_of self.old.held) (W.told wire.old) before link.number (W.bound wire.old) (links_of self.new.held) (W.told wire.new) host.new }
+        ensures marks { (number : ℕ) → AddsNoMark self.old.held self.new.held number }
+        ensures bound { W.bound wire.new ≡ W.bound wire.old }
+        ensures slice { self.new.slice ≡ self.old.slice }
+    {
+        let mut connection = Connection {
+            link,
+            has_ended: false,
+            is_shut: false,
+        };
+        let place = place_of(&self.held, link.id.slot);
+        if self.held.insert(place, connection).is_ok() {
+            return;
+        }
+        shut_down(&mut connection, host, wire);
+    }
+
+    /// Opens a session for a new connection. Where the host is full it is told so and shut; where there
+    /// is no memory for a session it is shut without a word.
+    fn admit<W: Wire, S: BuildHasher>(&mut self, host: &mut Host<S, A>, wire: &mut W, number: u64)
+        ensures admits { Admits (links_of self.old.held) (W.told wire.old) host.old number (W.bound wire.old) (links_of self.new.held) (W.told wire.new) host.new }
+        ensures marks { (number : ℕ) → AddsNoMark self.old.held self.new.held number }
+        ensures bound { W.bound wire.new ≡ W.bound wire.old }
+        ensures slice { self.new.slice ≡ self.old.slice }
+    {
+        match open_in(host) {
+            Ok(id) => self.hold(host, wire, Link { number, id }),
+            Err(HostFault::Full) => turn_away(wire, number),
+            Err(_) => wire.shut(number),
+        }
+    }
+
+    /// Accepts new connections, at most 16. True where one was accepted.
+    fn accept_all<W: Wire, S: BuildHasher>(&mut self, host: &mut Host<S, A>, wire: &mut W) -> bool
+        ensures quiet { IsQuiet result (W.told wire.old) self.old.held (W.told wire.new) self.new.held }
+        ensures accepts { Accepts (links_of self.old.held) (W.bound wire.old) (W.told wire.old) host.old (links_of self.new.held) (W.bound wire.new) (W.told wire.new) host.new }
+        ensures marks { (number : ℕ) → AddsNoMark self.old.held self.new.held number }
+        ensures accepted { result ≡ true → W.bound wire.old < W.bound wire.new }
+        ensures slice { self.new.slice ≡ self.old.slice }
+    {
+        let mut moved = false;
+        for _ in 0..16 {
+            let Ok(Some(number)) = wire.accept() else {
+                return moved;
+            };
+            self.admit(host, wire, number);
+            moved = true;
+        }
+        moved
+    }
+
+    /// One read for each connection whose session wants input. True where something moved.
+    fn read_all<W: Wire, S: BuildHasher>(&mut self, host: &mut Host<S, A>, wire: &mut W) -> bool
+        ensures quiet { IsQuiet result (W.told wire.old) self.old.held (W.told wire.new) self.new.held }
+        ensures serves { (marks : List Connection) → Serves IsInput marks (W.bound wire.old) (links_of self.old.held) (W.told wire.old) host.old (W.told wire.new) host.new }
+        ensures marks { KeepsAllMarks (W.bound wire.old) (W.told wire.old) self.old.held (W.told wire.new) self.new.held }
+        ensures stirs { result ≡ true → Stirs (W.told wire.old) self.old.held (W.told wire.new) self.new.held }
+        ensures made { AllKeepMade self.old.held self.new.held }
+        ensures links { links_of self.new.held ≡ links_of self.old.held }
+        ensures bound { W.bound wire.new ≡ W.bound wire.old }
+        ensures slice { self.new.slice ≡ self.old.slice }
+    {
+        let mut moved = false;
+        for connection in self.held.iter_mut() {
+            let has_moved = read_from(connection, host, wire);
+            moved = moved | has_moved;
+        }
+        moved
+    }
+
+    /// One write for each connection with queued bytes. True where something moved.
+    fn write_all<W: Wire, S: BuildHasher>(&mut self, host: &mut Host<S, A>, wire: &mut W) -> bool
+        ensures quiet { IsQuiet result (W.told wire.old) self.old.held (W.told wire.new) self.new.held }
+        ensures serves { (marks : List Connection) → Serves IsOutput marks (W.bound wire.old) (links_of self.old.held) (W.told wire.old) host.old (W.told wire.new) host.new }
+        ensures marks { KeepsAllMarks (W.bound wire.old) (W.told wire.old) self.old.held (W.told wire.new) self.new.held }
+        ensures stirs { result ≡ true → Stirs (W.told wire.old) self.old.held (W.told wire.new) self.new.held }
+        ensures made { AllKeepMade self.old.held self.new.held }
+        ensures links { links_of self.new.held ≡ links_of self.old.held }
+        ensures bound { W.bound wire.new ≡ W.bound wire.old }
+        ensures slice { self.new.slice ≡ self.old.slice }
+    {
+        let mut moved = false;
+        for connection in self.held.iter_mut() {
+            let has_moved = write_to(connection, host, wire);
+            moved = moved | has_moved;
+        }
+        moved
+    }
+
+    /// Shuts each connection that is finished with. True where one was shut.
+    fn close_all<W: Wire, S: BuildHasher>(&mut self, host: &mut Host<S, A>, wire: &mut W) -> bool
+        ensures quiet { IsQuiet result (W.told wire.old) self.old.held (W.told wire.new) self.new.held }
+        ensures serves { Serves IsEnd self.old.held (W.bound wire.old) (links_of self.old.held) (W.told wire.old) host.old (W.told wire.new) host.new }
+        ensures marks { KeepsAllMarks (W.bound wire.old) (W.told wire.old) self.old.held (W.told wire.new) self.new.held }
+        ensures stirs { result ≡ true → Stirs (W.told wire.old) self.old.held (W.told wire.new) self.new.held }
+        ensures made { AllKeepMade self.old.held self.new.held }
+        ensures links { links_of self.new.held ≡ links_of self.old.held }
+        ensures bound { W.bound wire.new ≡ W.bound wire.old }
+        ensures slice { self.new.slice ≡ self.old.slice }
+    {
+        let mut moved = false;
+        for connection in self.held.iter_mut() {
+            let has_moved = close_if_finished(connection, host, wire);
+            moved = moved | has_moved;
+        }
+        moved
+    }
+
+    /// Lets the connections go that were shut.
+    fn let_go(&mut self)
+        ensures held { self.new.held ≡ filter (λ c. not c.is_shut) self.old.held }
+        ensures slice { self.new.slice ≡ self.old.slice }
+    {
+        drop_shut(&mut self.held);
+    }
+
+    /// Whether the session of a connection is pending.
+    fn is_pending<S: BuildHasher>(&self, host: &Host<S, A>) -> bool
+        ensures { result ≡ any_pending host.now (links_of self.now.held) }
+    {
+        let mut is_pending = false;
+        for connection in self.held.as_slice() {
+            is_pending = is_pending | host.pending(connection.link.id);
+        }
+        is_pending
+    }
+
+    /// The five parts of a turn.
+    fn take_turn<W: Wire, S: BuildHasher>(&mut self, host: &mut Host<S, A>, wire: &mut W) -> Turn
+        requires fits { Fits (links_of self.old.held) (W.bound wire.old) host.old }
+        ensures moved { result.moved ≡ true → HasMoved (W.bound wire.old) (W.told wire.old) self.old.held (W.bound wire.new) (W.told wire.new) self.new.held host.new }
+        ensures pending { result.moved ≡ false → any_pending host.new (links_of self.new.held) ≡ false }
+        ensures quiet { IsQuiet result.moved (W.told wire.old) (filter (λ c. not c.is_shut) self.old.held) (W.told wire.new) self.new.held }
+        ensures turned { IsTurn self.old.slice self.old.held (W.bound wire.old) (W.told wire.old) host.old self.new.held (W.bound wire.new) (W.told wire.new) host.new }
+        ensures fits { Fits (links_of self.new.held) (W.bound wire.new) host.new }
+        ensures slice { self.new.slice ≡ self.old.slice }
+    {
+        let has_accepted = self.accept_all(host, wire);
+        let has_read = self.read_all(host, wire);
+        let _round = host.round(self.slice);
+        let has_written = self.write_all(host, wire);
+        let has_shut = self.close_all(host, wire);
+        self.let_go();
+        let is_pending = self.is_pending(host);
+        Turn {
+            moved: has_accepted | has_read | has_written | has_shut | is_pending,
+        }
+    }
+
+    /// Accepts, reads, works, writes and shuts, in this order. Each connection is accepted from this
+    /// wire and each session opened in this host, from the first turn on.
+    ///
+    /// Over a wire that tells its bytes: what was written to a connection in the turn is what its
+    /// session owes to what was read from it, but for what the session owes still; where the
+    /// connection was shut it is a front of that, and where the host was full a front of
+    /// `info string host full`. A connection is shut only for a cause of its own: a read or a write of
+    /// it failed, a feed of its session was refused for memory, or it was finished with.
+    pub fn turn<W: Wire, S: BuildHasher>(&mut self, host: &mut Host<S, A>, wire: &mut W) -> Turn
+        requires fits { Fits (links_of self.old.held) (W.bound wire.old) host.old }
+        ensures moved { result.moved ≡ true → HasMoved (W.bound wire.old) (W.told wire.old) self.old.held (W.bound wire.new) (W.told wire.new) self.new.held host.new }
+        ensures pending { result.moved ≡ false → any_pending host.new (links_of self.new.held) ≡ false }
+        ensures quiet { IsQuiet result.moved (W.told wire.old) (filter (λ c. not c.is_shut) self.old.held) (W.told wire.new) self.new.held }
+        ensures turned { IsTurn self.old.slice self.old.held (W.bound wire.old) (W.told wire.old) host.old self.new.held (W.bound wire.new) (W.told wire.new) host.new }
+        ensures goes_on { GoesOnServing (links_of self.old.held) (W.told wire.old) host.old (W.told wire.new) host.new }
+        ensures starts { ServesNew (links_of self.old.held) (W.told wire.old) (links_of self.new.held) (W.told wire.new) host.new }
+        ensures known { StaysKnown (W.told wire.old) (W.told wire.new) }
+        ensures fits { Fits (links_of self.new.held) (W.bound wire.new) host.new }
+        ensures slice { self.new.slice ≡ self.old.slice }
+    {
+        self.take_turn(host, wire)
+    }
+}

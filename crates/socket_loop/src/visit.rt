@@ -1,0 +1,193 @@
+//! What a turn does with one connection.
+
+ghost use Rattle.std.specs.Prelude.{◌≡◌, ◌<◌, ◌≤◌, ◌⊎◌, [], ◌∷◌, List, length, true, false, not, ◌&&◌};
+ghost use Rattle.std.specs.Io.KnownBytes.{Keeps};
+ghost use Rattle.host_core.specs.ById.{wants_input_of};
+ghost use Rattle.host_core.specs.Seen.{outcome_of};
+ghost use Rattle.session_slots.specs.Slots.{find};
+ghost use Rattle.socket_loop.specs.Links.{IsMarked, reads_ended};
+ghost use Rattle.socket_loop.specs.Parts.{Serves, GaveBytes, IsClosing, IsEmptied, IsEnd, IsGone, IsInput, IsOutput, is_done, is_finished_with};
+ghost use Rattle.socket_loop.specs.Told.{IsRaised, Shuts, Told};
+ghost use Rattle.socket_loop.specs.Turns.{EndsOrShuts, IsQuiet, KeepsMade, Transfers};
+ghost use Rattle.socket_loop.specs.declared.connection.Connection.{Connection};
+
+use crate::connection::Connection;
+use crate::wire::{Got, Wire};
+use host_core::{Event, Host, Outcome};
+use std::alloc::Allocator;
+use std::hash::BuildHasher;
+
+/// Shuts a connection and closes its session.
+pub fn shut_down<W: Wire, S: BuildHasher, A: Allocator + Copy>(
+    connection: &mut Connection,
+    host: &mut Host<S, A>,
+    wire: &mut W,
+)
+    ensures shuts { Shuts (W.bound wire.old) (W.told wire.old) (W.told wire.new) connection.old.link.number }
+    ensures closed { IsClosing host.old connection.old.link.id host.new }
+    ensures gone { connection.old.link.id.generation < host.old.slots.next → IsGone host.new connection.old.link.id }
+    ensures link { connection.new.link ≡ connection.old.link }
+    ensures ended { connection.new.has_ended ≡ connection.old.has_ended }
+    ensures shut { connection.new.is_shut ≡ true }
+    ensures bound { W.bound wire.new ≡ W.bound wire.old }
+    ensures next { host.old.slots.next ≤ host.new.slots.next }
+{
+    let link = connection.link;
+    wire.shut(link.number);
+    let _outcome = host.step(Event::Close(link.id));
+    connection.is_shut = true;
+}
+
+/// Whether an event was done.
+fn was_done<A: Allocator>(outcome: &Outcome<A>) -> bool
+    ensures { result ≡ is_done (outcome_of outcome.now) }
+{
+    matches!(outcome, Outcome::Done)
+}
+
+/// Feeds a session what its connection gave; where memory is refused, both end.
+fn feed_from<W: Wire, S: BuildHasher, A: Allocator + Copy>(
+    connection: &mut Connection,
+    host: &mut Host<S, A>,
+    wire: &mut W,
+    piece: &[u8],
+)
+    requires wants { wants_input_of (find host.old.slots connection.old.link.id) ≡ true }
+    requires few { length piece.now ≤ 4096 }
+    ensures serves { (marks : List Connection) (before : Told) → GaveBytes before (W.told wire.old) connection.old.link.number piece.now → Serves IsInput marks (W.bound wire.old) (connection.old.link ∷ []) before host.old (W.told wire.new) host.new }
+    ensures shut { connection.new.is_shut ≡ true → (connection.old.is_shut ≡ true) ⊎ (connection.old.link.number < W.bound wire.old → IsRaised ((W.told wire.old).is_shut connection.old.link.number) ((W.told wire.new).is_shut connection.old.link.number)) }
+    ensures unread { Keeps ((W.told wire.old).unread connection.old.link.number) ((W.told wire.new).unread connection.old.link.number) }
+    ensures made { KeepsMade connection.old connection.new }
+    ensures ended { connection.new.has_ended ≡ connection.old.has_ended }
+    ensures link { connection.new.link ≡ connection.old.link }
+    ensures bound { W.bound wire.new ≡ W.bound wire.old }
+    ensures next { host.old.slots.next ≤ host.new.slots.next }
+{
+    let outcome = host.step(Event::Feed(connection.link.id, piece));
+    if was_done(&outcome) {
+        return;
+    }
+    shut_down(connection, host, wire);
+}
+
+/// One read of at most 4,096 bytes for a connection whose session wants input, and what it gave is
+/// fed. A read that fails, or a feed refused for memory, ends the connection and its session. True
+/// where something was read, or the reads ended, or the connection was shut.
+pub fn read_from<W: Wire, S: BuildHasher, A: Allocator + Copy>(
+    connection: &mut Connection,
+    host: &mut Host<S, A>,
+    wire: &mut W,
+) -> bool
+    ensures quiet { IsQuiet result (W.told wire.old) connection.old (W.told wire.new) connection.new }
+    ensures stirs { result ≡ true → Transfers (W.told wire.old) (W.told wire.new) connection.old.link.number ⊎ EndsOrShuts connection.old connection.new }
+    ensures made { KeepsMade connection.old connection.new }
+    ensures serves { (marks : List Connection) → Serves IsInput marks (W.bound wire.old) (connection.old.link ∷ []) (W.told wire.old) host.old (W.told wire.new) host.new }
+    ensures ended { connection.new.has_ended ≡ true → (connection.old.has_ended ≡ true) ⊎ IsEmptied ((W.told wire.old).unread connection.old.link.number) ((W.told wire.new).unread connection.old.link.number) }
+    ensures shut { connection.new.is_shut ≡ true → (connection.old.is_shut ≡ true) ⊎ (connection.old.link.number < W.bound wire.old → IsRaised ((W.told wire.old).is_shut connection.old.link.number) ((W.told wire.new).is_shut connection.old.link.number)) }
+    ensures link { connection.new.link ≡ connection.old.link }
+    ensures bound { W.bound wire.new ≡ W.bound wire.old }
+    ensures next { host.old.slots.next ≤ host.new.slots.next }
+{
+    let link = connection.link;
+    if connection.has_ended || connection.is_shut || !host.wants_input(link.id) {
+        return false;
+    }
+    let mut piece = [0u8; 4096];
+    match wire.read(link.number, &mut piece) {
+        Ok(Got::Bytes(n)) => {
+            let (bytes, _) = piece.split_at(n);
+            feed_from(connection, host, wire, bytes);
+            true
+        }
+        Ok(Got::Nothing) => false,
+        Ok(Got::Ended) => {
+            connection.has_ended = true;
+            true
+        }
+        Err(_) => {
+            shut_down(connection, host, wire);
+            true
+        }
+    }
+}
+
+/// One write of what is queued for a connection, of which the session is passed what was taken. A
+/// write that fails ends the connection and its session. True where something was written, or the
+/// connection was shut.
+pub fn write_to<W: Wire, S: BuildHasher, A: Allocator + Copy>(
+    connection: &mut Connection,
+    host: &mut Host<S, A>,
+    wire: &mut W,
+) -> bool
+    ensures quiet { IsQuiet result (W.told wire.old) connection.old (W.told wire.new) connection.new }
+    ensures stirs { result ≡ true → Transfers (W.told wire.old) (W.told wire.new) connection.old.link.number ⊎ EndsOrShuts connection.old connection.new }
+    ensures made { KeepsMade connection.old connection.new }
+    ensures serves { (marks : List Connection) → Serves IsOutput marks (W.bound wire.old) (connection.old.link ∷ []) (W.told wire.old) host.old (W.told wire.new) host.new }
+    ensures ended { connection.new.has_ended ≡ connection.old.has_ended }
+    ensures shut { connection.new.is_shut ≡ true → (connection.old.is_shut ≡ true) ⊎ (connection.old.link.number < W.bound wire.old → IsRaised ((W.told wire.old).is_shut connection.old.link.number) ((W.told wire.new).is_shut connection.old.link.number)) }
+    ensures link { connection.new.link ≡ connection.old.link }
+    ensures bound { W.bound wire.new ≡ W.bound wire.old }
+    ensures next { host.old.slots.next ≤ host.new.slots.next }
+{
+    let link = connection.link;
+    if connection.is_shut {
+        return false;
+    }
+    let Some(bytes) = host.output(link.id) else {
+        return false;
+    };
+    if bytes.is_empty() {
+        return false;
+    }
+    match wire.write(link.number, bytes) {
+        Ok(n) => {
+            let _passed = host.pass(link.id, n);
+            0 < n
+        }
+        Err(_) => {
+            shut_down(connection, host, wire);
+            true
+        }
+    }
+}
+
+/// Whether a connection is to be shut: the host no longer has its session; or the session is over, or
+/// the reads have ended, and nothing is pending or queued.
+fn is_finished<S: BuildHasher, A: Allocator + Copy>(
+    connection: &Connection,
+    host: &Host<S, A>,
+) -> bool
+    ensures { result ≡ is_finished_with connection.now.has_ended (find host.now.slots connection.now.link.id) }
+{
+    let id = connection.link.id;
+    let Some(bytes) = host.output(id) else {
+        return true;
+    };
+    let has_ended = connection.has_ended || host.is_over(id);
+    has_ended && bytes.is_empty() && !host.pending(id)
+}
+
+/// Shuts a connection that is finished with, and closes its session. True where it was shut.
+pub fn close_if_finished<W: Wire, S: BuildHasher, A: Allocator + Copy>(
+    connection: &mut Connection,
+    host: &mut Host<S, A>,
+    wire: &mut W,
+) -> bool
+    ensures quiet { IsQuiet result (W.told wire.old) connection.old (W.told wire.new) connection.new }
+    ensures stirs { result ≡ true → Transfers (W.told wire.old) (W.told wire.new) connection.old.link.number ⊎ EndsOrShuts connection.old connection.new }
+    ensures made { KeepsMade connection.old connection.new }
+    ensures finished { result ≡ (not connection.old.is_shut && is_finished_with connection.old.has_ended (find host.old.slots connection.old.link.id)) }
+    ensures unchanged { result ≡ false → host.new ≡ host.old }
+    ensures serves { (marks : List Connection) → (connection.old.has_ended ≡ true → IsMarked reads_ended marks connection.old.link.number) → Serves IsEnd marks (W.bound wire.old) (connection.old.link ∷ []) (W.told wire.old) host.old (W.told wire.new) host.new }
+    ensures ended { connection.new.has_ended ≡ connection.old.has_ended }
+    ensures shut { connection.new.is_shut ≡ true → (connection.old.is_shut ≡ true) ⊎ (connection.old.link.number < W.bound wire.old → IsRaised ((W.told wire.old).is_shut connection.old.link.number) ((W.told wire.new).is_shut connection.old.link.number)) }
+    ensures link { connection.new.link ≡ connection.old.link }
+    ensures bound { W.bound wire.new ≡ W.bound wire.old }
+    ensures next { host.old.slots.next ≤ host.new.slots.next }
+{
+    if connection.is_shut || !is_finished(connection, host) {
+        return false;
+    }
+    shut_down(connection, host, wire);
+    true
+}
