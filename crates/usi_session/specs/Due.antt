@@ -68,8 +68,3 @@ wants_input s = not s.state.is_over && not (is_some s.going || has_line (ahead s
 -- nothing read, nothing queued
 abbrev pub new_talk : Talk
 new_talk = record { state = opening; going = None; queued = []; input = record { unread = []; closed = false } }
-
--- from 1 to 16
-pub record IsDepth (depth : ℕ) : Type 0 where
-  pub low : 1 ≤ depth
-  pub high : depth ≤ 16

@@ -43,7 +43,8 @@ pub struct Session<A: Allocator + Copy> {
 
 impl<A: Allocator + Copy> Model for Session<A> {
     ghost use Rattle.std.specs.Prelude.{◌≤◌};
-    ghost use Rattle.usi_session.specs.Due.{Talk, IsDepth};
+    ghost use Rattle.usi_lines.specs.Commands.{IsDepth};
+    ghost use Rattle.usi_session.specs.Due.{Talk};
 
     ghost Value = { Talk };
 
