@@ -4,9 +4,10 @@ ghost use Rattle.std.specs.Prelude.{◌≤◌};
 
 use crate::plain::{Notes, minimax, search_plainly};
 use crate::recorder::Recorder;
-use crate::tables::{placed, table_of, two_pawns};
-use shogi_core::{Color, Position, Role};
+use crate::tables::{table_of, two_pawns};
+use shogi_core::Position;
 use shogi_search::{Memo, NoMemo, search};
+use shogi_sfen::read_position;
 use std::alloc::Global;
 use std::process::Abort;
 use std::test::Fail;
@@ -109,25 +110,51 @@ fn two_pawns_over_tables(rt: HostRuntime) -> Result<(), Fail> {
     Ok(())
 }
 
+// Positions of games between other programs, a few moves before their ends, and mates, at depth 4.
+const PLAYED: [&str; 6] = [
+    "lnskg1R2/5Ps2/ppgp1pn2/6ppb/4+b4/2PPS4/PPS1P1P1P/2pG3R1/LNK2G1NL b Pl2p",
+    "ln1B5/1k+P+b3r1/pp1p1pn2/6p1s/9/2PPS4/PPS1P1P1P/2KG5/LN3G1NL w RGS3Pgl2p",
+    "ln1B5/3b+R4/pp1p1pn2/1k4p1s/2+R6/2PPS4/PPS1P1P1P/2KG5/LN3G1NL w L4P2gs2p",
+    "lns1k2nl/3g+B1gs1/pppp3pp/9/3b5/2P2P2P/PP1P2PP1/3GG2R1/LNS1K1SNL w R3Pp",
+    "4k4/9/4P4/9/9/9/9/9/9 b G",
+    "4k4/9/4G4/9/9/9/9/9/9 w G",
+];
+
+fn assert_minimax(rt: &impl Abort, alloc: Global, p: &Position) -> Result<(), Fail> {
+    let plain = minimax(p, 4);
+    let found = search(p, 4, &mut NoMemo);
+    assert!(rt; plain == (found.value, found.best.map(|m| m.code())));
+    let found = search(p, 4, &mut table_of(alloc, 1000)?);
+    assert!(rt; plain == (found.value, found.best.map(|m| m.code())));
+    Ok(())
+}
+
 // The tree of the opening position has 746,132 nodes at depth 4.
 #[test]
 fn plain_minimax_at_depth_four(rt: HostRuntime) -> Result<(), Fail> {
-    let mate_in_two = [
-        (5, 1, Color::White, Role::King),
-        (5, 3, Color::Black, Role::Gold),
-        (4, 4, Color::Black, Role::Gold),
-        (5, 9, Color::Black, Role::King),
-    ];
-    for p in [
-        Position::start(),
-        two_pawns()?,
-        placed(&mate_in_two, Color::White)?,
+    assert_minimax(&rt, rt.alloc(), &Position::start())?;
+    assert_minimax(&rt, rt.alloc(), &two_pawns()?)?;
+    for sfen in PLAYED {
+        let (p, _) = read_position(sfen.as_bytes())?;
+        assert_minimax(&rt, rt.alloc(), &p)?;
+    }
+    Ok(())
+}
+
+// A mate by the move G*5b is worth more the more plies are left, and one after two plies as much less.
+#[test]
+fn mates_at_depth_four(rt: HostRuntime) -> Result<(), Fail> {
+    for (sfen, value, code) in [
+        ("4k4/9/4P4/9/9/9/9/9/9 b G", 30003, 13483),
+        ("4k4/9/4G4/9/9/9/9/9/9 w G", -30002, 5886),
     ] {
-        let plain = minimax(&p, 4);
+        let (p, _) = read_position(sfen.as_bytes())?;
         let found = search(&p, 4, &mut NoMemo);
-        assert!(rt; plain == (found.value, found.best.map(|m| m.code())));
-        let found = search(&p, 4, &mut table_of(rt.alloc(), 1000)?);
-        assert!(rt; plain == (found.value, found.best.map(|m| m.code())));
+        assert_eq!(rt;
+            (found.value, found.best.map(|m| m.code())),
+            (value, Some(code)),
+            "of {sfen}"
+        );
     }
     Ok(())
 }

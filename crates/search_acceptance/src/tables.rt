@@ -22,7 +22,7 @@ pub fn table_of(alloc: Global, capacity: usize) -> Result<TestTable, TableFault>
 }
 
 /// The position of pieces by file and rank, with nothing held.
-pub fn placed(pieces: &[(u8, u8, Color, Role)], side: Color) -> Result<Position, Fail> {
+fn placed(pieces: &[(u8, u8, Color, Role)], side: Color) -> Result<Position, Fail> {
     let mut cells: [Option<Piece>; 81] = [None; 81];
     for &(file, rank, color, role) in pieces {
         let square = Square::new(file, rank).ok_or("a square")?;
