@@ -34,8 +34,7 @@ fn check_one(rt: &impl Abort, scene: &Scene, number: u64, n: u64) {
 // A failed accept is made again in the next turn. A failed read or write shuts its own connection.
 #[test]
 fn each_call_fails_in_turn(rt: HostRuntime) -> Result<(), Fail> {
-    let mut accepts = 0;
-    let mut others = 0;
+    let (mut accepts, mut others) = (0usize, 0usize);
     for n in 1..64 {
         let mut scene = Scene::new(rt.alloc(), 2, 1000)?;
         let x = scene.connect(GO_AND_QUIT)?;
@@ -50,9 +49,9 @@ fn each_call_fails_in_turn(rt: HostRuntime) -> Result<(), Fail> {
         assert_eq!(rt; scene.faults(), 1);
         assert!(rt; !(scene.has_failed(x) && scene.has_failed(y)), "call {n}");
         if scene.has_failed(x) || scene.has_failed(y) {
-            others += 1;
+            others = others.saturating_add(1);
         } else {
-            accepts += 1;
+            accepts = accepts.saturating_add(1);
         }
     }
     // Two reads and a write for each of the two, and ten accepts in eight turns.

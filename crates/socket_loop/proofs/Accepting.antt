@@ -3,8 +3,7 @@ use Rattle.std.proofs.Common.{◌≡◌, ◌⊎◌, ℕ, zero, suc, ◌+◌, ◌
 use Rattle.std.specs.Prelude.{insert, ◌||◌}
 use Rattle.std.proofs.lemmas.Bool.{cases_eq, or_cases}
 use Rattle.std.proofs.lemmas.List.{map-append}
-use Rattle.std.specs.Io.KnownBytes.{Keeps, Appends}
-use Rattle.std.proofs.KnownBytes.{Appends-kept, Keeps-refl, Keeps-trans}
+use Rattle.std.proofs.KnownBytes.{Appends-kept, Keeps-trans}
 use Rattle.session_slots.specs.declared.id.SessionId.{SessionId}
 use Rattle.session_slots.specs.Slots.{Opens}
 use Rattle.host_core.specs.Steps.{HostState}
@@ -17,7 +16,7 @@ use Rattle.host_core.proofs.Ids.{same_id, is_same_id-refl}
 use Rattle.socket_loop.specs.declared.connection.Link.{Link}
 use Rattle.socket_loop.specs.declared.connection.Connection.{Connection}
 use Rattle.socket_loop.specs.declared.wire.WireFault.{WireFault}
-use Rattle.socket_loop.specs.Told.{Told, KeepsPeer, KeepsAll, Writes, Shuts, IsRaised, OnlyRises, bytes_written, GivesNumber}
+use Rattle.socket_loop.specs.Told.{Told, KeepsPeer, KeepsAll, Writes, Shuts, bytes_written, GivesNumber}
 use Rattle.socket_loop.specs.Links.{Ties, IsTied, IsAmong, links_of}
 use Rattle.socket_loop.specs.Parts.{AllMove, AreAll, IsAdmission, IsClosing, closes}
 use Rattle.socket_loop.specs.Turns.{Fits, Accepted, IsOneOf, IsTurnedAway, IsAway, IsNew, Accepts, Admits, openings, told_to}

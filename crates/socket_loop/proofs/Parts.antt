@@ -1,28 +1,24 @@
 -- Parts of a turn, one after the other.
-use Rattle.std.proofs.Common.{◌≡◌, ◌≢◌, ◌⊎◌, ℕ, zero, suc, ◌+◌, ◌<◌, ◌≤◌, Bool, true, false, List, [], ◌∷◌, ◌++◌, Option, Some, None, Ok, Err, length, get_or, set, refl, sym, ap, ◌∙◌, subst, arith, append_assoc, append-nil, inl, inr}
-use Rattle.std.proofs.lemmas.Bool.{cases_eq, or_left}
+use Rattle.std.proofs.Common.{◌≡◌, ◌⊎◌, ℕ, zero, suc, ◌<◌, ◌≤◌, false, List, [], ◌∷◌, ◌++◌, length, get_or, set, refl, sym, ap, ◌∙◌, subst, arith, append_assoc, append-nil, inl, inr}
 use Rattle.std.proofs.lemmas.List.{get_or-map, length-map}
 use Rattle.std.proofs.Math.Seq.{map-set_same}
-use Rattle.std.specs.Prelude.{◌||◌}
-use Rattle.std.specs.Io.KnownBytes.{Appends, Consumes}
+use Rattle.std.specs.Io.KnownBytes.{Consumes}
 use Rattle.std.proofs.KnownBytes.{Appends-trans, Consumes-trans}
 use Rattle.session_slots.specs.declared.id.SessionId.{SessionId}
-use Rattle.session_slots.specs.Slots.{find}
 use Rattle.host_core.specs.Steps.{HostState}
-use Rattle.host_core.specs.Events.{Event, Outcome, Close}
-use Rattle.host_core.specs.Made.{Step, own, taken, is_same_id}
+use Rattle.host_core.specs.Events.{Event}
+use Rattle.host_core.specs.Made.{Step, own, taken}
 use Rattle.host_core.specs.Runs.{IsRun}
 use Rattle.host_core.specs.Rounds.{IsRound, works}
 use Rattle.host_core.proofs.Chains.{run-start}
 use Rattle.host_core.proofs.OneSession.{gone, IsGone as IsOut}
-use Rattle.host_core.proofs.Ids.{same_id, is_same_id-refl}
 use Rattle.socket_loop.specs.declared.connection.Link.{Link}
 use Rattle.socket_loop.specs.declared.connection.Connection.{Connection}
-use Rattle.socket_loop.specs.Told.{Told, KeepsPeer, KeepsAll, Stays, IsRaised, OnlyRises}
+use Rattle.socket_loop.specs.Told.{Told, KeepsPeer, KeepsAll}
 use Rattle.socket_loop.specs.Links.{IsTied, IsApart, links_of}
-use Rattle.socket_loop.specs.Parts.{IsGone, IsClosing, AreAll, closes, starves, AllMove, Finished, Cause, IsSpared, IsShutDown, Carried, Carries, Serves}
+use Rattle.socket_loop.specs.Parts.{IsGone, closes, AllMove, Finished, Cause, IsSpared, IsShutDown, Carried, Carries, Serves}
 use Rattle.socket_loop.proofs.Peers.{stays_then, stays_raised, raised_rises, rises_raised, kept_same, kept_then, all_kept, moves_then, Consumes-none, Appends-none}
-use Rattle.socket_loop.proofs.Runs.{run-one, run-append, own-append, taken-append, own-works, taken-works, closes-works, closes_left, closes_right, closes_neither, starves_left, starves_right, all_append, next_rises}
+use Rattle.socket_loop.proofs.Runs.{run-append, own-append, taken-append, own-works, taken-works, closes-works, closes_left, closes_right, closes_neither, starves_left, starves_right, all_append, next_rises}
 
 -- ---- why a connection is shut
 

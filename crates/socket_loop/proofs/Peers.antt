@@ -1,11 +1,11 @@
 -- What a wire tells, call after call.
-use Rattle.std.proofs.Common.{◌≡◌, ◌≢◌, ◌⊎◌, ℕ, ◌<◌, Bool, true, false, List, [], ◌∷◌, ◌++◌, Option, Some, None, Result, Ok, Err, refl, sym, ap, ◌∙◌, append-nil, inl, inr}
+use Rattle.std.proofs.Common.{◌≡◌, ℕ, Bool, true, false, List, [], ◌∷◌, ◌++◌, Option, Some, None, Result, Ok, Err, refl, sym, ap, ◌∙◌, append-nil, inl, inr}
 use Rattle.std.proofs.lemmas.Bool.{cases_eq}
 use Rattle.std.specs.Prelude.{IsSome}
 use Rattle.std.specs.Io.KnownBytes.{Keeps, Appends, Consumes, IsAtEnd}
 use Rattle.std.proofs.KnownBytes.{Keeps-refl, Keeps-trans, Appends-trans, Consumes-trans}
 use Rattle.socket_loop.specs.declared.wire.Got.{Got}
-use Rattle.socket_loop.specs.declared.wire.Got.TheVariants.{Bytes, Nothing, Ended}
+use Rattle.socket_loop.specs.declared.wire.Got.TheVariants.{Nothing, Ended}
 use Rattle.socket_loop.specs.declared.wire.WireFault.{WireFault}
 use Rattle.socket_loop.specs.Told.{Told, Stays, IsRaised, OnlyRises, KeepsPeer, KeepsAll, KeepsOthers, TellsFailure, Reads, Writes, Shuts, bytes_read, bytes_written}
 use Rattle.socket_loop.specs.Parts.{Moves, AllMove, GaveBytes, IsEmptied}

@@ -1,5 +1,5 @@
 -- What moves in a turn.
-use Rattle.std.proofs.Common.{◌≡◌, ◌⊎◌, ℕ, zero, suc, ◌+◌, ◌<◌, ◌≤◌, Bool, true, false, List, [], ◌∷◌, ◌++◌, Option, Some, None, Result, Ok, Err, length, take, get_or, set, refl, sym, ap, ◌∙◌, arith, inl, inr}
+use Rattle.std.proofs.Common.{◌≡◌, ◌⊎◌, ℕ, zero, suc, ◌+◌, ◌<◌, ◌≤◌, Bool, true, false, List, [], ◌∷◌, Option, Some, None, Ok, length, take, get_or, set, refl, sym, ap, ◌∙◌, arith, inl, inr}
 use Rattle.std.specs.Prelude.{filter, not, ◌||◌}
 use Rattle.std.proofs.lemmas.Bool.{or_cases, both_ways}
 use Rattle.std.proofs.lemmas.List.{length-take-le, length-append}
@@ -7,12 +7,11 @@ use Rattle.std.specs.Io.KnownBytes.{Keeps, Appends, Consumes}
 use Rattle.host_core.specs.Steps.{HostState}
 use Rattle.socket_loop.specs.declared.connection.Connection.{Connection}
 use Rattle.socket_loop.specs.declared.wire.Got.TheVariants.{Bytes}
-use Rattle.socket_loop.specs.declared.wire.WireFault.{WireFault}
 use Rattle.socket_loop.specs.Told.{Told, KeepsAll, Reads, Writes}
 use Rattle.socket_loop.specs.Links.{links_of}
 use Rattle.socket_loop.specs.Parts.{AllMove}
 use Rattle.socket_loop.proofs.Peers.{all_kept}
-use Rattle.socket_loop.specs.Turns.{IsShorter, IsLonger, Transfers, KeepsMade, EndsOrShuts, AllKeepMade, OneEndsOrShuts, Stirs, StirsHeld, HasMoved, IsQuiet, any_pending}
+use Rattle.socket_loop.specs.Turns.{IsShorter, IsLonger, Transfers, KeepsMade, EndsOrShuts, AllKeepMade, OneEndsOrShuts, Stirs, HasMoved, IsQuiet, any_pending}
 
 -- ---- bytes
 

@@ -20,7 +20,7 @@ use Rattle.socket_loop.specs.Told.{Told, KeepsPeer, IsRaised}
 use Rattle.socket_loop.specs.Links.{IsTied, IsAmong, IsMarked, links_of, reads_ended, was_shut}
 use Rattle.socket_loop.specs.Parts.{IsGone, Carried, Carries, Serves, IsInput, IsOutput, IsEnd, IsEmptied, AllMove, KeepsAllMarks, AddsNoMark}
 use Rattle.socket_loop.specs.Turns.{FitsOne, Fits, Accepted, IsTurnedAway, IsNew, Accepts, IsTurn, Served, GoesOnServing, ServesNew}
-use Rattle.socket_loop.proofs.Peers.{kept_then, moves_then, emptied_move, raised_rises, rises_raised, rises_then, stays_rise, known_move}
+use Rattle.socket_loop.proofs.Peers.{kept_then, moves_then, emptied_move, raised_rises, rises_then, stays_rise, known_move}
 use Rattle.socket_loop.proofs.Runs.{run-append, next_rises, opened_left}
 use Rattle.socket_loop.proofs.Parts.{carried_nothing, carried_then, carries_then, carries_round}
 use Rattle.socket_loop.proofs.Marks.{marks_none, marks_then, let_go}

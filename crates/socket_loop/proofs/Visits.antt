@@ -1,16 +1,16 @@
 -- What a turn does with one connection.
 use Rattle.std.proofs.Common.{◌≡◌, ◌≢◌, ◌⊎◌, ℕ, ◌<◌, ◌≤◌, Bool, true, false, List, [], ◌∷◌, ◌++◌, Option, Some, None, Result, Ok, Err, cond, take, length, refl, sym, ap, ◌∙◌, subst, arith, append-nil, inl, inr}
-use Rattle.std.proofs.lemmas.Bool.{cases_eq, or_left, both_ways}
+use Rattle.std.proofs.lemmas.Bool.{cases_eq, or_left}
 use Rattle.std.specs.Prelude.{IsSome, IsErrOf, ◌||◌}
 use Rattle.std.specs.Borrow.{Bor}
 use Rattle.std.specs.Io.KnownBytes.{Keeps, Appends, Consumes}
 use Rattle.std.proofs.KnownBytes.{Consumes-kept, Consumes-nil, Keeps-trans, Keeps-refl}
 use Rattle.session_slots.specs.declared.id.SessionId.{SessionId}
 use Rattle.session_slots.specs.Slots.{find, IsBelow}
-use Rattle.usi_session.specs.Due.{Talk, wants_input}
+use Rattle.usi_session.specs.Due.{Talk}
 use Rattle.host_core.specs.declared.event.HostFault.{HostFault}
 use Rattle.host_core.specs.declared.event.HostFault.TheVariants.{Full, OutOfMemory, UnknownSession, NotReady}
-use Rattle.host_core.specs.Steps.{HostState, Stepped, OnSession, Changed}
+use Rattle.host_core.specs.Steps.{HostState, Stepped, OnSession}
 use Rattle.host_core.specs.Sessions.{Feeds, Takes}
 use Rattle.host_core.specs.ById.{IsOutput as IsQueue, wants_input_of, queued_of}
 use Rattle.host_core.specs.Events.{Event, Outcome, Opened, Worked, Done, Gave, Refused, Feed, Take, Close}
@@ -21,12 +21,11 @@ use Rattle.host_core.proofs.Chains.{run-start}
 use Rattle.host_core.proofs.Ids.{same_id, is_same_id-refl}
 use Rattle.socket_loop.specs.declared.connection.Link.{Link}
 use Rattle.socket_loop.specs.declared.connection.Connection.{Connection}
-use Rattle.socket_loop.specs.declared.wire.Got.{Got}
 use Rattle.socket_loop.specs.declared.wire.Got.TheVariants.{Bytes}
 use Rattle.socket_loop.specs.declared.wire.WireFault.{WireFault}
-use Rattle.socket_loop.specs.Told.{Told, KeepsAll, KeepsPeer, Stays, IsRaised, Reads, Writes, Shuts}
+use Rattle.socket_loop.specs.Told.{Told, KeepsPeer, Stays, IsRaised, Reads, Writes, Shuts}
 use Rattle.socket_loop.specs.Links.{Ties, IsMarked, reads_ended}
-use Rattle.socket_loop.specs.Parts.{GaveBytes, IsGone, IsClosing, AllMove, AreAll, IsInput, IsOutput, IsEnd, starves, closes, Cause, IsSpared, IsShutDown, Carried, Carries, Serves, is_done, is_finished_with}
+use Rattle.socket_loop.specs.Parts.{GaveBytes, IsGone, IsClosing, AreAll, IsInput, IsOutput, IsEnd, closes, Cause, Carried, Serves, is_done, is_finished_with}
 use Rattle.socket_loop.proofs.Peers.{kept_same, kept_then, moves_then, writes_move, shuts_move, gave_move, stays_rise, raised_rise, stays_raised, raised_rises, stays-refl, rises-refl, Consumes-none, Keeps-nothing, Appends-none}
 use Rattle.socket_loop.proofs.Runs.{run-one, run-two, step_rises}
 use Rattle.socket_loop.proofs.Parts.{carried_nothing}

@@ -1,9 +1,9 @@
 -- What a wire in memory tells (own choice).
-use Rattle.std.specs.Prelude.{◌≡◌, ◌≢◌, ℕ, List, [], ◌∷◌, ◌++◌, Bool, true, false, IsSome, flat_map}
+use Rattle.std.specs.Prelude.{◌≡◌, ◌≢◌, ℕ, List, [], ◌∷◌, ◌++◌, false, IsSome, flat_map}
 use Rattle.std.specs.Option.{option_map}
 use Rattle.std.specs.List.{slice_get}
 use Rattle.std.specs.declared.vec.Vec.{Vec}
-use Rattle.socket_loop.specs.Told.{Told, KeepsPeer, IsRaised}
+use Rattle.socket_loop.specs.Told.{Told, IsRaised}
 use Rattle.socket_loop.specs.declared.memory.Peer.{Peer}
 use Rattle.socket_loop.specs.declared.memory.MemoryWire.{MemoryWire}
 

@@ -94,6 +94,7 @@ impl<A: Allocator + Copy> MemoryWire<A> {
         ensures connected { OnOk result (IsConnected self.old self.new pieces.items) }
         ensures known { IfOk result (λ number. IsKnown (told_by self.new) number) }
         ensures others { KeepsAll (told_by self.old) (told_by self.new) }
+        ensures accepted { self.new.accepted ≡ self.old.accepted }
         ensures err { OnErr result (IsSamePeers self.old self.new) }
         ensures fault { IfErr result (λ fault. fault ≡ OutOfMemory) }
         ensures faults { self.new.failed ≡ self.old.failed }
@@ -114,6 +115,7 @@ impl<A: Allocator + Copy> MemoryWire<A> {
     pub fn narrow(&mut self, number: u64, most: usize)
         requires { IsKnown (told_by self.old) number }
         ensures told { SameTold (told_by self.old) (told_by self.new) }
+        ensures accepted { self.new.accepted ≡ self.old.accepted }
         ensures faults { self.new.failed ≡ self.old.failed }
     {
         self.peers[number as usize].most = most;
