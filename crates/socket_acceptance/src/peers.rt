@@ -61,9 +61,12 @@ fn a_full_host_is_told_in_one_write(rt: HostRuntime) -> Result<(), Fail> {
 fn a_peer_that_ends_is_answered_first(rt: HostRuntime) -> Result<(), Fail> {
     let mut scene = Scene::new(rt.alloc(), 1, 10)?;
     let x = scene.connect(&[b"go depth 1\n"])?;
-    let mut turns = 0;
-    while turns < 64 && scene.turn() {
-        turns += 1;
+    let mut turns = 0usize;
+    for _ in 0..64 {
+        if !scene.turn() {
+            break;
+        }
+        turns = turns.saturating_add(1);
         assert!(rt; !scene.is_shut(x) || scene.written(x) == ANSWER);
     }
     assert!(rt; scene.written(x) == ANSWER && scene.is_shut(x));

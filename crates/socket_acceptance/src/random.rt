@@ -126,7 +126,7 @@ fn check(
 #[test]
 fn wires_by_chance(rt: HostRuntime) -> Result<(), Fail> {
     let alloc = rt.alloc();
-    let mut whole = 0;
+    let mut whole = 0usize;
     for seed in 0..60 {
         let mut random = Random { state: seed };
         let slots = 1 + random.below(6) as usize;
@@ -139,14 +139,17 @@ fn wires_by_chance(rt: HostRuntime) -> Result<(), Fail> {
         if random.below(2) == 0 {
             scene.fail_at(1 + random.below(80));
         }
-        let mut turns = 0;
-        while turns < 5000 && (scene.turn() || scene.turn()) {
-            turns += 1;
+        let mut rests = false;
+        for _ in 0..5000 {
+            if !scene.turn() && !scene.turn() {
+                rests = true;
+                break;
+            }
         }
-        assert!(rt; turns < 5000, "seed {seed}");
+        assert!(rt; rests, "seed {seed}");
         for client in clients.as_slice() {
             if check(&rt, alloc, &scene, client, seed)? {
-                whole += 1;
+                whole = whole.saturating_add(1);
             }
         }
     }
