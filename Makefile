@@ -1,23 +1,27 @@
-# The commands of this repository. `rt` is the toolchain's command.
+# The commands of this repository; `make help` lists them. `rt` is the toolchain's command.
 
 PREFIX ?= /usr/local
 PROGRAM = crates/usi_host/out/usi_host
 
-.PHONY: run build install test bench
+.PHONY: run build install uninstall test bench clean help
 
 # Starts the program on standard input and output, and builds first what is not built yet.
 run: build
+	@if [ -t 0 ]; then echo 'Reading USI from the terminal. Try: isready, then: go depth 3, then: quit' >&2; fi
 	@$(PROGRAM)
 
+# Proves and builds what is not built yet, and tells how far it is.
 build:
-	@[ -x $(PROGRAM) ] || echo 'Proving and building the program; the first time takes some minutes.' >&2
-	@cd crates/usi_host && rt run < /dev/null > build.log 2>&1 || { cat build.log >&2; rm -f build.log; exit 1; }
-	@rm -f crates/usi_host/build.log
+	@check/build.py
 
 # Copies the built program to PREFIX/bin.
 install: build
-	install -d $(DESTDIR)$(PREFIX)/bin
-	install -m 755 $(PROGRAM) $(DESTDIR)$(PREFIX)/bin/usi_host
+	install -d "$(DESTDIR)$(PREFIX)/bin"
+	install -m 755 $(PROGRAM) "$(DESTDIR)$(PREFIX)/bin/usi_host"
+
+# Takes away what `make install` put there.
+uninstall:
+	rm -f "$(DESTDIR)$(PREFIX)/bin/usi_host"
 
 # Proves every crate from nothing, tries each edit that must fail, runs each test and program, and then
 # the built program as its users run it.
@@ -28,3 +32,16 @@ test:
 bench:
 	bench/run.sh
 	bench/go.sh
+
+# Takes away what was built and the proofs that were kept.
+clean:
+	rm -rf crates/*/out
+
+help:
+	@echo 'make run        starts the program on standard input and output; builds it first'
+	@echo 'make build      proves and builds what is not built yet'
+	@echo 'make install    builds, and puts usi_host into PREFIX/bin (PREFIX=/usr/local)'
+	@echo 'make uninstall  takes it away again'
+	@echo 'make test       the gate: every proof from nothing, each edit, test and program'
+	@echo 'make bench      how fast it is'
+	@echo 'make clean      takes away what was built and the proofs that were kept'

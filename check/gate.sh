@@ -1,13 +1,15 @@
 #!/usr/bin/env bash
-# The gate. First `rt ci`: every proof from nothing, each edit that must be refused, each test, each
-# program. Then the program is built and run as its users run it. The last line counts both.
+# The gate. First what the READMEs show, and `rt ci`: every proof from nothing, each edit that must be
+# refused, each test, each program. Then the program is built and run as its users run it. The last line
+# counts all of it.
 set -uo pipefail
 cd "$(dirname "$0")/.."
 log=$(mktemp)
 trap 'rm -f "$log"' EXIT
 
 status=0
-rt ci | tee "$log" || status=1
+check/readmes.py | tee "$log" || status=1
+rt ci | tee -a "$log" || status=1
 if [ $status -eq 0 ]; then
     if make --no-print-directory build; then
         check/program.py | tee -a "$log" || status=1

@@ -1,0 +1,5 @@
+use Rattle.std.proofs.Common.{◌≡◌}
+use Rattle.examples.proofs.search.search_in_slices.Given as goal
+
+abbrev pub invariant-slices : goal.invariant-slices
+invariant-slices l = (l.search.root ≡ l.p) × (l.search.depth ≡ l.depth)
