@@ -7,7 +7,7 @@ ghost use Rattle.shogi_moves.specs.Legal.{is_legal};
 ghost use Rattle.shogi_sfen.specs.MoveTexts.{move_of_text};
 
 use shogi_core::Position;
-use shogi_moves::{apply, is_legal};
+use shogi_moves::play;
 use shogi_sfen::read_move;
 
 /// The position after a move given by its text, as `7g7f` or `P*5e`; none where the text is no move's
@@ -15,11 +15,5 @@ use shogi_sfen::read_move;
 pub fn play_text(p: &Position, text: &[u8]) -> Option<Position>
     ensures { IfSome result (λ next. (m : Move) × ((move_of_text text.now ≡ Some m) × (is_legal p.now m ≡ true) × (next ≡ after p.now m))) }
 {
-    let m = read_move(text)?;
-    let tried = m;
-    if is_legal(p, tried) {
-        Some(apply(p, m))
-    } else {
-        None
-    }
+    play(p, read_move(text)?)
 }

@@ -51,7 +51,8 @@ fn a_bishop_takes_a_bishop(rt: HostRuntime) -> Result<(), Fail> {
         b"lnsgkgsnl/1r5b1/pppppp1pp/6p2/9/2P6/PP1PPPPPP/1B5R1/LNSGKGSNL b - 1",
     )?;
     let m = shogi_sfen::read_move(b"8h2b+").ok_or("a move")?;
-    assert!(rt; is_legal(&p, m));
+    let tried = m;
+    assert!(rt; is_legal(&p, tried));
     assert_eq!(rt; score_of_mover(&p, m), 1900);
     Ok(())
 }

@@ -1,4 +1,4 @@
-use Rattle.std.proofs.Common.{sym, ◌∙◌}
+use Rattle.std.proofs.Common.{sym, ◌∙◌, rules}
 use Rattle.usi_session.proofs.Settled.{due-settled, new_wants}
 use Rattle.examples.proofs.session.answered.Goals as goal
 
