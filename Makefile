@@ -2,6 +2,9 @@
 
 PREFIX ?= /usr/local
 PROGRAM = crates/usi_host/out/usi_host
+BIN = $(DESTDIR)$(PREFIX)/bin
+MAN = $(DESTDIR)$(PREFIX)/share/man/man1
+COMPLETIONS = $(DESTDIR)$(PREFIX)/share/bash-completion/completions
 
 .PHONY: run build install uninstall test bench clean help
 
@@ -14,14 +17,16 @@ run: build
 build:
 	@check/build.py
 
-# Copies the built program to PREFIX/bin.
+# Puts the built program, its man page and its completion for bash below PREFIX.
 install: build
-	install -d "$(DESTDIR)$(PREFIX)/bin"
-	install -m 755 $(PROGRAM) "$(DESTDIR)$(PREFIX)/bin/usi_host"
+	install -d "$(BIN)" "$(MAN)" "$(COMPLETIONS)"
+	install -m 755 $(PROGRAM) "$(BIN)/usi_host"
+	install -m 644 share/usi_host.1 "$(MAN)/usi_host.1"
+	install -m 644 share/usi_host.bash "$(COMPLETIONS)/usi_host"
 
 # Takes away what `make install` put there.
 uninstall:
-	rm -f "$(DESTDIR)$(PREFIX)/bin/usi_host"
+	rm -f "$(BIN)/usi_host" "$(MAN)/usi_host.1" "$(COMPLETIONS)/usi_host"
 
 # Proves every crate from nothing, tries each edit that must fail, runs each test and program, and then
 # the built program as its users run it.
@@ -40,7 +45,7 @@ clean:
 help:
 	@echo 'make run        starts the program on standard input and output; builds it first'
 	@echo 'make build      proves and builds what is not built yet'
-	@echo 'make install    builds, and puts usi_host into PREFIX/bin (PREFIX=/usr/local)'
+	@echo 'make install    builds, and puts usi_host, its man page and completion below PREFIX (/usr/local)'
 	@echo 'make uninstall  takes it away again'
 	@echo 'make test       the gate: every proof from nothing, each edit, test and program'
 	@echo 'make bench      how fast it is'

@@ -1,0 +1,27 @@
+# Completion of the words of usi_host, for bash.
+_usi_host() {
+    local word=${COMP_WORDS[COMP_CWORD]} before=${COMP_WORDS[COMP_CWORD - 1]}
+    COMPREPLY=()
+    case $before in
+        --socket)
+            compopt -o default
+            return
+            ;;
+        --slots | --entries | --slice | --turns)
+            return
+            ;;
+    esac
+    local words
+    if [ "$COMP_CWORD" -eq 1 ]; then
+        words='stdio replay serve help --help'
+    else
+        case ${COMP_WORDS[1]} in
+            stdio) words='--entries --help' ;;
+            replay) words='--slots --entries --slice --help' ;;
+            serve) words='--socket --slots --entries --slice --turns --help' ;;
+            help) words='stdio replay serve' ;;
+        esac
+    fi
+    mapfile -t COMPREPLY < <(compgen -W "$words" -- "$word")
+}
+complete -F _usi_host usi_host
