@@ -5,7 +5,7 @@ use Rattle.shogi_core.specs.declared.piece.Kind.{Kind}
 use Rattle.shogi_core.specs.declared.piece.Kind.TheVariants as kinds
 use Rattle.shogi_core.specs.declared.moves.Move.{Move}
 use Rattle.shogi_core.specs.declared.moves.Move.TheVariants.{Board, Drop}
-use Rattle.shogi_core.specs.Pieces.{number_of}
+use Rattle.shogi_core.specs.Pieces.{kind_number}
 
 -- the kind of a number
 abbrev pub kind_at : ℕ → Kind
@@ -15,7 +15,7 @@ kind_at n =
 -- board moves come first, by from, to and promotion; then drops, by kind and to
 abbrev pub code_of : Move → ℕ
 code_of (Board from to promote) = (from * 81 + to) * 2 + cond promote 1 0
-code_of (Drop kind to) = 13122 + number_of kind * 81 + to
+code_of (Drop kind to) = 13122 + kind_number kind * 81 + to
 
 -- the move of a code
 abbrev pub move_of : ℕ → Option Move

@@ -15,12 +15,14 @@ use crate::square::Square;
 use crate::steps::jump_squares;
 use crate::targets::{diagonal_squares, straight_squares};
 
+/// Whether the piece on `from` is of the side and reaches the square.
 fn is_attacked_from(board: &Board, color: Color, square: Square, from: Square) -> bool
     ensures { result ≡ is_attacked_from board.now color square from }
 {
     is_of(board.at(from), color) && board.reaches(from, square)
 }
 
+/// Whether a king of the side stands on the square and is attacked.
 fn is_open_king(board: &Board, color: Color, square: Square) -> bool
     ensures { result ≡ is_open_king board.now color square }
 {

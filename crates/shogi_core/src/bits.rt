@@ -47,7 +47,7 @@ pub fn cleared(mask: u128, n: usize) -> u128
 pub fn lowest(mask: u128) -> usize
     requires some { mask ≢ 0 }
     requires fits { mask < 2 ^ 81 }
-    ensures bound { result < 81 }
+    ensures range { result < 81 }
     ensures set { has_bit mask result ≡ true }
     ensures least { (n : ℕ) → has_bit mask n ≡ true → result ≤ n }
 {
@@ -59,7 +59,7 @@ pub fn lowest(mask: u128) -> usize
 pub fn highest(mask: u128) -> usize
     requires some { mask ≢ 0 }
     requires fits { mask < 2 ^ 81 }
-    ensures bound { result < 81 }
+    ensures range { result < 81 }
     ensures set { has_bit mask result ≡ true }
     ensures greatest { (n : ℕ) → has_bit mask n ≡ true → n ≤ result }
 {
@@ -71,7 +71,7 @@ pub fn highest(mask: u128) -> usize
 pub fn next_of(mask: u128, n: usize) -> usize
     requires n { n ≤ 81 }
     requires fits { mask < 2 ^ 81 }
-    ensures bounds { (n ≤ result) × (result ≤ 81) }
+    ensures range { (n ≤ result) × (result ≤ 81) }
     ensures none { (i : ℕ) → n ≤ i → i < result → has_bit mask i ≡ false }
     ensures set { result < 81 → has_bit mask result ≡ true }
 {

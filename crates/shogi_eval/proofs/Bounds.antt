@@ -12,7 +12,7 @@ use Rattle.shogi_core.specs.declared.piece.Role.TheVariants.{King}
 use Rattle.shogi_core.specs.declared.piece.Piece.{Piece}
 use Rattle.shogi_core.specs.Movement.{Cells}
 use Rattle.shogi_core.specs.Pieces.{is_of_kind, opponent_of}
-use Rattle.shogi_core.specs.Position.{Shogi, Held, held}
+use Rattle.shogi_core.specs.Position.{Shogi, HandCounts, held}
 use Rattle.shogi_core.specs.Validity.{IsValid, count_of}
 use Rattle.shogi_core.specs.Faultless.{IsFaultless}
 use Rattle.shogi_core.proofs.Faults.{faultless_from}
@@ -47,11 +47,11 @@ board_within color (cell ∷ cells) =
     let c : (kind : Kind) → count_by (is_of_kind kind) (cell ∷ cells) ≡ tally kind cell + count_by (is_of_kind kind) cells = λ kind. sum_by-cons (tally kind) cell cells in
     omega (arith, c kinds.Pawn, c kinds.Lance, c kinds.Knight, c kinds.Silver, c kinds.Gold, c kinds.Bishop, c kinds.Rook)
 
-hand_within : (hands : Held) (color : Color) → points_in_hand hands color ≤ most (λ kind. held hands color kind)
+hand_within : (hands : HandCounts) (color : Color) → points_in_hand hands color ≤ most (λ kind. held hands color kind)
 hand_within hands color = omega arith
 
 -- a side holds no more of a kind than both do
-side_within : (cells : Cells) (hands : Held) (color : Color) (kind : Kind) → count_by (is_of_kind kind) cells + held hands color kind ≤ count_of kind cells hands
+side_within : (cells : Cells) (hands : HandCounts) (color : Color) (kind : Kind) → count_by (is_of_kind kind) cells + held hands color kind ≤ count_of kind cells hands
 side_within cells hands Black kind = omega arith
 side_within cells hands White kind = omega arith
 

@@ -8,7 +8,7 @@ use Rattle.shogi_core.specs.declared.piece.Kind.{Kind}
 use Rattle.shogi_core.specs.Attack.{in_check}
 use Rattle.shogi_core.specs.Bits.{has_bit}
 use Rattle.shogi_core.specs.Codes.{code_of}
-use Rattle.shogi_core.specs.Pieces.{number_of}
+use Rattle.shogi_core.specs.Pieces.{kind_number}
 use Rattle.shogi_core.specs.Position.{Shogi}
 use Rattle.shogi_core.proofs.BitLaws.{has_bit-or, has_bit-none}
 use Rattle.shogi_core.proofs.Faults.{number_below}
@@ -59,16 +59,16 @@ piece_without p from plain promoting hf pb qb none = run_without p (from * 162) 
 
 -- a kind without an end has no drop
 pub kind_without : (p : Shogi) (kind : Kind) (ends : ℕ) → ((n : ℕ) → n < 81 → has_bit ends n ≡ is_wanted p false (code_of (Drop kind n))) → ends ≡ 0
-    → legal_from p (13122 + number_of kind * 81) ≡ legal_from p (13203 + number_of kind * 81)
+    → legal_from p (13122 + kind_number kind * 81) ≡ legal_from p (13203 + kind_number kind * 81)
 kind_without p kind ends bits none =
-    let seven : number_of kind < 7 = number_below kind in
-    run_without p (13122 + number_of kind * 81) (13203 + number_of kind * 81) (omega arith) (omega arith) (λ c low high. (
-    let at : c ≡ code_of (Drop kind (c - 13122 - number_of kind * 81)) = omega arith in
-    let there : c - 13122 - number_of kind * 81 < 81 = omega arith in
+    let seven : kind_number kind < 7 = number_below kind in
+    run_without p (13122 + kind_number kind * 81) (13203 + kind_number kind * 81) (omega arith) (omega arith) (λ c low high. (
+    let at : c ≡ code_of (Drop kind (c - 13122 - kind_number kind * 81)) = omega arith in
+    let there : c - 13122 - kind_number kind * 81 < 81 = omega arith in
     ap (is_legal_code p) at
-    ∙ (sym (drop_wanted p kind (c - 13122 - number_of kind * 81) there)
-    ∙ (sym (bits (c - 13122 - number_of kind * 81) there)
-    ∙ (ap (λ m. has_bit m (c - 13122 - number_of kind * 81)) none ∙ has_bit-none (c - 13122 - number_of kind * 81))))))
+    ∙ (sym (drop_wanted p kind (c - 13122 - kind_number kind * 81) there)
+    ∙ (sym (bits (c - 13122 - kind_number kind * 81) there)
+    ∙ (ap (λ m. has_bit m (c - 13122 - kind_number kind * 81)) none ∙ has_bit-none (c - 13122 - kind_number kind * 81))))))
 
 pub some_legal : (p : Shogi) (code : ℕ) → is_legal_code p code ≡ true → legal_moves p ≢ []
 some_legal p code e none = let clash : false ≡ true = ap (λ codes. is_in code codes) (sym none) ∙ in_legal p 0 code (omega arith) e in cc

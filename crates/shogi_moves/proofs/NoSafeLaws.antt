@@ -10,7 +10,7 @@ use Rattle.shogi_core.specs.Below.{some_below}
 use Rattle.shogi_core.specs.Cell.{is_of}
 use Rattle.shogi_core.specs.Codes.{move_of, code_of, kind_at}
 use Rattle.shogi_core.specs.Movement.{piece_at, reaches}
-use Rattle.shogi_core.specs.Pieces.{number_of}
+use Rattle.shogi_core.specs.Pieces.{kind_number}
 use Rattle.shogi_core.specs.Position.{Shogi, held}
 use Rattle.shogi_core.proofs.Below.{some_below_no, some_below_at}
 use Rattle.shogi_core.proofs.Faults.{number_below}
@@ -20,7 +20,7 @@ use Rattle.shogi_moves.specs.NoSafe.{HasNoSafe}
 use Rattle.shogi_moves.proofs.LegalLaws.{none_beyond, legal_from_skips}
 
 -- the kind of a number of a kind
-pub kind_back : (kind : Kind) → kind_at (number_of kind) ≡ kind
+pub kind_back : (kind : Kind) → kind_at (kind_number kind) ≡ kind
 kind_back kinds.Pawn = refl
 kind_back _ = refl
 
@@ -108,12 +108,12 @@ pub idle_reach : (p : Shogi) (from to code end : ℕ) → from < 81 → to < 81 
 idle_reach p from to code end hf ht low high e = idle_target p from to code end hf ht low high (λ promote. not_reached p from to promote e)
 
 -- none of the kind is held
-pub idle_drop : (p : Shogi) (kind : Kind) (code end : ℕ) → 13122 + number_of kind * 81 ≤ code → end ≤ 13203 + number_of kind * 81 → held p.hands p.side kind ≡ 0 → HasNoSafe p code end
+pub idle_drop : (p : Shogi) (kind : Kind) (code end : ℕ) → 13122 + kind_number kind * 81 ≤ code → end ≤ 13203 + kind_number kind * 81 → held p.hands p.side kind ≡ 0 → HasNoSafe p code end
 idle_drop p kind code end low high e =
-    let seven : number_of kind < 7 = number_below kind in
+    let seven : kind_number kind < 7 = number_below kind in
     record {
       none = λ c above below.
-          let n : (c - 13122) / 81 ≡ number_of kind = omega arith in
+          let n : (c - 13122) / 81 ≡ kind_number kind = omega arith in
           let same : kind_at ((c - 13122) / 81) ≡ kind = ap kind_at n ∙ kind_back kind in
           ap (is_safe_move p) (drop_code c (omega arith) (omega arith)) ∙ rw same (not_held p kind ((c - 13122) % 81) e);
     }

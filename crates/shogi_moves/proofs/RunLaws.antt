@@ -10,11 +10,11 @@ use Rattle.shogi_core.proofs.BitLaws.{has_bit-and}
 use Rattle.shogi_core.proofs.LineBits.{has_bit-not}
 use Rattle.shogi_moves.specs.NoSafe.{HasNoSafe}
 use Rattle.shogi_moves.proofs.NoSafeLaws.{idle_square, idle_own, idle_reach, drop_code, kind_back}
-use Rattle.shogi_moves.specs.Legal.{is_safe, is_safe_move, is_right_board_move, may_promote}
+use Rattle.shogi_moves.specs.Legal.{is_safe, is_safe_move, is_pseudo_legal_board_move, may_promote}
 use Rattle.shogi_moves.specs.After.{moved}
 use Rattle.shogi_moves.specs.Candidates.{is_candidate}
 use Rattle.shogi_core.specs.Codes.{kind_at}
-use Rattle.shogi_core.specs.Pieces.{number_of}
+use Rattle.shogi_core.specs.Pieces.{kind_number}
 use Rattle.shogi_core.specs.declared.piece.Kind.{Kind}
 use Rattle.shogi_core.specs.declared.moves.Move.TheVariants.{Board, Drop}
 use Rattle.shogi_core.proofs.Faults.{number_below}
@@ -54,13 +54,13 @@ unfolding is_safe
 taken_there p kind to e = search second_of_five
 
 -- something stands on the squares
-pub run_drops : (p : Shogi) (kind : Kind) (free to next code : ℕ) → to < 81 → code ≡ 13122 + number_of kind * 81 + to → next ≤ 81 → ((n : ℕ) → n < 81 → has_bit free n ≡ is_none (piece_at p.cells n))
-    → ((n : ℕ) → to ≤ n → n < next → has_bit free n ≡ false) → HasNoSafe p code (13122 + number_of kind * 81 + next)
+pub run_drops : (p : Shogi) (kind : Kind) (free to next code : ℕ) → to < 81 → code ≡ 13122 + kind_number kind * 81 + to → next ≤ 81 → ((n : ℕ) → n < 81 → has_bit free n ≡ is_none (piece_at p.cells n))
+    → ((n : ℕ) → to ≤ n → n < next → has_bit free n ≡ false) → HasNoSafe p code (13122 + kind_number kind * 81 + next)
 run_drops p kind free to next code small at end bits none =
-    let seven : number_of kind < 7 = number_below kind in
+    let seven : kind_number kind < 7 = number_below kind in
     record {
       none = λ c above below. (
-          let k : (c - 13122) / 81 ≡ number_of kind = omega arith in
+          let k : (c - 13122) / 81 ≡ kind_number kind = omega arith in
           let same : kind_at ((c - 13122) / 81) ≡ kind = ap kind_at k ∙ kind_back kind in
           ap (is_safe_move p) (drop_code c (omega arith) (omega arith)) ∙ rw same (taken_there p kind ((c - 13122) % 81) (sym (bits ((c - 13122) % 81) (omega arith)) ∙ none ((c - 13122) % 81) (omega arith) (omega arith))));
     }
@@ -82,5 +82,5 @@ rest true false c d e h = absurd (cc)
 rest false b c d e h = absurd (cc)
 
 pub candidate_right : (p : Shogi) (from to : ℕ) (promote : Bool) → is_candidate p (Board from to promote) ≡ true
-    → ((not promote || may_promote (piece_at p.cells from) from to) && not (is_dead to (moved promote (piece_at p.cells from)))) ≡ is_right_board_move p.cells p.side from to promote
+    → ((not promote || may_promote (piece_at p.cells from) from to) && not (is_dead to (moved promote (piece_at p.cells from)))) ≡ is_pseudo_legal_board_move p.cells p.side from to promote
 candidate_right p from to promote h = rest (is_of p.side (piece_at p.cells from)) (not (is_of p.side (piece_at p.cells to))) (reaches p.cells from to) (not promote || may_promote (piece_at p.cells from) from to) (not (is_dead to (moved promote (piece_at p.cells from)))) h

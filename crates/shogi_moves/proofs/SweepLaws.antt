@@ -9,7 +9,7 @@ use Rattle.shogi_core.specs.Bits.{has_bit}
 use Rattle.shogi_core.specs.Cell.{is_of}
 use Rattle.shogi_core.specs.Codes.{move_of, code_of}
 use Rattle.shogi_core.specs.Movement.{piece_at}
-use Rattle.shogi_core.specs.Pieces.{number_of}
+use Rattle.shogi_core.specs.Pieces.{kind_number}
 use Rattle.shogi_core.specs.Position.{Shogi}
 use Rattle.shogi_core.proofs.BitLaws.{has_bit-or, has_bit-none}
 use Rattle.shogi_core.proofs.CodesBack.{move_of-board, move_of-drop}
@@ -200,53 +200,53 @@ none_first p capture own code from next plain promoting k none h bits free =
 
 -- ---- drops
 
-pub keeps_kind : (p : Shogi) (kind : Kind) (ends : ℕ) → ends < 2 ^ 81 → ((n : ℕ) → n < 81 → has_bit ends n ≡ is_wanted p false (code_of (Drop kind n))) → KeepsDrop p kind (13122 + number_of kind * 81) ends
+pub keeps_kind : (p : Shogi) (kind : Kind) (ends : ℕ) → ends < 2 ^ 81 → ((n : ℕ) → n < 81 → has_bit ends n ≡ is_wanted p false (code_of (Drop kind n))) → KeepsDrop p kind (13122 + kind_number kind * 81) ends
 keeps_kind p kind ends fits bits = record {
   low = omega arith;
   high = omega arith;
-  drops = keeps_first (is_wanted p false) (λ n. code_of (Drop kind n)) (13122 + number_of kind * 81) ends fits bits (λ n. omega arith);
+  drops = keeps_first (is_wanted p false) (λ n. code_of (Drop kind n)) (13122 + kind_number kind * 81) ends fits bits (λ n. omega arith);
 }
 
-pub no_drop_left : (p : Shogi) (kind : Kind) (code : ℕ) → KeepsDrop p kind code 0 → HasNoneWanted p false code (13203 + number_of kind * 81)
+pub no_drop_left : (p : Shogi) (kind : Kind) (code : ℕ) → KeepsDrop p kind code 0 → HasNoneWanted p false code (13203 + kind_number kind * 81)
 no_drop_left p kind code k = record {
   none = λ c above below. (
-      let low : 13122 + number_of kind * 81 ≤ code = k.low in
-      let at : c ≡ code_of (Drop kind (c - 13122 - number_of kind * 81)) = omega arith in
-      ap (is_wanted p false) at ∙ k.drops.clear (c - 13122 - number_of kind * 81) (omega arith) (has_bit-none (c - 13122 - number_of kind * 81)) (omega arith));
+      let low : 13122 + kind_number kind * 81 ≤ code = k.low in
+      let at : c ≡ code_of (Drop kind (c - 13122 - kind_number kind * 81)) = omega arith in
+      ap (is_wanted p false) at ∙ k.drops.clear (c - 13122 - kind_number kind * 81) (omega arith) (has_bit-none (c - 13122 - kind_number kind * 81)) (omega arith));
 }
 
 -- one more kind that has none
-pub no_drop_more : (p : Shogi) (kind next : Kind) (code : ℕ) → HasNoneWanted p false code (13203 + number_of kind * 81) → number_of next ≡ number_of kind + 1 → KeepsDrop p next (13122 + number_of next * 81) 0 → HasNoneWanted p false code (13203 + number_of next * 81)
+pub no_drop_more : (p : Shogi) (kind next : Kind) (code : ℕ) → HasNoneWanted p false code (13203 + kind_number kind * 81) → kind_number next ≡ kind_number kind + 1 → KeepsDrop p next (13122 + kind_number next * 81) 0 → HasNoneWanted p false code (13203 + kind_number next * 81)
 no_drop_more p kind next code before e k =
-    let here : 13203 + number_of kind * 81 ≡ 13122 + number_of next * 81 = omega arith in
-    none_join p false code (13122 + number_of next * 81) (13203 + number_of next * 81) (subst (λ (x : ℕ). HasNoneWanted p false code x) here before) (no_drop_left p next (13122 + number_of next * 81) k)
+    let here : 13203 + kind_number kind * 81 ≡ 13122 + kind_number next * 81 = omega arith in
+    none_join p false code (13122 + kind_number next * 81) (13203 + kind_number next * 81) (subst (λ (x : ℕ). HasNoneWanted p false code x) here before) (no_drop_left p next (13122 + kind_number next * 81) k)
 
-pub no_drop_to : (p : Shogi) (kind next : Kind) (code : ℕ) → HasNoneWanted p false code (13203 + number_of kind * 81) → number_of next ≡ number_of kind + 1 → code ≤ 13203 + number_of kind * 81 → wanted_from p false code ≡ wanted_from p false (13122 + number_of next * 81)
+pub no_drop_to : (p : Shogi) (kind next : Kind) (code : ℕ) → HasNoneWanted p false code (13203 + kind_number kind * 81) → kind_number next ≡ kind_number kind + 1 → code ≤ 13203 + kind_number kind * 81 → wanted_from p false code ≡ wanted_from p false (13122 + kind_number next * 81)
 no_drop_to p kind next code before e low =
-    let seven : number_of next < 7 = number_below next in
-    let here : 13203 + number_of kind * 81 ≡ 13122 + number_of next * 81 = omega arith in
-    wanted_jumps p false code (13122 + number_of next * 81) (omega arith) (omega arith) (subst (λ (x : ℕ). HasNoneWanted p false code x) here before)
+    let seven : kind_number next < 7 = number_below next in
+    let here : 13203 + kind_number kind * 81 ≡ 13122 + kind_number next * 81 = omega arith in
+    wanted_jumps p false code (13122 + kind_number next * 81) (omega arith) (omega arith) (subst (λ (x : ℕ). HasNoneWanted p false code x) here before)
 
-pub no_drop_end : (p : Shogi) (kind : Kind) (code : ℕ) → HasNoneWanted p false code (13203 + number_of kind * 81) → number_of kind ≡ 6 → code ≤ 13203 + number_of kind * 81 → wanted_from p false code ≡ []
+pub no_drop_end : (p : Shogi) (kind : Kind) (code : ℕ) → HasNoneWanted p false code (13203 + kind_number kind * 81) → kind_number kind ≡ 6 → code ≤ 13203 + kind_number kind * 81 → wanted_from p false code ≡ []
 no_drop_end p kind code before e low =
-    let here : 13203 + number_of kind * 81 ≡ 13689 = omega arith in
+    let here : 13203 + kind_number kind * 81 ≡ 13689 = omega arith in
     wanted_jumps p false code 13689 (omega arith) (omega arith) (subst (λ (x : ℕ). HasNoneWanted p false code x) here before) ∙ wanted_end p false 13689 (omega arith)
 
 module _ (p : Shogi) (kind : Kind) (code ends to : ℕ) (k : KeepsDrop p kind code ends) (ht : to < 81) (set : has_bit ends to ≡ true) (least : (n : ℕ) → has_bit ends n ≡ true → to ≤ n) where
   pub drop_taken : IsTaken p false code (Drop kind to)
   drop_taken =
-      let seven : number_of kind < 7 = number_below kind in
-      let low : 13122 + number_of kind * 81 ≤ code = k.low in
+      let seven : kind_number kind < 7 = number_below kind in
+      let low : 13122 + kind_number kind * 81 ≤ code = k.low in
       let here : (code ≤ code_of (Drop kind to)) × (is_wanted p false (code_of (Drop kind to)) ≡ true) = k.drops.set to ht set in
       taken_from p false code (Drop kind to) (move_of-drop kind to ht) (omega arith) here.0 here.1 (record {
         none = λ c above under. (
-            let at : c ≡ code_of (Drop kind (c - 13122 - number_of kind * 81)) = omega arith in
-            ap (is_wanted p false) at ∙ k.drops.clear (c - 13122 - number_of kind * 81) (omega arith) (false_from_ne_true (has_bit ends (c - 13122 - number_of kind * 81)) (λ e. (let le : to ≤ c - 13122 - number_of kind * 81 = least (c - 13122 - number_of kind * 81) e in omega arith))) (omega arith));
+            let at : c ≡ code_of (Drop kind (c - 13122 - kind_number kind * 81)) = omega arith in
+            ap (is_wanted p false) at ∙ k.drops.clear (c - 13122 - kind_number kind * 81) (omega arith) (false_from_ne_true (has_bit ends (c - 13122 - kind_number kind * 81)) (λ e. (let le : to ≤ c - 13122 - kind_number kind * 81 = least (c - 13122 - kind_number kind * 81) e in omega arith))) (omega arith));
       })
 
   pub drop_kept : (next : ℕ) → next < ends → ((i : ℕ) → has_bit next i ≡ (has_bit ends i && not (i == to))) → KeepsDrop p kind (code_of (Drop kind to) + 1) next
   drop_kept next less bits =
-      let low : 13122 + number_of kind * 81 ≤ code = k.low in
+      let low : 13122 + kind_number kind * 81 ≤ code = k.low in
       let here : code ≤ code_of (Drop kind to) = (k.drops.set to ht set).0 in
       record {
         low = omega arith;

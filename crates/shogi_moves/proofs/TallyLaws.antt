@@ -11,7 +11,7 @@ use Rattle.shogi_core.specs.declared.moves.Move.TheVariants.{Board, Drop}
 use Rattle.shogi_core.specs.declared.piece.Kind.{Kind}
 use Rattle.shogi_core.specs.Cell.{is_of}
 use Rattle.shogi_core.specs.Movement.{piece_at}
-use Rattle.shogi_core.specs.Pieces.{number_of}
+use Rattle.shogi_core.specs.Pieces.{kind_number}
 use Rattle.shogi_core.proofs.Faults.{number_below}
 use Rattle.shogi_core.specs.Bits.{has_bit}
 use Rattle.shogi_core.specs.Codes.{code_of}
@@ -117,19 +117,19 @@ counted_board p from plain promoting h pf qf pb qb =
 -- ---- drops
 
 singles : (p : Shogi) (kind : Kind) (k s : ℕ) → s + k ≤ 81
-    → length (legal_from p (13122 + number_of kind * 81 + s)) ≡ tally k (λ i. is_legal_code p (code_of (Drop kind (i + s)))) + length (legal_from p (13122 + number_of kind * 81 + (s + k)))
+    → length (legal_from p (13122 + kind_number kind * 81 + s)) ≡ tally k (λ i. is_legal_code p (code_of (Drop kind (i + s)))) + length (legal_from p (13122 + kind_number kind * 81 + (s + k)))
 unfolding tally
 singles p kind zero s l =
-    let same : 13122 + number_of kind * 81 + s ≡ 13122 + number_of kind * 81 + (s + 0) = omega arith in
-    let e : length (legal_from p (13122 + number_of kind * 81 + s)) ≡ length (legal_from p (13122 + number_of kind * 81 + (s + 0))) = ap (λ (c : ℕ). length (legal_from p c)) same in
+    let same : 13122 + kind_number kind * 81 + s ≡ 13122 + kind_number kind * 81 + (s + 0) = omega arith in
+    let e : length (legal_from p (13122 + kind_number kind * 81 + s)) ≡ length (legal_from p (13122 + kind_number kind * 81 + (s + 0))) = ap (λ (c : ℕ). length (legal_from p c)) same in
     omega arith
 singles p kind (suc k) s l =
-    let seven : number_of kind < 7 = number_below kind in
-    let first = code_more p (13122 + number_of kind * 81 + s) (omega arith) in
+    let seven : kind_number kind < 7 = number_below kind in
+    let first = code_more p (13122 + kind_number kind * 81 + s) (omega arith) in
     let rest = singles p kind k (s + 1) (omega arith) in
-    let here : code_of (Drop kind (0 + s)) ≡ 13122 + number_of kind * 81 + s = omega arith in
-    let on : 13122 + number_of kind * 81 + s + 1 ≡ 13122 + number_of kind * 81 + (s + 1) = omega arith in
-    let end : 13122 + number_of kind * 81 + (s + 1 + k) ≡ 13122 + number_of kind * 81 + (s + suc k) = omega arith in
+    let here : code_of (Drop kind (0 + s)) ≡ 13122 + kind_number kind * 81 + s = omega arith in
+    let on : 13122 + kind_number kind * 81 + s + 1 ≡ 13122 + kind_number kind * 81 + (s + 1) = omega arith in
+    let end : 13122 + kind_number kind * 81 + (s + 1 + k) ≡ 13122 + kind_number kind * 81 + (s + suc k) = omega arith in
     let onw = ap (λ (c : ℕ). length (legal_from p c)) on in
     let endw = ap (λ (c : ℕ). length (legal_from p c)) end in
     let hw = ap (λ (c : ℕ). digit (is_legal_code p c)) here in
@@ -137,12 +137,12 @@ singles p kind (suc k) s l =
     omega (arith, first, rest, onw, endw, hw, t)
 
 pub counted_drop : (p : Shogi) (kind : Kind) (ends : ℕ) → ends < 2 ^ 81 → ((n : ℕ) → n < 81 → has_bit ends n ≡ is_legal_code p (code_of (Drop kind n)))
-    → length (legal_from p (13122 + number_of kind * 81)) ≡ count_ones ends + length (legal_from p (13203 + number_of kind * 81))
+    → length (legal_from p (13122 + kind_number kind * 81)) ≡ count_ones ends + length (legal_from p (13203 + kind_number kind * 81))
 counted_drop p kind ends fits bits =
     let all = singles p kind 81 0 (omega arith) in
-    let start : 13122 + number_of kind * 81 + 0 ≡ 13122 + number_of kind * 81 = omega arith in
+    let start : 13122 + kind_number kind * 81 + 0 ≡ 13122 + kind_number kind * 81 = omega arith in
     let startw = ap (λ (c : ℕ). length (legal_from p c)) start in
-    let end : 13122 + number_of kind * 81 + (0 + 81) ≡ 13203 + number_of kind * 81 = omega arith in
+    let end : 13122 + kind_number kind * 81 + (0 + 81) ≡ 13203 + kind_number kind * 81 = omega arith in
     let endw = ap (λ (c : ℕ). length (legal_from p c)) end in
     let a = ones_tally 81 ends fits in
     let b = tally_same 81 (has_bit ends) (λ i. is_legal_code p (code_of (Drop kind (i + 0)))) (λ i l. bits i l ∙ ap (λ (n : ℕ). is_legal_code p (code_of (Drop kind n))) (omega arith)) in

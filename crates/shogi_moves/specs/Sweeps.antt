@@ -4,7 +4,7 @@ use Rattle.shogi_core.specs.declared.moves.Move.TheVariants.{Board, Drop}
 use Rattle.shogi_core.specs.declared.piece.Kind.{Kind}
 use Rattle.shogi_core.specs.Bits.{has_bit}
 use Rattle.shogi_core.specs.Codes.{code_of}
-use Rattle.shogi_core.specs.Pieces.{number_of}
+use Rattle.shogi_core.specs.Pieces.{kind_number}
 use Rattle.shogi_core.specs.Position.{Shogi}
 use Rattle.shogi_moves.specs.declared.sweep.BoardSweep.{BoardSweep}
 use Rattle.shogi_moves.specs.declared.sweep.DropSweep.{DropSweep}
@@ -31,8 +31,8 @@ pub record KeepsBoard (p : Shogi) (capture : Bool) (from code plain promoting : 
 
 -- the ends still to come of a held kind
 pub record KeepsDrop (p : Shogi) (kind : Kind) (code ends : ℕ) : Type 0 where
-  pub low : 13122 + number_of kind * 81 ≤ code
-  pub high : code ≤ 13203 + number_of kind * 81
+  pub low : 13122 + kind_number kind * 81 ≤ code
+  pub high : code ≤ 13203 + kind_number kind * 81
   pub drops : Keeps (is_wanted p false) (λ n. code_of (Drop kind n)) code ends
 
 -- the same of what a sweep holds, with what is known of the position

@@ -56,6 +56,7 @@ pub fn cells_after(board: &Board, side: Color, m: &Move) -> Board
     cells
 }
 
+/// The hands with what the side captured, as its unpromoted kind.
 fn with_captured(hands: Hands, side: Color, cell: Option<Piece>) -> Hands
     requires { (kind : Kind) → held hands side kind < 255 }
     ensures { result ≡ with_captured hands side cell }
@@ -67,6 +68,7 @@ fn with_captured(hands: Hands, side: Color, cell: Option<Piece>) -> Hands
     hands.with(side, kind, hands.count(side, kind) + 1)
 }
 
+/// The position after a safe move of a piece on the board.
 #[tactic(auto, using(crate::proofs::Keeps::no_fault_after_board))]
 fn after_board(p: &Position, from: Square, to: Square, promote: bool) -> Position
     requires { is_safe p.now (moves.Board from to promote) ≡ true }
@@ -83,6 +85,7 @@ fn after_board(p: &Position, from: Square, to: Square, promote: bool) -> Positio
     Position::of_valid(board, hands, p.side().opponent())
 }
 
+/// The position after a safe drop.
 #[tactic(auto, using(crate::proofs::Keeps::no_fault_after_drop))]
 fn after_drop(p: &Position, kind: Kind, to: Square) -> Position
     requires { is_safe p.now (moves.Drop kind to) ≡ true }

@@ -34,7 +34,7 @@ fn is_asked(capture: bool, takes: bool) -> bool
 fn skip_targets(p: &Position, capture: bool, from: Square, to: Square, code: u16) -> u16
     requires code { ((from * 81 + to) * 2 ≤ code) × (code ≤ (from * 81 + to) * 2 + 1) }
     requires other { is_asked capture (is_some (piece_at p.now.cells to)) ≡ false }
-    ensures bounds { (code < result) × (result ≤ 13122) }
+    ensures range { (code < result) × (result ≤ 13122) }
     ensures none { HasNoneWanted p.now capture code result }
 {
     let first = from.index() as u16 * 162;
@@ -53,7 +53,7 @@ fn skip_targets(p: &Position, capture: bool, from: Square, to: Square, code: u16
 fn skip_drops(p: &Position, capture: bool, code: u16) -> u16
     requires code { (13122 ≤ code) × (code < 13689) }
     requires other { is_asked capture false ≡ false }
-    ensures bounds { (code < result) × (result ≤ 13689) }
+    ensures range { (code < result) × (result ≤ 13689) }
     ensures none { HasNoneWanted p.now capture code result }
 {
     13689
@@ -63,7 +63,7 @@ fn skip_drops(p: &Position, capture: bool, code: u16) -> u16
 #[tactic(auto, using(crate::proofs::CaptureLaws::idle))]
 fn skip_sort(p: &Position, capture: bool, code: u16) -> u16
     requires { code < 13689 }
-    ensures bounds { (code ≤ result) × (result ≤ 13689) }
+    ensures range { (code ≤ result) × (result ≤ 13689) }
     ensures none { HasNoneWanted p.now capture code result }
 {
     let Some(m) = Move::of_code(code) else {
@@ -119,8 +119,8 @@ fn least_wanted(p: &Position, capture: bool, first: u16) -> Option<Move>
     None
 }
 
-/// As `next_legal`, among the captures alone where `capture` holds, and else among the other moves.
-pub fn next_legal_of(p: &Position, capture: bool, after: Option<Move>) -> Option<Move>
+/// The legal move of the sort of least code above that of `after`, or of least code.
+fn next_of_sort(p: &Position, capture: bool, after: Option<Move>) -> Option<Move>
     ensures next { MatchOption result (filter (is_of_sort p.now capture) (legal_above p.now after) ≡ []) (λ m. filter (is_of_sort p.now capture) (legal_above p.now after) ≡ code_of m ∷ filter (is_of_sort p.now capture) (legal_above p.now (Some m))) }
     ensures legal { IfSome result (λ m. is_legal p.now m ≡ true) }
 {
@@ -128,4 +128,20 @@ pub fn next_legal_of(p: &Position, capture: bool, after: Option<Move>) -> Option
         None => least_wanted(p, capture, 0),
         Some(m) => least_wanted(p, capture, m.code() + 1),
     }
+}
+
+/// As `next_legal`, among the captures alone.
+pub fn next_capture(p: &Position, after: Option<Move>) -> Option<Move>
+    ensures next { MatchOption result (filter (is_of_sort p.now true) (legal_above p.now after) ≡ []) (λ m. filter (is_of_sort p.now true) (legal_above p.now after) ≡ code_of m ∷ filter (is_of_sort p.now true) (legal_above p.now (Some m))) }
+    ensures legal { IfSome result (λ m. is_legal p.now m ≡ true) }
+{
+    next_of_sort(p, true, after)
+}
+
+/// As `next_legal`, among the moves that capture nothing.
+pub fn next_quiet(p: &Position, after: Option<Move>) -> Option<Move>
+    ensures next { MatchOption result (filter (is_of_sort p.now false) (legal_above p.now after) ≡ []) (λ m. filter (is_of_sort p.now false) (legal_above p.now after) ≡ code_of m ∷ filter (is_of_sort p.now false) (legal_above p.now (Some m))) }
+    ensures legal { IfSome result (λ m. is_legal p.now m ≡ true) }
+{
+    next_of_sort(p, false, after)
 }

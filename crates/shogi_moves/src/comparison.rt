@@ -1,7 +1,9 @@
 //! The bodies by masks against the plain ones, on worked positions and on those of a played game.
 
 use crate::tests::{position, read};
-use crate::{Walk, apply, has_legal, in_check, is_legal, next_legal, next_legal_of, perft, plain};
+use crate::{
+    Walk, apply, has_legal, in_check, is_legal, next_capture, next_legal, next_quiet, perft, plain,
+};
 use shogi_core::Color::{Black, White};
 use shogi_core::{Color, Move, Position, Square};
 use std::process::Abort;
@@ -48,10 +50,10 @@ fn assert_moves(rt: &impl Abort, p: &Position, at: usize) {
             );
             let capture = plain::takes(p, &m);
             if capture {
-                taken = next_legal_of(p, true, taken);
+                taken = next_capture(p, taken);
                 assert!(rt; taken == Some(m), "the capture {code} in position {at}");
             } else {
-                quiet = next_legal_of(p, false, quiet);
+                quiet = next_quiet(p, quiet);
                 assert!(rt; quiet == Some(m), "the quiet move {code} in position {at}");
             }
         }
@@ -61,11 +63,11 @@ fn assert_moves(rt: &impl Abort, p: &Position, at: usize) {
         "position {at}"
     );
     assert!(rt;
-        next_legal_of(p, true, taken).is_none(),
+        next_capture(p, taken).is_none(),
         "no capture more in position {at}"
     );
     assert!(rt;
-        next_legal_of(p, false, quiet).is_none(),
+        next_quiet(p, quiet).is_none(),
         "no quiet move more in position {at}"
     );
     assert!(rt;

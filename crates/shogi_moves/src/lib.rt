@@ -24,7 +24,7 @@ mod zones;
 
 pub use after::apply;
 pub use attack::{in_check, is_attacked};
-pub use capture::next_legal_of;
+pub use capture::{next_capture, next_quiet};
 pub use count::perft;
 pub use existence::has_legal;
 pub use guard::{Guard, guard_of};

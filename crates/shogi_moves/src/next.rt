@@ -8,7 +8,7 @@ ghost use Rattle.shogi_moves.specs.LegalMoves.{legal_from, legal_above, legal_mo
 ghost use Rattle.shogi_moves.specs.Rising.{IsRising};
 
 use crate::guard::{Guard, guard_of};
-use crate::legal::is_pawn_mate;
+use crate::legal::is_pawn_drop_mate;
 use crate::safe::least_guarded;
 use shogi_core::{Move, Position};
 
@@ -23,7 +23,7 @@ pub fn least_from(p: &Position, guard: &Guard, first: u16) -> Option<Move>
 {
     let mut code = first;
     while let Some(m) = least_guarded(p, guard, code) {
-        if !is_pawn_mate(p, &m) {
+        if !is_pawn_drop_mate(p, &m) {
             return Some(m);
         }
         code = m.code() + 1;

@@ -3,7 +3,7 @@
 ghost use Rattle.std.specs.Prelude.{◌≡◌, ◌≤◌, ◌<◌, ◌*◌, ◌+◌, true, false, Bool, IfSome, IsNone, Some};
 ghost use Rattle.shogi_core.specs.Codes.{code_of, move_of};
 ghost use Rattle.shogi_core.specs.Below.{some_below};
-ghost use Rattle.shogi_core.specs.Pieces.{number_of};
+ghost use Rattle.shogi_core.specs.Pieces.{kind_number};
 ghost use Rattle.shogi_moves.specs.Legal.{is_safe, is_safe_code};
 ghost use Rattle.shogi_core.specs.declared.moves.Move.{Move};
 ghost use Rattle.shogi_core.specs.declared.moves.Move.TheVariants as moves;
@@ -21,7 +21,7 @@ use shogi_core::{Kind, Move, Position, Square};
 #[tactic(auto, using(crate::proofs::RunLaws::board_runs, crate::proofs::NoSafeLaws::no_safe_here))]
 fn skip_board(p: &Position, from: Square, to: Square, code: u16) -> u16
     requires { ((from * 81 + to) * 2 ≤ code) × (code ≤ (from * 81 + to) * 2 + 1) }
-    ensures bounds { (code ≤ result) × (result ≤ 13122) }
+    ensures range { (code ≤ result) × (result ≤ 13122) }
     ensures idle { HasNoSafe p.now code result }
     ensures candidate { (promote : Bool) → result ≡ code → is_candidate p.now (moves.Board from to promote) ≡ true }
 {
@@ -41,8 +41,8 @@ fn skip_board(p: &Position, from: Square, to: Square, code: u16) -> u16
 /// are not empty, are left out.
 #[tactic(auto, using(crate::proofs::NoSafeLaws::idle_drop, crate::proofs::RunLaws::run_drops, crate::proofs::NoSafeLaws::no_safe_here))]
 fn skip_drop(p: &Position, kind: Kind, to: Square, code: u16) -> u16
-    requires { code ≡ 13122 + number_of kind * 81 + to }
-    ensures bounds { (code ≤ result) × (result ≤ 13689) }
+    requires { code ≡ 13122 + kind_number kind * 81 + to }
+    ensures range { (code ≤ result) × (result ≤ 13689) }
     ensures idle { HasNoSafe p.now code result }
 {
     let first = 13122 + kind.number() * 81;
@@ -61,7 +61,7 @@ fn skip_drop(p: &Position, kind: Kind, to: Square, code: u16) -> u16
 #[tactic(auto, using(crate::proofs::NoSafeLaws::no_safe_here))]
 pub fn skip(p: &Position, code: u16) -> u16
     requires { code < 13689 }
-    ensures bounds { (code ≤ result) × (result ≤ 13689) }
+    ensures range { (code ≤ result) × (result ≤ 13689) }
     ensures idle { HasNoSafe p.now code result }
     ensures candidate { (m : Move) → result ≡ code → move_of code ≡ Some m → is_candidate p.now m ≡ true }
 {

@@ -6,7 +6,7 @@ ghost use Rattle.shogi_core.specs.Bits.{has_bit};
 ghost use Rattle.shogi_core.specs.Cell.{is_of};
 ghost use Rattle.shogi_core.specs.Codes.{code_of};
 ghost use Rattle.shogi_core.specs.Movement.{piece_at};
-ghost use Rattle.shogi_core.specs.Pieces.{number_of};
+ghost use Rattle.shogi_core.specs.Pieces.{kind_number};
 ghost use Rattle.shogi_moves.specs.Captures.{is_wanted, HasNoneWanted};
 ghost use Rattle.shogi_moves.specs.Guards.{Guards};
 ghost use Rattle.shogi_moves.specs.Legal.{is_legal};
@@ -152,7 +152,7 @@ impl BoardSweep {
 
 /// The kind after this one in the order of kinds.
 pub fn next_kind(kind: Kind) -> Option<Kind>
-    ensures { MatchOption result (number_of kind ≡ 6) (λ k. number_of k ≡ number_of kind + 1) }
+    ensures { MatchOption result (kind_number kind ≡ 6) (λ k. kind_number k ≡ kind_number kind + 1) }
 {
     match kind {
         Kind::Pawn => Some(Kind::Lance),

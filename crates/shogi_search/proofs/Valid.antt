@@ -9,7 +9,7 @@ use Rattle.shogi_core.specs.declared.piece.Color.{Color}
 use Rattle.shogi_core.specs.declared.piece.Kind.{Kind}
 use Rattle.shogi_core.specs.declared.piece.Piece.{Piece}
 use Rattle.shogi_core.specs.Codes.{move_of, kind_at}
-use Rattle.shogi_core.specs.Position.{Shogi, Held}
+use Rattle.shogi_core.specs.Position.{Shogi, HandCounts}
 use Rattle.shogi_core.specs.Validity.{IsValid}
 use Rattle.shogi_core.specs.Movement.{piece_at}
 use Rattle.shogi_core.specs.Pieces.{kind_of}
@@ -26,11 +26,11 @@ board_of code h = cond-true (nat_lt code 13122) _ _ (lt-ltb code 13122 h)
 pub drop_of : (code : ℕ) → 13122 ≤ code → code < 13689 → move_of code ≡ Some (Drop (kind_at ((code - 13122) / 81)) ((code - 13122) % 81))
 drop_of code h k = cond-false (nat_lt code 13122) _ _ (le-ltb code 13122 h) ∙ cond-true (nat_lt code 13689) _ _ (lt-ltb code 13689 k)
 
-length-with_one_more : (hands : Held) (color : Color) (kind : Option Kind) → length (with_one_more hands color kind) ≡ length hands
+length-with_one_more : (hands : HandCounts) (color : Color) (kind : Option Kind) → length (with_one_more hands color kind) ≡ length hands
 length-with_one_more hands color None = grind (arith, common_steps)
 length-with_one_more hands color (Some kind) = grind (arith, common_steps)
 
-length-with_captured : (hands : Held) (color : Color) (cell : Option Piece) → length (with_captured hands color cell) ≡ length hands
+length-with_captured : (hands : HandCounts) (color : Color) (cell : Option Piece) → length (with_captured hands color cell) ≡ length hands
 length-with_captured hands color None = grind (arith, common_steps)
 length-with_captured hands color (Some piece) = length-with_one_more hands color (kind_of piece.role)
 

@@ -7,7 +7,7 @@ use Rattle.std.proofs.lemmas.Slice.Eq.{bytes_eq-Decides}
 use Rattle.std.proofs.lemmas.Bool.{cond-true, cond-false, lt-ltb, le-ltb, cases_lt, cases_Bool, false_from_ne_true}
 use Rattle.shogi_core.specs.declared.moves.Move.{Move}
 use Rattle.shogi_core.specs.declared.moves.Move.TheVariants.{Board, Drop}
-use Rattle.shogi_core.specs.Pieces.{number_of}
+use Rattle.shogi_core.specs.Pieces.{kind_number}
 use Rattle.shogi_core.specs.Codes.{code_of, move_of, kind_at, codes_from}
 use Rattle.shogi_core.proofs.CodesBack.{move_of-board, move_of-drop, code_of-board, code_of-drop}
 use Rattle.shogi_core.proofs.Faults.{number_below}
@@ -75,7 +75,7 @@ coded : (m : Move) → IsOnBoard m → IsCoded m
 unfolding IsOnBoard
 coded (Board from to true) h = let a : from < 81 = h.0 in let b : to < 81 = h.1 in record { below = omega arith; back = move_of-board from to true h.0 h.1 }
 coded (Board from to false) h = let a : from < 81 = h.0 in let b : to < 81 = h.1 in record { below = omega arith; back = move_of-board from to false h.0 h.1 }
-coded (Drop kind to) h = let n : number_of kind < 7 = number_below kind in record { below = omega arith; back = move_of-drop kind to h }
+coded (Drop kind to) h = let n : kind_number kind < 7 = number_below kind in record { below = omega arith; back = move_of-drop kind to h }
 
 search_some : (text : List ℕ) (m : Move) → read text ≡ Some m → move_of_text text ≡ Some m
 unfolding move_of_text codes_from

@@ -6,7 +6,7 @@ use Rattle.shogi_moves.proofs.count.count_board.Goals as goal
 pub squares-init : goal.squares-init
 squares-init c = record {
   whole = omega (arith, counted_between c.args.p.now c.own-own.result 0 c.next_of-square.result (omega arith) (omega arith) (rw c.side.ensures at c.own-own.ensures.bits) c.next_of-square.ensures.none);
-  bound = omega arith;
+  range = omega arith;
   within = omega arith;
   mine = c.next_of-square.ensures.set;
 }
@@ -22,7 +22,7 @@ squares-preserved c =
     let b = ones_most c.legal_ends-ends.result.promoting c.legal_ends-ends.ensures.promoting_fits in
     record {
       whole = omega (arith, c.squares.invariant.whole, block, onw, between);
-      bound = omega (arith, c.squares.invariant.bound, a, b);
+      range = omega (arith, c.squares.invariant.range, a, b);
       within = omega arith;
       mine = c.next_of-square-in-squares.ensures.set;
     }

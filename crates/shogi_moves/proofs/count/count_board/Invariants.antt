@@ -6,7 +6,7 @@ use Rattle.shogi_moves.proofs.count.count_board.Given as goal
 abbrev pub invariant-squares : goal.invariant-squares
 invariant-squares l = record {
   whole : l.total + length (legal_from l.p (l.square * 162)) ≡ length (legal_from l.p 0);
-  bound : l.total ≤ l.square * 162;
+  range : l.total ≤ l.square * 162;
   within : l.square ≤ 81;
   mine : l.square < 81 → has_bit l.own l.square ≡ true;
 }
