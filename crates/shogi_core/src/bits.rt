@@ -3,6 +3,9 @@
 ghost use Rattle.std.specs.Prelude.{◌≡◌, ◌≢◌, ◌<◌, ◌≤◌, ◌^◌, ◌==◌, ◌&&◌, ◌||◌, not, true, false, ℕ};
 ghost use Rattle.shogi_core.specs.Bits.{has_bit};
 
+/// Every square of the board.
+pub const ALL_SQUARES: u128 = 2417851639229258349412351;
+
 /// Whether bit n is set.
 #[tactic(auto, using(crate::proofs::BitLaws::bit_tests))]
 pub fn has(mask: u128, n: usize) -> bool

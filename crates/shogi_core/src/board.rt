@@ -7,7 +7,7 @@ ghost use Rattle.shogi_core.specs.Masks.{own_of, kings_of, is_any_king};
 ghost use Rattle.shogi_core.specs.Movement.{piece_at};
 ghost use Rattle.shogi_core.specs.Start.{start_cells};
 
-use crate::bits::{with, without};
+use crate::bits::{ALL_SQUARES, with, without};
 use crate::cell::is_of;
 use crate::piece::{Color, Piece};
 use crate::square::Square;
@@ -155,7 +155,7 @@ impl Board {
         ensures bits { (n : ℕ) → n < 81 → has_bit result n ≡ is_none (piece_at self.now n) }
         ensures fits { result < 2 ^ 81 }
     {
-        !self.occupied() & 2417851639229258349412351
+        !self.occupied() & ALL_SQUARES
     }
 
     /// The squares on which kings of the side stand.

@@ -3,6 +3,7 @@ use Rattle.std.proofs.Common.{◌≡◌, ℕ, ◌<◌, ◌+◌, ◌*◌, ◌^◌
 use Rattle.std.specs.Prelude.{◌%◌, ◌/◌, ◌==◌, ◌&&◌, ◌||◌, nat_lt}
 use Rattle.std.proofs.lemmas.Bool.{agree_below_at, ltb-true, lt-ltb, le-ltb, cases_lt, cases_eq, eq-eqb, ne_eqb}
 use Rattle.std.proofs.lemmas.Nat.{or_lt}
+use Rattle.shogi_core.specs.declared.bits.TheConstants.{ALL_SQUARES}
 use Rattle.shogi_core.specs.Bits.{has_bit}
 use Rattle.shogi_core.specs.declared.piece.Color.{Color}
 use Rattle.shogi_core.specs.declared.piece.Role.{Role}
@@ -39,9 +40,9 @@ pub white_zone : (n : ℕ) → n < 81 → has_bit 2119760341242089511813568 n �
 unfolding has_bit
 white_zone n h = agree_below_at (λ n. has_bit 2119760341242089511813568 n) (λ n. nat_lt 5 (n % 9)) 81 n refl h
 
-pub all_squares : (n : ℕ) → n < 81 → has_bit 2417851639229258349412351 n ≡ true
+pub all_squares : (n : ℕ) → n < 81 → has_bit ALL_SQUARES n ≡ true
 unfolding has_bit
-all_squares n h = agree_below_at (λ n. has_bit 2417851639229258349412351 n) (λ n. true) 81 n refl h
+all_squares n h = agree_below_at (λ n. has_bit ALL_SQUARES n) (λ n. true) 81 n refl h
 
 both_true : (a b c : Bool) → a ≡ true → b ≡ true → true ≡ (a && (b || c))
 both_true a b c p q = rw (p, q) refl
@@ -56,7 +57,7 @@ none_of a b p = rw p refl
 pub promotes_never : (role : Role) (color : Color) (from n : ℕ) → n < 81 → can_promote role ≡ false → has_bit 0 n ≡ (can_promote role && (in_zone color from || in_zone color n))
 promotes_never role color from n h e = has_bit-none n ∙ none_of (can_promote role) (in_zone color from || in_zone color n) e
 
-pub promotes_all : (role : Role) (color : Color) (from n : ℕ) → n < 81 → can_promote role ≡ true → in_zone color from ≡ true → has_bit 2417851639229258349412351 n ≡ (can_promote role && (in_zone color from || in_zone color n))
+pub promotes_all : (role : Role) (color : Color) (from n : ℕ) → n < 81 → can_promote role ≡ true → in_zone color from ≡ true → has_bit ALL_SQUARES n ≡ (can_promote role && (in_zone color from || in_zone color n))
 promotes_all role color from n h e z = all_squares n h ∙ both_true (can_promote role) (in_zone color from) (in_zone color n) e z
 
 pub promotes_there : (role : Role) (color : Color) (from n m : ℕ) → has_bit m n ≡ in_zone color n → can_promote role ≡ true → in_zone color from ≡ false → has_bit m n ≡ (can_promote role && (in_zone color from || in_zone color n))

@@ -1,5 +1,6 @@
 -- Which moves are legal (JSA playing rules: moves, promotion, drops, check, prohibited moves).
 use Rattle.std.specs.Prelude.{ℕ, ◌/◌, ◌%◌, ◌&&◌, ◌||◌, Bool, true, false, not, Option, Some, None, is_none, nat_lt}
+use Rattle.shogi_core.specs.declared.moves.TheConstants.{MOVE_CODES}
 use Rattle.shogi_core.specs.declared.piece.Color.{Color}
 use Rattle.shogi_core.specs.declared.piece.Color.TheVariants.{Black, White}
 use Rattle.shogi_core.specs.declared.piece.Kind.{Kind}
@@ -85,7 +86,7 @@ is_pawn_drop (Drop kind to) = is_pawn_kind kind
 
 -- the side to move is in check and has no safe move
 abbrev pub is_mated : Shogi → Bool
-is_mated p = in_check p.cells p.side && not (some_below 13689 (is_safe_code p))
+is_mated p = in_check p.cells p.side && not (some_below MOVE_CODES (is_safe_code p))
 
 -- the drop of a pawn gives mate
 abbrev pub is_pawn_drop_mate : Shogi → Move → Bool

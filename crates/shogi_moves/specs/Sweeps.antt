@@ -1,5 +1,6 @@
 -- What is kept on the way through the moves of a sort: the ends still to come of the present piece.
 use Rattle.std.specs.Prelude.{ℕ, ◌≡◌, ◌≤◌, ◌<◌, ◌+◌, ◌*◌, ◌^◌, Bool, true, false, List, filter}
+use Rattle.shogi_core.specs.declared.moves.TheConstants.{FIRST_DROP, SQUARE_CODES}
 use Rattle.shogi_core.specs.declared.moves.Move.TheVariants.{Board, Drop}
 use Rattle.shogi_core.specs.declared.piece.Kind.{Kind}
 use Rattle.shogi_core.specs.Bits.{has_bit}
@@ -24,15 +25,15 @@ pub record Keeps (test : ℕ → Bool) (place : ℕ → ℕ) (code mask : ℕ) :
 
 -- the ends still to come of the piece on a square
 pub record KeepsBoard (p : Shogi) (capture : Bool) (from code plain promoting : ℕ) : Type 0 where
-  pub low : from * 162 ≤ code
-  pub high : code ≤ from * 162 + 162
+  pub low : from * SQUARE_CODES ≤ code
+  pub high : code ≤ from * SQUARE_CODES + SQUARE_CODES
   pub plains : Keeps (is_wanted p capture) (λ n. code_of (Board from n false)) code plain
   pub promotings : Keeps (is_wanted p capture) (λ n. code_of (Board from n true)) code promoting
 
 -- the ends still to come of a held kind
 pub record KeepsDrop (p : Shogi) (kind : Kind) (code ends : ℕ) : Type 0 where
-  pub low : 13122 + kind_number kind * 81 ≤ code
-  pub high : code ≤ 13203 + kind_number kind * 81
+  pub low : FIRST_DROP + kind_number kind * 81 ≤ code
+  pub high : code ≤ FIRST_DROP + 81 + kind_number kind * 81
   pub drops : Keeps (is_wanted p false) (λ n. code_of (Drop kind n)) code ends
 
 -- the same of what a sweep holds, with what is known of the position

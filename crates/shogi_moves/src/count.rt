@@ -1,6 +1,7 @@
 //! Counting sequences of legal moves.
 
-ghost use Rattle.std.specs.Prelude.{◌≡◌, ◌≤◌, ◌<◌, ◌^◌, ◌+◌, ◌↔◌, IfSome, IsNone, length};
+ghost use Rattle.std.specs.Prelude.{◌≡◌, ◌≤◌, ◌<◌, ◌^◌, ◌+◌, ◌-◌, ◌↔◌, IfSome, IsNone, length};
+ghost use Rattle.shogi_core.specs.declared.moves.TheConstants.{MOVE_CODES, FIRST_DROP};
 ghost use Rattle.shogi_moves.specs.LegalMoves.{legal_from, legal_moves, perft};
 ghost use Rattle.shogi_moves.specs.Guards.{Guards};
 
@@ -15,8 +16,8 @@ use shogi_core::{Kind, Position, Square};
 /// How many board moves are legal.
 fn count_board(p: &Position, guard: &Guard) -> u64
     requires guard { Guards p.now guard.now.checked guard.now.exposed }
-    ensures count { result + length (legal_from p.now 13122) ≡ length (legal_moves p.now) }
-    ensures range { result ≤ 13122 }
+    ensures count { result + length (legal_from p.now FIRST_DROP) ≡ length (legal_moves p.now) }
+    ensures range { result ≤ FIRST_DROP }
 {
     let own = p.own(p.side());
     let mut total: u64 = 0;
@@ -32,8 +33,8 @@ fn count_board(p: &Position, guard: &Guard) -> u64
 /// How many drops are legal.
 fn count_drops(p: &Position, guard: &Guard) -> u64
     requires guard { Guards p.now guard.now.checked guard.now.exposed }
-    ensures count { result ≡ length (legal_from p.now 13122) }
-    ensures range { result ≤ 567 }
+    ensures count { result ≡ length (legal_from p.now FIRST_DROP) }
+    ensures range { result ≤ MOVE_CODES - FIRST_DROP }
 {
     let mut kind = Kind::Pawn;
     let mut total = drop_ends(p, guard, kind).count_ones() as u64;

@@ -1,7 +1,9 @@
 //! The rules by plain bodies, to compare with: lines are walked square by square, the board is
 //! scanned for attacks, and each move is made to see what it leaves.
 
-use shogi_core::{Board, Color, Kind, Move, Piece, Position, Role, Square, is_dead, is_of};
+use shogi_core::{
+    Board, Color, Kind, MOVE_CODES, Move, Piece, Position, Role, Square, is_dead, is_of,
+};
 
 fn steps(piece: Piece, from: Square, to: Square) -> bool {
     for offset in piece.role.steps() {
@@ -154,7 +156,7 @@ fn is_safe(p: &Position, m: &Move) -> bool {
 }
 
 fn has_safe(p: &Position) -> bool {
-    for code in 0..13689u16 {
+    for code in 0..MOVE_CODES {
         if let Some(m) = Move::of_code(code) {
             if is_safe(p, &m) {
                 return true;

@@ -7,6 +7,7 @@ ghost use Rattle.shogi_core.specs.Validity.{pawns_on_file};
 ghost use Rattle.shogi_moves.specs.Legal.{in_zone, may_promote};
 
 use crate::legal::{can_promote, in_zone};
+use shogi_core::bits::ALL_SQUARES;
 use shogi_core::{Board, Color, Piece, Position, Role, Square};
 
 /// The squares on which the piece could never move again.
@@ -48,7 +49,7 @@ pub fn promoting_squares(cell: Option<Piece>, from: Square) -> u128
         return 0;
     }
     if in_zone(piece.color, from) {
-        return 2417851639229258349412351;
+        return ALL_SQUARES;
     }
     zone_squares(piece.color)
 }

@@ -1,4 +1,5 @@
 use Rattle.std.proofs.Common.{◌≡◌, ◌+◌, ◌*◌, arith, ap, ◌∙◌, ℕ, length}
+use Rattle.shogi_core.specs.declared.moves.TheConstants.{FIRST_DROP}
 use Rattle.shogi_core.specs.Pieces.{kind_number}
 use Rattle.shogi_core.specs.declared.piece.Kind.TheVariants as kinds
 use Rattle.shogi_moves.specs.LegalMoves.{legal_from}
@@ -16,7 +17,7 @@ kinds-init c = record {
 pub kinds-preserved : goal.kinds-preserved
 kinds-preserved c =
     let next : kind_number c.in-Some.next ≡ kind_number c.kinds.kind + 1 = c.in-Some.ensures in
-    let here : 13203 + kind_number c.kinds.kind * 81 ≡ 13122 + kind_number c.in-Some.next * 81 = omega arith in
+    let here : FIRST_DROP + 81 + kind_number c.kinds.kind * 81 ≡ FIRST_DROP + kind_number c.in-Some.next * 81 = omega arith in
     let herew = ap (λ (x : ℕ). length (legal_from c.args.p.now x)) here in
     let more = counted_drop c.args.p.now c.in-Some.next c.drop_ends-in-Some.result c.drop_ends-in-Some.ensures.fits (λ n h. c.drop_ends-in-Some.ensures.bits n h ∙ drop_wanted c.args.p.now c.in-Some.next n h) in
     record {
@@ -27,5 +28,5 @@ kinds-preserved c =
 pub returns-clause-count : goal.returns-clause-count
 returns-clause-count c =
     let last : kind_number c.kinds.kind ≡ 6 = c.in_default.ensures in
-    let e : length (legal_from c.args.p.now (13203 + kind_number c.kinds.kind * 81)) ≡ 0 = ap length (legal_from_end c.args.p.now (13203 + kind_number c.kinds.kind * 81) (omega arith)) in
+    let e : length (legal_from c.args.p.now (FIRST_DROP + 81 + kind_number c.kinds.kind * 81)) ≡ 0 = ap length (legal_from_end c.args.p.now (FIRST_DROP + 81 + kind_number c.kinds.kind * 81) (omega arith)) in
     omega (arith, c.kinds.invariant.whole, e)
