@@ -56,7 +56,7 @@ impl Board {
         ensures fits { result < 2 ^ 81 }
         ensures bits { (n : ℕ) → n < 81 → has_bit result n ≡ are_lined self.now square n }
     {
-        square.index();
+        square.validity();
         lined_squares(self, square.index())
     }
 
@@ -66,7 +66,7 @@ impl Board {
         ensures fits { result < 2 ^ 81 }
         ensures bits { (n : ℕ) → n < 81 → has_bit result n ≡ is_seen self.now square n }
     {
-        square.index();
+        square.validity();
         seen_squares(self, square.index())
     }
 

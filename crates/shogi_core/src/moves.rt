@@ -73,6 +73,21 @@ impl Move {
         }
     }
 
+    /// Tells a proof that the code is that of this move and no other, and does nothing.
+    #[tactic(auto, using(crate::proofs::CodesBack::codes_back))]
+    pub fn validity(&self)
+        ensures range { code_of self.now < MOVE_CODES }
+        ensures back { move_of (code_of self.now) ≡ Some self.now }
+    {
+        match self {
+            Move::Board { from, to, .. } => {
+                from.validity();
+                to.validity();
+            }
+            Move::Drop { to, .. } => to.validity(),
+        }
+    }
+
     /// The move of a code, or `None` from 13,689 up.
     pub fn of_code(code: u16) -> Option<Move>
         ensures value { result ≡ move_of code }

@@ -163,7 +163,7 @@ impl Position {
         self.board.in_check(color)
     }
 
-    /// Tells that the position is valid.
+    /// Tells a proof that the position is valid, and does nothing.
     pub fn validity(&self)
         ensures { IsValid self.now }
     {

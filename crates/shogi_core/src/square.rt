@@ -64,6 +64,13 @@ impl Square {
 }
 
 impl Square {
+    /// Tells a proof that the index is below 81, and does nothing.
+    pub fn validity(&self)
+        ensures { self.now < 81 }
+    {
+        let _ = &self.index;
+    }
+
     /// The square of an index below 81.
     pub fn of_index(index: usize) -> Square
         requires { index < 81 }

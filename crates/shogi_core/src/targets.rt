@@ -87,7 +87,7 @@ impl Board {
     pub fn reaches(&self, from: Square, to: Square) -> bool
         ensures { result ≡ reaches self.now from to }
     {
-        to.index();
+        to.validity();
         has(self.targets(from), to.index())
     }
 }

@@ -57,13 +57,13 @@ pub fn score_after(p: &Position, score: i32, m: &Move) -> i32
     p.validity();
     match m {
         Move::Board { from, to, promote } => {
-            from.index();
-            to.index();
+            from.validity();
+            to.validity();
             let gain = taken_gain(p.at(*to)) + promotion_gain(p.at(*from), *promote);
             0 - (score + gain as i32)
         }
         Move::Drop { to, .. } => {
-            to.index();
+            to.validity();
             0 - score
         }
     }

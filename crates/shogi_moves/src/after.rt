@@ -75,8 +75,8 @@ fn after_board(p: &Position, from: Square, to: Square, promote: bool) -> Positio
     ensures { result ≡ after p.now (moves.Board from to promote) }
 {
     p.validity();
-    from.index();
-    to.index();
+    from.validity();
+    to.validity();
     let (piece, taken) = (p.at(from), p.at(to));
     let mut board = p.board();
     board.set(from, None);
@@ -92,7 +92,7 @@ fn after_drop(p: &Position, kind: Kind, to: Square) -> Position
     ensures { result ≡ after p.now (moves.Drop kind to) }
 {
     p.validity();
-    to.index();
+    to.validity();
     let side = p.side();
     let mut board = p.board();
     board.set(to, dropped(side, kind));
@@ -122,6 +122,6 @@ pub fn apply(p: &Position, m: Move) -> Position
 {
     let position = apply_safe(p, &m);
     position.validity();
-    m.code();
+    m.validity();
     position
 }

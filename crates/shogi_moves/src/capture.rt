@@ -76,7 +76,7 @@ fn skip_sort(p: &Position, capture: bool, code: u16) -> u16
     match &m {
         Move::Board { from, to, .. } => skip_targets(p, capture, *from, *to, code),
         Move::Drop { to, .. } => {
-            to.index();
+            to.validity();
             skip_drops(p, capture, code)
         }
     }

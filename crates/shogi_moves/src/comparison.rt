@@ -154,11 +154,10 @@ fn worked_positions(rt: HostRuntime) -> Result<(), Fail> {
     assert_same(&rt, &p, 100);
     for text in [b"7g7f ", b"3c3d ", b"8h2b+", b"3a2b "] {
         let m = read(text);
-        let again = m;
         if !is_legal(&p, m) {
             return Err(Fail::from("a legal move"));
         }
-        p = apply(&p, again);
+        p = apply(&p, m);
         assert_same(&rt, &p, 101);
     }
     Ok(())
@@ -170,8 +169,7 @@ fn played_positions(rt: HostRuntime) {
     for (at, code) in GAME.iter().enumerate() {
         assert_same(&rt, &p, at);
         let m = Move::of_code(*code).expect(&rt, "a move");
-        let tried = m;
-        assert!(rt; is_legal(&p, tried), "the move {code}");
+        assert!(rt; is_legal(&p, m), "the move {code}");
         p = apply(&p, m);
     }
     assert!(rt; !has_legal(&p), "the end of the game");

@@ -88,8 +88,8 @@ fn is_king_safe(p: &Position, lifted: &Board, from: Square, to: Square) -> bool
     ensures { result ≡ is_unchecked p.now (moves.Board from to false) }
 {
     p.validity();
-    from.index();
-    to.index();
+    from.validity();
+    to.validity();
     if !lifted.is_attacked(p.side().opponent(), to) {
         return true;
     }
@@ -133,7 +133,7 @@ fn safe_ends(p: &Position, guard: &Guard, from: Square, ends: u128) -> u128
     ensures fits { result < 2 ^ 81 }
 {
     p.validity();
-    from.index();
+    from.validity();
     if is_calm(guard, from) {
         return ends;
     }
@@ -165,7 +165,7 @@ pub fn board_ends(p: &Position, guard: &Guard, capture: bool, from: Square) -> E
     ensures promoting_fits { result.promoting < 2 ^ 81 }
 {
     p.validity();
-    from.index();
+    from.validity();
     let among = p.targets(from) & ends_of_sort(p, capture);
     let ends = safe_ends(p, guard, from, among);
     let piece = p.at(from);
@@ -186,7 +186,7 @@ pub fn legal_ends(p: &Position, guard: &Guard, from: Square) -> Ends
     ensures promoting_fits { result.promoting < 2 ^ 81 }
 {
     p.validity();
-    from.index();
+    from.validity();
     let own = p.own(p.side());
     let among = p.targets(from) & !own;
     let ends = safe_ends(p, guard, from, among);

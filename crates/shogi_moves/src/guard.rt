@@ -99,6 +99,6 @@ pub fn rough_guard(p: &Position) -> Guard
 pub fn is_calm(guard: &Guard, from: Square) -> bool
     ensures { result ≡ (not guard.now.checked && not (has_bit guard.now.exposed from)) }
 {
-    from.index();
+    from.validity();
     !guard.checked && !has(guard.exposed, from.index())
 }

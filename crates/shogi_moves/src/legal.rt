@@ -115,8 +115,8 @@ pub fn is_safe_guarded(p: &Position, guard: &Guard, m: &Move) -> bool
     p.validity();
     match m {
         Move::Board { from, to, promote } => {
-            from.index();
-            to.index();
+            from.validity();
+            to.validity();
             let allowed = is_pseudo_legal_candidate(p, *from, *to, *promote);
             if is_calm(guard, *from) {
                 return allowed;
@@ -124,7 +124,7 @@ pub fn is_safe_guarded(p: &Position, guard: &Guard, m: &Move) -> bool
             allowed && !cells_after(p.as_board(), p.side(), m).in_check(p.side())
         }
         Move::Drop { kind, to } => {
-            to.index();
+            to.validity();
             let allowed = is_pseudo_legal_drop(p, *kind, *to);
             if !guard.checked {
                 return allowed;
@@ -176,6 +176,6 @@ pub fn is_legal(p: &Position, m: Move) -> bool
     ensures listed { IsTrue result ↔ (is_in (code_of m) (legal_moves p.now) ≡ true) }
 {
     let legal = is_legal_move(p, &m);
-    m.code();
+    m.validity();
     legal
 }

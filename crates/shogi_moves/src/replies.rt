@@ -45,7 +45,7 @@ fn has_open_step(p: &Position, side: Color, from: Square) -> bool
     match cell {
         None => false,
         Some(piece) => {
-            from.index();
+            from.validity();
             step_squares(piece, from.index()) & !p.own(side) & !dead_squares(cell) != 0
         }
     }

@@ -72,7 +72,7 @@ pub fn skip(p: &Position, code: u16) -> u16
     match &m {
         Move::Board { from, to, .. } => skip_board(p, *from, *to, code),
         Move::Drop { kind, to } => {
-            to.index();
+            to.validity();
             skip_drop(p, *kind, *to, code)
         }
     }

@@ -46,7 +46,7 @@ fn ends_on(p: &Position, guard: &Guard, capture: bool, from: Square) -> Ends
     ensures plain_fits { result.plain < 2 ^ 81 }
     ensures promoting_fits { result.promoting < 2 ^ 81 }
 {
-    from.index();
+    from.validity();
     if is_of(p.at(from), p.side()) {
         board_ends(p, guard, capture, from)
     } else {
@@ -84,7 +84,7 @@ impl BoardSweep {
         ensures legal { is_legal p.now result ≡ true }
     {
         let (from, plain, promoting) = (self.from, self.ends.plain, self.ends.promoting);
-        from.index();
+        from.validity();
         let to = lowest(plain | promoting);
         let end = Square::of_index(to);
         if has(plain, to) {
@@ -93,6 +93,7 @@ impl BoardSweep {
                 to: end,
                 promote: false,
             };
+            // A copy for the caller: `code` takes the move by value.
             let found = m;
             self.ends.plain = cleared(plain, to);
             self.code = m.code() + 1;

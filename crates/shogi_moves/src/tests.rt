@@ -255,11 +255,10 @@ fn steps(rt: HostRuntime) -> Result<(), Fail> {
     assert_eq!(rt; second, read(b"1i1h "));
     let p = position(b"4k4/9/9/4+p4/4P4/9/9/9/4K4", b"", Black)?;
     let m = read(b"5e5d ");
-    let again = m;
     if !is_legal(&p, m) {
         return Err(Fail::from("a legal capture"));
     }
-    let after = apply(&p, again);
+    let after = apply(&p, m);
     assert_eq!(rt; (after.hand(Black, Kind::Pawn), after.side()), (1, White));
     Ok(())
 }
