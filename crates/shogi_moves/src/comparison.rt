@@ -2,7 +2,7 @@
 
 use crate::tests::{position, read};
 use crate::{
-    Walk, apply, has_legal, in_check, is_legal, next_capture, next_legal, next_quiet, perft, plain,
+    Walk, has_legal, in_check, is_legal, next_capture, next_legal, next_quiet, perft, plain, play,
 };
 use shogi_core::Color::{Black, White};
 use shogi_core::{Color, MOVE_CODES, Move, Position, Square};
@@ -153,11 +153,7 @@ fn worked_positions(rt: HostRuntime) -> Result<(), Fail> {
     let mut p = Position::start();
     assert_same(&rt, &p, 100);
     for text in [b"7g7f ", b"3c3d ", b"8h2b+", b"3a2b "] {
-        let m = read(text);
-        if !is_legal(&p, m) {
-            return Err(Fail::from("a legal move"));
-        }
-        p = apply(&p, m);
+        p = play(&p, read(text)).ok_or("a legal move")?;
         assert_same(&rt, &p, 101);
     }
     Ok(())
@@ -169,8 +165,7 @@ fn played_positions(rt: HostRuntime) {
     for (at, code) in GAME.iter().enumerate() {
         assert_same(&rt, &p, at);
         let m = Move::of_code(*code).expect(&rt, "a move");
-        assert!(rt; is_legal(&p, m), "the move {code}");
-        p = apply(&p, m);
+        p = play(&p, m).expect(&rt, "a legal move");
     }
     assert!(rt; !has_legal(&p), "the end of the game");
     assert_same(&rt, &p, 101);

@@ -1,7 +1,8 @@
 //! Which moves are legal.
 
-ghost use Rattle.std.specs.Prelude.{◌≡◌, ◌↔◌, IsTrue, true};
+ghost use Rattle.std.specs.Prelude.{◌≡◌, ◌↔◌, IsTrue, true, if◌then◌else◌, Some, None};
 ghost use Rattle.shogi_core.specs.Codes.{code_of};
+ghost use Rattle.shogi_moves.specs.After.{after};
 ghost use Rattle.shogi_moves.specs.Legal.{is_legal, is_safe, is_pseudo_legal, is_pseudo_legal_board_move, is_pseudo_legal_drop, may_promote, is_pawn_kind, is_mated, is_pawn_drop, is_pawn_drop_mate, can_promote, in_zone};
 ghost use Rattle.shogi_core.specs.declared.moves.Move.TheVariants as moves;
 ghost use Rattle.shogi_moves.specs.Candidates.{is_candidate};
@@ -9,7 +10,7 @@ ghost use Rattle.shogi_moves.specs.Guards.{Guards};
 ghost use Rattle.shogi_moves.specs.LegalMoves.{legal_moves};
 ghost use Rattle.shogi_moves.specs.Rising.{is_in};
 
-use crate::after::{apply_safe, cells_after, dropped, moved};
+use crate::after::{apply, apply_safe, cells_after, dropped, moved};
 use crate::attack::in_check;
 use crate::guard::{Guard, is_calm};
 use crate::safe::has_safe;
@@ -178,4 +179,15 @@ pub fn is_legal(p: &Position, m: Move) -> bool
     let legal = is_legal_move(p, &m);
     m.validity();
     legal
+}
+
+/// The position after the move, or `None` where the move is not legal.
+pub fn play(p: &Position, m: Move) -> Option<Position>
+    ensures { result ≡ (if is_legal p.now m then Some (after p.now m) else None) }
+{
+    if is_legal_move(p, &m) {
+        Some(apply(p, m))
+    } else {
+        None
+    }
 }

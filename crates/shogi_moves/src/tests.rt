@@ -1,7 +1,7 @@
 //! Positions and counts that are known from elsewhere.
 
 use crate::{
-    apply, has_legal, in_check, is_attacked, is_legal, next_capture, next_legal, next_quiet, perft,
+    has_legal, in_check, is_attacked, is_legal, next_capture, next_legal, next_quiet, perft, play,
 };
 use shogi_core::Color::{Black, White};
 use shogi_core::{Color, Hands, Kind, Move, Piece, Position, Role, Square};
@@ -254,12 +254,12 @@ fn steps(rt: HostRuntime) -> Result<(), Fail> {
     let second = next_legal(&start, Some(first)).ok_or("a second move")?;
     assert_eq!(rt; second, read(b"1i1h "));
     let p = position(b"4k4/9/9/4+p4/4P4/9/9/9/4K4", b"", Black)?;
-    let m = read(b"5e5d ");
-    if !is_legal(&p, m) {
-        return Err(Fail::from("a legal capture"));
-    }
-    let after = apply(&p, m);
+    let after = play(&p, read(b"5e5d ")).ok_or("a legal capture")?;
     assert_eq!(rt; (after.hand(Black, Kind::Pawn), after.side()), (1, White));
+    assert!(rt;
+        play(&p, read(b"5e5c ")).is_none(),
+        "a pawn goes one square"
+    );
     Ok(())
 }
 
