@@ -4,7 +4,7 @@ use Rattle.std.specs.Fmt.{signed_decimal}
 use Rattle.shogi_core.specs.declared.moves.Move.{Move}
 use Rattle.shogi_core.specs.declared.validity.PositionFault.TheVariants.{TooMany, TwoKings, TwoPawns, DeadPiece, KingOpen}
 use Rattle.shogi_core.specs.Position.{Shogi}
-use Rattle.shogi_moves.specs.LegalMoves.{paths}
+use Rattle.shogi_moves.specs.LegalMoves.{perft}
 use Rattle.shogi_search.specs.declared.found.Found.{Found}
 use Rattle.shogi_search.specs.Minimax.{value, best, tree}
 use Rattle.shogi_sfen.specs.MoveTexts.{text_of}
@@ -19,8 +19,8 @@ use Rattle.measure.specs.declared.request.Refusal.TheVariants.{UnknownWord, BadD
 
 -- how many sequences of n legal moves there are, which is left out from 2^64 up
 abbrev pub IsCount : Shogi → ℕ → Option ℕ → Type 0
-IsCount p n (Some count) = count ≡ paths p n
-IsCount p n None = 2 ^ 64 ≤ paths p n
+IsCount p n (Some count) = count ≡ perft p n
+IsCount p n None = 2 ^ 64 ≤ perft p n
 
 -- the value and the best move at a depth, after at most two steps for each node of the tree
 abbrev pub IsFound : Shogi → ℕ → Found → Type 0

@@ -1,7 +1,6 @@
 //! The key of an entry: the whole position and the depth.
 
 ghost use Rattle.std.specs.Prelude.{◌≡◌, ◌↔◌, IsTrue};
-ghost use Rattle.shared_table.specs.Keys.{is_same_position};
 
 use shogi_core::Position;
 use std::hash::{Hash, Hasher};
@@ -22,12 +21,6 @@ impl TableKey {
     }
 }
 
-fn is_same_position(a: &Position, b: &Position) -> bool
-    ensures { result ≡ is_same_position a.now b.now }
-{
-    a == b
-}
-
 impl PartialEq for TableKey {
     ghost use Rattle.shared_table.specs.Keys.{is_same_key};
     ghost use Rattle.shared_table.specs.KeyLaws.{key_partial_equivalence};
@@ -38,7 +31,7 @@ impl PartialEq for TableKey {
 
     #[tactic(auto, unfolding(crate::specs::Keys::is_same_key))]
     fn eq(&self, other: &TableKey) -> bool {
-        self.depth == other.depth && is_same_position(&self.position, &other.position)
+        self.depth == other.depth && self.position.is_same(&other.position)
     }
 }
 

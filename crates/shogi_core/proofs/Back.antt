@@ -6,7 +6,7 @@ use Rattle.std.proofs.Math.IntN.{suc_ℤ-*ℤ, zero-*ℤ}
 use Rattle.std.proofs.lemmas.Bool.{cases_Bool, cond-true, cond-false, and_parts, and_from, ltb-true, lt-ltb, eqb-true, eq-eqb}
 use Rattle.shogi_core.specs.declared.offset.Offset.{Offset}
 use Rattle.shogi_core.specs.Below.{all_below}
-use Rattle.shogi_core.specs.Movement.{Cells, square_at, is_at, away, leads, by, is_clear, is_empty, slides_past}
+use Rattle.shogi_core.specs.Movement.{Cells, square_at, is_at, away, leads, offset_by, is_clear, is_empty, slides_past}
 use Rattle.shogi_core.proofs.Below.{all_below_at, all_below_yes}
 use Rattle.shogi_core.specs.Lines.{back}
 
@@ -93,7 +93,7 @@ twice : (x : ℤ) → pos 0 -ℤ (pos 0 -ℤ x) ≡ x
 twice x = omega (arith, ints)
 
 pub back_twice : (o : Offset) → back (back o) ≡ o
-back_twice o = ap (λ f. by f (pos 0 -ℤ (pos 0 -ℤ o.rank))) (twice o.file) ∙ ap (by o.file) (twice o.rank)
+back_twice o = ap (λ f. offset_by f (pos 0 -ℤ (pos 0 -ℤ o.rank))) (twice o.file) ∙ ap (offset_by o.file) (twice o.rank)
 
 pub away_forth : (m : ℕ) (o : Offset) (a b : ℕ) → b < 81 → away m (back o) b ≡ Some a → away m o a ≡ Some b
 away_forth m o a b h e = ap (λ p. away m p a) (sym (back_twice o)) ∙ away_back m (back o) b a h e

@@ -14,7 +14,7 @@ use Rattle.shogi_core.specs.declared.piece.Piece.{Piece}
 use Rattle.shogi_core.specs.Attack.{is_attacked_from, is_attacked, is_open_king, in_check}
 use Rattle.shogi_core.specs.Below.{some_below, all_below}
 use Rattle.shogi_core.specs.Cell.{is_of, is_king}
-use Rattle.shogi_core.specs.Movement.{Cells, away, leads, by, is_clear, is_empty, slides_past, slides, seen_by, slides_of, has_slide, has_step, cell_reaches, reaches, piece_at}
+use Rattle.shogi_core.specs.Movement.{Cells, away, leads, offset_by, is_clear, is_empty, slides_past, slides, seen_by, slides_of, has_slide, has_step, cell_reaches, reaches, piece_at}
 use Rattle.shogi_core.specs.Pieces.{opponent_of}
 use Rattle.shogi_core.proofs.Below.{all_below_at, all_below_yes, some_below_at, some_below_not, some_below_no}
 use Rattle.shogi_core.specs.Lines.{around, are_lined, is_line_to_king, is_lined_with_king}
@@ -28,7 +28,7 @@ same_way p q = int_eq p.file q.file && int_eq p.rank q.rank
 same_way_is : (p q : Offset) → same_way p q ≡ true → p ≡ q
 same_way_is p q e =
     let parts : (int_eq p.file q.file ≡ true) × (int_eq p.rank q.rank ≡ true) = and_parts _ _ e in
-    ap (λ f. by f p.rank) ((Decides-int_eq p.file q.file).0 parts.0) ∙ ap (by q.file) ((Decides-int_eq p.rank q.rank).0 parts.1)
+    ap (λ f. offset_by f p.rank) ((Decides-int_eq p.file q.file).0 parts.0) ∙ ap (offset_by q.file) ((Decides-int_eq p.rank q.rank).0 parts.1)
 
 one_of : (test : Offset → Bool) (p : Offset) (ds : List Offset) → list_any (same_way p) ds ≡ true → test p ≡ true → list_any test ds ≡ true
 one_of test p [] e h = e

@@ -9,8 +9,8 @@ use Rattle.shogi_core.specs.declared.piece.Color.TheVariants.{Black, White}
 use Rattle.shogi_core.specs.declared.piece.Kind.{Kind}
 use Rattle.shogi_core.specs.declared.piece.Kind.TheVariants as kinds
 use Rattle.shogi_core.specs.Movement.{Cells}
-use Rattle.shogi_core.specs.Pieces.{all_kinds, set_size, number_of}
-use Rattle.shogi_core.specs.Position.{Shogi, Held}
+use Rattle.shogi_core.specs.Pieces.{all_kinds, set_size, kind_number}
+use Rattle.shogi_core.specs.Position.{Shogi, HandCounts}
 use Rattle.shogi_core.specs.Cell.{is_dead_on, is_king}
 use Rattle.shogi_core.specs.Validity.{fault_of, count_of, has_too_many, has_two_kings, has_two_pawns, has_two_pawns_on, pawns_on_file}
 use Rattle.shogi_core.specs.Faultless.{IsFaultless}
@@ -24,21 +24,21 @@ cond_none true fault rest e = cc
 pub none_cond : {F : Type 0} (b : Bool) (fault : F) (rest : Option F) → b ≡ false → rest ≡ None → cond b (Some fault) rest ≡ None
 none_cond b fault rest e f = rw (e, f) refl
 
-pub number_below : (kind : Kind) → number_of kind < 7
+pub number_below : (kind : Kind) → kind_number kind < 7
 number_below kinds.Pawn = omega arith
 number_below _ = omega arith
 
-pub kind_there : (kind : Kind) → get_or all_kinds (number_of kind) kinds.Pawn ≡ kind
+pub kind_there : (kind : Kind) → get_or all_kinds (kind_number kind) kinds.Pawn ≡ kind
 kind_there kinds.Pawn = refl
 kind_there _ = refl
 
-counts_from : (cells : Cells) (hands : Held) → has_too_many cells hands ≡ false → (kind : Kind) → count_of kind cells hands ≤ set_size kind
+counts_from : (cells : Cells) (hands : HandCounts) → has_too_many cells hands ≡ false → (kind : Kind) → count_of kind cells hands ≤ set_size kind
 counts_from cells hands e kind =
     let test : Kind → Bool = λ (k : Kind). nat_lt (set_size k) (count_of k cells hands) in
     ltb-false (set_size kind) (count_of kind cells hands)
-    (false_from_ne_true (test kind) (λ found. both_ways (list_any test all_kinds) e (list_any_at test all_kinds (number_of kind) kinds.Pawn (number_below kind) (subst (λ (k : Kind). test k ≡ true) (sym (kind_there kind)) found))))
+    (false_from_ne_true (test kind) (λ found. both_ways (list_any test all_kinds) e (list_any_at test all_kinds (kind_number kind) kinds.Pawn (number_below kind) (subst (λ (k : Kind). test k ≡ true) (sym (kind_there kind)) found))))
 
-counts_to : (cells : Cells) (hands : Held) → ((kind : Kind) → count_of kind cells hands ≤ set_size kind) → has_too_many cells hands ≡ false
+counts_to : (cells : Cells) (hands : HandCounts) → ((kind : Kind) → count_of kind cells hands ≤ set_size kind) → has_too_many cells hands ≡ false
 counts_to cells hands h =
     let test : Kind → Bool = λ (k : Kind). nat_lt (set_size k) (count_of k cells hands) in
     let no : (k : Kind) → test k ≡ false = λ k. le-ltb (set_size k) (count_of k cells hands) (h k) in

@@ -1,5 +1,6 @@
 -- The opening position has no fault.
 use Rattle.std.proofs.Common.{◌≡◌, refl, None, false}
+use Rattle.shogi_core.specs.declared.start.TheConstants.{START_BLACK, START_WHITE, START_KINGS}
 use Rattle.shogi_core.specs.declared.piece.Color.TheVariants.{Black, White}
 use Rattle.shogi_core.specs.Below.{some_below, all_below}
 use Rattle.shogi_core.specs.Movement.{reaches, away}
@@ -26,14 +27,14 @@ unfolding fault_of some_below all_below reaches away in_check
 start_fine = refl
 
 -- its masks
-pub start_black : 1515295121079352776950080 ≡ own_of start_cells Black
+pub start_black : START_BLACK ≡ own_of start_cells Black
 unfolding places_of mask_below
 start_black = refl
 
-pub start_white : 23676486266864887139845 ≡ own_of start_cells White
+pub start_white : START_WHITE ≡ own_of start_cells White
 unfolding places_of mask_below
 start_white = refl
 
-pub start_kings : 17660905521152 ≡ kings_of start_cells
+pub start_kings : START_KINGS ≡ kings_of start_cells
 unfolding places_of mask_below
 start_kings = refl

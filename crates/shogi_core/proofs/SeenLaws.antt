@@ -15,7 +15,7 @@ use Rattle.shogi_core.specs.Attack.{is_attacked_from, is_open_king}
 use Rattle.shogi_core.specs.Below.{some_below}
 use Rattle.shogi_core.specs.Bits.{has_bit}
 use Rattle.shogi_core.specs.Cell.{is_of, is_king}
-use Rattle.shogi_core.specs.Movement.{Cells, leads, by, slides, slides_past, is_clear, seen_by, slides_of, steps_of, has_slide, has_step, cell_reaches, reaches, piece_at, straight, diagonal}
+use Rattle.shogi_core.specs.Movement.{Cells, leads, offset_by, jump_left, jump_right, slides, slides_past, is_clear, seen_by, slides_of, steps_of, has_slide, has_step, cell_reaches, reaches, piece_at, straight, diagonal}
 use Rattle.shogi_core.proofs.BitLaws.{has_bit-and, has_bit-or, has_bit-none, has_bit-without}
 use Rattle.shogi_core.proofs.Below.{all_below_none, some_below_at, some_below_no, some_below_found}
 use Rattle.shogi_core.proofs.LineBits.{and_fits}
@@ -68,7 +68,7 @@ around_back : list_all (λ o. list_any (same_way (back o)) around) around ≡ tr
 around_back = refl
 
 jumps : List Offset
-jumps = by (pos 1) (negsuc 1) ∷ by (negsuc 0) (negsuc 1) ∷ by (pos 1) (pos 2) ∷ by (negsuc 0) (pos 2) ∷ []
+jumps = jump_left ∷ jump_right ∷ offset_by (pos 1) (pos 2) ∷ offset_by (negsuc 0) (pos 2) ∷ []
 
 steps_back_near : (color : Color) (role : Role) → list_all (λ o. list_any (same_way (back (seen_by color o))) (around ++ jumps)) (steps_of role) ≡ true
 unfolding jumps
@@ -98,7 +98,7 @@ step_slides cells o a b e = some_below_at 8 (slides_past cells o a b) 0 (omega a
 
 jump_either : (a b : ℕ) → list_any (λ o. leads 1 o a b) jumps ≡ is_jump a b
 unfolding jumps
-jump_either a b = five (leads 1 (by (pos 1) (negsuc 1)) a b) (leads 1 (by (negsuc 0) (negsuc 1)) a b) (leads 1 (by (pos 1) (pos 2)) a b) (leads 1 (by (negsuc 0) (pos 2)) a b)
+jump_either a b = five (leads 1 jump_left a b) (leads 1 jump_right a b) (leads 1 (offset_by (pos 1) (pos 2)) a b) (leads 1 (offset_by (negsuc 0) (pos 2)) a b)
   where
     five : (p q r s : Bool) → (p || (q || (r || (s || false)))) ≡ ((p || (q || false)) || (r || (s || false)))
     five true q r s = refl

@@ -1,11 +1,12 @@
 -- Codes of moves: 0 to 13,121 are board moves, 13,122 to 13,688 drops (own choice).
 use Rattle.std.specs.Prelude.{ℕ, List, ◌+◌, ◌*◌, ◌-◌, ◌/◌, ◌%◌, ◌==◌, Option, Some, None, nat_lt, cond}
 use Rattle.std.specs.List.{range_with_len}
+use Rattle.shogi_core.specs.declared.moves.TheConstants.{MOVE_CODES, FIRST_DROP}
 use Rattle.shogi_core.specs.declared.piece.Kind.{Kind}
 use Rattle.shogi_core.specs.declared.piece.Kind.TheVariants as kinds
 use Rattle.shogi_core.specs.declared.moves.Move.{Move}
 use Rattle.shogi_core.specs.declared.moves.Move.TheVariants.{Board, Drop}
-use Rattle.shogi_core.specs.Pieces.{number_of}
+use Rattle.shogi_core.specs.Pieces.{kind_number}
 
 -- the kind of a number
 abbrev pub kind_at : ℕ → Kind
@@ -15,17 +16,17 @@ kind_at n =
 -- board moves come first, by from, to and promotion; then drops, by kind and to
 abbrev pub code_of : Move → ℕ
 code_of (Board from to promote) = (from * 81 + to) * 2 + cond promote 1 0
-code_of (Drop kind to) = 13122 + number_of kind * 81 + to
+code_of (Drop kind to) = FIRST_DROP + kind_number kind * 81 + to
 
 -- the move of a code
 abbrev pub move_of : ℕ → Option Move
 move_of code =
-    cond (nat_lt code 13122) (Some (Board (code / 2 / 81) (code / 2 % 81) (code % 2 == 1)))
-    (cond (nat_lt code 13689) (Some (Drop (kind_at ((code - 13122) / 81)) ((code - 13122) % 81))) None)
+    cond (nat_lt code FIRST_DROP) (Some (Board (code / 2 / 81) (code / 2 % 81) (code % 2 == 1)))
+    (cond (nat_lt code MOVE_CODES) (Some (Drop (kind_at ((code - FIRST_DROP) / 81)) ((code - FIRST_DROP) % 81))) None)
 
 -- the codes of all moves from the given code on, in their order
 unfoldable pub codes_from : ℕ → List ℕ
-codes_from first = range_with_len first (13689 - first)
+codes_from first = range_with_len first (MOVE_CODES - first)
 
 -- the codes of all moves, in their order
 abbrev pub all_codes : List ℕ

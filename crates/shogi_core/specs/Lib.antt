@@ -5,6 +5,7 @@ pub mod Movement
 pub mod Cell
 pub mod Attack
 pub mod Position
+pub mod Same
 pub mod Validity
 pub mod Faultless
 pub mod Start

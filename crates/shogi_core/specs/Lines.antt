@@ -2,7 +2,7 @@
 use Rattle.std.specs.Prelude.{ℕ, pos, ◌-ℤ◌, ◌++◌, ◌&&◌, ◌||◌, Bool, List}
 use Rattle.std.specs.List.{list_any}
 use Rattle.shogi_core.specs.declared.offset.Offset.{Offset}
-use Rattle.shogi_core.specs.Movement.{Cells, by, straight, diagonal, slides, piece_at, steps_of}
+use Rattle.shogi_core.specs.Movement.{Cells, offset_by, straight, diagonal, slides, piece_at, steps_of}
 use Rattle.shogi_core.specs.Below.{some_below}
 use Rattle.shogi_core.specs.Cell.{is_king}
 use Rattle.shogi_core.specs.declared.piece.Color.{Color}
@@ -12,7 +12,7 @@ use Rattle.shogi_core.specs.Steps.{is_step}
 
 -- the other way
 abbrev pub back : Offset → Offset
-back o = by (pos 0 -ℤ o.file) (pos 0 -ℤ o.rank)
+back o = offset_by (pos 0 -ℤ o.file) (pos 0 -ℤ o.rank)
 
 -- the eight directions of lines
 abbrev pub around : List Offset

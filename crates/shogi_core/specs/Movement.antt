@@ -14,31 +14,63 @@ abbrev pub Cells : Type 0
 Cells = List (Option Piece)
 
 -- an offset of these changes
-abbrev pub by : ℤ → ℤ → Offset
-by file rank = record { file = file; rank = rank }
+abbrev pub offset_by : ℤ → ℤ → Offset
+offset_by file rank = record { file = file; rank = rank }
+
+-- one square, as Black sees the board: up towards rank 1, and left towards file 9
+abbrev pub up : Offset
+up = offset_by (pos 0) (negsuc 0)
+
+abbrev pub down : Offset
+down = offset_by (pos 0) (pos 1)
+
+abbrev pub left : Offset
+left = offset_by (pos 1) (pos 0)
+
+abbrev pub right : Offset
+right = offset_by (negsuc 0) (pos 0)
+
+abbrev pub up_left : Offset
+up_left = offset_by (pos 1) (negsuc 0)
+
+abbrev pub up_right : Offset
+up_right = offset_by (negsuc 0) (negsuc 0)
+
+abbrev pub down_left : Offset
+down_left = offset_by (pos 1) (pos 1)
+
+abbrev pub down_right : Offset
+down_right = offset_by (negsuc 0) (pos 1)
+
+-- a knight's jumps: two squares up and one to the side
+abbrev pub jump_left : Offset
+jump_left = offset_by (pos 1) (negsuc 1)
+
+abbrev pub jump_right : Offset
+jump_right = offset_by (negsuc 0) (negsuc 1)
 
 -- one square along a file or a rank
 abbrev pub straight : List Offset
-straight = by (pos 0) (negsuc 0) ∷ by (pos 0) (pos 1) ∷ by (pos 1) (pos 0) ∷ by (negsuc 0) (pos 0) ∷ []
+straight = up ∷ down ∷ left ∷ right ∷ []
 
 -- one square along a diagonal
 abbrev pub diagonal : List Offset
-diagonal = by (pos 1) (negsuc 0) ∷ by (negsuc 0) (negsuc 0) ∷ by (pos 1) (pos 1) ∷ by (negsuc 0) (pos 1) ∷ []
+diagonal = up_left ∷ up_right ∷ down_left ∷ down_right ∷ []
 
 -- one square towards the other side
 abbrev pub forward : List Offset
-forward = by (pos 0) (negsuc 0) ∷ []
+forward = up ∷ []
 
 -- straight, or diagonally forward
 abbrev pub gold : List Offset
-gold = by (pos 0) (negsuc 0) ∷ by (pos 1) (negsuc 0) ∷ by (negsuc 0) (negsuc 0) ∷ by (pos 1) (pos 0) ∷ by (negsuc 0) (pos 0) ∷ by (pos 0) (pos 1) ∷ []
+gold = up ∷ up_left ∷ up_right ∷ left ∷ right ∷ down ∷ []
 
 -- steps and jumps
 abbrev pub steps_of : Role → List Offset
 steps_of King = straight ++ diagonal
 steps_of Pawn = forward
 steps_of Lance = []
-steps_of Knight = by (pos 1) (negsuc 1) ∷ by (negsuc 0) (negsuc 1) ∷ []
+steps_of Knight = jump_left ∷ jump_right ∷ []
 steps_of Silver = forward ++ diagonal
 steps_of Gold = gold
 steps_of Bishop = []
@@ -68,7 +100,7 @@ square_at (negsuc file) rank = None
 -- as the side sees it: White moves the other way
 abbrev pub seen_by : Color → Offset → Offset
 seen_by Black offset = offset
-seen_by White offset = by offset.file (pos 0 -ℤ offset.rank)
+seen_by White offset = offset_by offset.file (pos 0 -ℤ offset.rank)
 
 -- where n steps by the offset lead from a
 unfoldable pub away : ℕ → Offset → ℕ → Option ℕ

@@ -20,14 +20,14 @@ is_same_color White White = true
 is_same_color _ _ = false
 
 -- the kinds in their order: P L N S G B R
-abbrev pub number_of : Kind → ℕ
-number_of kinds.Pawn = 0
-number_of kinds.Lance = 1
-number_of kinds.Knight = 2
-number_of kinds.Silver = 3
-number_of kinds.Gold = 4
-number_of kinds.Bishop = 5
-number_of kinds.Rook = 6
+abbrev pub kind_number : Kind → ℕ
+kind_number kinds.Pawn = 0
+kind_number kinds.Lance = 1
+kind_number kinds.Knight = 2
+kind_number kinds.Silver = 3
+kind_number kinds.Gold = 4
+kind_number kinds.Bishop = 5
+kind_number kinds.Rook = 6
 
 -- all of them
 abbrev pub all_kinds : List Kind
@@ -63,7 +63,7 @@ kind_of Dragon = Some kinds.Rook
 -- the kind is this one
 abbrev pub is_role_of_kind : Kind → Option Kind → Bool
 is_role_of_kind kind None = false
-is_role_of_kind kind (Some other) = number_of other == number_of kind
+is_role_of_kind kind (Some other) = kind_number other == kind_number kind
 
 -- a piece of the kind, promoted or not
 abbrev pub is_of_kind : Kind → Option Piece → Bool

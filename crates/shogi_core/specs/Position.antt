@@ -4,23 +4,23 @@ use Rattle.shogi_core.specs.declared.piece.Color.{Color}
 use Rattle.shogi_core.specs.declared.piece.Color.TheVariants.{Black, White}
 use Rattle.shogi_core.specs.declared.piece.Kind.{Kind}
 use Rattle.shogi_core.specs.Movement.{Cells}
-use Rattle.shogi_core.specs.Pieces.{number_of}
+use Rattle.shogi_core.specs.Pieces.{kind_number}
 
 -- the counts held, Black's of each kind and then White's
-abbrev pub Held : Type 0
-Held = List ℕ
+abbrev pub HandCounts : Type 0
+HandCounts = List ℕ
 
 -- the place of a count
 abbrev pub place_of : Color → Kind → ℕ
-place_of Black kind = number_of kind
-place_of White kind = number_of kind + 7
+place_of Black kind = kind_number kind
+place_of White kind = kind_number kind + 7
 
 -- how many of a kind the side holds
-abbrev pub held : Held → Color → Kind → ℕ
+abbrev pub held : HandCounts → Color → Kind → ℕ
 held hands color kind = slice_index hands (place_of color kind)
 
 -- a position, valid or not
 pub record Shogi : Type 0 where
   pub cells : Cells
-  pub hands : Held
+  pub hands : HandCounts
   pub side : Color

@@ -1,14 +1,14 @@
 -- Lines from a square.
-use Rattle.std.specs.Prelude.{ℕ, ◌==◌, Bool, cond, pos, negsuc, []}
+use Rattle.std.specs.Prelude.{ℕ, ◌==◌, Bool, cond, []}
 use Rattle.shogi_core.specs.declared.offset.Offset.{Offset}
 use Rattle.shogi_core.specs.Bits.{mask_below}
-use Rattle.shogi_core.specs.Movement.{by, slides}
+use Rattle.shogi_core.specs.Movement.{up, down, left, right, up_left, up_right, down_left, down_right, slides}
 
 -- the eight directions: first those in which indexes rise, then the others
 abbrev pub direction_at : ℕ → Offset
 direction_at n =
-    cond (n == 0) (by (pos 0) (pos 1)) (cond (n == 1) (by (pos 1) (negsuc 0)) (cond (n == 2) (by (pos 1) (pos 0)) (cond (n == 3) (by (pos 1) (pos 1))
-    (cond (n == 4) (by (pos 0) (negsuc 0)) (cond (n == 5) (by (negsuc 0) (pos 1)) (cond (n == 6) (by (negsuc 0) (pos 0)) (by (negsuc 0) (negsuc 0))))))))
+    cond (n == 0) down (cond (n == 1) up_left (cond (n == 2) left (cond (n == 3) down_left
+    (cond (n == 4) up (cond (n == 5) down_right (cond (n == 6) right up_right))))))
 
 -- b lies on the line from a, whatever stands between
 abbrev pub is_on_ray : Offset → ℕ → ℕ → Bool

@@ -8,22 +8,22 @@ use Rattle.shogi_core.specs.declared.piece.Piece.{Piece}
 use Rattle.shogi_core.specs.Movement.{Cells}
 use Rattle.shogi_core.specs.Position.{Shogi}
 
--- a piece on a square
-abbrev pub of : Color → Role → Option Piece
-of color role = Some (record { color = color; role = role })
+-- a square with a piece of the side and role on it
+abbrev pub cell_with : Color → Role → Option Piece
+cell_with color role = Some (record { color = color; role = role })
 
 -- file by file, and on each file rank by rank
 abbrev pub start_cells : Cells
 start_cells =
-    of White Lance ∷ None ∷ of White Pawn ∷ None ∷ None ∷ None ∷ of Black Pawn ∷ None ∷ of Black Lance
-    ∷ of White Knight ∷ of White Bishop ∷ of White Pawn ∷ None ∷ None ∷ None ∷ of Black Pawn ∷ of Black Rook ∷ of Black Knight
-    ∷ of White Silver ∷ None ∷ of White Pawn ∷ None ∷ None ∷ None ∷ of Black Pawn ∷ None ∷ of Black Silver
-    ∷ of White Gold ∷ None ∷ of White Pawn ∷ None ∷ None ∷ None ∷ of Black Pawn ∷ None ∷ of Black Gold
-    ∷ of White King ∷ None ∷ of White Pawn ∷ None ∷ None ∷ None ∷ of Black Pawn ∷ None ∷ of Black King
-    ∷ of White Gold ∷ None ∷ of White Pawn ∷ None ∷ None ∷ None ∷ of Black Pawn ∷ None ∷ of Black Gold
-    ∷ of White Silver ∷ None ∷ of White Pawn ∷ None ∷ None ∷ None ∷ of Black Pawn ∷ None ∷ of Black Silver
-    ∷ of White Knight ∷ of White Rook ∷ of White Pawn ∷ None ∷ None ∷ None ∷ of Black Pawn ∷ of Black Bishop ∷ of Black Knight
-    ∷ of White Lance ∷ None ∷ of White Pawn ∷ None ∷ None ∷ None ∷ of Black Pawn ∷ None ∷ of Black Lance ∷ []
+    cell_with White Lance ∷ None ∷ cell_with White Pawn ∷ None ∷ None ∷ None ∷ cell_with Black Pawn ∷ None ∷ cell_with Black Lance
+    ∷ cell_with White Knight ∷ cell_with White Bishop ∷ cell_with White Pawn ∷ None ∷ None ∷ None ∷ cell_with Black Pawn ∷ cell_with Black Rook ∷ cell_with Black Knight
+    ∷ cell_with White Silver ∷ None ∷ cell_with White Pawn ∷ None ∷ None ∷ None ∷ cell_with Black Pawn ∷ None ∷ cell_with Black Silver
+    ∷ cell_with White Gold ∷ None ∷ cell_with White Pawn ∷ None ∷ None ∷ None ∷ cell_with Black Pawn ∷ None ∷ cell_with Black Gold
+    ∷ cell_with White King ∷ None ∷ cell_with White Pawn ∷ None ∷ None ∷ None ∷ cell_with Black Pawn ∷ None ∷ cell_with Black King
+    ∷ cell_with White Gold ∷ None ∷ cell_with White Pawn ∷ None ∷ None ∷ None ∷ cell_with Black Pawn ∷ None ∷ cell_with Black Gold
+    ∷ cell_with White Silver ∷ None ∷ cell_with White Pawn ∷ None ∷ None ∷ None ∷ cell_with Black Pawn ∷ None ∷ cell_with Black Silver
+    ∷ cell_with White Knight ∷ cell_with White Rook ∷ cell_with White Pawn ∷ None ∷ None ∷ None ∷ cell_with Black Pawn ∷ cell_with Black Bishop ∷ cell_with Black Knight
+    ∷ cell_with White Lance ∷ None ∷ cell_with White Pawn ∷ None ∷ None ∷ None ∷ cell_with Black Pawn ∷ None ∷ cell_with Black Lance ∷ []
 
 -- Black moves first, and nothing is held
 abbrev pub start : Shogi

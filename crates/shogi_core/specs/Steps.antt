@@ -1,16 +1,16 @@
 -- Steps and jumps from a square.
-use Rattle.std.specs.Prelude.{ℕ, ◌==◌, ◌++◌, Bool, cond, pos, negsuc, List, [], ◌∷◌}
+use Rattle.std.specs.Prelude.{ℕ, ◌==◌, ◌++◌, Bool, cond, List, [], ◌∷◌}
 use Rattle.std.specs.List.{list_any}
 use Rattle.shogi_core.specs.declared.offset.Offset.{Offset}
 use Rattle.shogi_core.specs.declared.piece.Color.{Color}
 use Rattle.shogi_core.specs.declared.piece.Color.TheVariants.{Black, White}
 use Rattle.shogi_core.specs.Bits.{mask_below}
-use Rattle.shogi_core.specs.Movement.{by, leads, seen_by, straight, diagonal, forward, gold}
+use Rattle.shogi_core.specs.Movement.{jump_left, jump_right, leads, seen_by, straight, diagonal, forward, gold}
 
 -- the kinds of steps
 abbrev pub steps_at : ℕ → List Offset
 steps_at n =
-    cond (n == 0) [] (cond (n == 1) (straight ++ diagonal) (cond (n == 2) forward (cond (n == 3) (by (pos 1) (negsuc 1) ∷ by (negsuc 0) (negsuc 1) ∷ [])
+    cond (n == 0) [] (cond (n == 1) (straight ++ diagonal) (cond (n == 2) forward (cond (n == 3) (jump_left ∷ jump_right ∷ [])
     (cond (n == 4) (forward ++ diagonal) (cond (n == 5) gold (cond (n == 6) straight diagonal))))))
 
 abbrev pub color_number : Color → ℕ

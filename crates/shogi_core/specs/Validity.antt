@@ -11,14 +11,14 @@ use Rattle.shogi_core.specs.Attack.{in_check}
 use Rattle.shogi_core.specs.Cell.{is_king, is_pawn, is_dead_on}
 use Rattle.shogi_core.specs.Movement.{Cells}
 use Rattle.shogi_core.specs.Pieces.{opponent_of, all_kinds, set_size, is_of_kind}
-use Rattle.shogi_core.specs.Position.{Shogi, Held, held}
+use Rattle.shogi_core.specs.Position.{Shogi, HandCounts, held}
 
 -- how many of a kind there are, on the board and in both hands
-abbrev pub count_of : Kind → Cells → Held → ℕ
+abbrev pub count_of : Kind → Cells → HandCounts → ℕ
 count_of kind cells hands = count_by (is_of_kind kind) cells + held hands Black kind + held hands White kind
 
 -- more of a kind than one set has
-abbrev pub has_too_many : Cells → Held → Bool
+abbrev pub has_too_many : Cells → HandCounts → Bool
 has_too_many cells hands = list_any (λ kind. nat_lt (set_size kind) (count_of kind cells hands)) all_kinds
 
 -- a side has more than one king

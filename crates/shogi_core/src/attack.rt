@@ -15,12 +15,14 @@ use crate::square::Square;
 use crate::steps::jump_squares;
 use crate::targets::{diagonal_squares, straight_squares};
 
+/// Whether the piece on `from` is of the side and reaches the square.
 fn is_attacked_from(board: &Board, color: Color, square: Square, from: Square) -> bool
     ensures { result ≡ is_attacked_from board.now color square from }
 {
     is_of(board.at(from), color) && board.reaches(from, square)
 }
 
+/// Whether a king of the side stands on the square and is attacked.
 fn is_open_king(board: &Board, color: Color, square: Square) -> bool
     ensures { result ≡ is_open_king board.now color square }
 {
@@ -54,7 +56,7 @@ impl Board {
         ensures fits { result < 2 ^ 81 }
         ensures bits { (n : ℕ) → n < 81 → has_bit result n ≡ are_lined self.now square n }
     {
-        square.index();
+        square.validity();
         lined_squares(self, square.index())
     }
 
@@ -64,7 +66,7 @@ impl Board {
         ensures fits { result < 2 ^ 81 }
         ensures bits { (n : ℕ) → n < 81 → has_bit result n ≡ is_seen self.now square n }
     {
-        square.index();
+        square.validity();
         seen_squares(self, square.index())
     }
 

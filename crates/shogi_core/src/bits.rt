@@ -3,6 +3,9 @@
 ghost use Rattle.std.specs.Prelude.{◌≡◌, ◌≢◌, ◌<◌, ◌≤◌, ◌^◌, ◌==◌, ◌&&◌, ◌||◌, not, true, false, ℕ};
 ghost use Rattle.shogi_core.specs.Bits.{has_bit};
 
+/// Every square of the board.
+pub const ALL_SQUARES: u128 = 2417851639229258349412351;
+
 /// Whether bit n is set.
 #[tactic(auto, using(crate::proofs::BitLaws::bit_tests))]
 pub fn has(mask: u128, n: usize) -> bool
@@ -47,7 +50,7 @@ pub fn cleared(mask: u128, n: usize) -> u128
 pub fn lowest(mask: u128) -> usize
     requires some { mask ≢ 0 }
     requires fits { mask < 2 ^ 81 }
-    ensures bound { result < 81 }
+    ensures range { result < 81 }
     ensures set { has_bit mask result ≡ true }
     ensures least { (n : ℕ) → has_bit mask n ≡ true → result ≤ n }
 {
@@ -59,7 +62,7 @@ pub fn lowest(mask: u128) -> usize
 pub fn highest(mask: u128) -> usize
     requires some { mask ≢ 0 }
     requires fits { mask < 2 ^ 81 }
-    ensures bound { result < 81 }
+    ensures range { result < 81 }
     ensures set { has_bit mask result ≡ true }
     ensures greatest { (n : ℕ) → has_bit mask n ≡ true → n ≤ result }
 {
@@ -71,7 +74,7 @@ pub fn highest(mask: u128) -> usize
 pub fn next_of(mask: u128, n: usize) -> usize
     requires n { n ≤ 81 }
     requires fits { mask < 2 ^ 81 }
-    ensures bounds { (n ≤ result) × (result ≤ 81) }
+    ensures range { (n ≤ result) × (result ≤ 81) }
     ensures none { (i : ℕ) → n ≤ i → i < result → has_bit mask i ≡ false }
     ensures set { result < 81 → has_bit mask result ≡ true }
 {

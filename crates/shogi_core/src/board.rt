@@ -7,11 +7,11 @@ ghost use Rattle.shogi_core.specs.Masks.{own_of, kings_of, is_any_king};
 ghost use Rattle.shogi_core.specs.Movement.{piece_at};
 ghost use Rattle.shogi_core.specs.Start.{start_cells};
 
-use crate::bits::{with, without};
+use crate::bits::{ALL_SQUARES, with, without};
 use crate::cell::is_of;
 use crate::piece::{Color, Piece};
 use crate::square::Square;
-use crate::start::START;
+use crate::start::{START, START_BLACK, START_KINGS, START_WHITE};
 use std::marker::Model;
 
 /// A board, seen as its 81 cells by index. It need not be part of a valid position.
@@ -115,9 +115,9 @@ impl Board {
     {
         Board {
             cells: START,
-            black: 1515295121079352776950080,
-            white: 23676486266864887139845,
-            kings: 17660905521152,
+            black: START_BLACK,
+            white: START_WHITE,
+            kings: START_KINGS,
         }
     }
 
@@ -155,7 +155,7 @@ impl Board {
         ensures bits { (n : ℕ) → n < 81 → has_bit result n ≡ is_none (piece_at self.now n) }
         ensures fits { result < 2 ^ 81 }
     {
-        !self.occupied() & 2417851639229258349412351
+        !self.occupied() & ALL_SQUARES
     }
 
     /// The squares on which kings of the side stand.

@@ -9,6 +9,23 @@ use crate::bits::{highest, lowest};
 use crate::board::Board;
 use crate::rays::ray;
 
+// The directions of lines by number, as Black sees them: indexes rise in the first four.
+pub const DOWN: usize = 0;
+
+pub const UP_LEFT: usize = 1;
+
+pub const LEFT: usize = 2;
+
+pub const DOWN_LEFT: usize = 3;
+
+pub const UP: usize = 4;
+
+pub const DOWN_RIGHT: usize = 5;
+
+pub const RIGHT: usize = 6;
+
+pub const UP_RIGHT: usize = 7;
+
 /// The squares that a slide reaches in a direction in which indexes rise.
 #[tactic(auto, using(crate::proofs::LineBits::line_squares))]
 fn rising_squares(board: &Board, direction: usize, from: usize) -> u128

@@ -1,10 +1,20 @@
 //! Moves.
 
 ghost use Rattle.std.specs.Prelude.{◌≡◌, ◌<◌, ◌≤◌, ◌↔◌, IsNone, IfSome, Some};
+ghost use Rattle.shogi_core.specs.declared.moves.TheConstants.{MOVE_CODES};
 ghost use Rattle.shogi_core.specs.Codes.{code_of, move_of, kind_at};
 
 use crate::piece::Kind;
 use crate::square::Square;
+
+/// How many moves there are: their codes are the numbers below it (own choice).
+pub const MOVE_CODES: u16 = 13689;
+
+/// The least code of a drop; those below it are codes of moves on the board.
+pub const FIRST_DROP: u16 = 13122;
+
+/// How many codes the moves from one square of the board have.
+pub const SQUARE_CODES: u16 = 162;
 
 /// A move of a piece on the board, or a drop of a held one. It need not be legal anywhere.
 #[derive(Clone, Copy, Debug, PartialEq, Eq, Hash)]
@@ -51,7 +61,7 @@ impl Move {
     #[tactic(auto, using(crate::proofs::CodesBack::codes_back))]
     pub fn code(self) -> u16
         ensures code { result ≡ code_of self }
-        ensures range { result < 13689 }
+        ensures range { result < MOVE_CODES }
         ensures back { move_of result ≡ Some self }
     {
         match self {
@@ -59,28 +69,44 @@ impl Move {
                 let squares = from.index() * 81 + to.index();
                 (squares * 2 + if promote { 1 } else { 0 }) as u16
             }
-            Move::Drop { kind, to } => (13122 + kind.number() * 81 + to.index()) as u16,
+            Move::Drop { kind, to } => FIRST_DROP + (kind.number() * 81 + to.index()) as u16,
+        }
+    }
+
+    /// Tells a proof that the code is that of this move and no other, and does nothing.
+    #[tactic(auto, using(crate::proofs::CodesBack::codes_back))]
+    pub fn validity(&self)
+        ensures range { code_of self.now < MOVE_CODES }
+        ensures back { move_of (code_of self.now) ≡ Some self.now }
+    {
+        match self {
+            Move::Board { from, to, .. } => {
+                from.validity();
+                to.validity();
+            }
+            Move::Drop { to, .. } => to.validity(),
         }
     }
 
     /// The move of a code, or `None` from 13,689 up.
     pub fn of_code(code: u16) -> Option<Move>
         ensures value { result ≡ move_of code }
-        ensures none { IsNone result ↔ (13689 ≤ code) }
+        ensures none { IsNone result ↔ (MOVE_CODES ≤ code) }
         ensures back { IfSome result (λ m. code_of m ≡ code) }
     {
-        let code = code as usize;
-        if code < 13122 {
+        if code < FIRST_DROP {
+            let squares = code as usize / 2;
             return Some(Move::Board {
-                from: Square::of_index(code / 2 / 81),
-                to: Square::of_index(code / 2 % 81),
+                from: Square::of_index(squares / 81),
+                to: Square::of_index(squares % 81),
                 promote: code % 2 == 1,
             });
         }
-        if code < 13689 {
+        if code < MOVE_CODES {
+            let drop = (code - FIRST_DROP) as usize;
             return Some(Move::Drop {
-                kind: kind_at((code - 13122) / 81),
-                to: Square::of_index((code - 13122) % 81),
+                kind: kind_at(drop / 81),
+                to: Square::of_index(drop % 81),
             });
         }
         None

@@ -12,51 +12,37 @@ pub struct Offset {
     pub rank: i8,
 }
 
-const STRAIGHT: [Offset; 4] = [
-    Offset { file: 0, rank: -1 },
-    Offset { file: 0, rank: 1 },
-    Offset { file: 1, rank: 0 },
-    Offset { file: -1, rank: 0 },
-];
+const UP: Offset = Offset { file: 0, rank: -1 };
 
-const DIAGONAL: [Offset; 4] = [
-    Offset { file: 1, rank: -1 },
-    Offset { file: -1, rank: -1 },
-    Offset { file: 1, rank: 1 },
-    Offset { file: -1, rank: 1 },
-];
+const DOWN: Offset = Offset { file: 0, rank: 1 };
+
+const LEFT: Offset = Offset { file: 1, rank: 0 };
+
+const RIGHT: Offset = Offset { file: -1, rank: 0 };
+
+const UP_LEFT: Offset = Offset { file: 1, rank: -1 };
+
+const UP_RIGHT: Offset = Offset { file: -1, rank: -1 };
+
+const DOWN_LEFT: Offset = Offset { file: 1, rank: 1 };
+
+const DOWN_RIGHT: Offset = Offset { file: -1, rank: 1 };
+
+const STRAIGHT: [Offset; 4] = [UP, DOWN, LEFT, RIGHT];
+
+const DIAGONAL: [Offset; 4] = [UP_LEFT, UP_RIGHT, DOWN_LEFT, DOWN_RIGHT];
 
 const AROUND: [Offset; 8] = [
-    Offset { file: 0, rank: -1 },
-    Offset { file: 0, rank: 1 },
-    Offset { file: 1, rank: 0 },
-    Offset { file: -1, rank: 0 },
-    Offset { file: 1, rank: -1 },
-    Offset { file: -1, rank: -1 },
-    Offset { file: 1, rank: 1 },
-    Offset { file: -1, rank: 1 },
+    UP, DOWN, LEFT, RIGHT, UP_LEFT, UP_RIGHT, DOWN_LEFT, DOWN_RIGHT,
 ];
 
-const FORWARD: [Offset; 1] = [Offset { file: 0, rank: -1 }];
+const FORWARD: [Offset; 1] = [UP];
 
 const KNIGHT: [Offset; 2] = [Offset { file: 1, rank: -2 }, Offset { file: -1, rank: -2 }];
 
-const SILVER: [Offset; 5] = [
-    Offset { file: 0, rank: -1 },
-    Offset { file: 1, rank: -1 },
-    Offset { file: -1, rank: -1 },
-    Offset { file: 1, rank: 1 },
-    Offset { file: -1, rank: 1 },
-];
+const SILVER: [Offset; 5] = [UP, UP_LEFT, UP_RIGHT, DOWN_LEFT, DOWN_RIGHT];
 
-const GOLD: [Offset; 6] = [
-    Offset { file: 0, rank: -1 },
-    Offset { file: 1, rank: -1 },
-    Offset { file: -1, rank: -1 },
-    Offset { file: 1, rank: 0 },
-    Offset { file: -1, rank: 0 },
-    Offset { file: 0, rank: 1 },
-];
+const GOLD: [Offset; 6] = [UP, UP_LEFT, UP_RIGHT, LEFT, RIGHT, DOWN];
 
 impl Role {
     /// Its steps and jumps.

@@ -1,7 +1,7 @@
 //! Pieces: a colour and a role.
 
 ghost use Rattle.std.specs.Prelude.{◌≡◌, ◌<◌};
-ghost use Rattle.shogi_core.specs.Pieces.{opponent_of, number_of, set_size, kind_of, is_same_color, role_of, promoted};
+ghost use Rattle.shogi_core.specs.Pieces.{opponent_of, kind_number, set_size, kind_of, is_same_color, role_of, promoted};
 ghost use Rattle.shogi_core.specs.Cell.{is_king_role, is_pawn_role, is_dead_role};
 
 /// A side.
@@ -86,7 +86,7 @@ impl Color {
 impl Kind {
     /// Its place among the kinds, from 0 to 6: pawn, lance, knight, silver, gold, bishop, rook.
     pub fn number(self) -> usize
-        ensures number { result ≡ number_of self }
+        ensures number { result ≡ kind_number self }
         ensures range { result < 7 }
     {
         match self {

@@ -1,12 +1,13 @@
 //! Positions: what stands on the board, what each side holds, and whose turn it is.
 
-ghost use Rattle.std.specs.Prelude.{ℕ, ◌<◌, ◌^◌, is_none, ◌≡◌, Ok, Err, None, Some, MatchOption};
+ghost use Rattle.std.specs.Prelude.{ℕ, ◌<◌, ◌^◌, is_none, ◌≡◌, ◌↔◌, IsTrue, Ok, Err, None, Some, MatchOption};
 ghost use Rattle.shogi_core.specs.Attack.{in_check};
 ghost use Rattle.shogi_core.specs.Bits.{has_bit};
 ghost use Rattle.shogi_core.specs.Cell.{is_of, is_king};
 ghost use Rattle.shogi_core.specs.Lines.{are_lined};
 ghost use Rattle.shogi_core.specs.Movement.{reaches, piece_at};
 ghost use Rattle.shogi_core.specs.Position.{Shogi, held};
+ghost use Rattle.shogi_core.specs.Same.{is_same_position};
 ghost use Rattle.shogi_core.specs.Validity.{IsValid, fault_of};
 
 use crate::board::Board;
@@ -163,7 +164,15 @@ impl Position {
         self.board.in_check(color)
     }
 
-    /// Tells that the position is valid.
+    /// Whether the other is the same position, to the last piece in hand.
+    pub fn is_same(&self, other: &Position) -> bool
+        ensures same { IsTrue result ↔ (self.now ≡ other.now) }
+        ensures test { result ≡ is_same_position self.now other.now }
+    {
+        self == other
+    }
+
+    /// Tells a proof that the position is valid, and does nothing.
     pub fn validity(&self)
         ensures { IsValid self.now }
     {

@@ -64,6 +64,13 @@ impl Square {
 }
 
 impl Square {
+    /// Tells a proof that the index is below 81, and does nothing.
+    pub fn validity(&self)
+        ensures { self.now < 81 }
+    {
+        let _ = &self.index;
+    }
+
     /// The square of an index below 81.
     pub fn of_index(index: usize) -> Square
         requires { index < 81 }
@@ -99,7 +106,7 @@ impl Square {
 /// The change of rank as the side sees it.
 fn ahead(offset: Offset, color: Color) -> i32
     ensures rank { result ≡ (seen_by color offset).rank }
-    ensures small { (negsuc 127 ≤ℤ result) × (result ≤ℤ pos 128) }
+    ensures range { (negsuc 127 ≤ℤ result) × (result ≤ℤ pos 128) }
 {
     match color {
         Color::Black => offset.rank as i32,
@@ -108,10 +115,10 @@ fn ahead(offset: Offset, color: Color) -> i32
 }
 
 /// Where n steps of the change lead along a file or a rank.
-fn shifted(start: u8, n: u8, by: i32) -> i32
+fn shifted(start: u8, n: u8, change: i32) -> i32
     requires n { n < 9 }
-    requires small { (negsuc 127 ≤ℤ by) × (by ≤ℤ pos 128) }
-    ensures { result ≡ pos start +ℤ pos n *ℤ by }
+    requires range { (negsuc 127 ≤ℤ change) × (change ≤ℤ pos 128) }
+    ensures { result ≡ pos start +ℤ pos n *ℤ change }
 {
-    start as i32 + n as i32 * by
+    start as i32 + n as i32 * change
 }

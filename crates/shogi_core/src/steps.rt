@@ -1329,6 +1329,7 @@ fn steps_kind(role: Role) -> usize
     }
 }
 
+/// The number of a side: 0 for Black and 1 for White.
 fn color_number(color: Color) -> usize
     ensures number { result ≡ color_number color }
     ensures range { result < 2 }

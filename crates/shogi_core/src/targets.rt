@@ -7,7 +7,9 @@ ghost use Rattle.shogi_core.specs.Movement.{reaches, has_slide, slides, straight
 
 use crate::bits::has;
 use crate::board::Board;
-use crate::lines::slide_squares;
+use crate::lines::{
+    DOWN, DOWN_LEFT, DOWN_RIGHT, LEFT, RIGHT, UP, UP_LEFT, UP_RIGHT, slide_squares,
+};
 use crate::piece::{Color, Piece, Role};
 use crate::square::Square;
 use crate::steps::step_squares;
@@ -19,10 +21,10 @@ pub fn straight_squares(board: &Board, color: Color, from: usize) -> u128
     ensures fits { result < 2 ^ 81 }
     ensures bits { (b : ℕ) → b < 81 → has_bit result b ≡ list_any (λ o. slides board.now (seen_by color o) from b) straight }
 {
-    slide_squares(board, 4, from)
-        | slide_squares(board, 0, from)
-        | slide_squares(board, 2, from)
-        | slide_squares(board, 6, from)
+    slide_squares(board, UP, from)
+        | slide_squares(board, DOWN, from)
+        | slide_squares(board, LEFT, from)
+        | slide_squares(board, RIGHT, from)
 }
 
 /// The squares that slides along diagonals reach.
@@ -32,10 +34,10 @@ pub fn diagonal_squares(board: &Board, color: Color, from: usize) -> u128
     ensures fits { result < 2 ^ 81 }
     ensures bits { (b : ℕ) → b < 81 → has_bit result b ≡ list_any (λ o. slides board.now (seen_by color o) from b) diagonal }
 {
-    slide_squares(board, 1, from)
-        | slide_squares(board, 7, from)
-        | slide_squares(board, 3, from)
-        | slide_squares(board, 5, from)
+    slide_squares(board, UP_LEFT, from)
+        | slide_squares(board, UP_RIGHT, from)
+        | slide_squares(board, DOWN_LEFT, from)
+        | slide_squares(board, DOWN_RIGHT, from)
 }
 
 /// The squares that a slide forward reaches.
@@ -46,8 +48,8 @@ fn forward_squares(board: &Board, color: Color, from: usize) -> u128
     ensures bits { (b : ℕ) → b < 81 → has_bit result b ≡ list_any (λ o. slides board.now (seen_by color o) from b) forward }
 {
     match color {
-        Color::Black => slide_squares(board, 4, from),
-        Color::White => slide_squares(board, 0, from),
+        Color::Black => slide_squares(board, UP, from),
+        Color::White => slide_squares(board, DOWN, from),
     }
 }
 
@@ -85,7 +87,7 @@ impl Board {
     pub fn reaches(&self, from: Square, to: Square) -> bool
         ensures { result ≡ reaches self.now from to }
     {
-        to.index();
+        to.validity();
         has(self.targets(from), to.index())
     }
 }

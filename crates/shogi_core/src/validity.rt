@@ -40,24 +40,28 @@ impl PositionFault {
     }
 }
 
+/// How many pieces of the kind stand on the board, promoted ones counted.
 fn count_kind(cells: &[Option<Piece>; 81], kind: Kind) -> usize
     ensures { result ≡ count_by (is_of_kind kind) cells.now }
 {
     cells.iter().filter(|cell| is_of_kind(**cell, kind)).count()
 }
 
+/// How many kings of the side stand on the board.
 fn count_kings(cells: &[Option<Piece>; 81], color: Color) -> usize
     ensures { result ≡ count_by (is_king color) cells.now }
 {
     cells.iter().filter(|cell| is_king(**cell, color)).count()
 }
 
+/// Whether a side has more than one king.
 fn has_two_kings(cells: &[Option<Piece>; 81]) -> bool
     ensures { result ≡ has_two_kings cells.now }
 {
     count_kings(cells, Color::Black) > 1 || count_kings(cells, Color::White) > 1
 }
 
+/// How many unpromoted pawns of the side stand on the file, counted from 0.
 fn count_pawns(cells: &[Option<Piece>; 81], color: Color, file: usize) -> usize
     requires { file < 9 }
     ensures { result ≡ pawns_on_file color file cells.now }
@@ -79,6 +83,7 @@ impl Board {
     }
 }
 
+/// Whether there are more of the kind than one set has.
 fn has_too_many_of(cells: &[Option<Piece>; 81], hands: Hands, kind: Kind) -> bool
     ensures { result ≡ nat_lt (set_size kind) (count_of kind cells.now hands) }
 {
@@ -87,6 +92,7 @@ fn has_too_many_of(cells: &[Option<Piece>; 81], hands: Hands, kind: Kind) -> boo
     kind.set_size() < count_kind(cells, kind) + in_hand
 }
 
+/// Whether there are more of some kind than one set has.
 fn has_too_many(cells: &[Option<Piece>; 81], hands: Hands) -> bool
     ensures { result ≡ has_too_many cells.now hands }
 {
@@ -95,6 +101,7 @@ fn has_too_many(cells: &[Option<Piece>; 81], hands: Hands) -> bool
         .any(|kind| has_too_many_of(cells, hands, *kind))
 }
 
+/// Whether a side has two unpromoted pawns on the file.
 fn has_two_pawns_on(cells: &[Option<Piece>; 81], file: usize) -> bool
     requires { file < 9 }
     ensures { result ≡ has_two_pawns_on cells.now file }
@@ -102,6 +109,7 @@ fn has_two_pawns_on(cells: &[Option<Piece>; 81], file: usize) -> bool
     count_pawns(cells, Color::Black, file) > 1 || count_pawns(cells, Color::White, file) > 1
 }
 
+/// Whether a side has two unpromoted pawns on a file.
 #[tactic(auto, using(crate::proofs::Below::some_below_more, crate::proofs::Below::some_below_none, crate::proofs::Below::some_below_at))]
 fn has_two_pawns(cells: &[Option<Piece>; 81]) -> bool
     ensures { result ≡ has_two_pawns cells.now }
@@ -114,6 +122,7 @@ fn has_two_pawns(cells: &[Option<Piece>; 81]) -> bool
     false
 }
 
+/// Whether some piece could never move again.
 #[tactic(auto, using(crate::proofs::Below::some_below_more, crate::proofs::Below::some_below_none, crate::proofs::Below::some_below_at))]
 fn has_dead_piece(cells: &[Option<Piece>; 81]) -> bool
     ensures { result ≡ has_dead_piece cells.now }

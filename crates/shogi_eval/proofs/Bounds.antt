@@ -1,8 +1,9 @@
 -- One set of pieces bounds what a side has.
-use Rattle.std.proofs.Common.{◌≡◌, ◌≤◌, ◌+◌, ◌*◌, ℕ, pos, negsuc, ◌≤ℤ◌, [], ◌∷◌, cond, Option, Some, None, arith}
+use Rattle.std.proofs.Common.{◌≡◌, ◌≤◌, ◌+◌, ◌*◌, ℕ, pos, ◌-ℤ◌, ◌≤ℤ◌, [], ◌∷◌, cond, Option, Some, None, arith}
 use Rattle.std.specs.Prelude.{count_by}
 use Rattle.std.proofs.lemmas.List.Sums.{sum_by-cons}
 use Rattle.std.proofs.lemmas.Int.{ints}
+use Rattle.shogi_eval.specs.declared.points.TheConstants.{MOST_POINTS}
 use Rattle.shogi_core.specs.declared.piece.Color.{Color}
 use Rattle.shogi_core.specs.declared.piece.Color.TheVariants.{Black, White}
 use Rattle.shogi_core.specs.declared.piece.Kind.{Kind}
@@ -12,7 +13,7 @@ use Rattle.shogi_core.specs.declared.piece.Role.TheVariants.{King}
 use Rattle.shogi_core.specs.declared.piece.Piece.{Piece}
 use Rattle.shogi_core.specs.Movement.{Cells}
 use Rattle.shogi_core.specs.Pieces.{is_of_kind, opponent_of}
-use Rattle.shogi_core.specs.Position.{Shogi, Held, held}
+use Rattle.shogi_core.specs.Position.{Shogi, HandCounts, held}
 use Rattle.shogi_core.specs.Validity.{IsValid, count_of}
 use Rattle.shogi_core.specs.Faultless.{IsFaultless}
 use Rattle.shogi_core.proofs.Faults.{faultless_from}
@@ -47,15 +48,15 @@ board_within color (cell ∷ cells) =
     let c : (kind : Kind) → count_by (is_of_kind kind) (cell ∷ cells) ≡ tally kind cell + count_by (is_of_kind kind) cells = λ kind. sum_by-cons (tally kind) cell cells in
     omega (arith, c kinds.Pawn, c kinds.Lance, c kinds.Knight, c kinds.Silver, c kinds.Gold, c kinds.Bishop, c kinds.Rook)
 
-hand_within : (hands : Held) (color : Color) → points_in_hand hands color ≤ most (λ kind. held hands color kind)
+hand_within : (hands : HandCounts) (color : Color) → points_in_hand hands color ≤ most (λ kind. held hands color kind)
 hand_within hands color = omega arith
 
 -- a side holds no more of a kind than both do
-side_within : (cells : Cells) (hands : Held) (color : Color) (kind : Kind) → count_by (is_of_kind kind) cells + held hands color kind ≤ count_of kind cells hands
+side_within : (cells : Cells) (hands : HandCounts) (color : Color) (kind : Kind) → count_by (is_of_kind kind) cells + held hands color kind ≤ count_of kind cells hands
 side_within cells hands Black kind = omega arith
 side_within cells hands White kind = omega arith
 
-faultless_within : (p : Shogi) (color : Color) → IsFaultless p → points_of p color ≤ 25200
+faultless_within : (p : Shogi) (color : Color) → IsFaultless p → points_of p color ≤ MOST_POINTS
 unfolding points_of
 faultless_within p color h =
     let board : points_on_board p.cells color ≤ most (λ kind. count_by (is_of_kind kind) p.cells) = board_within color p.cells in
@@ -79,13 +80,13 @@ faultless_within p color h =
       h.counts kinds.Rook,
     )
 
-pub points_within : (p : Shogi) (color : Color) → IsValid p → points_of p color ≤ 25200
+pub points_within : (p : Shogi) (color : Color) → IsValid p → points_of p color ≤ MOST_POINTS
 points_within p color v = faultless_within p color (faultless_from p v.no_fault)
 
 -- the material of a valid position
-pub material_bounds : (p : Shogi) → IsValid p → (negsuc 25199 ≤ℤ material_of p) × (material_of p ≤ℤ pos 25200)
+pub material_bounds : (p : Shogi) → IsValid p → ((pos 0 -ℤ pos MOST_POINTS) ≤ℤ material_of p) × (material_of p ≤ℤ pos MOST_POINTS)
 unfolding material_of
 material_bounds p v =
-    let own : points_of p p.side ≤ 25200 = points_within p p.side v in
-    let other : points_of p (opponent_of p.side) ≤ 25200 = points_within p (opponent_of p.side) v in
+    let own : points_of p p.side ≤ MOST_POINTS = points_within p p.side v in
+    let other : points_of p (opponent_of p.side) ≤ MOST_POINTS = points_within p (opponent_of p.side) v in
     (omega (arith, ints), omega (arith, ints))

@@ -10,7 +10,7 @@ use Rattle.shogi_core.specs.declared.piece.Color.TheVariants.{Black, White}
 use Rattle.shogi_core.specs.declared.piece.Kind.{Kind}
 use Rattle.shogi_core.specs.declared.piece.Kind.TheVariants as kinds
 use Rattle.shogi_core.specs.declared.piece.Piece.{Piece}
-use Rattle.shogi_core.specs.Position.{Shogi, Held, held, place_of}
+use Rattle.shogi_core.specs.Position.{Shogi, HandCounts, held, place_of}
 use Rattle.shogi_core.specs.declared.piece.Role.{Role}
 use Rattle.shogi_core.specs.declared.piece.Role.TheVariants.{King, Pawn}
 use Rattle.shogi_core.specs.declared.moves.Move.{Move}
@@ -37,7 +37,7 @@ sum_moved f xs a b v none ha hb other =
     omega arith
 
 -- a count in hand that is written
-in_hand_set : (hands : Held) (side : Color) (kind : Kind) (n : ℕ) → length hands ≡ 14 → points_in_hand (slice_set hands (place_of side kind) n) side + held hands side kind * value_in_hand kind ≡ points_in_hand hands side + n * value_in_hand kind
+in_hand_set : (hands : HandCounts) (side : Color) (kind : Kind) (n : ℕ) → length hands ≡ 14 → points_in_hand (slice_set hands (place_of side kind) n) side + held hands side kind * value_in_hand kind ≡ points_in_hand hands side + n * value_in_hand kind
 in_hand_set hands Black kinds.Pawn n len = grind (arith, common_steps, get_or-set_same, get_or-set_other)
 in_hand_set hands Black kinds.Lance n len = grind (arith, common_steps, get_or-set_same, get_or-set_other)
 in_hand_set hands Black kinds.Knight n len = grind (arith, common_steps, get_or-set_same, get_or-set_other)
@@ -53,7 +53,7 @@ in_hand_set hands White kinds.Gold n len = grind (arith, common_steps, get_or-se
 in_hand_set hands White kinds.Bishop n len = grind (arith, common_steps, get_or-set_same, get_or-set_other)
 in_hand_set hands White kinds.Rook n len = grind (arith, common_steps, get_or-set_same, get_or-set_other)
 
-in_hand_other : (hands : Held) (side : Color) (kind : Kind) (n : ℕ) → points_in_hand (slice_set hands (place_of side kind) n) (opponent_of side) ≡ points_in_hand hands (opponent_of side)
+in_hand_other : (hands : HandCounts) (side : Color) (kind : Kind) (n : ℕ) → points_in_hand (slice_set hands (place_of side kind) n) (opponent_of side) ≡ points_in_hand hands (opponent_of side)
 in_hand_other hands Black kinds.Pawn n = grind (arith, common_steps, get_or-set_other)
 in_hand_other hands Black kinds.Lance n = grind (arith, common_steps, get_or-set_other)
 in_hand_other hands Black kinds.Knight n = grind (arith, common_steps, get_or-set_other)
@@ -133,19 +133,19 @@ moved_other : (s : Color) (promote : Bool) (cell : Option Piece) → is_of s cel
 moved_other s promote None e = cc
 moved_other s promote (Some piece) e = cond-false _ _ _ (same_other s piece.color e)
 
-one_more_own : (hands : Held) (s : Color) (kind : Option Kind) → length hands ≡ 14 → points_in_hand (with_one_more hands s kind) s ≡ points_in_hand hands s + value_held kind
+one_more_own : (hands : HandCounts) (s : Color) (kind : Option Kind) → length hands ≡ 14 → points_in_hand (with_one_more hands s kind) s ≡ points_in_hand hands s + value_held kind
 one_more_own hands s None len = omega arith
 one_more_own hands s (Some kind) len = omega (arith, in_hand_set hands s kind (held hands s kind + 1) len)
 
-one_more_other : (hands : Held) (s : Color) (kind : Option Kind) → points_in_hand (with_one_more hands s kind) (opponent_of s) ≡ points_in_hand hands (opponent_of s)
+one_more_other : (hands : HandCounts) (s : Color) (kind : Option Kind) → points_in_hand (with_one_more hands s kind) (opponent_of s) ≡ points_in_hand hands (opponent_of s)
 one_more_other hands s None = refl
 one_more_other hands s (Some kind) = in_hand_other hands s kind (held hands s kind + 1)
 
-captured_own : (hands : Held) (s : Color) (cell : Option Piece) → length hands ≡ 14 → points_in_hand (with_captured hands s cell) s ≡ points_in_hand hands s + captured_gain cell
+captured_own : (hands : HandCounts) (s : Color) (cell : Option Piece) → length hands ≡ 14 → points_in_hand (with_captured hands s cell) s ≡ points_in_hand hands s + captured_gain cell
 captured_own hands s None len = omega arith
 captured_own hands s (Some piece) len = one_more_own hands s (kind_of piece.role) len
 
-captured_other : (hands : Held) (s : Color) (cell : Option Piece) → points_in_hand (with_captured hands s cell) (opponent_of s) ≡ points_in_hand hands (opponent_of s)
+captured_other : (hands : HandCounts) (s : Color) (cell : Option Piece) → points_in_hand (with_captured hands s cell) (opponent_of s) ≡ points_in_hand hands (opponent_of s)
 captured_other hands s None = refl
 captured_other hands s (Some piece) = one_more_other hands s (kind_of piece.role)
 

@@ -9,7 +9,7 @@ use Rattle.shogi_core.specs.declared.moves.Move.{Move}
 use Rattle.shogi_core.specs.declared.moves.Move.TheVariants.{Board, Drop}
 use Rattle.shogi_core.specs.Movement.{Cells, piece_at}
 use Rattle.shogi_core.specs.Pieces.{all_kinds, opponent_of, is_same_color, role_of, kind_of, promoted}
-use Rattle.shogi_core.specs.Position.{Shogi, Held, held}
+use Rattle.shogi_core.specs.Position.{Shogi, HandCounts, held}
 
 -- what a piece on the board is worth
 abbrev pub value_of : Role → ℕ
@@ -42,11 +42,11 @@ abbrev pub points_on_board : Cells → Color → ℕ
 points_on_board cells color = sum_by (points_at color) cells
 
 -- what the side holds of a kind
-abbrev pub points_held : Held → Color → Kind → ℕ
+abbrev pub points_held : HandCounts → Color → Kind → ℕ
 points_held hands color kind = held hands color kind * value_in_hand kind
 
 -- the side's pieces in hand
-abbrev pub points_in_hand : Held → Color → ℕ
+abbrev pub points_in_hand : HandCounts → Color → ℕ
 points_in_hand hands color = sum_by (points_held hands color) all_kinds
 
 -- all that the side has

@@ -1,6 +1,7 @@
 //! What a move does to the material.
 
-ghost use Rattle.std.specs.Prelude.{◌≡◌, ◌≤◌, true};
+ghost use Rattle.std.specs.Prelude.{◌≡◌, ◌≤◌, ◌*◌, true};
+ghost use Rattle.shogi_eval.specs.declared.points.TheConstants.{MOST_VALUE};
 ghost use Rattle.shogi_moves.specs.After.{after};
 ghost use Rattle.shogi_moves.specs.Legal.{is_legal};
 ghost use Rattle.shogi_eval.specs.Material.{material_of, value_held, taken_gain, promotion_gain};
@@ -11,7 +12,7 @@ use shogi_core::{Kind, Move, Piece, Position, Role};
 /// What a captured piece adds to the captor's hand.
 fn value_held(kind: Option<Kind>) -> u32
     ensures value { result ≡ value_held kind }
-    ensures range { result ≤ 1300 }
+    ensures range { result ≤ MOST_VALUE }
 {
     match kind {
         None => 0,
@@ -22,7 +23,7 @@ fn value_held(kind: Option<Kind>) -> u32
 /// What a capture gains: the piece is lost to its side and comes to hand.
 fn taken_gain(cell: Option<Piece>) -> u32
     ensures value { result ≡ taken_gain cell }
-    ensures range { result ≤ 2600 }
+    ensures range { result ≤ 2 * MOST_VALUE }
 {
     match cell {
         None => 0,
@@ -33,7 +34,7 @@ fn taken_gain(cell: Option<Piece>) -> u32
 /// What a promotion gains.
 fn promotion_gain(cell: Option<Piece>, promote: bool) -> u32
     ensures value { result ≡ promotion_gain promote cell }
-    ensures range { result ≤ 1300 }
+    ensures range { result ≤ MOST_VALUE }
 {
     match cell {
         None => 0,
@@ -56,13 +57,13 @@ pub fn score_after(p: &Position, score: i32, m: &Move) -> i32
     p.validity();
     match m {
         Move::Board { from, to, promote } => {
-            from.index();
-            to.index();
+            from.validity();
+            to.validity();
             let gain = taken_gain(p.at(*to)) + promotion_gain(p.at(*from), *promote);
             0 - (score + gain as i32)
         }
         Move::Drop { to, .. } => {
-            to.index();
+            to.validity();
             0 - score
         }
     }

@@ -6,7 +6,7 @@ mod node;
 mod points;
 
 pub use node::Node;
-pub use points::material;
+pub use points::{MOST_POINTS, material};
 
 #[cfg(test)]
 mod tests;

@@ -1,14 +1,21 @@
 //! The values of pieces, and the material of a position.
 
-ghost use Rattle.std.specs.Prelude.{◌≡◌, ◌≤◌, ◌<◌, ◌*◌, ◌^◌, ◌≤ℤ◌, pos, negsuc};
+ghost use Rattle.std.specs.Prelude.{◌≡◌, ◌≤◌, ◌<◌, ◌*◌, ◌^◌, ◌≤ℤ◌, ◌-ℤ◌, pos};
+ghost use Rattle.shogi_eval.specs.declared.points.TheConstants.{MOST_VALUE, MOST_POINTS};
 ghost use Rattle.shogi_eval.specs.Material.{value_of, points_at, points_on_board, points_in_hand, points_held, points_of, material_of};
 
 use shogi_core::{Color, KINDS, Kind, Piece, Position, Role};
 
+/// The greatest value of a piece, that of a promoted rook.
+pub const MOST_VALUE: u32 = 1300;
+
+/// The greatest worth of what a side has: all pieces of a set, each at its best.
+pub const MOST_POINTS: u32 = 25200;
+
 /// What a piece of the role is worth on the board.
 pub fn value_of(role: Role) -> u32
     ensures value { result ≡ value_of role }
-    ensures range { result ≤ 1300 }
+    ensures range { result ≤ MOST_VALUE }
 {
     match role {
         Role::King => 0,
@@ -29,7 +36,7 @@ pub fn value_of(role: Role) -> u32
 /// What stands on a square, if it is the side's.
 fn points_at(cell: Option<Piece>, color: Color) -> u32
     ensures value { result ≡ points_at color cell }
-    ensures range { result ≤ 1300 }
+    ensures range { result ≤ MOST_VALUE }
 {
     match cell {
         None => 0,
@@ -46,7 +53,7 @@ fn points_at(cell: Option<Piece>, color: Color) -> u32
 /// The side's pieces on the board.
 fn points_on_board(cells: &[Option<Piece>; 81], color: Color) -> u32
     ensures value { result ≡ points_on_board cells.now color }
-    ensures range { result ≤ 81 * 1300 }
+    ensures range { result ≤ 81 * MOST_VALUE }
 {
     let mut points = 0;
     for cell in cells {
@@ -58,7 +65,7 @@ fn points_on_board(cells: &[Option<Piece>; 81], color: Color) -> u32
 /// What the side holds of a kind.
 fn points_held(p: &Position, color: Color, kind: Kind) -> u32
     ensures value { result ≡ points_held p.now.hands color kind }
-    ensures range { result ≤ 255 * 1300 }
+    ensures range { result ≤ 255 * MOST_VALUE }
 {
     p.hand(color, kind) as u32 * value_of(Role::from(kind))
 }
@@ -66,7 +73,7 @@ fn points_held(p: &Position, color: Color, kind: Kind) -> u32
 /// The side's pieces in hand.
 fn points_in_hand(p: &Position, color: Color) -> u32
     ensures value { result ≡ points_in_hand p.now.hands color }
-    ensures range { result ≤ 7 * 255 * 1300 }
+    ensures range { result ≤ 7 * 255 * MOST_VALUE }
 {
     let mut points = 0;
     for kind in KINDS {
@@ -79,7 +86,7 @@ fn points_in_hand(p: &Position, color: Color) -> u32
 #[tactic(auto, using(crate::proofs::Bounds::points_within), unfolding(crate::specs::Material::points_of))]
 fn points_of(p: &Position, color: Color) -> u32
     ensures value { result ≡ points_of p.now color }
-    ensures range { result ≤ 25200 }
+    ensures range { result ≤ MOST_POINTS }
 {
     p.validity();
     points_on_board(p.board().cells(), color) + points_in_hand(p, color)
@@ -90,8 +97,8 @@ fn points_of(p: &Position, color: Color) -> u32
 #[tactic(auto, unfolding(crate::specs::Material::material_of))]
 pub fn material(p: &Position) -> i32
     ensures value { result ≡ material_of p.now }
-    ensures least { negsuc 25199 ≤ℤ result }
-    ensures most { result ≤ℤ pos 25200 }
+    ensures least { (pos 0 -ℤ pos MOST_POINTS) ≤ℤ result }
+    ensures most { result ≤ℤ pos MOST_POINTS }
 {
     let side = p.side();
     points_of(p, side) as i32 - points_of(p, side.opponent()) as i32

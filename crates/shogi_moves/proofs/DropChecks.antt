@@ -1,5 +1,5 @@
 -- A drop uncovers nothing: the other king is attacked after it by the dropped piece or not at all.
-use Rattle.std.proofs.Common.{◌≡◌, ℕ, pos, negsuc, ◌<◌, ◌⊎◌, Bool, true, false, None, refl, sym, ap, ◌∙◌, arith, inl, inr, length, bit_or, subst, get_or-set_same, get_or-set_other}
+use Rattle.std.proofs.Common.{◌≡◌, ℕ, ◌<◌, ◌⊎◌, Bool, true, false, None, refl, sym, ap, ◌∙◌, arith, inl, inr, length, bit_or, subst, get_or-set_same, get_or-set_other}
 use Rattle.std.specs.Prelude.{is_none, ◌&&◌, ◌||◌, ◌==◌, not}
 use Rattle.std.proofs.lemmas.Bool.{cases_eq, both_ways, false_from_ne_true, and_from, or_left, or_right, not_from_false, ne_eqb}
 use Rattle.shogi_core.specs.declared.piece.Color.{Color}
@@ -14,7 +14,7 @@ use Rattle.shogi_core.specs.Validity.{IsValid}
 use Rattle.shogi_core.proofs.BitLaws.{has_bit-or, has_bit-none}
 use Rattle.shogi_core.proofs.Faults.{faultless_from}
 use Rattle.shogi_core.specs.Cell.{is_king}
-use Rattle.shogi_core.specs.Movement.{Cells, piece_at, reaches, has_step, leads, by}
+use Rattle.shogi_core.specs.Movement.{Cells, piece_at, reaches, has_step, leads, up, down, left}
 use Rattle.shogi_core.specs.Pieces.{opponent_of}
 use Rattle.shogi_core.specs.Position.{Shogi}
 use Rattle.shogi_core.specs.Lines.{back}
@@ -22,7 +22,7 @@ use Rattle.shogi_core.specs.declared.offset.Offset.{Offset}
 use Rattle.shogi_core.proofs.Exposed.{check_was_but}
 use Rattle.shogi_core.proofs.SeenLaws.{leads_back}
 use Rattle.shogi_moves.specs.After.{cells_after, dropped}
-use Rattle.shogi_moves.specs.Legal.{is_pawn_mate}
+use Rattle.shogi_moves.specs.Legal.{is_pawn_drop_mate}
 use Rattle.shogi_moves.proofs.ZoneLaws.{more_fits}
 
 pub no_king : (side : Color) (kind : Kind) → is_king (opponent_of side) (dropped side kind) ≡ false
@@ -59,7 +59,7 @@ module _ (cells : Cells) (side : Color) (kind : Kind) (to : ℕ) (len : length c
 -- a dropped pawn that reaches no king mates none
 pub fair_pawn : (p : Shogi) (to : ℕ) → length p.cells ≡ 81 → to < 81 → in_check p.cells (opponent_of p.side) ≡ false
     → ((k : ℕ) → k < 81 → is_king (opponent_of p.side) (piece_at (cells_after p.cells p.side (Drop kinds.Pawn to)) k) ≡ true → reaches (cells_after p.cells p.side (Drop kinds.Pawn to)) to k ≡ false)
-    → is_pawn_mate p (Drop kinds.Pawn to) ≡ false
+    → is_pawn_drop_mate p (Drop kinds.Pawn to) ≡ false
 fair_pawn p to len ht safe short = rw (drop_shut p.cells p.side kinds.Pawn to len ht safe short) refl
 
 step_alone : (a : Bool) → (a || false) ≡ a
@@ -75,8 +75,8 @@ step_back o n k h e = step_alone (leads 1 (back o) k n) ∙ leads_back o n k h (
 
 -- a pawn of the other side on the king's square would step to where a pawn attacks it from
 pub pawn_back : (side : Color) (n k : ℕ) → n < 81 → has_step (record { color = side; role = Pawn }) n k ≡ true → has_step (record { color = opponent_of side; role = Pawn }) k n ≡ true
-pawn_back Black n k h e = step_back (by (pos 0) (negsuc 0)) n k h e
-pawn_back White n k h e = step_back (by (pos 0) (pos 1)) n k h e
+pawn_back Black n k h e = step_back up n k h e
+pawn_back White n k h e = step_back down n k h e
 
 -- all squares are among the faces that a pawn may attack a king from which is not left
 pub record IsFacing (p : Shogi) (left faces : ℕ) : Type 0 where
@@ -93,7 +93,7 @@ facing_more p left next faces king steps f bits s = record {
   ];
 }
 
-pub far_pawn : (p : Shogi) (to faces : ℕ) → IsValid p → to < 81 → IsFacing p 0 faces → has_bit faces to ≡ false → not (is_pawn_mate p (Drop kinds.Pawn to)) ≡ true
+pub far_pawn : (p : Shogi) (to faces : ℕ) → IsValid p → to < 81 → IsFacing p 0 faces → has_bit faces to ≡ false → not (is_pawn_drop_mate p (Drop kinds.Pawn to)) ≡ true
 far_pawn p to faces v ht f out = ap not (fair_pawn p to v.cells_fit ht (faultless_from p v.no_fault).shut (λ k h king.
     pawn_reaches p.cells p.side to k v.cells_fit ht
     ∙ false_from_ne_true (has_step (record { color = p.side; role = Pawn }) to k) (λ step. both_ways (has_bit faces to) out (f.all k to h ht (old_king k king) (has_bit-none k) (pawn_back p.side to k ht step)))))

@@ -27,7 +27,7 @@ use Rattle.shogi_moves.specs.After.{moved, cells_after, dropped}
 use Rattle.shogi_moves.specs.Captures.{captures, is_asked, is_wanted}
 use Rattle.shogi_moves.specs.Ends.{is_end, is_unchecked, Sifts}
 use Rattle.shogi_moves.specs.Guards.{Guards}
-use Rattle.shogi_moves.specs.Legal.{is_safe, is_legal, is_legal_code, is_right_board_move, may_promote, can_promote, in_zone, is_right_drop, is_pawn_kind, is_pawn_mate}
+use Rattle.shogi_moves.specs.Legal.{is_safe, is_legal, is_legal_code, is_pseudo_legal_board_move, may_promote, can_promote, in_zone, is_pseudo_legal_drop, is_pawn_kind, is_pawn_drop_mate}
 use Rattle.shogi_moves.proofs.CaptureLaws.{sort_of}
 use Rattle.shogi_moves.proofs.GuardLaws.{calm_safe, filled, king_set, stays_set, stays_drop, quiet_drop_safe, calm_parts}
 use Rattle.shogi_moves.proofs.LegalLaws.{is_legal_code_of}
@@ -192,7 +192,7 @@ pub no_answer : (p : Shogi) (checked : Bool) (exposed others from n : ℕ) → G
 no_answer p checked exposed others from n g c len hf hn own plain o out none =
     ap not (stays_set p.cells p.side from n (moved false (piece_at p.cells from)) len hf hn own plain (sym o ∙ none) (g.kings n hn out) (g.lines c n hn out) (sym g.check ∙ c))
 
-pub no_answer_drop : (p : Shogi) (checked : Bool) (exposed ends n : ℕ) (kind : Kind) → Guards p checked exposed → checked ≡ true → n < 81 → has_bit ends n ≡ is_right_drop p.cells p.hands p.side kind n → has_bit ends n ≡ true → has_bit exposed n ≡ false → is_unchecked p (Drop kind n) ≡ false
+pub no_answer_drop : (p : Shogi) (checked : Bool) (exposed ends n : ℕ) (kind : Kind) → Guards p checked exposed → checked ≡ true → n < 81 → has_bit ends n ≡ is_pseudo_legal_drop p.cells p.hands p.side kind n → has_bit ends n ≡ true → has_bit exposed n ≡ false → is_unchecked p (Drop kind n) ≡ false
 no_answer_drop p checked exposed ends n kind g c hn r e out =
     let three = and_parts _ _ (sym r ∙ e) in
     let two = and_parts _ _ three.0 in
@@ -210,9 +210,9 @@ alone : (a : Bool) → (a && true) ≡ a
 alone true = refl
 alone false = refl
 
-pub legal_board : (p : Shogi) (from to : ℕ) (promote : Bool) → is_legal p (Board from to promote) ≡ (is_right_board_move p.cells p.side from to promote && is_unchecked p (Board from to promote))
+pub legal_board : (p : Shogi) (from to : ℕ) (promote : Bool) → is_legal p (Board from to promote) ≡ (is_pseudo_legal_board_move p.cells p.side from to promote && is_unchecked p (Board from to promote))
 unfolding is_legal is_safe
-legal_board p from to promote = alone (is_right_board_move p.cells p.side from to promote && is_unchecked p (Board from to promote))
+legal_board p from to promote = alone (is_pseudo_legal_board_move p.cells p.side from to promote && is_unchecked p (Board from to promote))
 
 mix : (other reach may live safe asked : Bool) → (((((other && reach) && may) && live) && safe) && asked) ≡ (((reach && (other && asked)) && safe) && (may && live))
 mix false true may live safe asked = refl
@@ -438,19 +438,19 @@ four a b c d e = rw e refl
 first_fails : (a b c d : Bool) → a ≡ false → false ≡ (((a && b) && c) && d)
 first_fails a b c d e = rw e refl
 
-pub right_none : (p : Shogi) (kind : Kind) (n : ℕ) → held p.hands p.side kind ≡ 0 → has_bit 0 n ≡ is_right_drop p.cells p.hands p.side kind n
+pub right_none : (p : Shogi) (kind : Kind) (n : ℕ) → held p.hands p.side kind ≡ 0 → has_bit 0 n ≡ is_pseudo_legal_drop p.cells p.hands p.side kind n
 right_none p kind n e = has_bit-none n ∙ (rw e refl)
 
 pub right_pawn : (p : Shogi) (kind : Kind) (free dead files n : ℕ) → n < 81 → 0 < held p.hands p.side kind → is_pawn_kind kind ≡ true → has_bit free n ≡ is_none (piece_at p.cells n) → dead < 2 ^ 81 → has_bit dead n ≡ is_dead n (dropped p.side kind)
     → files < 2 ^ 81 → has_bit files n ≡ nat_lt 0 (pawns_on_file p.side (n / 9) p.cells)
-    → has_bit (bit_and (bit_and free (2 ^ 128 - 1 - dead)) (2 ^ 128 - 1 - files)) n ≡ is_right_drop p.cells p.hands p.side kind n
+    → has_bit (bit_and (bit_and free (2 ^ 128 - 1 - dead)) (2 ^ 128 - 1 - files)) n ≡ is_pseudo_legal_drop p.cells p.hands p.side kind n
 right_pawn p kind free dead files n h some pawn f df d ff b =
     has_bit-and (bit_and free (2 ^ 128 - 1 - dead)) (2 ^ 128 - 1 - files) n
     ∙ (rw (has_bit-and free (2 ^ 128 - 1 - dead) n, has_bit-not dead n (omega arith) (omega arith), has_bit-not files n (omega arith) (omega arith), f, d, b, pawn)
     (four (nat_lt 0 (held p.hands p.side kind)) (is_none (piece_at p.cells n)) (not (is_dead n (dropped p.side kind))) (not (nat_lt 0 (pawns_on_file p.side (n / 9) p.cells))) (lt-ltb 0 (held p.hands p.side kind) some)))
 
 pub right_other : (p : Shogi) (kind : Kind) (free dead n : ℕ) → n < 81 → 0 < held p.hands p.side kind → is_pawn_kind kind ≡ false → has_bit free n ≡ is_none (piece_at p.cells n) → dead < 2 ^ 81 → has_bit dead n ≡ is_dead n (dropped p.side kind)
-    → has_bit (bit_and free (2 ^ 128 - 1 - dead)) n ≡ is_right_drop p.cells p.hands p.side kind n
+    → has_bit (bit_and free (2 ^ 128 - 1 - dead)) n ≡ is_pseudo_legal_drop p.cells p.hands p.side kind n
 right_other p kind free dead n h some other f df d =
     has_bit-and free (2 ^ 128 - 1 - dead) n
     ∙ (rw (has_bit-not dead n (omega arith) (omega arith), f, d, other)
@@ -458,20 +458,20 @@ right_other p kind free dead n h some other f df d =
 
 pub ruleset dropping = (right_none, right_pawn, right_other, and_fits)
 
-pub safe_tried : (p : Shogi) (kind : Kind) (n a ends : ℕ) → has_bit ends n ≡ is_right_drop p.cells p.hands p.side kind n → has_bit a n ≡ (has_bit ends n && is_unchecked p (Drop kind n)) → has_bit a n ≡ is_safe p (Drop kind n)
+pub safe_tried : (p : Shogi) (kind : Kind) (n a ends : ℕ) → has_bit ends n ≡ is_pseudo_legal_drop p.cells p.hands p.side kind n → has_bit a n ≡ (has_bit ends n && is_unchecked p (Drop kind n)) → has_bit a n ≡ is_safe p (Drop kind n)
 unfolding is_safe
 safe_tried p kind n a ends r e = e ∙ (rw r refl)
 
-pub safe_calm : (p : Shogi) (checked : Bool) (exposed n ends : ℕ) (kind : Kind) → Guards p checked exposed → length p.cells ≡ 81 → n < 81 → checked ≡ false → has_bit ends n ≡ is_right_drop p.cells p.hands p.side kind n → has_bit ends n ≡ is_safe p (Drop kind n)
+pub safe_calm : (p : Shogi) (checked : Bool) (exposed n ends : ℕ) (kind : Kind) → Guards p checked exposed → length p.cells ≡ 81 → n < 81 → checked ≡ false → has_bit ends n ≡ is_pseudo_legal_drop p.cells p.hands p.side kind n → has_bit ends n ≡ is_safe p (Drop kind n)
 safe_calm p checked exposed n ends kind g len h calm r = r ∙ quiet_drop_safe p checked exposed n kind g len h calm
 
 pub ruleset safe_dropping = (safe_tried, safe_calm)
 
-pub legal_drop : (p : Shogi) (kind : Kind) (n : ℕ) → n < 81 → is_wanted p false (code_of (Drop kind n)) ≡ (is_safe p (Drop kind n) && not (is_pawn_mate p (Drop kind n)))
+pub legal_drop : (p : Shogi) (kind : Kind) (n : ℕ) → n < 81 → is_wanted p false (code_of (Drop kind n)) ≡ (is_safe p (Drop kind n) && not (is_pawn_drop_mate p (Drop kind n)))
 unfolding is_legal
-legal_drop p kind n h = wanted_move p false (Drop kind n) (move_of-drop kind n h) ∙ alone (is_safe p (Drop kind n) && not (is_pawn_mate p (Drop kind n)))
+legal_drop p kind n h = wanted_move p false (Drop kind n) (move_of-drop kind n h) ∙ alone (is_safe p (Drop kind n) && not (is_pawn_drop_mate p (Drop kind n)))
 
-pub legal_pawn : (p : Shogi) (ends kept n : ℕ) → n < 81 → has_bit ends n ≡ is_safe p (Drop kinds.Pawn n) → has_bit kept n ≡ (has_bit ends n && not (is_pawn_mate p (Drop kinds.Pawn n))) → has_bit kept n ≡ is_wanted p false (code_of (Drop kinds.Pawn n))
+pub legal_pawn : (p : Shogi) (ends kept n : ℕ) → n < 81 → has_bit ends n ≡ is_safe p (Drop kinds.Pawn n) → has_bit kept n ≡ (has_bit ends n && not (is_pawn_drop_mate p (Drop kinds.Pawn n))) → has_bit kept n ≡ is_wanted p false (code_of (Drop kinds.Pawn n))
 legal_pawn p ends kept n h s e = e ∙ (rw s (sym (legal_drop p kinds.Pawn n h)))
 
 pub legal_other : (p : Shogi) (kind : Kind) (ends n : ℕ) → n < 81 → is_pawn_kind kind ≡ false → has_bit ends n ≡ is_safe p (Drop kind n) → has_bit ends n ≡ is_wanted p false (code_of (Drop kind n))

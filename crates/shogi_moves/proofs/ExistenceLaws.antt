@@ -3,12 +3,14 @@ use Rattle.std.proofs.Common.{◌≡◌, ◌≢◌, ℕ, ◌+◌, ◌-◌, ◌*�
 use Rattle.std.specs.Prelude.{zero, suc}
 use Rattle.std.specs.Int.{trailing_zeros, w128}
 use Rattle.std.proofs.lemmas.Bool.{or_cases, both_ways}
+use Rattle.shogi_core.specs.declared.moves.TheConstants.{MOVE_CODES, FIRST_DROP, SQUARE_CODES}
+use Rattle.shogi_core.specs.declared.bits.TheConstants.{ALL_SQUARES}
 use Rattle.shogi_core.specs.declared.moves.Move.TheVariants.{Board, Drop}
 use Rattle.shogi_core.specs.declared.piece.Kind.{Kind}
 use Rattle.shogi_core.specs.Attack.{in_check}
 use Rattle.shogi_core.specs.Bits.{has_bit}
 use Rattle.shogi_core.specs.Codes.{code_of}
-use Rattle.shogi_core.specs.Pieces.{number_of}
+use Rattle.shogi_core.specs.Pieces.{kind_number}
 use Rattle.shogi_core.specs.Position.{Shogi}
 use Rattle.shogi_core.proofs.BitLaws.{has_bit-or, has_bit-none}
 use Rattle.shogi_core.proofs.Faults.{number_below}
@@ -24,16 +26,16 @@ use Rattle.shogi_moves.proofs.SweepLaws.{either, at_code}
 use Rattle.shogi_moves.proofs.ZoneLaws.{all_squares, more_fits}
 
 -- with every square held to be exposed, nothing is claimed of any
-pub guards_rough : (p : Shogi) (checked : Bool) → checked ≡ in_check p.cells p.side → Guards p checked 2417851639229258349412351
+pub guards_rough : (p : Shogi) (checked : Bool) → checked ≡ in_check p.cells p.side → Guards p checked ALL_SQUARES
 guards_rough p checked e = record {
   check = e;
-  kings = λ n h out. absurd (both_ways (has_bit 2417851639229258349412351 n) out (all_squares n h));
-  lines = λ _ n h out. absurd (both_ways (has_bit 2417851639229258349412351 n) out (all_squares n h));
-  free = λ _ n h out own. absurd (both_ways (has_bit 2417851639229258349412351 n) out (all_squares n h));
+  kings = λ n h out. absurd (both_ways (has_bit ALL_SQUARES n) out (all_squares n h));
+  lines = λ _ n h out. absurd (both_ways (has_bit ALL_SQUARES n) out (all_squares n h));
+  free = λ _ n h out own. absurd (both_ways (has_bit ALL_SQUARES n) out (all_squares n h));
   fits = omega arith;
 }
 
-jump : (p : Shogi) (n first : ℕ) → first + n ≤ 13689 → ((c : ℕ) → first ≤ c → c < first + n → is_legal_code p c ≡ false) → legal_from p first ≡ legal_from p (first + n)
+jump : (p : Shogi) (n first : ℕ) → first + n ≤ MOVE_CODES → ((c : ℕ) → first ≤ c → c < first + n → is_legal_code p c ≡ false) → legal_from p first ≡ legal_from p (first + n)
 jump p zero first h none = ap (legal_from p) (omega arith)
 jump p (suc n) first h none =
     legal_from_skips p first (omega arith) (none first (omega arith) (omega arith))
@@ -41,7 +43,7 @@ jump p (suc n) first h none =
     ∙ ap (legal_from p) (omega arith)
 
 -- the legal moves are the same from either end of a run of codes without one
-run_without : (p : Shogi) (first end : ℕ) → first ≤ end → end ≤ 13689 → ((c : ℕ) → first ≤ c → c < end → is_legal_code p c ≡ false) → legal_from p first ≡ legal_from p end
+run_without : (p : Shogi) (first end : ℕ) → first ≤ end → end ≤ MOVE_CODES → ((c : ℕ) → first ≤ c → c < end → is_legal_code p c ≡ false) → legal_from p first ≡ legal_from p end
 run_without p first end low high none =
     let there : first + (end - first) ≡ end = omega arith in
     jump p (end - first) first (omega arith) (λ c l h. none c l (omega arith)) ∙ ap (legal_from p) there
@@ -49,8 +51,8 @@ run_without p first end low high none =
 -- a piece without an end has no move
 pub piece_without : (p : Shogi) (from plain promoting : ℕ) → from < 81
     → ((n : ℕ) → n < 81 → has_bit plain n ≡ is_legal_code p (code_of (Board from n false))) → ((n : ℕ) → n < 81 → has_bit promoting n ≡ is_legal_code p (code_of (Board from n true)))
-    → bit_or plain promoting ≡ 0 → legal_from p (from * 162) ≡ legal_from p ((from + 1) * 162)
-piece_without p from plain promoting hf pb qb none = run_without p (from * 162) ((from + 1) * 162) (omega arith) (omega arith) (λ c low high. (
+    → bit_or plain promoting ≡ 0 → legal_from p (from * SQUARE_CODES) ≡ legal_from p ((from + 1) * SQUARE_CODES)
+piece_without p from plain promoting hf pb qb none = run_without p (from * SQUARE_CODES) ((from + 1) * SQUARE_CODES) (omega arith) (omega arith) (λ c low high. (
     let out = either plain promoting (c / 2 % 81) none in
     elim (at_code from c low (omega arith)) [
       | inl at ↦ ap (is_legal_code p) at ∙ (sym (pb (c / 2 % 81) (omega arith)) ∙ out.0)
@@ -59,16 +61,16 @@ piece_without p from plain promoting hf pb qb none = run_without p (from * 162) 
 
 -- a kind without an end has no drop
 pub kind_without : (p : Shogi) (kind : Kind) (ends : ℕ) → ((n : ℕ) → n < 81 → has_bit ends n ≡ is_wanted p false (code_of (Drop kind n))) → ends ≡ 0
-    → legal_from p (13122 + number_of kind * 81) ≡ legal_from p (13203 + number_of kind * 81)
+    → legal_from p (FIRST_DROP + kind_number kind * 81) ≡ legal_from p (FIRST_DROP + 81 + kind_number kind * 81)
 kind_without p kind ends bits none =
-    let seven : number_of kind < 7 = number_below kind in
-    run_without p (13122 + number_of kind * 81) (13203 + number_of kind * 81) (omega arith) (omega arith) (λ c low high. (
-    let at : c ≡ code_of (Drop kind (c - 13122 - number_of kind * 81)) = omega arith in
-    let there : c - 13122 - number_of kind * 81 < 81 = omega arith in
+    let seven : kind_number kind < 7 = number_below kind in
+    run_without p (FIRST_DROP + kind_number kind * 81) (FIRST_DROP + 81 + kind_number kind * 81) (omega arith) (omega arith) (λ c low high. (
+    let at : c ≡ code_of (Drop kind (c - FIRST_DROP - kind_number kind * 81)) = omega arith in
+    let there : c - FIRST_DROP - kind_number kind * 81 < 81 = omega arith in
     ap (is_legal_code p) at
-    ∙ (sym (drop_wanted p kind (c - 13122 - number_of kind * 81) there)
-    ∙ (sym (bits (c - 13122 - number_of kind * 81) there)
-    ∙ (ap (λ m. has_bit m (c - 13122 - number_of kind * 81)) none ∙ has_bit-none (c - 13122 - number_of kind * 81))))))
+    ∙ (sym (drop_wanted p kind (c - FIRST_DROP - kind_number kind * 81) there)
+    ∙ (sym (bits (c - FIRST_DROP - kind_number kind * 81) there)
+    ∙ (ap (λ m. has_bit m (c - FIRST_DROP - kind_number kind * 81)) none ∙ has_bit-none (c - FIRST_DROP - kind_number kind * 81))))))
 
 pub some_legal : (p : Shogi) (code : ℕ) → is_legal_code p code ≡ true → legal_moves p ≢ []
 some_legal p code e none = let clash : false ≡ true = ap (λ codes. is_in code codes) (sym none) ∙ in_legal p 0 code (omega arith) e in cc

@@ -23,7 +23,7 @@ use Rattle.shogi_core.proofs.LineBits.{has_bit-not}
 use Rattle.shogi_core.proofs.SeenLaws.{lined_back}
 use Rattle.shogi_moves.specs.After.{cells_after, moved, dropped}
 use Rattle.shogi_moves.specs.Guards.{Guards, Exposes}
-use Rattle.shogi_moves.specs.Legal.{is_safe, is_right_board_move, is_right_drop}
+use Rattle.shogi_moves.specs.Legal.{is_safe, is_pseudo_legal_board_move, is_pseudo_legal_drop}
 use Rattle.shogi_moves.proofs.MovedPieces.{is_king-moved}
 
 -- ---- the squares that are on open lines with a king
@@ -400,11 +400,11 @@ calm_safe p checked exposed from to promote g len hf ht own calm off =
     filled (set p.cells from None) p.side to (moved promote (piece_at p.cells from)) (length-set p.cells from None ∙ len) ht (is_of-moved p.side promote (piece_at p.cells from) ∙ own) (is_king-moved p.side promote (piece_at p.cells from) ∙ g.kings from hf off) (g.free calm from hf off own)
 
 pub quiet_board_safe : (p : Shogi) (checked : Bool) (exposed from to : ℕ) (promote : Bool) → Guards p checked exposed → length p.cells ≡ 81 → from < 81 → to < 81 → checked ≡ false → has_bit exposed from ≡ false
-    → is_right_board_move p.cells p.side from to promote ≡ is_safe p (Board from to promote)
+    → is_pseudo_legal_board_move p.cells p.side from to promote ≡ is_safe p (Board from to promote)
 unfolding is_safe
-quiet_board_safe p checked exposed from to promote g len hf ht calm off = go (is_right_board_move p.cells p.side from to promote) refl
+quiet_board_safe p checked exposed from to promote g len hf ht calm off = go (is_pseudo_legal_board_move p.cells p.side from to promote) refl
   where
-    go : (right : Bool) → is_right_board_move p.cells p.side from to promote ≡ right → right ≡ (right && not (in_check (cells_after p.cells p.side (Board from to promote)) p.side))
+    go : (right : Bool) → is_pseudo_legal_board_move p.cells p.side from to promote ≡ right → right ≡ (right && not (in_check (cells_after p.cells p.side (Board from to promote)) p.side))
     go false e = refl
     go true e =
         let four = and_parts _ _ e in
@@ -414,9 +414,9 @@ quiet_board_safe p checked exposed from to promote g len hf ht calm off = go (is
         sym (ap not (calm_safe p checked exposed from to promote g len hf ht one.0 calm off))
 
 pub quiet_drop_safe : (p : Shogi) (checked : Bool) (exposed to : ℕ) (kind : Kind) → Guards p checked exposed → length p.cells ≡ 81 → to < 81 → checked ≡ false
-    → is_right_drop p.cells p.hands p.side kind to ≡ is_safe p (Drop kind to)
+    → is_pseudo_legal_drop p.cells p.hands p.side kind to ≡ is_safe p (Drop kind to)
 unfolding is_safe
-quiet_drop_safe p checked exposed to kind g len ht calm = go (is_right_drop p.cells p.hands p.side kind to)
+quiet_drop_safe p checked exposed to kind g len ht calm = go (is_pseudo_legal_drop p.cells p.hands p.side kind to)
   where
     go : (right : Bool) → right ≡ (right && not (in_check (cells_after p.cells p.side (Drop kind to)) p.side))
     go false = refl
@@ -431,7 +431,7 @@ pub calm_parts : (a b : Bool) → (not a && not b) ≡ true → (a ≡ false) ×
 calm_parts a b e = let parts : (not a ≡ true) × (not b ≡ true) = and_parts (not a) (not b) e in (not-true a parts.0, not-true b parts.1)
 
 pub calm_board_safe : (p : Shogi) (checked : Bool) (exposed from to : ℕ) (promote : Bool) → Guards p checked exposed → length p.cells ≡ 81 → from < 81 → to < 81 → (not checked && not (has_bit exposed from)) ≡ true
-    → is_right_board_move p.cells p.side from to promote ≡ is_safe p (Board from to promote)
+    → is_pseudo_legal_board_move p.cells p.side from to promote ≡ is_safe p (Board from to promote)
 calm_board_safe p checked exposed from to promote g len hf ht calm =
     let parts : (checked ≡ false) × (has_bit exposed from ≡ false) = calm_parts checked (has_bit exposed from) calm in
     quiet_board_safe p checked exposed from to promote g len hf ht parts.0 parts.1

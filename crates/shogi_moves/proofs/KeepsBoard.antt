@@ -4,10 +4,10 @@ use Rattle.std.specs.Prelude.{count_by, not}
 use Rattle.std.proofs.lemmas.Bool.{and_parts, both_ways, cases_Bool, cases_eq, not-true}
 use Rattle.shogi_core.specs.declared.moves.Move.TheVariants.{Board}
 use Rattle.shogi_core.specs.Movement.{Cells, piece_at, reaches}
-use Rattle.shogi_core.specs.Position.{Shogi, Held}
+use Rattle.shogi_core.specs.Position.{Shogi, HandCounts}
 use Rattle.shogi_core.specs.Faultless.{IsFaultless}
 use Rattle.shogi_core.proofs.Faults.{faultless_from}
-use Rattle.shogi_moves.specs.Legal.{is_safe, is_right_board_move}
+use Rattle.shogi_moves.specs.Legal.{is_safe, is_pseudo_legal_board_move}
 use Rattle.shogi_core.specs.declared.piece.Color.{Color}
 use Rattle.shogi_core.specs.declared.piece.Kind.{Kind}
 use Rattle.shogi_core.specs.declared.piece.Piece.{Piece}
@@ -31,7 +31,7 @@ pub record IsSafeBoardMove (p : Shogi) (from to : ℕ) (promote : Bool) : Type 0
 pub safe_board_move : (p : Shogi) (from to : ℕ) (promote : Bool) → is_safe p (Board from to promote) ≡ true → IsSafeBoardMove p from to promote
 unfolding is_safe
 safe_board_move p from to promote e =
-    let ends = and_parts (is_right_board_move p.cells p.side from to promote) (not (in_check (after p (Board from to promote)).cells p.side)) e in
+    let ends = and_parts (is_pseudo_legal_board_move p.cells p.side from to promote) (not (in_check (after p (Board from to promote)).cells p.side)) e in
     let four = and_parts _ _ (ends.0) in
     let three = and_parts _ _ (four.0) in
     let two = and_parts _ _ (three.0) in
@@ -43,7 +43,7 @@ apart : (cells : Cells) (side : Color) (from to : ℕ) → is_of side (piece_at 
 apart cells side from to own free same = both_ways (is_of side (piece_at cells from)) (subst (λ (k : ℕ). is_of side (piece_at cells k) ≡ false) same free) own
 
 -- no piece comes or goes
-counts_after_board : (cells : Cells) (hands : Held) (side : Color) (from to : ℕ) (promote : Bool) (kind : Kind) → length cells ≡ 81 → length hands ≡ 14 → from < 81 → to < 81 → to ≢ from
+counts_after_board : (cells : Cells) (hands : HandCounts) (side : Color) (from to : ℕ) (promote : Bool) (kind : Kind) → length cells ≡ 81 → length hands ≡ 14 → from < 81 → to < 81 → to ≢ from
     → count_of kind (set (set cells from None) to (moved promote (piece_at cells from))) (with_captured hands side (piece_at cells to)) ≡ count_of kind cells hands
 counts_after_board cells hands side from to promote kind lc lh hf ht other =
     let board = count_moved (is_of_kind kind) cells from to (moved promote (piece_at cells from)) refl (omega arith) (omega arith) other in

@@ -4,16 +4,16 @@ use Rattle.std.specs.Prelude.{count_by, ◌==◌, ◌&&◌, nat_lt, not, is_none
 use Rattle.std.proofs.lemmas.Bool.{and_right, and_parts, both_ways, cases_Bool, cases_eq, ltb-true, not-true, and_cases, ltb-false}
 use Rattle.shogi_core.specs.declared.moves.Move.TheVariants.{Drop}
 use Rattle.shogi_core.specs.Movement.{Cells, piece_at}
-use Rattle.shogi_core.specs.Position.{Shogi, Held, held, place_of}
+use Rattle.shogi_core.specs.Position.{Shogi, HandCounts, held, place_of}
 use Rattle.shogi_core.specs.Faultless.{IsFaultless}
 use Rattle.shogi_core.proofs.Faults.{number_below, faultless_from}
-use Rattle.shogi_moves.specs.Legal.{is_safe, is_right_drop, is_pawn_kind}
+use Rattle.shogi_moves.specs.Legal.{is_safe, is_pseudo_legal_drop, is_pawn_kind}
 use Rattle.shogi_core.specs.declared.piece.Color.{Color}
 use Rattle.shogi_core.specs.declared.piece.Color.TheVariants.{Black, White}
 use Rattle.shogi_core.specs.declared.piece.Kind.{Kind}
 use Rattle.shogi_core.specs.declared.piece.Kind.TheVariants as kinds
 use Rattle.shogi_core.specs.declared.piece.Piece.{Piece}
-use Rattle.shogi_core.specs.Pieces.{kind_of, is_of_kind, is_same_color, number_of, set_size, role_of}
+use Rattle.shogi_core.specs.Pieces.{kind_of, is_of_kind, is_same_color, kind_number, set_size, role_of}
 use Rattle.shogi_core.specs.Attack.{in_check}
 use Rattle.shogi_core.specs.Cell.{is_king_role, is_pawn_role, is_king, is_pawn, is_dead, is_dead_on}
 use Rattle.shogi_core.specs.Validity.{pawns_on_file, count_of, IsValid}
@@ -61,7 +61,7 @@ pawn_ban x n e h = elim (and_cases x (nat_lt 0 n) (not-true _ e)) [ inl off ↦ 
 pub safe_drop : (p : Shogi) (kind : Kind) (to : ℕ) → is_safe p (Drop kind to) ≡ true → IsSafeDrop p kind to
 unfolding is_safe
 safe_drop p kind to e =
-    let ends = and_parts (is_right_drop p.cells p.hands p.side kind to) (not (in_check (after p (Drop kind to)).cells p.side)) e in
+    let ends = and_parts (is_pseudo_legal_drop p.cells p.hands p.side kind to) (not (in_check (after p (Drop kind to)).cells p.side)) e in
     let three = and_parts _ _ (ends.0) in
     let two = and_parts _ _ (three.0) in
     let one = and_parts _ _ (two.0) in
@@ -74,13 +74,13 @@ safe_drop p kind to e =
     }
 
 -- the hand has one less
-hands_after_drop : (hands : Held) (side : Color) (kind other : Kind) → length hands ≡ 14 → 0 < held hands side kind
-    → held (set hands (place_of side kind) (held hands side kind - 1)) Black other + held (set hands (place_of side kind) (held hands side kind - 1)) White other + tally (number_of kind == number_of other) ≡ held hands Black other + held hands White other
-hands_after_drop hands Black kind other len some = hand_less hands (number_of kind) (number_of kind) (number_of other) len (number_below kind) (number_below other) (inl refl) some
-hands_after_drop hands White kind other len some = hand_less hands (number_of kind + 7) (number_of kind) (number_of other) len (number_below kind) (number_below other) (inr refl) some
+hands_after_drop : (hands : HandCounts) (side : Color) (kind other : Kind) → length hands ≡ 14 → 0 < held hands side kind
+    → held (set hands (place_of side kind) (held hands side kind - 1)) Black other + held (set hands (place_of side kind) (held hands side kind - 1)) White other + tally (kind_number kind == kind_number other) ≡ held hands Black other + held hands White other
+hands_after_drop hands Black kind other len some = hand_less hands (kind_number kind) (kind_number kind) (kind_number other) len (number_below kind) (number_below other) (inl refl) some
+hands_after_drop hands White kind other len some = hand_less hands (kind_number kind + 7) (kind_number kind) (kind_number other) len (number_below kind) (number_below other) (inr refl) some
 
 -- no piece comes or goes
-counts_after_drop : (cells : Cells) (hands : Held) (side : Color) (kind : Kind) (to : ℕ) (other : Kind) → length cells ≡ 81 → length hands ≡ 14 → to < 81 → piece_at cells to ≡ None → 0 < held hands side kind
+counts_after_drop : (cells : Cells) (hands : HandCounts) (side : Color) (kind : Kind) (to : ℕ) (other : Kind) → length cells ≡ 81 → length hands ≡ 14 → to < 81 → piece_at cells to ≡ None → 0 < held hands side kind
     → count_of other (set cells to (dropped side kind)) (set hands (place_of side kind) (held hands side kind - 1)) ≡ count_of other cells hands
 counts_after_drop cells hands side kind to other lc lh ht free some =
     let board = count_by-set (is_of_kind other) cells to (dropped side kind) None (omega arith) in

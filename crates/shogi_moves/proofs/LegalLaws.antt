@@ -2,6 +2,7 @@
 use Rattle.std.proofs.Common.{◌≡◌, ℕ, ◌+◌, ◌-◌, ◌<◌, ◌≤◌, true, false, [], ◌∷◌, Option, Some, None, refl, sym, ◌∙◌, ap, arith, inl, inr}
 use Rattle.std.specs.Prelude.{suc, nat_lt}
 use Rattle.std.proofs.lemmas.Bool.{cond-true, cond-false, cases_lt, le-ltb, both_ways}
+use Rattle.shogi_core.specs.declared.moves.TheConstants.{MOVE_CODES, FIRST_DROP}
 use Rattle.shogi_core.specs.declared.moves.Move.{Move}
 use Rattle.shogi_core.specs.Codes.{move_of, code_of, codes_from}
 use Rattle.shogi_core.specs.Position.{Shogi}
@@ -12,43 +13,43 @@ use Rattle.shogi_moves.specs.Rising.{is_in, IsRising}
 use Rattle.shogi_moves.proofs.Rising.{kept_rising, kept_passes, kept_low, passes_kept}
 
 -- a legal code comes first, and then those above it
-pub legal_from_found : (p : Shogi) (code : ℕ) → code < 13689 → is_legal_code p code ≡ true → legal_from p code ≡ code ∷ legal_from p (code + 1)
+pub legal_from_found : (p : Shogi) (code : ℕ) → code < MOVE_CODES → is_legal_code p code ≡ true → legal_from p code ≡ code ∷ legal_from p (code + 1)
 unfolding legal_from codes_from
-legal_from_found p code h e = let n : 13689 - code ≡ suc (13689 - (code + 1)) = omega arith in rw n (cond-true (is_legal_code p code) _ _ e)
+legal_from_found p code h e = let n : MOVE_CODES - code ≡ suc (MOVE_CODES - (code + 1)) = omega arith in rw n (cond-true (is_legal_code p code) _ _ e)
 
 -- a code that is not legal is left out
-pub legal_from_skips : (p : Shogi) (code : ℕ) → code < 13689 → is_legal_code p code ≡ false → legal_from p code ≡ legal_from p (code + 1)
+pub legal_from_skips : (p : Shogi) (code : ℕ) → code < MOVE_CODES → is_legal_code p code ≡ false → legal_from p code ≡ legal_from p (code + 1)
 unfolding legal_from codes_from
-legal_from_skips p code h e = let n : 13689 - code ≡ suc (13689 - (code + 1)) = omega arith in rw n (cond-false (is_legal_code p code) _ _ e)
+legal_from_skips p code h e = let n : MOVE_CODES - code ≡ suc (MOVE_CODES - (code + 1)) = omega arith in rw n (cond-false (is_legal_code p code) _ _ e)
 
 -- above the last code there is none
-pub legal_from_end : (p : Shogi) (code : ℕ) → 13689 ≤ code → legal_from p code ≡ []
+pub legal_from_end : (p : Shogi) (code : ℕ) → MOVE_CODES ≤ code → legal_from p code ≡ []
 unfolding legal_from codes_from
-legal_from_end p code h = let n : 13689 - code ≡ 0 = omega arith in rw n refl
+legal_from_end p code h = let n : MOVE_CODES - code ≡ 0 = omega arith in rw n refl
 
 -- the legal moves are in rising order of codes
 pub legal_rising : (p : Shogi) (first : ℕ) → IsRising (legal_from p first)
 unfolding legal_from codes_from
-legal_rising p first = kept_rising (is_legal_code p) (13689 - first) first
+legal_rising p first = kept_rising (is_legal_code p) (MOVE_CODES - first) first
 
 -- each code of the list is that of a legal move
 pub legal_in : (p : Shogi) (first code : ℕ) → is_in code (legal_from p first) ≡ true → is_legal_code p code ≡ true
 unfolding legal_from codes_from
-legal_in p first code h = kept_passes (is_legal_code p) (13689 - first) first code h
+legal_in p first code h = kept_passes (is_legal_code p) (MOVE_CODES - first) first code h
 
 -- and none is below the first
 pub legal_in_above : (p : Shogi) (first code : ℕ) → is_in code (legal_from p first) ≡ true → first ≤ code
 unfolding legal_from codes_from
-legal_in_above p first code h = kept_low (is_legal_code p) (13689 - first) first code h
+legal_in_above p first code h = kept_low (is_legal_code p) (MOVE_CODES - first) first code h
 
 -- above the last code there is no move
-pub none_beyond : (code : ℕ) → 13689 ≤ code → move_of code ≡ None
-none_beyond code h = cond-false (nat_lt code 13122) _ _ (le-ltb code 13122 (omega arith)) ∙ cond-false (nat_lt code 13689) _ _ (le-ltb code 13689 h)
+pub none_beyond : (code : ℕ) → MOVE_CODES ≤ code → move_of code ≡ None
+none_beyond code h = cond-false (nat_lt code FIRST_DROP) _ _ (le-ltb code FIRST_DROP (omega arith)) ∙ cond-false (nat_lt code MOVE_CODES) _ _ (le-ltb code MOVE_CODES h)
 
 -- a legal code is one of a move
-pub legal_code_below : (p : Shogi) (code : ℕ) → is_legal_code p code ≡ true → code < 13689
+pub legal_code_below : (p : Shogi) (code : ℕ) → is_legal_code p code ≡ true → code < MOVE_CODES
 unfolding is_legal_code
-legal_code_below p code e = elim (cases_lt code 13689) [
+legal_code_below p code e = elim (cases_lt code MOVE_CODES) [
   | inl below ↦ below
   | inr above ↦ absurd (both_ways (is_legal_move p (move_of code)) (ap (is_legal_move p) (none_beyond code above)) e)
 ]
@@ -56,7 +57,7 @@ legal_code_below p code e = elim (cases_lt code 13689) [
 -- each code of a legal move is in the list
 pub in_legal : (p : Shogi) (first code : ℕ) → first ≤ code → is_legal_code p code ≡ true → is_in code (legal_from p first) ≡ true
 unfolding legal_from codes_from
-in_legal p first code low e = let high : code < 13689 = legal_code_below p code e in passes_kept (is_legal_code p) (13689 - first) first code low (omega arith) e
+in_legal p first code low e = let high : code < MOVE_CODES = legal_code_below p code e in passes_kept (is_legal_code p) (MOVE_CODES - first) first code low (omega arith) e
 
 -- a legal move above another one is among the legal moves
 pub legal_above_in : (p : Shogi) (passed : Option Move) (code : ℕ) → is_in code (legal_above p passed) ≡ true → is_in code (legal_moves p) ≡ true

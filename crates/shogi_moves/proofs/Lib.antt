@@ -8,7 +8,7 @@ pub mod LegalLaws
 pub mod NoSafeLaws
 pub mod NextLaws
 pub mod CaptureLaws
-pub mod Paths
+pub mod PerftLaws
 pub mod GuardLaws
 pub mod RunLaws
 pub mod ZoneLaws

@@ -3,7 +3,7 @@ use Rattle.std.proofs.Common.{◌≡◌, ℕ, ◌+◌, ◌*◌, ◌/◌, ◌<◌
 use Rattle.std.specs.Prelude.{◌&&◌, nat_lt, ◌||◌, ℤ, pos, negsuc, ◌+ℤ◌, ◌%◌}
 use Rattle.std.proofs.lemmas.Bool.{and_right, and_parts, both_ways, cases_Bool, ltb-true, eqb-true}
 use Rattle.shogi_core.specs.Movement.{Cells, piece_at, reaches, cell_reaches, is_at, square_at, away}
-use Rattle.shogi_core.specs.Position.{Held, held}
+use Rattle.shogi_core.specs.Position.{HandCounts, held}
 use Rattle.shogi_core.proofs.Faults.{number_below}
 use Rattle.shogi_core.specs.declared.piece.Color.{Color}
 use Rattle.shogi_core.specs.declared.piece.Color.TheVariants.{Black, White}
@@ -11,7 +11,7 @@ use Rattle.shogi_core.specs.declared.piece.Kind.{Kind}
 use Rattle.shogi_core.specs.declared.piece.Role.{Role}
 use Rattle.shogi_core.specs.declared.piece.Role.TheVariants.{King, Pawn, Lance, Knight, Silver, Gold, Bishop, Rook, PromotedPawn, PromotedLance, PromotedKnight, PromotedSilver, Horse, Dragon}
 use Rattle.shogi_core.specs.declared.piece.Piece.{Piece}
-use Rattle.shogi_core.specs.Pieces.{kind_of, is_of_kind, is_role_of_kind, is_same_color, number_of, opponent_of, promoted}
+use Rattle.shogi_core.specs.Pieces.{kind_of, is_of_kind, is_role_of_kind, is_same_color, kind_number, opponent_of, promoted}
 use Rattle.shogi_core.specs.Cell.{is_king_role, is_pawn_role, is_king, is_pawn}
 use Rattle.shogi_moves.specs.After.{moved, with_captured, with_one_more}
 use Rattle.shogi_moves.proofs.Counts.{tally, hand_added}
@@ -69,14 +69,14 @@ is_pawn-moved color false (Some piece) e = e
 is_pawn-moved color true cell e = absurd (both_ways (is_pawn color (moved true cell)) (is_pawn-promoted color cell) e)
 
 -- one more in either hand is one more in both
-one_more : (hands : Held) (side : Color) (taken : Option Kind) (kind : Kind) → length hands ≡ 14
+one_more : (hands : HandCounts) (side : Color) (taken : Option Kind) (kind : Kind) → length hands ≡ 14
     → held (with_one_more hands side taken) Black kind + held (with_one_more hands side taken) White kind ≡ held hands Black kind + held hands White kind + tally (is_role_of_kind kind taken)
 one_more hands side None kind len = omega arith
-one_more hands Black (Some taken) kind len = hand_added hands (number_of taken) (number_of taken) (number_of kind) len (number_below taken) (number_below kind) (inl refl)
-one_more hands White (Some taken) kind len = hand_added hands (number_of taken + 7) (number_of taken) (number_of kind) len (number_below taken) (number_below kind) (inr refl)
+one_more hands Black (Some taken) kind len = hand_added hands (kind_number taken) (kind_number taken) (kind_number kind) len (number_below taken) (number_below kind) (inl refl)
+one_more hands White (Some taken) kind len = hand_added hands (kind_number taken + 7) (kind_number taken) (kind_number kind) len (number_below taken) (number_below kind) (inr refl)
 
 -- a captured piece is one more in hand
-pub hands-with_captured : (hands : Held) (side : Color) (cell : Option Piece) (kind : Kind) → length hands ≡ 14
+pub hands-with_captured : (hands : HandCounts) (side : Color) (cell : Option Piece) (kind : Kind) → length hands ≡ 14
     → held (with_captured hands side cell) Black kind + held (with_captured hands side cell) White kind ≡ held hands Black kind + held hands White kind + tally (is_of_kind kind cell)
 hands-with_captured hands side None kind len = omega arith
 hands-with_captured hands side (Some piece) kind len = one_more hands side (kind_of piece.role) kind len

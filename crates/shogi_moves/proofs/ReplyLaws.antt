@@ -15,7 +15,7 @@ use Rattle.shogi_core.specs.Codes.{code_of}
 use Rattle.shogi_core.specs.Lines.{are_lined, is_jump, is_line_to_king, is_lined_with_king, is_seen}
 use Rattle.shogi_core.specs.Movement.{Cells, piece_at, reaches, cell_reaches, has_step, has_slide}
 use Rattle.shogi_core.specs.Pieces.{opponent_of}
-use Rattle.shogi_core.specs.Position.{Shogi, Held}
+use Rattle.shogi_core.specs.Position.{Shogi, HandCounts}
 use Rattle.shogi_core.specs.Validity.{IsValid}
 use Rattle.shogi_core.proofs.Below.{some_below_no, some_below_at}
 use Rattle.shogi_core.proofs.BitLaws.{has_bit-and, has_bit-or, has_bit-none, has_bit-without}
@@ -26,7 +26,7 @@ use Rattle.shogi_core.proofs.LineBits.{lowest_set, and_fits, has_bit-not}
 use Rattle.shogi_core.proofs.Replies.{no_check}
 use Rattle.shogi_core.proofs.SeenLaws.{lined_back}
 use Rattle.shogi_moves.specs.After.{after, cells_after, moved, dropped}
-use Rattle.shogi_moves.specs.Legal.{is_legal, is_right_board_move}
+use Rattle.shogi_moves.specs.Legal.{is_legal, is_pseudo_legal_board_move}
 use Rattle.shogi_moves.specs.LegalMoves.{legal_moves}
 use Rattle.shogi_moves.specs.Replies.{cell_steps, is_open_step, is_spare, Sees, IsReplies}
 use Rattle.shogi_moves.proofs.DropChecks as drops
@@ -71,10 +71,10 @@ steps_reach : (cells : Cells) (cell : Option Piece) (a t : ℕ) → cell_steps c
 steps_reach cells None a t e = absurd (cc)
 steps_reach cells (Some piece) a t e = or_left (has_step piece a t) (has_slide cells piece a t) e
 
-right_step : (new : Cells) (color : Color) (a t : ℕ) → is_of color (piece_at new a) ≡ true → is_of color (piece_at new t) ≡ false → reaches new a t ≡ true → is_dead t (piece_at new a) ≡ false → is_right_board_move new color a t false ≡ true
+right_step : (new : Cells) (color : Color) (a t : ℕ) → is_of color (piece_at new a) ≡ true → is_of color (piece_at new t) ≡ false → reaches new a t ≡ true → is_dead t (piece_at new a) ≡ false → is_pseudo_legal_board_move new color a t false ≡ true
 right_step new color a t own free reach alive = rw (own, free, reach, still t (piece_at new a), alive) refl
 
-module _ (old new : Cells) (hands : Held) (color : Color) (Left : ℕ → Type 0) (opened : (x : ℕ) → is_none (piece_at new x) ≡ true → (is_none (piece_at old x) ≡ true) ⊎ Left x) where
+module _ (old new : Cells) (hands : HandCounts) (color : Color) (Left : ℕ → Type 0) (opened : (x : ℕ) → is_none (piece_at new x) ≡ true → (is_none (piece_at old x) ≡ true) ⊎ Left x) where
   replied : (to : ℕ) → length new ≡ 81 → to < 81
       → ((a : ℕ) → is_of (opponent_of color) (piece_at new a) ≡ true → (piece_at old a ≡ piece_at new a) ⊎ (a ≡ to))
       → ((k : ℕ) → is_king color (piece_at new k) ≡ true → piece_at old k ≡ piece_at new k)

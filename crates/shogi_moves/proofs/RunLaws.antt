@@ -2,6 +2,7 @@
 use Rattle.std.proofs.Common.{◌≡◌, ℕ, ◌+◌, ◌-◌, ◌*◌, ◌/◌, ◌%◌, ◌^◌, ◌<◌, ◌≤◌, Bool, true, false, refl, sym, ap, ◌∙◌, arith, inl, inr, bit_and}
 use Rattle.std.specs.Prelude.{not, ◌&&◌, ◌||◌, is_none}
 use Rattle.std.proofs.lemmas.Bool.{and_cases, and_parts, and_from, not-false}
+use Rattle.shogi_core.specs.declared.moves.TheConstants.{FIRST_DROP, SQUARE_CODES}
 use Rattle.shogi_core.specs.Bits.{has_bit}
 use Rattle.shogi_core.specs.Cell.{is_of, is_dead}
 use Rattle.shogi_core.specs.Movement.{piece_at, reaches}
@@ -10,33 +11,33 @@ use Rattle.shogi_core.proofs.BitLaws.{has_bit-and}
 use Rattle.shogi_core.proofs.LineBits.{has_bit-not}
 use Rattle.shogi_moves.specs.NoSafe.{HasNoSafe}
 use Rattle.shogi_moves.proofs.NoSafeLaws.{idle_square, idle_own, idle_reach, drop_code, kind_back}
-use Rattle.shogi_moves.specs.Legal.{is_safe, is_safe_move, is_right_board_move, may_promote}
+use Rattle.shogi_moves.specs.Legal.{is_safe, is_safe_move, is_pseudo_legal_board_move, may_promote}
 use Rattle.shogi_moves.specs.After.{moved}
 use Rattle.shogi_moves.specs.Candidates.{is_candidate}
 use Rattle.shogi_core.specs.Codes.{kind_at}
-use Rattle.shogi_core.specs.Pieces.{number_of}
+use Rattle.shogi_core.specs.Pieces.{kind_number}
 use Rattle.shogi_core.specs.declared.piece.Kind.{Kind}
 use Rattle.shogi_core.specs.declared.moves.Move.TheVariants.{Board, Drop}
 use Rattle.shogi_core.proofs.Faults.{number_below}
 
 -- no piece of the side to move stands on the squares
-pub run_squares : (p : Shogi) (own from next code : ℕ) → from * 162 ≤ code → next ≤ 81 → ((n : ℕ) → n < 81 → has_bit own n ≡ is_of p.side (piece_at p.cells n))
-    → ((n : ℕ) → from ≤ n → n < next → has_bit own n ≡ false) → HasNoSafe p code (next * 162)
+pub run_squares : (p : Shogi) (own from next code : ℕ) → from * SQUARE_CODES ≤ code → next ≤ 81 → ((n : ℕ) → n < 81 → has_bit own n ≡ is_of p.side (piece_at p.cells n))
+    → ((n : ℕ) → from ≤ n → n < next → has_bit own n ≡ false) → HasNoSafe p code (next * SQUARE_CODES)
 run_squares p own from next code low small bits none = record {
   none = λ c above below. (
-      let n : ℕ = c / 162 in
-      (idle_square p (c / 162) c (c + 1) (omega arith) (omega arith) (omega arith) (sym (bits (c / 162) (omega arith)) ∙ none (c / 162) (omega arith) (omega arith))).none c (omega arith) (omega arith));
+      let n : ℕ = c / SQUARE_CODES in
+      (idle_square p (c / SQUARE_CODES) c (c + 1) (omega arith) (omega arith) (omega arith) (sym (bits (c / SQUARE_CODES) (omega arith)) ∙ none (c / SQUARE_CODES) (omega arith) (omega arith))).none c (omega arith) (omega arith));
 }
 
 -- the piece goes to none of the squares
-pub run_targets : (p : Shogi) (own targets from to next code : ℕ) → from < 81 → own < 2 ^ 81 → from * 162 + to * 2 ≤ code → next ≤ 81
+pub run_targets : (p : Shogi) (own targets from to next code : ℕ) → from < 81 → own < 2 ^ 81 → from * SQUARE_CODES + to * 2 ≤ code → next ≤ 81
     → ((n : ℕ) → n < 81 → has_bit own n ≡ is_of p.side (piece_at p.cells n)) → ((n : ℕ) → n < 81 → has_bit targets n ≡ reaches p.cells from n)
-    → ((n : ℕ) → to ≤ n → n < next → has_bit (bit_and targets (2 ^ 128 - 1 - own)) n ≡ false) → HasNoSafe p code (from * 162 + next * 2)
+    → ((n : ℕ) → to ≤ n → n < next → has_bit (bit_and targets (2 ^ 128 - 1 - own)) n ≡ false) → HasNoSafe p code (from * SQUARE_CODES + next * 2)
 run_targets p own targets from to next code small fits low end bits reached none = record {
   none = λ c above below. (
       let n : ℕ = c / 2 % 81 in
-      let at : from * 162 + c / 2 % 81 * 2 ≤ c = omega arith in
-      let on : c < from * 162 + c / 2 % 81 * 2 + 2 = omega arith in
+      let at : from * SQUARE_CODES + c / 2 % 81 * 2 ≤ c = omega arith in
+      let on : c < from * SQUARE_CODES + c / 2 % 81 * 2 + 2 = omega arith in
       let off : (has_bit targets (c / 2 % 81) && not (has_bit own (c / 2 % 81))) ≡ false =
       ap (λ b. has_bit targets (c / 2 % 81) && b) (sym (has_bit-not own (c / 2 % 81) (omega arith) (omega arith))) ∙ sym (has_bit-and targets (2 ^ 128 - 1 - own) (c / 2 % 81)) ∙ none (c / 2 % 81) (omega arith) (omega arith) in
       elim (and_cases (has_bit targets (c / 2 % 81)) (not (has_bit own (c / 2 % 81))) off) [
@@ -54,15 +55,15 @@ unfolding is_safe
 taken_there p kind to e = search second_of_five
 
 -- something stands on the squares
-pub run_drops : (p : Shogi) (kind : Kind) (free to next code : ℕ) → to < 81 → code ≡ 13122 + number_of kind * 81 + to → next ≤ 81 → ((n : ℕ) → n < 81 → has_bit free n ≡ is_none (piece_at p.cells n))
-    → ((n : ℕ) → to ≤ n → n < next → has_bit free n ≡ false) → HasNoSafe p code (13122 + number_of kind * 81 + next)
+pub run_drops : (p : Shogi) (kind : Kind) (free to next code : ℕ) → to < 81 → code ≡ FIRST_DROP + kind_number kind * 81 + to → next ≤ 81 → ((n : ℕ) → n < 81 → has_bit free n ≡ is_none (piece_at p.cells n))
+    → ((n : ℕ) → to ≤ n → n < next → has_bit free n ≡ false) → HasNoSafe p code (FIRST_DROP + kind_number kind * 81 + next)
 run_drops p kind free to next code small at end bits none =
-    let seven : number_of kind < 7 = number_below kind in
+    let seven : kind_number kind < 7 = number_below kind in
     record {
       none = λ c above below. (
-          let k : (c - 13122) / 81 ≡ number_of kind = omega arith in
-          let same : kind_at ((c - 13122) / 81) ≡ kind = ap kind_at k ∙ kind_back kind in
-          ap (is_safe_move p) (drop_code c (omega arith) (omega arith)) ∙ rw same (taken_there p kind ((c - 13122) % 81) (sym (bits ((c - 13122) % 81) (omega arith)) ∙ none ((c - 13122) % 81) (omega arith) (omega arith))));
+          let k : (c - FIRST_DROP) / 81 ≡ kind_number kind = omega arith in
+          let same : kind_at ((c - FIRST_DROP) / 81) ≡ kind = ap kind_at k ∙ kind_back kind in
+          ap (is_safe_move p) (drop_code c (omega arith) (omega arith)) ∙ rw same (taken_there p kind ((c - FIRST_DROP) % 81) (sym (bits ((c - FIRST_DROP) % 81) (omega arith)) ∙ none ((c - FIRST_DROP) % 81) (omega arith) (omega arith))));
     }
 
 pub ruleset board_runs = (run_squares, run_targets)
@@ -82,5 +83,5 @@ rest true false c d e h = absurd (cc)
 rest false b c d e h = absurd (cc)
 
 pub candidate_right : (p : Shogi) (from to : ℕ) (promote : Bool) → is_candidate p (Board from to promote) ≡ true
-    → ((not promote || may_promote (piece_at p.cells from) from to) && not (is_dead to (moved promote (piece_at p.cells from)))) ≡ is_right_board_move p.cells p.side from to promote
+    → ((not promote || may_promote (piece_at p.cells from) from to) && not (is_dead to (moved promote (piece_at p.cells from)))) ≡ is_pseudo_legal_board_move p.cells p.side from to promote
 candidate_right p from to promote h = rest (is_of p.side (piece_at p.cells from)) (not (is_of p.side (piece_at p.cells to))) (reaches p.cells from to) (not promote || may_promote (piece_at p.cells from) from to) (not (is_dead to (moved promote (piece_at p.cells from)))) h

@@ -2,6 +2,7 @@
 use Rattle.std.proofs.Common.{◌≡◌, ◌≢◌, ℕ, ◌+◌, ◌-◌, ◌*◌, ◌/◌, ◌%◌, ◌^◌, ◌<◌, ◌≤◌, ◌⊎◌, Bool, true, false, not, Some, [], ◌∷◌, refl, sym, ap, ◌∙◌, arith, inl, inr, subst, bit_or}
 use Rattle.std.specs.Prelude.{◌&&◌, ◌==◌}
 use Rattle.std.proofs.lemmas.Bool.{cases_eq, ne_eqb, eq-eqb, and_parts, both_ways, or_left, or_right, or_parts, or_cases, false_from_ne_true}
+use Rattle.shogi_core.specs.declared.moves.TheConstants.{MOVE_CODES, FIRST_DROP, SQUARE_CODES}
 use Rattle.shogi_core.specs.declared.moves.Move.{Move}
 use Rattle.shogi_core.specs.declared.moves.Move.TheVariants.{Board, Drop}
 use Rattle.shogi_core.specs.declared.piece.Kind.{Kind}
@@ -9,7 +10,7 @@ use Rattle.shogi_core.specs.Bits.{has_bit}
 use Rattle.shogi_core.specs.Cell.{is_of}
 use Rattle.shogi_core.specs.Codes.{move_of, code_of}
 use Rattle.shogi_core.specs.Movement.{piece_at}
-use Rattle.shogi_core.specs.Pieces.{number_of}
+use Rattle.shogi_core.specs.Pieces.{kind_number}
 use Rattle.shogi_core.specs.Position.{Shogi}
 use Rattle.shogi_core.proofs.BitLaws.{has_bit-or, has_bit-none}
 use Rattle.shogi_core.proofs.CodesBack.{move_of-board, move_of-drop}
@@ -26,13 +27,13 @@ use Rattle.shogi_moves.proofs.ZoneLaws.{more_fits}
 
 pub no_ends : (p : Shogi) (capture promote : Bool) (from n : ℕ) → from < 81 → n < 81 → is_of p.side (piece_at p.cells from) ≡ false → has_bit 0 n ≡ is_wanted p capture (code_of (Board from n promote))
 no_ends p capture promote from n hf hn e =
-    has_bit-none n ∙ sym ((none_square p capture from (from * 162) (from * 162 + 162) hf (omega arith) (omega arith) e).none (code_of (Board from n promote)) (low promote) (high promote))
+    has_bit-none n ∙ sym ((none_square p capture from (from * SQUARE_CODES) (from * SQUARE_CODES + SQUARE_CODES) hf (omega arith) (omega arith) e).none (code_of (Board from n promote)) (low promote) (high promote))
   where
-    low : (b : Bool) → from * 162 ≤ code_of (Board from n b)
+    low : (b : Bool) → from * SQUARE_CODES ≤ code_of (Board from n b)
     low true = omega arith
     low false = omega arith
 
-    high : (b : Bool) → code_of (Board from n b) < from * 162 + 162
+    high : (b : Bool) → code_of (Board from n b) < from * SQUARE_CODES + SQUARE_CODES
     high true = omega arith
     high false = omega arith
 
@@ -78,13 +79,13 @@ pub either : (plain promoting n : ℕ) → bit_or plain promoting ≡ 0 → (has
 either plain promoting n none = or_parts (has_bit plain n) (has_bit promoting n) (sym (has_bit-or plain promoting n) ∙ (ap (λ m. has_bit m n) none ∙ has_bit-none n))
 
 -- a code of the piece is that of an end, without or with promotion
-pub at_code : (from c : ℕ) → from * 162 ≤ c → c < from * 162 + 162 → (c ≡ code_of (Board from (c / 2 % 81) false)) ⊎ (c ≡ code_of (Board from (c / 2 % 81) true))
+pub at_code : (from c : ℕ) → from * SQUARE_CODES ≤ c → c < from * SQUARE_CODES + SQUARE_CODES → (c ≡ code_of (Board from (c / 2 % 81) false)) ⊎ (c ≡ code_of (Board from (c / 2 % 81) true))
 at_code from c low high = elim (cases_eq (c % 2) 0) [ inl even ↦ inl (omega arith) | inr odd ↦ inr (omega arith) ]
 
-pub none_left : (p : Shogi) (capture : Bool) (from code plain promoting : ℕ) → KeepsBoard p capture from code plain promoting → bit_or plain promoting ≡ 0 → HasNoneWanted p capture code (from * 162 + 162)
+pub none_left : (p : Shogi) (capture : Bool) (from code plain promoting : ℕ) → KeepsBoard p capture from code plain promoting → bit_or plain promoting ≡ 0 → HasNoneWanted p capture code (from * SQUARE_CODES + SQUARE_CODES)
 none_left p capture from code plain promoting k none = record {
   none = λ c above below. (
-      let low : from * 162 ≤ code = k.low in
+      let low : from * SQUARE_CODES ≤ code = k.low in
       let out = either plain promoting (c / 2 % 81) none in
       elim (at_code from c (omega arith) below) [
         | inl at ↦ ap (is_wanted p capture) at ∙ k.plains.clear (c / 2 % 81) (omega arith) out.0 (omega arith)
@@ -94,19 +95,19 @@ none_left p capture from code plain promoting k none = record {
 
 pub keeps_square : (p : Shogi) (capture : Bool) (from plain promoting : ℕ) → plain < 2 ^ 81 → promoting < 2 ^ 81
     → ((n : ℕ) → n < 81 → has_bit plain n ≡ is_wanted p capture (code_of (Board from n false))) → ((n : ℕ) → n < 81 → has_bit promoting n ≡ is_wanted p capture (code_of (Board from n true)))
-    → KeepsBoard p capture from (from * 162) plain promoting
+    → KeepsBoard p capture from (from * SQUARE_CODES) plain promoting
 keeps_square p capture from plain promoting pf qf pb qb = record {
   low = omega arith;
   high = omega arith;
-  plains = keeps_first (is_wanted p capture) (λ n. code_of (Board from n false)) (from * 162) plain pf pb (λ n. omega arith);
-  promotings = keeps_first (is_wanted p capture) (λ n. code_of (Board from n true)) (from * 162) promoting qf qb (λ n. omega arith);
+  plains = keeps_first (is_wanted p capture) (λ n. code_of (Board from n false)) (from * SQUARE_CODES) plain pf pb (λ n. omega arith);
+  promotings = keeps_first (is_wanted p capture) (λ n. code_of (Board from n true)) (from * SQUARE_CODES) promoting qf qb (λ n. omega arith);
 }
 
 pub record IsTaken (p : Shogi) (capture : Bool) (code : ℕ) (m : Move) : Type 0 where
   pub next : wanted_from p capture code ≡ code_of m ∷ wanted_from p capture (code_of m + 1)
   pub legal : is_legal p m ≡ true
 
-taken_from : (p : Shogi) (capture : Bool) (code : ℕ) (m : Move) → move_of (code_of m) ≡ Some m → code_of m < 13689 → code ≤ code_of m → is_wanted p capture (code_of m) ≡ true → HasNoneWanted p capture code (code_of m) → IsTaken p capture code m
+taken_from : (p : Shogi) (capture : Bool) (code : ℕ) (m : Move) → move_of (code_of m) ≡ Some m → code_of m < MOVE_CODES → code ≤ code_of m → is_wanted p capture (code_of m) ≡ true → HasNoneWanted p capture code (code_of m) → IsTaken p capture code m
 taken_from p capture code m back small low wanted none = record {
   next = wanted_jumps p capture code (code_of m) low (omega arith) none ∙ wanted_found p capture (code_of m) small wanted;
   legal = (and_parts (is_legal p m) (is_asked capture (captures p (Some m))) (sym (wanted_move p capture m back) ∙ wanted)).0;
@@ -125,7 +126,7 @@ module _ (p : Shogi) (capture : Bool) (from code plain promoting to : ℕ) (k : 
 
   pub plain_taken : has_bit plain to ≡ true → IsTaken p capture code (Board from to false)
   plain_taken e =
-      let low : from * 162 ≤ code = k.low in
+      let low : from * SQUARE_CODES ≤ code = k.low in
       let here : (code ≤ code_of (Board from to false)) × (is_wanted p capture (code_of (Board from to false)) ≡ true) = k.plains.set to ht e in
       taken_from p capture code (Board from to false) (move_of-board from to false hf ht) (omega arith) here.0 here.1 (record {
         none = λ c above under. (
@@ -138,7 +139,7 @@ module _ (p : Shogi) (capture : Bool) (from code plain promoting to : ℕ) (k : 
 
   pub plain_kept : (next : ℕ) → has_bit plain to ≡ true → next < plain → ((i : ℕ) → has_bit next i ≡ (has_bit plain i && not (i == to))) → KeepsBoard p capture from (code_of (Board from to false) + 1) next promoting
   plain_kept next e less bits =
-      let low : from * 162 ≤ code = k.low in
+      let low : from * SQUARE_CODES ≤ code = k.low in
       let here : code ≤ code_of (Board from to false) = (k.plains.set to ht e).0 in
       record {
         low = omega arith;
@@ -152,7 +153,7 @@ module _ (p : Shogi) (capture : Bool) (from code plain promoting to : ℕ) (k : 
 
   pub promoting_taken : has_bit plain to ≡ false → has_bit promoting to ≡ true → IsTaken p capture code (Board from to true)
   promoting_taken out e =
-      let low : from * 162 ≤ code = k.low in
+      let low : from * SQUARE_CODES ≤ code = k.low in
       let here : (code ≤ code_of (Board from to true)) × (is_wanted p capture (code_of (Board from to true)) ≡ true) = k.promotings.set to ht e in
       taken_from p capture code (Board from to true) (move_of-board from to true hf ht) (omega arith) here.0 here.1 (record {
         none = λ c above under. (elim (at_code from c (omega arith) (omega arith)) [
@@ -166,7 +167,7 @@ module _ (p : Shogi) (capture : Bool) (from code plain promoting to : ℕ) (k : 
 
   pub promoting_kept : (next : ℕ) → has_bit plain to ≡ false → has_bit promoting to ≡ true → next < promoting → ((i : ℕ) → has_bit next i ≡ (has_bit promoting i && not (i == to))) → KeepsBoard p capture from (code_of (Board from to true) + 1) plain next
   promoting_kept next out e less bits =
-      let low : from * 162 ≤ code = k.low in
+      let low : from * SQUARE_CODES ≤ code = k.low in
       let here : code ≤ code_of (Board from to true) = (k.promotings.set to ht e).0 in
       record {
         low = omega arith;
@@ -181,72 +182,72 @@ module _ (p : Shogi) (capture : Bool) (from code plain promoting to : ℕ) (k : 
 -- ---- from one piece to the next
 
 -- no piece of the side stands on the squares between
-pub none_between : (p : Shogi) (capture : Bool) (own from next : ℕ) → next ≤ 81 → ((n : ℕ) → n < 81 → has_bit own n ≡ is_of p.side (piece_at p.cells n)) → ((n : ℕ) → from ≤ n → n < next → has_bit own n ≡ false) → HasNoneWanted p capture (from * 162) (next * 162)
-none_between p capture own from next h bits none = none_safe p capture (from * 162) (next * 162) (run_squares p own from next (from * 162) (omega arith) h bits none)
+pub none_between : (p : Shogi) (capture : Bool) (own from next : ℕ) → next ≤ 81 → ((n : ℕ) → n < 81 → has_bit own n ≡ is_of p.side (piece_at p.cells n)) → ((n : ℕ) → from ≤ n → n < next → has_bit own n ≡ false) → HasNoneWanted p capture (from * SQUARE_CODES) (next * SQUARE_CODES)
+none_between p capture own from next h bits none = none_safe p capture (from * SQUARE_CODES) (next * SQUARE_CODES) (run_squares p own from next (from * SQUARE_CODES) (omega arith) h bits none)
 
 -- one more piece that has none
-pub none_more : (p : Shogi) (capture : Bool) (own code from next plain promoting : ℕ) → HasNoneWanted p capture code (from * 162) → KeepsBoard p capture from (from * 162) plain promoting → bit_or plain promoting ≡ 0
-    → next ≤ 81 → ((n : ℕ) → n < 81 → has_bit own n ≡ is_of p.side (piece_at p.cells n)) → ((n : ℕ) → from + 1 ≤ n → n < next → has_bit own n ≡ false) → HasNoneWanted p capture code (next * 162)
+pub none_more : (p : Shogi) (capture : Bool) (own code from next plain promoting : ℕ) → HasNoneWanted p capture code (from * SQUARE_CODES) → KeepsBoard p capture from (from * SQUARE_CODES) plain promoting → bit_or plain promoting ≡ 0
+    → next ≤ 81 → ((n : ℕ) → n < 81 → has_bit own n ≡ is_of p.side (piece_at p.cells n)) → ((n : ℕ) → from + 1 ≤ n → n < next → has_bit own n ≡ false) → HasNoneWanted p capture code (next * SQUARE_CODES)
 none_more p capture own code from next plain promoting before k none h bits free =
-    none_join p capture code (from * 162) (next * 162) before
-    (none_join p capture (from * 162) (from * 162 + 162) (next * 162) (none_left p capture from (from * 162) plain promoting k none)
-    (subst (λ (x : ℕ). HasNoneWanted p capture x (next * 162)) (omega arith) (none_between p capture own (from + 1) next h bits free)))
+    none_join p capture code (from * SQUARE_CODES) (next * SQUARE_CODES) before
+    (none_join p capture (from * SQUARE_CODES) (from * SQUARE_CODES + SQUARE_CODES) (next * SQUARE_CODES) (none_left p capture from (from * SQUARE_CODES) plain promoting k none)
+    (subst (λ (x : ℕ). HasNoneWanted p capture x (next * SQUARE_CODES)) (omega arith) (none_between p capture own (from + 1) next h bits free)))
 
 pub none_first : (p : Shogi) (capture : Bool) (own code from next plain promoting : ℕ) → KeepsBoard p capture from code plain promoting → bit_or plain promoting ≡ 0
-    → next ≤ 81 → ((n : ℕ) → n < 81 → has_bit own n ≡ is_of p.side (piece_at p.cells n)) → ((n : ℕ) → from + 1 ≤ n → n < next → has_bit own n ≡ false) → HasNoneWanted p capture code (next * 162)
+    → next ≤ 81 → ((n : ℕ) → n < 81 → has_bit own n ≡ is_of p.side (piece_at p.cells n)) → ((n : ℕ) → from + 1 ≤ n → n < next → has_bit own n ≡ false) → HasNoneWanted p capture code (next * SQUARE_CODES)
 none_first p capture own code from next plain promoting k none h bits free =
-    none_join p capture code (from * 162 + 162) (next * 162) (none_left p capture from code plain promoting k none)
-    (subst (λ (x : ℕ). HasNoneWanted p capture x (next * 162)) (omega arith) (none_between p capture own (from + 1) next h bits free))
+    none_join p capture code (from * SQUARE_CODES + SQUARE_CODES) (next * SQUARE_CODES) (none_left p capture from code plain promoting k none)
+    (subst (λ (x : ℕ). HasNoneWanted p capture x (next * SQUARE_CODES)) (omega arith) (none_between p capture own (from + 1) next h bits free))
 
 -- ---- drops
 
-pub keeps_kind : (p : Shogi) (kind : Kind) (ends : ℕ) → ends < 2 ^ 81 → ((n : ℕ) → n < 81 → has_bit ends n ≡ is_wanted p false (code_of (Drop kind n))) → KeepsDrop p kind (13122 + number_of kind * 81) ends
+pub keeps_kind : (p : Shogi) (kind : Kind) (ends : ℕ) → ends < 2 ^ 81 → ((n : ℕ) → n < 81 → has_bit ends n ≡ is_wanted p false (code_of (Drop kind n))) → KeepsDrop p kind (FIRST_DROP + kind_number kind * 81) ends
 keeps_kind p kind ends fits bits = record {
   low = omega arith;
   high = omega arith;
-  drops = keeps_first (is_wanted p false) (λ n. code_of (Drop kind n)) (13122 + number_of kind * 81) ends fits bits (λ n. omega arith);
+  drops = keeps_first (is_wanted p false) (λ n. code_of (Drop kind n)) (FIRST_DROP + kind_number kind * 81) ends fits bits (λ n. omega arith);
 }
 
-pub no_drop_left : (p : Shogi) (kind : Kind) (code : ℕ) → KeepsDrop p kind code 0 → HasNoneWanted p false code (13203 + number_of kind * 81)
+pub no_drop_left : (p : Shogi) (kind : Kind) (code : ℕ) → KeepsDrop p kind code 0 → HasNoneWanted p false code (FIRST_DROP + 81 + kind_number kind * 81)
 no_drop_left p kind code k = record {
   none = λ c above below. (
-      let low : 13122 + number_of kind * 81 ≤ code = k.low in
-      let at : c ≡ code_of (Drop kind (c - 13122 - number_of kind * 81)) = omega arith in
-      ap (is_wanted p false) at ∙ k.drops.clear (c - 13122 - number_of kind * 81) (omega arith) (has_bit-none (c - 13122 - number_of kind * 81)) (omega arith));
+      let low : FIRST_DROP + kind_number kind * 81 ≤ code = k.low in
+      let at : c ≡ code_of (Drop kind (c - FIRST_DROP - kind_number kind * 81)) = omega arith in
+      ap (is_wanted p false) at ∙ k.drops.clear (c - FIRST_DROP - kind_number kind * 81) (omega arith) (has_bit-none (c - FIRST_DROP - kind_number kind * 81)) (omega arith));
 }
 
 -- one more kind that has none
-pub no_drop_more : (p : Shogi) (kind next : Kind) (code : ℕ) → HasNoneWanted p false code (13203 + number_of kind * 81) → number_of next ≡ number_of kind + 1 → KeepsDrop p next (13122 + number_of next * 81) 0 → HasNoneWanted p false code (13203 + number_of next * 81)
+pub no_drop_more : (p : Shogi) (kind next : Kind) (code : ℕ) → HasNoneWanted p false code (FIRST_DROP + 81 + kind_number kind * 81) → kind_number next ≡ kind_number kind + 1 → KeepsDrop p next (FIRST_DROP + kind_number next * 81) 0 → HasNoneWanted p false code (FIRST_DROP + 81 + kind_number next * 81)
 no_drop_more p kind next code before e k =
-    let here : 13203 + number_of kind * 81 ≡ 13122 + number_of next * 81 = omega arith in
-    none_join p false code (13122 + number_of next * 81) (13203 + number_of next * 81) (subst (λ (x : ℕ). HasNoneWanted p false code x) here before) (no_drop_left p next (13122 + number_of next * 81) k)
+    let here : FIRST_DROP + 81 + kind_number kind * 81 ≡ FIRST_DROP + kind_number next * 81 = omega arith in
+    none_join p false code (FIRST_DROP + kind_number next * 81) (FIRST_DROP + 81 + kind_number next * 81) (subst (λ (x : ℕ). HasNoneWanted p false code x) here before) (no_drop_left p next (FIRST_DROP + kind_number next * 81) k)
 
-pub no_drop_to : (p : Shogi) (kind next : Kind) (code : ℕ) → HasNoneWanted p false code (13203 + number_of kind * 81) → number_of next ≡ number_of kind + 1 → code ≤ 13203 + number_of kind * 81 → wanted_from p false code ≡ wanted_from p false (13122 + number_of next * 81)
+pub no_drop_to : (p : Shogi) (kind next : Kind) (code : ℕ) → HasNoneWanted p false code (FIRST_DROP + 81 + kind_number kind * 81) → kind_number next ≡ kind_number kind + 1 → code ≤ FIRST_DROP + 81 + kind_number kind * 81 → wanted_from p false code ≡ wanted_from p false (FIRST_DROP + kind_number next * 81)
 no_drop_to p kind next code before e low =
-    let seven : number_of next < 7 = number_below next in
-    let here : 13203 + number_of kind * 81 ≡ 13122 + number_of next * 81 = omega arith in
-    wanted_jumps p false code (13122 + number_of next * 81) (omega arith) (omega arith) (subst (λ (x : ℕ). HasNoneWanted p false code x) here before)
+    let seven : kind_number next < 7 = number_below next in
+    let here : FIRST_DROP + 81 + kind_number kind * 81 ≡ FIRST_DROP + kind_number next * 81 = omega arith in
+    wanted_jumps p false code (FIRST_DROP + kind_number next * 81) (omega arith) (omega arith) (subst (λ (x : ℕ). HasNoneWanted p false code x) here before)
 
-pub no_drop_end : (p : Shogi) (kind : Kind) (code : ℕ) → HasNoneWanted p false code (13203 + number_of kind * 81) → number_of kind ≡ 6 → code ≤ 13203 + number_of kind * 81 → wanted_from p false code ≡ []
+pub no_drop_end : (p : Shogi) (kind : Kind) (code : ℕ) → HasNoneWanted p false code (FIRST_DROP + 81 + kind_number kind * 81) → kind_number kind ≡ 6 → code ≤ FIRST_DROP + 81 + kind_number kind * 81 → wanted_from p false code ≡ []
 no_drop_end p kind code before e low =
-    let here : 13203 + number_of kind * 81 ≡ 13689 = omega arith in
-    wanted_jumps p false code 13689 (omega arith) (omega arith) (subst (λ (x : ℕ). HasNoneWanted p false code x) here before) ∙ wanted_end p false 13689 (omega arith)
+    let here : FIRST_DROP + 81 + kind_number kind * 81 ≡ MOVE_CODES = omega arith in
+    wanted_jumps p false code MOVE_CODES (omega arith) (omega arith) (subst (λ (x : ℕ). HasNoneWanted p false code x) here before) ∙ wanted_end p false MOVE_CODES (omega arith)
 
 module _ (p : Shogi) (kind : Kind) (code ends to : ℕ) (k : KeepsDrop p kind code ends) (ht : to < 81) (set : has_bit ends to ≡ true) (least : (n : ℕ) → has_bit ends n ≡ true → to ≤ n) where
   pub drop_taken : IsTaken p false code (Drop kind to)
   drop_taken =
-      let seven : number_of kind < 7 = number_below kind in
-      let low : 13122 + number_of kind * 81 ≤ code = k.low in
+      let seven : kind_number kind < 7 = number_below kind in
+      let low : FIRST_DROP + kind_number kind * 81 ≤ code = k.low in
       let here : (code ≤ code_of (Drop kind to)) × (is_wanted p false (code_of (Drop kind to)) ≡ true) = k.drops.set to ht set in
       taken_from p false code (Drop kind to) (move_of-drop kind to ht) (omega arith) here.0 here.1 (record {
         none = λ c above under. (
-            let at : c ≡ code_of (Drop kind (c - 13122 - number_of kind * 81)) = omega arith in
-            ap (is_wanted p false) at ∙ k.drops.clear (c - 13122 - number_of kind * 81) (omega arith) (false_from_ne_true (has_bit ends (c - 13122 - number_of kind * 81)) (λ e. (let le : to ≤ c - 13122 - number_of kind * 81 = least (c - 13122 - number_of kind * 81) e in omega arith))) (omega arith));
+            let at : c ≡ code_of (Drop kind (c - FIRST_DROP - kind_number kind * 81)) = omega arith in
+            ap (is_wanted p false) at ∙ k.drops.clear (c - FIRST_DROP - kind_number kind * 81) (omega arith) (false_from_ne_true (has_bit ends (c - FIRST_DROP - kind_number kind * 81)) (λ e. (let le : to ≤ c - FIRST_DROP - kind_number kind * 81 = least (c - FIRST_DROP - kind_number kind * 81) e in omega arith))) (omega arith));
       })
 
   pub drop_kept : (next : ℕ) → next < ends → ((i : ℕ) → has_bit next i ≡ (has_bit ends i && not (i == to))) → KeepsDrop p kind (code_of (Drop kind to) + 1) next
   drop_kept next less bits =
-      let low : 13122 + number_of kind * 81 ≤ code = k.low in
+      let low : FIRST_DROP + kind_number kind * 81 ≤ code = k.low in
       let here : code ≤ code_of (Drop kind to) = (k.drops.set to ht set).0 in
       record {
         low = omega arith;
@@ -255,7 +256,7 @@ module _ (p : Shogi) (kind : Kind) (code ends to : ℕ) (k : KeepsDrop p kind co
       }
 
 -- drops take nothing
-pub no_captures : (p : Shogi) → wanted_from p true 13122 ≡ []
-no_captures p = wanted_jumps p true 13122 13689 (omega arith) (omega arith) (none_drop p true 13122 13689 (omega arith) (omega arith) refl) ∙ wanted_end p true 13689 (omega arith)
+pub no_captures : (p : Shogi) → wanted_from p true FIRST_DROP ≡ []
+no_captures p = wanted_jumps p true FIRST_DROP MOVE_CODES (omega arith) (omega arith) (none_drop p true FIRST_DROP MOVE_CODES (omega arith) (omega arith) refl) ∙ wanted_end p true MOVE_CODES (omega arith)
 
 pub ruleset sweeping = (keeps_square, more_fits, wanted_jumps)

@@ -7,11 +7,12 @@ use Rattle.std.proofs.lemmas.Bool.{cases_Bool}
 use Rattle.std.proofs.lemmas.Nat.Bits.{bit_at-suc, bit_at_lowest, bit_at-lt}
 use Rattle.std.proofs.lemmas.Nat.{ones_le_self}
 use native.Mathlib.Nat.{pow-suc}
+use Rattle.shogi_core.specs.declared.moves.TheConstants.{MOVE_CODES, FIRST_DROP, SQUARE_CODES}
 use Rattle.shogi_core.specs.declared.moves.Move.TheVariants.{Board, Drop}
 use Rattle.shogi_core.specs.declared.piece.Kind.{Kind}
 use Rattle.shogi_core.specs.Cell.{is_of}
 use Rattle.shogi_core.specs.Movement.{piece_at}
-use Rattle.shogi_core.specs.Pieces.{number_of}
+use Rattle.shogi_core.specs.Pieces.{kind_number}
 use Rattle.shogi_core.proofs.Faults.{number_below}
 use Rattle.shogi_core.specs.Bits.{has_bit}
 use Rattle.shogi_core.specs.Codes.{code_of}
@@ -67,7 +68,7 @@ ones_tally (suc k) m h =
 
 -- ---- a code more
 
-code_more : (p : Shogi) (code : ℕ) → code < 13689 → length (legal_from p code) ≡ cond (is_legal_code p code) 1 0 + length (legal_from p (code + 1))
+code_more : (p : Shogi) (code : ℕ) → code < MOVE_CODES → length (legal_from p code) ≡ cond (is_legal_code p code) 1 0 + length (legal_from p (code + 1))
 code_more p code h = elim (cases_Bool (is_legal_code p code)) [
   | inl yes_it ↦ (let e : length (legal_from p code) ≡ length (code ∷ legal_from p (code + 1)) = ap length (legal_from_found p code h yes_it) in rw yes_it (omega arith))
   | inr not_it ↦ (let e : length (legal_from p code) ≡ length (legal_from p (code + 1)) = ap length (legal_from_skips p code h not_it) in rw not_it (omega arith))
@@ -75,21 +76,21 @@ code_more p code h = elim (cases_Bool (is_legal_code p code)) [
 
 -- the codes of a piece, two for each square
 pairs : (p : Shogi) (from k s : ℕ) → from < 81 → s + k ≤ 81
-    → length (legal_from p (from * 162 + s * 2)) ≡ (tally k (λ i. is_legal_code p (code_of (Board from (i + s) false))) + tally k (λ i. is_legal_code p (code_of (Board from (i + s) true)))) + length (legal_from p (from * 162 + (s + k) * 2))
+    → length (legal_from p (from * SQUARE_CODES + s * 2)) ≡ (tally k (λ i. is_legal_code p (code_of (Board from (i + s) false))) + tally k (λ i. is_legal_code p (code_of (Board from (i + s) true)))) + length (legal_from p (from * SQUARE_CODES + (s + k) * 2))
 unfolding tally
 pairs p from zero s h l =
-    let same : from * 162 + s * 2 ≡ from * 162 + (s + 0) * 2 = omega arith in
-    let e : length (legal_from p (from * 162 + s * 2)) ≡ length (legal_from p (from * 162 + (s + 0) * 2)) = ap (λ (c : ℕ). length (legal_from p c)) same in
+    let same : from * SQUARE_CODES + s * 2 ≡ from * SQUARE_CODES + (s + 0) * 2 = omega arith in
+    let e : length (legal_from p (from * SQUARE_CODES + s * 2)) ≡ length (legal_from p (from * SQUARE_CODES + (s + 0) * 2)) = ap (λ (c : ℕ). length (legal_from p c)) same in
     omega arith
 pairs p from (suc k) s h l =
     let W : ℕ → ℕ = λ (c : ℕ). length (legal_from p c) in
-    let first = code_more p (from * 162 + s * 2) (omega arith) in
-    let second = code_more p (from * 162 + s * 2 + 1) (omega arith) in
+    let first = code_more p (from * SQUARE_CODES + s * 2) (omega arith) in
+    let second = code_more p (from * SQUARE_CODES + s * 2 + 1) (omega arith) in
     let rest = pairs p from k (s + 1) h (omega arith) in
-    let plain : code_of (Board from (0 + s) false) ≡ from * 162 + s * 2 = omega arith in
-    let promoting : code_of (Board from (0 + s) true) ≡ from * 162 + s * 2 + 1 = omega arith in
-    let on : from * 162 + s * 2 + 1 + 1 ≡ from * 162 + (s + 1) * 2 = omega arith in
-    let end : from * 162 + (s + 1 + k) * 2 ≡ from * 162 + (s + suc k) * 2 = omega arith in
+    let plain : code_of (Board from (0 + s) false) ≡ from * SQUARE_CODES + s * 2 = omega arith in
+    let promoting : code_of (Board from (0 + s) true) ≡ from * SQUARE_CODES + s * 2 + 1 = omega arith in
+    let on : from * SQUARE_CODES + s * 2 + 1 + 1 ≡ from * SQUARE_CODES + (s + 1) * 2 = omega arith in
+    let end : from * SQUARE_CODES + (s + 1 + k) * 2 ≡ from * SQUARE_CODES + (s + suc k) * 2 = omega arith in
     let onw = ap (λ (c : ℕ). length (legal_from p c)) on in
     let endw = ap (λ (c : ℕ). length (legal_from p c)) end in
     let pw = ap (λ (c : ℕ). digit (is_legal_code p c)) plain in
@@ -101,12 +102,12 @@ pairs p from (suc k) s h l =
 -- the moves of a piece are as many as the bits of its ends
 pub counted_board : (p : Shogi) (from plain promoting : ℕ) → from < 81 → plain < 2 ^ 81 → promoting < 2 ^ 81
     → ((n : ℕ) → n < 81 → has_bit plain n ≡ is_legal_code p (code_of (Board from n false))) → ((n : ℕ) → n < 81 → has_bit promoting n ≡ is_legal_code p (code_of (Board from n true)))
-    → length (legal_from p (from * 162)) ≡ (count_ones plain + count_ones promoting) + length (legal_from p (from * 162 + 162))
+    → length (legal_from p (from * SQUARE_CODES)) ≡ (count_ones plain + count_ones promoting) + length (legal_from p (from * SQUARE_CODES + SQUARE_CODES))
 counted_board p from plain promoting h pf qf pb qb =
     let all = pairs p from 81 0 h (omega arith) in
-    let start : from * 162 + 0 * 2 ≡ from * 162 = omega arith in
+    let start : from * SQUARE_CODES + 0 * 2 ≡ from * SQUARE_CODES = omega arith in
     let startw = ap (λ (c : ℕ). length (legal_from p c)) start in
-    let end : from * 162 + (0 + 81) * 2 ≡ from * 162 + 162 = omega arith in
+    let end : from * SQUARE_CODES + (0 + 81) * 2 ≡ from * SQUARE_CODES + SQUARE_CODES = omega arith in
     let endw = ap (λ (c : ℕ). length (legal_from p c)) end in
     let a = ones_tally 81 plain pf in
     let b = ones_tally 81 promoting qf in
@@ -117,19 +118,19 @@ counted_board p from plain promoting h pf qf pb qb =
 -- ---- drops
 
 singles : (p : Shogi) (kind : Kind) (k s : ℕ) → s + k ≤ 81
-    → length (legal_from p (13122 + number_of kind * 81 + s)) ≡ tally k (λ i. is_legal_code p (code_of (Drop kind (i + s)))) + length (legal_from p (13122 + number_of kind * 81 + (s + k)))
+    → length (legal_from p (FIRST_DROP + kind_number kind * 81 + s)) ≡ tally k (λ i. is_legal_code p (code_of (Drop kind (i + s)))) + length (legal_from p (FIRST_DROP + kind_number kind * 81 + (s + k)))
 unfolding tally
 singles p kind zero s l =
-    let same : 13122 + number_of kind * 81 + s ≡ 13122 + number_of kind * 81 + (s + 0) = omega arith in
-    let e : length (legal_from p (13122 + number_of kind * 81 + s)) ≡ length (legal_from p (13122 + number_of kind * 81 + (s + 0))) = ap (λ (c : ℕ). length (legal_from p c)) same in
+    let same : FIRST_DROP + kind_number kind * 81 + s ≡ FIRST_DROP + kind_number kind * 81 + (s + 0) = omega arith in
+    let e : length (legal_from p (FIRST_DROP + kind_number kind * 81 + s)) ≡ length (legal_from p (FIRST_DROP + kind_number kind * 81 + (s + 0))) = ap (λ (c : ℕ). length (legal_from p c)) same in
     omega arith
 singles p kind (suc k) s l =
-    let seven : number_of kind < 7 = number_below kind in
-    let first = code_more p (13122 + number_of kind * 81 + s) (omega arith) in
+    let seven : kind_number kind < 7 = number_below kind in
+    let first = code_more p (FIRST_DROP + kind_number kind * 81 + s) (omega arith) in
     let rest = singles p kind k (s + 1) (omega arith) in
-    let here : code_of (Drop kind (0 + s)) ≡ 13122 + number_of kind * 81 + s = omega arith in
-    let on : 13122 + number_of kind * 81 + s + 1 ≡ 13122 + number_of kind * 81 + (s + 1) = omega arith in
-    let end : 13122 + number_of kind * 81 + (s + 1 + k) ≡ 13122 + number_of kind * 81 + (s + suc k) = omega arith in
+    let here : code_of (Drop kind (0 + s)) ≡ FIRST_DROP + kind_number kind * 81 + s = omega arith in
+    let on : FIRST_DROP + kind_number kind * 81 + s + 1 ≡ FIRST_DROP + kind_number kind * 81 + (s + 1) = omega arith in
+    let end : FIRST_DROP + kind_number kind * 81 + (s + 1 + k) ≡ FIRST_DROP + kind_number kind * 81 + (s + suc k) = omega arith in
     let onw = ap (λ (c : ℕ). length (legal_from p c)) on in
     let endw = ap (λ (c : ℕ). length (legal_from p c)) end in
     let hw = ap (λ (c : ℕ). digit (is_legal_code p c)) here in
@@ -137,12 +138,12 @@ singles p kind (suc k) s l =
     omega (arith, first, rest, onw, endw, hw, t)
 
 pub counted_drop : (p : Shogi) (kind : Kind) (ends : ℕ) → ends < 2 ^ 81 → ((n : ℕ) → n < 81 → has_bit ends n ≡ is_legal_code p (code_of (Drop kind n)))
-    → length (legal_from p (13122 + number_of kind * 81)) ≡ count_ones ends + length (legal_from p (13203 + number_of kind * 81))
+    → length (legal_from p (FIRST_DROP + kind_number kind * 81)) ≡ count_ones ends + length (legal_from p (FIRST_DROP + 81 + kind_number kind * 81))
 counted_drop p kind ends fits bits =
     let all = singles p kind 81 0 (omega arith) in
-    let start : 13122 + number_of kind * 81 + 0 ≡ 13122 + number_of kind * 81 = omega arith in
+    let start : FIRST_DROP + kind_number kind * 81 + 0 ≡ FIRST_DROP + kind_number kind * 81 = omega arith in
     let startw = ap (λ (c : ℕ). length (legal_from p c)) start in
-    let end : 13122 + number_of kind * 81 + (0 + 81) ≡ 13203 + number_of kind * 81 = omega arith in
+    let end : FIRST_DROP + kind_number kind * 81 + (0 + 81) ≡ FIRST_DROP + 81 + kind_number kind * 81 = omega arith in
     let endw = ap (λ (c : ℕ). length (legal_from p c)) end in
     let a = ones_tally 81 ends fits in
     let b = tally_same 81 (has_bit ends) (λ i. is_legal_code p (code_of (Drop kind (i + 0)))) (λ i l. bits i l ∙ ap (λ (n : ℕ). is_legal_code p (code_of (Drop kind n))) (omega arith)) in
@@ -153,5 +154,5 @@ pub ones_most : (m : ℕ) → m < 2 ^ 81 → count_ones m ≤ 81
 ones_most m h = omega (arith, ones_tally 81 m h, tally_most 81 (has_bit m))
 
 -- squares without a piece of the side add nothing
-pub counted_between : (p : Shogi) (own from next : ℕ) → from ≤ next → next ≤ 81 → ((n : ℕ) → n < 81 → has_bit own n ≡ is_of p.side (piece_at p.cells n)) → ((n : ℕ) → from ≤ n → n < next → has_bit own n ≡ false) → length (legal_from p (from * 162)) ≡ length (legal_from p (next * 162))
-counted_between p own from next up h bits none = ap length (legal_from_jumps p (from * 162) (next * 162) (omega arith) (omega arith) (run_squares p own from next (from * 162) (omega arith) h bits none))
+pub counted_between : (p : Shogi) (own from next : ℕ) → from ≤ next → next ≤ 81 → ((n : ℕ) → n < 81 → has_bit own n ≡ is_of p.side (piece_at p.cells n)) → ((n : ℕ) → from ≤ n → n < next → has_bit own n ≡ false) → length (legal_from p (from * SQUARE_CODES)) ≡ length (legal_from p (next * SQUARE_CODES))
+counted_between p own from next up h bits none = ap length (legal_from_jumps p (from * SQUARE_CODES) (next * SQUARE_CODES) (omega arith) (omega arith) (run_squares p own from next (from * SQUARE_CODES) (omega arith) h bits none))

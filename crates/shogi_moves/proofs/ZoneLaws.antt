@@ -3,45 +3,46 @@ use Rattle.std.proofs.Common.{◌≡◌, ℕ, ◌<◌, ◌+◌, ◌*◌, ◌^◌
 use Rattle.std.specs.Prelude.{◌%◌, ◌/◌, ◌==◌, ◌&&◌, ◌||◌, nat_lt}
 use Rattle.std.proofs.lemmas.Bool.{agree_below_at, ltb-true, lt-ltb, le-ltb, cases_lt, cases_eq, eq-eqb, ne_eqb}
 use Rattle.std.proofs.lemmas.Nat.{or_lt}
+use Rattle.shogi_core.specs.declared.bits.TheConstants.{ALL_SQUARES}
 use Rattle.shogi_core.specs.Bits.{has_bit}
 use Rattle.shogi_core.specs.declared.piece.Color.{Color}
 use Rattle.shogi_core.specs.declared.piece.Role.{Role}
 use Rattle.shogi_core.proofs.BitLaws.{has_bit-none, has_bit-or}
 use Rattle.shogi_core.specs.Movement.{Cells}
 use Rattle.shogi_core.specs.Validity.{pawns_on_file}
-use Rattle.shogi_moves.specs.declared.zones.TheConstants.{FILES}
+use Rattle.shogi_moves.specs.declared.zones.TheConstants.{FILES, FIRST_RANK, FIRST_TWO_RANKS, FIRST_THREE_RANKS, LAST_RANK, LAST_TWO_RANKS, LAST_THREE_RANKS}
 use Rattle.shogi_moves.specs.Legal.{in_zone, can_promote}
 
-pub first_rank : (n : ℕ) → n < 81 → has_bit 4731607904558235517441 n ≡ nat_lt (n % 9) 1
+pub first_rank : (n : ℕ) → n < 81 → has_bit FIRST_RANK n ≡ nat_lt (n % 9) 1
 unfolding has_bit
-first_rank n h = agree_below_at (λ n. has_bit 4731607904558235517441 n) (λ n. nat_lt (n % 9) 1) 81 n refl h
+first_rank n h = agree_below_at (λ n. has_bit FIRST_RANK n) (λ n. nat_lt (n % 9) 1) 81 n refl h
 
-pub first_ranks : (n : ℕ) → n < 81 → has_bit 14194823713674706552323 n ≡ nat_lt (n % 9) 2
+pub first_ranks : (n : ℕ) → n < 81 → has_bit FIRST_TWO_RANKS n ≡ nat_lt (n % 9) 2
 unfolding has_bit
-first_ranks n h = agree_below_at (λ n. has_bit 14194823713674706552323 n) (λ n. nat_lt (n % 9) 2) 81 n refl h
+first_ranks n h = agree_below_at (λ n. has_bit FIRST_TWO_RANKS n) (λ n. nat_lt (n % 9) 2) 81 n refl h
 
-pub last_rank : (n : ℕ) → n < 81 → has_bit 1211291623566908292464896 n ≡ nat_lt 7 (n % 9)
+pub last_rank : (n : ℕ) → n < 81 → has_bit LAST_RANK n ≡ nat_lt 7 (n % 9)
 unfolding has_bit
-last_rank n h = agree_below_at (λ n. has_bit 1211291623566908292464896 n) (λ n. nat_lt 7 (n % 9)) 81 n refl h
+last_rank n h = agree_below_at (λ n. has_bit LAST_RANK n) (λ n. nat_lt 7 (n % 9)) 81 n refl h
 
-pub last_ranks : (n : ℕ) → n < 81 → has_bit 1816937435350362438697344 n ≡ nat_lt 6 (n % 9)
+pub last_ranks : (n : ℕ) → n < 81 → has_bit LAST_TWO_RANKS n ≡ nat_lt 6 (n % 9)
 unfolding has_bit
-last_ranks n h = agree_below_at (λ n. has_bit 1816937435350362438697344 n) (λ n. nat_lt 6 (n % 9)) 81 n refl h
+last_ranks n h = agree_below_at (λ n. has_bit LAST_TWO_RANKS n) (λ n. nat_lt 6 (n % 9)) 81 n refl h
 
 pub no_squares : (n : ℕ) → n < 81 → has_bit 0 n ≡ false
 no_squares n h = has_bit-none n
 
-pub black_zone : (n : ℕ) → n < 81 → has_bit 33121255331907648622087 n ≡ nat_lt (n % 9) 3
+pub black_zone : (n : ℕ) → n < 81 → has_bit FIRST_THREE_RANKS n ≡ nat_lt (n % 9) 3
 unfolding has_bit
-black_zone n h = agree_below_at (λ n. has_bit 33121255331907648622087 n) (λ n. nat_lt (n % 9) 3) 81 n refl h
+black_zone n h = agree_below_at (λ n. has_bit FIRST_THREE_RANKS n) (λ n. nat_lt (n % 9) 3) 81 n refl h
 
-pub white_zone : (n : ℕ) → n < 81 → has_bit 2119760341242089511813568 n ≡ nat_lt 5 (n % 9)
+pub white_zone : (n : ℕ) → n < 81 → has_bit LAST_THREE_RANKS n ≡ nat_lt 5 (n % 9)
 unfolding has_bit
-white_zone n h = agree_below_at (λ n. has_bit 2119760341242089511813568 n) (λ n. nat_lt 5 (n % 9)) 81 n refl h
+white_zone n h = agree_below_at (λ n. has_bit LAST_THREE_RANKS n) (λ n. nat_lt 5 (n % 9)) 81 n refl h
 
-pub all_squares : (n : ℕ) → n < 81 → has_bit 2417851639229258349412351 n ≡ true
+pub all_squares : (n : ℕ) → n < 81 → has_bit ALL_SQUARES n ≡ true
 unfolding has_bit
-all_squares n h = agree_below_at (λ n. has_bit 2417851639229258349412351 n) (λ n. true) 81 n refl h
+all_squares n h = agree_below_at (λ n. has_bit ALL_SQUARES n) (λ n. true) 81 n refl h
 
 both_true : (a b c : Bool) → a ≡ true → b ≡ true → true ≡ (a && (b || c))
 both_true a b c p q = rw (p, q) refl
@@ -56,7 +57,7 @@ none_of a b p = rw p refl
 pub promotes_never : (role : Role) (color : Color) (from n : ℕ) → n < 81 → can_promote role ≡ false → has_bit 0 n ≡ (can_promote role && (in_zone color from || in_zone color n))
 promotes_never role color from n h e = has_bit-none n ∙ none_of (can_promote role) (in_zone color from || in_zone color n) e
 
-pub promotes_all : (role : Role) (color : Color) (from n : ℕ) → n < 81 → can_promote role ≡ true → in_zone color from ≡ true → has_bit 2417851639229258349412351 n ≡ (can_promote role && (in_zone color from || in_zone color n))
+pub promotes_all : (role : Role) (color : Color) (from n : ℕ) → n < 81 → can_promote role ≡ true → in_zone color from ≡ true → has_bit ALL_SQUARES n ≡ (can_promote role && (in_zone color from || in_zone color n))
 promotes_all role color from n h e z = all_squares n h ∙ both_true (can_promote role) (in_zone color from) (in_zone color n) e z
 
 pub promotes_there : (role : Role) (color : Color) (from n m : ℕ) → has_bit m n ≡ in_zone color n → can_promote role ≡ true → in_zone color from ≡ false → has_bit m n ≡ (can_promote role && (in_zone color from || in_zone color n))

@@ -8,7 +8,7 @@ use Rattle.shogi_core.specs.declared.moves.Move.TheVariants.{Board, Drop}
 use Rattle.shogi_core.specs.Codes.{move_of}
 use Rattle.shogi_core.specs.Movement.{Cells, piece_at}
 use Rattle.shogi_core.specs.Pieces.{opponent_of, kind_of, role_of, promoted}
-use Rattle.shogi_core.specs.Position.{Shogi, Held, held, place_of}
+use Rattle.shogi_core.specs.Position.{Shogi, HandCounts, held, place_of}
 
 -- what stood on a square, as it stands after its move
 abbrev pub moved : Bool → Option Piece → Option Piece
@@ -20,12 +20,12 @@ abbrev pub dropped : Color → Kind → Option Piece
 dropped color kind = Some (record { color = color; role = role_of kind })
 
 -- one more of a kind in the side's hand; a king goes to no hand
-abbrev pub with_one_more : Held → Color → Option Kind → Held
+abbrev pub with_one_more : HandCounts → Color → Option Kind → HandCounts
 with_one_more hands color None = hands
 with_one_more hands color (Some kind) = slice_set hands (place_of color kind) (held hands color kind + 1)
 
 -- a captured piece goes to the captor's hand as its unpromoted kind
-abbrev pub with_captured : Held → Color → Option Piece → Held
+abbrev pub with_captured : HandCounts → Color → Option Piece → HandCounts
 with_captured hands color None = hands
 with_captured hands color (Some piece) = with_one_more hands color (kind_of piece.role)
 
@@ -35,7 +35,7 @@ cells_after cells side (Board from to promote) = slice_set (slice_set cells from
 cells_after cells side (Drop kind to) = slice_set cells to (dropped side kind)
 
 -- the hands after a move of the side: a capture adds one, a drop takes one
-abbrev pub hands_after : Held → Cells → Color → Move → Held
+abbrev pub hands_after : HandCounts → Cells → Color → Move → HandCounts
 hands_after hands cells side (Board from to promote) = with_captured hands side (piece_at cells to)
 hands_after hands cells side (Drop kind to) = slice_set hands (place_of side kind) (held hands side kind - 1)
 

@@ -1,4 +1,4 @@
--- Captures and the other moves, by their codes.
+-- Captures and quiet moves, which capture nothing, by their codes.
 use Rattle.std.specs.Prelude.{ℕ, ◌≡◌, ◌≤◌, ◌<◌, ◌&&◌, Bool, true, false, not, Option, Some, None, is_some}
 use Rattle.shogi_core.specs.declared.moves.Move.{Move}
 use Rattle.shogi_core.specs.declared.moves.Move.TheVariants.{Board, Drop}
@@ -17,7 +17,7 @@ captures p (Some (Drop kind to)) = false
 unfoldable pub is_capture : Shogi → ℕ → Bool
 is_capture p code = captures p (move_of code)
 
--- captures, or all but captures, as asked
+-- captures, or quiet moves, as asked
 abbrev pub is_asked : Bool → Bool → Bool
 is_asked true takes = takes
 is_asked false takes = not takes

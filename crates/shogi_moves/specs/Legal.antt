@@ -1,5 +1,6 @@
 -- Which moves are legal (JSA playing rules: moves, promotion, drops, check, prohibited moves).
 use Rattle.std.specs.Prelude.{ℕ, ◌/◌, ◌%◌, ◌&&◌, ◌||◌, Bool, true, false, not, Option, Some, None, is_none, nat_lt}
+use Rattle.shogi_core.specs.declared.moves.TheConstants.{MOVE_CODES}
 use Rattle.shogi_core.specs.declared.piece.Color.{Color}
 use Rattle.shogi_core.specs.declared.piece.Color.TheVariants.{Black, White}
 use Rattle.shogi_core.specs.declared.piece.Kind.{Kind}
@@ -12,7 +13,7 @@ use Rattle.shogi_core.specs.declared.moves.Move.TheVariants.{Board, Drop}
 use Rattle.shogi_core.specs.Below.{some_below}
 use Rattle.shogi_core.specs.Codes.{move_of}
 use Rattle.shogi_core.specs.Movement.{Cells, piece_at, reaches}
-use Rattle.shogi_core.specs.Position.{Shogi, Held, held}
+use Rattle.shogi_core.specs.Position.{Shogi, HandCounts, held}
 use Rattle.shogi_core.specs.Attack.{in_check}
 use Rattle.shogi_core.specs.Cell.{is_of, is_dead}
 use Rattle.shogi_core.specs.Validity.{pawns_on_file}
@@ -44,8 +45,8 @@ is_pawn_kind kinds.Pawn = true
 is_pawn_kind _ = false
 
 -- one's own piece goes where it reaches and none of one's own stands, promotes only where it may, and can move again from there
-abbrev pub is_right_board_move : Cells → Color → ℕ → ℕ → Bool → Bool
-is_right_board_move cells side from to promote =
+abbrev pub is_pseudo_legal_board_move : Cells → Color → ℕ → ℕ → Bool → Bool
+is_pseudo_legal_board_move cells side from to promote =
     is_of side (piece_at cells from)
     && not (is_of side (piece_at cells to))
     && reaches cells from to
@@ -53,21 +54,21 @@ is_right_board_move cells side from to promote =
     && not (is_dead to (moved promote (piece_at cells from)))
 
 -- a held piece goes to an empty square from which it can move again, and a pawn to a file without an unpromoted pawn of the side
-abbrev pub is_right_drop : Cells → Held → Color → Kind → ℕ → Bool
-is_right_drop cells hands side kind to =
+abbrev pub is_pseudo_legal_drop : Cells → HandCounts → Color → Kind → ℕ → Bool
+is_pseudo_legal_drop cells hands side kind to =
     nat_lt 0 (held hands side kind)
     && is_none (piece_at cells to)
     && not (is_dead to (dropped side kind))
     && not (is_pawn_kind kind && nat_lt 0 (pawns_on_file side (to / 9) cells))
 
 -- the rules on one move, apart from checks
-abbrev pub is_right : Shogi → Move → Bool
-is_right p (Board from to promote) = is_right_board_move p.cells p.side from to promote
-is_right p (Drop kind to) = is_right_drop p.cells p.hands p.side kind to
+abbrev pub is_pseudo_legal : Shogi → Move → Bool
+is_pseudo_legal p (Board from to promote) = is_pseudo_legal_board_move p.cells p.side from to promote
+is_pseudo_legal p (Drop kind to) = is_pseudo_legal_drop p.cells p.hands p.side kind to
 
 -- all that the rules ask but mate by the drop of a pawn: the mover's king is not attacked after it
 unfoldable pub is_safe : Shogi → Move → Bool
-is_safe p m = is_right p m && not (in_check (after p m).cells p.side)
+is_safe p m = is_pseudo_legal p m && not (in_check (after p m).cells p.side)
 
 -- there is a move, and it is safe
 abbrev pub is_safe_move : Shogi → Option Move → Bool
@@ -85,15 +86,15 @@ is_pawn_drop (Drop kind to) = is_pawn_kind kind
 
 -- the side to move is in check and has no safe move
 abbrev pub is_mated : Shogi → Bool
-is_mated p = in_check p.cells p.side && not (some_below 13689 (is_safe_code p))
+is_mated p = in_check p.cells p.side && not (some_below MOVE_CODES (is_safe_code p))
 
 -- the drop of a pawn gives mate
-abbrev pub is_pawn_mate : Shogi → Move → Bool
-is_pawn_mate p m = is_pawn_drop m && is_mated (after p m)
+abbrev pub is_pawn_drop_mate : Shogi → Move → Bool
+is_pawn_drop_mate p m = is_pawn_drop m && is_mated (after p m)
 
 -- a safe move that does not mate by the drop of a pawn
 unfoldable pub is_legal : Shogi → Move → Bool
-is_legal p m = is_safe p m && not (is_pawn_mate p m)
+is_legal p m = is_safe p m && not (is_pawn_drop_mate p m)
 
 -- there is a move, and it is legal
 abbrev pub is_legal_move : Shogi → Option Move → Bool

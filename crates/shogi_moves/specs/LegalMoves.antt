@@ -20,6 +20,6 @@ legal_above p None = legal_from p 0
 legal_above p (Some m) = legal_from p (code_of m + 1)
 
 -- how many sequences of n legal moves there are
-unfoldable pub paths : Shogi → ℕ → ℕ
-paths p zero = 1
-paths p (suc n) = sum_by (λ code. paths (after_code p code) n) (legal_moves p)
+unfoldable pub perft : Shogi → ℕ → ℕ
+perft p zero = 1
+perft p (suc n) = sum_by (λ code. perft (after_code p code) n) (legal_moves p)

@@ -1,10 +1,11 @@
 -- What is kept on the way through the moves of a sort: the ends still to come of the present piece.
 use Rattle.std.specs.Prelude.{ℕ, ◌≡◌, ◌≤◌, ◌<◌, ◌+◌, ◌*◌, ◌^◌, Bool, true, false, List, filter}
+use Rattle.shogi_core.specs.declared.moves.TheConstants.{FIRST_DROP, SQUARE_CODES}
 use Rattle.shogi_core.specs.declared.moves.Move.TheVariants.{Board, Drop}
 use Rattle.shogi_core.specs.declared.piece.Kind.{Kind}
 use Rattle.shogi_core.specs.Bits.{has_bit}
 use Rattle.shogi_core.specs.Codes.{code_of}
-use Rattle.shogi_core.specs.Pieces.{number_of}
+use Rattle.shogi_core.specs.Pieces.{kind_number}
 use Rattle.shogi_core.specs.Position.{Shogi}
 use Rattle.shogi_moves.specs.declared.sweep.BoardSweep.{BoardSweep}
 use Rattle.shogi_moves.specs.declared.sweep.DropSweep.{DropSweep}
@@ -24,15 +25,15 @@ pub record Keeps (test : ℕ → Bool) (place : ℕ → ℕ) (code mask : ℕ) :
 
 -- the ends still to come of the piece on a square
 pub record KeepsBoard (p : Shogi) (capture : Bool) (from code plain promoting : ℕ) : Type 0 where
-  pub low : from * 162 ≤ code
-  pub high : code ≤ from * 162 + 162
+  pub low : from * SQUARE_CODES ≤ code
+  pub high : code ≤ from * SQUARE_CODES + SQUARE_CODES
   pub plains : Keeps (is_wanted p capture) (λ n. code_of (Board from n false)) code plain
   pub promotings : Keeps (is_wanted p capture) (λ n. code_of (Board from n true)) code promoting
 
 -- the ends still to come of a held kind
 pub record KeepsDrop (p : Shogi) (kind : Kind) (code ends : ℕ) : Type 0 where
-  pub low : 13122 + number_of kind * 81 ≤ code
-  pub high : code ≤ 13203 + number_of kind * 81
+  pub low : FIRST_DROP + kind_number kind * 81 ≤ code
+  pub high : code ≤ FIRST_DROP + 81 + kind_number kind * 81
   pub drops : Keeps (is_wanted p false) (λ n. code_of (Drop kind n)) code ends
 
 -- the same of what a sweep holds, with what is known of the position

@@ -56,6 +56,7 @@ pub fn cells_after(board: &Board, side: Color, m: &Move) -> Board
     cells
 }
 
+/// The hands with what the side captured, as its unpromoted kind.
 fn with_captured(hands: Hands, side: Color, cell: Option<Piece>) -> Hands
     requires { (kind : Kind) → held hands side kind < 255 }
     ensures { result ≡ with_captured hands side cell }
@@ -67,14 +68,15 @@ fn with_captured(hands: Hands, side: Color, cell: Option<Piece>) -> Hands
     hands.with(side, kind, hands.count(side, kind) + 1)
 }
 
+/// The position after a safe move of a piece on the board.
 #[tactic(auto, using(crate::proofs::Keeps::no_fault_after_board))]
 fn after_board(p: &Position, from: Square, to: Square, promote: bool) -> Position
     requires { is_safe p.now (moves.Board from to promote) ≡ true }
     ensures { result ≡ after p.now (moves.Board from to promote) }
 {
     p.validity();
-    from.index();
-    to.index();
+    from.validity();
+    to.validity();
     let (piece, taken) = (p.at(from), p.at(to));
     let mut board = p.board();
     board.set(from, None);
@@ -83,13 +85,14 @@ fn after_board(p: &Position, from: Square, to: Square, promote: bool) -> Positio
     Position::of_valid(board, hands, p.side().opponent())
 }
 
+/// The position after a safe drop.
 #[tactic(auto, using(crate::proofs::Keeps::no_fault_after_drop))]
 fn after_drop(p: &Position, kind: Kind, to: Square) -> Position
     requires { is_safe p.now (moves.Drop kind to) ≡ true }
     ensures { result ≡ after p.now (moves.Drop kind to) }
 {
     p.validity();
-    to.index();
+    to.validity();
     let side = p.side();
     let mut board = p.board();
     board.set(to, dropped(side, kind));
@@ -119,6 +122,6 @@ pub fn apply(p: &Position, m: Move) -> Position
 {
     let position = apply_safe(p, &m);
     position.validity();
-    m.code();
+    m.validity();
     position
 }

@@ -1,6 +1,7 @@
 //! The legal captures, and the other legal moves, in the order of their codes.
 
 ghost use Rattle.std.specs.Prelude.{◌≡◌, ◌≤◌, ◌<◌, ◌*◌, ◌+◌, true, false, [], ◌∷◌, IfSome, IsNone, MatchOption, Some, is_some, filter};
+ghost use Rattle.shogi_core.specs.declared.moves.TheConstants.{MOVE_CODES, FIRST_DROP};
 ghost use Rattle.shogi_core.specs.Codes.{code_of};
 ghost use Rattle.shogi_core.specs.Movement.{piece_at};
 ghost use Rattle.shogi_moves.specs.Captures.{captures, is_asked, is_of_sort, is_wanted, HasNoneWanted};
@@ -9,7 +10,7 @@ ghost use Rattle.shogi_moves.specs.LegalMoves.{legal_from, legal_above};
 
 use crate::legal::is_legal_move;
 use crate::safe::skip;
-use shogi_core::{Move, Position, Square, is_of};
+use shogi_core::{MOVE_CODES, Move, Position, SQUARE_CODES, Square, is_of};
 
 /// Whether the move takes a piece.
 fn is_capture(p: &Position, m: &Move) -> bool
@@ -34,12 +35,12 @@ fn is_asked(capture: bool, takes: bool) -> bool
 fn skip_targets(p: &Position, capture: bool, from: Square, to: Square, code: u16) -> u16
     requires code { ((from * 81 + to) * 2 ≤ code) × (code ≤ (from * 81 + to) * 2 + 1) }
     requires other { is_asked capture (is_some (piece_at p.now.cells to)) ≡ false }
-    ensures bounds { (code < result) × (result ≤ 13122) }
+    ensures range { (code < result) × (result ≤ FIRST_DROP) }
     ensures none { HasNoneWanted p.now capture code result }
 {
-    let first = from.index() as u16 * 162;
+    let first = from.index() as u16 * SQUARE_CODES;
     if !is_of(p.at(from), p.side()) {
-        return first + 162;
+        return first + SQUARE_CODES;
     }
     let mut next = to.index() + 1;
     'targets: while next < 81 && !is_asked(capture, p.at(Square::of_index(next)).is_some()) {
@@ -51,19 +52,19 @@ fn skip_targets(p: &Position, capture: bool, from: Square, to: Square, code: u16
 /// The end of the codes, where drops are not of the sort.
 #[tactic(auto, using(crate::proofs::CaptureLaws::none_drop))]
 fn skip_drops(p: &Position, capture: bool, code: u16) -> u16
-    requires code { (13122 ≤ code) × (code < 13689) }
+    requires code { (FIRST_DROP ≤ code) × (code < MOVE_CODES) }
     requires other { is_asked capture false ≡ false }
-    ensures bounds { (code < result) × (result ≤ 13689) }
+    ensures range { (code < result) × (result ≤ MOVE_CODES) }
     ensures none { HasNoneWanted p.now capture code result }
 {
-    13689
+    MOVE_CODES
 }
 
 /// The first code from the given one on that is worth a test.
 #[tactic(auto, using(crate::proofs::CaptureLaws::idle))]
 fn skip_sort(p: &Position, capture: bool, code: u16) -> u16
-    requires { code < 13689 }
-    ensures bounds { (code ≤ result) × (result ≤ 13689) }
+    requires { code < MOVE_CODES }
+    ensures range { (code ≤ result) × (result ≤ MOVE_CODES) }
     ensures none { HasNoneWanted p.now capture code result }
 {
     let Some(m) = Move::of_code(code) else {
@@ -75,7 +76,7 @@ fn skip_sort(p: &Position, capture: bool, code: u16) -> u16
     match &m {
         Move::Board { from, to, .. } => skip_targets(p, capture, *from, *to, code),
         Move::Drop { to, .. } => {
-            to.index();
+            to.validity();
             skip_drops(p, capture, code)
         }
     }
@@ -100,12 +101,12 @@ fn wanted_of(p: &Position, capture: bool, code: u16) -> Option<Move>
 /// The legal move of the sort of least code from the given one on.
 #[tactic(auto, using(crate::proofs::CaptureLaws::steps))]
 fn least_wanted(p: &Position, capture: bool, first: u16) -> Option<Move>
-    requires { first ≤ 13689 }
+    requires { first ≤ MOVE_CODES }
     ensures next { MatchOption result (filter (is_of_sort p.now capture) (legal_from p.now first) ≡ []) (λ m. filter (is_of_sort p.now capture) (legal_from p.now first) ≡ code_of m ∷ filter (is_of_sort p.now capture) (legal_from p.now (code_of m + 1))) }
     ensures legal { IfSome result (λ m. is_legal p.now m ≡ true) }
 {
     let mut code = first;
-    'codes: while code < 13689 {
+    'codes: while code < MOVE_CODES {
         let next = skip_sort(p, capture, code);
         if next == code {
             if let Some(m) = wanted_of(p, capture, code) {
@@ -119,8 +120,8 @@ fn least_wanted(p: &Position, capture: bool, first: u16) -> Option<Move>
     None
 }
 
-/// As `next_legal`, among the captures alone where `capture` holds, and else among the other moves.
-pub fn next_legal_of(p: &Position, capture: bool, after: Option<Move>) -> Option<Move>
+/// The legal move of the sort of least code above that of `after`, or of least code.
+fn next_of_sort(p: &Position, capture: bool, after: Option<Move>) -> Option<Move>
     ensures next { MatchOption result (filter (is_of_sort p.now capture) (legal_above p.now after) ≡ []) (λ m. filter (is_of_sort p.now capture) (legal_above p.now after) ≡ code_of m ∷ filter (is_of_sort p.now capture) (legal_above p.now (Some m))) }
     ensures legal { IfSome result (λ m. is_legal p.now m ≡ true) }
 {
@@ -128,4 +129,20 @@ pub fn next_legal_of(p: &Position, capture: bool, after: Option<Move>) -> Option
         None => least_wanted(p, capture, 0),
         Some(m) => least_wanted(p, capture, m.code() + 1),
     }
+}
+
+/// As `next_legal`, among the captures alone.
+pub fn next_capture(p: &Position, after: Option<Move>) -> Option<Move>
+    ensures next { MatchOption result (filter (is_of_sort p.now true) (legal_above p.now after) ≡ []) (λ m. filter (is_of_sort p.now true) (legal_above p.now after) ≡ code_of m ∷ filter (is_of_sort p.now true) (legal_above p.now (Some m))) }
+    ensures legal { IfSome result (λ m. is_legal p.now m ≡ true) }
+{
+    next_of_sort(p, true, after)
+}
+
+/// As `next_legal`, among the moves that capture nothing.
+pub fn next_quiet(p: &Position, after: Option<Move>) -> Option<Move>
+    ensures next { MatchOption result (filter (is_of_sort p.now false) (legal_above p.now after) ≡ []) (λ m. filter (is_of_sort p.now false) (legal_above p.now after) ≡ code_of m ∷ filter (is_of_sort p.now false) (legal_above p.now (Some m))) }
+    ensures legal { IfSome result (λ m. is_legal p.now m ≡ true) }
+{
+    next_of_sort(p, false, after)
 }

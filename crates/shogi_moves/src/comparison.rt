@@ -1,9 +1,11 @@
 //! The bodies by masks against the plain ones, on worked positions and on those of a played game.
 
 use crate::tests::{position, read};
-use crate::{Walk, apply, has_legal, in_check, is_legal, next_legal, next_legal_of, perft, plain};
+use crate::{
+    Walk, has_legal, in_check, is_legal, next_capture, next_legal, next_quiet, perft, plain, play,
+};
 use shogi_core::Color::{Black, White};
-use shogi_core::{Color, Move, Position, Square};
+use shogi_core::{Color, MOVE_CODES, Move, Position, Square};
 use std::process::Abort;
 use std::test::Fail;
 
@@ -31,7 +33,7 @@ fn assert_moves(rt: &impl Abort, p: &Position, at: usize) {
     let mut walk = Walk::new(p);
     let (mut passed, mut taken, mut quiet) = (None, None, None);
     let mut count: u64 = 0;
-    for code in 0..13689u16 {
+    for code in 0..MOVE_CODES {
         let m = Move::of_code(code).expect(rt, "a move");
         let legal = plain::is_legal(p, &m);
         assert!(rt; is_legal(p, m) == legal, "the move {code} in position {at}");
@@ -48,10 +50,10 @@ fn assert_moves(rt: &impl Abort, p: &Position, at: usize) {
             );
             let capture = plain::takes(p, &m);
             if capture {
-                taken = next_legal_of(p, true, taken);
+                taken = next_capture(p, taken);
                 assert!(rt; taken == Some(m), "the capture {code} in position {at}");
             } else {
-                quiet = next_legal_of(p, false, quiet);
+                quiet = next_quiet(p, quiet);
                 assert!(rt; quiet == Some(m), "the quiet move {code} in position {at}");
             }
         }
@@ -61,11 +63,11 @@ fn assert_moves(rt: &impl Abort, p: &Position, at: usize) {
         "position {at}"
     );
     assert!(rt;
-        next_legal_of(p, true, taken).is_none(),
+        next_capture(p, taken).is_none(),
         "no capture more in position {at}"
     );
     assert!(rt;
-        next_legal_of(p, false, quiet).is_none(),
+        next_quiet(p, quiet).is_none(),
         "no quiet move more in position {at}"
     );
     assert!(rt;
@@ -151,12 +153,7 @@ fn worked_positions(rt: HostRuntime) -> Result<(), Fail> {
     let mut p = Position::start();
     assert_same(&rt, &p, 100);
     for text in [b"7g7f ", b"3c3d ", b"8h2b+", b"3a2b "] {
-        let m = read(text);
-        let again = m;
-        if !is_legal(&p, m) {
-            return Err(Fail::from("a legal move"));
-        }
-        p = apply(&p, again);
+        p = play(&p, read(text)).ok_or("a legal move")?;
         assert_same(&rt, &p, 101);
     }
     Ok(())
@@ -168,9 +165,7 @@ fn played_positions(rt: HostRuntime) {
     for (at, code) in GAME.iter().enumerate() {
         assert_same(&rt, &p, at);
         let m = Move::of_code(*code).expect(&rt, "a move");
-        let tried = m;
-        assert!(rt; is_legal(&p, tried), "the move {code}");
-        p = apply(&p, m);
+        p = play(&p, m).expect(&rt, "a legal move");
     }
     assert!(rt; !has_legal(&p), "the end of the game");
     assert_same(&rt, &p, 101);

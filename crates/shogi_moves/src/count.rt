@@ -1,7 +1,8 @@
 //! Counting sequences of legal moves.
 
-ghost use Rattle.std.specs.Prelude.{◌≡◌, ◌≤◌, ◌<◌, ◌^◌, ◌+◌, ◌↔◌, IfSome, IsNone, length};
-ghost use Rattle.shogi_moves.specs.LegalMoves.{legal_from, legal_moves, paths};
+ghost use Rattle.std.specs.Prelude.{◌≡◌, ◌≤◌, ◌<◌, ◌^◌, ◌+◌, ◌-◌, ◌↔◌, IfSome, IsNone, length};
+ghost use Rattle.shogi_core.specs.declared.moves.TheConstants.{MOVE_CODES, FIRST_DROP};
+ghost use Rattle.shogi_moves.specs.LegalMoves.{legal_from, legal_moves, perft};
 ghost use Rattle.shogi_moves.specs.Guards.{Guards};
 
 use crate::after::apply;
@@ -15,8 +16,8 @@ use shogi_core::{Kind, Position, Square};
 /// How many board moves are legal.
 fn count_board(p: &Position, guard: &Guard) -> u64
     requires guard { Guards p.now guard.now.checked guard.now.exposed }
-    ensures count { result + length (legal_from p.now 13122) ≡ length (legal_moves p.now) }
-    ensures bound { result ≤ 13122 }
+    ensures count { result + length (legal_from p.now FIRST_DROP) ≡ length (legal_moves p.now) }
+    ensures range { result ≤ FIRST_DROP }
 {
     let own = p.own(p.side());
     let mut total: u64 = 0;
@@ -32,8 +33,8 @@ fn count_board(p: &Position, guard: &Guard) -> u64
 /// How many drops are legal.
 fn count_drops(p: &Position, guard: &Guard) -> u64
     requires guard { Guards p.now guard.now.checked guard.now.exposed }
-    ensures count { result ≡ length (legal_from p.now 13122) }
-    ensures bound { result ≤ 567 }
+    ensures count { result ≡ length (legal_from p.now FIRST_DROP) }
+    ensures range { result ≤ MOVE_CODES - FIRST_DROP }
 {
     let mut kind = Kind::Pawn;
     let mut total = drop_ends(p, guard, kind).count_ones() as u64;
@@ -46,8 +47,8 @@ fn count_drops(p: &Position, guard: &Guard) -> u64
 
 /// How many moves are legal.
 fn count_legal(p: &Position) -> u64
-    ensures count { result ≡ paths p.now 1 }
-    ensures bound { result < 2 ^ 64 }
+    ensures count { result ≡ perft p.now 1 }
+    ensures range { result < 2 ^ 64 }
 {
     let guard = guard_of(p);
     count_board(p, &guard) + count_drops(p, &guard)
@@ -55,11 +56,11 @@ fn count_legal(p: &Position) -> u64
 
 /// How many sequences of n legal moves there are from the position, with `None` exactly where the
 /// number passes the greatest `u64`.
-#[tactic(auto, using(crate::proofs::Paths::steps))]
+#[tactic(auto, using(crate::proofs::PerftLaws::steps))]
 pub fn perft(p: &Position, n: u8) -> Option<u64>
     requires { n ≤ 16 }
-    ensures count { IfSome result (λ count. count ≡ paths p.now n) }
-    ensures none { IsNone result ↔ (2 ^ 64 ≤ paths p.now n) }
+    ensures count { IfSome result (λ count. count ≡ perft p.now n) }
+    ensures none { IsNone result ↔ (2 ^ 64 ≤ perft p.now n) }
 {
     if n == 0 {
         return Some(1);

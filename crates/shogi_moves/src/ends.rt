@@ -3,7 +3,7 @@
 ghost use Rattle.std.specs.Prelude.{◌≡◌, ◌≢◌, ◌<◌, ◌^◌, ◌&&◌, ℕ, not, true, false, None, slice_set};
 ghost use Rattle.shogi_core.specs.declared.moves.Move.TheVariants as moves;
 ghost use Rattle.shogi_core.specs.declared.piece.Kind.TheVariants as kinds;
-ghost use Rattle.shogi_moves.specs.Legal.{is_legal_code, is_right_drop, is_safe, is_pawn_mate};
+ghost use Rattle.shogi_moves.specs.Legal.{is_legal_code, is_pseudo_legal_drop, is_safe, is_pawn_drop_mate};
 ghost use Rattle.shogi_core.specs.Attack.{in_check};
 ghost use Rattle.shogi_core.specs.Bits.{has_bit};
 ghost use Rattle.shogi_core.specs.Cell.{is_of, is_king};
@@ -15,7 +15,7 @@ ghost use Rattle.shogi_moves.specs.Guards.{Guards};
 
 use crate::after::{cells_after, dropped};
 use crate::guard::{Guard, is_calm};
-use crate::legal::{is_pawn_kind, is_pawn_mate};
+use crate::legal::{is_pawn_drop_mate, is_pawn_kind};
 use crate::zones::{dead_squares, pawn_files, promoting_squares};
 use shogi_core::bits::{cleared, has, lowest};
 use shogi_core::{Board, Kind, Move, Piece, Position, Role, Square, step_squares};
@@ -88,8 +88,8 @@ fn is_king_safe(p: &Position, lifted: &Board, from: Square, to: Square) -> bool
     ensures { result ≡ is_unchecked p.now (moves.Board from to false) }
 {
     p.validity();
-    from.index();
-    to.index();
+    from.validity();
+    to.validity();
     if !lifted.is_attacked(p.side().opponent(), to) {
         return true;
     }
@@ -133,7 +133,7 @@ fn safe_ends(p: &Position, guard: &Guard, from: Square, ends: u128) -> u128
     ensures fits { result < 2 ^ 81 }
 {
     p.validity();
-    from.index();
+    from.validity();
     if is_calm(guard, from) {
         return ends;
     }
@@ -165,7 +165,7 @@ pub fn board_ends(p: &Position, guard: &Guard, capture: bool, from: Square) -> E
     ensures promoting_fits { result.promoting < 2 ^ 81 }
 {
     p.validity();
-    from.index();
+    from.validity();
     let among = p.targets(from) & ends_of_sort(p, capture);
     let ends = safe_ends(p, guard, from, among);
     let piece = p.at(from);
@@ -186,7 +186,7 @@ pub fn legal_ends(p: &Position, guard: &Guard, from: Square) -> Ends
     ensures promoting_fits { result.promoting < 2 ^ 81 }
 {
     p.validity();
-    from.index();
+    from.validity();
     let own = p.own(p.side());
     let among = p.targets(from) & !own;
     let ends = safe_ends(p, guard, from, among);
@@ -199,8 +199,8 @@ pub fn legal_ends(p: &Position, guard: &Guard, from: Square) -> Ends
 
 /// Where one of the held pieces may be dropped by the rules on drops, apart from checks.
 #[tactic(auto, using(crate::proofs::EndLaws::dropping))]
-fn right_drops(p: &Position, kind: Kind) -> u128
-    ensures bits { (n : ℕ) → n < 81 → has_bit result n ≡ is_right_drop p.now.cells p.now.hands p.now.side kind n }
+fn pseudo_legal_drops(p: &Position, kind: Kind) -> u128
+    ensures bits { (n : ℕ) → n < 81 → has_bit result n ≡ is_pseudo_legal_drop p.now.cells p.now.hands p.now.side kind n }
     ensures fits { result < 2 ^ 81 }
 {
     let side = p.side();
@@ -246,7 +246,7 @@ fn safe_drops(p: &Position, guard: &Guard, kind: Kind) -> u128
     ensures fits { result < 2 ^ 81 }
 {
     p.validity();
-    let ends = right_drops(p, kind);
+    let ends = pseudo_legal_drops(p, kind);
     if guard.checked {
         tried_drops(p, kind, ends & guard.exposed)
     } else {
@@ -258,7 +258,7 @@ fn safe_drops(p: &Position, guard: &Guard, kind: Kind) -> u128
 #[tactic(auto, using(crate::proofs::DropChecks::facing))]
 fn facing_squares(p: &Position) -> u128
     ensures fits { result < 2 ^ 81 }
-    ensures far { (n : ℕ) → n < 81 → has_bit result n ≡ false → not (is_pawn_mate p.now (moves.Drop kinds.Pawn n)) ≡ true }
+    ensures far { (n : ℕ) → n < 81 → has_bit result n ≡ false → not (is_pawn_drop_mate p.now (moves.Drop kinds.Pawn n)) ≡ true }
 {
     p.validity();
     let opponent = p.side().opponent();
@@ -281,7 +281,7 @@ fn facing_squares(p: &Position) -> u128
 fn fair_drops(p: &Position, ends: u128) -> u128
     requires fits { ends < 2 ^ 81 }
     requires safe { (n : ℕ) → n < 81 → has_bit ends n ≡ is_safe p.now (moves.Drop kinds.Pawn n) }
-    ensures bits { (n : ℕ) → n < 81 → has_bit result n ≡ (has_bit ends n && not (is_pawn_mate p.now (moves.Drop kinds.Pawn n))) }
+    ensures bits { (n : ℕ) → n < 81 → has_bit result n ≡ (has_bit ends n && not (is_pawn_drop_mate p.now (moves.Drop kinds.Pawn n))) }
     ensures fits { result < 2 ^ 81 }
 {
     let mut left = ends & facing_squares(p);
@@ -292,7 +292,7 @@ fn fair_drops(p: &Position, ends: u128) -> u128
             kind: Kind::Pawn,
             to: Square::of_index(to),
         };
-        if is_pawn_mate(p, &m) {
+        if is_pawn_drop_mate(p, &m) {
             kept = cleared(kept, to);
         }
         left = cleared(left, to);

@@ -1,6 +1,7 @@
 //! Whether some move is legal.
 
-ghost use Rattle.std.specs.Prelude.{◌≡◌, ◌≢◌, ◌↔◌, true, false, [], IsTrue};
+ghost use Rattle.std.specs.Prelude.{◌≡◌, ◌+◌, ◌≢◌, ◌↔◌, true, false, [], IsTrue};
+ghost use Rattle.shogi_core.specs.declared.moves.TheConstants.{FIRST_DROP};
 ghost use Rattle.shogi_moves.specs.Guards.{Guards};
 ghost use Rattle.shogi_moves.specs.LegalMoves.{legal_from, legal_moves};
 
@@ -14,7 +15,7 @@ use shogi_core::{Kind, Position, Square};
 fn has_board_move(p: &Position, guard: &Guard) -> bool
     requires { Guards p.now guard.now.checked guard.now.exposed }
     ensures some { result ≡ true → legal_moves p.now ≢ [] }
-    ensures none { result ≡ false → legal_moves p.now ≡ legal_from p.now 13122 }
+    ensures none { result ≡ false → legal_moves p.now ≡ legal_from p.now FIRST_DROP }
 {
     let own = p.own(p.side());
     let mut square = next_of(own, 0);
@@ -32,7 +33,7 @@ fn has_board_move(p: &Position, guard: &Guard) -> bool
 fn has_piece_drop(p: &Position, guard: &Guard) -> bool
     requires { Guards p.now guard.now.checked guard.now.exposed }
     ensures some { result ≡ true → legal_moves p.now ≢ [] }
-    ensures none { result ≡ false → legal_from p.now 13203 ≡ [] }
+    ensures none { result ≡ false → legal_from p.now (FIRST_DROP + 81) ≡ [] }
 {
     let mut kind = Kind::Pawn;
     'kinds: while let Some(next) = next_kind(kind) {
@@ -48,7 +49,7 @@ fn has_piece_drop(p: &Position, guard: &Guard) -> bool
 fn has_pawn_drop(p: &Position, guard: &Guard) -> bool
     requires { Guards p.now guard.now.checked guard.now.exposed }
     ensures some { result ≡ true → legal_moves p.now ≢ [] }
-    ensures none { result ≡ false → legal_from p.now 13122 ≡ legal_from p.now 13203 }
+    ensures none { result ≡ false → legal_from p.now FIRST_DROP ≡ legal_from p.now (FIRST_DROP + 81) }
 {
     drop_ends(p, guard, Kind::Pawn) != 0
 }

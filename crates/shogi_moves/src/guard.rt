@@ -5,7 +5,7 @@ ghost use Rattle.shogi_core.specs.Attack.{in_check};
 ghost use Rattle.shogi_core.specs.Bits.{has_bit};
 ghost use Rattle.shogi_moves.specs.Guards.{Guards, Exposes};
 
-use shogi_core::bits::{cleared, has, lowest};
+use shogi_core::bits::{ALL_SQUARES, cleared, has, lowest};
 use shogi_core::{Color, Position, Square};
 
 /// Whether the side to move is in check, and a mask with its king: in check also the squares on open
@@ -91,7 +91,7 @@ pub fn rough_guard(p: &Position) -> Guard
 {
     Guard {
         checked: p.in_check(p.side()),
-        exposed: 2417851639229258349412351,
+        exposed: ALL_SQUARES,
     }
 }
 
@@ -99,6 +99,6 @@ pub fn rough_guard(p: &Position) -> Guard
 pub fn is_calm(guard: &Guard, from: Square) -> bool
     ensures { result ≡ (not guard.now.checked && not (has_bit guard.now.exposed from)) }
 {
-    from.index();
+    from.validity();
     !guard.checked && !has(guard.exposed, from.index())
 }

@@ -1,20 +1,22 @@
 //! Which moves are legal.
 
-ghost use Rattle.std.specs.Prelude.{◌≡◌, ◌↔◌, IsTrue, true};
+ghost use Rattle.std.specs.Prelude.{◌≡◌, ◌↔◌, IsTrue, true, if◌then◌else◌, Some, None};
 ghost use Rattle.shogi_core.specs.Codes.{code_of};
-ghost use Rattle.shogi_moves.specs.Legal.{is_legal, is_safe, is_right, is_right_board_move, is_right_drop, may_promote, is_pawn_kind, is_mated, is_pawn_drop, is_pawn_mate, can_promote, in_zone};
+ghost use Rattle.shogi_moves.specs.After.{after};
+ghost use Rattle.shogi_moves.specs.Legal.{is_legal, is_safe, is_pseudo_legal, is_pseudo_legal_board_move, is_pseudo_legal_drop, may_promote, is_pawn_kind, is_mated, is_pawn_drop, is_pawn_drop_mate, can_promote, in_zone};
 ghost use Rattle.shogi_core.specs.declared.moves.Move.TheVariants as moves;
 ghost use Rattle.shogi_moves.specs.Candidates.{is_candidate};
 ghost use Rattle.shogi_moves.specs.Guards.{Guards};
 ghost use Rattle.shogi_moves.specs.LegalMoves.{legal_moves};
 ghost use Rattle.shogi_moves.specs.Rising.{is_in};
 
-use crate::after::{apply_safe, cells_after, dropped, moved};
+use crate::after::{apply, apply_safe, cells_after, dropped, moved};
 use crate::attack::in_check;
 use crate::guard::{Guard, is_calm};
 use crate::safe::has_safe;
 use shogi_core::{Color, Kind, Move, Piece, Position, Role, Square, is_dead, is_of};
 
+/// Whether a piece of the role can promote.
 pub fn can_promote(role: Role) -> bool
     ensures { result ≡ can_promote role }
 {
@@ -24,6 +26,7 @@ pub fn can_promote(role: Role) -> bool
     )
 }
 
+/// Whether the square lies on the three ranks in which the side promotes.
 pub fn in_zone(color: Color, square: Square) -> bool
     ensures { result ≡ in_zone color square }
 {
@@ -33,6 +36,7 @@ pub fn in_zone(color: Color, square: Square) -> bool
     }
 }
 
+/// Whether what stands there may promote by a move between the squares.
 fn may_promote(cell: Option<Piece>, from: Square, to: Square) -> bool
     ensures { result ≡ may_promote cell from to }
 {
@@ -43,14 +47,16 @@ fn may_promote(cell: Option<Piece>, from: Square, to: Square) -> bool
     }
 }
 
+/// Whether it is the pawn.
 pub fn is_pawn_kind(kind: Kind) -> bool
     ensures { result ≡ is_pawn_kind kind }
 {
     matches!(kind, Kind::Pawn)
 }
 
-fn is_right_board_move(p: &Position, from: Square, to: Square, promote: bool) -> bool
-    ensures { result ≡ is_right_board_move p.now.cells p.now.side from to promote }
+/// Whether the move of a piece on the board obeys the rules, apart from checks.
+fn is_pseudo_legal_board_move(p: &Position, from: Square, to: Square, promote: bool) -> bool
+    ensures { result ≡ is_pseudo_legal_board_move p.now.cells p.now.side from to promote }
 {
     let side = p.side();
     let piece = p.at(from);
@@ -61,8 +67,9 @@ fn is_right_board_move(p: &Position, from: Square, to: Square, promote: bool) ->
         && !is_dead(moved(piece, promote), to.index())
 }
 
-fn is_right_drop(p: &Position, kind: Kind, to: Square) -> bool
-    ensures { result ≡ is_right_drop p.now.cells p.now.hands p.now.side kind to }
+/// Whether the drop obeys the rules, apart from checks and mate by a pawn.
+fn is_pseudo_legal_drop(p: &Position, kind: Kind, to: Square) -> bool
+    ensures { result ≡ is_pseudo_legal_drop p.now.cells p.now.hands p.now.side kind to }
 {
     let side = p.side();
     p.hand(side, kind) > 0
@@ -71,12 +78,13 @@ fn is_right_drop(p: &Position, kind: Kind, to: Square) -> bool
         && !(is_pawn_kind(kind) && p.as_board().pawns_on_file(side, to.index() / 9) > 0)
 }
 
-fn is_right(p: &Position, m: &Move) -> bool
-    ensures { result ≡ is_right p.now m.now }
+/// Whether the move obeys the rules, apart from checks and mate by the drop of a pawn.
+fn is_pseudo_legal(p: &Position, m: &Move) -> bool
+    ensures { result ≡ is_pseudo_legal p.now m.now }
 {
     match m {
-        Move::Board { from, to, promote } => is_right_board_move(p, *from, *to, *promote),
-        Move::Drop { kind, to } => is_right_drop(p, *kind, *to),
+        Move::Board { from, to, promote } => is_pseudo_legal_board_move(p, *from, *to, *promote),
+        Move::Drop { kind, to } => is_pseudo_legal_drop(p, *kind, *to),
     }
 }
 
@@ -85,14 +93,14 @@ fn is_right(p: &Position, m: &Move) -> bool
 pub fn is_safe(p: &Position, m: &Move) -> bool
     ensures { result ≡ is_safe p.now m.now }
 {
-    is_right(p, m) && !cells_after(p.as_board(), p.side(), m).in_check(p.side())
+    is_pseudo_legal(p, m) && !cells_after(p.as_board(), p.side(), m).in_check(p.side())
 }
 
 /// Whether the candidate obeys the rules on promotion, and so all rules apart from checks.
 #[tactic(auto, using(crate::proofs::RunLaws::candidate_right))]
-fn is_right_candidate(p: &Position, from: Square, to: Square, promote: bool) -> bool
+fn is_pseudo_legal_candidate(p: &Position, from: Square, to: Square, promote: bool) -> bool
     requires { is_candidate p.now (moves.Board from to promote) ≡ true }
-    ensures { result ≡ is_right_board_move p.now.cells p.now.side from to promote }
+    ensures { result ≡ is_pseudo_legal_board_move p.now.cells p.now.side from to promote }
 {
     let piece = p.at(from);
     (!promote || may_promote(piece, from, to)) && !is_dead(moved(piece, promote), to.index())
@@ -108,31 +116,33 @@ pub fn is_safe_guarded(p: &Position, guard: &Guard, m: &Move) -> bool
     p.validity();
     match m {
         Move::Board { from, to, promote } => {
-            from.index();
-            to.index();
-            let right = is_right_candidate(p, *from, *to, *promote);
+            from.validity();
+            to.validity();
+            let allowed = is_pseudo_legal_candidate(p, *from, *to, *promote);
             if is_calm(guard, *from) {
-                return right;
+                return allowed;
             }
-            right && !cells_after(p.as_board(), p.side(), m).in_check(p.side())
+            allowed && !cells_after(p.as_board(), p.side(), m).in_check(p.side())
         }
         Move::Drop { kind, to } => {
-            to.index();
-            let right = is_right_drop(p, *kind, *to);
+            to.validity();
+            let allowed = is_pseudo_legal_drop(p, *kind, *to);
             if !guard.checked {
-                return right;
+                return allowed;
             }
-            right && !cells_after(p.as_board(), p.side(), m).in_check(p.side())
+            allowed && !cells_after(p.as_board(), p.side(), m).in_check(p.side())
         }
     }
 }
 
+/// Whether the side to move is in check and has no safe move.
 fn is_mated(p: &Position) -> bool
     ensures { result ≡ is_mated p.now }
 {
     in_check(p) && !has_safe(p)
 }
 
+/// Whether the move is the drop of a pawn.
 fn is_pawn_drop(m: &Move) -> bool
     ensures { result ≡ is_pawn_drop m.now }
 {
@@ -143,18 +153,19 @@ fn is_pawn_drop(m: &Move) -> bool
 }
 
 /// Whether the safe move mates by the drop of a pawn.
-pub fn is_pawn_mate(p: &Position, m: &Move) -> bool
+pub fn is_pawn_drop_mate(p: &Position, m: &Move) -> bool
     requires { is_safe p.now m.now ≡ true }
-    ensures { result ≡ is_pawn_mate p.now m.now }
+    ensures { result ≡ is_pawn_drop_mate p.now m.now }
 {
     is_pawn_drop(m) && is_mated(&apply_safe(p, m))
 }
 
+/// As `is_legal`, of a move that is lent.
 #[tactic(auto, unfolding(crate::specs::Legal::is_legal))]
 pub fn is_legal_move(p: &Position, m: &Move) -> bool
     ensures { result ≡ is_legal p.now m.now }
 {
-    is_safe(p, m) && !is_pawn_mate(p, m)
+    is_safe(p, m) && !is_pawn_drop_mate(p, m)
 }
 
 /// Whether the move is legal (JSA playing rules): it is one of the side to move, obeys the rules
@@ -166,6 +177,17 @@ pub fn is_legal(p: &Position, m: Move) -> bool
     ensures listed { IsTrue result ↔ (is_in (code_of m) (legal_moves p.now) ≡ true) }
 {
     let legal = is_legal_move(p, &m);
-    m.code();
+    m.validity();
     legal
+}
+
+/// The position after the move, or `None` where the move is not legal.
+pub fn play(p: &Position, m: Move) -> Option<Position>
+    ensures { result ≡ (if is_legal p.now m then Some (after p.now m) else None) }
+{
+    if is_legal_move(p, &m) {
+        Some(apply(p, m))
+    } else {
+        None
+    }
 }

@@ -24,11 +24,11 @@ mod zones;
 
 pub use after::apply;
 pub use attack::{in_check, is_attacked};
-pub use capture::next_legal_of;
+pub use capture::{next_capture, next_quiet};
 pub use count::perft;
 pub use existence::has_legal;
 pub use guard::{Guard, guard_of};
-pub use legal::is_legal;
+pub use legal::{is_legal, play};
 pub use next::next_legal;
 pub use replies::Replies;
 pub use sweep::{BoardSweep, DropSweep};

@@ -1,6 +1,7 @@
 //! The legal moves in the order of their codes.
 
 ghost use Rattle.std.specs.Prelude.{◌≡◌, ◌≤◌, ◌<◌, ◌+◌, true, [], ◌∷◌, IfSome, MatchOption, Some};
+ghost use Rattle.shogi_core.specs.declared.moves.TheConstants.{MOVE_CODES};
 ghost use Rattle.shogi_core.specs.Codes.{code_of};
 ghost use Rattle.shogi_moves.specs.Guards.{Guards};
 ghost use Rattle.shogi_moves.specs.Legal.{is_legal};
@@ -8,22 +9,22 @@ ghost use Rattle.shogi_moves.specs.LegalMoves.{legal_from, legal_above, legal_mo
 ghost use Rattle.shogi_moves.specs.Rising.{IsRising};
 
 use crate::guard::{Guard, guard_of};
-use crate::legal::is_pawn_mate;
+use crate::legal::is_pawn_drop_mate;
 use crate::safe::least_guarded;
 use shogi_core::{Move, Position};
 
 /// The legal move of least code from the given one on.
 #[tactic(auto, using(crate::proofs::NextLaws::steps))]
 pub fn least_from(p: &Position, guard: &Guard, first: u16) -> Option<Move>
-    requires first { first ≤ 13689 }
+    requires first { first ≤ MOVE_CODES }
     requires guard { Guards p.now guard.now.checked guard.now.exposed }
-    ensures code { IfSome result (λ m. code_of m < 13689) }
+    ensures code { IfSome result (λ m. code_of m < MOVE_CODES) }
     ensures next { MatchOption result (legal_from p.now first ≡ []) (λ m. legal_from p.now first ≡ code_of m ∷ legal_from p.now (code_of m + 1)) }
     ensures legal { IfSome result (λ m. is_legal p.now m ≡ true) }
 {
     let mut code = first;
     while let Some(m) = least_guarded(p, guard, code) {
-        if !is_pawn_mate(p, &m) {
+        if !is_pawn_drop_mate(p, &m) {
             return Some(m);
         }
         code = m.code() + 1;

@@ -1,7 +1,9 @@
 //! The rules by plain bodies, to compare with: lines are walked square by square, the board is
 //! scanned for attacks, and each move is made to see what it leaves.
 
-use shogi_core::{Board, Color, Kind, Move, Piece, Position, Role, Square, is_dead, is_of};
+use shogi_core::{
+    Board, Color, Kind, MOVE_CODES, Move, Piece, Position, Role, Square, is_dead, is_of,
+};
 
 fn steps(piece: Piece, from: Square, to: Square) -> bool {
     for offset in piece.role.steps() {
@@ -84,7 +86,7 @@ fn stands_after(piece: Piece, promote: bool) -> Option<Piece> {
     })
 }
 
-fn is_right_board_move(p: &Position, from: Square, to: Square, promote: bool) -> bool {
+fn is_pseudo_legal_board_move(p: &Position, from: Square, to: Square, promote: bool) -> bool {
     let Some(piece) = p.at(from) else {
         return false;
     };
@@ -101,7 +103,7 @@ fn is_right_board_move(p: &Position, from: Square, to: Square, promote: bool) ->
     !is_dead(Some(piece), to.index())
 }
 
-fn is_right_drop(p: &Position, kind: Kind, to: Square) -> bool {
+fn is_pseudo_legal_drop(p: &Position, kind: Kind, to: Square) -> bool {
     let side = p.side();
     let role = Role::from(kind);
     if p.hand(side, kind) == 0 || p.at(to).is_some() {
@@ -122,10 +124,10 @@ fn is_right_drop(p: &Position, kind: Kind, to: Square) -> bool {
     true
 }
 
-fn is_right(p: &Position, m: &Move) -> bool {
+fn is_pseudo_legal(p: &Position, m: &Move) -> bool {
     match m {
-        Move::Board { from, to, promote } => is_right_board_move(p, *from, *to, *promote),
-        Move::Drop { kind, to } => is_right_drop(p, *kind, *to),
+        Move::Board { from, to, promote } => is_pseudo_legal_board_move(p, *from, *to, *promote),
+        Move::Drop { kind, to } => is_pseudo_legal_drop(p, *kind, *to),
     }
 }
 
@@ -150,11 +152,11 @@ fn after(p: &Position, m: &Move) -> Board {
 }
 
 fn is_safe(p: &Position, m: &Move) -> bool {
-    is_right(p, m) && !in_check(&after(p, m), p.side())
+    is_pseudo_legal(p, m) && !in_check(&after(p, m), p.side())
 }
 
 fn has_safe(p: &Position) -> bool {
-    for code in 0..13689u16 {
+    for code in 0..MOVE_CODES {
         if let Some(m) = Move::of_code(code) {
             if is_safe(p, &m) {
                 return true;

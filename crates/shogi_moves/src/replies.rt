@@ -10,7 +10,7 @@ ghost use Rattle.shogi_moves.specs.LegalMoves.{legal_moves};
 ghost use Rattle.shogi_moves.specs.Replies.{is_open_step, is_spare, Sees, IsReplies};
 
 use crate::zones::dead_squares;
-use shogi_core::bits::{cleared, has, lowest};
+use shogi_core::bits::{ALL_SQUARES, cleared, has, lowest};
 use shogi_core::{Color, Move, Position, Square, step_squares};
 
 /// What is kept of a position to tell that after most of its moves the other side is in no check
@@ -45,7 +45,7 @@ fn has_open_step(p: &Position, side: Color, from: Square) -> bool
     match cell {
         None => false,
         Some(piece) => {
-            from.index();
+            from.validity();
             step_squares(piece, from.index()) & !p.own(side) & !dead_squares(cell) != 0
         }
     }
@@ -92,7 +92,7 @@ impl Replies {
     {
         let _ = p;
         Replies {
-            sight: 2417851639229258349412351,
+            sight: ALL_SQUARES,
             spare: 0,
         }
     }

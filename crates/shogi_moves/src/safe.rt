@@ -1,9 +1,10 @@
 //! The safe moves in the order of their codes: legal but for mate by the drop of a pawn.
 
 ghost use Rattle.std.specs.Prelude.{◌≡◌, ◌≤◌, ◌<◌, ◌*◌, ◌+◌, true, false, Bool, IfSome, IsNone, Some};
+ghost use Rattle.shogi_core.specs.declared.moves.TheConstants.{MOVE_CODES, FIRST_DROP};
 ghost use Rattle.shogi_core.specs.Codes.{code_of, move_of};
 ghost use Rattle.shogi_core.specs.Below.{some_below};
-ghost use Rattle.shogi_core.specs.Pieces.{number_of};
+ghost use Rattle.shogi_core.specs.Pieces.{kind_number};
 ghost use Rattle.shogi_moves.specs.Legal.{is_safe, is_safe_code};
 ghost use Rattle.shogi_core.specs.declared.moves.Move.{Move};
 ghost use Rattle.shogi_core.specs.declared.moves.Move.TheVariants as moves;
@@ -14,25 +15,25 @@ ghost use Rattle.shogi_moves.specs.NoSafe.{HasNoSafe};
 use crate::guard::{Guard, guard_of};
 use crate::legal::is_safe_guarded;
 use shogi_core::bits::next_of;
-use shogi_core::{Kind, Move, Position, Square};
+use shogi_core::{FIRST_DROP, Kind, MOVE_CODES, Move, Position, SQUARE_CODES, Square};
 
 /// The first code from that of the board move on which is worth a test: codes of a square
 /// without a piece of the side to move, and of a target that it cannot go to, are left out.
 #[tactic(auto, using(crate::proofs::RunLaws::board_runs, crate::proofs::NoSafeLaws::no_safe_here))]
 fn skip_board(p: &Position, from: Square, to: Square, code: u16) -> u16
     requires { ((from * 81 + to) * 2 ≤ code) × (code ≤ (from * 81 + to) * 2 + 1) }
-    ensures bounds { (code ≤ result) × (result ≤ 13122) }
+    ensures range { (code ≤ result) × (result ≤ FIRST_DROP) }
     ensures idle { HasNoSafe p.now code result }
     ensures candidate { (promote : Bool) → result ≡ code → is_candidate p.now (moves.Board from to promote) ≡ true }
 {
     let own = p.own(p.side());
     let square = next_of(own, from.index());
     if square != from.index() {
-        return square as u16 * 162;
+        return square as u16 * SQUARE_CODES;
     }
     let target = next_of(p.targets(from) & !own, to.index());
     if target != to.index() {
-        return (square * 162 + target * 2) as u16;
+        return square as u16 * SQUARE_CODES + target as u16 * 2;
     }
     code
 }
@@ -41,17 +42,17 @@ fn skip_board(p: &Position, from: Square, to: Square, code: u16) -> u16
 /// are not empty, are left out.
 #[tactic(auto, using(crate::proofs::NoSafeLaws::idle_drop, crate::proofs::RunLaws::run_drops, crate::proofs::NoSafeLaws::no_safe_here))]
 fn skip_drop(p: &Position, kind: Kind, to: Square, code: u16) -> u16
-    requires { code ≡ 13122 + number_of kind * 81 + to }
-    ensures bounds { (code ≤ result) × (result ≤ 13689) }
+    requires { code ≡ FIRST_DROP + kind_number kind * 81 + to }
+    ensures range { (code ≤ result) × (result ≤ MOVE_CODES) }
     ensures idle { HasNoSafe p.now code result }
 {
-    let first = 13122 + kind.number() * 81;
+    let first = FIRST_DROP + kind.number() as u16 * 81;
     if p.hand(p.side(), kind) == 0 {
-        return (first + 81) as u16;
+        return first + 81;
     }
     let target = next_of(p.free(), to.index());
     if target != to.index() {
-        return (first + target) as u16;
+        return first + target as u16;
     }
     code
 }
@@ -60,8 +61,8 @@ fn skip_drop(p: &Position, kind: Kind, to: Square, code: u16) -> u16
 #[inline(always)]
 #[tactic(auto, using(crate::proofs::NoSafeLaws::no_safe_here))]
 pub fn skip(p: &Position, code: u16) -> u16
-    requires { code < 13689 }
-    ensures bounds { (code ≤ result) × (result ≤ 13689) }
+    requires { code < MOVE_CODES }
+    ensures range { (code ≤ result) × (result ≤ MOVE_CODES) }
     ensures idle { HasNoSafe p.now code result }
     ensures candidate { (m : Move) → result ≡ code → move_of code ≡ Some m → is_candidate p.now m ≡ true }
 {
@@ -71,7 +72,7 @@ pub fn skip(p: &Position, code: u16) -> u16
     match &m {
         Move::Board { from, to, .. } => skip_board(p, *from, *to, code),
         Move::Drop { kind, to } => {
-            to.index();
+            to.validity();
             skip_drop(p, *kind, *to, code)
         }
     }
@@ -97,16 +98,16 @@ fn safe_of(p: &Position, guard: &Guard, code: u16) -> Option<Move>
 /// The safe move of least code from the given one on.
 #[tactic(auto, using(crate::proofs::NoSafeLaws::no_safe_here, crate::proofs::NoSafeLaws::no_safe_join, crate::proofs::NoSafeLaws::no_safe_one))]
 pub fn least_guarded(p: &Position, guard: &Guard, first: u16) -> Option<Move>
-    requires first { first ≤ 13689 }
+    requires first { first ≤ MOVE_CODES }
     requires guard { Guards p.now guard.now.checked guard.now.exposed }
-    ensures none { IsNone result → HasNoSafe p.now first 13689 }
+    ensures none { IsNone result → HasNoSafe p.now first MOVE_CODES }
     ensures idle { IfSome result (λ m. HasNoSafe p.now first (code_of m)) }
     ensures above { IfSome result (λ m. first ≤ code_of m) }
     ensures safe { IfSome result (λ m. is_safe p.now m ≡ true) }
     ensures back { IfSome result (λ m. move_of (code_of m) ≡ Some m) }
 {
     let mut code = first;
-    while code < 13689 {
+    while code < MOVE_CODES {
         let next = skip(p, code);
         if next == code {
             if let Some(m) = safe_of(p, guard, code) {
@@ -122,8 +123,8 @@ pub fn least_guarded(p: &Position, guard: &Guard, first: u16) -> Option<Move>
 
 /// The same, where nothing of the position is kept.
 pub fn least_safe(p: &Position, first: u16) -> Option<Move>
-    requires { first ≤ 13689 }
-    ensures none { IsNone result → HasNoSafe p.now first 13689 }
+    requires { first ≤ MOVE_CODES }
+    ensures none { IsNone result → HasNoSafe p.now first MOVE_CODES }
     ensures idle { IfSome result (λ m. HasNoSafe p.now first (code_of m)) }
     ensures above { IfSome result (λ m. first ≤ code_of m) }
     ensures safe { IfSome result (λ m. is_safe p.now m ≡ true) }
@@ -135,7 +136,7 @@ pub fn least_safe(p: &Position, first: u16) -> Option<Move>
 /// Whether some move is safe.
 #[tactic(auto, using(crate::proofs::NoSafeLaws::some_safe, crate::proofs::NoSafeLaws::no_safe))]
 pub fn has_safe(p: &Position) -> bool
-    ensures { result ≡ some_below 13689 (is_safe_code p.now) }
+    ensures { result ≡ some_below MOVE_CODES (is_safe_code p.now) }
 {
     least_safe(p, 0).is_some()
 }

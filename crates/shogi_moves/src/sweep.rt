@@ -1,12 +1,13 @@
 //! Ways through the legal moves of a sort, which keep the ends of the present piece.
 
 ghost use Rattle.std.specs.Prelude.{◌≡◌, ◌≢◌, ◌<◌, ◌≤◌, ◌+◌, ◌*◌, ◌^◌, ◌∷◌, [], ℕ, true, false, IfSome, MatchOption, bit_or};
+ghost use Rattle.shogi_core.specs.declared.moves.TheConstants.{FIRST_DROP};
 ghost use Rattle.shogi_core.specs.declared.moves.Move.TheVariants as moves;
 ghost use Rattle.shogi_core.specs.Bits.{has_bit};
 ghost use Rattle.shogi_core.specs.Cell.{is_of};
 ghost use Rattle.shogi_core.specs.Codes.{code_of};
 ghost use Rattle.shogi_core.specs.Movement.{piece_at};
-ghost use Rattle.shogi_core.specs.Pieces.{number_of};
+ghost use Rattle.shogi_core.specs.Pieces.{kind_number};
 ghost use Rattle.shogi_moves.specs.Captures.{is_wanted, HasNoneWanted};
 ghost use Rattle.shogi_moves.specs.Guards.{Guards};
 ghost use Rattle.shogi_moves.specs.Legal.{is_legal};
@@ -15,7 +16,7 @@ ghost use Rattle.shogi_moves.specs.Sweeps.{wanted_from, IsBoardSweep, IsDropSwee
 use crate::ends::{Ends, board_ends, drop_ends};
 use crate::guard::{Guard, guard_of};
 use shogi_core::bits::{cleared, has, lowest, next_of};
-use shogi_core::{Kind, Move, Position, Square, is_of};
+use shogi_core::{FIRST_DROP, Kind, Move, Position, SQUARE_CODES, Square, is_of};
 
 /// What is still to come of the board moves of a sort, in the order of codes: the legal ends of
 /// the piece on one square, and all of those above it.
@@ -45,7 +46,7 @@ fn ends_on(p: &Position, guard: &Guard, capture: bool, from: Square) -> Ends
     ensures plain_fits { result.plain < 2 ^ 81 }
     ensures promoting_fits { result.promoting < 2 ^ 81 }
 {
-    from.index();
+    from.validity();
     if is_of(p.at(from), p.side()) {
         board_ends(p, guard, capture, from)
     } else {
@@ -83,7 +84,7 @@ impl BoardSweep {
         ensures legal { is_legal p.now result ≡ true }
     {
         let (from, plain, promoting) = (self.from, self.ends.plain, self.ends.promoting);
-        from.index();
+        from.validity();
         let to = lowest(plain | promoting);
         let end = Square::of_index(to);
         if has(plain, to) {
@@ -92,6 +93,7 @@ impl BoardSweep {
                 to: end,
                 promote: false,
             };
+            // A copy for the caller: `code` takes the move by value.
             let found = m;
             self.ends.plain = cleared(plain, to);
             self.code = m.code() + 1;
@@ -115,7 +117,7 @@ impl BoardSweep {
         requires none { bit_or self.old.ends.plain self.old.ends.promoting ≡ 0 }
         ensures kept { IsBoardSweep p.now capture self.new }
         ensures some { result ≡ true → (bit_or self.new.ends.plain self.new.ends.promoting ≢ 0) × (wanted_from p.now capture self.old.code ≡ wanted_from p.now capture self.new.code) }
-        ensures end { result ≡ false → wanted_from p.now capture self.old.code ≡ wanted_from p.now capture 13122 }
+        ensures end { result ≡ false → wanted_from p.now capture self.old.code ≡ wanted_from p.now capture FIRST_DROP }
     {
         let (own, guard) = (p.own(p.side()), self.guard);
         let mut square = next_of(own, self.from.index() + 1);
@@ -125,7 +127,7 @@ impl BoardSweep {
             if ends.plain | ends.promoting != 0 {
                 self.from = from;
                 self.ends = ends;
-                self.code = (square * 162) as u16;
+                self.code = square as u16 * SQUARE_CODES;
                 return true;
             }
             square = next_of(own, square + 1);
@@ -138,7 +140,7 @@ impl BoardSweep {
     pub fn next(&mut self, p: &Position, capture: bool) -> Option<Move>
         requires kept { IsBoardSweep p.now capture self.old }
         ensures kept { IsBoardSweep p.now capture self.new }
-        ensures next { MatchOption result (wanted_from p.now capture self.old.code ≡ wanted_from p.now capture 13122) (λ m. wanted_from p.now capture self.old.code ≡ code_of m ∷ wanted_from p.now capture self.new.code) }
+        ensures next { MatchOption result (wanted_from p.now capture self.old.code ≡ wanted_from p.now capture FIRST_DROP) (λ m. wanted_from p.now capture self.old.code ≡ code_of m ∷ wanted_from p.now capture self.new.code) }
         ensures legal { IfSome result (λ m. is_legal p.now m ≡ true) }
     {
         if self.ends.plain | self.ends.promoting == 0 {
@@ -152,7 +154,7 @@ impl BoardSweep {
 
 /// The kind after this one in the order of kinds.
 pub fn next_kind(kind: Kind) -> Option<Kind>
-    ensures { MatchOption result (number_of kind ≡ 6) (λ k. number_of k ≡ number_of kind + 1) }
+    ensures { MatchOption result (kind_number kind ≡ 6) (λ k. kind_number k ≡ kind_number kind + 1) }
 {
     match kind {
         Kind::Pawn => Some(Kind::Lance),
@@ -171,13 +173,13 @@ impl DropSweep {
     pub fn new(p: &Position, guard: Guard) -> DropSweep
         requires guard { Guards p.now guard.checked guard.exposed }
         ensures kept { IsDropSweep p.now result }
-        ensures code { result.code ≡ 13122 }
+        ensures code { result.code ≡ FIRST_DROP }
     {
         DropSweep {
             guard,
             kind: Kind::Pawn,
             ends: drop_ends(p, &guard, Kind::Pawn),
-            code: 13122,
+            code: FIRST_DROP,
         }
     }
 
@@ -214,7 +216,7 @@ impl DropSweep {
             if ends != 0 {
                 self.kind = next;
                 self.ends = ends;
-                self.code = (13122 + next.number() * 81) as u16;
+                self.code = FIRST_DROP + next.number() as u16 * 81;
                 return true;
             }
             kind = next;

@@ -1,6 +1,8 @@
 //! Positions and counts that are known from elsewhere.
 
-use crate::{apply, has_legal, in_check, is_attacked, is_legal, next_legal, next_legal_of, perft};
+use crate::{
+    has_legal, in_check, is_attacked, is_legal, next_capture, next_legal, next_quiet, perft, play,
+};
 use shogi_core::Color::{Black, White};
 use shogi_core::{Color, Hands, Kind, Move, Piece, Position, Role, Square};
 use std::test::Fail;
@@ -252,13 +254,12 @@ fn steps(rt: HostRuntime) -> Result<(), Fail> {
     let second = next_legal(&start, Some(first)).ok_or("a second move")?;
     assert_eq!(rt; second, read(b"1i1h "));
     let p = position(b"4k4/9/9/4+p4/4P4/9/9/9/4K4", b"", Black)?;
-    let m = read(b"5e5d ");
-    let again = m;
-    if !is_legal(&p, m) {
-        return Err(Fail::from("a legal capture"));
-    }
-    let after = apply(&p, again);
+    let after = play(&p, read(b"5e5d ")).ok_or("a legal capture")?;
     assert_eq!(rt; (after.hand(Black, Kind::Pawn), after.side()), (1, White));
+    assert!(rt;
+        play(&p, read(b"5e5c ")).is_none(),
+        "a pawn goes one square"
+    );
     Ok(())
 }
 
@@ -266,14 +267,14 @@ fn steps(rt: HostRuntime) -> Result<(), Fail> {
 #[test]
 fn captures(rt: HostRuntime) -> Result<(), Fail> {
     let p = position(b"4k4/9/9/4+p4/4P4/9/9/9/4K4", b"P", Black)?;
-    let taking = next_legal_of(&p, true, None).ok_or("a capture")?;
+    let taking = next_capture(&p, None).ok_or("a capture")?;
     assert_eq!(rt; taking, read(b"5e5d "));
-    assert!(rt; next_legal_of(&p, true, Some(taking)).is_none());
-    let other = next_legal_of(&p, false, None).ok_or("another move")?;
+    assert!(rt; next_capture(&p, Some(taking)).is_none());
+    let other = next_quiet(&p, None).ok_or("another move")?;
     assert_eq!(rt; other, read(b"5i4h "));
     let start = Position::start();
-    assert!(rt; next_legal_of(&start, true, None).is_none());
-    let quiet = next_legal_of(&start, false, None).ok_or("a move")?;
+    assert!(rt; next_capture(&start, None).is_none());
+    let quiet = next_quiet(&start, None).ok_or("a move")?;
     assert_eq!(rt; quiet, read(b"1g1f "));
     Ok(())
 }

@@ -1,6 +1,7 @@
 //! A walk over the legal moves of a position.
 
 ghost use Rattle.std.specs.Prelude.{◌≡◌, ◌≤◌, ◌∷◌, [], true, IfSome, MatchOption};
+ghost use Rattle.shogi_core.specs.declared.moves.TheConstants.{MOVE_CODES};
 ghost use Rattle.shogi_core.specs.Codes.{code_of};
 ghost use Rattle.shogi_moves.specs.Guards.{Guards};
 ghost use Rattle.shogi_moves.specs.Legal.{is_legal};
@@ -8,7 +9,7 @@ ghost use Rattle.shogi_moves.specs.LegalMoves.{legal_from, legal_moves};
 
 use crate::guard::{Guard, guard_of};
 use crate::next::least_from;
-use shogi_core::{Move, Position};
+use shogi_core::{MOVE_CODES, Move, Position};
 use std::marker::Model;
 
 /// The legal moves of a position that are still to come, in the order of codes; seen as the
@@ -22,6 +23,7 @@ pub struct Walk {
 
 impl Model for Walk {
     ghost use Rattle.std.specs.Prelude.{◌≤◌};
+    ghost use Rattle.shogi_core.specs.declared.moves.TheConstants.{MOVE_CODES};
     ghost use Rattle.shogi_moves.specs.Guards.{Guards};
     ghost use Rattle.shogi_moves.specs.LegalMoves.{legal_from};
     ghost use Rattle.shogi_moves.specs.Walks.{Remaining};
@@ -30,7 +32,7 @@ impl Model for Walk {
 
     ghost view = { λ w. record { position = w.position; codes = legal_from w.position w.code } };
 
-    ghost invariant = { λ w. record { guard : Guards w.position w.guard.checked w.guard.exposed; code : w.code ≤ 13689 } };
+    ghost invariant = { λ w. record { guard : Guards w.position w.guard.checked w.guard.exposed; code : w.code ≤ MOVE_CODES } };
 }
 
 impl Walk {
@@ -55,10 +57,11 @@ impl Walk {
     {
         match least_from(&self.position, &self.guard, self.code) {
             None => {
-                self.code = 13689;
+                self.code = MOVE_CODES;
                 None
             }
             Some(m) => {
+                // A copy for the caller: `code` takes the move by value.
                 let found = m;
                 self.code = m.code() + 1;
                 Some(found)

@@ -7,7 +7,21 @@ ghost use Rattle.shogi_core.specs.Validity.{pawns_on_file};
 ghost use Rattle.shogi_moves.specs.Legal.{in_zone, may_promote};
 
 use crate::legal::{can_promote, in_zone};
+use shogi_core::bits::ALL_SQUARES;
 use shogi_core::{Board, Color, Piece, Position, Role, Square};
+
+// Ranks from rank 1 and up to rank 9.
+const FIRST_RANK: u128 = 4731607904558235517441;
+
+const FIRST_TWO_RANKS: u128 = 14194823713674706552323;
+
+const FIRST_THREE_RANKS: u128 = 33121255331907648622087;
+
+const LAST_RANK: u128 = 1211291623566908292464896;
+
+const LAST_TWO_RANKS: u128 = 1816937435350362438697344;
+
+const LAST_THREE_RANKS: u128 = 2119760341242089511813568;
 
 /// The squares on which the piece could never move again.
 #[tactic(auto, using(crate::proofs::ZoneLaws::dead_bits))]
@@ -17,10 +31,10 @@ pub fn dead_squares(cell: Option<Piece>) -> u128
 {
     let Some(piece) = cell else { return 0 };
     match (piece.color, piece.role) {
-        (Color::Black, Role::Pawn | Role::Lance) => 4731607904558235517441,
-        (Color::Black, Role::Knight) => 14194823713674706552323,
-        (Color::White, Role::Pawn | Role::Lance) => 1211291623566908292464896,
-        (Color::White, Role::Knight) => 1816937435350362438697344,
+        (Color::Black, Role::Pawn | Role::Lance) => FIRST_RANK,
+        (Color::Black, Role::Knight) => FIRST_TWO_RANKS,
+        (Color::White, Role::Pawn | Role::Lance) => LAST_RANK,
+        (Color::White, Role::Knight) => LAST_TWO_RANKS,
         _ => 0,
     }
 }
@@ -32,8 +46,8 @@ fn zone_squares(color: Color) -> u128
     ensures fits { result < 2 ^ 81 }
 {
     match color {
-        Color::Black => 33121255331907648622087,
-        Color::White => 2119760341242089511813568,
+        Color::Black => FIRST_THREE_RANKS,
+        Color::White => LAST_THREE_RANKS,
     }
 }
 
@@ -48,11 +62,12 @@ pub fn promoting_squares(cell: Option<Piece>, from: Square) -> u128
         return 0;
     }
     if in_zone(piece.color, from) {
-        return 2417851639229258349412351;
+        return ALL_SQUARES;
     }
     zone_squares(piece.color)
 }
 
+// The squares of each file.
 const FILES: [u128; 9] = [
     511,
     261632,

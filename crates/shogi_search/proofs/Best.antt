@@ -3,6 +3,7 @@ use Rattle.std.proofs.Common.{◌≡◌, ◌<◌, ℕ, zero, suc, ℤ, List, [],
 use Rattle.std.specs.Prelude.{◌↔◌, IsNone, IfSome, int_lt}
 use Rattle.std.specs.Ordering.{int_eq}
 use Rattle.std.proofs.lemmas.Bool.{or_left, or_right, or_cases, eq-eqb, eqb-true, cond_both, cases_lt, both_ways}
+use Rattle.shogi_core.specs.declared.moves.TheConstants.{FIRST_DROP, MOVE_CODES}
 use Rattle.shogi_core.specs.declared.moves.Move.{Move}
 use Rattle.shogi_core.specs.Codes.{move_of}
 use Rattle.shogi_core.specs.Position.{Shogi}
@@ -58,8 +59,8 @@ pub best_in : (p : Shogi) (d b : ℕ) → best_code p d ≡ Some b → is_in b (
 best_in p zero b h = let q : best_code p 0 ≡ None = best_code-leaf p in absurd (cc)
 best_in p (suc d) b h = find_in _ b (legal_moves p) (sym (best_code-suc p d) ∙ h)
 
-code_none : (code : ℕ) → code < 13689 → move_of code ≡ None → ⊥
-code_none code h e = elim (cases_lt code 13122) [
+code_none : (code : ℕ) → code < MOVE_CODES → move_of code ≡ None → ⊥
+code_none code h e = elim (cases_lt code FIRST_DROP) [
   | inl low ↦ (let s : _ = board_of code low in let q : None ≡ Some _ = sym e ∙ s in cc)
   | inr high ↦ (let s : _ = drop_of code high h in let q : None ≡ Some _ = sym e ∙ s in cc)
 ]

@@ -4,6 +4,7 @@ use Rattle.std.specs.Option.{ForSome}
 use Rattle.std.proofs.lemmas.List.Sums.{sum_by-cons, sum_by-append}
 use Rattle.std.proofs.lemmas.Bool.{cases_Bool, cases_lt, eqb-true, eq-eqb, and_from, and_parts, and_right, cases_eq, ne_eqb, not_from_true, not_from_false}
 use Rattle.std.proofs.lemmas.Option.{same_Some}
+use Rattle.shogi_core.specs.declared.moves.TheConstants.{FIRST_DROP, MOVE_CODES}
 use Rattle.shogi_core.specs.declared.moves.Move.{Move}
 use Rattle.shogi_core.specs.Codes.{code_of, move_of}
 use Rattle.shogi_core.specs.Position.{Shogi}
@@ -88,8 +89,8 @@ whole_covered p d cursor f low w = record {
   reached = refl;
 }
 
-code_back : (code : ℕ) (m : Move) → code < 13689 → move_of code ≡ Some m → code_of m ≡ code
-code_back code m h e = elim (cases_lt code 13122) [
+code_back : (code : ℕ) (m : Move) → code < MOVE_CODES → move_of code ≡ Some m → code_of m ≡ code
+code_back code m h e = elim (cases_lt code FIRST_DROP) [
   | inl low ↦ (ap code_of (same_Some m _ (sym e ∙ board_of code low)) ∙ code_of-board code)
   | inr high ↦ (ap code_of (same_Some m _ (sym e ∙ drop_of code high h)) ∙ code_of-drop code high h)
 ]

@@ -4,6 +4,7 @@ use Rattle.std.specs.Prelude.{cond, ◌&&◌}
 use Rattle.std.specs.List.{sum_by}
 use Rattle.std.proofs.lemmas.List.Sums.{sum_by-cons}
 use Rattle.std.proofs.lemmas.Bool.{cond_both, cases_Bool, or_cases, eqb-true, or_left, or_right, cond-true, cond-false}
+use Rattle.shogi_core.specs.declared.moves.TheConstants.{FIRST_DROP}
 use Rattle.shogi_core.specs.declared.moves.Move.{Move}
 use Rattle.shogi_core.specs.Position.{Shogi}
 use Rattle.shogi_moves.specs.Captures.{is_of_sort}
@@ -45,10 +46,10 @@ pub pick-same : (p : Shogi) (first : Option Move) (capture : Bool) (xs ys : List
 pick-same p first capture xs ys e = filter-both p first capture xs ∙ ap (filter (λ n. not (is_first first n))) e ∙ sym (filter-both p first capture ys)
 
 -- drops take nothing
-pub no_drop_taken : (p : Shogi) (first : Option Move) → picks_from p first true 13122 ≡ []
-no_drop_taken p first = pick-none p first true (legal_from p 13122) (no_captures p)
+pub no_drop_taken : (p : Shogi) (first : Option Move) → picks_from p first true FIRST_DROP ≡ []
+no_drop_taken p first = pick-none p first true (legal_from p FIRST_DROP) (no_captures p)
 
-pub captures_end : (p : Shogi) (first : Option Move) (code : ℕ) (ys : List ℕ) → picks_from p first true code ≡ picks_from p first true 13122 → (picks_from p first true code ++ ys) ≡ ys
+pub captures_end : (p : Shogi) (first : Option Move) (code : ℕ) (ys : List ℕ) → picks_from p first true code ≡ picks_from p first true FIRST_DROP → (picks_from p first true code ++ ys) ≡ ys
 captures_end p first code ys e = ap (λ (xs : List ℕ). xs ++ ys) (e ∙ no_drop_taken p first)
 
 pub ruleset no_capture_left = (captures_end)

@@ -3,6 +3,7 @@
 ghost use Rattle.std.specs.Prelude.{◌≡◌, ◌<◌, ◌&&◌, ◌==◌, true, Option, option_map, Some, None, false};
 ghost use Rattle.std.specs.Option.{option_map_or};
 ghost use Rattle.std.specs.List.{find};
+ghost use Rattle.shogi_core.specs.Same.{is_same_position};
 
 use crate::memo::{Entry, Memo};
 use shogi_core::Position;
@@ -31,21 +32,13 @@ impl Model for Kept {
     ghost inverse = { λ v. record { position = v.0; depth = v.1.0; entry = v.1.1 } };
 }
 
-/// Whether the positions are the same.
-fn is_same(a: &Position, b: &Position) -> bool
-    ensures value { result ≡ ⟦<Position as PartialEq>⟧.eq a.now b.now }
-    ensures same { result ≡ true → a.now ≡ b.now }
-{
-    a == b
-}
-
 impl Kept {
     /// Whether it is of this position at this depth.
     fn is_of(&self, p: &Position, d: u8) -> bool
-        ensures value { result ≡ (self.now.1.0 == d && ⟦<Position as PartialEq>⟧.eq self.now.0 p.now) }
+        ensures value { result ≡ (self.now.1.0 == d && is_same_position self.now.0 p.now) }
         ensures same { result ≡ true → (self.now.0 ≡ p.now) }
     {
-        self.depth == d && is_same(&self.position, p)
+        self.depth == d && self.position.is_same(p)
     }
 }
 
@@ -69,7 +62,7 @@ impl Forgetful {
 }
 
 impl Memo for Forgetful {
-    ghost answers = { λ memo p d. option_map_or (λ slot. option_map (λ kept. kept.1.1) slot) (find (λ slot. option_map_or (λ kept. kept.1.0 == d && ⟦<Position as PartialEq>⟧.eq kept.0 p) slot false) memo.slots) None };
+    ghost answers = { λ memo p d. option_map_or (λ slot. option_map (λ kept. kept.1.1) slot) (find (λ slot. option_map_or (λ kept. kept.1.0 == d && is_same_position kept.0 p) slot false) memo.slots) None };
 
     fn probe(&mut self, p: &Position, d: u8) -> Option<Entry> {
         'slots: for slot in &self.slots {

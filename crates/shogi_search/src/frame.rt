@@ -139,7 +139,7 @@ impl Frame {
         let best = self.top_move;
         match self.top_move {
             Some(m) => {
-                m.code();
+                m.validity();
                 Entry::Exact(self.top, best)
             }
             None => {
@@ -279,7 +279,7 @@ impl Frame {
         requires waiting { self.now.waiting ≡ true }
         ensures value { IfSome result (λ v. value (after_code self.now.position (code_of self.now.asked)) 0 ≡ v) }
     {
-        self.asked.code();
+        self.asked.validity();
         if self
             .replies
             .is_certain(self.position.as_position(), &self.asked)

@@ -1,6 +1,7 @@
 //! The order in which a node's moves are visited.
 
 ghost use Rattle.std.specs.Prelude.{◌≡◌, ◌<◌, ◌++◌, [], ◌∷◌, MatchOption, IfSome, Some, None, true, false};
+ghost use Rattle.shogi_core.specs.declared.moves.TheConstants.{FIRST_DROP};
 ghost use Rattle.shogi_core.specs.Codes.{code_of};
 ghost use Rattle.shogi_moves.specs.Guards.{Guards};
 ghost use Rattle.shogi_moves.specs.Sweeps.{IsBoardSweep, IsDropSweep};
@@ -48,7 +49,7 @@ fn next_board(
 ) -> Option<Move>
     requires kept { IsBoardSweep p.now capture sweep.old }
     ensures kept { IsBoardSweep p.now capture sweep.new }
-    ensures next { MatchOption result (picks_from p.now first.now capture sweep.old.code ≡ picks_from p.now first.now capture 13122) (λ m. picks_from p.now first.now capture sweep.old.code ≡ code_of m ∷ picks_from p.now first.now capture sweep.new.code) }
+    ensures next { MatchOption result (picks_from p.now first.now capture sweep.old.code ≡ picks_from p.now first.now capture FIRST_DROP) (λ m. picks_from p.now first.now capture sweep.old.code ≡ code_of m ∷ picks_from p.now first.now capture sweep.new.code) }
 {
     'picks: while let Some(m) = sweep.next(p, capture) {
         if !is_first(first, &m) {

@@ -58,7 +58,7 @@ pub fn negamax(p: &Position, depth: u8) -> Found
     let kept = best;
     match best {
         Some(m) => {
-            m.code();
+            m.validity();
             Found {
                 value: top,
                 best: kept,

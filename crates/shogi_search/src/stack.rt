@@ -60,7 +60,7 @@ fn child(frame: &Frame) -> Node
     ensures { result ≡ after_code frame.now.position (code_of frame.now.asked) }
 {
     let m = frame.asked;
-    frame.asked.code();
+    frame.asked.validity();
     frame.position.play(m)
 }
 

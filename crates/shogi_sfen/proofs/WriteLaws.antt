@@ -8,7 +8,7 @@ use Rattle.shogi_core.specs.declared.piece.Color.{Color}
 use Rattle.shogi_core.specs.declared.piece.Color.TheVariants.{Black, White}
 use Rattle.shogi_core.specs.declared.piece.Kind.{Kind}
 use Rattle.shogi_core.specs.Pieces.{set_size}
-use Rattle.shogi_core.specs.Position.{Shogi, Held, held}
+use Rattle.shogi_core.specs.Position.{Shogi, HandCounts, held}
 use Rattle.shogi_core.specs.Validity.{IsValid, count_of}
 use Rattle.shogi_core.proofs.Faults.{faultless_from}
 use Rattle.shogi_sfen.specs.Written.{side_held_text, hands_text, or_hyphen}
@@ -46,7 +46,7 @@ nothing_added : (old more : List ℕ) → length (old ++ more) ≡ length old �
 nothing_added old more e = let n : length (old ++ more) ≡ length old + length more = length-append old more in omega arith
 
 -- hands after a text
-pub hands-none : (old black white new : List ℕ) (hands : Held) → black ≡ old ++ side_held_text hands Black → white ≡ black ++ side_held_text hands White → length white ≡ length old → new ≡ white ++ 45 ∷ []
+pub hands-none : (old black white new : List ℕ) (hands : HandCounts) → black ≡ old ++ side_held_text hands Black → white ≡ black ++ side_held_text hands White → length white ≡ length old → new ≡ white ++ 45 ∷ []
     → new ≡ old ++ hands_text hands
 unfolding hands_text
 hands-none old black white new hands b w e n =
@@ -54,7 +54,7 @@ hands-none old black white new hands b w e n =
     let none : length (side_held_text hands Black ++ side_held_text hands White) ≡ 0 = nothing_added old (side_held_text hands Black ++ side_held_text hands White) (ap length (sym all) ∙ e) in
     n ∙ (ap (λ (t : List ℕ). t ++ 45 ∷ []) (all ∙ (ap (λ (t : List ℕ). old ++ t) (nil (side_held_text hands Black ++ side_held_text hands White) none) ∙ append-nil old)) ∙ ap (λ (t : List ℕ). old ++ t) (sym (none_left (side_held_text hands Black ++ side_held_text hands White) none)))
 
-pub hands-some : (old black white : List ℕ) (hands : Held) → black ≡ old ++ side_held_text hands Black → white ≡ black ++ side_held_text hands White → (length white ≡ length old → ⊥)
+pub hands-some : (old black white : List ℕ) (hands : HandCounts) → black ≡ old ++ side_held_text hands Black → white ≡ black ++ side_held_text hands White → (length white ≡ length old → ⊥)
     → white ≡ old ++ hands_text hands
 unfolding hands_text
 hands-some old black white hands b w e =

@@ -6,7 +6,7 @@ use Rattle.std.specs.Str.{bytes_eq}
 use Rattle.shogi_core.specs.declared.piece.Kind.{Kind}
 use Rattle.shogi_core.specs.declared.moves.Move.{Move}
 use Rattle.shogi_core.specs.declared.moves.Move.TheVariants.{Board, Drop}
-use Rattle.shogi_core.specs.Pieces.{number_of}
+use Rattle.shogi_core.specs.Pieces.{kind_number}
 use Rattle.shogi_core.specs.Codes.{move_of, all_codes}
 
 -- the file as a digit from 1 to 9, and the rank as a letter from a to i
@@ -15,7 +15,7 @@ square_text square = (square / 9 + 49) ∷ (square % 9 + 97) ∷ []
 
 -- the letter of a kind, for both sides
 abbrev pub letter_of : Kind → ℕ
-letter_of kind = slice_index (codes "PLNSGBR") (number_of kind)
+letter_of kind = slice_index (codes "PLNSGBR") (kind_number kind)
 
 -- the one text of a move
 abbrev pub text_of : Move → List ℕ

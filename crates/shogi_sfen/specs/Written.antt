@@ -10,7 +10,7 @@ use Rattle.shogi_core.specs.declared.piece.Role.TheVariants.{PromotedPawn, Promo
 use Rattle.shogi_core.specs.declared.piece.Piece.{Piece}
 use Rattle.shogi_core.specs.Movement.{Cells, piece_at}
 use Rattle.shogi_core.specs.Pieces.{kind_of}
-use Rattle.shogi_core.specs.Position.{Shogi, Held, held}
+use Rattle.shogi_core.specs.Position.{Shogi, HandCounts, held}
 use Rattle.shogi_sfen.specs.MoveTexts.{letter_of}
 
 -- a promoted role
@@ -77,7 +77,7 @@ abbrev pub kinds_in_text : List Kind
 kinds_in_text = kinds.Rook ∷ kinds.Bishop ∷ kinds.Gold ∷ kinds.Silver ∷ kinds.Knight ∷ kinds.Lance ∷ kinds.Pawn ∷ []
 
 -- what a side holds
-abbrev pub side_held_text : Held → Color → List ℕ
+abbrev pub side_held_text : HandCounts → Color → List ℕ
 side_held_text hands color = flat_map (λ kind. held_text color kind (held hands color kind)) kinds_in_text
 
 -- a hyphen for nothing
@@ -86,7 +86,7 @@ or_hyphen [] = codes "-"
 or_hyphen (byte ∷ bytes) = byte ∷ bytes
 
 -- Black's pieces in hand, and then White's
-unfoldable pub hands_text : Held → List ℕ
+unfoldable pub hands_text : HandCounts → List ℕ
 hands_text hands = or_hyphen (side_held_text hands Black ++ side_held_text hands White)
 
 -- the one written text: board, side and hands with a space between each two

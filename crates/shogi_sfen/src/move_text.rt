@@ -103,8 +103,7 @@ pub fn write_move(m: Move) -> ArrayVec<u8, 5>
     ensures text { result.items ≡ text_of m }
     ensures back { move_of_text (text_of m) ≡ Some m }
 {
-    let again = m;
-    again.code();
+    m.validity();
     let mut text = ArrayVec::new();
     match m {
         Move::Board { from, to, promote } => {

@@ -8,6 +8,6 @@ pub returns-clause-bits : goal.returns-clause-bits
 returns-clause-bits c =
     rw (c.ray-line.ensures.ray, c.ray.ensures.ray)
     (rising_line c.args.board.now (direction_at c.args.direction) c.args.from c.occupied.result c.occupied.ensures
-    c.lowest.result c.lowest.ensures.bound (rw c.ray-line.ensures.ray at c.lowest.ensures.set)
+    c.lowest.result c.lowest.ensures.range (rw c.ray-line.ensures.ray at c.lowest.ensures.set)
     (direction_rises c.args.direction c.requires.direction)
     (λ n e. c.lowest.ensures.least n (subst (λ (m : ℕ). has_bit (bit_and m c.occupied.result) n ≡ true) (sym c.ray-line.ensures.ray) e)))

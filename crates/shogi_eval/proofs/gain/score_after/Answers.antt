@@ -1,4 +1,4 @@
-use Rattle.std.proofs.Common.{arith, ◌≡◌, ◌∙◌, ◌<◌, ap}
+use Rattle.std.proofs.Common.{arith, ◌≡◌, ◌∙◌, ap}
 use Rattle.std.proofs.lemmas.Int.{ints}
 use Rattle.shogi_core.specs.Movement.{piece_at}
 use Rattle.shogi_eval.specs.Material.{taken_gain, promotion_gain}
@@ -18,9 +18,7 @@ overflow_sub-result-in-Drop c = let b : _ = material_bounds c.args.p.now c.valid
 pub returns-in-Board : goal.returns-in-Board
 returns-in-Board c =
     let b : _ = material_bounds c.args.p.now c.validity.ensures in
-    let from : c.in-Board.from < 81 = omega (arith, c.index.ensures.index, c.index.ensures.range) in
-    let to : c.in-Board.to < 81 = omega (arith, c.index-in-Board.ensures.index, c.index-in-Board.ensures.range) in
-    let law : _ = material_at_board c.args.p.now c.args.m.now c.in-Board.from c.in-Board.to c.in-Board.promote c.in-Board.is c.validity.ensures from to c.requires.legal in
+    let law : _ = material_at_board c.args.p.now c.args.m.now c.in-Board.from c.in-Board.to c.in-Board.promote c.in-Board.is c.validity.ensures c.validity-in-Board.ensures c.validity-in-Board-2.ensures c.requires.legal in
     let taken : c.taken_gain.result ≡ taken_gain (piece_at c.args.p.now.cells c.in-Board.to) = c.taken_gain.ensures.value ∙ ap taken_gain c.at.ensures in
     let promotion : c.promotion_gain.result ≡ promotion_gain c.in-Board.promote (piece_at c.args.p.now.cells c.in-Board.from) = c.promotion_gain.ensures.value ∙ ap (promotion_gain c.in-Board.promote) c.at-in-Board.ensures in
     omega (arith, ints, b.0, b.1, c.requires.score, law)
@@ -28,6 +26,5 @@ returns-in-Board c =
 pub returns-in-Drop : goal.returns-in-Drop
 returns-in-Drop c =
     let b : _ = material_bounds c.args.p.now c.validity.ensures in
-    let to : c.in-Drop.to < 81 = omega (arith, c.index-in-Drop.ensures.index, c.index-in-Drop.ensures.range) in
-    let law : _ = material_at_drop c.args.p.now c.args.m.now c.in-Drop.kind c.in-Drop.to c.in-Drop.is c.validity.ensures to c.requires.legal in
+    let law : _ = material_at_drop c.args.p.now c.args.m.now c.in-Drop.kind c.in-Drop.to c.in-Drop.is c.validity.ensures c.validity-in-Drop.ensures c.requires.legal in
     omega (arith, ints, b.0, b.1, c.requires.score, law)

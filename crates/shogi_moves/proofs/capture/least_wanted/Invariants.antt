@@ -1,13 +1,14 @@
 use Rattle.std.proofs.Common.{◌≡◌, ◌≤◌, ◌-◌, filter}
+use Rattle.shogi_core.specs.declared.moves.TheConstants.{MOVE_CODES}
 use Rattle.shogi_moves.specs.Captures.{is_of_sort}
 use Rattle.shogi_moves.specs.LegalMoves.{legal_from}
 use Rattle.shogi_moves.proofs.capture.least_wanted.Given as goal
 
 abbrev pub invariant-codes : goal.invariant-codes
 invariant-codes l = record {
-  within : l.code ≤ 13689;
+  within : l.code ≤ MOVE_CODES;
   same : filter (is_of_sort l.p l.capture) (legal_from l.p l.fn.first) ≡ filter (is_of_sort l.p l.capture) (legal_from l.p l.code);
 }
 
 abbrev pub decreases-codes : goal.decreases-codes
-decreases-codes l = 13689 - l.code
+decreases-codes l = MOVE_CODES - l.code

@@ -1,13 +1,13 @@
 use Rattle.std.proofs.Common.{rules, arith, refl, ◌≡◌, ◌≤◌, ◌-◌, ◌^◌}
 use Rattle.shogi_core.specs.Codes.{code_of}
-use Rattle.shogi_moves.specs.LegalMoves.{paths}
-use Rattle.shogi_moves.proofs.Paths.{paths_by, paths_by-left, paths_by-none}
+use Rattle.shogi_moves.specs.LegalMoves.{perft}
+use Rattle.shogi_moves.proofs.PerftLaws.{perft_by, perft_by-left, perft_by-none}
 use Rattle.shogi_moves.proofs.count.+perft.Goals as goal
 
 -- the move's share joins what is counted
 pub moves-preserved : goal.moves-preserved
 moves-preserved t c =
-    let step = paths_by-left c.args.p.now (c.args.n - 1) (code_of c.in-Some.m) c.moves.walk.codes c.next.new.self.codes c.apply.result c.in-Some.ensures.next c.apply.ensures.by_code in
+    let step = perft_by-left c.args.p.now (c.args.n - 1) (code_of c.in-Some.m) c.moves.walk.codes c.next.new.self.codes c.apply.result c.in-Some.ensures.next c.apply.ensures.by_code in
     record {
       whole = omega (arith, c.in_ok-total.ensures, c.in_ok-count.ensures.count);
       same = search rules;
@@ -17,16 +17,16 @@ moves-preserved t c =
 -- where one move's share passes the greatest number, the whole does
 pub returns-in_err-count-clause-none : goal.returns-in_err-count-clause-none
 returns-in_err-count-clause-none t c =
-    let step = paths_by-left c.args.p.now (c.args.n - 1) (code_of c.in-Some.m) c.moves.walk.codes c.next.new.self.codes c.apply.result c.in-Some.ensures.next c.apply.ensures.by_code in
-    let share : 2 ^ 64 ≤ paths c.apply.result (c.args.n - 1) = c.in_err-count.ensures.none.0 refl in
+    let step = perft_by-left c.args.p.now (c.args.n - 1) (code_of c.in-Some.m) c.moves.walk.codes c.next.new.self.codes c.apply.result c.in-Some.ensures.next c.apply.ensures.by_code in
+    let share : 2 ^ 64 ≤ perft c.apply.result (c.args.n - 1) = c.in_err-count.ensures.none.0 refl in
     ((λ none. omega arith), (λ many. search rules))
 
 pub returns-in_err-total-clause-none : goal.returns-in_err-total-clause-none
 returns-in_err-total-clause-none t c =
-    let step = paths_by-left c.args.p.now (c.args.n - 1) (code_of c.in-Some.m) c.moves.walk.codes c.next.new.self.codes c.apply.result c.in-Some.ensures.next c.apply.ensures.by_code in
+    let step = perft_by-left c.args.p.now (c.args.n - 1) (code_of c.in-Some.m) c.moves.walk.codes c.next.new.self.codes c.apply.result c.in-Some.ensures.next c.apply.ensures.by_code in
     ((λ none. omega (arith, c.in_err-total.ensures, c.in_ok-count.ensures.count)), (λ many. search rules))
 
 pub returns-clause-none : goal.returns-clause-none
 returns-clause-none t c =
-    let end : paths_by c.args.p.now (c.args.n - 1) c.moves.walk.codes ≡ 0 = rw c.in_default.ensures.next.0 (paths_by-none c.args.p.now (c.args.n - 1)) in
+    let end : perft_by c.args.p.now (c.args.n - 1) c.moves.walk.codes ≡ 0 = rw c.in_default.ensures.next.0 (perft_by-none c.args.p.now (c.args.n - 1)) in
     ((λ none. cc), (λ many. absurd (omega arith)))

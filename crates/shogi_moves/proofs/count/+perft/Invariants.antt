@@ -1,6 +1,6 @@
 use Rattle.std.proofs.Common.{◌≡◌, ◌+◌, ◌-◌, ◌<◌, ◌^◌, length}
-use Rattle.shogi_moves.specs.LegalMoves.{paths}
-use Rattle.shogi_moves.proofs.Paths.{paths_by}
+use Rattle.shogi_moves.specs.LegalMoves.{perft}
+use Rattle.shogi_moves.proofs.PerftLaws.{perft_by}
 use Rattle.shogi_moves.proofs.count.+perft.Given as goal
 
 abbrev pub decreases-perft : goal.decreases-perft
@@ -9,7 +9,7 @@ decreases-perft l = l.n
 -- what is counted and what is left make the whole
 abbrev pub invariant-moves : goal.invariant-moves
 invariant-moves l = record {
-  whole : l.total + paths_by l.p (l.n - 1) l.walk.codes ≡ paths l.p l.n;
+  whole : l.total + perft_by l.p (l.n - 1) l.walk.codes ≡ perft l.p l.n;
   same : l.walk.position ≡ l.p;
   fits : l.total < 2 ^ 64;
 }

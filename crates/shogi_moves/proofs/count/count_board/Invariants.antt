@@ -1,12 +1,13 @@
 use Rattle.std.proofs.Common.{◌≡◌, ◌-◌, ◌+◌, ◌<◌, ◌≤◌, ◌*◌, true, length}
+use Rattle.shogi_core.specs.declared.moves.TheConstants.{SQUARE_CODES}
 use Rattle.shogi_core.specs.Bits.{has_bit}
 use Rattle.shogi_moves.specs.LegalMoves.{legal_from}
 use Rattle.shogi_moves.proofs.count.count_board.Given as goal
 
 abbrev pub invariant-squares : goal.invariant-squares
 invariant-squares l = record {
-  whole : l.total + length (legal_from l.p (l.square * 162)) ≡ length (legal_from l.p 0);
-  bound : l.total ≤ l.square * 162;
+  whole : l.total + length (legal_from l.p (l.square * SQUARE_CODES)) ≡ length (legal_from l.p 0);
+  range : l.total ≤ l.square * SQUARE_CODES;
   within : l.square ≤ 81;
   mine : l.square < 81 → has_bit l.own l.square ≡ true;
 }

@@ -1,5 +1,6 @@
 use Rattle.std.proofs.Common.{◌≡◌, ◌+◌, ◌*◌, arith, ap, ◌∙◌, ℕ, length}
-use Rattle.shogi_core.specs.Pieces.{number_of}
+use Rattle.shogi_core.specs.declared.moves.TheConstants.{FIRST_DROP}
+use Rattle.shogi_core.specs.Pieces.{kind_number}
 use Rattle.shogi_core.specs.declared.piece.Kind.TheVariants as kinds
 use Rattle.shogi_moves.specs.LegalMoves.{legal_from}
 use Rattle.shogi_moves.proofs.LegalLaws.{legal_from_end}
@@ -10,22 +11,22 @@ use Rattle.shogi_moves.proofs.count.count_drops.Goals as goal
 pub kinds-init : goal.kinds-init
 kinds-init c = record {
   whole = omega (arith, counted_drop c.args.p.now kinds.Pawn c.drop_ends.result c.drop_ends.ensures.fits (λ n h. c.drop_ends.ensures.bits n h ∙ drop_wanted c.args.p.now kinds.Pawn n h));
-  bound = ones_most c.drop_ends.result c.drop_ends.ensures.fits;
+  range = ones_most c.drop_ends.result c.drop_ends.ensures.fits;
 }
 
 pub kinds-preserved : goal.kinds-preserved
 kinds-preserved c =
-    let next : number_of c.in-Some.next ≡ number_of c.kinds.kind + 1 = c.in-Some.ensures in
-    let here : 13203 + number_of c.kinds.kind * 81 ≡ 13122 + number_of c.in-Some.next * 81 = omega arith in
+    let next : kind_number c.in-Some.next ≡ kind_number c.kinds.kind + 1 = c.in-Some.ensures in
+    let here : FIRST_DROP + 81 + kind_number c.kinds.kind * 81 ≡ FIRST_DROP + kind_number c.in-Some.next * 81 = omega arith in
     let herew = ap (λ (x : ℕ). length (legal_from c.args.p.now x)) here in
     let more = counted_drop c.args.p.now c.in-Some.next c.drop_ends-in-Some.result c.drop_ends-in-Some.ensures.fits (λ n h. c.drop_ends-in-Some.ensures.bits n h ∙ drop_wanted c.args.p.now c.in-Some.next n h) in
     record {
       whole = omega (arith, c.kinds.invariant.whole, herew, more);
-      bound = omega (arith, c.kinds.invariant.bound, ones_most c.drop_ends-in-Some.result c.drop_ends-in-Some.ensures.fits);
+      range = omega (arith, c.kinds.invariant.range, ones_most c.drop_ends-in-Some.result c.drop_ends-in-Some.ensures.fits);
     }
 
 pub returns-clause-count : goal.returns-clause-count
 returns-clause-count c =
-    let last : number_of c.kinds.kind ≡ 6 = c.in_default.ensures in
-    let e : length (legal_from c.args.p.now (13203 + number_of c.kinds.kind * 81)) ≡ 0 = ap length (legal_from_end c.args.p.now (13203 + number_of c.kinds.kind * 81) (omega arith)) in
+    let last : kind_number c.kinds.kind ≡ 6 = c.in_default.ensures in
+    let e : length (legal_from c.args.p.now (FIRST_DROP + 81 + kind_number c.kinds.kind * 81)) ≡ 0 = ap length (legal_from_end c.args.p.now (FIRST_DROP + 81 + kind_number c.kinds.kind * 81) (omega arith)) in
     omega (arith, c.kinds.invariant.whole, e)

@@ -1,5 +1,6 @@
 use Rattle.std.proofs.Common.{◌≡◌, ◌+◌, ◌*◌, ◌∙◌, arith, ap}
-use Rattle.shogi_core.specs.Pieces.{number_of}
+use Rattle.shogi_core.specs.declared.moves.TheConstants.{FIRST_DROP}
+use Rattle.shogi_core.specs.Pieces.{kind_number}
 use Rattle.shogi_moves.specs.LegalMoves.{legal_from}
 use Rattle.shogi_moves.proofs.ExistenceLaws.{kind_with, kind_without}
 use Rattle.shogi_moves.proofs.LegalLaws.{legal_from_end}
@@ -7,8 +8,8 @@ use Rattle.shogi_moves.proofs.existence.has_piece_drop.Goals as goal
 
 pub kinds-preserved : goal.kinds-preserved
 kinds-preserved c =
-    let next : number_of c.in-Some.next ≡ number_of c.kinds.kind + 1 = c.in-Some.ensures in
-    let here : 13203 + number_of c.kinds.kind * 81 ≡ 13122 + number_of c.in-Some.next * 81 = omega arith in
+    let next : kind_number c.in-Some.next ≡ kind_number c.kinds.kind + 1 = c.in-Some.ensures in
+    let here : FIRST_DROP + 81 + kind_number c.kinds.kind * 81 ≡ FIRST_DROP + kind_number c.in-Some.next * 81 = omega arith in
     c.kinds.invariant ∙ (ap (legal_from c.args.p.now) here ∙ kind_without c.args.p.now c.in-Some.next c.drop_ends.result c.drop_ends.ensures.bits (omega arith))
 
 pub returns-then-drop_ends-ne0-clause-some : goal.returns-then-drop_ends-ne0-clause-some
@@ -16,5 +17,5 @@ returns-then-drop_ends-ne0-clause-some c = λ _. kind_with c.args.p.now c.in-Som
 
 pub returns-clause-none : goal.returns-clause-none
 returns-clause-none c = λ _. (
-    let last : number_of c.kinds.kind ≡ 6 = c.in_default.ensures in
-    c.kinds.invariant ∙ legal_from_end c.args.p.now (13203 + number_of c.kinds.kind * 81) (omega arith))
+    let last : kind_number c.kinds.kind ≡ 6 = c.in_default.ensures in
+    c.kinds.invariant ∙ legal_from_end c.args.p.now (FIRST_DROP + 81 + kind_number c.kinds.kind * 81) (omega arith))

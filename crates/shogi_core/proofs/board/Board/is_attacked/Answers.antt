@@ -13,4 +13,4 @@ loop-left-init c = record {
 
 pub returns-then-is_attacked_from : goal.returns-then-is_attacked_from
 returns-then-is_attacked_from c =
-    some_below_found 81 (is_attacked_from c.args.self.now c.args.by c.args.square) c.lowest-from.result c.lowest-from.ensures.bound (search rules)
+    some_below_found 81 (is_attacked_from c.args.self.now c.args.by c.args.square) c.lowest-from.result c.lowest-from.ensures.range (search rules)

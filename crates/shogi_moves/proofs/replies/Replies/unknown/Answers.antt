@@ -1,5 +1,6 @@
 use Rattle.std.proofs.Common.{arith}
 use Rattle.std.proofs.lemmas.Bool.{both_ways}
+use Rattle.shogi_core.specs.declared.bits.TheConstants.{ALL_SQUARES}
 use Rattle.shogi_core.specs.Bits.{has_bit}
 use Rattle.shogi_core.specs.Pieces.{opponent_of}
 use Rattle.shogi_core.proofs.BitLaws.{has_bit-none}
@@ -9,7 +10,7 @@ use Rattle.shogi_moves.proofs.replies.Replies.unknown.Goals as goal
 
 pub returns : goal.returns
 returns c = record {
-  sees = unknown_sees c.args.p.now.cells (opponent_of c.args.p.now.side) 2417851639229258349412351 all_squares;
+  sees = unknown_sees c.args.p.now.cells (opponent_of c.args.p.now.side) ALL_SQUARES all_squares;
   spares = λ a h e. absurd (both_ways (has_bit 0 a) (has_bit-none a) e);
   fits = omega arith;
 }

@@ -1,4 +1,5 @@
 use Rattle.std.proofs.Common.{◌≡◌, ◌*◌, arith, refl}
+use Rattle.shogi_core.specs.declared.moves.TheConstants.{FIRST_DROP, SQUARE_CODES}
 use Rattle.shogi_moves.specs.Sweeps.{KeepsBoard}
 use Rattle.shogi_moves.proofs.CaptureLaws.{wanted_jumps}
 use Rattle.shogi_moves.proofs.SweepLaws.{none_first, none_more, keeps_square}
@@ -16,11 +17,11 @@ squares-init c = record {
 }
 
 pub returns-then-ends-ne0-clause-some : goal.returns-then-ends-ne0-clause-some
-returns-then-ends-ne0-clause-some c = λ _. (c.if-ends-ne0.true, wanted_jumps c.args.p.now c.args.capture c.args.self.now.code (c.squares.square * 162) (omega (arith, c.squares.invariant.past)) (omega arith) c.squares.invariant.none)
+returns-then-ends-ne0-clause-some c = λ _. (c.if-ends-ne0.true, wanted_jumps c.args.p.now c.args.capture c.args.self.now.code (c.squares.square * SQUARE_CODES) (omega (arith, c.squares.invariant.past)) (omega arith) c.squares.invariant.none)
 
 pub squares-preserved : goal.squares-preserved
 squares-preserved c =
-    let here : KeepsBoard c.args.p.now c.args.capture c.squares.square (c.squares.square * 162) c.board_ends-ends.result.plain c.board_ends-ends.result.promoting =
+    let here : KeepsBoard c.args.p.now c.args.capture c.squares.square (c.squares.square * SQUARE_CODES) c.board_ends-ends.result.plain c.board_ends-ends.result.promoting =
     keeps_square c.args.p.now c.args.capture c.squares.square c.board_ends-ends.result.plain c.board_ends-ends.result.promoting c.board_ends-ends.ensures.plain_fits c.board_ends-ends.ensures.promoting_fits
     (rw c.of_index-from.ensures at c.board_ends-ends.ensures.plain) (rw c.of_index-from.ensures at c.board_ends-ends.ensures.promoting) in
     record {
@@ -35,5 +36,5 @@ squares-preserved c =
 
 pub returns-clause-end : goal.returns-clause-end
 returns-clause-end c = λ _. (
-    let last : c.squares.square * 162 ≡ 13122 = omega arith in
-    wanted_jumps c.args.p.now c.args.capture c.args.self.now.code 13122 (omega (arith, c.squares.invariant.past)) (omega arith) (rw last at c.squares.invariant.none))
+    let last : c.squares.square * SQUARE_CODES ≡ FIRST_DROP = omega arith in
+    wanted_jumps c.args.p.now c.args.capture c.args.self.now.code FIRST_DROP (omega (arith, c.squares.invariant.past)) (omega arith) (rw last at c.squares.invariant.none))

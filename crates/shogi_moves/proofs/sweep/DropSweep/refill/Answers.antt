@@ -1,5 +1,6 @@
 use Rattle.std.proofs.Common.{◌≡◌, ◌+◌, ◌*◌, arith, refl, subst, ℕ}
-use Rattle.shogi_core.specs.Pieces.{number_of}
+use Rattle.shogi_core.specs.declared.moves.TheConstants.{FIRST_DROP}
+use Rattle.shogi_core.specs.Pieces.{kind_number}
 use Rattle.shogi_moves.specs.Sweeps.{KeepsDrop}
 use Rattle.shogi_moves.proofs.SweepLaws.{keeps_kind, no_drop_left, no_drop_more, no_drop_to, no_drop_end}
 use Rattle.shogi_moves.proofs.sweep.DropSweep.refill.Goals as goal
@@ -14,22 +15,22 @@ kinds-init c = record {
 
 pub returns-then-ends-ne0-clause-some : goal.returns-then-ends-ne0-clause-some
 returns-then-ends-ne0-clause-some c = λ _. (
-    let next : number_of c.in-Some.next ≡ number_of c.kinds.kind + 1 = c.in-Some.ensures in
+    let next : kind_number c.in-Some.next ≡ kind_number c.kinds.kind + 1 = c.in-Some.ensures in
     (c.if-ends-ne0.true, rw c.number.ensures.number (no_drop_to c.args.p.now c.kinds.kind c.in-Some.next c.args.self.now.code c.kinds.invariant.none next c.kinds.invariant.past)))
 
 pub kinds-preserved : goal.kinds-preserved
 kinds-preserved c =
-    let next : number_of c.in-Some.next ≡ number_of c.kinds.kind + 1 = c.in-Some.ensures in
+    let next : kind_number c.in-Some.next ≡ kind_number c.kinds.kind + 1 = c.in-Some.ensures in
     let none : c.drop_ends-ends.result ≡ 0 = omega (arith, c.if-ends-ne0.false) in
-    let here : KeepsDrop c.args.p.now c.in-Some.next (13122 + number_of c.in-Some.next * 81) c.drop_ends-ends.result = keeps_kind c.args.p.now c.in-Some.next c.drop_ends-ends.result c.drop_ends-ends.ensures.fits c.drop_ends-ends.ensures.bits in
+    let here : KeepsDrop c.args.p.now c.in-Some.next (FIRST_DROP + kind_number c.in-Some.next * 81) c.drop_ends-ends.result = keeps_kind c.args.p.now c.in-Some.next c.drop_ends-ends.result c.drop_ends-ends.ensures.fits c.drop_ends-ends.ensures.bits in
     record {
       kept = c.kinds.invariant.kept;
       same = c.kinds.invariant.same;
-      none = no_drop_more c.args.p.now c.kinds.kind c.in-Some.next c.args.self.now.code c.kinds.invariant.none next (subst (λ (x : ℕ). KeepsDrop c.args.p.now c.in-Some.next (13122 + number_of c.in-Some.next * 81) x) none here);
+      none = no_drop_more c.args.p.now c.kinds.kind c.in-Some.next c.args.self.now.code c.kinds.invariant.none next (subst (λ (x : ℕ). KeepsDrop c.args.p.now c.in-Some.next (FIRST_DROP + kind_number c.in-Some.next * 81) x) none here);
       past = omega (arith, c.kinds.invariant.past);
     }
 
 pub returns-clause-end : goal.returns-clause-end
 returns-clause-end c = λ _. (
-    let last : number_of c.kinds.kind ≡ 6 = c.in_default.ensures in
+    let last : kind_number c.kinds.kind ≡ 6 = c.in_default.ensures in
     no_drop_end c.args.p.now c.kinds.kind c.args.self.now.code c.kinds.invariant.none last c.kinds.invariant.past)

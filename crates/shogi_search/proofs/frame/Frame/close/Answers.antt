@@ -15,7 +15,7 @@ returns-then-self-eq0-clause-truth c = rw c.if-self-eq0.true (omega (arith, ints
 pub returns-in-Some-top_move-clause-truth : goal.returns-in-Some-top_move-clause-truth
 returns-in-Some-top_move-clause-truth c =
     let deep : 0 < c.args.self.now.depth = omega arith in
-    let r : IsFound c.args.self.now.position c.args.self.now.depth _ (Some c.in-Some-top_move.m) = found_best _ _ _ _ _ _ _ deep (legal_rising c.args.self.now.position 0) (sym (ap move_of c.code.ensures.code) ∙ c.code.ensures.back) (c.requires.done c.in_default.is).1 c.in-Some-top_move.is (gone_through _ _ _ _ _ _ _ _ _ deep (c.requires.done c.in_default.is).0 c.args.self.now.covered) in
+    let r : IsFound c.args.self.now.position c.args.self.now.depth _ (Some c.in-Some-top_move.m) = found_best _ _ _ _ _ _ _ deep (legal_rising c.args.self.now.position 0) c.validity.ensures.back (c.requires.done c.in_default.is).1 c.in-Some-top_move.is (gone_through _ _ _ _ _ _ _ _ _ deep (c.requires.done c.in_default.is).0 c.args.self.now.covered) in
     (omega (arith, ints, r.value_is), r.best_is ∙ sym c.in-Some-top_move.is)
 
 pub returns-then-can_move-clause-truth : goal.returns-then-can_move-clause-truth

@@ -1,0 +1,46 @@
+-- Sequences of legal moves, counted by their first moves.
+use Rattle.std.proofs.Common.{◌≡◌, ℕ, ◌+◌, ◌-◌, ◌≤◌, List, [], ◌∷◌, refl, arith, length}
+use Rattle.std.specs.Prelude.{zero, suc, sum_by}
+use Rattle.std.proofs.lemmas.List.Sums.{sum_by-cons}
+use Rattle.shogi_core.specs.Position.{Shogi}
+use Rattle.shogi_moves.specs.After.{after_code}
+use Rattle.shogi_moves.specs.LegalMoves.{legal_moves, perft}
+
+-- those of n more moves behind each of the moves
+unfoldable pub perft_by : Shogi → ℕ → List ℕ → ℕ
+perft_by p n codes = sum_by (λ code. perft (after_code p code) n) codes
+
+-- no move more: the one sequence without moves
+pub perft_none : (p : Shogi) (n : ℕ) → n ≡ 0 → perft p n ≡ 1
+unfolding perft
+perft_none p n e = rw e refl
+
+-- one move more: by the first move
+pub perft_step : (p : Shogi) (n : ℕ) → 1 ≤ n → perft_by p (n - 1) (legal_moves p) ≡ perft p n
+unfolding perft perft_by
+perft_step p zero h = absurd (omega arith)
+perft_step p (suc n) h = let same : suc n - 1 ≡ n = omega arith in rw same refl
+
+-- what is left of them, move by move
+pub perft_by-none : (p : Shogi) (n : ℕ) → perft_by p n [] ≡ 0
+unfolding perft_by
+perft_by-none p n = refl
+
+pub perft_by-more : (p : Shogi) (n code : ℕ) (codes : List ℕ) → perft_by p n (code ∷ codes) ≡ perft (after_code p code) n + perft_by p n codes
+unfolding perft_by
+perft_by-more p n code codes = sum_by-cons (λ code. perft (after_code p code) n) code codes
+
+-- the first move's share of what is left
+pub perft_by-left : (p : Shogi) (n code : ℕ) (codes rest : List ℕ) (child : Shogi) → codes ≡ code ∷ rest → child ≡ after_code p code → perft_by p n codes ≡ perft child n + perft_by p n rest
+perft_by-left p n code codes rest child e f = rw (e, f) (perft_by-more p n code rest)
+
+-- one move: as many as are legal
+pub perft_one : (p : Shogi) → perft p 1 ≡ length (legal_moves p)
+unfolding perft
+perft_one p = go (legal_moves p)
+  where
+    go : (codes : List ℕ) → sum_by (λ code. perft (after_code p code) 0) codes ≡ length codes
+    go [] = refl
+    go (code ∷ codes) = omega (arith, sum_by-cons (λ code. perft (after_code p code) 0) code codes, go codes)
+
+pub ruleset steps = (perft_none, perft_step, perft_by-none)
