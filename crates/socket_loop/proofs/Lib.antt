@@ -1,3 +1,4 @@
+pub mod Chunks
 pub mod Peers
 pub mod Runs
 pub mod Parts
