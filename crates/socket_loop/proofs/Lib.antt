@@ -9,3 +9,4 @@ pub mod Quiet
 pub mod Stirs
 pub mod Pending
 pub mod Turning
+pub mod Calls
