@@ -10,3 +10,4 @@ pub mod Stirs
 pub mod Pending
 pub mod Turning
 pub mod Calls
+pub mod Rising

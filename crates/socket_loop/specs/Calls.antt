@@ -14,7 +14,7 @@ use Rattle.socket_loop.specs.declared.connection.Connection.{Connection}
 use Rattle.socket_loop.specs.declared.turn.TheConstants.{ACCEPTS}
 use Rattle.socket_loop.specs.declared.visit.TheConstants.{CHUNK}
 use Rattle.socket_loop.specs.Asked.{Call, Accept, Read, Write, Shut, Asks}
-use Rattle.socket_loop.specs.Links.{links_of, IsAmong}
+use Rattle.socket_loop.specs.Links.{links_of, IsAmong, IsRising}
 use Rattle.socket_loop.specs.Parts.{AreAll, AddsNoMark, IsAdmission, IsInput, IsOutput, IsEnd, is_finished_with}
 use Rattle.socket_loop.specs.Turns.{host_full}
 
@@ -134,6 +134,7 @@ pub record AsksTurn (slice : ℕ) (held : List Connection) (old : Option (List C
   pub met : List Connection
   pub stay : (link : Link) → IsAmong (links_of held) link → IsAmong (links_of met) link
   pub marks : (number : ℕ) → AddsNoMark held met number
+  pub rising : IsRising (links_of held) → IsRising (links_of met)
   pub read : List Connection
   pub asked_reads : Option (List Call)
   pub fed : HostState

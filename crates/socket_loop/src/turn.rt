@@ -2,7 +2,7 @@
 
 ghost use Rattle.std.specs.Prelude.{true, false, Ok, ◌≡◌, ◌≤◌, ◌<◌, ℕ, List, [], ◌∷◌, length, not, filter};
 ghost use Rattle.host_core.specs.Steps.{HostState};
-ghost use Rattle.socket_loop.specs.Links.{links_of};
+ghost use Rattle.socket_loop.specs.Links.{links_of, place_for, IsRising};
 ghost use Rattle.socket_loop.specs.Parts.{Serves, IsInput, IsOutput, IsEnd, KeepsAllMarks, AddsNoMark};
 ghost use Rattle.socket_loop.specs.Turns.{any_pending, host_full, Accepts, Admits, AllKeepMade, Fits, GoesOnServing, HasMoved, IsAway, IsOpening, IsQuiet, IsTurn, ServesNew, StaysKnown, Stirs};
 ghost use Rattle.socket_loop.specs.Asked.{Write, Shut, Asks};
@@ -47,7 +47,8 @@ impl<A: Allocator + Copy> Model for Loop<A> {
 
 /// The place for a connection whose session has this slot.
 fn place_of(held: &[Connection], slot: usize) -> usize
-    ensures { result ≤ length held.now }
+    ensures place { result ≡ place_for slot held.now }
+    ensures within { result ≤ length held.now }
 {
     for place in 0..held.len() {
         if held[place].link.id.slot > slot {
@@ -105,6 +106,7 @@ impl<A: Allocator + Copy> Loop<A> {
         ensures admits { (before : HostState) → IsOpening before (Ok link.id) host.old → Admits (links_of self.old.held) (W.told wire.old) before link.number (W.bound wire.old) (links_of self.new.held) (W.told wire.new) host.new }
         ensures marks { (number : ℕ) → AddsNoMark self.old.held self.new.held number }
         ensures bound { W.bound wire.new ≡ W.bound wire.old }
+        ensures rising { IsRising (links_of self.old.held) → IsRising (links_of self.new.held) }
         ensures slice { self.new.slice ≡ self.old.slice }
     {
         let mut connection = Connection {
@@ -126,6 +128,7 @@ impl<A: Allocator + Copy> Loop<A> {
         ensures admits { Admits (links_of self.old.held) (W.told wire.old) host.old number (W.bound wire.old) (links_of self.new.held) (W.told wire.new) host.new }
         ensures marks { (number : ℕ) → AddsNoMark self.old.held self.new.held number }
         ensures bound { W.bound wire.new ≡ W.bound wire.old }
+        ensures rising { IsRising (links_of self.old.held) → IsRising (links_of self.new.held) }
         ensures slice { self.new.slice ≡ self.old.slice }
     {
         match open_in(host) {
@@ -142,6 +145,7 @@ impl<A: Allocator + Copy> Loop<A> {
         ensures accepts { Accepts (links_of self.old.held) (W.bound wire.old) (W.told wire.old) host.old (links_of self.new.held) (W.bound wire.new) (W.told wire.new) host.new }
         ensures marks { (number : ℕ) → AddsNoMark self.old.held self.new.held number }
         ensures accepted { result ≡ true → W.bound wire.old < W.bound wire.new }
+        ensures rising { IsRising (links_of self.old.held) → IsRising (links_of self.new.held) }
         ensures slice { self.new.slice ≡ self.old.slice }
     {
         let mut moved = false;
@@ -243,6 +247,7 @@ impl<A: Allocator + Copy> Loop<A> {
         ensures quiet { IsQuiet result.moved (W.told wire.old) (filter (λ c. not c.is_shut) self.old.held) (W.told wire.new) self.new.held }
         ensures turned { IsTurn self.old.slice self.old.held (W.bound wire.old) (W.told wire.old) host.old self.new.held (W.bound wire.new) (W.told wire.new) host.new }
         ensures fits { Fits (links_of self.new.held) (W.bound wire.new) host.new }
+        ensures rising { IsRising (links_of self.old.held) → IsRising (links_of self.new.held) }
         ensures slice { self.new.slice ≡ self.old.slice }
     {
         let has_accepted = self.accept_all(host, wire);
@@ -276,6 +281,7 @@ impl<A: Allocator + Copy> Loop<A> {
         ensures starts { ServesNew (links_of self.old.held) (W.told wire.old) (links_of self.new.held) (W.told wire.new) host.new }
         ensures known { StaysKnown (W.told wire.old) (W.told wire.new) }
         ensures fits { Fits (links_of self.new.held) (W.bound wire.new) host.new }
+        ensures rising { IsRising (links_of self.old.held) → IsRising (links_of self.new.held) }
         ensures slice { self.new.slice ≡ self.old.slice }
     {
         self.take_turn(host, wire)

@@ -7,7 +7,7 @@ use Rattle.socket_loop.proofs.Calls.{asks_no_accept, asks_accept, asks_stop, ask
 use Rattle.socket_loop.proofs.turn.Loop.accept_all.Goals as goal
 
 pub loop-init : goal.loop-init
-loop-init g c = record { so_far = accepts_start _ _ _ _; marks = adds_same _; quiet = λ q. (kept_same _, search rules); accepted = λ e. absurd (cc); asked = asks_no_accept _; slice = search rules }
+loop-init g c = record { so_far = accepts_start _ _ _ _; marks = adds_same _; quiet = λ q. (kept_same _, search rules); accepted = λ e. absurd (cc); rising = λ r. r; asked = asks_no_accept _; slice = search rules }
 
 -- no connection waits
 pub returns-in_default-clause-accepts : goal.returns-in_default-clause-accepts
@@ -28,6 +28,7 @@ loop-preserved g c = record {
       let w : c.in-Ok-Some.number < g.W.Wire.bound c.accept.new.self = search rules in
       let x : g.W.Wire.bound c.admit.new.wire ≡ g.W.Wire.bound c.accept.new.self = c.admit.ensures.bound in
       omega arith);
+  rising = λ r. c.admit.ensures.rising (c.loop.invariant.rising r);
   asked = asks_accept c.loop.counter _ _ _ _ c.in-Ok-Some.number c.loop.invariant.asked (rw c.in-Ok-Some.field-0-is at c.in-Ok-Some.ensures.asked) c.admit.ensures.asked;
   slice = search rules;
 }

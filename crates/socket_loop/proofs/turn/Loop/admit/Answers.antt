@@ -18,6 +18,7 @@ returns-in-Err g c = record {
   asked = record { calls = Shut c.args.number ∷ []; admitted = inr (inl refl); asked = c.shut.ensures.asked };
   admits = admits_away _ _ _ _ _ c.args.number _ _ (away_mute _ _ _ c.args.number _ c.shut.ensures.shut) c.open_in.ensures;
   marks = adds_same _;
+  rising = λ r. r;
   bound = search rules;
   slice = search rules;
 }

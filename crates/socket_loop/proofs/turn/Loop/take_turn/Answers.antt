@@ -1,9 +1,10 @@
 use Rattle.std.proofs.Common.{rules, ◌≡◌, ◌≤◌, ◌∙◌, arith, []}
-use Rattle.socket_loop.specs.Links.{links_of}
+use Rattle.socket_loop.specs.Links.{links_of, IsRising}
 use Rattle.socket_loop.proofs.Turning.{turned, turn_fits, serves_rises}
 use Rattle.socket_loop.proofs.Quiet.{quiet_turn}
 use Rattle.socket_loop.proofs.Runs.{next_rises}
 use Rattle.socket_loop.proofs.Stirs.{moved_turn}
+use Rattle.socket_loop.proofs.Rising.{rising_filter}
 use Rattle.socket_loop.proofs.turn.Loop.take_turn.Goals as goal
 
 pub returns-clause-turned : goal.returns-clause-turned
@@ -70,6 +71,7 @@ returns-clause-asked g c =
       met = c.accept_all-has_accepted.new.self.held;
       stay = c.accept_all-has_accepted.ensures.accepts.stay;
       marks = c.accept_all-has_accepted.ensures.marks;
+      rising = c.accept_all-has_accepted.ensures.rising;
       read = c.read_all-has_read.new.self.held;
       asked_reads = g.W.Wire.asked c.read_all-has_read.new.wire;
       fed = c.read_all-has_read.new.host;
@@ -86,3 +88,10 @@ returns-clause-asked g c =
       ends = c.close_all-has_shut.ensures.asked;
       left = c.let_go.ensures.held;
     }
+
+pub returns-clause-rising : goal.returns-clause-rising
+returns-clause-rising g c = λ r.
+    let same : links_of c.close_all-has_shut.new.self.held ≡ links_of c.accept_all-has_accepted.new.self.held = c.close_all-has_shut.ensures.links ∙ (c.write_all-has_written.ensures.links ∙ c.read_all-has_read.ensures.links) in
+    let met : IsRising (links_of c.accept_all-has_accepted.new.self.held) = c.accept_all-has_accepted.ensures.rising r in
+    let last : IsRising (links_of c.close_all-has_shut.new.self.held) = rw same met in
+    rw c.let_go.ensures.held (rising_filter _ c.close_all-has_shut.new.self.held last)
