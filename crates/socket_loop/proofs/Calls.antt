@@ -1,17 +1,16 @@
 -- The calls of a turn, one after the other.
-use Rattle.std.proofs.Common.{◌≡◌, ◌⊎◌, ℕ, zero, suc, ◌+◌, ◌<◌, Bool, true, false, cond, List, [], ◌∷◌, ◌++◌, length, take, get_or, set, Option, Some, None, Result, Ok, Err, refl, sym, ap, ◌∙◌, arith, append_assoc, append-nil, inl, inr}
+use Rattle.std.proofs.Common.{◌≡◌, ℕ, zero, suc, ◌+◌, ◌<◌, Bool, true, false, cond, List, [], ◌∷◌, ◌++◌, length, take, get_or, set, Option, Some, None, Result, Ok, refl, sym, ap, ◌∙◌, arith, append_assoc, append-nil, inl, inr}
 use Rattle.std.proofs.lemmas.List.{length-map}
 use Rattle.std.proofs.Math.Seq.{take-append_seam}
 use Rattle.std.specs.Prelude.{not, ◌&&◌}
 use Rattle.session_slots.specs.declared.id.SessionId.{SessionId}
-use Rattle.session_slots.specs.Slots.{IsBelow}
-use Rattle.host_core.specs.Steps.{HostState, Stepped}
-use Rattle.host_core.specs.Events.{Event, Outcome, Feed, Take, Close}
-use Rattle.host_core.specs.Runs.{IsStep, IsRun}
+use Rattle.host_core.specs.Steps.{HostState}
+use Rattle.host_core.specs.Events.{Event, Outcome, Close}
+use Rattle.host_core.specs.Runs.{IsStep}
 use Rattle.host_core.proofs.Chains.{run-start}
 use Rattle.socket_loop.specs.declared.wire.WireFault.{WireFault}
 use Rattle.socket_loop.specs.declared.connection.Connection.{Connection}
-use Rattle.socket_loop.specs.Asked.{Call, Accept, Read, Write, Shut, Asks}
+use Rattle.socket_loop.specs.Asked.{Call, Accept, Shut, Asks}
 use Rattle.socket_loop.specs.Links.{links_of}
 use Rattle.socket_loop.specs.Parts.{IsClosing}
 use Rattle.socket_loop.specs.Calls.{IsOf, Visits, AreVisitedTo, AsksTo, AsksEach, IsAdmitted, AreAccepted, AsksAdmission, AsksAccepts, AsksAll, GivesNobody, shuts_of}

@@ -1,5 +1,5 @@
 -- A wire in memory: what it is seen as, what it tells, and what its calls answer and leave (own choice).
-use Rattle.std.specs.Prelude.{◌≡◌, ◌<◌, ◌+◌, ◌-◌, ◌^◌, ◌==◌, ◌||◌, ◌&&◌, not, cond, min, ℕ, Bool, true, false, List, [], ◌∷◌, ◌++◌, length, take, drop, map, slice_set, slice_index_or, nat_lt, Option, Some, None, Result, Ok, Err, IsSome}
+use Rattle.std.specs.Prelude.{◌+◌, ◌-◌, ◌^◌, ◌==◌, ◌||◌, ◌&&◌, not, cond, min, ℕ, Bool, true, false, List, [], ◌∷◌, ◌++◌, length, take, drop, slice_set, slice_index_or, nat_lt, Option, Some, None, Result, Ok, Err, IsSome}
 use Rattle.std.specs.Option.{option_map}
 use Rattle.std.specs.List.{slice_get, flat_map}
 use Rattle.socket_loop.specs.declared.wire.Got.{Got}

@@ -1,4 +1,4 @@
-use Rattle.std.proofs.Common.{rules, arith, ◌∙◌, sym}
+use Rattle.std.proofs.Common.{rules, ◌∙◌, sym}
 use Rattle.socket_loop.proofs.Chunks.{past_empty_removed, past_empty_same, past_empty_none}
 use Rattle.socket_loop.proofs.peer.skip_empty.Goals as goal
 

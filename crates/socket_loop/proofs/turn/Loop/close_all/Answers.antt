@@ -1,4 +1,4 @@
-use Rattle.std.proofs.Common.{rules, ◌≡◌, ◌∙◌, sym, inl, length}
+use Rattle.std.proofs.Common.{rules, ◌≡◌, ◌∙◌, sym, inl}
 use Rattle.socket_loop.specs.Parts.{IsEnd}
 use Rattle.socket_loop.specs.Links.{reads_ended}
 use Rattle.socket_loop.proofs.Peers.{kept_same}

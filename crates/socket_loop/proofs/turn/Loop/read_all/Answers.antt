@@ -1,4 +1,4 @@
-use Rattle.std.proofs.Common.{rules, ◌≡◌, ◌∙◌, [], length}
+use Rattle.std.proofs.Common.{rules, ◌≡◌, ◌∙◌, []}
 use Rattle.socket_loop.specs.Parts.{IsInput}
 use Rattle.socket_loop.proofs.Peers.{kept_same}
 use Rattle.socket_loop.proofs.Parts.{serves_same, serves_next, links_set}

@@ -1,4 +1,4 @@
-use Rattle.std.proofs.Common.{rules, ◌≡◌, ◌∙◌, sym, inl, [], length}
+use Rattle.std.proofs.Common.{rules, ◌≡◌, ◌∙◌, sym, inl, []}
 use Rattle.socket_loop.specs.Parts.{IsOutput}
 use Rattle.socket_loop.proofs.Peers.{kept_same}
 use Rattle.socket_loop.proofs.Parts.{serves_same, serves_next, links_set}
