@@ -86,7 +86,7 @@ fn one_that_takes_nothing_beside_one_that_does(rt: HostRuntime) -> Result<(), Fa
     Ok(())
 }
 
-// A line of 65,536 bytes is too long: the sixteenth piece ends the session.
+// A line of 65,536 bytes is too long: the sixteenth chunk ends the session.
 #[test]
 fn a_line_without_end(rt: HostRuntime) -> Result<(), Fail> {
     let mut scene = Scene::new(rt.alloc(), 1, 1000)?;
@@ -100,7 +100,7 @@ fn a_line_without_end(rt: HostRuntime) -> Result<(), Fail> {
 }
 
 #[test]
-fn a_thousand_connections_in_pieces_of_one_byte(rt: HostRuntime) -> Result<(), Fail> {
+fn a_thousand_connections_in_chunks_of_one_byte(rt: HostRuntime) -> Result<(), Fail> {
     let mut scene = Scene::new(rt.alloc(), 1024, 1000)?;
     for _ in 0..1024 {
         scene.connect_cut(b"isready\n", 1)?;

@@ -3,7 +3,7 @@
 use crate::scene::{ANSWER, GO_AND_QUIT, HOST_FULL, Scene};
 use std::test::Fail;
 
-// The first turn accepts both, tells the second that the host is full, and reads the first piece; the
+// The first turn accepts both, tells the second that the host is full, and reads the first chunk; the
 // second turn reads the rest, answers, and shuts.
 #[test]
 fn one_is_served_and_one_is_turned_away(rt: HostRuntime) -> Result<(), Fail> {

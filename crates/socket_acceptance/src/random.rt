@@ -67,7 +67,7 @@ fn dialogue(alloc: Global, random: &mut Random) -> Result<Vec<u8>, Fail> {
     Ok(sent)
 }
 
-/// A peer with a dialogue in pieces, some of them empty, and writes of some width.
+/// A peer with a dialogue in chunks, some of them empty, and writes of some width.
 fn connected(alloc: Global, scene: &mut Scene, random: &mut Random) -> Result<Client, Fail> {
     let sent = dialogue(alloc, random)?;
     let size = 1 + random.below(24) as usize;
@@ -85,9 +85,9 @@ fn connected(alloc: Global, scene: &mut Scene, random: &mut Random) -> Result<Cl
 /// What a session of its own says to the bytes, without a table.
 fn said_alone(alloc: Global, bytes: &[u8]) -> Result<Vec<u8>, Fail> {
     let mut session = Session::new(alloc);
-    for piece in bytes.chunks(4096) {
-        if session.wants_input() && piece.len() <= 4096 {
-            session.feed(piece)?;
+    for chunk in bytes.chunks(4096) {
+        if session.wants_input() && chunk.len() <= 4096 {
+            session.feed(chunk)?;
             session.work(&mut NoMemo, u64::MAX)?;
         }
     }

@@ -13,7 +13,7 @@ use std::test::Fail;
 pub const ANSWER: &[u8] = b"info depth 1 score cp 0 pv 1g1f\nbestmove 1g1f\n";
 /// What a connection is told that finds the host full.
 pub const HOST_FULL: &[u8] = b"info string host full\n";
-/// `go depth 1` and `quit`, in two pieces.
+/// `go depth 1` and `quit`, in two chunks.
 pub const GO_AND_QUIT: &[&[u8]] = &[b"go de", b"pth 1\nquit\n"];
 
 /// A host whose table has a hash without a seed.
@@ -56,29 +56,29 @@ impl Scene {
         })
     }
 
-    /// A new peer that gives these pieces, and then ends.
-    pub fn connect(&mut self, pieces: &[&[u8]]) -> Result<u64, Fail> {
+    /// A new peer that gives these chunks, and then ends.
+    pub fn connect(&mut self, chunks: &[&[u8]]) -> Result<u64, Fail> {
         let mut all = Vec::new(self.alloc);
-        for piece in pieces {
-            all.push(Vec::from_slice(self.alloc, piece)?)?;
+        for chunk in chunks {
+            all.push(Vec::from_slice(self.alloc, chunk)?)?;
         }
         Ok(self.wire.connect(all).map_err(|_| "memory for a peer")?)
     }
 
-    /// A new peer that gives these bytes in pieces of so many, and then ends.
+    /// A new peer that gives these bytes in chunks of so many, and then ends.
     pub fn connect_cut(&mut self, bytes: &[u8], size: usize) -> Result<u64, Fail>
         requires { 1 ≤ size }
     {
         let mut all = Vec::new(self.alloc);
-        for piece in bytes.chunks(size) {
-            all.push(Vec::from_slice(self.alloc, piece)?)?;
+        for chunk in bytes.chunks(size) {
+            all.push(Vec::from_slice(self.alloc, chunk)?)?;
         }
         Ok(self.wire.connect(all).map_err(|_| "memory for a peer")?)
     }
 
     /// Each write of the connection takes at most so many bytes.
     pub fn narrow(&mut self, number: u64, most: usize) {
-        if (number as usize) < self.wire.peers.len() {
+        if self.wire.is_known(number) {
             self.wire.narrow(number, most);
         }
     }
@@ -106,7 +106,7 @@ impl Scene {
 
     /// What was written to the connection.
     pub fn written(&self, number: u64) -> &[u8] {
-        if (number as usize) < self.wire.peers.len() {
+        if self.wire.is_known(number) {
             self.wire.written(number)
         } else {
             b""
@@ -115,23 +115,20 @@ impl Scene {
 
     /// Whether the connection was shut.
     pub fn is_shut(&self, number: u64) -> bool {
-        (number as usize) < self.wire.peers.len() && self.wire.is_shut(number)
+        self.wire.is_known(number) && self.wire.is_shut(number)
     }
 
     /// Whether a read or a write of the connection has failed.
     pub fn has_failed(&self, number: u64) -> bool {
-        match self.wire.peers.get(number as usize) {
-            Some(peer) => peer.has_failed,
-            None => false,
-        }
+        self.wire.is_known(number) && self.wire.has_failed(number)
     }
 
     /// How many bytes of the connection were not read.
     pub fn bytes_left(&self, number: u64) -> usize {
         let mut left = 0usize;
-        if let Some(peer) = self.wire.peers.get(number as usize) {
-            for piece in peer.pieces.as_slice() {
-                left = left.saturating_add(piece.len());
+        if self.wire.is_known(number) {
+            for chunk in self.wire.chunks(number) {
+                left = left.saturating_add(chunk.len());
             }
         }
         left

@@ -1,3 +1,4 @@
+pub mod Chunks
 pub mod Peers
 pub mod Runs
 pub mod Parts
@@ -8,3 +9,5 @@ pub mod Quiet
 pub mod Stirs
 pub mod Pending
 pub mod Turning
+pub mod Calls
+pub mod Rising

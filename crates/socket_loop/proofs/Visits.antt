@@ -74,42 +74,42 @@ write_fault a b number e buf w = record { consumed = Consumes-none _ _ w.unread;
 pub gave_nothing : (a : Told) (number : ℕ) → GaveBytes a a number []
 gave_nothing a number = record { consumed = Consumes-nil _; written = Keeps-refl _; shut = stays-refl _; failed = rises-refl _; others = λ x apart. kept_same a x }
 
-carried_fed : (m : List Connection) (bound : ℕ) (h : Link) (a b : Told) (before after : HostState) (piece : List ℕ) (l : Link) → Ties h l → GaveBytes a b h.number piece → Carried m bound a before (record { event = Feed h.id piece; outcome = Done } ∷ []) b after l
-carried_fed m bound h a b before after piece l t g =
+carried_fed : (m : List Connection) (bound : ℕ) (h : Link) (a b : Told) (before after : HostState) (chunk : List ℕ) (l : Link) → Ties h l → GaveBytes a b h.number chunk → Carried m bound a before (record { event = Feed h.id chunk; outcome = Done } ∷ []) b after l
+carried_fed m bound h a b before after chunk l t g =
     elim (cases_eq h.number l.number) [
       | inl same ↦
-          let at : cond (is_same_id h.id l.id) piece [] ≡ piece = at_id h.id l.id piece (t.by_number same) in
-          let u : Consumes (a.unread l.number) (b.unread l.number) piece = rw same at g.consumed in
+          let at : cond (is_same_id h.id l.id) chunk [] ≡ chunk = at_id h.id l.id chunk (t.by_number same) in
+          let u : Consumes (a.unread l.number) (b.unread l.number) chunk = rw same at g.consumed in
           let w : Keeps (a.written l.number) (b.written l.number) = rw same at g.written in
           let f : Stays (a.is_shut l.number) (b.is_shut l.number) = rw same at g.shut in
           record {
             lost = [];
-            consumed = rw at (subst (Consumes (a.unread l.number) (b.unread l.number)) (sym (append-nil (piece ++ []) ∙ append-nil piece)) u);
+            consumed = rw at (subst (Consumes (a.unread l.number) (b.unread l.number)) (sym (append-nil (chunk ++ []) ∙ append-nil chunk)) u);
             appended = Appends-none _ _ w;
             whole = inl refl;
             ends = inl (record { shut = f; closed = refl });
           }
       | inr apart ↦
-          let off : cond (is_same_id h.id l.id) piece [] ≡ [] = off_id h.id l.id piece (λ e. apart (t.by_id e)) in
-          carried_nothing m bound a b before after (record { event = Feed h.id piece; outcome = Done } ∷ []) l (rw off refl) refl refl (gave_others a b h piece l.number g apart)
+          let off : cond (is_same_id h.id l.id) chunk [] ≡ [] = off_id h.id l.id chunk (λ e. apart (t.by_id e)) in
+          carried_nothing m bound a b before after (record { event = Feed h.id chunk; outcome = Done } ∷ []) l (rw off refl) refl refl (gave_others a b h chunk l.number g apart)
     ]
 
 -- what was read was stored
-pub serves_fed : (m : List Connection) (bound : ℕ) (h : Link) (a b : Told) (before after : HostState) (piece : List ℕ) (o : Outcome) → is_done o ≡ true → GaveBytes a b h.number piece → IsStep before (record { event = Feed h.id piece; outcome = o }) after → Serves IsInput m bound (h ∷ []) a before b after
-serves_fed m bound h a b before after piece Done e g s = record {
-  steps = record { event = Feed h.id piece; outcome = Done } ∷ [];
+pub serves_fed : (m : List Connection) (bound : ℕ) (h : Link) (a b : Told) (before after : HostState) (chunk : List ℕ) (o : Outcome) → is_done o ≡ true → GaveBytes a b h.number chunk → IsStep before (record { event = Feed h.id chunk; outcome = o }) after → Serves IsInput m bound (h ∷ []) a before b after
+serves_fed m bound h a b before after chunk Done e g s = record {
+  steps = record { event = Feed h.id chunk; outcome = Done } ∷ [];
   kinds = (tt, tt);
   carries = record {
     chain = run-one before after _ s;
-    carried = λ l tied. carried_fed m bound h a b before after piece l tied.0 g;
-    others = λ x apart. gave_others a b h piece x g apart.0;
-    all = gave_move a b h.number piece g;
+    carried = λ l tied. carried_fed m bound h a b before after chunk l tied.0 g;
+    others = λ x apart. gave_others a b h chunk x g apart.0;
+    all = gave_move a b h.number chunk g;
   };
 }
-serves_fed m bound h a b before after piece (Opened id) e g s = absurd (cc)
-serves_fed m bound h a b before after piece (Worked n) e g s = absurd (cc)
-serves_fed m bound h a b before after piece (Gave bytes) e g s = absurd (cc)
-serves_fed m bound h a b before after piece (Refused fault) e g s = absurd (cc)
+serves_fed m bound h a b before after chunk (Opened id) e g s = absurd (cc)
+serves_fed m bound h a b before after chunk (Worked n) e g s = absurd (cc)
+serves_fed m bound h a b before after chunk (Gave bytes) e g s = absurd (cc)
+serves_fed m bound h a b before after chunk (Refused fault) e g s = absurd (cc)
 
 -- ---- shutting
 
@@ -123,37 +123,37 @@ record Closing (id : SessionId) (steps : List Step) : Type 0 where
   pub this : (other : SessionId) → id ≡ other → closes other steps ≡ true
   pub no_other : (other : SessionId) → (id ≡ other → ⊥) → closes other steps ≡ false
 
-shut_ends : (m : List Connection) (bound : ℕ) (h : Link) (a b c : Told) (before after : HostState) (steps : List Step) (piece : List ℕ) (l : Link) → Ties h l → GaveBytes a b h.number piece → Shuts bound b c h.number → Closing h.id steps → (piece ≡ []) ⊎ IsGone after h.id → Cause m a before steps c h → Carried m bound a before steps c after l
-shut_ends m bound h a b c before after steps piece l t g s closing whole why =
+shut_ends : (m : List Connection) (bound : ℕ) (h : Link) (a b c : Told) (before after : HostState) (steps : List Step) (chunk : List ℕ) (l : Link) → Ties h l → GaveBytes a b h.number chunk → Shuts bound b c h.number → Closing h.id steps → (chunk ≡ []) ⊎ IsGone after h.id → Cause m a before steps c h → Carried m bound a before steps c after l
+shut_ends m bound h a b c before after steps chunk l t g s closing whole why =
     elim (cases_eq h.number l.number) [
       | inl same ↦
           let id : h.id ≡ l.id = t.by_number same in
-          let u : Consumes (a.unread l.number) (c.unread l.number) piece = rw same at (Consumes-kept _ _ _ piece g.consumed s.unread) in
+          let u : Consumes (a.unread l.number) (c.unread l.number) chunk = rw same at (Consumes-kept _ _ _ chunk g.consumed s.unread) in
           let w : Keeps (a.written l.number) (c.written l.number) = rw same at (Keeps-trans _ _ _ g.written s.written) in
           let f : l.number < bound → IsRaised (a.is_shut l.number) (c.is_shut l.number) = rw same at (λ (lt : h.number < bound). stays_raised (a.is_shut h.number) (b.is_shut h.number) (c.is_shut h.number) g.shut (s.shut lt)) in
           let none : own l.id steps ≡ [] = closing.no_own l.id in
           let no_taken : taken l.id steps ≡ [] = closing.no_taken l.id in
           record {
-            lost = piece;
+            lost = chunk;
             consumed = rw none u;
             appended = rw no_taken (Appends-none _ _ w);
             whole = (rw id at whole);
             ends = inr (record { shut = f; closed = closing.this l.id id; cause = subst (λ (x : Link). Cause m a before steps c x) (same_link h l same id) why });
           }
       | inr apart ↦
-          let kept : KeepsPeer a c l.number = kept_then a b c l.number (gave_others a b h piece l.number g apart) (s.others l.number (λ e. apart (sym e))) in
+          let kept : KeepsPeer a c l.number = kept_then a b c l.number (gave_others a b h chunk l.number g apart) (s.others l.number (λ e. apart (sym e))) in
           carried_nothing m bound a c before after steps l (closing.no_own l.id) (closing.no_taken l.id) (closing.no_other l.id (λ e. apart (t.by_id e))) kept
     ]
 
-serves_closing : (kind : Event → Type 0) (m : List Connection) (bound : ℕ) (h : Link) (a b c : Told) (before after : HostState) (steps : List Step) (piece : List ℕ) → AreAll kind steps → IsRun before steps after → GaveBytes a b h.number piece → Shuts bound b c h.number → Closing h.id steps → (piece ≡ []) ⊎ IsGone after h.id → Cause m a before steps c h → Serves kind m bound (h ∷ []) a before c after
-serves_closing kind m bound h a b c before after steps piece kinds chain g s closing whole why = record {
+serves_closing : (kind : Event → Type 0) (m : List Connection) (bound : ℕ) (h : Link) (a b c : Told) (before after : HostState) (steps : List Step) (chunk : List ℕ) → AreAll kind steps → IsRun before steps after → GaveBytes a b h.number chunk → Shuts bound b c h.number → Closing h.id steps → (chunk ≡ []) ⊎ IsGone after h.id → Cause m a before steps c h → Serves kind m bound (h ∷ []) a before c after
+serves_closing kind m bound h a b c before after steps chunk kinds chain g s closing whole why = record {
   steps = steps;
   kinds = kinds;
   carries = record {
     chain = chain;
-    carried = λ l tied. shut_ends m bound h a b c before after steps piece l tied.0 g s closing whole why;
-    others = λ x apart. kept_then a b c x (gave_others a b h piece x g apart.0) (s.others x (λ e. apart.0 (sym e)));
-    all = moves_then a b c (gave_move a b h.number piece g) (shuts_move bound b c h.number s);
+    carried = λ l tied. shut_ends m bound h a b c before after steps chunk l tied.0 g s closing whole why;
+    others = λ x apart. kept_then a b c x (gave_others a b h chunk x g apart.0) (s.others x (λ e. apart.0 (sym e)));
+    all = moves_then a b c (gave_move a b h.number chunk g) (shuts_move bound b c h.number s);
   };
 }
 
@@ -175,29 +175,29 @@ serves_finished m bound h a c before after has_ended marked finished s close =
     (inr (inr (record { earlier = []; later = record { event = Close h.id; outcome = close.outcome } ∷ []; steps_are = refl; moment = before; run = run-start before; has_ended = has_ended; marked = marked; finished = finished })))
 
 -- a feed of a session that wants input is refused for memory alone
-pub refused_for_memory : (before after : HostState) (id : SessionId) (piece : List ℕ) (o : Outcome) (found : Option Talk) → find before.slots id ≡ found → wants_input_of found ≡ true → length piece ≤ 4096 → OnSession (Feeds piece) before id found o after → is_done o ≡ false → o ≡ Refused OutOfMemory
-refused_for_memory before after id piece o None e w few p d = absurd (cc)
-refused_for_memory before after id piece Done (Some t) e w few p d = absurd (cc)
-refused_for_memory before after id piece (Opened x) (Some t) e w few p d = absurd p.went
-refused_for_memory before after id piece (Worked x) (Some t) e w few p d = absurd p.went
-refused_for_memory before after id piece (Gave x) (Some t) e w few p d = absurd p.went
-refused_for_memory before after id piece (Refused Full) (Some t) e w few p d = absurd p.went
-refused_for_memory before after id piece (Refused UnknownSession) (Some t) e w few p d = absurd p.went
-refused_for_memory before after id piece (Refused OutOfMemory) (Some t) e w few p d = refl
-refused_for_memory before after id piece (Refused NotReady) (Some t) e w few p d = absurd (p.went.0 (w, few))
+pub refused_for_memory : (before after : HostState) (id : SessionId) (chunk : List ℕ) (o : Outcome) (found : Option Talk) → find before.slots id ≡ found → wants_input_of found ≡ true → length chunk ≤ 4096 → OnSession (Feeds chunk) before id found o after → is_done o ≡ false → o ≡ Refused OutOfMemory
+refused_for_memory before after id chunk o None e w few p d = absurd (cc)
+refused_for_memory before after id chunk Done (Some t) e w few p d = absurd (cc)
+refused_for_memory before after id chunk (Opened x) (Some t) e w few p d = absurd p.went
+refused_for_memory before after id chunk (Worked x) (Some t) e w few p d = absurd p.went
+refused_for_memory before after id chunk (Gave x) (Some t) e w few p d = absurd p.went
+refused_for_memory before after id chunk (Refused Full) (Some t) e w few p d = absurd p.went
+refused_for_memory before after id chunk (Refused UnknownSession) (Some t) e w few p d = absurd p.went
+refused_for_memory before after id chunk (Refused OutOfMemory) (Some t) e w few p d = refl
+refused_for_memory before after id chunk (Refused NotReady) (Some t) e w few p d = absurd (p.went.0 (w, few))
 
 -- what was read was refused for memory, and the connection was shut
-pub serves_starved : (m : List Connection) (bound : ℕ) (h : Link) (a b c : Told) (before mid after : HostState) (piece : List ℕ) (o : Outcome) → wants_input_of (find before.slots h.id) ≡ true → length piece ≤ 4096 → is_done o ≡ false → GaveBytes a b h.number piece → Shuts bound b c h.number → IsStep before (record { event = Feed h.id piece; outcome = o }) mid → IsClosing mid h.id after → IsGone after h.id → Serves IsInput m bound (h ∷ []) a before c after
-serves_starved m bound h a b c before mid after piece o wants few d g s step close out =
-    let is : o ≡ Refused OutOfMemory = refused_for_memory before mid h.id piece o (find before.slots h.id) refl wants few step.stepped.0 d in
+pub serves_starved : (m : List Connection) (bound : ℕ) (h : Link) (a b c : Told) (before mid after : HostState) (chunk : List ℕ) (o : Outcome) → wants_input_of (find before.slots h.id) ≡ true → length chunk ≤ 4096 → is_done o ≡ false → GaveBytes a b h.number chunk → Shuts bound b c h.number → IsStep before (record { event = Feed h.id chunk; outcome = o }) mid → IsClosing mid h.id after → IsGone after h.id → Serves IsInput m bound (h ∷ []) a before c after
+serves_starved m bound h a b c before mid after chunk o wants few d g s step close out =
+    let is : o ≡ Refused OutOfMemory = refused_for_memory before mid h.id chunk o (find before.slots h.id) refl wants few step.stepped.0 d in
     starved (rw is at step)
   where
-    closing : Closing h.id (record { event = Feed h.id piece; outcome = Refused OutOfMemory } ∷ record { event = Close h.id; outcome = close.outcome } ∷ [])
+    closing : Closing h.id (record { event = Feed h.id chunk; outcome = Refused OutOfMemory } ∷ record { event = Close h.id; outcome = close.outcome } ∷ [])
     closing = record { no_own = λ x. refl; no_taken = λ x. refl; this = λ x e. closes_this h x e; no_other = λ x f. closes_other h x f }
 
-    starved : IsStep before (record { event = Feed h.id piece; outcome = Refused OutOfMemory }) mid → Serves IsInput m bound (h ∷ []) a before c after
+    starved : IsStep before (record { event = Feed h.id chunk; outcome = Refused OutOfMemory }) mid → Serves IsInput m bound (h ∷ []) a before c after
     starved first =
-        serves_closing IsInput m bound h a b c before after (record { event = Feed h.id piece; outcome = Refused OutOfMemory } ∷ record { event = Close h.id; outcome = close.outcome } ∷ []) piece (tt, (tt, tt)) (run-two before mid after _ _ first close.step) g s closing (inr out)
+        serves_closing IsInput m bound h a b c before after (record { event = Feed h.id chunk; outcome = Refused OutOfMemory } ∷ record { event = Close h.id; outcome = close.outcome } ∷ []) chunk (tt, (tt, tt)) (run-two before mid after _ _ first close.step) g s closing (inr out)
         (inr (inl (or_left (is_same_id h.id h.id) (false || false) (is_same_id-refl h.id))))
 
 wants_some : (f : Option Talk) → wants_input_of f ≡ true → IsSome f

@@ -1,5 +1,5 @@
 -- Connections and their sessions (own choice).
-use Rattle.std.specs.Prelude.{◌≡◌, ◌≢◌, ◌⊎◌, ⊤, ℕ, List, [], ◌∷◌, Bool, true, map}
+use Rattle.std.specs.Prelude.{◌≡◌, ◌≢◌, ◌≤◌, ◌⊎◌, ⊤, ℕ, suc, List, [], ◌∷◌, Bool, true, cond, nat_lt, map}
 use Rattle.socket_loop.specs.declared.connection.Link.{Link}
 use Rattle.socket_loop.specs.declared.connection.Connection.{Connection}
 
@@ -38,3 +38,20 @@ reads_ended connection = connection.has_ended
 -- it was shut
 abbrev pub was_shut : Connection → Bool
 was_shut connection = connection.is_shut
+
+-- ---- by rising slot
+
+-- each of these has this slot, or a greater one
+abbrev pub AreFrom : ℕ → List Link → Type 0
+AreFrom slot [] = ⊤
+AreFrom slot (first ∷ rest) = (slot ≤ first.id.slot) × AreFrom slot rest
+
+-- the slots never fall from one to the next
+abbrev pub IsRising : List Link → Type 0
+IsRising [] = ⊤
+IsRising (first ∷ rest) = AreFrom first.id.slot rest × IsRising rest
+
+-- the place before the first connection with a greater slot
+abbrev pub place_for : ℕ → List Connection → ℕ
+place_for slot [] = 0
+place_for slot (first ∷ rest) = cond (nat_lt slot first.link.id.slot) 0 (suc (place_for slot rest))

@@ -42,7 +42,7 @@ AreAll kind (step ∷ rest) = kind step.event × AreAll kind rest
 -- sessions are opened or closed
 abbrev pub IsAdmission : Event → Type 0
 IsAdmission Open = ⊤
-IsAdmission (Feed id piece) = ⊥
+IsAdmission (Feed id chunk) = ⊥
 IsAdmission (Work id budget) = ⊥
 IsAdmission (Take id n) = ⊥
 IsAdmission (Close id) = ⊤
@@ -50,7 +50,7 @@ IsAdmission (Close id) = ⊤
 -- sessions are fed or closed
 abbrev pub IsInput : Event → Type 0
 IsInput Open = ⊥
-IsInput (Feed id piece) = ⊤
+IsInput (Feed id chunk) = ⊤
 IsInput (Work id budget) = ⊥
 IsInput (Take id n) = ⊥
 IsInput (Close id) = ⊤
@@ -58,7 +58,7 @@ IsInput (Close id) = ⊤
 -- bytes are taken from sessions, or sessions are closed
 abbrev pub IsOutput : Event → Type 0
 IsOutput Open = ⊥
-IsOutput (Feed id piece) = ⊥
+IsOutput (Feed id chunk) = ⊥
 IsOutput (Work id budget) = ⊥
 IsOutput (Take id n) = ⊤
 IsOutput (Close id) = ⊤
@@ -66,7 +66,7 @@ IsOutput (Close id) = ⊤
 -- sessions are closed
 abbrev pub IsEnd : Event → Type 0
 IsEnd Open = ⊥
-IsEnd (Feed id piece) = ⊥
+IsEnd (Feed id chunk) = ⊥
 IsEnd (Work id budget) = ⊥
 IsEnd (Take id n) = ⊥
 IsEnd (Close id) = ⊤
@@ -74,7 +74,7 @@ IsEnd (Close id) = ⊤
 abbrev pub closes_by : SessionId → Event → Bool
 closes_by id (Close other) = is_same_id other id
 closes_by id Open = false
-closes_by id (Feed other piece) = false
+closes_by id (Feed other chunk) = false
 closes_by id (Work other budget) = false
 closes_by id (Take other n) = false
 
@@ -84,7 +84,7 @@ closes id [] = false
 closes id (step ∷ rest) = closes_by id step.event || closes id rest
 
 abbrev pub starves_by : SessionId → Event → Outcome → Bool
-starves_by id (Feed other piece) (Refused OutOfMemory) = is_same_id other id
+starves_by id (Feed other chunk) (Refused OutOfMemory) = is_same_id other id
 starves_by id _ _ = false
 
 -- a `Feed` of a session is refused for memory in the steps

@@ -49,7 +49,7 @@ IsOneOf (first ∷ rest) new = (new ≡ first) ⊎ IsOneOf rest new
 
 abbrev pub openings_by : Event → Outcome → List Outcome
 openings_by Open outcome = outcome ∷ []
-openings_by (Feed id piece) outcome = []
+openings_by (Feed id chunk) outcome = []
 openings_by (Work id budget) outcome = []
 openings_by (Take id n) outcome = []
 openings_by (Close id) outcome = []

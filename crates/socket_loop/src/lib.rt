@@ -3,11 +3,12 @@
 
 mod connection;
 mod memory;
+mod peer;
 mod turn;
 mod visit;
 mod wire;
 
 pub use connection::{Connection, Link};
-pub use memory::{MemoryWire, Peer};
+pub use memory::MemoryWire;
 pub use turn::{Loop, Turn};
 pub use wire::{Got, Wire, WireFault};

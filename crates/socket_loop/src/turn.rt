@@ -1,11 +1,14 @@
 //! A loop that serves the sessions of a host to the connections of a wire.
 
-ghost use Rattle.std.specs.Prelude.{true, false, Ok, ◌≡◌, ◌≤◌, ◌<◌, ℕ, List, [], length, not, filter};
+ghost use Rattle.std.specs.Prelude.{true, false, Ok, ◌≡◌, ◌≤◌, ◌<◌, ℕ, List, [], ◌∷◌, length, not, filter};
 ghost use Rattle.host_core.specs.Steps.{HostState};
-ghost use Rattle.socket_loop.specs.Links.{links_of};
+ghost use Rattle.socket_loop.specs.Links.{links_of, place_for, IsRising};
 ghost use Rattle.socket_loop.specs.Parts.{Serves, IsInput, IsOutput, IsEnd, KeepsAllMarks, AddsNoMark};
 ghost use Rattle.socket_loop.specs.Turns.{any_pending, host_full, Accepts, Admits, AllKeepMade, Fits, GoesOnServing, HasMoved, IsAway, IsOpening, IsQuiet, IsTurn, ServesNew, StaysKnown, Stirs};
+ghost use Rattle.socket_loop.specs.Asked.{Write, Shut, Asks};
+ghost use Rattle.socket_loop.specs.Calls.{AsksAdmission, AsksAll, AsksEach, AsksTurn, reads_of, writes_of, ends_of};
 ghost use Rattle.socket_loop.specs.declared.connection.Connection.{Connection};
+ghost use Rattle.socket_loop.specs.declared.turn.TheConstants.{ACCEPTS};
 
 use crate::connection::{Connection, Link};
 use crate::visit::{close_if_finished, read_from, shut_down, write_to};
@@ -15,6 +18,9 @@ use session_slots::SessionId;
 use std::alloc::Allocator;
 use std::hash::BuildHasher;
 use std::marker::Model;
+
+/// The most connections that are accepted in a turn.
+pub const ACCEPTS: usize = 16;
 
 /// What a turn did.
 #[derive(Clone, Copy, Debug, PartialEq, Eq)]
@@ -41,7 +47,8 @@ impl<A: Allocator + Copy> Model for Loop<A> {
 
 /// The place for a connection whose session has this slot.
 fn place_of(held: &[Connection], slot: usize) -> usize
-    ensures { result ≤ length held.now }
+    ensures place { result ≡ place_for slot held.now }
+    ensures within { result ≤ length held.now }
 {
     for place in 0..held.len() {
         if held[place].link.id.slot > slot {
@@ -73,6 +80,7 @@ fn drop_shut<A: Allocator>(held: &mut Vec<Connection, A>)
 
 /// Tells a connection that the host is full, in one write, and shuts it.
 fn turn_away<W: Wire>(wire: &mut W, number: u64)
+    ensures asked { Asks (W.asked wire.old) (W.asked wire.new) (Write number host_full ∷ Shut number ∷ []) }
     ensures away { IsAway (W.bound wire.old) host_full (W.told wire.old) (W.told wire.new) number }
     ensures bound { W.bound wire.new ≡ W.bound wire.old }
 {
@@ -94,9 +102,11 @@ impl<A: Allocator + Copy> Loop<A> {
 
     /// Holds a new connection with its session; where memory is refused, both end.
     fn hold<W: Wire, S: BuildHasher>(&mut self, host: &mut Host<S, A>, wire: &mut W, link: Link)
+        ensures asked { AsksAdmission link.number (W.asked wire.old) (W.asked wire.new) }
         ensures admits { (before : HostState) → IsOpening before (Ok link.id) host.old → Admits (links_of self.old.held) (W.told wire.old) before link.number (W.bound wire.old) (links_of self.new.held) (W.told wire.new) host.new }
         ensures marks { (number : ℕ) → AddsNoMark self.old.held self.new.held number }
         ensures bound { W.bound wire.new ≡ W.bound wire.old }
+        ensures rising { IsRising (links_of self.old.held) → IsRising (links_of self.new.held) }
         ensures slice { self.new.slice ≡ self.old.slice }
     {
         let mut connection = Connection {
@@ -114,9 +124,11 @@ impl<A: Allocator + Copy> Loop<A> {
     /// Opens a session for a new connection. Where the host is full it is told so and shut; where there
     /// is no memory for a session it is shut without a word.
     fn admit<W: Wire, S: BuildHasher>(&mut self, host: &mut Host<S, A>, wire: &mut W, number: u64)
+        ensures asked { AsksAdmission number (W.asked wire.old) (W.asked wire.new) }
         ensures admits { Admits (links_of self.old.held) (W.told wire.old) host.old number (W.bound wire.old) (links_of self.new.held) (W.told wire.new) host.new }
         ensures marks { (number : ℕ) → AddsNoMark self.old.held self.new.held number }
         ensures bound { W.bound wire.new ≡ W.bound wire.old }
+        ensures rising { IsRising (links_of self.old.held) → IsRising (links_of self.new.held) }
         ensures slice { self.new.slice ≡ self.old.slice }
     {
         match open_in(host) {
@@ -126,16 +138,18 @@ impl<A: Allocator + Copy> Loop<A> {
         }
     }
 
-    /// Accepts new connections, at most 16. True where one was accepted.
+    /// Accepts new connections, at most `ACCEPTS`. True where one was accepted.
     fn accept_all<W: Wire, S: BuildHasher>(&mut self, host: &mut Host<S, A>, wire: &mut W) -> bool
+        ensures asked { AsksAll (W.asked wire.old) (W.asked wire.new) }
         ensures quiet { IsQuiet result (W.told wire.old) self.old.held (W.told wire.new) self.new.held }
         ensures accepts { Accepts (links_of self.old.held) (W.bound wire.old) (W.told wire.old) host.old (links_of self.new.held) (W.bound wire.new) (W.told wire.new) host.new }
         ensures marks { (number : ℕ) → AddsNoMark self.old.held self.new.held number }
         ensures accepted { result ≡ true → W.bound wire.old < W.bound wire.new }
+        ensures rising { IsRising (links_of self.old.held) → IsRising (links_of self.new.held) }
         ensures slice { self.new.slice ≡ self.old.slice }
     {
         let mut moved = false;
-        for _ in 0..16 {
+        for _ in 0..ACCEPTS {
             let Ok(Some(number)) = wire.accept() else {
                 return moved;
             };
@@ -147,6 +161,7 @@ impl<A: Allocator + Copy> Loop<A> {
 
     /// One read for each connection whose session wants input. True where something moved.
     fn read_all<W: Wire, S: BuildHasher>(&mut self, host: &mut Host<S, A>, wire: &mut W) -> bool
+        ensures asked { AsksEach reads_of IsInput host.old self.old.held self.new.held (W.asked wire.old) (W.asked wire.new) host.new }
         ensures quiet { IsQuiet result (W.told wire.old) self.old.held (W.told wire.new) self.new.held }
         ensures serves { (marks : List Connection) → Serves IsInput marks (W.bound wire.old) (links_of self.old.held) (W.told wire.old) host.old (W.told wire.new) host.new }
         ensures marks { KeepsAllMarks (W.bound wire.old) (W.told wire.old) self.old.held (W.told wire.new) self.new.held }
@@ -166,6 +181,7 @@ impl<A: Allocator + Copy> Loop<A> {
 
     /// One write for each connection with queued bytes. True where something moved.
     fn write_all<W: Wire, S: BuildHasher>(&mut self, host: &mut Host<S, A>, wire: &mut W) -> bool
+        ensures asked { AsksEach writes_of IsOutput host.old self.old.held self.new.held (W.asked wire.old) (W.asked wire.new) host.new }
         ensures quiet { IsQuiet result (W.told wire.old) self.old.held (W.told wire.new) self.new.held }
         ensures serves { (marks : List Connection) → Serves IsOutput marks (W.bound wire.old) (links_of self.old.held) (W.told wire.old) host.old (W.told wire.new) host.new }
         ensures marks { KeepsAllMarks (W.bound wire.old) (W.told wire.old) self.old.held (W.told wire.new) self.new.held }
@@ -185,6 +201,7 @@ impl<A: Allocator + Copy> Loop<A> {
 
     /// Shuts each connection that is finished with. True where one was shut.
     fn close_all<W: Wire, S: BuildHasher>(&mut self, host: &mut Host<S, A>, wire: &mut W) -> bool
+        ensures asked { AsksEach ends_of IsEnd host.old self.old.held self.new.held (W.asked wire.old) (W.asked wire.new) host.new }
         ensures quiet { IsQuiet result (W.told wire.old) self.old.held (W.told wire.new) self.new.held }
         ensures serves { Serves IsEnd self.old.held (W.bound wire.old) (links_of self.old.held) (W.told wire.old) host.old (W.told wire.new) host.new }
         ensures marks { KeepsAllMarks (W.bound wire.old) (W.told wire.old) self.old.held (W.told wire.new) self.new.held }
@@ -224,11 +241,13 @@ impl<A: Allocator + Copy> Loop<A> {
     /// The five parts of a turn.
     fn take_turn<W: Wire, S: BuildHasher>(&mut self, host: &mut Host<S, A>, wire: &mut W) -> Turn
         requires fits { Fits (links_of self.old.held) (W.bound wire.old) host.old }
+        ensures asked { AsksTurn self.old.slice self.old.held (W.asked wire.old) host.old self.new.held (W.asked wire.new) host.new }
         ensures moved { result.moved ≡ true → HasMoved (W.bound wire.old) (W.told wire.old) self.old.held (W.bound wire.new) (W.told wire.new) self.new.held host.new }
         ensures pending { result.moved ≡ false → any_pending host.new (links_of self.new.held) ≡ false }
         ensures quiet { IsQuiet result.moved (W.told wire.old) (filter (λ c. not c.is_shut) self.old.held) (W.told wire.new) self.new.held }
         ensures turned { IsTurn self.old.slice self.old.held (W.bound wire.old) (W.told wire.old) host.old self.new.held (W.bound wire.new) (W.told wire.new) host.new }
         ensures fits { Fits (links_of self.new.held) (W.bound wire.new) host.new }
+        ensures rising { IsRising (links_of self.old.held) → IsRising (links_of self.new.held) }
         ensures slice { self.new.slice ≡ self.old.slice }
     {
         let has_accepted = self.accept_all(host, wire);
@@ -253,6 +272,7 @@ impl<A: Allocator + Copy> Loop<A> {
     /// it failed, a feed of its session was refused for memory, or it was finished with.
     pub fn turn<W: Wire, S: BuildHasher>(&mut self, host: &mut Host<S, A>, wire: &mut W) -> Turn
         requires fits { Fits (links_of self.old.held) (W.bound wire.old) host.old }
+        ensures asked { AsksTurn self.old.slice self.old.held (W.asked wire.old) host.old self.new.held (W.asked wire.new) host.new }
         ensures moved { result.moved ≡ true → HasMoved (W.bound wire.old) (W.told wire.old) self.old.held (W.bound wire.new) (W.told wire.new) self.new.held host.new }
         ensures pending { result.moved ≡ false → any_pending host.new (links_of self.new.held) ≡ false }
         ensures quiet { IsQuiet result.moved (W.told wire.old) (filter (λ c. not c.is_shut) self.old.held) (W.told wire.new) self.new.held }
@@ -261,6 +281,7 @@ impl<A: Allocator + Copy> Loop<A> {
         ensures starts { ServesNew (links_of self.old.held) (W.told wire.old) (links_of self.new.held) (W.told wire.new) host.new }
         ensures known { StaysKnown (W.told wire.old) (W.told wire.new) }
         ensures fits { Fits (links_of self.new.held) (W.bound wire.new) host.new }
+        ensures rising { IsRising (links_of self.old.held) → IsRising (links_of self.new.held) }
         ensures slice { self.new.slice ≡ self.old.slice }
     {
         self.take_turn(host, wire)

@@ -8,6 +8,9 @@ ghost use Rattle.session_slots.specs.Slots.{find};
 ghost use Rattle.socket_loop.specs.Links.{IsMarked, reads_ended};
 ghost use Rattle.socket_loop.specs.Parts.{Serves, GaveBytes, IsClosing, IsEmptied, IsEnd, IsGone, IsInput, IsOutput, is_done, is_finished_with};
 ghost use Rattle.socket_loop.specs.Told.{IsRaised, Shuts, Told};
+ghost use Rattle.socket_loop.specs.Asked.{Shut, Asks};
+ghost use Rattle.socket_loop.specs.Calls.{Visits, shuts_of, reads_of, writes_of, ends_of, is_to_read};
+ghost use Rattle.socket_loop.specs.declared.visit.TheConstants.{CHUNK};
 ghost use Rattle.socket_loop.specs.Turns.{EndsOrShuts, IsQuiet, KeepsMade, Transfers};
 ghost use Rattle.socket_loop.specs.declared.connection.Connection.{Connection};
 
@@ -17,6 +20,9 @@ use host_core::{Event, Host, Outcome};
 use std::alloc::Allocator;
 use std::hash::BuildHasher;
 
+/// The most bytes of one read.
+pub const CHUNK: usize = 4096;
+
 /// Shuts a connection and closes its session.
 pub fn shut_down<W: Wire, S: BuildHasher, A: Allocator + Copy>(
     connection: &mut Connection,
@@ -24,6 +30,7 @@ pub fn shut_down<W: Wire, S: BuildHasher, A: Allocator + Copy>(
     wire: &mut W,
 )
     ensures shuts { Shuts (W.bound wire.old) (W.told wire.old) (W.told wire.new) connection.old.link.number }
+    ensures asked { Asks (W.asked wire.old) (W.asked wire.new) (Shut connection.old.link.number ∷ []) }
     ensures closed { IsClosing host.old connection.old.link.id host.new }
     ensures gone { connection.old.link.id.generation < host.old.slots.next → IsGone host.new connection.old.link.id }
     ensures link { connection.new.link ≡ connection.old.link }
@@ -50,11 +57,13 @@ fn feed_from<W: Wire, S: BuildHasher, A: Allocator + Copy>(
     connection: &mut Connection,
     host: &mut Host<S, A>,
     wire: &mut W,
-    piece: &[u8],
+    chunk: &[u8],
 )
     requires wants { wants_input_of (find host.old.slots connection.old.link.id) ≡ true }
-    requires few { length piece.now ≤ 4096 }
-    ensures serves { (marks : List Connection) (before : Told) → GaveBytes before (W.told wire.old) connection.old.link.number piece.now → Serves IsInput marks (W.bound wire.old) (connection.old.link ∷ []) before host.old (W.told wire.new) host.new }
+    requires few { length chunk.now ≤ CHUNK }
+    ensures asked { connection.old.is_shut ≡ false → Asks (W.asked wire.old) (W.asked wire.new) (shuts_of connection.old connection.new) }
+    ensures visits { Visits IsInput connection.old.link.id host.old host.new }
+    ensures serves { (marks : List Connection) (before : Told) → GaveBytes before (W.told wire.old) connection.old.link.number chunk.now → Serves IsInput marks (W.bound wire.old) (connection.old.link ∷ []) before host.old (W.told wire.new) host.new }
     ensures shut { connection.new.is_shut ≡ true → (connection.old.is_shut ≡ true) ⊎ (connection.old.link.number < W.bound wire.old → IsRaised ((W.told wire.old).is_shut connection.old.link.number) ((W.told wire.new).is_shut connection.old.link.number)) }
     ensures unread { Keeps ((W.told wire.old).unread connection.old.link.number) ((W.told wire.new).unread connection.old.link.number) }
     ensures made { KeepsMade connection.old connection.new }
@@ -63,11 +72,23 @@ fn feed_from<W: Wire, S: BuildHasher, A: Allocator + Copy>(
     ensures bound { W.bound wire.new ≡ W.bound wire.old }
     ensures next { host.old.slots.next ≤ host.new.slots.next }
 {
-    let outcome = host.step(Event::Feed(connection.link.id, piece));
+    let outcome = host.step(Event::Feed(connection.link.id, chunk));
     if was_done(&outcome) {
         return;
     }
     shut_down(connection, host, wire);
+}
+
+/// Whether a connection is to be read.
+fn is_to_read<S: BuildHasher, A: Allocator + Copy>(
+    connection: &Connection,
+    host: &Host<S, A>,
+) -> bool
+    ensures test { result ≡ is_to_read host.now connection.now }
+    ensures wants { result ≡ true → wants_input_of (find host.now.slots connection.now.link.id) ≡ true }
+    ensures open { result ≡ true → connection.now.is_shut ≡ false }
+{
+    !connection.has_ended && !connection.is_shut && host.wants_input(connection.link.id)
 }
 
 /// One read of at most 4,096 bytes for a connection whose session wants input, and what it gave is
@@ -78,6 +99,8 @@ pub fn read_from<W: Wire, S: BuildHasher, A: Allocator + Copy>(
     host: &mut Host<S, A>,
     wire: &mut W,
 ) -> bool
+    ensures asked { Asks (W.asked wire.old) (W.asked wire.new) (reads_of host.old connection.old connection.new) }
+    ensures visits { Visits IsInput connection.old.link.id host.old host.new }
     ensures quiet { IsQuiet result (W.told wire.old) connection.old (W.told wire.new) connection.new }
     ensures stirs { result ≡ true → Transfers (W.told wire.old) (W.told wire.new) connection.old.link.number ⊎ EndsOrShuts connection.old connection.new }
     ensures made { KeepsMade connection.old connection.new }
@@ -89,13 +112,13 @@ pub fn read_from<W: Wire, S: BuildHasher, A: Allocator + Copy>(
     ensures next { host.old.slots.next ≤ host.new.slots.next }
 {
     let link = connection.link;
-    if connection.has_ended || connection.is_shut || !host.wants_input(link.id) {
+    if !is_to_read(connection, host) {
         return false;
     }
-    let mut piece = [0u8; 4096];
-    match wire.read(link.number, &mut piece) {
+    let mut chunk = [0u8; CHUNK];
+    match wire.read(link.number, &mut chunk) {
         Ok(Got::Bytes(n)) => {
-            let (bytes, _) = piece.split_at(n);
+            let (bytes, _) = chunk.split_at(n);
             feed_from(connection, host, wire, bytes);
             true
         }
@@ -119,6 +142,8 @@ pub fn write_to<W: Wire, S: BuildHasher, A: Allocator + Copy>(
     host: &mut Host<S, A>,
     wire: &mut W,
 ) -> bool
+    ensures asked { Asks (W.asked wire.old) (W.asked wire.new) (writes_of host.old connection.old connection.new) }
+    ensures visits { Visits IsOutput connection.old.link.id host.old host.new }
     ensures quiet { IsQuiet result (W.told wire.old) connection.old (W.told wire.new) connection.new }
     ensures stirs { result ≡ true → Transfers (W.told wire.old) (W.told wire.new) connection.old.link.number ⊎ EndsOrShuts connection.old connection.new }
     ensures made { KeepsMade connection.old connection.new }
@@ -173,6 +198,8 @@ pub fn close_if_finished<W: Wire, S: BuildHasher, A: Allocator + Copy>(
     host: &mut Host<S, A>,
     wire: &mut W,
 ) -> bool
+    ensures asked { Asks (W.asked wire.old) (W.asked wire.new) (ends_of host.old connection.old connection.new) }
+    ensures visits { Visits IsEnd connection.old.link.id host.old host.new }
     ensures quiet { IsQuiet result (W.told wire.old) connection.old (W.told wire.new) connection.new }
     ensures stirs { result ≡ true → Transfers (W.told wire.old) (W.told wire.new) connection.old.link.number ⊎ EndsOrShuts connection.old connection.new }
     ensures made { KeepsMade connection.old connection.new }

@@ -1,6 +1,7 @@
 //! Connections under numbers, which are asked at each call and never waited for.
 
-ghost use Rattle.std.specs.Prelude.{◌≡◌, ◌≤◌, ℕ};
+ghost use Rattle.std.specs.Prelude.{◌≡◌, ◌≤◌, ℕ, List, [], ◌∷◌, length, Option, None};
+ghost use Rattle.socket_loop.specs.Asked.{Call, Accept, Read, Write, Shut, Asks};
 ghost use Rattle.socket_loop.specs.Told.{GivesNumber, Told, nothing_told, KeepsAll, Reads, Writes, Shuts, HasCause};
 ghost use Rattle.socket_loop.specs.declared.wire.WireFault.TheVariants.{OutOfMemory};
 
@@ -46,6 +47,9 @@ pub trait Wire {
     /// What it tells of its connections. A wire may tell nothing.
     ghost told: { Self → Told } = { λ _. nothing_told };
 
+    /// The calls of `accept`, `read`, `write` and `shut` that it was asked for. It may tell none.
+    ghost asked: { Self → Option (List Call) } = { λ _. None };
+
     /// The numbers that `accept` gave are below this one.
     ghost bound: { Self → ℕ };
 
@@ -55,6 +59,7 @@ pub trait Wire {
     /// The number of a new connection, if one waits. Numbers differ.
     fn accept(&mut self) -> Result<Option<u64>, WireFault>
         ensures number { GivesNumber (bound self.old) (bound self.new) result }
+        ensures asked { Asks (asked self.old) (asked self.new) (Accept result ∷ []) }
         ensures kept { KeepsAll (told self.old) (told self.new) }
         ensures cause { HasCause (failed self.old) (failed self.new) result };
 
@@ -62,22 +67,26 @@ pub trait Wire {
     fn read(&mut self, number: u64, buf: &mut [u8]) -> Result<Got, WireFault>
         ensures bound { bound self.new ≡ bound self.old }
         ensures read { Reads (told self.old) (told self.new) number result buf.new }
+        ensures asked { Asks (asked self.old) (asked self.new) (Read number (length buf.old) ∷ []) }
         ensures cause { HasCause (failed self.old) (failed self.new) result };
 
     /// Writes what it takes, from the front, and answers how many bytes; 0 where it takes none now.
     fn write(&mut self, number: u64, buf: &[u8]) -> Result<usize, WireFault>
         ensures bound { bound self.new ≡ bound self.old }
         ensures written { Writes (told self.old) (told self.new) number result buf.now }
+        ensures asked { Asks (asked self.old) (asked self.new) (Write number buf.now ∷ []) }
         ensures cause { HasCause (failed self.old) (failed self.new) result };
 
     /// Ends a connection. A number that was never given, or that was shut, is passed over.
     fn shut(&mut self, number: u64)
         ensures bound { bound self.new ≡ bound self.old }
+        ensures asked { Asks (asked self.old) (asked self.new) (Shut number ∷ []) }
         ensures shut { Shuts (bound self.old) (told self.old) (told self.new) number };
 
     /// Returns once something may be ready; at once where `idle` is false.
     fn wait(&mut self, idle: bool) -> Result<(), WireFault>
         ensures bound { bound self.new ≡ bound self.old }
+        ensures asked { Asks (asked self.old) (asked self.new) [] }
         ensures kept { KeepsAll (told self.old) (told self.new) }
         ensures cause { HasCause (failed self.old) (failed self.new) result };
 

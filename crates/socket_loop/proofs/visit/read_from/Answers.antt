@@ -3,10 +3,12 @@ use Rattle.socket_loop.proofs.Peers.{nothing_keeps, ended_keeps}
 use Rattle.socket_loop.proofs.Parts.{serves_same, serves_wire}
 use Rattle.socket_loop.proofs.Visits.{read_fault, serves_fault, shut_after}
 use Rattle.socket_loop.proofs.Stirs.{read_shorter}
+use Rattle.socket_loop.specs.Parts.{IsInput}
+use Rattle.socket_loop.proofs.Calls.{visits_nothing, visits_closing}
 use Rattle.socket_loop.proofs.visit.read_from.Goals as goal
 
-pub returns-then-connection-clause-serves : goal.returns-then-connection-clause-serves
-returns-then-connection-clause-serves g c = λ marks. serves_same _ _ _ _ _ _
+pub returns-then-not-is_to_read-clause-serves : goal.returns-then-not-is_to_read-clause-serves
+returns-then-not-is_to_read-clause-serves g c = λ marks. serves_same _ _ _ _ _ _
 
 pub returns-in-Ok-Nothing-clause-serves : goal.returns-in-Ok-Nothing-clause-serves
 returns-in-Ok-Nothing-clause-serves g c = λ marks. serves_wire _ _ _ _ _ _ _ (nothing_keeps _ _ c.args.connection.now.link.number c.read.new.buf (rw c.in-Ok-Nothing.field-0-is at c.in-Ok-Nothing.ensures.read))
@@ -23,3 +25,15 @@ returns-in-Ok-Bytes-clause-shut g c = λ e. shut_after _ _ _ c.in-Ok-Bytes.ensur
 
 pub returns-in-Ok-Bytes-clause-stirs : goal.returns-in-Ok-Bytes-clause-stirs
 returns-in-Ok-Bytes-clause-stirs g c = λ e. inl (inl (read_shorter _ (g.W.Wire.told c.read.new.self) (g.W.Wire.told c.feed_from.new.wire) c.args.connection.now.link.number c.in-Ok-Bytes.n c.read.new.buf (rw c.in-Ok-Bytes.field-0-is at c.in-Ok-Bytes.ensures.read) c.feed_from.ensures.unread))
+
+pub returns-then-not-is_to_read-clause-visits : goal.returns-then-not-is_to_read-clause-visits
+returns-then-not-is_to_read-clause-visits g c = visits_nothing _ _ _
+
+pub returns-in-Ok-Nothing-clause-visits : goal.returns-in-Ok-Nothing-clause-visits
+returns-in-Ok-Nothing-clause-visits g c = visits_nothing _ _ _
+
+pub returns-in-Ok-Ended-clause-visits : goal.returns-in-Ok-Ended-clause-visits
+returns-in-Ok-Ended-clause-visits g c = visits_nothing _ _ _
+
+pub returns-in-Err-clause-visits : goal.returns-in-Err-clause-visits
+returns-in-Err-clause-visits g c = visits_closing IsInput _ _ _ tt c.shut_down.ensures.closed

@@ -1,7 +1,10 @@
-use Rattle.std.proofs.Common.{rules, inl, inr}
+use Rattle.std.proofs.Common.{rules, inl, inr, refl}
 use Rattle.socket_loop.proofs.Parts.{serves_same}
 use Rattle.socket_loop.proofs.Visits.{write_fault, serves_fault, serves_passed}
 use Rattle.socket_loop.proofs.Stirs.{write_longer}
+use Rattle.socket_loop.specs.Parts.{IsOutput}
+use Rattle.host_core.specs.Events.{Take}
+use Rattle.socket_loop.proofs.Calls.{visits_nothing, visits_step, visits_closing}
 use Rattle.socket_loop.proofs.visit.write_to.Goals as goal
 
 pub returns-then-connection-clause-serves : goal.returns-then-connection-clause-serves
@@ -23,3 +26,18 @@ returns-in-Err-clause-serves g c = λ marks.
 
 pub returns-in-Ok-clause-stirs : goal.returns-in-Ok-clause-stirs
 returns-in-Ok-clause-stirs g c = λ e. inl (inr (write_longer _ _ c.args.connection.now.link.number c.in-Ok.n c.in-Some.bytes.now (search rules) c.in-Ok.ensures.written))
+
+pub returns-then-connection-clause-visits : goal.returns-then-connection-clause-visits
+returns-then-connection-clause-visits g c = visits_nothing _ _ _
+
+pub returns-in_default-clause-visits : goal.returns-in_default-clause-visits
+returns-in_default-clause-visits g c = visits_nothing _ _ _
+
+pub returns-then-is_empty-clause-visits : goal.returns-then-is_empty-clause-visits
+returns-then-is_empty-clause-visits g c = visits_nothing _ _ _
+
+pub returns-in-Ok-clause-visits : goal.returns-in-Ok-clause-visits
+returns-in-Ok-clause-visits g c = visits_step IsOutput _ _ _ (Take c.args.connection.now.link.id c.in-Ok.n) _ tt refl (record { below = c.pass-passed.ensures.below; stepped = c.pass-passed.ensures.taken })
+
+pub returns-in-Err-clause-visits : goal.returns-in-Err-clause-visits
+returns-in-Err-clause-visits g c = visits_closing IsOutput _ _ _ tt c.shut_down.ensures.closed

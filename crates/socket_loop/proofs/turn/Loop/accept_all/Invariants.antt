@@ -1,6 +1,7 @@
 use Rattle.std.proofs.Common.{◌≡◌, ◌<◌, ℕ, true}
-use Rattle.socket_loop.specs.Links.{links_of}
+use Rattle.socket_loop.specs.Links.{links_of, IsRising}
 use Rattle.socket_loop.specs.Parts.{AddsNoMark}
+use Rattle.socket_loop.specs.Calls.{AsksAccepts}
 use Rattle.socket_loop.specs.Turns.{Accepts, IsQuiet}
 use Rattle.socket_loop.proofs.turn.Loop.accept_all.Given as goal
 
@@ -11,5 +12,7 @@ invariant-loop g l = record {
   marks : (number : ℕ) → AddsNoMark l.fn.self.held l.self.held number;
   quiet : IsQuiet l.moved (g.W.Wire.told l.fn.wire) l.fn.self.held (g.W.Wire.told l.wire) l.self.held;
   accepted : l.moved ≡ true → g.W.Wire.bound l.fn.wire < g.W.Wire.bound l.wire;
+  rising : IsRising (links_of l.fn.self.held) → IsRising (links_of l.self.held);
+  asked : AsksAccepts l.counter (g.W.Wire.asked l.fn.wire) (g.W.Wire.asked l.wire);
   slice : l.self.slice ≡ l.fn.self.slice;
 }

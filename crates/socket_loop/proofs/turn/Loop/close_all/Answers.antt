@@ -6,12 +6,14 @@ use Rattle.socket_loop.proofs.Parts.{serves_same, serves_next, links_set}
 use Rattle.socket_loop.proofs.Marks.{marks_same, marks_then, marks_visit, marked_at, ended_visit}
 use Rattle.socket_loop.proofs.Stirs.{all_made_same, all_made_then, all_made_set, stirs_next}
 use Rattle.socket_loop.proofs.Quiet.{quiet_next, either_false}
+use Rattle.socket_loop.specs.Calls.{ends_of}
+use Rattle.socket_loop.proofs.Calls.{asks_start, asks_next, asks_end}
 use Rattle.socket_loop.proofs.turn.Loop.close_all.Goals as goal
 
 pub loop-connection-init : goal.loop-connection-init
 loop-connection-init g c =
     let same : c.deref_mut-connection-items.result.now ≡ c.args.self.now.held = search rules in
-    record { so_far = serves_same _ _ _ _ _ _; ended = rw same (λ n m. m); marks = rw same (marks_same _ _ _); made = rw same (all_made_same _); stirs = λ e. absurd (cc); links = search rules; quiet = λ q. (kept_same _, search rules); bound = search rules }
+    record { so_far = serves_same _ _ _ _ _ _; ended = rw same (λ n m. m); marks = rw same (marks_same _ _ _); made = rw same (all_made_same _); stirs = λ e. absurd (cc); links = search rules; quiet = λ q. (kept_same _, search rules); asked = rw same (asks_start ends_of IsEnd _ _ _); bound = search rules }
 
 pub loop-connection-preserved : goal.loop-connection-preserved
 loop-connection-preserved g c = record {
@@ -23,5 +25,9 @@ loop-connection-preserved g c = record {
   stirs = stirs_next c.loop-connection.moved _ _ _ _ _ c.loop-connection.connection-items c.loop-connection.connection-index _ _ (search rules) c.loop-connection.invariant.so_far.carries.all (c.close_if_finished-has_moved.ensures.serves c.args.self.now.held (λ e. c.loop-connection.invariant.ended _ (marked_at reads_ended c.loop-connection.connection-items c.loop-connection.connection-index _ (search rules) e))).carries.all c.loop-connection.invariant.made c.close_if_finished-has_moved.ensures.made c.loop-connection.invariant.stirs c.close_if_finished-has_moved.ensures.stirs;
   links = links_set c.loop-connection.connection-items c.loop-connection.connection-index _ _ c.close_if_finished-has_moved.ensures.link ∙ c.loop-connection.invariant.links;
   quiet = quiet_next c.loop-connection.moved _ _ _ _ _ c.loop-connection.connection-items c.loop-connection.connection-index _ _ _ (either_false c.loop-connection.moved _) c.loop-connection.invariant.quiet c.close_if_finished-has_moved.ensures.quiet;
+  asked = asks_next c.loop-connection.connection-index ends_of IsEnd _ _ _ c.args.self.now.held c.loop-connection.connection-items c.close_if_finished-has_moved.new.connection _ _ _ _ (search rules) c.loop-connection.invariant.asked c.close_if_finished-has_moved.ensures.visits c.close_if_finished-has_moved.ensures.asked;
   bound = search rules;
 }
+
+pub returns-clause-asked : goal.returns-clause-asked
+returns-clause-asked g c = asks_end c.loop-connection.connection-index c.self.inside.held.len ends_of IsEnd _ _ c.args.self.now.held c.loop-connection.connection-items _ _ _ (search rules) (search rules) c.loop-connection.invariant.links c.loop-connection.invariant.asked

@@ -1,9 +1,10 @@
 use Rattle.std.proofs.Common.{rules, refl, ◌≡◌, false}
 use Rattle.std.specs.Prelude.{insert}
-use Rattle.socket_loop.specs.Links.{links_of}
+use Rattle.socket_loop.specs.Links.{links_of, place_for}
 use Rattle.socket_loop.specs.declared.connection.Connection.{Connection}
 use Rattle.socket_loop.proofs.Accepting.{admits_new, admits_closed}
 use Rattle.socket_loop.proofs.Marks.{adds_insert, adds_same}
+use Rattle.socket_loop.proofs.Rising.{rising_insert}
 use Rattle.socket_loop.proofs.turn.Loop.hold.Goals as goal
 
 pub returns-then-is_ok-clause-admits : goal.returns-then-is_ok-clause-admits
@@ -27,3 +28,10 @@ pub returns-clause-marks : goal.returns-clause-marks
 returns-clause-marks g c =
     let items : c.insert.new.self.items ≡ c.args.self.now.held = search rules in
     rw items (adds_same c.args.self.now.held)
+
+pub returns-then-is_ok-clause-rising : goal.returns-then-is_ok-clause-rising
+returns-then-is_ok-clause-rising g c = λ r.
+    let new : Connection = record { link = c.args.link; has_ended = false; is_shut = false } in
+    let items : c.insert.new.self.items ≡ insert c.args.self.now.held c.place_of-place.result new = search rules in
+    let place : c.place_of-place.result ≡ place_for c.args.link.id.slot c.args.self.now.held = search rules in
+    rw (items, place) (rising_insert c.args.self.now.held new r)

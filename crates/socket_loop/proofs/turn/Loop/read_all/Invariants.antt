@@ -2,6 +2,7 @@ use Rattle.std.proofs.Common.{◌≡◌, true, List}
 use Rattle.socket_loop.specs.declared.connection.Connection.{Connection}
 use Rattle.socket_loop.specs.Links.{links_of}
 use Rattle.socket_loop.specs.Parts.{Serves, IsInput, KeepsAllMarks}
+use Rattle.socket_loop.specs.Calls.{AsksTo, reads_of}
 use Rattle.socket_loop.specs.Turns.{AllKeepMade, IsQuiet, Stirs}
 use Rattle.socket_loop.proofs.turn.Loop.read_all.Given as goal
 
@@ -14,5 +15,6 @@ invariant-loop-connection g l = record {
   stirs : l.moved ≡ true → Stirs (g.W.Wire.told l.fn.wire) l.fn.self.held (g.W.Wire.told l.wire) l.connection-items;
   links : links_of l.connection-items ≡ links_of l.fn.self.held;
   quiet : IsQuiet l.moved (g.W.Wire.told l.fn.wire) l.fn.self.held (g.W.Wire.told l.wire) l.connection-items;
+  asked : AsksTo l.connection-index reads_of IsInput l.fn.host l.fn.self.held l.connection-items (g.W.Wire.asked l.fn.wire) (g.W.Wire.asked l.wire) l.host;
   bound : g.W.Wire.bound l.wire ≡ g.W.Wire.bound l.fn.wire;
 }

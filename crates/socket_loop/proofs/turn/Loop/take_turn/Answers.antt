@@ -1,9 +1,10 @@
 use Rattle.std.proofs.Common.{rules, ◌≡◌, ◌≤◌, ◌∙◌, arith, []}
-use Rattle.socket_loop.specs.Links.{links_of}
+use Rattle.socket_loop.specs.Links.{links_of, IsRising}
 use Rattle.socket_loop.proofs.Turning.{turned, turn_fits, serves_rises}
 use Rattle.socket_loop.proofs.Quiet.{quiet_turn}
 use Rattle.socket_loop.proofs.Runs.{next_rises}
 use Rattle.socket_loop.proofs.Stirs.{moved_turn}
+use Rattle.socket_loop.proofs.Rising.{rising_filter}
 use Rattle.socket_loop.proofs.turn.Loop.take_turn.Goals as goal
 
 pub returns-clause-turned : goal.returns-clause-turned
@@ -56,3 +57,41 @@ returns-clause-moved g c =
     c.read_all-has_read.ensures.made c.write_all-has_written.ensures.made c.close_all-has_shut.ensures.made
     c.read_all-has_read.ensures.stirs c.write_all-has_written.ensures.stirs c.close_all-has_shut.ensures.stirs
     same c.let_go.ensures.held c.is_pending-is_pending.ensures)
+
+pub returns-clause-asked : goal.returns-clause-asked
+returns-clause-asked g c =
+    let slice : c.self.inside.slice ≡ c.args.self.now.slice = search rules in
+    record {
+      accepted = g.W.Wire.asked c.accept_all-has_accepted.new.wire;
+      accepts = c.accept_all-has_accepted.ensures.asked;
+      admissions = c.accept_all-has_accepted.ensures.accepts.steps;
+      admissions_are = c.accept_all-has_accepted.ensures.accepts.kinds;
+      middle = c.accept_all-has_accepted.new.host;
+      to_middle = c.accept_all-has_accepted.ensures.accepts.chain;
+      met = c.accept_all-has_accepted.new.self.held;
+      stay = c.accept_all-has_accepted.ensures.accepts.stay;
+      marks = c.accept_all-has_accepted.ensures.marks;
+      rising = c.accept_all-has_accepted.ensures.rising;
+      read = c.read_all-has_read.new.self.held;
+      asked_reads = g.W.Wire.asked c.read_all-has_read.new.wire;
+      fed = c.read_all-has_read.new.host;
+      reads = c.read_all-has_read.ensures.asked;
+      worked = c.round-round.result.worked;
+      refused = c.round-round.result.refused;
+      rounded = c.round-round.new.self;
+      round = rw slice at c.round-round.ensures;
+      written = c.write_all-has_written.new.self.held;
+      asked_writes = g.W.Wire.asked c.write_all-has_written.new.wire;
+      passed = c.write_all-has_written.new.host;
+      writes = c.write_all-has_written.ensures.asked;
+      last = c.close_all-has_shut.new.self.held;
+      ends = c.close_all-has_shut.ensures.asked;
+      left = c.let_go.ensures.held;
+    }
+
+pub returns-clause-rising : goal.returns-clause-rising
+returns-clause-rising g c = λ r.
+    let same : links_of c.close_all-has_shut.new.self.held ≡ links_of c.accept_all-has_accepted.new.self.held = c.close_all-has_shut.ensures.links ∙ (c.write_all-has_written.ensures.links ∙ c.read_all-has_read.ensures.links) in
+    let met : IsRising (links_of c.accept_all-has_accepted.new.self.held) = c.accept_all-has_accepted.ensures.rising r in
+    let last : IsRising (links_of c.close_all-has_shut.new.self.held) = rw same met in
+    rw c.let_go.ensures.held (rising_filter _ c.close_all-has_shut.new.self.held last)

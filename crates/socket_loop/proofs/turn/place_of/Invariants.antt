@@ -1,0 +1,7 @@
+use Rattle.std.proofs.Common.{◌≡◌, ◌+◌, drop}
+use Rattle.socket_loop.specs.Links.{place_for}
+use Rattle.socket_loop.proofs.turn.place_of.Given as goal
+
+-- the place is not among those so far
+abbrev pub invariant-loop-place : goal.invariant-loop-place
+invariant-loop-place l = place_for l.fn.slot l.fn.held ≡ l.place + place_for l.fn.slot (drop l.place l.fn.held)

@@ -1,0 +1,152 @@
+-- The calls of a turn, in order (own choice).
+use Rattle.std.specs.Prelude.{◌≡◌, ◌⊎◌, ℕ, suc, zero, ◌<◌, List, [], ◌∷◌, ◌++◌, length, nat_lt, Bool, not, cond, ◌&&◌, Option, None, Some, Result, Ok, Err, filter}
+use Rattle.session_slots.specs.declared.id.SessionId.{SessionId}
+use Rattle.session_slots.specs.Slots.{find}
+use Rattle.host_core.specs.Steps.{HostState}
+use Rattle.host_core.specs.ById.{wants_input_of, queued_of}
+use Rattle.host_core.specs.Events.{Event, Open, Feed, Work, Take, Close}
+use Rattle.host_core.specs.Made.{Step}
+use Rattle.host_core.specs.Runs.{IsRun}
+use Rattle.host_core.specs.Rounds.{IsRound, pending_ids}
+use Rattle.socket_loop.specs.declared.wire.WireFault.{WireFault}
+use Rattle.socket_loop.specs.declared.connection.Link.{Link}
+use Rattle.socket_loop.specs.declared.connection.Connection.{Connection}
+use Rattle.socket_loop.specs.declared.turn.TheConstants.{ACCEPTS}
+use Rattle.socket_loop.specs.declared.visit.TheConstants.{CHUNK}
+use Rattle.socket_loop.specs.Asked.{Call, Accept, Read, Write, Shut, Asks}
+use Rattle.socket_loop.specs.Links.{links_of, IsAmong, IsRising}
+use Rattle.socket_loop.specs.Parts.{AreAll, AddsNoMark, IsAdmission, IsInput, IsOutput, IsEnd, is_finished_with}
+use Rattle.socket_loop.specs.Turns.{host_full}
+
+-- ---- one connection
+
+-- its reads have not ended, it is not shut, and its session wants input
+abbrev pub is_to_read : HostState → Connection → Bool
+is_to_read host connection = (not connection.has_ended && not connection.is_shut) && wants_input_of (find host.slots connection.link.id)
+
+-- it is not shut, and something is queued for it
+abbrev pub is_to_write : HostState → Connection → Bool
+is_to_write host connection = not connection.is_shut && nat_lt 0 (length (queued_of (find host.slots connection.link.id)))
+
+-- it is not shut, and finished with
+abbrev pub is_to_shut : HostState → Connection → Bool
+is_to_shut host connection = not connection.is_shut && is_finished_with connection.has_ended (find host.slots connection.link.id)
+
+-- the call that shut it, where it was not shut before
+abbrev pub shuts_of : Connection → Connection → List Call
+shuts_of old new = cond (new.is_shut && not old.is_shut) (Shut old.link.number ∷ []) []
+
+-- one read where it is to be read; it may be shut then
+abbrev pub reads_of : HostState → Connection → Connection → List Call
+reads_of host old new = cond (is_to_read host old) (Read old.link.number CHUNK ∷ shuts_of old new) []
+
+-- one write of all that is queued, where it is to be written; it may be shut then
+abbrev pub writes_of : HostState → Connection → Connection → List Call
+writes_of host old new = cond (is_to_write host old) (Write old.link.number (queued_of (find host.slots old.link.id)) ∷ shuts_of old new) []
+
+-- it is shut where it is finished with
+abbrev pub ends_of : HostState → Connection → Connection → List Call
+ends_of host old new = cond (is_to_shut host old) (Shut old.link.number ∷ []) []
+
+-- an event of the session of this id
+abbrev pub IsOf : SessionId → Event → Type 0
+IsOf id Open = ⊥
+IsOf id (Feed other chunk) = other ≡ id
+IsOf id (Work other budget) = other ≡ id
+IsOf id (Take other n) = other ≡ id
+IsOf id (Close other) = other ≡ id
+
+-- the host made steps of this kind, of one session alone
+pub record Visits (kind : Event → Type 0) (id : SessionId) (old new : HostState) : Type 0 where
+  pub steps : List Step
+  pub kinds : AreAll kind steps
+  pub of_it : AreAll (IsOf id) steps
+  pub run : IsRun old steps new
+
+-- ---- one connection after the other
+
+-- the first connections were visited, each with the calls that are due by the host's state then; the others are as they were
+abbrev pub AreVisitedTo : ℕ → (HostState → Connection → Connection → List Call) → (Event → Type 0) → HostState → List Connection → List Connection → List Call → HostState → Type 0
+AreVisitedTo zero due kind before xs ys calls after = (ys ≡ xs) × ((calls ≡ []) × (after ≡ before))
+AreVisitedTo (suc n) due kind before [] ys calls after = ⊥
+AreVisitedTo (suc n) due kind before (x ∷ xs) [] calls after = ⊥
+AreVisitedTo (suc n) due kind before (x ∷ xs) (y ∷ ys) calls after =
+    (mid : HostState) × ((rest : List Call) × ((calls ≡ due before x y ++ rest) × (Visits kind x.link.id before mid × AreVisitedTo n due kind mid xs ys rest after)))
+
+-- so many connections were visited, and a wire was asked for the calls of these visits
+pub record AsksTo (n : ℕ) (due : HostState → Connection → Connection → List Call) (kind : Event → Type 0) (before : HostState) (xs ys : List Connection) (old new : Option (List Call)) (after : HostState) : Type 0 where
+  pub calls : List Call
+  pub visited : AreVisitedTo n due kind before xs ys calls after
+  pub asked : Asks old new calls
+
+-- each connection was visited
+abbrev pub AsksEach : (HostState → Connection → Connection → List Call) → (Event → Type 0) → HostState → List Connection → List Connection → Option (List Call) → Option (List Call) → HostState → Type 0
+AsksEach due kind before xs ys old new after = AsksTo (length xs) due kind before xs ys old new after
+
+-- ---- new connections
+
+-- a connection that was accepted was kept, or shut without a word, or told in one write that the host is full, and shut
+abbrev pub IsAdmitted : ℕ → List Call → Type 0
+IsAdmitted number calls = (calls ≡ []) ⊎ ((calls ≡ Shut number ∷ []) ⊎ (calls ≡ Write number host_full ∷ Shut number ∷ []))
+
+-- so many connections were accepted, one after the other
+abbrev pub AreAccepted : ℕ → List Call → Type 0
+AreAccepted zero calls = calls ≡ []
+AreAccepted (suc n) calls = (number : ℕ) × ((more : List Call) × ((rest : List Call) × ((calls ≡ Accept (Ok (Some number)) ∷ (more ++ rest)) × (IsAdmitted number more × AreAccepted n rest))))
+
+-- an accept gave nobody
+abbrev pub GivesNobody : Result (Option ℕ) WireFault → Type 0
+GivesNobody (Ok (Some number)) = ⊥
+GivesNobody (Ok None) = Unit {0}
+GivesNobody (Err fault) = Unit {0}
+
+-- one connection was admitted
+pub record AsksAdmission (number : ℕ) (old new : Option (List Call)) : Type 0 where
+  pub calls : List Call
+  pub admitted : IsAdmitted number calls
+  pub asked : Asks old new calls
+
+-- so many were accepted
+pub record AsksAccepts (n : ℕ) (old new : Option (List Call)) : Type 0 where
+  pub calls : List Call
+  pub accepted : AreAccepted n calls
+  pub asked : Asks old new calls
+
+-- connections were accepted until one accept gave nobody, or ACCEPTS of them were
+pub record AsksAll (old new : Option (List Call)) : Type 0 where
+  pub count : ℕ
+  pub first : List Call
+  pub last : List Call
+  pub accepted : AreAccepted count first
+  pub ends : ((count ≡ ACCEPTS) × (last ≡ [])) ⊎ ((count < ACCEPTS) × ((answer : Result (Option ℕ) WireFault) × (GivesNobody answer × (last ≡ Accept answer ∷ []))))
+  pub asked : Asks old new (first ++ last)
+
+-- ---- a turn
+
+-- accepts, then a read for each connection that is to be read, a round, a write for each that is to be written, and a shut for each that is finished with
+pub record AsksTurn (slice : ℕ) (held : List Connection) (old : Option (List Call)) (before : HostState) (now : List Connection) (new : Option (List Call)) (after : HostState) : Type 0 where
+  pub accepted : Option (List Call)
+  pub accepts : AsksAll old accepted
+  pub admissions : List Step
+  pub admissions_are : AreAll IsAdmission admissions
+  pub middle : HostState
+  pub to_middle : IsRun before admissions middle
+  pub met : List Connection
+  pub stay : (link : Link) → IsAmong (links_of held) link → IsAmong (links_of met) link
+  pub marks : (number : ℕ) → AddsNoMark held met number
+  pub rising : IsRising (links_of held) → IsRising (links_of met)
+  pub read : List Connection
+  pub asked_reads : Option (List Call)
+  pub fed : HostState
+  pub reads : AsksEach reads_of IsInput middle met read accepted asked_reads fed
+  pub worked : ℕ
+  pub refused : ℕ
+  pub rounded : HostState
+  pub round : IsRound fed slice (pending_ids fed) worked refused rounded
+  pub written : List Connection
+  pub asked_writes : Option (List Call)
+  pub passed : HostState
+  pub writes : AsksEach writes_of IsOutput rounded read written asked_reads asked_writes passed
+  pub last : List Connection
+  pub ends : AsksEach ends_of IsEnd passed written last asked_writes new after
+  pub left : now ≡ filter (λ connection. not connection.is_shut) last
