@@ -15,13 +15,13 @@ use Rattle.shogi_core.specs.declared.piece.Kind.{Kind}
 use Rattle.shogi_core.specs.declared.piece.Piece.{Piece}
 use Rattle.shogi_core.specs.Pieces.{kind_of}
 use Rattle.shogi_core.specs.Position.{Held, held, place_of}
-use Rattle.shogi_sfen.specs.BoardTexts.{piece_named}
+use Rattle.shogi_sfen.specs.Letters.{piece_named}
 use Rattle.shogi_sfen.specs.HandTexts.{with_kind, with_piece, with_digit, hands_from, no_hands, capped_kind, capped_piece, capped_digit, capped_from, capped, hands_of}
 
 -- one byte more
 at_byte : (hands : Held) (count : Option ℕ) (byte : ℕ) (bytes : List ℕ) → capped_from hands count (byte ∷ bytes) ≡ cond (is_ascii_digit byte)
     (option_and_then (λ n. capped_from hands (Some n) bytes) (capped_digit count byte))
-    (option_and_then (λ more. capped_from more None bytes) (capped_piece hands (unwrap_or count 1) (piece_named byte)))
+    (option_and_then (λ more. capped_from more None bytes) (capped_piece hands (unwrap_or count 1) (piece_named false byte)))
 at_byte hands None byte bytes = refl
 at_byte hands (Some n) byte bytes = refl
 
@@ -29,16 +29,16 @@ at_byte hands (Some n) byte bytes = refl
 pub capped_from-next : (word : List ℕ) (i byte : ℕ) (hands : Held) (count : Option ℕ) → i < length word → byte ≡ get_or word i 0
     → capped_from hands count (drop i word) ≡ cond (is_ascii_digit byte)
     (option_and_then (λ n. capped_from hands (Some n) (drop (i + 1) word)) (capped_digit count byte))
-    (option_and_then (λ more. capped_from more None (drop (i + 1) word)) (capped_piece hands (unwrap_or count 1) (piece_named byte)))
+    (option_and_then (λ more. capped_from more None (drop (i + 1) word)) (capped_piece hands (unwrap_or count 1) (piece_named false byte)))
 capped_from-next word i byte hands count h e =
     ap (capped_from hands count) (drop-cons word i 0 h)
     ∙ (at_byte hands count (get_or word i 0) (drop (suc i) word)
     ∙ (ap (λ (b : ℕ). cond (is_ascii_digit b)
     (option_and_then (λ n. capped_from hands (Some n) (drop (suc i) word)) (capped_digit count b))
-    (option_and_then (λ more. capped_from more None (drop (suc i) word)) (capped_piece hands (unwrap_or count 1) (piece_named b)))) (sym e)
+    (option_and_then (λ more. capped_from more None (drop (suc i) word)) (capped_piece hands (unwrap_or count 1) (piece_named false b)))) (sym e)
     ∙ ap (λ (k : ℕ). cond (is_ascii_digit byte)
     (option_and_then (λ n. capped_from hands (Some n) (drop k word)) (capped_digit count byte))
-    (option_and_then (λ more. capped_from more None (drop k word)) (capped_piece hands (unwrap_or count 1) (piece_named byte)))) (sym (add-one i))))
+    (option_and_then (λ more. capped_from more None (drop k word)) (capped_piece hands (unwrap_or count 1) (piece_named false byte)))) (sym (add-one i))))
 
 -- a number capped, and then a sum
 pub min-sum : (a n : ℕ) → min 255 (min 255 a + min 255 n) ≡ min 255 (a + n)
@@ -87,7 +87,7 @@ piece_capped hands n (Some piece) = kind_capped hands n piece.color (kind_of pie
 
 pub exact_byte : (hands : Held) (count : Option ℕ) (byte : ℕ) (bytes : List ℕ) → hands_from hands count (byte ∷ bytes) ≡ cond (is_ascii_digit byte)
     (option_and_then (λ n. hands_from hands (Some n) bytes) (with_digit count byte))
-    (option_and_then (λ more. hands_from more None bytes) (with_piece hands (unwrap_or count 1) (piece_named byte)))
+    (option_and_then (λ more. hands_from more None bytes) (with_piece hands (unwrap_or count 1) (piece_named false byte)))
 exact_byte hands None byte bytes = refl
 exact_byte hands (Some n) byte bytes = refl
 
@@ -100,9 +100,9 @@ hands_capped (byte ∷ bytes) hands count =
     ∙ (either_way (is_ascii_digit byte) _ _ _ _
     (ap (option_and_then (λ n. capped_from (capped hands) (Some n) bytes)) (digit_capped count byte)
     ∙ through (with_digit count byte) (λ n. hands_from hands (Some n) bytes) (λ n. capped_from (capped hands) (Some n) bytes) (λ n. hands_capped bytes hands (Some n)))
-    (ap (λ (n : ℕ). option_and_then (λ more. capped_from more None bytes) (capped_piece (capped hands) n (piece_named byte))) (unwrap_capped count)
-    ∙ (ap (option_and_then (λ more. capped_from more None bytes)) (piece_capped hands (unwrap_or count 1) (piece_named byte))
-    ∙ through_held (with_piece hands (unwrap_or count 1) (piece_named byte)) (λ more. hands_from more None bytes) (λ more. capped_from more None bytes) (λ more. hands_capped bytes more None)))
+    (ap (λ (n : ℕ). option_and_then (λ more. capped_from more None bytes) (capped_piece (capped hands) n (piece_named false byte))) (unwrap_capped count)
+    ∙ (ap (option_and_then (λ more. capped_from more None bytes)) (piece_capped hands (unwrap_or count 1) (piece_named false byte))
+    ∙ through_held (with_piece hands (unwrap_or count 1) (piece_named false byte)) (λ more. hands_from more None bytes) (λ more. capped_from more None bytes) (λ more. hands_capped bytes more None)))
     ∙ ap (option_map capped) (sym (exact_byte hands count byte bytes)))
 
 no_hands-capped : capped no_hands ≡ no_hands

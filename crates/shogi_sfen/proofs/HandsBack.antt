@@ -9,9 +9,9 @@ use Rattle.shogi_core.specs.declared.piece.Color.TheVariants.{Black, White}
 use Rattle.shogi_core.specs.declared.piece.Kind.{Kind}
 use Rattle.shogi_core.specs.declared.piece.Kind.TheVariants as kinds
 use Rattle.shogi_core.specs.Position.{Held, held, place_of}
-use Rattle.shogi_sfen.specs.MoveTexts.{letter_of}
+use Rattle.shogi_sfen.specs.Letters.{letter_of, as_side, piece_named}
 use Rattle.shogi_sfen.specs.HandTexts.{hands_from}
-use Rattle.shogi_sfen.specs.Written.{as_side, count_text, held_text}
+use Rattle.shogi_sfen.specs.Written.{count_text, held_text}
 
 digit : (n : ℕ) → n < 10 → is_ascii_digit (n + 48) ≡ true
 digit n h = and_from _ _ (le-leb 48 (n + 48) (omega arith)) (le-leb (n + 48) 57 (omega arith))
@@ -23,6 +23,7 @@ added hands color kind n = set hands (place_of color kind) (held hands color kin
 -- a letter, behind a count or none
 pub letter_back : (color : Color) (kind : Kind) (hands : Held) (count : Option ℕ) (rest : List ℕ)
     → hands_from hands count (as_side color (letter_of kind) ∷ rest) ≡ hands_from (added hands color kind (unwrap_or count 1)) None rest
+unfolding piece_named
 letter_back Black kinds.Pawn hands None rest = refl
 letter_back Black kinds.Pawn hands (Some n) rest = refl
 letter_back White kinds.Pawn hands None rest = refl

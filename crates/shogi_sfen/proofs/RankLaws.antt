@@ -1,7 +1,7 @@
 -- A rank item by item, and ranks one after another.
 use Rattle.std.proofs.Common.{◌≡◌, ℕ, ◌+◌, ◌*◌, ◌≤◌, ◌<◌, Bool, true, false, cond, refl, sym, ◌∙◌, ap, arith, List, [], ◌∷◌, ◌++◌, length, take, drop, get_or, append_assoc, append-nil, Option, Some, None, add-one}
-use Rattle.std.specs.Prelude.{◌==◌, suc, replicate, map}
-use Rattle.std.specs.List.{slice_split, position_or_len, range_with_len}
+use Rattle.std.specs.Prelude.{◌==◌, suc, map}
+use Rattle.std.specs.List.{flat_map, slice_split, position_or_len, range_with_len}
 use Rattle.std.proofs.Math.Seq.{drop-cons, drop-length}
 use Rattle.std.proofs.lemmas.List.{length-append, ext_get_or}
 use Rattle.std.proofs.lemmas.List.FromFn.{get_or-map-range_with_len, length-map-range_with_len}
@@ -11,79 +11,59 @@ use Rattle.std.specs.Prelude.{count_by}
 use Rattle.std.proofs.lemmas.Bool.{cond-true, cond-false, eq-eqb, ne_eqb, cond_both}
 use Rattle.shogi_core.specs.declared.piece.Piece.{Piece}
 use Rattle.shogi_core.specs.Movement.{Cells, piece_at}
-use Rattle.shogi_sfen.specs.declared.board_text.Item.{Item}
-use Rattle.shogi_sfen.specs.declared.board_text.Item.TheVariants.{Plus, Run, Square, Wrong}
-use Rattle.shogi_sfen.specs.BoardTexts.{item_of, is_plus, joined, onto_item, rank_from, only_nine, rank_of, both, ranks_of, is_slash, squares_of, place_in_text, board_from}
-use Rattle.shogi_sfen.specs.Ranks.{TakesItem}
+use Rattle.shogi_sfen.specs.declared.board_text.RankItem.{RankItem}
+use Rattle.shogi_sfen.specs.Items.{item_squares, TakesItem}
+use Rattle.shogi_sfen.specs.BoardTexts.{item_named, is_plus, onto_items, items_from, squares_in, joined, only_nine, rank_of, both, ranks_of, is_slash, squares_of, place_in_text, board_from}
 
 joined-joined : (a b : Cells) (more : Option Cells) → joined a (joined b more) ≡ joined (a ++ b) more
 joined-joined a b None = refl
 joined-joined a b (Some c) = ap Some (sym (append_assoc a b c))
 
--- an item that was taken
-joined-item : (item : Item) (old new : Cells) (more : Option Cells) → TakesItem item old new true → joined old (onto_item item more) ≡ joined new more
-joined-item Plus old new more e = ap (λ (c : Cells). joined c more) (sym e.1)
-joined-item (Run n) old new more e = joined-joined old (replicate n None) more ∙ ap (λ (c : Cells). joined c more) (sym e)
-joined-item (Square piece) old new more e = joined-joined old (Some piece ∷ []) more ∙ ap (λ (c : Cells). joined c more) (sym e)
-joined-item Wrong old new more e = cc
+-- one more item
+joined-item : (cells : Cells) (item : RankItem) (items : Option (List RankItem)) → joined cells (squares_in (onto_items (Some item) items)) ≡ joined (cells ++ item_squares item) (squares_in items)
+joined-item cells item None = refl
+joined-item cells item (Some items) = ap Some (sym (append_assoc cells (item_squares item) (flat_map item_squares items)))
 
-too_many : (cells : Cells) → 9 < length cells → only_nine (Some cells) ≡ None
-too_many cells h = cond-false (length cells == 9) _ _ (ne_eqb (length cells) 9 (λ e. omega arith))
+overfull : (cells : Cells) (more : Option Cells) → 9 < length cells → only_nine (joined cells more) ≡ None
+overfull cells None h = refl
+overfull cells (Some more) h =
+    let n : length (cells ++ more) ≡ length cells + length more = length-append cells more in
+    cond-false (length (cells ++ more) == 9) _ _ (ne_eqb (length (cells ++ more)) 9 (λ e. omega arith))
 
-overfull : (a b : Cells) (more : Option Cells) → 9 < length a + length b → only_nine (joined a (joined b more)) ≡ None
-overfull a b None h = refl
-overfull a b (Some c) h =
-    let one : length (a ++ (b ++ c)) ≡ length a + length (b ++ c) = length-append a (b ++ c) in
-    let two : length (b ++ c) ≡ length b + length c = length-append b c in
-    too_many (a ++ (b ++ c)) (omega arith)
+-- the squares so far, and those that the other bytes say
+abbrev pub IsReadTo : List ℕ → ℕ → Bool → Cells → Type 0
+IsReadTo part i plus cells = squares_in (items_from false part) ≡ joined cells (squares_in (items_from plus (drop i part)))
 
-nothing : (a : Cells) → only_nine (joined a None) ≡ None
-nothing a = refl
+module _ (part : List ℕ) (i byte : ℕ) (plus : Bool) (old : Cells) (below : i < length part) (here : byte ≡ get_or part i 0) (so_far : IsReadTo part i plus old) where
+  next : squares_in (items_from false part) ≡ joined old (squares_in (cond (is_plus plus byte) (items_from true (drop (i + 1) part)) (onto_items (item_named plus byte) (items_from false (drop (i + 1) part)))))
+  next = so_far ∙ ap (λ (bs : List ℕ). joined old (squares_in (items_from plus bs))) (drop-cons part i 0 below ∙ ap (λ (b : ℕ). b ∷ drop (suc i) part) (sym here) ∙ ap (λ (k : ℕ). byte ∷ drop k part) (sym (add-one i)))
 
--- an item that was not
-none-item : (item : Item) (old new : Cells) (more : Option Cells) → TakesItem item old new false → only_nine (joined old (onto_item item more)) ≡ None
-none-item Plus old new more h = let e : false ≡ true = h.0 in cc
-none-item (Run n) old new more h = overfull old (replicate n None) more h
-none-item (Square piece) old new more h = overfull old (Some piece ∷ []) more h
-none-item Wrong old new more h = refl
+  next_item : (item : Option RankItem) → item ≡ item_named plus byte → is_plus plus byte ≡ false → squares_in (items_from false part) ≡ joined old (squares_in (onto_items item (items_from false (drop (i + 1) part))))
+  next_item item named t =
+      next ∙ ap (λ o. joined old (squares_in o)) (cond-false (is_plus plus byte) _ _ t ∙ ap (λ o. onto_items o (items_from false (drop (i + 1) part))) (sym named))
 
--- the bytes from i on begin with the one at i
-rank_from-next : (part : List ℕ) (i byte : ℕ) (plus : Bool) → i < length part → byte ≡ get_or part i 0
-    → rank_from plus (drop i part) ≡ onto_item (item_of plus byte) (rank_from (is_plus (item_of plus byte)) (drop (i + 1) part))
-rank_from-next part i byte plus h e =
-    ap (rank_from plus) (drop-cons part i 0 h)
-    ∙ (ap (λ (b : ℕ). onto_item (item_of plus b) (rank_from (is_plus (item_of plus b)) (drop (suc i) part))) (sym e)
-    ∙ ap (λ (k : ℕ). onto_item (item_of plus byte) (rank_from (is_plus (item_of plus byte)) (drop k part))) (sym (add-one i)))
-
-pub rank-step : (part : List ℕ) (i byte : ℕ) (plus : Bool) (old new : Cells) (item : Item) → i < length part → byte ≡ get_or part i 0 → item ≡ item_of plus byte
-    → TakesItem item old new true → rank_from false part ≡ joined old (rank_from plus (drop i part))
-    → rank_from false part ≡ joined new (rank_from (is_plus item) (drop (i + 1) part))
-rank-step part i byte plus old new item h e f t so_far =
-    so_far ∙ (ap (joined old) (rank_from-next part i byte plus h e)
-    ∙ (ap (λ (x : Item). joined old (onto_item x (rank_from (is_plus x) (drop (i + 1) part)))) (sym f)
-    ∙ joined-item item old new (rank_from (is_plus item) (drop (i + 1) part)) t))
-
-pub rank-stops : (part : List ℕ) (i byte : ℕ) (plus : Bool) (old new : Cells) (item : Item) → i < length part → byte ≡ get_or part i 0 → item ≡ item_of plus byte
-    → TakesItem item old new false → rank_from false part ≡ joined old (rank_from plus (drop i part)) → rank_of part ≡ None
+refused : (part rest : List ℕ) (old new : Cells) (item : Option RankItem) → squares_in (items_from false part) ≡ joined old (squares_in (onto_items item (items_from false rest))) → TakesItem item old new false → rank_of part ≡ None
 unfolding rank_of
-rank-stops part i byte plus old new item h e f t so_far =
-    ap only_nine (so_far ∙ (ap (joined old) (rank_from-next part i byte plus h e)
-    ∙ ap (λ (x : Item). joined old (onto_item x (rank_from (is_plus x) (drop (i + 1) part)))) (sym f)))
-    ∙ none-item item old new (rank_from (is_plus item) (drop (i + 1) part)) t
+refused part rest old new None e h = ap only_nine e
+refused part rest old new (Some item) e h =
+    let n : length (old ++ item_squares item) ≡ length old + length (item_squares item) = length-append old (item_squares item) in
+    ap only_nine (e ∙ joined-item old item (items_from false rest)) ∙ overfull (old ++ item_squares item) (squares_in (items_from false rest)) (omega arith)
 
-ended : (part : List ℕ) (n : ℕ) (plus : Bool) → n ≡ length part → rank_from plus (drop n part) ≡ cond plus None (Some [])
-ended part n plus e = ap (λ (k : ℕ). rank_from plus (drop k part)) e ∙ ap (rank_from plus) (drop-length part)
+pub rank-stops : (part : List ℕ) (i byte : ℕ) (plus : Bool) (old new : Cells) (item : Option RankItem) → i < length part → byte ≡ get_or part i 0 → is_plus plus byte ≡ false → item ≡ item_named plus byte
+    → IsReadTo part i plus old → TakesItem item old new false → rank_of part ≡ None
+rank-stops part i byte plus old new item below here t named so_far h = refused part (drop (i + 1) part) old new item (next_item part i byte plus old below here so_far item named t) h
 
-pub rank-plus : (part : List ℕ) (n : ℕ) (plus : Bool) (old : Cells) → n ≡ length part → plus ≡ true → rank_from false part ≡ joined old (rank_from plus (drop n part)) → rank_of part ≡ None
+nine_or_none : (b d : Bool) (old : Cells) → (length old == 9) ≡ d → only_nine (joined old (squares_in (cond b None (Some [])))) ≡ cond b None (cond d (Some old) None)
+nine_or_none true d old e = refl
+nine_or_none false d old e = ap (λ (c : Cells). only_nine (Some c)) (append-nil old) ∙ ap (λ (x : Bool). cond x (Some old) None) e
+
+-- after the last byte: behind a plus or not, and with nine squares or not
+pub rank-ends : (part : List ℕ) (n : ℕ) (plus b d : Bool) (old : Cells) → n ≡ length part → plus ≡ b → (length old == 9) ≡ d → IsReadTo part n plus old → rank_of part ≡ cond b None (cond d (Some old) None)
 unfolding rank_of
-rank-plus part n plus old e p so_far =
-    ap only_nine (so_far ∙ (ap (joined old) (ended part n plus e) ∙ ap (λ (b : Bool). joined old (cond b None (Some []))) p))
-
-pub rank-ends : (part : List ℕ) (n : ℕ) (plus : Bool) (old : Cells) → n ≡ length part → plus ≡ false → rank_from false part ≡ joined old (rank_from plus (drop n part))
-    → rank_of part ≡ cond (length old == 9) (Some old) None
-unfolding rank_of
-rank-ends part n plus old e p so_far =
-    ap only_nine (so_far ∙ (ap (joined old) (ended part n plus e) ∙ (ap (λ (b : Bool). joined old (cond b None (Some []))) p ∙ ap Some (append-nil old))))
+rank-ends part n plus b d old e p nine so_far =
+    let all : squares_in (items_from false part) ≡ joined old (squares_in (cond b None (Some []))) =
+    so_far ∙ (ap (λ (k : ℕ). joined old (squares_in (items_from plus (drop k part)))) e ∙ (ap (λ (bs : List ℕ). joined old (squares_in (items_from plus bs))) (drop-length part) ∙ ap (λ (x : Bool). joined old (squares_in (cond x None (Some [])))) p)) in
+    ap only_nine all ∙ nine_or_none b d old nine
 
 -- what is known after some ranks
 pub record HasRanks (word rest : List ℕ) (squares : Cells) (n : ℕ) : Type 0 where

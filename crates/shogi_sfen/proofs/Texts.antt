@@ -7,7 +7,8 @@ use Rattle.shogi_core.specs.declared.piece.Kind.{Kind}
 use Rattle.shogi_core.specs.declared.piece.Kind.TheVariants as kinds
 use Rattle.shogi_core.specs.declared.moves.Move.{Move}
 use Rattle.shogi_core.specs.declared.moves.Move.TheVariants.{Board, Drop}
-use Rattle.shogi_sfen.specs.MoveTexts.{letter_of, text_of}
+use Rattle.shogi_sfen.specs.Letters.{letter_of}
+use Rattle.shogi_sfen.specs.MoveTexts.{text_of}
 use Rattle.shogi_sfen.specs.Reading.{square_read, kind_read, board_read, drop_read, short_read, long_read, read}
 
 -- a square's text is read as that square

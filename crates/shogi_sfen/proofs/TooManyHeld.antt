@@ -21,7 +21,7 @@ use Rattle.shogi_core.specs.Position.{Shogi, Held, held, place_of}
 use Rattle.shogi_core.specs.Validity.{fault_of, has_too_many, count_of}
 use Rattle.shogi_core.proofs.Faults.{number_below, kind_there}
 use Rattle.shogi_sfen.specs.Words.{has_bytes}
-use Rattle.shogi_sfen.specs.BoardTexts.{piece_named}
+use Rattle.shogi_sfen.specs.Letters.{piece_named}
 use Rattle.shogi_sfen.specs.HandTexts.{with_kind, with_piece, with_digit, hands_from, hands_of, no_hands, capped}
 use Rattle.shogi_sfen.specs.Sfen.{judged}
 use Rattle.shogi_sfen.proofs.HandLaws.{held-capped, exact_byte}
@@ -139,7 +139,7 @@ hands_from-len (byte ∷ bytes) hands count =
     subst (λ (o : Option Held). IfSome o (λ out. length out ≡ length hands)) (sym (exact_byte hands count byte bytes))
     (cond_both (is_ascii_digit byte) _ _ (λ (o : Option Held). IfSome o (λ out. length out ≡ length hands))
     (λ e. after_digit (with_digit count byte) (length hands) (λ n. hands_from hands (Some n) bytes) (λ n. hands_from-len bytes hands (Some n)))
-    (λ e. after_piece (with_piece hands (unwrap_or count 1) (piece_named byte)) (length hands) (λ more. hands_from more None bytes) (piece_len hands (unwrap_or count 1) (piece_named byte)) (λ more. hands_from-len bytes more None)))
+    (λ e. after_piece (with_piece hands (unwrap_or count 1) (piece_named false byte)) (length hands) (λ more. hands_from more None bytes) (piece_len hands (unwrap_or count 1) (piece_named false byte)) (λ more. hands_from-len bytes more None)))
 
 pub hands_of-len : (word : List ℕ) → IfSome (hands_of word) (λ out. length out ≡ 14)
 unfolding hands_of

@@ -22,7 +22,8 @@ use Rattle.shogi_core.specs.Position.{Held, held}
 use Rattle.shogi_sfen.specs.Words.{is_blank}
 use Rattle.shogi_sfen.specs.BoardTexts.{is_slash, ranks_of, both, joined, squares_of, board_from, board_of}
 use Rattle.shogi_sfen.specs.HandTexts.{hands_from, hands_of, no_hands}
-use Rattle.shogi_sfen.specs.Written.{piece_text, run_text, cells_text, rank_cells, rank_text, board_text, held_text, kinds_in_text, side_held_text, or_hyphen, hands_text}
+use Rattle.shogi_sfen.specs.Written.{run_text, cells_text, rank_cells, rank_text, board_text, held_text, kinds_in_text, side_held_text, or_hyphen, hands_text}
+use Rattle.shogi_sfen.specs.Letters.{piece_text, piece_named}
 use Rattle.shogi_sfen.proofs.RanksBack.{rank_of-cells_text}
 use Rattle.shogi_sfen.proofs.RankLaws.{arranged}
 use Rattle.shogi_sfen.proofs.HandsBack.{added, held_back}
@@ -62,7 +63,7 @@ all_back (x0 ∷ x1 ∷ x2 ∷ x3 ∷ x4 ∷ x5 ∷ x6 ∷ x7 ∷ x8 ∷ x9 ∷ 
 all_back (x0 ∷ x1 ∷ x2 ∷ x3 ∷ x4 ∷ x5 ∷ x6 ∷ x7 ∷ x8 ∷ x9 ∷ x10 ∷ x11 ∷ x12 ∷ x13 ∷ y ∷ more) e = absurd (omega arith)
 
 pub finished : (text : List ℕ) (hands : Held) → hands_from no_hands None text ≡ Some hands → hands_of (or_hyphen text) ≡ Some hands
-unfolding hands_of
+unfolding hands_of piece_named
 finished [] hands e = e
 finished (b ∷ bs) hands e = elim (cases_Bool (bytes_eq (b ∷ bs) (codes "-"))) [
   | inl hyphen ↦

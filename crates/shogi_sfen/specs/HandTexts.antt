@@ -1,5 +1,5 @@
 -- Hands as text (SFEN, pieces in hand): a hyphen, or counts and letters in any order, which add up.
-use Rattle.std.specs.Prelude.{ℕ, ◌+◌, ◌-◌, ◌*◌, ◌==◌, ◌&&◌, List, [], ◌∷◌, Option, Some, None, cond, is_none, codes, replicate, slice_set, unwrap_or, min, map}
+use Rattle.std.specs.Prelude.{ℕ, ◌+◌, ◌-◌, ◌*◌, ◌==◌, ◌&&◌, false, List, [], ◌∷◌, Option, Some, None, cond, is_none, codes, replicate, slice_set, unwrap_or, min, map}
 use Rattle.std.specs.Option.{option_and_then}
 use Rattle.shogi_sfen.specs.Words.{has_bytes}
 use Rattle.std.specs.Char.{is_ascii_digit}
@@ -9,7 +9,7 @@ use Rattle.shogi_core.specs.declared.piece.Kind.{Kind}
 use Rattle.shogi_core.specs.declared.piece.Piece.{Piece}
 use Rattle.shogi_core.specs.Pieces.{kind_of}
 use Rattle.shogi_core.specs.Position.{Held, held, place_of}
-use Rattle.shogi_sfen.specs.BoardTexts.{piece_named}
+use Rattle.shogi_sfen.specs.Letters.{piece_named}
 
 -- so many more of a kind held by the side
 abbrev pub with_kind : Held → ℕ → Color → Option Kind → Option Held
@@ -32,7 +32,7 @@ hands_from hands (Some n) [] = None
 hands_from hands count (byte ∷ bytes) =
     cond (is_ascii_digit byte)
     (option_and_then (λ n. hands_from hands (Some n) bytes) (with_digit count byte))
-    (option_and_then (λ more. hands_from more None bytes) (with_piece hands (unwrap_or count 1) (piece_named byte)))
+    (option_and_then (λ more. hands_from more None bytes) (with_piece hands (unwrap_or count 1) (piece_named false byte)))
 
 -- nothing held by either side
 abbrev pub no_hands : Held
@@ -62,7 +62,7 @@ capped_from hands (Some n) [] = None
 capped_from hands count (byte ∷ bytes) =
     cond (is_ascii_digit byte)
     (option_and_then (λ n. capped_from hands (Some n) bytes) (capped_digit count byte))
-    (option_and_then (λ more. capped_from more None bytes) (capped_piece hands (unwrap_or count 1) (piece_named byte)))
+    (option_and_then (λ more. capped_from more None bytes) (capped_piece hands (unwrap_or count 1) (piece_named false byte)))
 
 -- each count, or 255 where it is greater
 abbrev pub capped : Held → Held

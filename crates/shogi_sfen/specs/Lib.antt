@@ -1,9 +1,10 @@
 pub mod Words
 pub mod Numbers
+pub mod Letters
 pub mod MoveTexts
 pub mod Reading
+pub mod Items
 pub mod BoardTexts
-pub mod Ranks
 pub mod HandTexts
 pub mod Sfen
 pub mod Written

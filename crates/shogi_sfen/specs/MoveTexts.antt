@@ -1,21 +1,17 @@
 -- Moves as text (USI, moves: a board move by two squares and a plus for a promotion, a drop by a letter, a star and a square).
-use Rattle.std.specs.Prelude.{ℕ, ◌+◌, ◌/◌, ◌%◌, Bool, false, List, [], ◌∷◌, ◌++◌, Option, Some, None, cond, codes, slice_index}
+use Rattle.std.specs.Prelude.{ℕ, ◌+◌, ◌/◌, ◌%◌, Bool, false, List, [], ◌∷◌, ◌++◌, Option, Some, None, cond, codes}
 use Rattle.std.specs.List.{find}
 use Rattle.std.specs.Option.{option_and_then}
 use Rattle.std.specs.Str.{bytes_eq}
 use Rattle.shogi_core.specs.declared.piece.Kind.{Kind}
 use Rattle.shogi_core.specs.declared.moves.Move.{Move}
 use Rattle.shogi_core.specs.declared.moves.Move.TheVariants.{Board, Drop}
-use Rattle.shogi_core.specs.Pieces.{number_of}
 use Rattle.shogi_core.specs.Codes.{move_of, all_codes}
+use Rattle.shogi_sfen.specs.Letters.{letter_of}
 
 -- the file as a digit from 1 to 9, and the rank as a letter from a to i
 abbrev pub square_text : ℕ → List ℕ
 square_text square = (square / 9 + 49) ∷ (square % 9 + 97) ∷ []
-
--- the letter of a kind, for both sides
-abbrev pub letter_of : Kind → ℕ
-letter_of kind = slice_index (codes "PLNSGBR") (number_of kind)
 
 -- the one text of a move
 abbrev pub text_of : Move → List ℕ

@@ -5,33 +5,14 @@ use Rattle.std.specs.Option.{IsSomeAnd}
 use Rattle.std.specs.Char.{is_ascii_digit}
 use Rattle.shogi_core.specs.declared.piece.Color.{Color}
 use Rattle.shogi_core.specs.declared.piece.Kind.{Kind}
-use Rattle.shogi_core.specs.declared.piece.Piece.{Piece}
 use Rattle.shogi_core.specs.Movement.{Cells}
 use Rattle.shogi_core.specs.Pieces.{is_same_color, number_of}
 use Rattle.shogi_core.specs.Position.{Shogi, Held, held}
 use Rattle.shogi_sfen.specs.Numbers as numbers
-use Rattle.shogi_sfen.specs.MoveTexts.{letter_of}
-use Rattle.shogi_sfen.specs.Written.{as_side, piece_text, rank_cells, side_text, or_hyphen}
-
--- an item of a rank: so many empty squares, or a piece
-pub data RankItem : Type 0 where
-  Empty : (n : ℕ) → RankItem
-  Occupied : (piece : Piece) → RankItem
-
--- a run is of one to nine squares
-abbrev pub IsRankItem : RankItem → Type 0
-IsRankItem (Empty n) = (1 ≤ n) × (n ≤ 9)
-IsRankItem (Occupied piece) = Unit {0}
-
--- its squares
-abbrev pub item_squares : RankItem → Cells
-item_squares (Empty n) = replicate n None
-item_squares (Occupied piece) = Some piece ∷ []
-
--- its text: one digit, or a plus where the piece is promoted and its letter, upper case for Black, lower case for White
-abbrev pub item_text : RankItem → List ℕ
-item_text (Empty n) = (n + 48) ∷ []
-item_text (Occupied piece) = piece_text piece
+use Rattle.shogi_sfen.specs.declared.board_text.RankItem.{RankItem}
+use Rattle.shogi_sfen.specs.Letters.{letter_of, as_side}
+use Rattle.shogi_sfen.specs.Items.{IsRankItem, item_squares, item_text}
+use Rattle.shogi_sfen.specs.Written.{rank_cells, side_text, or_hyphen}
 
 -- a rank's text is that of items whose squares are its nine; empty squares may be cut into runs in any way
 pub record SpellsRank (text : List ℕ) (cells : Cells) : Type 0 where

@@ -1,41 +1,14 @@
 -- The one written text of a position (SFEN): runs of empty squares as long as can be, no count of 1, and no number.
-use Rattle.std.specs.Prelude.{ℕ, ◌+◌, ◌-◌, ◌*◌, ◌/◌, ◌%◌, ◌==◌, Bool, true, false, List, [], ◌∷◌, ◌++◌, Option, Some, None, cond, nat_lt, map, codes}
+use Rattle.std.specs.Prelude.{ℕ, ◌+◌, ◌-◌, ◌*◌, ◌/◌, ◌%◌, ◌==◌, List, [], ◌∷◌, ◌++◌, Some, None, cond, nat_lt, map, codes}
 use Rattle.std.specs.List.{flat_map, range_with_len}
 use Rattle.shogi_core.specs.declared.piece.Color.{Color}
 use Rattle.shogi_core.specs.declared.piece.Color.TheVariants.{Black, White}
 use Rattle.shogi_core.specs.declared.piece.Kind.{Kind}
 use Rattle.shogi_core.specs.declared.piece.Kind.TheVariants as kinds
-use Rattle.shogi_core.specs.declared.piece.Role.{Role}
-use Rattle.shogi_core.specs.declared.piece.Role.TheVariants.{PromotedPawn, PromotedLance, PromotedKnight, PromotedSilver, Horse, Dragon}
 use Rattle.shogi_core.specs.declared.piece.Piece.{Piece}
 use Rattle.shogi_core.specs.Movement.{Cells, piece_at}
-use Rattle.shogi_core.specs.Pieces.{kind_of}
 use Rattle.shogi_core.specs.Position.{Shogi, Held, held}
-use Rattle.shogi_sfen.specs.MoveTexts.{letter_of}
-
--- a promoted role
-abbrev pub is_promoted : Role → Bool
-is_promoted PromotedPawn = true
-is_promoted PromotedLance = true
-is_promoted PromotedKnight = true
-is_promoted PromotedSilver = true
-is_promoted Horse = true
-is_promoted Dragon = true
-is_promoted _ = false
-
--- the upper-case letter of what a role is in hand, or of a king
-abbrev pub letter_or_king : Option Kind → ℕ
-letter_or_king None = 75
-letter_or_king (Some kind) = letter_of kind
-
--- upper case for Black, lower case for White
-abbrev pub as_side : Color → ℕ → ℕ
-as_side Black letter = letter
-as_side White letter = letter + 32
-
--- a plus where it is promoted, and its letter
-abbrev pub piece_text : Piece → List ℕ
-piece_text piece = cond (is_promoted piece.role) (codes "+") [] ++ as_side piece.color (letter_or_king (kind_of piece.role)) ∷ []
+use Rattle.shogi_sfen.specs.Letters.{letter_of, as_side, piece_text}
 
 -- a number of empty squares, if there are any
 abbrev pub run_text : ℕ → List ℕ

@@ -2,104 +2,41 @@
 
 ghost use Rattle.std.specs.Prelude.{◌≡◌, ◌≤◌, ◌<◌, ◌+◌, ◌++◌, None, Some, MatchOption, IfSome, length, replicate, position, drop};
 ghost use Rattle.std.specs.List.{slice_split, position_or_len};
-ghost use Rattle.shogi_sfen.specs.BoardTexts.{role_named, piece_named, promoted_from, item_of, is_plus, item_from, rank_of, rank_from, ranks_of, board_from, board_of, squares_of, is_slash};
-ghost use Rattle.shogi_sfen.specs.Ranks.{TakesItem};
+ghost use Rattle.shogi_sfen.specs.BoardTexts.{item_named, is_plus, rank_of, items_from, ranks_of, board_from, board_of, squares_of, is_slash};
+ghost use Rattle.shogi_sfen.specs.Items.{TakesItem};
 
+use crate::letter::read_piece;
 use arrayvec::ArrayVec;
-use shogi_core::{Color, Piece, Role};
+use shogi_core::Piece;
 
-/// What a byte of a rank says.
+/// An item of a rank: so many empty squares, or a piece.
 #[derive(Clone, Copy, Debug, PartialEq, Eq)]
-pub enum Item {
-    /// The next letter is a promoted piece.
-    Plus,
-    /// So many empty squares.
-    Run(u8),
-    /// A piece.
-    Square(Piece),
-    /// Nothing that a rank has.
-    Wrong,
+pub enum RankItem {
+    Empty(u8),
+    Occupied(Piece),
 }
 
 /// A rank, from file 9 to file 1.
 pub type Rank = ArrayVec<Option<Piece>, 9>;
 
-/// The role of an upper-case letter.
-fn read_role(letter: u8) -> Option<Role>
-    ensures { result ≡ role_named letter }
+/// Whether the byte is a plus that begins an item.
+fn is_plus(plus: bool, byte: u8) -> bool
+    ensures { result ≡ is_plus plus byte }
 {
-    match letter {
-        b'P' => Some(Role::Pawn),
-        b'L' => Some(Role::Lance),
-        b'N' => Some(Role::Knight),
-        b'S' => Some(Role::Silver),
-        b'G' => Some(Role::Gold),
-        b'B' => Some(Role::Bishop),
-        b'R' => Some(Role::Rook),
-        b'K' => Some(Role::King),
-        _ => None,
-    }
-}
-
-/// The piece of a letter: upper case is Black's, lower case White's.
-pub fn read_piece(letter: u8) -> Option<Piece>
-    ensures { result ≡ piece_named letter }
-{
-    if letter < b'a' {
-        let role = read_role(letter)?;
-        return Some(Piece {
-            color: Color::Black,
-            role,
-        });
-    }
-    let role = read_role(letter - 32)?;
-    Some(Piece {
-        color: Color::White,
-        role,
-    })
-}
-
-/// The promoted piece; a king and a gold have none.
-fn promoted(piece: Option<Piece>) -> Option<Piece>
-    ensures { result ≡ promoted_from piece }
-{
-    let piece = piece?;
-    match piece.role {
-        Role::King | Role::Gold => None,
-        role => Some(Piece {
-            color: piece.color,
-            role: role.promoted(),
-        }),
-    }
-}
-
-fn square_item(piece: Option<Piece>) -> Item
-    ensures { result ≡ item_from piece }
-{
-    match piece {
-        Some(piece) => Item::Square(piece),
-        None => Item::Wrong,
-    }
+    !plus && byte == b'+'
 }
 
 /// What a byte says, where a plus stands right before it or not.
-fn item_of(plus: bool, byte: u8) -> Item
-    ensures { result ≡ item_of plus byte }
+fn read_item(plus: bool, byte: u8) -> Option<RankItem>
+    ensures { result ≡ item_named plus byte }
 {
-    if plus {
-        return square_item(promoted(read_piece(byte)));
-    }
     match byte {
-        b'+' => Item::Plus,
-        b'1'..=b'9' => Item::Run(byte - b'0'),
-        _ => square_item(read_piece(byte)),
+        b'1'..=b'9' if !plus => Some(RankItem::Empty(byte - b'0')),
+        _ => {
+            let piece = read_piece(plus, byte)?;
+            Some(RankItem::Occupied(piece))
+        }
     }
-}
-
-fn is_plus(item: Item) -> bool
-    ensures { result ≡ is_plus item }
-{
-    matches!(item, Item::Plus)
 }
 
 /// So many empty squares at the end of a rank that has room for them.
@@ -112,28 +49,27 @@ fn push_run(rank: &mut Rank, n: u8)
     }
 }
 
-/// The squares that an item says at the end of a rank, or false where it has no room for them or
-/// the item is wrong.
-fn push_item(rank: &mut Rank, item: Item) -> bool
+/// The squares of an item at the end of a rank, or false where there is no item, or no room for
+/// them.
+fn push_item(rank: &mut Rank, item: Option<RankItem>) -> bool
     ensures { TakesItem item rank.old.items rank.new.items result }
 {
     match item {
-        Item::Plus => true,
-        Item::Run(n) => {
+        Some(RankItem::Empty(n)) => {
             let fits = rank.len() + n as usize <= 9;
             if fits {
                 push_run(rank, n);
             }
             fits
         }
-        Item::Square(piece) => {
+        Some(RankItem::Occupied(piece)) => {
             let fits = !rank.is_full();
             if fits {
                 rank.push(Some(piece));
             }
             fits
         }
-        Item::Wrong => false,
+        None => false,
     }
 }
 
@@ -145,10 +81,13 @@ fn read_rank(part: &[u8]) -> Option<Rank>
     let mut rank = ArrayVec::new();
     let mut plus = false;
     for byte in part {
-        let item = item_of(plus, *byte);
-        plus = is_plus(item);
-        if !push_item(&mut rank, item) {
-            return None;
+        if is_plus(plus, *byte) {
+            plus = true;
+        } else {
+            if !push_item(&mut rank, read_item(plus, *byte)) {
+                return None;
+            }
+            plus = false;
         }
     }
     if plus || !rank.is_full() {

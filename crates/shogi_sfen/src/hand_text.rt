@@ -4,7 +4,7 @@ ghost use Rattle.std.specs.Prelude.{◌≡◌, ◌≤◌, min};
 ghost use Rattle.std.specs.Option.{option_map};
 ghost use Rattle.shogi_sfen.specs.HandTexts.{capped, capped_digit, capped_piece, capped_from, no_hands, hands_of};
 
-use crate::board_text::read_piece;
+use crate::letter::read_piece;
 use shogi_core::{Hands, Piece};
 
 /// One more digit of a count, of which the first is not 0; at 255 it stays.
@@ -41,7 +41,7 @@ fn read_items(word: &[u8]) -> Option<Hands>
                 Some(number) => count = Some(number),
             }
         } else {
-            match with_piece(hands, count.unwrap_or(1), read_piece(*byte)) {
+            match with_piece(hands, count.unwrap_or(1), read_piece(false, *byte)) {
                 None => return None,
                 Some(more) => {
                     hands = more;

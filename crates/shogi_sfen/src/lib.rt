@@ -3,6 +3,7 @@
 
 mod board_text;
 mod hand_text;
+mod letter;
 mod move_text;
 mod number;
 mod position;

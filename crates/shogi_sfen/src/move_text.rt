@@ -1,9 +1,10 @@
 //! Moves as text.
 
 ghost use Rattle.std.specs.Prelude.{◌≡◌, ◌++◌, ◌<◌, Some, length};
-ghost use Rattle.shogi_sfen.specs.MoveTexts.{letter_of, square_text, text_of, move_of_text};
+ghost use Rattle.shogi_sfen.specs.MoveTexts.{square_text, text_of, move_of_text};
 ghost use Rattle.shogi_sfen.specs.Reading.{square_read, kind_read, board_read, drop_read, short_read, long_read, read};
 
+use crate::letter::letter_of;
 use arrayvec::ArrayVec;
 use shogi_core::{Kind, Move, Square};
 
@@ -121,22 +122,6 @@ pub fn write_move(m: Move) -> ArrayVec<u8, 5>
         }
     }
     text
-}
-
-/// The upper-case letter of the kind.
-pub fn letter_of(kind: Kind) -> u8
-    ensures value { result ≡ letter_of kind }
-    ensures small { result < 91 }
-{
-    match kind {
-        Kind::Pawn => b'P',
-        Kind::Lance => b'L',
-        Kind::Knight => b'N',
-        Kind::Silver => b'S',
-        Kind::Gold => b'G',
-        Kind::Bishop => b'B',
-        Kind::Rook => b'R',
-    }
 }
 
 /// Writes the file as a digit and the rank as a letter from `a` to `i`.

@@ -2,8 +2,8 @@
 
 ghost use Rattle.std.specs.Prelude.{◌≡◌, ◌≤◌, ◌<◌, ◌+◌, ◌*◌, ◌++◌, ℕ, List, Ok, [], ◌∷◌, length};
 ghost use Rattle.std.specs.List.{flat_map, range_with_len};
-ghost use Rattle.shogi_sfen.specs.Written.{is_promoted, letter_or_king, as_side, piece_text, run_text, cells_text, rank_cells, rank_text, board_text, side_text, held_text, side_held_text, hands_text, written};
-ghost use Rattle.shogi_core.specs.Pieces.{kind_of};
+ghost use Rattle.shogi_sfen.specs.Written.{run_text, cells_text, rank_cells, rank_text, board_text, side_text, held_text, side_held_text, hands_text, written};
+ghost use Rattle.shogi_sfen.specs.Letters.{piece_text};
 ghost use Rattle.shogi_core.specs.Position.{held};
 ghost use Rattle.shogi_sfen.specs.Words.{words};
 ghost use Rattle.shogi_sfen.specs.Sfen.{position_at, end_of, EndsWord};
@@ -12,46 +12,12 @@ ghost use Rattle.shogi_core.specs.declared.piece.Kind.{Kind};
 ghost use Rattle.shogi_core.specs.declared.piece.Color.{Color};
 
 use crate::board_text::Rank;
-use crate::move_text::letter_of;
+use crate::letter::{as_side, is_promoted, letter_of, piece_letter};
 use arrayvec::ArrayVec;
-use shogi_core::{Board, Color, Hands, Kind, Piece, Position, Role, Square};
+use shogi_core::{Board, Color, Hands, Kind, Piece, Position, Square};
 
 /// The written text of a position.
 pub type Text = ArrayVec<u8, 256>;
-
-fn is_promoted(role: Role) -> bool
-    ensures { result ≡ is_promoted role }
-{
-    matches!(
-        role,
-        Role::PromotedPawn
-            | Role::PromotedLance
-            | Role::PromotedKnight
-            | Role::PromotedSilver
-            | Role::Horse
-            | Role::Dragon
-    )
-}
-
-fn letter_of_role(role: Role) -> u8
-    ensures value { result ≡ letter_or_king (kind_of role) }
-    ensures small { result < 91 }
-{
-    match role.kind() {
-        Some(kind) => letter_of(kind),
-        None => b'K',
-    }
-}
-
-fn as_side(color: Color, letter: u8) -> u8
-    requires { letter < 91 }
-    ensures { result ≡ as_side color letter }
-{
-    match color {
-        Color::Black => letter,
-        Color::White => letter + 32,
-    }
-}
 
 fn push_piece(text: &mut Text, piece: Piece)
     requires { length text.old.items ≤ 250 }
@@ -61,7 +27,7 @@ fn push_piece(text: &mut Text, piece: Piece)
     if is_promoted(piece.role) {
         text.push(b'+');
     }
-    text.push(as_side(piece.color, letter_of_role(piece.role)));
+    text.push(piece_letter(piece));
 }
 
 fn push_run(text: &mut Text, run: u8)
