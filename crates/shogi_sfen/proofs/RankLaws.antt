@@ -1,8 +1,7 @@
--- A rank item by item, and ranks one after another.
-use Rattle.std.proofs.Common.{◌≡◌, ℕ, ◌+◌, ◌*◌, ◌≤◌, ◌<◌, Bool, true, false, cond, refl, sym, ◌∙◌, ap, arith, List, [], ◌∷◌, ◌++◌, length, take, drop, get_or, append_assoc, append-nil, Option, Some, None, add-one}
-use Rattle.std.specs.Prelude.{◌==◌, suc, map}
-use Rattle.std.specs.List.{flat_map, slice_split, position_or_len, range_with_len}
-use Rattle.std.proofs.Math.Seq.{drop-cons, drop-length}
+-- Ranks one after another.
+use Rattle.std.proofs.Common.{◌≡◌, ℕ, ◌+◌, ◌*◌, ◌≤◌, ◌<◌, refl, sym, ◌∙◌, ap, arith, List, [], ◌∷◌, ◌++◌, length, take, drop, get_or, append_assoc, append-nil, Option, Some, None}
+use Rattle.std.specs.Prelude.{◌==◌, map}
+use Rattle.std.specs.List.{slice_split, position_or_len, range_with_len}
 use Rattle.std.proofs.lemmas.List.{length-append, ext_get_or}
 use Rattle.std.proofs.lemmas.List.FromFn.{get_or-map-range_with_len, length-map-range_with_len}
 use Rattle.std.proofs.lemmas.List.Splits.{slice_split_first, slice_split_none, length-slice_split}
@@ -11,59 +10,11 @@ use Rattle.std.specs.Prelude.{count_by}
 use Rattle.std.proofs.lemmas.Bool.{cond-true, cond-false, eq-eqb, ne_eqb, cond_both}
 use Rattle.shogi_core.specs.declared.piece.Piece.{Piece}
 use Rattle.shogi_core.specs.Movement.{Cells, piece_at}
-use Rattle.shogi_sfen.specs.declared.board_text.RankItem.{RankItem}
-use Rattle.shogi_sfen.specs.Items.{item_squares, TakesItem}
-use Rattle.shogi_sfen.specs.BoardTexts.{item_named, is_plus, onto_items, items_from, squares_in, joined, only_nine, rank_of, both, ranks_of, is_slash, squares_of, place_in_text, board_from}
+use Rattle.shogi_sfen.specs.BoardTexts.{joined, rank_of, both, ranks_of, is_slash, squares_of, place_in_text, board_from}
 
 joined-joined : (a b : Cells) (more : Option Cells) → joined a (joined b more) ≡ joined (a ++ b) more
 joined-joined a b None = refl
 joined-joined a b (Some c) = ap Some (sym (append_assoc a b c))
-
--- one more item
-joined-item : (cells : Cells) (item : RankItem) (items : Option (List RankItem)) → joined cells (squares_in (onto_items (Some item) items)) ≡ joined (cells ++ item_squares item) (squares_in items)
-joined-item cells item None = refl
-joined-item cells item (Some items) = ap Some (sym (append_assoc cells (item_squares item) (flat_map item_squares items)))
-
-overfull : (cells : Cells) (more : Option Cells) → 9 < length cells → only_nine (joined cells more) ≡ None
-overfull cells None h = refl
-overfull cells (Some more) h =
-    let n : length (cells ++ more) ≡ length cells + length more = length-append cells more in
-    cond-false (length (cells ++ more) == 9) _ _ (ne_eqb (length (cells ++ more)) 9 (λ e. omega arith))
-
--- the squares so far, and those that the other bytes say
-abbrev pub IsReadTo : List ℕ → ℕ → Bool → Cells → Type 0
-IsReadTo part i plus cells = squares_in (items_from false part) ≡ joined cells (squares_in (items_from plus (drop i part)))
-
-module _ (part : List ℕ) (i byte : ℕ) (plus : Bool) (old : Cells) (below : i < length part) (here : byte ≡ get_or part i 0) (so_far : IsReadTo part i plus old) where
-  next : squares_in (items_from false part) ≡ joined old (squares_in (cond (is_plus plus byte) (items_from true (drop (i + 1) part)) (onto_items (item_named plus byte) (items_from false (drop (i + 1) part)))))
-  next = so_far ∙ ap (λ (bs : List ℕ). joined old (squares_in (items_from plus bs))) (drop-cons part i 0 below ∙ ap (λ (b : ℕ). b ∷ drop (suc i) part) (sym here) ∙ ap (λ (k : ℕ). byte ∷ drop k part) (sym (add-one i)))
-
-  next_item : (item : Option RankItem) → item ≡ item_named plus byte → is_plus plus byte ≡ false → squares_in (items_from false part) ≡ joined old (squares_in (onto_items item (items_from false (drop (i + 1) part))))
-  next_item item named t =
-      next ∙ ap (λ o. joined old (squares_in o)) (cond-false (is_plus plus byte) _ _ t ∙ ap (λ o. onto_items o (items_from false (drop (i + 1) part))) (sym named))
-
-refused : (part rest : List ℕ) (old new : Cells) (item : Option RankItem) → squares_in (items_from false part) ≡ joined old (squares_in (onto_items item (items_from false rest))) → TakesItem item old new false → rank_of part ≡ None
-unfolding rank_of
-refused part rest old new None e h = ap only_nine e
-refused part rest old new (Some item) e h =
-    let n : length (old ++ item_squares item) ≡ length old + length (item_squares item) = length-append old (item_squares item) in
-    ap only_nine (e ∙ joined-item old item (items_from false rest)) ∙ overfull (old ++ item_squares item) (squares_in (items_from false rest)) (omega arith)
-
-pub rank-stops : (part : List ℕ) (i byte : ℕ) (plus : Bool) (old new : Cells) (item : Option RankItem) → i < length part → byte ≡ get_or part i 0 → is_plus plus byte ≡ false → item ≡ item_named plus byte
-    → IsReadTo part i plus old → TakesItem item old new false → rank_of part ≡ None
-rank-stops part i byte plus old new item below here t named so_far h = refused part (drop (i + 1) part) old new item (next_item part i byte plus old below here so_far item named t) h
-
-nine_or_none : (b d : Bool) (old : Cells) → (length old == 9) ≡ d → only_nine (joined old (squares_in (cond b None (Some [])))) ≡ cond b None (cond d (Some old) None)
-nine_or_none true d old e = refl
-nine_or_none false d old e = ap (λ (c : Cells). only_nine (Some c)) (append-nil old) ∙ ap (λ (x : Bool). cond x (Some old) None) e
-
--- after the last byte: behind a plus or not, and with nine squares or not
-pub rank-ends : (part : List ℕ) (n : ℕ) (plus b d : Bool) (old : Cells) → n ≡ length part → plus ≡ b → (length old == 9) ≡ d → IsReadTo part n plus old → rank_of part ≡ cond b None (cond d (Some old) None)
-unfolding rank_of
-rank-ends part n plus b d old e p nine so_far =
-    let all : squares_in (items_from false part) ≡ joined old (squares_in (cond b None (Some []))) =
-    so_far ∙ (ap (λ (k : ℕ). joined old (squares_in (items_from plus (drop k part)))) e ∙ (ap (λ (bs : List ℕ). joined old (squares_in (items_from plus bs))) (drop-length part) ∙ ap (λ (x : Bool). joined old (squares_in (cond x None (Some [])))) p)) in
-    ap only_nine all ∙ nine_or_none b d old nine
 
 -- what is known after some ranks
 pub record HasRanks (word rest : List ℕ) (squares : Cells) (n : ℕ) : Type 0 where

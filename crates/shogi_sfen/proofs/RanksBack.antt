@@ -1,5 +1,5 @@
 -- Items are read from their texts, and a written rank as its squares.
-use Rattle.std.proofs.Common.{◌≡◌, ℕ, ◌+◌, ◌≤◌, true, false, refl, sym, ◌∙◌, ap, arith, List, [], ◌∷◌, ◌++◌, length, append-nil, Option, Some, None, add-one}
+use Rattle.std.proofs.Common.{◌≡◌, ℕ, ◌+◌, ◌≤◌, false, refl, sym, ◌∙◌, ap, arith, List, [], ◌∷◌, ◌++◌, length, append-nil, Option, Some, None, add-one}
 use Rattle.std.specs.Prelude.{◌==◌, ◌&&◌, zero, suc, nat_lt, replicate}
 use Rattle.std.specs.List.{flat_map}
 use Rattle.std.proofs.lemmas.Bool.{cond-true, cond-false, and_from, lt-ltb, eq-eqb, ne_eqb}
@@ -12,7 +12,7 @@ use Rattle.shogi_sfen.specs.declared.board_text.RankItem.{RankItem}
 use Rattle.shogi_sfen.specs.declared.board_text.RankItem.TheVariants.{Empty, Occupied}
 use Rattle.shogi_sfen.specs.Letters.{piece_named, piece_text}
 use Rattle.shogi_sfen.specs.Items.{IsRankItem, item_squares, item_text}
-use Rattle.shogi_sfen.specs.BoardTexts.{item_named, is_plus, onto_items, items_from, squares_in, joined, only_nine, rank_of}
+use Rattle.shogi_sfen.specs.BoardTexts.{is_plus, onto_items, items_from, squares_in, only_nine, rank_of}
 use Rattle.shogi_sfen.specs.Written.{run_text, cells_text}
 
 piece_back : (color : Color) (role : Role) (rest : List ℕ)

@@ -1,5 +1,5 @@
 -- How positions are spelled (SFEN): all the texts of a rank, a board, hands and a position. It says what the texts of a meaning are, and not how a text is read.
-use Rattle.std.specs.Prelude.{◌≡◌, ◌≢◌, ℕ, ◌+◌, ◌<◌, ◌≤◌, ◌==◌, ◌&&◌, Bool, true, List, [], ◌∷◌, ◌++◌, Some, None, cond, length, replicate, get_or, slice_get}
+use Rattle.std.specs.Prelude.{◌≡◌, ◌≢◌, ℕ, ◌<◌, ◌==◌, ◌&&◌, Bool, true, List, [], ◌∷◌, ◌++◌, cond, length, get_or, slice_get}
 use Rattle.std.specs.List.{flat_map, sum_by, list_all, join_with_byte, AllByRecursion}
 use Rattle.std.specs.Option.{IsSomeAnd}
 use Rattle.std.specs.Char.{is_ascii_digit}

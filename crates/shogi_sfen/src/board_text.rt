@@ -74,6 +74,7 @@ fn push_item(rank: &mut Rank, item: Option<RankItem>) -> bool
 }
 
 /// The nine squares of a rank, if the bytes say one.
+#[tactic(auto, unfolding(crate::specs::BoardTexts::rank_of))]
 fn read_rank(part: &[u8]) -> Option<Rank>
     ensures value { MatchOption result (rank_of part.now ≡ None) (λ rank. rank_of part.now ≡ Some rank.items) }
     ensures len { IfSome result (λ rank. length rank.items ≡ 9) }

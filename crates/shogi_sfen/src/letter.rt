@@ -106,10 +106,7 @@ fn color_of_letter(letter: u8) -> Color
 fn read_role(plus: bool, letter: u8, color: Color) -> Option<Role>
     ensures { result ≡ role_named plus letter color }
 {
-    ROLES
-        .iter()
-        .copied()
-        .find(|role| is_named(plus, letter, Piece { color, role: *role }))
+    ROLES.iter().copied().find(|role| is_named(plus, letter, Piece { color, role: *role }))
 }
 
 /// The piece that the letter names, behind a plus or not: upper case is Black's, lower case

@@ -1,6 +1,7 @@
-use Rattle.shogi_sfen.proofs.RankLaws.{IsReadTo}
+use Rattle.std.proofs.Common.{◌≡◌, false, drop}
+use Rattle.shogi_sfen.specs.BoardTexts.{items_from, squares_in, joined}
 use Rattle.shogi_sfen.proofs.board_text.read_rank.Given as goal
 
 -- the squares so far, and those that the other bytes say
 abbrev pub invariant-loop-byte : goal.invariant-loop-byte
-invariant-loop-byte l = IsReadTo l.part l.byte-index l.plus l.rank.items
+invariant-loop-byte l = squares_in (items_from false l.part) ≡ joined l.rank.items (squares_in (items_from l.plus (drop l.byte-index l.part)))
