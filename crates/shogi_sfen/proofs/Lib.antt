@@ -1,5 +1,6 @@
 pub mod Runs
 pub mod Digits
+pub mod LetterLaws
 pub mod Texts
 pub mod TextsFound
 pub mod RankLaws

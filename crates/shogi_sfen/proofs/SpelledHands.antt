@@ -30,7 +30,7 @@ use Rattle.shogi_sfen.proofs.HandLaws.{exact_byte}
 use Rattle.shogi_sfen.proofs.TooManyHeld.{Holder, holder, hands_from-len}
 use Rattle.shogi_sfen.proofs.HandsBack.{added, letter_back}
 use Rattle.shogi_sfen.proofs.WrittenBack.{finished}
-use Rattle.shogi_sfen.proofs.SpelledRanks.{piece_named-passes}
+use Rattle.shogi_sfen.proofs.LetterLaws.{piece_named-passes}
 
 -- one side and kind is another exactly where the places are one
 same_place : (color other : Color) (kind third : Kind) → (is_same_color color other && number_of kind == number_of third) ≡ (place_of color kind == place_of other third)

@@ -15,27 +15,9 @@ use Rattle.shogi_sfen.specs.Letters.{is_promoted, piece_letter, piece_text, is_n
 use Rattle.shogi_sfen.specs.Items.{IsRankItem, item_squares, item_text}
 use Rattle.shogi_sfen.specs.BoardTexts.{item_named, onto_items, is_plus, items_from, squares_in, only_nine, rank_of, is_slash}
 use Rattle.shogi_sfen.specs.Spelling.{SpellsRank}
+use Rattle.shogi_sfen.proofs.LetterLaws.{piece_named-passes}
 use Rattle.shogi_sfen.proofs.RanksBack.{item_back}
 use Rattle.shogi_sfen.proofs.WrittenBack.{is_plain, plain_digit, plain_both, plain_piece, no_slash}
-
--- what is found passes the test
-found_passes : (test : Role → Bool) (roles : List Role) (role : Role) → find test roles ≡ Some role → test role ≡ true
-found_passes test [] role e = cc
-found_passes test (first ∷ roles) role e = elim (cases_Bool (test first)) [
-  | inl here ↦ let same : first ≡ role = (let s : Some first ≡ Some role = sym (cond-true (test first) _ _ here) ∙ e in cc) in subst (λ (r : Role). test r ≡ true) same here
-  | inr later ↦ found_passes test roles role (sym (cond-false (test first) _ _ later) ∙ e)
-]
-
-named_piece : (plus : Bool) (letter : ℕ) (color : Color) (o : Option Role) (piece : Piece) → role_named plus letter color ≡ o → piece_of color o ≡ Some piece → is_named plus letter piece ≡ true
-named_piece plus letter color None piece e f = cc
-named_piece plus letter color (Some role) piece e f =
-    let made : Piece = record { color = color; role = role } in
-    let same : made ≡ piece = cc in
-    subst (λ (p : Piece). is_named plus letter p ≡ true) same (found_passes (λ r. is_named plus letter (record { color = color; role = r })) all_roles role e)
-
-pub piece_named-passes : (plus : Bool) (letter : ℕ) (piece : Piece) → piece_named plus letter ≡ Some piece → is_named plus letter piece ≡ true
-unfolding piece_named
-piece_named-passes plus letter piece e = named_piece plus letter (color_of_letter letter) (role_named plus letter (color_of_letter letter)) piece refl e
 
 -- a plus before the bytes, or none
 behind : Bool → List ℕ → List ℕ

@@ -7,11 +7,19 @@ use Rattle.shogi_core.specs.declared.piece.Kind.{Kind}
 use Rattle.shogi_core.specs.declared.piece.Role.{Role}
 use Rattle.shogi_core.specs.declared.piece.Role.TheVariants.{King, Pawn, Lance, Knight, Silver, Gold, Bishop, Rook, PromotedPawn, PromotedLance, PromotedKnight, PromotedSilver, Horse, Dragon}
 use Rattle.shogi_core.specs.declared.piece.Piece.{Piece}
-use Rattle.shogi_core.specs.Pieces.{number_of, kind_of}
+use Rattle.shogi_core.specs.Pieces.{number_of, all_kinds, kind_of}
 
 -- the letter of a kind, for both sides
 abbrev pub letter_of : Kind → ℕ
 letter_of kind = slice_index (codes "PLNSGBR") (number_of kind)
+
+-- the kind has this letter
+abbrev pub is_letter_of : ℕ → Kind → Bool
+is_letter_of letter kind = letter_of kind == letter
+
+-- the kind, among all there are, that has the letter
+unfoldable pub kind_named : ℕ → Option Kind
+kind_named letter = find (is_letter_of letter) all_kinds
 
 -- a promoted role
 abbrev pub is_promoted : Role → Bool

@@ -2,9 +2,9 @@
 
 ghost use Rattle.std.specs.Prelude.{◌≡◌, ◌<◌};
 ghost use Rattle.shogi_core.specs.Pieces.{kind_of};
-ghost use Rattle.shogi_sfen.specs.Letters.{letter_of, is_promoted, letter_or_king, as_side, piece_letter, is_named, color_of_letter, role_named, piece_named};
+ghost use Rattle.shogi_sfen.specs.Letters.{letter_of, kind_named, is_promoted, letter_or_king, as_side, piece_letter, is_named, color_of_letter, role_named, piece_named};
 
-use shogi_core::{Color, Kind, Piece, Role};
+use shogi_core::{Color, KINDS, Kind, Piece, Role};
 
 /// The upper-case letter of the kind.
 pub fn letter_of(kind: Kind) -> u8
@@ -20,6 +20,14 @@ pub fn letter_of(kind: Kind) -> u8
         Kind::Bishop => b'B',
         Kind::Rook => b'R',
     }
+}
+
+/// The kind that has the letter.
+#[tactic(auto, unfolding(crate::specs::Letters::kind_named))]
+pub fn read_kind(letter: u8) -> Option<Kind>
+    ensures { result ≡ kind_named letter }
+{
+    KINDS.iter().copied().find(|kind| letter_of(*kind) == letter)
 }
 
 /// Whether it is a promoted role.

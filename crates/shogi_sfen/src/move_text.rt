@@ -2,9 +2,9 @@
 
 ghost use Rattle.std.specs.Prelude.{◌≡◌, ◌++◌, ◌<◌, Some, length};
 ghost use Rattle.shogi_sfen.specs.MoveTexts.{square_text, text_of, move_of_text};
-ghost use Rattle.shogi_sfen.specs.Reading.{square_read, kind_read, board_read, drop_read, short_read, long_read, read};
+ghost use Rattle.shogi_sfen.specs.Reading.{square_read, board_read, drop_read, short_read, long_read, read};
 
-use crate::letter::letter_of;
+use crate::letter::{letter_of, read_kind};
 use arrayvec::ArrayVec;
 use shogi_core::{Kind, Move, Square};
 
@@ -17,22 +17,6 @@ fn read_square(file: u8, rank: u8) -> Option<Square>
             let index = (file - b'1') as usize * 9 + (rank - b'a') as usize;
             Some(Square::of_index(index))
         }
-        _ => None,
-    }
-}
-
-/// The kind of an upper-case letter.
-fn read_kind(letter: u8) -> Option<Kind>
-    ensures { result ≡ kind_read letter }
-{
-    match letter {
-        b'P' => Some(Kind::Pawn),
-        b'L' => Some(Kind::Lance),
-        b'N' => Some(Kind::Knight),
-        b'S' => Some(Kind::Silver),
-        b'G' => Some(Kind::Gold),
-        b'B' => Some(Kind::Bishop),
-        b'R' => Some(Kind::Rook),
         _ => None,
     }
 }
