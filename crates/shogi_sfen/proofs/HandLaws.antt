@@ -105,24 +105,9 @@ hands_capped (byte ∷ bytes) hands count =
     ∙ through_held (with_piece hands (unwrap_or count 1) (piece_named false byte)) (λ more. hands_from more None bytes) (λ more. capped_from more None bytes) (λ more. hands_capped bytes more None)))
     ∙ ap (option_map capped) (sym (exact_byte hands count byte bytes)))
 
-no_hands-capped : capped no_hands ≡ no_hands
-no_hands-capped = refl
-
-pub hands_of-hyphen : (word : List ℕ) (hands : Held) → bytes_eq word (codes "-") ≡ true → hands ≡ no_hands → Some hands ≡ option_map capped (hands_of word)
-unfolding hands_of
-hands_of-hyphen word hands e f = ap Some f ∙ sym (ap (option_map capped) (cond-true (bytes_eq word (codes "-")) _ _ e))
-
-no_bytes : (word : List ℕ) → length word ≡ 0 → has_bytes word ≡ false
-no_bytes [] e = refl
-no_bytes (b ∷ bs) e = absurd (omega arith)
-
 some_bytes : (word : List ℕ) → 0 < length word → has_bytes word ≡ true
 some_bytes [] e = absurd (omega arith)
 some_bytes (b ∷ bs) e = refl
-
-pub hands_of-empty : (word : List ℕ) → bytes_eq word (codes "-") ≡ false → length word ≡ 0 → (let none : Option Held = None in none) ≡ option_map capped (hands_of word)
-unfolding hands_of
-hands_of-empty word e f = sym (ap (option_map capped) (cond-false (bytes_eq word (codes "-")) _ _ e ∙ cond-false (has_bytes word) _ _ (no_bytes word f)))
 
 pub hands_of-items : (word : List ℕ) → bytes_eq word (codes "-") ≡ false → 0 < length word → capped_from no_hands None word ≡ option_map capped (hands_of word)
 unfolding hands_of

@@ -11,7 +11,7 @@ use Rattle.shogi_core.specs.declared.piece.Kind.TheVariants as kinds
 use Rattle.shogi_core.specs.Position.{Held, held, place_of}
 use Rattle.shogi_sfen.specs.Letters.{letter_of, as_side, piece_named}
 use Rattle.shogi_sfen.specs.HandTexts.{hands_from}
-use Rattle.shogi_sfen.specs.Written.{count_text, held_text}
+use Rattle.shogi_sfen.specs.Written.{count_digits, held_text}
 
 digit : (n : ℕ) → n < 10 → is_ascii_digit (n + 48) ≡ true
 digit n h = and_from _ _ (le-leb 48 (n + 48) (omega arith)) (le-leb (n + 48) 57 (omega arith))
@@ -56,12 +56,12 @@ held_back color kind n hands rest small = elim (cases_eq n 0) [
       ap (λ (t : List ℕ). hands_from hands None (t ++ rest)) (cond-true (n == 0) [] _ (eq-eqb n 0 none))
       ∙ ap (λ (h : Held). hands_from h None rest) (sym (set_same hands (place_of color kind) (held hands color kind + n) (omega arith)))
   | inr some ↦
-      ap (λ (t : List ℕ). hands_from hands None (t ++ rest)) (cond-false (n == 0) [] (count_text n ++ as_side color (letter_of kind) ∷ []) (ne_eqb n 0 some))
-      ∙ elim (cases_lt n 2) as (λ _. hands_from hands None ((count_text n ++ as_side color (letter_of kind) ∷ []) ++ rest) ≡ hands_from (added hands color kind n) None rest) [
+      ap (λ (t : List ℕ). hands_from hands None (t ++ rest)) (cond-false (n == 0) [] (count_digits n ++ as_side color (letter_of kind) ∷ []) (ne_eqb n 0 some))
+      ∙ elim (cases_lt n 2) as (λ _. hands_from hands None ((count_digits n ++ as_side color (letter_of kind) ∷ []) ++ rest) ≡ hands_from (added hands color kind n) None rest) [
         | inl one ↦
             ap (λ (t : List ℕ). hands_from hands None ((t ++ as_side color (letter_of kind) ∷ []) ++ rest)) (cond-true (nat_lt n 2) [] _ (lt-ltb n 2 one))
             ∙ (letter_back color kind hands None rest ∙ ap (λ (m : ℕ). hands_from (added hands color kind m) None rest) (omega (arith, some)))
-        | inr more ↦ elim (cases_lt n 10) as (λ _. hands_from hands None ((count_text n ++ as_side color (letter_of kind) ∷ []) ++ rest) ≡ hands_from (added hands color kind n) None rest) [
+        | inr more ↦ elim (cases_lt n 10) as (λ _. hands_from hands None ((count_digits n ++ as_side color (letter_of kind) ∷ []) ++ rest) ≡ hands_from (added hands color kind n) None rest) [
           | inl short ↦
               ap (λ (t : List ℕ). hands_from hands None ((t ++ as_side color (letter_of kind) ∷ []) ++ rest)) (cond-false (nat_lt n 2) [] _ (le-ltb n 2 more) ∙ cond-true (nat_lt n 10) ((n + 48) ∷ []) _ (lt-ltb n 10 short))
               ∙ (digit_back n hands (as_side color (letter_of kind) ∷ rest) (omega arith) short ∙ letter_back color kind hands (Some n) rest)

@@ -8,7 +8,7 @@ use Rattle.shogi_core.specs.declared.piece.Kind.TheVariants as kinds
 use Rattle.shogi_core.specs.declared.piece.Role.{Role}
 use Rattle.shogi_core.specs.declared.piece.Piece.{Piece}
 use Rattle.shogi_core.specs.Pieces.{all_kinds}
-use Rattle.shogi_sfen.specs.Letters.{letter_of, is_letter_of, kind_named, is_named, all_roles, color_of_letter, role_named, piece_of, piece_named}
+use Rattle.shogi_sfen.specs.Letters.{letter_of, is_letter_of, kind_named, is_named, all_roles, color_of_letter, role_named, piece_of_side, piece_named}
 
 -- what is found passes the test
 found_passes : {A : Type 0} (test : A → Bool) (xs : List A) (found : A) → find test xs ≡ Some found → test found ≡ true
@@ -27,7 +27,7 @@ unfolding kind_named
 kind_named-letter kinds.Pawn = refl
 kind_named-letter _ = refl
 
-of_side : (plus : Bool) (letter : ℕ) (color : Color) (o : Option Role) (piece : Piece) → role_named plus letter color ≡ o → piece_of color o ≡ Some piece → is_named plus letter piece ≡ true
+of_side : (plus : Bool) (letter : ℕ) (color : Color) (o : Option Role) (piece : Piece) → role_named plus letter color ≡ o → piece_of_side color o ≡ Some piece → is_named plus letter piece ≡ true
 of_side plus letter color None piece e f = cc
 of_side plus letter color (Some role) piece e f =
     let made : Piece = record { color = color; role = role } in

@@ -24,7 +24,7 @@ use Rattle.shogi_sfen.specs.Words.{has_bytes}
 use Rattle.shogi_sfen.specs.Letters.{letter_of, letter_or_king, as_side, is_promoted, piece_letter, piece_named}
 use Rattle.shogi_sfen.specs.HandTexts.{with_kind, with_piece, with_digit, hands_from, no_hands, hands_of}
 use Rattle.shogi_sfen.specs.Written.{or_hyphen}
-use Rattle.shogi_sfen.specs.Spelling.{Entry, IsCount, count_written, entry_text, count_in, SpellsHands}
+use Rattle.shogi_sfen.specs.Spelling.{Entry, AreCountDigits, count_written, entry_text, count_in, SpellsHands}
 use Rattle.shogi_sfen.proofs.Digits.{in_range}
 use Rattle.shogi_sfen.proofs.HandLaws.{exact_byte}
 use Rattle.shogi_sfen.proofs.TooManyHeld.{Holder, holder, hands_from-len}
@@ -79,14 +79,14 @@ held-none White kind = refl
 -- entries with this text, and what is held after them
 record IsHeldFrom (text : List ℕ) (start hands : Held) : Type 0 where
   entries : List Entry
-  each : AllByRecursion (λ entry. IsCount entry.digits) entries
+  each : AllByRecursion (λ entry. AreCountDigits entry.digits) entries
   sums : (color : Color) (kind : Kind) → held hands color kind ≡ held start color kind + sum_by (count_in color kind) entries
   spelled : flat_map entry_text entries ≡ text
 
 -- the digits of a count so far
 IsBegun : List ℕ → Option ℕ → Type 0
 IsBegun ds None = ds ≡ []
-IsBegun ds (Some n) = IsCount ds × (digits_value 10 ds ≡ n) × (0 < length ds)
+IsBegun ds (Some n) = AreCountDigits ds × (digits_value 10 ds ≡ n) × (0 < length ds)
 
 one_digit : (b : Bool) (byte n : ℕ) → (byte == 48) ≡ b → is_ascii_digit byte ≡ true → cond (true && b) None (Some (0 * 10 + (byte - 48))) ≡ Some n → IsBegun (byte ∷ []) (Some n)
 unfolding IsBegun
@@ -96,7 +96,7 @@ one_digit false byte n t digit e =
     let same : digits_value 10 (byte ∷ []) ≡ 0 * 10 + digit_value byte = refl in
     ((and_from (is_ascii_digit byte) true digit refl, eqb-false byte 48 t), same ∙ (ap (λ (d : ℕ). 0 * 10 + d) (in_range byte digit) ∙ value), omega arith)
 
-counted_on : (ds : List ℕ) (byte : ℕ) → 0 < length ds → is_ascii_digit byte ≡ true → IsCount ds → IsCount (ds ++ byte ∷ [])
+counted_on : (ds : List ℕ) (byte : ℕ) → 0 < length ds → is_ascii_digit byte ≡ true → AreCountDigits ds → AreCountDigits (ds ++ byte ∷ [])
 counted_on [] byte some digit h = absurd (omega arith)
 counted_on (d ∷ ds) byte some digit h =
     (list_all-append is_ascii_digit (d ∷ ds) (byte ∷ []) ∙ and_from (list_all is_ascii_digit (d ∷ ds)) (list_all is_ascii_digit (byte ∷ [])) h.0 (and_from (is_ascii_digit byte) true digit refl), h.1)
@@ -141,13 +141,13 @@ by_piece hands n byte more (Some piece) p e =
     by_kind hands n byte more piece (kind_of piece.role) refl (eqb-true (piece_letter piece) byte named.1) e
 
 -- what was counted before a letter
-counted : (ds : List ℕ) (count : Option ℕ) → IsBegun ds count → IsCount ds × (count_written ds ≡ unwrap_or count 1)
+counted : (ds : List ℕ) (count : Option ℕ) → IsBegun ds count → AreCountDigits ds × (count_written ds ≡ unwrap_or count 1)
 unfolding IsBegun
-counted ds None begun = subst (λ (xs : List ℕ). IsCount xs × (count_written xs ≡ 1)) (sym begun) (tt, refl)
+counted ds None begun = subst (λ (xs : List ℕ). AreCountDigits xs × (count_written xs ≡ 1)) (sym begun) (tt, refl)
 counted [] (Some n) begun = let some : 0 < 0 = begun.2 in absurd (omega arith)
 counted (d ∷ ds) (Some n) begun = (begun.0, begun.1)
 
-one_entry : (entry : Entry) (text : List ℕ) (start more hands : Held) → length start ≡ 14 → IsCount entry.digits → added start entry.color entry.kind (count_written entry.digits) ≡ more
+one_entry : (entry : Entry) (text : List ℕ) (start more hands : Held) → length start ≡ 14 → AreCountDigits entry.digits → added start entry.color entry.kind (count_written entry.digits) ≡ more
     → IsHeldFrom text more hands → IsHeldFrom (entry_text entry ++ text) start hands
 one_entry entry text start more hands len count same h = record {
   entries = entry ∷ h.entries;
@@ -236,7 +236,7 @@ digits_read (d ∷ ds) hands n rest all =
     cond-true (is_ascii_digit d) _ _ parts.0
     ∙ (ap (λ (k : ℕ). hands_from hands (Some (n * 10 + k)) (ds ++ rest)) (sym (in_range d parts.0)) ∙ digits_read ds hands (n * 10 + digit_value d) rest parts.1)
 
-count_read : (ds : List ℕ) (hands : Held) (color : Color) (kind : Kind) (rest : List ℕ) → IsCount ds
+count_read : (ds : List ℕ) (hands : Held) (color : Color) (kind : Kind) (rest : List ℕ) → AreCountDigits ds
     → hands_from hands None (ds ++ as_side color (letter_of kind) ∷ rest) ≡ hands_from (added hands color kind (count_written ds)) None rest
 count_read [] hands color kind rest h = letter_back color kind hands None rest
 count_read (d ∷ ds) hands color kind rest h =
@@ -255,7 +255,7 @@ record AreRead (entries : List Entry) (start : Held) : Type 0 where
   len : length hands ≡ 14
   sums : (color : Color) (kind : Kind) → held hands color kind ≡ held start color kind + sum_by (count_in color kind) entries
 
-are_read : (entries : List Entry) (start : Held) → AllByRecursion (λ entry. IsCount entry.digits) entries → length start ≡ 14 → AreRead entries start
+are_read : (entries : List Entry) (start : Held) → AllByRecursion (λ entry. AreCountDigits entry.digits) entries → length start ≡ 14 → AreRead entries start
 are_read [] start each len = record { hands = start; read = refl; len = len; sums = λ color kind. omega arith }
 are_read (entry ∷ entries) start each len =
     let next : Held = added start entry.color entry.kind (count_written entry.digits) in

@@ -1,17 +1,15 @@
 -- A rank is read exactly where it is spelled.
 use Rattle.std.proofs.Common.{◌≡◌, ℕ, ◌+◌, ◌-◌, ◌<◌, Bool, true, false, cond, refl, sym, ◌∙◌, ap, subst, arith, List, [], ◌∷◌, ◌++◌, length, Option, Some, None, inl, inr}
 use Rattle.std.specs.Prelude.{◌==◌, ◌&&◌, not, nat_lt, codes}
-use Rattle.std.specs.List.{flat_map, list_all, All, AllByRecursion, find}
+use Rattle.std.specs.List.{flat_map, list_all, All, AllByRecursion}
 use Rattle.std.specs.Option.{option_map}
 use Rattle.std.proofs.lemmas.Option.{cond_some}
 use Rattle.std.proofs.lemmas.Bool.{cond-true, cond-false, eqb-true, eq-eqb, ltb-true, and_parts, and_from, not-true, cases_Bool}
-use Rattle.shogi_core.specs.declared.piece.Color.{Color}
-use Rattle.shogi_core.specs.declared.piece.Role.{Role}
 use Rattle.shogi_core.specs.declared.piece.Piece.{Piece}
 use Rattle.shogi_core.specs.Movement.{Cells}
 use Rattle.shogi_sfen.specs.declared.board_text.RankItem.{RankItem}
 use Rattle.shogi_sfen.specs.declared.board_text.RankItem.TheVariants.{Empty, Occupied}
-use Rattle.shogi_sfen.specs.Letters.{is_promoted, piece_letter, piece_text, is_named, color_of_letter, all_roles, role_named, piece_of, piece_named}
+use Rattle.shogi_sfen.specs.Letters.{is_promoted, piece_letter, piece_text, is_named, piece_named}
 use Rattle.shogi_sfen.specs.Items.{IsRankItem, item_squares, item_text}
 use Rattle.shogi_sfen.specs.BoardTexts.{item_named, onto_items, is_plus, items_from, squares_in, only_nine, rank_of, is_slash}
 use Rattle.shogi_sfen.specs.Spelling.{SpellsRank}

@@ -1,15 +1,14 @@
 -- The reading of a move text, and the texts of moves.
-use Rattle.std.proofs.Common.{◌≡◌, ℕ, ◌+◌, ◌-◌, ◌*◌, ◌/◌, ◌%◌, ◌<◌, Bool, true, false, cond, refl, sym, ◌∙◌, ap, subst, arith, List, [], ◌∷◌, length, Option, Some, None, inl, inr, ◌⊎◌}
+use Rattle.std.proofs.Common.{◌≡◌, ℕ, ◌+◌, ◌-◌, ◌*◌, ◌/◌, ◌%◌, ◌<◌, Bool, true, false, cond, refl, sym, ◌∙◌, ap, subst, arith, List, [], ◌∷◌, length, Option, Some, None, inl, inr}
 use Rattle.std.specs.Prelude.{◌==◌, ◌&&◌, nat_lt, slice_index, codes}
 use Rattle.std.proofs.lemmas.Bool.{cond-true, cond-false, and_from, and_parts, lt-ltb, ltb-true, eqb-true, ne_eqb, cases_Bool}
 use Rattle.std.proofs.lemmas.Option.{cond_some}
 use Rattle.shogi_core.specs.declared.piece.Kind.{Kind}
-use Rattle.shogi_core.specs.declared.piece.Kind.TheVariants as kinds
 use Rattle.shogi_core.specs.declared.moves.Move.{Move}
 use Rattle.shogi_core.specs.declared.moves.Move.TheVariants.{Board, Drop}
 use Rattle.shogi_sfen.specs.Letters.{letter_of, kind_named}
 use Rattle.shogi_sfen.specs.MoveTexts.{text_of}
-use Rattle.shogi_sfen.specs.Reading.{square_read, board_read, drop_read, short_read, long_read, read}
+use Rattle.shogi_sfen.specs.Reading.{square_read, board_read, drop_read, short_read, long_read, move_read}
 use Rattle.shogi_sfen.proofs.LetterLaws.{kind_named-passes, kind_named-letter}
 
 -- a square's text is read as that square
@@ -29,15 +28,15 @@ drop_back : (a : Option Kind) (b : Option ℕ) (kind : Kind) (to : ℕ) → a �
 drop_back a b kind to e f = rw (e, f) refl
 
 -- the text of a move is read as that move
-pub read-board : (from to : ℕ) (promote : Bool) → from < 81 → to < 81 → read (text_of (Board from to promote)) ≡ Some (Board from to promote)
-unfolding read
-read-board from to false hf ht =
+pub move_read-board : (from to : ℕ) (promote : Bool) → from < 81 → to < 81 → move_read (text_of (Board from to promote)) ≡ Some (Board from to promote)
+unfolding move_read
+move_read-board from to false hf ht =
     cond-false (from % 9 + 97 == 42) _ _ (not_star from) ∙ board_back _ _ from to false (square_back from hf) (square_back to ht)
-read-board from to true hf ht = board_back _ _ from to true (square_back from hf) (square_back to ht)
+move_read-board from to true hf ht = board_back _ _ from to true (square_back from hf) (square_back to ht)
 
-pub read-drop : (kind : Kind) (to : ℕ) → to < 81 → read (text_of (Drop kind to)) ≡ Some (Drop kind to)
-unfolding read
-read-drop kind to h = drop_back _ _ kind to (kind_named-letter kind) (square_back to h)
+pub move_read-drop : (kind : Kind) (to : ℕ) → to < 81 → move_read (text_of (Drop kind to)) ≡ Some (Drop kind to)
+unfolding move_read
+move_read-drop kind to h = drop_back _ _ kind to (kind_named-letter kind) (square_back to h)
 
 -- what is read as a square is its text
 record IsSquareText (file rank s : ℕ) : Type 0 where
@@ -129,9 +128,9 @@ five (a ∷ b ∷ c ∷ d ∷ f ∷ []) e = refl
 five (a ∷ b ∷ c ∷ d ∷ f ∷ g ∷ more) e = absurd (omega arith)
 
 -- what is read as a move is its text
-pub read-some : (text : List ℕ) (m : Move) → read text ≡ Some m → IsMoveText text m
-unfolding read
-read-some text m e = elim (cases_Bool (length text == 4)) [
+pub move_read-some : (text : List ℕ) (m : Move) → move_read text ≡ Some m → IsMoveText text m
+unfolding move_read
+move_read-some text m e = elim (cases_Bool (length text == 4)) [
   | inl is_four ↦
       let h : short_read text ≡ Some m = sym (cond-true (length text == 4) _ _ is_four) ∙ e in
       subst (λ (t : List ℕ). IsMoveText t m) (sym (four text (eqb-true (length text) 4 is_four))) (short_from (slice_index text 0) (slice_index text 1) (slice_index text 2) (slice_index text 3) m h)

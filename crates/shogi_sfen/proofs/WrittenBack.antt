@@ -1,4 +1,4 @@
--- A written position is read as that position.
+-- A position_text position is read as that position.
 use Rattle.std.proofs.Common.{◌≡◌, ℕ, ◌+◌, ◌-◌, ◌*◌, ◌/◌, ◌%◌, ◌≤◌, ◌<◌, Bool, true, false, not, refl, sym, ◌∙◌, ap, arith, List, [], ◌∷◌, ◌++◌, length, take, get_or, append_assoc, append-nil, Option, Some, None, inl, inr, zero-add}
 use Rattle.std.specs.Prelude.{◌==◌, ◌&&◌, zero, suc, map, codes}
 use Rattle.std.specs.List.{flat_map, range_with_len, slice_split, list_all, All}
@@ -20,12 +20,12 @@ use Rattle.shogi_core.specs.declared.piece.Role.TheVariants.{Pawn}
 use Rattle.shogi_core.specs.Movement.{Cells, piece_at}
 use Rattle.shogi_core.specs.Position.{Held, held}
 use Rattle.shogi_sfen.specs.Words.{is_blank}
-use Rattle.shogi_sfen.specs.BoardTexts.{is_slash, ranks_of, both, joined, squares_of, board_from, board_of}
+use Rattle.shogi_sfen.specs.BoardTexts.{is_slash, ranks_of, both_joined, joined, squares_of, board_from, board_of}
 use Rattle.shogi_sfen.specs.HandTexts.{hands_from, hands_of, no_hands}
 use Rattle.shogi_sfen.specs.Written.{run_text, cells_text, rank_cells, rank_text, board_text, held_text, kinds_in_text, side_held_text, or_hyphen, hands_text}
 use Rattle.shogi_sfen.specs.Letters.{piece_text, piece_named}
 use Rattle.shogi_sfen.proofs.RanksBack.{rank_of-cells_text}
-use Rattle.shogi_sfen.proofs.RankLaws.{arranged}
+use Rattle.shogi_sfen.proofs.BoardLaws.{arranged}
 use Rattle.shogi_sfen.proofs.HandsBack.{added, held_back}
 
 -- all the counts of a side
@@ -137,7 +137,7 @@ module _ (cells : Cells) where
   ranks_back : (n rank : ℕ) → ranks_of (map part (range_with_len rank n)) ≡ Some (flat_map (rank_cells cells) (range_with_len rank n))
   ranks_back zero rank = refl
   ranks_back (suc n) rank =
-      ap (λ (o : Option Cells). both o (ranks_of (map part (range_with_len (rank + 1) n)))) (rank_of-cells_text (rank_cells cells rank) (length-map-range_with_len (λ i. piece_at cells ((8 - i) * 9 + rank)) 0 9))
+      ap (λ (o : Option Cells). both_joined o (ranks_of (map part (range_with_len (rank + 1) n)))) (rank_of-cells_text (rank_cells cells rank) (length-map-range_with_len (λ i. piece_at cells ((8 - i) * 9 + rank)) 0 9))
       ∙ ap (joined (rank_cells cells rank)) (ranks_back n (rank + 1))
 
   nine_each : (n rank : ℕ) → length (flat_map (rank_cells cells) (range_with_len rank n)) ≡ 9 * n

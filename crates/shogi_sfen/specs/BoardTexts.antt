@@ -46,14 +46,14 @@ joined cells None = None
 joined cells (Some more) = Some (cells ++ more)
 
 -- some squares and then others, where both are said
-abbrev pub both : Option Cells → Option Cells → Option Cells
-both None more = None
-both (Some cells) more = joined cells more
+abbrev pub both_joined : Option Cells → Option Cells → Option Cells
+both_joined None more = None
+both_joined (Some cells) more = joined cells more
 
 -- the squares of ranks, one after another
 abbrev pub ranks_of : List (List ℕ) → Option Cells
 ranks_of [] = Some []
-ranks_of (part ∷ parts) = both (rank_of part) (ranks_of parts)
+ranks_of (part ∷ parts) = both_joined (rank_of part) (ranks_of parts)
 
 -- a slash
 abbrev pub is_slash : ℕ → Bool

@@ -68,10 +68,10 @@ abbrev pub role_named : Bool → ℕ → Color → Option Role
 role_named plus letter color = find (λ role. is_named plus letter (record { color = color; role = role })) all_roles
 
 -- a piece of the side
-abbrev pub piece_of : Color → Option Role → Option Piece
-piece_of color None = None
-piece_of color (Some role) = Some (record { color = color; role = role })
+abbrev pub piece_of_side : Color → Option Role → Option Piece
+piece_of_side color None = None
+piece_of_side color (Some role) = Some (record { color = color; role = role })
 
 -- the piece, among all there are, that the letter names, behind a plus or not
 unfoldable pub piece_named : Bool → ℕ → Option Piece
-piece_named plus letter = piece_of (color_of_letter letter) (role_named plus letter (color_of_letter letter))
+piece_named plus letter = piece_of_side (color_of_letter letter) (role_named plus letter (color_of_letter letter))

@@ -32,5 +32,5 @@ long_read text =
     cond (slice_index text 4 == 43) (board_read (square_read (slice_index text 0) (slice_index text 1)) (square_read (slice_index text 2) (slice_index text 3)) true) None
 
 -- the move of a text
-unfoldable pub read : List ℕ → Option Move
-read text = cond (length text == 4) (short_read text) (cond (length text == 5) (long_read text) None)
+unfoldable pub move_read : List ℕ → Option Move
+move_read text = cond (length text == 4) (short_read text) (cond (length text == 5) (long_read text) None)

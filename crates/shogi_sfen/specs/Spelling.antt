@@ -8,7 +8,7 @@ use Rattle.shogi_core.specs.declared.piece.Kind.{Kind}
 use Rattle.shogi_core.specs.Movement.{Cells}
 use Rattle.shogi_core.specs.Pieces.{is_same_color, number_of}
 use Rattle.shogi_core.specs.Position.{Shogi, Held, held}
-use Rattle.shogi_sfen.specs.Numbers as numbers
+use Rattle.shogi_sfen.specs.Numbers.{number_written}
 use Rattle.shogi_sfen.specs.declared.board_text.RankItem.{RankItem}
 use Rattle.shogi_sfen.specs.Letters.{letter_of, as_side}
 use Rattle.shogi_sfen.specs.Items.{IsRankItem, item_squares, item_text}
@@ -37,14 +37,14 @@ pub record Entry : Type 0 where
   pub kind : Kind
 
 -- no digits, or digits of which the first is not 0 (48)
-abbrev pub IsCount : List ℕ → Type 0
-IsCount [] = Unit {0}
-IsCount (first ∷ others) = (list_all is_ascii_digit (first ∷ others) ≡ true) × (first ≢ 48)
+abbrev pub AreCountDigits : List ℕ → Type 0
+AreCountDigits [] = Unit {0}
+AreCountDigits (first ∷ others) = (list_all is_ascii_digit (first ∷ others) ≡ true) × (first ≢ 48)
 
 -- one where no count is written, and else the number that the digits write
 abbrev pub count_written : List ℕ → ℕ
 count_written [] = 1
-count_written (first ∷ others) = numbers.number_of (first ∷ others)
+count_written (first ∷ others) = number_written (first ∷ others)
 
 -- the count, and the letter of the kind
 abbrev pub entry_text : Entry → List ℕ
@@ -62,7 +62,7 @@ count_in color kind entry = cond (is_entry_of color kind entry) (count_written e
 pub record SpellsHands (text : List ℕ) (hands : Held) : Type 0 where
   pub places : length hands ≡ 14
   pub entries : List Entry
-  pub each : AllByRecursion (λ entry. IsCount entry.digits) entries
+  pub each : AllByRecursion (λ entry. AreCountDigits entry.digits) entries
   pub sums : (color : Color) (kind : Kind) → held hands color kind ≡ sum_by (count_in color kind) entries
   pub spelled : or_hyphen (flat_map entry_text entries) ≡ text
 

@@ -37,12 +37,12 @@ side_text Black = codes "b"
 side_text White = codes "w"
 
 -- a count below 100, where it is over 1
-abbrev pub count_text : ℕ → List ℕ
-count_text n = cond (nat_lt n 2) [] (cond (nat_lt n 10) ((n + 48) ∷ []) ((n / 10 + 48) ∷ (n % 10 + 48) ∷ []))
+abbrev pub count_digits : ℕ → List ℕ
+count_digits n = cond (nat_lt n 2) [] (cond (nat_lt n 10) ((n + 48) ∷ []) ((n / 10 + 48) ∷ (n % 10 + 48) ∷ []))
 
 -- so many of a kind
 abbrev pub held_text : Color → Kind → ℕ → List ℕ
-held_text color kind n = cond (n == 0) [] (count_text n ++ as_side color (letter_of kind) ∷ [])
+held_text color kind n = cond (n == 0) [] (count_digits n ++ as_side color (letter_of kind) ∷ [])
 
 -- the kinds in their order in a text: R B G S N L P
 abbrev pub kinds_in_text : List Kind
@@ -62,5 +62,5 @@ unfoldable pub hands_text : Held → List ℕ
 hands_text hands = or_hyphen (side_held_text hands Black ++ side_held_text hands White)
 
 -- the one written text: board, side and hands with a space between each two
-unfoldable pub written : Shogi → List ℕ
-written p = board_text p.cells ++ (32 ∷ (side_text p.side ++ (32 ∷ hands_text p.hands)))
+unfoldable pub position_text : Shogi → List ℕ
+position_text p = board_text p.cells ++ (32 ∷ (side_text p.side ++ (32 ∷ hands_text p.hands)))

@@ -107,6 +107,7 @@ fn first_slash(text: &[u8]) -> Option<usize>
 }
 
 /// How many bytes stand before the first slash.
+#[tactic(auto, using(crate::proofs::WordLaws::first_or_len))]
 fn part_len(text: &[u8]) -> usize
     ensures value { result ≡ position_or_len is_slash text.now }
     ensures bound { result ≤ length text.now }
@@ -175,6 +176,7 @@ fn arrange(squares: &[Option<Piece>]) -> [Option<Piece>; 81]
 }
 
 /// The cells by index of a board's text (SFEN, board), if the word is one.
+#[tactic(auto, unfolding(crate::specs::BoardTexts::board_of))]
 pub fn read_board(word: &[u8]) -> Option<[Option<Piece>; 81]>
     ensures { result ≡ board_of word.now }
 {

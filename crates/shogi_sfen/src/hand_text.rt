@@ -58,6 +58,7 @@ fn read_items(word: &[u8]) -> Option<Hands>
 
 /// The hands of a text (SFEN, pieces in hand), if the word is one. A count that is greater than
 /// 255 is read as 255.
+#[tactic(auto, unfolding(crate::specs::HandTexts::hands_of))]
 pub fn read_hands(word: &[u8]) -> Option<Hands>
     ensures { result ≡ option_map capped (hands_of word.now) }
 {

@@ -2,7 +2,7 @@
 
 ghost use Rattle.std.specs.Prelude.{◌≡◌, ◌++◌, ◌<◌, Some, length};
 ghost use Rattle.shogi_sfen.specs.MoveTexts.{square_text, text_of, move_of_text};
-ghost use Rattle.shogi_sfen.specs.Reading.{square_read, board_read, drop_read, short_read, long_read, read};
+ghost use Rattle.shogi_sfen.specs.Reading.{square_read, board_read, drop_read, short_read, long_read, move_read};
 
 use crate::letter::{letter_of, read_kind};
 use arrayvec::ArrayVec;
@@ -64,9 +64,9 @@ fn read_long(bytes: &[u8]) -> Option<Move>
     board_move(from, read_square(bytes[2], bytes[3]), true)
 }
 
-#[tactic(auto, unfolding(crate::specs::Reading::read))]
-fn read(bytes: &[u8]) -> Option<Move>
-    ensures { result ≡ read bytes.now }
+#[tactic(auto, unfolding(crate::specs::Reading::move_read))]
+fn read_either(bytes: &[u8]) -> Option<Move>
+    ensures { result ≡ move_read bytes.now }
 {
     match bytes.len() {
         4 => read_short(bytes),
@@ -80,7 +80,7 @@ fn read(bytes: &[u8]) -> Option<Move>
 pub fn read_move(bytes: &[u8]) -> Option<Move>
     ensures { result ≡ move_of_text bytes.now }
 {
-    read(bytes)
+    read_either(bytes)
 }
 
 /// The one text of the move (USI, moves).

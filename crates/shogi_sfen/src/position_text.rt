@@ -2,7 +2,7 @@
 
 ghost use Rattle.std.specs.Prelude.{◌≡◌, ◌≤◌, ◌<◌, ◌+◌, ◌*◌, ◌++◌, ℕ, List, Ok, [], ◌∷◌, length};
 ghost use Rattle.std.specs.List.{flat_map, range_with_len};
-ghost use Rattle.shogi_sfen.specs.Written.{run_text, cells_text, rank_cells, rank_text, board_text, side_text, held_text, side_held_text, hands_text, written};
+ghost use Rattle.shogi_sfen.specs.Written.{run_text, cells_text, rank_cells, rank_text, board_text, side_text, held_text, side_held_text, hands_text, position_text};
 ghost use Rattle.shogi_sfen.specs.Letters.{piece_text};
 ghost use Rattle.shogi_core.specs.Position.{held};
 ghost use Rattle.shogi_sfen.specs.Words.{words};
@@ -161,9 +161,9 @@ fn side_letter(side: Color) -> u8
 
 /// The one written text of the position (SFEN): board, side and hands, without a move number.
 pub fn write_position(p: &Position) -> ArrayVec<u8, 256>
-    ensures text { result.items ≡ written p.now }
-    ensures back { (tail : List ℕ) → EndsWord tail → position_at (written p.now ++ tail) ≡ Ok (p.now, end_of (written p.now ++ tail)) }
-    ensures spelled { (tail : List ℕ) → EndsWord tail → Spells (words (written p.now ++ tail)) p.now }
+    ensures text { result.items ≡ position_text p.now }
+    ensures back { (tail : List ℕ) → EndsWord tail → position_at (position_text p.now ++ tail) ≡ Ok (p.now, end_of (position_text p.now ++ tail)) }
+    ensures spelled { (tail : List ℕ) → EndsWord tail → Spells (words (position_text p.now ++ tail)) p.now }
 {
     let mut text = ArrayVec::new();
     p.validity();

@@ -26,6 +26,7 @@ fn first_blank(text: &[u8]) -> Option<usize>
 }
 
 /// How many blanks the text begins with.
+#[tactic(auto, using(crate::proofs::WordLaws::first_or_len))]
 fn blanks_len(text: &[u8]) -> usize
     ensures value { result ≡ position_or_len is_inner text.now }
     ensures bound { result ≤ length text.now }
@@ -34,6 +35,7 @@ fn blanks_len(text: &[u8]) -> usize
 }
 
 /// How many bytes stand before the first blank.
+#[tactic(auto, using(crate::proofs::WordLaws::first_or_len))]
 fn word_len(text: &[u8]) -> usize
     ensures value { result ≡ position_or_len is_blank text.now }
     ensures bound { result ≤ length text.now }
@@ -57,7 +59,7 @@ impl<'a> Model for Words<'a> {
 
 impl<'a> Words<'a> {
     /// The words of the text.
-    pub fn of(text: &'a [u8]) -> Words<'a>
+    pub fn new(text: &'a [u8]) -> Words<'a>
         ensures { result ≡ text.now }
     {
         Words { text }

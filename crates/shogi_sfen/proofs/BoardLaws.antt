@@ -10,7 +10,7 @@ use Rattle.std.specs.Prelude.{count_by}
 use Rattle.std.proofs.lemmas.Bool.{cond-true, cond-false, eq-eqb, ne_eqb, cond_both}
 use Rattle.shogi_core.specs.declared.piece.Piece.{Piece}
 use Rattle.shogi_core.specs.Movement.{Cells, piece_at}
-use Rattle.shogi_sfen.specs.BoardTexts.{joined, rank_of, both, ranks_of, is_slash, squares_of, place_in_text, board_from}
+use Rattle.shogi_sfen.specs.BoardTexts.{joined, rank_of, both_joined, ranks_of, is_slash, squares_of, place_in_text, board_from}
 
 joined-joined : (a b : Cells) (more : Option Cells) → joined a (joined b more) ≡ joined (a ++ b) more
 joined-joined a b None = refl
@@ -50,7 +50,7 @@ ranks-step word rest squares rank new n k has e h r nine add =
     record {
       parts = omega arith;
       ranks = has.ranks ∙ (ap (λ (ps : List (List ℕ)). joined squares (ranks_of ps)) split
-          ∙ (ap (λ (o : Option Cells). joined squares (both o (ranks_of (slice_split is_slash (drop (k + 1) rest))))) r
+          ∙ (ap (λ (o : Option Cells). joined squares (both_joined o (ranks_of (slice_split is_slash (drop (k + 1) rest))))) r
           ∙ (joined-joined squares rank (ranks_of (slice_split is_slash (drop (k + 1) rest))) ∙ ap (λ (c : Cells). joined c (ranks_of (slice_split is_slash (drop (k + 1) rest)))) (sym add))));
       len = omega arith;
     }
@@ -76,7 +76,7 @@ ranks-short word rest squares n k has small e f =
 pub ranks-wrong : (word rest : List ℕ) (squares : Cells) (n k : ℕ) → HasRanks word rest squares n → k ≡ position_or_len is_slash rest → k < length rest → rank_of (take k rest) ≡ None → squares_of (slice_split is_slash word) ≡ None
 ranks-wrong word rest squares n k has e h r =
     no_ranks (slice_split is_slash word) (has.ranks ∙ (ap (λ (ps : List (List ℕ)). joined squares (ranks_of ps)) (first_part rest k e h)
-    ∙ ap (λ (o : Option Cells). joined squares (both o (ranks_of (slice_split is_slash (drop (k + 1) rest))))) r))
+    ∙ ap (λ (o : Option Cells). joined squares (both_joined o (ranks_of (slice_split is_slash (drop (k + 1) rest))))) r))
 
 -- a slash after the ninth
 pub ranks-long : (word rest : List ℕ) (squares : Cells) (k : ℕ) → HasRanks word rest squares 8 → k ≡ position_or_len is_slash rest → k < length rest → squares_of (slice_split is_slash word) ≡ None
@@ -89,7 +89,7 @@ ranks-long word rest squares k has e h =
 pub ranks-last_wrong : (word rest : List ℕ) (squares : Cells) (n : ℕ) → HasRanks word rest squares n → length rest ≤ position_or_len is_slash rest → rank_of rest ≡ None → squares_of (slice_split is_slash word) ≡ None
 ranks-last_wrong word rest squares n has e r =
     no_ranks (slice_split is_slash word) (has.ranks ∙ (ap (λ (ps : List (List ℕ)). joined squares (ranks_of ps)) (one_part rest e)
-    ∙ ap (λ (o : Option Cells). joined squares (both o (Some []))) r))
+    ∙ ap (λ (o : Option Cells). joined squares (both_joined o (Some []))) r))
 
 pub ranks-last : (word rest : List ℕ) (squares rank new : Cells) → HasRanks word rest squares 8 → length rest ≤ position_or_len is_slash rest → rank_of rest ≡ Some rank → new ≡ squares ++ rank
     → squares_of (slice_split is_slash word) ≡ Some new
@@ -98,7 +98,7 @@ ranks-last word rest squares rank new has e r add =
     let all : length (slice_split is_slash word) ≡ 8 + length (slice_split is_slash rest) = has.parts in
     cond-true (length (slice_split is_slash word) == 9) _ _ (eq-eqb (length (slice_split is_slash word)) 9 (omega arith))
     ∙ (has.ranks ∙ (ap (λ (ps : List (List ℕ)). joined squares (ranks_of ps)) (one_part rest e)
-    ∙ (ap (λ (o : Option Cells). joined squares (both o (Some []))) r
+    ∙ (ap (λ (o : Option Cells). joined squares (both_joined o (Some []))) r
     ∙ (ap (λ (c : Cells). Some (squares ++ c)) (append-nil rank) ∙ ap Some (sym add)))))
 
 -- squares put in their places
