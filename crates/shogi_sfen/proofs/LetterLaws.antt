@@ -1,14 +1,15 @@
 -- What a letter names has that letter.
 use Rattle.std.proofs.Common.{◌≡◌, ℕ, Bool, true, refl, sym, ◌∙◌, subst, List, [], ◌∷◌, Option, Some, None, inl, inr}
+use Rattle.std.specs.Prelude.{◌==◌}
 use Rattle.std.specs.List.{find}
-use Rattle.std.proofs.lemmas.Bool.{cond-true, cond-false, eqb-true, cases_Bool}
+use Rattle.std.proofs.lemmas.Bool.{cond-true, cond-false, eqb-true, and_parts, cases_Bool}
 use Rattle.shogi_core.specs.declared.piece.Color.{Color}
 use Rattle.shogi_core.specs.declared.piece.Kind.{Kind}
 use Rattle.shogi_core.specs.declared.piece.Kind.TheVariants as kinds
 use Rattle.shogi_core.specs.declared.piece.Role.{Role}
 use Rattle.shogi_core.specs.declared.piece.Piece.{Piece}
 use Rattle.shogi_core.specs.Pieces.{all_kinds}
-use Rattle.shogi_sfen.specs.Letters.{letter_of, is_letter_of, kind_named, is_named, all_roles, color_of_letter, role_named, piece_of_side, piece_named}
+use Rattle.shogi_sfen.specs.Letters.{letter_of, is_letter_of, kind_named, piece_letter, is_named, all_roles, color_of_letter, role_named, piece_of_side, piece_named}
 
 -- what is found passes the test
 found_passes : {A : Type 0} (test : A → Bool) (xs : List A) (found : A) → find test xs ≡ Some found → test found ≡ true
@@ -37,3 +38,6 @@ of_side plus letter color (Some role) piece e f =
 pub piece_named-passes : (plus : Bool) (letter : ℕ) (piece : Piece) → piece_named plus letter ≡ Some piece → is_named plus letter piece ≡ true
 unfolding piece_named
 piece_named-passes plus letter piece e = of_side plus letter (color_of_letter letter) (role_named plus letter (color_of_letter letter)) piece refl e
+
+pub piece_named-letter : (plus : Bool) (letter : ℕ) (piece : Piece) → piece_named plus letter ≡ Some piece → piece_letter piece ≡ letter
+piece_named-letter plus letter piece e = eqb-true (piece_letter piece) letter ((and_parts _ (piece_letter piece == letter) (piece_named-passes plus letter piece e)).1)

@@ -1,12 +1,12 @@
 -- Hands are read exactly where they are spelled.
 use Rattle.std.proofs.Common.{◌≡◌, ℕ, ◌+◌, ◌-◌, ◌*◌, ◌<◌, Bool, true, false, cond, refl, sym, ◌∙◌, ap, subst, arith, List, [], ◌∷◌, ◌++◌, length, get_or, set, Option, Some, None, inl, inr, append_assoc, length-set, get_or-set_same, get_or-set_other}
-use Rattle.std.specs.Prelude.{◌==◌, ◌&&◌, IfSome, unwrap_or, codes, not}
+use Rattle.std.specs.Prelude.{◌==◌, ◌&&◌, IfSome, unwrap_or, codes}
 use Rattle.std.specs.List.{flat_map, sum_by, list_all, AllByRecursion}
 use Rattle.std.specs.Option.{option_and_then}
 use Rattle.std.specs.Char.{is_ascii_digit, digit_value}
 use Rattle.std.specs.Str.{bytes_eq}
 use Rattle.std.specs.Str.Parse.{digits_value, digits_value_after}
-use Rattle.std.proofs.lemmas.Bool.{cond-true, cond-false, and_parts, and_from, eqb-false, eqb-true, eq-eqb, ne_eqb, cases_Bool, cases_eq}
+use Rattle.std.proofs.lemmas.Bool.{cond-true, cond-false, and_parts, and_from, eqb-false, eq-eqb, ne_eqb, cases_Bool, cases_eq}
 use Rattle.std.proofs.lemmas.List.{ext_get_or, length_push}
 use Rattle.std.proofs.lemmas.List.Sums.{sum_by-cons}
 use Rattle.std.proofs.lemmas.List.Folds.{list_all-append}
@@ -21,7 +21,7 @@ use Rattle.shogi_core.specs.Pieces.{is_same_color, number_of, kind_of}
 use Rattle.shogi_core.specs.Position.{Held, held, place_of}
 use Rattle.shogi_core.proofs.Faults.{number_below}
 use Rattle.shogi_sfen.specs.Words.{has_bytes}
-use Rattle.shogi_sfen.specs.Letters.{letter_of, letter_or_king, as_side, is_promoted, piece_letter, piece_named}
+use Rattle.shogi_sfen.specs.Letters.{letter_of, letter_or_king, as_side, piece_named}
 use Rattle.shogi_sfen.specs.HandTexts.{with_kind, with_piece, with_digit, hands_from, no_hands, hands_of}
 use Rattle.shogi_sfen.specs.Written.{or_hyphen}
 use Rattle.shogi_sfen.specs.Spelling.{Entry, AreCountDigits, count_written, entry_text, count_in, SpellsHands}
@@ -30,7 +30,7 @@ use Rattle.shogi_sfen.proofs.HandLaws.{exact_byte}
 use Rattle.shogi_sfen.proofs.TooManyHeld.{Holder, holder, hands_from-len}
 use Rattle.shogi_sfen.proofs.HandsBack.{added, letter_back}
 use Rattle.shogi_sfen.proofs.WrittenBack.{finished}
-use Rattle.shogi_sfen.proofs.LetterLaws.{piece_named-passes}
+use Rattle.shogi_sfen.proofs.LetterLaws.{piece_named-letter}
 
 -- one side and kind is another exactly where the places are one
 same_place : (color other : Color) (kind third : Kind) → (is_same_color color other && number_of kind == number_of third) ≡ (place_of color kind == place_of other third)
@@ -137,8 +137,7 @@ by_kind hands n byte more piece (Some kind) k l e = record { color = piece.color
 by_piece : (hands : Held) (n byte : ℕ) (more : Held) (o : Option Piece) → piece_named false byte ≡ o → with_piece hands n o ≡ Some more → IsLetterFor hands n byte more
 by_piece hands n byte more None p e = cc
 by_piece hands n byte more (Some piece) p e =
-    let named = and_parts (not (is_promoted piece.role)) (piece_letter piece == byte) (piece_named-passes false byte piece p) in
-    by_kind hands n byte more piece (kind_of piece.role) refl (eqb-true (piece_letter piece) byte named.1) e
+    by_kind hands n byte more piece (kind_of piece.role) refl (piece_named-letter false byte piece p) e
 
 -- what was counted before a letter
 counted : (ds : List ℕ) (count : Option ℕ) → IsBegun ds count → AreCountDigits ds × (count_written ds ≡ unwrap_or count 1)

@@ -1,4 +1,4 @@
--- Counts in hand that no set has, stopped at 255 or not.
+-- Counts in hand that no set has, stopped at the most that is counted or not.
 use Rattle.std.proofs.Common.{◌≡◌, ℕ, ◌+◌, ◌-◌, ◌≤◌, ◌<◌, Bool, true, false, refl, sym, ◌∙◌, ap, subst, arith, List, [], ◌∷◌, length, get_or, Option, Some, None, min, inl, inr, length-set}
 use Rattle.std.specs.Prelude.{zero, suc, nat_lt, IfSome, unwrap_or, codes}
 use Rattle.std.specs.List.{list_all}
@@ -20,6 +20,7 @@ use Rattle.shogi_core.specs.Pieces.{number_of, all_kinds, set_size, kind_of}
 use Rattle.shogi_core.specs.Position.{Shogi, Held, held, place_of}
 use Rattle.shogi_core.specs.Validity.{fault_of, has_too_many, count_of}
 use Rattle.shogi_core.proofs.Faults.{number_below, kind_there}
+use Rattle.shogi_sfen.specs.declared.hand_text.TheConstants.{MOST_COUNTED}
 use Rattle.shogi_sfen.specs.Words.{has_bytes}
 use Rattle.shogi_sfen.specs.Letters.{piece_named}
 use Rattle.shogi_sfen.specs.HandTexts.{with_kind, with_piece, with_digit, hands_from, hands_of, no_hands, capped}
@@ -37,7 +38,7 @@ counted cells hands Black kind = omega arith
 counted cells hands White kind = omega arith
 
 -- as many of a kind as no set has
-too_many_at : (cells : Cells) (hands : Held) (color : Color) (kind : Kind) → 255 ≤ held hands color kind → has_too_many cells hands ≡ true
+too_many_at : (cells : Cells) (hands : Held) (color : Color) (kind : Kind) → MOST_COUNTED ≤ held hands color kind → has_too_many cells hands ≡ true
 too_many_at cells hands color kind h =
     let test : Kind → Bool = λ (k : Kind). nat_lt (set_size k) (count_of k cells hands) in
     let small : set_size kind ≤ 18 = set_small kind in
@@ -73,7 +74,7 @@ small_capped [] e = refl
 small_capped (n ∷ hands) e =
     let parts = and_parts (nat_lt n 256) (list_all (λ n. nat_lt n 256) hands) e in
     let below : n < 256 = ltb-true n 256 parts.0 in
-    let one : min 255 n ≡ n = omega arith in
+    let one : min MOST_COUNTED n ≡ n = omega arith in
     ap (λ (m : ℕ). m ∷ capped hands) one ∙ ap (λ (hs : Held). n ∷ hs) (small_capped hands parts.1)
 
 record Big (hands : Held) : Type 0 where
@@ -101,10 +102,10 @@ big_both cells hands len b =
     let w : b.at < length hands = b.within in
     let h : Holder b.at = holder b.at (omega arith) in
     let big : 256 ≤ held hands h.color h.kind = subst (λ (i : ℕ). 256 ≤ get_or hands i 0) (sym h.place) b.big in
-    let same : held (capped hands) h.color h.kind ≡ min 255 (held hands h.color h.kind) = held-capped hands h.color h.kind in
+    let same : held (capped hands) h.color h.kind ≡ min MOST_COUNTED (held hands h.color h.kind) = held-capped hands h.color h.kind in
     (too_many_at cells hands h.color h.kind (omega arith), too_many_at cells (capped hands) h.color h.kind (omega arith))
 
--- a position is judged alike with the counts and with those that stop at 255
+-- a position is judged alike with the counts and with those that stop at the most that is counted
 pub judged-capped : (cells : Cells) (hands : Held) (side : Color) (end : ℕ) → length hands ≡ 14
     → judged (fault_of (parts cells (capped hands) side)) (parts cells (capped hands) side) end ≡ judged (fault_of (parts cells hands side)) (parts cells hands side) end
 judged-capped cells hands side end len = elim (cases_Bool (list_all (λ n. nat_lt n 256) hands)) [

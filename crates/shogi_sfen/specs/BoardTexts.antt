@@ -5,6 +5,7 @@ use Rattle.std.specs.Option.{option_map}
 use Rattle.shogi_core.specs.Movement.{Cells, piece_at}
 use Rattle.shogi_sfen.specs.declared.board_text.RankItem.{RankItem}
 use Rattle.shogi_sfen.specs.declared.board_text.RankItem.TheVariants.{Empty, Occupied}
+use Rattle.shogi_sfen.specs.declared.board_text.TheConstants.{RANK_SQUARES, BOARD_SQUARES, PLUS, SLASH}
 use Rattle.shogi_sfen.specs.Letters.{piece_named}
 use Rattle.shogi_sfen.specs.Items.{item_squares}
 
@@ -20,7 +21,7 @@ onto_items _ _ = None
 
 -- a plus that begins an item
 abbrev pub is_plus : Bool → ℕ → Bool
-is_plus plus byte = not plus && byte == 43
+is_plus plus byte = not plus && byte == PLUS
 
 -- the items of bytes, where a plus stands right before them or not
 abbrev pub items_from : Bool → List ℕ → Option (List RankItem)
@@ -34,7 +35,7 @@ squares_in items = option_map (flat_map item_squares) items
 -- exactly nine squares
 abbrev pub only_nine : Option Cells → Option Cells
 only_nine None = None
-only_nine (Some cells) = cond (length cells == 9) (Some cells) None
+only_nine (Some cells) = cond (length cells == RANK_SQUARES) (Some cells) None
 
 -- the nine squares of a rank, from file 9 to file 1
 unfoldable pub rank_of : List ℕ → Option Cells
@@ -57,7 +58,7 @@ ranks_of (part ∷ parts) = both_joined (rank_of part) (ranks_of parts)
 
 -- a slash
 abbrev pub is_slash : ℕ → Bool
-is_slash byte = byte == 47
+is_slash byte = byte == SLASH
 
 -- where a square stands in a text: rank by rank, and in each from file 9 on
 abbrev pub place_in_text : ℕ → ℕ
@@ -65,7 +66,7 @@ place_in_text square = square % 9 * 9 + (8 - square / 9)
 
 -- the board of squares in the order of a text
 abbrev pub board_from : Cells → Cells
-board_from squares = map (λ square. piece_at squares (place_in_text square)) (range_with_len 0 81)
+board_from squares = map (λ square. piece_at squares (place_in_text square)) (range_with_len 0 BOARD_SQUARES)
 
 -- the squares of nine ranks
 abbrev pub squares_of : List (List ℕ) → Option Cells

@@ -9,6 +9,7 @@ use Rattle.shogi_core.specs.declared.piece.Kind.{Kind}
 use Rattle.shogi_core.specs.declared.piece.Piece.{Piece}
 use Rattle.shogi_core.specs.Pieces.{kind_of}
 use Rattle.shogi_core.specs.Position.{Held, held, place_of}
+use Rattle.shogi_sfen.specs.declared.hand_text.TheConstants.{MOST_COUNTED}
 use Rattle.shogi_sfen.specs.Letters.{piece_named}
 
 -- so many more of a kind held by the side
@@ -44,17 +45,17 @@ hands_of word =
     cond (bytes_eq word (codes "-")) (Some no_hands)
     (cond (has_bytes word) (hands_from no_hands None word) None)
 
--- the same for counts that stop at 255, as the code keeps them
+-- the same for counts that stop at the most that is counted, as the code keeps them
 abbrev pub capped_kind : Held → ℕ → Color → Option Kind → Option Held
 capped_kind hands n color None = None
-capped_kind hands n color (Some kind) = Some (slice_set hands (place_of color kind) (min 255 (held hands color kind + n)))
+capped_kind hands n color (Some kind) = Some (slice_set hands (place_of color kind) (min MOST_COUNTED (held hands color kind + n)))
 
 abbrev pub capped_piece : Held → ℕ → Option Piece → Option Held
 capped_piece hands n None = None
 capped_piece hands n (Some piece) = capped_kind hands n piece.color (kind_of piece.role)
 
 abbrev pub capped_digit : Option ℕ → ℕ → Option ℕ
-capped_digit count byte = cond (is_none count && byte == 48) None (Some (min 255 (unwrap_or count 0 * 10 + (byte - 48))))
+capped_digit count byte = cond (is_none count && byte == 48) None (Some (min MOST_COUNTED (unwrap_or count 0 * 10 + (byte - 48))))
 
 abbrev pub capped_from : Held → Option ℕ → List ℕ → Option Held
 capped_from hands None [] = Some hands
@@ -64,6 +65,6 @@ capped_from hands count (byte ∷ bytes) =
     (option_and_then (λ n. capped_from hands (Some n) bytes) (capped_digit count byte))
     (option_and_then (λ more. capped_from more None bytes) (capped_piece hands (unwrap_or count 1) (piece_named false byte)))
 
--- each count, or 255 where it is greater
+-- each count, or the most that is counted where it is greater
 abbrev pub capped : Held → Held
-capped hands = map (min 255) hands
+capped hands = map (min MOST_COUNTED) hands

@@ -5,6 +5,7 @@ pub mod MoveTexts
 pub mod Reading
 pub mod Items
 pub mod BoardTexts
+pub mod Ranks
 pub mod HandTexts
 pub mod Sfen
 pub mod Written

@@ -10,6 +10,7 @@ use Rattle.shogi_core.specs.Pieces.{is_same_color, number_of}
 use Rattle.shogi_core.specs.Position.{Shogi, Held, held}
 use Rattle.shogi_sfen.specs.Numbers.{number_written}
 use Rattle.shogi_sfen.specs.declared.board_text.RankItem.{RankItem}
+use Rattle.shogi_sfen.specs.declared.board_text.TheConstants.{RANK_SQUARES, BOARD_SQUARES, SLASH}
 use Rattle.shogi_sfen.specs.Letters.{letter_of, as_side}
 use Rattle.shogi_sfen.specs.Items.{IsRankItem, item_squares, item_text}
 use Rattle.shogi_sfen.specs.Written.{rank_cells, side_text, or_hyphen}
@@ -19,16 +20,16 @@ pub record SpellsRank (text : List ℕ) (cells : Cells) : Type 0 where
   pub items : List RankItem
   pub each : AllByRecursion IsRankItem items
   pub squares : flat_map item_squares items ≡ cells
-  pub nine : length cells ≡ 9
+  pub nine : length cells ≡ RANK_SQUARES
   pub spelled : flat_map item_text items ≡ text
 
--- a board's text is that of its nine ranks, from a to i and each from file 9 to file 1, with a slash (47) between each two
+-- a board's text is that of its nine ranks, from a to i and each from file 9 to file 1, with a slash between each two
 pub record SpellsBoard (text : List ℕ) (cells : Cells) : Type 0 where
-  pub squares : length cells ≡ 81
+  pub squares : length cells ≡ BOARD_SQUARES
   pub ranks : List (List ℕ)
   pub nine : length ranks ≡ 9
   pub each : (rank : ℕ) → rank < 9 → SpellsRank (get_or ranks rank []) (rank_cells cells rank)
-  pub spelled : join_with_byte 47 ranks ≡ text
+  pub spelled : join_with_byte SLASH ranks ≡ text
 
 -- an entry of hands: the digits of a count, which may be none, and a kind that a side holds
 pub record Entry : Type 0 where

@@ -3,11 +3,24 @@
 ghost use Rattle.std.specs.Prelude.{◌≡◌, ◌≤◌, ◌<◌, ◌+◌, ◌++◌, None, Some, MatchOption, IfSome, length, replicate, position, drop};
 ghost use Rattle.std.specs.List.{slice_split, position_or_len};
 ghost use Rattle.shogi_sfen.specs.BoardTexts.{item_named, is_plus, rank_of, items_from, ranks_of, board_from, board_of, squares_of, is_slash};
-ghost use Rattle.shogi_sfen.specs.Items.{TakesItem};
+ghost use Rattle.shogi_sfen.specs.Ranks.{TakesItem};
+ghost use Rattle.shogi_sfen.specs.declared.board_text.TheConstants.{RANK_SQUARES, BOARD_SQUARES};
 
 use crate::letter::read_piece;
 use arrayvec::ArrayVec;
 use shogi_core::Piece;
+
+/// The squares of a rank.
+pub const RANK_SQUARES: usize = 9;
+
+/// The squares of a board.
+pub const BOARD_SQUARES: usize = 81;
+
+/// Before the letter of a promoted piece.
+pub const PLUS: u8 = b'+';
+
+/// Between two ranks.
+pub const SLASH: u8 = b'/';
 
 /// An item of a rank: so many empty squares, or a piece.
 #[derive(Clone, Copy, Debug, PartialEq, Eq)]
@@ -17,13 +30,13 @@ pub enum RankItem {
 }
 
 /// A rank, from file 9 to file 1.
-pub type Rank = ArrayVec<Option<Piece>, 9>;
+pub type Rank = ArrayVec<Option<Piece>, RANK_SQUARES>;
 
 /// Whether the byte is a plus that begins an item.
 fn is_plus(plus: bool, byte: u8) -> bool
     ensures { result ≡ is_plus plus byte }
 {
-    !plus && byte == b'+'
+    !plus && byte == PLUS
 }
 
 /// What a byte says, where a plus stands right before it or not.
@@ -41,7 +54,7 @@ fn read_item(plus: bool, byte: u8) -> Option<RankItem>
 
 /// So many empty squares at the end of a rank that has room for them.
 fn push_run(rank: &mut Rank, n: u8)
-    requires { length rank.old.items + n ≤ 9 }
+    requires { length rank.old.items + n ≤ RANK_SQUARES }
     ensures { rank.new.items ≡ rank.old.items ++ replicate n None }
 {
     for _ in 0..n {
@@ -56,7 +69,7 @@ fn push_item(rank: &mut Rank, item: Option<RankItem>) -> bool
 {
     match item {
         Some(RankItem::Empty(n)) => {
-            let fits = rank.len() + n as usize <= 9;
+            let fits = rank.len() + n as usize <= RANK_SQUARES;
             if fits {
                 push_run(rank, n);
             }
@@ -77,7 +90,7 @@ fn push_item(rank: &mut Rank, item: Option<RankItem>) -> bool
 #[tactic(auto, unfolding(crate::specs::BoardTexts::rank_of))]
 fn read_rank(part: &[u8]) -> Option<Rank>
     ensures value { MatchOption result (rank_of part.now ≡ None) (λ rank. rank_of part.now ≡ Some rank.items) }
-    ensures len { IfSome result (λ rank. length rank.items ≡ 9) }
+    ensures len { IfSome result (λ rank. length rank.items ≡ RANK_SQUARES) }
 {
     let mut rank = ArrayVec::new();
     let mut plus = false;
@@ -98,12 +111,13 @@ fn read_rank(part: &[u8]) -> Option<Rank>
 }
 
 /// The squares of a board in the order of a text.
-pub type Squares = ArrayVec<Option<Piece>, 81>;
+pub type Squares = ArrayVec<Option<Piece>, BOARD_SQUARES>;
 
+/// Where the first slash stands.
 fn first_slash(text: &[u8]) -> Option<usize>
     ensures { result ≡ position is_slash text.now }
 {
-    text.iter().position(|byte| *byte == b'/')
+    text.iter().position(|byte| *byte == SLASH)
 }
 
 /// How many bytes stand before the first slash.
@@ -117,7 +131,7 @@ fn part_len(text: &[u8]) -> usize
 
 /// The squares of a rank behind others.
 fn push_rank(squares: &mut Squares, rank: &[Option<Piece>])
-    requires { length squares.old.items + length rank.now ≤ 81 }
+    requires { length squares.old.items + length rank.now ≤ BOARD_SQUARES }
     ensures { squares.new.items ≡ squares.old.items ++ rank.now }
 {
     for cell in rank {
@@ -137,7 +151,7 @@ fn skip(text: &[u8], n: usize) -> &[u8]
 /// The squares of nine ranks, if the bytes say them.
 fn read_squares(word: &[u8]) -> Option<Squares>
     ensures value { MatchOption result (squares_of (slice_split is_slash word.now) ≡ None) (λ squares. squares_of (slice_split is_slash word.now) ≡ Some squares.items) }
-    ensures len { IfSome result (λ squares. length squares.items ≡ 81) }
+    ensures len { IfSome result (λ squares. length squares.items ≡ BOARD_SQUARES) }
 {
     let mut squares = ArrayVec::new();
     let mut rest = word;
@@ -164,12 +178,12 @@ fn read_squares(word: &[u8]) -> Option<Squares>
 }
 
 /// The cells by index of squares in the order of a text.
-fn arrange(squares: &[Option<Piece>]) -> [Option<Piece>; 81]
-    requires { length squares.now ≡ 81 }
+fn arrange(squares: &[Option<Piece>]) -> [Option<Piece>; BOARD_SQUARES]
+    requires { length squares.now ≡ BOARD_SQUARES }
     ensures { result ≡ board_from squares.now }
 {
-    let mut cells = [None; 81];
-    for square in 0..81 {
+    let mut cells = [None; BOARD_SQUARES];
+    for square in 0..BOARD_SQUARES {
         cells[square] = squares[square % 9 * 9 + (8 - square / 9)];
     }
     cells
@@ -177,7 +191,7 @@ fn arrange(squares: &[Option<Piece>]) -> [Option<Piece>; 81]
 
 /// The cells by index of a board's text (SFEN, board), if the word is one.
 #[tactic(auto, unfolding(crate::specs::BoardTexts::board_of))]
-pub fn read_board(word: &[u8]) -> Option<[Option<Piece>; 81]>
+pub fn read_board(word: &[u8]) -> Option<[Option<Piece>; BOARD_SQUARES]>
     ensures { result ≡ board_of word.now }
 {
     let squares = read_squares(word)?;

@@ -27,7 +27,10 @@ pub fn letter_of(kind: Kind) -> u8
 pub fn read_kind(letter: u8) -> Option<Kind>
     ensures { result ≡ kind_named letter }
 {
-    KINDS.iter().copied().find(|kind| letter_of(*kind) == letter)
+    KINDS
+        .iter()
+        .copied()
+        .find(|kind| letter_of(*kind) == letter)
 }
 
 /// Whether it is a promoted role.

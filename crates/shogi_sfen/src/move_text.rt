@@ -21,6 +21,7 @@ fn read_square(file: u8, rank: u8) -> Option<Square>
     }
 }
 
+/// The board move of two squares, if both are there.
 fn board_move(from: Option<Square>, to: Option<Square>, promote: bool) -> Option<Move>
     ensures { result ≡ board_read from to promote }
 {
@@ -30,6 +31,7 @@ fn board_move(from: Option<Square>, to: Option<Square>, promote: bool) -> Option
     }
 }
 
+/// The drop of a kind on a square, if both are there.
 fn drop_move(kind: Option<Kind>, to: Option<Square>) -> Option<Move>
     ensures { result ≡ drop_read kind to }
 {
@@ -64,6 +66,7 @@ fn read_long(bytes: &[u8]) -> Option<Move>
     board_move(from, read_square(bytes[2], bytes[3]), true)
 }
 
+/// The move of four or five bytes.
 #[tactic(auto, unfolding(crate::specs::Reading::move_read))]
 fn read_either(bytes: &[u8]) -> Option<Move>
     ensures { result ≡ move_read bytes.now }
@@ -88,6 +91,8 @@ pub fn write_move(m: Move) -> ArrayVec<u8, 5>
     ensures text { result.items ≡ text_of m }
     ensures back { move_of_text (text_of m) ≡ Some m }
 {
+    // Told to the proof: the move has a code, whose text is this move's. A copy is asked, since
+    // `m` is taken apart below.
     let again = m;
     again.code();
     let mut text = ArrayVec::new();

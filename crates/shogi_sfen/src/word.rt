@@ -7,18 +7,21 @@ ghost use Rattle.shogi_sfen.specs.Words.{is_blank, is_inner, words, GivesWord};
 
 use std::marker::Model;
 
+/// A space or a tab.
 fn is_blank(byte: u8) -> bool
     ensures { result ≡ is_blank byte }
 {
     byte == b' ' || byte == b'\t'
 }
 
+/// Where the first byte of a word stands.
 fn first_inner(text: &[u8]) -> Option<usize>
     ensures { result ≡ position is_inner text.now }
 {
     text.iter().position(|byte| !is_blank(*byte))
 }
 
+/// Where the first blank stands.
 fn first_blank(text: &[u8]) -> Option<usize>
     ensures { result ≡ position is_blank text.now }
 {
