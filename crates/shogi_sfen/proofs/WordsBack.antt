@@ -1,4 +1,4 @@
--- The words of a position_text position, and the position that they say.
+-- The words of a written position, and the position that they say.
 use Rattle.std.proofs.Common.{◌≡◌, ℕ, ◌+◌, ◌/◌, ◌%◌, ◌<◌, true, false, cond, refl, sym, ◌∙◌, ap, List, [], ◌∷◌, ◌++◌, get_or, append_assoc, append-nil, Option, Some, None}
 use Rattle.std.specs.Prelude.{◌==◌, zero, suc, nat_lt, filter, codes, Ok, slice_get}
 use Rattle.std.specs.List.{flat_map, range_with_len, slice_split, list_all, All}

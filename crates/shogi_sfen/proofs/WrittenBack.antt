@@ -1,4 +1,4 @@
--- A position_text position is read as that position.
+-- A written position is read as that position.
 use Rattle.std.proofs.Common.{◌≡◌, ℕ, ◌+◌, ◌-◌, ◌*◌, ◌/◌, ◌%◌, ◌≤◌, ◌<◌, Bool, true, false, not, refl, sym, ◌∙◌, ap, arith, List, [], ◌∷◌, ◌++◌, length, take, get_or, append_assoc, append-nil, Option, Some, None, inl, inr, zero-add}
 use Rattle.std.specs.Prelude.{◌==◌, ◌&&◌, zero, suc, map, codes}
 use Rattle.std.specs.List.{flat_map, range_with_len, slice_split, list_all, All}
