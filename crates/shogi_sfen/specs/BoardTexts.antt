@@ -3,16 +3,17 @@ use Rattle.std.specs.Prelude.{ℕ, ◌+◌, ◌-◌, ◌*◌, ◌/◌, ◌%◌, 
 use Rattle.std.specs.List.{flat_map, slice_split, range_with_len}
 use Rattle.std.specs.Option.{option_map}
 use Rattle.shogi_core.specs.Movement.{Cells, piece_at}
+use Rattle.shogi_sfen.specs.declared.byte.TheConstants.{ZERO, PLUS, SLASH}
 use Rattle.shogi_sfen.specs.declared.board_text.RankItem.{RankItem}
 use Rattle.shogi_sfen.specs.declared.board_text.RankItem.TheVariants.{Empty, Occupied}
-use Rattle.shogi_sfen.specs.declared.board_text.TheConstants.{RANK_SQUARES, BOARD_SQUARES, PLUS, SLASH}
+use Rattle.shogi_sfen.specs.declared.board_text.TheConstants.{RANK_SQUARES, BOARD_SQUARES}
 use Rattle.shogi_sfen.specs.Letters.{piece_named}
 use Rattle.shogi_sfen.specs.Items.{item_squares}
 
 -- what a byte says, where a plus stands right before it or not: a number of empty squares, or a piece
 abbrev pub item_named : Bool → ℕ → Option RankItem
 item_named plus byte =
-    cond (not plus && (nat_lt 48 byte && nat_lt byte 58)) (Some (Empty (byte - 48))) (option_map (λ piece. Occupied piece) (piece_named plus byte))
+    cond (not plus && (nat_lt ZERO byte && nat_lt byte (ZERO + 10))) (Some (Empty (byte - ZERO))) (option_map (λ piece. Occupied piece) (piece_named plus byte))
 
 -- an item, and then others
 abbrev pub onto_items : Option RankItem → Option (List RankItem) → Option (List RankItem)

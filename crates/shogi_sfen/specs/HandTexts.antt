@@ -1,6 +1,7 @@
 -- Hands as text (SFEN, pieces in hand): a hyphen, or counts and letters in any order, which add up.
 use Rattle.std.specs.Prelude.{ℕ, ◌+◌, ◌-◌, ◌*◌, ◌==◌, ◌&&◌, false, List, [], ◌∷◌, Option, Some, None, cond, is_none, codes, replicate, slice_set, unwrap_or, min, map}
 use Rattle.std.specs.Option.{option_and_then}
+use Rattle.shogi_sfen.specs.declared.byte.TheConstants.{ZERO}
 use Rattle.shogi_sfen.specs.Words.{has_bytes}
 use Rattle.std.specs.Char.{is_ascii_digit}
 use Rattle.std.specs.Str.{bytes_eq}
@@ -24,7 +25,7 @@ with_piece hands n (Some piece) = with_kind hands n piece.color (kind_of piece.r
 
 -- one more digit of a count, of which the first is not 0
 abbrev pub with_digit : Option ℕ → ℕ → Option ℕ
-with_digit count byte = cond (is_none count && byte == 48) None (Some (unwrap_or count 0 * 10 + (byte - 48)))
+with_digit count byte = cond (is_none count && byte == ZERO) None (Some (unwrap_or count 0 * 10 + (byte - ZERO)))
 
 -- the hands that the bytes say on top of those so far, where a count stands right before or none does
 abbrev pub hands_from : Held → Option ℕ → List ℕ → Option Held
@@ -55,7 +56,7 @@ capped_piece hands n None = None
 capped_piece hands n (Some piece) = capped_kind hands n piece.color (kind_of piece.role)
 
 abbrev pub capped_digit : Option ℕ → ℕ → Option ℕ
-capped_digit count byte = cond (is_none count && byte == 48) None (Some (min MOST_COUNTED (unwrap_or count 0 * 10 + (byte - 48))))
+capped_digit count byte = cond (is_none count && byte == ZERO) None (Some (min MOST_COUNTED (unwrap_or count 0 * 10 + (byte - ZERO))))
 
 abbrev pub capped_from : Held → Option ℕ → List ℕ → Option Held
 capped_from hands None [] = Some hands

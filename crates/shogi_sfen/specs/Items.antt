@@ -1,6 +1,7 @@
 -- The items of a rank's text (SFEN, board): numbers of empty squares, and pieces.
 use Rattle.std.specs.Prelude.{ℕ, ◌+◌, ◌≤◌, List, [], ◌∷◌, Some, None, replicate}
 use Rattle.shogi_core.specs.Movement.{Cells}
+use Rattle.shogi_sfen.specs.declared.byte.TheConstants.{ZERO}
 use Rattle.shogi_sfen.specs.declared.board_text.RankItem.{RankItem}
 use Rattle.shogi_sfen.specs.declared.board_text.RankItem.TheVariants.{Empty, Occupied}
 use Rattle.shogi_sfen.specs.declared.board_text.TheConstants.{RANK_SQUARES}
@@ -18,5 +19,5 @@ item_squares (Occupied piece) = Some piece ∷ []
 
 -- its text: one digit, or the text of the piece
 abbrev pub item_text : RankItem → List ℕ
-item_text (Empty n) = (n + 48) ∷ []
+item_text (Empty n) = (n + ZERO) ∷ []
 item_text (Occupied piece) = piece_text piece

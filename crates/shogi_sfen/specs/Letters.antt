@@ -8,6 +8,7 @@ use Rattle.shogi_core.specs.declared.piece.Role.{Role}
 use Rattle.shogi_core.specs.declared.piece.Role.TheVariants.{King, Pawn, Lance, Knight, Silver, Gold, Bishop, Rook, PromotedPawn, PromotedLance, PromotedKnight, PromotedSilver, Horse, Dragon}
 use Rattle.shogi_core.specs.declared.piece.Piece.{Piece}
 use Rattle.shogi_core.specs.Pieces.{number_of, all_kinds, kind_of}
+use Rattle.shogi_sfen.specs.declared.byte.TheConstants.{KING, TO_LOWER_CASE, PLUS}
 
 -- the letter of a kind, for both sides
 abbrev pub letter_of : Kind → ℕ
@@ -33,13 +34,13 @@ is_promoted _ = false
 
 -- the upper-case letter of what a role is in hand, or of a king
 abbrev pub letter_or_king : Option Kind → ℕ
-letter_or_king None = 75
+letter_or_king None = KING
 letter_or_king (Some kind) = letter_of kind
 
 -- upper case for Black, lower case for White
 abbrev pub as_side : Color → ℕ → ℕ
 as_side Black letter = letter
-as_side White letter = letter + 32
+as_side White letter = letter + TO_LOWER_CASE
 
 -- the letter of a piece
 abbrev pub piece_letter : Piece → ℕ
@@ -47,7 +48,7 @@ piece_letter piece = as_side piece.color (letter_or_king (kind_of piece.role))
 
 -- a plus where it is promoted, and its letter
 abbrev pub piece_text : Piece → List ℕ
-piece_text piece = cond (is_promoted piece.role) (codes "+") [] ++ piece_letter piece ∷ []
+piece_text piece = cond (is_promoted piece.role) (PLUS ∷ []) [] ++ piece_letter piece ∷ []
 
 -- every role
 abbrev pub all_roles : List Role

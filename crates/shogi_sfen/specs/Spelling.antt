@@ -8,9 +8,10 @@ use Rattle.shogi_core.specs.declared.piece.Kind.{Kind}
 use Rattle.shogi_core.specs.Movement.{Cells}
 use Rattle.shogi_core.specs.Pieces.{is_same_color, number_of}
 use Rattle.shogi_core.specs.Position.{Shogi, Held, held}
+use Rattle.shogi_sfen.specs.declared.byte.TheConstants.{ZERO, SLASH}
 use Rattle.shogi_sfen.specs.Numbers.{number_written}
 use Rattle.shogi_sfen.specs.declared.board_text.RankItem.{RankItem}
-use Rattle.shogi_sfen.specs.declared.board_text.TheConstants.{RANK_SQUARES, BOARD_SQUARES, SLASH}
+use Rattle.shogi_sfen.specs.declared.board_text.TheConstants.{RANK_SQUARES, BOARD_SQUARES}
 use Rattle.shogi_sfen.specs.Letters.{letter_of, as_side}
 use Rattle.shogi_sfen.specs.Items.{IsRankItem, item_squares, item_text}
 use Rattle.shogi_sfen.specs.Written.{rank_cells, side_text, or_hyphen}
@@ -37,10 +38,10 @@ pub record Entry : Type 0 where
   pub color : Color
   pub kind : Kind
 
--- no digits, or digits of which the first is not 0 (48)
+-- no digits, or digits of which the first is not 0
 abbrev pub AreCountDigits : List ℕ → Type 0
 AreCountDigits [] = Unit {0}
-AreCountDigits (first ∷ others) = (list_all is_ascii_digit (first ∷ others) ≡ true) × (first ≢ 48)
+AreCountDigits (first ∷ others) = (list_all is_ascii_digit (first ∷ others) ≡ true) × (first ≢ ZERO)
 
 -- one where no count is written, and else the number that the digits write
 abbrev pub count_written : List ℕ → ℕ

@@ -7,11 +7,12 @@ use Rattle.shogi_core.specs.declared.piece.Kind.{Kind}
 use Rattle.shogi_core.specs.declared.piece.Kind.TheVariants as kinds
 use Rattle.shogi_core.specs.Movement.{Cells, piece_at}
 use Rattle.shogi_core.specs.Position.{Shogi, Held, held}
+use Rattle.shogi_sfen.specs.declared.byte.TheConstants.{ZERO, SPACE, SLASH}
 use Rattle.shogi_sfen.specs.Letters.{letter_of, as_side, piece_text}
 
 -- a number of empty squares, if there are any
 abbrev pub run_text : ℕ → List ℕ
-run_text n = cond (n == 0) [] ((n + 48) ∷ [])
+run_text n = cond (n == 0) [] ((n + ZERO) ∷ [])
 
 -- the squares of a rank, behind so many empty ones
 abbrev pub cells_text : ℕ → Cells → List ℕ
@@ -25,7 +26,7 @@ rank_cells cells rank = map (λ i. piece_at cells ((8 - i) * 9 + rank)) (range_w
 
 -- a rank, with a slash before it where it is not the first
 abbrev pub rank_text : Cells → ℕ → List ℕ
-rank_text cells rank = cond (rank == 0) [] (codes "/") ++ cells_text 0 (rank_cells cells rank)
+rank_text cells rank = cond (rank == 0) [] (SLASH ∷ []) ++ cells_text 0 (rank_cells cells rank)
 
 -- the ranks from a to i
 unfoldable pub board_text : Cells → List ℕ
@@ -38,7 +39,7 @@ side_text White = codes "w"
 
 -- a count below 100, where it is over 1
 abbrev pub count_digits : ℕ → List ℕ
-count_digits n = cond (nat_lt n 2) [] (cond (nat_lt n 10) ((n + 48) ∷ []) ((n / 10 + 48) ∷ (n % 10 + 48) ∷ []))
+count_digits n = cond (nat_lt n 2) [] (cond (nat_lt n 10) ((n + ZERO) ∷ []) ((n / 10 + ZERO) ∷ (n % 10 + ZERO) ∷ []))
 
 -- so many of a kind
 abbrev pub held_text : Color → Kind → ℕ → List ℕ
@@ -63,4 +64,4 @@ hands_text hands = or_hyphen (side_held_text hands Black ++ side_held_text hands
 
 -- the one written text: board, side and hands with a space between each two
 unfoldable pub position_text : Shogi → List ℕ
-position_text p = board_text p.cells ++ (32 ∷ (side_text p.side ++ (32 ∷ hands_text p.hands)))
+position_text p = board_text p.cells ++ (SPACE ∷ (side_text p.side ++ (SPACE ∷ hands_text p.hands)))

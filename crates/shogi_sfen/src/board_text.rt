@@ -6,6 +6,7 @@ ghost use Rattle.shogi_sfen.specs.BoardTexts.{item_named, is_plus, rank_of, item
 ghost use Rattle.shogi_sfen.specs.Ranks.{TakesItem};
 ghost use Rattle.shogi_sfen.specs.declared.board_text.TheConstants.{RANK_SQUARES, BOARD_SQUARES};
 
+use crate::byte::{PLUS, SLASH};
 use crate::letter::read_piece;
 use arrayvec::ArrayVec;
 use shogi_core::Piece;
@@ -15,12 +16,6 @@ pub const RANK_SQUARES: usize = 9;
 
 /// The squares of a board.
 pub const BOARD_SQUARES: usize = 81;
-
-/// Before the letter of a promoted piece.
-pub const PLUS: u8 = b'+';
-
-/// Between two ranks.
-pub const SLASH: u8 = b'/';
 
 /// An item of a rank: so many empty squares, or a piece.
 #[derive(Clone, Copy, Debug, PartialEq, Eq)]

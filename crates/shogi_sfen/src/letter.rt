@@ -4,6 +4,7 @@ ghost use Rattle.std.specs.Prelude.{◌≡◌, ◌<◌};
 ghost use Rattle.shogi_core.specs.Pieces.{kind_of};
 ghost use Rattle.shogi_sfen.specs.Letters.{letter_of, kind_named, is_promoted, letter_or_king, as_side, piece_letter, is_named, color_of_letter, role_named, piece_named};
 
+use crate::byte::{KING, TO_LOWER_CASE};
 use shogi_core::{Color, KINDS, Kind, Piece, Role};
 
 /// The upper-case letter of the kind.
@@ -55,7 +56,7 @@ fn letter_of_role(role: Role) -> u8
 {
     match role.kind() {
         Some(kind) => letter_of(kind),
-        None => b'K',
+        None => KING,
     }
 }
 
@@ -66,7 +67,7 @@ pub fn as_side(color: Color, letter: u8) -> u8
 {
     match color {
         Color::Black => letter,
-        Color::White => letter + 32,
+        Color::White => letter + TO_LOWER_CASE,
     }
 }
 

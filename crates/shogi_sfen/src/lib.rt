@@ -2,6 +2,7 @@
 #![tactic(auto)]
 
 mod board_text;
+mod byte;
 mod hand_text;
 mod letter;
 mod move_text;

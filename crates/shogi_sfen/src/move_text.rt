@@ -4,6 +4,7 @@ ghost use Rattle.std.specs.Prelude.{◌≡◌, ◌++◌, ◌<◌, Some, length};
 ghost use Rattle.shogi_sfen.specs.MoveTexts.{square_text, text_of, move_of_text};
 ghost use Rattle.shogi_sfen.specs.Reading.{square_read, board_read, drop_read, short_read, long_read, move_read};
 
+use crate::byte::{FIRST_FILE, FIRST_RANK, PLUS};
 use crate::letter::{letter_of, read_kind};
 use arrayvec::ArrayVec;
 use shogi_core::{Kind, Move, Square};
@@ -59,7 +60,7 @@ fn read_long(bytes: &[u8]) -> Option<Move>
     requires { length bytes.now ≡ 5 }
     ensures { result ≡ long_read bytes.now }
 {
-    if bytes[4] != b'+' {
+    if bytes[4] != PLUS {
         return None;
     }
     let from = read_square(bytes[0], bytes[1]);
@@ -101,7 +102,7 @@ pub fn write_move(m: Move) -> ArrayVec<u8, 5>
             push_square(&mut text, from);
             push_square(&mut text, to);
             if promote {
-                text.push(b'+');
+                text.push(PLUS);
             }
         }
         Move::Drop { kind, to } => {
@@ -119,6 +120,6 @@ fn push_square(text: &mut ArrayVec<u8, 5>, square: Square)
     ensures { text.new.items ≡ text.old.items ++ square_text square }
 {
     let index = square.index();
-    text.push(b'1' + (index / 9) as u8);
-    text.push(b'a' + (index % 9) as u8);
+    text.push(FIRST_FILE + (index / 9) as u8);
+    text.push(FIRST_RANK + (index % 9) as u8);
 }

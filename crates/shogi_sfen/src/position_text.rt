@@ -13,7 +13,8 @@ ghost use Rattle.shogi_sfen.specs.Spelling.{Spells};
 ghost use Rattle.shogi_core.specs.declared.piece.Kind.{Kind};
 ghost use Rattle.shogi_core.specs.declared.piece.Color.{Color};
 
-use crate::board_text::{PLUS, RANK_SQUARES, Rank, SLASH};
+use crate::board_text::{RANK_SQUARES, Rank};
+use crate::byte::{PLUS, SLASH, SPACE, ZERO};
 use crate::letter::{as_side, is_promoted, letter_of, piece_letter};
 use arrayvec::ArrayVec;
 use shogi_core::{Board, Color, Hands, Kind, Piece, Position, Square};
@@ -44,7 +45,7 @@ fn push_run(text: &mut Text, run: u8)
     ensures len { length text.new.items ≤ length text.old.items + run }
 {
     if run > 0 {
-        text.push(b'0' + run);
+        text.push(ZERO + run);
     }
 }
 
@@ -115,10 +116,10 @@ fn push_held(text: &mut Text, color: Color, kind: Kind, n: u8)
         return;
     }
     if n >= 10 {
-        text.push(b'0' + n / 10);
-        text.push(b'0' + n % 10);
+        text.push(ZERO + n / 10);
+        text.push(ZERO + n % 10);
     } else if n >= 2 {
-        text.push(b'0' + n);
+        text.push(ZERO + n);
     }
     text.push(as_side(color, letter_of(kind)));
 }
@@ -180,9 +181,9 @@ pub fn write_position(p: &Position) -> ArrayVec<u8, TEXT_BYTES>
     p.validity();
     let mut text = ArrayVec::new();
     push_board(&mut text, &p.board());
-    text.push(b' ');
+    text.push(SPACE);
     text.push(side_letter(p.side()));
-    text.push(b' ');
+    text.push(SPACE);
     push_hands(&mut text, p.hands());
     text
 }

@@ -5,13 +5,14 @@ ghost use Rattle.std.specs.List.{position_or_len};
 ghost use Rattle.std.specs.Iterator.{item_count};
 ghost use Rattle.shogi_sfen.specs.Words.{is_blank, is_inner, words, GivesWord};
 
+use crate::byte::{SPACE, TAB};
 use std::marker::Model;
 
 /// A space or a tab.
 fn is_blank(byte: u8) -> bool
     ensures { result ≡ is_blank byte }
 {
-    byte == b' ' || byte == b'\t'
+    byte == SPACE || byte == TAB
 }
 
 /// Where the first byte of a word stands.
