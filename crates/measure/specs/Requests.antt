@@ -3,7 +3,7 @@ use Rattle.std.specs.Prelude.{ℕ, List, [], ◌∷◌, Option, Some, None, Resu
 use Rattle.std.specs.Str.{bytes_eq}
 use Rattle.shogi_core.specs.Position.{Shogi}
 use Rattle.shogi_core.specs.Start.{start}
-use Rattle.shogi_sfen.specs.Numbers.{is_number, number_of}
+use Rattle.shogi_sfen.specs.Numbers.{is_number, number_written}
 use Rattle.shogi_sfen.specs.Sfen.{position_at}
 use Rattle.shogi_sfen.specs.Words.{words, after_word}
 use Rattle.shogi_sfen.specs.declared.position.SfenFault.{SfenFault}
@@ -20,7 +20,7 @@ at_most most n = cond (nat_lt most n) None (Some n)
 -- the number that a word of digits writes, where there is such a word and its number is at most this
 abbrev pub number_to : ℕ → Option (List ℕ) → Option ℕ
 number_to most None = None
-number_to most (Some word) = cond (is_number word) (at_most most (number_of word)) None
+number_to most (Some word) = cond (is_number word) (at_most most (number_written word)) None
 
 -- a position, where no word follows
 abbrev pub alone : Shogi → List (List ℕ) → Result Shogi Refusal

@@ -6,10 +6,10 @@ use Rattle.std.specs.List.{list_all}
 use Rattle.std.specs.Char.{is_ascii_digit, digit_value}
 use Rattle.std.proofs.lemmas.Int.Digits.{digits_value_more}
 use Rattle.std.proofs.lemmas.List.Folds.{list_all_more}
-use Rattle.shogi_sfen.specs.Numbers.{is_number, number_of}
+use Rattle.shogi_sfen.specs.Numbers.{is_number, number_written}
 
-pub number_of-more : (bs : List ℕ) (i : ℕ) → i < length bs → number_of (take (i + 1) bs) ≡ number_of (take i bs) * 10 + digit_value (get_or bs i 0)
-number_of-more bs i h = digits_value_more 10 bs i h
+pub number_written-more : (bs : List ℕ) (i : ℕ) → i < length bs → number_written (take (i + 1) bs) ≡ number_written (take i bs) * 10 + digit_value (get_or bs i 0)
+number_written-more bs i h = digits_value_more 10 bs i h
 
 -- the same number up to a greatest one, whether it is cut before a digit or not
 pub min-more : (most n m d : ℕ) → m ≡ min most n → min most (m * 10 + d) ≡ min most (n * 10 + d)
@@ -24,16 +24,16 @@ in_range c e =
 
 -- one more digit
 pub record IsReadTo (bs : List ℕ) (most m i : ℕ) : Type 0 where
-  pub value : m ≡ min most (number_of (take i bs))
+  pub value : m ≡ min most (number_written (take i bs))
   pub digits : list_all is_ascii_digit (take i bs) ≡ true
 
-pub one_more : (bs : List ℕ) (most m i d : ℕ) → i < length bs → d ≡ get_or bs i 0 → is_ascii_digit d ≡ true → m ≡ min most (number_of (take i bs)) → list_all is_ascii_digit (take i bs) ≡ true
+pub one_more : (bs : List ℕ) (most m i d : ℕ) → i < length bs → d ≡ get_or bs i 0 → is_ascii_digit d ≡ true → m ≡ min most (number_written (take i bs)) → list_all is_ascii_digit (take i bs) ≡ true
     → IsReadTo bs most (min most (m * 10 + (d - 48))) (i + 1)
 one_more bs most m i d h e digit value digits =
     let here : is_ascii_digit (get_or bs i 0) ≡ true = subst (λ (x : ℕ). is_ascii_digit x ≡ true) e digit in
-    let more : number_of (take (i + 1) bs) ≡ number_of (take i bs) * 10 + (d - 48) = number_of-more bs i h ∙ ap (λ (x : ℕ). number_of (take i bs) * 10 + x) (ap digit_value (sym e) ∙ in_range d digit) in
+    let more : number_written (take (i + 1) bs) ≡ number_written (take i bs) * 10 + (d - 48) = number_written-more bs i h ∙ ap (λ (x : ℕ). number_written (take i bs) * 10 + x) (ap digit_value (sym e) ∙ in_range d digit) in
     record {
-      value = min-more most (number_of (take i bs)) m (d - 48) value ∙ ap (min most) (sym more);
+      value = min-more most (number_written (take i bs)) m (d - 48) value ∙ ap (min most) (sym more);
       digits = list_all_more is_ascii_digit bs i 0 h ∙ and_from (list_all is_ascii_digit (take i bs)) (is_ascii_digit (get_or bs i 0)) digits here;
     }
 

@@ -1,4 +1,4 @@
--- Hands byte by byte, and counts that stop at 255.
+-- Hands byte by byte, and counts that stop at the most that is counted.
 use Rattle.std.proofs.Common.{◌≡◌, ℕ, ◌+◌, ◌-◌, ◌*◌, ◌<◌, Bool, true, false, cond, refl, sym, ◌∙◌, ap, arith, List, [], ◌∷◌, length, drop, get_or, set, Option, Some, None, min, add-one}
 use Rattle.std.specs.Prelude.{◌==◌, ◌&&◌, suc, unwrap_or}
 use Rattle.std.specs.Option.{option_map, option_and_then}
@@ -8,121 +8,107 @@ use Rattle.std.specs.Str.{bytes_eq}
 use Rattle.std.proofs.Math.Seq.{drop-cons}
 use Rattle.std.proofs.Math.ListN.{get_or-map}
 use Rattle.std.proofs.lemmas.List.{map-set}
+use Rattle.shogi_sfen.specs.declared.hand_text.TheConstants.{MOST_COUNTED}
 use Rattle.shogi_sfen.specs.Words.{has_bytes}
 use Rattle.std.proofs.lemmas.Bool.{cond-true, cond-false}
 use Rattle.shogi_core.specs.declared.piece.Color.{Color}
 use Rattle.shogi_core.specs.declared.piece.Kind.{Kind}
 use Rattle.shogi_core.specs.declared.piece.Piece.{Piece}
 use Rattle.shogi_core.specs.Pieces.{kind_of}
-use Rattle.shogi_core.specs.Position.{HandCounts, held, place_of}
-use Rattle.shogi_sfen.specs.BoardTexts.{piece_named}
+use Rattle.shogi_core.specs.Position.{Held, held, place_of}
+use Rattle.shogi_sfen.specs.Letters.{piece_named}
 use Rattle.shogi_sfen.specs.HandTexts.{with_kind, with_piece, with_digit, hands_from, no_hands, capped_kind, capped_piece, capped_digit, capped_from, capped, hands_of}
 
 -- one byte more
-at_byte : (hands : HandCounts) (count : Option ℕ) (byte : ℕ) (bytes : List ℕ) → capped_from hands count (byte ∷ bytes) ≡ cond (is_ascii_digit byte)
+at_byte : (hands : Held) (count : Option ℕ) (byte : ℕ) (bytes : List ℕ) → capped_from hands count (byte ∷ bytes) ≡ cond (is_ascii_digit byte)
     (option_and_then (λ n. capped_from hands (Some n) bytes) (capped_digit count byte))
-    (option_and_then (λ more. capped_from more None bytes) (capped_piece hands (unwrap_or count 1) (piece_named byte)))
+    (option_and_then (λ more. capped_from more None bytes) (capped_piece hands (unwrap_or count 1) (piece_named false byte)))
 at_byte hands None byte bytes = refl
 at_byte hands (Some n) byte bytes = refl
 
 -- the bytes from i on begin with the one at i
-pub capped_from-next : (word : List ℕ) (i byte : ℕ) (hands : HandCounts) (count : Option ℕ) → i < length word → byte ≡ get_or word i 0
+pub capped_from-next : (word : List ℕ) (i byte : ℕ) (hands : Held) (count : Option ℕ) → i < length word → byte ≡ get_or word i 0
     → capped_from hands count (drop i word) ≡ cond (is_ascii_digit byte)
     (option_and_then (λ n. capped_from hands (Some n) (drop (i + 1) word)) (capped_digit count byte))
-    (option_and_then (λ more. capped_from more None (drop (i + 1) word)) (capped_piece hands (unwrap_or count 1) (piece_named byte)))
+    (option_and_then (λ more. capped_from more None (drop (i + 1) word)) (capped_piece hands (unwrap_or count 1) (piece_named false byte)))
 capped_from-next word i byte hands count h e =
     ap (capped_from hands count) (drop-cons word i 0 h)
     ∙ (at_byte hands count (get_or word i 0) (drop (suc i) word)
     ∙ (ap (λ (b : ℕ). cond (is_ascii_digit b)
     (option_and_then (λ n. capped_from hands (Some n) (drop (suc i) word)) (capped_digit count b))
-    (option_and_then (λ more. capped_from more None (drop (suc i) word)) (capped_piece hands (unwrap_or count 1) (piece_named b)))) (sym e)
+    (option_and_then (λ more. capped_from more None (drop (suc i) word)) (capped_piece hands (unwrap_or count 1) (piece_named false b)))) (sym e)
     ∙ ap (λ (k : ℕ). cond (is_ascii_digit byte)
     (option_and_then (λ n. capped_from hands (Some n) (drop k word)) (capped_digit count byte))
-    (option_and_then (λ more. capped_from more None (drop k word)) (capped_piece hands (unwrap_or count 1) (piece_named byte)))) (sym (add-one i))))
+    (option_and_then (λ more. capped_from more None (drop k word)) (capped_piece hands (unwrap_or count 1) (piece_named false byte)))) (sym (add-one i))))
 
 -- a number capped, and then a sum
-pub min-sum : (a n : ℕ) → min 255 (min 255 a + min 255 n) ≡ min 255 (a + n)
+pub min-sum : (a n : ℕ) → min MOST_COUNTED (min MOST_COUNTED a + min MOST_COUNTED n) ≡ min MOST_COUNTED (a + n)
 min-sum a n = omega arith
 
-min-digit : (n d : ℕ) → min 255 (min 255 n * 10 + d) ≡ min 255 (n * 10 + d)
+min-digit : (n d : ℕ) → min MOST_COUNTED (min MOST_COUNTED n * 10 + d) ≡ min MOST_COUNTED (n * 10 + d)
 min-digit n d = omega arith
 
 -- a step of one reading is that of the other
-through : (o : Option ℕ) (f g : ℕ → Option HandCounts) → ((n : ℕ) → g (min 255 n) ≡ option_map capped (f n)) → option_and_then g (option_map (min 255) o) ≡ option_map capped (option_and_then f o)
+through : (o : Option ℕ) (f g : ℕ → Option Held) → ((n : ℕ) → g (min MOST_COUNTED n) ≡ option_map capped (f n)) → option_and_then g (option_map (min MOST_COUNTED) o) ≡ option_map capped (option_and_then f o)
 through None f g h = refl
 through (Some n) f g h = h n
 
-through_held : (o : Option HandCounts) (f g : HandCounts → Option HandCounts) → ((hands : HandCounts) → g (capped hands) ≡ option_map capped (f hands)) → option_and_then g (option_map capped o) ≡ option_map capped (option_and_then f o)
+through_held : (o : Option Held) (f g : Held → Option Held) → ((hands : Held) → g (capped hands) ≡ option_map capped (f hands)) → option_and_then g (option_map capped o) ≡ option_map capped (option_and_then f o)
 through_held None f g h = refl
 through_held (Some hands) f g h = h hands
 
-either_way : (b : Bool) (x y : Option HandCounts) (z w : Option HandCounts) → z ≡ option_map capped x → w ≡ option_map capped y → cond b z w ≡ option_map capped (cond b x y)
+either_way : (b : Bool) (x y : Option Held) (z w : Option Held) → z ≡ option_map capped x → w ≡ option_map capped y → cond b z w ≡ option_map capped (cond b x y)
 either_way true x y z w e f = e
 either_way false x y z w e f = f
 
-first : (b : Bool) (x y : ℕ) → x ≡ min 255 y → cond (true && b) None (Some x) ≡ option_map (min 255) (cond (true && b) None (Some y))
+first : (b : Bool) (x y : ℕ) → x ≡ min MOST_COUNTED y → cond (true && b) None (Some x) ≡ option_map (min MOST_COUNTED) (cond (true && b) None (Some y))
 first true x y e = refl
 first false x y e = ap Some e
 
-digit_capped : (count : Option ℕ) (byte : ℕ) → capped_digit (option_map (min 255) count) byte ≡ option_map (min 255) (with_digit count byte)
-digit_capped None byte = first (byte == 48) (min 255 (0 * 10 + (byte - 48))) (0 * 10 + (byte - 48)) refl
+digit_capped : (count : Option ℕ) (byte : ℕ) → capped_digit (option_map (min MOST_COUNTED) count) byte ≡ option_map (min MOST_COUNTED) (with_digit count byte)
+digit_capped None byte = first (byte == 48) (min MOST_COUNTED (0 * 10 + (byte - 48))) (0 * 10 + (byte - 48)) refl
 digit_capped (Some n) byte = ap Some (min-digit n (byte - 48))
 
-unwrap_capped : (count : Option ℕ) → unwrap_or (option_map (min 255) count) 1 ≡ min 255 (unwrap_or count 1)
+unwrap_capped : (count : Option ℕ) → unwrap_or (option_map (min MOST_COUNTED) count) 1 ≡ min MOST_COUNTED (unwrap_or count 1)
 unwrap_capped None = refl
 unwrap_capped (Some n) = refl
 
-pub held-capped : (hands : HandCounts) (color : Color) (kind : Kind) → held (capped hands) color kind ≡ min 255 (held hands color kind)
-held-capped hands color kind = get_or-map (min 255) hands (place_of color kind) 0
+pub held-capped : (hands : Held) (color : Color) (kind : Kind) → held (capped hands) color kind ≡ min MOST_COUNTED (held hands color kind)
+held-capped hands color kind = get_or-map (min MOST_COUNTED) hands (place_of color kind) 0
 
-kind_capped : (hands : HandCounts) (n : ℕ) (color : Color) (kind : Option Kind) → capped_kind (capped hands) (min 255 n) color kind ≡ option_map capped (with_kind hands n color kind)
+kind_capped : (hands : Held) (n : ℕ) (color : Color) (kind : Option Kind) → capped_kind (capped hands) (min MOST_COUNTED n) color kind ≡ option_map capped (with_kind hands n color kind)
 kind_capped hands n color None = refl
 kind_capped hands n color (Some kind) =
-    ap (λ (m : ℕ). Some (set (capped hands) (place_of color kind) m)) (ap (λ (m : ℕ). min 255 (m + min 255 n)) (held-capped hands color kind) ∙ min-sum (held hands color kind) n)
-    ∙ ap Some (sym (map-set (min 255) hands (place_of color kind) (held hands color kind + n)))
+    ap (λ (m : ℕ). Some (set (capped hands) (place_of color kind) m)) (ap (λ (m : ℕ). min MOST_COUNTED (m + min MOST_COUNTED n)) (held-capped hands color kind) ∙ min-sum (held hands color kind) n)
+    ∙ ap Some (sym (map-set (min MOST_COUNTED) hands (place_of color kind) (held hands color kind + n)))
 
-piece_capped : (hands : HandCounts) (n : ℕ) (piece : Option Piece) → capped_piece (capped hands) (min 255 n) piece ≡ option_map capped (with_piece hands n piece)
+piece_capped : (hands : Held) (n : ℕ) (piece : Option Piece) → capped_piece (capped hands) (min MOST_COUNTED n) piece ≡ option_map capped (with_piece hands n piece)
 piece_capped hands n None = refl
 piece_capped hands n (Some piece) = kind_capped hands n piece.color (kind_of piece.role)
 
-pub exact_byte : (hands : HandCounts) (count : Option ℕ) (byte : ℕ) (bytes : List ℕ) → hands_from hands count (byte ∷ bytes) ≡ cond (is_ascii_digit byte)
+pub exact_byte : (hands : Held) (count : Option ℕ) (byte : ℕ) (bytes : List ℕ) → hands_from hands count (byte ∷ bytes) ≡ cond (is_ascii_digit byte)
     (option_and_then (λ n. hands_from hands (Some n) bytes) (with_digit count byte))
-    (option_and_then (λ more. hands_from more None bytes) (with_piece hands (unwrap_or count 1) (piece_named byte)))
+    (option_and_then (λ more. hands_from more None bytes) (with_piece hands (unwrap_or count 1) (piece_named false byte)))
 exact_byte hands None byte bytes = refl
 exact_byte hands (Some n) byte bytes = refl
 
--- counts that stop at 255 are the counts, each or 255
-hands_capped : (bytes : List ℕ) (hands : HandCounts) (count : Option ℕ) → capped_from (capped hands) (option_map (min 255) count) bytes ≡ option_map capped (hands_from hands count bytes)
+-- counts that stop at the most that is counted are the counts, each or the most that is counted
+hands_capped : (bytes : List ℕ) (hands : Held) (count : Option ℕ) → capped_from (capped hands) (option_map (min MOST_COUNTED) count) bytes ≡ option_map capped (hands_from hands count bytes)
 hands_capped [] hands None = refl
 hands_capped [] hands (Some n) = refl
 hands_capped (byte ∷ bytes) hands count =
-    at_byte (capped hands) (option_map (min 255) count) byte bytes
+    at_byte (capped hands) (option_map (min MOST_COUNTED) count) byte bytes
     ∙ (either_way (is_ascii_digit byte) _ _ _ _
     (ap (option_and_then (λ n. capped_from (capped hands) (Some n) bytes)) (digit_capped count byte)
     ∙ through (with_digit count byte) (λ n. hands_from hands (Some n) bytes) (λ n. capped_from (capped hands) (Some n) bytes) (λ n. hands_capped bytes hands (Some n)))
-    (ap (λ (n : ℕ). option_and_then (λ more. capped_from more None bytes) (capped_piece (capped hands) n (piece_named byte))) (unwrap_capped count)
-    ∙ (ap (option_and_then (λ more. capped_from more None bytes)) (piece_capped hands (unwrap_or count 1) (piece_named byte))
-    ∙ through_held (with_piece hands (unwrap_or count 1) (piece_named byte)) (λ more. hands_from more None bytes) (λ more. capped_from more None bytes) (λ more. hands_capped bytes more None)))
+    (ap (λ (n : ℕ). option_and_then (λ more. capped_from more None bytes) (capped_piece (capped hands) n (piece_named false byte))) (unwrap_capped count)
+    ∙ (ap (option_and_then (λ more. capped_from more None bytes)) (piece_capped hands (unwrap_or count 1) (piece_named false byte))
+    ∙ through_held (with_piece hands (unwrap_or count 1) (piece_named false byte)) (λ more. hands_from more None bytes) (λ more. capped_from more None bytes) (λ more. hands_capped bytes more None)))
     ∙ ap (option_map capped) (sym (exact_byte hands count byte bytes)))
-
-no_hands-capped : capped no_hands ≡ no_hands
-no_hands-capped = refl
-
-pub hands_of-hyphen : (word : List ℕ) (hands : HandCounts) → bytes_eq word (codes "-") ≡ true → hands ≡ no_hands → Some hands ≡ option_map capped (hands_of word)
-unfolding hands_of
-hands_of-hyphen word hands e f = ap Some f ∙ sym (ap (option_map capped) (cond-true (bytes_eq word (codes "-")) _ _ e))
-
-no_bytes : (word : List ℕ) → length word ≡ 0 → has_bytes word ≡ false
-no_bytes [] e = refl
-no_bytes (b ∷ bs) e = absurd (omega arith)
 
 some_bytes : (word : List ℕ) → 0 < length word → has_bytes word ≡ true
 some_bytes [] e = absurd (omega arith)
 some_bytes (b ∷ bs) e = refl
-
-pub hands_of-empty : (word : List ℕ) → bytes_eq word (codes "-") ≡ false → length word ≡ 0 → (let none : Option HandCounts = None in none) ≡ option_map capped (hands_of word)
-unfolding hands_of
-hands_of-empty word e f = sym (ap (option_map capped) (cond-false (bytes_eq word (codes "-")) _ _ e ∙ cond-false (has_bytes word) _ _ (no_bytes word f)))
 
 pub hands_of-items : (word : List ℕ) → bytes_eq word (codes "-") ≡ false → 0 < length word → capped_from no_hands None word ≡ option_map capped (hands_of word)
 unfolding hands_of

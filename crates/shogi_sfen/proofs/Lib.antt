@@ -1,8 +1,9 @@
-pub mod Runs
+pub mod WordLaws
 pub mod Digits
+pub mod LetterLaws
 pub mod Texts
 pub mod TextsFound
-pub mod RankLaws
+pub mod BoardLaws
 pub mod HandLaws
 pub mod TooManyHeld
 pub mod PositionLaws

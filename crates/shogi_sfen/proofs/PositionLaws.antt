@@ -7,12 +7,12 @@ use Rattle.std.proofs.lemmas.List.{length-drop}
 use Rattle.shogi_core.specs.declared.piece.Color.{Color}
 use Rattle.shogi_core.specs.declared.validity.PositionFault.{PositionFault}
 use Rattle.shogi_core.specs.Movement.{Cells}
-use Rattle.shogi_core.specs.Position.{Shogi, HandCounts}
+use Rattle.shogi_core.specs.Position.{Shogi, Held}
 use Rattle.shogi_core.specs.Validity.{fault_of}
 use Rattle.shogi_sfen.specs.Words.{is_blank, words, from_word, after_word, GivesWord}
 use Rattle.shogi_sfen.specs.BoardTexts.{board_of}
 use Rattle.shogi_sfen.specs.HandTexts.{hands_of, capped}
-use Rattle.shogi_sfen.specs.Sfen.{side_of, judged, position_by, position_at, past_number, end_of}
+use Rattle.shogi_sfen.specs.Sfen.{side_of, judged, position_of_parts, position_at, past_number, end_of}
 use Rattle.shogi_sfen.specs.declared.position.SfenFault.{SfenFault}
 use Rattle.shogi_sfen.specs.declared.position.SfenFault.TheVariants.{BadBoard, BadSide, BadHand, Invalid}
 use Rattle.shogi_sfen.proofs.TooManyHeld.{parts, judged-capped, hands_of-len}
@@ -37,8 +37,8 @@ module _ (text r1 r2 r3 : List ℕ) (o1 o2 o3 : Option (Bor (List ℕ))) where
   pub position_at-one : GivesWord text o1 r1 → (let none : Option Cells = None in none) ≡ option_and_then board_of (option_copied o1) → Err BadBoard ≡ position_at text
   unfolding position_at
   position_at-one g e =
-      sym (ap (λ (o : Option (List ℕ)). position_by (option_and_then board_of o) (option_and_then side_of (slice_get (words text) 1)) (option_and_then hands_of (slice_get (words text) 2)) (end_of text)) (gives_first text r1 o1 g)
-      ∙ ap (λ (o : Option Cells). position_by o (option_and_then side_of (slice_get (words text) 1)) (option_and_then hands_of (slice_get (words text) 2)) (end_of text)) (sym e))
+      sym (ap (λ (o : Option (List ℕ)). position_of_parts (option_and_then board_of o) (option_and_then side_of (slice_get (words text) 1)) (option_and_then hands_of (slice_get (words text) 2)) (end_of text)) (gives_first text r1 o1 g)
+      ∙ ap (λ (o : Option Cells). position_of_parts o (option_and_then side_of (slice_get (words text) 1)) (option_and_then hands_of (slice_get (words text) 2)) (end_of text)) (sym e))
 
   -- the words by number
   second : GivesWord text o1 r1 → GivesWord r1 o2 r2 → slice_get (words text) 1 ≡ option_copied o2
@@ -50,27 +50,27 @@ module _ (text r1 r2 r3 : List ℕ) (o1 o2 o3 : Option (Bor (List ℕ))) where
   pub position_at-two : (cells : Cells) → GivesWord text o1 r1 → GivesWord r1 o2 r2 → Some cells ≡ option_and_then board_of (option_copied o1) → (let none : Option Color = None in none) ≡ option_and_then side_of (option_copied o2) → Err BadSide ≡ position_at text
   unfolding position_at
   position_at-two cells g h e f =
-      sym (ap (λ (o : Option Cells). position_by o (option_and_then side_of (slice_get (words text) 1)) (option_and_then hands_of (slice_get (words text) 2)) (end_of text)) (ap (option_and_then board_of) (gives_first text r1 o1 g) ∙ sym e)
-      ∙ ap (λ (o : Option Color). position_by (Some cells) o (option_and_then hands_of (slice_get (words text) 2)) (end_of text)) (ap (option_and_then side_of) (second g h) ∙ sym f))
+      sym (ap (λ (o : Option Cells). position_of_parts o (option_and_then side_of (slice_get (words text) 1)) (option_and_then hands_of (slice_get (words text) 2)) (end_of text)) (ap (option_and_then board_of) (gives_first text r1 o1 g) ∙ sym e)
+      ∙ ap (λ (o : Option Color). position_of_parts (Some cells) o (option_and_then hands_of (slice_get (words text) 2)) (end_of text)) (ap (option_and_then side_of) (second g h) ∙ sym f))
 
   -- by all three words
   pub position_at-three : (cells : Cells) (side : Color) → Three text r1 r2 r3 o1 o2 o3 → Some cells ≡ option_and_then board_of (option_copied o1) → Some side ≡ option_and_then side_of (option_copied o2)
-      → position_at text ≡ position_by (Some cells) (Some side) (option_and_then hands_of (option_copied o3)) (end_of text)
+      → position_at text ≡ position_of_parts (Some cells) (Some side) (option_and_then hands_of (option_copied o3)) (end_of text)
   unfolding position_at
   position_at-three cells side t e f =
-      ap (λ (o : Option Cells). position_by o (option_and_then side_of (slice_get (words text) 1)) (option_and_then hands_of (slice_get (words text) 2)) (end_of text)) (ap (option_and_then board_of) (gives_first text r1 o1 t.one) ∙ sym e)
-      ∙ (ap (λ (o : Option Color). position_by (Some cells) o (option_and_then hands_of (slice_get (words text) 2)) (end_of text)) (ap (option_and_then side_of) (second t.one t.two) ∙ sym f)
-      ∙ ap (λ (o : Option (List ℕ)). position_by (Some cells) (Some side) (option_and_then hands_of o) (end_of text)) (third t.one t.two t.three))
+      ap (λ (o : Option Cells). position_of_parts o (option_and_then side_of (slice_get (words text) 1)) (option_and_then hands_of (slice_get (words text) 2)) (end_of text)) (ap (option_and_then board_of) (gives_first text r1 o1 t.one) ∙ sym e)
+      ∙ (ap (λ (o : Option Color). position_of_parts (Some cells) o (option_and_then hands_of (slice_get (words text) 2)) (end_of text)) (ap (option_and_then side_of) (second t.one t.two) ∙ sym f)
+      ∙ ap (λ (o : Option (List ℕ)). position_of_parts (Some cells) (Some side) (option_and_then hands_of o) (end_of text)) (third t.one t.two t.three))
 
 -- hands as the code keeps them
-pub by_hands : (cells : Cells) (side : Color) (end : ℕ) (o : Option HandCounts) (hands : HandCounts) → IfSome o (λ out. length out ≡ 14) → Some hands ≡ option_map capped o
-    → position_by (Some cells) (Some side) o end ≡ judged (fault_of (parts cells hands side)) (parts cells hands side) end
+pub by_hands : (cells : Cells) (side : Color) (end : ℕ) (o : Option Held) (hands : Held) → IfSome o (λ out. length out ≡ 14) → Some hands ≡ option_map capped o
+    → position_of_parts (Some cells) (Some side) o end ≡ judged (fault_of (parts cells hands side)) (parts cells hands side) end
 by_hands cells side end None hands len e = cc
 by_hands cells side end (Some exact) hands len e =
     let same : hands ≡ capped exact = cc in
-    sym (ap (λ (hs : HandCounts). judged (fault_of (parts cells hs side)) (parts cells hs side) end) same ∙ judged-capped cells exact side end len)
+    sym (ap (λ (hs : Held). judged (fault_of (parts cells hs side)) (parts cells hs side) end) same ∙ judged-capped cells exact side end len)
 
-pub no_hands_word : (cells : Cells) (side : Color) (end : ℕ) (o : Option HandCounts) → (let none : Option HandCounts = None in none) ≡ option_map capped o → Err BadHand ≡ position_by (Some cells) (Some side) o end
+pub no_hands_word : (cells : Cells) (side : Color) (end : ℕ) (o : Option Held) → (let none : Option Held = None in none) ≡ option_map capped o → Err BadHand ≡ position_of_parts (Some cells) (Some side) o end
 no_hands_word cells side end None e = refl
 no_hands_word cells side end (Some hands) e = cc
 
@@ -104,7 +104,7 @@ pub gives_after : {A : Type 0} (text rest : List ℕ) (o : Option (Bor (List ℕ
 gives_after text rest None f a g e = cc
 gives_after text rest (Some word) f a g e = g.1
 
-pub gives_after_hands : (text rest : List ℕ) (o : Option (Bor (List ℕ))) (hands : HandCounts) → GivesWord text o rest → Some hands ≡ option_map capped (option_and_then hands_of (option_copied o)) → rest ≡ after_word text
+pub gives_after_hands : (text rest : List ℕ) (o : Option (Bor (List ℕ))) (hands : Held) → GivesWord text o rest → Some hands ≡ option_map capped (option_and_then hands_of (option_copied o)) → rest ≡ after_word text
 gives_after_hands text rest None hands g e = cc
 gives_after_hands text rest (Some word) hands g e = g.1
 
@@ -117,7 +117,7 @@ judged_end : (fault : Option PositionFault) (p q : Shogi) (e end : ℕ) → judg
 judged_end None p q e end h = let same : (p, e) ≡ (q, end) = cc in ap (λ (x : Shogi × ℕ). x.1) same
 judged_end (Some fault) p q e end h = absurd (cc)
 
-parts_end : (cells : Option Cells) (side : Option Color) (hands : Option HandCounts) (e : ℕ) (q : Shogi) (end : ℕ) → position_by cells side hands e ≡ Ok (q, end) → e ≡ end
+parts_end : (cells : Option Cells) (side : Option Color) (hands : Option Held) (e : ℕ) (q : Shogi) (end : ℕ) → position_of_parts cells side hands e ≡ Ok (q, end) → e ≡ end
 parts_end None side hands e q end h = absurd (cc)
 parts_end (Some cells) None hands e q end h = absurd (cc)
 parts_end (Some cells) (Some side) None e q end h = absurd (cc)

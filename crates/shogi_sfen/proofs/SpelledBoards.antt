@@ -9,7 +9,7 @@ use Rattle.std.proofs.lemmas.List.Splits.{slice_split_none, slice_split_at, join
 use Rattle.std.proofs.lemmas.List.FromFn.{length-map-range_with_len, get_or-map-range_with_len}
 use Rattle.shogi_core.specs.declared.piece.Piece.{Piece}
 use Rattle.shogi_core.specs.Movement.{Cells, piece_at}
-use Rattle.shogi_sfen.specs.BoardTexts.{rank_of, both, ranks_of, is_slash, place_in_text, board_from, squares_of, board_of}
+use Rattle.shogi_sfen.specs.BoardTexts.{rank_of, both_joined, ranks_of, is_slash, place_in_text, board_from, squares_of, board_of}
 use Rattle.shogi_sfen.specs.Written.{rank_cells}
 use Rattle.shogi_sfen.specs.Spelling.{SpellsRank, SpellsBoard}
 use Rattle.shogi_sfen.proofs.WrittenBack.{board_from-ranks}
@@ -23,7 +23,7 @@ record AreBoth (o more : Option Cells) (squares : Cells) : Type 0 where
   two : more ≡ Some others
   all : first ++ others ≡ squares
 
-are_both : (o more : Option Cells) (squares : Cells) → both o more ≡ Some squares → AreBoth o more squares
+are_both : (o more : Option Cells) (squares : Cells) → both_joined o more ≡ Some squares → AreBoth o more squares
 are_both None more squares e = cc
 are_both (Some first) None squares e = cc
 are_both (Some first) (Some others) squares e = record { first = first; others = others; one = refl; two = refl; all = cc }
@@ -128,7 +128,7 @@ ranks_read cells (part ∷ parts) a each =
     let here : rank_of part ≡ Some (rank_cells cells a) = each 0 (omega arith) ∙ ap (λ (n : ℕ). Some (rank_cells cells n)) (omega arith) in
     let later : ranks_of parts ≡ Some (flat_map (rank_cells cells) (range_with_len (a + 1) (length parts))) =
     ranks_read cells parts (a + 1) (λ k below. each (suc k) (omega arith) ∙ ap (λ (n : ℕ). Some (rank_cells cells n)) (omega arith)) in
-    ap (λ (o : Option Cells). both o (ranks_of parts)) here ∙ ap (both (Some (rank_cells cells a))) later
+    ap (λ (o : Option Cells). both_joined o (ranks_of parts)) here ∙ ap (both_joined (Some (rank_cells cells a))) later
 
 -- a board that is spelled is read
 pub board_of-spelled : (text : List ℕ) (cells : Cells) → SpellsBoard text cells → board_of text ≡ Some cells

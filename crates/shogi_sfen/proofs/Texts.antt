@@ -1,14 +1,15 @@
 -- The reading of a move text, and the texts of moves.
-use Rattle.std.proofs.Common.{◌≡◌, ℕ, ◌+◌, ◌-◌, ◌*◌, ◌/◌, ◌%◌, ◌<◌, Bool, true, false, cond, refl, sym, ◌∙◌, ap, subst, arith, List, [], ◌∷◌, length, Option, Some, None, inl, inr, ◌⊎◌}
+use Rattle.std.proofs.Common.{◌≡◌, ℕ, ◌+◌, ◌-◌, ◌*◌, ◌/◌, ◌%◌, ◌<◌, Bool, true, false, cond, refl, sym, ◌∙◌, ap, subst, arith, List, [], ◌∷◌, length, Option, Some, None, inl, inr}
 use Rattle.std.specs.Prelude.{◌==◌, ◌&&◌, nat_lt, slice_index, codes}
 use Rattle.std.proofs.lemmas.Bool.{cond-true, cond-false, and_from, and_parts, lt-ltb, ltb-true, eqb-true, ne_eqb, cases_Bool}
 use Rattle.std.proofs.lemmas.Option.{cond_some}
 use Rattle.shogi_core.specs.declared.piece.Kind.{Kind}
-use Rattle.shogi_core.specs.declared.piece.Kind.TheVariants as kinds
 use Rattle.shogi_core.specs.declared.moves.Move.{Move}
 use Rattle.shogi_core.specs.declared.moves.Move.TheVariants.{Board, Drop}
-use Rattle.shogi_sfen.specs.MoveTexts.{letter_of, text_of}
-use Rattle.shogi_sfen.specs.Reading.{square_read, kind_read, board_read, drop_read, short_read, long_read, read}
+use Rattle.shogi_sfen.specs.Letters.{letter_of, kind_named}
+use Rattle.shogi_sfen.specs.MoveTexts.{text_of}
+use Rattle.shogi_sfen.specs.Reading.{square_read, board_read, drop_read, short_read, long_read, move_read}
+use Rattle.shogi_sfen.proofs.LetterLaws.{kind_named-passes, kind_named-letter}
 
 -- a square's text is read as that square
 square_back : (s : ℕ) → s < 81 → square_read (s / 9 + 49) (s % 9 + 97) ≡ Some s
@@ -16,10 +17,6 @@ square_back s h =
     cond-true (nat_lt 48 (s / 9 + 49) && nat_lt (s / 9 + 49) 58 && nat_lt 96 (s % 9 + 97) && nat_lt (s % 9 + 97) 106) _ _
     (and_from _ _ (and_from _ _ (and_from _ _ (lt-ltb 48 (s / 9 + 49) (omega arith)) (lt-ltb (s / 9 + 49) 58 (omega arith))) (lt-ltb 96 (s % 9 + 97) (omega arith))) (lt-ltb (s % 9 + 97) 106 (omega arith)))
     ∙ ap Some (omega arith)
-
-kind_back : (kind : Kind) → kind_read (letter_of kind) ≡ Some kind
-kind_back kinds.Pawn = refl
-kind_back _ = refl
 
 not_star : (s : ℕ) → (s % 9 + 97 == 42) ≡ false
 not_star s = ne_eqb (s % 9 + 97) 42 (λ e. omega arith)
@@ -31,15 +28,15 @@ drop_back : (a : Option Kind) (b : Option ℕ) (kind : Kind) (to : ℕ) → a �
 drop_back a b kind to e f = rw (e, f) refl
 
 -- the text of a move is read as that move
-pub read-board : (from to : ℕ) (promote : Bool) → from < 81 → to < 81 → read (text_of (Board from to promote)) ≡ Some (Board from to promote)
-unfolding read
-read-board from to false hf ht =
+pub move_read-board : (from to : ℕ) (promote : Bool) → from < 81 → to < 81 → move_read (text_of (Board from to promote)) ≡ Some (Board from to promote)
+unfolding move_read
+move_read-board from to false hf ht =
     cond-false (from % 9 + 97 == 42) _ _ (not_star from) ∙ board_back _ _ from to false (square_back from hf) (square_back to ht)
-read-board from to true hf ht = board_back _ _ from to true (square_back from hf) (square_back to ht)
+move_read-board from to true hf ht = board_back _ _ from to true (square_back from hf) (square_back to ht)
 
-pub read-drop : (kind : Kind) (to : ℕ) → to < 81 → read (text_of (Drop kind to)) ≡ Some (Drop kind to)
-unfolding read
-read-drop kind to h = drop_back _ _ kind to (kind_back kind) (square_back to h)
+pub move_read-drop : (kind : Kind) (to : ℕ) → to < 81 → move_read (text_of (Drop kind to)) ≡ Some (Drop kind to)
+unfolding move_read
+move_read-drop kind to h = drop_back _ _ kind to (kind_named-letter kind) (square_back to h)
 
 -- what is read as a square is its text
 record IsSquareText (file rank s : ℕ) : Type 0 where
@@ -59,40 +56,6 @@ square_from file rank s e =
     let d : rank < 106 = ltb-true rank 106 fourth.1 in
     let f : (file - 49) * 9 + (rank - 97) ≡ s = both.1 in
     record { on_board = omega arith; file_is = omega arith; rank_is = omega arith }
-
--- one test of a chain
-chained : (x n : ℕ) (k found : Kind) (rest : Option Kind) → cond (x == n) (Some k) rest ≡ Some found → ((x ≡ n) × (k ≡ found)) ⊎ (rest ≡ Some found)
-chained x n k found rest e = elim (cases_Bool (x == n)) [
-  | inl same ↦ let h : Some k ≡ Some found = sym (cond-true (x == n) (Some k) rest same) ∙ e in inl (eqb-true x n same, cc)
-  | inr other ↦ inr (sym (cond-false (x == n) (Some k) rest other) ∙ e)
-]
-
-letter_is : (x n : ℕ) (k found : Kind) → letter_of k ≡ n → (x ≡ n) × (k ≡ found) → x ≡ letter_of found
-letter_is x n k found e h = h.0 ∙ (sym e ∙ ap letter_of h.1)
-
-kind_from : (x : ℕ) (found : Kind) → kind_read x ≡ Some found → x ≡ letter_of found
-kind_from x found e = elim (chained x 80 kinds.Pawn found _ e) [
-  | inl h ↦ letter_is x 80 kinds.Pawn found refl h
-  | inr e ↦ elim (chained x 76 kinds.Lance found _ e) [
-    | inl h ↦ letter_is x 76 kinds.Lance found refl h
-    | inr e ↦ elim (chained x 78 kinds.Knight found _ e) [
-      | inl h ↦ letter_is x 78 kinds.Knight found refl h
-      | inr e ↦ elim (chained x 83 kinds.Silver found _ e) [
-        | inl h ↦ letter_is x 83 kinds.Silver found refl h
-        | inr e ↦ elim (chained x 71 kinds.Gold found _ e) [
-          | inl h ↦ letter_is x 71 kinds.Gold found refl h
-          | inr e ↦ elim (chained x 66 kinds.Bishop found _ e) [
-            | inl h ↦ letter_is x 66 kinds.Bishop found refl h
-            | inr e ↦ elim (chained x 82 kinds.Rook found _ e) [
-              | inl h ↦ letter_is x 82 kinds.Rook found refl h
-              | inr e ↦ cc
-            ]
-          ]
-        ]
-      ]
-    ]
-  ]
-]
 
 -- a move of squares on the board
 unfoldable pub IsOnBoard : Move → Type 0
@@ -117,10 +80,10 @@ board_parts a b c d promote tail m t (Some from) None ex ey e = cc
 board_parts a b c d promote tail m t None (Some to) ex ey e = cc
 board_parts a b c d promote tail m t None None ex ey e = cc
 
-drop_parts : (a b c : ℕ) (m : Move) → (x : Option Kind) (y : Option ℕ) → kind_read a ≡ x → square_read b c ≡ y → drop_read x y ≡ Some m → IsMoveText (a ∷ 42 ∷ b ∷ c ∷ []) m
+drop_parts : (a b c : ℕ) (m : Move) → (x : Option Kind) (y : Option ℕ) → kind_named a ≡ x → square_read b c ≡ y → drop_read x y ≡ Some m → IsMoveText (a ∷ 42 ∷ b ∷ c ∷ []) m
 unfolding IsOnBoard
 drop_parts a b c m (Some kind) (Some to) ex ey e =
-    let f : a ≡ letter_of kind = kind_from a kind ex in
+    let f : a ≡ letter_of kind = kind_named-passes a kind ex in
     let g : IsSquareText b c to = square_from b c to ey in
     let same : Drop kind to ≡ m = cc in
     let spelled : text_of (Drop kind to) ≡ a ∷ 42 ∷ b ∷ c ∷ [] = rw (f, g.file_is, g.rank_is) refl in
@@ -133,7 +96,7 @@ drop_parts a b c m None None ex ey e = cc
 short_from : (a b c d : ℕ) (m : Move) → short_read (a ∷ b ∷ c ∷ d ∷ []) ≡ Some m → IsMoveText (a ∷ b ∷ c ∷ d ∷ []) m
 short_from a b c d m e = elim (cases_Bool (b == 42)) [
   | inl star ↦
-      let h = drop_parts a c d m (kind_read a) (square_read c d) refl refl (sym (cond-true (b == 42) _ _ star) ∙ e) in
+      let h = drop_parts a c d m (kind_named a) (square_read c d) refl refl (sym (cond-true (b == 42) _ _ star) ∙ e) in
       subst (λ (x : ℕ). IsMoveText (a ∷ x ∷ c ∷ d ∷ []) m) (sym (eqb-true b 42 star)) h
   | inr other ↦ board_parts a b c d false [] m refl (square_read a b) (square_read c d) refl refl (sym (cond-false (b == 42) _ _ other) ∙ e)
 ]
@@ -165,9 +128,9 @@ five (a ∷ b ∷ c ∷ d ∷ f ∷ []) e = refl
 five (a ∷ b ∷ c ∷ d ∷ f ∷ g ∷ more) e = absurd (omega arith)
 
 -- what is read as a move is its text
-pub read-some : (text : List ℕ) (m : Move) → read text ≡ Some m → IsMoveText text m
-unfolding read
-read-some text m e = elim (cases_Bool (length text == 4)) [
+pub move_read-some : (text : List ℕ) (m : Move) → move_read text ≡ Some m → IsMoveText text m
+unfolding move_read
+move_read-some text m e = elim (cases_Bool (length text == 4)) [
   | inl is_four ↦
       let h : short_read text ≡ Some m = sym (cond-true (length text == 4) _ _ is_four) ∙ e in
       subst (λ (t : List ℕ). IsMoveText t m) (sym (four text (eqb-true (length text) 4 is_four))) (short_from (slice_index text 0) (slice_index text 1) (slice_index text 2) (slice_index text 3) m h)

@@ -13,14 +13,14 @@ use Rattle.shogi_core.specs.declared.piece.Kind.{Kind}
 use Rattle.shogi_core.specs.declared.piece.Kind.TheVariants as kinds
 use Rattle.shogi_core.specs.declared.validity.PositionFault.{PositionFault}
 use Rattle.shogi_core.specs.Movement.{Cells}
-use Rattle.shogi_core.specs.Position.{Shogi, HandCounts, held}
+use Rattle.shogi_core.specs.Position.{Shogi, Held, held}
 use Rattle.shogi_core.specs.Validity.{IsValid}
 use Rattle.shogi_sfen.specs.Words.{is_blank, is_inner, has_bytes, words}
-use Rattle.shogi_sfen.specs.MoveTexts.{letter_of}
+use Rattle.shogi_sfen.specs.Letters.{letter_of, as_side}
 use Rattle.shogi_sfen.specs.BoardTexts.{board_of}
 use Rattle.shogi_sfen.specs.HandTexts.{hands_of}
-use Rattle.shogi_sfen.specs.Sfen.{side_of, judged, position_by, position_at, end_of, EndsWord}
-use Rattle.shogi_sfen.specs.Written.{cells_text, rank_cells, rank_text, board_text, as_side, count_text, held_text, kinds_in_text, side_held_text, or_hyphen, hands_text, side_text, written}
+use Rattle.shogi_sfen.specs.Sfen.{side_of, judged, position_of_parts, position_at, end_of, EndsWord}
+use Rattle.shogi_sfen.specs.Written.{cells_text, rank_cells, rank_text, board_text, count_digits, held_text, kinds_in_text, side_held_text, or_hyphen, hands_text, side_text, position_text}
 use Rattle.shogi_sfen.proofs.WriteLaws.{few_held}
 use Rattle.shogi_sfen.proofs.WrittenBack.{is_plain, plain_digit, plain_cells, board_of-board_text, hands_of-hands_text}
 
@@ -43,7 +43,7 @@ inner_ranks cells (suc n) rank =
     (inner_both (cond (rank == 0) [] (codes "/")) (cells_text 0 (rank_cells cells rank)) (cond_both (rank == 0) [] (codes "/") (λ (t : List ℕ). list_all is_inner t ≡ true) (λ e. refl) (λ e. refl)) (inner_plain (cells_text 0 (rank_cells cells rank)) (plain_cells (rank_cells cells rank) 0)))
     (inner_ranks cells n (rank + 1))
 
-inner_count : (n : ℕ) → list_all is_inner (count_text n) ≡ true
+inner_count : (n : ℕ) → list_all is_inner (count_digits n) ≡ true
 inner_count n =
     cond_both (nat_lt n 2) [] _ (λ (t : List ℕ). list_all is_inner t ≡ true) (λ e. refl)
     (λ e. cond_both (nat_lt n 10) ((n + 48) ∷ []) ((n / 10 + 48) ∷ (n % 10 + 48) ∷ []) (λ (t : List ℕ). list_all is_inner t ≡ true)
@@ -58,8 +58,8 @@ inner_letter White kind = refl
 
 inner_held : (color : Color) (kind : Kind) (n : ℕ) → list_all is_inner (held_text color kind n) ≡ true
 inner_held color kind n =
-    cond_both (n == 0) [] (count_text n ++ as_side color (letter_of kind) ∷ []) (λ (t : List ℕ). list_all is_inner t ≡ true) (λ e. refl)
-    (λ e. inner_both (count_text n) (as_side color (letter_of kind) ∷ []) (inner_count n) (inner_letter color kind))
+    cond_both (n == 0) [] (count_digits n ++ as_side color (letter_of kind) ∷ []) (λ (t : List ℕ). list_all is_inner t ≡ true) (λ e. refl)
+    (λ e. inner_both (count_digits n) (as_side color (letter_of kind) ∷ []) (inner_count n) (inner_letter color kind))
 
 inner_kinds : (color : Color) (count : Kind → ℕ) (ks : List Kind) → list_all is_inner (flat_map (λ kind. held_text color kind (count kind)) ks) ≡ true
 inner_kinds color count [] = refl
@@ -73,11 +73,11 @@ some_hyphen : (text : List ℕ) → has_bytes (or_hyphen text) ≡ true
 some_hyphen [] = refl
 some_hyphen (b ∷ bs) = refl
 
-inner_hands : (hands : HandCounts) → list_all is_inner (hands_text hands) ≡ true
+inner_hands : (hands : Held) → list_all is_inner (hands_text hands) ≡ true
 unfolding hands_text
 inner_hands hands = inner_hyphen (side_held_text hands Black ++ side_held_text hands White) (inner_both (side_held_text hands Black) (side_held_text hands White) (inner_kinds Black (held hands Black) kinds_in_text) (inner_kinds White (held hands White) kinds_in_text))
 
-some_hands : (hands : HandCounts) → has_bytes (hands_text hands) ≡ true
+some_hands : (hands : Held) → has_bytes (hands_text hands) ≡ true
 unfolding hands_text
 some_hands hands = some_hyphen (side_held_text hands Black ++ side_held_text hands White)
 
@@ -131,15 +131,15 @@ record Spoken (text board side hands : List ℕ) : Type 0 where
   two : slice_get (words text) 1 ≡ Some side
   three : slice_get (words text) 2 ≡ Some hands
 
-spoken : (p : Shogi) → IsValid p → (tail : List ℕ) → EndsWord tail → Spoken (written p ++ tail) (board_text p.cells) (side_text p.side) (hands_text p.hands)
-unfolding written
+spoken : (p : Shogi) → IsValid p → (tail : List ℕ) → EndsWord tail → Spoken (position_text p ++ tail) (board_text p.cells) (side_text p.side) (hands_text p.hands)
+unfolding position_text
 spoken p valid tail ends =
     let board : List ℕ = board_text p.cells in
     let side : List ℕ = side_text p.side in
     let hands : List ℕ = hands_text p.hands in
-    let regrouped : written p ++ tail ≡ board ++ (32 ∷ (side ++ (32 ∷ (hands ++ tail)))) =
+    let regrouped : position_text p ++ tail ≡ board ++ (32 ∷ (side ++ (32 ∷ (hands ++ tail)))) =
     append_assoc board (32 ∷ (side ++ (32 ∷ hands))) tail ∙ ap (λ (t : List ℕ). board ++ (32 ∷ t)) (append_assoc side (32 ∷ hands) tail) in
-    let all : words (written p ++ tail) ≡ board ∷ (side ∷ words (hands ++ tail)) =
+    let all : words (position_text p ++ tail) ≡ board ∷ (side ∷ words (hands ++ tail)) =
     ap words regrouped
     ∙ (words_at board (side ++ (32 ∷ (hands ++ tail))) (inner_board p.cells) (some_board board p.cells (board_of-board_text p.cells valid.cells_fit))
     ∙ ap (λ (ws : List (List ℕ)). board ∷ ws) (words_at side (hands ++ tail) (inner_side p.side) (some_side p.side))) in
@@ -150,13 +150,13 @@ spoken p valid tail ends =
     }
 
 -- what was written is read again, at the end of a text or before a blank
-pub written_back : (p : Shogi) → IsValid p → (tail : List ℕ) → EndsWord tail → position_at (written p ++ tail) ≡ Ok (p, end_of (written p ++ tail))
+pub written_back : (p : Shogi) → IsValid p → (tail : List ℕ) → EndsWord tail → position_at (position_text p ++ tail) ≡ Ok (p, end_of (position_text p ++ tail))
 unfolding position_at
 written_back p valid tail ends =
-    let text : List ℕ = written p ++ tail in
+    let text : List ℕ = position_text p ++ tail in
     let said : Spoken text (board_text p.cells) (side_text p.side) (hands_text p.hands) = spoken p valid tail ends in
     let small : (color : Color) (kind : Kind) → held p.hands color kind < 100 = few_held p valid in
-    ap (λ (o : Option Cells). position_by o (option_and_then side_of (slice_get (words text) 1)) (option_and_then hands_of (slice_get (words text) 2)) (end_of text)) (ap (option_and_then board_of) said.one ∙ board_of-board_text p.cells valid.cells_fit)
-    ∙ (ap (λ (o : Option Color). position_by (Some p.cells) o (option_and_then hands_of (slice_get (words text) 2)) (end_of text)) (ap (option_and_then side_of) said.two ∙ side_back p.side)
-    ∙ (ap (λ (o : Option HandCounts). position_by (Some p.cells) (Some p.side) o (end_of text)) (ap (option_and_then hands_of) said.three ∙ hands_of-hands_text p.hands valid.hands_fit small)
+    ap (λ (o : Option Cells). position_of_parts o (option_and_then side_of (slice_get (words text) 1)) (option_and_then hands_of (slice_get (words text) 2)) (end_of text)) (ap (option_and_then board_of) said.one ∙ board_of-board_text p.cells valid.cells_fit)
+    ∙ (ap (λ (o : Option Color). position_of_parts (Some p.cells) o (option_and_then hands_of (slice_get (words text) 2)) (end_of text)) (ap (option_and_then side_of) said.two ∙ side_back p.side)
+    ∙ (ap (λ (o : Option Held). position_of_parts (Some p.cells) (Some p.side) o (end_of text)) (ap (option_and_then hands_of) said.three ∙ hands_of-hands_text p.hands valid.hands_fit small)
     ∙ ap (λ (o : Option PositionFault). judged o p (end_of text)) valid.no_fault))

@@ -18,21 +18,22 @@ use Rattle.shogi_core.specs.declared.piece.Kind.{Kind}
 use Rattle.shogi_core.specs.declared.piece.Role.{Role}
 use Rattle.shogi_core.specs.declared.piece.Role.TheVariants.{Pawn}
 use Rattle.shogi_core.specs.Movement.{Cells, piece_at}
-use Rattle.shogi_core.specs.Position.{HandCounts, held}
+use Rattle.shogi_core.specs.Position.{Held, held}
 use Rattle.shogi_sfen.specs.Words.{is_blank}
-use Rattle.shogi_sfen.specs.BoardTexts.{is_slash, ranks_of, both, joined, squares_of, board_from, board_of}
+use Rattle.shogi_sfen.specs.BoardTexts.{is_slash, ranks_of, both_joined, joined, squares_of, board_from, board_of}
 use Rattle.shogi_sfen.specs.HandTexts.{hands_from, hands_of, no_hands}
-use Rattle.shogi_sfen.specs.Written.{piece_text, run_text, cells_text, rank_cells, rank_text, board_text, held_text, kinds_in_text, side_held_text, or_hyphen, hands_text}
+use Rattle.shogi_sfen.specs.Written.{run_text, cells_text, rank_cells, rank_text, board_text, held_text, kinds_in_text, side_held_text, or_hyphen, hands_text}
+use Rattle.shogi_sfen.specs.Letters.{piece_text, piece_named}
 use Rattle.shogi_sfen.proofs.RanksBack.{rank_of-cells_text}
-use Rattle.shogi_sfen.proofs.RankLaws.{arranged}
+use Rattle.shogi_sfen.proofs.BoardLaws.{arranged}
 use Rattle.shogi_sfen.proofs.HandsBack.{added, held_back}
 
 -- all the counts of a side
-all_added : Color → (Kind → ℕ) → List Kind → HandCounts → HandCounts
+all_added : Color → (Kind → ℕ) → List Kind → Held → Held
 all_added color count [] hands = hands
 all_added color count (kind ∷ ks) hands = all_added color count ks (added hands color kind (count kind))
 
-kinds_back : (color : Color) (count : Kind → ℕ) → ((kind : Kind) → count kind < 100) → (ks : List Kind) (hands : HandCounts) (rest : List ℕ)
+kinds_back : (color : Color) (count : Kind → ℕ) → ((kind : Kind) → count kind < 100) → (ks : List Kind) (hands : Held) (rest : List ℕ)
     → hands_from hands None (flat_map (λ kind. held_text color kind (count kind)) ks ++ rest) ≡ hands_from (all_added color count ks hands) None rest
 unfolding all_added
 kinds_back color count small [] hands rest = refl
@@ -42,7 +43,7 @@ kinds_back color count small (kind ∷ ks) hands rest =
     ∙ (held_back color kind (count kind) hands (others ++ rest) (small kind) ∙ kinds_back color count small ks (added hands color kind (count kind)) rest)
 
 -- the counts of both sides, put in their places
-all_back : (hands : HandCounts) → length hands ≡ 14 → all_added White (held hands White) kinds_in_text (all_added Black (held hands Black) kinds_in_text no_hands) ≡ hands
+all_back : (hands : Held) → length hands ≡ 14 → all_added White (held hands White) kinds_in_text (all_added Black (held hands Black) kinds_in_text no_hands) ≡ hands
 unfolding all_added
 all_back [] e = absurd (omega arith)
 all_back (x0 ∷ []) e = absurd (omega arith)
@@ -61,8 +62,8 @@ all_back (x0 ∷ x1 ∷ x2 ∷ x3 ∷ x4 ∷ x5 ∷ x6 ∷ x7 ∷ x8 ∷ x9 ∷ 
 all_back (x0 ∷ x1 ∷ x2 ∷ x3 ∷ x4 ∷ x5 ∷ x6 ∷ x7 ∷ x8 ∷ x9 ∷ x10 ∷ x11 ∷ x12 ∷ x13 ∷ []) e = simp zero-add
 all_back (x0 ∷ x1 ∷ x2 ∷ x3 ∷ x4 ∷ x5 ∷ x6 ∷ x7 ∷ x8 ∷ x9 ∷ x10 ∷ x11 ∷ x12 ∷ x13 ∷ y ∷ more) e = absurd (omega arith)
 
-pub finished : (text : List ℕ) (hands : HandCounts) → hands_from no_hands None text ≡ Some hands → hands_of (or_hyphen text) ≡ Some hands
-unfolding hands_of
+pub finished : (text : List ℕ) (hands : Held) → hands_from no_hands None text ≡ Some hands → hands_of (or_hyphen text) ≡ Some hands
+unfolding hands_of piece_named
 finished [] hands e = e
 finished (b ∷ bs) hands e = elim (cases_Bool (bytes_eq (b ∷ bs) (codes "-"))) [
   | inl hyphen ↦
@@ -71,7 +72,7 @@ finished (b ∷ bs) hands e = elim (cases_Bool (bytes_eq (b ∷ bs) (codes "-"))
   | inr other ↦ cond-false (bytes_eq (b ∷ bs) (codes "-")) _ _ other ∙ e
 ]
 
-pub hands_of-hands_text : (hands : HandCounts) → length hands ≡ 14 → ((color : Color) (kind : Kind) → held hands color kind < 100) → hands_of (hands_text hands) ≡ Some hands
+pub hands_of-hands_text : (hands : Held) → length hands ≡ 14 → ((color : Color) (kind : Kind) → held hands color kind < 100) → hands_of (hands_text hands) ≡ Some hands
 unfolding hands_text
 hands_of-hands_text hands len small =
     let black : List ℕ = side_held_text hands Black in
@@ -136,7 +137,7 @@ module _ (cells : Cells) where
   ranks_back : (n rank : ℕ) → ranks_of (map part (range_with_len rank n)) ≡ Some (flat_map (rank_cells cells) (range_with_len rank n))
   ranks_back zero rank = refl
   ranks_back (suc n) rank =
-      ap (λ (o : Option Cells). both o (ranks_of (map part (range_with_len (rank + 1) n)))) (rank_of-cells_text (rank_cells cells rank) (length-map-range_with_len (λ i. piece_at cells ((8 - i) * 9 + rank)) 0 9))
+      ap (λ (o : Option Cells). both_joined o (ranks_of (map part (range_with_len (rank + 1) n)))) (rank_of-cells_text (rank_cells cells rank) (length-map-range_with_len (λ i. piece_at cells ((8 - i) * 9 + rank)) 0 9))
       ∙ ap (joined (rank_cells cells rank)) (ranks_back n (rank + 1))
 
   nine_each : (n rank : ℕ) → length (flat_map (rank_cells cells) (range_with_len rank n)) ≡ 9 * n

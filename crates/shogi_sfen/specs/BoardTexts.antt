@@ -1,97 +1,65 @@
 -- A board as text (SFEN, board): nine ranks from a to i with a slash between, each from file 9 to file 1.
-use Rattle.std.specs.Prelude.{ℕ, ◌+◌, ◌-◌, ◌*◌, ◌/◌, ◌%◌, ◌==◌, ◌&&◌, Bool, true, false, List, [], ◌∷◌, ◌++◌, Option, Some, None, cond, nat_lt, length, map, replicate}
-use Rattle.std.specs.List.{slice_split, range_with_len}
+use Rattle.std.specs.Prelude.{ℕ, ◌+◌, ◌-◌, ◌*◌, ◌/◌, ◌%◌, ◌==◌, ◌&&◌, Bool, true, false, not, List, [], ◌∷◌, ◌++◌, Option, Some, None, cond, nat_lt, length, map}
+use Rattle.std.specs.List.{flat_map, slice_split, range_with_len}
 use Rattle.std.specs.Option.{option_map}
-use Rattle.shogi_core.specs.declared.piece.Color.{Color}
-use Rattle.shogi_core.specs.declared.piece.Color.TheVariants.{Black, White}
-use Rattle.shogi_core.specs.declared.piece.Role.{Role}
-use Rattle.shogi_core.specs.declared.piece.Role.TheVariants.{King, Pawn, Lance, Knight, Silver, Gold, Bishop, Rook}
-use Rattle.shogi_core.specs.declared.piece.Piece.{Piece}
 use Rattle.shogi_core.specs.Movement.{Cells, piece_at}
-use Rattle.shogi_core.specs.Pieces.{promoted}
-use Rattle.shogi_sfen.specs.declared.board_text.Item.{Item}
-use Rattle.shogi_sfen.specs.declared.board_text.Item.TheVariants.{Plus, Run, Square, Wrong}
+use Rattle.shogi_sfen.specs.declared.byte.TheConstants.{ZERO, PLUS, SLASH}
+use Rattle.shogi_sfen.specs.declared.board_text.RankItem.{RankItem}
+use Rattle.shogi_sfen.specs.declared.board_text.RankItem.TheVariants.{Empty, Occupied}
+use Rattle.shogi_sfen.specs.declared.board_text.TheConstants.{RANK_SQUARES, BOARD_SQUARES}
+use Rattle.shogi_sfen.specs.Letters.{piece_named}
+use Rattle.shogi_sfen.specs.Items.{item_squares}
 
--- the role of an upper-case letter: P L N S G B R K
-abbrev pub role_named : ℕ → Option Role
-role_named letter =
-    cond (letter == 80) (Some Pawn) (cond (letter == 76) (Some Lance) (cond (letter == 78) (Some Knight) (cond (letter == 83) (Some Silver)
-    (cond (letter == 71) (Some Gold) (cond (letter == 66) (Some Bishop) (cond (letter == 82) (Some Rook) (cond (letter == 75) (Some King) None)))))))
+-- what a byte says, where a plus stands right before it or not: a number of empty squares, or a piece
+abbrev pub item_named : Bool → ℕ → Option RankItem
+item_named plus byte =
+    cond (not plus && (nat_lt ZERO byte && nat_lt byte (ZERO + 10))) (Some (Empty (byte - ZERO))) (option_map (λ piece. Occupied piece) (piece_named plus byte))
 
--- a piece of the side
-abbrev pub piece_of : Color → Option Role → Option Piece
-piece_of color None = None
-piece_of color (Some role) = Some (record { color = color; role = role })
+-- an item, and then others
+abbrev pub onto_items : Option RankItem → Option (List RankItem) → Option (List RankItem)
+onto_items (Some item) (Some items) = Some (item ∷ items)
+onto_items _ _ = None
 
--- an upper-case letter is a piece of Black, a lower-case one a piece of White
-abbrev pub piece_named : ℕ → Option Piece
-piece_named letter = cond (nat_lt letter 97) (piece_of Black (role_named letter)) (piece_of White (role_named (letter - 32)))
+-- a plus that begins an item
+abbrev pub is_plus : Bool → ℕ → Bool
+is_plus plus byte = not plus && byte == PLUS
 
--- a king and a gold do not promote
-abbrev pub promoted_piece : Color → Role → Option Piece
-promoted_piece color King = None
-promoted_piece color Gold = None
-promoted_piece color role = Some (record { color = color; role = promoted role })
+-- the items of bytes, where a plus stands right before them or not
+abbrev pub items_from : Bool → List ℕ → Option (List RankItem)
+items_from plus [] = cond plus None (Some [])
+items_from plus (byte ∷ bytes) = cond (is_plus plus byte) (items_from true bytes) (onto_items (item_named plus byte) (items_from false bytes))
 
--- the promoted piece of a letter after a plus
-abbrev pub promoted_from : Option Piece → Option Piece
-promoted_from None = None
-promoted_from (Some piece) = promoted_piece piece.color piece.role
+-- the squares of items
+abbrev pub squares_in : Option (List RankItem) → Option Cells
+squares_in items = option_map (flat_map item_squares) items
 
--- a piece on a square, if the byte names one
-abbrev pub item_from : Option Piece → Item
-item_from None = Wrong
-item_from (Some piece) = Square piece
+-- exactly nine squares
+abbrev pub only_nine : Option Cells → Option Cells
+only_nine None = None
+only_nine (Some cells) = cond (length cells == RANK_SQUARES) (Some cells) None
 
--- what a byte says, where a plus stands right before it or not: a plus, a number of empty squares, a piece
-abbrev pub item_of : Bool → ℕ → Item
-item_of true byte = item_from (promoted_from (piece_named byte))
-item_of false byte = cond (byte == 43) Plus (cond (nat_lt 48 byte && nat_lt byte 58) (Run (byte - 48)) (item_from (piece_named byte)))
-
--- the item is a plus
-abbrev pub is_plus : Item → Bool
-is_plus Plus = true
-is_plus _ = false
+-- the nine squares of a rank, from file 9 to file 1
+unfoldable pub rank_of : List ℕ → Option Cells
+rank_of part = only_nine (squares_in (items_from false part))
 
 -- the squares so far, and then the others
 abbrev pub joined : Cells → Option Cells → Option Cells
 joined cells None = None
 joined cells (Some more) = Some (cells ++ more)
 
--- the squares that an item says, and then the others
-abbrev pub onto_item : Item → Option Cells → Option Cells
-onto_item Plus more = more
-onto_item (Run n) more = joined (replicate n None) more
-onto_item (Square piece) more = joined (Some piece ∷ []) more
-onto_item Wrong more = None
-
--- the squares that the bytes of a rank say
-abbrev pub rank_from : Bool → List ℕ → Option Cells
-rank_from plus [] = cond plus None (Some [])
-rank_from plus (byte ∷ bytes) = onto_item (item_of plus byte) (rank_from (is_plus (item_of plus byte)) bytes)
-
--- exactly nine squares
-abbrev pub only_nine : Option Cells → Option Cells
-only_nine None = None
-only_nine (Some cells) = cond (length cells == 9) (Some cells) None
-
--- the nine squares of a rank, from file 9 to file 1
-unfoldable pub rank_of : List ℕ → Option Cells
-rank_of part = only_nine (rank_from false part)
-
 -- some squares and then others, where both are said
-abbrev pub both : Option Cells → Option Cells → Option Cells
-both None more = None
-both (Some cells) more = joined cells more
+abbrev pub both_joined : Option Cells → Option Cells → Option Cells
+both_joined None more = None
+both_joined (Some cells) more = joined cells more
 
 -- the squares of ranks, one after another
 abbrev pub ranks_of : List (List ℕ) → Option Cells
 ranks_of [] = Some []
-ranks_of (part ∷ parts) = both (rank_of part) (ranks_of parts)
+ranks_of (part ∷ parts) = both_joined (rank_of part) (ranks_of parts)
 
 -- a slash
 abbrev pub is_slash : ℕ → Bool
-is_slash byte = byte == 47
+is_slash byte = byte == SLASH
 
 -- where a square stands in a text: rank by rank, and in each from file 9 on
 abbrev pub place_in_text : ℕ → ℕ
@@ -99,7 +67,7 @@ place_in_text square = square % 9 * 9 + (8 - square / 9)
 
 -- the board of squares in the order of a text
 abbrev pub board_from : Cells → Cells
-board_from squares = map (λ square. piece_at squares (place_in_text square)) (range_with_len 0 81)
+board_from squares = map (λ square. piece_at squares (place_in_text square)) (range_with_len 0 BOARD_SQUARES)
 
 -- the squares of nine ranks
 abbrev pub squares_of : List (List ℕ) → Option Cells

@@ -1,6 +1,7 @@
 -- Hands as text (SFEN, pieces in hand): a hyphen, or counts and letters in any order, which add up.
-use Rattle.std.specs.Prelude.{ℕ, ◌+◌, ◌-◌, ◌*◌, ◌==◌, ◌&&◌, List, [], ◌∷◌, Option, Some, None, cond, is_none, codes, replicate, slice_set, unwrap_or, min, map}
+use Rattle.std.specs.Prelude.{ℕ, ◌+◌, ◌-◌, ◌*◌, ◌==◌, ◌&&◌, false, List, [], ◌∷◌, Option, Some, None, cond, is_none, codes, replicate, slice_set, unwrap_or, min, map}
 use Rattle.std.specs.Option.{option_and_then}
+use Rattle.shogi_sfen.specs.declared.byte.TheConstants.{ZERO}
 use Rattle.shogi_sfen.specs.Words.{has_bytes}
 use Rattle.std.specs.Char.{is_ascii_digit}
 use Rattle.std.specs.Str.{bytes_eq}
@@ -8,62 +9,63 @@ use Rattle.shogi_core.specs.declared.piece.Color.{Color}
 use Rattle.shogi_core.specs.declared.piece.Kind.{Kind}
 use Rattle.shogi_core.specs.declared.piece.Piece.{Piece}
 use Rattle.shogi_core.specs.Pieces.{kind_of}
-use Rattle.shogi_core.specs.Position.{HandCounts, held, place_of}
-use Rattle.shogi_sfen.specs.BoardTexts.{piece_named}
+use Rattle.shogi_core.specs.Position.{Held, held, place_of}
+use Rattle.shogi_sfen.specs.declared.hand_text.TheConstants.{MOST_COUNTED}
+use Rattle.shogi_sfen.specs.Letters.{piece_named}
 
 -- so many more of a kind held by the side
-abbrev pub with_kind : HandCounts → ℕ → Color → Option Kind → Option HandCounts
+abbrev pub with_kind : Held → ℕ → Color → Option Kind → Option Held
 with_kind hands n color None = None
 with_kind hands n color (Some kind) = Some (slice_set hands (place_of color kind) (held hands color kind + n))
 
 -- so many more of a piece, if it can be held
-abbrev pub with_piece : HandCounts → ℕ → Option Piece → Option HandCounts
+abbrev pub with_piece : Held → ℕ → Option Piece → Option Held
 with_piece hands n None = None
 with_piece hands n (Some piece) = with_kind hands n piece.color (kind_of piece.role)
 
 -- one more digit of a count, of which the first is not 0
 abbrev pub with_digit : Option ℕ → ℕ → Option ℕ
-with_digit count byte = cond (is_none count && byte == 48) None (Some (unwrap_or count 0 * 10 + (byte - 48)))
+with_digit count byte = cond (is_none count && byte == ZERO) None (Some (unwrap_or count 0 * 10 + (byte - ZERO)))
 
 -- the hands that the bytes say on top of those so far, where a count stands right before or none does
-abbrev pub hands_from : HandCounts → Option ℕ → List ℕ → Option HandCounts
+abbrev pub hands_from : Held → Option ℕ → List ℕ → Option Held
 hands_from hands None [] = Some hands
 hands_from hands (Some n) [] = None
 hands_from hands count (byte ∷ bytes) =
     cond (is_ascii_digit byte)
     (option_and_then (λ n. hands_from hands (Some n) bytes) (with_digit count byte))
-    (option_and_then (λ more. hands_from more None bytes) (with_piece hands (unwrap_or count 1) (piece_named byte)))
+    (option_and_then (λ more. hands_from more None bytes) (with_piece hands (unwrap_or count 1) (piece_named false byte)))
 
 -- nothing held by either side
-abbrev pub no_hands : HandCounts
+abbrev pub no_hands : Held
 no_hands = replicate 14 0
 
 -- the hands of a word, if it is some hands' text; counts may be of any size
-unfoldable pub hands_of : List ℕ → Option HandCounts
+unfoldable pub hands_of : List ℕ → Option Held
 hands_of word =
     cond (bytes_eq word (codes "-")) (Some no_hands)
     (cond (has_bytes word) (hands_from no_hands None word) None)
 
--- the same for counts that stop at 255, as the code keeps them
-abbrev pub capped_kind : HandCounts → ℕ → Color → Option Kind → Option HandCounts
+-- the same for counts that stop at the most that is counted, as the code keeps them
+abbrev pub capped_kind : Held → ℕ → Color → Option Kind → Option Held
 capped_kind hands n color None = None
-capped_kind hands n color (Some kind) = Some (slice_set hands (place_of color kind) (min 255 (held hands color kind + n)))
+capped_kind hands n color (Some kind) = Some (slice_set hands (place_of color kind) (min MOST_COUNTED (held hands color kind + n)))
 
-abbrev pub capped_piece : HandCounts → ℕ → Option Piece → Option HandCounts
+abbrev pub capped_piece : Held → ℕ → Option Piece → Option Held
 capped_piece hands n None = None
 capped_piece hands n (Some piece) = capped_kind hands n piece.color (kind_of piece.role)
 
 abbrev pub capped_digit : Option ℕ → ℕ → Option ℕ
-capped_digit count byte = cond (is_none count && byte == 48) None (Some (min 255 (unwrap_or count 0 * 10 + (byte - 48))))
+capped_digit count byte = cond (is_none count && byte == ZERO) None (Some (min MOST_COUNTED (unwrap_or count 0 * 10 + (byte - ZERO))))
 
-abbrev pub capped_from : HandCounts → Option ℕ → List ℕ → Option HandCounts
+abbrev pub capped_from : Held → Option ℕ → List ℕ → Option Held
 capped_from hands None [] = Some hands
 capped_from hands (Some n) [] = None
 capped_from hands count (byte ∷ bytes) =
     cond (is_ascii_digit byte)
     (option_and_then (λ n. capped_from hands (Some n) bytes) (capped_digit count byte))
-    (option_and_then (λ more. capped_from more None bytes) (capped_piece hands (unwrap_or count 1) (piece_named byte)))
+    (option_and_then (λ more. capped_from more None bytes) (capped_piece hands (unwrap_or count 1) (piece_named false byte)))
 
--- each count, or 255 where it is greater
-abbrev pub capped : HandCounts → HandCounts
-capped hands = map (min 255) hands
+-- each count, or the most that is counted where it is greater
+abbrev pub capped : Held → Held
+capped hands = map (min MOST_COUNTED) hands

@@ -1,7 +1,9 @@
 pub mod Words
 pub mod Numbers
+pub mod Letters
 pub mod MoveTexts
 pub mod Reading
+pub mod Items
 pub mod BoardTexts
 pub mod Ranks
 pub mod HandTexts

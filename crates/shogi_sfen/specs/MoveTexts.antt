@@ -1,25 +1,21 @@
 -- Moves as text (USI, moves: a board move by two squares and a plus for a promotion, a drop by a letter, a star and a square).
-use Rattle.std.specs.Prelude.{ℕ, ◌+◌, ◌/◌, ◌%◌, Bool, false, List, [], ◌∷◌, ◌++◌, Option, Some, None, cond, codes, slice_index}
+use Rattle.std.specs.Prelude.{ℕ, ◌+◌, ◌/◌, ◌%◌, Bool, false, List, [], ◌∷◌, ◌++◌, Option, Some, None, cond, codes}
 use Rattle.std.specs.List.{find}
 use Rattle.std.specs.Option.{option_and_then}
 use Rattle.std.specs.Str.{bytes_eq}
-use Rattle.shogi_core.specs.declared.piece.Kind.{Kind}
 use Rattle.shogi_core.specs.declared.moves.Move.{Move}
 use Rattle.shogi_core.specs.declared.moves.Move.TheVariants.{Board, Drop}
-use Rattle.shogi_core.specs.Pieces.{kind_number}
 use Rattle.shogi_core.specs.Codes.{move_of, all_codes}
+use Rattle.shogi_sfen.specs.declared.byte.TheConstants.{FIRST_FILE, FIRST_RANK, PLUS}
+use Rattle.shogi_sfen.specs.Letters.{letter_of}
 
 -- the file as a digit from 1 to 9, and the rank as a letter from a to i
 abbrev pub square_text : ℕ → List ℕ
-square_text square = (square / 9 + 49) ∷ (square % 9 + 97) ∷ []
-
--- the letter of a kind, for both sides
-abbrev pub letter_of : Kind → ℕ
-letter_of kind = slice_index (codes "PLNSGBR") (kind_number kind)
+square_text square = (square / 9 + FIRST_FILE) ∷ (square % 9 + FIRST_RANK) ∷ []
 
 -- the one text of a move
 abbrev pub text_of : Move → List ℕ
-text_of (Board from to promote) = square_text from ++ square_text to ++ cond promote (codes "+") []
+text_of (Board from to promote) = square_text from ++ square_text to ++ cond promote (PLUS ∷ []) []
 text_of (Drop kind to) = letter_of kind ∷ codes "*" ++ square_text to
 
 -- there is a move, and this is its text

@@ -10,5 +10,5 @@ is_number [] = false
 is_number (byte ∷ bytes) = list_all is_ascii_digit (byte ∷ bytes)
 
 -- the number that the digits write
-abbrev pub number_of : List ℕ → ℕ
-number_of word = digits_value 10 word
+abbrev pub number_written : List ℕ → ℕ
+number_written word = digits_value 10 word

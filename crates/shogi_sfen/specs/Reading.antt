@@ -1,20 +1,14 @@
 -- How a move text is read, byte by byte: the same as the move among all whose text it is.
 use Rattle.std.specs.Prelude.{ℕ, ◌+◌, ◌-◌, ◌*◌, ◌==◌, ◌&&◌, Bool, true, false, List, Option, Some, None, cond, nat_lt, length, slice_index}
 use Rattle.shogi_core.specs.declared.piece.Kind.{Kind}
-use Rattle.shogi_core.specs.declared.piece.Kind.TheVariants as kinds
 use Rattle.shogi_core.specs.declared.moves.Move.{Move}
 use Rattle.shogi_core.specs.declared.moves.Move.TheVariants.{Board, Drop}
+use Rattle.shogi_sfen.specs.Letters.{kind_named}
 
 -- the square of a digit and a letter
 abbrev pub square_read : ℕ → ℕ → Option ℕ
 square_read file rank =
     cond (nat_lt 48 file && nat_lt file 58 && nat_lt 96 rank && nat_lt rank 106) (Some ((file - 49) * 9 + (rank - 97))) None
-
--- the kind of a letter: P L N S G B R
-abbrev pub kind_read : ℕ → Option Kind
-kind_read letter =
-    cond (letter == 80) (Some kinds.Pawn) (cond (letter == 76) (Some kinds.Lance) (cond (letter == 78) (Some kinds.Knight) (cond (letter == 83) (Some kinds.Silver)
-    (cond (letter == 71) (Some kinds.Gold) (cond (letter == 66) (Some kinds.Bishop) (cond (letter == 82) (Some kinds.Rook) None))))))
 
 -- a move from a square to a square
 abbrev pub board_read : Option ℕ → Option ℕ → Bool → Option Move
@@ -29,7 +23,7 @@ drop_read _ _ = None
 -- four bytes: a drop where the second is a star, else a board move
 abbrev pub short_read : List ℕ → Option Move
 short_read text =
-    cond (slice_index text 1 == 42) (drop_read (kind_read (slice_index text 0)) (square_read (slice_index text 2) (slice_index text 3)))
+    cond (slice_index text 1 == 42) (drop_read (kind_named (slice_index text 0)) (square_read (slice_index text 2) (slice_index text 3)))
     (board_read (square_read (slice_index text 0) (slice_index text 1)) (square_read (slice_index text 2) (slice_index text 3)) false)
 
 -- five bytes: a promotion, where the last is a plus
@@ -38,5 +32,5 @@ long_read text =
     cond (slice_index text 4 == 43) (board_read (square_read (slice_index text 0) (slice_index text 1)) (square_read (slice_index text 2) (slice_index text 3)) true) None
 
 -- the move of a text
-unfoldable pub read : List ℕ → Option Move
-read text = cond (length text == 4) (short_read text) (cond (length text == 5) (long_read text) None)
+unfoldable pub move_read : List ℕ → Option Move
+move_read text = cond (length text == 4) (short_read text) (cond (length text == 5) (long_read text) None)

@@ -6,7 +6,7 @@ use Rattle.shogi_core.specs.declared.piece.Color.{Color}
 use Rattle.shogi_core.specs.declared.piece.Color.TheVariants.{Black, White}
 use Rattle.shogi_core.specs.declared.validity.PositionFault.{PositionFault}
 use Rattle.shogi_core.specs.Movement.{Cells}
-use Rattle.shogi_core.specs.Position.{Shogi, HandCounts}
+use Rattle.shogi_core.specs.Position.{Shogi, Held}
 use Rattle.shogi_core.specs.Validity.{fault_of, number_of_fault}
 use Rattle.shogi_sfen.specs.Words.{is_blank, words, after_word, rest_after}
 use Rattle.shogi_sfen.specs.Numbers.{is_number}
@@ -25,11 +25,11 @@ judged None p end = Ok (p, end)
 judged (Some fault) p end = Err (Invalid fault)
 
 -- a position by its parts, and the first fault of those that are missing
-abbrev pub position_by : Option Cells → Option Color → Option HandCounts → ℕ → Result (Shogi × ℕ) SfenFault
-position_by None side hands end = Err BadBoard
-position_by (Some cells) None hands end = Err BadSide
-position_by (Some cells) (Some side) None end = Err BadHand
-position_by (Some cells) (Some side) (Some hands) end =
+abbrev pub position_of_parts : Option Cells → Option Color → Option Held → ℕ → Result (Shogi × ℕ) SfenFault
+position_of_parts None side hands end = Err BadBoard
+position_of_parts (Some cells) None hands end = Err BadSide
+position_of_parts (Some cells) (Some side) None end = Err BadHand
+position_of_parts (Some cells) (Some side) (Some hands) end =
     let p : Shogi = record { cells = cells; hands = hands; side = side } in judged (fault_of p) p end
 
 -- what stands after a first word that is a number, or all where it is none
@@ -44,7 +44,7 @@ end_of text = length text - length (past_number (rest_after 3 text))
 unfoldable pub position_at : List ℕ → Result (Shogi × ℕ) SfenFault
 position_at text =
     let ws = words text in
-    position_by (option_and_then board_of (slice_get ws 0)) (option_and_then side_of (slice_get ws 1)) (option_and_then hands_of (slice_get ws 2)) (end_of text)
+    position_of_parts (option_and_then board_of (slice_get ws 0)) (option_and_then side_of (slice_get ws 1)) (option_and_then hands_of (slice_get ws 2)) (end_of text)
 
 -- a word ends before these bytes: they are none, or begin with a space or a tab
 abbrev pub EndsWord : List ℕ → Type 0

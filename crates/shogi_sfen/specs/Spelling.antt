@@ -1,53 +1,36 @@
 -- How positions are spelled (SFEN): all the texts of a rank, a board, hands and a position. It says what the texts of a meaning are, and not how a text is read.
-use Rattle.std.specs.Prelude.{◌≡◌, ◌≢◌, ℕ, ◌+◌, ◌<◌, ◌≤◌, ◌==◌, ◌&&◌, Bool, true, List, [], ◌∷◌, ◌++◌, Some, None, cond, length, replicate, get_or, slice_get}
+use Rattle.std.specs.Prelude.{◌≡◌, ◌≢◌, ℕ, ◌<◌, ◌==◌, ◌&&◌, Bool, true, List, [], ◌∷◌, ◌++◌, cond, length, get_or, slice_get}
 use Rattle.std.specs.List.{flat_map, sum_by, list_all, join_with_byte, AllByRecursion}
 use Rattle.std.specs.Option.{IsSomeAnd}
 use Rattle.std.specs.Char.{is_ascii_digit}
 use Rattle.shogi_core.specs.declared.piece.Color.{Color}
 use Rattle.shogi_core.specs.declared.piece.Kind.{Kind}
-use Rattle.shogi_core.specs.declared.piece.Piece.{Piece}
 use Rattle.shogi_core.specs.Movement.{Cells}
-use Rattle.shogi_core.specs.Pieces.{is_same_color, kind_number}
-use Rattle.shogi_core.specs.Position.{Shogi, HandCounts, held}
-use Rattle.shogi_sfen.specs.Numbers as numbers
-use Rattle.shogi_sfen.specs.MoveTexts.{letter_of}
-use Rattle.shogi_sfen.specs.Written.{as_side, piece_text, rank_cells, side_text, or_hyphen}
-
--- an item of a rank: so many empty squares, or a piece
-pub data RankItem : Type 0 where
-  Empty : (n : ℕ) → RankItem
-  Occupied : (piece : Piece) → RankItem
-
--- a run is of one to nine squares
-abbrev pub IsRankItem : RankItem → Type 0
-IsRankItem (Empty n) = (1 ≤ n) × (n ≤ 9)
-IsRankItem (Occupied piece) = Unit {0}
-
--- its squares
-abbrev pub item_squares : RankItem → Cells
-item_squares (Empty n) = replicate n None
-item_squares (Occupied piece) = Some piece ∷ []
-
--- its text: one digit, or a plus where the piece is promoted and its letter, upper case for Black, lower case for White
-abbrev pub item_text : RankItem → List ℕ
-item_text (Empty n) = (n + 48) ∷ []
-item_text (Occupied piece) = piece_text piece
+use Rattle.shogi_core.specs.Pieces.{is_same_color, number_of}
+use Rattle.shogi_core.specs.Position.{Shogi, Held, held}
+use Rattle.shogi_sfen.specs.declared.byte.TheConstants.{ZERO, SLASH}
+use Rattle.shogi_sfen.specs.Numbers.{number_written}
+use Rattle.shogi_sfen.specs.declared.board_text.RankItem.{RankItem}
+use Rattle.shogi_sfen.specs.declared.board_text.TheConstants.{RANK_SQUARES, BOARD_SQUARES}
+use Rattle.shogi_sfen.specs.Letters.{letter_of, as_side}
+use Rattle.shogi_sfen.specs.Items.{IsRankItem, item_squares, item_text}
+use Rattle.shogi_sfen.specs.Written.{rank_cells, side_text, or_hyphen}
 
 -- a rank's text is that of items whose squares are its nine; empty squares may be cut into runs in any way
 pub record SpellsRank (text : List ℕ) (cells : Cells) : Type 0 where
   pub items : List RankItem
   pub each : AllByRecursion IsRankItem items
   pub squares : flat_map item_squares items ≡ cells
-  pub nine : length cells ≡ 9
+  pub nine : length cells ≡ RANK_SQUARES
   pub spelled : flat_map item_text items ≡ text
 
--- a board's text is that of its nine ranks, from a to i and each from file 9 to file 1, with a slash (47) between each two
+-- a board's text is that of its nine ranks, from a to i and each from file 9 to file 1, with a slash between each two
 pub record SpellsBoard (text : List ℕ) (cells : Cells) : Type 0 where
-  pub squares : length cells ≡ 81
+  pub squares : length cells ≡ BOARD_SQUARES
   pub ranks : List (List ℕ)
   pub nine : length ranks ≡ 9
   pub each : (rank : ℕ) → rank < 9 → SpellsRank (get_or ranks rank []) (rank_cells cells rank)
-  pub spelled : join_with_byte 47 ranks ≡ text
+  pub spelled : join_with_byte SLASH ranks ≡ text
 
 -- an entry of hands: the digits of a count, which may be none, and a kind that a side holds
 pub record Entry : Type 0 where
@@ -55,15 +38,15 @@ pub record Entry : Type 0 where
   pub color : Color
   pub kind : Kind
 
--- no digits, or digits of which the first is not 0 (48)
-abbrev pub IsCount : List ℕ → Type 0
-IsCount [] = Unit {0}
-IsCount (first ∷ others) = (list_all is_ascii_digit (first ∷ others) ≡ true) × (first ≢ 48)
+-- no digits, or digits of which the first is not 0
+abbrev pub AreCountDigits : List ℕ → Type 0
+AreCountDigits [] = Unit {0}
+AreCountDigits (first ∷ others) = (list_all is_ascii_digit (first ∷ others) ≡ true) × (first ≢ ZERO)
 
 -- one where no count is written, and else the number that the digits write
 abbrev pub count_written : List ℕ → ℕ
 count_written [] = 1
-count_written (first ∷ others) = numbers.number_of (first ∷ others)
+count_written (first ∷ others) = number_written (first ∷ others)
 
 -- the count, and the letter of the kind
 abbrev pub entry_text : Entry → List ℕ
@@ -71,17 +54,17 @@ entry_text entry = entry.digits ++ as_side entry.color (letter_of entry.kind) �
 
 -- the entry is of this side and kind
 abbrev pub is_entry_of : Color → Kind → Entry → Bool
-is_entry_of color kind entry = is_same_color entry.color color && kind_number entry.kind == kind_number kind
+is_entry_of color kind entry = is_same_color entry.color color && number_of entry.kind == number_of kind
 
 -- how many of a kind it gives a side
 abbrev pub count_in : Color → Kind → Entry → ℕ
 count_in color kind entry = cond (is_entry_of color kind entry) (count_written entry.digits) 0
 
 -- hands' text is a hyphen for nothing, or that of entries in any order, whose counts add up to what each side holds
-pub record SpellsHands (text : List ℕ) (hands : HandCounts) : Type 0 where
+pub record SpellsHands (text : List ℕ) (hands : Held) : Type 0 where
   pub places : length hands ≡ 14
   pub entries : List Entry
-  pub each : AllByRecursion (λ entry. IsCount entry.digits) entries
+  pub each : AllByRecursion (λ entry. AreCountDigits entry.digits) entries
   pub sums : (color : Color) (kind : Kind) → held hands color kind ≡ sum_by (count_in color kind) entries
   pub spelled : or_hyphen (flat_map entry_text entries) ≡ text
 
@@ -101,4 +84,4 @@ HasSide words = IsSomeAnd (slice_get words 1) (λ text. (side : Color) × (text 
 
 -- the third word is the text of some hands
 abbrev pub HasHands : List (List ℕ) → Type 0
-HasHands words = IsSomeAnd (slice_get words 2) (λ text. (hands : HandCounts) × SpellsHands text hands)
+HasHands words = IsSomeAnd (slice_get words 2) (λ text. (hands : Held) × SpellsHands text hands)

@@ -2,10 +2,11 @@
 use Rattle.std.specs.Borrow.{Bor}
 use Rattle.std.specs.Prelude.{◌≡◌, ℕ, Option, Some, None, zero, suc, ◌==◌, ◌||◌, Bool, true, false, not, List, [], ◌∷◌, drop, filter}
 use Rattle.std.specs.List.{slice_split, position_or_len}
+use Rattle.shogi_sfen.specs.declared.byte.TheConstants.{SPACE, TAB}
 
 -- a space or a tab
 abbrev pub is_blank : ℕ → Bool
-is_blank byte = byte == 32 || byte == 9
+is_blank byte = byte == SPACE || byte == TAB
 
 -- a byte of a word
 abbrev pub is_inner : ℕ → Bool

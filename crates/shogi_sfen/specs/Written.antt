@@ -1,45 +1,18 @@
 -- The one written text of a position (SFEN): runs of empty squares as long as can be, no count of 1, and no number.
-use Rattle.std.specs.Prelude.{ℕ, ◌+◌, ◌-◌, ◌*◌, ◌/◌, ◌%◌, ◌==◌, Bool, true, false, List, [], ◌∷◌, ◌++◌, Option, Some, None, cond, nat_lt, map, codes}
+use Rattle.std.specs.Prelude.{ℕ, ◌+◌, ◌-◌, ◌*◌, ◌/◌, ◌%◌, ◌==◌, List, [], ◌∷◌, ◌++◌, Some, None, cond, nat_lt, map, codes}
 use Rattle.std.specs.List.{flat_map, range_with_len}
 use Rattle.shogi_core.specs.declared.piece.Color.{Color}
 use Rattle.shogi_core.specs.declared.piece.Color.TheVariants.{Black, White}
 use Rattle.shogi_core.specs.declared.piece.Kind.{Kind}
 use Rattle.shogi_core.specs.declared.piece.Kind.TheVariants as kinds
-use Rattle.shogi_core.specs.declared.piece.Role.{Role}
-use Rattle.shogi_core.specs.declared.piece.Role.TheVariants.{PromotedPawn, PromotedLance, PromotedKnight, PromotedSilver, Horse, Dragon}
-use Rattle.shogi_core.specs.declared.piece.Piece.{Piece}
 use Rattle.shogi_core.specs.Movement.{Cells, piece_at}
-use Rattle.shogi_core.specs.Pieces.{kind_of}
-use Rattle.shogi_core.specs.Position.{Shogi, HandCounts, held}
-use Rattle.shogi_sfen.specs.MoveTexts.{letter_of}
-
--- a promoted role
-abbrev pub is_promoted : Role → Bool
-is_promoted PromotedPawn = true
-is_promoted PromotedLance = true
-is_promoted PromotedKnight = true
-is_promoted PromotedSilver = true
-is_promoted Horse = true
-is_promoted Dragon = true
-is_promoted _ = false
-
--- the upper-case letter of what a role is in hand, or of a king
-abbrev pub letter_or_king : Option Kind → ℕ
-letter_or_king None = 75
-letter_or_king (Some kind) = letter_of kind
-
--- upper case for Black, lower case for White
-abbrev pub as_side : Color → ℕ → ℕ
-as_side Black letter = letter
-as_side White letter = letter + 32
-
--- a plus where it is promoted, and its letter
-abbrev pub piece_text : Piece → List ℕ
-piece_text piece = cond (is_promoted piece.role) (codes "+") [] ++ as_side piece.color (letter_or_king (kind_of piece.role)) ∷ []
+use Rattle.shogi_core.specs.Position.{Shogi, Held, held}
+use Rattle.shogi_sfen.specs.declared.byte.TheConstants.{ZERO, SPACE, SLASH}
+use Rattle.shogi_sfen.specs.Letters.{letter_of, as_side, piece_text}
 
 -- a number of empty squares, if there are any
 abbrev pub run_text : ℕ → List ℕ
-run_text n = cond (n == 0) [] ((n + 48) ∷ [])
+run_text n = cond (n == 0) [] ((n + ZERO) ∷ [])
 
 -- the squares of a rank, behind so many empty ones
 abbrev pub cells_text : ℕ → Cells → List ℕ
@@ -53,7 +26,7 @@ rank_cells cells rank = map (λ i. piece_at cells ((8 - i) * 9 + rank)) (range_w
 
 -- a rank, with a slash before it where it is not the first
 abbrev pub rank_text : Cells → ℕ → List ℕ
-rank_text cells rank = cond (rank == 0) [] (codes "/") ++ cells_text 0 (rank_cells cells rank)
+rank_text cells rank = cond (rank == 0) [] (SLASH ∷ []) ++ cells_text 0 (rank_cells cells rank)
 
 -- the ranks from a to i
 unfoldable pub board_text : Cells → List ℕ
@@ -65,19 +38,19 @@ side_text Black = codes "b"
 side_text White = codes "w"
 
 -- a count below 100, where it is over 1
-abbrev pub count_text : ℕ → List ℕ
-count_text n = cond (nat_lt n 2) [] (cond (nat_lt n 10) ((n + 48) ∷ []) ((n / 10 + 48) ∷ (n % 10 + 48) ∷ []))
+abbrev pub count_digits : ℕ → List ℕ
+count_digits n = cond (nat_lt n 2) [] (cond (nat_lt n 10) ((n + ZERO) ∷ []) ((n / 10 + ZERO) ∷ (n % 10 + ZERO) ∷ []))
 
 -- so many of a kind
 abbrev pub held_text : Color → Kind → ℕ → List ℕ
-held_text color kind n = cond (n == 0) [] (count_text n ++ as_side color (letter_of kind) ∷ [])
+held_text color kind n = cond (n == 0) [] (count_digits n ++ as_side color (letter_of kind) ∷ [])
 
 -- the kinds in their order in a text: R B G S N L P
 abbrev pub kinds_in_text : List Kind
 kinds_in_text = kinds.Rook ∷ kinds.Bishop ∷ kinds.Gold ∷ kinds.Silver ∷ kinds.Knight ∷ kinds.Lance ∷ kinds.Pawn ∷ []
 
 -- what a side holds
-abbrev pub side_held_text : HandCounts → Color → List ℕ
+abbrev pub side_held_text : Held → Color → List ℕ
 side_held_text hands color = flat_map (λ kind. held_text color kind (held hands color kind)) kinds_in_text
 
 -- a hyphen for nothing
@@ -86,9 +59,9 @@ or_hyphen [] = codes "-"
 or_hyphen (byte ∷ bytes) = byte ∷ bytes
 
 -- Black's pieces in hand, and then White's
-unfoldable pub hands_text : HandCounts → List ℕ
+unfoldable pub hands_text : Held → List ℕ
 hands_text hands = or_hyphen (side_held_text hands Black ++ side_held_text hands White)
 
 -- the one written text: board, side and hands with a space between each two
-unfoldable pub written : Shogi → List ℕ
-written p = board_text p.cells ++ (32 ∷ (side_text p.side ++ (32 ∷ hands_text p.hands)))
+unfoldable pub position_text : Shogi → List ℕ
+position_text p = board_text p.cells ++ (SPACE ∷ (side_text p.side ++ (SPACE ∷ hands_text p.hands)))

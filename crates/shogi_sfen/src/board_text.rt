@@ -2,109 +2,54 @@
 
 ghost use Rattle.std.specs.Prelude.{◌≡◌, ◌≤◌, ◌<◌, ◌+◌, ◌++◌, None, Some, MatchOption, IfSome, length, replicate, position, drop};
 ghost use Rattle.std.specs.List.{slice_split, position_or_len};
-ghost use Rattle.shogi_sfen.specs.BoardTexts.{role_named, piece_named, promoted_from, item_of, is_plus, item_from, rank_of, rank_from, ranks_of, board_from, board_of, squares_of, is_slash};
+ghost use Rattle.shogi_sfen.specs.BoardTexts.{item_named, is_plus, rank_of, items_from, ranks_of, board_from, board_of, squares_of, is_slash};
 ghost use Rattle.shogi_sfen.specs.Ranks.{TakesItem};
+ghost use Rattle.shogi_sfen.specs.declared.board_text.TheConstants.{RANK_SQUARES, BOARD_SQUARES};
 
+use crate::byte::{PLUS, SLASH};
+use crate::letter::read_piece;
 use arrayvec::ArrayVec;
-use shogi_core::{Color, Piece, Role};
+use shogi_core::Piece;
 
-/// What a byte of a rank says.
+/// The squares of a rank.
+pub const RANK_SQUARES: usize = 9;
+
+/// The squares of a board.
+pub const BOARD_SQUARES: usize = 81;
+
+/// An item of a rank: so many empty squares, or a piece.
 #[derive(Clone, Copy, Debug, PartialEq, Eq)]
-pub enum Item {
-    /// The next letter is a promoted piece.
-    Plus,
-    /// So many empty squares.
-    Run(u8),
-    /// A piece.
-    Square(Piece),
-    /// Nothing that a rank has.
-    Wrong,
+pub enum RankItem {
+    Empty(u8),
+    Occupied(Piece),
 }
 
 /// A rank, from file 9 to file 1.
-pub type Rank = ArrayVec<Option<Piece>, 9>;
+pub type Rank = ArrayVec<Option<Piece>, RANK_SQUARES>;
 
-/// The role of an upper-case letter.
-fn read_role(letter: u8) -> Option<Role>
-    ensures { result ≡ role_named letter }
+/// Whether the byte is a plus that begins an item.
+fn is_plus(plus: bool, byte: u8) -> bool
+    ensures { result ≡ is_plus plus byte }
 {
-    match letter {
-        b'P' => Some(Role::Pawn),
-        b'L' => Some(Role::Lance),
-        b'N' => Some(Role::Knight),
-        b'S' => Some(Role::Silver),
-        b'G' => Some(Role::Gold),
-        b'B' => Some(Role::Bishop),
-        b'R' => Some(Role::Rook),
-        b'K' => Some(Role::King),
-        _ => None,
-    }
-}
-
-/// The piece of a letter: upper case is Black's, lower case White's.
-pub fn read_piece(letter: u8) -> Option<Piece>
-    ensures { result ≡ piece_named letter }
-{
-    if letter < b'a' {
-        let role = read_role(letter)?;
-        return Some(Piece {
-            color: Color::Black,
-            role,
-        });
-    }
-    let role = read_role(letter - 32)?;
-    Some(Piece {
-        color: Color::White,
-        role,
-    })
-}
-
-/// The promoted piece; a king and a gold have none.
-fn promoted(piece: Option<Piece>) -> Option<Piece>
-    ensures { result ≡ promoted_from piece }
-{
-    let piece = piece?;
-    match piece.role {
-        Role::King | Role::Gold => None,
-        role => Some(Piece {
-            color: piece.color,
-            role: role.promoted(),
-        }),
-    }
-}
-
-fn square_item(piece: Option<Piece>) -> Item
-    ensures { result ≡ item_from piece }
-{
-    match piece {
-        Some(piece) => Item::Square(piece),
-        None => Item::Wrong,
-    }
+    !plus && byte == PLUS
 }
 
 /// What a byte says, where a plus stands right before it or not.
-fn item_of(plus: bool, byte: u8) -> Item
-    ensures { result ≡ item_of plus byte }
+fn read_item(plus: bool, byte: u8) -> Option<RankItem>
+    ensures { result ≡ item_named plus byte }
 {
-    if plus {
-        return square_item(promoted(read_piece(byte)));
-    }
     match byte {
-        b'+' => Item::Plus,
-        b'1'..=b'9' => Item::Run(byte - b'0'),
-        _ => square_item(read_piece(byte)),
+        b'1'..=b'9' if !plus => Some(RankItem::Empty(byte - b'0')),
+        _ => {
+            let piece = read_piece(plus, byte)?;
+            Some(RankItem::Occupied(piece))
+        }
     }
-}
-
-fn is_plus(item: Item) -> bool
-    ensures { result ≡ is_plus item }
-{
-    matches!(item, Item::Plus)
 }
 
 /// So many empty squares at the end of a rank that has room for them.
 fn push_run(rank: &mut Rank, n: u8)
-    requires { length rank.old.items + n ≤ 9 }
+    requires { length rank.old.items + n ≤ RANK_SQUARES }
     ensures { rank.new.items ≡ rank.old.items ++ replicate n None }
 {
     for _ in 0..n {
@@ -112,43 +57,46 @@ fn push_run(rank: &mut Rank, n: u8)
     }
 }
 
-/// The squares that an item says at the end of a rank, or false where it has no room for them or
-/// the item is wrong.
-fn push_item(rank: &mut Rank, item: Item) -> bool
+/// The squares of an item at the end of a rank, or false where there is no item, or no room for
+/// them.
+fn push_item(rank: &mut Rank, item: Option<RankItem>) -> bool
     ensures { TakesItem item rank.old.items rank.new.items result }
 {
     match item {
-        Item::Plus => true,
-        Item::Run(n) => {
-            let fits = rank.len() + n as usize <= 9;
+        Some(RankItem::Empty(n)) => {
+            let fits = rank.len() + n as usize <= RANK_SQUARES;
             if fits {
                 push_run(rank, n);
             }
             fits
         }
-        Item::Square(piece) => {
+        Some(RankItem::Occupied(piece)) => {
             let fits = !rank.is_full();
             if fits {
                 rank.push(Some(piece));
             }
             fits
         }
-        Item::Wrong => false,
+        None => false,
     }
 }
 
 /// The nine squares of a rank, if the bytes say one.
+#[tactic(auto, unfolding(crate::specs::BoardTexts::rank_of))]
 fn read_rank(part: &[u8]) -> Option<Rank>
     ensures value { MatchOption result (rank_of part.now ≡ None) (λ rank. rank_of part.now ≡ Some rank.items) }
-    ensures len { IfSome result (λ rank. length rank.items ≡ 9) }
+    ensures len { IfSome result (λ rank. length rank.items ≡ RANK_SQUARES) }
 {
     let mut rank = ArrayVec::new();
     let mut plus = false;
     for byte in part {
-        let item = item_of(plus, *byte);
-        plus = is_plus(item);
-        if !push_item(&mut rank, item) {
-            return None;
+        if is_plus(plus, *byte) {
+            plus = true;
+        } else {
+            if !push_item(&mut rank, read_item(plus, *byte)) {
+                return None;
+            }
+            plus = false;
         }
     }
     if plus || !rank.is_full() {
@@ -158,15 +106,17 @@ fn read_rank(part: &[u8]) -> Option<Rank>
 }
 
 /// The squares of a board in the order of a text.
-pub type Squares = ArrayVec<Option<Piece>, 81>;
+pub type Squares = ArrayVec<Option<Piece>, BOARD_SQUARES>;
 
+/// Where the first slash stands.
 fn first_slash(text: &[u8]) -> Option<usize>
     ensures { result ≡ position is_slash text.now }
 {
-    text.iter().position(|byte| *byte == b'/')
+    text.iter().position(|byte| *byte == SLASH)
 }
 
 /// How many bytes stand before the first slash.
+#[tactic(auto, using(crate::proofs::WordLaws::first_or_len))]
 fn part_len(text: &[u8]) -> usize
     ensures value { result ≡ position_or_len is_slash text.now }
     ensures bound { result ≤ length text.now }
@@ -176,7 +126,7 @@ fn part_len(text: &[u8]) -> usize
 
 /// The squares of a rank behind others.
 fn push_rank(squares: &mut Squares, rank: &[Option<Piece>])
-    requires { length squares.old.items + length rank.now ≤ 81 }
+    requires { length squares.old.items + length rank.now ≤ BOARD_SQUARES }
     ensures { squares.new.items ≡ squares.old.items ++ rank.now }
 {
     for cell in rank {
@@ -196,7 +146,7 @@ fn skip(text: &[u8], n: usize) -> &[u8]
 /// The squares of nine ranks, if the bytes say them.
 fn read_squares(word: &[u8]) -> Option<Squares>
     ensures value { MatchOption result (squares_of (slice_split is_slash word.now) ≡ None) (λ squares. squares_of (slice_split is_slash word.now) ≡ Some squares.items) }
-    ensures len { IfSome result (λ squares. length squares.items ≡ 81) }
+    ensures len { IfSome result (λ squares. length squares.items ≡ BOARD_SQUARES) }
 {
     let mut squares = ArrayVec::new();
     let mut rest = word;
@@ -223,19 +173,20 @@ fn read_squares(word: &[u8]) -> Option<Squares>
 }
 
 /// The cells by index of squares in the order of a text.
-fn arrange(squares: &[Option<Piece>]) -> [Option<Piece>; 81]
-    requires { length squares.now ≡ 81 }
+fn arrange(squares: &[Option<Piece>]) -> [Option<Piece>; BOARD_SQUARES]
+    requires { length squares.now ≡ BOARD_SQUARES }
     ensures { result ≡ board_from squares.now }
 {
-    let mut cells = [None; 81];
-    for square in 0..81 {
+    let mut cells = [None; BOARD_SQUARES];
+    for square in 0..BOARD_SQUARES {
         cells[square] = squares[square % 9 * 9 + (8 - square / 9)];
     }
     cells
 }
 
 /// The cells by index of a board's text (SFEN, board), if the word is one.
-pub fn read_board(word: &[u8]) -> Option<[Option<Piece>; 81]>
+#[tactic(auto, unfolding(crate::specs::BoardTexts::board_of))]
+pub fn read_board(word: &[u8]) -> Option<[Option<Piece>; BOARD_SQUARES]>
     ensures { result ≡ board_of word.now }
 {
     let squares = read_squares(word)?;

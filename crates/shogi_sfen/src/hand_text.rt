@@ -4,10 +4,13 @@ ghost use Rattle.std.specs.Prelude.{◌≡◌, ◌≤◌, min};
 ghost use Rattle.std.specs.Option.{option_map};
 ghost use Rattle.shogi_sfen.specs.HandTexts.{capped, capped_digit, capped_piece, capped_from, no_hands, hands_of};
 
-use crate::board_text::read_piece;
+use crate::letter::read_piece;
 use shogi_core::{Hands, Piece};
 
-/// One more digit of a count, of which the first is not 0; at 255 it stays.
+/// Where a count in hand stays: more than any set has.
+pub const MOST_COUNTED: u8 = u8::MAX;
+
+/// One more digit of a count, of which the first is not 0; it stays at the most that is counted.
 fn with_digit(count: Option<u8>, byte: u8) -> Option<u8>
     requires { (48 ≤ byte) × (byte ≤ 57) }
     ensures { result ≡ capped_digit count byte }
@@ -16,10 +19,10 @@ fn with_digit(count: Option<u8>, byte: u8) -> Option<u8>
         return None;
     }
     let number = count.unwrap_or(0) as u32 * 10 + (byte - b'0') as u32;
-    Some(number.min(255) as u8)
+    Some(number.min(MOST_COUNTED as u32) as u8)
 }
 
-/// So many more of a piece, if it can be held; at 255 a count stays.
+/// So many more of a piece, if it can be held; a count stays at the most that is counted.
 fn with_piece(hands: Hands, n: u8, piece: Option<Piece>) -> Option<Hands>
     ensures { result ≡ capped_piece hands n piece }
 {
@@ -29,7 +32,8 @@ fn with_piece(hands: Hands, n: u8, piece: Option<Piece>) -> Option<Hands>
     Some(hands.with(piece.color, kind, held.saturating_add(n)))
 }
 
-fn read_items(word: &[u8]) -> Option<Hands>
+/// The hands of counts and letters.
+fn read_entries(word: &[u8]) -> Option<Hands>
     ensures { result ≡ capped_from no_hands None word.now }
 {
     let mut hands = Hands::none();
@@ -41,7 +45,7 @@ fn read_items(word: &[u8]) -> Option<Hands>
                 Some(number) => count = Some(number),
             }
         } else {
-            match with_piece(hands, count.unwrap_or(1), read_piece(*byte)) {
+            match with_piece(hands, count.unwrap_or(1), read_piece(false, *byte)) {
                 None => return None,
                 Some(more) => {
                     hands = more;
@@ -57,7 +61,8 @@ fn read_items(word: &[u8]) -> Option<Hands>
 }
 
 /// The hands of a text (SFEN, pieces in hand), if the word is one. A count that is greater than
-/// 255 is read as 255.
+/// the most that is counted is read as that.
+#[tactic(auto, unfolding(crate::specs::HandTexts::hands_of))]
 pub fn read_hands(word: &[u8]) -> Option<Hands>
     ensures { result ≡ option_map capped (hands_of word.now) }
 {
@@ -67,5 +72,5 @@ pub fn read_hands(word: &[u8]) -> Option<Hands>
     if word.is_empty() {
         return None;
     }
-    read_items(word)
+    read_entries(word)
 }

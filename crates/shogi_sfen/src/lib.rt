@@ -2,7 +2,9 @@
 #![tactic(auto)]
 
 mod board_text;
+mod byte;
 mod hand_text;
+mod letter;
 mod move_text;
 mod number;
 mod position;

@@ -1,9 +1,11 @@
 //! Moves as text.
 
 ghost use Rattle.std.specs.Prelude.{◌≡◌, ◌++◌, ◌<◌, Some, length};
-ghost use Rattle.shogi_sfen.specs.MoveTexts.{letter_of, square_text, text_of, move_of_text};
-ghost use Rattle.shogi_sfen.specs.Reading.{square_read, kind_read, board_read, drop_read, short_read, long_read, read};
+ghost use Rattle.shogi_sfen.specs.MoveTexts.{square_text, text_of, move_of_text};
+ghost use Rattle.shogi_sfen.specs.Reading.{square_read, board_read, drop_read, short_read, long_read, move_read};
 
+use crate::byte::{FIRST_FILE, FIRST_RANK, PLUS};
+use crate::letter::{letter_of, read_kind};
 use arrayvec::ArrayVec;
 use shogi_core::{Kind, Move, Square};
 
@@ -20,22 +22,7 @@ fn read_square(file: u8, rank: u8) -> Option<Square>
     }
 }
 
-/// The kind of an upper-case letter.
-fn read_kind(letter: u8) -> Option<Kind>
-    ensures { result ≡ kind_read letter }
-{
-    match letter {
-        b'P' => Some(Kind::Pawn),
-        b'L' => Some(Kind::Lance),
-        b'N' => Some(Kind::Knight),
-        b'S' => Some(Kind::Silver),
-        b'G' => Some(Kind::Gold),
-        b'B' => Some(Kind::Bishop),
-        b'R' => Some(Kind::Rook),
-        _ => None,
-    }
-}
-
+/// The board move of two squares, if both are there.
 fn board_move(from: Option<Square>, to: Option<Square>, promote: bool) -> Option<Move>
     ensures { result ≡ board_read from to promote }
 {
@@ -45,6 +32,7 @@ fn board_move(from: Option<Square>, to: Option<Square>, promote: bool) -> Option
     }
 }
 
+/// The drop of a kind on a square, if both are there.
 fn drop_move(kind: Option<Kind>, to: Option<Square>) -> Option<Move>
     ensures { result ≡ drop_read kind to }
 {
@@ -72,16 +60,17 @@ fn read_long(bytes: &[u8]) -> Option<Move>
     requires { length bytes.now ≡ 5 }
     ensures { result ≡ long_read bytes.now }
 {
-    if bytes[4] != b'+' {
+    if bytes[4] != PLUS {
         return None;
     }
     let from = read_square(bytes[0], bytes[1]);
     board_move(from, read_square(bytes[2], bytes[3]), true)
 }
 
-#[tactic(auto, unfolding(crate::specs::Reading::read))]
-fn read(bytes: &[u8]) -> Option<Move>
-    ensures { result ≡ read bytes.now }
+/// The move of four or five bytes.
+#[tactic(auto, unfolding(crate::specs::Reading::move_read))]
+fn read_either(bytes: &[u8]) -> Option<Move>
+    ensures { result ≡ move_read bytes.now }
 {
     match bytes.len() {
         4 => read_short(bytes),
@@ -95,7 +84,7 @@ fn read(bytes: &[u8]) -> Option<Move>
 pub fn read_move(bytes: &[u8]) -> Option<Move>
     ensures { result ≡ move_of_text bytes.now }
 {
-    read(bytes)
+    read_either(bytes)
 }
 
 /// The one text of the move (USI, moves).
@@ -103,14 +92,16 @@ pub fn write_move(m: Move) -> ArrayVec<u8, 5>
     ensures text { result.items ≡ text_of m }
     ensures back { move_of_text (text_of m) ≡ Some m }
 {
-    m.validity();
+    // Told to the proof: the move has a code, so that it is one of those whose text is looked for.
+    let again = m;
+    again.code();
     let mut text = ArrayVec::new();
     match m {
         Move::Board { from, to, promote } => {
             push_square(&mut text, from);
             push_square(&mut text, to);
             if promote {
-                text.push(b'+');
+                text.push(PLUS);
             }
         }
         Move::Drop { kind, to } => {
@@ -122,28 +113,12 @@ pub fn write_move(m: Move) -> ArrayVec<u8, 5>
     text
 }
 
-/// The upper-case letter of the kind.
-pub fn letter_of(kind: Kind) -> u8
-    ensures value { result ≡ letter_of kind }
-    ensures small { result < 91 }
-{
-    match kind {
-        Kind::Pawn => b'P',
-        Kind::Lance => b'L',
-        Kind::Knight => b'N',
-        Kind::Silver => b'S',
-        Kind::Gold => b'G',
-        Kind::Bishop => b'B',
-        Kind::Rook => b'R',
-    }
-}
-
 /// Writes the file as a digit and the rank as a letter from `a` to `i`.
 fn push_square(text: &mut ArrayVec<u8, 5>, square: Square)
     requires { length text.old.items < 4 }
     ensures { text.new.items ≡ text.old.items ++ square_text square }
 {
     let index = square.index();
-    text.push(b'1' + (index / 9) as u8);
-    text.push(b'a' + (index % 9) as u8);
+    text.push(FIRST_FILE + (index / 9) as u8);
+    text.push(FIRST_RANK + (index % 9) as u8);
 }

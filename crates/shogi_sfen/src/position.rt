@@ -46,6 +46,7 @@ impl SfenFault {
     }
 }
 
+/// The side to move of a word.
 fn read_side(word: &[u8]) -> Option<Color>
     ensures { result ≡ side_of word.now }
 {
@@ -58,6 +59,7 @@ fn read_side(word: &[u8]) -> Option<Color>
     }
 }
 
+/// The cells of a word that may be there.
 fn board_word(word: Option<&[u8]>) -> Option<[Option<Piece>; 81]>
     ensures { result ≡ option_and_then board_of (option_copied word.entry) }
 {
@@ -67,6 +69,7 @@ fn board_word(word: Option<&[u8]>) -> Option<[Option<Piece>; 81]>
     }
 }
 
+/// The side of a word that may be there.
 fn side_word(word: Option<&[u8]>) -> Option<Color>
     ensures { result ≡ option_and_then side_of (option_copied word.entry) }
 {
@@ -76,6 +79,7 @@ fn side_word(word: Option<&[u8]>) -> Option<Color>
     }
 }
 
+/// The hands of a word that may be there.
 fn hand_word(word: Option<&[u8]>) -> Option<Hands>
     ensures { result ≡ option_map capped (option_and_then hands_of (option_copied word.entry)) }
 {
@@ -85,6 +89,7 @@ fn hand_word(word: Option<&[u8]>) -> Option<Hands>
     }
 }
 
+/// Whether a word is there and is a number.
 fn number_word(word: Option<&[u8]>) -> bool
     ensures { result ≡ option_map_or is_number (option_copied word.entry) false }
 {

@@ -2,8 +2,10 @@
 
 ghost use Rattle.std.specs.Prelude.{◌≡◌, ◌≤◌, ◌<◌, ◌+◌, ◌*◌, ◌++◌, ℕ, List, Ok, [], ◌∷◌, length};
 ghost use Rattle.std.specs.List.{flat_map, range_with_len};
-ghost use Rattle.shogi_sfen.specs.Written.{is_promoted, letter_or_king, as_side, piece_text, run_text, cells_text, rank_cells, rank_text, board_text, side_text, held_text, side_held_text, hands_text, written};
-ghost use Rattle.shogi_core.specs.Pieces.{kind_of};
+ghost use Rattle.shogi_sfen.specs.Written.{run_text, cells_text, rank_cells, rank_text, board_text, side_text, held_text, side_held_text, hands_text, position_text};
+ghost use Rattle.shogi_sfen.specs.Letters.{piece_text};
+ghost use Rattle.shogi_sfen.specs.declared.board_text.TheConstants.{RANK_SQUARES};
+ghost use Rattle.shogi_sfen.specs.declared.position_text.TheConstants.{TEXT_BYTES};
 ghost use Rattle.shogi_core.specs.Position.{held};
 ghost use Rattle.shogi_sfen.specs.Words.{words};
 ghost use Rattle.shogi_sfen.specs.Sfen.{position_at, end_of, EndsWord};
@@ -11,77 +13,49 @@ ghost use Rattle.shogi_sfen.specs.Spelling.{Spells};
 ghost use Rattle.shogi_core.specs.declared.piece.Kind.{Kind};
 ghost use Rattle.shogi_core.specs.declared.piece.Color.{Color};
 
-use crate::board_text::Rank;
-use crate::move_text::letter_of;
+use crate::board_text::{RANK_SQUARES, Rank};
+use crate::byte::{PLUS, SLASH, SPACE, ZERO};
+use crate::letter::{as_side, is_promoted, letter_of, piece_letter};
 use arrayvec::ArrayVec;
-use shogi_core::{Board, Color, Hands, Kind, Piece, Position, Role, Square};
+use shogi_core::{Board, Color, Hands, Kind, Piece, Position, Square};
+
+/// A written position has at most so many bytes.
+pub const TEXT_BYTES: usize = 256;
 
 /// The written text of a position.
-pub type Text = ArrayVec<u8, 256>;
+pub type Text = ArrayVec<u8, TEXT_BYTES>;
 
-fn is_promoted(role: Role) -> bool
-    ensures { result ≡ is_promoted role }
-{
-    matches!(
-        role,
-        Role::PromotedPawn
-            | Role::PromotedLance
-            | Role::PromotedKnight
-            | Role::PromotedSilver
-            | Role::Horse
-            | Role::Dragon
-    )
-}
-
-fn letter_of_role(role: Role) -> u8
-    ensures value { result ≡ letter_or_king (kind_of role) }
-    ensures small { result < 91 }
-{
-    match role.kind() {
-        Some(kind) => letter_of(kind),
-        None => b'K',
-    }
-}
-
-fn as_side(color: Color, letter: u8) -> u8
-    requires { letter < 91 }
-    ensures { result ≡ as_side color letter }
-{
-    match color {
-        Color::Black => letter,
-        Color::White => letter + 32,
-    }
-}
-
+/// A plus where the piece is promoted, and its letter.
 fn push_piece(text: &mut Text, piece: Piece)
-    requires { length text.old.items ≤ 250 }
+    requires { length text.old.items + 2 ≤ TEXT_BYTES }
     ensures value { text.new.items ≡ text.old.items ++ piece_text piece }
     ensures len { length text.new.items ≤ length text.old.items + 2 }
 {
     if is_promoted(piece.role) {
-        text.push(b'+');
+        text.push(PLUS);
     }
-    text.push(as_side(piece.color, letter_of_role(piece.role)));
+    text.push(piece_letter(piece));
 }
 
+/// A number of empty squares as a digit, if there are any.
 fn push_run(text: &mut Text, run: u8)
-    requires room { length text.old.items ≤ 250 }
-    requires run { run ≤ 9 }
+    requires room { length text.old.items + run ≤ TEXT_BYTES }
+    requires run { run ≤ RANK_SQUARES }
     ensures value { text.new.items ≡ text.old.items ++ run_text run }
     ensures len { length text.new.items ≤ length text.old.items + run }
 {
     if run > 0 {
-        text.push(b'0' + run);
+        text.push(ZERO + run);
     }
 }
 
 /// The nine squares of a rank, counted from 0, from file 9 to file 1.
 fn rank_cells(board: &Board, rank: usize) -> Rank
-    requires { rank < 9 }
+    requires { rank < RANK_SQUARES }
     ensures { result.items ≡ rank_cells board.now rank }
 {
     let mut cells = ArrayVec::new();
-    for i in 0..9usize {
+    for i in 0..RANK_SQUARES {
         cells.push(board.at(Square::of_index((8 - i) * 9 + rank)));
     }
     cells
@@ -89,7 +63,7 @@ fn rank_cells(board: &Board, rank: usize) -> Rank
 
 /// The squares of a rank, with each maximal run of empty ones as a digit.
 fn push_cells(text: &mut Text, cells: &Rank)
-    requires room { length text.old.items ≤ 230 }
+    requires room { length text.old.items + 18 ≤ TEXT_BYTES }
     ensures value { text.new.items ≡ text.old.items ++ cells_text 0 cells.now.items }
     ensures len { length text.new.items ≤ length text.old.items + 18 }
 {
@@ -109,29 +83,31 @@ fn push_cells(text: &mut Text, cells: &Rank)
 
 /// A rank, with a slash before it where it is not the first.
 fn push_rank(text: &mut Text, board: &Board, rank: usize)
-    requires room { length text.old.items ≤ 200 }
-    requires rank { rank < 9 }
+    requires room { length text.old.items + 19 ≤ TEXT_BYTES }
+    requires rank { rank < RANK_SQUARES }
     ensures value { text.new.items ≡ text.old.items ++ rank_text board.now rank }
     ensures len { length text.new.items ≤ length text.old.items + 19 }
 {
     if rank > 0 {
-        text.push(b'/');
+        text.push(SLASH);
     }
     push_cells(text, &rank_cells(board, rank));
 }
 
+/// The ranks from a to i.
 fn push_board(text: &mut Text, board: &Board)
     requires { text.old.items ≡ [] }
     ensures value { text.new.items ≡ board_text board.now }
     ensures len { length text.new.items ≤ 171 }
 {
-    for rank in 0..9usize {
+    for rank in 0..RANK_SQUARES {
         push_rank(text, board, rank);
     }
 }
 
+/// So many of a kind in hand: the digits of a count over 1, and the letter.
 fn push_held(text: &mut Text, color: Color, kind: Kind, n: u8)
-    requires room { length text.old.items ≤ 250 }
+    requires room { length text.old.items + 3 ≤ TEXT_BYTES }
     requires small { n < 100 }
     ensures value { text.new.items ≡ text.old.items ++ held_text color kind n }
     ensures len { length text.new.items ≤ length text.old.items + 3 }
@@ -140,10 +116,10 @@ fn push_held(text: &mut Text, color: Color, kind: Kind, n: u8)
         return;
     }
     if n >= 10 {
-        text.push(b'0' + n / 10);
-        text.push(b'0' + n % 10);
+        text.push(ZERO + n / 10);
+        text.push(ZERO + n % 10);
     } else if n >= 2 {
-        text.push(b'0' + n);
+        text.push(ZERO + n);
     }
     text.push(as_side(color, letter_of(kind)));
 }
@@ -161,7 +137,7 @@ const IN_TEXT: [Kind; 7] = [
 
 /// What a side holds.
 fn push_side_held(text: &mut Text, hands: Hands, color: Color)
-    requires room { length text.old.items ≤ 220 }
+    requires room { length text.old.items + 21 ≤ TEXT_BYTES }
     requires small { (kind : Kind) → held hands color kind < 100 }
     ensures value { text.new.items ≡ text.old.items ++ side_held_text hands color }
     ensures len { length text.new.items ≤ length text.old.items + 21 }
@@ -171,8 +147,9 @@ fn push_side_held(text: &mut Text, hands: Hands, color: Color)
     }
 }
 
+/// What both sides hold, or a hyphen where they hold nothing.
 fn push_hands(text: &mut Text, hands: Hands)
-    requires room { length text.old.items ≤ 199 }
+    requires room { length text.old.items + 42 ≤ TEXT_BYTES }
     requires small { (color : Color) (kind : Kind) → held hands color kind < 100 }
     ensures { text.new.items ≡ text.old.items ++ hands_text hands }
 {
@@ -184,6 +161,7 @@ fn push_hands(text: &mut Text, hands: Hands)
     }
 }
 
+/// The letter of the side to move.
 fn side_letter(side: Color) -> u8
     ensures { result ∷ [] ≡ side_text side }
 {
@@ -194,17 +172,18 @@ fn side_letter(side: Color) -> u8
 }
 
 /// The one written text of the position (SFEN): board, side and hands, without a move number.
-pub fn write_position(p: &Position) -> ArrayVec<u8, 256>
-    ensures text { result.items ≡ written p.now }
-    ensures back { (tail : List ℕ) → EndsWord tail → position_at (written p.now ++ tail) ≡ Ok (p.now, end_of (written p.now ++ tail)) }
-    ensures spelled { (tail : List ℕ) → EndsWord tail → Spells (words (written p.now ++ tail)) p.now }
+pub fn write_position(p: &Position) -> ArrayVec<u8, TEXT_BYTES>
+    ensures text { result.items ≡ position_text p.now }
+    ensures back { (tail : List ℕ) → EndsWord tail → position_at (position_text p.now ++ tail) ≡ Ok (p.now, end_of (position_text p.now ++ tail)) }
+    ensures spelled { (tail : List ℕ) → EndsWord tail → Spells (words (position_text p.now ++ tail)) p.now }
 {
-    let mut text = ArrayVec::new();
+    // Told to the proof: the position is valid, so that no side holds 100 of a kind.
     p.validity();
+    let mut text = ArrayVec::new();
     push_board(&mut text, &p.board());
-    text.push(b' ');
+    text.push(SPACE);
     text.push(side_letter(p.side()));
-    text.push(b' ');
+    text.push(SPACE);
     push_hands(&mut text, p.hands());
     text
 }

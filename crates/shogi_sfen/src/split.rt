@@ -8,5 +8,5 @@ use crate::word::Words;
 pub fn words(text: &[u8]) -> Words<'_>
     ensures { result ≡ text.now }
 {
-    Words::of(text)
+    Words::new(text)
 }

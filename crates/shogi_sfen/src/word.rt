@@ -5,20 +5,24 @@ ghost use Rattle.std.specs.List.{position_or_len};
 ghost use Rattle.std.specs.Iterator.{item_count};
 ghost use Rattle.shogi_sfen.specs.Words.{is_blank, is_inner, words, GivesWord};
 
+use crate::byte::{SPACE, TAB};
 use std::marker::Model;
 
+/// A space or a tab.
 fn is_blank(byte: u8) -> bool
     ensures { result ≡ is_blank byte }
 {
-    byte == b' ' || byte == b'\t'
+    byte == SPACE || byte == TAB
 }
 
+/// Where the first byte of a word stands.
 fn first_inner(text: &[u8]) -> Option<usize>
     ensures { result ≡ position is_inner text.now }
 {
     text.iter().position(|byte| !is_blank(*byte))
 }
 
+/// Where the first blank stands.
 fn first_blank(text: &[u8]) -> Option<usize>
     ensures { result ≡ position is_blank text.now }
 {
@@ -26,6 +30,7 @@ fn first_blank(text: &[u8]) -> Option<usize>
 }
 
 /// How many blanks the text begins with.
+#[tactic(auto, using(crate::proofs::WordLaws::first_or_len))]
 fn blanks_len(text: &[u8]) -> usize
     ensures value { result ≡ position_or_len is_inner text.now }
     ensures bound { result ≤ length text.now }
@@ -34,6 +39,7 @@ fn blanks_len(text: &[u8]) -> usize
 }
 
 /// How many bytes stand before the first blank.
+#[tactic(auto, using(crate::proofs::WordLaws::first_or_len))]
 fn word_len(text: &[u8]) -> usize
     ensures value { result ≡ position_or_len is_blank text.now }
     ensures bound { result ≤ length text.now }
@@ -57,7 +63,7 @@ impl<'a> Model for Words<'a> {
 
 impl<'a> Words<'a> {
     /// The words of the text.
-    pub fn of(text: &'a [u8]) -> Words<'a>
+    pub fn new(text: &'a [u8]) -> Words<'a>
         ensures { result ≡ text.now }
     {
         Words { text }

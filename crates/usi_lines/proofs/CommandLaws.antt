@@ -5,7 +5,7 @@ use Rattle.std.specs.Option.{option_map_or}
 use Rattle.std.specs.Str.{bytes_eq}
 use Rattle.std.proofs.lemmas.Bool.{cond_both}
 use Rattle.shogi_sfen.specs.Words.{words, after_word}
-use Rattle.shogi_sfen.specs.Numbers.{is_number, number_of}
+use Rattle.shogi_sfen.specs.Numbers.{is_number, number_written}
 use Rattle.usi_lines.specs.declared.command.Hold.{Hold}
 use Rattle.usi_lines.specs.Commands.{Command, Usi, IsReady, NewGame, BadPosition, GoMate, Stop, PonderHit, GameOver, Quit, Start, Sfen, Other, SetDepth, Go, depth_read, depth_set, depth_first, depth_of, position_of, hold_of, has_word, named_by, by_words, command_of, IsDepth, HasDepthInRange}
 
@@ -23,7 +23,7 @@ clamped : (n : ℕ) → IsDepth (max 1 (min 16 n))
 clamped n = record { low = omega arith; high = omega arith }
 
 depth_read_fits : (word : List ℕ) → IfSome (depth_read word) IsDepth
-depth_read_fits word = cond_both (is_number word) (Some (max 1 (min 16 (number_of word)))) None (λ (o : Option ℕ). IfSome o IsDepth) (λ e. clamped (number_of word)) (λ e. tt)
+depth_read_fits word = cond_both (is_number word) (Some (max 1 (min 16 (number_written word)))) None (λ (o : Option ℕ). IfSome o IsDepth) (λ e. clamped (number_written word)) (λ e. tt)
 
 depth_set_fits : (ws : List (List ℕ)) → IfSome (depth_set ws) IsDepth
 depth_set_fits [] = tt

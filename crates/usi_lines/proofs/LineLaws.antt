@@ -6,7 +6,7 @@ use Rattle.std.specs.Str.Lines.{strip_carriage_return}
 use Rattle.std.proofs.lemmas.List.Splits.{slice_split-cons_yes, slice_split-cons_no}
 use Rattle.std.proofs.lemmas.List.Folds.{prefix_len-append, length-prefix_len}
 use Rattle.std.proofs.lemmas.Bool.{cond-true, cond-false, lt-ltb, le-ltb, cond_both}
-use Rattle.shogi_sfen.proofs.Runs.{position_or_len-yes, position_or_len-no, position_or_len-le}
+use Rattle.shogi_sfen.proofs.WordLaws.{position_or_len-yes, position_or_len-no, position_or_len-le}
 use Rattle.usi_lines.specs.Lines.{Text, TooLong, is_line_feed, is_too_long, lines_of_parts, lines}
 
 -- the first part, and some others

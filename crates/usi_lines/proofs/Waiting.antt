@@ -8,7 +8,7 @@ use Rattle.std.proofs.lemmas.List.Sums.{position_or_len_is}
 use Rattle.std.proofs.lemmas.List.Folds.{prefix_len-append}
 use Rattle.std.proofs.lemmas.Bool.{cond-true, cond-false, eq-eqb, ne_eqb, cases_lt, false_from_ne_true}
 use Rattle.memchr.specs.Find.{IsFirstByte, is_byte}
-use Rattle.shogi_sfen.proofs.Runs.{position_or_len-le}
+use Rattle.shogi_sfen.proofs.WordLaws.{position_or_len-le}
 use Rattle.usi_lines.specs.Lines.{Line, Text, TooLong, Buffer, is_line_feed, lines, ahead, IsSearched}
 use Rattle.usi_lines.proofs.LineLaws.{lines-long, lines-open, lines-text, longer}
 

@@ -4,7 +4,7 @@ use Rattle.std.specs.List.{list_any}
 use Rattle.std.specs.Option.{option_map_or}
 use Rattle.std.specs.Str.{bytes_eq}
 use Rattle.shogi_sfen.specs.Words.{words, rest_after}
-use Rattle.shogi_sfen.specs.Numbers.{is_number, number_of}
+use Rattle.shogi_sfen.specs.Numbers.{is_number, number_written}
 use Rattle.usi_lines.specs.declared.command.Hold.{Hold}
 use Rattle.usi_lines.specs.declared.command.Hold.TheVariants.{Nothing, UntilStop, UntilHit}
 
@@ -21,7 +21,7 @@ has_word name ws = list_any (λ word. bytes_eq word name) ws
 
 -- a depth, clamped to 1 to 16, where the word is a number
 abbrev pub depth_read : List ℕ → Option ℕ
-depth_read word = cond (is_number word) (Some (max 1 (min 16 (number_of word)))) None
+depth_read word = cond (is_number word) (Some (max 1 (min 16 (number_written word)))) None
 
 -- exactly the words name Depth value N
 abbrev pub depth_set : List (List ℕ) → Option ℕ

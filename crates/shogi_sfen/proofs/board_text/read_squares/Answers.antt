@@ -1,6 +1,6 @@
 use Rattle.std.proofs.Common.{◌≡◌, ◌<◌, ◌≤◌, ◌∙◌, ◌++◌, ◌+◌, ℕ, List, ap, sym, subst, length, rules}
 use Rattle.shogi_sfen.specs.BoardTexts.{rank_of}
-use Rattle.shogi_sfen.proofs.RankLaws.{HasRanks, ranks-step, ranks-short, ranks-wrong, ranks-long, ranks-last_wrong, ranks-last}
+use Rattle.shogi_sfen.proofs.BoardLaws.{HasRanks, ranks-step, ranks-short, ranks-wrong, ranks-long, ranks-last_wrong, ranks-last}
 use Rattle.shogi_sfen.proofs.board_text.read_squares.Goals as goal
 
 pub returns-then-len-rest-clause-value : goal.returns-then-len-rest-clause-value

@@ -1,4 +1,4 @@
-use Rattle.shogi_sfen.proofs.RankLaws.{HasRanks}
+use Rattle.shogi_sfen.proofs.BoardLaws.{HasRanks}
 use Rattle.shogi_sfen.proofs.board_text.read_squares.Given as goal
 
 -- so many ranks were read

@@ -4,7 +4,7 @@ use Rattle.shogi_core.specs.Position.{Shogi, HandCounts, held}
 use Rattle.shogi_sfen.specs.declared.position.SfenFault.{SfenFault}
 use Rattle.shogi_sfen.specs.Sfen.{end_of}
 use Rattle.shogi_sfen.proofs.SpelledPositions.{read-spelled}
-use Rattle.shogi_sfen.specs.Written.{written, board_text, side_text, hands_text}
+use Rattle.shogi_sfen.specs.Written.{position_text, board_text, side_text, hands_text}
 use Rattle.shogi_sfen.proofs.WriteLaws.{few_held, assembled}
 use Rattle.shogi_sfen.proofs.WordsBack.{written_back}
 use Rattle.shogi_sfen.proofs.position_text.write_position.Goals as goal
@@ -18,12 +18,12 @@ returns-clause-back c = λ tail ends. written_back c.args.p.now c.validity.ensur
 
 pub returns-clause-spelled : goal.returns-clause-spelled
 returns-clause-spelled c = λ tail ends.
-    let text : List ℕ = written c.args.p.now ++ tail in
+    let text : List ℕ = position_text c.args.p.now ++ tail in
     let r : Result (Shogi × ℕ) SfenFault = Ok (c.args.p.now, end_of text) in
     (read-spelled text r (sym (written_back c.args.p.now c.validity.ensures tail ends))).0
 
 pub returns-clause-text : goal.returns-clause-text
-unfolding written
+unfolding position_text
 returns-clause-text c =
     assembled (board_text c.args.p.now.cells) c.push.new.self.items c.push-2.new.self.items c.push-3.new.self.items c.push_hands.new.text.items (side_text c.args.p.now.side) (hands_text c.args.p.now.hands) c.side_letter.result
     (c.push.ensures.items ∙ ap (λ (t : List ℕ). t ++ 32 ∷ []) (c.push_board.ensures.value ∙ ap board_text c.board.ensures))

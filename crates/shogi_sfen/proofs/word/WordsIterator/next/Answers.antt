@@ -1,6 +1,6 @@
 use Rattle.std.proofs.Common.{◌≡◌, refl, ◌<◌, ◌∙◌, ap, sym, subst, rules, ℕ, List, length}
 use Rattle.shogi_sfen.specs.Words.{words}
-use Rattle.shogi_sfen.proofs.Runs.{next_word, no_word, IsNextWord}
+use Rattle.shogi_sfen.proofs.WordLaws.{next_word, no_word, IsNextWord}
 use Rattle.shogi_sfen.proofs.word.WordsIterator.next.Goals as goal
 
 pub returns-then-is_empty-clause-steps : goal.returns-then-is_empty-clause-steps

@@ -1,0 +1,135 @@
+//! The letters of pieces.
+
+ghost use Rattle.std.specs.Prelude.{◌≡◌, ◌<◌};
+ghost use Rattle.shogi_core.specs.Pieces.{kind_of};
+ghost use Rattle.shogi_sfen.specs.Letters.{letter_of, kind_named, is_promoted, letter_or_king, as_side, piece_letter, is_named, color_of_letter, role_named, piece_named};
+
+use crate::byte::{KING, TO_LOWER_CASE};
+use shogi_core::{Color, KINDS, Kind, Piece, Role};
+
+/// The upper-case letter of the kind.
+pub fn letter_of(kind: Kind) -> u8
+    ensures value { result ≡ letter_of kind }
+    ensures small { result < 91 }
+{
+    match kind {
+        Kind::Pawn => b'P',
+        Kind::Lance => b'L',
+        Kind::Knight => b'N',
+        Kind::Silver => b'S',
+        Kind::Gold => b'G',
+        Kind::Bishop => b'B',
+        Kind::Rook => b'R',
+    }
+}
+
+/// The kind that has the letter.
+#[tactic(auto, unfolding(crate::specs::Letters::kind_named))]
+pub fn read_kind(letter: u8) -> Option<Kind>
+    ensures { result ≡ kind_named letter }
+{
+    KINDS
+        .iter()
+        .copied()
+        .find(|kind| letter_of(*kind) == letter)
+}
+
+/// Whether it is a promoted role.
+pub fn is_promoted(role: Role) -> bool
+    ensures { result ≡ is_promoted role }
+{
+    matches!(
+        role,
+        Role::PromotedPawn
+            | Role::PromotedLance
+            | Role::PromotedKnight
+            | Role::PromotedSilver
+            | Role::Horse
+            | Role::Dragon
+    )
+}
+
+/// The upper-case letter of what the role is in hand, or of a king.
+fn letter_of_role(role: Role) -> u8
+    ensures value { result ≡ letter_or_king (kind_of role) }
+    ensures small { result < 91 }
+{
+    match role.kind() {
+        Some(kind) => letter_of(kind),
+        None => KING,
+    }
+}
+
+/// The letter in the case of the side.
+pub fn as_side(color: Color, letter: u8) -> u8
+    requires { letter < 91 }
+    ensures { result ≡ as_side color letter }
+{
+    match color {
+        Color::Black => letter,
+        Color::White => letter + TO_LOWER_CASE,
+    }
+}
+
+/// The letter of the piece, in the case of its side.
+pub fn piece_letter(piece: Piece) -> u8
+    ensures { result ≡ piece_letter piece }
+{
+    as_side(piece.color, letter_of_role(piece.role))
+}
+
+/// Every role.
+const ROLES: [Role; 14] = [
+    Role::King,
+    Role::Pawn,
+    Role::Lance,
+    Role::Knight,
+    Role::Silver,
+    Role::Gold,
+    Role::Bishop,
+    Role::Rook,
+    Role::PromotedPawn,
+    Role::PromotedLance,
+    Role::PromotedKnight,
+    Role::PromotedSilver,
+    Role::Horse,
+    Role::Dragon,
+];
+
+/// Whether the letter names the piece, behind a plus or not.
+fn is_named(plus: bool, letter: u8, piece: Piece) -> bool
+    ensures { result ≡ is_named plus letter piece }
+{
+    is_promoted(piece.role) == plus && piece_letter(piece) == letter
+}
+
+/// The side of a letter.
+fn color_of_letter(letter: u8) -> Color
+    ensures { result ≡ color_of_letter letter }
+{
+    if letter < b'a' {
+        Color::Black
+    } else {
+        Color::White
+    }
+}
+
+/// The role that the letter names for the side, behind a plus or not.
+fn read_role(plus: bool, letter: u8, color: Color) -> Option<Role>
+    ensures { result ≡ role_named plus letter color }
+{
+    ROLES.iter().copied().find(|role| is_named(plus, letter, Piece { color, role: *role }))
+}
+
+/// The piece that the letter names, behind a plus or not: upper case is Black's, lower case
+/// White's.
+#[tactic(auto, unfolding(crate::specs::Letters::piece_named))]
+pub fn read_piece(plus: bool, letter: u8) -> Option<Piece>
+    ensures { result ≡ piece_named plus letter }
+{
+    let color = color_of_letter(letter);
+    match read_role(plus, letter, color) {
+        Some(role) => Some(Piece { color, role }),
+        None => None,
+    }
+}
