@@ -12,7 +12,7 @@ use Rattle.shogi_moves.specs.LegalMoves.{legal_moves}
 use Rattle.shogi_moves.specs.Rising.{is_in}
 use Rattle.shogi_eval.specs.Material.{material_of}
 use Rattle.shogi_eval.proofs.Bounds.{material_bounds}
-use Rattle.shogi_search.specs.Minimax.{value, best, best_code, move_at, tree, worth, lost, negated, greatest_of, at_leaf, subtrees}
+use Rattle.shogi_search.specs.Minimax.{value, best, best_code, move_at, tree_size, worth, lost, negated, greatest_of, at_leaf, subtrees}
 use Rattle.shogi_search.proofs.Greatest.{greatest_of-above, greatest_of-least}
 use Rattle.shogi_search.proofs.Valid.{after_valid}
 
@@ -41,13 +41,13 @@ pub best_code-suc : (p : Shogi) (d : ℕ) → best_code p (suc d) ≡ find (λ m
 unfolding best_code
 best_code-suc p d = refl
 
-pub tree-leaf : (p : Shogi) → tree p 0 ≡ 1
-unfolding tree
-tree-leaf p = refl
+pub tree_size-leaf : (p : Shogi) → tree_size p 0 ≡ 1
+unfolding tree_size
+tree_size-leaf p = refl
 
-pub tree-suc : (p : Shogi) (d : ℕ) → tree p (suc d) ≡ 1 + sum_by (λ m. tree (after_code p m) d) (legal_moves p)
-unfolding tree
-tree-suc p d = refl
+pub tree_size-suc : (p : Shogi) (d : ℕ) → tree_size p (suc d) ≡ 1 + sum_by (λ m. tree_size (after_code p m) d) (legal_moves p)
+unfolding tree_size
+tree_size-suc p d = refl
 
 -- the values lie between being lost and winning at the next ply
 pub record Within (d : ℕ) (v : ℤ) : Type 0 where
@@ -83,9 +83,9 @@ pub best_code-above : (p : Shogi) (d : ℕ) → 0 < d → best_code p d ≡ find
 best_code-above p zero h = absurd (omega arith)
 best_code-above p (suc d) h = let e : suc d - 1 ≡ d = omega arith in rw e (best_code-suc p d)
 
-pub tree-above : (p : Shogi) (d : ℕ) → 0 < d → tree p d ≡ 1 + subtrees p (d - 1) (legal_moves p)
-tree-above p zero h = absurd (omega arith)
-tree-above p (suc d) h = let e : suc d - 1 ≡ d = omega arith in rw e (tree-suc p d)
+pub tree_size-above : (p : Shogi) (d : ℕ) → 0 < d → tree_size p d ≡ 1 + subtrees p (d - 1) (legal_moves p)
+tree_size-above p zero h = absurd (omega arith)
+tree_size-above p (suc d) h = let e : suc d - 1 ≡ d = omega arith in rw e (tree_size-suc p d)
 
 leaf_at : (p : Shogi) (ms : List ℕ) → legal_moves p ≡ ms → (ms ≡ [] → ⊥) → value p 0 ≡ material_of p
 leaf_at p [] e ne = absurd (ne refl)
@@ -103,13 +103,13 @@ leaf_none p nn = leaf_empty p (legal_moves p) refl nn
 
 pub ruleset leaves = (leaf_some, leaf_none)
 
-pub subtrees-next : (p : Shogi) (d m : ℕ) (q : Shogi) (xs rest : List ℕ) → q ≡ after_code p m → xs ≡ m ∷ rest → subtrees p d xs ≡ tree q d + subtrees p d rest
-subtrees-next p d m q xs rest a e = ap (subtrees p d) e ∙ sum_by-cons (λ k. tree (after_code p k) d) m rest ∙ ap (λ (x : Shogi). tree x d + subtrees p d rest) (sym a)
+pub subtrees-next : (p : Shogi) (d m : ℕ) (q : Shogi) (xs rest : List ℕ) → q ≡ after_code p m → xs ≡ m ∷ rest → subtrees p d xs ≡ tree_size q d + subtrees p d rest
+subtrees-next p d m q xs rest a e = ap (subtrees p d) e ∙ sum_by-cons (λ k. tree_size (after_code p k) d) m rest ∙ ap (λ (x : Shogi). tree_size x d + subtrees p d rest) (sym a)
 
 -- a tree has its root
-pub tree-positive : (p : Shogi) (d : ℕ) → 1 ≤ tree p d
-tree-positive p zero = rw tree-leaf (omega arith)
-tree-positive p (suc d) = rw tree-suc (omega arith)
+pub tree_size-positive : (p : Shogi) (d : ℕ) → 1 ≤ tree_size p d
+tree_size-positive p zero = rw tree_size-leaf (omega arith)
+tree_size-positive p (suc d) = rw tree_size-suc (omega arith)
 
 -- what a child's value says of its move
 pub worth_from : (p : Shogi) (d m : ℕ) (q : Shogi) (r : ℤ) → r ≡ value q d → q ≡ after_code p m → worth p d m ≡ pos 0 -ℤ r

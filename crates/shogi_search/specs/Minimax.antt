@@ -68,13 +68,13 @@ line p zero = []
 line p (suc d) = then_line (λ q. line q d) p (best p (suc d))
 
 -- the nodes of the whole tree
-unfoldable pub tree : Shogi → ℕ → ℕ
-tree p zero = 1
-tree p (suc d) = 1 + sum_by (λ m. tree (after_code p m) d) (legal_moves p)
+unfoldable pub tree_size : Shogi → ℕ → ℕ
+tree_size p zero = 1
+tree_size p (suc d) = 1 + sum_by (λ m. tree_size (after_code p m) d) (legal_moves p)
 
 -- the nodes of the trees after these moves, each of depth d
 abbrev pub subtrees : Shogi → ℕ → List ℕ → ℕ
-subtrees p d ms = sum_by (λ m. tree (after_code p m) d) ms
+subtrees p d ms = sum_by (λ m. tree_size (after_code p m) d) ms
 
 -- what follows a move costs
 abbrev pub then_chase : (Shogi → ℕ) → Shogi → Option Move → ℕ
@@ -84,7 +84,7 @@ then_chase rest p (Some m) = rest (after p m)
 -- the steps that may be made for the best line: two for each node of the trees along it
 unfoldable pub chase : Shogi → ℕ → ℕ
 chase p zero = 0
-chase p (suc k) = 2 * tree p (suc k) + then_chase (λ q. chase q k) p (best p (suc k))
+chase p (suc k) = 2 * tree_size p (suc k) + then_chase (λ q. chase q k) p (best p (suc k))
 
 -- the steps that may be made for the best lines of each depth from 1 on
 unfoldable pub cost : Shogi → ℕ → ℕ

@@ -3,17 +3,17 @@
 
 mod found;
 mod frame;
+mod full_search;
 mod memo;
-mod order;
-mod slices;
+mod move_picker;
+mod sliced_search;
 mod stack;
-mod whole;
 mod window;
 
 pub use found::Found;
+pub use full_search::search;
 pub use memo::{Entry, Memo, NoMemo};
-pub use slices::Search;
-pub use whole::search;
+pub use sliced_search::Search;
 
 #[cfg(test)]
 mod agreement;

@@ -3,7 +3,7 @@
 ghost use Rattle.std.specs.Prelude.{◌≡◌, ◌≤◌, ◌*◌, ◌≤ℤ◌, true, pos, negsuc, [], ◌↔◌, ◌⊎◌, IfSome, IsNone};
 ghost use Rattle.shogi_moves.specs.Legal.{is_legal};
 ghost use Rattle.shogi_moves.specs.LegalMoves.{legal_moves};
-ghost use Rattle.shogi_search.specs.Minimax.{value, best, tree};
+ghost use Rattle.shogi_search.specs.Minimax.{value, best, tree_size};
 
 use crate::found::Found;
 use crate::window::passes;
@@ -29,7 +29,7 @@ pub fn negamax(p: &Position, depth: u8) -> Found
     ensures most { result.value ≤ℤ pos 30016 }
     ensures best { result.best ≡ best p.now depth }
     ensures legal { IfSome result.best (λ m. is_legal p.now m ≡ true) }
-    ensures steps { result.steps ≤ 2 * tree p.now depth }
+    ensures steps { result.steps ≤ 2 * tree_size p.now depth }
 {
     p.validity();
     if depth == 0 {
@@ -39,7 +39,7 @@ pub fn negamax(p: &Position, depth: u8) -> Found
             steps: 2,
         };
     }
-    let mut top = -31000;
+    let mut best_value = -31000;
     let mut best: Option<Move> = None;
     let mut steps: u64 = 1;
     let mut passed: Option<Move> = None;
@@ -49,8 +49,8 @@ pub fn negamax(p: &Position, depth: u8) -> Found
         let worth = -found.value;
         steps = steps.saturating_add(found.steps);
         passed = Some(visited);
-        if passes(worth, &tried, top, &best) {
-            top = worth;
+        if passes(worth, &tried, best_value, &best) {
+            best_value = worth;
             best = Some(raising);
         }
     }
@@ -60,7 +60,7 @@ pub fn negamax(p: &Position, depth: u8) -> Found
         Some(m) => {
             m.code();
             Found {
-                value: top,
+                value: best_value,
                 best: kept,
                 steps,
             }
