@@ -1,5 +1,3 @@
-use Rattle.std.proofs.Common.{negsuc}
-use Rattle.shogi_search.specs.Minimax.{worth}
 use Rattle.shogi_search.proofs.Cover.{IsCovered-start}
 use Rattle.shogi_search.proofs.frame.FrameDefault.default.Goals as goal
 

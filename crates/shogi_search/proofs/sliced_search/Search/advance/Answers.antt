@@ -1,7 +1,6 @@
-use Rattle.std.proofs.Common.{◌≡◌, ◌<◌, ◌≤◌, ◌*◌, ℕ, Bool, false, Option, None, Some, rules, arith, refl}
+use Rattle.std.proofs.Common.{◌≡◌, ◌<◌, ℕ, Bool, false, Option, None, Some, rules, arith}
 use Rattle.std.specs.Prelude.{is_some}
 use Rattle.shogi_search.specs.declared.found.Found.{Found}
-use Rattle.shogi_search.specs.Minimax.{tree_size}
 use Rattle.shogi_search.specs.SlicedSearch.{left_in}
 use Rattle.shogi_search.proofs.MinimaxLaws.{tree_size-positive}
 use Rattle.shogi_search.proofs.sliced_search.Search.advance.Goals as goal
