@@ -17,6 +17,7 @@ use Rattle.shogi_search.specs.Order.{todo}
 use Rattle.shogi_search.specs.Window.{threshold, code_at}
 use Rattle.shogi_search.specs.Stack.{IsAt, IsSame, IsChain, IsStack, WhereAsked, parents_of, left_of_frame, left_of_waiting}
 use Rattle.shogi_search.proofs.MinimaxLaws.{subtrees-next}
+use Rattle.shogi_search.specs.declared.bounds.TheConstants.{GREATEST_DEPTH, INFINITY}
 
 -- a node is the child that another one has asked for by this move
 pub record IsChild (f q : Frame) (m : Move) : Type 0 where
@@ -114,15 +115,15 @@ chain_height p d alpha beta (h ∷ fs) f c =
     omega arith
 
 -- a chain from the root makes a stack
-pub stack_at : (s : Stack) (p : Shogi) (d : ℕ) → s.root ≡ p → s.depth ≡ d → d ≤ 16 → s.height ≤ 16 → IsChain p d (negsuc 30999) (pos 31000) (parents_of s) s.top → IsStack s
+pub stack_at : (s : Stack) (p : Shogi) (d : ℕ) → s.root ≡ p → s.depth ≡ d → d ≤ GREATEST_DEPTH → s.height ≤ GREATEST_DEPTH → IsChain p d (negated INFINITY) INFINITY (parents_of s) s.top → IsStack s
 stack_at s p d e h shallow fits c = record {
-  shallow = subst (λ (x : ℕ). x ≤ 16) (sym h) shallow;
+  shallow = subst (λ (x : ℕ). x ≤ GREATEST_DEPTH) (sym h) shallow;
   height_fits = fits;
-  chain = subst (λ (x : Shogi). IsChain x s.depth (negsuc 30999) (pos 31000) (parents_of s) s.top) (sym e) (subst (λ (x : ℕ). IsChain p x (negsuc 30999) (pos 31000) (parents_of s) s.top) (sym h) c);
+  chain = subst (λ (x : Shogi). IsChain x s.depth (negated INFINITY) INFINITY (parents_of s) s.top) (sym e) (subst (λ (x : ℕ). IsChain p x (negated INFINITY) INFINITY (parents_of s) s.top) (sym h) c);
 }
 
 -- so there is room above a node that waits for a child
-pub room : (p : Shogi) (d : ℕ) (alpha beta : ℤ) (height : ℕ) (all : List Frame) (f : Frame) → d ≤ 16 → height ≤ 16 → length all ≡ 16 → 0 < f.depth → IsChain p d alpha beta (take height all) f → height < 16
+pub room : (p : Shogi) (d : ℕ) (alpha beta : ℤ) (height : ℕ) (all : List Frame) (f : Frame) → d ≤ GREATEST_DEPTH → height ≤ GREATEST_DEPTH → length all ≡ 16 → 0 < f.depth → IsChain p d alpha beta (take height all) f → height < 16
 room p d alpha beta height all f shallow fits full deep c =
     omega (arith, chain_height p d alpha beta (take height all) f c, length-take-le height all (omega arith))
 

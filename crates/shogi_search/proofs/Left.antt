@@ -8,10 +8,11 @@ use Rattle.shogi_core.specs.Position.{Shogi}
 use Rattle.shogi_core.specs.Validity.{IsValid}
 use Rattle.shogi_moves.specs.LegalMoves.{legal_moves}
 use Rattle.shogi_moves.specs.Rising.{IsRising}
-use Rattle.shogi_search.specs.Minimax.{value, best, best_code, worth, lost, greatest_of}
+use Rattle.shogi_search.specs.Minimax.{value, best, best_code, worth, lost, greatest_of, negated}
 use Rattle.shogi_search.specs.Window.{IsCovered, code_at}
 use Rattle.shogi_search.proofs.Cover.{ended_exact, ended_first, ended_low, at_end}
 use Rattle.shogi_search.proofs.MinimaxLaws.{value-above, best_code-above, best-code, value_within, Within}
+use Rattle.shogi_search.specs.declared.bounds.TheConstants.{GREATEST_DEPTH, INFINITY}
 
 -- the value and the best move
 pub record IsFound (p : Shogi) (d : ℕ) (v : ℤ) (m : Option Move) : Type 0 where
@@ -45,7 +46,7 @@ low_of none f (m ∷ ms) alpha best_value ne c = ended_low none f m ms alpha bes
 pub left_low : (p : Shogi) (d : ℕ) (alpha best_value : ℤ) → 0 < d → (legal_moves p ≡ [] → ⊥) → IsCovered (worth p (d - 1)) (legal_moves p) [] alpha best_value None → value p d ≤ℤ best_value
 left_low p d alpha best_value h ne c = rw (value-above p d h) (low_of (lost d) (worth p (d - 1)) (legal_moves p) alpha best_value ne c)
 
-none_of : (p : Shogi) (d : ℕ) (alpha best_value : ℤ) → 0 < d → d ≤ 16 → IsValid p → best_value ≡ alpha → alpha ≡ negsuc 30999 → (ms : List ℕ) → legal_moves p ≡ ms → IsCovered (worth p (d - 1)) (legal_moves p) [] alpha best_value None → legal_moves p ≡ []
+none_of : (p : Shogi) (d : ℕ) (alpha best_value : ℤ) → 0 < d → d ≤ GREATEST_DEPTH → IsValid p → best_value ≡ alpha → alpha ≡ negated INFINITY → (ms : List ℕ) → legal_moves p ≡ ms → IsCovered (worth p (d - 1)) (legal_moves p) [] alpha best_value None → legal_moves p ≡ []
 none_of p d alpha best_value h h' v q r [] e c = e
 none_of p d alpha best_value h h' v q r (m ∷ ms) e c =
     let ne : legal_moves p ≡ [] → ⊥ = λ z. cc in
@@ -54,10 +55,10 @@ none_of p d alpha best_value h h' v q r (m ∷ ms) e c =
     absurd (omega (arith, ints))
 
 -- without a best move above a value that no position has, no move is legal
-pub found_none : (p : Shogi) (d : ℕ) (best_value : ℤ) (todo : List ℕ) (best_so_far : Option Move) → 0 < d → d ≤ 16 → IsValid p → todo ≡ [] → best_so_far ≡ None → IsCovered (worth p (d - 1)) (legal_moves p) todo (negsuc 30999) best_value (code_at best_so_far) → IsFound p d (lost d) None
+pub found_none : (p : Shogi) (d : ℕ) (best_value : ℤ) (todo : List ℕ) (best_so_far : Option Move) → 0 < d → d ≤ GREATEST_DEPTH → IsValid p → todo ≡ [] → best_so_far ≡ None → IsCovered (worth p (d - 1)) (legal_moves p) todo (negated INFINITY) best_value (code_at best_so_far) → IsFound p d (lost d) None
 found_none p d best_value todo best_so_far h h' v e q c =
-    let n : IsCovered (worth p (d - 1)) (legal_moves p) [] (negsuc 30999) best_value None = at_end _ _ _ _ _ _ _ e (ap code_at q) c in
-    left_lost p d h (none_of p d (negsuc 30999) best_value h h' v n.reached refl (legal_moves p) refl n)
+    let n : IsCovered (worth p (d - 1)) (legal_moves p) [] (negated INFINITY) best_value None = at_end _ _ _ _ _ _ _ e (ap code_at q) c in
+    left_lost p d h (none_of p d (negated INFINITY) best_value h h' v n.reached refl (legal_moves p) refl n)
 
 -- without a best move and with a legal one
 pub found_low : (p : Shogi) (d : ℕ) (alpha best_value : ℤ) (todo : List ℕ) (best_so_far : Option Move) → 0 < d → todo ≡ [] → best_so_far ≡ None → (legal_moves p ≡ [] → ⊥) → IsCovered (worth p (d - 1)) (legal_moves p) todo alpha best_value (code_at best_so_far) → (value p d ≤ℤ best_value) × (best_value ≡ alpha)

@@ -15,6 +15,8 @@ use Rattle.shogi_eval.proofs.Bounds.{material_bounds}
 use Rattle.shogi_search.specs.Minimax.{value, best, best_code, move_at, tree_size, worth, lost, negated, greatest_of, at_leaf, subtrees}
 use Rattle.shogi_search.proofs.Greatest.{greatest_of-above, greatest_of-least}
 use Rattle.shogi_search.proofs.Valid.{after_valid}
+use Rattle.shogi_search.specs.declared.bounds.TheConstants.{MATE}
+use Rattle.std.specs.Prelude.{◌+ℤ◌}
 
 pub value-leaf : (p : Shogi) → value p 0 ≡ at_leaf (lost 0) (material_of p) (legal_moves p)
 unfolding value
@@ -52,7 +54,7 @@ tree_size-suc p d = refl
 -- the values lie between being lost and winning at the next ply
 pub record Within (d : ℕ) (v : ℤ) : Type 0 where
   pub least : lost d ≤ℤ v
-  pub most : v ≤ℤ pos (30000 + d)
+  pub most : v ≤ℤ (MATE +ℤ pos d)
 
 leaf_within : (ms : List ℕ) (v : ℤ) → negsuc 25199 ≤ℤ v → v ≤ℤ pos 25200 → Within 0 (at_leaf (lost 0) v ms)
 leaf_within [] v l h = record { least = omega (arith, ints); most = omega (arith, ints) }
@@ -63,7 +65,7 @@ greatest_within d f [] h = record { least = omega (arith, ints); most = omega (a
 greatest_within d f (m ∷ ms) h =
     let here : is_in m (m ∷ ms) ≡ true = or_left _ _ (eq-eqb m m refl) in
     let above : f m ≤ℤ greatest_of (lost (suc d)) f (m ∷ ms) = greatest_of-above (lost (suc d)) f (m ∷ ms) m here in
-    let below : greatest_of (lost (suc d)) f (m ∷ ms) ≤ℤ pos (30000 + d) = greatest_of-least (lost (suc d)) f (m ∷ ms) m (pos (30000 + d)) here (λ n i. (h n i).most) in
+    let below : greatest_of (lost (suc d)) f (m ∷ ms) ≤ℤ (MATE +ℤ pos d) = greatest_of-least (lost (suc d)) f (m ∷ ms) m (MATE +ℤ pos d) here (λ n i. (h n i).most) in
     let first : lost d ≤ℤ f m = (h m here).least in
     record { least = omega (arith, ints); most = omega (arith, ints) }
 

@@ -1,5 +1,5 @@
 -- Nodes of any depth: a leaf goes through no moves.
-use Rattle.std.proofs.Common.{◌≡◌, ◌<◌, ◌≤◌, ◌+◌, ◌-◌, ◌*◌, ℕ, zero, suc, ℤ, negsuc, ◌≤ℤ◌, List, [], ◌∷◌, true, ◌==◌, Option, Some, None, MatchOption, refl, sym, ap, ◌∙◌, arith, subst}
+use Rattle.std.proofs.Common.{◌≡◌, ◌<◌, ◌≤◌, ◌+◌, ◌-◌, ◌*◌, ℕ, zero, suc, ℤ, negsuc, ◌≤ℤ◌, List, [], ◌∷◌, true, ◌==◌, Option, Some, None, MatchOption, refl, sym, ap, ◌∙◌, arith, subst, ◌<ℤ◌}
 use Rattle.std.specs.Option.{ForSome}
 use Rattle.std.proofs.lemmas.Bool.{or_left, eq-eqb}
 use Rattle.std.proofs.lemmas.Bool.Decides.{nat_tests}
@@ -13,7 +13,7 @@ use Rattle.shogi_moves.specs.LegalMoves.{legal_moves}
 use Rattle.shogi_moves.specs.Rising.{is_in}
 use Rattle.shogi_search.specs.declared.move_picker.MovePicker.{MovePicker}
 use Rattle.shogi_search.specs.declared.move_picker.MovePicker.TheVariants.{HashMove, Start, Done}
-use Rattle.shogi_search.specs.Minimax.{tree_size, subtrees, value, best, worth, lost, greatest_of}
+use Rattle.shogi_search.specs.Minimax.{tree_size, subtrees, value, best, worth, lost, greatest_of, negated}
 use Rattle.shogi_search.specs.Window.{IsCovered, threshold}
 use Rattle.shogi_search.specs.Order.{todo, IsKept}
 use Rattle.shogi_search.specs.declared.frame.Waiting.{Waiting}
@@ -24,6 +24,7 @@ use Rattle.shogi_search.proofs.OrderLaws.{IsWhole, whole, whole_covered}
 use Rattle.shogi_search.proofs.Cover.{IsCovered-start}
 use Rattle.shogi_search.proofs.Valid.{after_valid}
 use Rattle.shogi_search.proofs.Greatest.{greatest_of-above}
+use Rattle.shogi_search.specs.declared.bounds.TheConstants.{GREATEST_DEPTH, INFINITY}
 
 -- a node with a move that waits is no leaf
 pub record IsWaiting (f : ℕ → ℤ) (p : Shogi) (d m : ℕ) (rest : List ℕ) (alpha best_value : ℤ) (b : Option ℕ) : Type 0 where
@@ -99,16 +100,16 @@ cut p d m v h i l =
 pub cuts : (p : Shogi) (d : ℕ) (beta v v' : ℤ) → v' ≡ v → v ≤ℤ value p d → beta ≤ℤ v → (v' ≤ℤ value p d) × (beta ≤ℤ v')
 cuts p d beta v v' e l h = (subst (λ (y : ℤ). y ≤ℤ value p d) (sym e) l, subst (λ (y : ℤ). beta ≤ℤ y) (sym e) h)
 
-threshold_falls_one : (best_value : ℤ) (b m : ℕ) → negsuc 30016 ≤ℤ best_value → negsuc 30999 ≤ℤ threshold best_value (Some b) m
+threshold_falls_one : (best_value : ℤ) (b m : ℕ) → negated INFINITY <ℤ best_value → negated INFINITY ≤ℤ threshold best_value (Some b) m
 threshold_falls_one best_value b m t = grind (arith, ints, nat_tests)
 
 -- the threshold of a node is no less than what no position reaches
-pub threshold_least : (p : Shogi) (d : ℕ) (alpha best_value : ℤ) (rest : List ℕ) (b : Option ℕ) (m : ℕ) → IsValid p → d ≤ 16 → negsuc 30999 ≤ℤ alpha → IsCovered (worth p (d - 1)) (legal_moves p) rest alpha best_value b → (negsuc 30999 ≤ℤ best_value) × (negsuc 30999 ≤ℤ threshold best_value b m)
+pub threshold_least : (p : Shogi) (d : ℕ) (alpha best_value : ℤ) (rest : List ℕ) (b : Option ℕ) (m : ℕ) → IsValid p → d ≤ GREATEST_DEPTH → negated INFINITY ≤ℤ alpha → IsCovered (worth p (d - 1)) (legal_moves p) rest alpha best_value b → (negated INFINITY ≤ℤ best_value) × (negated INFINITY ≤ℤ threshold best_value b m)
 threshold_least p d alpha best_value rest None m ok h l c = let e : best_value ≡ alpha = c.reached in (omega (arith, ints), omega (arith, ints))
 threshold_least p d alpha best_value rest (Some b) m ok h l c =
     let w : Within (d - 1) (value (after_code p b) (d - 1)) = value_within (d - 1) (after_code p b) (after_valid p b ok c.reached.0) in
     let e : worth p (d - 1) b ≡ best_value = c.reached.1 in
-    let t : negsuc 30016 ≤ℤ best_value = omega (arith, ints) in
+    let t : negated INFINITY <ℤ best_value = omega (arith, ints) in
     (omega (arith, ints), threshold_falls_one best_value b m t)
 
 -- what is known of a leaf that is still to be taken in

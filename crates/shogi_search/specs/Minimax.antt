@@ -1,5 +1,5 @@
 -- Minimax at a fixed depth (own choice: the depth is exact, a side without a legal move has lost, and among equal moves the least code is best).
-use Rattle.std.specs.Prelude.{◌≡◌, ◌≤ℤ◌, ℕ, zero, suc, ℤ, pos, ◌-ℤ◌, ◌+◌, ◌*◌, List, [], ◌∷◌, Option, Some, None, find, sum_by}
+use Rattle.std.specs.Prelude.{◌≡◌, ◌≤ℤ◌, ℕ, zero, suc, ℤ, pos, ◌-ℤ◌, ◌+◌, ◌*◌, List, [], ◌∷◌, Option, Some, None, find, sum_by, ◌+ℤ◌}
 use Rattle.std.specs.Int.{int_max}
 use Rattle.std.specs.Ordering.{int_eq}
 use Rattle.shogi_core.specs.declared.moves.Move.{Move}
@@ -10,14 +10,15 @@ use Rattle.shogi_moves.specs.LegalMoves.{legal_moves}
 use Rattle.shogi_eval.specs.Material.{material_of}
 use Rattle.shogi_search.specs.declared.memo.Entry.{Entry}
 use Rattle.shogi_search.specs.declared.memo.Entry.TheVariants.{Exact, AtLeast, AtMost}
-
--- the value of a side that has lost, in check or not, with d plies left
-abbrev pub lost : ℕ → ℤ
-lost d = pos 0 -ℤ pos (30000 + d)
+use Rattle.shogi_search.specs.declared.bounds.TheConstants.{MATE}
 
 -- a value as the other side sees it
 abbrev pub negated : ℤ → ℤ
 negated v = pos 0 -ℤ v
+
+-- the value of a side that has lost, in check or not, with d plies left
+abbrev pub lost : ℕ → ℤ
+lost d = negated (MATE +ℤ pos d)
 
 -- the greatest of f at m and at each of the list
 abbrev pub greatest : (ℕ → ℤ) → ℕ → List ℕ → ℤ

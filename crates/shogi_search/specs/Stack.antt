@@ -11,6 +11,7 @@ use Rattle.shogi_search.specs.declared.stack.Stack.{Stack}
 use Rattle.shogi_search.specs.Minimax.{negated, subtrees}
 use Rattle.shogi_search.specs.Order.{todo}
 use Rattle.shogi_search.specs.Window.{threshold, code_at}
+use Rattle.shogi_search.specs.declared.bounds.TheConstants.{GREATEST_DEPTH, INFINITY}
 
 -- a frame stands for a position at a depth, under a window
 pub record IsAt (p : Shogi) (d : ℕ) (alpha beta : ℤ) (frame : Frame) : Type 0 where
@@ -41,9 +42,9 @@ parents_of s = take s.height s.parents
 
 -- a chain from the root, under the whole window
 pub record IsStack (s : Stack) : Type 0 where
-  pub shallow : s.depth ≤ 16
-  pub height_fits : s.height ≤ 16
-  pub chain : IsChain s.root s.depth (negsuc 30999) (pos 31000) (parents_of s) s.top
+  pub shallow : s.depth ≤ GREATEST_DEPTH
+  pub height_fits : s.height ≤ GREATEST_DEPTH
+  pub chain : IsChain s.root s.depth (negated INFINITY) INFINITY (parents_of s) s.top
 
 -- a leaf whose value is still to be taken in
 abbrev pub left_of_waiting : Waiting → ℕ

@@ -14,7 +14,9 @@ ghost use Rattle.shogi_search.specs.Entries.{IsCutoff};
 ghost use Rattle.shogi_search.specs.Order.{todo, IsKept, IsKept-prop};
 ghost use Rattle.shogi_search.specs.Visits.{IsKnownWhile, IsKnownWhile-prop, IsCurrent, IsFree, IsOver};
 ghost use Rattle.shogi_search.specs.Window.{threshold, code_at};
+ghost use Rattle.shogi_search.specs.declared.bounds.TheConstants.{GREATEST_DEPTH, INFINITY, MATE};
 
+use crate::bounds::MATE;
 use crate::memo::Entry;
 use crate::move_picker::MovePicker;
 use crate::window::threshold;
@@ -48,10 +50,10 @@ pub struct Frame {
     pub waiting: Waiting,
     pub replies: Replies,
     ghost valid: { IsValid position },
-    ghost shallow: { depth ≤ 16 },
-    ghost least: { negsuc 30999 ≤ℤ alpha },
+    ghost shallow: { depth ≤ GREATEST_DEPTH },
+    ghost least: { negated INFINITY ≤ℤ alpha },
     ghost open: { best_value <ℤ beta },
-    ghost most: { beta ≤ℤ pos 31000 },
+    ghost most: { beta ≤ℤ INFINITY },
     ghost known: { IsKnownWhile position depth alpha beta best_value (code_at best_move) (todo position picker) waiting } by { IsKnownWhile-prop position depth alpha beta best_value (code_at best_move) (todo position picker) waiting },
     ghost kept: { IsKept position picker } by { IsKept-prop position picker },
     ghost replied: { IsReplies position replies.sight replies.spare } by { Prim.hlevel props },
@@ -68,10 +70,10 @@ fn can_move(node: &Node) -> bool
 #[tactic(auto, using(crate::proofs::MinimaxLaws::leaves))]
 pub fn leaf(node: &Node) -> i32
     ensures value { result ≡ value node.now 0 }
-    ensures least { negsuc 29999 ≤ℤ result }
+    ensures least { negated MATE ≤ℤ result }
     ensures most { result ≤ℤ pos 25200 }
 {
-    if can_move(node) { node.score() } else { -30000 }
+    if can_move(node) { node.score() } else { -MATE }
 }
 
 /// What tells of the leaves after the moves, if that is asked for.
@@ -99,10 +101,10 @@ impl Frame {
         hash_move: Option<Move>,
         ahead: bool,
     )
-        requires shallow { depth ≤ 16 }
-        requires least { negsuc 30999 ≤ℤ alpha }
+        requires shallow { depth ≤ GREATEST_DEPTH }
+        requires least { negated INFINITY ≤ℤ alpha }
         requires open { alpha <ℤ beta }
-        requires most { beta ≤ℤ pos 31000 }
+        requires most { beta ≤ℤ INFINITY }
         requires hash_move { ForSome hash_move (λ f. is_in (code_of f) (legal_moves position.now) ≡ true) }
         ensures position { self.new.position ≡ position.now }
         ensures depth { self.new.depth ≡ depth }
@@ -147,7 +149,7 @@ impl Frame {
                 if can_move(&self.position) {
                     Entry::AtMost(self.best_value)
                 } else {
-                    Entry::Exact(-30000 - self.depth as i32, None)
+                    Entry::Exact(-MATE - self.depth as i32, None)
                 }
             }
         }
@@ -174,7 +176,7 @@ impl Frame {
     pub fn threshold(&self, current: &Move) -> i32
         requires current { IsCurrent self.now.waiting current.now }
         ensures threshold { result ≡ threshold self.now.best_value (code_at self.now.best_move) (code_of current.now) }
-        ensures least { negsuc 30999 ≤ℤ result }
+        ensures least { negated INFINITY ≤ℤ result }
         ensures open { result <ℤ self.now.beta }
     {
         threshold(self.best_value, &self.best_move, current)

@@ -4,7 +4,8 @@ ghost use Rattle.std.specs.Prelude.{◌≡◌, ◌≤◌, ◌*◌, ◌≤ℤ◌,
 ghost use Rattle.shogi_moves.specs.Legal.{is_legal};
 ghost use Rattle.shogi_moves.specs.LegalMoves.{legal_moves};
 ghost use Rattle.shogi_search.specs.Entries.{IsExactly};
-ghost use Rattle.shogi_search.specs.Minimax.{value, best, tree_size};
+ghost use Rattle.shogi_search.specs.Minimax.{value, best, tree_size, lost, negated};
+ghost use Rattle.shogi_search.specs.declared.bounds.TheConstants.{GREATEST_DEPTH};
 
 use crate::found::Found;
 use crate::memo::Memo;
@@ -13,7 +14,7 @@ use shogi_core::Position;
 
 /// Goes on until the search has ended.
 fn to_the_end<M: Memo>(p: &Position, d: u8, memo: &mut M) -> Found
-    requires { d ≤ 16 }
+    requires { d ≤ GREATEST_DEPTH }
     ensures value { result.value ≡ value p.now d }
     ensures best { result.best ≡ best p.now d }
     ensures steps { result.steps ≤ 2 * tree_size p.now d }
@@ -33,10 +34,10 @@ fn to_the_end<M: Memo>(p: &Position, d: u8, memo: &mut M) -> Found
 /// The value of a position at a depth from 0 to 16, and its best move, by alpha-beta over any memo.
 /// A root that the memo answers exactly takes no step.
 pub fn search<M: Memo>(p: &Position, d: u8, memo: &mut M) -> Found
-    requires { d ≤ 16 }
+    requires { d ≤ GREATEST_DEPTH }
     ensures value { result.value ≡ value p.now d }
-    ensures least { negsuc 30015 ≤ℤ result.value }
-    ensures most { result.value ≤ℤ pos 30016 }
+    ensures least { lost GREATEST_DEPTH ≤ℤ result.value }
+    ensures most { result.value ≤ℤ negated (lost GREATEST_DEPTH) }
     ensures best { result.best ≡ best p.now d }
     ensures none { IsNone result.best ↔ ((d ≡ 0) ⊎ (legal_moves p.now ≡ [])) }
     ensures legal { IfSome result.best (λ m. is_legal p.now m ≡ true) }

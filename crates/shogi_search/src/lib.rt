@@ -1,6 +1,7 @@
 //! Minimax at a fixed depth, over any memo and in slices.
 #![tactic(auto)]
 
+mod bounds;
 mod found;
 mod frame;
 mod full_search;
@@ -10,6 +11,7 @@ mod sliced_search;
 mod stack;
 mod window;
 
+pub use bounds::{GREATEST_DEPTH, INFINITY, MATE};
 pub use found::Found;
 pub use full_search::search;
 pub use memo::{Entry, Memo, NoMemo};

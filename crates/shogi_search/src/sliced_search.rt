@@ -3,10 +3,12 @@
 ghost use Rattle.std.specs.Prelude.{◌≡◌, ◌≤◌, ◌<◌, ◌+◌, ◌*◌, ◌-◌, ◌^◌, ◌≤ℤ◌, pos, negsuc, true, false, Some, None, IfSome, IfNone, OnSome, IsSome, min};
 ghost use Rattle.std.specs.Option.{ForSome};
 ghost use Rattle.shogi_moves.specs.Legal.{is_legal};
-ghost use Rattle.shogi_search.specs.Minimax.{value, best, tree_size, IsTrueEntry};
+ghost use Rattle.shogi_search.specs.Minimax.{value, best, tree_size, IsTrueEntry, negated};
 ghost use Rattle.shogi_search.specs.Entries.{IsExactly, IsCutoff};
 ghost use Rattle.shogi_search.specs.Progress.{untouched, left_of};
+ghost use Rattle.shogi_search.specs.declared.bounds.TheConstants.{GREATEST_DEPTH, INFINITY};
 
+use crate::bounds::INFINITY;
 use crate::found::Found;
 use crate::frame::Frame;
 use crate::memo::{Entry, Memo};
@@ -39,9 +41,9 @@ impl Model for Search {
 
 /// What is known of the root once it is left.
 fn found_of(entry: &Entry, root: &Position, depth: u8, steps: u64) -> Found
-    requires shallow { depth ≤ 16 }
+    requires shallow { depth ≤ GREATEST_DEPTH }
     requires truth { IsTrueEntry root.now depth entry.now }
-    requires cutoff { IsCutoff (negsuc 30999) (pos 31000) entry.now }
+    requires cutoff { IsCutoff (negated INFINITY) INFINITY entry.now }
     ensures value { result.value ≡ value root.now depth }
     ensures best { result.best ≡ best root.now depth }
     ensures steps { result.steps ≡ steps }
@@ -60,7 +62,7 @@ fn found_of(entry: &Entry, root: &Position, depth: u8, steps: u64) -> Found
 impl Search {
     /// A search that has made no step yet.
     pub fn start(p: &Position, d: u8) -> Self
-        requires { d ≤ 16 }
+        requires { d ≤ GREATEST_DEPTH }
         ensures { result ≡ untouched p.now d }
     {
         let top = Frame::default();
@@ -102,7 +104,7 @@ impl Search {
         self.stack.height = 0;
         self.stack
             .top
-            .enter(&node, depth, -31000, 31000, hash_move, ahead);
+            .enter(&node, depth, -INFINITY, INFINITY, hash_move, ahead);
         self.started = true;
         self.steps = self.steps.saturating_add(1);
     }

@@ -6,10 +6,11 @@ ghost use Rattle.shogi_core.specs.Codes.{code_of};
 ghost use Rattle.shogi_moves.specs.After.{after_code};
 ghost use Rattle.shogi_moves.specs.LegalMoves.{legal_moves};
 ghost use Rattle.shogi_moves.specs.Rising.{is_in};
-ghost use Rattle.shogi_search.specs.Minimax.{value, tree_size, IsTrueEntry};
+ghost use Rattle.shogi_search.specs.Minimax.{value, tree_size, IsTrueEntry, negated};
 ghost use Rattle.shogi_search.specs.Entries.{IsCutoff, move_in};
 ghost use Rattle.shogi_search.specs.Order.{todo};
 ghost use Rattle.shogi_search.specs.Visits.{IsCurrent, IsFree, IsOver};
+ghost use Rattle.shogi_search.specs.declared.bounds.TheConstants.{GREATEST_DEPTH, INFINITY};
 
 use crate::frame::{Frame, Waiting, leaf};
 use crate::memo::{Entry, Memo};
@@ -77,7 +78,7 @@ impl Stack {
     fn push(&mut self)
         requires { self.old.height < 16 }
         ensures parents { parents_of self.new ≡ parents_of self.old ++ self.old.top ∷ [] }
-        ensures height { self.new.height ≤ 16 }
+        ensures height { self.new.height ≤ GREATEST_DEPTH }
         ensures top { self.new.top ≡ self.old.top }
         ensures same { (self.new.root ≡ self.old.root) × (self.new.depth ≡ self.old.depth) }
     {
@@ -87,9 +88,9 @@ impl Stack {
 
     /// The node below is on top again, where there is one.
     fn pop(&mut self) -> bool
-        requires { self.old.height ≤ 16 }
+        requires { self.old.height ≤ GREATEST_DEPTH }
         ensures parents { result ≡ true → parents_of self.old ≡ parents_of self.new ++ self.new.top ∷ [] }
-        ensures height { self.new.height ≤ 16 }
+        ensures height { self.new.height ≤ GREATEST_DEPTH }
         ensures none { result ≡ false → (parents_of self.old ≡ []) × (self.new ≡ self.old) }
         ensures same { (self.new.root ≡ self.old.root) × (self.new.depth ≡ self.old.depth) }
     {
@@ -158,7 +159,7 @@ impl Stack {
         ensures free { IfNone result (IsFree self.new.top.waiting) }
         ensures left { IfNone result (left_of_stack self.new < left_of_stack self.old) }
         ensures truth { IfSome result (IsTrueEntry self.old.root self.old.depth) }
-        ensures cutoff { IfSome result (IsCutoff (negsuc 30999) (pos 31000)) }
+        ensures cutoff { IfSome result (IsCutoff (negated INFINITY) INFINITY) }
         ensures same { (self.new.root ≡ self.old.root) × (self.new.depth ≡ self.old.depth) }
     {
         let entry = self.top.close();
@@ -184,7 +185,7 @@ impl Stack {
         ensures free { IfNone result (IsFree self.new.top.waiting) }
         ensures left { IfNone result (left_of_stack self.new < left_of_stack self.old) }
         ensures truth { IfSome result (IsTrueEntry self.old.root self.old.depth) }
-        ensures cutoff { IfSome result (IsCutoff (negsuc 30999) (pos 31000)) }
+        ensures cutoff { IfSome result (IsCutoff (negated INFINITY) INFINITY) }
         ensures same { (self.new.root ≡ self.old.root) × (self.new.depth ≡ self.old.depth) }
     {
         match self.top.waiting {
@@ -216,7 +217,7 @@ impl Stack {
         ensures most { steps.new ≤ steps.old + budget }
         ensures fell { IfSome result (λ _. steps.new ≤ steps.old + left_of_stack self.old) }
         ensures truth { IfSome result (IsTrueEntry self.old.root self.old.depth) }
-        ensures cutoff { IfSome result (IsCutoff (negsuc 30999) (pos 31000)) }
+        ensures cutoff { IfSome result (IsCutoff (negated INFINITY) INFINITY) }
         ensures same { (self.new.root ≡ self.old.root) × (self.new.depth ≡ self.old.depth) }
     {
         let _so_far = *steps;

@@ -3,12 +3,14 @@
 ghost use Rattle.std.specs.Prelude.{◌≡◌, ◌≤ℤ◌, ◌<ℤ◌, negsuc, true, false};
 ghost use Rattle.shogi_core.specs.Codes.{code_of};
 ghost use Rattle.shogi_search.specs.Window.{threshold, code_at};
+ghost use Rattle.shogi_search.specs.declared.bounds.TheConstants.{INFINITY};
+ghost use Rattle.shogi_search.specs.Minimax.{negated};
 
 use shogi_core::Move;
 
 /// The best so far, and one less for a move of lesser code than the best move.
 pub fn threshold(best_value: i32, best_move: &Option<Move>, m: &Move) -> i32
-    requires { negsuc 31999 ≤ℤ best_value }
+    requires { negated INFINITY ≤ℤ best_value }
     ensures { result ≡ threshold best_value (code_at best_move.now) (code_of m.now) }
 {
     match best_move {
@@ -19,7 +21,7 @@ pub fn threshold(best_value: i32, best_move: &Option<Move>, m: &Move) -> i32
 
 /// Whether a move of this worth becomes the best one.
 pub fn passes(worth: i32, m: &Move, best_value: i32, best_move: &Option<Move>) -> bool
-    requires { negsuc 31999 ≤ℤ best_value }
+    requires { negated INFINITY ≤ℤ best_value }
     ensures above { result ≡ true → threshold best_value (code_at best_move.now) (code_of m.now) <ℤ worth }
     ensures below { result ≡ false → worth ≤ℤ threshold best_value (code_at best_move.now) (code_of m.now) }
 {
