@@ -1,4 +1,4 @@
-//! What a search asks its memory, and the remembered move that a child visits first.
+//! What a search asks its memory, and the hash move that a child visits first.
 
 ghost use Rattle.std.specs.Prelude.{◌≤◌};
 
@@ -43,7 +43,7 @@ fn each_node_is_asked_for_on_the_way_down(rt: HostRuntime) -> Result<(), Fail> {
 // After 7g7f the first move to visit is 1a1b, and after that the first one is the capture 8h3c. One ply
 // deep 8h3c+ is best there, and two plies deep 1g1f, since the bishop would be lost.
 #[test]
-fn a_child_visits_its_remembered_move_first(rt: HostRuntime) -> Result<(), Fail> {
+fn a_child_visits_its_hash_move_first(rt: HostRuntime) -> Result<(), Fail> {
     let root = played(&rt, &Position::start(), 9838);
     let child = played(&rt, &root, 2);
     let mut bare = Recorder::new(rt.alloc(), NoMemo);
