@@ -62,6 +62,7 @@ impl fmt::Display for Refusal {
     }
 }
 
+/// Why a line is refused, as it is printed.
 fn reason(refusal: Refusal) -> &'static str
     ensures { result.now ≡ refusal_text refusal }
 {
@@ -76,6 +77,7 @@ fn reason(refusal: Refusal) -> &'static str
     }
 }
 
+/// Why a position is refused, as it is printed.
 fn fault_reason(fault: SfenFault) -> &'static str
     ensures { result.now ≡ fault_text fault }
 {
@@ -92,6 +94,7 @@ fn fault_reason(fault: SfenFault) -> &'static str
     }
 }
 
+/// Whether the word is this name.
 fn is(word: &[u8], name: &[u8]) -> bool
     ensures { result ≡ bytes_eq word.now name.now }
 {
@@ -107,6 +110,7 @@ fn read_up_to(word: Option<&[u8]>, most: u32) -> Option<u32>
     if number > most { None } else { Some(number) }
 }
 
+/// The depth that a word asks for.
 fn read_depth(word: Option<&[u8]>) -> Option<u8>
     ensures number { result ≡ number_to GREATEST_DEPTH (option_copied word.entry) }
     ensures most { IfSome result (λ depth. depth ≤ GREATEST_DEPTH) }
@@ -114,6 +118,7 @@ fn read_depth(word: Option<&[u8]>) -> Option<u8>
     Some(read_up_to(word, GREATEST_DEPTH as u32)? as u8)
 }
 
+/// How many entries of a table a word asks for.
 fn read_entries(word: Option<&[u8]>) -> Option<usize>
     ensures number { result ≡ number_to GREATEST_CAPACITY (option_copied word.entry) }
     ensures most { IfSome result (λ entries. entries ≤ GREATEST_CAPACITY) }
@@ -131,6 +136,7 @@ fn alone(position: Position, text: &[u8]) -> Result<Position, Refusal>
     }
 }
 
+/// The position of an SFEN, where no word stands after it.
 fn read_sfen(text: &[u8]) -> Result<Position, Refusal>
     ensures { result ≡ of_sfen text.now (position_at text.now) }
 {

@@ -43,6 +43,7 @@ impl Notes {
         }
     }
 
+    /// Where the note of the position at the depth is.
     fn place_of(&self, p: &Position, depth: u8) -> Option<usize> {
         for (place, kept) in self.kept.as_slice().iter().enumerate() {
             if kept.depth == depth && kept.position == *p {
@@ -52,6 +53,7 @@ impl Notes {
         None
     }
 
+    /// What was noted of the position at the depth, which is then the most recently used.
     fn ask(&mut self, p: &Position, depth: u8) -> Result<Option<Known>, AllocError> {
         self.calls = self.calls.saturating_add(1);
         let Some(place) = self.place_of(p, depth) else {
@@ -66,6 +68,7 @@ impl Notes {
         Ok(Some(known))
     }
 
+    /// Takes away the note of the position at the depth.
     fn forget(&mut self, p: &Position, depth: u8) {
         let Some(place) = self.place_of(p, depth) else {
             return;
@@ -75,6 +78,7 @@ impl Notes {
         }
     }
 
+    /// Notes what is known of the position at the depth.
     fn note(&mut self, p: &Position, depth: u8, known: Known) -> Result<(), AllocError> {
         self.calls = self.calls.saturating_add(1);
         self.forget(p, depth);
@@ -86,6 +90,7 @@ impl Notes {
         self.keep(kept)
     }
 
+    /// Puts a note behind the others, and drops the oldest one where there are too many.
     fn keep(&mut self, kept: Kept) -> Result<(), AllocError> {
         self.kept.push(kept)?;
         self.drop_oldest();
@@ -130,6 +135,7 @@ struct Branch {
     turn: u8,
 }
 
+/// When a move is visited.
 fn turn_of(p: &Position, m: &Move, hash_move: Option<u16>) -> u8 {
     if hash_move == Some(m.code()) {
         return 0;
@@ -159,6 +165,7 @@ fn branches_of(
     Ok(branches)
 }
 
+/// The value at depth 0.
 fn leaf(p: &Position) -> i32 {
     if has_legal(p) { material(p) } else { -30000 }
 }
@@ -171,6 +178,7 @@ fn threshold(best_value: i32, best: Option<u16>, code: u16) -> i32 {
     }
 }
 
+/// Whether what is known says enough for a window.
 fn is_cutoff(entry: &Known, alpha: i32, beta: i32) -> bool {
     match entry {
         Known::Exact(_, _) => true,

@@ -22,6 +22,7 @@ impl TableKey {
     }
 }
 
+/// Whether the positions are the same, by the equality of `Position`.
 fn is_same_position(a: &Position, b: &Position) -> bool
     ensures { result ≡ is_same_position a.now b.now }
 {

@@ -201,6 +201,7 @@ fn leaf(pair: &Option<(TableKey, Entry)>) -> usize
     }
 }
 
+// One for a leaf.
 fn tally(depth: u8) -> usize
     ensures { result ≡ cond (depth == 0) 1 0 }
 {

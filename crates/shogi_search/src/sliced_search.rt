@@ -116,7 +116,7 @@ impl Search {
         ensures value { IfSome result (λ f. f.value ≡ value self.old.root self.old.depth) }
         ensures best { IfSome result (λ f. f.best ≡ best self.old.root self.old.depth) }
         ensures counted { IfSome result (λ f. f.steps ≡ self.new.steps) }
-        ensures bound { IfSome result (λ f. f.steps ≤ 2 * tree_size self.old.root self.old.depth) }
+        ensures range { IfSome result (λ f. f.steps ≤ 2 * tree_size self.old.root self.old.depth) }
         ensures root { (self.new.root ≡ self.old.root) × (self.new.depth ≡ self.old.depth) }
         ensures found { self.new.found ≡ result }
         ensures over { OnSome result (self.new.left ≡ 0) }
@@ -145,7 +145,7 @@ impl Search {
         ensures value { IfSome result (λ f. f.value ≡ value self.old.root self.old.depth) }
         ensures best { IfSome result (λ f. f.best ≡ best self.old.root self.old.depth) }
         ensures counted { IfSome result (λ f. f.steps ≡ self.new.steps) }
-        ensures bound { IfSome result (λ f. f.steps ≤ 2 * tree_size self.old.root self.old.depth) }
+        ensures range { IfSome result (λ f. f.steps ≤ 2 * tree_size self.old.root self.old.depth) }
         ensures root { (self.new.root ≡ self.old.root) × (self.new.depth ≡ self.old.depth) }
         ensures found { self.new.found ≡ result }
 
