@@ -1,5 +1,5 @@
 -- What a true entry of a child says of its move.
-use Rattle.std.proofs.Common.{◌≡◌, ◌≤◌, ◌-◌, ℕ, ℤ, pos, negsuc, ◌-ℤ◌, ◌≤ℤ◌, Option, refl, sym, arith, subst, true}
+use Rattle.std.proofs.Common.{◌≡◌, ◌≤◌, ◌-◌, ℕ, ℤ, pos, ◌-ℤ◌, ◌≤ℤ◌, Option, refl, sym, arith, subst, true}
 use Rattle.std.proofs.lemmas.Int.{ints}
 use Rattle.shogi_core.specs.declared.moves.Move.{Move}
 use Rattle.shogi_core.specs.Position.{Shogi}

@@ -1,5 +1,5 @@
 -- What is known of a position when the search leaves it.
-use Rattle.std.proofs.Common.{◌≡◌, ◌<◌, ◌≤◌, ◌-◌, ℕ, ℤ, negsuc, ◌≤ℤ◌, List, [], ◌∷◌, Option, Some, None, refl, ap, ◌∙◌, arith, find}
+use Rattle.std.proofs.Common.{◌≡◌, ◌<◌, ◌≤◌, ◌-◌, ℕ, ℤ, ◌≤ℤ◌, List, [], ◌∷◌, Option, Some, None, refl, ap, ◌∙◌, arith, find}
 use Rattle.std.specs.Ordering.{int_eq}
 use Rattle.std.proofs.lemmas.Int.{ints}
 use Rattle.shogi_core.specs.declared.moves.Move.{Move}
