@@ -1,6 +1,6 @@
 //! A node of the tree while the search goes through its moves.
 
-ghost use Rattle.std.specs.Prelude.{◌≡◌, ◌≤◌, ◌<◌, ◌-◌, ◌+◌, ◌*◌, ◌≤ℤ◌, ◌<ℤ◌, ℕ, pos, negsuc, [], ◌∷◌, Some, None, true, false, IsTrue, IfSome, ◌↔◌, ◌≢◌, MatchOption};
+ghost use Rattle.std.specs.Prelude.{◌≡◌, ◌≤◌, ◌<◌, ◌-◌, ◌+◌, ◌*◌, ◌≤ℤ◌, ◌<ℤ◌, ℕ, pos, [], ◌∷◌, Some, None, true, false, IsTrue, IfSome, ◌↔◌, ◌≢◌, MatchOption};
 ghost use Rattle.std.specs.Option.{ForSome};
 ghost use Rattle.std.proofs.Props.{props};
 ghost use Rattle.shogi_core.specs.Codes.{code_of};
@@ -217,7 +217,7 @@ impl Frame {
         }
     }
 
-    /// The current move is worth this much or more, which is enough for the node.
+    /// The current move, which only the clauses need, is worth this much or more, which is enough.
     fn cut_with(&mut self, current: &Move, value: i32)
         requires current { IsCurrent self.old.waiting current.now }
         requires worth { value ≤ℤ worth self.old.position (self.old.depth - 1) (code_of current.now) }
@@ -231,7 +231,7 @@ impl Frame {
         self.waiting = Waiting::Cut(value);
     }
 
-    /// Passes the current move, which is not worth enough.
+    /// Passes the current move, which is not worth enough; only the clauses need to know it.
     fn skip(&mut self, current: &Move)
         requires current { IsCurrent self.old.waiting current.now }
         requires below { worth self.old.position (self.old.depth - 1) (code_of current.now) ≤ℤ threshold self.old.best_value (code_at self.old.best_move) (code_of current.now) }

@@ -1,6 +1,6 @@
 //! The stack of a search that goes on in slices.
 
-ghost use Rattle.std.specs.Prelude.{◌≡◌, ◌≤◌, ◌<◌, ◌+◌, ◌*◌, ◌-◌, ◌^◌, ◌++◌, pos, negsuc, true, false, [], ◌∷◌, None, Some, IfSome, IfNone, OnSome, min, IsTrue, ◌↔◌};
+ghost use Rattle.std.specs.Prelude.{◌≡◌, ◌≤◌, ◌<◌, ◌+◌, ◌*◌, ◌-◌, ◌^◌, ◌++◌, true, false, [], ◌∷◌, None, Some, IfSome, IfNone, OnSome, min, IsTrue, ◌↔◌};
 ghost use Rattle.std.specs.Option.{ForSome};
 ghost use Rattle.shogi_core.specs.Codes.{code_of};
 ghost use Rattle.shogi_moves.specs.After.{after_code};

@@ -1,6 +1,6 @@
 //! What a move has to be worth to become the best one.
 
-ghost use Rattle.std.specs.Prelude.{◌≡◌, ◌≤ℤ◌, ◌<ℤ◌, negsuc, true, false};
+ghost use Rattle.std.specs.Prelude.{◌≡◌, ◌≤ℤ◌, ◌<ℤ◌, true, false};
 ghost use Rattle.shogi_core.specs.Codes.{code_of};
 ghost use Rattle.shogi_search.specs.Window.{threshold, code_at};
 ghost use Rattle.shogi_search.specs.declared.bounds.TheConstants.{INFINITY};

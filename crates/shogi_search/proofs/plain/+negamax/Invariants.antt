@@ -1,4 +1,4 @@
-use Rattle.std.proofs.Common.{◌≡◌, ◌≤◌, ◌*◌, ◌+◌, ◌-◌, length, negsuc, ◌≤ℤ◌, true}
+use Rattle.std.proofs.Common.{◌≡◌, ◌≤◌, ◌*◌, ◌+◌, ◌-◌, length, ◌≤ℤ◌, true}
 use Rattle.std.specs.Prelude.{IfSome}
 use Rattle.shogi_moves.specs.Legal.{is_legal}
 use Rattle.shogi_moves.specs.LegalMoves.{legal_moves, legal_above}
