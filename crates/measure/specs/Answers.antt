@@ -6,7 +6,7 @@ use Rattle.shogi_core.specs.declared.validity.PositionFault.TheVariants.{TooMany
 use Rattle.shogi_core.specs.Position.{Shogi}
 use Rattle.shogi_moves.specs.LegalMoves.{perft}
 use Rattle.shogi_search.specs.declared.found.Found.{Found}
-use Rattle.shogi_search.specs.Minimax.{value, best, tree}
+use Rattle.shogi_search.specs.Minimax.{value, best, tree_size}
 use Rattle.shogi_sfen.specs.MoveTexts.{text_of}
 use Rattle.shogi_sfen.specs.declared.position.SfenFault.{SfenFault}
 use Rattle.shogi_sfen.specs.declared.position.SfenFault.TheVariants.{BadBoard, BadSide, BadHand, Invalid}
@@ -24,7 +24,7 @@ IsCount p n None = 2 ^ 64 ≤ perft p n
 
 -- the value and the best move at a depth, after at most two steps for each node of the tree
 abbrev pub IsFound : Shogi → ℕ → Found → Type 0
-IsFound p n found = (found.value ≡ value p n) × (found.best ≡ best p n) × (found.steps ≤ 2 * tree p n)
+IsFound p n found = (found.value ≡ value p n) × (found.best ≡ best p n) × (found.steps ≤ 2 * tree_size p n)
 
 -- the reply to the work at a position, to the depth asked for
 abbrev pub IsReply : Work → Shogi → ℕ → Reply → Type 0

@@ -5,19 +5,17 @@ ghost use Rattle.std.specs.Option.{option_copied};
 ghost use Rattle.std.specs.Str.{bytes_eq};
 ghost use Rattle.shogi_sfen.specs.Sfen.{position_at};
 ghost use Rattle.shogi_sfen.specs.Words.{words};
+ghost use Rattle.shared_table.specs.declared.table.TheConstants.{GREATEST_CAPACITY};
+ghost use Rattle.shogi_search.specs.declared.bounds.TheConstants.{GREATEST_DEPTH};
 ghost use Rattle.measure.specs.Answers.{fault_text, refusal_text};
 ghost use Rattle.measure.specs.Ranges.{HasRange};
 ghost use Rattle.measure.specs.Requests.{number_to, alone, of_sfen, place_of, placed, perft_of, search_of, request_of};
 
+use shared_table::GREATEST_CAPACITY;
 use shogi_core::{Position, PositionFault};
+use shogi_search::GREATEST_DEPTH;
 use shogi_sfen::{SfenFault, read_number, read_position, words};
 use std::fmt;
-
-/// The greatest depth that may be asked for.
-const MOST_DEPTH: u32 = 16;
-
-/// The most entries that a table may be asked for.
-const MOST_ENTRIES: u32 = 1_000_000;
 
 /// What is done to the given depth.
 #[derive(Clone, Copy, Debug, PartialEq, Eq)]
@@ -64,6 +62,7 @@ impl fmt::Display for Refusal {
     }
 }
 
+/// Why a line is refused, as it is printed.
 fn reason(refusal: Refusal) -> &'static str
     ensures { result.now ≡ refusal_text refusal }
 {
@@ -78,6 +77,7 @@ fn reason(refusal: Refusal) -> &'static str
     }
 }
 
+/// Why a position is refused, as it is printed.
 fn fault_reason(fault: SfenFault) -> &'static str
     ensures { result.now ≡ fault_text fault }
 {
@@ -94,6 +94,7 @@ fn fault_reason(fault: SfenFault) -> &'static str
     }
 }
 
+/// Whether the word is this name.
 fn is(word: &[u8], name: &[u8]) -> bool
     ensures { result ≡ bytes_eq word.now name.now }
 {
@@ -109,18 +110,20 @@ fn read_up_to(word: Option<&[u8]>, most: u32) -> Option<u32>
     if number > most { None } else { Some(number) }
 }
 
+/// The depth that a word asks for.
 fn read_depth(word: Option<&[u8]>) -> Option<u8>
-    ensures number { result ≡ number_to 16 (option_copied word.entry) }
-    ensures bound { IfSome result (λ depth. depth ≤ 16) }
+    ensures number { result ≡ number_to GREATEST_DEPTH (option_copied word.entry) }
+    ensures most { IfSome result (λ depth. depth ≤ GREATEST_DEPTH) }
 {
-    Some(read_up_to(word, MOST_DEPTH)? as u8)
+    Some(read_up_to(word, GREATEST_DEPTH as u32)? as u8)
 }
 
+/// How many entries of a table a word asks for.
 fn read_entries(word: Option<&[u8]>) -> Option<usize>
-    ensures number { result ≡ number_to 1000000 (option_copied word.entry) }
-    ensures bound { IfSome result (λ entries. entries ≤ 1000000) }
+    ensures number { result ≡ number_to GREATEST_CAPACITY (option_copied word.entry) }
+    ensures most { IfSome result (λ entries. entries ≤ GREATEST_CAPACITY) }
 {
-    Some(read_up_to(word, MOST_ENTRIES)? as usize)
+    Some(read_up_to(word, GREATEST_CAPACITY as u32)? as usize)
 }
 
 /// The position, where no word stands in the text after it.
@@ -133,6 +136,7 @@ fn alone(position: Position, text: &[u8]) -> Result<Position, Refusal>
     }
 }
 
+/// The position of an SFEN, where no word stands after it.
 fn read_sfen(text: &[u8]) -> Result<Position, Refusal>
     ensures { result ≡ of_sfen text.now (position_at text.now) }
 {
@@ -173,7 +177,7 @@ fn placed(work: Work, depth: u8, place: Result<Position, Refusal>) -> Result<Req
 /// What follows `perft`.
 fn read_perft(text: &[u8]) -> Result<Request, Refusal>
     ensures request { result ≡ perft_of text.now }
-    ensures depth { IfOk result (λ request. request.depth ≤ 16) }
+    ensures depth { IfOk result (λ request. request.depth ≤ GREATEST_DEPTH) }
     ensures entries { IfOk result (λ request. HasRange request.work) }
 {
     let mut rest = words(text);
@@ -186,7 +190,7 @@ fn read_perft(text: &[u8]) -> Result<Request, Refusal>
 /// What follows `search`.
 fn read_search(text: &[u8]) -> Result<Request, Refusal>
     ensures request { result ≡ search_of text.now }
-    ensures depth { IfOk result (λ request. request.depth ≤ 16) }
+    ensures depth { IfOk result (λ request. request.depth ≤ GREATEST_DEPTH) }
     ensures entries { IfOk result (λ request. HasRange request.work) }
 {
     let mut rest = words(text);
@@ -204,7 +208,7 @@ fn read_search(text: &[u8]) -> Result<Request, Refusal>
 #[tactic(auto, unfolding(crate::specs::Requests::request_of))]
 pub fn read(line: &str) -> Result<Request, Refusal>
     ensures request { result ≡ request_of line.now }
-    ensures depth { IfOk result (λ request. request.depth ≤ 16) }
+    ensures depth { IfOk result (λ request. request.depth ≤ GREATEST_DEPTH) }
     ensures entries { IfOk result (λ request. HasRange request.work) }
 {
     let mut rest = words(line.as_bytes());

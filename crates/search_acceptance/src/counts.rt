@@ -1,6 +1,7 @@
 //! Values, best moves and counts of steps: published ones, and those of the search written plainly.
 
 ghost use Rattle.std.specs.Prelude.{◌≤◌};
+ghost use Rattle.shogi_search.specs.declared.bounds.TheConstants.{GREATEST_DEPTH};
 
 use crate::plain::{Notes, minimax, search_plainly};
 use crate::recorder::Recorder;
@@ -44,7 +45,7 @@ fn assert_counts<M: Memo + Drop>(
     memo: M,
     mut notes: Notes,
 ) -> Result<(), Fail>
-    requires { deepest ≤ 16 }
+    requires { deepest ≤ GREATEST_DEPTH }
 {
     let mut recorder = Recorder::new(alloc, memo);
     let mut steps: u64 = 0;
@@ -73,7 +74,7 @@ fn assert_counts_over(
     deepest: u8,
     capacity: usize,
 ) -> Result<(), Fail>
-    requires { deepest ≤ 16 }
+    requires { deepest ≤ GREATEST_DEPTH }
 {
     assert!(rt; capacity >= 1 && capacity <= 1000000);
     let table = table_of(alloc, capacity)?;

@@ -4,11 +4,11 @@
 #[cfg(test)]
 mod counts;
 #[cfg(test)]
+mod hash_moves;
+#[cfg(test)]
 mod plain;
 #[cfg(test)]
 mod recorder;
-#[cfg(test)]
-mod remembered;
 #[cfg(test)]
 mod tables;
 #[cfg(test)]

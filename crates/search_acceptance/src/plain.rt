@@ -43,6 +43,7 @@ impl Notes {
         }
     }
 
+    /// Where the note of the position at the depth is.
     fn place_of(&self, p: &Position, depth: u8) -> Option<usize> {
         for (place, kept) in self.kept.as_slice().iter().enumerate() {
             if kept.depth == depth && kept.position == *p {
@@ -52,6 +53,7 @@ impl Notes {
         None
     }
 
+    /// What was noted of the position at the depth, which is then the most recently used.
     fn ask(&mut self, p: &Position, depth: u8) -> Result<Option<Known>, AllocError> {
         self.calls = self.calls.saturating_add(1);
         let Some(place) = self.place_of(p, depth) else {
@@ -66,6 +68,7 @@ impl Notes {
         Ok(Some(known))
     }
 
+    /// Takes away the note of the position at the depth.
     fn forget(&mut self, p: &Position, depth: u8) {
         let Some(place) = self.place_of(p, depth) else {
             return;
@@ -75,6 +78,7 @@ impl Notes {
         }
     }
 
+    /// Notes what is known of the position at the depth.
     fn note(&mut self, p: &Position, depth: u8, known: Known) -> Result<(), AllocError> {
         self.calls = self.calls.saturating_add(1);
         self.forget(p, depth);
@@ -86,6 +90,7 @@ impl Notes {
         self.keep(kept)
     }
 
+    /// Puts a note behind the others, and drops the oldest one where there are too many.
     fn keep(&mut self, kept: Kept) -> Result<(), AllocError> {
         self.kept.push(kept)?;
         self.drop_oldest();
@@ -103,13 +108,13 @@ impl Notes {
         &mut self,
         p: &Position,
         depth: u8,
-        low: i32,
-        high: i32,
+        alpha: i32,
+        beta: i32,
     ) -> Result<Option<Known>, AllocError> {
         let known = self.ask(p, depth)?;
         let answer = known;
         if let Some(entry) = &known {
-            if settles(entry, low, high) {
+            if is_cutoff(entry, alpha, beta) {
                 self.step(1);
                 return Ok(answer);
             }
@@ -122,7 +127,7 @@ impl Notes {
     }
 }
 
-/// A legal move, where it leads, and when it is visited: 0 the remembered move, 1 a capture, 2 the rest.
+/// A legal move, where it leads, and when it is visited: 0 the hash move, 1 a capture, 2 a quiet move.
 #[derive(Clone, Copy, Debug)]
 struct Branch {
     code: u16,
@@ -130,8 +135,9 @@ struct Branch {
     turn: u8,
 }
 
-fn turn_of(p: &Position, m: &Move, first: Option<u16>) -> u8 {
-    if first == Some(m.code()) {
+/// When a move is visited.
+fn turn_of(p: &Position, m: &Move, hash_move: Option<u16>) -> u8 {
+    if hash_move == Some(m.code()) {
         return 0;
     }
     match m {
@@ -141,7 +147,11 @@ fn turn_of(p: &Position, m: &Move, first: Option<u16>) -> u8 {
 }
 
 /// The legal moves by rising code.
-fn branches_of(alloc: Global, p: &Position, first: Option<u16>) -> Result<Vec<Branch>, AllocError> {
+fn branches_of(
+    alloc: Global,
+    p: &Position,
+    hash_move: Option<u16>,
+) -> Result<Vec<Branch>, AllocError> {
     let mut branches = Vec::new(alloc);
     let mut walk = Walk::new(p);
     'moves: while let Some(m) = walk.next() {
@@ -149,29 +159,31 @@ fn branches_of(alloc: Global, p: &Position, first: Option<u16>) -> Result<Vec<Br
         branches.push(Branch {
             code: m.code(),
             position: apply(p, tried),
-            turn: turn_of(p, &m, first),
+            turn: turn_of(p, &m, hash_move),
         })?;
     }
     Ok(branches)
 }
 
+/// The value at depth 0.
 fn leaf(p: &Position) -> i32 {
     if has_legal(p) { material(p) } else { -30000 }
 }
 
 /// What a move has to be worth more than: one less for a lesser code than that of the best one.
-fn bar(top: i32, best: Option<u16>, code: u16) -> i32 {
+fn threshold(best_value: i32, best: Option<u16>, code: u16) -> i32 {
     match best {
-        Some(b) if code < b => top.saturating_sub(1),
-        _ => top,
+        Some(b) if code < b => best_value.saturating_sub(1),
+        _ => best_value,
     }
 }
 
-fn settles(entry: &Known, low: i32, high: i32) -> bool {
+/// Whether what is known says enough for a window.
+fn is_cutoff(entry: &Known, alpha: i32, beta: i32) -> bool {
     match entry {
         Known::Exact(_, _) => true,
-        Known::AtLeast(v) => *v >= high,
-        Known::AtMost(v) => *v <= low,
+        Known::AtLeast(v) => *v >= beta,
+        Known::AtMost(v) => *v <= alpha,
     }
 }
 
@@ -180,8 +192,8 @@ fn visit(
     alloc: Global,
     p: &Position,
     depth: u8,
-    low: i32,
-    high: i32,
+    alpha: i32,
+    beta: i32,
     notes: &mut Notes,
 ) -> Result<Known, AllocError> {
     notes.step(2);
@@ -189,19 +201,19 @@ fn visit(
         return Ok(Known::Exact(leaf(p), None));
     }
     let below = depth - 1;
-    let mut first = None;
+    let mut hash_move = None;
     if depth > 1 {
-        if let Some(Known::Exact(_, remembered)) = notes.ask(p, below)? {
-            first = remembered;
+        if let Some(Known::Exact(_, best)) = notes.ask(p, below)? {
+            hash_move = best;
         }
     }
-    let branches = branches_of(alloc, p, first)?;
-    let (mut top, mut best) = (low, None);
+    let branches = branches_of(alloc, p, hash_move)?;
+    let (mut best_value, mut best) = (alpha, None);
     for turn in 0..3u8 {
         for branch in branches.as_slice() {
             if branch.turn == turn {
-                let bar = bar(top, best, branch.code);
-                let (under, over) = (high.saturating_neg(), bar.saturating_neg());
+                let threshold = threshold(best_value, best, branch.code);
+                let (under, over) = (beta.saturating_neg(), threshold.saturating_neg());
                 let entry = match notes.answer(&branch.position, below, under, over)? {
                     Some(entry) => entry,
                     None => visit(alloc, &branch.position, below, under, over, notes)?,
@@ -211,31 +223,31 @@ fn visit(
                     Known::AtMost(v) => (v.saturating_neg(), false),
                     Known::AtLeast(v) => (v.saturating_neg(), false),
                 };
-                if worth >= high {
+                if worth >= beta {
                     let cut = Known::AtLeast(worth);
                     let noted = cut;
                     notes.note(p, depth, noted)?;
                     return Ok(cut);
                 }
-                if exact && worth > bar {
-                    top = worth;
+                if exact && worth > threshold {
+                    best_value = worth;
                     best = Some(branch.code);
                 }
             }
         }
     }
-    let entry = closed(top, best, depth, branches.is_empty());
+    let entry = closed(best_value, best, depth, branches.is_empty());
     let noted = entry;
     notes.note(p, depth, noted)?;
     Ok(entry)
 }
 
 /// What is known of a node that nothing cut off.
-fn closed(top: i32, best: Option<u16>, depth: u8, is_lost: bool) -> Known {
+fn closed(best_value: i32, best: Option<u16>, depth: u8, is_lost: bool) -> Known {
     match best {
-        Some(_) => Known::Exact(top, best),
+        Some(_) => Known::Exact(best_value, best),
         None if is_lost => Known::Exact((-30000i32).saturating_sub(i32::from(depth)), None),
-        None => Known::AtMost(top),
+        None => Known::AtMost(best_value),
     }
 }
 
@@ -261,16 +273,16 @@ pub fn minimax(p: &Position, depth: u8) -> (i32, Option<u16>) {
     if depth == 0 {
         return (leaf(p), None);
     }
-    let (mut top, mut best) = ((-30000i32).saturating_sub(i32::from(depth)), None);
+    let (mut best_value, mut best) = ((-30000i32).saturating_sub(i32::from(depth)), None);
     let mut walk = Walk::new(p);
     'moves: while let Some(m) = walk.next() {
         let tried = m;
         let (value, _) = minimax(&apply(p, tried), depth - 1);
         let worth = value.saturating_neg();
-        if best.is_none() || worth > top {
-            top = worth;
+        if best.is_none() || worth > best_value {
+            best_value = worth;
             best = Some(m.code());
         }
     }
-    (top, best)
+    (best_value, best)
 }

@@ -1,6 +1,8 @@
 //! What a search leaves in a table, and what it finds there.
 
 ghost use Rattle.std.specs.Prelude.{◌≤◌};
+ghost use Rattle.shogi_search.specs.declared.bounds.TheConstants.{GREATEST_DEPTH};
+ghost use Rattle.shared_table.specs.declared.table.TheConstants.{GREATEST_CAPACITY};
 
 use shared_table::{SharedTable, TableFault};
 use shogi_core::{Color, Hands, Move, Piece, Position, Role, Square};
@@ -16,7 +18,7 @@ pub type TestTable = SharedTable<BuildHasherDefault<FoldHasher>, Global>;
 
 pub fn table_of(alloc: Global, capacity: usize) -> Result<TestTable, TableFault>
     requires least { 1 ≤ capacity }
-    requires most { capacity ≤ 1000000 }
+    requires most { capacity ≤ GREATEST_CAPACITY }
 {
     SharedTable::new(alloc, capacity, BuildHasherDefault::<FoldHasher>::new())
 }
@@ -56,7 +58,7 @@ fn children(alloc: Global, p: &Position) -> Result<Vec<Position>, AllocError> {
 
 /// Notes the value and the best move that a search without a memory finds.
 fn note_exact<M: Memo>(memo: &mut M, p: &Position, depth: u8)
-    requires { depth ≤ 16 }
+    requires { depth ≤ GREATEST_DEPTH }
 {
     let found = search(p, depth, &mut NoMemo);
     memo.note(p, depth, Entry::Exact(found.value, found.best));

@@ -1,6 +1,7 @@
 //! Searches that go on in slices: two by turns, and the calls of one that makes a step at a time.
 
 ghost use Rattle.std.specs.Prelude.{◌≤◌};
+ghost use Rattle.shogi_search.specs.declared.bounds.TheConstants.{GREATEST_DEPTH};
 
 use crate::recorder::Recorder;
 use crate::tables::{TestTable, table_of};
@@ -76,7 +77,7 @@ fn assert_last_call<M: Memo + Drop>(
     memo: M,
     depth: u8,
 ) -> Result<Found, Fail>
-    requires { depth ≤ 16 }
+    requires { depth ≤ GREATEST_DEPTH }
 {
     let start = Position::start();
     let mut search = Search::start(&start, depth);
@@ -101,7 +102,7 @@ fn assert_last_calls(
     value: i32,
     code: u16,
 ) -> Result<(), Fail>
-    requires { depth ≤ 16 }
+    requires { depth ≤ GREATEST_DEPTH }
 {
     let found = assert_last_call(rt, alloc, NoMemo, depth)?;
     assert_found(rt, &found, value, code);

@@ -5,7 +5,7 @@ mod key;
 mod table;
 
 pub use key::TableKey;
-pub use table::{SharedTable, TableFault};
+pub use table::{GREATEST_CAPACITY, SharedTable, TableFault};
 
 #[cfg(test)]
 mod tests;

@@ -8,6 +8,8 @@ ghost use Rattle.std.specs.Map.{keys_of};
 ghost use Rattle.std.specs.Map.Iter.{ShowsInOrder, deref_pair};
 ghost use Rattle.shared_table.specs.Keys.{is_same_key, key_of};
 ghost use Rattle.shared_table.specs.Recent.{AreTrue, entry_of, leaf_count, leaf_of, noted, probed};
+ghost use Rattle.shared_table.specs.declared.table.TheConstants.{GREATEST_CAPACITY};
+ghost use Rattle.shogi_search.specs.declared.bounds.TheConstants.{GREATEST_DEPTH};
 ghost use Rattle.shared_table.specs.declared.table.TableFault.TheVariants.{OutOfMemory};
 
 use crate::key::TableKey;
@@ -18,6 +20,9 @@ use std::alloc::{AllocError, Allocator};
 use std::hash::BuildHasher;
 use std::marker::Model;
 use std::num::NonZeroUsize;
+
+/// How many entries a table may hold at most (own choice).
+pub const GREATEST_CAPACITY: usize = 1_000_000;
 
 /// Why a table could not be made.
 #[derive(Clone, Copy, Debug, PartialEq, Eq)]
@@ -57,7 +62,7 @@ impl<S: BuildHasher + Drop, A: Allocator + Clone> SharedTable<S, A> {
     /// An empty table for `capacity` entries, from 1 to 1,000,000.
     pub fn new(alloc: A, capacity: usize, hasher: S) -> Result<SharedTable<S, A>, TableFault>
         requires least { 1 ≤ capacity }
-        requires most { capacity ≤ 1000000 }
+        requires most { capacity ≤ GREATEST_CAPACITY }
         ensures { IfOk result (λ table. table ≡ record { pairs = []; capacity = capacity }) }
     {
         let bound = NonZeroUsize::new(capacity).unwrap();
@@ -73,7 +78,7 @@ impl<S: BuildHasher, A: Allocator> SharedTable<S, A> {
         ensures keys { IsDistinct is_same_key (keys_of self.now.pairs) }
         ensures fits { length self.now.pairs ≤ self.now.capacity }
         ensures least { 1 ≤ self.now.capacity }
-        ensures most { self.now.capacity ≤ 1000000 }
+        ensures most { self.now.capacity ≤ GREATEST_CAPACITY }
         ensures truth { AreTrue self.now.pairs }
     {
         let _ = &self.leaves;
@@ -141,7 +146,7 @@ impl<S: BuildHasher, A: Allocator + Clone> Memo for SharedTable<S, A> {
 
     fn note(&mut self, p: &Position, d: u8, entry: Entry)
         requires truth { IsTrueEntry p.now d entry }
-        requires depth { d ≤ 16 }
+        requires depth { d ≤ GREATEST_DEPTH }
         ensures noted { (self.new ≡ record self.old { pairs = noted self.old.capacity (key_of p.now d) entry self.old.pairs })
             ⊎ ((entry_of self.old.pairs (key_of p.now d) ≡ None) × (self.new ≡ self.old)) }
     {
@@ -196,6 +201,7 @@ fn leaf(pair: &Option<(TableKey, Entry)>) -> usize
     }
 }
 
+// One for a leaf.
 fn tally(depth: u8) -> usize
     ensures { result ≡ cond (depth == 0) 1 0 }
 {

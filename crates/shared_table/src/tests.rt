@@ -1,4 +1,5 @@
 ghost use Rattle.std.specs.Prelude.{◌≤◌};
+ghost use Rattle.shogi_search.specs.declared.bounds.TheConstants.{GREATEST_DEPTH};
 
 use crate::{SharedTable, TableFault, TableKey};
 use linked_list_allocator::LocalHeap;
@@ -11,7 +12,7 @@ use std::test::Fail;
 
 // Notes what a search at the depth finds.
 fn note_search<M: Memo>(table: &mut M, p: &Position, depth: u8)
-    requires { depth ≤ 16 }
+    requires { depth ≤ GREATEST_DEPTH }
 {
     let found = search(p, depth, &mut NoMemo);
     table.note(p, depth, Entry::Exact(found.value, found.best));

@@ -1,119 +1,174 @@
 -- The stack grows and shrinks at its top.
-use Rattle.std.proofs.Common.{◌≡◌, ◌<◌, ◌+◌, ◌-◌, ◌*◌, ℕ, ℤ, List, [], ◌∷◌, ◌++◌, true, length, ◌≤◌, Option, Some, None, ap, ◌∙◌, sym, arith, subst}
+use Rattle.std.proofs.Common.{◌≡◌, ◌<◌, ◌+◌, ◌-◌, ◌*◌, ℕ, ℤ, List, [], ◌∷◌, ◌++◌, length, take, ◌≤◌, refl, ap, ◌∙◌, sym, arith, subst}
+use Rattle.std.specs.Prelude.{sum_by}
+use Rattle.std.proofs.lemmas.List.{length-take-le}
+use Rattle.std.proofs.lemmas.List.Sums.{sum_by-append}
+use Rattle.shogi_core.specs.declared.moves.Move.{Move}
 use Rattle.shogi_core.specs.Codes.{code_of}
 use Rattle.shogi_core.specs.Position.{Shogi}
 use Rattle.shogi_moves.specs.After.{after_code}
 use Rattle.shogi_search.specs.declared.frame.Frame.{Frame}
-use Rattle.shogi_search.specs.declared.order.Cursor.{Cursor}
-use Rattle.shogi_search.specs.Minimax.{negated, subtrees, tree}
+use Rattle.shogi_search.specs.declared.frame.Waiting.{Waiting}
+use Rattle.shogi_search.specs.declared.frame.Waiting.TheVariants.{Next, Asked, Leaf, Cut}
+use Rattle.shogi_search.specs.declared.move_picker.MovePicker.{MovePicker}
+use Rattle.shogi_search.specs.declared.stack.Stack.{Stack}
+use Rattle.shogi_search.specs.Minimax.{negated, subtrees, tree_size}
 use Rattle.shogi_search.specs.Order.{todo}
-use Rattle.shogi_search.specs.Window.{bar, code_at}
-use Rattle.shogi_search.specs.Stack.{IsAt, IsChain, left_of_frame, left_of_answer}
+use Rattle.shogi_search.specs.Window.{threshold, code_at}
+use Rattle.shogi_search.specs.Stack.{IsAt, IsSame, IsChain, IsStack, WhereAsked, parents_of, left_of_frame, left_of_waiting}
 use Rattle.shogi_search.proofs.MinimaxLaws.{subtrees-next}
+use Rattle.shogi_search.specs.declared.bounds.TheConstants.{GREATEST_DEPTH, INFINITY}
 
--- a node is the child that another one waits for
-pub record IsChild (f q : Frame) : Type 0 where
+-- a node is the child that another one has asked for by this move
+pub record IsChild (f q : Frame) (m : Move) : Type 0 where
   pub deep : 0 < f.depth
-  pub waits_for : f.waiting ≡ true
-  pub at_child : IsAt (after_code f.position (code_of f.asked)) (f.depth - 1) (negated f.high) (negated (bar f.top (code_at f.top_move) (code_of f.asked))) q
+  pub asks : f.waiting ≡ Asked m
+  pub at_child : IsAt (after_code f.position (code_of m)) (f.depth - 1) (negated f.beta) (negated (threshold f.best_value (code_at f.best_move) (code_of m))) q
 
--- one node has the place of another
-pub record IsSame (f g : Frame) : Type 0 where
-  pub position : g.position ≡ f.position
-  pub depth : g.depth ≡ f.depth
-  pub low_is : g.low ≡ f.low
-  pub high_is : g.high ≡ f.high
+-- where a move is asked for, what holds of it may be exchanged for what follows from it
+where_map : (w : Waiting) (P Q : Move → Type 0) → ((m : Move) → P m → Q m) → WhereAsked w P → WhereAsked w Q
+where_map Next P Q g h = h
+where_map (Asked m) P Q g h = g m h
+where_map (Leaf m v) P Q g h = h
+where_map (Cut v) P Q g h = h
 
-pub chain_same : (p : Shogi) (d : ℕ) (low high : ℤ) (fs : List Frame) (f g : Frame) → IsChain p d low high fs f → IsSame f g → IsChain p d low high fs g
-chain_same p d low high [] f g c s = record { position = s.position ∙ c.position; depth = s.depth ∙ c.depth; low_is = s.low_is ∙ c.low_is; high_is = s.high_is ∙ c.high_is }
-chain_same p d low high (h ∷ fs) f g c s = (c.0, (c.1.0, (c.1.1.0, chain_same (after_code p (code_of h.asked)) (d - 1) (negated high) (negated (bar h.top (code_at h.top_move) (code_of h.asked))) fs f g c.1.1.1 s)))
+where_asked : (w : Waiting) (P : Move → Type 0) (m : Move) → w ≡ Asked m → P m → WhereAsked w P
+where_asked w P m e h = subst (λ (x : Waiting). WhereAsked x P) (sym e) h
 
-pub chain_push : (p : Shogi) (d : ℕ) (low high : ℤ) (fs : List Frame) (f q : Frame) → IsChain p d low high fs f → IsChild f q → IsChain p d low high (fs ++ f ∷ []) q
-chain_push p d low high [] f q c k = (
+pub chain_same : (p : Shogi) (d : ℕ) (alpha beta : ℤ) (fs : List Frame) (f g : Frame) → IsChain p d alpha beta fs f → IsSame f g → IsChain p d alpha beta fs g
+chain_same p d alpha beta [] f g c s = record { position = s.0 ∙ c.position; depth = s.1.0 ∙ c.depth; alpha_is = s.1.1.0 ∙ c.alpha_is; beta_is = s.1.1.1 ∙ c.beta_is }
+chain_same p d alpha beta (h ∷ fs) f g c s = (c.0, (c.1.0, where_map h.waiting _ _ (λ m k. chain_same (after_code p (code_of m)) (d - 1) (negated beta) (negated (threshold h.best_value (code_at h.best_move) (code_of m))) fs f g k s) c.1.1))
+
+pub chain_push : (p : Shogi) (d : ℕ) (alpha beta : ℤ) (fs : List Frame) (f q : Frame) (m : Move) → IsChain p d alpha beta fs f → IsChild f q m → IsChain p d alpha beta (fs ++ f ∷ []) q
+chain_push p d alpha beta [] f q m c k = (
   c,
   (
     subst (λ (x : ℕ). 0 < x) c.depth k.deep,
-    (
-      k.waits_for,
-      record {
-        position = k.at_child.position ∙ ap (λ (x : Shogi). after_code x (code_of f.asked)) c.position;
-        depth = k.at_child.depth ∙ ap (λ (x : ℕ). x - 1) c.depth;
-        low_is = k.at_child.low_is ∙ ap negated c.high_is;
-        high_is = k.at_child.high_is;
-      },
-    ),
+    where_asked
+        f.waiting
+        (λ (n : Move). IsAt (after_code p (code_of n)) (d - 1) (negated beta) (negated (threshold f.best_value (code_at f.best_move) (code_of n))) q)
+        m
+        k.asks
+        (record {
+          position = k.at_child.position ∙ ap (λ (x : Shogi). after_code x (code_of m)) c.position;
+          depth = k.at_child.depth ∙ ap (λ (x : ℕ). x - 1) c.depth;
+          alpha_is = k.at_child.alpha_is ∙ ap negated c.beta_is;
+          beta_is = k.at_child.beta_is;
+        }),
   ),
 )
-chain_push p d low high (h ∷ fs) f q c k = (c.0, (c.1.0, (c.1.1.0, chain_push (after_code p (code_of h.asked)) (d - 1) (negated high) (negated (bar h.top (code_at h.top_move) (code_of h.asked))) fs f q c.1.1.1 k)))
+chain_push p d alpha beta (h ∷ fs) f q m c k = (c.0, (c.1.0, where_map h.waiting _ _ (λ n i. chain_push (after_code p (code_of n)) (d - 1) (negated beta) (negated (threshold h.best_value (code_at h.best_move) (code_of n))) fs f q m i k) c.1.1))
 
-pub record IsPopped (p : Shogi) (d : ℕ) (low high : ℤ) (fs : List Frame) (f q : Frame) : Type 0 where
-  pub chain : IsChain p d low high fs f
-  pub child : IsChild f q
+-- the node below the top has asked for a move, and the top is its child
+pub record IsPopped (p : Shogi) (d : ℕ) (alpha beta : ℤ) (fs : List Frame) (f q : Frame) : Type 0 where
+  pub chain : IsChain p d alpha beta fs f
+  pub by : Move
+  pub child : IsChild f q by
 
-pub chain_pop : (p : Shogi) (d : ℕ) (low high : ℤ) (fs : List Frame) (f q : Frame) → IsChain p d low high (fs ++ f ∷ []) q → IsPopped p d low high fs f q
-chain_pop p d low high [] f q c = record {
-  chain = c.0;
-  child = record {
-    deep = subst (λ (x : ℕ). 0 < x) (sym c.0.depth) c.1.0;
-    waits_for = c.1.1.0;
-    at_child = record {
-      position = c.1.1.1.position ∙ ap (λ (x : Shogi). after_code x (code_of f.asked)) (sym c.0.position);
-      depth = c.1.1.1.depth ∙ ap (λ (x : ℕ). x - 1) (sym c.0.depth);
-      low_is = c.1.1.1.low_is ∙ ap negated (sym c.0.high_is);
-      high_is = c.1.1.1.high_is;
-    };
-  };
-}
-chain_pop p d low high (h ∷ fs) f q c =
-    let r : IsPopped (after_code p (code_of h.asked)) (d - 1) (negated high) (negated (bar h.top (code_at h.top_move) (code_of h.asked))) fs f q = chain_pop (after_code p (code_of h.asked)) (d - 1) (negated high) (negated (bar h.top (code_at h.top_move) (code_of h.asked))) fs f q c.1.1.1 in
-    record { chain = (c.0, (c.1.0, (c.1.1.0, r.chain))); child = r.child }
+-- what a move that is asked for has, some move has
+record Asks (w : Waiting) (P : Move → Type 0) : Type 0 where
+  pub current : Move
+  pub is : w ≡ Asked current
+  pub has : P current
 
-pub popped : (p : Shogi) (d : ℕ) (low high : ℤ) (all fs : List Frame) (f q : Frame) → all ≡ fs ++ f ∷ [] → IsChain p d low high all q → IsPopped p d low high fs f q
-popped p d low high all fs f q e c = chain_pop p d low high fs f q (subst (λ (xs : List Frame). IsChain p d low high xs q) e c)
+asks : (w : Waiting) (P : Move → Type 0) → WhereAsked w P → Asks w P
+asks Next P h = absurd h
+asks (Asked m) P h = record { current = m; is = refl; has = h }
+asks (Leaf m v) P h = absurd h
+asks (Cut v) P h = absurd h
+
+pub chain_pop : (p : Shogi) (d : ℕ) (alpha beta : ℤ) (fs : List Frame) (f q : Frame) → IsChain p d alpha beta (fs ++ f ∷ []) q → IsPopped p d alpha beta fs f q
+chain_pop p d alpha beta [] f q c =
+    let a : Asks f.waiting (λ (m : Move). IsAt (after_code p (code_of m)) (d - 1) (negated beta) (negated (threshold f.best_value (code_at f.best_move) (code_of m))) q) = asks f.waiting _ c.1.1 in
+    record {
+      chain = c.0;
+      by = a.current;
+      child = record {
+        deep = subst (λ (x : ℕ). 0 < x) (sym c.0.depth) c.1.0;
+        asks = a.is;
+        at_child = record {
+          position = a.has.position ∙ ap (λ (x : Shogi). after_code x (code_of a.current)) (sym c.0.position);
+          depth = a.has.depth ∙ ap (λ (x : ℕ). x - 1) (sym c.0.depth);
+          alpha_is = a.has.alpha_is ∙ ap negated (sym c.0.beta_is);
+          beta_is = a.has.beta_is;
+        };
+      };
+    }
+chain_pop p d alpha beta (h ∷ fs) f q c =
+    let a : Asks h.waiting (λ (m : Move). IsChain (after_code p (code_of m)) (d - 1) (negated beta) (negated (threshold h.best_value (code_at h.best_move) (code_of m))) (fs ++ f ∷ []) q) = asks h.waiting _ c.1.1 in
+    let r : IsPopped (after_code p (code_of a.current)) (d - 1) (negated beta) (negated (threshold h.best_value (code_at h.best_move) (code_of a.current))) fs f q = chain_pop (after_code p (code_of a.current)) (d - 1) (negated beta) (negated (threshold h.best_value (code_at h.best_move) (code_of a.current))) fs f q a.has in
+    record { chain = (c.0, (c.1.0, where_asked h.waiting (λ (m : Move). IsChain (after_code p (code_of m)) (d - 1) (negated beta) (negated (threshold h.best_value (code_at h.best_move) (code_of m))) fs f) a.current a.is r.chain)); by = r.by; child = r.child }
+
+pub popped : (p : Shogi) (d : ℕ) (alpha beta : ℤ) (all fs : List Frame) (f q : Frame) → all ≡ fs ++ f ∷ [] → IsChain p d alpha beta all q → IsPopped p d alpha beta fs f q
+popped p d alpha beta all fs f q e c = chain_pop p d alpha beta fs f q (subst (λ (xs : List Frame). IsChain p d alpha beta xs q) e c)
+
+pub pushed : (p : Shogi) (d : ℕ) (alpha beta : ℤ) (all fs : List Frame) (f q : Frame) (m : Move) → all ≡ fs ++ f ∷ [] → IsChain p d alpha beta fs f → IsChild f q m → IsChain p d alpha beta all q
+pushed p d alpha beta all fs f q m e c k = subst (λ (xs : List Frame). IsChain p d alpha beta xs q) (sym e) (chain_push p d alpha beta fs f q m c k)
 
 -- the stack is no higher than the root's depth
-pub chain_height : (p : Shogi) (d : ℕ) (low high : ℤ) (fs : List Frame) (f : Frame) → IsChain p d low high fs f → length fs + f.depth ≡ d
-chain_height p d low high [] f c = let e : f.depth ≡ d = c.depth in omega arith
-chain_height p d low high (h ∷ fs) f c =
-    let ih : length fs + f.depth ≡ d - 1 = chain_height (after_code p (code_of h.asked)) (d - 1) (negated high) (negated (bar h.top (code_at h.top_move) (code_of h.asked))) fs f c.1.1.1 in
+pub chain_height : (p : Shogi) (d : ℕ) (alpha beta : ℤ) (fs : List Frame) (f : Frame) → IsChain p d alpha beta fs f → length fs + f.depth ≡ d
+chain_height p d alpha beta [] f c = let e : f.depth ≡ d = c.depth in omega arith
+chain_height p d alpha beta (h ∷ fs) f c =
+    let a : Asks h.waiting (λ (m : Move). IsChain (after_code p (code_of m)) (d - 1) (negated beta) (negated (threshold h.best_value (code_at h.best_move) (code_of m))) fs f) = asks h.waiting _ c.1.1 in
+    let ih : length fs + f.depth ≡ d - 1 = chain_height (after_code p (code_of a.current)) (d - 1) (negated beta) (negated (threshold h.best_value (code_at h.best_move) (code_of a.current))) fs f a.has in
     let deep : 0 < d = c.1.0 in
     omega arith
 
+-- a chain from the root makes a stack
+pub stack_at : (s : Stack) (p : Shogi) (d : ℕ) → s.root ≡ p → s.depth ≡ d → d ≤ GREATEST_DEPTH → s.height ≤ GREATEST_DEPTH → IsChain p d (negated INFINITY) INFINITY (parents_of s) s.top → IsStack s
+stack_at s p d e h shallow fits c = record {
+  shallow = subst (λ (x : ℕ). x ≤ GREATEST_DEPTH) (sym h) shallow;
+  height_fits = fits;
+  chain = subst (λ (x : Shogi). IsChain x s.depth (negated INFINITY) INFINITY (parents_of s) s.top) (sym e) (subst (λ (x : ℕ). IsChain p x (negated INFINITY) INFINITY (parents_of s) s.top) (sym h) c);
+}
+
+-- so there is room above a node that waits for a child
+pub room : (p : Shogi) (d : ℕ) (alpha beta : ℤ) (height : ℕ) (all : List Frame) (f : Frame) → d ≤ GREATEST_DEPTH → height ≤ GREATEST_DEPTH → length all ≡ 16 → 0 < f.depth → IsChain p d alpha beta (take height all) f → height < 16
+room p d alpha beta height all f shallow fits full deep c =
+    omega (arith, chain_height p d alpha beta (take height all) f c, length-take-le height all (omega arith))
+
+-- a frame asks for one move
+pub same_asked : (f q : Frame) (m n : Move) → IsChild f q m → f.waiting ≡ Asked n → IsChild f q n
+same_asked f q m n k e = let s : m ≡ n = one m n (sym k.asks ∙ e) in subst (λ (x : Move). IsChild f q x) s k
+  where
+    one : (m n : Move) → Asked m ≡ Asked n → m ≡ n
+    one m n h = cc
+
 -- one move less is left of a node
-pub left_next : (f g : Frame) (q : Shogi) → g.position ≡ f.position → g.depth ≡ f.depth → g.answer ≡ None → q ≡ after_code g.position (code_of g.asked) → todo f.position f.cursor ≡ code_of g.asked ∷ todo f.position g.cursor → 2 * tree q (g.depth - 1) + left_of_frame g ≤ left_of_frame f
-left_next f g q e h k a n =
-    let s : subtrees f.position (f.depth - 1) (todo f.position f.cursor) ≡ tree q (f.depth - 1) + subtrees f.position (f.depth - 1) (todo f.position g.cursor) = subtrees-next f.position (f.depth - 1) (code_of g.asked) q _ _ (a ∙ ap (λ (x : Shogi). after_code x (code_of g.asked)) e) n in
-    let t : subtrees g.position (g.depth - 1) (todo g.position g.cursor) ≡ subtrees f.position (f.depth - 1) (todo f.position g.cursor) = ap (λ (x : Shogi). subtrees x (g.depth - 1) (todo x g.cursor)) e ∙ ap (λ (x : ℕ). subtrees f.position (x - 1) (todo f.position g.cursor)) h in
-    let u : tree q (g.depth - 1) ≡ tree q (f.depth - 1) = ap (λ (x : ℕ). tree q (x - 1)) h in
-    let v : left_of_answer g.answer ≡ 0 = ap left_of_answer k in
+pub left_next : (f g : Frame) (q : Shogi) (m : Move) → g.position ≡ f.position → g.depth ≡ f.depth → g.waiting ≡ Asked m → q ≡ after_code g.position (code_of m) → todo f.position f.picker ≡ code_of m ∷ todo f.position g.picker → 2 * tree_size q (g.depth - 1) + left_of_frame g ≤ left_of_frame f
+left_next f g q m e h k a n =
+    let s : subtrees f.position (f.depth - 1) (todo f.position f.picker) ≡ tree_size q (f.depth - 1) + subtrees f.position (f.depth - 1) (todo f.position g.picker) = subtrees-next f.position (f.depth - 1) (code_of m) q _ _ (a ∙ ap (λ (x : Shogi). after_code x (code_of m)) e) n in
+    let t : subtrees g.position (g.depth - 1) (todo g.position g.picker) ≡ subtrees f.position (f.depth - 1) (todo f.position g.picker) = ap (λ (x : Shogi). subtrees x (g.depth - 1) (todo x g.picker)) e ∙ ap (λ (x : ℕ). subtrees f.position (x - 1) (todo f.position g.picker)) h in
+    let u : tree_size q (g.depth - 1) ≡ tree_size q (f.depth - 1) = ap (λ (x : ℕ). tree_size q (x - 1)) h in
+    let v : left_of_waiting g.waiting ≡ 0 = ap left_of_waiting k in
     omega (arith, s, t, u, v)
 
-moves_same : (f g : Frame) → g.position ≡ f.position → g.depth ≡ f.depth → g.cursor ≡ f.cursor → subtrees g.position (g.depth - 1) (todo g.position g.cursor) ≡ subtrees f.position (f.depth - 1) (todo f.position f.cursor)
-moves_same f g e h k =
-    ap (λ (x : Shogi). subtrees x (g.depth - 1) (todo x g.cursor)) e
-    ∙ ap (λ (x : ℕ). subtrees f.position (x - 1) (todo f.position g.cursor)) h
-    ∙ ap (λ (x : Cursor). subtrees f.position (f.depth - 1) (todo f.position x)) k
+moves_same : (f g : Frame) → IsSame f g → g.picker ≡ f.picker → subtrees g.position (g.depth - 1) (todo g.position g.picker) ≡ subtrees f.position (f.depth - 1) (todo f.position f.picker)
+moves_same f g s k =
+    ap (λ (x : Shogi). subtrees x (g.depth - 1) (todo x g.picker)) s.0
+    ∙ ap (λ (x : ℕ). subtrees f.position (x - 1) (todo f.position g.picker)) s.1.0
+    ∙ ap (λ (x : MovePicker). subtrees f.position (f.depth - 1) (todo f.position x)) k
 
--- without an answer, no more is left than with one
-pub left_same : (f g : Frame) → g.position ≡ f.position → g.depth ≡ f.depth → g.cursor ≡ f.cursor → g.answer ≡ None → left_of_frame g ≤ left_of_frame f
-left_same f g e h k a =
-    let v : left_of_answer g.answer ≡ 0 = ap left_of_answer a in
-    omega (arith, moves_same f g e h k, v)
+-- without a leaf to be taken in, no more is left than with one
+pub left_same : (f g : Frame) → IsSame f g → g.picker ≡ f.picker → left_of_waiting g.waiting ≡ 0 → left_of_frame g ≤ left_of_frame f
+left_same f g s k v = omega (arith, moves_same f g s k, v)
 
 -- a leaf that is valued and not taken in yet
-pub left_heard : (f g : Frame) → g.position ≡ f.position → g.depth ≡ f.depth → g.cursor ≡ f.cursor → left_of_frame g ≤ left_of_frame f + 1
-left_heard f g e h k = omega (arith, moves_same f g e h k, one g.answer)
+pub left_heard : (f g : Frame) → IsSame f g → g.picker ≡ f.picker → left_of_frame g ≤ left_of_frame f + 1
+left_heard f g s k = omega (arith, moves_same f g s k, one g.waiting)
   where
-    one : (answer : Option ℤ) → left_of_answer answer ≤ 1
-    one None = omega arith
-    one (Some v) = omega arith
+    one : (waiting : Waiting) → left_of_waiting waiting ≤ 1
+    one Next = omega arith
+    one (Asked m) = omega arith
+    one (Leaf m v) = omega arith
+    one (Cut v) = omega arith
 
 -- and that is taken in
-pub left_taken : (f g : Frame) (v : ℤ) → f.answer ≡ Some v → g.position ≡ f.position → g.depth ≡ f.depth → g.cursor ≡ f.cursor → g.answer ≡ None → left_of_frame g < left_of_frame f
-left_taken f g v i e h k a =
-    let one : left_of_answer f.answer ≡ 1 = ap left_of_answer i in
-    let none : left_of_answer g.answer ≡ 0 = ap left_of_answer a in
-    omega (arith, moves_same f g e h k, one, none)
+pub left_taken : (f g : Frame) (m : Move) (v : ℤ) → f.waiting ≡ Leaf m v → IsSame f g → g.picker ≡ f.picker → left_of_waiting g.waiting ≡ 0 → left_of_frame g < left_of_frame f
+left_taken f g m v i s k none =
+    let one : left_of_waiting f.waiting ≡ 1 = ap left_of_waiting i in
+    omega (arith, moves_same f g s k, one, none)
 
-pub pushed : (p : Shogi) (d : ℕ) (low high : ℤ) (all fs : List Frame) (f q : Frame) → all ≡ fs ++ f ∷ [] → IsChain p d low high fs f → IsChild f q → IsChain p d low high all q
-pushed p d low high all fs f q e c k = subst (λ (xs : List Frame). IsChain p d low high xs q) (sym e) (chain_push p d low high fs f q c k)
+-- what is left of the frames below and of one more
+pub left_above : (all fs : List Frame) (f : Frame) → all ≡ fs ++ f ∷ [] → sum_by left_of_frame all ≡ sum_by left_of_frame fs + left_of_frame f
+left_above all fs f e = ap (sum_by left_of_frame) e ∙ sum_by-append left_of_frame fs (f ∷ []) ∙ grind (arith)

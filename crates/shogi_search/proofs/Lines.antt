@@ -3,7 +3,7 @@ use Rattle.std.proofs.Common.{◌≡◌, ◌+◌, ◌*◌, ◌-◌, ◌<◌, ℕ
 use Rattle.shogi_core.specs.declared.moves.Move.{Move}
 use Rattle.shogi_core.specs.Position.{Shogi}
 use Rattle.shogi_moves.specs.After.{after}
-use Rattle.shogi_search.specs.Minimax.{best, line, then_line, tree, chase, then_chase, cost}
+use Rattle.shogi_search.specs.Minimax.{best, line, then_line, tree_size, chase, then_chase, cost}
 
 pub line-leaf : (p : Shogi) → line p 0 ≡ []
 unfolding line
@@ -28,18 +28,18 @@ pub chase-leaf : (p : Shogi) → chase p 0 ≡ 0
 unfolding chase
 chase-leaf p = refl
 
-chase-suc : (p : Shogi) (k : ℕ) → chase p (suc k) ≡ 2 * tree p (suc k) + then_chase (λ q. chase q k) p (best p (suc k))
+chase-suc : (p : Shogi) (k : ℕ) → chase p (suc k) ≡ 2 * tree_size p (suc k) + then_chase (λ q. chase q k) p (best p (suc k))
 unfolding chase
 chase-suc p k = refl
 
-pub chase-above : (p : Shogi) (k : ℕ) → 0 < k → chase p k ≡ 2 * tree p k + then_chase (λ q. chase q (k - 1)) p (best p k)
+pub chase-above : (p : Shogi) (k : ℕ) → 0 < k → chase p k ≡ 2 * tree_size p k + then_chase (λ q. chase q (k - 1)) p (best p k)
 chase-above p zero h = absurd (omega arith)
 chase-above p (suc k) h = let e : suc k - 1 ≡ k = omega arith in rw e (chase-suc p k)
 
-pub chase-some : (p : Shogi) (k : ℕ) (m : Move) → 0 < k → best p k ≡ Some m → chase p k ≡ 2 * tree p k + chase (after p m) (k - 1)
+pub chase-some : (p : Shogi) (k : ℕ) (m : Move) → 0 < k → best p k ≡ Some m → chase p k ≡ 2 * tree_size p k + chase (after p m) (k - 1)
 chase-some p k m h e = rw (chase-above p k h, e) refl
 
-pub chase-none : (p : Shogi) (k : ℕ) → 0 < k → best p k ≡ None → chase p k ≡ 2 * tree p k
+pub chase-none : (p : Shogi) (k : ℕ) → 0 < k → best p k ≡ None → chase p k ≡ 2 * tree_size p k
 chase-none p k h e = rw (chase-above p k h, e) (omega arith)
 
 pub cost-none : (p : Shogi) → cost p 0 ≡ 0

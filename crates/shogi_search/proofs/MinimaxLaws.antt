@@ -12,9 +12,11 @@ use Rattle.shogi_moves.specs.LegalMoves.{legal_moves}
 use Rattle.shogi_moves.specs.Rising.{is_in}
 use Rattle.shogi_eval.specs.Material.{material_of}
 use Rattle.shogi_eval.proofs.Bounds.{material_bounds}
-use Rattle.shogi_search.specs.Minimax.{value, best, best_code, move_at, tree, worth, lost, negated, greatest_of, at_leaf, subtrees}
+use Rattle.shogi_search.specs.Minimax.{value, best, best_code, move_at, tree_size, worth, lost, negated, greatest_of, at_leaf, subtrees}
 use Rattle.shogi_search.proofs.Greatest.{greatest_of-above, greatest_of-least}
 use Rattle.shogi_search.proofs.Valid.{after_valid}
+use Rattle.shogi_search.specs.declared.bounds.TheConstants.{MATE}
+use Rattle.std.specs.Prelude.{◌+ℤ◌}
 
 pub value-leaf : (p : Shogi) → value p 0 ≡ at_leaf (lost 0) (material_of p) (legal_moves p)
 unfolding value
@@ -41,18 +43,18 @@ pub best_code-suc : (p : Shogi) (d : ℕ) → best_code p (suc d) ≡ find (λ m
 unfolding best_code
 best_code-suc p d = refl
 
-pub tree-leaf : (p : Shogi) → tree p 0 ≡ 1
-unfolding tree
-tree-leaf p = refl
+pub tree_size-leaf : (p : Shogi) → tree_size p 0 ≡ 1
+unfolding tree_size
+tree_size-leaf p = refl
 
-pub tree-suc : (p : Shogi) (d : ℕ) → tree p (suc d) ≡ 1 + sum_by (λ m. tree (after_code p m) d) (legal_moves p)
-unfolding tree
-tree-suc p d = refl
+pub tree_size-suc : (p : Shogi) (d : ℕ) → tree_size p (suc d) ≡ 1 + sum_by (λ m. tree_size (after_code p m) d) (legal_moves p)
+unfolding tree_size
+tree_size-suc p d = refl
 
 -- the values lie between being lost and winning at the next ply
 pub record Within (d : ℕ) (v : ℤ) : Type 0 where
   pub least : lost d ≤ℤ v
-  pub most : v ≤ℤ pos (30000 + d)
+  pub most : v ≤ℤ (MATE +ℤ pos d)
 
 leaf_within : (ms : List ℕ) (v : ℤ) → negsuc 25199 ≤ℤ v → v ≤ℤ pos 25200 → Within 0 (at_leaf (lost 0) v ms)
 leaf_within [] v l h = record { least = omega (arith, ints); most = omega (arith, ints) }
@@ -63,7 +65,7 @@ greatest_within d f [] h = record { least = omega (arith, ints); most = omega (a
 greatest_within d f (m ∷ ms) h =
     let here : is_in m (m ∷ ms) ≡ true = or_left _ _ (eq-eqb m m refl) in
     let above : f m ≤ℤ greatest_of (lost (suc d)) f (m ∷ ms) = greatest_of-above (lost (suc d)) f (m ∷ ms) m here in
-    let below : greatest_of (lost (suc d)) f (m ∷ ms) ≤ℤ pos (30000 + d) = greatest_of-least (lost (suc d)) f (m ∷ ms) m (pos (30000 + d)) here (λ n i. (h n i).most) in
+    let below : greatest_of (lost (suc d)) f (m ∷ ms) ≤ℤ (MATE +ℤ pos d) = greatest_of-least (lost (suc d)) f (m ∷ ms) m (MATE +ℤ pos d) here (λ n i. (h n i).most) in
     let first : lost d ≤ℤ f m = (h m here).least in
     record { least = omega (arith, ints); most = omega (arith, ints) }
 
@@ -83,9 +85,9 @@ pub best_code-above : (p : Shogi) (d : ℕ) → 0 < d → best_code p d ≡ find
 best_code-above p zero h = absurd (omega arith)
 best_code-above p (suc d) h = let e : suc d - 1 ≡ d = omega arith in rw e (best_code-suc p d)
 
-pub tree-above : (p : Shogi) (d : ℕ) → 0 < d → tree p d ≡ 1 + subtrees p (d - 1) (legal_moves p)
-tree-above p zero h = absurd (omega arith)
-tree-above p (suc d) h = let e : suc d - 1 ≡ d = omega arith in rw e (tree-suc p d)
+pub tree_size-above : (p : Shogi) (d : ℕ) → 0 < d → tree_size p d ≡ 1 + subtrees p (d - 1) (legal_moves p)
+tree_size-above p zero h = absurd (omega arith)
+tree_size-above p (suc d) h = let e : suc d - 1 ≡ d = omega arith in rw e (tree_size-suc p d)
 
 leaf_at : (p : Shogi) (ms : List ℕ) → legal_moves p ≡ ms → (ms ≡ [] → ⊥) → value p 0 ≡ material_of p
 leaf_at p [] e ne = absurd (ne refl)
@@ -103,13 +105,13 @@ leaf_none p nn = leaf_empty p (legal_moves p) refl nn
 
 pub ruleset leaves = (leaf_some, leaf_none)
 
-pub subtrees-next : (p : Shogi) (d m : ℕ) (q : Shogi) (xs rest : List ℕ) → q ≡ after_code p m → xs ≡ m ∷ rest → subtrees p d xs ≡ tree q d + subtrees p d rest
-subtrees-next p d m q xs rest a e = ap (subtrees p d) e ∙ sum_by-cons (λ k. tree (after_code p k) d) m rest ∙ ap (λ (x : Shogi). tree x d + subtrees p d rest) (sym a)
+pub subtrees-next : (p : Shogi) (d m : ℕ) (q : Shogi) (xs rest : List ℕ) → q ≡ after_code p m → xs ≡ m ∷ rest → subtrees p d xs ≡ tree_size q d + subtrees p d rest
+subtrees-next p d m q xs rest a e = ap (subtrees p d) e ∙ sum_by-cons (λ k. tree_size (after_code p k) d) m rest ∙ ap (λ (x : Shogi). tree_size x d + subtrees p d rest) (sym a)
 
 -- a tree has its root
-pub tree-positive : (p : Shogi) (d : ℕ) → 1 ≤ tree p d
-tree-positive p zero = rw tree-leaf (omega arith)
-tree-positive p (suc d) = rw tree-suc (omega arith)
+pub tree_size-positive : (p : Shogi) (d : ℕ) → 1 ≤ tree_size p d
+tree_size-positive p zero = rw tree_size-leaf (omega arith)
+tree_size-positive p (suc d) = rw tree_size-suc (omega arith)
 
 -- what a child's value says of its move
 pub worth_from : (p : Shogi) (d m : ℕ) (q : Shogi) (r : ℤ) → r ≡ value q d → q ≡ after_code p m → worth p d m ≡ pos 0 -ℤ r

@@ -14,19 +14,19 @@ use Rattle.shogi_moves.specs.Captures.{is_capture}
 use Rattle.shogi_moves.specs.LegalMoves.{legal_moves}
 use Rattle.shogi_moves.specs.Rising.{is_in}
 use Rattle.shogi_moves.proofs.LegalLaws.{legal_in, legal_code_below}
-use Rattle.shogi_search.specs.declared.order.Cursor.{Cursor}
-use Rattle.shogi_search.specs.declared.order.Cursor.TheVariants.{First, Start}
-use Rattle.shogi_search.specs.Minimax.{tree, subtrees, best, best_code, move_at}
+use Rattle.shogi_search.specs.declared.move_picker.MovePicker.{MovePicker}
+use Rattle.shogi_search.specs.declared.move_picker.MovePicker.TheVariants.{HashMove, Start}
+use Rattle.shogi_search.specs.Minimax.{tree_size, subtrees, best, best_code, move_at}
 use Rattle.shogi_search.specs.Window.{IsCovered}
-use Rattle.shogi_search.specs.Order.{picks, is_first, todo}
+use Rattle.shogi_search.specs.Order.{picks, is_hash_move, todo}
 use Rattle.shogi_search.proofs.Best.{best_in}
 use Rattle.shogi_search.proofs.MinimaxLaws.{best-code}
 use Rattle.shogi_search.proofs.Valid.{board_of, drop_of}
 use Rattle.shogi_search.proofs.Picks.{AreApart, two_parts, three_parts, in_cases, in_head, in_tail, is_in-append_left, is_in-append_right, is_in-append_cases, is_in-filter, is_in-filter_from}
 
 -- no move is both a capture and none
-apart : (p : Shogi) (first : Option Move) → AreApart (picks p first true) (picks p first false)
-apart p first n a b =
+apart : (p : Shogi) (hash_move : Option Move) → AreApart (picks p hash_move true) (picks p hash_move false)
+apart p hash_move n a b =
     let x : is_capture p n ≡ true = (and_parts _ _ a).0 in
     let y : not (is_capture p n) ≡ true = (and_parts _ _ b).0 in
     let z : not (is_capture p n) ≡ false = not_from_true _ x in
@@ -36,36 +36,36 @@ not_itself : (p : Shogi) (f : Move) (c : Bool) → picks p (Some f) c (code_of f
 not_itself p f c = and_right _ _ (not_from_true _ (eq-eqb (code_of f) (code_of f) refl))
 
 -- a move that is not the first one is a capture or one of the rest
-in_parts : (p : Shogi) (first : Option Move) (n : ℕ) → is_in n (legal_moves p) ≡ true → is_first first n ≡ false → is_in n (filter (picks p first true) (legal_moves p) ++ filter (picks p first false) (legal_moves p)) ≡ true
-in_parts p first n i o =
-    let ne : not (is_first first n) ≡ true = not_from_false _ o in
+in_parts : (p : Shogi) (hash_move : Option Move) (n : ℕ) → is_in n (legal_moves p) ≡ true → is_hash_move hash_move n ≡ false → is_in n (filter (picks p hash_move true) (legal_moves p) ++ filter (picks p hash_move false) (legal_moves p)) ≡ true
+in_parts p hash_move n i o =
+    let ne : not (is_hash_move hash_move n) ≡ true = not_from_false _ o in
     elim (cases_Bool (is_capture p n)) [
-      | inl c ↦ is_in-append_left n _ _ (is_in-filter (picks p first true) n (legal_moves p) (and_from _ _ c ne) i)
-      | inr c ↦ is_in-append_right n _ _ (is_in-filter (picks p first false) n (legal_moves p) (and_from _ _ (not_from_false _ c) ne) i)
+      | inl c ↦ is_in-append_left n _ _ (is_in-filter (picks p hash_move true) n (legal_moves p) (and_from _ _ c ne) i)
+      | inr c ↦ is_in-append_right n _ _ (is_in-filter (picks p hash_move false) n (legal_moves p) (and_from _ _ (not_from_false _ c) ne) i)
     ]
 
-of_parts : (p : Shogi) (first : Option Move) (n : ℕ) → is_in n (filter (picks p first true) (legal_moves p) ++ filter (picks p first false) (legal_moves p)) ≡ true → is_in n (legal_moves p) ≡ true
-of_parts p first n h =
-    is_in-append_cases n (filter (picks p first true) (legal_moves p)) (filter (picks p first false) (legal_moves p)) (is_in n (legal_moves p) ≡ true)
-    (λ i. is_in-filter_from (picks p first true) n (legal_moves p) i)
-    (λ i. is_in-filter_from (picks p first false) n (legal_moves p) i)
+of_parts : (p : Shogi) (hash_move : Option Move) (n : ℕ) → is_in n (filter (picks p hash_move true) (legal_moves p) ++ filter (picks p hash_move false) (legal_moves p)) ≡ true → is_in n (legal_moves p) ≡ true
+of_parts p hash_move n h =
+    is_in-append_cases n (filter (picks p hash_move true) (legal_moves p)) (filter (picks p hash_move false) (legal_moves p)) (is_in n (legal_moves p) ≡ true)
+    (λ i. is_in-filter_from (picks p hash_move true) n (legal_moves p) i)
+    (λ i. is_in-filter_from (picks p hash_move false) n (legal_moves p) i)
     h
 
-pub record IsWhole (p : Shogi) (d : ℕ) (cursor : Cursor) : Type 0 where
-  pub among : (n : ℕ) → is_in n (todo p cursor) ≡ true → is_in n (legal_moves p) ≡ true
-  pub each : (n : ℕ) → is_in n (legal_moves p) ≡ true → is_in n (todo p cursor) ≡ true
-  pub counted : subtrees p d (todo p cursor) ≤ subtrees p d (legal_moves p)
+pub record IsWhole (p : Shogi) (d : ℕ) (picker : MovePicker) : Type 0 where
+  pub among : (n : ℕ) → is_in n (todo p picker) ≡ true → is_in n (legal_moves p) ≡ true
+  pub each : (n : ℕ) → is_in n (legal_moves p) ≡ true → is_in n (todo p picker) ≡ true
+  pub counted : subtrees p d (todo p picker) ≤ subtrees p d (legal_moves p)
 
 whole_captures : (p : Shogi) (d : ℕ) → IsWhole p d (Start None)
 whole_captures p d = record {
   among = of_parts p None;
   each = λ n i. in_parts p None n i refl;
   counted =
-      let g : ℕ → ℕ = λ (m : ℕ). tree (after_code p m) d in
+      let g : ℕ → ℕ = λ (m : ℕ). tree_size (after_code p m) d in
       omega (arith, two_parts g (picks p None true) (picks p None false) (apart p None) (legal_moves p), sum_by-append g (filter (picks p None true) (legal_moves p)) (filter (picks p None false) (legal_moves p)));
 }
 
-whole_first : (p : Shogi) (d : ℕ) (f : Move) → is_in (code_of f) (legal_moves p) ≡ true → IsWhole p d (First f)
+whole_first : (p : Shogi) (d : ℕ) (f : Move) → is_in (code_of f) (legal_moves p) ≡ true → IsWhole p d (HashMove f)
 whole_first p d f i =
     let A : List ℕ = filter (picks p (Some f) true) (legal_moves p) in
     let B : List ℕ = filter (picks p (Some f) false) (legal_moves p) in
@@ -73,26 +73,26 @@ whole_first p d f i =
       among = λ n h. elim (in_cases n (code_of f) (A ++ B) h) [ inl e ↦ subst (λ (k : ℕ). is_in k (legal_moves p) ≡ true) (sym (eqb-true n (code_of f) e)) i | inr e ↦ of_parts p (Some f) n e ];
       each = λ n h. elim (cases_eq n (code_of f)) [ inl e ↦ in_head n (code_of f) (A ++ B) (eq-eqb n (code_of f) e) | inr ne ↦ in_tail n (code_of f) (A ++ B) (in_parts p (Some f) n h (ne_eqb n (code_of f) ne)) ];
       counted =
-          let g : ℕ → ℕ = λ (m : ℕ). tree (after_code p m) d in
+          let g : ℕ → ℕ = λ (m : ℕ). tree_size (after_code p m) d in
           omega (arith, three_parts g (picks p (Some f) true) (picks p (Some f) false) (code_of f) (apart p (Some f)) (not_itself p f true) (not_itself p f false) (legal_moves p) i, sum_by-cons g (code_of f) (A ++ B), sum_by-append g A B);
     }
 
-pub whole : (p : Shogi) (d : ℕ) (first : Option Move) (cursor : Cursor) → ForSome first (λ f. is_in (code_of f) (legal_moves p) ≡ true) → MatchOption first (cursor ≡ Start None) (λ f. cursor ≡ First f) → IsWhole p d cursor
-whole p d None cursor l e = subst (λ (c : Cursor). IsWhole p d c) (sym e) (whole_captures p d)
-whole p d (Some f) cursor l e = subst (λ (c : Cursor). IsWhole p d c) (sym e) (whole_first p d f (l f refl))
+pub whole : (p : Shogi) (d : ℕ) (hash_move : Option Move) (picker : MovePicker) → ForSome hash_move (λ f. is_in (code_of f) (legal_moves p) ≡ true) → MatchOption hash_move (picker ≡ Start None) (λ f. picker ≡ HashMove f) → IsWhole p d picker
+whole p d None picker l e = subst (λ (c : MovePicker). IsWhole p d c) (sym e) (whole_captures p d)
+whole p d (Some f) picker l e = subst (λ (c : MovePicker). IsWhole p d c) (sym e) (whole_first p d f (l f refl))
 
 -- at the start of the visits no move is answered
-pub whole_covered : (p : Shogi) (d : ℕ) (cursor : Cursor) (f : ℕ → ℤ) (low : ℤ) → IsWhole p d cursor → IsCovered f (legal_moves p) (todo p cursor) low low None
-whole_covered p d cursor f low w = record {
+pub whole_covered : (p : Shogi) (d : ℕ) (picker : MovePicker) (f : ℕ → ℤ) (alpha : ℤ) → IsWhole p d picker → IsCovered f (legal_moves p) (todo p picker) alpha alpha None
+whole_covered p d picker f alpha w = record {
   among = w.among;
-  below = λ n i o. (let t : is_in n (todo p cursor) ≡ true = w.each n i in absurd (cc));
+  below = λ n i o. (let t : is_in n (todo p picker) ≡ true = w.each n i in absurd (cc));
   reached = refl;
 }
 
 code_back : (code : ℕ) (m : Move) → code < MOVE_CODES → move_of code ≡ Some m → code_of m ≡ code
 code_back code m h e = elim (cases_lt code FIRST_DROP) [
   | inl low ↦ (ap code_of (same_Some m _ (sym e ∙ board_of code low)) ∙ code_of-board code)
-  | inr high ↦ (ap code_of (same_Some m _ (sym e ∙ drop_of code high h)) ∙ code_of-drop code high h)
+  | inr beta ↦ (ap code_of (same_Some m _ (sym e ∙ drop_of code beta h)) ∙ code_of-drop code beta h)
 ]
 
 listed_at : (p : Shogi) (d : ℕ) (o : Option ℕ) (m : Move) → best_code p d ≡ o → move_at o ≡ Some m → is_in (code_of m) (legal_moves p) ≡ true

@@ -4,53 +4,52 @@ use Rattle.std.specs.Prelude.{cond, ◌&&◌}
 use Rattle.std.specs.List.{sum_by}
 use Rattle.std.proofs.lemmas.List.Sums.{sum_by-cons}
 use Rattle.std.proofs.lemmas.Bool.{cond_both, cases_Bool, or_cases, eqb-true, or_left, or_right, cond-true, cond-false}
-use Rattle.shogi_core.specs.declared.moves.TheConstants.{FIRST_DROP}
 use Rattle.shogi_core.specs.declared.moves.Move.{Move}
 use Rattle.shogi_core.specs.Position.{Shogi}
 use Rattle.shogi_moves.specs.Captures.{is_of_sort}
 use Rattle.shogi_moves.specs.LegalMoves.{legal_from}
 use Rattle.shogi_moves.specs.Rising.{is_in}
 use Rattle.shogi_moves.proofs.SweepLaws.{no_captures}
-use Rattle.shogi_search.specs.Order.{is_first, picks, picks_from}
+use Rattle.shogi_search.specs.Order.{is_hash_move, picks, picks_from}
 
 -- a test of two parts keeps what the second keeps of what the first keeps
-filter-both : (p : Shogi) (first : Option Move) (capture : Bool) (xs : List ℕ) → filter (picks p first capture) xs ≡ filter (λ n. not (is_first first n)) (filter (is_of_sort p capture) xs)
-filter-both p first capture [] = refl
-filter-both p first capture (m ∷ xs) = elim (cases_Bool (is_of_sort p capture m)) [
+filter-both : (p : Shogi) (hash_move : Option Move) (capture : Bool) (xs : List ℕ) → filter (picks p hash_move capture) xs ≡ filter (λ n. not (is_hash_move hash_move n)) (filter (is_of_sort p capture) xs)
+filter-both p hash_move capture [] = refl
+filter-both p hash_move capture (m ∷ xs) = elim (cases_Bool (is_of_sort p capture m)) [
   | inl sort ↦ (
       let here : filter (is_of_sort p capture) (m ∷ xs) ≡ m ∷ filter (is_of_sort p capture) xs = cond-true _ _ _ sort in
-      ap (λ (b : Bool). cond b (m ∷ filter (picks p first capture) xs) (filter (picks p first capture) xs)) (ap (λ (b : Bool). b && not (is_first first m)) sort)
-      ∙ ap (λ (ys : List ℕ). cond (not (is_first first m)) (m ∷ ys) ys) (filter-both p first capture xs)
-      ∙ ap (filter (λ n. not (is_first first n))) (sym here))
+      ap (λ (b : Bool). cond b (m ∷ filter (picks p hash_move capture) xs) (filter (picks p hash_move capture) xs)) (ap (λ (b : Bool). b && not (is_hash_move hash_move m)) sort)
+      ∙ ap (λ (ys : List ℕ). cond (not (is_hash_move hash_move m)) (m ∷ ys) ys) (filter-both p hash_move capture xs)
+      ∙ ap (filter (λ n. not (is_hash_move hash_move n))) (sym here))
   | inr other ↦ (
       let gone : filter (is_of_sort p capture) (m ∷ xs) ≡ filter (is_of_sort p capture) xs = cond-false _ _ _ other in
-      ap (λ (b : Bool). cond b (m ∷ filter (picks p first capture) xs) (filter (picks p first capture) xs)) (ap (λ (b : Bool). b && not (is_first first m)) other)
-      ∙ filter-both p first capture xs
-      ∙ ap (filter (λ n. not (is_first first n))) (sym gone))
+      ap (λ (b : Bool). cond b (m ∷ filter (picks p hash_move capture) xs) (filter (picks p hash_move capture) xs)) (ap (λ (b : Bool). b && not (is_hash_move hash_move m)) other)
+      ∙ filter-both p hash_move capture xs
+      ∙ ap (filter (λ n. not (is_hash_move hash_move n))) (sym gone))
 ]
 
 -- the next of a sort is a pick, or it is the remembered move and is passed, or there is none
-pub pick-found : (p : Shogi) (first : Option Move) (capture : Bool) (m : ℕ) (xs rest : List ℕ) → filter (is_of_sort p capture) xs ≡ m ∷ filter (is_of_sort p capture) rest → is_first first m ≡ false → filter (picks p first capture) xs ≡ m ∷ filter (picks p first capture) rest
-pick-found p first capture m xs rest e h =
-    filter-both p first capture xs ∙ ap (filter (λ n. not (is_first first n))) e ∙ cond-true _ _ _ (ap not h) ∙ ap (λ (ys : List ℕ). m ∷ ys) (sym (filter-both p first capture rest))
+pub pick-found : (p : Shogi) (hash_move : Option Move) (capture : Bool) (m : ℕ) (xs rest : List ℕ) → filter (is_of_sort p capture) xs ≡ m ∷ filter (is_of_sort p capture) rest → is_hash_move hash_move m ≡ false → filter (picks p hash_move capture) xs ≡ m ∷ filter (picks p hash_move capture) rest
+pick-found p hash_move capture m xs rest e h =
+    filter-both p hash_move capture xs ∙ ap (filter (λ n. not (is_hash_move hash_move n))) e ∙ cond-true _ _ _ (ap not h) ∙ ap (λ (ys : List ℕ). m ∷ ys) (sym (filter-both p hash_move capture rest))
 
-pub pick-passed : (p : Shogi) (first : Option Move) (capture : Bool) (m : ℕ) (xs rest : List ℕ) → filter (is_of_sort p capture) xs ≡ m ∷ filter (is_of_sort p capture) rest → is_first first m ≡ true → filter (picks p first capture) xs ≡ filter (picks p first capture) rest
-pick-passed p first capture m xs rest e h =
-    filter-both p first capture xs ∙ ap (filter (λ n. not (is_first first n))) e ∙ cond-false _ _ _ (ap not h) ∙ sym (filter-both p first capture rest)
+pub pick-passed : (p : Shogi) (hash_move : Option Move) (capture : Bool) (m : ℕ) (xs rest : List ℕ) → filter (is_of_sort p capture) xs ≡ m ∷ filter (is_of_sort p capture) rest → is_hash_move hash_move m ≡ true → filter (picks p hash_move capture) xs ≡ filter (picks p hash_move capture) rest
+pick-passed p hash_move capture m xs rest e h =
+    filter-both p hash_move capture xs ∙ ap (filter (λ n. not (is_hash_move hash_move n))) e ∙ cond-false _ _ _ (ap not h) ∙ sym (filter-both p hash_move capture rest)
 
-pub pick-none : (p : Shogi) (first : Option Move) (capture : Bool) (xs : List ℕ) → filter (is_of_sort p capture) xs ≡ [] → filter (picks p first capture) xs ≡ []
-pick-none p first capture xs e = filter-both p first capture xs ∙ ap (filter (λ n. not (is_first first n))) e
+pub pick-none : (p : Shogi) (hash_move : Option Move) (capture : Bool) (xs : List ℕ) → filter (is_of_sort p capture) xs ≡ [] → filter (picks p hash_move capture) xs ≡ []
+pick-none p hash_move capture xs e = filter-both p hash_move capture xs ∙ ap (filter (λ n. not (is_hash_move hash_move n))) e
 
 -- a sort that goes on from another code goes on so without the remembered move
-pub pick-same : (p : Shogi) (first : Option Move) (capture : Bool) (xs ys : List ℕ) → filter (is_of_sort p capture) xs ≡ filter (is_of_sort p capture) ys → filter (picks p first capture) xs ≡ filter (picks p first capture) ys
-pick-same p first capture xs ys e = filter-both p first capture xs ∙ ap (filter (λ n. not (is_first first n))) e ∙ sym (filter-both p first capture ys)
+pub pick-same : (p : Shogi) (hash_move : Option Move) (capture : Bool) (xs ys : List ℕ) → filter (is_of_sort p capture) xs ≡ filter (is_of_sort p capture) ys → filter (picks p hash_move capture) xs ≡ filter (picks p hash_move capture) ys
+pick-same p hash_move capture xs ys e = filter-both p hash_move capture xs ∙ ap (filter (λ n. not (is_hash_move hash_move n))) e ∙ sym (filter-both p hash_move capture ys)
 
 -- drops take nothing
-pub no_drop_taken : (p : Shogi) (first : Option Move) → picks_from p first true FIRST_DROP ≡ []
-no_drop_taken p first = pick-none p first true (legal_from p FIRST_DROP) (no_captures p)
+pub no_drop_taken : (p : Shogi) (hash_move : Option Move) → picks_from p hash_move true 13122 ≡ []
+no_drop_taken p hash_move = pick-none p hash_move true (legal_from p 13122) (no_captures p)
 
-pub captures_end : (p : Shogi) (first : Option Move) (code : ℕ) (ys : List ℕ) → picks_from p first true code ≡ picks_from p first true FIRST_DROP → (picks_from p first true code ++ ys) ≡ ys
-captures_end p first code ys e = ap (λ (xs : List ℕ). xs ++ ys) (e ∙ no_drop_taken p first)
+pub captures_end : (p : Shogi) (hash_move : Option Move) (code : ℕ) (ys : List ℕ) → picks_from p hash_move true code ≡ picks_from p hash_move true 13122 → (picks_from p hash_move true code ++ ys) ≡ ys
+captures_end p hash_move code ys e = ap (λ (xs : List ℕ). xs ++ ys) (e ∙ no_drop_taken p hash_move)
 
 pub ruleset no_capture_left = (captures_end)
 

@@ -5,10 +5,10 @@ use Rattle.shogi_search.specs.declared.memo.Entry.{Entry}
 use Rattle.shogi_search.specs.declared.memo.Entry.TheVariants.{Exact, AtLeast, AtMost}
 
 -- an entry says enough for a window: the value, or that it lies at or above high, or at or below low
-abbrev pub Settles : ℤ → ℤ → Entry → Type 0
-Settles low high (Exact v m) = Unit {0}
-Settles low high (AtLeast v) = high ≤ℤ v
-Settles low high (AtMost v) = v ≤ℤ low
+abbrev pub IsCutoff : ℤ → ℤ → Entry → Type 0
+IsCutoff alpha beta (Exact v m) = Unit {0}
+IsCutoff alpha beta (AtLeast v) = beta ≤ℤ v
+IsCutoff alpha beta (AtMost v) = v ≤ℤ alpha
 
 -- the answer is the value itself
 abbrev pub IsExactly : Option Entry → Type 0

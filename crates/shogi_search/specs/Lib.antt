@@ -5,4 +5,4 @@ pub mod Order
 pub mod Visits
 pub mod Stack
 pub mod Progress
-pub mod Slices
+pub mod SlicedSearch

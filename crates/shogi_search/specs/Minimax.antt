@@ -1,5 +1,5 @@
 -- Minimax at a fixed depth (own choice: the depth is exact, a side without a legal move has lost, and among equal moves the least code is best).
-use Rattle.std.specs.Prelude.{◌≡◌, ◌≤ℤ◌, ℕ, zero, suc, ℤ, pos, ◌-ℤ◌, ◌+◌, ◌*◌, List, [], ◌∷◌, Option, Some, None, find, sum_by}
+use Rattle.std.specs.Prelude.{◌≡◌, ◌≤ℤ◌, ℕ, zero, suc, ℤ, pos, ◌-ℤ◌, ◌+◌, ◌*◌, List, [], ◌∷◌, Option, Some, None, find, sum_by, ◌+ℤ◌}
 use Rattle.std.specs.Int.{int_max}
 use Rattle.std.specs.Ordering.{int_eq}
 use Rattle.shogi_core.specs.declared.moves.Move.{Move}
@@ -10,14 +10,15 @@ use Rattle.shogi_moves.specs.LegalMoves.{legal_moves}
 use Rattle.shogi_eval.specs.Material.{material_of}
 use Rattle.shogi_search.specs.declared.memo.Entry.{Entry}
 use Rattle.shogi_search.specs.declared.memo.Entry.TheVariants.{Exact, AtLeast, AtMost}
-
--- the value of a side that has lost, in check or not, with d plies left
-abbrev pub lost : ℕ → ℤ
-lost d = pos 0 -ℤ pos (30000 + d)
+use Rattle.shogi_search.specs.declared.bounds.TheConstants.{MATE}
 
 -- a value as the other side sees it
 abbrev pub negated : ℤ → ℤ
 negated v = pos 0 -ℤ v
+
+-- the value of a side that has lost, in check or not, with d plies left
+abbrev pub lost : ℕ → ℤ
+lost d = negated (MATE +ℤ pos d)
 
 -- the greatest of f at m and at each of the list
 abbrev pub greatest : (ℕ → ℤ) → ℕ → List ℕ → ℤ
@@ -68,13 +69,13 @@ line p zero = []
 line p (suc d) = then_line (λ q. line q d) p (best p (suc d))
 
 -- the nodes of the whole tree
-unfoldable pub tree : Shogi → ℕ → ℕ
-tree p zero = 1
-tree p (suc d) = 1 + sum_by (λ m. tree (after_code p m) d) (legal_moves p)
+unfoldable pub tree_size : Shogi → ℕ → ℕ
+tree_size p zero = 1
+tree_size p (suc d) = 1 + sum_by (λ m. tree_size (after_code p m) d) (legal_moves p)
 
 -- the nodes of the trees after these moves, each of depth d
 abbrev pub subtrees : Shogi → ℕ → List ℕ → ℕ
-subtrees p d ms = sum_by (λ m. tree (after_code p m) d) ms
+subtrees p d ms = sum_by (λ m. tree_size (after_code p m) d) ms
 
 -- what follows a move costs
 abbrev pub then_chase : (Shogi → ℕ) → Shogi → Option Move → ℕ
@@ -84,7 +85,7 @@ then_chase rest p (Some m) = rest (after p m)
 -- the steps that may be made for the best line: two for each node of the trees along it
 unfoldable pub chase : Shogi → ℕ → ℕ
 chase p zero = 0
-chase p (suc k) = 2 * tree p (suc k) + then_chase (λ q. chase q k) p (best p (suc k))
+chase p (suc k) = 2 * tree_size p (suc k) + then_chase (λ q. chase q k) p (best p (suc k))
 
 -- the steps that may be made for the best lines of each depth from 1 on
 unfoldable pub cost : Shogi → ℕ → ℕ

@@ -2,7 +2,7 @@
 use Rattle.std.specs.Prelude.{ℕ, ◌*◌, Bool, false, Option, None}
 use Rattle.shogi_core.specs.Position.{Shogi}
 use Rattle.shogi_search.specs.declared.found.Found.{Found}
-use Rattle.shogi_search.specs.Minimax.{tree}
+use Rattle.shogi_search.specs.Minimax.{tree_size}
 
 -- where it began, how deep it looks, whether its root is entered, what is left of it, its steps so far, and what it found
 pub record Progress : Type 0 where
@@ -19,4 +19,4 @@ left_of search = search.left
 
 -- before the first slice
 abbrev pub untouched : Shogi → ℕ → Progress
-untouched p d = record { root = p; depth = d; begun = false; left = 2 * tree p d; steps = 0; found = None }
+untouched p d = record { root = p; depth = d; begun = false; left = 2 * tree_size p d; steps = 0; found = None }

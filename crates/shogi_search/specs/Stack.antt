@@ -1,34 +1,62 @@
 -- The stack of a search in slices: the nodes that wait for a child, from the root on, and the node on top.
-use Rattle.std.specs.Prelude.{◌≡◌, ℕ, ◌+◌, ◌*◌, ◌-◌, ◌<◌, ℤ, true, List, [], ◌∷◌, Option, Some, None, sum_by}
+use Rattle.std.specs.Prelude.{◌≡◌, ◌≤◌, ℕ, ◌+◌, ◌*◌, ◌-◌, ◌<◌, ℤ, List, [], ◌∷◌, sum_by, take}
+use Rattle.shogi_core.specs.declared.moves.Move.{Move}
 use Rattle.shogi_core.specs.Codes.{code_of}
 use Rattle.shogi_core.specs.Position.{Shogi}
 use Rattle.shogi_moves.specs.After.{after_code}
 use Rattle.shogi_search.specs.declared.frame.Frame.{Frame}
+use Rattle.shogi_search.specs.declared.frame.Waiting.{Waiting}
+use Rattle.shogi_search.specs.declared.frame.Waiting.TheVariants.{Next, Asked, Leaf, Cut}
+use Rattle.shogi_search.specs.declared.stack.Stack.{Stack}
 use Rattle.shogi_search.specs.Minimax.{negated, subtrees}
 use Rattle.shogi_search.specs.Order.{todo}
-use Rattle.shogi_search.specs.Window.{bar, code_at}
+use Rattle.shogi_search.specs.Window.{threshold, code_at}
+use Rattle.shogi_search.specs.declared.bounds.TheConstants.{GREATEST_DEPTH, INFINITY}
 
 -- a frame stands for a position at a depth, under a window
-pub record IsAt (p : Shogi) (d : ℕ) (low high : ℤ) (frame : Frame) : Type 0 where
+pub record IsAt (p : Shogi) (d : ℕ) (alpha beta : ℤ) (frame : Frame) : Type 0 where
   pub position : frame.position ≡ p
   pub depth : frame.depth ≡ d
-  pub low_is : frame.low ≡ low
-  pub high_is : frame.high ≡ high
+  pub alpha_is : frame.alpha ≡ alpha
+  pub beta_is : frame.beta ≡ beta
 
--- each frame is the child that the one below it waits for
+-- one frame has the place of another
+abbrev pub IsSame : Frame → Frame → Type 0
+IsSame f g = (g.position ≡ f.position) × ((g.depth ≡ f.depth) × ((g.alpha ≡ f.alpha) × (g.beta ≡ f.beta)))
+
+-- what holds of the move that a node has asked for
+abbrev pub WhereAsked : Waiting → (Move → Type 0) → Type 0
+WhereAsked Next fact = ⊥
+WhereAsked (Asked m) fact = fact m
+WhereAsked (Leaf m v) fact = ⊥
+WhereAsked (Cut v) fact = ⊥
+
+-- each frame is the child that the one below it has asked for
 abbrev pub IsChain : Shogi → ℕ → ℤ → ℤ → List Frame → Frame → Type 0
-IsChain p d low high [] top = IsAt p d low high top
-IsChain p d low high (f ∷ fs) top = IsAt p d low high f × ((0 < d) × ((f.waiting ≡ true) × IsChain (after_code p (code_of f.asked)) (d - 1) (negated high) (negated (bar f.top (code_at f.top_move) (code_of f.asked))) fs top))
+IsChain p d alpha beta [] top = IsAt p d alpha beta top
+IsChain p d alpha beta (f ∷ fs) top = IsAt p d alpha beta f × ((0 < d) × WhereAsked f.waiting (λ m. IsChain (after_code p (code_of m)) (d - 1) (negated beta) (negated (threshold f.best_value (code_at f.best_move) (code_of m))) fs top))
+
+-- the nodes that wait for a child, from the root on
+abbrev pub parents_of : Stack → List Frame
+parents_of s = take s.height s.parents
+
+-- a chain from the root, under the whole window
+pub record IsStack (s : Stack) : Type 0 where
+  pub shallow : s.depth ≤ GREATEST_DEPTH
+  pub height_fits : s.height ≤ GREATEST_DEPTH
+  pub chain : IsChain s.root s.depth (negated INFINITY) INFINITY (parents_of s) s.top
 
 -- a leaf whose value is still to be taken in
-abbrev pub left_of_answer : Option ℤ → ℕ
-left_of_answer None = 0
-left_of_answer (Some v) = 1
+abbrev pub left_of_waiting : Waiting → ℕ
+left_of_waiting Next = 0
+left_of_waiting (Asked m) = 0
+left_of_waiting (Leaf m v) = 1
+left_of_waiting (Cut v) = 0
 
--- what is left of a frame: itself, an answer, and twice the nodes after the moves neither entered nor answered
+-- what is left of a frame: itself, a leaf, and twice the nodes after the moves neither entered nor answered
 abbrev pub left_of_frame : Frame → ℕ
-left_of_frame frame = 1 + left_of_answer frame.answer + 2 * subtrees frame.position (frame.depth - 1) (todo frame.position frame.cursor)
+left_of_frame frame = 1 + left_of_waiting frame.waiting + 2 * subtrees frame.position (frame.depth - 1) (todo frame.position frame.picker)
 
 -- what is left of the whole stack
-abbrev pub left_of_stack : List Frame → Frame → ℕ
-left_of_stack waiting top = sum_by left_of_frame waiting + left_of_frame top
+abbrev pub left_of_stack : Stack → ℕ
+left_of_stack s = sum_by left_of_frame (parents_of s) + left_of_frame s.top

@@ -1,14 +1,53 @@
--- The moves of a node on the stack.
-use Rattle.std.specs.Prelude.{ℕ, zero, suc, Bool, true, false, List, [], ◌∷◌}
+-- The moves of a node on the stack, and what is known of it by what it waits for (own choice).
+use Rattle.std.specs.Prelude.{◌≡◌, ℕ, zero, suc, ◌-◌, ℤ, ◌≤ℤ◌, List, [], ◌∷◌, Option}
+use Rattle.std.proofs.Props.{props}
+use Rattle.shogi_core.specs.declared.moves.Move.{Move}
+use Rattle.shogi_core.specs.Codes.{code_of}
 use Rattle.shogi_core.specs.Position.{Shogi}
+use Rattle.shogi_moves.specs.After.{after_code}
 use Rattle.shogi_moves.specs.LegalMoves.{legal_moves}
+use Rattle.shogi_search.specs.declared.frame.Waiting.{Waiting}
+use Rattle.shogi_search.specs.declared.frame.Waiting.TheVariants.{Next, Asked, Leaf, Cut}
+use Rattle.shogi_search.specs.Minimax.{value, worth}
+use Rattle.shogi_search.specs.Window.{IsCovered}
 
 -- the moves that a search at a depth goes through: none at depth 0
 abbrev pub moves_at : Shogi → ℕ → List ℕ
 moves_at p zero = []
 moves_at p (suc d) = legal_moves p
 
--- the moves without an answer: the one that waits, and those still to be visited
-abbrev pub pending : Bool → ℕ → List ℕ → List ℕ
-pending true m ms = m ∷ ms
-pending false m ms = ms
+-- the node waits for the answer of this move
+abbrev pub IsCurrent : Waiting → Move → Type 0
+IsCurrent Next m = ⊥
+IsCurrent (Asked k) m = k ≡ m
+IsCurrent (Leaf k v) m = k ≡ m
+IsCurrent (Cut v) m = ⊥
+
+-- between two steps no move is asked for
+abbrev pub IsFree : Waiting → Type 0
+IsFree Next = Unit {0}
+IsFree (Asked m) = ⊥
+IsFree (Leaf m v) = Unit {0}
+IsFree (Cut v) = Unit {0}
+
+-- the node is cut off, or no move is to be visited
+abbrev pub IsOver : Waiting → List ℕ → Type 0
+IsOver Next ms = ms ≡ []
+IsOver (Asked m) ms = ⊥
+IsOver (Leaf m v) ms = ⊥
+IsOver (Cut v) ms = Unit {0}
+
+-- what is known of a node with these moves to visit: the worth of all others but the current one; the value of the leaf after that; or that the node is worth enough
+abbrev pub IsKnownWhile : Shogi → ℕ → ℤ → ℤ → ℤ → Option ℕ → List ℕ → Waiting → Type 0
+IsKnownWhile p d alpha beta best_value best_move ms Next = IsCovered (worth p (d - 1)) (moves_at p d) ms alpha best_value best_move
+IsKnownWhile p d alpha beta best_value best_move ms (Asked m) = IsCovered (worth p (d - 1)) (moves_at p d) (code_of m ∷ ms) alpha best_value best_move
+IsKnownWhile p d alpha beta best_value best_move ms (Leaf m v) =
+    IsCovered (worth p (d - 1)) (moves_at p d) (code_of m ∷ ms) alpha best_value best_move × ((d ≡ 1) × (value (after_code p (code_of m)) 0 ≡ v))
+IsKnownWhile p d alpha beta best_value best_move ms (Cut v) = (v ≤ℤ value p d) × (beta ≤ℤ v)
+
+-- it has one proof at most, so it may be a ghost field
+pub IsKnownWhile-prop : (p : Shogi) (d : ℕ) (alpha beta best_value : ℤ) (best_move : Option ℕ) (ms : List ℕ) (waiting : Waiting) → IsProp (IsKnownWhile p d alpha beta best_value best_move ms waiting)
+IsKnownWhile-prop p d alpha beta best_value best_move ms Next = Prim.hlevel props
+IsKnownWhile-prop p d alpha beta best_value best_move ms (Asked m) = Prim.hlevel props
+IsKnownWhile-prop p d alpha beta best_value best_move ms (Leaf m v) = Prim.hlevel props
+IsKnownWhile-prop p d alpha beta best_value best_move ms (Cut v) = Prim.hlevel props

@@ -1,6 +1,7 @@
 //! The search against plain minimax, on positions of played games and two published ones.
 
 ghost use Rattle.std.specs.Prelude.{◌≤◌};
+ghost use Rattle.shogi_search.specs.declared.bounds.TheConstants.{GREATEST_DEPTH};
 
 use crate::forgetful::Forgetful;
 use crate::found::Found;
@@ -32,7 +33,7 @@ fn assert_same(rt: &impl Abort, found: &Found, plain: &Found, at: usize, depth: 
 // The same over no memo, over one that forgets, and over that one again. Tells whether it then
 // knew the root.
 fn assert_agrees(rt: &impl Abort, p: &Position, at: usize, depth: u8, memo: &mut Forgetful) -> bool
-    requires { depth ≤ 16 }
+    requires { depth ≤ GREATEST_DEPTH }
 {
     let plain = negamax(p, depth);
     assert_same(rt, &search(p, depth, &mut NoMemo), &plain, at, depth);

@@ -1,6 +1,6 @@
 //! A node of the tree while the search goes through its moves.
 
-ghost use Rattle.std.specs.Prelude.{◌≡◌, ◌≤◌, ◌<◌, ◌-◌, ◌+◌, ◌*◌, ◌≤ℤ◌, ◌<ℤ◌, ℕ, pos, negsuc, [], ◌∷◌, Some, None, true, false, IsTrue, IsSome, IfSome, ◌↔◌, ◌≢◌, MatchOption};
+ghost use Rattle.std.specs.Prelude.{◌≡◌, ◌≤◌, ◌<◌, ◌-◌, ◌+◌, ◌*◌, ◌≤ℤ◌, ◌<ℤ◌, ℕ, pos, [], ◌∷◌, Some, None, true, false, IsTrue, IfSome, ◌↔◌, ◌≢◌, MatchOption};
 ghost use Rattle.std.specs.Option.{ForSome};
 ghost use Rattle.std.proofs.Props.{props};
 ghost use Rattle.shogi_core.specs.Codes.{code_of};
@@ -9,45 +9,54 @@ ghost use Rattle.shogi_moves.specs.After.{after_code};
 ghost use Rattle.shogi_moves.specs.LegalMoves.{legal_moves};
 ghost use Rattle.shogi_moves.specs.Replies.{IsReplies};
 ghost use Rattle.shogi_moves.specs.Rising.{is_in};
-ghost use Rattle.shogi_search.specs.Minimax.{value, tree, worth, negated, subtrees, IsTrueEntry};
-ghost use Rattle.shogi_search.specs.Entries.{Settles};
+ghost use Rattle.shogi_search.specs.Minimax.{value, tree_size, worth, negated, subtrees, IsTrueEntry};
+ghost use Rattle.shogi_search.specs.Entries.{IsCutoff};
 ghost use Rattle.shogi_search.specs.Order.{todo, IsKept, IsKept-prop};
-ghost use Rattle.shogi_search.specs.Visits.{moves_at, pending};
-ghost use Rattle.shogi_search.specs.Window.{IsCovered, bar, code_at};
+ghost use Rattle.shogi_search.specs.Visits.{IsKnownWhile, IsKnownWhile-prop, IsCurrent, IsFree, IsOver};
+ghost use Rattle.shogi_search.specs.Window.{threshold, code_at};
+ghost use Rattle.shogi_search.specs.declared.bounds.TheConstants.{GREATEST_DEPTH, INFINITY, MATE};
 
+use crate::bounds::MATE;
 use crate::memo::Entry;
-use crate::order::{Cursor, moves_at, next_visit};
-use crate::window::bar;
-use shogi_core::{Kind, Move, Square};
+use crate::move_picker::MovePicker;
+use crate::window::threshold;
+use shogi_core::Move;
 use shogi_eval::Node;
 use shogi_moves::{Replies, has_legal};
 
-/// A node of any depth, and what is known of the moves gone through. Where the move that waits leads
-/// to a leaf, its answer is the leaf's value, until the next step takes it in.
+/// What a node waits for.
+#[derive(Clone, Copy)]
+pub enum Waiting {
+    /// To begin with its next move.
+    Next,
+    /// The answer of the current move.
+    Asked(Move),
+    /// The step that takes in the value of the leaf after the current move.
+    Leaf(Move, i32),
+    /// To be left: it is worth this much or more, which is enough.
+    Cut(i32),
+}
+
+/// A node of any depth, and what is known of the moves gone through.
 #[derive(Clone, Copy)]
 pub struct Frame {
     pub position: Node,
     pub depth: u8,
-    pub low: i32,
-    pub high: i32,
-    pub top: i32,
-    pub top_move: Option<Move>,
-    pub cursor: Cursor,
-    pub waiting: bool,
-    pub asked: Move,
-    pub answer: Option<i32>,
+    pub alpha: i32,
+    pub beta: i32,
+    pub best_value: i32,
+    pub best_move: Option<Move>,
+    pub picker: MovePicker,
+    pub waiting: Waiting,
     pub replies: Replies,
-    pub cut: Option<i32>,
     ghost valid: { IsValid position },
-    ghost shallow: { depth ≤ 16 },
-    ghost least: { negsuc 30999 ≤ℤ low },
-    ghost open: { top <ℤ high },
-    ghost most: { high ≤ℤ pos 31000 },
-    ghost covered: { IsCovered (worth position (depth - 1)) (moves_at position depth) (pending waiting (code_of asked) (todo position cursor)) low top (code_at top_move) } by { Prim.hlevel props },
-    ghost kept: { IsKept position cursor } by { IsKept-prop position cursor },
-    ghost answered: { ForSome answer (λ v. (waiting ≡ true) × (depth ≡ 1) × (value (after_code position (code_of asked)) 0 ≡ v)) },
-    ghost known: { IsReplies position replies.sight replies.spare } by { Prim.hlevel props },
-    ghost beaten: { ForSome cut (λ v. (v ≤ℤ value position depth) × (high ≤ℤ v)) },
+    ghost shallow: { depth ≤ GREATEST_DEPTH },
+    ghost least: { negated INFINITY ≤ℤ alpha },
+    ghost open: { best_value <ℤ beta },
+    ghost most: { beta ≤ℤ INFINITY },
+    ghost known: { IsKnownWhile position depth alpha beta best_value (code_at best_move) (todo position picker) waiting } by { IsKnownWhile-prop position depth alpha beta best_value (code_at best_move) (todo position picker) waiting },
+    ghost kept: { IsKept position picker } by { IsKept-prop position picker },
+    ghost replied: { IsReplies position replies.sight replies.spare } by { Prim.hlevel props },
 }
 
 /// Whether some move is legal.
@@ -61,10 +70,10 @@ fn can_move(node: &Node) -> bool
 #[tactic(auto, using(crate::proofs::MinimaxLaws::leaves))]
 pub fn leaf(node: &Node) -> i32
     ensures value { result ≡ value node.now 0 }
-    ensures least { negsuc 29999 ≤ℤ result }
+    ensures least { negated MATE ≤ℤ result }
     ensures most { result ≤ℤ pos 25200 }
 {
-    if can_move(node) { node.score() } else { -30000 }
+    if can_move(node) { node.score() } else { -MATE }
 }
 
 /// What tells of the leaves after the moves, if that is asked for.
@@ -79,234 +88,222 @@ fn replies_of(node: &Node, ahead: bool) -> Replies
 }
 
 impl Frame {
-    /// A node that is entered, with the move to visit first; `ahead` asks for what tells of leaves
-    /// without making them.
-    pub fn new(
-        position: Node,
+    ghost use Rattle.shogi_search.specs.Stack.{IsSame, left_of_waiting};
+
+    /// The frame becomes that of a node that is entered, with the hash move to visit first; `ahead`
+    /// asks for what tells of leaves without making them.
+    pub fn enter(
+        &mut self,
+        position: &Node,
         depth: u8,
-        low: i32,
-        high: i32,
-        first: Option<Move>,
+        alpha: i32,
+        beta: i32,
+        hash_move: Option<Move>,
         ahead: bool,
-    ) -> Self
-        requires shallow { depth ≤ 16 }
-        requires least { negsuc 30999 ≤ℤ low }
-        requires open { low <ℤ high }
-        requires most { high ≤ℤ pos 31000 }
-        requires first { ForSome first (λ f. is_in (code_of f) (legal_moves position) ≡ true) }
-        ensures position { result.position ≡ position }
-        ensures depth { result.depth ≡ depth }
-        ensures low { result.low ≡ low }
-        ensures high { result.high ≡ high }
-        ensures counted { 1 + 2 * subtrees position (depth - 1) (todo position result.cursor) < 2 * tree position depth }
-        ensures waiting { result.waiting ≡ false }
-        ensures answer { result.answer ≡ None }
-        ensures leaf { depth ≡ 0 → result.cursor ≡ Cursor.Done }
-        ensures first { 0 < depth → MatchOption first (result.cursor ≡ Cursor.Start None) (λ f. result.cursor ≡ Cursor.First f) }
+    )
+        requires shallow { depth ≤ GREATEST_DEPTH }
+        requires least { negated INFINITY ≤ℤ alpha }
+        requires open { alpha <ℤ beta }
+        requires most { beta ≤ℤ INFINITY }
+        requires hash_move { ForSome hash_move (λ f. is_in (code_of f) (legal_moves position.now) ≡ true) }
+        ensures position { self.new.position ≡ position.now }
+        ensures depth { self.new.depth ≡ depth }
+        ensures alpha { self.new.alpha ≡ alpha }
+        ensures beta { self.new.beta ≡ beta }
+        ensures counted { 1 + 2 * subtrees position.now (depth - 1) (todo position.now self.new.picker) < 2 * tree_size position.now depth }
+        ensures waiting { self.new.waiting ≡ Waiting.Next }
+        ensures leaf { depth ≡ 0 → self.new.picker ≡ MovePicker.Done }
+        ensures hash_move { 0 < depth → MatchOption hash_move (self.new.picker ≡ MovePicker.Start None) (λ f. self.new.picker ≡ MovePicker.HashMove f) }
     {
         position.as_position().validity();
-        Frame {
-            position,
-            depth,
-            low,
-            high,
-            top: low,
-            top_move: None,
-            cursor: moves_at(depth, first),
-            waiting: false,
-            asked: Move::Drop {
-                kind: Kind::Pawn,
-                to: Square::of_index(0),
-            },
-            answer: None,
-            replies: replies_of(&position, ahead),
-            cut: None,
-        }
+        self.position = *position;
+        self.depth = depth;
+        self.alpha = alpha;
+        self.beta = beta;
+        self.best_value = alpha;
+        self.best_move = None;
+        self.picker = MovePicker::new(depth, hash_move);
+        self.waiting = Waiting::Next;
+        self.replies = replies_of(position, ahead);
     }
 
     /// What is known of the node once it is cut off or all its moves are gone through.
     pub fn close(&self) -> Entry
-        requires done { self.now.cut ≡ None → (self.now.waiting ≡ false) × (todo self.now.position self.now.cursor ≡ []) }
+        requires over { IsOver self.now.waiting (todo self.now.position self.now.picker) }
         ensures truth { IsTrueEntry self.now.position self.now.depth result }
-        ensures settled { Settles self.now.low self.now.high result }
+        ensures cutoff { IsCutoff self.now.alpha self.now.beta result }
     {
-        if let Some(v) = self.cut {
+        if let Waiting::Cut(v) = self.waiting {
             return Entry::AtLeast(v);
         }
         if self.depth == 0 {
             return Entry::Exact(leaf(&self.position), None);
         }
-        let best = self.top_move;
-        match self.top_move {
+        let best = self.best_move;
+        match self.best_move {
             Some(m) => {
-                m.validity();
-                Entry::Exact(self.top, best)
+                m.code();
+                Entry::Exact(self.best_value, best)
             }
             None => {
                 if can_move(&self.position) {
-                    Entry::AtMost(self.top)
+                    Entry::AtMost(self.best_value)
                 } else {
-                    Entry::Exact(-30000 - self.depth as i32, None)
+                    Entry::Exact(-MATE - self.depth as i32, None)
                 }
             }
         }
     }
 
-    /// Begins with the next move, which then waits for its answer.
-    pub fn ask(&mut self) -> bool
-        requires free { self.old.waiting ≡ false }
-        ensures none { result ≡ false → (self.new ≡ self.old) × (todo self.old.position self.old.cursor ≡ []) }
-        ensures next { result ≡ true → (todo self.old.position self.old.cursor ≡ code_of self.new.asked ∷ todo self.old.position self.new.cursor) × (self.new.waiting ≡ true) }
-        ensures answer { self.new.answer ≡ None }
-        ensures position { self.new.position ≡ self.old.position }
-        ensures depth { self.new.depth ≡ self.old.depth }
-        ensures low { self.new.low ≡ self.old.low }
-        ensures high { self.new.high ≡ self.old.high }
+    /// Asks for the answer of the next move, where there is one.
+    pub fn ask(&mut self) -> Option<Move>
+        requires next { self.old.waiting ≡ Waiting.Next }
+        ensures todo { MatchOption result ((todo self.old.position self.old.picker ≡ []) × (todo self.old.position self.new.picker ≡ [])) (λ m. todo self.old.position self.old.picker ≡ code_of m ∷ todo self.old.position self.new.picker) }
+        ensures waiting { MatchOption result (self.new.waiting ≡ Waiting.Next) (λ m. self.new.waiting ≡ Waiting.Asked m) }
+        ensures same { IsSame self.old self.new }
     {
-        match next_visit(self.position.as_position(), &self.cursor) {
-            Some(visit) => {
-                self.cursor = visit.rest;
-                self.asked = visit.m;
-                self.waiting = true;
-                true
+        match self.picker.next(self.position.as_position()) {
+            Some(m) => {
+                let current = m;
+                self.waiting = Waiting::Asked(m);
+                Some(current)
             }
-            None => false,
+            None => None,
         }
     }
 
-    /// What the move that waits has to be worth more than.
-    pub fn bar(&self) -> i32
-        ensures bar { result ≡ bar self.now.top (code_at self.now.top_move) (code_of self.now.asked) }
-        ensures least { negsuc 30999 ≤ℤ result }
-        ensures open { result <ℤ self.now.high }
+    /// What the current move has to be worth more than.
+    pub fn threshold(&self, current: &Move) -> i32
+        requires current { IsCurrent self.now.waiting current.now }
+        ensures threshold { result ≡ threshold self.now.best_value (code_at self.now.best_move) (code_of current.now) }
+        ensures least { negated INFINITY ≤ℤ result }
+        ensures open { result <ℤ self.now.beta }
     {
-        bar(self.top, &self.top_move, &self.asked)
+        threshold(self.best_value, &self.best_move, current)
     }
 
-    /// Whether this worth makes the move that waits the best one.
-    fn passes(&self, worth: i32) -> bool
-        ensures above { result ≡ true → bar self.now.top (code_at self.now.top_move) (code_of self.now.asked) <ℤ worth }
-        ensures below { result ≡ false → worth ≤ℤ bar self.now.top (code_at self.now.top_move) (code_of self.now.asked) }
+    /// Whether this worth makes the current move the best one.
+    fn passes(&self, current: &Move, worth: i32) -> bool
+        requires current { IsCurrent self.now.waiting current.now }
+        ensures above { result ≡ true → threshold self.now.best_value (code_at self.now.best_move) (code_of current.now) <ℤ worth }
+        ensures below { result ≡ false → worth ≤ℤ threshold self.now.best_value (code_at self.now.best_move) (code_of current.now) }
     {
-        worth > self.bar()
+        worth > self.threshold(current)
     }
 
-    /// Takes in what is known of the move that waits.
-    pub fn take(&mut self, entry: &Entry)
-        requires waiting { self.old.waiting ≡ true }
-        requires truth { IsTrueEntry (after_code self.old.position (code_of self.old.asked)) (self.old.depth - 1) entry.now }
-        requires settled { Settles (negated self.old.high) (negated (bar self.old.top (code_at self.old.top_move) (code_of self.old.asked))) entry.now }
-        ensures free { self.new.cut ≡ None → self.new.waiting ≡ false }
-        ensures answer { self.new.answer ≡ None }
-        ensures cursor { self.new.cursor ≡ self.old.cursor }
-        ensures position { self.new.position ≡ self.old.position }
-        ensures depth { self.new.depth ≡ self.old.depth }
-        ensures low { self.new.low ≡ self.old.low }
-        ensures high { self.new.high ≡ self.old.high }
+    /// Takes in what is known of the current move.
+    pub fn take(&mut self, current: &Move, entry: &Entry)
+        requires current { IsCurrent self.old.waiting current.now }
+        requires truth { IsTrueEntry (after_code self.old.position (code_of current.now)) (self.old.depth - 1) entry.now }
+        requires cutoff { IsCutoff (negated self.old.beta) (negated (threshold self.old.best_value (code_at self.old.best_move) (code_of current.now))) entry.now }
+        ensures free { IsFree self.new.waiting }
+        ensures taken { left_of_waiting self.new.waiting ≡ 0 }
+        ensures picker { self.new.picker ≡ self.old.picker }
+        ensures same { IsSame self.old self.new }
     {
         match entry {
             Entry::Exact(v, _) => {
                 let worth = -*v;
-                if worth >= self.high {
-                    self.cut_with(worth);
-                } else if self.passes(worth) {
-                    self.raise(worth);
+                if worth >= self.beta {
+                    self.cut_with(current, worth);
+                } else if self.passes(current, worth) {
+                    self.raise(current, worth);
                 } else {
-                    self.skip();
+                    self.skip(current);
                 }
             }
-            Entry::AtLeast(_) => self.skip(),
-            Entry::AtMost(v) => self.cut_with(-*v),
+            Entry::AtLeast(_) => self.skip(current),
+            Entry::AtMost(v) => self.cut_with(current, -*v),
         }
     }
 
-    /// The node is worth this much or more, which is enough.
-    fn cut_with(&mut self, value: i32)
-        requires waiting { self.old.waiting ≡ true }
-        requires worth { value ≤ℤ worth self.old.position (self.old.depth - 1) (code_of self.old.asked) }
-        requires high { self.old.high ≤ℤ value }
-        ensures free { self.new.cut ≡ None → self.new.waiting ≡ false }
-        ensures answer { self.new.answer ≡ None }
-        ensures cursor { self.new.cursor ≡ self.old.cursor }
-        ensures position { self.new.position ≡ self.old.position }
-        ensures depth { self.new.depth ≡ self.old.depth }
-        ensures low { self.new.low ≡ self.old.low }
-        ensures high { self.new.high ≡ self.old.high }
+    /// The current move, which only the clauses need, is worth this much or more, which is enough.
+    fn cut_with(&mut self, current: &Move, value: i32)
+        requires current { IsCurrent self.old.waiting current.now }
+        requires worth { value ≤ℤ worth self.old.position (self.old.depth - 1) (code_of current.now) }
+        requires beta { self.old.beta ≤ℤ value }
+        ensures free { IsFree self.new.waiting }
+        ensures taken { left_of_waiting self.new.waiting ≡ 0 }
+        ensures picker { self.new.picker ≡ self.old.picker }
+        ensures same { IsSame self.old self.new }
     {
-        self.answer = None;
-        self.cut = Some(value);
+        let _ = current;
+        self.waiting = Waiting::Cut(value);
     }
 
-    /// Passes the move that waits, which is not worth enough.
-    fn skip(&mut self)
-        requires waiting { self.old.waiting ≡ true }
-        requires below { worth self.old.position (self.old.depth - 1) (code_of self.old.asked) ≤ℤ bar self.old.top (code_at self.old.top_move) (code_of self.old.asked) }
-        ensures free { self.new.cut ≡ None → self.new.waiting ≡ false }
-        ensures answer { self.new.answer ≡ None }
-        ensures cursor { self.new.cursor ≡ self.old.cursor }
-        ensures position { self.new.position ≡ self.old.position }
-        ensures depth { self.new.depth ≡ self.old.depth }
-        ensures low { self.new.low ≡ self.old.low }
-        ensures high { self.new.high ≡ self.old.high }
+    /// Passes the current move, which is not worth enough; only the clauses need to know it.
+    fn skip(&mut self, current: &Move)
+        requires current { IsCurrent self.old.waiting current.now }
+        requires below { worth self.old.position (self.old.depth - 1) (code_of current.now) ≤ℤ threshold self.old.best_value (code_at self.old.best_move) (code_of current.now) }
+        ensures free { IsFree self.new.waiting }
+        ensures taken { left_of_waiting self.new.waiting ≡ 0 }
+        ensures picker { self.new.picker ≡ self.old.picker }
+        ensures same { IsSame self.old self.new }
     {
-        self.answer = None;
-        self.waiting = false;
+        let _ = current;
+        self.waiting = Waiting::Next;
     }
 
-    /// Passes the move that waits, which is the best so far.
-    fn raise(&mut self, value: i32)
-        requires waiting { self.old.waiting ≡ true }
-        requires is { worth self.old.position (self.old.depth - 1) (code_of self.old.asked) ≡ value }
-        requires above { bar self.old.top (code_at self.old.top_move) (code_of self.old.asked) <ℤ value }
-        requires open { value <ℤ self.old.high }
-        ensures free { self.new.cut ≡ None → self.new.waiting ≡ false }
-        ensures answer { self.new.answer ≡ None }
-        ensures cursor { self.new.cursor ≡ self.old.cursor }
-        ensures position { self.new.position ≡ self.old.position }
-        ensures depth { self.new.depth ≡ self.old.depth }
-        ensures low { self.new.low ≡ self.old.low }
-        ensures high { self.new.high ≡ self.old.high }
+    /// Passes the current move, which is the best so far.
+    fn raise(&mut self, current: &Move, value: i32)
+        requires current { IsCurrent self.old.waiting current.now }
+        requires is { worth self.old.position (self.old.depth - 1) (code_of current.now) ≡ value }
+        requires above { threshold self.old.best_value (code_at self.old.best_move) (code_of current.now) <ℤ value }
+        requires open { value <ℤ self.old.beta }
+        ensures free { IsFree self.new.waiting }
+        ensures taken { left_of_waiting self.new.waiting ≡ 0 }
+        ensures picker { self.new.picker ≡ self.old.picker }
+        ensures same { IsSame self.old self.new }
     {
-        self.top = value;
-        self.top_move = Some(self.asked);
-        self.answer = None;
-        self.waiting = false;
+        self.best_value = value;
+        self.best_move = Some(*current);
+        self.waiting = Waiting::Next;
     }
 
-    /// The value at depth 0 of the position to which the move that waits leads, where it is certain
+    /// The value at depth 0 of the position to which the current move leads, where it is certain
     /// without making the move that a move is legal there.
-    pub fn certain_leaf(&self) -> Option<i32>
-        requires waiting { self.now.waiting ≡ true }
-        ensures value { IfSome result (λ v. value (after_code self.now.position (code_of self.now.asked)) 0 ≡ v) }
+    pub fn certain_leaf(&self, current: &Move) -> Option<i32>
+        requires current { IsCurrent self.now.waiting current.now }
+        ensures value { IfSome result (λ v. value (after_code self.now.position (code_of current.now)) 0 ≡ v) }
     {
-        self.asked.validity();
+        current.code();
         if self
             .replies
-            .is_certain(self.position.as_position(), &self.asked)
+            .is_certain(self.position.as_position(), current)
         {
-            return Some(self.position.score_after(&self.asked));
+            return Some(self.position.score_after(current));
         }
         None
     }
 
-    /// Keeps the value of the leaf to which the move that waits leads.
-    pub fn hear(&mut self, found: i32)
-        requires waiting { self.old.waiting ≡ true }
+    /// Keeps the value of the leaf to which the current move leads.
+    pub fn hear(&mut self, current: &Move, found: i32)
+        requires current { IsCurrent self.old.waiting current.now }
         requires last { self.old.depth ≡ 1 }
-        requires value { value (after_code self.old.position (code_of self.old.asked)) 0 ≡ found }
-        ensures answer { IsSome self.new.answer }
-        ensures cursor { self.new.cursor ≡ self.old.cursor }
-        ensures position { self.new.position ≡ self.old.position }
-        ensures depth { self.new.depth ≡ self.old.depth }
-        ensures low { self.new.low ≡ self.old.low }
-        ensures high { self.new.high ≡ self.old.high }
+        requires value { value (after_code self.old.position (code_of current.now)) 0 ≡ found }
+        ensures free { IsFree self.new.waiting }
+        ensures picker { self.new.picker ≡ self.old.picker }
+        ensures same { IsSame self.old self.new }
     {
-        self.answer = Some(found);
+        self.waiting = Waiting::Leaf(*current, found);
     }
 }
 
 impl Default for Frame {
+    /// A leaf at the opening position, which stands where no node is entered yet.
     fn default() -> Self {
-        Frame::new(Node::start(), 0, -1, 1, None, false)
+        let position = Node::start();
+        position.as_position().validity();
+        Frame {
+            position,
+            depth: 0,
+            alpha: -1,
+            beta: 1,
+            best_value: -1,
+            best_move: None,
+            picker: MovePicker::Done,
+            waiting: Waiting::Next,
+            replies: Replies::unknown(position.as_position()),
+        }
     }
 }

@@ -1,19 +1,21 @@
 //! Minimax at a fixed depth, over any memo and in slices.
 #![tactic(auto)]
 
+mod bounds;
 mod found;
 mod frame;
+mod full_search;
 mod memo;
-mod order;
-mod slices;
+mod move_picker;
+mod sliced_search;
 mod stack;
-mod whole;
 mod window;
 
+pub use bounds::{GREATEST_DEPTH, INFINITY, MATE};
 pub use found::Found;
+pub use full_search::search;
 pub use memo::{Entry, Memo, NoMemo};
-pub use slices::Search;
-pub use whole::search;
+pub use sliced_search::Search;
 
 #[cfg(test)]
 mod agreement;

@@ -4,6 +4,7 @@ ghost use Rattle.std.specs.Prelude.{◌≡◌, ◌≤◌, ℕ, Option, None, IfS
 ghost use Rattle.shogi_core.specs.Position.{Shogi};
 ghost use Rattle.shogi_search.specs.Minimax.{IsTrueEntry};
 ghost use Rattle.shogi_search.specs.declared.memo.Entry.{Entry};
+ghost use Rattle.shogi_search.specs.declared.bounds.TheConstants.{GREATEST_DEPTH};
 
 use shogi_core::{Move, Position};
 
@@ -38,7 +39,7 @@ pub trait Memo {
     /// Takes in what a search found out. It may be kept or not.
     fn note(&mut self, p: &Position, d: u8, entry: Entry)
         requires truth { IsTrueEntry p.now d entry }
-        requires depth { d ≤ 16 };
+        requires depth { d ≤ GREATEST_DEPTH };
 }
 
 /// Remembers nothing.

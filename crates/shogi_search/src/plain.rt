@@ -1,10 +1,12 @@
 //! Plain minimax over the whole tree, without windows or a memo, to compare with.
 
-ghost use Rattle.std.specs.Prelude.{◌≡◌, ◌≤◌, ◌*◌, ◌≤ℤ◌, true, pos, negsuc, [], ◌↔◌, ◌⊎◌, IfSome, IsNone};
+ghost use Rattle.std.specs.Prelude.{◌≡◌, ◌≤◌, ◌*◌, ◌≤ℤ◌, true, pos, [], ◌↔◌, ◌⊎◌, IfSome, IsNone};
 ghost use Rattle.shogi_moves.specs.Legal.{is_legal};
 ghost use Rattle.shogi_moves.specs.LegalMoves.{legal_moves};
-ghost use Rattle.shogi_search.specs.Minimax.{value, best, tree};
+ghost use Rattle.shogi_search.specs.Minimax.{value, best, tree_size, lost, negated};
+ghost use Rattle.shogi_search.specs.declared.bounds.TheConstants.{GREATEST_DEPTH, MATE};
 
+use crate::bounds::{INFINITY, MATE};
 use crate::found::Found;
 use crate::window::passes;
 use shogi_core::{Move, Position};
@@ -15,21 +17,21 @@ use shogi_moves::{apply, has_legal, next_legal};
 #[tactic(auto, using(crate::proofs::MinimaxLaws::leaves))]
 fn leaf(p: &Position) -> i32
     ensures value { result ≡ value p.now 0 }
-    ensures least { negsuc 29999 ≤ℤ result }
+    ensures least { negated MATE ≤ℤ result }
     ensures most { result ≤ℤ pos 25200 }
 {
-    if has_legal(p) { material(p) } else { -30000 }
+    if has_legal(p) { material(p) } else { -MATE }
 }
 
 /// The value at a depth, the best move and the steps made.
 pub fn negamax(p: &Position, depth: u8) -> Found
-    requires { depth ≤ 16 }
+    requires { depth ≤ GREATEST_DEPTH }
     ensures value { result.value ≡ value p.now depth }
-    ensures least { negsuc 30015 ≤ℤ result.value }
-    ensures most { result.value ≤ℤ pos 30016 }
+    ensures least { lost GREATEST_DEPTH ≤ℤ result.value }
+    ensures most { result.value ≤ℤ negated (lost GREATEST_DEPTH) }
     ensures best { result.best ≡ best p.now depth }
     ensures legal { IfSome result.best (λ m. is_legal p.now m ≡ true) }
-    ensures steps { result.steps ≤ 2 * tree p.now depth }
+    ensures steps { result.steps ≤ 2 * tree_size p.now depth }
 {
     p.validity();
     if depth == 0 {
@@ -39,7 +41,7 @@ pub fn negamax(p: &Position, depth: u8) -> Found
             steps: 2,
         };
     }
-    let mut top = -31000;
+    let mut best_value = -INFINITY;
     let mut best: Option<Move> = None;
     let mut steps: u64 = 1;
     let mut passed: Option<Move> = None;
@@ -49,8 +51,8 @@ pub fn negamax(p: &Position, depth: u8) -> Found
         let worth = -found.value;
         steps = steps.saturating_add(found.steps);
         passed = Some(visited);
-        if passes(worth, &tried, top, &best) {
-            top = worth;
+        if passes(worth, &tried, best_value, &best) {
+            best_value = worth;
             best = Some(raising);
         }
     }
@@ -60,13 +62,13 @@ pub fn negamax(p: &Position, depth: u8) -> Found
         Some(m) => {
             m.validity();
             Found {
-                value: top,
+                value: best_value,
                 best: kept,
                 steps,
             }
         }
         None => Found {
-            value: -30000 - depth as i32,
+            value: -MATE - depth as i32,
             best: None,
             steps,
         },

@@ -225,7 +225,7 @@ fn order_of_calls(rt: HostRuntime) {
 
 // The best move one ply less deep is visited before the first capture: 8h2b+ before 8h2b.
 #[test]
-fn remembered_move_first(rt: HostRuntime) {
+fn hash_move_first(rt: HostRuntime) {
     let p = played(&rt, &[9838, 3282]);
     let best = played(&rt, &[9838, 3282, 11361]);
     let mut memo = Recalling {

@@ -3,7 +3,7 @@ use Rattle.std.proofs.Common.{◌≡◌, ℕ, ◌+◌, ◌-◌, ◌*◌, ◌<◌
 use Rattle.shogi_core.specs.declared.moves.Move.{Move}
 use Rattle.shogi_core.specs.Position.{Shogi}
 use Rattle.shogi_moves.specs.After.{after}
-use Rattle.shogi_search.specs.Minimax.{value, best, line, tree, chase, then_chase}
+use Rattle.shogi_search.specs.Minimax.{value, best, line, tree_size, chase, then_chase}
 use Rattle.shogi_search.proofs.Lines.{line-leaf, line-none, line-some, chase-above}
 use Rattle.shogi_search.proofs.MinimaxLaws.{best-leaf}
 use Rattle.usi_session.specs.Texts.{info_line, said_line}
@@ -33,10 +33,10 @@ pub load_ends : (next : Shogi) (plies rest left more : ℕ) → plies ≡ 0 → 
 load_ends next plies rest left more e f = let b : best next 0 ≡ None = best-leaf next in rw (e, b, f) (omega arith)
 
 -- the next search along the line, and those after it, cost what was said of them before
-pub load_goes_on : (at next : Shogi) (plies rest left : ℕ) (m : Move) (b : Option Move) → 0 < plies - 1 → b ≡ best at plies → b ≡ Some m → next ≡ after at m → left ≡ 2 * tree next (plies - 1) → left + (then_chase (λ q. chase q (plies - 1 - 1)) next (best next (plies - 1)) + rest) ≤ then_chase (λ q. chase q (plies - 1)) at (best at plies) + rest
+pub load_goes_on : (at next : Shogi) (plies rest left : ℕ) (m : Move) (b : Option Move) → 0 < plies - 1 → b ≡ best at plies → b ≡ Some m → next ≡ after at m → left ≡ 2 * tree_size next (plies - 1) → left + (then_chase (λ q. chase q (plies - 1 - 1)) next (best next (plies - 1)) + rest) ≤ then_chase (λ q. chase q (plies - 1)) at (best at plies) + rest
 load_goes_on at next plies rest left m b h e n g f =
     let s : best at plies ≡ Some m = sym e ∙ n in
-    let c : chase next (plies - 1) ≡ 2 * tree next (plies - 1) + then_chase (λ q. chase q (plies - 1 - 1)) next (best next (plies - 1)) = chase-above next (plies - 1) h in
+    let c : chase next (plies - 1) ≡ 2 * tree_size next (plies - 1) + then_chase (λ q. chase q (plies - 1 - 1)) next (best next (plies - 1)) = chase-above next (plies - 1) h in
     rw (s, ← g) (omega arith)
 
 -- what is written of a depth is its info line

@@ -1,7 +1,7 @@
 -- A `go` in hand: what it still owes, and the steps that it may still make (own choice).
 use Rattle.std.specs.Prelude.{ℕ, zero, suc, ◌+◌, ◌-◌, ◌*◌, List, [], ◌++◌, Option, Some, None}
 use Rattle.shogi_core.specs.Position.{Shogi}
-use Rattle.shogi_search.specs.Minimax.{best, tree, chase, then_chase}
+use Rattle.shogi_search.specs.Minimax.{best, tree_size, chase, then_chase}
 use Rattle.usi_lines.specs.declared.command.Hold.{Hold}
 use Rattle.usi_session.specs.declared.state.State.{State}
 use Rattle.usi_session.specs.Texts.{info_line}
@@ -20,7 +20,7 @@ pub record InHand : Type 0 where
 
 -- one depth is in hand: its first search has made no step yet
 abbrev pub at_depth : Shogi → ℕ → Hold → ℕ → InHand
-at_depth p depth hold told = record { root = p; depth = depth; hold = hold; told = told; plies = told + 1; at = p; left = 2 * tree p (told + 1) }
+at_depth p depth hold told = record { root = p; depth = depth; hold = hold; told = told; plies = told + 1; at = p; left = 2 * tree_size p (told + 1) }
 
 -- what is said of a position at each of so many depths above those that were told
 unfoldable pub lines_on : Shogi → ℕ → ℕ → List ℕ

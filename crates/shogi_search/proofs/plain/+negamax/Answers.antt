@@ -2,7 +2,7 @@ use Rattle.std.proofs.Common.{arith, sym, ap, ◌∙◌, ◌≡◌, ◌<◌, ◌
 use Rattle.std.proofs.lemmas.Int.{ints}
 use Rattle.shogi_core.specs.Codes.{code_of, move_of}
 use Rattle.shogi_search.specs.Minimax.{value, worth, lost}
-use Rattle.shogi_search.proofs.MinimaxLaws.{best-leaf, tree-above, tree-positive, worth_from, subtrees-next, value_within, Within}
+use Rattle.shogi_search.proofs.MinimaxLaws.{best-leaf, tree_size-above, tree_size-positive, worth_from, subtrees-next, value_within, Within}
 use Rattle.shogi_search.proofs.Cover.{IsCovered-start, skip_next, raise_next}
 use Rattle.shogi_search.proofs.Left.{IsFound, found_best, found_none}
 use Rattle.shogi_search.proofs.plain.+negamax.Goals as goal
@@ -11,14 +11,14 @@ pub returns-then-depth-eq0-clause-best : goal.returns-then-depth-eq0-clause-best
 returns-then-depth-eq0-clause-best t c = rw c.if-depth-eq0.true (sym (best-leaf c.args.p.now))
 
 pub returns-then-depth-eq0-clause-steps : goal.returns-then-depth-eq0-clause-steps
-returns-then-depth-eq0-clause-steps t c = omega (arith, tree-positive c.args.p.now c.args.depth)
+returns-then-depth-eq0-clause-steps t c = omega (arith, tree_size-positive c.args.p.now c.args.depth)
 
 pub moves-init : goal.moves-init
 moves-init t c = record {
   least = omega (arith, ints);
   covered = IsCovered-start _ _ _;
   legal = tt;
-  counted = let h : 0 < c.args.depth = omega arith in omega (arith, tree-above c.args.p.now c.args.depth h);
+  counted = let h : 0 < c.args.depth = omega arith in omega (arith, tree_size-above c.args.p.now c.args.depth h);
 }
 
 pub moves-preserved-then-passes : goal.moves-preserved-then-passes

@@ -1,4 +1,4 @@
-use Rattle.std.proofs.Common.{◌≡◌, ℕ, ◌∙◌, sym, ap, rules, arith}
+use Rattle.std.proofs.Common.{◌≡◌, ◌∙◌, sym, arith}
 use Rattle.shared_table.specs.Keys.{key_of}
 use Rattle.shared_table.proofs.RecentLaws.{no_leaf_found}
 use Rattle.shared_table.proofs.table.SharedTableMemo.keeps.Goals as goal

@@ -1,5 +1,0 @@
-use Rattle.shogi_search.proofs.Entries.{whole_window}
-use Rattle.shogi_search.proofs.slices.found_of.Goals as goal
-
-pub unreachable-requires : goal.unreachable-requires
-unreachable-requires c = whole_window _ _ _ c.validity.ensures c.requires.shallow c.requires.truth c.requires.settled c.in_default.not-Exact

@@ -1,0 +1,17 @@
+use Rattle.std.proofs.Common.{arith, ◌-◌}
+use Rattle.shogi_core.specs.Codes.{code_of}
+use Rattle.shogi_moves.specs.After.{after_code}
+use Rattle.shogi_search.proofs.MinimaxLaws.{tree_size-positive}
+use Rattle.shogi_search.proofs.Chains.{chain_same, left_heard}
+use Rattle.shogi_search.proofs.stack.Stack.descend.Goals as goal
+
+pub returns-in-Some-clause-stack : goal.returns-in-Some-clause-stack
+returns-in-Some-clause-stack g c = record {
+  shallow = c.requires.stack.shallow;
+  height_fits = c.requires.stack.height_fits;
+  chain = chain_same _ _ _ _ _ _ _ c.requires.stack.chain c.hear.ensures.same;
+}
+
+pub returns-in-Some-clause-left : goal.returns-in-Some-clause-left
+returns-in-Some-clause-left g c =
+    omega (arith, left_heard c.args.self.now.top c.hear.new.self c.hear.ensures.same c.hear.ensures.picker, tree_size-positive (after_code c.args.self.now.top.position (code_of c.args.current.now)) (c.args.self.now.top.depth - 1))

@@ -1,0 +1,185 @@
+//! The move picker: in which order a node's moves are visited.
+
+ghost use Rattle.std.specs.Prelude.{◌≡◌, ◌<◌, ◌++◌, [], ◌∷◌, MatchOption, Some, None, true, false};
+ghost use Rattle.shogi_core.specs.Codes.{code_of};
+ghost use Rattle.shogi_moves.specs.Guards.{Guards};
+ghost use Rattle.shogi_moves.specs.Sweeps.{IsBoardSweep, IsDropSweep};
+ghost use Rattle.shogi_search.specs.Order.{is_hash_move, picks_from, todo, todo_after, IsKept};
+
+use shogi_core::{Move, Position};
+use shogi_moves::{BoardSweep, DropSweep, Guard, guard_of};
+
+/// How far the visits of a node's moves have come: the hash move, and what is still to come of the
+/// captures, of the quiet board moves and of the drops.
+#[derive(Clone, Copy, Debug)]
+pub enum MovePicker {
+    HashMove(Move),
+    Start(Option<Move>),
+    Captures(Option<Move>, BoardSweep),
+    Quiets(Option<Move>, BoardSweep),
+    Drops(Option<Move>, DropSweep),
+    Done,
+}
+
+/// Whether it is the hash move.
+fn is_hash_move(hash_move: &Option<Move>, m: &Move) -> bool
+    ensures { result ≡ is_hash_move hash_move.now (code_of m.now) }
+{
+    match hash_move {
+        Some(f) => m.code() == f.code(),
+        None => false,
+    }
+}
+
+/// The next pick of a sweep over the board.
+#[tactic(auto, using(crate::proofs::Picks::picked))]
+fn next_board(
+    p: &Position,
+    hash_move: &Option<Move>,
+    capture: bool,
+    sweep: &mut BoardSweep,
+) -> Option<Move>
+    requires kept { IsBoardSweep p.now capture sweep.old }
+    ensures kept { IsBoardSweep p.now capture sweep.new }
+    ensures next { MatchOption result (picks_from p.now hash_move.now capture sweep.old.code ≡ picks_from p.now hash_move.now capture 13122) (λ m. picks_from p.now hash_move.now capture sweep.old.code ≡ code_of m ∷ picks_from p.now hash_move.now capture sweep.new.code) }
+{
+    'picks: while let Some(m) = sweep.next(p, capture) {
+        if !is_hash_move(hash_move, &m) {
+            return Some(m);
+        }
+    }
+    None
+}
+
+/// The next pick of a sweep over the drops.
+#[tactic(auto, using(crate::proofs::Picks::picked))]
+fn next_drop(p: &Position, hash_move: &Option<Move>, sweep: &mut DropSweep) -> Option<Move>
+    requires kept { IsDropSweep p.now sweep.old }
+    ensures kept { IsDropSweep p.now sweep.new }
+    ensures next { MatchOption result (picks_from p.now hash_move.now false sweep.old.code ≡ []) (λ m. picks_from p.now hash_move.now false sweep.old.code ≡ code_of m ∷ picks_from p.now hash_move.now false sweep.new.code) }
+{
+    'picks: while let Some(m) = sweep.next(p) {
+        if !is_hash_move(hash_move, &m) {
+            return Some(m);
+        }
+    }
+    None
+}
+
+impl MovePicker {
+    /// The moves that a search at a depth goes through, the hash move first.
+    pub fn new(depth: u8, hash_move: Option<Move>) -> MovePicker
+        ensures leaf { depth ≡ 0 → result ≡ MovePicker.Done }
+        ensures inner { 0 < depth → MatchOption hash_move (result ≡ MovePicker.Start None) (λ f. result ≡ MovePicker.HashMove f) }
+    {
+        if depth == 0 {
+            return MovePicker::Done;
+        }
+        match hash_move {
+            Some(f) => MovePicker::HashMove(f),
+            None => MovePicker::Start(None),
+        }
+    }
+
+    /// Begins with the drops.
+    fn enter_drops(&mut self, p: &Position, hash_move: Option<Move>, guard: Guard) -> Option<Move>
+        requires guard { Guards p.now guard.checked guard.exposed }
+        ensures next { MatchOption result ((picks_from p.now hash_move false 13122 ≡ []) × (todo p.now self.new ≡ [])) (λ m. picks_from p.now hash_move false 13122 ≡ code_of m ∷ todo p.now self.new) }
+        ensures kept { IsKept p.now self.new }
+    {
+        let mut sweep = DropSweep::new(p, guard);
+        match next_drop(p, &hash_move, &mut sweep) {
+            Some(m) => {
+                *self = MovePicker::Drops(hash_move, sweep);
+                Some(m)
+            }
+            None => {
+                *self = MovePicker::Done;
+                None
+            }
+        }
+    }
+
+    /// Begins with the quiet moves.
+    fn enter_quiets(&mut self, p: &Position, hash_move: Option<Move>, guard: Guard) -> Option<Move>
+        requires guard { Guards p.now guard.checked guard.exposed }
+        ensures next { MatchOption result ((picks_from p.now hash_move false 0 ≡ []) × (todo p.now self.new ≡ [])) (λ m. picks_from p.now hash_move false 0 ≡ code_of m ∷ todo p.now self.new) }
+        ensures kept { IsKept p.now self.new }
+    {
+        let mut sweep = BoardSweep::new(p, guard, false);
+        match next_board(p, &hash_move, false, &mut sweep) {
+            Some(m) => {
+                *self = MovePicker::Quiets(hash_move, sweep);
+                Some(m)
+            }
+            None => self.enter_drops(p, hash_move, guard),
+        }
+    }
+
+    /// Begins with the captures.
+    #[tactic(auto, using(crate::proofs::Picks::no_capture_left))]
+    fn enter_captures(&mut self, p: &Position, hash_move: Option<Move>) -> Option<Move>
+        ensures next { MatchOption result ((picks_from p.now hash_move true 0 ++ picks_from p.now hash_move false 0 ≡ []) × (todo p.now self.new ≡ [])) (λ m. picks_from p.now hash_move true 0 ++ picks_from p.now hash_move false 0 ≡ code_of m ∷ todo p.now self.new) }
+        ensures kept { IsKept p.now self.new }
+    {
+        let guard = guard_of(p);
+        let mut sweep = BoardSweep::new(p, guard, true);
+        match next_board(p, &hash_move, true, &mut sweep) {
+            Some(m) => {
+                *self = MovePicker::Captures(hash_move, sweep);
+                Some(m)
+            }
+            None => self.enter_quiets(p, hash_move, guard),
+        }
+    }
+
+    /// The next move of the sweep that is under way, which moves on where it stands.
+    #[tactic(auto, using(crate::proofs::Picks::no_capture_left))]
+    fn sweep_on(&mut self, p: &Position) -> Option<Move>
+        requires kept { IsKept p.now self.old }
+        ensures next { MatchOption result (todo p.now self.old ≡ todo_after p.now self.new) (λ m. todo p.now self.old ≡ code_of m ∷ todo p.now self.new) }
+        ensures kept { IsKept p.now self.new }
+    {
+        match self {
+            MovePicker::Captures(hash_move, sweep) => next_board(p, hash_move, true, sweep),
+            MovePicker::Quiets(hash_move, sweep) => next_board(p, hash_move, false, sweep),
+            MovePicker::Drops(hash_move, sweep) => next_drop(p, hash_move, sweep),
+            _ => None,
+        }
+    }
+
+    /// The first move after the sweep that is under way.
+    fn go_on(&mut self, p: &Position) -> Option<Move>
+        requires kept { IsKept p.now self.old }
+        ensures next { MatchOption result ((todo_after p.now self.old ≡ []) × (todo p.now self.new ≡ [])) (λ m. todo_after p.now self.old ≡ code_of m ∷ todo p.now self.new) }
+        ensures kept { IsKept p.now self.new }
+    {
+        match *self {
+            MovePicker::HashMove(f) => {
+                let found = f;
+                *self = MovePicker::Start(Some(f));
+                Some(found)
+            }
+            MovePicker::Start(hash_move) => self.enter_captures(p, hash_move),
+            MovePicker::Captures(hash_move, sweep) => self.enter_quiets(p, hash_move, sweep.guard),
+            MovePicker::Quiets(hash_move, sweep) => self.enter_drops(p, hash_move, sweep.guard),
+            MovePicker::Drops(_, _) | MovePicker::Done => {
+                *self = MovePicker::Done;
+                None
+            }
+        }
+    }
+
+    /// The next move to visit.
+    pub fn next(&mut self, p: &Position) -> Option<Move>
+        requires kept { IsKept p.now self.old }
+        ensures next { MatchOption result ((todo p.now self.old ≡ []) × (todo p.now self.new ≡ [])) (λ m. todo p.now self.old ≡ code_of m ∷ todo p.now self.new) }
+        ensures kept { IsKept p.now self.new }
+    {
+        let found = self.sweep_on(p);
+        if found.is_some() {
+            return found;
+        }
+        self.go_on(p)
+    }
+}
