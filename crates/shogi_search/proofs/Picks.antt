@@ -4,6 +4,7 @@ use Rattle.std.specs.Prelude.{cond, ◌&&◌}
 use Rattle.std.specs.List.{sum_by}
 use Rattle.std.proofs.lemmas.List.Sums.{sum_by-cons}
 use Rattle.std.proofs.lemmas.Bool.{cond_both, cases_Bool, or_cases, eqb-true, or_left, or_right, cond-true, cond-false}
+use Rattle.shogi_core.specs.declared.moves.TheConstants.{FIRST_DROP}
 use Rattle.shogi_core.specs.declared.moves.Move.{Move}
 use Rattle.shogi_core.specs.Position.{Shogi}
 use Rattle.shogi_moves.specs.Captures.{is_of_sort}
@@ -45,10 +46,10 @@ pub pick-same : (p : Shogi) (hash_move : Option Move) (capture : Bool) (xs ys : 
 pick-same p hash_move capture xs ys e = filter-both p hash_move capture xs ∙ ap (filter (λ n. not (is_hash_move hash_move n))) e ∙ sym (filter-both p hash_move capture ys)
 
 -- drops take nothing
-pub no_drop_taken : (p : Shogi) (hash_move : Option Move) → picks_from p hash_move true 13122 ≡ []
-no_drop_taken p hash_move = pick-none p hash_move true (legal_from p 13122) (no_captures p)
+pub no_drop_taken : (p : Shogi) (hash_move : Option Move) → picks_from p hash_move true FIRST_DROP ≡ []
+no_drop_taken p hash_move = pick-none p hash_move true (legal_from p FIRST_DROP) (no_captures p)
 
-pub captures_end : (p : Shogi) (hash_move : Option Move) (code : ℕ) (ys : List ℕ) → picks_from p hash_move true code ≡ picks_from p hash_move true 13122 → (picks_from p hash_move true code ++ ys) ≡ ys
+pub captures_end : (p : Shogi) (hash_move : Option Move) (code : ℕ) (ys : List ℕ) → picks_from p hash_move true code ≡ picks_from p hash_move true FIRST_DROP → (picks_from p hash_move true code ++ ys) ≡ ys
 captures_end p hash_move code ys e = ap (λ (xs : List ℕ). xs ++ ys) (e ∙ no_drop_taken p hash_move)
 
 pub ruleset no_capture_left = (captures_end)

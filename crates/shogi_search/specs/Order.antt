@@ -1,6 +1,7 @@
 -- The order in which a node's moves are visited: a remembered move, then captures, then the rest, each by rising code (own choice).
 use Rattle.std.specs.Prelude.{ℕ, Bool, true, false, ◌&&◌, not, ◌==◌, Option, Some, None, List, [], ◌∷◌, ◌++◌, filter}
 use denote.Struct.Props as logic
+use Rattle.shogi_core.specs.declared.moves.TheConstants.{FIRST_DROP}
 use Rattle.shogi_core.specs.declared.moves.Move.{Move}
 use Rattle.shogi_core.specs.Codes.{code_of}
 use Rattle.shogi_core.specs.Position.{Shogi}
@@ -37,7 +38,7 @@ abbrev pub todo_after : Shogi → MovePicker → List ℕ
 todo_after p (HashMove f) = todo p (HashMove f)
 todo_after p (Start hash_move) = todo p (Start hash_move)
 todo_after p (Captures hash_move s) = picks_from p hash_move false 0
-todo_after p (Quiets hash_move s) = picks_from p hash_move false 13122
+todo_after p (Quiets hash_move s) = picks_from p hash_move false FIRST_DROP
 todo_after p (Drops hash_move s) = []
 todo_after p Done = []
 

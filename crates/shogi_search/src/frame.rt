@@ -142,7 +142,7 @@ impl Frame {
         let best = self.best_move;
         match self.best_move {
             Some(m) => {
-                m.code();
+                m.validity();
                 Entry::Exact(self.best_value, best)
             }
             None => {
@@ -266,7 +266,7 @@ impl Frame {
         requires current { IsCurrent self.now.waiting current.now }
         ensures value { IfSome result (λ v. value (after_code self.now.position (code_of current.now)) 0 ≡ v) }
     {
-        current.code();
+        current.validity();
         if self
             .replies
             .is_certain(self.position.as_position(), current)

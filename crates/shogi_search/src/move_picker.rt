@@ -1,6 +1,7 @@
 //! The move picker: in which order a node's moves are visited.
 
 ghost use Rattle.std.specs.Prelude.{◌≡◌, ◌<◌, ◌++◌, [], ◌∷◌, MatchOption, Some, None, true, false};
+ghost use Rattle.shogi_core.specs.declared.moves.TheConstants.{FIRST_DROP};
 ghost use Rattle.shogi_core.specs.Codes.{code_of};
 ghost use Rattle.shogi_moves.specs.Guards.{Guards};
 ghost use Rattle.shogi_moves.specs.Sweeps.{IsBoardSweep, IsDropSweep};
@@ -41,7 +42,7 @@ fn next_board(
 ) -> Option<Move>
     requires kept { IsBoardSweep p.now capture sweep.old }
     ensures kept { IsBoardSweep p.now capture sweep.new }
-    ensures next { MatchOption result (picks_from p.now hash_move.now capture sweep.old.code ≡ picks_from p.now hash_move.now capture 13122) (λ m. picks_from p.now hash_move.now capture sweep.old.code ≡ code_of m ∷ picks_from p.now hash_move.now capture sweep.new.code) }
+    ensures next { MatchOption result (picks_from p.now hash_move.now capture sweep.old.code ≡ picks_from p.now hash_move.now capture FIRST_DROP) (λ m. picks_from p.now hash_move.now capture sweep.old.code ≡ code_of m ∷ picks_from p.now hash_move.now capture sweep.new.code) }
 {
     'picks: while let Some(m) = sweep.next(p, capture) {
         if !is_hash_move(hash_move, &m) {
@@ -84,7 +85,7 @@ impl MovePicker {
     /// Begins with the drops.
     fn enter_drops(&mut self, p: &Position, hash_move: Option<Move>, guard: Guard) -> Option<Move>
         requires guard { Guards p.now guard.checked guard.exposed }
-        ensures next { MatchOption result ((picks_from p.now hash_move false 13122 ≡ []) × (todo p.now self.new ≡ [])) (λ m. picks_from p.now hash_move false 13122 ≡ code_of m ∷ todo p.now self.new) }
+        ensures next { MatchOption result ((picks_from p.now hash_move false FIRST_DROP ≡ []) × (todo p.now self.new ≡ [])) (λ m. picks_from p.now hash_move false FIRST_DROP ≡ code_of m ∷ todo p.now self.new) }
         ensures kept { IsKept p.now self.new }
     {
         let mut sweep = DropSweep::new(p, guard);

@@ -60,7 +60,7 @@ fn child(frame: &Frame, current: &Move) -> Node
     requires current { IsCurrent frame.now.waiting current.now }
     ensures { result ≡ after_code frame.now.position (code_of current.now) }
 {
-    current.code();
+    current.validity();
     frame.position.play(*current)
 }
 

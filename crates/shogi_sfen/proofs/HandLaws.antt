@@ -15,19 +15,19 @@ use Rattle.shogi_core.specs.declared.piece.Color.{Color}
 use Rattle.shogi_core.specs.declared.piece.Kind.{Kind}
 use Rattle.shogi_core.specs.declared.piece.Piece.{Piece}
 use Rattle.shogi_core.specs.Pieces.{kind_of}
-use Rattle.shogi_core.specs.Position.{Held, held, place_of}
+use Rattle.shogi_core.specs.Position.{HandCounts, held, place_of}
 use Rattle.shogi_sfen.specs.Letters.{piece_named}
 use Rattle.shogi_sfen.specs.HandTexts.{with_kind, with_piece, with_digit, hands_from, no_hands, capped_kind, capped_piece, capped_digit, capped_from, capped, hands_of}
 
 -- one byte more
-at_byte : (hands : Held) (count : Option ℕ) (byte : ℕ) (bytes : List ℕ) → capped_from hands count (byte ∷ bytes) ≡ cond (is_ascii_digit byte)
+at_byte : (hands : HandCounts) (count : Option ℕ) (byte : ℕ) (bytes : List ℕ) → capped_from hands count (byte ∷ bytes) ≡ cond (is_ascii_digit byte)
     (option_and_then (λ n. capped_from hands (Some n) bytes) (capped_digit count byte))
     (option_and_then (λ more. capped_from more None bytes) (capped_piece hands (unwrap_or count 1) (piece_named false byte)))
 at_byte hands None byte bytes = refl
 at_byte hands (Some n) byte bytes = refl
 
 -- the bytes from i on begin with the one at i
-pub capped_from-next : (word : List ℕ) (i byte : ℕ) (hands : Held) (count : Option ℕ) → i < length word → byte ≡ get_or word i 0
+pub capped_from-next : (word : List ℕ) (i byte : ℕ) (hands : HandCounts) (count : Option ℕ) → i < length word → byte ≡ get_or word i 0
     → capped_from hands count (drop i word) ≡ cond (is_ascii_digit byte)
     (option_and_then (λ n. capped_from hands (Some n) (drop (i + 1) word)) (capped_digit count byte))
     (option_and_then (λ more. capped_from more None (drop (i + 1) word)) (capped_piece hands (unwrap_or count 1) (piece_named false byte)))
@@ -49,15 +49,15 @@ min-digit : (n d : ℕ) → min MOST_COUNTED (min MOST_COUNTED n * 10 + d) ≡ m
 min-digit n d = omega arith
 
 -- a step of one reading is that of the other
-through : (o : Option ℕ) (f g : ℕ → Option Held) → ((n : ℕ) → g (min MOST_COUNTED n) ≡ option_map capped (f n)) → option_and_then g (option_map (min MOST_COUNTED) o) ≡ option_map capped (option_and_then f o)
+through : (o : Option ℕ) (f g : ℕ → Option HandCounts) → ((n : ℕ) → g (min MOST_COUNTED n) ≡ option_map capped (f n)) → option_and_then g (option_map (min MOST_COUNTED) o) ≡ option_map capped (option_and_then f o)
 through None f g h = refl
 through (Some n) f g h = h n
 
-through_held : (o : Option Held) (f g : Held → Option Held) → ((hands : Held) → g (capped hands) ≡ option_map capped (f hands)) → option_and_then g (option_map capped o) ≡ option_map capped (option_and_then f o)
+through_held : (o : Option HandCounts) (f g : HandCounts → Option HandCounts) → ((hands : HandCounts) → g (capped hands) ≡ option_map capped (f hands)) → option_and_then g (option_map capped o) ≡ option_map capped (option_and_then f o)
 through_held None f g h = refl
 through_held (Some hands) f g h = h hands
 
-either_way : (b : Bool) (x y : Option Held) (z w : Option Held) → z ≡ option_map capped x → w ≡ option_map capped y → cond b z w ≡ option_map capped (cond b x y)
+either_way : (b : Bool) (x y : Option HandCounts) (z w : Option HandCounts) → z ≡ option_map capped x → w ≡ option_map capped y → cond b z w ≡ option_map capped (cond b x y)
 either_way true x y z w e f = e
 either_way false x y z w e f = f
 
@@ -73,27 +73,27 @@ unwrap_capped : (count : Option ℕ) → unwrap_or (option_map (min MOST_COUNTED
 unwrap_capped None = refl
 unwrap_capped (Some n) = refl
 
-pub held-capped : (hands : Held) (color : Color) (kind : Kind) → held (capped hands) color kind ≡ min MOST_COUNTED (held hands color kind)
+pub held-capped : (hands : HandCounts) (color : Color) (kind : Kind) → held (capped hands) color kind ≡ min MOST_COUNTED (held hands color kind)
 held-capped hands color kind = get_or-map (min MOST_COUNTED) hands (place_of color kind) 0
 
-kind_capped : (hands : Held) (n : ℕ) (color : Color) (kind : Option Kind) → capped_kind (capped hands) (min MOST_COUNTED n) color kind ≡ option_map capped (with_kind hands n color kind)
+kind_capped : (hands : HandCounts) (n : ℕ) (color : Color) (kind : Option Kind) → capped_kind (capped hands) (min MOST_COUNTED n) color kind ≡ option_map capped (with_kind hands n color kind)
 kind_capped hands n color None = refl
 kind_capped hands n color (Some kind) =
     ap (λ (m : ℕ). Some (set (capped hands) (place_of color kind) m)) (ap (λ (m : ℕ). min MOST_COUNTED (m + min MOST_COUNTED n)) (held-capped hands color kind) ∙ min-sum (held hands color kind) n)
     ∙ ap Some (sym (map-set (min MOST_COUNTED) hands (place_of color kind) (held hands color kind + n)))
 
-piece_capped : (hands : Held) (n : ℕ) (piece : Option Piece) → capped_piece (capped hands) (min MOST_COUNTED n) piece ≡ option_map capped (with_piece hands n piece)
+piece_capped : (hands : HandCounts) (n : ℕ) (piece : Option Piece) → capped_piece (capped hands) (min MOST_COUNTED n) piece ≡ option_map capped (with_piece hands n piece)
 piece_capped hands n None = refl
 piece_capped hands n (Some piece) = kind_capped hands n piece.color (kind_of piece.role)
 
-pub exact_byte : (hands : Held) (count : Option ℕ) (byte : ℕ) (bytes : List ℕ) → hands_from hands count (byte ∷ bytes) ≡ cond (is_ascii_digit byte)
+pub exact_byte : (hands : HandCounts) (count : Option ℕ) (byte : ℕ) (bytes : List ℕ) → hands_from hands count (byte ∷ bytes) ≡ cond (is_ascii_digit byte)
     (option_and_then (λ n. hands_from hands (Some n) bytes) (with_digit count byte))
     (option_and_then (λ more. hands_from more None bytes) (with_piece hands (unwrap_or count 1) (piece_named false byte)))
 exact_byte hands None byte bytes = refl
 exact_byte hands (Some n) byte bytes = refl
 
 -- counts that stop at the most that is counted are the counts, each or the most that is counted
-hands_capped : (bytes : List ℕ) (hands : Held) (count : Option ℕ) → capped_from (capped hands) (option_map (min MOST_COUNTED) count) bytes ≡ option_map capped (hands_from hands count bytes)
+hands_capped : (bytes : List ℕ) (hands : HandCounts) (count : Option ℕ) → capped_from (capped hands) (option_map (min MOST_COUNTED) count) bytes ≡ option_map capped (hands_from hands count bytes)
 hands_capped [] hands None = refl
 hands_capped [] hands (Some n) = refl
 hands_capped (byte ∷ bytes) hands count =

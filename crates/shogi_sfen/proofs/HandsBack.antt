@@ -8,7 +8,7 @@ use Rattle.shogi_core.specs.declared.piece.Color.{Color}
 use Rattle.shogi_core.specs.declared.piece.Color.TheVariants.{Black, White}
 use Rattle.shogi_core.specs.declared.piece.Kind.{Kind}
 use Rattle.shogi_core.specs.declared.piece.Kind.TheVariants as kinds
-use Rattle.shogi_core.specs.Position.{Held, held, place_of}
+use Rattle.shogi_core.specs.Position.{HandCounts, held, place_of}
 use Rattle.shogi_sfen.specs.Letters.{letter_of, as_side, piece_named}
 use Rattle.shogi_sfen.specs.HandTexts.{hands_from}
 use Rattle.shogi_sfen.specs.Written.{count_digits, held_text}
@@ -17,11 +17,11 @@ digit : (n : ℕ) → n < 10 → is_ascii_digit (n + 48) ≡ true
 digit n h = and_from _ _ (le-leb 48 (n + 48) (omega arith)) (le-leb (n + 48) 57 (omega arith))
 
 -- so many more of a kind
-abbrev pub added : Held → Color → Kind → ℕ → Held
+abbrev pub added : HandCounts → Color → Kind → ℕ → HandCounts
 added hands color kind n = set hands (place_of color kind) (held hands color kind + n)
 
 -- a letter, behind a count or none
-pub letter_back : (color : Color) (kind : Kind) (hands : Held) (count : Option ℕ) (rest : List ℕ)
+pub letter_back : (color : Color) (kind : Kind) (hands : HandCounts) (count : Option ℕ) (rest : List ℕ)
     → hands_from hands count (as_side color (letter_of kind) ∷ rest) ≡ hands_from (added hands color kind (unwrap_or count 1)) None rest
 unfolding piece_named
 letter_back Black kinds.Pawn hands None rest = refl
@@ -34,27 +34,27 @@ letter_back White kind hands None rest = refl
 letter_back White kind hands (Some n) rest = refl
 
 -- one digit of a count
-digit_back : (d : ℕ) (hands : Held) (rest : List ℕ) → 1 ≤ d → d < 10 → hands_from hands None ((d + 48) ∷ rest) ≡ hands_from hands (Some d) rest
+digit_back : (d : ℕ) (hands : HandCounts) (rest : List ℕ) → 1 ≤ d → d < 10 → hands_from hands None ((d + 48) ∷ rest) ≡ hands_from hands (Some d) rest
 digit_back d hands rest low high =
     cond-true (is_ascii_digit (d + 48)) _ _ (digit d high)
     ∙ (ap (option_and_then (λ n. hands_from hands (Some n) rest)) (cond-false (true && (d + 48 == 48)) None _ (and_right true (d + 48 == 48) (ne_eqb (d + 48) 48 (λ e. omega arith))))
     ∙ ap (λ (n : ℕ). hands_from hands (Some n) rest) (omega arith))
 
-next_digit_back : (n d : ℕ) (hands : Held) (rest : List ℕ) → d < 10 → hands_from hands (Some n) ((d + 48) ∷ rest) ≡ hands_from hands (Some (n * 10 + d)) rest
+next_digit_back : (n d : ℕ) (hands : HandCounts) (rest : List ℕ) → d < 10 → hands_from hands (Some n) ((d + 48) ∷ rest) ≡ hands_from hands (Some (n * 10 + d)) rest
 next_digit_back n d hands rest high =
     cond-true (is_ascii_digit (d + 48)) _ _ (digit d high) ∙ ap (λ (m : ℕ). hands_from hands (Some m) rest) (omega arith)
 
-set_same : (hands : Held) (i n : ℕ) → n ≡ get_or hands i 0 → set hands i n ≡ hands
+set_same : (hands : HandCounts) (i n : ℕ) → n ≡ get_or hands i 0 → set hands i n ≡ hands
 set_same [] i n e = refl
 set_same (x ∷ hands) zero n e = ap (λ (m : ℕ). m ∷ hands) e
-set_same (x ∷ hands) (suc i) n e = ap (λ (h : Held). x ∷ h) (set_same hands i n e)
+set_same (x ∷ hands) (suc i) n e = ap (λ (h : HandCounts). x ∷ h) (set_same hands i n e)
 
 -- a count and a letter
-pub held_back : (color : Color) (kind : Kind) (n : ℕ) (hands : Held) (rest : List ℕ) → n < 100 → hands_from hands None (held_text color kind n ++ rest) ≡ hands_from (added hands color kind n) None rest
+pub held_back : (color : Color) (kind : Kind) (n : ℕ) (hands : HandCounts) (rest : List ℕ) → n < 100 → hands_from hands None (held_text color kind n ++ rest) ≡ hands_from (added hands color kind n) None rest
 held_back color kind n hands rest small = elim (cases_eq n 0) [
   | inl none ↦
       ap (λ (t : List ℕ). hands_from hands None (t ++ rest)) (cond-true (n == 0) [] _ (eq-eqb n 0 none))
-      ∙ ap (λ (h : Held). hands_from h None rest) (sym (set_same hands (place_of color kind) (held hands color kind + n) (omega arith)))
+      ∙ ap (λ (h : HandCounts). hands_from h None rest) (sym (set_same hands (place_of color kind) (held hands color kind + n) (omega arith)))
   | inr some ↦
       ap (λ (t : List ℕ). hands_from hands None (t ++ rest)) (cond-false (n == 0) [] (count_digits n ++ as_side color (letter_of kind) ∷ []) (ne_eqb n 0 some))
       ∙ elim (cases_lt n 2) as (λ _. hands_from hands None ((count_digits n ++ as_side color (letter_of kind) ∷ []) ++ rest) ≡ hands_from (added hands color kind n) None rest) [

@@ -7,7 +7,7 @@ use Rattle.std.proofs.lemmas.List.{length-drop}
 use Rattle.shogi_core.specs.declared.piece.Color.{Color}
 use Rattle.shogi_core.specs.declared.validity.PositionFault.{PositionFault}
 use Rattle.shogi_core.specs.Movement.{Cells}
-use Rattle.shogi_core.specs.Position.{Shogi, Held}
+use Rattle.shogi_core.specs.Position.{Shogi, HandCounts}
 use Rattle.shogi_core.specs.Validity.{fault_of}
 use Rattle.shogi_sfen.specs.Words.{is_blank, words, from_word, after_word, GivesWord}
 use Rattle.shogi_sfen.specs.BoardTexts.{board_of}
@@ -63,14 +63,14 @@ module _ (text r1 r2 r3 : List ℕ) (o1 o2 o3 : Option (Bor (List ℕ))) where
       ∙ ap (λ (o : Option (List ℕ)). position_of_parts (Some cells) (Some side) (option_and_then hands_of o) (end_of text)) (third t.one t.two t.three))
 
 -- hands as the code keeps them
-pub by_hands : (cells : Cells) (side : Color) (end : ℕ) (o : Option Held) (hands : Held) → IfSome o (λ out. length out ≡ 14) → Some hands ≡ option_map capped o
+pub by_hands : (cells : Cells) (side : Color) (end : ℕ) (o : Option HandCounts) (hands : HandCounts) → IfSome o (λ out. length out ≡ 14) → Some hands ≡ option_map capped o
     → position_of_parts (Some cells) (Some side) o end ≡ judged (fault_of (parts cells hands side)) (parts cells hands side) end
 by_hands cells side end None hands len e = cc
 by_hands cells side end (Some exact) hands len e =
     let same : hands ≡ capped exact = cc in
-    sym (ap (λ (hs : Held). judged (fault_of (parts cells hs side)) (parts cells hs side) end) same ∙ judged-capped cells exact side end len)
+    sym (ap (λ (hs : HandCounts). judged (fault_of (parts cells hs side)) (parts cells hs side) end) same ∙ judged-capped cells exact side end len)
 
-pub no_hands_word : (cells : Cells) (side : Color) (end : ℕ) (o : Option Held) → (let none : Option Held = None in none) ≡ option_map capped o → Err BadHand ≡ position_of_parts (Some cells) (Some side) o end
+pub no_hands_word : (cells : Cells) (side : Color) (end : ℕ) (o : Option HandCounts) → (let none : Option HandCounts = None in none) ≡ option_map capped o → Err BadHand ≡ position_of_parts (Some cells) (Some side) o end
 no_hands_word cells side end None e = refl
 no_hands_word cells side end (Some hands) e = cc
 
@@ -104,7 +104,7 @@ pub gives_after : {A : Type 0} (text rest : List ℕ) (o : Option (Bor (List ℕ
 gives_after text rest None f a g e = cc
 gives_after text rest (Some word) f a g e = g.1
 
-pub gives_after_hands : (text rest : List ℕ) (o : Option (Bor (List ℕ))) (hands : Held) → GivesWord text o rest → Some hands ≡ option_map capped (option_and_then hands_of (option_copied o)) → rest ≡ after_word text
+pub gives_after_hands : (text rest : List ℕ) (o : Option (Bor (List ℕ))) (hands : HandCounts) → GivesWord text o rest → Some hands ≡ option_map capped (option_and_then hands_of (option_copied o)) → rest ≡ after_word text
 gives_after_hands text rest None hands g e = cc
 gives_after_hands text rest (Some word) hands g e = g.1
 
@@ -117,7 +117,7 @@ judged_end : (fault : Option PositionFault) (p q : Shogi) (e end : ℕ) → judg
 judged_end None p q e end h = let same : (p, e) ≡ (q, end) = cc in ap (λ (x : Shogi × ℕ). x.1) same
 judged_end (Some fault) p q e end h = absurd (cc)
 
-parts_end : (cells : Option Cells) (side : Option Color) (hands : Option Held) (e : ℕ) (q : Shogi) (end : ℕ) → position_of_parts cells side hands e ≡ Ok (q, end) → e ≡ end
+parts_end : (cells : Option Cells) (side : Option Color) (hands : Option HandCounts) (e : ℕ) (q : Shogi) (end : ℕ) → position_of_parts cells side hands e ≡ Ok (q, end) → e ≡ end
 parts_end None side hands e q end h = absurd (cc)
 parts_end (Some cells) None hands e q end h = absurd (cc)
 parts_end (Some cells) (Some side) None e q end h = absurd (cc)

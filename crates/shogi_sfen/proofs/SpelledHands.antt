@@ -17,8 +17,8 @@ use Rattle.shogi_core.specs.declared.piece.Color.TheVariants.{Black, White}
 use Rattle.shogi_core.specs.declared.piece.Kind.{Kind}
 use Rattle.shogi_core.specs.declared.piece.Kind.TheVariants as kinds
 use Rattle.shogi_core.specs.declared.piece.Piece.{Piece}
-use Rattle.shogi_core.specs.Pieces.{is_same_color, number_of, kind_of}
-use Rattle.shogi_core.specs.Position.{Held, held, place_of}
+use Rattle.shogi_core.specs.Pieces.{is_same_color, kind_number, kind_of}
+use Rattle.shogi_core.specs.Position.{HandCounts, held, place_of}
 use Rattle.shogi_core.proofs.Faults.{number_below}
 use Rattle.shogi_sfen.specs.Words.{has_bytes}
 use Rattle.shogi_sfen.specs.Letters.{letter_of, letter_or_king, as_side, piece_named}
@@ -33,20 +33,20 @@ use Rattle.shogi_sfen.proofs.WrittenBack.{finished}
 use Rattle.shogi_sfen.proofs.LetterLaws.{piece_named-letter}
 
 -- one side and kind is another exactly where the places are one
-same_place : (color other : Color) (kind third : Kind) → (is_same_color color other && number_of kind == number_of third) ≡ (place_of color kind == place_of other third)
+same_place : (color other : Color) (kind third : Kind) → (is_same_color color other && kind_number kind == kind_number third) ≡ (place_of color kind == place_of other third)
 same_place Black Black kind third = refl
-same_place White White kind third = elim (cases_eq (number_of kind) (number_of third)) [
-  | inl same ↦ eq-eqb (number_of kind) (number_of third) same ∙ sym (eq-eqb (number_of kind + 7) (number_of third + 7) (omega arith))
-  | inr apart ↦ ne_eqb (number_of kind) (number_of third) apart ∙ sym (ne_eqb (number_of kind + 7) (number_of third + 7) (λ e. apart (omega arith)))
+same_place White White kind third = elim (cases_eq (kind_number kind) (kind_number third)) [
+  | inl same ↦ eq-eqb (kind_number kind) (kind_number third) same ∙ sym (eq-eqb (kind_number kind + 7) (kind_number third + 7) (omega arith))
+  | inr apart ↦ ne_eqb (kind_number kind) (kind_number third) apart ∙ sym (ne_eqb (kind_number kind + 7) (kind_number third + 7) (λ e. apart (omega arith)))
 ]
-same_place Black White kind third = let small : number_of kind < 7 = number_below kind in sym (ne_eqb (number_of kind) (number_of third + 7) (λ e. omega arith))
-same_place White Black kind third = let small : number_of third < 7 = number_below third in sym (ne_eqb (number_of kind + 7) (number_of third) (λ e. omega arith))
+same_place Black White kind third = let small : kind_number kind < 7 = number_below kind in sym (ne_eqb (kind_number kind) (kind_number third + 7) (λ e. omega arith))
+same_place White Black kind third = let small : kind_number third < 7 = number_below third in sym (ne_eqb (kind_number kind + 7) (kind_number third) (λ e. omega arith))
 
 place_below : (color : Color) (kind : Kind) → place_of color kind < 14
-place_below Black kind = let small : number_of kind < 7 = number_below kind in omega arith
-place_below White kind = let small : number_of kind < 7 = number_below kind in omega arith
+place_below Black kind = let small : kind_number kind < 7 = number_below kind in omega arith
+place_below White kind = let small : kind_number kind < 7 = number_below kind in omega arith
 
-get_set : (hands : Held) (p q n : ℕ) → p < length hands → get_or (set hands p (get_or hands p 0 + n)) q 0 ≡ get_or hands q 0 + cond (p == q) n 0
+get_set : (hands : HandCounts) (p q n : ℕ) → p < length hands → get_or (set hands p (get_or hands p 0 + n)) q 0 ≡ get_or hands q 0 + cond (p == q) n 0
 get_set hands p q n below = elim (cases_eq p q) [
   | inl same ↦
       ap (λ (i : ℕ). get_or (set hands p (get_or hands p 0 + n)) i 0) (sym same) ∙ (get_or-set_same hands p (get_or hands p 0 + n) 0 below
@@ -57,15 +57,15 @@ get_set hands p q n below = elim (cases_eq p q) [
 ]
 
 -- what is held after an entry
-held-added : (hands : Held) (color other : Color) (kind third : Kind) (n : ℕ) → length hands ≡ 14
-    → held (added hands color kind n) other third ≡ held hands other third + cond (is_same_color color other && number_of kind == number_of third) n 0
+held-added : (hands : HandCounts) (color other : Color) (kind third : Kind) (n : ℕ) → length hands ≡ 14
+    → held (added hands color kind n) other third ≡ held hands other third + cond (is_same_color color other && kind_number kind == kind_number third) n 0
 held-added hands color other kind third n len =
     let below : place_of color kind < 14 = place_below color kind in
     get_set hands (place_of color kind) (place_of other third) n (omega arith)
     ∙ ap (λ (b : Bool). held hands other third + cond b n 0) (sym (same_place color other kind third))
 
 -- hands with the same counts are the same
-same_held : (hands others : Held) → length hands ≡ 14 → length others ≡ 14 → ((color : Color) (kind : Kind) → held hands color kind ≡ held others color kind) → hands ≡ others
+same_held : (hands others : HandCounts) → length hands ≡ 14 → length others ≡ 14 → ((color : Color) (kind : Kind) → held hands color kind ≡ held others color kind) → hands ≡ others
 same_held hands others len more each =
     ext_get_or 0 hands others (omega arith)
     (λ i below. let h : Holder i = holder i (omega arith) in subst (λ (p : ℕ). get_or hands p 0 ≡ get_or others p 0) h.place (each h.color h.kind))
@@ -77,7 +77,7 @@ held-none Black kind = refl
 held-none White kind = refl
 
 -- entries with this text, and what is held after them
-record IsHeldFrom (text : List ℕ) (start hands : Held) : Type 0 where
+record IsHeldFrom (text : List ℕ) (start hands : HandCounts) : Type 0 where
   entries : List Entry
   each : AllByRecursion (λ entry. AreCountDigits entry.digits) entries
   sums : (color : Color) (kind : Kind) → held hands color kind ≡ held start color kind + sum_by (count_in color kind) entries
@@ -113,28 +113,28 @@ next_digit ds (Some m) byte n digit begun e =
     )
 
 -- a step that was taken, and what follows it
-record Steps {A : Type 0} (o : Option A) (f : A → Option Held) (hands : Held) : Type 0 where
+record Steps {A : Type 0} (o : Option A) (f : A → Option HandCounts) (hands : HandCounts) : Type 0 where
   next : A
   found : o ≡ Some next
   later : f next ≡ Some hands
 
-steps : {A : Type 0} (o : Option A) (f : A → Option Held) (hands : Held) → option_and_then f o ≡ Some hands → Steps o f hands
+steps : {A : Type 0} (o : Option A) (f : A → Option HandCounts) (hands : HandCounts) → option_and_then f o ≡ Some hands → Steps o f hands
 steps None f hands e = cc
 steps (Some next) f hands e = record { next = next; found = refl; later = e }
 
 -- a letter that says what is held
-record IsLetterFor (hands : Held) (n byte : ℕ) (more : Held) : Type 0 where
+record IsLetterFor (hands : HandCounts) (n byte : ℕ) (more : HandCounts) : Type 0 where
   color : Color
   kind : Kind
   letter : as_side color (letter_of kind) ≡ byte
   same : added hands color kind n ≡ more
 
-by_kind : (hands : Held) (n byte : ℕ) (more : Held) (piece : Piece) (o : Option Kind) → kind_of piece.role ≡ o → as_side piece.color (letter_or_king o) ≡ byte
+by_kind : (hands : HandCounts) (n byte : ℕ) (more : HandCounts) (piece : Piece) (o : Option Kind) → kind_of piece.role ≡ o → as_side piece.color (letter_or_king o) ≡ byte
     → with_kind hands n piece.color o ≡ Some more → IsLetterFor hands n byte more
 by_kind hands n byte more piece None k l e = cc
 by_kind hands n byte more piece (Some kind) k l e = record { color = piece.color; kind = kind; letter = l; same = cc }
 
-by_piece : (hands : Held) (n byte : ℕ) (more : Held) (o : Option Piece) → piece_named false byte ≡ o → with_piece hands n o ≡ Some more → IsLetterFor hands n byte more
+by_piece : (hands : HandCounts) (n byte : ℕ) (more : HandCounts) (o : Option Piece) → piece_named false byte ≡ o → with_piece hands n o ≡ Some more → IsLetterFor hands n byte more
 by_piece hands n byte more None p e = cc
 by_piece hands n byte more (Some piece) p e =
     by_kind hands n byte more piece (kind_of piece.role) refl (piece_named-letter false byte piece p) e
@@ -146,27 +146,27 @@ counted ds None begun = subst (λ (xs : List ℕ). AreCountDigits xs × (count_w
 counted [] (Some n) begun = let some : 0 < 0 = begun.2 in absurd (omega arith)
 counted (d ∷ ds) (Some n) begun = (begun.0, begun.1)
 
-one_entry : (entry : Entry) (text : List ℕ) (start more hands : Held) → length start ≡ 14 → AreCountDigits entry.digits → added start entry.color entry.kind (count_written entry.digits) ≡ more
+one_entry : (entry : Entry) (text : List ℕ) (start more hands : HandCounts) → length start ≡ 14 → AreCountDigits entry.digits → added start entry.color entry.kind (count_written entry.digits) ≡ more
     → IsHeldFrom text more hands → IsHeldFrom (entry_text entry ++ text) start hands
 one_entry entry text start more hands len count same h = record {
   entries = entry ∷ h.entries;
   each = (count, h.each);
   sums = λ color kind.
       let now : held more color kind ≡ held start color kind + count_in color kind entry =
-      ap (λ (hs : Held). held hs color kind) (sym same) ∙ held-added start entry.color color entry.kind kind (count_written entry.digits) len in
+      ap (λ (hs : HandCounts). held hs color kind) (sym same) ∙ held-added start entry.color color entry.kind kind (count_written entry.digits) len in
       let later : held hands color kind ≡ held more color kind + sum_by (count_in color kind) h.entries = h.sums color kind in
       let all : sum_by (count_in color kind) (entry ∷ h.entries) ≡ count_in color kind entry + sum_by (count_in color kind) h.entries = sum_by-cons (count_in color kind) entry h.entries in
       omega arith;
   spelled = ap (λ (t : List ℕ). entry_text entry ++ t) h.spelled;
 }
 
-held_from : (bytes : List ℕ) (start : Held) (count : Option ℕ) (ds : List ℕ) (hands : Held) → length start ≡ 14 → IsBegun ds count → hands_from start count bytes ≡ Some hands
+held_from : (bytes : List ℕ) (start : HandCounts) (count : Option ℕ) (ds : List ℕ) (hands : HandCounts) → length start ≡ 14 → IsBegun ds count → hands_from start count bytes ≡ Some hands
     → IsHeldFrom (ds ++ bytes) start hands
 unfolding IsBegun
 held_from [] start None ds hands len begun e = record {
   entries = [];
   each = tt;
-  sums = λ color kind. let same : start ≡ hands = cc in ap (λ (hs : Held). held hs color kind) (sym same) ∙ omega arith;
+  sums = λ color kind. let same : start ≡ hands = cc in ap (λ (hs : HandCounts). held hs color kind) (sym same) ∙ omega arith;
   spelled = sym (ap (λ (xs : List ℕ). xs ++ []) begun);
 }
 held_from [] start (Some n) ds hands len begun e = cc
@@ -194,11 +194,11 @@ some_bytes : (text : List ℕ) → has_bytes text ≡ true → or_hyphen text �
 some_bytes [] e = cc
 some_bytes (byte ∷ bytes) e = refl
 
-held_len : (o : Option Held) (hands : Held) → IfSome o (λ out. length out ≡ 14) → o ≡ Some hands → length hands ≡ 14
+held_len : (o : Option HandCounts) (hands : HandCounts) → IfSome o (λ out. length out ≡ 14) → o ≡ Some hands → length hands ≡ 14
 held_len None hands len e = cc
 held_len (Some out) hands len e = let same : out ≡ hands = cc in ap length (sym same) ∙ len
 
-by_items : (b : Bool) (text : List ℕ) (hands : Held) → has_bytes text ≡ b → cond b (hands_from no_hands None text) None ≡ Some hands → SpellsHands text hands
+by_items : (b : Bool) (text : List ℕ) (hands : HandCounts) → has_bytes text ≡ b → cond b (hands_from no_hands None text) None ≡ Some hands → SpellsHands text hands
 unfolding IsBegun
 by_items true text hands t e =
     let h : IsHeldFrom text no_hands hands = held_from text no_hands None [] hands refl refl e in
@@ -211,31 +211,31 @@ by_items true text hands t e =
     }
 by_items false text hands t e = cc
 
-by_hyphen : (b : Bool) (text : List ℕ) (hands : Held) → bytes_eq text (codes "-") ≡ b → cond b (Some no_hands) (cond (has_bytes text) (hands_from no_hands None text) None) ≡ Some hands → SpellsHands text hands
+by_hyphen : (b : Bool) (text : List ℕ) (hands : HandCounts) → bytes_eq text (codes "-") ≡ b → cond b (Some no_hands) (cond (has_bytes text) (hands_from no_hands None text) None) ≡ Some hands → SpellsHands text hands
 by_hyphen true text hands t e =
     let same : no_hands ≡ hands = cc in
     record {
       places = ap length (sym same);
       entries = [];
       each = tt;
-      sums = λ color kind. ap (λ (hs : Held). held hs color kind) (sym same) ∙ held-none color kind;
+      sums = λ color kind. ap (λ (hs : HandCounts). held hs color kind) (sym same) ∙ held-none color kind;
       spelled = sym ((bytes_eq-Decides text (codes "-")).0 t);
     }
 by_hyphen false text hands t e = by_items (has_bytes text) text hands refl e
 
 -- hands that are read are spelled
-pub SpellsHands-read : (text : List ℕ) (hands : Held) → hands_of text ≡ Some hands → SpellsHands text hands
+pub SpellsHands-read : (text : List ℕ) (hands : HandCounts) → hands_of text ≡ Some hands → SpellsHands text hands
 unfolding hands_of
 SpellsHands-read text hands e = by_hyphen (bytes_eq text (codes "-")) text hands refl e
 
-digits_read : (ds : List ℕ) (hands : Held) (n : ℕ) (rest : List ℕ) → list_all is_ascii_digit ds ≡ true → hands_from hands (Some n) (ds ++ rest) ≡ hands_from hands (Some (digits_value_after 10 n ds)) rest
+digits_read : (ds : List ℕ) (hands : HandCounts) (n : ℕ) (rest : List ℕ) → list_all is_ascii_digit ds ≡ true → hands_from hands (Some n) (ds ++ rest) ≡ hands_from hands (Some (digits_value_after 10 n ds)) rest
 digits_read [] hands n rest all = refl
 digits_read (d ∷ ds) hands n rest all =
     let parts = and_parts (is_ascii_digit d) (list_all is_ascii_digit ds) all in
     cond-true (is_ascii_digit d) _ _ parts.0
     ∙ (ap (λ (k : ℕ). hands_from hands (Some (n * 10 + k)) (ds ++ rest)) (sym (in_range d parts.0)) ∙ digits_read ds hands (n * 10 + digit_value d) rest parts.1)
 
-count_read : (ds : List ℕ) (hands : Held) (color : Color) (kind : Kind) (rest : List ℕ) → AreCountDigits ds
+count_read : (ds : List ℕ) (hands : HandCounts) (color : Color) (kind : Kind) (rest : List ℕ) → AreCountDigits ds
     → hands_from hands None (ds ++ as_side color (letter_of kind) ∷ rest) ≡ hands_from (added hands color kind (count_written ds)) None rest
 count_read [] hands color kind rest h = letter_back color kind hands None rest
 count_read (d ∷ ds) hands color kind rest h =
@@ -248,16 +248,16 @@ count_read (d ∷ ds) hands color kind rest h =
     ∙ letter_back color kind hands (Some (digits_value 10 (d ∷ ds))) rest)))
 
 -- what entries are read as
-record AreRead (entries : List Entry) (start : Held) : Type 0 where
-  hands : Held
+record AreRead (entries : List Entry) (start : HandCounts) : Type 0 where
+  hands : HandCounts
   read : hands_from start None (flat_map entry_text entries) ≡ Some hands
   len : length hands ≡ 14
   sums : (color : Color) (kind : Kind) → held hands color kind ≡ held start color kind + sum_by (count_in color kind) entries
 
-are_read : (entries : List Entry) (start : Held) → AllByRecursion (λ entry. AreCountDigits entry.digits) entries → length start ≡ 14 → AreRead entries start
+are_read : (entries : List Entry) (start : HandCounts) → AllByRecursion (λ entry. AreCountDigits entry.digits) entries → length start ≡ 14 → AreRead entries start
 are_read [] start each len = record { hands = start; read = refl; len = len; sums = λ color kind. omega arith }
 are_read (entry ∷ entries) start each len =
-    let next : Held = added start entry.color entry.kind (count_written entry.digits) in
+    let next : HandCounts = added start entry.color entry.kind (count_written entry.digits) in
     let others : AreRead entries next =
     are_read entries next each.1 (length-set start (place_of entry.color entry.kind) (held start entry.color entry.kind + count_written entry.digits) ∙ len) in
     record {
@@ -273,7 +273,7 @@ are_read (entry ∷ entries) start each len =
     }
 
 -- hands that are spelled are read
-pub hands_of-spelled : (text : List ℕ) (hands : Held) → SpellsHands text hands → hands_of text ≡ Some hands
+pub hands_of-spelled : (text : List ℕ) (hands : HandCounts) → SpellsHands text hands → hands_of text ≡ Some hands
 hands_of-spelled text hands s =
     let r : AreRead s.entries no_hands = are_read s.entries no_hands s.each refl in
     let same : r.hands ≡ hands =

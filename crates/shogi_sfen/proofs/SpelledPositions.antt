@@ -8,7 +8,7 @@ use Rattle.shogi_core.specs.declared.piece.Color.{Color}
 use Rattle.shogi_core.specs.declared.piece.Color.TheVariants.{Black, White}
 use Rattle.shogi_core.specs.declared.validity.PositionFault.{PositionFault}
 use Rattle.shogi_core.specs.Movement.{Cells}
-use Rattle.shogi_core.specs.Position.{Shogi, Held}
+use Rattle.shogi_core.specs.Position.{Shogi, HandCounts}
 use Rattle.shogi_core.specs.Validity.{fault_of, IsValid}
 use Rattle.shogi_sfen.specs.declared.position.SfenFault.{SfenFault}
 use Rattle.shogi_sfen.specs.declared.position.SfenFault.TheVariants.{BadBoard, BadSide, BadHand, Invalid}
@@ -52,11 +52,11 @@ side_word-read : (o : Option (List ℕ)) (side : Color) → IsSomeAnd o (λ text
 side_word-read None side h = absurd h
 side_word-read (Some text) side h = ap side_of h ∙ side_there side
 
-hands_word : (o : Option (List ℕ)) (hands : Held) → option_and_then hands_of o ≡ Some hands → IsSomeAnd o (λ text. SpellsHands text hands)
+hands_word : (o : Option (List ℕ)) (hands : HandCounts) → option_and_then hands_of o ≡ Some hands → IsSomeAnd o (λ text. SpellsHands text hands)
 hands_word None hands e = cc
 hands_word (Some text) hands e = SpellsHands-read text hands e
 
-hands_word-read : (o : Option (List ℕ)) (hands : Held) → IsSomeAnd o (λ text. SpellsHands text hands) → option_and_then hands_of o ≡ Some hands
+hands_word-read : (o : Option (List ℕ)) (hands : HandCounts) → IsSomeAnd o (λ text. SpellsHands text hands) → option_and_then hands_of o ≡ Some hands
 hands_word-read None hands h = absurd h
 hands_word-read (Some text) hands h = hands_of-spelled text hands h
 
@@ -74,7 +74,7 @@ board_fits : (o : Option (List ℕ)) (cells : Cells) → IsSomeAnd o (λ text. S
 board_fits None cells h = absurd h
 board_fits (Some text) cells h = h.squares
 
-hands_fit : (o : Option (List ℕ)) (hands : Held) → IsSomeAnd o (λ text. SpellsHands text hands) → length hands ≡ 14
+hands_fit : (o : Option (List ℕ)) (hands : HandCounts) → IsSomeAnd o (λ text. SpellsHands text hands) → length hands ≡ 14
 hands_fit None hands h = absurd h
 hands_fit (Some text) hands h = h.places
 
@@ -92,7 +92,7 @@ judged-err None p end fault e = cc
 judged-err (Some f) p end fault e = cc
 
 module _ (ws : List (List ℕ)) where
-  spells : (cells : Cells) (side : Color) (hands : Held) → option_and_then board_of (slice_get ws 0) ≡ Some cells → option_and_then side_of (slice_get ws 1) ≡ Some side → option_and_then hands_of (slice_get ws 2) ≡ Some hands
+  spells : (cells : Cells) (side : Color) (hands : HandCounts) → option_and_then board_of (slice_get ws 0) ≡ Some cells → option_and_then side_of (slice_get ws 1) ≡ Some side → option_and_then hands_of (slice_get ws 2) ≡ Some hands
       → Spells ws (parts cells hands side)
   spells cells side hands eb es eh = record { board = board_word (slice_get ws 0) cells eb; side = side_word (slice_get ws 1) side es; hands = hands_word (slice_get ws 2) hands eh }
 
@@ -100,7 +100,7 @@ module _ (ws : List (List ℕ)) where
   valid p s e = record { cells_fit = board_fits (slice_get ws 0) p.cells s.board; hands_fit = hands_fit (slice_get ws 2) p.hands s.hands; no_fault = e }
 
   module _ (end : ℕ) where
-    found : (b : Option Cells) (s : Option Color) (h : Option Held) (p : Shogi) (index : ℕ) → option_and_then board_of (slice_get ws 0) ≡ b → option_and_then side_of (slice_get ws 1) ≡ s → option_and_then hands_of (slice_get ws 2) ≡ h
+    found : (b : Option Cells) (s : Option Color) (h : Option HandCounts) (p : Shogi) (index : ℕ) → option_and_then board_of (slice_get ws 0) ≡ b → option_and_then side_of (slice_get ws 1) ≡ s → option_and_then hands_of (slice_get ws 2) ≡ h
         → position_of_parts b s h end ≡ Ok (p, index) → Spells ws p × IsValid p
     found None s h p index eb es eh e = cc
     found (Some cells) None h p index eb es eh e = cc
@@ -111,7 +111,7 @@ module _ (ws : List (List ℕ)) where
         let t : Spells ws q = spells cells side hands eb es eh in
         subst (λ (x : Shogi). Spells ws x × IsValid x) j.1 (t, valid q t j.0)
 
-    faulty : (b : Option Cells) (s : Option Color) (h : Option Held) (fault : PositionFault) → option_and_then board_of (slice_get ws 0) ≡ b → option_and_then side_of (slice_get ws 1) ≡ s → option_and_then hands_of (slice_get ws 2) ≡ h
+    faulty : (b : Option Cells) (s : Option Color) (h : Option HandCounts) (fault : PositionFault) → option_and_then board_of (slice_get ws 0) ≡ b → option_and_then side_of (slice_get ws 1) ≡ s → option_and_then hands_of (slice_get ws 2) ≡ h
         → position_of_parts b s h end ≡ Err (Invalid fault) → (p : Shogi) × Spells ws p × (fault_of p ≡ Some fault)
     faulty None s h fault eb es eh e = cc
     faulty (Some cells) None h fault eb es eh e = cc
@@ -120,17 +120,17 @@ module _ (ws : List (List ℕ)) where
         let q : Shogi = parts cells hands side in
         (q, spells cells side hands eb es eh, judged-err (fault_of q) q end fault e)
 
-    no_board : (b : Option Cells) (s : Option Color) (h : Option Held) → option_and_then board_of (slice_get ws 0) ≡ b → position_of_parts b s h end ≡ Err BadBoard → HasBoard ws → ⊥
+    no_board : (b : Option Cells) (s : Option Color) (h : Option HandCounts) → option_and_then board_of (slice_get ws 0) ≡ b → position_of_parts b s h end ≡ Err BadBoard → HasBoard ws → ⊥
     no_board None s h eb e = none_with (slice_get ws 0) SpellsBoard board_of (board_word-read (slice_get ws 0)) eb
     no_board (Some cells) None h eb e = cc
     no_board (Some cells) (Some side) None eb e = cc
     no_board (Some cells) (Some side) (Some hands) eb e = absurd (not_of_text (fault_of (parts cells hands side)) (parts cells hands side) end BadBoard (λ f g. cc) e)
 
-    no_board-told : (b : Option Cells) (s : Option Color) (h : Option Held) → option_and_then board_of (slice_get ws 0) ≡ b → (HasBoard ws → ⊥) → position_of_parts b s h end ≡ Err BadBoard
+    no_board-told : (b : Option Cells) (s : Option Color) (h : Option HandCounts) → option_and_then board_of (slice_get ws 0) ≡ b → (HasBoard ws → ⊥) → position_of_parts b s h end ≡ Err BadBoard
     no_board-told None s h eb n = refl
     no_board-told (Some cells) s h eb n = absurd (n (some_with (slice_get ws 0) SpellsBoard cells (board_word (slice_get ws 0) cells eb)))
 
-    no_side : (b : Option Cells) (s : Option Color) (h : Option Held) → option_and_then board_of (slice_get ws 0) ≡ b → option_and_then side_of (slice_get ws 1) ≡ s → position_of_parts b s h end ≡ Err BadSide
+    no_side : (b : Option Cells) (s : Option Color) (h : Option HandCounts) → option_and_then board_of (slice_get ws 0) ≡ b → option_and_then side_of (slice_get ws 1) ≡ s → position_of_parts b s h end ≡ Err BadSide
         → HasBoard ws × (HasSide ws → ⊥)
     no_side None s h eb es e = cc
     no_side (Some cells) None h eb es e = (
@@ -140,13 +140,13 @@ module _ (ws : List (List ℕ)) where
     no_side (Some cells) (Some side) None eb es e = cc
     no_side (Some cells) (Some side) (Some hands) eb es e = absurd (not_of_text (fault_of (parts cells hands side)) (parts cells hands side) end BadSide (λ f g. cc) e)
 
-    no_side-told : (b : Option Cells) (s : Option Color) (h : Option Held) → option_and_then board_of (slice_get ws 0) ≡ b → option_and_then side_of (slice_get ws 1) ≡ s → HasBoard ws → (HasSide ws → ⊥)
+    no_side-told : (b : Option Cells) (s : Option Color) (h : Option HandCounts) → option_and_then board_of (slice_get ws 0) ≡ b → option_and_then side_of (slice_get ws 1) ≡ s → HasBoard ws → (HasSide ws → ⊥)
         → position_of_parts b s h end ≡ Err BadSide
     no_side-told None s h eb es has n = absurd (none_with (slice_get ws 0) SpellsBoard board_of (board_word-read (slice_get ws 0)) eb has)
     no_side-told (Some cells) None h eb es has n = refl
     no_side-told (Some cells) (Some side) h eb es has n = absurd (n (some_with (slice_get ws 1) (λ text side. text ≡ side_text side) side (side_word (slice_get ws 1) side es)))
 
-    no_hands : (b : Option Cells) (s : Option Color) (h : Option Held) → option_and_then board_of (slice_get ws 0) ≡ b → option_and_then side_of (slice_get ws 1) ≡ s → option_and_then hands_of (slice_get ws 2) ≡ h
+    no_hands : (b : Option Cells) (s : Option Color) (h : Option HandCounts) → option_and_then board_of (slice_get ws 0) ≡ b → option_and_then side_of (slice_get ws 1) ≡ s → option_and_then hands_of (slice_get ws 2) ≡ h
         → position_of_parts b s h end ≡ Err BadHand → HasBoard ws × HasSide ws × (HasHands ws → ⊥)
     no_hands None s h eb es eh e = cc
     no_hands (Some cells) None h eb es eh e = cc
@@ -157,7 +157,7 @@ module _ (ws : List (List ℕ)) where
     )
     no_hands (Some cells) (Some side) (Some hands) eb es eh e = absurd (not_of_text (fault_of (parts cells hands side)) (parts cells hands side) end BadHand (λ f g. cc) e)
 
-    no_hands-told : (b : Option Cells) (s : Option Color) (h : Option Held) → option_and_then board_of (slice_get ws 0) ≡ b → option_and_then side_of (slice_get ws 1) ≡ s → option_and_then hands_of (slice_get ws 2) ≡ h
+    no_hands-told : (b : Option Cells) (s : Option Color) (h : Option HandCounts) → option_and_then board_of (slice_get ws 0) ≡ b → option_and_then side_of (slice_get ws 1) ≡ s → option_and_then hands_of (slice_get ws 2) ≡ h
         → HasBoard ws → HasSide ws → (HasHands ws → ⊥) → position_of_parts b s h end ≡ Err BadHand
     no_hands-told None s h eb es eh has side n = absurd (none_with (slice_get ws 0) SpellsBoard board_of (board_word-read (slice_get ws 0)) eb has)
     no_hands-told (Some cells) None h eb es eh has side n = absurd (none_with (slice_get ws 1) (λ text side. text ≡ side_text side) side_of (side_word-read (slice_get ws 1)) es side)
@@ -171,7 +171,7 @@ module _ (text : List ℕ) (r : Result (Shogi × ℕ) SfenFault) (told : r ≡ p
   abbrev s : Option Color
   s = option_and_then side_of (slice_get (words text) 1)
 
-  abbrev h : Option Held
+  abbrev h : Option HandCounts
   h = option_and_then hands_of (slice_get (words text) 2)
 
   said : r ≡ position_of_parts b s h (end_of text)
@@ -182,7 +182,7 @@ module _ (text : List ℕ) (r : Result (Shogi × ℕ) SfenFault) (told : r ≡ p
   spelled-read p t =
       said ∙ (ap (λ (o : Option Cells). position_of_parts o s h (end_of text)) (board_word-read (slice_get (words text) 0) p.cells t.board)
       ∙ (ap (λ (o : Option Color). position_of_parts (Some p.cells) o h (end_of text)) (side_word-read (slice_get (words text) 1) p.side t.side)
-      ∙ ap (λ (o : Option Held). position_of_parts (Some p.cells) (Some p.side) o (end_of text)) (hands_word-read (slice_get (words text) 2) p.hands t.hands)))
+      ∙ ap (λ (o : Option HandCounts). position_of_parts (Some p.cells) (Some p.side) o (end_of text)) (hands_word-read (slice_get (words text) 2) p.hands t.hands)))
 
   pub valid-read : (p : Shogi) → Spells (words text) p → IsValid p → r ≡ Ok (p, end_of text)
   valid-read p t v = spelled-read p t ∙ ap (λ (o : Option PositionFault). judged o p (end_of text)) v.no_fault

@@ -18,7 +18,7 @@ use Rattle.shogi_core.specs.declared.piece.Kind.{Kind}
 use Rattle.shogi_core.specs.declared.piece.Role.{Role}
 use Rattle.shogi_core.specs.declared.piece.Role.TheVariants.{Pawn}
 use Rattle.shogi_core.specs.Movement.{Cells, piece_at}
-use Rattle.shogi_core.specs.Position.{Held, held}
+use Rattle.shogi_core.specs.Position.{HandCounts, held}
 use Rattle.shogi_sfen.specs.Words.{is_blank}
 use Rattle.shogi_sfen.specs.BoardTexts.{is_slash, ranks_of, both_joined, joined, squares_of, board_from, board_of}
 use Rattle.shogi_sfen.specs.HandTexts.{hands_from, hands_of, no_hands}
@@ -29,11 +29,11 @@ use Rattle.shogi_sfen.proofs.BoardLaws.{arranged}
 use Rattle.shogi_sfen.proofs.HandsBack.{added, held_back}
 
 -- all the counts of a side
-all_added : Color → (Kind → ℕ) → List Kind → Held → Held
+all_added : Color → (Kind → ℕ) → List Kind → HandCounts → HandCounts
 all_added color count [] hands = hands
 all_added color count (kind ∷ ks) hands = all_added color count ks (added hands color kind (count kind))
 
-kinds_back : (color : Color) (count : Kind → ℕ) → ((kind : Kind) → count kind < 100) → (ks : List Kind) (hands : Held) (rest : List ℕ)
+kinds_back : (color : Color) (count : Kind → ℕ) → ((kind : Kind) → count kind < 100) → (ks : List Kind) (hands : HandCounts) (rest : List ℕ)
     → hands_from hands None (flat_map (λ kind. held_text color kind (count kind)) ks ++ rest) ≡ hands_from (all_added color count ks hands) None rest
 unfolding all_added
 kinds_back color count small [] hands rest = refl
@@ -43,7 +43,7 @@ kinds_back color count small (kind ∷ ks) hands rest =
     ∙ (held_back color kind (count kind) hands (others ++ rest) (small kind) ∙ kinds_back color count small ks (added hands color kind (count kind)) rest)
 
 -- the counts of both sides, put in their places
-all_back : (hands : Held) → length hands ≡ 14 → all_added White (held hands White) kinds_in_text (all_added Black (held hands Black) kinds_in_text no_hands) ≡ hands
+all_back : (hands : HandCounts) → length hands ≡ 14 → all_added White (held hands White) kinds_in_text (all_added Black (held hands Black) kinds_in_text no_hands) ≡ hands
 unfolding all_added
 all_back [] e = absurd (omega arith)
 all_back (x0 ∷ []) e = absurd (omega arith)
@@ -62,7 +62,7 @@ all_back (x0 ∷ x1 ∷ x2 ∷ x3 ∷ x4 ∷ x5 ∷ x6 ∷ x7 ∷ x8 ∷ x9 ∷ 
 all_back (x0 ∷ x1 ∷ x2 ∷ x3 ∷ x4 ∷ x5 ∷ x6 ∷ x7 ∷ x8 ∷ x9 ∷ x10 ∷ x11 ∷ x12 ∷ x13 ∷ []) e = simp zero-add
 all_back (x0 ∷ x1 ∷ x2 ∷ x3 ∷ x4 ∷ x5 ∷ x6 ∷ x7 ∷ x8 ∷ x9 ∷ x10 ∷ x11 ∷ x12 ∷ x13 ∷ y ∷ more) e = absurd (omega arith)
 
-pub finished : (text : List ℕ) (hands : Held) → hands_from no_hands None text ≡ Some hands → hands_of (or_hyphen text) ≡ Some hands
+pub finished : (text : List ℕ) (hands : HandCounts) → hands_from no_hands None text ≡ Some hands → hands_of (or_hyphen text) ≡ Some hands
 unfolding hands_of piece_named
 finished [] hands e = e
 finished (b ∷ bs) hands e = elim (cases_Bool (bytes_eq (b ∷ bs) (codes "-"))) [
@@ -72,7 +72,7 @@ finished (b ∷ bs) hands e = elim (cases_Bool (bytes_eq (b ∷ bs) (codes "-"))
   | inr other ↦ cond-false (bytes_eq (b ∷ bs) (codes "-")) _ _ other ∙ e
 ]
 
-pub hands_of-hands_text : (hands : Held) → length hands ≡ 14 → ((color : Color) (kind : Kind) → held hands color kind < 100) → hands_of (hands_text hands) ≡ Some hands
+pub hands_of-hands_text : (hands : HandCounts) → length hands ≡ 14 → ((color : Color) (kind : Kind) → held hands color kind < 100) → hands_of (hands_text hands) ≡ Some hands
 unfolding hands_text
 hands_of-hands_text hands len small =
     let black : List ℕ = side_held_text hands Black in

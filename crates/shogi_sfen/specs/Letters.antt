@@ -7,12 +7,12 @@ use Rattle.shogi_core.specs.declared.piece.Kind.{Kind}
 use Rattle.shogi_core.specs.declared.piece.Role.{Role}
 use Rattle.shogi_core.specs.declared.piece.Role.TheVariants.{King, Pawn, Lance, Knight, Silver, Gold, Bishop, Rook, PromotedPawn, PromotedLance, PromotedKnight, PromotedSilver, Horse, Dragon}
 use Rattle.shogi_core.specs.declared.piece.Piece.{Piece}
-use Rattle.shogi_core.specs.Pieces.{number_of, all_kinds, kind_of}
+use Rattle.shogi_core.specs.Pieces.{kind_number, all_kinds, kind_of}
 use Rattle.shogi_sfen.specs.declared.byte.TheConstants.{KING, TO_LOWER_CASE, PLUS}
 
 -- the letter of a kind, for both sides
 abbrev pub letter_of : Kind → ℕ
-letter_of kind = slice_index (codes "PLNSGBR") (number_of kind)
+letter_of kind = slice_index (codes "PLNSGBR") (kind_number kind)
 
 -- the kind has this letter
 abbrev pub is_letter_of : ℕ → Kind → Bool

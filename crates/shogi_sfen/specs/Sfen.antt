@@ -6,7 +6,7 @@ use Rattle.shogi_core.specs.declared.piece.Color.{Color}
 use Rattle.shogi_core.specs.declared.piece.Color.TheVariants.{Black, White}
 use Rattle.shogi_core.specs.declared.validity.PositionFault.{PositionFault}
 use Rattle.shogi_core.specs.Movement.{Cells}
-use Rattle.shogi_core.specs.Position.{Shogi, Held}
+use Rattle.shogi_core.specs.Position.{Shogi, HandCounts}
 use Rattle.shogi_core.specs.Validity.{fault_of, number_of_fault}
 use Rattle.shogi_sfen.specs.Words.{is_blank, words, after_word, rest_after}
 use Rattle.shogi_sfen.specs.Numbers.{is_number}
@@ -25,7 +25,7 @@ judged None p end = Ok (p, end)
 judged (Some fault) p end = Err (Invalid fault)
 
 -- a position by its parts, and the first fault of those that are missing
-abbrev pub position_of_parts : Option Cells → Option Color → Option Held → ℕ → Result (Shogi × ℕ) SfenFault
+abbrev pub position_of_parts : Option Cells → Option Color → Option HandCounts → ℕ → Result (Shogi × ℕ) SfenFault
 position_of_parts None side hands end = Err BadBoard
 position_of_parts (Some cells) None hands end = Err BadSide
 position_of_parts (Some cells) (Some side) None end = Err BadHand

@@ -6,8 +6,8 @@ use Rattle.std.specs.Char.{is_ascii_digit}
 use Rattle.shogi_core.specs.declared.piece.Color.{Color}
 use Rattle.shogi_core.specs.declared.piece.Kind.{Kind}
 use Rattle.shogi_core.specs.Movement.{Cells}
-use Rattle.shogi_core.specs.Pieces.{is_same_color, number_of}
-use Rattle.shogi_core.specs.Position.{Shogi, Held, held}
+use Rattle.shogi_core.specs.Pieces.{is_same_color, kind_number}
+use Rattle.shogi_core.specs.Position.{Shogi, HandCounts, held}
 use Rattle.shogi_sfen.specs.declared.byte.TheConstants.{ZERO, SLASH}
 use Rattle.shogi_sfen.specs.Numbers.{number_written}
 use Rattle.shogi_sfen.specs.declared.board_text.RankItem.{RankItem}
@@ -54,14 +54,14 @@ entry_text entry = entry.digits ++ as_side entry.color (letter_of entry.kind) �
 
 -- the entry is of this side and kind
 abbrev pub is_entry_of : Color → Kind → Entry → Bool
-is_entry_of color kind entry = is_same_color entry.color color && number_of entry.kind == number_of kind
+is_entry_of color kind entry = is_same_color entry.color color && kind_number entry.kind == kind_number kind
 
 -- how many of a kind it gives a side
 abbrev pub count_in : Color → Kind → Entry → ℕ
 count_in color kind entry = cond (is_entry_of color kind entry) (count_written entry.digits) 0
 
 -- hands' text is a hyphen for nothing, or that of entries in any order, whose counts add up to what each side holds
-pub record SpellsHands (text : List ℕ) (hands : Held) : Type 0 where
+pub record SpellsHands (text : List ℕ) (hands : HandCounts) : Type 0 where
   pub places : length hands ≡ 14
   pub entries : List Entry
   pub each : AllByRecursion (λ entry. AreCountDigits entry.digits) entries
@@ -84,4 +84,4 @@ HasSide words = IsSomeAnd (slice_get words 1) (λ text. (side : Color) × (text 
 
 -- the third word is the text of some hands
 abbrev pub HasHands : List (List ℕ) → Type 0
-HasHands words = IsSomeAnd (slice_get words 2) (λ text. (hands : Held) × SpellsHands text hands)
+HasHands words = IsSomeAnd (slice_get words 2) (λ text. (hands : HandCounts) × SpellsHands text hands)

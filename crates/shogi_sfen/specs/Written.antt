@@ -6,7 +6,7 @@ use Rattle.shogi_core.specs.declared.piece.Color.TheVariants.{Black, White}
 use Rattle.shogi_core.specs.declared.piece.Kind.{Kind}
 use Rattle.shogi_core.specs.declared.piece.Kind.TheVariants as kinds
 use Rattle.shogi_core.specs.Movement.{Cells, piece_at}
-use Rattle.shogi_core.specs.Position.{Shogi, Held, held}
+use Rattle.shogi_core.specs.Position.{Shogi, HandCounts, held}
 use Rattle.shogi_sfen.specs.declared.byte.TheConstants.{ZERO, SPACE, SLASH}
 use Rattle.shogi_sfen.specs.Letters.{letter_of, as_side, piece_text}
 
@@ -50,7 +50,7 @@ abbrev pub kinds_in_text : List Kind
 kinds_in_text = kinds.Rook ∷ kinds.Bishop ∷ kinds.Gold ∷ kinds.Silver ∷ kinds.Knight ∷ kinds.Lance ∷ kinds.Pawn ∷ []
 
 -- what a side holds
-abbrev pub side_held_text : Held → Color → List ℕ
+abbrev pub side_held_text : HandCounts → Color → List ℕ
 side_held_text hands color = flat_map (λ kind. held_text color kind (held hands color kind)) kinds_in_text
 
 -- a hyphen for nothing
@@ -59,7 +59,7 @@ or_hyphen [] = codes "-"
 or_hyphen (byte ∷ bytes) = byte ∷ bytes
 
 -- Black's pieces in hand, and then White's
-unfoldable pub hands_text : Held → List ℕ
+unfoldable pub hands_text : HandCounts → List ℕ
 hands_text hands = or_hyphen (side_held_text hands Black ++ side_held_text hands White)
 
 -- the one written text: board, side and hands with a space between each two

@@ -16,7 +16,7 @@ pub returns-in-Some-clause-truth : goal.returns-in-Some-clause-truth
 returns-in-Some-clause-truth c =
     let deep : 0 < c.args.self.now.depth = omega arith in
     let g : _ = gone _ _ _ _ _ _ _ _ c.requires.over c.in_default.not-Cut c.args.self.now.known in
-    let r : IsFound c.args.self.now.position c.args.self.now.depth _ (Some c.in-Some.m) = found_best _ _ _ _ _ _ _ deep (legal_rising c.args.self.now.position 0) (sym (ap move_of c.code.ensures.code) ∙ c.code.ensures.back) g.none c.in-Some.is (gone_through _ _ _ _ _ _ _ deep g.covered) in
+    let r : IsFound c.args.self.now.position c.args.self.now.depth _ (Some c.in-Some.m) = found_best _ _ _ _ _ _ _ deep (legal_rising c.args.self.now.position 0) c.validity.ensures.back g.none c.in-Some.is (gone_through _ _ _ _ _ _ _ deep g.covered) in
     (omega (arith, ints, r.value_is), r.best_is ∙ sym c.in-Some.is)
 
 pub returns-then-can_move-clause-truth : goal.returns-then-can_move-clause-truth
