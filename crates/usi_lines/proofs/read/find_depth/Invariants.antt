@@ -1,7 +1,7 @@
 use Rattle.std.proofs.Common.{◌≡◌}
 use Rattle.shogi_sfen.specs.Words.{words}
-use Rattle.usi_lines.specs.Commands.{depth_of}
-use Rattle.usi_lines.proofs.option.find_depth.Given as goal
+use Rattle.usi_lines.specs.CommandLines.{depth_of}
+use Rattle.usi_lines.proofs.read.find_depth.Given as goal
 
 -- the word depth is not among the words so far
 abbrev pub invariant-loop-word : goal.invariant-loop-word
