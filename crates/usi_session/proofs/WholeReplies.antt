@@ -6,7 +6,8 @@ use Rattle.shogi_core.specs.declared.moves.Move.{Move}
 use Rattle.shogi_moves.specs.LegalMoves.{legal_moves}
 use Rattle.shogi_search.specs.Minimax.{value, line}
 use Rattle.shogi_sfen.specs.MoveTexts.{text_of}
-use Rattle.usi_lines.specs.Commands.{Command, Usi, IsReady, SetDepth, NewGame, Start, Sfen, BadPosition, Go, GoMate, Stop, PonderHit, GameOver, Quit, Other, command_of}
+use Rattle.usi_lines.specs.Commands.{Command, Usi, IsReady, SetDepth, NewGame, Start, Sfen, BadPosition, Go, GoMate, Stop, PonderHit, GameOver, Quit, Other}
+use Rattle.usi_lines.specs.CommandLines.{command_of}
 use Rattle.usi_lines.specs.Lines.{Line, Text, TooLong}
 use Rattle.usi_lines.specs.declared.command.Hold.{Hold}
 use Rattle.usi_lines.specs.declared.command.Hold.TheVariants.{Nothing, UntilStop, UntilHit}
@@ -14,7 +15,8 @@ use Rattle.usi_session.specs.declared.placing.Refusal.{Refusal}
 use Rattle.usi_session.specs.declared.placing.Refusal.TheVariants as refusals
 use Rattle.usi_session.specs.declared.state.Held.{Held}
 use Rattle.usi_session.specs.declared.state.State.{State}
-use Rattle.usi_session.specs.Texts.{score_text, moves_text, said_line, info_line, bestmove_line, bad_position, illegal_move}
+use Rattle.usi_session.specs.Options.{option_lines}
+use Rattle.usi_session.specs.Texts.{usi_reply, score_text, moves_text, said_line, info_line, bestmove_line, bad_position, illegal_move}
 use Rattle.usi_session.specs.Placing.{position_of_start, position_of_sfen}
 use Rattle.usi_session.specs.Going.{info_lines, infos, infos_of}
 use Rattle.usi_session.specs.Answer.{answer, placed, released, let_go, hit, ponder_hit, held_line, found}
@@ -57,6 +59,11 @@ bestmove_ends (Some best) (Some ponder) =
 bestmove_whole : (best ponder : Option Move) → AreWholeLines (bestmove_line best ponder)
 bestmove_whole best ponder = (bestmove_ends best ponder).ends 10
 
+usi_ends : EndsInLf usi_reply
+usi_ends =
+    after (codes "id name Shared Shogi Host\nid author Shared Shogi Host Team\n")
+    (after option_lines (after (codes "usiok") lf))
+
 bad_position-ends : (fault : ℕ) → EndsInLf (bad_position fault)
 bad_position-ends fault = after (codes "info string bad position ") (after (decimal fault) lf)
 
@@ -96,14 +103,14 @@ ponder_hit-whole s None = refl
 ponder_hit-whole s (Some held) = hit-whole s held held.until
 
 answer-whole : (s : State) (command : Command) → AreWholeLines (answer s command).bytes
-answer-whole s Usi = refl
+answer-whole s Usi = usi_ends.ends 10
 answer-whole s IsReady = refl
 answer-whole s (SetDepth depth) = refl
 answer-whole s NewGame = refl
 answer-whole s (Start rest) = placed-whole s (position_of_start rest)
 answer-whole s (Sfen rest) = placed-whole s (position_of_sfen rest)
 answer-whole s BadPosition = (bad_position-ends 0).ends 10
-answer-whole s (Go depth hold) = released-whole s (infos s.position (unwrap_or depth s.depth)) (found s.position (unwrap_or depth s.depth) hold) hold (infos_of-whole s.position (unwrap_or depth s.depth) (legal_moves s.position))
+answer-whole s (Go depth hold) = released-whole s (infos s.position (unwrap_or depth s.options.depth)) (found s.position (unwrap_or depth s.options.depth) hold) hold (infos_of-whole s.position (unwrap_or depth s.options.depth) (legal_moves s.position))
 answer-whole s GoMate = refl
 answer-whole s Stop = let_go-whole s s.held
 answer-whole s PonderHit = ponder_hit-whole s s.held

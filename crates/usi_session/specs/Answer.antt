@@ -10,6 +10,7 @@ use Rattle.usi_session.specs.declared.placing.Refusal.{Refusal}
 use Rattle.usi_session.specs.declared.placing.Refusal.TheVariants as refusals
 use Rattle.usi_session.specs.declared.state.Held.{Held}
 use Rattle.usi_session.specs.declared.state.State.{State}
+use Rattle.usi_session.specs.Options.{default_options}
 use Rattle.usi_session.specs.Placing.{position_of_start, position_of_sfen}
 use Rattle.usi_session.specs.Going.{first, second, infos}
 use Rattle.usi_session.specs.Texts.{usi_reply, ready_reply, no_mate_reply, bad_position, illegal_move, bestmove_line}
@@ -25,7 +26,7 @@ said s bytes = record { state = s; bytes = bytes }
 
 -- the state in which a session begins
 abbrev pub opening : State
-opening = record { position = start; depth = 3; held = None; is_over = false }
+opening = record { position = start; options = default_options; held = None; is_over = false }
 
 -- nothing is held any more
 abbrev pub dropped : State → State
@@ -75,12 +76,12 @@ ponder_hit s (Some held) = hit s held held.until
 abbrev pub answer : State → Command → Answer
 answer s Usi = said s usi_reply
 answer s IsReady = said s ready_reply
-answer s (SetDepth depth) = said (record s { depth = depth }) []
+answer s (SetDepth depth) = said (record s { options = record s.options { depth = depth } }) []
 answer s NewGame = said (record s { position = start; held = None }) []
 answer s (Start rest) = placed s (position_of_start rest)
 answer s (Sfen rest) = placed s (position_of_sfen rest)
 answer s BadPosition = said s (bad_position 0)
-answer s (Go depth hold) = gone s (unwrap_or depth s.depth) hold
+answer s (Go depth hold) = gone s (unwrap_or depth s.options.depth) hold
 answer s GoMate = said (dropped s) no_mate_reply
 answer s Stop = let_go s s.held
 answer s PonderHit = ponder_hit s s.held

@@ -1,3 +1,4 @@
+pub mod Options
 pub mod Texts
 pub mod Placing
 pub mod Going

@@ -1,6 +1,6 @@
 -- The replies of a session to a stream of bytes (USI).
 use Rattle.std.specs.Prelude.{ℕ, List, [], ◌∷◌, ◌++◌, Bool, true, false, None}
-use Rattle.usi_lines.specs.Commands.{command_of}
+use Rattle.usi_lines.specs.CommandLines.{command_of}
 use Rattle.usi_lines.specs.Lines.{Line, Text, TooLong, lines}
 use Rattle.usi_session.specs.declared.state.State.{State}
 use Rattle.usi_session.specs.Answer.{Answer, answer, said, opening}

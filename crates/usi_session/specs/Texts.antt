@@ -4,12 +4,12 @@ use Rattle.shogi_core.specs.declared.moves.Move.{Move}
 use Rattle.shogi_core.specs.Position.{Shogi}
 use Rattle.shogi_search.specs.Minimax.{value, line}
 use Rattle.shogi_sfen.specs.MoveTexts.{text_of}
+use Rattle.usi_session.specs.Options.{option_lines}
 
 -- what `usi` is answered with
 abbrev pub usi_reply : List ℕ
 usi_reply =
-    codes "id name Shared Shogi Host\n" ++ codes "id author Shared Shogi Host Team\n"
-    ++ codes "option name Depth type spin default 3 min 1 max 16\n" ++ codes "usiok\n"
+    codes "id name Shared Shogi Host\nid author Shared Shogi Host Team\n" ++ (option_lines ++ codes "usiok\n")
 
 -- what `isready` is answered with
 abbrev pub ready_reply : List ℕ

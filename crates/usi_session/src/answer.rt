@@ -3,7 +3,9 @@
 ghost use Rattle.std.specs.Prelude.{◌≡◌, ◌≤◌, ◌++◌, IfOk, OnOk, OnSome, unwrap_or, Result, None, true, false, []};
 ghost use Rattle.shogi_core.specs.Position.{Shogi};
 ghost use Rattle.usi_lines.specs.Seen.{meaning_of, line_of};
-ghost use Rattle.usi_lines.specs.Commands.{HasDepthInRange};
+ghost use Rattle.usi_lines.specs.declared.options.TheConstants.{DEPTH_MIN, DEPTH_MAX};
+ghost use Rattle.usi_lines.specs.Options.{IsInRange};
+ghost use Rattle.usi_session.specs.Options.{AreInRange};
 ghost use Rattle.usi_session.specs.Answer.{answer, placed, gone, released, let_go, ponder_hit};
 ghost use Rattle.usi_session.specs.Costs.{cost_of_command, cost_to};
 ghost use Rattle.usi_session.specs.Replies.{answer_to};
@@ -67,14 +69,14 @@ fn go<A: Allocator + Copy>(
     depth: u8,
     hold: Hold,
 ) -> Result<Option<Going<A>>, AllocError>
-    requires low { 1 ≤ depth }
-    requires high { depth ≤ 16 }
+    requires least { DEPTH_MIN ≤ depth }
+    requires most { depth ≤ DEPTH_MAX }
     ensures bytes { IfOk result (λ going. with_rest out.new.items state.new going ≡ out.old.items ++ (gone state.old depth hold).bytes) }
     ensures state { IfOk result (λ going. (goes_on_if state.new going).state ≡ (gone state.old depth hold).state) }
     ensures load { IfOk result (λ going. load_of_if going ≤ cost state.old.position depth) }
     ensures turns { IfOk result (λ going. turns_of_if going ≤ 300) }
     ensures quiet { IfOk result (λ going. OnSome going (out.new.items ≡ out.old.items)) }
-    ensures depth { OnOk result (state.new.depth ≡ state.old.depth) }
+    ensures options { OnOk result (state.new.options ≡ state.old.options) }
     ensures alive { OnOk result (state.new.is_over ≡ state.old.is_over) }
 {
     if has_legal(&state.position) {
@@ -124,22 +126,20 @@ pub fn answer<A: Allocator + Copy>(
     state: &mut State,
     command: Command<'_>,
 ) -> Result<Option<Going<A>>, AllocError>
-    requires low { 1 ≤ state.old.depth }
-    requires high { state.old.depth ≤ 16 }
-    requires depth { HasDepthInRange (meaning_of command) }
+    requires options { AreInRange state.old.options }
+    requires range { IsInRange (meaning_of command) }
     ensures bytes { IfOk result (λ going. with_rest out.new.items state.new going ≡ out.old.items ++ (answer state.old (meaning_of command.entry)).bytes) }
     ensures state { IfOk result (λ going. (goes_on_if state.new going).state ≡ (answer state.old (meaning_of command.entry)).state) }
     ensures load { IfOk result (λ going. load_of_if going ≤ cost_of_command state.old (meaning_of command.entry)) }
     ensures turns { IfOk result (λ going. turns_of_if going ≤ 300) }
     ensures quiet { IfOk result (λ going. OnSome going (out.new.items ≡ out.old.items)) }
     ensures over { IfOk result (λ going. state.old.is_over ≡ false → state.new.is_over ≡ true → going ≡ None) }
-    ensures low { OnOk result (1 ≤ state.new.depth) }
-    ensures high { OnOk result (state.new.depth ≤ 16) }
+    ensures options { OnOk result (AreInRange state.new.options) }
 {
     match command {
         Command::Usi => write_usi(out)?,
         Command::IsReady => out.extend_from_slice(b"readyok\n")?,
-        Command::SetDepth(depth) => state.depth = depth,
+        Command::SetDepth(depth) => state.options.depth = depth,
         Command::NewGame => {
             state.position = Position::start();
             state.held = None;
@@ -148,7 +148,7 @@ pub fn answer<A: Allocator + Copy>(
         Command::Sfen(text) => place(out, state, position_of_sfen(text))?,
         Command::BadPosition => write_bad_position(out, 0)?,
         Command::Go { depth, hold } => {
-            let depth = depth.unwrap_or(state.depth);
+            let depth = depth.unwrap_or(state.options.depth);
             return go(alloc, out, state, depth, hold);
         }
         Command::GoMate => {
@@ -174,16 +174,14 @@ pub fn answer_line<A: Allocator + Copy>(
     state: &mut State,
     line: Line<'_>,
 ) -> Result<Option<Going<A>>, AllocError>
-    requires low { 1 ≤ state.old.depth }
-    requires high { state.old.depth ≤ 16 }
+    requires options { AreInRange state.old.options }
     ensures bytes { IfOk result (λ going. with_rest out.new.items state.new going ≡ out.old.items ++ (answer_to state.old (line_of line.entry)).bytes) }
     ensures state { IfOk result (λ going. (goes_on_if state.new going).state ≡ (answer_to state.old (line_of line.entry)).state) }
     ensures load { IfOk result (λ going. load_of_if going ≤ cost_to state.old (line_of line.entry)) }
     ensures turns { IfOk result (λ going. turns_of_if going ≤ 300) }
     ensures quiet { IfOk result (λ going. OnSome going (out.new.items ≡ out.old.items)) }
     ensures over { IfOk result (λ going. state.old.is_over ≡ false → state.new.is_over ≡ true → going ≡ None) }
-    ensures low { OnOk result (1 ≤ state.new.depth) }
-    ensures high { OnOk result (state.new.depth ≤ 16) }
+    ensures options { OnOk result (AreInRange state.new.options) }
 {
     match line {
         Line::Text(text) => answer(alloc, out, state, read_command(text)),

@@ -2,6 +2,7 @@
 
 ghost use Rattle.std.specs.Prelude.{◌≡◌, ◌≢◌, ◌≤◌, ◌<◌, ◌+◌, ◌*◌, ◌-◌, ◌++◌, ◌==◌, nat_lt, IfOk, IfSome, IfNone, OnSome, OnOk};
 ghost use Rattle.shogi_search.specs.Minimax.{value, best};
+ghost use Rattle.usi_lines.specs.declared.options.TheConstants.{DEPTH_MIN, DEPTH_MAX};
 ghost use Rattle.usi_session.specs.Answer.{found};
 ghost use Rattle.usi_session.specs.Going.{first, second};
 ghost use Rattle.usi_session.specs.Texts.{info_line};
@@ -58,10 +59,10 @@ fn second(moves: &[Move]) -> Option<Move>
 }
 
 impl<A: Allocator> Going<A> {
-    /// A `go` at its first depth, from 1 to 16.
+    /// A `go` at its first depth.
     pub fn start(alloc: A, p: &Position, depth: u8, hold: Hold) -> Result<Going<A>, AllocError>
-        requires low { 1 ≤ depth }
-        requires high { depth ≤ 16 }
+        requires least { DEPTH_MIN ≤ depth }
+        requires most { depth ≤ DEPTH_MAX }
         ensures { IfOk result (λ going. going ≡ at_depth p.now depth hold 0) }
     {
         let search = Box::new(alloc, Search::start(p, 1))?;

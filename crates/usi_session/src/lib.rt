@@ -3,6 +3,7 @@
 
 mod answer;
 mod going;
+mod options;
 mod output;
 mod placing;
 mod session;

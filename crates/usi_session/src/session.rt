@@ -9,6 +9,7 @@ ghost use Rattle.usi_lines.specs.Lines.{ahead, lines};
 
 use crate::answer::{answer_line, release};
 use crate::going::Going;
+use crate::options::Options;
 use crate::output::Output;
 use crate::state::State;
 use shogi_core::Position;
@@ -42,15 +43,14 @@ pub struct Session<A: Allocator + Copy> {
 }
 
 impl<A: Allocator + Copy> Model for Session<A> {
-    ghost use Rattle.std.specs.Prelude.{◌≤◌};
-    ghost use Rattle.usi_lines.specs.Commands.{IsDepth};
+    ghost use Rattle.usi_session.specs.Options.{AreInRange};
     ghost use Rattle.usi_session.specs.Due.{Talk};
 
     ghost Value = { Talk };
 
     ghost view = { λ s. record { state = s.state; going = s.going; queued = s.output; input = s.input } };
 
-    ghost invariant = { λ s. IsDepth s.state.depth };
+    ghost invariant = { λ s. AreInRange s.state.options };
 }
 
 impl<A: Allocator + Copy> Session<A> {
@@ -66,7 +66,7 @@ impl<A: Allocator + Copy> Session<A> {
             output: Output::new(alloc),
             state: State {
                 position: Position::start(),
-                depth: 3,
+                options: Options::new(),
                 held: None,
                 is_over: false,
             },

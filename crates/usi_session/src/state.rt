@@ -1,5 +1,6 @@
 //! What a session knows between two lines.
 
+use crate::options::Options;
 use shogi_core::{Move, Position};
 use usi_lines::Hold;
 
@@ -11,11 +12,11 @@ pub struct Held {
     pub until: Hold,
 }
 
-/// The position, the depth of `go` from 1 to 16, the held `bestmove`, and whether the session is over.
+/// The position, the options, the held `bestmove`, and whether the session is over.
 #[derive(Clone, Copy, Debug)]
 pub struct State {
     pub position: Position,
-    pub depth: u8,
+    pub options: Options,
     pub held: Option<Held>,
     pub is_over: bool,
 }

@@ -4,13 +4,14 @@ ghost use Rattle.std.specs.Prelude.{◌≡◌, ◌++◌, ◌+◌, OnOk, codes, d
 ghost use Rattle.shogi_sfen.specs.MoveTexts.{text_of};
 ghost use Rattle.usi_session.specs.Texts.{usi_reply, no_mate_reply, bad_position, illegal_move, size_text, score_text, moves_text, said_line, bestmove_line};
 
+use crate::options::write_options;
 use itoa::Buffer;
 use shogi_core::Move;
 use shogi_sfen::write_move;
 use std::alloc::{AllocError, Allocator};
 
 /// Appends the parts, one after another.
-fn write_parts<A: Allocator>(out: &mut Vec<u8, A>, parts: &[&[u8]]) -> Result<(), AllocError>
+pub fn write_parts<A: Allocator>(out: &mut Vec<u8, A>, parts: &[&[u8]]) -> Result<(), AllocError>
     ensures { OnOk result (out.new.items ≡ out.old.items ++ flat_map (λ part. part.now) parts.now) }
 {
     for part in parts {
@@ -20,12 +21,14 @@ fn write_parts<A: Allocator>(out: &mut Vec<u8, A>, parts: &[&[u8]]) -> Result<()
 }
 
 /// Names the program and its options (USI, usi).
+#[tactic(auto, using(crate::proofs::Appends::after_three))]
 pub fn write_usi<A: Allocator>(out: &mut Vec<u8, A>) -> Result<(), AllocError>
     ensures { OnOk result (out.new.items ≡ out.old.items ++ usi_reply) }
 {
-    out.extend_from_slice(
-        b"id name Shared Shogi Host\nid author Shared Shogi Host Team\noption name Depth type spin default 3 min 1 max 16\nusiok\n",
-    )
+    out.extend_from_slice(b"id name Shared Shogi Host\nid author Shared Shogi Host Team\n")?;
+    write_options(out)?;
+    out.extend_from_slice(b"usiok\n")?;
+    Ok(())
 }
 
 /// Says that there is no mate solver (USI, checkmate).

@@ -10,8 +10,8 @@ pub invariant_of-self : goal.invariant_of-self
 invariant_of-self g c =
     let s = c.self.inside in
     record {
-      low = c.self.invariant.low;
-      high = c.self.invariant.high;
+      left = c.self.invariant.left;
+      most = c.self.invariant.most;
       within = let h = c.self.invariant.within in omega arith;
       started = λ h. absurd (omega arith);
       valued = λ h. search rules;
@@ -29,8 +29,8 @@ pub invariant_of-self-then-self-gt0 : goal.invariant_of-self-then-self-gt0
 invariant_of-self-then-self-gt0 g c =
     let s = c.self.inside in
     record {
-      low = c.self.invariant.low;
-      high = c.self.invariant.high;
+      left = c.self.invariant.left;
+      most = c.self.invariant.most;
       within = let h = c.self.invariant.within in let p : 0 < s.plies = search rules in rw c.push.ensures.items (omega (arith, length-append c.self.inside.moves.items (c.in-Some.m ∷ [])));
       started = λ h. absurd (let w = c.self.invariant.within in omega arith);
       valued = λ h. search rules;
@@ -43,8 +43,8 @@ pub invariant_of-self-else-self-gt0 : goal.invariant_of-self-else-self-gt0
 invariant_of-self-else-self-gt0 g c =
     let s = c.self.inside in
     record {
-      low = c.self.invariant.low;
-      high = c.self.invariant.high;
+      left = c.self.invariant.left;
+      most = c.self.invariant.most;
       within = let h = c.self.invariant.within in let p : 0 < s.plies = search rules in rw c.push.ensures.items (omega (arith, length-append c.self.inside.moves.items (c.in-Some.m ∷ [])));
       started = λ h. absurd (omega arith);
       valued = λ h. search rules;
