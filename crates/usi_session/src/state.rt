@@ -6,7 +6,7 @@ use usi_lines::Hold;
 
 /// A `bestmove` that is held back, and until when.
 #[derive(Clone, Copy, Debug, PartialEq, Eq)]
-pub struct Held {
+pub struct HeldBestmove {
     pub best: Option<Move>,
     pub ponder: Option<Move>,
     pub until: Hold,
@@ -17,6 +17,6 @@ pub struct Held {
 pub struct State {
     pub position: Position,
     pub options: Options,
-    pub held: Option<Held>,
+    pub held: Option<HeldBestmove>,
     pub is_over: bool,
 }
