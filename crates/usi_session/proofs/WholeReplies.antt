@@ -1,5 +1,5 @@
 -- Every reply is whole lines.
-use Rattle.std.proofs.Common.{◌≡◌, ℕ, ◌+◌, ◌-◌, ℤ, zero, suc, List, [], ◌∷◌, ◌++◌, refl, sym, ap, ◌∙◌, append_assoc, append-nil, Option, Some, None, Result, Ok, Err}
+use Rattle.std.proofs.Common.{◌≡◌, ℕ, zero, suc, List, [], ◌∷◌, ◌++◌, refl, sym, ap, ◌∙◌, append_assoc, append-nil, Option, Some, None, Result, Ok, Err}
 use Rattle.std.specs.Prelude.{codes, decimal, OnSome, unwrap_or}
 use Rattle.shogi_core.specs.Position.{Shogi}
 use Rattle.shogi_core.specs.declared.moves.Move.{Move}
@@ -16,7 +16,7 @@ use Rattle.usi_session.specs.declared.position_command.Refusal.TheVariants as re
 use Rattle.usi_session.specs.declared.state.HeldBestmove.{HeldBestmove}
 use Rattle.usi_session.specs.declared.state.State.{State}
 use Rattle.usi_session.specs.Options.{option_lines}
-use Rattle.usi_session.specs.Texts.{usi_reply, score_text, moves_text, info_text, info_line, bestmove_line, bad_position, illegal_move}
+use Rattle.usi_session.specs.Texts.{usi_reply, score_text, moves_text, info_line, bestmove_line, bad_position, illegal_move}
 use Rattle.usi_session.specs.PositionCommand.{position_of_start, position_of_sfen}
 use Rattle.usi_session.specs.GoCommand.{info_lines, infos, infos_of}
 use Rattle.usi_session.specs.Answer.{answer, answer_position, give_bestmove, answer_stop, answer_ponderhit_held, answer_ponderhit, held_line, bestmove_at}

@@ -1,9 +1,8 @@
 -- What `go` says of a position (USI, go; a fixed depth is an own choice).
-use Rattle.std.specs.Prelude.{ℕ, zero, suc, ◌-◌, List, [], ◌∷◌, ◌++◌, Option, slice_get}
+use Rattle.std.specs.Prelude.{ℕ, zero, suc, List, [], ◌∷◌, ◌++◌, Option, slice_get}
 use Rattle.shogi_core.specs.declared.moves.Move.{Move}
 use Rattle.shogi_core.specs.Position.{Shogi}
 use Rattle.shogi_moves.specs.LegalMoves.{legal_moves}
-use Rattle.shogi_search.specs.Minimax.{line, then_line}
 use Rattle.usi_session.specs.Texts.{info_line}
 
 -- the move to play
