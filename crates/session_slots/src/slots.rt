@@ -78,9 +78,9 @@ impl<A: Allocator + Copy> Slots<A> {
         self.slots.len() >= self.max || self.next == u64::MAX
     }
 
-    /// Opens a session at its start: the opening position, Depth 3, nothing held. Its generation is
-    /// the number of sessions opened before it, so no id comes twice. `Full` is looked at first;
-    /// a refusal uses no generation.
+    /// Opens a session at its start: the opening position, each option at its default, nothing held.
+    /// Its generation is the number of sessions opened before it, so no id comes twice. `Full` is
+    /// looked at first; a refusal uses no generation.
     pub fn open(&mut self) -> Result<SessionId, SlotFault>
         ensures opened { IfOk result (λ id. Opens self.old self.new id) }
         ensures full { (result ≡ Err SlotFault.Full) ↔ IsFull self.old }

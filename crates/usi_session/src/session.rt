@@ -56,7 +56,8 @@ impl<A: Allocator + Copy> Model for Session<A> {
 }
 
 impl<A: Allocator + Copy> Session<A> {
-    /// A session at its start: the opening position, Depth 3, nothing held. It takes no memory.
+    /// A session at its start: the opening position, each option at its default, nothing held. It takes
+    /// no memory.
     pub fn new(alloc: A) -> Session<A>
         ensures opening { result ≡ new_session }
         ensures due { (x : List ℕ) → due result x ≡ replies x }
