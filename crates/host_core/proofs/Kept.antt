@@ -4,7 +4,7 @@ use Rattle.std.proofs.Common.{◌≡◌, ℕ, true, false, List, Option, Some, N
 use Rattle.session_slots.specs.declared.id.SessionId.{SessionId}
 use Rattle.session_slots.specs.Slots.{find, with_session}
 use Rattle.session_slots.proofs.Finds.{find-with_session-other, with_session-same}
-use Rattle.usi_session.specs.Due.{Talk}
+use Rattle.usi_session.specs.Due.{SessionView}
 use Rattle.host_core.specs.declared.event.HostFault.{HostFault}
 use Rattle.host_core.specs.declared.event.HostFault.TheVariants.{Full, OutOfMemory, UnknownSession, NotReady}
 use Rattle.host_core.specs.Events.{Event, Open, Feed, Work, Take, Close, Outcome, Opened, Done, Worked, Gave, Refused}
@@ -15,11 +15,11 @@ use Rattle.host_core.specs.Kept.{names, is_refused}
 use Rattle.host_core.specs.Seen.{passed_of}
 use Rattle.host_core.proofs.Ids.{other_id}
 
-on_other : (goes : Talk → Outcome → Talk → Type 0) (old new : HostState) (at id : SessionId) (o : Outcome) (found : Option Talk) → find old.slots at ≡ found → is_same_id at id ≡ false → OnSession goes old at found o new → find new.slots id ≡ find old.slots id
+on_other : (goes : SessionView → Outcome → SessionView → Type 0) (old new : HostState) (at id : SessionId) (o : Outcome) (found : Option SessionView) → find old.slots at ≡ found → is_same_id at id ≡ false → OnSession goes old at found o new → find new.slots id ≡ find old.slots id
 on_other goes old new at id o None e n u = ap (λ (h : HostState). find h.slots id) u.same
 on_other goes old new at id o (Some s) e n c = ap (λ q. find q id) c.slots_are ∙ find-with_session-other old.slots at id s c.after e (other_id at id n)
 
-close_other : (old new : HostState) (at id : SessionId) (o : Outcome) (found : Option Talk) → is_same_id at id ≡ false → IsClosed old at found o new → find new.slots id ≡ find old.slots id
+close_other : (old new : HostState) (at id : SessionId) (o : Outcome) (found : Option SessionView) → is_same_id at id ≡ false → IsClosed old at found o new → find new.slots id ≡ find old.slots id
 close_other old new at id o None n u = ap (λ (h : HostState). find h.slots id) u.same
 close_other old new at id o (Some s) n c = c.others id (other_id at id n)
 
@@ -35,7 +35,7 @@ open_other old new id (Refused NotReady) n p = absurd p
 
 pub keeps_others : (old new : HostState) (event : Event) (o : Outcome) → Stepped old event o new → (id : SessionId) → names id event o ≡ false → find new.slots id ≡ find old.slots id
 keeps_others old new Open o p id n = open_other old new id o n p
-keeps_others old new (Feed at piece) o p id n = on_other (Feeds piece) old new at id o (find old.slots at) refl n p.0
+keeps_others old new (Feed at chunk) o p id n = on_other (Feeds chunk) old new at id o (find old.slots at) refl n p.0
 keeps_others old new (Work at budget) o p id n = on_other (Works budget) old new at id o (find old.slots at) refl n p
 keeps_others old new (Take at m) o p id n = on_other (Takes m) old new at id o (find old.slots at) refl n p.0
 keeps_others old new (Close at) o p id n = close_other old new at id o (find old.slots at) n p
@@ -43,8 +43,8 @@ keeps_others old new (Close at) o p id n = close_other old new at id o (find old
 same_host : (old new : HostState) → new.table ≡ old.table → new.slots ≡ old.slots → new ≡ old
 same_host old new e f = λ k. record { table = e k; slots = f k }
 
-same_slots : (goes : Talk → Outcome → Talk → Type 0) (old new : HostState) (at : SessionId) (s : Talk) (o : Outcome) → find old.slots at ≡ Some s → (c : Changed goes old at s o new) → c.after ≡ s → new.table ≡ old.table → new ≡ old
-same_slots goes old new at s o e c a t = same_host old new t (c.slots_are ∙ (ap (λ (x : Talk). with_session old.slots at x) a ∙ with_session-same old.slots at s e))
+same_slots : (goes : SessionView → Outcome → SessionView → Type 0) (old new : HostState) (at : SessionId) (s : SessionView) (o : Outcome) → find old.slots at ≡ Some s → (c : Changed goes old at s o new) → c.after ≡ s → new.table ≡ old.table → new ≡ old
+same_slots goes old new at s o e c a t = same_host old new t (c.slots_are ∙ (ap (λ (x : SessionView). with_session old.slots at x) a ∙ with_session-same old.slots at s e))
 
 open_refused : (old new : HostState) (fault : HostFault) → IsOpened old (Refused fault) new → new ≡ old
 open_refused old new Full p = p.1
@@ -52,28 +52,28 @@ open_refused old new OutOfMemory p = p.1
 open_refused old new UnknownSession p = absurd p
 open_refused old new NotReady p = absurd p
 
-feed_refused : (old new : HostState) (at : SessionId) (piece : List ℕ) (fault : HostFault) (found : Option Talk) → find old.slots at ≡ found → OnSession (Feeds piece) old at found (Refused fault) new → new.table ≡ old.table → new ≡ old
-feed_refused old new at piece fault None e u t = u.same
-feed_refused old new at piece Full (Some s) e c t = absurd c.went
-feed_refused old new at piece UnknownSession (Some s) e c t = absurd c.went
-feed_refused old new at piece OutOfMemory (Some s) e c t = same_slots (Feeds piece) old new at s (Refused OutOfMemory) e c c.went.1 t
-feed_refused old new at piece NotReady (Some s) e c t = same_slots (Feeds piece) old new at s (Refused NotReady) e c c.went.1 t
+feed_refused : (old new : HostState) (at : SessionId) (chunk : List ℕ) (fault : HostFault) (found : Option SessionView) → find old.slots at ≡ found → OnSession (Feeds chunk) old at found (Refused fault) new → new.table ≡ old.table → new ≡ old
+feed_refused old new at chunk fault None e u t = u.same
+feed_refused old new at chunk Full (Some s) e c t = absurd c.went
+feed_refused old new at chunk UnknownSession (Some s) e c t = absurd c.went
+feed_refused old new at chunk OutOfMemory (Some s) e c t = same_slots (Feeds chunk) old new at s (Refused OutOfMemory) e c c.went.1 t
+feed_refused old new at chunk NotReady (Some s) e c t = same_slots (Feeds chunk) old new at s (Refused NotReady) e c c.went.1 t
 
-take_refused : (old new : HostState) (at : SessionId) (n : ℕ) (fault : HostFault) (found : Option Talk) → find old.slots at ≡ found → OnSession (Takes n) old at found (Refused fault) new → new.table ≡ old.table → new ≡ old
+take_refused : (old new : HostState) (at : SessionId) (n : ℕ) (fault : HostFault) (found : Option SessionView) → find old.slots at ≡ found → OnSession (Takes n) old at found (Refused fault) new → new.table ≡ old.table → new ≡ old
 take_refused old new at n fault None e u t = u.same
 take_refused old new at n Full (Some s) e c t = absurd c.went
 take_refused old new at n UnknownSession (Some s) e c t = absurd c.went
 take_refused old new at n OutOfMemory (Some s) e c t = same_slots (Takes n) old new at s (Refused OutOfMemory) e c c.went.1 t
 take_refused old new at n NotReady (Some s) e c t = same_slots (Takes n) old new at s (Refused NotReady) e c c.went.1 t
 
-close_refused : (old new : HostState) (at : SessionId) (fault : HostFault) (found : Option Talk) → IsClosed old at found (Refused fault) new → new ≡ old
+close_refused : (old new : HostState) (at : SessionId) (fault : HostFault) (found : Option SessionView) → IsClosed old at found (Refused fault) new → new ≡ old
 close_refused old new at fault None u = u.same
 close_refused old new at fault (Some s) c = (let e : Refused fault ≡ Done = c.done in absurd (cc))
 
 -- what is refused, and is no `Work`, leaves all as it was
 pub refused_same : (old new : HostState) (event : Event) (o : Outcome) → Stepped old event o new → is_refused event o ≡ true → new ≡ old
 refused_same old new Open (Refused fault) p r = open_refused old new fault p
-refused_same old new (Feed at piece) (Refused fault) p r = feed_refused old new at piece fault (find old.slots at) refl p.0 p.1
+refused_same old new (Feed at chunk) (Refused fault) p r = feed_refused old new at chunk fault (find old.slots at) refl p.0 p.1
 refused_same old new (Take at n) (Refused fault) p r = take_refused old new at n fault (find old.slots at) refl p.0 p.1
 refused_same old new (Close at) (Refused fault) p r = close_refused old new at fault (find old.slots at) p
 refused_same old new (Work at budget) o p r = absurd (cc)
@@ -81,10 +81,10 @@ refused_same old new Open (Opened id) p r = absurd (cc)
 refused_same old new Open Done p r = absurd (cc)
 refused_same old new Open (Worked steps) p r = absurd (cc)
 refused_same old new Open (Gave bytes) p r = absurd (cc)
-refused_same old new (Feed at piece) (Opened id) p r = absurd (cc)
-refused_same old new (Feed at piece) Done p r = absurd (cc)
-refused_same old new (Feed at piece) (Worked steps) p r = absurd (cc)
-refused_same old new (Feed at piece) (Gave bytes) p r = absurd (cc)
+refused_same old new (Feed at chunk) (Opened id) p r = absurd (cc)
+refused_same old new (Feed at chunk) Done p r = absurd (cc)
+refused_same old new (Feed at chunk) (Worked steps) p r = absurd (cc)
+refused_same old new (Feed at chunk) (Gave bytes) p r = absurd (cc)
 refused_same old new (Take at n) (Opened id) p r = absurd (cc)
 refused_same old new (Take at n) Done p r = absurd (cc)
 refused_same old new (Take at n) (Worked steps) p r = absurd (cc)

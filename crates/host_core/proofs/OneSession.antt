@@ -4,7 +4,7 @@ use Rattle.std.specs.Prelude.{IsSome}
 use Rattle.std.proofs.lemmas.Bool.{or_cases, or_from, both_ways}
 use Rattle.session_slots.specs.declared.id.SessionId.{SessionId}
 use Rattle.session_slots.specs.Slots.{find}
-use Rattle.usi_session.specs.Due.{Talk, due, owed}
+use Rattle.usi_session.specs.Due.{SessionView, due, owed}
 use Rattle.usi_session.specs.Replies.{replies}
 use Rattle.usi_session.proofs.Settled.{due-settled}
 use Rattle.usi_lines.specs.Lines.{ahead}
@@ -23,18 +23,18 @@ pub record IsGone (id : SessionId) (steps : List Step) (end : HostState) : Type 
   pub none : find end.slots id ≡ None
 
 -- a step of an id that is not open, and not the next one
-record StaysGone (own_ taken_ : List ℕ) (opened : Bool) (new : Option Talk) : Type 0 where
+record StaysGone (own_ taken_ : List ℕ) (opened : Bool) (new : Option SessionView) : Type 0 where
   pub no_own : own_ ≡ []
   pub no_taken : taken_ ≡ []
   pub no_open : opened ≡ false
   pub none : new ≡ None
 
-stays_gone : (own_ taken_ : List ℕ) (opened : Bool) (old new : Option Talk) → old ≡ None → (opened ≡ true → ⊥) → Sees own_ taken_ opened old new → StaysGone own_ taken_ opened new
+stays_gone : (own_ taken_ : List ℕ) (opened : Bool) (old new : Option SessionView) → old ≡ None → (opened ≡ true → ⊥) → Sees own_ taken_ opened old new → StaysGone own_ taken_ opened new
 stays_gone o g b None None e f s = record { no_own = s.0; no_taken = s.1; no_open = s.2; none = refl }
 stays_gone o g b None (Some t) e f s = absurd (f s.2)
 stays_gone o g b (Some t) new e f s = absurd (cc)
 
-gone_more : (id : SessionId) (step : Step) (rest : List Step) (end : HostState) (mid : Option Talk) → StaysGone (own_by id step.event step.outcome) (taken_by id step.event step.outcome) (opens id step.event step.outcome) mid → IsGone id rest end → IsGone id (step ∷ rest) end
+gone_more : (id : SessionId) (step : Step) (rest : List Step) (end : HostState) (mid : Option SessionView) → StaysGone (own_by id step.event step.outcome) (taken_by id step.event step.outcome) (opens id step.event step.outcome) mid → IsGone id rest end → IsGone id (step ∷ rest) end
 gone_more id step rest end mid a b = record {
   no_own = rw (a.no_own, b.no_own) refl;
   no_taken = rw (a.no_taken, b.no_taken) refl;
@@ -53,22 +53,22 @@ gone old new id (step ∷ rest) e h r =
     gone_more id step rest new (find r.0.slots id) a (gone r.0 new id rest a.none (omega arith) r.2)
 
 -- one step more before it
-ends_more : (owes more : List ℕ → List ℕ) (own_ taken_ rest_own rest_taken : List ℕ) (now : Option Talk) → ((x : List ℕ) → taken_ ++ more x ≡ owes (own_ ++ x)) → EndsFrom more rest_own rest_taken now → EndsFrom owes (own_ ++ rest_own) (taken_ ++ rest_taken) now
+ends_more : (owes more : List ℕ → List ℕ) (own_ taken_ rest_own rest_taken : List ℕ) (now : Option SessionView) → ((x : List ℕ) → taken_ ++ more x ≡ owes (own_ ++ x)) → EndsFrom more rest_own rest_taken now → EndsFrom owes (own_ ++ rest_own) (taken_ ++ rest_taken) now
 ends_more owes more own_ taken_ rest_own rest_taken None h (rest, e) =
     (rest, append_assoc taken_ rest_taken rest ∙ (ap (λ xs. taken_ ++ xs) e ∙ h rest_own))
 ends_more owes more own_ taken_ rest_own rest_taken (Some t) h e = λ x.
     append_assoc taken_ rest_taken (due t x) ∙ (ap (λ xs. taken_ ++ xs) (e x) ∙ (h (rest_own ++ x) ∙ ap owes (sym (append_assoc own_ rest_own x))))
 
 -- of what a session owed its own bytes were answered; it is not opened again
-pub record Goes (id : SessionId) (owes : List ℕ → List ℕ) (steps : List Step) (now : Option Talk) : Type 0 where
+pub record Goes (id : SessionId) (owes : List ℕ → List ℕ) (steps : List Step) (now : Option SessionView) : Type 0 where
   pub ends : EndsFrom owes (own id steps) (taken id steps) now
   pub no_open : is_opened id steps ≡ false
 
-ends_closed : (s : Talk) (own_ taken_ : List ℕ) (now : Option Talk) → own_ ≡ [] → taken_ ≡ [] → now ≡ None → EndsFrom (due s) own_ taken_ now
+ends_closed : (s : SessionView) (own_ taken_ : List ℕ) (now : Option SessionView) → own_ ≡ [] → taken_ ≡ [] → now ≡ None → EndsFrom (due s) own_ taken_ now
 ends_closed s own_ taken_ now e f g = rw (e, f, g) (due s [], refl)
 
-mutual_step : (old mid new : HostState) (id : SessionId) (step : Step) (rest : List Step) (s : Talk) (m : Option Talk) → find mid.slots id ≡ m → id.generation < mid.slots.next → Sees (own_by id step.event step.outcome) (taken_by id step.event step.outcome) (opens id step.event step.outcome) (Some s) m → IsRun mid rest new
-    → ((t : Talk) → find mid.slots id ≡ Some t → Goes id (due t) rest (find new.slots id)) → Goes id (due s) (step ∷ rest) (find new.slots id)
+mutual_step : (old mid new : HostState) (id : SessionId) (step : Step) (rest : List Step) (s : SessionView) (m : Option SessionView) → find mid.slots id ≡ m → id.generation < mid.slots.next → Sees (own_by id step.event step.outcome) (taken_by id step.event step.outcome) (opens id step.event step.outcome) (Some s) m → IsRun mid rest new
+    → ((t : SessionView) → find mid.slots id ≡ Some t → Goes id (due t) rest (find new.slots id)) → Goes id (due s) (step ∷ rest) (find new.slots id)
 mutual_step old mid new id step rest s None e h v r more =
     let g : IsGone id rest new = gone mid new id rest e h r in
     record {
@@ -82,11 +82,11 @@ mutual_step old mid new id step rest s (Some t) e h v r more =
       no_open = or_from (opens id step.event step.outcome) (is_opened id rest) v.0 g.no_open;
     }
 
-is_some_of : (o : Option Talk) (s : Talk) → o ≡ Some s → IsSome o
+is_some_of : (o : Option SessionView) (s : SessionView) → o ≡ Some s → IsSome o
 is_some_of o s e = rw e refl
 
 -- a session that was open before
-pub kept : (old new : HostState) (id : SessionId) (steps : List Step) (s : Talk) → find old.slots id ≡ Some s → IsRun old steps new → Goes id (due s) steps (find new.slots id)
+pub kept : (old new : HostState) (id : SessionId) (steps : List Step) (s : SessionView) → find old.slots id ≡ Some s → IsRun old steps new → Goes id (due s) steps (find new.slots id)
 unfolding IsRun
 kept old new id [] s e r = record { ends = rw (r, e) (λ x. refl); no_open = refl }
 kept old new id (step ∷ rest) s e r =
@@ -96,36 +96,36 @@ kept old new id (step ∷ rest) s e r =
     let v : Sees (own_by id step.event step.outcome) (taken_by id step.event step.outcome) (opens id step.event step.outcome) (find old.slots id) (find r.0.slots id) = sees old r.0 id step.event step.outcome r.1.stepped in
     mutual_step old r.0 new id step rest s (find r.0.slots id) refl (omega arith) (rw e at v) r.2 (λ t f. kept r.0 new id rest t f r.2)
 
-begun_step : (mid new : HostState) (id : SessionId) (step : Step) (rest : List Step) (m : Option Talk) → find mid.slots id ≡ m → Sees (own_by id step.event step.outcome) (taken_by id step.event step.outcome) (opens id step.event step.outcome) None m → is_opened id (step ∷ rest) ≡ true → IsRun mid rest new
+started_step : (mid new : HostState) (id : SessionId) (step : Step) (rest : List Step) (m : Option SessionView) → find mid.slots id ≡ m → Sees (own_by id step.event step.outcome) (taken_by id step.event step.outcome) (opens id step.event step.outcome) None m → is_opened id (step ∷ rest) ≡ true → IsRun mid rest new
     → (find mid.slots id ≡ None → is_opened id rest ≡ true → EndsFrom replies (own id rest) (taken id rest) (find new.slots id)) → EndsFrom replies (own id (step ∷ rest)) (taken id (step ∷ rest)) (find new.slots id)
-begun_step mid new id step rest None e v o r more =
+started_step mid new id step rest None e v o r more =
     let later : is_opened id rest ≡ true = elim (or_cases (opens id step.event step.outcome) (is_opened id rest) o) [ inl now ↦ absurd (both_ways (opens id step.event step.outcome) v.2 now) | inr after ↦ after ] in
     rw (v.0, v.1) (more e later)
-begun_step mid new id step rest (Some t) e v o r more =
+started_step mid new id step rest (Some t) e v o r more =
     let g : Goes id (due t) rest (find new.slots id) = kept mid new id rest t e r in
     ends_more replies (due t) (own_by id step.event step.outcome) (taken_by id step.event step.outcome) (own id rest) (taken id rest) (find new.slots id) (rw (v.0, v.1, v.3) (λ x. refl)) g.ends
 
 -- a session that is opened in the run
-begun : (old new : HostState) (id : SessionId) (steps : List Step) → find old.slots id ≡ None → is_opened id steps ≡ true → IsRun old steps new → EndsFrom replies (own id steps) (taken id steps) (find new.slots id)
+started : (old new : HostState) (id : SessionId) (steps : List Step) → find old.slots id ≡ None → is_opened id steps ≡ true → IsRun old steps new → EndsFrom replies (own id steps) (taken id steps) (find new.slots id)
 unfolding IsRun
-begun old new id [] e o r = absurd (cc)
-begun old new id (step ∷ rest) e o r =
+started old new id [] e o r = absurd (cc)
+started old new id (step ∷ rest) e o r =
     let v : Sees (own_by id step.event step.outcome) (taken_by id step.event step.outcome) (opens id step.event step.outcome) (find old.slots id) (find r.0.slots id) = sees old r.0 id step.event step.outcome r.1.stepped in
-    begun_step r.0 new id step rest (find r.0.slots id) refl (rw e at v) o r.2 (λ f later. begun r.0 new id rest f later r.2)
+    started_step r.0 new id step rest (find r.0.slots id) refl (rw e at v) o r.2 (λ f later. started r.0 new id rest f later r.2)
 
-opened_by : (old new : HostState) (id : SessionId) (steps : List Step) (before : Option Talk) → find old.slots id ≡ before → is_opened id steps ≡ true → IsRun old steps new → EndsFrom replies (own id steps) (taken id steps) (find new.slots id)
-opened_by old new id steps None e o r = begun old new id steps e o r
+opened_by : (old new : HostState) (id : SessionId) (steps : List Step) (before : Option SessionView) → find old.slots id ≡ before → is_opened id steps ≡ true → IsRun old steps new → EndsFrom replies (own id steps) (taken id steps) (find new.slots id)
+opened_by old new id steps None e o r = started old new id steps e o r
 opened_by old new id steps (Some s) e o r = absurd (both_ways (is_opened id steps) (kept old new id steps s e r).no_open o)
 
 pub opened_ends : (old new : HostState) (id : SessionId) (steps : List Step) → is_opened id steps ≡ true → IsRun old steps new → EndsFrom replies (own id steps) (taken id steps) (find new.slots id)
 opened_ends old new id steps o r = opened_by old new id steps (find old.slots id) refl o r
 
-front_of : (owes : List ℕ → List ℕ) (own_ taken_ : List ℕ) (now : Option Talk) → EndsFrom owes own_ taken_ now → IsFrontOf (taken_ ++ queued_of now) (owes own_)
+front_of : (owes : List ℕ → List ℕ) (own_ taken_ : List ℕ) (now : Option SessionView) → EndsFrom owes own_ taken_ now → IsFrontOf (taken_ ++ queued_of now) (owes own_)
 front_of owes own_ taken_ None (rest, e) = (rest, ap (λ xs. xs ++ rest) (append-nil taken_) ∙ e)
 front_of owes own_ taken_ (Some t) h =
-    (owed t.state t.going (ahead t.input []), append_assoc taken_ t.queued (owed t.state t.going (ahead t.input [])) ∙ (h [] ∙ ap owes (append-nil own_)))
+    (owed t.state t.in_hand (ahead t.input []), append_assoc taken_ t.queued (owed t.state t.in_hand (ahead t.input [])) ∙ (h [] ∙ ap owes (append-nil own_)))
 
-all_of : (owes : List ℕ → List ℕ) (own_ taken_ : List ℕ) (now : Option Talk) → EndsFrom owes own_ taken_ now → IsSettled now → taken_ ++ queued_of now ≡ owes own_
+all_of : (owes : List ℕ → List ℕ) (own_ taken_ : List ℕ) (now : Option SessionView) → EndsFrom owes own_ taken_ now → IsSettled now → taken_ ++ queued_of now ≡ owes own_
 all_of owes own_ taken_ None h settled = absurd settled
 all_of owes own_ taken_ (Some t) h settled =
     ap (λ xs. taken_ ++ xs) (sym (due-settled t settled)) ∙ (h [] ∙ ap owes (append-nil own_))

@@ -7,7 +7,7 @@ use Rattle.session_slots.specs.declared.id.SessionId.{SessionId}
 use Rattle.session_slots.specs.Order.{first_open}
 use Rattle.session_slots.specs.Slots.{OpenSession, OpenSessions, find, IsBelow}
 use Rattle.session_slots.proofs.Finds.{slot_of}
-use Rattle.usi_session.specs.Due.{Talk, is_pending}
+use Rattle.usi_session.specs.Due.{SessionView, is_pending}
 use Rattle.host_core.specs.Events.{Outcome, Opened, Done, Worked, Gave, Refused, Work}
 use Rattle.host_core.specs.ById.{pending_of}
 use Rattle.host_core.specs.Steps.{HostState, Stepped, OnSession}
@@ -70,7 +70,7 @@ count-last test [] o = grind (arith, sum_by-cons (λ p. cond (test p) 1 0) o [])
 count-last test (p ∷ os) o = omega (arith, count-last test os o, sum_by-cons (λ q. cond (test q) 1 0) p os, sum_by-cons (λ q. cond (test q) 1 0) p (os ++ o ∷ []))
 
 -- a `Work` succeeded or was refused
-counted_on : (budget : ℕ) (old new : HostState) (id : SessionId) (o : Outcome) (found : Option Talk) → OnSession (Works budget) old id found o new → cond (has_worked o) 1 0 + cond (was_refused o) 1 0 ≡ 1
+counted_on : (budget : ℕ) (old new : HostState) (id : SessionId) (o : Outcome) (found : Option SessionView) → OnSession (Works budget) old id found o new → cond (has_worked o) 1 0 + cond (was_refused o) 1 0 ≡ 1
 counted_on budget old new id o None u = rw u.refused refl
 counted_on budget old new id (Worked steps) (Some s) c = refl
 counted_on budget old new id (Refused fault) (Some s) c = refl
@@ -93,10 +93,10 @@ round_skip old budget slot worked refused now id r e =
     record { ids = r.ids; so_far = r.so_far; rest = ap (λ xs. r.ids ++ xs) (sym same) ∙ r.rest }
 
 -- what is pending from the slot of an open session on
-pending_at : (h : HostState) (id : SessionId) (t : Talk) → find h.slots id ≡ Some t → pending_from id.slot (drop id.slot h.slots.slots) ≡ cond (is_pending t) (id ∷ pending_from (id.slot + 1) (drop (id.slot + 1) h.slots.slots)) (pending_from (id.slot + 1) (drop (id.slot + 1) h.slots.slots))
+pending_at : (h : HostState) (id : SessionId) (t : SessionView) → find h.slots id ≡ Some t → pending_from id.slot (drop id.slot h.slots.slots) ≡ cond (is_pending t) (id ∷ pending_from (id.slot + 1) (drop (id.slot + 1) h.slots.slots)) (pending_from (id.slot + 1) (drop (id.slot + 1) h.slots.slots))
 pending_at h id t e = pending_opened id.slot h.slots.slots id.slot (record { generation = id.generation; session = t }) (slot_of id.generation (slice_index_or h.slots.slots id.slot None) t e)
 
-passes : (old : HostState) (budget : ℕ) (id : SessionId) (worked refused : ℕ) (now : HostState) (found : Option Talk) → find now.slots id ≡ found → IsSome found → pending_of found ≡ false → RoundTo old budget id.slot worked refused now → RoundTo old budget (id.slot + 1) worked refused now
+passes : (old : HostState) (budget : ℕ) (id : SessionId) (worked refused : ℕ) (now : HostState) (found : Option SessionView) → find now.slots id ≡ found → IsSome found → pending_of found ≡ false → RoundTo old budget id.slot worked refused now → RoundTo old budget (id.slot + 1) worked refused now
 passes old budget id worked refused now None e some idle r = absurd (cc)
 passes old budget id worked refused now (Some t) e some idle r =
     let gone : pending_from id.slot (drop id.slot now.slots.slots) ≡ pending_from (id.slot + 1) (drop (id.slot + 1) now.slots.slots) =
@@ -108,11 +108,11 @@ pub round_pass : (old : HostState) (budget : ℕ) (id : SessionId) (worked refus
 round_pass old budget id worked refused now some idle r = passes old budget id worked refused now (find now.slots id) refl some idle r
 
 -- the later slots are what they were
-works_later : (budget : ℕ) (h next : HostState) (id : SessionId) (o : Outcome) (found : Option Talk) → OnSession (Works budget) h id found o next → drop (id.slot + 1) next.slots.slots ≡ drop (id.slot + 1) h.slots.slots
+works_later : (budget : ℕ) (h next : HostState) (id : SessionId) (o : Outcome) (found : Option SessionView) → OnSession (Works budget) h id found o next → drop (id.slot + 1) next.slots.slots ≡ drop (id.slot + 1) h.slots.slots
 works_later budget h next id o None u = ap (λ (x : HostState). drop (id.slot + 1) x.slots.slots) u.same
 works_later budget h next id o (Some s) c = ap (λ (q : OpenSessions). drop (id.slot + 1) q.slots) c.slots_are ∙ drop-set-lt (id.slot + 1) h.slots.slots id.slot _ (omega arith)
 
-first_pending : (h : HostState) (id : SessionId) (found : Option Talk) → find h.slots id ≡ found → pending_of found ≡ true → pending_from id.slot (drop id.slot h.slots.slots) ≡ id ∷ pending_from (id.slot + 1) (drop (id.slot + 1) h.slots.slots)
+first_pending : (h : HostState) (id : SessionId) (found : Option SessionView) → find h.slots id ≡ found → pending_of found ≡ true → pending_from id.slot (drop id.slot h.slots.slots) ≡ id ∷ pending_from (id.slot + 1) (drop (id.slot + 1) h.slots.slots)
 first_pending h id None e pending = absurd (cc)
 first_pending h id (Some t) e pending =
     pending_at h id t e ∙ ap (λ b. cond b (id ∷ pending_from (id.slot + 1) (drop (id.slot + 1) h.slots.slots)) (pending_from (id.slot + 1) (drop (id.slot + 1) h.slots.slots))) pending

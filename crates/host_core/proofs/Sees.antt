@@ -3,7 +3,7 @@ use Rattle.std.proofs.Common.{◌≡◌, ℕ, ◌+◌, ◌≤◌, Bool, true, fa
 use Rattle.session_slots.specs.declared.id.SessionId.{SessionId}
 use Rattle.session_slots.specs.Slots.{OpenSessions, find, Opens}
 use Rattle.session_slots.proofs.Finds.{find-with_session, find-with_session-other}
-use Rattle.usi_session.specs.Due.{Talk, due, new_talk}
+use Rattle.usi_session.specs.Due.{SessionView, due, new_session}
 use Rattle.host_core.specs.declared.event.HostFault.TheVariants.{Full, OutOfMemory, UnknownSession, NotReady}
 use Rattle.host_core.specs.Events.{Event, Open, Feed, Work, Take, Close, Outcome, Opened, Done, Worked, Gave, Refused}
 use Rattle.host_core.specs.Sessions.{Feeds, Works, Takes}
@@ -12,19 +12,19 @@ use Rattle.host_core.specs.Made.{is_same_id, own_by, taken_by, opens}
 use Rattle.host_core.proofs.Ids.{same_id, other_id}
 
 -- what one session has of a step, by what its id finds before and after: nothing, while it is not open; it is opened new; it answers to its own bytes; or it is closed
-abbrev pub Sees : List ℕ → List ℕ → Bool → Option Talk → Option Talk → Type 0
+abbrev pub Sees : List ℕ → List ℕ → Bool → Option SessionView → Option SessionView → Type 0
 Sees own taken opened None None = (own ≡ []) × (taken ≡ []) × (opened ≡ false)
-Sees own taken opened None (Some t) = (own ≡ []) × (taken ≡ []) × (opened ≡ true) × (t ≡ new_talk)
+Sees own taken opened None (Some t) = (own ≡ []) × (taken ≡ []) × (opened ≡ true) × (t ≡ new_session)
 Sees own taken opened (Some s) (Some t) = (opened ≡ false) × ((x : List ℕ) → taken ++ due t x ≡ due s (own ++ x))
 Sees own taken opened (Some s) None = (own ≡ []) × (taken ≡ []) × (opened ≡ false)
 
 -- nothing of it happened
-sees_same : (old new : Option Talk) → new ≡ old → Sees [] [] false old new
+sees_same : (old new : Option SessionView) → new ≡ old → Sees [] [] false old new
 sees_same None new e = rw e (refl, refl, refl)
 sees_same (Some s) new e = rw e (refl, λ x. refl)
 
 -- the session of an id changed: that one has it, and no other
-changed_at : (b : Bool) (goes : Talk → Outcome → Talk → Type 0) (old new : HostState) (at id : SessionId) (s : Talk) (o : Outcome) (own taken : List ℕ) → is_same_id at id ≡ b → find old.slots at ≡ Some s → (c : Changed goes old at s o new) → ((x : List ℕ) → taken ++ due c.after x ≡ due s (own ++ x))
+changed_at : (b : Bool) (goes : SessionView → Outcome → SessionView → Type 0) (old new : HostState) (at id : SessionId) (s : SessionView) (o : Outcome) (own taken : List ℕ) → is_same_id at id ≡ b → find old.slots at ≡ Some s → (c : Changed goes old at s o new) → ((x : List ℕ) → taken ++ due c.after x ≡ due s (own ++ x))
     → Sees (cond b own []) (cond b taken []) false (find old.slots id) (find new.slots id)
 changed_at true goes old new at id s o own taken e f c h =
     let same : at ≡ id = same_id at id e in
@@ -34,7 +34,7 @@ changed_at true goes old new at id s o own taken e f c h =
 changed_at false goes old new at id s o own taken e f c h =
     sees_same (find old.slots id) (find new.slots id) (ap (λ q. find q id) c.slots_are ∙ find-with_session-other old.slots at id s c.after f (other_id at id e))
 
-changed : (goes : Talk → Outcome → Talk → Type 0) (old new : HostState) (at id : SessionId) (s : Talk) (o : Outcome) (own taken : List ℕ) → find old.slots at ≡ Some s → (c : Changed goes old at s o new) → ((x : List ℕ) → taken ++ due c.after x ≡ due s (own ++ x))
+changed : (goes : SessionView → Outcome → SessionView → Type 0) (old new : HostState) (at id : SessionId) (s : SessionView) (o : Outcome) (own taken : List ℕ) → find old.slots at ≡ Some s → (c : Changed goes old at s o new) → ((x : List ℕ) → taken ++ due c.after x ≡ due s (own ++ x))
     → Sees (cond (is_same_id at id) own []) (cond (is_same_id at id) taken []) false (find old.slots id) (find new.slots id)
 changed goes old new at id s o own taken f c h = changed_at (is_same_id at id) goes old new at id s o own taken refl f c h
 
@@ -43,7 +43,7 @@ cond_nil true xs e = e
 cond_nil false xs e = e
 
 -- neither bytes of its own nor bytes taken
-quiet : (goes : Talk → Outcome → Talk → Type 0) (old new : HostState) (at id : SessionId) (s : Talk) (o : Outcome) → find old.slots at ≡ Some s → (c : Changed goes old at s o new) → ((x : List ℕ) → due c.after x ≡ due s x) → Sees [] [] false (find old.slots id) (find new.slots id)
+quiet : (goes : SessionView → Outcome → SessionView → Type 0) (old new : HostState) (at id : SessionId) (s : SessionView) (o : Outcome) → find old.slots at ≡ Some s → (c : Changed goes old at s o new) → ((x : List ℕ) → due c.after x ≡ due s x) → Sees [] [] false (find old.slots id) (find new.slots id)
 quiet goes old new at id s o f c h =
     let none : cond (is_same_id at id) [] [] ≡ [] = cond_nil (is_same_id at id) [] refl in
     rw none at (changed goes old new at id s o [] [] f c h)
@@ -51,20 +51,20 @@ quiet goes old new at id s o f c h =
 unknown : (old new : HostState) (o : Outcome) (id : SessionId) → Unknown old o new → Sees [] [] false (find old.slots id) (find new.slots id)
 unknown old new o id u = sees_same (find old.slots id) (find new.slots id) (ap (λ (h : HostState). find h.slots id) u.same)
 
-fed : (old new : HostState) (at id : SessionId) (piece : List ℕ) (o : Outcome) (found : Option Talk) → find old.slots at ≡ found → OnSession (Feeds piece) old at found o new → Sees (own_by id (Feed at piece) o) (taken_by id (Feed at piece) o) (opens id (Feed at piece) o) (find old.slots id) (find new.slots id)
-fed old new at id piece o None e u = rw u.refused (unknown old new o id u)
-fed old new at id piece Done (Some s) e c =
+fed : (old new : HostState) (at id : SessionId) (chunk : List ℕ) (o : Outcome) (found : Option SessionView) → find old.slots at ≡ found → OnSession (Feeds chunk) old at found o new → Sees (own_by id (Feed at chunk) o) (taken_by id (Feed at chunk) o) (opens id (Feed at chunk) o) (find old.slots id) (find new.slots id)
+fed old new at id chunk o None e u = rw u.refused (unknown old new o id u)
+fed old new at id chunk Done (Some s) e c =
     let none : cond (is_same_id at id) [] [] ≡ [] = cond_nil (is_same_id at id) [] refl in
-    rw none at (changed (Feeds piece) old new at id s Done piece [] e c c.went.owed)
-fed old new at id piece (Opened other) (Some s) e c = absurd c.went
-fed old new at id piece (Worked steps) (Some s) e c = absurd c.went
-fed old new at id piece (Gave bytes) (Some s) e c = absurd c.went
-fed old new at id piece (Refused Full) (Some s) e c = absurd c.went
-fed old new at id piece (Refused UnknownSession) (Some s) e c = absurd c.went
-fed old new at id piece (Refused NotReady) (Some s) e c = quiet (Feeds piece) old new at id s (Refused NotReady) e c (λ x. ap (λ (t : Talk). due t x) c.went.1)
-fed old new at id piece (Refused OutOfMemory) (Some s) e c = quiet (Feeds piece) old new at id s (Refused OutOfMemory) e c (λ x. ap (λ (t : Talk). due t x) c.went.1)
+    rw none at (changed (Feeds chunk) old new at id s Done chunk [] e c c.went.owed)
+fed old new at id chunk (Opened other) (Some s) e c = absurd c.went
+fed old new at id chunk (Worked steps) (Some s) e c = absurd c.went
+fed old new at id chunk (Gave bytes) (Some s) e c = absurd c.went
+fed old new at id chunk (Refused Full) (Some s) e c = absurd c.went
+fed old new at id chunk (Refused UnknownSession) (Some s) e c = absurd c.went
+fed old new at id chunk (Refused NotReady) (Some s) e c = quiet (Feeds chunk) old new at id s (Refused NotReady) e c (λ x. ap (λ (t : SessionView). due t x) c.went.1)
+fed old new at id chunk (Refused OutOfMemory) (Some s) e c = quiet (Feeds chunk) old new at id s (Refused OutOfMemory) e c (λ x. ap (λ (t : SessionView). due t x) c.went.1)
 
-worked : (old new : HostState) (at id : SessionId) (budget : ℕ) (o : Outcome) (found : Option Talk) → find old.slots at ≡ found → OnSession (Works budget) old at found o new → Sees [] [] false (find old.slots id) (find new.slots id)
+worked : (old new : HostState) (at id : SessionId) (budget : ℕ) (o : Outcome) (found : Option SessionView) → find old.slots at ≡ found → OnSession (Works budget) old at found o new → Sees [] [] false (find old.slots id) (find new.slots id)
 worked old new at id budget o None e u = unknown old new o id u
 worked old new at id budget Done (Some s) e c = absurd c.went
 worked old new at id budget (Opened other) (Some s) e c = absurd c.went
@@ -75,7 +75,7 @@ worked old new at id budget (Refused UnknownSession) (Some s) e c = absurd c.wen
 worked old new at id budget (Refused NotReady) (Some s) e c = absurd c.went
 worked old new at id budget (Refused OutOfMemory) (Some s) e c = quiet (Works budget) old new at id s (Refused OutOfMemory) e c c.went.owed
 
-took : (old new : HostState) (at id : SessionId) (n : ℕ) (o : Outcome) (found : Option Talk) → find old.slots at ≡ found → OnSession (Takes n) old at found o new → Sees (own_by id (Take at n) o) (taken_by id (Take at n) o) (opens id (Take at n) o) (find old.slots id) (find new.slots id)
+took : (old new : HostState) (at id : SessionId) (n : ℕ) (o : Outcome) (found : Option SessionView) → find old.slots at ≡ found → OnSession (Takes n) old at found o new → Sees (own_by id (Take at n) o) (taken_by id (Take at n) o) (opens id (Take at n) o) (find old.slots id) (find new.slots id)
 took old new at id n o None e u = rw u.refused (unknown old new o id u)
 took old new at id n Done (Some s) e c = absurd c.went
 took old new at id n (Opened other) (Some s) e c = absurd c.went
@@ -85,14 +85,14 @@ took old new at id n (Gave bytes) (Some s) e c =
     rw none at (changed (Takes n) old new at id s (Gave bytes) [] bytes e c (λ x. ap (λ bs. bs ++ due c.after x) c.went.bytes_are ∙ sym (c.went.owed x)))
 took old new at id n (Refused Full) (Some s) e c = absurd c.went
 took old new at id n (Refused UnknownSession) (Some s) e c = absurd c.went
-took old new at id n (Refused NotReady) (Some s) e c = quiet (Takes n) old new at id s (Refused NotReady) e c (λ x. ap (λ (t : Talk). due t x) c.went.1)
-took old new at id n (Refused OutOfMemory) (Some s) e c = quiet (Takes n) old new at id s (Refused OutOfMemory) e c (λ x. ap (λ (t : Talk). due t x) c.went.1)
+took old new at id n (Refused NotReady) (Some s) e c = quiet (Takes n) old new at id s (Refused NotReady) e c (λ x. ap (λ (t : SessionView). due t x) c.went.1)
+took old new at id n (Refused OutOfMemory) (Some s) e c = quiet (Takes n) old new at id s (Refused OutOfMemory) e c (λ x. ap (λ (t : SessionView). due t x) c.went.1)
 
 opened_at : (b : Bool) (old new : HostState) (at id : SessionId) → is_same_id at id ≡ b → Opens old.slots new.slots at → Sees [] [] b (find old.slots id) (find new.slots id)
 opened_at true old new at id e p =
     let same : at ≡ id = same_id at id e in
     let before : find old.slots id ≡ None = ap (find old.slots) (sym same) ∙ p.was in
-    let after : find new.slots id ≡ Some new_talk = ap (find new.slots) (sym same) ∙ p.now in
+    let after : find new.slots id ≡ Some new_session = ap (find new.slots) (sym same) ∙ p.now in
     rw (before, after) (refl, refl, refl, refl)
 opened_at false old new at id e p = sees_same (find old.slots id) (find new.slots id) (p.others id (other_id at id e))
 
@@ -109,7 +109,7 @@ opened old new id (Refused OutOfMemory) p = unchanged old new id p.1
 opened old new id (Refused UnknownSession) p = absurd p
 opened old new id (Refused NotReady) p = absurd p
 
-sees_none : (old new : Option Talk) → new ≡ None → Sees [] [] false old new
+sees_none : (old new : Option SessionView) → new ≡ None → Sees [] [] false old new
 sees_none None new e = rw e (refl, refl, refl)
 sees_none (Some s) new e = rw e (refl, refl, refl)
 
@@ -117,14 +117,14 @@ closed_at : (b : Bool) (old new : HostState) (at id : SessionId) (o : Outcome) �
 closed_at true old new at id o e c = sees_none (find old.slots id) (find new.slots id) (ap (find new.slots) (sym (same_id at id e)) ∙ c.none)
 closed_at false old new at id o e c = sees_same (find old.slots id) (find new.slots id) (c.others id (other_id at id e))
 
-closed : (old new : HostState) (at id : SessionId) (o : Outcome) (found : Option Talk) → IsClosed old at found o new → Sees [] [] false (find old.slots id) (find new.slots id)
+closed : (old new : HostState) (at id : SessionId) (o : Outcome) (found : Option SessionView) → IsClosed old at found o new → Sees [] [] false (find old.slots id) (find new.slots id)
 closed old new at id o None u = unknown old new o id u
 closed old new at id o (Some s) c = closed_at (is_same_id at id) old new at id o refl c
 
 -- each session has its own part of a step, and no more
 pub sees : (old new : HostState) (id : SessionId) (event : Event) (o : Outcome) → Stepped old event o new → Sees (own_by id event o) (taken_by id event o) (opens id event o) (find old.slots id) (find new.slots id)
 sees old new id Open o p = opened old new id o p
-sees old new id (Feed at piece) o p = fed old new at id piece o (find old.slots at) refl p.0
+sees old new id (Feed at chunk) o p = fed old new at id chunk o (find old.slots at) refl p.0
 sees old new id (Work at budget) o p = worked old new at id budget o (find old.slots at) refl p
 sees old new id (Take at n) o p = took old new at id n o (find old.slots at) refl p.0
 sees old new id (Close at) o p = closed old new at id o (find old.slots at) p
@@ -140,7 +140,7 @@ same_next old new id e = record { rises = omega arith; fresh = λ f. absurd (cc)
 rises_same : (old new : HostState) (id : SessionId) → new ≡ old → Rises old new id false
 rises_same old new id e = same_next old new id (ap (λ (h : HostState). h.slots.next) e)
 
-rises_on : (goes : Talk → Outcome → Talk → Type 0) (old new : HostState) (at id : SessionId) (o : Outcome) (found : Option Talk) → OnSession goes old at found o new → Rises old new id false
+rises_on : (goes : SessionView → Outcome → SessionView → Type 0) (old new : HostState) (at id : SessionId) (o : Outcome) (found : Option SessionView) → OnSession goes old at found o new → Rises old new id false
 rises_on goes old new at id o None u = rises_same old new id u.same
 rises_on goes old new at id o (Some s) c = same_next old new id (ap (λ (q : OpenSessions). q.next) c.slots_are)
 
@@ -163,13 +163,13 @@ rises_open old new id (Refused OutOfMemory) p = rises_same old new id p.1
 rises_open old new id (Refused UnknownSession) p = absurd p
 rises_open old new id (Refused NotReady) p = absurd p
 
-rises_close : (old new : HostState) (at id : SessionId) (o : Outcome) (found : Option Talk) → IsClosed old at found o new → Rises old new id false
+rises_close : (old new : HostState) (at id : SessionId) (o : Outcome) (found : Option SessionView) → IsClosed old at found o new → Rises old new id false
 rises_close old new at id o None u = rises_same old new id u.same
 rises_close old new at id o (Some s) c = same_next old new id c.next_is
 
 pub rises : (old new : HostState) (id : SessionId) (event : Event) (o : Outcome) → Stepped old event o new → Rises old new id (opens id event o)
 rises old new id Open o p = rises_open old new id o p
-rises old new id (Feed at piece) o p = rises_on (Feeds piece) old new at id o (find old.slots at) p.0
+rises old new id (Feed at chunk) o p = rises_on (Feeds chunk) old new at id o (find old.slots at) p.0
 rises old new id (Work at budget) o p = rises_on (Works budget) old new at id o (find old.slots at) p
 rises old new id (Take at n) o p = rises_on (Takes n) old new at id o (find old.slots at) p.0
 rises old new id (Close at) o p = rises_close old new at id o (find old.slots at) p

@@ -1,26 +1,26 @@
 -- What a host tells of a session by its id: nothing of one that is not open (own choice).
 use Rattle.std.specs.Prelude.{◌≡◌, ℕ, List, [], Bool, false, Option, Some, None}
 use Rattle.std.specs.Borrow.{Bor}
-use Rattle.usi_session.specs.Due.{Talk, is_pending, wants_input}
+use Rattle.usi_session.specs.Due.{SessionView, is_pending, wants_input}
 
 -- the bytes that are queued
-abbrev pub queued_of : Option Talk → List ℕ
+abbrev pub queued_of : Option SessionView → List ℕ
 queued_of None = []
 queued_of (Some t) = t.queued
 
-abbrev pub IsOutput : Option Talk → Option (Bor (List ℕ)) → Type 0
-IsOutput None None = Unit {0}
-IsOutput (Some t) (Some bytes) = bytes.now ≡ t.queued
-IsOutput _ _ = ⊥
+abbrev pub IsQueue : Option SessionView → Option (Bor (List ℕ)) → Type 0
+IsQueue None None = Unit {0}
+IsQueue (Some t) (Some bytes) = bytes.now ≡ t.queued
+IsQueue _ _ = ⊥
 
-abbrev pub pending_of : Option Talk → Bool
+abbrev pub pending_of : Option SessionView → Bool
 pending_of None = false
 pending_of (Some t) = is_pending t
 
-abbrev pub wants_input_of : Option Talk → Bool
+abbrev pub wants_input_of : Option SessionView → Bool
 wants_input_of None = false
 wants_input_of (Some t) = wants_input t
 
-abbrev pub is_over_of : Option Talk → Bool
+abbrev pub is_over_of : Option SessionView → Bool
 is_over_of None = false
 is_over_of (Some t) = t.state.is_over

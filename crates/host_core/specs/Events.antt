@@ -6,7 +6,7 @@ use Rattle.host_core.specs.declared.event.HostFault.{HostFault}
 -- to open a session, or of the session of an id: to store bytes for it, to go on by so many steps, to take so many queued bytes, to close it
 pub data Event : Type 0 where
   Open : Event
-  Feed : (id : SessionId) (piece : List ℕ) → Event
+  Feed : (id : SessionId) (chunk : List ℕ) → Event
   Work : (id : SessionId) (budget : ℕ) → Event
   Take : (id : SessionId) (n : ℕ) → Event
   Close : (id : SessionId) → Event

@@ -2,7 +2,7 @@
 use Rattle.std.specs.Prelude.{◌≡◌, ℕ, List, ◌++◌, true, false, Option, Some, None}
 use Rattle.session_slots.specs.declared.id.SessionId.{SessionId}
 use Rattle.session_slots.specs.Slots.{find}
-use Rattle.usi_session.specs.Due.{Talk, due, is_pending}
+use Rattle.usi_session.specs.Due.{SessionView, due, is_pending}
 use Rattle.usi_session.specs.Replies.{replies}
 use Rattle.host_core.specs.Made.{Step, own, taken, is_opened, made}
 use Rattle.host_core.specs.Steps.{HostState}
@@ -14,7 +14,7 @@ abbrev pub IsFrontOf : List ℕ → List ℕ → Type 0
 IsFrontOf xs ys = (rest : List ℕ) × (xs ++ rest ≡ ys)
 
 -- open, with nothing pending
-abbrev pub IsSettled : Option Talk → Type 0
+abbrev pub IsSettled : Option SessionView → Type 0
 IsSettled None = ⊥
 IsSettled (Some t) = is_pending t ≡ false
 
@@ -27,13 +27,13 @@ abbrev pub AllReplies : List Step → HostState → Type 0
 AllReplies steps end = (id : SessionId) → is_opened id steps ≡ true → IsSettled (find end.slots id) → made id steps (queued_of (find end.slots id)) ≡ replies (own id steps)
 
 -- of what was owed to its own bytes, a session was taken these: what it owes now is the rest, for any further bytes; where it is closed, they are a front
-abbrev pub EndsFrom : (List ℕ → List ℕ) → List ℕ → List ℕ → Option Talk → Type 0
+abbrev pub EndsFrom : (List ℕ → List ℕ) → List ℕ → List ℕ → Option SessionView → Type 0
 EndsFrom owed own taken None = IsFrontOf taken (owed own)
 EndsFrom owed own taken (Some t) = (x : List ℕ) → taken ++ due t x ≡ owed (own ++ x)
 
 -- a session that was open before goes on from what it owed
 abbrev pub GoesOn : HostState → List Step → HostState → Type 0
-GoesOn old steps end = (id : SessionId) (s : Talk) → find old.slots id ≡ Some s → EndsFrom (due s) (own id steps) (taken id steps) (find end.slots id)
+GoesOn old steps end = (id : SessionId) (s : SessionView) → find old.slots id ≡ Some s → EndsFrom (due s) (own id steps) (taken id steps) (find end.slots id)
 
 -- two runs that agree on the own bytes of a session which each of them opened make the same bytes for it, where both end with it open and nothing pending; all else may differ
 abbrev pub IsolatesSessions : Type 0

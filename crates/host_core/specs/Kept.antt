@@ -10,7 +10,7 @@ use Rattle.host_core.specs.Steps.{HostState}
 abbrev pub names : SessionId → Event → Outcome → Bool
 names id Open (Opened at) = is_same_id at id
 names id Open _ = false
-names id (Feed at piece) outcome = is_same_id at id
+names id (Feed at chunk) outcome = is_same_id at id
 names id (Work at budget) outcome = is_same_id at id
 names id (Take at n) outcome = is_same_id at id
 names id (Close at) outcome = is_same_id at id
@@ -22,7 +22,7 @@ KeepsOthers old event outcome new = (id : SessionId) → names id event outcome 
 -- refused, and no `Work`
 abbrev pub is_refused : Event → Outcome → Bool
 is_refused Open (Refused fault) = true
-is_refused (Feed at piece) (Refused fault) = true
+is_refused (Feed at chunk) (Refused fault) = true
 is_refused (Take at n) (Refused fault) = true
 is_refused (Close at) (Refused fault) = true
 is_refused _ _ = false

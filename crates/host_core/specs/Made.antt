@@ -20,7 +20,7 @@ is_same_id a b = a.slot == b.slot && a.generation == b.generation
 
 -- the bytes that an event stored for an id: those of a `Feed` of it that was done
 abbrev pub own_by : SessionId → Event → Outcome → List ℕ
-own_by id (Feed at piece) Done = cond (is_same_id at id) piece []
+own_by id (Feed at chunk) Done = cond (is_same_id at id) chunk []
 own_by id _ _ = []
 
 -- the bytes that were stored for an id, in order: its own input

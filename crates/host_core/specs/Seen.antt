@@ -10,7 +10,7 @@ use Rattle.host_core.specs.Made.{Step, steps_of}
 
 abbrev pub event_of : code_event.Event → events.Event
 event_of event.Open = events.Open
-event_of (event.Feed id piece) = events.Feed id piece.now
+event_of (event.Feed id chunk) = events.Feed id chunk.now
 event_of (event.Work id budget) = events.Work id budget
 event_of (event.Take id n) = events.Take id n
 event_of (event.Close id) = events.Close id

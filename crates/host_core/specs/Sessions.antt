@@ -1,58 +1,59 @@
 -- What one session answers to an event of its own: its own calls, with their refusals in order (own choice).
 use Rattle.std.specs.Prelude.{◌≡◌, ℕ, ◌+◌, ◌≤◌, ◌<◌, List, ◌++◌, length, take, drop, true, false}
-use Rattle.usi_session.specs.Due.{Talk, due, load, is_pending, wants_input, IsSearching}
+use Rattle.usi_session.specs.Due.{SessionView, due, load, is_pending, wants_input, IsSearching}
 use Rattle.host_core.specs.declared.event.HostFault.TheVariants.{OutOfMemory, NotReady}
 use Rattle.host_core.specs.Events.{Outcome, Done, Worked, Gave, Refused}
+use Rattle.usi_session.specs.declared.limits.TheConstants.{CHUNK_MAX}
 
 -- it may be fed these bytes
-abbrev pub CanFeed : Talk → List ℕ → Type 0
-CanFeed t piece = (wants_input t ≡ true) × (length piece ≤ 4096)
+abbrev pub CanFeed : SessionView → List ℕ → Type 0
+CanFeed t chunk = (wants_input t ≡ true) × (length chunk ≤ CHUNK_MAX)
 
 -- the bytes were stored: it owes what it owed for them and for what follows
-pub record Fed (old : Talk) (piece : List ℕ) (new : Talk) : Type 0 where
-  pub could : CanFeed old piece
-  pub owed : (x : List ℕ) → due new x ≡ due old (piece ++ x)
+pub record Fed (old : SessionView) (chunk : List ℕ) (new : SessionView) : Type 0 where
+  pub could : CanFeed old chunk
+  pub owed : (x : List ℕ) → due new x ≡ due old (chunk ++ x)
   pub queued_is : new.queued ≡ old.queued
   pub state_is : new.state ≡ old.state
-  pub going_is : new.going ≡ old.going
+  pub in_hand_is : new.in_hand ≡ old.in_hand
 
 -- it went on by so many steps, and owes what it owed; where something is still pending, the budget is spent within a search
-pub record WorkedOn (old : Talk) (budget steps : ℕ) (new : Talk) : Type 0 where
+pub record WorkedOn (old : SessionView) (budget steps : ℕ) (new : SessionView) : Type 0 where
   pub owed : (x : List ℕ) → due new x ≡ due old x
-  pub within : steps ≤ budget
+  pub most : steps ≤ budget
   pub made : steps + load new ≤ load old
-  pub spent : is_pending new ≡ true → (steps ≡ budget) × IsSearching new.going
+  pub spent : is_pending new ≡ true → (steps ≡ budget) × IsSearching new.in_hand
   pub enough : load old ≤ budget → is_pending new ≡ false
   pub idle : is_pending old ≡ false → (steps ≡ 0) × (new ≡ old)
 
 -- memory was refused on the way: it owes what it owed, and may have gone on
-pub record Stopped (old new : Talk) : Type 0 where
+pub record Stopped (old new : SessionView) : Type 0 where
   pub was_pending : is_pending old ≡ true
   pub owed : (x : List ℕ) → due new x ≡ due old x
   pub made : load new ≤ load old
 
 -- the first bytes of its queue were taken
-pub record Taken (old : Talk) (n : ℕ) (bytes : List ℕ) (new : Talk) : Type 0 where
+pub record Taken (old : SessionView) (n : ℕ) (bytes : List ℕ) (new : SessionView) : Type 0 where
   pub there : n ≤ length old.queued
   pub bytes_are : bytes ≡ take n old.queued
   pub owed : (x : List ℕ) → due old x ≡ take n old.queued ++ due new x
   pub queued_is : new.queued ≡ drop n old.queued
   pub state_is : new.state ≡ old.state
-  pub going_is : new.going ≡ old.going
+  pub in_hand_is : new.in_hand ≡ old.in_hand
   pub input_is : new.input ≡ old.input
 
-abbrev pub Feeds : List ℕ → Talk → Outcome → Talk → Type 0
-Feeds piece old Done new = Fed old piece new
-Feeds piece old (Refused NotReady) new = (CanFeed old piece → ⊥) × (new ≡ old)
-Feeds piece old (Refused OutOfMemory) new = CanFeed old piece × (new ≡ old)
-Feeds piece old _ new = ⊥
+abbrev pub Feeds : List ℕ → SessionView → Outcome → SessionView → Type 0
+Feeds chunk old Done new = Fed old chunk new
+Feeds chunk old (Refused NotReady) new = (CanFeed old chunk → ⊥) × (new ≡ old)
+Feeds chunk old (Refused OutOfMemory) new = CanFeed old chunk × (new ≡ old)
+Feeds chunk old _ new = ⊥
 
-abbrev pub Works : ℕ → Talk → Outcome → Talk → Type 0
+abbrev pub Works : ℕ → SessionView → Outcome → SessionView → Type 0
 Works budget old (Worked steps) new = WorkedOn old budget steps new
 Works budget old (Refused OutOfMemory) new = Stopped old new
 Works budget old _ new = ⊥
 
-abbrev pub Takes : ℕ → Talk → Outcome → Talk → Type 0
+abbrev pub Takes : ℕ → SessionView → Outcome → SessionView → Type 0
 Takes n old (Gave bytes) new = Taken old n bytes new
 Takes n old (Refused NotReady) new = (length old.queued < n) × (new ≡ old)
 Takes n old (Refused OutOfMemory) new = (n ≤ length old.queued) × (new ≡ old)

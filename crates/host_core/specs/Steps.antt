@@ -3,7 +3,7 @@ use Rattle.std.specs.Prelude.{◌≡◌, ℕ, ◌+◌, [], Option, Some, None}
 use Rattle.session_slots.specs.declared.id.SessionId.{SessionId}
 use Rattle.session_slots.specs.Slots.{OpenSessions, find, with_session, count, Opens, OthersKept, IsFull}
 use Rattle.shared_table.specs.Recent.{Table}
-use Rattle.usi_session.specs.Due.{Talk}
+use Rattle.usi_session.specs.Due.{SessionView}
 use Rattle.host_core.specs.declared.event.HostFault.TheVariants.{Full, OutOfMemory, UnknownSession}
 use Rattle.host_core.specs.Events.{Event, Open, Feed, Work, Take, Close, Outcome, Opened, Done, Refused}
 use Rattle.host_core.specs.Sessions.{Feeds, Works, Takes}
@@ -23,13 +23,13 @@ pub record Unknown (old : HostState) (outcome : Outcome) (new : HostState) : Typ
   pub same : new ≡ old
 
 -- the session of the id answered, and no other changed
-pub record Changed (goes : Talk → Outcome → Talk → Type 0) (old : HostState) (id : SessionId) (session : Talk) (outcome : Outcome) (new : HostState) : Type 0 where
-  pub after : Talk
+pub record Changed (goes : SessionView → Outcome → SessionView → Type 0) (old : HostState) (id : SessionId) (session : SessionView) (outcome : Outcome) (new : HostState) : Type 0 where
+  pub after : SessionView
   pub went : goes session outcome after
   pub slots_are : new.slots ≡ with_session old.slots id after
 
 -- the session of the id answers, where it is open
-abbrev pub OnSession : (Talk → Outcome → Talk → Type 0) → HostState → SessionId → Option Talk → Outcome → HostState → Type 0
+abbrev pub OnSession : (SessionView → Outcome → SessionView → Type 0) → HostState → SessionId → Option SessionView → Outcome → HostState → Type 0
 OnSession goes old id None outcome new = Unknown old outcome new
 OnSession goes old id (Some session) outcome new = Changed goes old id session outcome new
 
@@ -56,14 +56,14 @@ pub record Closed (old : HostState) (id : SessionId) (outcome : Outcome) (new : 
   pub count_is : count new.slots + 1 ≡ count old.slots
   pub table_is : new.table ≡ old.table
 
-abbrev pub IsClosed : HostState → SessionId → Option Talk → Outcome → HostState → Type 0
+abbrev pub IsClosed : HostState → SessionId → Option SessionView → Outcome → HostState → Type 0
 IsClosed old id None outcome new = Unknown old outcome new
 IsClosed old id (Some session) outcome new = Closed old id outcome new
 
 -- each event with its outcome, and the host after it; only `Work` may change the table
 abbrev pub Stepped : HostState → Event → Outcome → HostState → Type 0
 Stepped old Open outcome new = IsOpened old outcome new
-Stepped old (Feed id piece) outcome new = OnSession (Feeds piece) old id (find old.slots id) outcome new × (new.table ≡ old.table)
+Stepped old (Feed id chunk) outcome new = OnSession (Feeds chunk) old id (find old.slots id) outcome new × (new.table ≡ old.table)
 Stepped old (Work id budget) outcome new = OnSession (Works budget) old id (find old.slots id) outcome new
 Stepped old (Take id n) outcome new = OnSession (Takes n) old id (find old.slots id) outcome new × (new.table ≡ old.table)
 Stepped old (Close id) outcome new = IsClosed old id (find old.slots id) outcome new

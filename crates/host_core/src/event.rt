@@ -13,7 +13,7 @@ pub enum HostFault {
     OutOfMemory,
     /// No session is open under the id: it was never given out, or its session was closed.
     UnknownSession,
-    /// The session wants no input, a piece is too long, or fewer bytes are queued than were asked for.
+    /// The session wants no input, a chunk is too long, or fewer bytes are queued than were asked for.
     NotReady,
 }
 

@@ -3,7 +3,7 @@
 ghost use Rattle.std.specs.Prelude.{◌≡◌, ◌≤◌, ◌<◌, ◌+◌, ◌-◌, ◌^◌, IfOk, IsErrOf, IsSome, OnErr, Err, true, length, take, vec_len};
 ghost use Rattle.session_slots.specs.Slots.{find, IsBelow};
 ghost use Rattle.shared_table.specs.Recent.{AreTrue};
-ghost use Rattle.host_core.specs.ById.{IsOutput, queued_of, pending_of, wants_input_of, is_over_of};
+ghost use Rattle.host_core.specs.ById.{IsQueue, queued_of, pending_of, wants_input_of, is_over_of};
 ghost use Rattle.host_core.specs.Events.{Open, Feed, Work, Take, Close};
 ghost use Rattle.host_core.specs.Headline.{FrontOfReplies, AllReplies, GoesOn};
 ghost use Rattle.host_core.specs.Kept.{KeepsOthers, is_refused};
@@ -12,6 +12,7 @@ ghost use Rattle.host_core.specs.Runs.{IsRun};
 ghost use Rattle.host_core.specs.Seen.{event_of, outcome_of, answered, passed_of};
 ghost use Rattle.host_core.specs.Steps.{HostState, Stepped, new_host};
 ghost use Rattle.host_core.specs.declared.event.HostFault.TheVariants.{OutOfMemory};
+ghost use Rattle.session_slots.specs.declared.limits.TheConstants.{SESSIONS_MAX};
 
 use crate::event::{Event, HostFault, Outcome};
 use crate::round::{Round, counted};
@@ -46,7 +47,7 @@ impl<S: BuildHasher, A: Allocator + Copy> Host<S, A> {
     where
         S: Drop,
         requires least_slots { 1 ≤ slots }
-        requires most_slots { slots ≤ 1024 }
+        requires most_slots { slots ≤ SESSIONS_MAX }
         requires least_entries { 1 ≤ entries }
         requires most_entries { entries ≤ 1000000 }
         ensures new { IfOk result (λ host. host ≡ new_host slots entries) }
@@ -144,7 +145,7 @@ impl<S: BuildHasher, A: Allocator + Copy> Host<S, A> {
 
     /// The queued bytes of a session, or `None` where none is open under the id.
     pub fn output(&self, id: SessionId) -> Option<&[u8]>
-        ensures { IsOutput (find self.now.slots id) result }
+        ensures { IsQueue (find self.now.slots id) result }
     {
         match self.slots.get(id) {
             Some(session) => Some(session.output()),
@@ -185,18 +186,20 @@ impl<S: BuildHasher, A: Allocator + Copy> Host<S, A> {
         }
     }
 
+    /// Answers an event as the method of its name does.
     fn answer(&mut self, event: Event<'_>) -> Outcome<A>
         ensures { Stepped self.old (event_of event.entry) (outcome_of result) self.new }
     {
         match event {
             Event::Open => self.open(),
-            Event::Feed(id, piece) => self.feed(id, piece),
+            Event::Feed(id, chunk) => self.feed(id, chunk),
             Event::Work(id, budget) => self.work(id, budget),
             Event::Take(id, n) => self.take(id, n),
             Event::Close(id) => self.close(id),
         }
     }
 
+    /// `Event::Open`.
     fn open(&mut self) -> Outcome<A>
         ensures { Stepped self.old Open (outcome_of result) self.new }
     {
@@ -207,15 +210,17 @@ impl<S: BuildHasher, A: Allocator + Copy> Host<S, A> {
         }
     }
 
-    fn feed(&mut self, id: SessionId, piece: &[u8]) -> Outcome<A>
-        ensures { Stepped self.old (Feed id piece.now) (outcome_of result) self.new }
+    /// `Event::Feed`.
+    fn feed(&mut self, id: SessionId, chunk: &[u8]) -> Outcome<A>
+        ensures { Stepped self.old (Feed id chunk.now) (outcome_of result) self.new }
     {
         match self.slots.get_mut(id) {
-            Some(session) => serve::feed(session, piece),
+            Some(session) => serve::feed(session, chunk),
             None => Outcome::Refused(HostFault::UnknownSession),
         }
     }
 
+    /// `Event::Work`.
     fn work(&mut self, id: SessionId, budget: u64) -> Outcome<A>
         ensures { Stepped self.old (Work id budget) (outcome_of result) self.new }
     {
@@ -225,6 +230,7 @@ impl<S: BuildHasher, A: Allocator + Copy> Host<S, A> {
         }
     }
 
+    /// `Event::Take`.
     fn take(&mut self, id: SessionId, n: usize) -> Outcome<A>
         ensures { Stepped self.old (Take id n) (outcome_of result) self.new }
     {
@@ -235,6 +241,7 @@ impl<S: BuildHasher, A: Allocator + Copy> Host<S, A> {
         }
     }
 
+    /// `Event::Take`, without handing the bytes out.
     fn drop_front(&mut self, id: SessionId, n: usize) -> Result<(), HostFault>
         ensures taken { Stepped self.old (Take id n) (passed_of (take n (queued_of (find self.old.slots id))) result) self.new }
         ensures no_memory { IsErrOf result OutOfMemory → ⊥ }
@@ -245,6 +252,7 @@ impl<S: BuildHasher, A: Allocator + Copy> Host<S, A> {
         }
     }
 
+    /// `Event::Close`.
     fn close(&mut self, id: SessionId) -> Outcome<A>
         ensures { Stepped self.old (Close id) (outcome_of result) self.new }
     {
@@ -258,9 +266,9 @@ impl<S: BuildHasher, A: Allocator + Copy> Host<S, A> {
     fn round_at(&mut self, id: SessionId, budget: u64, round: Round) -> Round
         requires open { IsSome (find self.old.slots id) }
         requires not_last { id.slot < 2 ^ 64 - 1 }
-        requires few { round.worked + round.refused ≤ id.slot }
+        requires most { round.worked + round.refused ≤ id.slot }
         ensures goes_on { (start : HostState) → RoundTo start budget id.slot round.worked round.refused self.old → RoundTo start budget (id.slot + 1) result.worked result.refused self.new }
-        ensures few { result.worked + result.refused ≤ id.slot + 1 }
+        ensures most { result.worked + result.refused ≤ id.slot + 1 }
     {
         if !self.pending(id) {
             return round;

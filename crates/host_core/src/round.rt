@@ -19,7 +19,7 @@ pub fn counted<A: Allocator>(round: Round, outcome: &Outcome<A>) -> Round
     requires { round.worked + round.refused < 2 ^ 64 - 1 }
     ensures worked { result.worked ≡ round.worked + cond (has_worked (outcome_of outcome.now)) 1 0 }
     ensures refused { result.refused ≡ round.refused + cond (was_refused (outcome_of outcome.now)) 1 0 }
-    ensures few { result.worked + result.refused ≤ round.worked + round.refused + 1 }
+    ensures most { result.worked + result.refused ≤ round.worked + round.refused + 1 }
 {
     let Round { worked, refused } = round;
     match outcome {

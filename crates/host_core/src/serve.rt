@@ -9,19 +9,16 @@ use crate::bytes::Bytes;
 use crate::event::{HostFault, Outcome};
 use shogi_search::Memo;
 use std::alloc::Allocator;
-use usi_session::Session;
-
-/// The most bytes of one feed.
-const PIECE: usize = 4096;
+use usi_session::{CHUNK_MAX, Session};
 
 /// Stores the bytes, where the session may be fed.
-pub fn feed<A: Allocator + Copy>(session: &mut Session<A>, piece: &[u8]) -> Outcome<A>
-    ensures { Feeds piece.now session.old (outcome_of result) session.new }
+pub fn feed<A: Allocator + Copy>(session: &mut Session<A>, chunk: &[u8]) -> Outcome<A>
+    ensures { Feeds chunk.now session.old (outcome_of result) session.new }
 {
-    if piece.len() > PIECE || !session.wants_input() {
+    if chunk.len() > CHUNK_MAX || !session.wants_input() {
         return Outcome::Refused(HostFault::NotReady);
     }
-    match session.feed(piece) {
+    match session.feed(chunk) {
         Ok(()) => Outcome::Done,
         Err(_) => Outcome::Refused(HostFault::OutOfMemory),
     }

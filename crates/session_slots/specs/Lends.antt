@@ -2,7 +2,7 @@
 use Rattle.std.specs.Prelude.{Option}
 use Rattle.std.specs.Borrow.{Lends, LendsIf, Fml, RattleType, MutBor}
 use Rattle.std.specs.declared.alloc.Allocator.{Ghosts}
-use Rattle.usi_session.specs.Due.{Talk}
+use Rattle.usi_session.specs.Due.{SessionView}
 use Rattle.usi_session.specs.contracts.session.Session.{the_row as session_row}
 use Rattle.session_slots.specs.Slots.{OpenSessions, with_session}
 use Rattle.session_slots.specs.declared.id.SessionId.{SessionId}
@@ -10,9 +10,9 @@ use Rattle.session_slots.specs.contracts.slots.Slots.{the_row}
 
 module _ (A : RattleType) (alloc : Ghosts A.Denot) (s : MutBor OpenSessions) (id : SessionId) where
   -- once the borrow ends, the id has the session as it was left
-  abbrev pub lends_found : MutBor Talk → Fml
+  abbrev pub lends_found : MutBor SessionView → Fml
   lends_found r = Lends (the_row A alloc) (session_row A alloc) s r (with_session s.now id)
 
   -- the same where the session is open; else the slots stay as they are
-  abbrev pub lends_if_found : Option (MutBor Talk) → Fml
+  abbrev pub lends_if_found : Option (MutBor SessionView) → Fml
   lends_if_found r = LendsIf (the_row A alloc) (session_row A alloc) s r (with_session s.now id) s.now

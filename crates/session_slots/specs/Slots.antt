@@ -1,12 +1,12 @@
 -- Open sessions under their ids (own choice).
 use Rattle.std.specs.Prelude.{◌≡◌, ◌≢◌, ℕ, ◌+◌, ◌-◌, ◌^◌, ◌≤◌, ◌<◌, ◌⊎◌, ◌==◌, List, Option, Some, None, IsSome, cond, is_some, count_by, slice_index_or, slice_set}
 use Rattle.session_slots.specs.declared.id.SessionId.{SessionId}
-use Rattle.usi_session.specs.Due.{Talk, new_talk}
+use Rattle.usi_session.specs.Due.{SessionView, new_session}
 
 -- an open session, and its generation
 pub record OpenSession : Type 0 where
   pub generation : ℕ
-  pub session : Talk
+  pub session : SessionView
 
 -- how many may be open, the generation of the next one, and the slots
 pub record OpenSessions : Type 0 where
@@ -15,12 +15,12 @@ pub record OpenSessions : Type 0 where
   pub slots : List (Option OpenSession)
 
 -- the session of a slot, where it has this generation
-abbrev pub of_generation : ℕ → Option OpenSession → Option Talk
+abbrev pub of_generation : ℕ → Option OpenSession → Option SessionView
 of_generation generation None = None
 of_generation generation (Some o) = cond (o.generation == generation) (Some o.session) None
 
 -- the session of an id, if it is open
-abbrev pub find : OpenSessions → SessionId → Option Talk
+abbrev pub find : OpenSessions → SessionId → Option SessionView
 find s id = of_generation id.generation (slice_index_or s.slots id.slot None)
 
 -- how many are open
@@ -28,7 +28,7 @@ abbrev pub count : OpenSessions → ℕ
 count s = count_by is_some s.slots
 
 -- after a write to the session of an id
-abbrev pub with_session : OpenSessions → SessionId → Talk → OpenSessions
+abbrev pub with_session : OpenSessions → SessionId → SessionView → OpenSessions
 with_session s id session = record s { slots = slice_set s.slots id.slot (Some (record { generation = id.generation; session = session })) }
 
 -- each other id finds what it found
@@ -40,7 +40,7 @@ pub record Opens (old new : OpenSessions) (id : SessionId) : Type 0 where
   pub generation_is : id.generation ≡ old.next
   pub next_is : new.next ≡ old.next + 1
   pub was : find old id ≡ None
-  pub now : find new id ≡ Some new_talk
+  pub now : find new id ≡ Some new_session
   pub others : OthersKept old new id
   pub max_is : new.max ≡ old.max
   pub count_is : count new ≡ count old + 1

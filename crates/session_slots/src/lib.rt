@@ -2,10 +2,12 @@
 #![tactic(auto)]
 
 mod id;
+mod limits;
 mod slot;
 mod slots;
 #[cfg(test)]
 mod tests;
 
 pub use id::SessionId;
+pub use limits::SESSIONS_MAX;
 pub use slots::{SlotFault, Slots};

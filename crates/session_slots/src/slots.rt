@@ -6,6 +6,7 @@ ghost use Rattle.std.specs.Borrow.{sem};
 ghost use Rattle.session_slots.specs.declared.slots.SlotFault.TheVariants as SlotFault;
 ghost use Rattle.session_slots.specs.Order.{next_of};
 ghost use Rattle.session_slots.specs.Slots.{find, count, Opens, OthersKept, IsFull, IsBelow, IsSpent};
+ghost use Rattle.session_slots.specs.declared.limits.TheConstants.{SESSIONS_MAX};
 
 use crate::id::SessionId;
 use crate::slot::Slot;
@@ -52,7 +53,7 @@ impl<A: Allocator + Copy> Slots<A> {
     /// No session is open, and at most `max` may be at a time, from 1 to 1,024. It takes no memory.
     pub fn new(alloc: A, max: usize) -> Slots<A>
         requires least { 1 ≤ max }
-        requires most { max ≤ 1024 }
+        requires most { max ≤ SESSIONS_MAX }
         ensures { result ≡ record { max = max; next = 0; slots = [] } }
     {
         Slots {
@@ -77,9 +78,9 @@ impl<A: Allocator + Copy> Slots<A> {
         self.slots.len() >= self.max || self.next == u64::MAX
     }
 
-    /// Opens a session at its start: the opening position, Depth 3, nothing held. Its generation is
-    /// the number of sessions opened before it, so no id comes twice. `Full` is looked at first;
-    /// a refusal uses no generation.
+    /// Opens a session at its start: the opening position, each option at its default, nothing held.
+    /// Its generation is the number of sessions opened before it, so no id comes twice. `Full` is
+    /// looked at first; a refusal uses no generation.
     pub fn open(&mut self) -> Result<SessionId, SlotFault>
         ensures opened { IfOk result (λ id. Opens self.old self.new id) }
         ensures full { (result ≡ Err SlotFault.Full) ↔ IsFull self.old }

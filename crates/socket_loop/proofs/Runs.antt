@@ -4,7 +4,7 @@ use Rattle.std.specs.Prelude.{◌||◌}
 use Rattle.std.proofs.lemmas.Bool.{or_left, or_right, or_cases}
 use Rattle.session_slots.specs.declared.id.SessionId.{SessionId}
 use Rattle.session_slots.specs.Slots.{find}
-use Rattle.usi_session.specs.Due.{Talk}
+use Rattle.usi_session.specs.Due.{SessionView}
 use Rattle.host_core.specs.Steps.{HostState, Stepped, IsClosed}
 use Rattle.host_core.specs.Events.{Event, Outcome, Close}
 use Rattle.host_core.specs.Made.{Step, own, taken, own_by, taken_by, opens, is_opened}
@@ -115,7 +115,7 @@ next_rises old new (step ∷ rest) r =
 pub step_rises : (old new : HostState) (event : Event) (o : Outcome) → Stepped old event o new → old.slots.next ≤ new.slots.next
 step_rises old new event o s = (rises old new (record { slot = 0; generation = 0 }) event o s).rises
 
-closed_none : (old new : HostState) (id : SessionId) (o : Outcome) (found : Option Talk) → find old.slots id ≡ found → IsClosed old id found o new → find new.slots id ≡ None
+closed_none : (old new : HostState) (id : SessionId) (o : Outcome) (found : Option SessionView) → find old.slots id ≡ found → IsClosed old id found o new → find new.slots id ≡ None
 closed_none old new id o None e u = ap (λ (h : HostState). find h.slots id) u.same ∙ e
 closed_none old new id o (Some s) e c = c.none
 

@@ -5,7 +5,7 @@ use Rattle.std.proofs.lemmas.Bool.{cond_both}
 use Rattle.std.proofs.KnownBytes.{Appends-kept, Keeps-trans}
 use Rattle.session_slots.specs.declared.id.SessionId.{SessionId}
 use Rattle.session_slots.specs.Slots.{find}
-use Rattle.usi_session.specs.Due.{Talk, due}
+use Rattle.usi_session.specs.Due.{SessionView, due}
 use Rattle.usi_session.specs.Replies.{replies}
 use Rattle.host_core.specs.Steps.{HostState}
 use Rattle.host_core.specs.Events.{Event}
@@ -129,7 +129,7 @@ turned slice held accepted_ read_ written_ last f t a b c d e h i j k l m worked
 
 -- ---- one connection
 
-some_none : (found : Option Talk) (lost : List ℕ) → found ≡ None → IsSome found → lost ≡ []
+some_none : (found : Option SessionView) (lost : List ℕ) → found ≡ None → IsSome found → lost ≡ []
 some_none None lost e some = absurd (cc)
 some_none (Some t) lost e some = absurd (cc)
 

@@ -3,7 +3,7 @@ use Rattle.std.specs.Prelude.{◌≡◌, ◌<◌, ◌⊎◌, ⊤, ℕ, List, [],
 use Rattle.std.specs.Io.KnownBytes.{Keeps, Appends, Consumes}
 use Rattle.session_slots.specs.declared.id.SessionId.{SessionId}
 use Rattle.session_slots.specs.Slots.{find}
-use Rattle.usi_session.specs.Due.{Talk, is_pending}
+use Rattle.usi_session.specs.Due.{SessionView, is_pending}
 use Rattle.host_core.specs.declared.event.HostFault.TheVariants.{OutOfMemory}
 use Rattle.host_core.specs.Steps.{HostState}
 use Rattle.host_core.specs.Events.{Outcome, Event, Opened, Done, Worked, Gave, Refused, Open, Feed, Work, Take, Close}
@@ -115,7 +115,7 @@ pub record GaveBytes (old new : Told) (number : ℕ) (bytes : List ℕ) : Type 0
   pub others : KeepsOthers old new number
 
 -- the host no longer has the session; or it is over, or the reads have ended, and nothing is pending or queued
-abbrev pub is_finished_with : Bool → Option Talk → Bool
+abbrev pub is_finished_with : Bool → Option SessionView → Bool
 is_finished_with has_ended None = true
 is_finished_with has_ended (Some t) = (has_ended || t.state.is_over) && (length t.queued == 0) && not (is_pending t)
 

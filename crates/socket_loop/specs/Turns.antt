@@ -3,7 +3,7 @@ use Rattle.std.specs.Prelude.{◌≡◌, ◌<◌, ◌≤◌, ◌⊎◌, ⊤, ℕ
 use Rattle.std.specs.Io.KnownBytes.{Keeps, Appends, Consumes}
 use Rattle.session_slots.specs.declared.id.SessionId.{SessionId}
 use Rattle.session_slots.specs.Slots.{find}
-use Rattle.usi_session.specs.Due.{Talk, due}
+use Rattle.usi_session.specs.Due.{SessionView, due}
 use Rattle.usi_session.specs.Replies.{replies}
 use Rattle.host_core.specs.declared.event.HostFault.{HostFault}
 use Rattle.host_core.specs.declared.event.HostFault.TheVariants.{Full}
@@ -169,7 +169,7 @@ pub record IsTurn (slice : ℕ) (held : List Connection) (from : ℕ) (old : Tol
   pub all : AllMove old new
 
 -- what was read from a connection, and written to it: all that its session owes to what was read, but for what it owes still; or, where it is closed, a front of it
-pub record Served (owes : List ℕ → List ℕ) (old new : Told) (number : ℕ) (now : Option Talk) : Type 0 where
+pub record Served (owes : List ℕ → List ℕ) (old new : Told) (number : ℕ) (now : Option SessionView) : Type 0 where
   pub read : List ℕ
   pub lost : List ℕ
   pub written : List ℕ
@@ -180,7 +180,7 @@ pub record Served (owes : List ℕ → List ℕ) (old new : Told) (number : ℕ)
 
 -- each connection that was held before, with its session open
 abbrev pub GoesOnServing : List Link → Told → HostState → Told → HostState → Type 0
-GoesOnServing links old before new after = (link : Link) (s : Talk) → IsAmong links link → find before.slots link.id ≡ Some s → Served (due s) old new link.number (find after.slots link.id)
+GoesOnServing links old before new after = (link : Link) (s : SessionView) → IsAmong links link → find before.slots link.id ≡ Some s → Served (due s) old new link.number (find after.slots link.id)
 
 -- each connection that is held after, and was not before
 abbrev pub ServesNew : List Link → Told → List Link → Told → HostState → Type 0

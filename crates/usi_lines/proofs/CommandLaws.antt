@@ -5,9 +5,12 @@ use Rattle.std.specs.Option.{option_map_or}
 use Rattle.std.specs.Str.{bytes_eq}
 use Rattle.std.proofs.lemmas.Bool.{cond_both}
 use Rattle.shogi_sfen.specs.Words.{words, after_word}
-use Rattle.shogi_sfen.specs.Numbers.{is_number, number_written}
+use Rattle.shogi_sfen.specs.Numbers.{is_number, number_of}
 use Rattle.usi_lines.specs.declared.command.Hold.{Hold}
-use Rattle.usi_lines.specs.Commands.{Command, Usi, IsReady, NewGame, BadPosition, GoMate, Stop, PonderHit, GameOver, Quit, Start, Sfen, Other, SetDepth, Go, depth_read, depth_set, depth_first, depth_of, position_of, hold_of, has_word, named_by, by_words, command_of, IsDepth, HasDepthInRange}
+use Rattle.usi_lines.specs.declared.options.TheConstants.{DEPTH_MIN, DEPTH_MAX}
+use Rattle.usi_lines.specs.Commands.{Command, Usi, IsReady, NewGame, BadPosition, GoMate, Stop, PonderHit, GameOver, Quit, Start, Sfen, Other, SetDepth, Go}
+use Rattle.usi_lines.specs.Options.{IsDepth, IsInRange, depth_read, command_for, option_of}
+use Rattle.usi_lines.specs.CommandLines.{depth_first, depth_of, position_of, hold_of, has_word, named_by, by_words, command_of}
 
 pub command_of-none : (line : List ℕ) → words line ≡ [] → Other ≡ command_of line
 unfolding command_of
@@ -19,20 +22,11 @@ command_of-some line name rest e r =
     ap (λ (t : List ℕ). named_by name (words rest) (after_word t)) r
     ∙ sym (ap (λ (ws : List (List ℕ)). by_words ws (after_word (after_word line))) e)
 
-clamped : (n : ℕ) → IsDepth (max 1 (min 16 n))
-clamped n = record { low = omega arith; high = omega arith }
+clamped : (n : ℕ) → IsDepth (max DEPTH_MIN (min DEPTH_MAX n))
+clamped n = record { least = omega arith; most = omega arith }
 
 depth_read_fits : (word : List ℕ) → IfSome (depth_read word) IsDepth
-depth_read_fits word = cond_both (is_number word) (Some (max 1 (min 16 (number_written word)))) None (λ (o : Option ℕ). IfSome o IsDepth) (λ e. clamped (number_written word)) (λ e. tt)
-
-depth_set_fits : (ws : List (List ℕ)) → IfSome (depth_set ws) IsDepth
-depth_set_fits [] = tt
-depth_set_fits (a ∷ []) = tt
-depth_set_fits (a ∷ b ∷ []) = tt
-depth_set_fits (a ∷ b ∷ c ∷ []) = tt
-depth_set_fits (a ∷ b ∷ c ∷ d ∷ []) =
-    cond_both (bytes_eq a (codes "name") && bytes_eq b (codes "Depth") && bytes_eq c (codes "value")) (depth_read d) None (λ (o : Option ℕ). IfSome o IsDepth) (λ e. depth_read_fits d) (λ e. tt)
-depth_set_fits (a ∷ b ∷ c ∷ d ∷ f ∷ more) = tt
+depth_read_fits word = cond_both (is_number word) (Some (max DEPTH_MIN (min DEPTH_MAX (number_of word)))) None (λ (o : Option ℕ). IfSome o IsDepth) (λ e. clamped (number_of word)) (λ e. tt)
 
 depth_first_fits : (ws : List (List ℕ)) → IfSome (depth_first ws) IsDepth
 depth_first_fits [] = tt
@@ -42,13 +36,13 @@ depth_of_fits : (ws : List (List ℕ)) → IfSome (depth_of ws) IsDepth
 depth_of_fits [] = tt
 depth_of_fits (word ∷ more) = cond_both (bytes_eq word (codes "depth")) (depth_first more) (depth_of more) (λ (o : Option ℕ). IfSome o IsDepth) (λ e. depth_first_fits more) (λ e. depth_of_fits more)
 
--- the depth in a command is in its range
+-- each number in a command is in its range
 record Fits (command : Command) : Type 0 where
-  in_range : HasDepthInRange command
+  in_range : IsInRange command
 
-set_fits : (o : Option ℕ) → IfSome o IsDepth → Fits (option_map_or SetDepth o Other)
-set_fits None h = record { in_range = tt }
-set_fits (Some d) h = record { in_range = h }
+depth_set_fits : (o : Option ℕ) → IfSome o IsDepth → Fits (option_map_or SetDepth o Other)
+depth_set_fits None h = record { in_range = tt }
+depth_set_fits (Some d) h = record { in_range = h }
 
 go_fits : (o : Option ℕ) (hold : Hold) → IfSome o IsDepth → Fits (Go o hold)
 go_fits None hold h = record { in_range = tt }
@@ -57,8 +51,23 @@ go_fits (Some d) hold h = record { in_range = h }
 either : (b : Bool) (x y : Command) → Fits x → Fits y → Fits (cond b x y)
 either b x y p q = cond_both b x y Fits (λ e. p) (λ e. q)
 
-plain : (command : Command) → HasDepthInRange command → Fits command
+plain : (command : Command) → IsInRange command → Fits command
 plain command h = record { in_range = h }
+
+-- a row for each option
+command_for_fits : (name value : List ℕ) → Fits (command_for name value)
+command_for_fits name value =
+    either (bytes_eq name (codes "Depth")) _ _ (depth_set_fits (depth_read value) (depth_read_fits value)) (
+    plain Other tt)
+
+option_fits : (ws : List (List ℕ)) → Fits (option_of ws)
+option_fits [] = plain Other tt
+option_fits (a ∷ []) = plain Other tt
+option_fits (a ∷ b ∷ []) = plain Other tt
+option_fits (a ∷ b ∷ c ∷ []) = plain Other tt
+option_fits (a ∷ b ∷ c ∷ d ∷ []) =
+    either (bytes_eq a (codes "name") && bytes_eq c (codes "value")) _ _ (command_for_fits b d) (plain Other tt)
+option_fits (a ∷ b ∷ c ∷ d ∷ e ∷ more) = plain Other tt
 
 position_fits : (ws : List (List ℕ)) (rest : List ℕ) → Fits (position_of ws rest)
 position_fits [] rest = record { in_range = tt }
@@ -73,7 +82,7 @@ named_fits name ws rest =
     either (bytes_eq name (codes "ponderhit")) _ _ (plain PonderHit tt) (
     either (bytes_eq name (codes "gameover")) _ _ (plain GameOver tt) (
     either (bytes_eq name (codes "quit")) _ _ (plain Quit tt) (
-    either (bytes_eq name (codes "setoption")) _ _ (set_fits (depth_set ws) (depth_set_fits ws)) (
+    either (bytes_eq name (codes "setoption")) _ _ (option_fits ws) (
     either (bytes_eq name (codes "position")) _ _ (position_fits ws rest) (
     either (bytes_eq name (codes "go")) _ _ (either (has_word (codes "mate") ws) _ _ (plain GoMate tt) (go_fits (depth_of ws) (hold_of ws) (depth_of_fits ws))) (
     plain Other tt))))))))))
@@ -82,6 +91,6 @@ by_words_fits : (ws : List (List ℕ)) (rest : List ℕ) → Fits (by_words ws r
 by_words_fits [] rest = record { in_range = tt }
 by_words_fits (name ∷ ws) rest = named_fits name ws rest
 
-pub command_of_fits : (line : List ℕ) → HasDepthInRange (command_of line)
+pub command_of_fits : (line : List ℕ) → IsInRange (command_of line)
 unfolding command_of
 command_of_fits line = (by_words_fits (words line) (after_word (after_word line))).in_range

@@ -8,6 +8,7 @@ use Rattle.std.proofs.lemmas.List.Folds.{prefix_len-append, length-prefix_len}
 use Rattle.std.proofs.lemmas.Bool.{cond-true, cond-false, lt-ltb, le-ltb, cond_both}
 use Rattle.shogi_sfen.proofs.WordLaws.{position_or_len-yes, position_or_len-no, position_or_len-le}
 use Rattle.usi_lines.specs.Lines.{Text, TooLong, is_line_feed, is_too_long, lines_of_parts, lines}
+use Rattle.usi_lines.specs.declared.line.TheConstants.{LINE_MAX}
 
 -- the first part, and some others
 record Parts (xs : List ℕ) : Type 0 where
@@ -58,25 +59,25 @@ open_part [] h = refl
 open_part (x ∷ xs) h = open-cons x xs (open_part xs) (is_line_feed x) refl h
 
 -- a first part that is too long ends the lines
-long_part : (part : List ℕ) (more : List (List ℕ)) → 65535 < length part → lines_of_parts (part ∷ more) ≡ TooLong ∷ []
-long_part part [] h = cond-true (is_too_long part) _ _ (lt-ltb 65535 (length part) h)
-long_part part (next ∷ more) h = cond-true (is_too_long part) _ _ (lt-ltb 65535 (length part) h)
+long_part : (part : List ℕ) (more : List (List ℕ)) → LINE_MAX < length part → lines_of_parts (part ∷ more) ≡ TooLong ∷ []
+long_part part [] h = cond-true (is_too_long part) _ _ (lt-ltb LINE_MAX (length part) h)
+long_part part (next ∷ more) h = cond-true (is_too_long part) _ _ (lt-ltb LINE_MAX (length part) h)
 
-whole_part : (part next : List ℕ) (more : List (List ℕ)) → length part ≤ 65535 → lines_of_parts (part ∷ next ∷ more) ≡ Text (strip_carriage_return part) ∷ lines_of_parts (next ∷ more)
-whole_part part next more h = cond-false (is_too_long part) _ _ (le-ltb 65535 (length part) h)
+whole_part : (part next : List ℕ) (more : List (List ℕ)) → length part ≤ LINE_MAX → lines_of_parts (part ∷ next ∷ more) ≡ Text (strip_carriage_return part) ∷ lines_of_parts (next ∷ more)
+whole_part part next more h = cond-false (is_too_long part) _ _ (le-ltb LINE_MAX (length part) h)
 
-pub lines-long : (xs : List ℕ) → 65535 < position_or_len is_line_feed xs → lines xs ≡ TooLong ∷ []
+pub lines-long : (xs : List ℕ) → LINE_MAX < position_or_len is_line_feed xs → lines xs ≡ TooLong ∷ []
 unfolding lines
 lines-long xs h =
     let p : Parts xs = parts_of xs in
     let n : length (before_first is_line_feed xs) ≡ position_or_len is_line_feed xs = length-prefix_len (λ b. not (is_line_feed b)) xs in
     ap lines_of_parts p.parts ∙ long_part (before_first is_line_feed xs) p.more (omega arith)
 
-pub lines-open : (xs : List ℕ) → position_or_len is_line_feed xs ≡ length xs → length xs ≤ 65535 → lines xs ≡ []
+pub lines-open : (xs : List ℕ) → position_or_len is_line_feed xs ≡ length xs → length xs ≤ LINE_MAX → lines xs ≡ []
 unfolding lines
-lines-open xs e h = ap lines_of_parts (open_part xs e) ∙ cond-false (is_too_long xs) _ _ (le-ltb 65535 (length xs) h)
+lines-open xs e h = ap lines_of_parts (open_part xs e) ∙ cond-false (is_too_long xs) _ _ (le-ltb LINE_MAX (length xs) h)
 
-pub lines-text : (xs ys : List ℕ) → position_or_len is_line_feed xs < length xs → position_or_len is_line_feed xs ≤ 65535
+pub lines-text : (xs ys : List ℕ) → position_or_len is_line_feed xs < length xs → position_or_len is_line_feed xs ≤ LINE_MAX
     → lines (xs ++ ys) ≡ Text (strip_carriage_return (before_first is_line_feed xs)) ∷ lines (drop (suc (position_or_len is_line_feed xs)) xs ++ ys)
 unfolding lines
 lines-text xs ys below fits =

@@ -1,12 +1,6 @@
--- The command of a line (USI, commands of a front end; that depths are clamped to 1 to 16 is an own choice).
-use Rattle.std.specs.Prelude.{ℕ, ◌≤◌, Bool, ◌&&◌, List, [], ◌∷◌, Option, Some, None, cond, min, max, codes}
-use Rattle.std.specs.List.{list_any}
-use Rattle.std.specs.Option.{option_map_or}
-use Rattle.std.specs.Str.{bytes_eq}
-use Rattle.shogi_sfen.specs.Words.{words, rest_after}
-use Rattle.shogi_sfen.specs.Numbers.{is_number, number_written}
+-- The commands of USI (USI, commands of a front end).
+use Rattle.std.specs.Prelude.{ℕ, List, Option}
 use Rattle.usi_lines.specs.declared.command.Hold.{Hold}
-use Rattle.usi_lines.specs.declared.command.Hold.TheVariants.{Nothing, UntilStop, UntilHit}
 
 -- a command, with the bytes of a position as a list
 pub data Command : Type 0 where
@@ -14,76 +8,3 @@ pub data Command : Type 0 where
   SetDepth : (depth : ℕ) → Command
   Start Sfen : (text : List ℕ) → Command
   Go : (depth : Option ℕ) (hold : Hold) → Command
-
--- the word is among these
-abbrev pub has_word : List ℕ → List (List ℕ) → Bool
-has_word name ws = list_any (λ word. bytes_eq word name) ws
-
--- a depth, clamped to 1 to 16, where the word is a number
-abbrev pub depth_read : List ℕ → Option ℕ
-depth_read word = cond (is_number word) (Some (max 1 (min 16 (number_written word)))) None
-
--- exactly the words name Depth value N
-abbrev pub depth_set : List (List ℕ) → Option ℕ
-depth_set (name ∷ option ∷ value ∷ number ∷ []) =
-    cond (bytes_eq name (codes "name") && bytes_eq option (codes "Depth") && bytes_eq value (codes "value")) (depth_read number) None
-depth_set _ = None
-
--- what a position is given by, and the bytes after that word
-abbrev pub position_of : List (List ℕ) → List ℕ → Command
-position_of [] rest = BadPosition
-position_of (word ∷ more) rest =
-    cond (bytes_eq word (codes "startpos")) (Start rest)
-    (cond (bytes_eq word (codes "sfen")) (Sfen rest) BadPosition)
-
--- the depth in the first of these words
-abbrev pub depth_first : List (List ℕ) → Option ℕ
-depth_first [] = None
-depth_first (word ∷ more) = depth_read word
-
--- the depth in the word right after the first word depth
-abbrev pub depth_of : List (List ℕ) → Option ℕ
-depth_of [] = None
-depth_of (word ∷ more) = cond (bytes_eq word (codes "depth")) (depth_first more) (depth_of more)
-
--- the word infinite wins over ponder
-abbrev pub hold_of : List (List ℕ) → Hold
-hold_of ws = cond (has_word (codes "infinite") ws) UntilStop (cond (has_word (codes "ponder") ws) UntilHit Nothing)
-
--- the word mate wins over all others
-abbrev pub go_of : List (List ℕ) → Command
-go_of ws = cond (has_word (codes "mate") ws) GoMate (Go (depth_of ws) (hold_of ws))
-
--- a command by its name, the words after it, and the bytes after the first of those
-abbrev pub named_by : List ℕ → List (List ℕ) → List ℕ → Command
-named_by name ws rest =
-    cond (bytes_eq name (codes "usi")) Usi
-    (cond (bytes_eq name (codes "isready")) IsReady
-    (cond (bytes_eq name (codes "usinewgame")) NewGame
-    (cond (bytes_eq name (codes "stop")) Stop
-    (cond (bytes_eq name (codes "ponderhit")) PonderHit
-    (cond (bytes_eq name (codes "gameover")) GameOver
-    (cond (bytes_eq name (codes "quit")) Quit
-    (cond (bytes_eq name (codes "setoption")) (option_map_or SetDepth (depth_set ws) Other)
-    (cond (bytes_eq name (codes "position")) (position_of ws rest)
-    (cond (bytes_eq name (codes "go")) (go_of ws) Other)))))))))
-
--- a command by all words of its line, and the bytes after the second
-abbrev pub by_words : List (List ℕ) → List ℕ → Command
-by_words [] rest = Other
-by_words (name ∷ ws) rest = named_by name ws rest
-
--- the command of a line
-unfoldable pub command_of : List ℕ → Command
-command_of line = by_words (words line) (rest_after 2 line)
-
--- from 1 to 16
-pub record IsDepth (depth : ℕ) : Type 0 where
-  pub low : 1 ≤ depth
-  pub high : depth ≤ 16
-
--- the depth in a command, if there is one, is from 1 to 16
-abbrev pub HasDepthInRange : Command → Type 0
-HasDepthInRange (SetDepth depth) = IsDepth depth
-HasDepthInRange (Go (Some depth) hold) = IsDepth depth
-HasDepthInRange _ = Unit {0}

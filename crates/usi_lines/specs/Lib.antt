@@ -1,5 +1,7 @@
 pub mod Lines
 pub mod Commands
+pub mod Options
+pub mod CommandLines
 pub mod Seen
 pub use Rattle.shogi_sfen.specs.Words
 pub use Rattle.shogi_sfen.specs.Numbers

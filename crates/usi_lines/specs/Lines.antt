@@ -2,6 +2,7 @@
 use Rattle.std.specs.Prelude.{◌≡◌, ℕ, ◌+◌, ◌≤◌, ◌==◌, Bool, List, [], ◌∷◌, ◌++◌, length, drop, cond, nat_lt}
 use Rattle.std.specs.List.{slice_split, position_or_len}
 use Rattle.std.specs.Str.Lines.{strip_carriage_return}
+use Rattle.usi_lines.specs.declared.line.TheConstants.{LINE_MAX, LINE_FEED}
 
 -- a line without its LF and the CR before it, or the end of all lines
 pub data Line : Type 0 where
@@ -10,11 +11,11 @@ pub data Line : Type 0 where
 
 -- an LF
 abbrev pub is_line_feed : ℕ → Bool
-is_line_feed byte = byte == 10
+is_line_feed byte = byte == LINE_FEED
 
 -- more bytes than a line may have before its LF
 abbrev pub is_too_long : List ℕ → Bool
-is_too_long part = nat_lt 65535 (length part)
+is_too_long part = nat_lt LINE_MAX (length part)
 
 -- the lines in the parts between LFs: the last part has not ended, and one that is too long ends them all
 abbrev pub lines_of_parts : List (List ℕ) → List Line

@@ -1,4 +1,4 @@
-//! A byte stream that comes in pieces, cut into lines.
+//! A byte stream that comes in chunks, cut into lines.
 
 ghost use Rattle.std.specs.Prelude.{◌≡◌, ◌≢◌, ◌↔◌, ◌≤◌, ℕ, false, true, List, [], ◌∷◌, ◌++◌, IsTrue, IsNone, IsOk, IfSome, OnOk, OnErr, drop, vec_len};
 ghost use Rattle.usi_lines.specs.Lines.{Buffer, ahead, TooLong};
@@ -8,10 +8,10 @@ use crate::line::{LINE_MAX, Line, line_len, without_return};
 use std::alloc::{AllocError, Allocator};
 use std::marker::Model;
 
-/// Why a piece was not taken.
+/// Why a chunk was not taken.
 #[derive(Clone, Copy, Debug, PartialEq, Eq)]
 pub enum LineFault {
-    /// No memory for the piece.
+    /// No memory for the chunk.
     OutOfMemory,
 }
 
@@ -68,11 +68,11 @@ impl<A: Allocator> LineBuffer<A> {
         }
     }
 
-    /// Takes the next piece of the stream. After a line that is too long was dropped, pieces are
-    /// accepted and forgotten. `OutOfMemory` comes only where memory for the piece is refused, and
+    /// Takes the next chunk of the stream. After a line that is too long was dropped, chunks are
+    /// accepted and forgotten. `OutOfMemory` comes only where memory for the chunk is refused, and
     /// leaves all as it was.
-    pub fn feed(&mut self, piece: &[u8]) -> Result<(), LineFault>
-        ensures ok { OnOk result ((x : List ℕ) → ahead self.new x ≡ ahead self.old (piece.now ++ x)) }
+    pub fn feed(&mut self, chunk: &[u8]) -> Result<(), LineFault>
+        ensures ok { OnOk result ((x : List ℕ) → ahead self.new x ≡ ahead self.old (chunk.now ++ x)) }
         ensures closed { self.old.closed ≡ true → IsOk result × (self.new ≡ self.old) }
         ensures err { OnErr result (self.new ≡ self.old) }
     {
@@ -80,9 +80,9 @@ impl<A: Allocator> LineBuffer<A> {
             return Ok(());
         }
         let len = self.bytes.len();
-        self.bytes.extend_from_slice(piece)?;
+        self.bytes.extend_from_slice(chunk)?;
         if self.end == len {
-            self.end += line_len(piece);
+            self.end += line_len(chunk);
         }
         Ok(())
     }

@@ -18,7 +18,7 @@ pub enum Command<'a> {
     Usi,
     /// `isready`
     IsReady,
-    /// `setoption name Depth value N`, with N clamped to 1 to 16
+    /// `setoption name Depth value N`, with N clamped to its range
     SetDepth(u8),
     /// `usinewgame`
     NewGame,
@@ -28,7 +28,7 @@ pub enum Command<'a> {
     Sfen(&'a [u8]),
     /// Any other `position` line
     BadPosition,
-    /// `go`; the depth, from 1 to 16, is the number right after the first word `depth`
+    /// `go`; the depth, in its range, is the number right after the first word `depth`
     Go { depth: Option<u8>, hold: Hold },
     /// `go` with the word `mate` after it
     GoMate,

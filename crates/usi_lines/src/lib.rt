@@ -5,13 +5,15 @@ mod buffer;
 mod command;
 mod first;
 mod line;
-mod option;
+mod options;
 mod read;
 #[cfg(test)]
 mod tests;
+mod words;
 
 pub use buffer::{LineBuffer, LineFault};
 pub use command::{Command, Hold};
 pub use first::{FirstLine, first_line};
-pub use line::{LINE_MAX, Line};
+pub use line::{LINE_FEED, LINE_MAX, Line};
+pub use options::{DEPTH_MAX, DEPTH_MIN};
 pub use read::read_command;

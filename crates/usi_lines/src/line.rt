@@ -7,6 +7,9 @@ ghost use Rattle.usi_lines.specs.Lines.{is_line_feed};
 
 use memchr::memchr;
 
+/// The byte that ends a line (USI).
+pub const LINE_FEED: u8 = b'\n';
+
 /// How many bytes a line may have before its LF, a CR right before it counted (own choice).
 pub const LINE_MAX: usize = 65_535;
 
@@ -21,9 +24,9 @@ pub enum Line<'a> {
 /// How many bytes stand before the first LF.
 pub fn line_len(bytes: &[u8]) -> usize
     ensures value { result ≡ position_or_len is_line_feed bytes.now }
-    ensures bound { result ≤ length bytes.now }
+    ensures most { result ≤ length bytes.now }
 {
-    memchr(b'\n', bytes).unwrap_or(bytes.len())
+    memchr(LINE_FEED, bytes).unwrap_or(bytes.len())
 }
 
 /// The bytes without the one CR at their end.

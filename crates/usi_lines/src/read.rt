@@ -2,11 +2,13 @@
 
 ghost use Rattle.std.specs.Prelude.{◌≡◌};
 ghost use Rattle.shogi_sfen.specs.Words.{words, after_word};
-ghost use Rattle.usi_lines.specs.Commands.{command_of, named_by, position_of, go_of, hold_of, HasDepthInRange};
+ghost use Rattle.usi_lines.specs.CommandLines.{command_of, named_by, position_of, depth_of, go_of, hold_of};
+ghost use Rattle.usi_lines.specs.Options.{IsInRange};
 ghost use Rattle.usi_lines.specs.Seen.{meaning_of};
 
 use crate::command::{Command, Hold};
-use crate::option::{find_depth, has, is, read_option};
+use crate::options::{read_depth, read_option};
+use crate::words::{has_word, is};
 use shogi_sfen::words;
 
 /// What follows `position`.
@@ -21,12 +23,26 @@ fn position(text: &[u8]) -> Command<'_>
     }
 }
 
+/// The depth right after the first word `depth`.
+fn find_depth(text: &[u8]) -> Option<u8>
+    ensures { result ≡ depth_of (words text.now) }
+{
+    let mut rest = words(text);
+    while let Some(word) = rest.next() {
+        if is(word, b"depth") {
+            return read_depth(rest.next()?);
+        }
+    }
+    None
+}
+
+/// What the `bestmove` of a `go` waits for.
 fn hold(text: &[u8]) -> Hold
     ensures { result ≡ hold_of (words text.now) }
 {
-    if has(text, b"infinite") {
+    if has_word(text, b"infinite") {
         Hold::UntilStop
-    } else if has(text, b"ponder") {
+    } else if has_word(text, b"ponder") {
         Hold::UntilHit
     } else {
         Hold::Nothing
@@ -37,7 +53,7 @@ fn hold(text: &[u8]) -> Hold
 fn go(text: &[u8]) -> Command<'_>
     ensures { meaning_of result ≡ go_of (words text.now) }
 {
-    if has(text, b"mate") {
+    if has_word(text, b"mate") {
         return Command::GoMate;
     }
     Command::Go {
@@ -65,10 +81,7 @@ fn named<'a>(name: &[u8], text: &'a [u8]) -> Command<'a>
     } else if is(name, b"quit") {
         Command::Quit
     } else if is(name, b"setoption") {
-        match read_option(text) {
-            Some(depth) => Command::SetDepth(depth),
-            None => Command::Other,
-        }
+        read_option(text)
     } else if is(name, b"position") {
         position(text)
     } else if is(name, b"go") {
@@ -82,7 +95,7 @@ fn named<'a>(name: &[u8], text: &'a [u8]) -> Command<'a>
 /// have no effect (USI, commands of a front end; the clamping of depths is an own choice).
 pub fn read_command(line: &[u8]) -> Command<'_>
     ensures command { meaning_of result ≡ command_of line.now }
-    ensures depth { HasDepthInRange (command_of line.now) }
+    ensures range { IsInRange (command_of line.now) }
 {
     let mut rest = words(line);
     match rest.next() {

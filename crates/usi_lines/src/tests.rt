@@ -23,6 +23,7 @@ fn lines_do_not_depend_on_the_cut(rt: HostRuntime) -> Result<(), Fail> {
 
 #[test]
 fn a_line_of_the_greatest_length(rt: HostRuntime) -> Result<(), Fail> {
+    assert_eq!(rt; LINE_MAX, 65_535);
     let mut buffer = LineBuffer::new(rt.alloc());
     for _ in 0..LINE_MAX {
         buffer.feed(b"x")?;

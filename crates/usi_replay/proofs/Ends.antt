@@ -11,6 +11,7 @@ use Rattle.usi_replay.specs.Script.{Opening, section, output, or_else, openings_
 use Rattle.usi_replay.specs.Playback.{Transcript, no_transcript, no_opening, open_id, transcript_section, HasAllReplies, HasMade, IsTranscriptOf, AreTranscripts, IsPlayback, KeepsPlayback, IsReadTo, LeadsTo, Plays}
 use Rattle.usi_replay.specs.Replayed.{IsOutputOf}
 use Rattle.usi_replay.proofs.Transcripts.{transcripts_get, transcripts_len}
+use Rattle.usi_lines.specs.declared.line.TheConstants.{LINE_FEED}
 
 -- what is written for what is kept is what is to be written for its `+` line
 answer_is : (h : HostState) (id : Option SessionId) (used refused : Bool) (text made : List ℕ) → HasMade h id used refused text made → (cond used id None ≢ None → made ≡ replies text) → cond (is_some id) made (codes "refused 1\n") ≡ cond refused (codes "refused 1\n") (replies text)
@@ -19,7 +20,7 @@ answer_is h (Some id) true refused text made m all = rw m.0 (all (λ e. cc))
 answer_is h (Some id) false refused text made m all = rw m.0 m.1
 
 pub section_is : (h : HostState) (o : Opening) (e : Transcript) → IsTranscriptOf h o e → (open_id e ≢ None → HasAllReplies o e) → transcript_section e ≡ section o
-section_is h o e i all = ap (λ n. codes "== " ++ (n ∷ 10 ∷ cond (is_some e.id) e.made (codes "refused 1\n"))) i.name_is ∙ ap (λ xs. codes "== " ++ (o.name ∷ 10 ∷ xs)) (answer_is h e.id e.in_use o.refused o.text e.made i.made_is all)
+section_is h o e i all = ap (λ n. codes "== " ++ (n ∷ LINE_FEED ∷ cond (is_some e.id) e.made (codes "refused 1\n"))) i.name_is ∙ ap (λ xs. codes "== " ++ (o.name ∷ LINE_FEED ∷ xs)) (answer_is h e.id e.in_use o.refused o.text e.made i.made_is all)
 
 output_from : (os : List Opening) (i : ℕ) → i < length os → output (drop i os) ≡ section (get_or os i no_opening) ++ output (drop (i + 1) os)
 output_from [] i lt = absurd (omega arith)

@@ -7,7 +7,7 @@ use Rattle.session_slots.specs.declared.id.SessionId.{SessionId}
 use Rattle.session_slots.specs.Slots.{find, count, IsFull}
 use Rattle.host_core.specs.Steps.{HostState, Closed, IsClosed}
 use Rattle.host_core.specs.Events.{Outcome}
-use Rattle.usi_session.specs.Due.{Talk}
+use Rattle.usi_session.specs.Due.{SessionView}
 use Rattle.usi_replay.specs.Script.{Opening, is_under, has_session, is_used, change, change_into, closed_opening, new_opening}
 use Rattle.usi_replay.specs.Sessions.{IsOpenedAs, IsClosedAs}
 use Rattle.usi_replay.specs.Playback.{Transcript, no_transcript, no_opening, open_id, is_transcript_under, Owes, HasAllReplies, HasMade, IsTranscriptOf, floor_after, AreTranscripts, IsPlayback, KeepsPlayback}
@@ -136,11 +136,11 @@ opened_played old mid es name (Some at) o room slots os p =
     }
 
 -- a name is closed_opening
-found_open : (f : Option Talk) (made text : List ℕ) → Owes f made text → f ≡ None → ⊥
+found_open : (f : Option SessionView) (made text : List ℕ) → Owes f made text → f ≡ None → ⊥
 found_open None made text o e = o
 found_open (Some s) made text o e = (cc)
 
-closed_of : (old new : HostState) (at : SessionId) (found : Option Talk) (made text : List ℕ) (o : Outcome) → Owes found made text → IsClosed old at found o new → Closed old at o new
+closed_of : (old new : HostState) (at : SessionId) (found : Option SessionView) (made text : List ℕ) (o : Outcome) → Owes found made text → IsClosed old at found o new → Closed old at o new
 closed_of old new at None made text o w c = absurd w
 closed_of old new at (Some s) made text o w c = c
 

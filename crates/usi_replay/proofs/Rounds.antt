@@ -8,7 +8,7 @@ use Rattle.session_slots.specs.declared.id.SessionId.{SessionId}
 use Rattle.session_slots.specs.Slots as slots
 use Rattle.session_slots.specs.Slots.{find, with_session, count}
 use Rattle.session_slots.proofs.Finds.{IsAt, found_at, find-with_session, find-with_session-other}
-use Rattle.usi_session.specs.Due.{Talk, due, load, is_pending}
+use Rattle.usi_session.specs.Due.{SessionView, due, load, is_pending}
 use Rattle.host_core.specs.declared.event.HostFault.TheVariants.{Full, OutOfMemory, UnknownSession, NotReady}
 use Rattle.host_core.specs.Events.{Outcome, Opened, Done, Worked, Gave, Refused, Work}
 use Rattle.host_core.specs.Made.{is_same_id}
@@ -21,7 +21,7 @@ use Rattle.host_core.proofs.Ids.{same_id, other_id, is_same_id-refl}
 use Rattle.usi_replay.specs.Sessions.{OwesTheSame, KeepsDue, KeepsAllBut, works_left}
 
 -- as many are open after a write to a session
-pub count-with_session : (s : slots.OpenSessions) (id : SessionId) (t after : Talk) → find s id ≡ Some t → count (with_session s id after) ≡ count s
+pub count-with_session : (s : slots.OpenSessions) (id : SessionId) (t after : SessionView) → find s id ≡ Some t → count (with_session s id after) ≡ count s
 count-with_session s id t after e =
     let a : IsAt id.generation (slice_index_or s.slots id.slot None) = found_at id.generation (slice_index_or s.slots id.slot None) t e in
     let within : id.slot < length s.slots = (let f : slice_index_or s.slots id.slot None ≡ Some a.opened = a.slot_is in grind (arith, get_or_past)) in
@@ -30,7 +30,7 @@ count-with_session s id t after e =
     omega (arith, u, one)
 
 -- a session changed, and no other
-pub changes_keep : (goes : Talk → Outcome → Talk → Type 0) (old new : HostState) (id : SessionId) (s : Talk) (o : Outcome) → find old.slots id ≡ Some s → Changed goes old id s o new → KeepsAllBut old new id
+pub changes_keep : (goes : SessionView → Outcome → SessionView → Type 0) (old new : HostState) (id : SessionId) (s : SessionView) (o : Outcome) → find old.slots id ≡ Some s → Changed goes old id s o new → KeepsAllBut old new id
 changes_keep goes old new id s o e c = record {
   others = λ other differs. ap (λ q. find q other) c.slots_are ∙ find-with_session-other old.slots id other s c.after e differs;
   count_is = ap count c.slots_are ∙ count-with_session old.slots id s c.after e;
@@ -38,10 +38,10 @@ changes_keep goes old new id s o e c = record {
   next_is = ap (λ (q : slots.OpenSessions). q.next) c.slots_are;
 }
 
-pub changed_finds : (goes : Talk → Outcome → Talk → Type 0) (old new : HostState) (id : SessionId) (s : Talk) (o : Outcome) → find old.slots id ≡ Some s → (c : Changed goes old id s o new) → find new.slots id ≡ Some c.after
+pub changed_finds : (goes : SessionView → Outcome → SessionView → Type 0) (old new : HostState) (id : SessionId) (s : SessionView) (o : Outcome) → find old.slots id ≡ Some s → (c : Changed goes old id s o new) → find new.slots id ≡ Some c.after
 changed_finds goes old new id s o e c = ap (λ q. find q id) c.slots_are ∙ find-with_session old.slots id s c.after e
 
-pub on_keeps : (goes : Talk → Outcome → Talk → Type 0) (old new : HostState) (id : SessionId) (o : Outcome) (found : Option Talk) → find old.slots id ≡ found → OnSession goes old id found o new → KeepsAllBut old new id
+pub on_keeps : (goes : SessionView → Outcome → SessionView → Type 0) (old new : HostState) (id : SessionId) (o : Outcome) (found : Option SessionView) → find old.slots id ≡ found → OnSession goes old id found o new → KeepsAllBut old new id
 on_keeps goes old new id o None e u = record {
   others = λ other differs. ap (λ (h : HostState). find h.slots other) u.same;
   count_is = ap (λ (x : HostState). count x.slots) u.same;
@@ -50,11 +50,11 @@ on_keeps goes old new id o None e u = record {
 }
 on_keeps goes old new id o (Some s) e c = changes_keep goes old new id s o e c
 
-pub same_due : (f g : Option Talk) → g ≡ f → OwesTheSame f g
+pub same_due : (f g : Option SessionView) → g ≡ f → OwesTheSame f g
 same_due None g e = rw e tt
 same_due (Some s) g e = rw e (λ x. refl)
 
-due_chain : (f g h : Option Talk) → OwesTheSame f g → OwesTheSame g h → OwesTheSame f h
+due_chain : (f g h : Option SessionView) → OwesTheSame f g → OwesTheSame g h → OwesTheSame f h
 due_chain None None None p q = tt
 due_chain (Some a) (Some b) (Some c) p q = λ x. q x ∙ p x
 due_chain None None (Some c) p q = absurd q
@@ -78,7 +78,7 @@ keeps_chain old mid new a b = record {
   next_is = b.next_is ∙ a.next_is;
 }
 
-works_owed : (budget : ℕ) (s : Talk) (o : Outcome) (t : Talk) → Works budget s o t → (x : List ℕ) → due t x ≡ due s x
+works_owed : (budget : ℕ) (s : SessionView) (o : Outcome) (t : SessionView) → Works budget s o t → (x : List ℕ) → due t x ≡ due s x
 works_owed budget s (Worked n) t w = w.owed
 works_owed budget s (Refused OutOfMemory) t w = w.owed
 works_owed budget s (Refused Full) t w = absurd w
@@ -88,13 +88,13 @@ works_owed budget s Done t w = absurd w
 works_owed budget s (Opened id) t w = absurd w
 works_owed budget s (Gave bytes) t w = absurd w
 
-works_at : (b : Bool) (budget : ℕ) (old new : HostState) (at id : SessionId) (s : Talk) (o : Outcome) → is_same_id at id ≡ b → find old.slots at ≡ Some s → (c : Changed (Works budget) old at s o new) → OwesTheSame (find old.slots id) (find new.slots id)
+works_at : (b : Bool) (budget : ℕ) (old new : HostState) (at id : SessionId) (s : SessionView) (o : Outcome) → is_same_id at id ≡ b → find old.slots at ≡ Some s → (c : Changed (Works budget) old at s o new) → OwesTheSame (find old.slots id) (find new.slots id)
 works_at true budget old new at id s o e f c =
     let same : OwesTheSame (Some s) (Some c.after) = works_owed budget s o c.after c.went in
     rw (ap (find old.slots) (sym (same_id at id e)) ∙ f, ap (find new.slots) (sym (same_id at id e)) ∙ changed_finds (Works budget) old new at s o f c) same
 works_at false budget old new at id s o e f c = same_due (find old.slots id) (find new.slots id) ((changes_keep (Works budget) old new at s o f c).others id (other_id at id e))
 
-work_keeps : (budget : ℕ) (old new : HostState) (at : SessionId) (o : Outcome) (found : Option Talk) → find old.slots at ≡ found → OnSession (Works budget) old at found o new → KeepsDue old new
+work_keeps : (budget : ℕ) (old new : HostState) (at : SessionId) (o : Outcome) (found : Option SessionView) → find old.slots at ≡ found → OnSession (Works budget) old at found o new → KeepsDue old new
 work_keeps budget old new at o None e u = keeps_start old new u.same
 work_keeps budget old new at o (Some s) e c =
     let k : KeepsAllBut old new at = changes_keep (Works budget) old new at s o e c in
@@ -112,7 +112,7 @@ pub round_keeps : (old new : HostState) (budget worked refused : ℕ) (ids : Lis
 round_keeps old new budget worked refused ids r = run_keeps budget ids r.outcomes old new r.run
 
 -- a work that succeeds leaves less to do
-record Falls (s t : Talk) : Type 0 where
+record Falls (s t : SessionView) : Type 0 where
   pub never_more : works_left (Some t) ≤ works_left (Some s)
   pub less : is_pending s ≡ true → works_left (Some t) < works_left (Some s)
 
@@ -124,13 +124,13 @@ falls_less : (p q : Bool) (l m n budget : ℕ) → n + m ≤ l → 1 ≤ budget 
 falls_less p true l m n budget h b f e = (let g : n ≡ budget = f refl in omega arith)
 falls_less p false l m n budget h b f e = rw e (omega arith)
 
-falls : (budget n : ℕ) (s t : Talk) → 1 ≤ budget → WorkedOn s budget n t → Falls s t
+falls : (budget n : ℕ) (s t : SessionView) → 1 ≤ budget → WorkedOn s budget n t → Falls s t
 falls budget n s t b w = record {
   never_more = falls_by (is_pending s) (is_pending t) (load s) (load t) n budget w.made b (λ p. (w.spent p).0);
   less = λ e. falls_less (is_pending s) (is_pending t) (load s) (load t) n budget w.made b (λ p. (w.spent p).0) e;
 }
 
-falls_of : (budget : ℕ) (s t : Talk) (o : Outcome) → 1 ≤ budget → was_refused o ≡ false → Works budget s o t → Falls s t
+falls_of : (budget : ℕ) (s t : SessionView) (o : Outcome) → 1 ≤ budget → was_refused o ≡ false → Works budget s o t → Falls s t
 falls_of budget s t (Worked n) b f w = falls budget n s t b w
 falls_of budget s t (Refused fault) b f w = absurd (cc)
 falls_of budget s t Done b f w = absurd w
@@ -138,24 +138,24 @@ falls_of budget s t (Opened id) b f w = absurd w
 falls_of budget s t (Gave bytes) b f w = absurd w
 
 -- the same of what an id finds
-record Leaves (f g : Option Talk) : Type 0 where
+record Leaves (f g : Option SessionView) : Type 0 where
   pub never_more : works_left g ≤ works_left f
   pub less : pending_of f ≡ true → works_left g < works_left f
 
-leaves_same : (f g : Option Talk) → g ≡ f → works_left g ≤ works_left f
+leaves_same : (f g : Option SessionView) → g ≡ f → works_left g ≤ works_left f
 leaves_same f g e = rw e (omega arith)
 
-leaves_found : (f g : Option Talk) (s t : Talk) → f ≡ Some s → g ≡ Some t → Falls s t → Leaves f g
+leaves_found : (f g : Option SessionView) (s t : SessionView) → f ≡ Some s → g ≡ Some t → Falls s t → Leaves f g
 leaves_found f g s t e d h = rw (e, d) (record { never_more = h.never_more; less = h.less })
 
-work_never : (b : Bool) (budget : ℕ) (old new : HostState) (at id : SessionId) (o : Outcome) (found : Option Talk) → is_same_id at id ≡ b → find old.slots at ≡ found → 1 ≤ budget → was_refused o ≡ false → OnSession (Works budget) old at found o new → works_left (find new.slots id) ≤ works_left (find old.slots id)
+work_never : (b : Bool) (budget : ℕ) (old new : HostState) (at id : SessionId) (o : Outcome) (found : Option SessionView) → is_same_id at id ≡ b → find old.slots at ≡ found → 1 ≤ budget → was_refused o ≡ false → OnSession (Works budget) old at found o new → works_left (find new.slots id) ≤ works_left (find old.slots id)
 work_never b budget old new at id o None e f one ok u = leaves_same (find old.slots id) (find new.slots id) (ap (λ (x : HostState). find x.slots id) u.same)
 work_never false budget old new at id o (Some s) e f one ok c = leaves_same (find old.slots id) (find new.slots id) ((changes_keep (Works budget) old new at s o f c).others id (other_id at id e))
 work_never true budget old new at id o (Some s) e f one ok c =
     let same : at ≡ id = same_id at id e in
     (leaves_found (find old.slots id) (find new.slots id) s c.after (ap (find old.slots) (sym same) ∙ f) (ap (find new.slots) (sym same) ∙ changed_finds (Works budget) old new at s o f c) (falls_of budget s c.after o one ok c.went)).never_more
 
-work_less : (budget : ℕ) (old new : HostState) (at : SessionId) (o : Outcome) (found : Option Talk) → find old.slots at ≡ found → pending_of (find old.slots at) ≡ true → 1 ≤ budget → was_refused o ≡ false → OnSession (Works budget) old at found o new → works_left (find new.slots at) < works_left (find old.slots at)
+work_less : (budget : ℕ) (old new : HostState) (at : SessionId) (o : Outcome) (found : Option SessionView) → find old.slots at ≡ found → pending_of (find old.slots at) ≡ true → 1 ≤ budget → was_refused o ≡ false → OnSession (Works budget) old at found o new → works_left (find new.slots at) < works_left (find old.slots at)
 work_less budget old new at o None f p one ok u = (let q : pending_of None ≡ true = sym (ap pending_of f) ∙ p in absurd (cc))
 work_less budget old new at o (Some s) f p one ok c =
     (leaves_found (find old.slots at) (find new.slots at) s c.after f (changed_finds (Works budget) old new at s o f c) (falls_of budget s c.after o one ok c.went)).less p
@@ -182,7 +182,7 @@ abbrev is_in : SessionId → List SessionId → Bool
 is_in id [] = false
 is_in id (at ∷ ids) = is_same_id at id || is_in id ids
 
-same_by : (budget : ℕ) (old new : HostState) (at id : SessionId) (o : Outcome) (found : Option Talk) → find old.slots at ≡ found → is_same_id at id ≡ false → OnSession (Works budget) old at found o new → find new.slots id ≡ find old.slots id
+same_by : (budget : ℕ) (old new : HostState) (at id : SessionId) (o : Outcome) (found : Option SessionView) → find old.slots at ≡ found → is_same_id at id ≡ false → OnSession (Works budget) old at found o new → find new.slots id ≡ find old.slots id
 same_by budget old new at id o None f e u = ap (λ (x : HostState). find x.slots id) u.same
 same_by budget old new at id o (Some s) f e c = (changes_keep (Works budget) old new at s o f c).others id (other_id at id e)
 

@@ -5,7 +5,7 @@ use Rattle.std.proofs.lemmas.List.{set-get_or, get_or-set_same}
 use Rattle.std.proofs.lemmas.List.Sums.{sum_by-cons, sum_by-set}
 use Rattle.session_slots.specs.declared.id.SessionId.{SessionId}
 use Rattle.session_slots.specs.Slots.{find}
-use Rattle.usi_session.specs.Due.{Talk, due}
+use Rattle.usi_session.specs.Due.{SessionView, due}
 use Rattle.usi_session.specs.Replies.{replies}
 use Rattle.usi_session.proofs.Settled.{due-settled}
 use Rattle.host_core.specs.Steps.{HostState}
@@ -13,9 +13,10 @@ use Rattle.host_core.specs.ById.{pending_of}
 use Rattle.usi_replay.specs.Script.{Opening, has_session}
 use Rattle.usi_replay.specs.Sessions.{OwesTheSame, KeepsDue, KeepsAllBut, IsCollected, IsFed}
 use Rattle.usi_replay.specs.Playback.{Transcript, no_transcript, no_opening, open_id, Owes, HasMade, IsTranscriptOf, floor_after, IsAbove, AreTranscripts, IsPlayback, KeepsPlayback, HasAllReplies, with_more, IsSent}
+use Rattle.usi_lines.specs.declared.line.TheConstants.{LINE_FEED}
 
 -- sessions that went on owe the same
-owes_due : (f g : Option Talk) (made text : List ℕ) → OwesTheSame f g → Owes f made text → Owes g made text
+owes_due : (f g : Option SessionView) (made text : List ℕ) → OwesTheSame f g → Owes f made text → Owes g made text
 owes_due None g made text h o = absurd o
 owes_due (Some s) None made text h o = absurd h
 owes_due (Some s) (Some t) made text h o = λ x. ap (λ xs. made ++ xs) (h x) ∙ o x
@@ -188,12 +189,12 @@ open_id_by false id at e = absurd (cc)
 pub has_open_id : (e : Transcript) (at : SessionId) → open_id e ≡ Some at → HasOpenId e at
 has_open_id e at f = (let p = open_id_by e.in_use e.id at f in record { used = p.0; id_is = p.1 })
 
-owes_handed : (f g : Option Talk) (made text out : List ℕ) → IsCollected f g made out → Owes f made text → Owes g out text
+owes_handed : (f g : Option SessionView) (made text out : List ℕ) → IsCollected f g made out → Owes f made text → Owes g out text
 owes_handed None g made text out h o = absurd o
 owes_handed (Some s) None made text out h o = absurd h
 owes_handed (Some s) (Some t) made text out h o = λ x. ap (λ xs. xs ++ due t x) h.0 ∙ (append_assoc made s.queued (due t x) ∙ (ap (λ xs. made ++ xs) (sym (h.1 x)) ∙ o x))
 
-all_handed : (f g : Option Talk) (made text out : List ℕ) → pending_of f ≡ false → IsCollected f g made out → Owes f made text → out ≡ replies text
+all_handed : (f g : Option SessionView) (made text out : List ℕ) → pending_of f ≡ false → IsCollected f g made out → Owes f made text → out ≡ replies text
 all_handed None g made text out p h o = absurd o
 all_handed (Some s) None made text out p h o = absurd h
 all_handed (Some s) (Some t) made text out p h o = h.0 ∙ (ap (λ xs. made ++ xs) (sym (due-settled s p)) ∙ (o [] ∙ ap replies (append-nil text)))
@@ -255,27 +256,27 @@ taken_at old mid new id es i x y after lt e f l due settled others handed rest =
     let b : get_or es i no_transcript ≡ y = item_is es i y lt f in
     record { due = due; settled = settled; others = others; handed = rw b handed; rest = rw b rest; open_id_is = rw a l }
 
--- a piece was fed to a `+` line
-fed_by : (f g : Option Talk) (made text piece : List ℕ) → IsFed f g piece → Owes f made text → Owes g made (text ++ piece)
-fed_by None g made text piece h o = absurd o
-fed_by (Some s) None made text piece h o = absurd h
-fed_by (Some s) (Some t) made text piece h o = λ x. ap (λ xs. made ++ xs) (h x) ∙ (o (piece ++ x) ∙ ap replies (sym (append_assoc text piece x)))
+-- a chunk was fed to a `+` line
+fed_by : (f g : Option SessionView) (made text chunk : List ℕ) → IsFed f g chunk → Owes f made text → Owes g made (text ++ chunk)
+fed_by None g made text chunk h o = absurd o
+fed_by (Some s) None made text chunk h o = absurd h
+fed_by (Some s) (Some t) made text chunk h o = λ x. ap (λ xs. made ++ xs) (h x) ∙ (o (chunk ++ x) ∙ ap replies (sym (append_assoc text chunk x)))
 
 held_same : (o p : Opening) → o.in_use ≡ p.in_use → o.refused ≡ p.refused → has_session o ≡ has_session p
 held_same o p e f = rw (e, f) refl
 
-pub fed_live : (old new : HostState) (id : SessionId) (es : List Transcript) (i : ℕ) (x : Transcript) (piece : List ℕ) → i < length es → x ≡ get_or es i x → open_id x ≡ Some id → KeepsAllBut old new id → IsFed (find old.slots id) (find new.slots id) piece → IsSent old es new es i piece
-fed_live old new id es i x piece lt e l others fed slots os p =
+pub fed_live : (old new : HostState) (id : SessionId) (es : List Transcript) (i : ℕ) (x : Transcript) (chunk : List ℕ) → i < length es → x ≡ get_or es i x → open_id x ≡ Some id → KeepsAllBut old new id → IsFed (find old.slots id) (find new.slots id) chunk → IsSent old es new es i chunk
+fed_live old new id es i x chunk lt e l others fed slots os p =
     let a : get_or es i no_transcript ≡ x = item_is es i x lt e in
     let li : HasOpenId (get_or es i no_transcript) id = has_open_id (get_or es i no_transcript) id (ap open_id a ∙ l) in
     let of : IsTranscriptOf old (get_or os i no_opening) (get_or es i no_transcript) = transcripts_get old 0 os es i p.tells lt in
     let m = made_live old (get_or os i no_opening) (get_or es i no_transcript) id li of in
-    let now : IsTranscriptOf new (with_more piece (get_or os i no_opening)) (get_or es i no_transcript) = of_live new (with_more piece (get_or os i no_opening)) (get_or es i no_transcript) id li of.name_is of.used_is m.0 (fed_by (find old.slots id) (find new.slots id) (get_or es i no_transcript).made (get_or os i no_opening).text piece fed m.1) in
-    let s : AreTranscripts new 0 (set os i (with_more piece (get_or os i no_opening))) (set es i (get_or es i no_transcript)) = transcripts_set old new id 0 os es i (with_more piece (get_or os i no_opening)) (get_or es i no_transcript) (keeps_only old new id others) p.tells lt li.id_is li.id_is now in
+    let now : IsTranscriptOf new (with_more chunk (get_or os i no_opening)) (get_or es i no_transcript) = of_live new (with_more chunk (get_or os i no_opening)) (get_or es i no_transcript) id li of.name_is of.used_is m.0 (fed_by (find old.slots id) (find new.slots id) (get_or es i no_transcript).made (get_or os i no_opening).text chunk fed m.1) in
+    let s : AreTranscripts new 0 (set os i (with_more chunk (get_or os i no_opening))) (set es i (get_or es i no_transcript)) = transcripts_set old new id 0 os es i (with_more chunk (get_or os i no_opening)) (get_or es i no_transcript) (keeps_only old new id others) p.tells lt li.id_is li.id_is now in
     let n : length os ≡ length es = transcripts_len old 0 os es p.tells in
     record {
       tells = rw (set-get_or es i no_transcript) at s;
-      count_is = others.count_is ∙ (p.count_is ∙ sym (held_set os i (with_more piece (get_or os i no_opening)) (omega arith) refl));
+      count_is = others.count_is ∙ (p.count_is ∙ sym (held_set os i (with_more chunk (get_or os i no_opening)) (omega arith) refl));
       max_is = others.max_is ∙ p.max_is;
       few = (let b : new.slots.next ≡ old.slots.next = others.next_is in let c : old.slots.next ≤ length es = p.few in omega arith);
     }
@@ -290,27 +291,27 @@ none_made h id used refused text made e m = rw e at m
 pub made_none : (h : HostState) (id : Option SessionId) (used refused : Bool) (text made : List ℕ) → id ≡ None → refused ≡ true → HasMade h id used refused text made
 made_none h id used refused text made e m = rw e m
 
-pub fed_refused : (h : HostState) (es : List Transcript) (i : ℕ) (x : Transcript) (piece : List ℕ) → i < length es → x ≡ get_or es i x → (get_or es i no_transcript).in_use ≡ true → open_id x ≡ None → IsSent h es h es i piece
-fed_refused h es i x piece lt e used l slots os p =
+pub fed_refused : (h : HostState) (es : List Transcript) (i : ℕ) (x : Transcript) (chunk : List ℕ) → i < length es → x ≡ get_or es i x → (get_or es i no_transcript).in_use ≡ true → open_id x ≡ None → IsSent h es h es i chunk
+fed_refused h es i x chunk lt e used l slots os p =
     let a : get_or es i no_transcript ≡ x = item_is es i x lt e in
     let none : (get_or es i no_transcript).id ≡ None = id_none (get_or es i no_transcript).in_use (get_or es i no_transcript).id used (ap open_id a ∙ l) in
     let of : IsTranscriptOf h (get_or os i no_opening) (get_or es i no_transcript) = transcripts_get h 0 os es i p.tells lt in
-    let now : IsTranscriptOf h (with_more piece (get_or os i no_opening)) (get_or es i no_transcript) = record { name_is = of.name_is; used_is = of.used_is; made_is = made_none h (get_or es i no_transcript).id _ _ _ _ none (none_made h (get_or es i no_transcript).id _ _ _ _ none of.made_is) } in
-    let s : AreTranscripts h 0 (set os i (with_more piece (get_or os i no_opening))) (set es i (get_or es i no_transcript)) = transcripts_text h 0 os es i (with_more piece (get_or os i no_opening)) (get_or es i no_transcript) p.tells lt refl now in
+    let now : IsTranscriptOf h (with_more chunk (get_or os i no_opening)) (get_or es i no_transcript) = record { name_is = of.name_is; used_is = of.used_is; made_is = made_none h (get_or es i no_transcript).id _ _ _ _ none (none_made h (get_or es i no_transcript).id _ _ _ _ none of.made_is) } in
+    let s : AreTranscripts h 0 (set os i (with_more chunk (get_or os i no_opening))) (set es i (get_or es i no_transcript)) = transcripts_text h 0 os es i (with_more chunk (get_or os i no_opening)) (get_or es i no_transcript) p.tells lt refl now in
     let n : length os ≡ length es = transcripts_len h 0 os es p.tells in
     record {
       tells = rw (set-get_or es i no_transcript) at s;
-      count_is = p.count_is ∙ sym (held_set os i (with_more piece (get_or os i no_opening)) (omega arith) refl);
+      count_is = p.count_is ∙ sym (held_set os i (with_more chunk (get_or os i no_opening)) (omega arith) refl);
       max_is = p.max_is;
       few = p.few;
     }
 
--- one piece after another
-pub played_fed : (old mid new : HostState) (es fs gs : List Transcript) (i : ℕ) (piece : List ℕ) → KeepsPlayback old es mid fs → IsSent mid fs new gs i piece → IsSent old es new gs i piece
-played_fed old mid new es fs gs i piece a b slots os p = b slots os (a slots os p)
+-- one chunk after another
+pub played_fed : (old mid new : HostState) (es fs gs : List Transcript) (i : ℕ) (chunk : List ℕ) → KeepsPlayback old es mid fs → IsSent mid fs new gs i chunk → IsSent old es new gs i chunk
+played_fed old mid new es fs gs i chunk a b slots os p = b slots os (a slots os p)
 
-pub fed_played : (old mid new : HostState) (es fs gs : List Transcript) (i : ℕ) (piece : List ℕ) → IsSent old es mid fs i piece → KeepsPlayback mid fs new gs → IsSent old es new gs i piece
-fed_played old mid new es fs gs i piece a b slots os p = b slots (set os i (with_more piece (get_or os i no_opening))) (a slots os p)
+pub fed_played : (old mid new : HostState) (es fs gs : List Transcript) (i : ℕ) (chunk : List ℕ) → IsSent old es mid fs i chunk → KeepsPlayback mid fs new gs → IsSent old es new gs i chunk
+fed_played old mid new es fs gs i chunk a b slots os p = b slots (set os i (with_more chunk (get_or os i no_opening))) (a slots os p)
 
 set_twice : (os : List Opening) (i : ℕ) (a b : Opening) → set (set os i a) i b ≡ set os i b
 set_twice [] i a b = refl
@@ -346,17 +347,17 @@ pub record IsFedTo (old : HostState) (es : List Transcript) (now : HostState) (f
 pub fed_start : (h : HostState) (es : List Transcript) (i : ℕ) (text : List ℕ) → IsFedTo h es h es i text text
 fed_start h es i text = record { done = []; split = refl; fed = fed_none h es i }
 
-pub fed_next : (old mid new : HostState) (es fs gs : List Transcript) (i : ℕ) (text rest piece left : List ℕ) → i < length es → IsFedTo old es mid fs i text rest → IsSent mid fs new gs i piece → rest ≡ piece ++ left → IsFedTo old es new gs i text left
-fed_next old mid new es fs gs i text rest piece left lt f b e = record {
-  done = f.done ++ piece;
-  split = f.split ∙ (ap (λ xs. f.done ++ xs) e ∙ sym (append_assoc f.done piece left));
-  fed = fed_more old mid new es fs gs i f.done piece (f.done ++ piece) lt refl f.fed b;
+pub fed_next : (old mid new : HostState) (es fs gs : List Transcript) (i : ℕ) (text rest chunk left : List ℕ) → i < length es → IsFedTo old es mid fs i text rest → IsSent mid fs new gs i chunk → rest ≡ chunk ++ left → IsFedTo old es new gs i text left
+fed_next old mid new es fs gs i text rest chunk left lt f b e = record {
+  done = f.done ++ chunk;
+  split = f.split ∙ (ap (λ xs. f.done ++ xs) e ∙ sym (append_assoc f.done chunk left));
+  fed = fed_more old mid new es fs gs i f.done chunk (f.done ++ chunk) lt refl f.fed b;
 }
 
-pub fed_whole : (old mid new end : HostState) (es fs gs hs : List Transcript) (i : ℕ) (text rest : List ℕ) → i < length es → IsFedTo old es mid fs i text rest → rest ≡ [] → IsSent mid fs new gs i (10 ∷ []) → KeepsPlayback new gs end hs → IsSent old es end hs i (text ++ 10 ∷ [])
+pub fed_whole : (old mid new end : HostState) (es fs gs hs : List Transcript) (i : ℕ) (text rest : List ℕ) → i < length es → IsFedTo old es mid fs i text rest → rest ≡ [] → IsSent mid fs new gs i (LINE_FEED ∷ []) → KeepsPlayback new gs end hs → IsSent old es end hs i (text ++ LINE_FEED ∷ [])
 fed_whole old mid new end es fs gs hs i text rest lt f none b last =
     let same : text ≡ f.done = f.split ∙ (ap (λ xs. f.done ++ xs) none ∙ append-nil f.done) in
-    fed_played old new end es gs hs i (text ++ 10 ∷ []) (fed_more old mid new es fs gs i f.done (10 ∷ []) (text ++ 10 ∷ []) lt (rw same refl) f.fed b) last
+    fed_played old new end es gs hs i (text ++ LINE_FEED ∷ []) (fed_more old mid new es fs gs i f.done (LINE_FEED ∷ []) (text ++ LINE_FEED ∷ []) lt (rw same refl) f.fed b) last
 
 pub rounds_played : (old new : HostState) (es : List Transcript) → KeepsDue old new → KeepsPlayback old es new es
 rounds_played old new es k slots os p = record {

@@ -2,11 +2,12 @@
 use Rattle.std.specs.Prelude.{◌≡◌, ◌≢◌, ℕ, ◌+◌, ◌≤◌, List, [], ◌∷◌, ◌++◌, Bool, true, false, ◌&&◌, ◌==◌, cond, Option, Some, None, count_by, codes, is_some, length, get_or, set}
 use Rattle.session_slots.specs.declared.id.SessionId.{SessionId}
 use Rattle.session_slots.specs.Slots.{find, count}
-use Rattle.usi_session.specs.Due.{Talk, due}
+use Rattle.usi_session.specs.Due.{SessionView, due}
 use Rattle.usi_session.specs.Replies.{replies}
 use Rattle.usi_lines.specs.Lines.{lines}
 use Rattle.host_core.specs.Steps.{HostState}
 use Rattle.usi_replay.specs.Script.{ScriptLine, Opening, has_session, closed_opening, new_opening, openings_after, read_from, read_script, output}
+use Rattle.usi_lines.specs.declared.line.TheConstants.{LINE_FEED}
 
 -- what is kept for a `+` line: its name, whether that is in use, its session's id if it got one, and the bytes made so far
 pub record Transcript : Type 0 where
@@ -31,7 +32,7 @@ abbrev pub open_id : Transcript → Option SessionId
 open_id t = cond t.in_use t.id None
 
 -- the bytes made and those that the session owes are the replies to the texts
-abbrev pub Owes : Option Talk → List ℕ → List ℕ → Type 0
+abbrev pub Owes : Option SessionView → List ℕ → List ℕ → Type 0
 Owes None made text = ⊥
 Owes (Some s) made text = (x : List ℕ) → made ++ due s x ≡ replies (text ++ x)
 
@@ -76,11 +77,11 @@ KeepsPlayback h ts new us = (slots : ℕ) (os : List Opening) → IsPlayback slo
 
 -- a `+` line with more texts
 abbrev pub with_more : List ℕ → Opening → Opening
-with_more piece o = record o { text = o.text ++ piece }
+with_more chunk o = record o { text = o.text ++ chunk }
 
 -- bytes were sent to the `+` line of this place
 abbrev pub IsSent : HostState → List Transcript → HostState → List Transcript → ℕ → List ℕ → Type 0
-IsSent h ts new us i piece = (slots : ℕ) (os : List Opening) → IsPlayback slots h os ts → IsPlayback slots new (set os i (with_more piece (get_or os i no_opening))) us
+IsSent h ts new us i chunk = (slots : ℕ) (os : List Opening) → IsPlayback slots h os ts → IsPlayback slots new (set os i (with_more chunk (get_or os i no_opening))) us
 
 -- all that the session replies was kept
 abbrev pub HasAllReplies : Opening → Transcript → Type 0
@@ -104,7 +105,7 @@ IsWhole h ts out = (slots : ℕ) (os : List Opening) → IsPlayback slots h os t
 
 -- what is written for it
 abbrev pub transcript_section : Transcript → List ℕ
-transcript_section t = codes "== " ++ (t.name ∷ 10 ∷ cond (is_some t.id) t.made (codes "refused 1\n"))
+transcript_section t = codes "== " ++ (t.name ∷ LINE_FEED ∷ cond (is_some t.id) t.made (codes "refused 1\n"))
 
 -- a script was replayed up to here: so many lines were read, and the rest is left
 pub record IsReadTo (slots : ℕ) (h : HostState) (ts : List Transcript) (bytes : List ℕ) (number : ℕ) (rest : List ℕ) : Type 0 where

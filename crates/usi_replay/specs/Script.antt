@@ -2,6 +2,7 @@
 use Rattle.std.specs.Prelude.{ℕ, ◌+◌, List, [], ◌∷◌, ◌++◌, Bool, true, false, ◌&&◌, ◌==◌, not, nat_le, cond, Option, Some, None, Result, Ok, Err, count_by, codes, length}
 use Rattle.usi_lines.specs.Lines.{Line, Text, TooLong, lines}
 use Rattle.usi_session.specs.Replies.{replies}
+use Rattle.usi_lines.specs.declared.line.TheConstants.{LINE_FEED}
 
 -- what a line means: nothing, a session is opened under a name, the session of a name is closed, or is sent a text
 pub data ScriptLine : Type 0 where
@@ -73,7 +74,7 @@ closed_opening o = record o { in_use = false }
 
 -- it is sent a text, and an LF
 abbrev pub sent_opening : List ℕ → Opening → Opening
-sent_opening text o = record o { text = o.text ++ (text ++ 10 ∷ []) }
+sent_opening text o = record o { text = o.text ++ (text ++ LINE_FEED ∷ []) }
 
 -- the `+` lines after one line more; nothing, where it is bad: also a `+` of a name in use, and a text or `-` of a name that is not in use
 abbrev pub openings_after : ℕ → ScriptLine → List Opening → Option (List Opening)
@@ -106,7 +107,7 @@ answer_of o = cond o.refused (codes "refused 1\n") (replies o.text)
 
 -- what is written for a `+` line
 abbrev pub section : Opening → List ℕ
-section o = codes "== " ++ (o.name ∷ 10 ∷ answer_of o)
+section o = codes "== " ++ (o.name ∷ LINE_FEED ∷ answer_of o)
 
 -- what is written for all of them, in the order of the script
 abbrev pub output : List Opening → List ℕ

@@ -2,14 +2,14 @@
 use Rattle.std.specs.Prelude.{◌≡◌, ◌≢◌, ℕ, List, ◌++◌, Option, Some, None}
 use Rattle.session_slots.specs.declared.id.SessionId.{SessionId}
 use Rattle.session_slots.specs.Slots.{find, count}
-use Rattle.usi_session.specs.Due.{Talk, due}
+use Rattle.usi_session.specs.Due.{SessionView, due}
 use Rattle.usi_stdio.specs.Stdio.{slices_of}
 use Rattle.host_core.specs.Steps.{HostState, IsOpened, IsClosed}
 use Rattle.host_core.specs.Events.{Outcome, Opened, Refused}
 use Rattle.host_core.specs.declared.event.HostFault.TheVariants.{Full}
 
 -- the same session, that owes the same
-abbrev pub OwesTheSame : Option Talk → Option Talk → Type 0
+abbrev pub OwesTheSame : Option SessionView → Option SessionView → Type 0
 OwesTheSame None None = Unit {0}
 OwesTheSame (Some s) (Some t) = (x : List ℕ) → due t x ≡ due s x
 OwesTheSame _ _ = ⊥
@@ -22,7 +22,7 @@ pub record KeepsDue (old new : HostState) : Type 0 where
   pub next_is : new.slots.next ≡ old.slots.next
 
 -- the works that a session may still need
-abbrev pub works_left : Option Talk → ℕ
+abbrev pub works_left : Option SessionView → ℕ
 works_left None = 0
 works_left (Some t) = slices_of t
 
@@ -34,16 +34,16 @@ pub record KeepsAllBut (old new : HostState) (id : SessionId) : Type 0 where
   pub next_is : new.slots.next ≡ old.slots.next
 
 -- what was queued was added to what was made, and is queued no more
-abbrev pub IsCollected : Option Talk → Option Talk → List ℕ → List ℕ → Type 0
+abbrev pub IsCollected : Option SessionView → Option SessionView → List ℕ → List ℕ → Type 0
 IsCollected None now made more = (now ≡ None) × (more ≡ made)
 IsCollected (Some s) None made more = ⊥
 IsCollected (Some s) (Some t) made more = (more ≡ made ++ s.queued) × ((x : List ℕ) → due s x ≡ s.queued ++ due t x)
 
 -- the session owes what it owed for these bytes and for what follows; a session that is over owes nothing for them
-abbrev pub IsFed : Option Talk → Option Talk → List ℕ → Type 0
-IsFed None now piece = Unit {0}
-IsFed (Some s) None piece = ⊥
-IsFed (Some s) (Some t) piece = (x : List ℕ) → due t x ≡ due s (piece ++ x)
+abbrev pub IsFed : Option SessionView → Option SessionView → List ℕ → Type 0
+IsFed None now chunk = Unit {0}
+IsFed (Some s) None chunk = ⊥
+IsFed (Some s) (Some t) chunk = (x : List ℕ) → due t x ≡ due s (chunk ++ x)
 
 -- a session was opened, or there was no room
 abbrev pub IsOpenedAs : HostState → Option SessionId → HostState → Type 0

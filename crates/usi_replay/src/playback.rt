@@ -5,6 +5,7 @@ ghost use Rattle.std.specs.List.{position_or_len};
 ghost use Rattle.usi_lines.specs.Seen.{line_of};
 ghost use Rattle.usi_replay.specs.Script.{Open, Close, Send, meaning};
 ghost use Rattle.usi_replay.specs.Playback.{KeepsPlayback, CollectsAll, IsSent, IsClosedAt, IsOpenedUnder, IsWhole, Plays, transcript_section, is_transcript_under, no_transcript};
+ghost use Rattle.usi_lines.specs.declared.line.TheConstants.{LINE_FEED};
 
 use crate::script_line::{ScriptLine, meaning};
 use crate::sessions;
@@ -13,9 +14,7 @@ use host_core::Host;
 use std::alloc::{AllocError, Allocator};
 use std::hash::BuildHasher;
 use usi_lines::Line;
-
-/// The most bytes that a session is fed at once.
-const PIECE: usize = 4096;
+use usi_session::CHUNK_MAX;
 
 /// Adds what is written for a `+` line.
 fn add_section<A: Allocator>(
@@ -56,7 +55,7 @@ impl<S: BuildHasher, A: Allocator + Copy> Playback<S, A> {
     /// Rounds until the session of a `+` line has nothing pending; all that it made is kept.
     fn collect(&mut self, place: usize) -> Result<(), AllocError>
         requires within { place < length self.old.transcripts.items }
-        requires some { 1 ≤ self.old.slice }
+        requires least { 1 ≤ self.old.slice }
         ensures kept { OnOk result (KeepsPlayback self.old.host self.old.transcripts.items
             self.new.host self.new.transcripts.items) }
         ensures all { OnOk result (CollectsAll self.old.host self.old.transcripts.items
@@ -74,14 +73,14 @@ impl<S: BuildHasher, A: Allocator + Copy> Playback<S, A> {
         Ok(())
     }
 
-    /// Feeds a piece of at most 4,096 bytes to a `+` line, once nothing of its session is pending. It
+    /// Feeds a chunk of at most 4,096 bytes to a `+` line, once nothing of its session is pending. It
     /// is dropped where there is no session, or where the session is over.
-    fn feed(&mut self, place: usize, piece: &[u8]) -> Result<(), AllocError>
+    fn feed(&mut self, place: usize, chunk: &[u8]) -> Result<(), AllocError>
         requires within { place < length self.old.transcripts.items }
-        requires some { 1 ≤ self.old.slice }
+        requires least { 1 ≤ self.old.slice }
         requires used { (get_or self.old.transcripts.items place no_transcript).in_use ≡ true }
         ensures fed { OnOk result (IsSent self.old.host self.old.transcripts.items
-            self.new.host self.new.transcripts.items place piece.now) }
+            self.new.host self.new.transcripts.items place chunk.now) }
         ensures used { OnOk result ((get_or self.new.transcripts.items place no_transcript).in_use ≡ true) }
         ensures len { length self.new.transcripts.items ≡ length self.old.transcripts.items }
         ensures slice { self.new.slice ≡ self.old.slice }
@@ -90,23 +89,23 @@ impl<S: BuildHasher, A: Allocator + Copy> Playback<S, A> {
         let Some(id) = self.transcripts[place].open_id() else {
             return Ok(());
         };
-        sessions::feed(&mut self.host, id, piece)?;
+        sessions::feed(&mut self.host, id, chunk)?;
         Ok(())
     }
 
     /// Feeds a text and an LF to a `+` line, and makes one round.
     fn send(&mut self, place: usize, text: &[u8]) -> Result<(), AllocError>
         requires within { place < length self.old.transcripts.items }
-        requires some { 1 ≤ self.old.slice }
+        requires least { 1 ≤ self.old.slice }
         requires used { (get_or self.old.transcripts.items place no_transcript).in_use ≡ true }
         ensures fed { OnOk result (IsSent self.old.host self.old.transcripts.items
-            self.new.host self.new.transcripts.items place (text.now ++ 10 ∷ [])) }
+            self.new.host self.new.transcripts.items place (text.now ++ LINE_FEED ∷ [])) }
         ensures slice { self.new.slice ≡ self.old.slice }
     {
         let mut rest = text;
-        'pieces: while !rest.is_empty() {
-            let (piece, left) = rest.split_at(rest.len().min(PIECE));
-            self.feed(place, piece)?;
+        'chunks: while !rest.is_empty() {
+            let (chunk, left) = rest.split_at(rest.len().min(CHUNK_MAX));
+            self.feed(place, chunk)?;
             rest = left;
         }
         self.feed(place, b"\n")?;
@@ -117,7 +116,7 @@ impl<S: BuildHasher, A: Allocator + Copy> Playback<S, A> {
     /// Frees the name of a `+` line, once nothing of its session is pending.
     fn close(&mut self, place: usize) -> Result<(), AllocError>
         requires within { place < length self.old.transcripts.items }
-        requires some { 1 ≤ self.old.slice }
+        requires least { 1 ≤ self.old.slice }
         requires used { (get_or self.old.transcripts.items place no_transcript).in_use ≡ true }
         ensures closed { OnOk result (IsClosedAt self.old.host self.old.transcripts.items
             self.new.host self.new.transcripts.items place) }

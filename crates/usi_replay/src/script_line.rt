@@ -22,12 +22,14 @@ pub enum ScriptLine<'a> {
     Bad,
 }
 
+/// Whether the byte is a letter from `A` to `Z`.
 fn is_name(byte: u8) -> bool
     ensures { result ≡ is_name byte }
 {
     b'A' <= byte && byte <= b'Z'
 }
 
+/// What the bytes of a line mean by their form.
 fn text_meaning(text: &[u8]) -> ScriptLine<'_>
     ensures { script_line_of result ≡ meaning_of text.now }
 {

@@ -66,19 +66,19 @@ pub fn take_output<S: BuildHasher, A: Allocator + Copy>(
     Ok(())
 }
 
-/// Feeds a piece of at most 4,096 bytes, or drops it where the session is over.
+/// Feeds a chunk of at most 4,096 bytes, or drops it where the session is over.
 pub fn feed<S: BuildHasher, A: Allocator + Copy>(
     host: &mut Host<S, A>,
     id: SessionId,
-    piece: &[u8],
+    chunk: &[u8],
 ) -> Result<(), AllocError>
     ensures others { OnOk result (KeepsAllBut host.old host.new id) }
-    ensures fed { OnOk result (IsFed (find host.old.slots id) (find host.new.slots id) piece.now) }
+    ensures fed { OnOk result (IsFed (find host.old.slots id) (find host.new.slots id) chunk.now) }
 {
     if host.is_over(id) {
         return Ok(());
     }
-    let Outcome::Done = host.step(Event::Feed(id, piece)) else {
+    let Outcome::Done = host.step(Event::Feed(id, chunk)) else {
         return Err(AllocError);
     };
     Ok(())

@@ -2,6 +2,7 @@
 
 ghost use Rattle.std.specs.Prelude.{◌≡◌, ◌≤◌, MatchResult, OnOk, IfOk, IfErr};
 ghost use Rattle.usi_replay.specs.Replayed.{IsReplayed, IsFault, IsAllRead, IsReadFault, IsOutputOf, IsAnswerFault};
+ghost use Rattle.session_slots.specs.declared.limits.TheConstants.{SESSIONS_MAX};
 
 use crate::fault::ReplayFault;
 use crate::playback::Playback;
@@ -10,10 +11,8 @@ use std::alloc::Allocator;
 use std::hash::{BuildHasherDefault, FoldHasher};
 use std::io::{Read, Write};
 use usi_lines::first_line;
+use usi_session::CHUNK_MAX;
 use usi_stdio::write_out;
-
-/// The most bytes that are read at once.
-const PIECE: usize = 4096;
 
 /// Reads all that comes.
 fn read_all<A: Allocator, R: Read>(alloc: A, reader: &mut R) -> Result<Vec<u8, A>, ReplayFault>
@@ -21,15 +20,15 @@ fn read_all<A: Allocator, R: Read>(alloc: A, reader: &mut R) -> Result<Vec<u8, A
     ensures fault { IfErr result IsReadFault }
 {
     let mut bytes = Vec::new(alloc);
-    let mut piece = [0u8; PIECE];
-    'pieces: for _ in 0..u64::MAX {
-        let Ok(n) = reader.read(&mut piece) else {
+    let mut chunk = [0u8; CHUNK_MAX];
+    'chunks: for _ in 0..u64::MAX {
+        let Ok(n) = reader.read(&mut chunk) else {
             return Err(ReplayFault::ReadFailed);
         };
         if n == 0 {
             return Ok(bytes);
         }
-        let (given, _) = piece.split_at(n);
+        let (given, _) = chunk.split_at(n);
         if bytes.extend_from_slice(given).is_err() {
             return Err(ReplayFault::OutOfMemory);
         }
@@ -46,7 +45,7 @@ fn output_of<A: Allocator + Copy>(
     slice: u64,
 ) -> Result<Vec<u8, A>, ReplayFault>
     requires least_slots { 1 ≤ slots }
-    requires most_slots { slots ≤ 1024 }
+    requires most_slots { slots ≤ SESSIONS_MAX }
     requires least_entries { 1 ≤ entries }
     requires most_entries { entries ≤ 1000000 }
     requires least_slice { 1 ≤ slice }
@@ -110,7 +109,7 @@ pub fn replay<A: Allocator + Copy, R: Read, W: Write>(
     slice: u64,
 ) -> Result<(), ReplayFault>
     requires least_slots { 1 ≤ slots }
-    requires most_slots { slots ≤ 1024 }
+    requires most_slots { slots ≤ SESSIONS_MAX }
     requires least_entries { 1 ≤ entries }
     requires most_entries { entries ≤ 1000000 }
     requires least_slice { 1 ≤ slice }

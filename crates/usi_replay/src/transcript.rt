@@ -39,6 +39,7 @@ impl<A: Allocator> Transcript<A> {
         }
     }
 
+    /// The name, in use or not.
     pub fn name(&self) -> u8
         ensures { result ≡ self.now.name }
     {

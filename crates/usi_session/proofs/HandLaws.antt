@@ -7,10 +7,10 @@ use Rattle.shogi_search.proofs.Lines.{chase-above, cost-none, cost-suc}
 use Rattle.usi_lines.specs.declared.command.Hold.{Hold}
 use Rattle.usi_lines.specs.declared.command.Hold.TheVariants.{Nothing, UntilStop, UntilHit}
 use Rattle.usi_session.specs.declared.state.State.{State}
-use Rattle.usi_session.specs.declared.state.Held.{Held}
+use Rattle.usi_session.specs.declared.state.HeldBestmove.{HeldBestmove}
 use Rattle.usi_session.specs.Texts.{info_line}
-use Rattle.usi_session.specs.Going.{info_lines, infos}
-use Rattle.usi_session.specs.Answer.{released}
+use Rattle.usi_session.specs.GoCommand.{info_lines, infos}
+use Rattle.usi_session.specs.Answer.{give_bestmove}
 use Rattle.usi_session.specs.InHand.{lines_on, costs_on, at_depth, load_of}
 use Rattle.usi_session.proofs.Infos.{info_lines-start, info_lines-more, infos-some}
 
@@ -80,18 +80,18 @@ load_at_first p depth hold h =
     load_at_depth p depth hold 0 h ∙ ap (costs_on p 0) n ∙ sym (ap (cost p) (sym m) ∙ whole ∙ omega (arith, cost-none p))
 
 -- what is said before the bestmove, and then the bestmove
-pub released-bytes : (s : State) (infos : List ℕ) (held : Held) (hold : Hold) → (released s infos held hold).bytes ≡ infos ++ (released s [] held hold).bytes
-released-bytes s infos held Nothing = refl
-released-bytes s infos held UntilStop = sym (append-nil infos)
-released-bytes s infos held UntilHit = sym (append-nil infos)
+pub give_bestmove-bytes : (s : State) (infos : List ℕ) (held : HeldBestmove) (hold : Hold) → (give_bestmove s infos held hold).bytes ≡ infos ++ (give_bestmove s [] held hold).bytes
+give_bestmove-bytes s infos held Nothing = refl
+give_bestmove-bytes s infos held UntilStop = sym (append-nil infos)
+give_bestmove-bytes s infos held UntilHit = sym (append-nil infos)
 
-pub released-state : (s : State) (infos : List ℕ) (held : Held) (hold : Hold) → (released s infos held hold).state ≡ (released s [] held hold).state
-released-state s infos held Nothing = refl
-released-state s infos held UntilStop = refl
-released-state s infos held UntilHit = refl
+pub give_bestmove-state : (s : State) (infos : List ℕ) (held : HeldBestmove) (hold : Hold) → (give_bestmove s infos held hold).state ≡ (give_bestmove s [] held hold).state
+give_bestmove-state s infos held Nothing = refl
+give_bestmove-state s infos held UntilStop = refl
+give_bestmove-state s infos held UntilHit = refl
 
 -- a `go` ends no session
-pub released-over : (s : State) (infos : List ℕ) (held : Held) (hold : Hold) → (released s infos held hold).state.is_over ≡ s.is_over
-released-over s infos held Nothing = refl
-released-over s infos held UntilStop = refl
-released-over s infos held UntilHit = refl
+pub give_bestmove-over : (s : State) (infos : List ℕ) (held : HeldBestmove) (hold : Hold) → (give_bestmove s infos held hold).state.is_over ≡ s.is_over
+give_bestmove-over s infos held Nothing = refl
+give_bestmove-over s infos held UntilStop = refl
+give_bestmove-over s infos held UntilHit = refl

@@ -1,5 +1,5 @@
 -- The info lines of a position, depth by depth.
-use Rattle.std.proofs.Common.{◌≡◌, ◌≢◌, ℕ, ◌+◌, ◌<◌, List, [], ◌∷◌, ◌++◌, Option, Some, None, refl, sym, ap, ◌∙◌, add-one, append_assoc, inr}
+use Rattle.std.proofs.Common.{◌≡◌, ◌≢◌, ℕ, ◌+◌, ◌<◌, List, [], ◌∷◌, ◌++◌, Option, Some, None, refl, ap, add-one, inr}
 use Rattle.std.specs.Prelude.{is_some, false}
 use Rattle.shogi_core.specs.declared.moves.Move.{Move}
 use Rattle.shogi_core.specs.Position.{Shogi}
@@ -8,7 +8,7 @@ use Rattle.shogi_search.specs.Minimax.{best, line}
 use Rattle.shogi_search.proofs.Lines.{line-none}
 use Rattle.shogi_search.proofs.Best.{none_iff}
 use Rattle.usi_session.specs.Texts.{info_line}
-use Rattle.usi_session.specs.Going.{info_lines, infos, infos_of}
+use Rattle.usi_session.specs.GoCommand.{info_lines, infos, infos_of}
 
 pub info_lines-start : (p : Shogi) → info_lines p 0 ≡ []
 unfolding info_lines
@@ -40,6 +40,6 @@ none_is : (o : Option Move) → is_some o ≡ false → o ≡ None
 none_is None e = refl
 none_is (Some m) e = absurd (cc)
 
--- where no move is legal the best line is empty
+-- where no move is legal the pv is empty
 pub line-empty : (p : Shogi) (depth : ℕ) → 0 < depth → legal_moves p ≡ [] → line p depth ≡ []
 line-empty p depth h e = line-none p depth h (none_is (best p depth) ((none_iff p depth (best p depth) refl).1 (inr e)))

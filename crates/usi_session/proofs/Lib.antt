@@ -1,5 +1,5 @@
 pub mod Appends
-pub mod Placed
+pub mod PositionLaws
 pub mod HandLaws
 pub mod Walk
 pub mod Infos

@@ -4,10 +4,11 @@ use Rattle.std.specs.Prelude.{◌-◌, ◌&&◌, ◌||◌, not, nat_lt, length, 
 use Rattle.usi_lines.specs.Lines.{Line, ahead, lines}
 use Rattle.usi_session.specs.declared.state.State.{State}
 use Rattle.usi_session.specs.InHand.{InHand, goes_on_if, lines_on}
-use Rattle.usi_session.specs.Answer.{found}
-use Rattle.usi_session.proofs.HandLaws.{released-over}
-use Rattle.usi_session.specs.Due.{Talk, due, state_due, owed, owed_after, has_line, is_pending, wants_input, new_talk}
+use Rattle.usi_session.specs.Answer.{bestmove_at}
+use Rattle.usi_session.proofs.HandLaws.{give_bestmove-over}
+use Rattle.usi_session.specs.Due.{SessionView, due, state_due, owed, owed_after, has_line, is_pending, wants_input, new_session}
 use Rattle.usi_session.specs.Replies.{replies_from, state_from, is_over_after, answer_unless}
+use Rattle.usi_session.specs.declared.limits.TheConstants.{QUEUE_FULL}
 
 -- no line, no reply
 pub replies_from-none : (s : State) → replies_from s [] ≡ []
@@ -24,23 +25,23 @@ unfolding replies_from
 replies_from-over s [] over = refl
 replies_from-over s (line ∷ rest) over = over_line s.is_over s line rest over (replies_from-over s rest over)
 
-owed-over : (s : State) (going : Option InHand) (ahead : List Line) → s.is_over ≡ true → owed s going ahead ≡ []
-owed-over s going ahead over = ap (λ (b : Bool). cond b [] (owed_after (goes_on_if s going) ahead)) over
+owed-over : (s : State) (in_hand : Option InHand) (ahead : List Line) → s.is_over ≡ true → owed s in_hand ahead ≡ []
+owed-over s in_hand ahead over = ap (λ (b : Bool). cond b [] (owed_after (goes_on_if s in_hand) ahead)) over
 
 -- a session that is over owes what is queued
-pub due-over : (s : Talk) (x : List ℕ) → s.state.is_over ≡ true → due s x ≡ s.queued
-due-over s x over = ap (λ xs. s.queued ++ xs) (owed-over s.state s.going (ahead s.input x) over) ∙ append-nil s.queued
+pub due-over : (s : SessionView) (x : List ℕ) → s.state.is_over ≡ true → due s x ≡ s.queued
+due-over s x over = ap (λ xs. s.queued ++ xs) (owed-over s.state s.in_hand (ahead s.input x) over) ∙ append-nil s.queued
 
-nothing_owed : (over : Bool) (s : State) (going : Option InHand) (xs : List Line) → (not over && (is_some going || has_line xs)) ≡ false → cond over [] (owed_after (goes_on_if s going) xs) ≡ []
-nothing_owed true s going xs e = refl
+nothing_owed : (over : Bool) (s : State) (in_hand : Option InHand) (xs : List Line) → (not over && (is_some in_hand || has_line xs)) ≡ false → cond over [] (owed_after (goes_on_if s in_hand) xs) ≡ []
+nothing_owed true s in_hand xs e = refl
 nothing_owed false s None [] e = replies_from-none s
 nothing_owed false s None (line ∷ rest) e = absurd (cc)
 nothing_owed false s (Some go) xs e = absurd (cc)
 
 -- a session with nothing pending owes what is queued
-pub due-settled : (s : Talk) → is_pending s ≡ false → due s [] ≡ s.queued
+pub due-settled : (s : SessionView) → is_pending s ≡ false → due s [] ≡ s.queued
 due-settled s settled =
-    ap (λ xs. s.queued ++ xs) (nothing_owed s.state.is_over s.state s.going (ahead s.input []) settled) ∙ append-nil s.queued
+    ap (λ xs. s.queued ++ xs) (nothing_owed s.state.is_over s.state s.in_hand (ahead s.input []) settled) ∙ append-nil s.queued
 
 -- no line, no change
 state_from-none : (s : State) → state_from s [] ≡ s
@@ -57,25 +58,25 @@ unfolding state_from
 state_from-over s [] over = refl
 state_from-over s (line ∷ rest) over = ap (λ (t : State). state_from t rest) (over_stays s.is_over s line over) ∙ state_from-over s rest over
 
-goes_on-over : (s : State) (going : Option InHand) → (goes_on_if s going).state.is_over ≡ s.is_over
+goes_on-over : (s : State) (in_hand : Option InHand) → (goes_on_if s in_hand).state.is_over ≡ s.is_over
 goes_on-over s None = refl
-goes_on-over s (Some go) = released-over s (lines_on go.root go.told (go.depth - go.told)) (found go.root go.depth go.hold) go.hold
+goes_on-over s (Some go) = give_bestmove-over s (lines_on go.root go.told (go.depth - go.told)) (bestmove_at go.root go.depth go.hold) go.hold
 
 -- a session that is over will be over
-pub state_due-over : (s : Talk) (x : List ℕ) → s.state.is_over ≡ true → (state_due s x).is_over ≡ true
+pub state_due-over : (s : SessionView) (x : List ℕ) → s.state.is_over ≡ true → (state_due s x).is_over ≡ true
 state_due-over s x over =
-    let ended : (goes_on_if s.state s.going).state.is_over ≡ true = goes_on-over s.state s.going ∙ over in
-    ap (λ (t : State). t.is_over) (state_from-over (goes_on_if s.state s.going).state (ahead s.input x) ended) ∙ ended
+    let ended : (goes_on_if s.state s.in_hand).state.is_over ≡ true = goes_on-over s.state s.in_hand ∙ over in
+    ap (λ (t : State). t.is_over) (state_from-over (goes_on_if s.state s.in_hand).state (ahead s.input x) ended) ∙ ended
 
-idle_state : (over : Bool) (s : State) (going : Option InHand) (xs : List Line) → over ≡ false → (not over && (is_some going || has_line xs)) ≡ false → state_from (goes_on_if s going).state xs ≡ s
-idle_state true s going xs alive e = absurd (cc)
+idle_state : (over : Bool) (s : State) (in_hand : Option InHand) (xs : List Line) → over ≡ false → (not over && (is_some in_hand || has_line xs)) ≡ false → state_from (goes_on_if s in_hand).state xs ≡ s
+idle_state true s in_hand xs alive e = absurd (cc)
 idle_state false s None [] alive e = state_from-none s
 idle_state false s None (line ∷ rest) alive e = absurd (cc)
 idle_state false s (Some go) xs alive e = absurd (cc)
 
 -- alive, with nothing pending, its state is the one after all that it was sent
-pub state_due-settled : (s : Talk) → s.state.is_over ≡ false → is_pending s ≡ false → state_due s [] ≡ s.state
-state_due-settled s alive settled = idle_state s.state.is_over s.state s.going (ahead s.input []) alive settled
+pub state_due-settled : (s : SessionView) → s.state.is_over ≡ false → is_pending s ≡ false → state_due s [] ≡ s.state
+state_due-settled s alive settled = idle_state s.state.is_over s.state s.in_hand (ahead s.input []) alive settled
 
 both_false : (over : Bool) → (not over && false) ≡ false
 both_false true = refl
@@ -87,8 +88,8 @@ settled_of false true short e = absurd (cc)
 settled_of true true short e = absurd (cc)
 
 -- a session that wants input owes what is queued
-pub due-wanting : (s : Talk) → wants_input s ≡ true → due s [] ≡ s.queued
-due-wanting s wants = due-settled s (settled_of s.state.is_over (is_some s.going || has_line (ahead s.input [])) (nat_lt (length s.queued) 65536) wants)
+pub due-wanting : (s : SessionView) → wants_input s ≡ true → due s [] ≡ s.queued
+due-wanting s wants = due-settled s (settled_of s.state.is_over (is_some s.in_hand || has_line (ahead s.input [])) (nat_lt (length s.queued) QUEUE_FULL) wants)
 
 wants_from : (over line short : Bool) → over ≡ false → (not over && line) ≡ false → short ≡ true → (not over && not line && short) ≡ true
 wants_from false false true a b c = refl
@@ -97,12 +98,12 @@ wants_from false true short a b c = absurd (cc)
 wants_from true line short a b c = absurd (cc)
 
 -- alive and settled, with nothing queued, it wants input
-pub wants_after : (s : Talk) → s.state.is_over ≡ false → is_pending s ≡ false → s.queued ≡ [] → wants_input s ≡ true
+pub wants_after : (s : SessionView) → s.state.is_over ≡ false → is_pending s ≡ false → s.queued ≡ [] → wants_input s ≡ true
 wants_after s alive settled empty =
-    wants_from s.state.is_over (is_some s.going || has_line (ahead s.input [])) (nat_lt (length s.queued) 65536) alive settled (ap (λ q. nat_lt (length q) 65536) empty)
+    wants_from s.state.is_over (is_some s.in_hand || has_line (ahead s.input [])) (nat_lt (length s.queued) QUEUE_FULL) alive settled (ap (λ q. nat_lt (length q) QUEUE_FULL) empty)
 
 -- a new session wants input
-pub new_wants : wants_input new_talk ≡ true
+pub new_wants : wants_input new_session ≡ true
 unfolding lines
 new_wants = refl
 
@@ -111,10 +112,10 @@ alive_of false settled short e = refl
 alive_of true settled short e = absurd (cc)
 
 -- a session that wants input is not over, and all that it was sent is answered
-pub state_due-wanting : (s : Talk) → wants_input s ≡ true → (state_due s []).is_over ≡ false
+pub state_due-wanting : (s : SessionView) → wants_input s ≡ true → (state_due s []).is_over ≡ false
 state_due-wanting s wants =
-    let alive : s.state.is_over ≡ false = alive_of s.state.is_over (is_some s.going || has_line (ahead s.input [])) (nat_lt (length s.queued) 65536) wants in
-    let settled : is_pending s ≡ false = settled_of s.state.is_over (is_some s.going || has_line (ahead s.input [])) (nat_lt (length s.queued) 65536) wants in
+    let alive : s.state.is_over ≡ false = alive_of s.state.is_over (is_some s.in_hand || has_line (ahead s.input [])) (nat_lt (length s.queued) QUEUE_FULL) wants in
+    let settled : is_pending s ≡ false = settled_of s.state.is_over (is_some s.in_hand || has_line (ahead s.input [])) (nat_lt (length s.queued) QUEUE_FULL) wants in
     ap (λ (t : State). t.is_over) (state_due-settled s alive settled) ∙ alive
 
 -- no session is over before it was sent anything

@@ -2,15 +2,15 @@
 use Rattle.std.proofs.Common.{◌≡◌, ℕ, ◌+◌, ◌*◌, ◌<◌, ◌≤◌, List, [], ◌∷◌, ◌++◌, length, refl, sym, ap, ◌∙◌, arith, append_assoc, append-nil, true, false, Bool, Option, Some, None, cond}
 use Rattle.std.specs.Prelude.{drop, not, ◌&&◌, ◌||◌, is_some, ◌-◌}
 use Rattle.usi_lines.specs.Lines.{ahead}
-use Rattle.usi_session.specs.declared.state.Held.{Held}
-use Rattle.usi_session.specs.Answer.{found, released}
-use Rattle.usi_session.proofs.HandLaws.{lines_on-none, released-bytes, released-state}
+use Rattle.usi_session.specs.declared.state.HeldBestmove.{HeldBestmove}
+use Rattle.usi_session.specs.Answer.{bestmove_at, give_bestmove}
+use Rattle.usi_session.proofs.HandLaws.{lines_on-none, give_bestmove-bytes, give_bestmove-state}
 use Rattle.usi_lines.specs.Lines.{Line}
 use Rattle.usi_session.specs.declared.state.State.{State}
 use Rattle.usi_session.specs.Replies.{replies_from, state_from, answer_to, answer_unless}
-use Rattle.usi_session.specs.InHand.{InHand, goes_on, goes_on_if, with_rest, load_of_if, lines_on}
+use Rattle.usi_session.specs.InHand.{InHand, goes_on, goes_on_if, with_rest, load_of_if, lines_on, most_turns}
 use Rattle.usi_session.specs.Costs.{costs_from, cost_to}
-use Rattle.usi_session.specs.Due.{Talk, owed, owed_after, load_ahead, is_pending, has_line}
+use Rattle.usi_session.specs.Due.{SessionView, owed, owed_after, load_ahead, is_pending, has_line}
 use Rattle.usi_session.proofs.Settled.{replies_from-over}
 
 -- a session that is not over answers the line
@@ -28,69 +28,69 @@ state_from-alive : (s : State) (line : Line) (rest : List Line) → s.is_over �
 unfolding state_from
 state_from-alive s line rest alive = ap (λ (over : Bool). state_from (answer_unless over s line).state rest) alive
 
-owed_either : (over : Bool) (s : State) (going : Option InHand) (ahead : List Line) → s.is_over ≡ over → (over ≡ true → going ≡ None) → cond over [] (owed_after (goes_on_if s going) ahead) ≡ owed_after (goes_on_if s going) ahead
-owed_either false s going ahead e h = refl
-owed_either true s going ahead e h = rw (h refl) (sym (replies_from-over s ahead e))
+owed_either : (over : Bool) (s : State) (in_hand : Option InHand) (ahead : List Line) → s.is_over ≡ over → (over ≡ true → in_hand ≡ None) → cond over [] (owed_after (goes_on_if s in_hand) ahead) ≡ owed_after (goes_on_if s in_hand) ahead
+owed_either false s in_hand ahead e h = refl
+owed_either true s in_hand ahead e h = rw (h refl) (sym (replies_from-over s ahead e))
 
 -- nothing is in hand of a session that is over
-pub owed_on : (s : State) (going : Option InHand) (ahead : List Line) → (s.is_over ≡ true → going ≡ None) → owed s going ahead ≡ owed_after (goes_on_if s going) ahead
-owed_on s going ahead h = owed_either s.is_over s going ahead refl h
+pub owed_on : (s : State) (in_hand : Option InHand) (ahead : List Line) → (s.is_over ≡ true → in_hand ≡ None) → owed s in_hand ahead ≡ owed_after (goes_on_if s in_hand) ahead
+owed_on s in_hand ahead h = owed_either s.is_over s in_hand ahead refl h
 
-pub owed-alive : (s : State) (going : Option InHand) (ahead : List Line) → s.is_over ≡ false → owed s going ahead ≡ owed_after (goes_on_if s going) ahead
-owed-alive s going ahead alive = ap (λ (over : Bool). cond over [] (owed_after (goes_on_if s going) ahead)) alive
+pub owed-alive : (s : State) (in_hand : Option InHand) (ahead : List Line) → s.is_over ≡ false → owed s in_hand ahead ≡ owed_after (goes_on_if s in_hand) ahead
+owed-alive s in_hand ahead alive = ap (λ (over : Bool). cond over [] (owed_after (goes_on_if s in_hand) ahead)) alive
 
-with_rest-parts : (bytes : List ℕ) (s : State) (going : Option InHand) → with_rest bytes s going ≡ bytes ++ (goes_on_if s going).bytes
+with_rest-parts : (bytes : List ℕ) (s : State) (in_hand : Option InHand) → with_rest bytes s in_hand ≡ bytes ++ (goes_on_if s in_hand).bytes
 with_rest-parts bytes s None = sym (append-nil bytes)
 with_rest-parts bytes s (Some go) = refl
 
 -- the answer was queued, and the state is the one after it; or its `go` is in hand
-pub due_on : (s next : State) (queued more reply : List ℕ) (idle going : Option InHand) (line : Line) (all rest : List Line) → s.is_over ≡ false → idle ≡ None → all ≡ line ∷ rest → more ≡ queued ++ reply → with_rest reply next going ≡ (answer_to s line).bytes → (goes_on_if next going).state ≡ (answer_to s line).state → (next.is_over ≡ true → going ≡ None)
-    → more ++ owed next going rest ≡ queued ++ owed s idle all
-due_on s next queued more reply idle going line all rest alive i e f g h over =
-    let given : reply ++ (goes_on_if next going).bytes ≡ (answer_to s line).bytes = sym (with_rest-parts reply next going) ∙ g in
+pub due_on : (s next : State) (queued more reply : List ℕ) (idle in_hand : Option InHand) (line : Line) (all rest : List Line) → s.is_over ≡ false → idle ≡ None → all ≡ line ∷ rest → more ≡ queued ++ reply → with_rest reply next in_hand ≡ (answer_to s line).bytes → (goes_on_if next in_hand).state ≡ (answer_to s line).state → (next.is_over ≡ true → in_hand ≡ None)
+    → more ++ owed next in_hand rest ≡ queued ++ owed s idle all
+due_on s next queued more reply idle in_hand line all rest alive i e f g h over =
+    let given : reply ++ (goes_on_if next in_hand).bytes ≡ (answer_to s line).bytes = sym (with_rest-parts reply next in_hand) ∙ g in
     let after : owed s idle all ≡ (answer_to s line).bytes ++ replies_from (answer_to s line).state rest =
     ap (λ (o : Option InHand). owed s o all) i ∙ (owed-alive s None all alive ∙ (ap (replies_from s) e ∙ replies_from-alive s line rest alive)) in
-    ap (λ xs. more ++ xs) (owed_on next going rest over)
-    ∙ (ap (λ xs. xs ++ owed_after (goes_on_if next going) rest) f
-    ∙ (append_assoc queued reply (owed_after (goes_on_if next going) rest)
-    ∙ ap (λ xs. queued ++ xs) (sym (append_assoc reply (goes_on_if next going).bytes (replies_from (goes_on_if next going).state rest))
-    ∙ (ap (λ xs. xs ++ replies_from (goes_on_if next going).state rest) given
+    ap (λ xs. more ++ xs) (owed_on next in_hand rest over)
+    ∙ (ap (λ xs. xs ++ owed_after (goes_on_if next in_hand) rest) f
+    ∙ (append_assoc queued reply (owed_after (goes_on_if next in_hand) rest)
+    ∙ ap (λ xs. queued ++ xs) (sym (append_assoc reply (goes_on_if next in_hand).bytes (replies_from (goes_on_if next in_hand).state rest))
+    ∙ (ap (λ xs. xs ++ replies_from (goes_on_if next in_hand).state rest) given
     ∙ (ap (λ (t : State). (answer_to s line).bytes ++ replies_from t rest) h ∙ sym after)))))
 
 -- the `go` of a line costs what the line did
-pub load_on : (s next : State) (idle going : Option InHand) (line : Line) (all rest : List Line) → s.is_over ≡ false → idle ≡ None → all ≡ line ∷ rest → (goes_on_if next going).state ≡ (answer_to s line).state → load_of_if going ≤ cost_to s line → load_ahead next going rest ≤ load_ahead s idle all
-load_on s next idle going line all rest alive i e h less =
+pub load_on : (s next : State) (idle in_hand : Option InHand) (line : Line) (all rest : List Line) → s.is_over ≡ false → idle ≡ None → all ≡ line ∷ rest → (goes_on_if next in_hand).state ≡ (answer_to s line).state → load_of_if in_hand ≤ cost_to s line → load_ahead next in_hand rest ≤ load_ahead s idle all
+load_on s next idle in_hand line all rest alive i e h less =
     let whole : costs_from s all ≡ cost_to s line + costs_from (answer_to s line).state rest = ap (costs_from s) e ∙ costs_from-alive s line rest alive in
-    let same : costs_from (goes_on_if next going).state rest ≡ costs_from (answer_to s line).state rest = ap (λ (t : State). costs_from t rest) h in
+    let same : costs_from (goes_on_if next in_hand).state rest ≡ costs_from (answer_to s line).state rest = ap (λ (t : State). costs_from t rest) h in
     rw i (omega arith)
 
 -- the state after all lines is that after the `go` of a line and the lines behind it
-pub state_on : (s next : State) (idle going : Option InHand) (line : Line) (all rest : List Line) → s.is_over ≡ false → idle ≡ None → all ≡ line ∷ rest → (goes_on_if next going).state ≡ (answer_to s line).state → state_from (goes_on_if next going).state rest ≡ state_from (goes_on_if s idle).state all
-state_on s next idle going line all rest alive i e h =
+pub state_on : (s next : State) (idle in_hand : Option InHand) (line : Line) (all rest : List Line) → s.is_over ≡ false → idle ≡ None → all ≡ line ∷ rest → (goes_on_if next in_hand).state ≡ (answer_to s line).state → state_from (goes_on_if next in_hand).state rest ≡ state_from (goes_on_if s idle).state all
+state_on s next idle in_hand line all rest alive i e h =
     ap (λ (t : State). state_from t rest) h ∙ (sym (state_from-alive s line rest alive) ∙ (ap (state_from s) (sym e) ∙ ap (λ (o : Option InHand). state_from (goes_on_if s o).state all) (sym i)))
 
 -- a `go` that has told a depth more leads to the same state
-pub state_told : (s : State) (go more : InHand) (going : Option InHand) (ahead : List Line) → going ≡ Some go → more.root ≡ go.root → more.depth ≡ go.depth → more.hold ≡ go.hold → state_from (goes_on s more).state ahead ≡ state_from (goes_on_if s going).state ahead
-state_told s go more going ahead i r d h =
-    let same : (goes_on s more).state ≡ (goes_on s go).state = released-state s (lines_on more.root more.told (more.depth - more.told)) (found more.root more.depth more.hold) more.hold
-    ∙ (rw (r, d, h) (sym (released-state s (lines_on go.root go.told (go.depth - go.told)) (found go.root go.depth go.hold) go.hold))) in
+pub state_told : (s : State) (go more : InHand) (in_hand : Option InHand) (ahead : List Line) → in_hand ≡ Some go → more.root ≡ go.root → more.depth ≡ go.depth → more.hold ≡ go.hold → state_from (goes_on s more).state ahead ≡ state_from (goes_on_if s in_hand).state ahead
+state_told s go more in_hand ahead i r d h =
+    let same : (goes_on s more).state ≡ (goes_on s go).state = give_bestmove-state s (lines_on more.root more.told (more.depth - more.told)) (bestmove_at more.root more.depth more.hold) more.hold
+    ∙ (rw (r, d, h) (sym (give_bestmove-state s (lines_on go.root go.told (go.depth - go.told)) (bestmove_at go.root go.depth go.hold) go.hold))) in
     ap (λ (t : State). state_from t ahead) same ∙ ap (λ (o : Option InHand). state_from (goes_on_if s o).state ahead) (sym i)
 
 -- and so does its end
-pub state_ends : (s next : State) (go : InHand) (going : Option InHand) (held : Held) (ahead : List Line) → going ≡ Some go → held ≡ found go.root go.depth go.hold → next ≡ (released s [] held held.until).state → state_from next ahead ≡ state_from (goes_on_if s going).state ahead
-state_ends s next go going held ahead i e h =
-    let state : (goes_on s go).state ≡ next = released-state s (lines_on go.root go.told (go.depth - go.told)) (found go.root go.depth go.hold) go.hold ∙ (ap (λ (k : Held). (released s [] k k.until).state) (sym e) ∙ sym h) in
+pub state_ends : (s next : State) (go : InHand) (in_hand : Option InHand) (held : HeldBestmove) (ahead : List Line) → in_hand ≡ Some go → held ≡ bestmove_at go.root go.depth go.hold → next ≡ (give_bestmove s [] held held.until).state → state_from next ahead ≡ state_from (goes_on_if s in_hand).state ahead
+state_ends s next go in_hand held ahead i e h =
+    let state : (goes_on s go).state ≡ next = give_bestmove-state s (lines_on go.root go.told (go.depth - go.told)) (bestmove_at go.root go.depth go.hold) go.hold ∙ (ap (λ (k : HeldBestmove). (give_bestmove s [] k k.until).state) (sym e) ∙ sym h) in
     ap (λ (t : State). state_from t ahead) (sym state) ∙ ap (λ (o : Option InHand). state_from (goes_on_if s o).state ahead) (sym i)
 
 -- the last depth was told, and the bestmove written or held
-pub due_ends : (s next : State) (queued more said reply : List ℕ) (go : InHand) (going : Option InHand) (held : Held) (ahead : List Line) → s.is_over ≡ false → going ≡ Some go → go.told + 1 ≡ go.depth → held ≡ found go.root go.depth go.hold
-    → said ++ lines_on go.root (go.told + 1) (go.depth - (go.told + 1)) ≡ lines_on go.root go.told (go.depth - go.told) → reply ≡ said ++ (released s [] held held.until).bytes → next ≡ (released s [] held held.until).state → more ≡ queued ++ reply
-    → more ++ owed next None ahead ≡ queued ++ owed s going ahead
-due_ends s next queued more said reply go going held ahead alive i last e f g h m =
-    let lines : said ≡ lines_on go.root go.told (go.depth - go.told) = sym (append-nil said) ∙ (ap (λ xs. said ++ xs) (sym (lines_on-none go.root (go.told + 1) go.depth last)) ∙ f) in
-    let bytes : (goes_on s go).bytes ≡ reply = released-bytes s (lines_on go.root go.told (go.depth - go.told)) (found go.root go.depth go.hold) go.hold ∙ (ap (λ xs. xs ++ (released s [] (found go.root go.depth go.hold) go.hold).bytes) (sym lines) ∙ (ap (λ (k : Held). said ++ (released s [] k k.until).bytes) (sym e) ∙ sym g)) in
-    let state : (goes_on s go).state ≡ next = released-state s (lines_on go.root go.told (go.depth - go.told)) (found go.root go.depth go.hold) go.hold ∙ (ap (λ (k : Held). (released s [] k k.until).state) (sym e) ∙ sym h) in
-    let before : owed s going ahead ≡ (goes_on s go).bytes ++ replies_from (goes_on s go).state ahead = ap (λ (o : Option InHand). owed s o ahead) i ∙ owed-alive s (Some go) ahead alive in
+pub due_ends : (s next : State) (queued more infos reply : List ℕ) (go : InHand) (in_hand : Option InHand) (held : HeldBestmove) (ahead : List Line) → s.is_over ≡ false → in_hand ≡ Some go → go.told + 1 ≡ go.depth → held ≡ bestmove_at go.root go.depth go.hold
+    → infos ++ lines_on go.root (go.told + 1) (go.depth - (go.told + 1)) ≡ lines_on go.root go.told (go.depth - go.told) → reply ≡ infos ++ (give_bestmove s [] held held.until).bytes → next ≡ (give_bestmove s [] held held.until).state → more ≡ queued ++ reply
+    → more ++ owed next None ahead ≡ queued ++ owed s in_hand ahead
+due_ends s next queued more infos reply go in_hand held ahead alive i last e f g h m =
+    let lines : infos ≡ lines_on go.root go.told (go.depth - go.told) = sym (append-nil infos) ∙ (ap (λ xs. infos ++ xs) (sym (lines_on-none go.root (go.told + 1) go.depth last)) ∙ f) in
+    let bytes : (goes_on s go).bytes ≡ reply = give_bestmove-bytes s (lines_on go.root go.told (go.depth - go.told)) (bestmove_at go.root go.depth go.hold) go.hold ∙ (ap (λ xs. xs ++ (give_bestmove s [] (bestmove_at go.root go.depth go.hold) go.hold).bytes) (sym lines) ∙ (ap (λ (k : HeldBestmove). infos ++ (give_bestmove s [] k k.until).bytes) (sym e) ∙ sym g)) in
+    let state : (goes_on s go).state ≡ next = give_bestmove-state s (lines_on go.root go.told (go.depth - go.told)) (bestmove_at go.root go.depth go.hold) go.hold ∙ (ap (λ (k : HeldBestmove). (give_bestmove s [] k k.until).state) (sym e) ∙ sym h) in
+    let before : owed s in_hand ahead ≡ (goes_on s go).bytes ++ replies_from (goes_on s go).state ahead = ap (λ (o : Option InHand). owed s o ahead) i ∙ owed-alive s (Some go) ahead alive in
     let after : owed next None ahead ≡ replies_from next ahead = owed_on next None ahead (λ _. refl) in
     ap (λ xs. more ++ xs) after ∙ (ap (λ xs. xs ++ replies_from next ahead) m ∙ (append_assoc queued reply (replies_from next ahead)
     ∙ ap (λ xs. queued ++ xs) (ap (λ xs. xs ++ replies_from next ahead) (sym bytes) ∙ (ap (λ (t : State). (goes_on s go).bytes ++ replies_from t ahead) (sym state) ∙ sym before))))
@@ -100,9 +100,9 @@ alive_of false some e = refl
 alive_of true some e = absurd (cc)
 
 -- what is pending is alive
-pub pending_alive : (s : Talk) → is_pending s ≡ true → s.state.is_over ≡ false
-pending_alive s e = alive_of s.state.is_over (is_some s.going || has_line (ahead s.input [])) e
+pub pending_alive : (s : SessionView) → is_pending s ≡ true → s.state.is_over ≡ false
+pending_alive s e = alive_of s.state.is_over (is_some s.in_hand || has_line (ahead s.input [])) e
 
 -- fewer lines are ahead
-pub fewer : (line : Line) (old new : List Line) (more : ℕ) → old ≡ line ∷ drop 1 old → new ≡ drop 1 old → more ≤ 300 → 400 * length new + more < 400 * length old + 0
+pub fewer : (line : Line) (old new : List Line) (more : ℕ) → old ≡ line ∷ drop 1 old → new ≡ drop 1 old → more ≤ most_turns → (most_turns + 1) * length new + more < (most_turns + 1) * length old + 0
 fewer line old new more e f less = let n : length old ≡ length (line ∷ drop 1 old) = ap length e in rw f (omega arith)

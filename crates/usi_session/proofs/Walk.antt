@@ -1,16 +1,16 @@
--- The walk along the best line, one search at a time.
+-- The walk along the pv, one search at a time.
 use Rattle.std.proofs.Common.{◌≡◌, ℕ, ◌+◌, ◌-◌, ◌*◌, ◌<◌, ◌≤◌, ℤ, List, [], ◌∷◌, ◌++◌, Option, Some, None, sym, ap, ◌∙◌, arith, append_assoc, append-nil}
 use Rattle.shogi_core.specs.declared.moves.Move.{Move}
 use Rattle.shogi_core.specs.Position.{Shogi}
 use Rattle.shogi_moves.specs.After.{after}
-use Rattle.shogi_search.specs.Minimax.{value, best, line, tree_size, chase, then_chase}
+use Rattle.shogi_search.specs.Minimax.{value, best, line, tree, chase, then_chase}
 use Rattle.shogi_search.proofs.Lines.{line-leaf, line-none, line-some, chase-above}
 use Rattle.shogi_search.proofs.MinimaxLaws.{best-leaf}
-use Rattle.usi_session.specs.Texts.{info_line, said_line}
+use Rattle.usi_session.specs.Texts.{info_line, info_text}
 use Rattle.usi_session.specs.InHand.{InHand, at_depth, load_of, lines_on}
 use Rattle.usi_session.proofs.HandLaws.{lines_on-more, load_at_depth}
 
--- there is no best move: the line ends
+-- there is no best move: the pv ends
 pub walked_none : (moves all : List Move) (at : Shogi) (plies : ℕ) (b : Option Move) → 0 < plies → b ≡ best at plies → b ≡ None → moves ++ line at plies ≡ all → moves ++ line at 0 ≡ all
 walked_none moves all at plies b h e n w =
     ap (λ xs. moves ++ xs) (line-leaf at ∙ sym (line-none at plies h (sym e ∙ n))) ∙ w
@@ -23,7 +23,7 @@ walked_some moves more all at next plies m b h e n f g w =
     ∙ (ap (λ q. moves ++ m ∷ line q (plies - 1)) g
     ∙ (ap (λ xs. moves ++ xs) (sym (line-some at plies m h (sym e ∙ n))) ∙ w)))
 
--- the line is whole
+-- the pv is whole
 pub walked_all : (moves all : List Move) (at : Shogi) (plies : ℕ) → plies ≡ 0 → moves ++ line at plies ≡ all → moves ≡ all
 walked_all moves all at plies e w =
     sym (append-nil moves) ∙ (ap (λ xs. moves ++ xs) (sym (ap (line at) e ∙ line-leaf at)) ∙ w)
@@ -32,22 +32,22 @@ walked_all moves all at plies e w =
 pub load_ends : (next : Shogi) (plies rest left more : ℕ) → plies ≡ 0 → left ≡ 0 → left + (then_chase (λ q. chase q (plies - 1)) next (best next plies) + rest) ≤ more + rest
 load_ends next plies rest left more e f = let b : best next 0 ≡ None = best-leaf next in rw (e, b, f) (omega arith)
 
--- the next search along the line, and those after it, cost what was said of them before
-pub load_goes_on : (at next : Shogi) (plies rest left : ℕ) (m : Move) (b : Option Move) → 0 < plies - 1 → b ≡ best at plies → b ≡ Some m → next ≡ after at m → left ≡ 2 * tree_size next (plies - 1) → left + (then_chase (λ q. chase q (plies - 1 - 1)) next (best next (plies - 1)) + rest) ≤ then_chase (λ q. chase q (plies - 1)) at (best at plies) + rest
+-- the next search along the pv, and those after it, cost what was said of them before
+pub load_goes_on : (at next : Shogi) (plies rest left : ℕ) (m : Move) (b : Option Move) → 0 < plies - 1 → b ≡ best at plies → b ≡ Some m → next ≡ after at m → left ≡ 2 * tree next (plies - 1) → left + (then_chase (λ q. chase q (plies - 1 - 1)) next (best next (plies - 1)) + rest) ≤ then_chase (λ q. chase q (plies - 1)) at (best at plies) + rest
 load_goes_on at next plies rest left m b h e n g f =
     let s : best at plies ≡ Some m = sym e ∙ n in
-    let c : chase next (plies - 1) ≡ 2 * tree_size next (plies - 1) + then_chase (λ q. chase q (plies - 1 - 1)) next (best next (plies - 1)) = chase-above next (plies - 1) h in
+    let c : chase next (plies - 1) ≡ 2 * tree next (plies - 1) + then_chase (λ q. chase q (plies - 1 - 1)) next (best next (plies - 1)) = chase-above next (plies - 1) h in
     rw (s, ← g) (omega arith)
 
 -- what is written of a depth is its info line
-pub told_line : (p : Shogi) (told : ℕ) (old new : List ℕ) (v : ℤ) (moves : List Move) → v ≡ value p (told + 1) → moves ≡ line p (told + 1) → new ≡ old ++ said_line (told + 1) v moves → new ≡ old ++ info_line p (told + 1)
+pub told_line : (p : Shogi) (told : ℕ) (old new : List ℕ) (v : ℤ) (moves : List Move) → v ≡ value p (told + 1) → moves ≡ line p (told + 1) → new ≡ old ++ info_text (told + 1) v moves → new ≡ old ++ info_line p (told + 1)
 told_line p told old new v moves e f g = rw (← e, ← f) g
 
 -- a depth that was told is a line more
-pub told_more : (p : Shogi) (told depth : ℕ) (old new : List ℕ) (v : ℤ) (moves : List Move) → told < depth → v ≡ value p (told + 1) → moves ≡ line p (told + 1) → new ≡ old ++ said_line (told + 1) v moves → new ++ lines_on p (told + 1) (depth - (told + 1)) ≡ old ++ lines_on p told (depth - told)
+pub told_more : (p : Shogi) (told depth : ℕ) (old new : List ℕ) (v : ℤ) (moves : List Move) → told < depth → v ≡ value p (told + 1) → moves ≡ line p (told + 1) → new ≡ old ++ info_text (told + 1) v moves → new ++ lines_on p (told + 1) (depth - (told + 1)) ≡ old ++ lines_on p told (depth - told)
 told_more p told depth old new v moves h e f g =
-    let said : new ≡ old ++ info_line p (told + 1) = told_line p told old new v moves e f g in
-    ap (λ xs. xs ++ lines_on p (told + 1) (depth - (told + 1))) said
+    let whole : new ≡ old ++ info_line p (told + 1) = told_line p told old new v moves e f g in
+    ap (λ xs. xs ++ lines_on p (told + 1) (depth - (told + 1))) whole
     ∙ (append_assoc old (info_line p (told + 1)) (lines_on p (told + 1) (depth - (told + 1))) ∙ ap (λ xs. old ++ xs) (sym (lines_on-more p told depth h)))
 
 -- the next depth, and those above it, cost no more

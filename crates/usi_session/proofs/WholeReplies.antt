@@ -1,26 +1,29 @@
 -- Every reply is whole lines.
-use Rattle.std.proofs.Common.{◌≡◌, ℕ, ◌+◌, ◌-◌, ℤ, zero, suc, List, [], ◌∷◌, ◌++◌, refl, sym, ap, ◌∙◌, append_assoc, append-nil, Option, Some, None, Result, Ok, Err}
+use Rattle.std.proofs.Common.{◌≡◌, ℕ, zero, suc, List, [], ◌∷◌, ◌++◌, refl, sym, ap, ◌∙◌, append_assoc, append-nil, Option, Some, None, Result, Ok, Err}
 use Rattle.std.specs.Prelude.{codes, decimal, OnSome, unwrap_or}
 use Rattle.shogi_core.specs.Position.{Shogi}
 use Rattle.shogi_core.specs.declared.moves.Move.{Move}
 use Rattle.shogi_moves.specs.LegalMoves.{legal_moves}
 use Rattle.shogi_search.specs.Minimax.{value, line}
 use Rattle.shogi_sfen.specs.MoveTexts.{text_of}
-use Rattle.usi_lines.specs.Commands.{Command, Usi, IsReady, SetDepth, NewGame, Start, Sfen, BadPosition, Go, GoMate, Stop, PonderHit, GameOver, Quit, Other, command_of}
+use Rattle.usi_lines.specs.Commands.{Command, Usi, IsReady, SetDepth, NewGame, Start, Sfen, BadPosition, Go, GoMate, Stop, PonderHit, GameOver, Quit, Other}
+use Rattle.usi_lines.specs.CommandLines.{command_of}
 use Rattle.usi_lines.specs.Lines.{Line, Text, TooLong}
 use Rattle.usi_lines.specs.declared.command.Hold.{Hold}
 use Rattle.usi_lines.specs.declared.command.Hold.TheVariants.{Nothing, UntilStop, UntilHit}
-use Rattle.usi_session.specs.declared.placing.Refusal.{Refusal}
-use Rattle.usi_session.specs.declared.placing.Refusal.TheVariants as refusals
-use Rattle.usi_session.specs.declared.state.Held.{Held}
+use Rattle.usi_session.specs.declared.position_command.Refusal.{Refusal}
+use Rattle.usi_session.specs.declared.position_command.Refusal.TheVariants as refusals
+use Rattle.usi_session.specs.declared.state.HeldBestmove.{HeldBestmove}
 use Rattle.usi_session.specs.declared.state.State.{State}
-use Rattle.usi_session.specs.Texts.{score_text, moves_text, said_line, info_line, bestmove_line, bad_position, illegal_move}
-use Rattle.usi_session.specs.Placing.{position_of_start, position_of_sfen}
-use Rattle.usi_session.specs.Going.{info_lines, infos, infos_of}
-use Rattle.usi_session.specs.Answer.{answer, placed, released, let_go, hit, ponder_hit, held_line, found}
+use Rattle.usi_session.specs.Options.{option_lines}
+use Rattle.usi_session.specs.Texts.{usi_reply, score_text, moves_text, info_line, bestmove_line, bad_position, illegal_move}
+use Rattle.usi_session.specs.PositionCommand.{position_of_start, position_of_sfen}
+use Rattle.usi_session.specs.GoCommand.{info_lines, infos, infos_of}
+use Rattle.usi_session.specs.Answer.{answer, answer_position, give_bestmove, answer_stop, answer_ponderhit_held, answer_ponderhit, held_line, bestmove_at}
 use Rattle.usi_session.specs.Replies.{answer_to}
 use Rattle.usi_session.specs.InHand.{InHand, with_rest}
 use Rattle.usi_session.specs.WholeLines.{last_byte, AreWholeLines, GrowsByLines}
+use Rattle.usi_lines.specs.declared.line.TheConstants.{LINE_FEED}
 
 last_byte-then : (before : ℕ) (xs ys : List ℕ) → last_byte before (xs ++ ys) ≡ last_byte (last_byte before xs) ys
 last_byte-then before [] ys = refl
@@ -28,11 +31,11 @@ last_byte-then before (x ∷ xs) ys = last_byte-then x xs ys
 
 -- lines after lines are lines
 lines_then : (xs ys : List ℕ) → AreWholeLines xs → AreWholeLines ys → AreWholeLines (xs ++ ys)
-lines_then xs ys e f = last_byte-then 10 xs ys ∙ (ap (λ b. last_byte b ys) e ∙ f)
+lines_then xs ys e f = last_byte-then LINE_FEED xs ys ∙ (ap (λ b. last_byte b ys) e ∙ f)
 
 -- the last byte is LF, whatever stands before
 record EndsInLf (bytes : List ℕ) : Type 0 where
-  pub ends : (before : ℕ) → last_byte before bytes ≡ 10
+  pub ends : (before : ℕ) → last_byte before bytes ≡ LINE_FEED
 
 lf : EndsInLf (codes "\n")
 lf = record { ends = λ before. refl }
@@ -46,7 +49,7 @@ info_ends p depth =
     (after (codes " pv") (after (moves_text (line p depth)) lf)))
 
 pub info_whole : (p : Shogi) (depth : ℕ) → AreWholeLines (info_line p depth)
-info_whole p depth = (info_ends p depth).ends 10
+info_whole p depth = (info_ends p depth).ends LINE_FEED
 
 bestmove_ends : (best ponder : Option Move) → EndsInLf (bestmove_line best ponder)
 bestmove_ends None ponder = after (codes "bestmove resign") lf
@@ -55,7 +58,12 @@ bestmove_ends (Some best) (Some ponder) =
     after (codes "bestmove ") (after (text_of best) (after (codes " ponder ") (after (text_of ponder) lf)))
 
 bestmove_whole : (best ponder : Option Move) → AreWholeLines (bestmove_line best ponder)
-bestmove_whole best ponder = (bestmove_ends best ponder).ends 10
+bestmove_whole best ponder = (bestmove_ends best ponder).ends LINE_FEED
+
+usi_ends : EndsInLf usi_reply
+usi_ends =
+    after (codes "id name Shared Shogi Host\nid author Shared Shogi Host Team\n")
+    (after option_lines (after (codes "usiok") lf))
 
 bad_position-ends : (fault : ℕ) → EndsInLf (bad_position fault)
 bad_position-ends fault = after (codes "info string bad position ") (after (decimal fault) lf)
@@ -72,41 +80,41 @@ infos_of-whole : (p : Shogi) (depth : ℕ) (moves : List ℕ) → AreWholeLines 
 infos_of-whole p depth [] = refl
 infos_of-whole p depth (m ∷ rest) = info_lines-whole p depth
 
-released-whole : (s : State) (infos : List ℕ) (held : Held) (hold : Hold) → AreWholeLines infos → AreWholeLines (released s infos held hold).bytes
-released-whole s infos held Nothing e = lines_then infos (held_line held) e (bestmove_whole held.best held.ponder)
-released-whole s infos held UntilStop e = e
-released-whole s infos held UntilHit e = e
+give_bestmove-whole : (s : State) (infos : List ℕ) (held : HeldBestmove) (hold : Hold) → AreWholeLines infos → AreWholeLines (give_bestmove s infos held hold).bytes
+give_bestmove-whole s infos held Nothing e = lines_then infos (held_line held) e (bestmove_whole held.best held.ponder)
+give_bestmove-whole s infos held UntilStop e = e
+give_bestmove-whole s infos held UntilHit e = e
 
-placed-whole : (s : State) (outcome : Result Shogi Refusal) → AreWholeLines (placed s outcome).bytes
-placed-whole s (Ok p) = refl
-placed-whole s (Err (refusals.BadPosition fault)) = (bad_position-ends fault).ends 10
-placed-whole s (Err (refusals.IllegalMove number)) = (illegal_move-ends number).ends 10
+answer_position-whole : (s : State) (outcome : Result Shogi Refusal) → AreWholeLines (answer_position s outcome).bytes
+answer_position-whole s (Ok p) = refl
+answer_position-whole s (Err (refusals.BadPosition fault)) = (bad_position-ends fault).ends LINE_FEED
+answer_position-whole s (Err (refusals.IllegalMove number)) = (illegal_move-ends number).ends LINE_FEED
 
-let_go-whole : (s : State) (held : Option Held) → AreWholeLines (let_go s held).bytes
-let_go-whole s None = refl
-let_go-whole s (Some held) = bestmove_whole held.best held.ponder
+answer_stop-whole : (s : State) (held : Option HeldBestmove) → AreWholeLines (answer_stop s held).bytes
+answer_stop-whole s None = refl
+answer_stop-whole s (Some held) = bestmove_whole held.best held.ponder
 
-hit-whole : (s : State) (held : Held) (hold : Hold) → AreWholeLines (hit s held hold).bytes
-hit-whole s held UntilHit = bestmove_whole held.best held.ponder
-hit-whole s held UntilStop = refl
-hit-whole s held Nothing = refl
+answer_ponderhit_held-whole : (s : State) (held : HeldBestmove) (hold : Hold) → AreWholeLines (answer_ponderhit_held s held hold).bytes
+answer_ponderhit_held-whole s held UntilHit = bestmove_whole held.best held.ponder
+answer_ponderhit_held-whole s held UntilStop = refl
+answer_ponderhit_held-whole s held Nothing = refl
 
-ponder_hit-whole : (s : State) (held : Option Held) → AreWholeLines (ponder_hit s held).bytes
-ponder_hit-whole s None = refl
-ponder_hit-whole s (Some held) = hit-whole s held held.until
+answer_ponderhit-whole : (s : State) (held : Option HeldBestmove) → AreWholeLines (answer_ponderhit s held).bytes
+answer_ponderhit-whole s None = refl
+answer_ponderhit-whole s (Some held) = answer_ponderhit_held-whole s held held.until
 
 answer-whole : (s : State) (command : Command) → AreWholeLines (answer s command).bytes
-answer-whole s Usi = refl
+answer-whole s Usi = usi_ends.ends LINE_FEED
 answer-whole s IsReady = refl
 answer-whole s (SetDepth depth) = refl
 answer-whole s NewGame = refl
-answer-whole s (Start rest) = placed-whole s (position_of_start rest)
-answer-whole s (Sfen rest) = placed-whole s (position_of_sfen rest)
-answer-whole s BadPosition = (bad_position-ends 0).ends 10
-answer-whole s (Go depth hold) = released-whole s (infos s.position (unwrap_or depth s.depth)) (found s.position (unwrap_or depth s.depth) hold) hold (infos_of-whole s.position (unwrap_or depth s.depth) (legal_moves s.position))
+answer-whole s (Start rest) = answer_position-whole s (position_of_start rest)
+answer-whole s (Sfen rest) = answer_position-whole s (position_of_sfen rest)
+answer-whole s BadPosition = (bad_position-ends 0).ends LINE_FEED
+answer-whole s (Go depth hold) = give_bestmove-whole s (infos s.position (unwrap_or depth s.options.depth)) (bestmove_at s.position (unwrap_or depth s.options.depth) hold) hold (infos_of-whole s.position (unwrap_or depth s.options.depth) (legal_moves s.position))
 answer-whole s GoMate = refl
-answer-whole s Stop = let_go-whole s s.held
-answer-whole s PonderHit = ponder_hit-whole s s.held
+answer-whole s Stop = answer_stop-whole s s.held
+answer-whole s PonderHit = answer_ponderhit-whole s s.held
 answer-whole s GameOver = refl
 answer-whole s Quit = refl
 answer-whole s Other = refl
@@ -116,18 +124,18 @@ answer_to-whole s (Text text) = answer-whole s (command_of text)
 answer_to-whole s TooLong = refl
 
 -- a line is answered at once, or nothing is said yet of the `go` that is taken in hand
-pub reply_whole : (s next : State) (reply : List ℕ) (going : Option InHand) (line : Line) → with_rest reply next going ≡ (answer_to s line).bytes → OnSome going (reply ≡ []) → AreWholeLines reply
-reply_whole s next reply None line e quiet = ap (last_byte 10) e ∙ answer_to-whole s line
-reply_whole s next reply (Some go) line e quiet = ap (last_byte 10) quiet
+pub reply_whole : (s next : State) (reply : List ℕ) (in_hand : Option InHand) (line : Line) → with_rest reply next in_hand ≡ (answer_to s line).bytes → OnSome in_hand (reply ≡ []) → AreWholeLines reply
+reply_whole s next reply None line e quiet = ap (last_byte LINE_FEED) e ∙ answer_to-whole s line
+reply_whole s next reply (Some go) line e quiet = ap (last_byte LINE_FEED) quiet
 
 -- a depth is told
 pub told_whole : (p : Shogi) (depth : ℕ) (told : List ℕ) → told ≡ info_line p depth → AreWholeLines told
-told_whole p depth told e = ap (last_byte 10) e ∙ info_whole p depth
+told_whole p depth told e = ap (last_byte LINE_FEED) e ∙ info_whole p depth
 
 -- the last depth is told, and the bestmove written or held
-pub end_whole : (s : State) (p : Shogi) (depth : ℕ) (told reply : List ℕ) (held : Held) → told ≡ info_line p depth → reply ≡ told ++ (released s [] held held.until).bytes → AreWholeLines reply
+pub end_whole : (s : State) (p : Shogi) (depth : ℕ) (told reply : List ℕ) (held : HeldBestmove) → told ≡ info_line p depth → reply ≡ told ++ (give_bestmove s [] held held.until).bytes → AreWholeLines reply
 end_whole s p depth told reply held e f =
-    ap (last_byte 10) f ∙ lines_then told (released s [] held held.until).bytes (told_whole p depth told e) (released-whole s [] held held.until refl)
+    ap (last_byte LINE_FEED) f ∙ lines_then told (give_bestmove s [] held held.until).bytes (told_whole p depth told e) (give_bestmove-whole s [] held held.until refl)
 
 -- nothing came
 pub grows_by_none : (queued : List ℕ) → GrowsByLines queued queued

@@ -6,12 +6,13 @@ use Rattle.shogi_search.specs.Minimax.{line}
 use Rattle.usi_lines.specs.Commands.{Command, Usi, IsReady, SetDepth, NewGame, Start, Sfen, BadPosition, Go, GoMate, Stop, PonderHit, GameOver, Quit, Other}
 use Rattle.usi_lines.specs.declared.command.Hold.{Hold}
 use Rattle.usi_lines.specs.declared.command.Hold.TheVariants.{Nothing, UntilStop, UntilHit}
-use Rattle.usi_session.specs.declared.placing.Refusal.{Refusal}
-use Rattle.usi_session.specs.declared.placing.Refusal.TheVariants as refusals
-use Rattle.usi_session.specs.declared.state.Held.{Held}
+use Rattle.usi_session.specs.declared.position_command.Refusal.{Refusal}
+use Rattle.usi_session.specs.declared.position_command.Refusal.TheVariants as refusals
+use Rattle.usi_session.specs.declared.state.HeldBestmove.{HeldBestmove}
 use Rattle.usi_session.specs.declared.state.State.{State}
-use Rattle.usi_session.specs.Placing.{position_of_start, position_of_sfen}
-use Rattle.usi_session.specs.Going.{first, second, infos}
+use Rattle.usi_session.specs.Options.{default_options}
+use Rattle.usi_session.specs.PositionCommand.{position_of_start, position_of_sfen}
+use Rattle.usi_session.specs.GoCommand.{first, second, infos}
 use Rattle.usi_session.specs.Texts.{usi_reply, ready_reply, no_mate_reply, bad_position, illegal_move, bestmove_line}
 
 -- what is written, and the state after it
@@ -19,71 +20,71 @@ pub record Answer : Type 0 where
   pub state : State
   pub bytes : List ℕ
 
--- these bytes, and the state stays
-abbrev pub said : State → List ℕ → Answer
-said s bytes = record { state = s; bytes = bytes }
+-- these bytes, and this state
+abbrev pub answer_with : State → List ℕ → Answer
+answer_with s bytes = record { state = s; bytes = bytes }
 
 -- the state in which a session begins
 abbrev pub opening : State
-opening = record { position = start; depth = 3; held = None; is_over = false }
+opening = record { position = start; options = default_options; held = None; is_over = false }
 
--- nothing is held any more
-abbrev pub dropped : State → State
-dropped s = record s { held = None }
+-- no bestmove is held any more
+abbrev pub without_bestmove : State → State
+without_bestmove s = record s { held = None }
 
--- a position that was reached is taken; after a refusal the state stays, and one line tells why
-abbrev pub placed : State → Result Shogi Refusal → Answer
-placed s (Ok p) = said (record s { position = p }) []
-placed s (Err (refusals.BadPosition fault)) = said s (bad_position fault)
-placed s (Err (refusals.IllegalMove number)) = said s (illegal_move number)
+-- `position`: the one that was reached is taken; after a refusal the state stays, and one line tells why
+abbrev pub answer_position : State → Result Shogi Refusal → Answer
+answer_position s (Ok p) = answer_with (record s { position = p }) []
+answer_position s (Err (refusals.BadPosition fault)) = answer_with s (bad_position fault)
+answer_position s (Err (refusals.IllegalMove number)) = answer_with s (illegal_move number)
 
 -- the bestmove at a depth, and what it is held until
-abbrev pub found : Shogi → ℕ → Hold → Held
-found p depth until = record { best = first (line p depth); ponder = second (line p depth); until = until }
+abbrev pub bestmove_at : Shogi → ℕ → Hold → HeldBestmove
+bestmove_at p depth until = record { best = first (line p depth); ponder = second (line p depth); until = until }
 
--- the line that is held
-abbrev pub held_line : Held → List ℕ
+-- the line of a held bestmove
+abbrev pub held_line : HeldBestmove → List ℕ
 held_line held = bestmove_line held.best held.ponder
 
 -- the bestmove is written at once, or held
-abbrev pub released : State → List ℕ → Held → Hold → Answer
-released s infos held Nothing = said (dropped s) (infos ++ held_line held)
-released s infos held UntilStop = said (record s { held = Some held }) infos
-released s infos held UntilHit = said (record s { held = Some held }) infos
+abbrev pub give_bestmove : State → List ℕ → HeldBestmove → Hold → Answer
+give_bestmove s infos held Nothing = answer_with (without_bestmove s) (infos ++ held_line held)
+give_bestmove s infos held UntilStop = answer_with (record s { held = Some held }) infos
+give_bestmove s infos held UntilHit = answer_with (record s { held = Some held }) infos
 
 -- `go` at a depth: what was held is dropped
-abbrev pub gone : State → ℕ → Hold → Answer
-gone s depth hold = released s (infos s.position depth) (found s.position depth hold) hold
+abbrev pub answer_go : State → ℕ → Hold → Answer
+answer_go s depth hold = give_bestmove s (infos s.position depth) (bestmove_at s.position depth hold) hold
 
--- the held line is written, and nothing is held any more
-abbrev pub let_go : State → Option Held → Answer
-let_go s None = said s []
-let_go s (Some held) = said (dropped s) (held_line held)
+-- `stop`: the held bestmove is written, and nothing is held any more
+abbrev pub answer_stop : State → Option HeldBestmove → Answer
+answer_stop s None = answer_with s []
+answer_stop s (Some held) = answer_with (without_bestmove s) (held_line held)
 
--- `ponderhit` lets go what is held until it, and nothing else
-abbrev pub hit : State → Held → Hold → Answer
-hit s held UntilHit = said (dropped s) (held_line held)
-hit s held UntilStop = said s []
-hit s held Nothing = said s []
+-- `ponderhit` where a bestmove is held: written if it is held until `ponderhit`
+abbrev pub answer_ponderhit_held : State → HeldBestmove → Hold → Answer
+answer_ponderhit_held s held UntilHit = answer_with (without_bestmove s) (held_line held)
+answer_ponderhit_held s held UntilStop = answer_with s []
+answer_ponderhit_held s held Nothing = answer_with s []
 
--- what `ponderhit` is answered with
-abbrev pub ponder_hit : State → Option Held → Answer
-ponder_hit s None = said s []
-ponder_hit s (Some held) = hit s held held.until
+-- `ponderhit`
+abbrev pub answer_ponderhit : State → Option HeldBestmove → Answer
+answer_ponderhit s None = answer_with s []
+answer_ponderhit s (Some held) = answer_ponderhit_held s held held.until
 
 -- the answer to each command
 abbrev pub answer : State → Command → Answer
-answer s Usi = said s usi_reply
-answer s IsReady = said s ready_reply
-answer s (SetDepth depth) = said (record s { depth = depth }) []
-answer s NewGame = said (record s { position = start; held = None }) []
-answer s (Start rest) = placed s (position_of_start rest)
-answer s (Sfen rest) = placed s (position_of_sfen rest)
-answer s BadPosition = said s (bad_position 0)
-answer s (Go depth hold) = gone s (unwrap_or depth s.depth) hold
-answer s GoMate = said (dropped s) no_mate_reply
-answer s Stop = let_go s s.held
-answer s PonderHit = ponder_hit s s.held
-answer s GameOver = said (dropped s) []
-answer s Quit = said (record s { held = None; is_over = true }) []
-answer s Other = said s []
+answer s Usi = answer_with s usi_reply
+answer s IsReady = answer_with s ready_reply
+answer s (SetDepth depth) = answer_with (record s { options = record s.options { depth = depth } }) []
+answer s NewGame = answer_with (record s { position = start; held = None }) []
+answer s (Start rest) = answer_position s (position_of_start rest)
+answer s (Sfen rest) = answer_position s (position_of_sfen rest)
+answer s BadPosition = answer_with s (bad_position 0)
+answer s (Go depth hold) = answer_go s (unwrap_or depth s.options.depth) hold
+answer s GoMate = answer_with (without_bestmove s) no_mate_reply
+answer s Stop = answer_stop s s.held
+answer s PonderHit = answer_ponderhit s s.held
+answer s GameOver = answer_with (without_bestmove s) []
+answer s Quit = answer_with (record s { held = None; is_over = true }) []
+answer s Other = answer_with s []

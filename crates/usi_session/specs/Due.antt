@@ -1,16 +1,17 @@
 -- A session between two calls, and what it owes (own choice).
-use Rattle.std.specs.Prelude.{◌≡◌, ℕ, ◌+◌, ◌*◌, ◌≤◌, List, [], ◌∷◌, ◌++◌, length, Bool, true, false, ◌&&◌, ◌||◌, not, nat_lt, cond, Option, None, Some, is_some, ◌<◌}
+use Rattle.std.specs.Prelude.{◌≡◌, ℕ, ◌+◌, ◌*◌, List, [], ◌∷◌, ◌++◌, length, Bool, true, false, ◌&&◌, ◌||◌, not, nat_lt, cond, Option, None, Some, is_some, ◌<◌}
 use Rattle.usi_lines.specs.Lines.{Buffer, Line, ahead}
 use Rattle.usi_session.specs.declared.state.State.{State}
 use Rattle.usi_session.specs.Answer.{Answer, opening}
-use Rattle.usi_session.specs.InHand.{InHand, goes_on_if, load_of_if, turns_of_if}
+use Rattle.usi_session.specs.InHand.{InHand, goes_on_if, load_of_if, turns_of_if, most_turns}
 use Rattle.usi_session.specs.Replies.{replies_from, state_from}
 use Rattle.usi_session.specs.Costs.{costs_from}
+use Rattle.usi_session.specs.declared.limits.TheConstants.{QUEUE_FULL}
 
 -- the state after the lines that were answered, the `go` in hand, the replies not yet taken, and what was fed and not yet answered
-pub record Talk : Type 0 where
+pub record SessionView : Type 0 where
   pub state : State
-  pub going : Option InHand
+  pub in_hand : Option InHand
   pub queued : List ℕ
   pub input : Buffer
 
@@ -20,23 +21,23 @@ owed_after a ahead = a.bytes ++ replies_from a.state ahead
 
 -- nothing, where the session is over
 abbrev pub owed : State → Option InHand → List Line → List ℕ
-owed s going ahead = cond s.is_over [] (owed_after (goes_on_if s going) ahead)
+owed s in_hand ahead = cond s.is_over [] (owed_after (goes_on_if s in_hand) ahead)
 
 -- what is owed once these further bytes were fed: the queued bytes, the rest of the `go` in hand, and the replies to the lines ahead
-abbrev pub due : Talk → List ℕ → List ℕ
-due s further = s.queued ++ owed s.state s.going (ahead s.input further)
+abbrev pub due : SessionView → List ℕ → List ℕ
+due s further = s.queued ++ owed s.state s.in_hand (ahead s.input further)
 
 -- the state once these further bytes were fed and all was answered
-abbrev pub state_due : Talk → List ℕ → State
-state_due s further = state_from (goes_on_if s.state s.going).state (ahead s.input further)
+abbrev pub state_due : SessionView → List ℕ → State
+state_due s further = state_from (goes_on_if s.state s.in_hand).state (ahead s.input further)
 
 -- the steps that may still be made: for the `go` in hand, and for each `go` in these lines
 abbrev pub load_ahead : State → Option InHand → List Line → ℕ
-load_ahead s going ahead = load_of_if going + costs_from (goes_on_if s going).state ahead
+load_ahead s in_hand ahead = load_of_if in_hand + costs_from (goes_on_if s in_hand).state ahead
 
 -- the same for the lines that are there
-abbrev pub load : Talk → ℕ
-load s = load_ahead s.state s.going (ahead s.input [])
+abbrev pub load : SessionView → ℕ
+load s = load_ahead s.state s.in_hand (ahead s.input [])
 
 -- a line is there
 abbrev pub has_line : List Line → Bool
@@ -44,27 +45,27 @@ has_line [] = false
 has_line (line ∷ rest) = true
 
 -- alive, with a `go` in hand or an unread line
-abbrev pub is_pending : Talk → Bool
-is_pending s = not s.state.is_over && (is_some s.going || has_line (ahead s.input []))
+abbrev pub is_pending : SessionView → Bool
+is_pending s = not s.state.is_over && (is_some s.in_hand || has_line (ahead s.input []))
 
 -- a `go` is in hand, and a search of it is not at its end
 abbrev pub IsSearching : Option InHand → Type 0
 IsSearching None = ⊥
 IsSearching (Some go) = (0 < go.plies) × (0 < go.left)
 
--- the line of the depth in hand is whole
+-- the pv of the depth in hand is whole
 abbrev pub IsWhole : Option InHand → Type 0
 IsWhole None = ⊥
 IsWhole (Some go) = go.plies ≡ 0
 
 -- the turns that may still be taken: at most so many for each line, and one for each search that may end
-abbrev pub turns : Talk → ℕ
-turns s = 400 * length (ahead s.input []) + turns_of_if s.going
+abbrev pub turns : SessionView → ℕ
+turns s = (most_turns + 1) * length (ahead s.input []) + turns_of_if s.in_hand
 
 -- alive, nothing pending, and fewer than 65,536 bytes queued
-abbrev pub wants_input : Talk → Bool
-wants_input s = not s.state.is_over && not (is_some s.going || has_line (ahead s.input [])) && nat_lt (length s.queued) 65536
+abbrev pub wants_input : SessionView → Bool
+wants_input s = not s.state.is_over && not (is_some s.in_hand || has_line (ahead s.input [])) && nat_lt (length s.queued) QUEUE_FULL
 
 -- nothing read, nothing queued
-abbrev pub new_talk : Talk
-new_talk = record { state = opening; going = None; queued = []; input = record { unread = []; closed = false } }
+abbrev pub new_session : SessionView
+new_session = record { state = opening; in_hand = None; queued = []; input = record { unread = []; closed = false } }

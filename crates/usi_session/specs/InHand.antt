@@ -5,10 +5,11 @@ use Rattle.shogi_search.specs.Minimax.{best, tree_size, chase, then_chase}
 use Rattle.usi_lines.specs.declared.command.Hold.{Hold}
 use Rattle.usi_session.specs.declared.state.State.{State}
 use Rattle.usi_session.specs.Texts.{info_line}
-use Rattle.usi_session.specs.Answer.{Answer, found, released, said}
+use Rattle.usi_session.specs.Answer.{Answer, bestmove_at, give_bestmove, answer_with}
+use Rattle.usi_lines.specs.declared.options.TheConstants.{DEPTH_MAX}
 
 -- where it was asked, how deep, what the bestmove is held until, the depths that were told, and of the search in hand
--- the plies that it looks ahead (none where the line of this depth is whole), its position, and what is left of it
+-- the plies that it looks ahead (none where the pv of this depth is whole), its position, and what is left of it
 pub record InHand : Type 0 where
   pub root : Shogi
   pub depth : ℕ
@@ -27,18 +28,18 @@ unfoldable pub lines_on : Shogi → ℕ → ℕ → List ℕ
 lines_on p told zero = []
 lines_on p told (suc more) = info_line p (told + 1) ++ lines_on p (told + 1) more
 
--- the steps that may be made for the best lines of each of so many depths above those that were told
+-- the steps that may be made for the pvs of each of so many depths above those that were told
 unfoldable pub costs_on : Shogi → ℕ → ℕ → ℕ
 costs_on p told zero = 0
 costs_on p told (suc more) = chase p (told + 1) + costs_on p (told + 1) more
 
 -- what it still says, and the state after it: by the question alone, and not by how far the search is
 abbrev pub goes_on : State → InHand → Answer
-goes_on s go = released s (lines_on go.root go.told (go.depth - go.told)) (found go.root go.depth go.hold) go.hold
+goes_on s go = give_bestmove s (lines_on go.root go.told (go.depth - go.told)) (bestmove_at go.root go.depth go.hold) go.hold
 
 -- nothing more, where none is in hand
 abbrev pub goes_on_if : State → Option InHand → Answer
-goes_on_if s None = said s []
+goes_on_if s None = answer_with s []
 goes_on_if s (Some go) = goes_on s go
 
 -- these bytes, and what the `go` in hand still says after them
@@ -46,7 +47,7 @@ abbrev pub with_rest : List ℕ → State → Option InHand → List ℕ
 with_rest bytes s None = bytes
 with_rest bytes s (Some go) = bytes ++ (goes_on s go).bytes
 
--- the steps of the searches after the one in hand: along the line of this depth, and at the depths above
+-- the steps of the searches after the one in hand: along the pv of this depth, and at the depths above
 abbrev pub after_search : InHand → ℕ
 after_search go = then_chase (λ q. chase q (go.plies - 1)) go.at (best go.at go.plies) + costs_on go.root (go.told + 1) (go.depth - (go.told + 1))
 
@@ -58,10 +59,18 @@ abbrev pub load_of_if : Option InHand → ℕ
 load_of_if None = 0
 load_of_if (Some go) = load_of go
 
--- the searches that may still end: each ply of each depth counts
+-- more turns than a depth takes: a search for each ply of its pv, and its telling
+abbrev pub turns_a_depth : ℕ
+turns_a_depth = DEPTH_MAX + 2
+
+-- the turns that may still be taken: each ply of each depth counts
 abbrev pub turns_of : InHand → ℕ
-turns_of go = 18 * (go.depth - go.told) + go.plies
+turns_of go = turns_a_depth * (go.depth - go.told) + go.plies
 
 abbrev pub turns_of_if : Option InHand → ℕ
 turns_of_if None = 0
 turns_of_if (Some go) = turns_of go + 1
+
+-- the most turns of a `go` that was just taken in hand
+abbrev pub most_turns : ℕ
+most_turns = turns_a_depth * DEPTH_MAX + 2

@@ -1,6 +1,7 @@
+pub mod Options
 pub mod Texts
-pub mod Placing
-pub mod Going
+pub mod PositionCommand
+pub mod GoCommand
 pub mod Answer
 pub mod Replies
 pub mod InHand

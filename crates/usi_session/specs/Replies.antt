@@ -1,19 +1,19 @@
 -- The replies of a session to a stream of bytes (USI).
 use Rattle.std.specs.Prelude.{ℕ, List, [], ◌∷◌, ◌++◌, Bool, true, false, None}
-use Rattle.usi_lines.specs.Commands.{command_of}
+use Rattle.usi_lines.specs.CommandLines.{command_of}
 use Rattle.usi_lines.specs.Lines.{Line, Text, TooLong, lines}
 use Rattle.usi_session.specs.declared.state.State.{State}
-use Rattle.usi_session.specs.Answer.{Answer, answer, said, opening}
+use Rattle.usi_session.specs.Answer.{Answer, answer, answer_with, opening}
 use Rattle.usi_session.specs.Texts.{too_long_reply}
 
 -- the answer to a line; one that is too long ends the session
 abbrev pub answer_to : State → Line → Answer
 answer_to s (Text text) = answer s (command_of text)
-answer_to s TooLong = said (record s { held = None; is_over = true }) too_long_reply
+answer_to s TooLong = answer_with (record s { held = None; is_over = true }) too_long_reply
 
 -- a session that is over answers nothing
 abbrev pub answer_unless : Bool → State → Line → Answer
-answer_unless true s line = said s []
+answer_unless true s line = answer_with s []
 answer_unless false s line = answer_to s line
 
 abbrev pub answer_line : State → Line → Answer

@@ -4,12 +4,13 @@ use Rattle.shogi_core.specs.declared.moves.Move.{Move}
 use Rattle.shogi_core.specs.Position.{Shogi}
 use Rattle.shogi_search.specs.Minimax.{value, line}
 use Rattle.shogi_sfen.specs.MoveTexts.{text_of}
+use Rattle.usi_session.specs.Options.{option_lines}
+use Rattle.usi_session.specs.declared.text.TheConstants.{MATE_MIN}
 
 -- what `usi` is answered with
 abbrev pub usi_reply : List ℕ
 usi_reply =
-    codes "id name Shared Shogi Host\n" ++ codes "id author Shared Shogi Host Team\n"
-    ++ codes "option name Depth type spin default 3 min 1 max 16\n" ++ codes "usiok\n"
+    codes "id name Shared Shogi Host\nid author Shared Shogi Host Team\n" ++ (option_lines ++ codes "usiok\n")
 
 -- what `isready` is answered with
 abbrev pub ready_reply : List ℕ
@@ -31,10 +32,10 @@ illegal_move number = codes "info string illegal move " ++ (decimal number ++ co
 abbrev pub too_long_reply : List ℕ
 too_long_reply = codes "info string line too long\n"
 
--- hundredths of a pawn, or from 30,000 up a mate in plies (plies are an own choice)
+-- hundredths of a pawn, or from `MATE_MIN` up a mate in plies (plies are an own choice)
 abbrev pub size_text : List ℕ → ℕ → ℕ → List ℕ
 size_text sign depth size =
-    cond (nat_lt size 30000) (codes "cp " ++ (sign ++ decimal size)) (codes "mate " ++ (sign ++ decimal (depth - (size - 30000))))
+    cond (nat_lt size MATE_MIN) (codes "cp " ++ (sign ++ decimal size)) (codes "mate " ++ (sign ++ decimal (depth - (size - MATE_MIN))))
 
 -- a score at a depth, negative where the side to move stands worse
 abbrev pub score_text : ℕ → ℤ → List ℕ
@@ -45,14 +46,14 @@ score_text depth (negsuc size) = size_text (codes "-") depth (size + 1)
 abbrev pub moves_text : List Move → List ℕ
 moves_text moves = flat_map (λ m. codes " " ++ text_of m) moves
 
--- a value and a line of moves at a depth
-abbrev pub said_line : ℕ → ℤ → List Move → List ℕ
-said_line depth value moves =
+-- a value and a pv at a depth
+abbrev pub info_text : ℕ → ℤ → List Move → List ℕ
+info_text depth value moves =
     (codes "info depth " ++ (decimal depth ++ codes " score ")) ++ (score_text depth value ++ (codes " pv" ++ (moves_text moves ++ codes "\n")))
 
--- what is said of a position at a depth: its value and its best line
+-- what is said of a position at a depth: its value and its pv
 abbrev pub info_line : Shogi → ℕ → List ℕ
-info_line p depth = said_line depth (value p depth) (line p depth)
+info_line p depth = info_text depth (value p depth) (line p depth)
 
 -- the move to play, with the reply to ponder on; none where no move is legal
 abbrev pub bestmove_line : Option Move → Option Move → List ℕ

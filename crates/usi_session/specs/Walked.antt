@@ -1,16 +1,17 @@
--- What a `go` in hand knows of the best line that it follows (own choice).
+-- What a `go` in hand knows of the pv that it follows (own choice).
 use Rattle.std.specs.Prelude.{ℕ, ℤ, List, ◌≡◌, ◌+◌, ◌<◌, ◌≤◌, ◌++◌, length}
 use Rattle.shogi_core.specs.Position.{Shogi}
 use Rattle.shogi_core.specs.declared.moves.Move.{Move}
 use Rattle.shogi_search.specs.Minimax.{value, line}
+use Rattle.usi_lines.specs.declared.options.TheConstants.{DEPTH_MAX}
 use Rattle.shogi_search.specs.Progress.{Progress}
 
--- the moves so far are the front of the best line of the depth after those that were told; the search in hand is of the position after them, and the value is known once the first search has ended
+-- the moves so far are the front of the pv of the depth after those that were told; the search in hand is of the position after them, and the value is known once the first search has ended
 pub record IsWalked (root : Shogi) (depth told plies : ℕ) (at : Shogi) (found : ℤ) (moves : List Move) (search : Progress) : Type 0 where
-  pub low : told < depth
-  pub high : depth ≤ 16
+  pub left : told < depth
+  pub most : depth ≤ DEPTH_MAX
   pub within : length moves + plies ≤ told + 1
-  pub started : told < plies → at ≡ root
+  pub at_start : told < plies → at ≡ root
   pub valued : plies ≤ told → found ≡ value root (told + 1)
   pub walked : moves ++ line at plies ≡ line root (told + 1)
   pub searched : 0 < plies → (search.root ≡ at) × (search.depth ≡ plies)

@@ -1,5 +1,6 @@
 -- Bytes that are whole lines, each with its LF (USI: every reply is a line).
 use Rattle.std.specs.Prelude.{◌≡◌, ℕ, List, [], ◌∷◌, ◌++◌}
+use Rattle.usi_lines.specs.declared.line.TheConstants.{LINE_FEED}
 
 -- the last of these bytes, or this one where there is none
 abbrev pub last_byte : ℕ → List ℕ → ℕ
@@ -8,7 +9,7 @@ last_byte before (byte ∷ rest) = last_byte byte rest
 
 -- no byte, or the last one is LF
 abbrev pub AreWholeLines : List ℕ → Type 0
-AreWholeLines bytes = last_byte 10 bytes ≡ 10
+AreWholeLines bytes = last_byte LINE_FEED bytes ≡ LINE_FEED
 
 -- nothing that was queued is gone, and whole lines came after it
 pub record GrowsByLines (before after : List ℕ) : Type 0 where

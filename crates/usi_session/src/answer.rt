@@ -3,16 +3,18 @@
 ghost use Rattle.std.specs.Prelude.{◌≡◌, ◌≤◌, ◌++◌, IfOk, OnOk, OnSome, unwrap_or, Result, None, true, false, []};
 ghost use Rattle.shogi_core.specs.Position.{Shogi};
 ghost use Rattle.usi_lines.specs.Seen.{meaning_of, line_of};
-ghost use Rattle.usi_lines.specs.Commands.{HasDepthInRange};
-ghost use Rattle.usi_session.specs.Answer.{answer, placed, gone, released, let_go, ponder_hit};
+ghost use Rattle.usi_lines.specs.declared.options.TheConstants.{DEPTH_MIN, DEPTH_MAX};
+ghost use Rattle.usi_lines.specs.Options.{IsInRange};
+ghost use Rattle.usi_session.specs.Options.{AreInRange};
+ghost use Rattle.usi_session.specs.Answer.{answer, answer_position, answer_go, give_bestmove, answer_stop, answer_ponderhit};
 ghost use Rattle.usi_session.specs.Costs.{cost_of_command, cost_to};
 ghost use Rattle.usi_session.specs.Replies.{answer_to};
-ghost use Rattle.usi_session.specs.InHand.{goes_on_if, with_rest, load_of_if, turns_of_if};
+ghost use Rattle.usi_session.specs.InHand.{goes_on_if, with_rest, load_of_if, turns_of_if, most_turns};
 ghost use Rattle.shogi_search.specs.Minimax.{cost};
 
-use crate::going::Going;
-use crate::placing::{Refusal, position_of_sfen, position_of_start};
-use crate::state::{Held, State};
+use crate::go_command::GoCommand;
+use crate::position_command::{Refusal, position_of_sfen, position_of_start};
+use crate::state::{HeldBestmove, State};
 use crate::text::{
     write_bad_position, write_bestmove, write_illegal_move, write_no_mate, write_usi,
 };
@@ -22,13 +24,13 @@ use std::alloc::{AllocError, Allocator};
 use usi_lines::{Command, Hold, Line, read_command};
 
 /// Takes the position that was reached, or says why there is none.
-fn place<A: Allocator>(
+fn answer_position<A: Allocator>(
     out: &mut Vec<u8, A>,
     state: &mut State,
     outcome: Result<Position, Refusal>,
 ) -> Result<(), AllocError>
-    ensures bytes { OnOk result (out.new.items ≡ out.old.items ++ (placed state.old outcome).bytes) }
-    ensures state { OnOk result (state.new ≡ (placed state.old outcome).state) }
+    ensures bytes { OnOk result (out.new.items ≡ out.old.items ++ (answer_position state.old outcome).bytes) }
+    ensures state { OnOk result (state.new ≡ (answer_position state.old outcome).state) }
 {
     match outcome {
         Ok(position) => {
@@ -41,59 +43,59 @@ fn place<A: Allocator>(
 }
 
 /// Writes a bestmove or holds it. What was held is dropped.
-pub fn release<A: Allocator>(
+pub fn give_bestmove<A: Allocator>(
     out: &mut Vec<u8, A>,
     state: &mut State,
-    choice: Held,
+    bestmove: HeldBestmove,
 ) -> Result<(), AllocError>
-    ensures bytes { OnOk result (out.new.items ≡ out.old.items ++ (released state.old [] choice choice.until).bytes) }
-    ensures state { OnOk result (state.new ≡ (released state.old [] choice choice.until).state) }
+    ensures bytes { OnOk result (out.new.items ≡ out.old.items ++ (give_bestmove state.old [] bestmove bestmove.until).bytes) }
+    ensures state { OnOk result (state.new ≡ (give_bestmove state.old [] bestmove bestmove.until).state) }
 {
-    match choice.until {
+    match bestmove.until {
         Hold::Nothing => {
-            write_bestmove(out, &choice.best, &choice.ponder)?;
+            write_bestmove(out, &bestmove.best, &bestmove.ponder)?;
             state.held = None;
         }
-        Hold::UntilStop | Hold::UntilHit => state.held = Some(choice),
+        Hold::UntilStop | Hold::UntilHit => state.held = Some(bestmove),
     }
     Ok(())
 }
 
 /// Takes a `go` in hand; where no move is legal it is answered at once.
-fn go<A: Allocator + Copy>(
+fn answer_go<A: Allocator + Copy>(
     alloc: A,
     out: &mut Vec<u8, A>,
     state: &mut State,
     depth: u8,
     hold: Hold,
-) -> Result<Option<Going<A>>, AllocError>
-    requires low { 1 ≤ depth }
-    requires high { depth ≤ 16 }
-    ensures bytes { IfOk result (λ going. with_rest out.new.items state.new going ≡ out.old.items ++ (gone state.old depth hold).bytes) }
-    ensures state { IfOk result (λ going. (goes_on_if state.new going).state ≡ (gone state.old depth hold).state) }
-    ensures load { IfOk result (λ going. load_of_if going ≤ cost state.old.position depth) }
-    ensures turns { IfOk result (λ going. turns_of_if going ≤ 300) }
-    ensures quiet { IfOk result (λ going. OnSome going (out.new.items ≡ out.old.items)) }
-    ensures depth { OnOk result (state.new.depth ≡ state.old.depth) }
+) -> Result<Option<GoCommand<A>>, AllocError>
+    requires least { DEPTH_MIN ≤ depth }
+    requires most { depth ≤ DEPTH_MAX }
+    ensures bytes { IfOk result (λ in_hand. with_rest out.new.items state.new in_hand ≡ out.old.items ++ (answer_go state.old depth hold).bytes) }
+    ensures state { IfOk result (λ in_hand. (goes_on_if state.new in_hand).state ≡ (answer_go state.old depth hold).state) }
+    ensures load { IfOk result (λ in_hand. load_of_if in_hand ≤ cost state.old.position depth) }
+    ensures turns { IfOk result (λ in_hand. turns_of_if in_hand ≤ most_turns) }
+    ensures quiet { IfOk result (λ in_hand. OnSome in_hand (out.new.items ≡ out.old.items)) }
+    ensures options { OnOk result (state.new.options ≡ state.old.options) }
     ensures alive { OnOk result (state.new.is_over ≡ state.old.is_over) }
 {
     if has_legal(&state.position) {
-        let going = Going::start(alloc, &state.position, depth, hold)?;
-        return Ok(Some(going));
+        let in_hand = GoCommand::start(alloc, &state.position, depth, hold)?;
+        return Ok(Some(in_hand));
     }
-    let choice = Held {
+    let bestmove = HeldBestmove {
         best: None,
         ponder: None,
         until: hold,
     };
-    release(out, state, choice)?;
+    give_bestmove(out, state, bestmove)?;
     Ok(None)
 }
 
 /// Writes the held bestmove, if there is one, and holds nothing any more.
-fn stop<A: Allocator>(out: &mut Vec<u8, A>, state: &mut State) -> Result<(), AllocError>
-    ensures bytes { OnOk result (out.new.items ≡ out.old.items ++ (let_go state.old state.old.held).bytes) }
-    ensures state { OnOk result (state.new ≡ (let_go state.old state.old.held).state) }
+fn answer_stop<A: Allocator>(out: &mut Vec<u8, A>, state: &mut State) -> Result<(), AllocError>
+    ensures bytes { OnOk result (out.new.items ≡ out.old.items ++ (answer_stop state.old state.old.held).bytes) }
+    ensures state { OnOk result (state.new ≡ (answer_stop state.old state.old.held).state) }
 {
     let Some(held) = &state.held else {
         return Ok(());
@@ -104,15 +106,15 @@ fn stop<A: Allocator>(out: &mut Vec<u8, A>, state: &mut State) -> Result<(), All
 }
 
 /// Writes the bestmove that is held until `ponderhit`.
-fn hit<A: Allocator>(out: &mut Vec<u8, A>, state: &mut State) -> Result<(), AllocError>
-    ensures bytes { OnOk result (out.new.items ≡ out.old.items ++ (ponder_hit state.old state.old.held).bytes) }
-    ensures state { OnOk result (state.new ≡ (ponder_hit state.old state.old.held).state) }
+fn answer_ponderhit<A: Allocator>(out: &mut Vec<u8, A>, state: &mut State) -> Result<(), AllocError>
+    ensures bytes { OnOk result (out.new.items ≡ out.old.items ++ (answer_ponderhit state.old state.old.held).bytes) }
+    ensures state { OnOk result (state.new ≡ (answer_ponderhit state.old state.old.held).state) }
 {
     let Some(held) = &state.held else {
         return Ok(());
     };
     match held.until {
-        Hold::UntilHit => stop(out, state),
+        Hold::UntilHit => answer_stop(out, state),
         Hold::UntilStop | Hold::Nothing => Ok(()),
     }
 }
@@ -123,40 +125,38 @@ pub fn answer<A: Allocator + Copy>(
     out: &mut Vec<u8, A>,
     state: &mut State,
     command: Command<'_>,
-) -> Result<Option<Going<A>>, AllocError>
-    requires low { 1 ≤ state.old.depth }
-    requires high { state.old.depth ≤ 16 }
-    requires depth { HasDepthInRange (meaning_of command) }
-    ensures bytes { IfOk result (λ going. with_rest out.new.items state.new going ≡ out.old.items ++ (answer state.old (meaning_of command.entry)).bytes) }
-    ensures state { IfOk result (λ going. (goes_on_if state.new going).state ≡ (answer state.old (meaning_of command.entry)).state) }
-    ensures load { IfOk result (λ going. load_of_if going ≤ cost_of_command state.old (meaning_of command.entry)) }
-    ensures turns { IfOk result (λ going. turns_of_if going ≤ 300) }
-    ensures quiet { IfOk result (λ going. OnSome going (out.new.items ≡ out.old.items)) }
-    ensures over { IfOk result (λ going. state.old.is_over ≡ false → state.new.is_over ≡ true → going ≡ None) }
-    ensures low { OnOk result (1 ≤ state.new.depth) }
-    ensures high { OnOk result (state.new.depth ≤ 16) }
+) -> Result<Option<GoCommand<A>>, AllocError>
+    requires options { AreInRange state.old.options }
+    requires range { IsInRange (meaning_of command) }
+    ensures bytes { IfOk result (λ in_hand. with_rest out.new.items state.new in_hand ≡ out.old.items ++ (answer state.old (meaning_of command.entry)).bytes) }
+    ensures state { IfOk result (λ in_hand. (goes_on_if state.new in_hand).state ≡ (answer state.old (meaning_of command.entry)).state) }
+    ensures load { IfOk result (λ in_hand. load_of_if in_hand ≤ cost_of_command state.old (meaning_of command.entry)) }
+    ensures turns { IfOk result (λ in_hand. turns_of_if in_hand ≤ most_turns) }
+    ensures quiet { IfOk result (λ in_hand. OnSome in_hand (out.new.items ≡ out.old.items)) }
+    ensures over { IfOk result (λ in_hand. state.old.is_over ≡ false → state.new.is_over ≡ true → in_hand ≡ None) }
+    ensures options { OnOk result (AreInRange state.new.options) }
 {
     match command {
         Command::Usi => write_usi(out)?,
         Command::IsReady => out.extend_from_slice(b"readyok\n")?,
-        Command::SetDepth(depth) => state.depth = depth,
+        Command::SetDepth(depth) => state.options.depth = depth,
         Command::NewGame => {
             state.position = Position::start();
             state.held = None;
         }
-        Command::Start(text) => place(out, state, position_of_start(text))?,
-        Command::Sfen(text) => place(out, state, position_of_sfen(text))?,
+        Command::Start(text) => answer_position(out, state, position_of_start(text))?,
+        Command::Sfen(text) => answer_position(out, state, position_of_sfen(text))?,
         Command::BadPosition => write_bad_position(out, 0)?,
         Command::Go { depth, hold } => {
-            let depth = depth.unwrap_or(state.depth);
-            return go(alloc, out, state, depth, hold);
+            let depth = depth.unwrap_or(state.options.depth);
+            return answer_go(alloc, out, state, depth, hold);
         }
         Command::GoMate => {
             write_no_mate(out)?;
             state.held = None;
         }
-        Command::Stop => stop(out, state)?,
-        Command::PonderHit => hit(out, state)?,
+        Command::Stop => answer_stop(out, state)?,
+        Command::PonderHit => answer_ponderhit(out, state)?,
         Command::GameOver => state.held = None,
         Command::Quit => {
             state.held = None;
@@ -173,17 +173,15 @@ pub fn answer_line<A: Allocator + Copy>(
     out: &mut Vec<u8, A>,
     state: &mut State,
     line: Line<'_>,
-) -> Result<Option<Going<A>>, AllocError>
-    requires low { 1 ≤ state.old.depth }
-    requires high { state.old.depth ≤ 16 }
-    ensures bytes { IfOk result (λ going. with_rest out.new.items state.new going ≡ out.old.items ++ (answer_to state.old (line_of line.entry)).bytes) }
-    ensures state { IfOk result (λ going. (goes_on_if state.new going).state ≡ (answer_to state.old (line_of line.entry)).state) }
-    ensures load { IfOk result (λ going. load_of_if going ≤ cost_to state.old (line_of line.entry)) }
-    ensures turns { IfOk result (λ going. turns_of_if going ≤ 300) }
-    ensures quiet { IfOk result (λ going. OnSome going (out.new.items ≡ out.old.items)) }
-    ensures over { IfOk result (λ going. state.old.is_over ≡ false → state.new.is_over ≡ true → going ≡ None) }
-    ensures low { OnOk result (1 ≤ state.new.depth) }
-    ensures high { OnOk result (state.new.depth ≤ 16) }
+) -> Result<Option<GoCommand<A>>, AllocError>
+    requires options { AreInRange state.old.options }
+    ensures bytes { IfOk result (λ in_hand. with_rest out.new.items state.new in_hand ≡ out.old.items ++ (answer_to state.old (line_of line.entry)).bytes) }
+    ensures state { IfOk result (λ in_hand. (goes_on_if state.new in_hand).state ≡ (answer_to state.old (line_of line.entry)).state) }
+    ensures load { IfOk result (λ in_hand. load_of_if in_hand ≤ cost_to state.old (line_of line.entry)) }
+    ensures turns { IfOk result (λ in_hand. turns_of_if in_hand ≤ most_turns) }
+    ensures quiet { IfOk result (λ in_hand. OnSome in_hand (out.new.items ≡ out.old.items)) }
+    ensures over { IfOk result (λ in_hand. state.old.is_over ≡ false → state.new.is_over ≡ true → in_hand ≡ None) }
+    ensures options { OnOk result (AreInRange state.new.options) }
 {
     match line {
         Line::Text(text) => answer(alloc, out, state, read_command(text)),

@@ -2,11 +2,14 @@
 #![tactic(auto)]
 
 mod answer;
-mod going;
-mod output;
-mod placing;
+mod go_command;
+mod limits;
+mod options;
+mod position_command;
+mod queue;
 mod session;
 mod state;
 mod text;
 
+pub use limits::{CHUNK_MAX, QUEUE_FULL};
 pub use session::{Session, SessionFault};

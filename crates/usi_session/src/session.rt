@@ -1,15 +1,18 @@
 //! One USI session.
 
 ghost use Rattle.std.specs.Prelude.{◌≡◌, ◌≤◌, ◌++◌, ℕ, List, [], true, false, OnOk, OnErr, IfOk, OnSome, IfSome, IfNone, None, length, take, drop, ◌<◌, ◌+◌};
-ghost use Rattle.usi_session.specs.Due.{Talk, due, state_due, load, turns, is_pending, wants_input, new_talk, IsSearching, IsWhole};
+ghost use Rattle.usi_session.specs.Due.{SessionView, due, state_due, load, turns, is_pending, wants_input, new_session, IsSearching, IsWhole};
 ghost use Rattle.usi_session.specs.Replies.{replies, state_from};
 ghost use Rattle.usi_session.specs.Answer.{opening};
 ghost use Rattle.usi_session.specs.WholeLines.{GrowsByLines};
 ghost use Rattle.usi_lines.specs.Lines.{ahead, lines};
+ghost use Rattle.usi_session.specs.declared.limits.TheConstants.{CHUNK_MAX};
 
-use crate::answer::{answer_line, release};
-use crate::going::Going;
-use crate::output::Output;
+use crate::answer::{answer_line, give_bestmove};
+use crate::go_command::GoCommand;
+use crate::limits::QUEUE_FULL;
+use crate::options::Options;
+use crate::queue::Queue;
 use crate::state::State;
 use shogi_core::Position;
 use shogi_search::Memo;
@@ -36,56 +39,56 @@ impl From<AllocError> for SessionFault {
 pub struct Session<A: Allocator + Copy> {
     alloc: A,
     input: LineBuffer<A>,
-    output: Output<A>,
+    queue: Queue<A>,
     state: State,
-    going: Option<Going<A>>,
+    in_hand: Option<GoCommand<A>>,
 }
 
 impl<A: Allocator + Copy> Model for Session<A> {
-    ghost use Rattle.std.specs.Prelude.{◌≤◌};
-    ghost use Rattle.usi_lines.specs.Commands.{IsDepth};
-    ghost use Rattle.usi_session.specs.Due.{Talk};
+    ghost use Rattle.usi_session.specs.Options.{AreInRange};
+    ghost use Rattle.usi_session.specs.Due.{SessionView};
 
-    ghost Value = { Talk };
+    ghost Value = { SessionView };
 
-    ghost view = { λ s. record { state = s.state; going = s.going; queued = s.output; input = s.input } };
+    ghost view = { λ s. record { state = s.state; in_hand = s.in_hand; queued = s.queue; input = s.input } };
 
-    ghost invariant = { λ s. IsDepth s.state.depth };
+    ghost invariant = { λ s. AreInRange s.state.options };
 }
 
 impl<A: Allocator + Copy> Session<A> {
-    /// A session at its start: the opening position, Depth 3, nothing held. It takes no memory.
+    /// A session at its start: the opening position, each option at its default, nothing held. It takes
+    /// no memory.
     pub fn new(alloc: A) -> Session<A>
-        ensures opening { result ≡ new_talk }
+        ensures opening { result ≡ new_session }
         ensures due { (x : List ℕ) → due result x ≡ replies x }
         ensures after { (x : List ℕ) → state_due result x ≡ state_from opening (lines x) }
     {
         Session {
             alloc,
             input: LineBuffer::new(alloc),
-            output: Output::new(alloc),
+            queue: Queue::new(alloc),
             state: State {
                 position: Position::start(),
-                depth: 3,
+                options: Options::new(),
                 held: None,
                 is_over: false,
             },
-            going: None,
+            in_hand: None,
         }
     }
 
     /// Stores the bytes, and answers nothing yet. On `OutOfMemory` nothing changed.
-    pub fn feed(&mut self, piece: &[u8]) -> Result<(), SessionFault>
+    pub fn feed(&mut self, chunk: &[u8]) -> Result<(), SessionFault>
         requires wants { wants_input self.old ≡ true }
-        requires short { length piece.now ≤ 4096 }
-        ensures due { OnOk result ((x : List ℕ) → due self.new x ≡ due self.old (piece.now ++ x)) }
-        ensures after { OnOk result ((x : List ℕ) → state_due self.new x ≡ state_due self.old (piece.now ++ x)) }
+        requires most { length chunk.now ≤ CHUNK_MAX }
+        ensures due { OnOk result ((x : List ℕ) → due self.new x ≡ due self.old (chunk.now ++ x)) }
+        ensures after { OnOk result ((x : List ℕ) → state_due self.new x ≡ state_due self.old (chunk.now ++ x)) }
         ensures queued { self.new.queued ≡ self.old.queued }
         ensures state { self.new.state ≡ self.old.state }
-        ensures going { self.new.going ≡ self.old.going }
+        ensures in_hand { self.new.in_hand ≡ self.old.in_hand }
         ensures err { OnErr result (self.new ≡ self.old) }
     {
-        match self.input.feed(piece) {
+        match self.input.feed(chunk) {
             Ok(()) => Ok(()),
             Err(LineFault::OutOfMemory) => Err(SessionFault::OutOfMemory),
         }
@@ -93,7 +96,7 @@ impl<A: Allocator + Copy> Session<A> {
 
     /// Answers the first unread line, or takes its `go` in hand. Where memory is refused nothing changed.
     fn answer_next(&mut self) -> Result<(), SessionFault>
-        requires idle { self.old.going ≡ None }
+        requires idle { self.old.in_hand ≡ None }
         requires pending { is_pending self.old ≡ true }
         ensures due { (x : List ℕ) → due self.new x ≡ due self.old x }
         ensures after { (x : List ℕ) → state_due self.new x ≡ state_due self.old x }
@@ -107,18 +110,18 @@ impl<A: Allocator + Copy> Session<A> {
         };
         let mut state = self.state;
         let mut reply = Vec::new(self.alloc);
-        let going = answer_line(self.alloc, &mut reply, &mut state, line)?;
-        self.output.push(reply.as_slice())?;
+        let in_hand = answer_line(self.alloc, &mut reply, &mut state, line)?;
+        self.queue.push(reply.as_slice())?;
         self.state = state;
-        self.going = going;
+        self.in_hand = in_hand;
         self.input.drop_line();
         Ok(())
     }
 
-    /// Tells the depth in hand, once its line is whole, and takes the next depth in hand or ends the
+    /// Tells the depth in hand, once its pv is whole, and takes the next depth in hand or ends the
     /// `go`. Where memory is refused nothing changed.
     fn tell_next(&mut self) -> Result<(), SessionFault>
-        requires whole { IsWhole self.old.going }
+        requires whole { IsWhole self.old.in_hand }
         requires pending { is_pending self.old ≡ true }
         ensures due { (x : List ℕ) → due self.new x ≡ due self.old x }
         ensures after { (x : List ℕ) → state_due self.new x ≡ state_due self.old x }
@@ -127,21 +130,21 @@ impl<A: Allocator + Copy> Session<A> {
         ensures grown { GrowsByLines self.old.queued self.new.queued }
         ensures err { OnErr result (self.new ≡ self.old) }
     {
-        let Some(going) = &mut self.going else {
+        let Some(in_hand) = &mut self.in_hand else {
             return Ok(());
         };
         let mut reply = Vec::new(self.alloc);
-        going.tell(&mut reply)?;
-        if !going.is_last() {
-            self.output.push(reply.as_slice())?;
-            going.next();
+        in_hand.tell(&mut reply)?;
+        if !in_hand.is_last() {
+            self.queue.push(reply.as_slice())?;
+            in_hand.next();
             return Ok(());
         }
         let mut state = self.state;
-        release(&mut reply, &mut state, going.choice())?;
-        self.output.push(reply.as_slice())?;
+        give_bestmove(&mut reply, &mut state, in_hand.bestmove())?;
+        self.queue.push(reply.as_slice())?;
         self.state = state;
-        self.going = None;
+        self.in_hand = None;
         Ok(())
     }
 
@@ -151,21 +154,21 @@ impl<A: Allocator + Copy> Session<A> {
         requires pending { is_pending self.old ≡ true }
         ensures due { (x : List ℕ) → due self.new x ≡ due self.old x }
         ensures after { (x : List ℕ) → state_due self.new x ≡ state_due self.old x }
-        ensures spent { IfOk result (λ made. IfNone made ((budget + load self.new ≤ load self.old) × IsSearching self.new.going)) }
-        ensures within { IfOk result (λ made. IfSome made (λ n. n ≤ budget)) }
+        ensures spent { IfOk result (λ made. IfNone made ((budget + load self.new ≤ load self.old) × IsSearching self.new.in_hand)) }
+        ensures most { IfOk result (λ made. IfSome made (λ n. n ≤ budget)) }
         ensures made { IfOk result (λ made. IfSome made (λ n. n + load self.new ≤ load self.old)) }
         ensures fewer { IfOk result (λ made. OnSome made (turns self.new < turns self.old)) }
         ensures grown { GrowsByLines self.old.queued self.new.queued }
         ensures err { OnErr result (self.new ≡ self.old) }
     {
-        match &mut self.going {
+        match &mut self.in_hand {
             None => {
                 self.answer_next()?;
                 Ok(Some(0))
             }
-            Some(going) => {
-                if going.is_searching() {
-                    return Ok(going.advance(memo, budget));
+            Some(in_hand) => {
+                if in_hand.is_searching() {
+                    return Ok(in_hand.advance(memo, budget));
                 }
                 self.tell_next()?;
                 Ok(Some(0))
@@ -180,9 +183,9 @@ impl<A: Allocator + Copy> Session<A> {
     pub fn work<M: Memo>(&mut self, memo: &mut M, budget: u64) -> Result<u64, SessionFault>
         ensures due { (x : List ℕ) → due self.new x ≡ due self.old x }
         ensures after { (x : List ℕ) → state_due self.new x ≡ state_due self.old x }
-        ensures within { IfOk result (λ n. n ≤ budget) }
+        ensures most { IfOk result (λ n. n ≤ budget) }
         ensures made { IfOk result (λ n. n + load self.new ≤ load self.old) }
-        ensures spent { IfOk result (λ n. is_pending self.new ≡ true → (n ≡ budget) × IsSearching self.new.going) }
+        ensures spent { IfOk result (λ n. is_pending self.new ≡ true → (n ≡ budget) × IsSearching self.new.in_hand) }
         ensures enough { load self.old ≤ budget → OnOk result (is_pending self.new ≡ false) }
         ensures grown { GrowsByLines self.old.queued self.new.queued }
         ensures err { OnErr result (load self.new ≤ load self.old) }
@@ -201,23 +204,23 @@ impl<A: Allocator + Copy> Session<A> {
     pub fn pending(&self) -> bool
         ensures { result ≡ is_pending self.now }
     {
-        !self.state.is_over && (self.going.is_some() || self.input.has_line())
+        !self.state.is_over && (self.in_hand.is_some() || self.input.has_line())
     }
 
-    /// Whether it may be fed: alive, nothing pending, and fewer than 65,536 bytes queued.
+    /// Whether it may be fed: alive, nothing pending, and fewer than `QUEUE_FULL` bytes queued.
     pub fn wants_input(&self) -> bool
         ensures { result ≡ wants_input self.now }
     {
         !self.state.is_over
-            && !(self.going.is_some() || self.input.has_line())
-            && self.output.as_slice().len() < 65536
+            && !(self.in_hand.is_some() || self.input.has_line())
+            && self.queue.as_slice().len() < QUEUE_FULL
     }
 
     /// The queued bytes.
     pub fn output(&self) -> &[u8]
         ensures { result.now ≡ self.now.queued }
     {
-        self.output.as_slice()
+        self.queue.as_slice()
     }
 
     /// Drops the first n queued bytes.
@@ -225,11 +228,11 @@ impl<A: Allocator + Copy> Session<A> {
         requires { n ≤ length self.old.queued }
         ensures queued { self.new.queued ≡ drop n self.old.queued }
         ensures state { self.new.state ≡ self.old.state }
-        ensures going { self.new.going ≡ self.old.going }
+        ensures in_hand { self.new.in_hand ≡ self.old.in_hand }
         ensures input { self.new.input ≡ self.old.input }
         ensures due { (x : List ℕ) → due self.old x ≡ take n self.old.queued ++ due self.new x }
     {
-        self.output.take(n);
+        self.queue.take(n);
     }
 
     /// Whether it has ended, after `quit` or a line that was too long.

@@ -2,15 +2,19 @@
 
 ghost use Rattle.std.specs.Prelude.{◌≡◌, ◌++◌, ◌+◌, OnOk, codes, decimal, ℤ, flat_map};
 ghost use Rattle.shogi_sfen.specs.MoveTexts.{text_of};
-ghost use Rattle.usi_session.specs.Texts.{usi_reply, no_mate_reply, bad_position, illegal_move, size_text, score_text, moves_text, said_line, bestmove_line};
+ghost use Rattle.usi_session.specs.Texts.{usi_reply, no_mate_reply, bad_position, illegal_move, size_text, score_text, moves_text, info_text, bestmove_line};
 
+use crate::options::write_options;
 use itoa::Buffer;
 use shogi_core::Move;
 use shogi_sfen::write_move;
 use std::alloc::{AllocError, Allocator};
 
+/// From which size on a value is a mate.
+const MATE_MIN: u32 = 30_000;
+
 /// Appends the parts, one after another.
-fn write_parts<A: Allocator>(out: &mut Vec<u8, A>, parts: &[&[u8]]) -> Result<(), AllocError>
+pub fn write_parts<A: Allocator>(out: &mut Vec<u8, A>, parts: &[&[u8]]) -> Result<(), AllocError>
     ensures { OnOk result (out.new.items ≡ out.old.items ++ flat_map (λ part. part.now) parts.now) }
 {
     for part in parts {
@@ -20,12 +24,14 @@ fn write_parts<A: Allocator>(out: &mut Vec<u8, A>, parts: &[&[u8]]) -> Result<()
 }
 
 /// Names the program and its options (USI, usi).
+#[tactic(auto, using(crate::proofs::Appends::after_three))]
 pub fn write_usi<A: Allocator>(out: &mut Vec<u8, A>) -> Result<(), AllocError>
     ensures { OnOk result (out.new.items ≡ out.old.items ++ usi_reply) }
 {
-    out.extend_from_slice(
-        b"id name Shared Shogi Host\nid author Shared Shogi Host Team\noption name Depth type spin default 3 min 1 max 16\nusiok\n",
-    )
+    out.extend_from_slice(b"id name Shared Shogi Host\nid author Shared Shogi Host Team\n")?;
+    write_options(out)?;
+    out.extend_from_slice(b"usiok\n")?;
+    Ok(())
 }
 
 /// Says that there is no mate solver (USI, checkmate).
@@ -56,7 +62,7 @@ pub fn write_illegal_move<A: Allocator>(
     write_parts(out, &[b"info string illegal move ", digits, b"\n"])
 }
 
-/// A value after its sign: hundredths of a pawn, or from 30,000 up the plies to a mate.
+/// A value after its sign: hundredths of a pawn, or from `MATE_MIN` up the plies to a mate.
 fn write_size<A: Allocator>(
     out: &mut Vec<u8, A>,
     sign: &[u8],
@@ -66,15 +72,16 @@ fn write_size<A: Allocator>(
     ensures { OnOk result (out.new.items ≡ out.old.items ++ size_text sign.now depth size) }
 {
     let mut buffer = Buffer::new();
-    if size < 30000 {
+    if size < MATE_MIN {
         let digits = buffer.format(size).as_bytes();
         return write_parts(out, &[b"cp ", sign, digits]);
     }
-    let plies = u32::from(depth).saturating_sub(size - 30000);
+    let plies = u32::from(depth).saturating_sub(size - MATE_MIN);
     let digits = buffer.format(plies).as_bytes();
     write_parts(out, &[b"mate ", sign, digits])
 }
 
+/// A value of a depth, with its sign (USI, info, score).
 fn write_score<A: Allocator>(out: &mut Vec<u8, A>, depth: u8, value: i32) -> Result<(), AllocError>
     ensures { OnOk result (out.new.items ≡ out.old.items ++ score_text depth value) }
 {
@@ -82,6 +89,7 @@ fn write_score<A: Allocator>(out: &mut Vec<u8, A>, depth: u8, value: i32) -> Res
     write_size(out, sign, depth, value.unsigned_abs())
 }
 
+/// Each move after a space.
 fn write_moves<A: Allocator>(out: &mut Vec<u8, A>, moves: &[Move]) -> Result<(), AllocError>
     ensures { OnOk result (out.new.items ≡ out.old.items ++ moves_text moves.now) }
 {
@@ -101,8 +109,8 @@ fn write_head<A: Allocator>(out: &mut Vec<u8, A>, depth: u8) -> Result<(), Alloc
     write_parts(out, &[b"info depth ", digits, b" score "])
 }
 
-/// The best line of an info line, to its end.
-fn write_line<A: Allocator>(out: &mut Vec<u8, A>, moves: &[Move]) -> Result<(), AllocError>
+/// The pv of an info line, to its end.
+fn write_pv<A: Allocator>(out: &mut Vec<u8, A>, moves: &[Move]) -> Result<(), AllocError>
     ensures { OnOk result (out.new.items ≡ out.old.items ++ (codes " pv" ++ (moves_text moves.now ++ codes "\n"))) }
 {
     out.extend_from_slice(b" pv")?;
@@ -111,7 +119,7 @@ fn write_line<A: Allocator>(out: &mut Vec<u8, A>, moves: &[Move]) -> Result<(), 
     Ok(())
 }
 
-/// Says the value and the best line of a position at a depth (USI, info).
+/// Says the value and the pv of a position at a depth (USI, info).
 #[tactic(auto, using(crate::proofs::Appends::after_three))]
 pub fn write_info<A: Allocator>(
     out: &mut Vec<u8, A>,
@@ -119,11 +127,11 @@ pub fn write_info<A: Allocator>(
     value: i32,
     moves: &[Move],
 ) -> Result<(), AllocError>
-    ensures { OnOk result (out.new.items ≡ out.old.items ++ said_line depth value moves.now) }
+    ensures { OnOk result (out.new.items ≡ out.old.items ++ info_text depth value moves.now) }
 {
     write_head(out, depth)?;
     write_score(out, depth, value)?;
-    write_line(out, moves)?;
+    write_pv(out, moves)?;
     Ok(())
 }
 

@@ -5,23 +5,24 @@ use Rattle.std.proofs.KnownBytes.{Appends-nil, Appends-trans, Consumes-nil, Cons
 use Rattle.usi_lines.specs.Lines.{lines}
 use Rattle.usi_session.specs.declared.state.State.{State}
 use Rattle.usi_session.specs.Answer.{opening}
-use Rattle.usi_session.specs.Due.{Talk, due, state_due, new_talk}
+use Rattle.usi_session.specs.Due.{SessionView, due, state_due, new_session}
 use Rattle.usi_session.specs.Replies.{replies, state_from, is_over_after}
 use Rattle.usi_session.proofs.Settled.{due-over, due-wanting, state_due-over, state_due-wanting, wants_after, new_wants, opening_alive}
 use Rattle.usi_stdio.specs.Stdio.{WritesFront, StopsInTime, IsAnswered, IsAnsweredInPart, IsFedAndWorkedOff, IsBetween}
+use Rattle.usi_session.specs.declared.limits.TheConstants.{CHUNK_MAX}
 
--- a piece that is read while the session wants input
-stops_at : (before mid old part : Option (List ℕ)) (s : Talk) (piece : List ℕ) → (b : IsBetween before mid old part s) → length piece ≤ 4096 → StopsInTime (b.read ++ piece)
-stops_at before mid old part s piece b short = record {
+-- a chunk that is read while the session wants input
+stops_at : (before mid old part : Option (List ℕ)) (s : SessionView) (chunk : List ℕ) → (b : IsBetween before mid old part s) → length chunk ≤ CHUNK_MAX → StopsInTime (b.read ++ chunk)
+stops_at before mid old part s chunk b most = record {
   front = b.read;
-  piece = piece;
+  chunk = chunk;
   split = refl;
-  short = short;
+  most = most;
   alive = ap (λ xs. is_over_after xs) (sym (append-nil b.read)) ∙ (ap (λ (t : State). t.is_over) (sym (b.left [])) ∙ state_due-wanting s b.wants);
 }
 
 -- nothing further was read
-stops_between : (before mid old part : Option (List ℕ)) (s : Talk) → (b : IsBetween before mid old part s) → StopsInTime b.read
+stops_between : (before mid old part : Option (List ℕ)) (s : SessionView) → (b : IsBetween before mid old part s) → StopsInTime b.read
 stops_between before mid old part s b =
     let all : StopsInTime (b.read ++ []) = stops_at before mid old part s [] b (omega arith) in
     rw (append-nil b.read) at all
@@ -32,11 +33,11 @@ part_start before old = record {
   read = [];
   consumed = Consumes-nil before;
   written = (replies [], record { done = []; appended = Appends-nil old; split = refl });
-  stops = record { front = []; piece = []; split = refl; short = omega arith; alive = opening_alive };
+  stops = record { front = []; chunk = []; split = refl; most = omega arith; alive = opening_alive };
 }
 
 -- before the first read
-pub between_start : (before old : Option (List ℕ)) (s : Talk) → s ≡ new_talk → ((x : List ℕ) → due s x ≡ replies x) → ((x : List ℕ) → state_due s x ≡ state_from opening (lines x)) → IsBetween before before old old s
+pub between_start : (before old : Option (List ℕ)) (s : SessionView) → s ≡ new_session → ((x : List ℕ) → due s x ≡ replies x) → ((x : List ℕ) → state_due s x ≡ state_from opening (lines x)) → IsBetween before before old old s
 between_start before old s new owed left = record {
   read = [];
   consumed = Consumes-nil before;
@@ -44,38 +45,38 @@ between_start before old s new owed left = record {
   written = Appends-nil old;
   owed = owed;
   left = left;
-  empty = ap (λ (t : Talk). t.queued) new;
+  empty = ap (λ (t : SessionView). t.queued) new;
   wants = rw new new_wants;
 }
 
--- a piece was read, fed, worked off and written
-worked : (before mid after old part new : Option (List ℕ)) (s t : Talk) (piece : List ℕ) (b : IsBetween before mid old part s) → IsFedAndWorkedOff s t piece part new → (w : IsFedAndWorkedOff s t piece part new) → (x : List ℕ) → (b.made ++ w.made) ++ due t x ≡ replies ((b.read ++ piece) ++ x)
-worked before mid after old part new s t piece b _ w x =
-    append_assoc b.made w.made (due t x) ∙ (ap (λ xs. b.made ++ xs) (sym (w.owed x)) ∙ (b.owed (piece ++ x) ∙ ap replies (sym (append_assoc b.read piece x))))
+-- a chunk was read, fed, worked off and written
+worked : (before mid after old part new : Option (List ℕ)) (s t : SessionView) (chunk : List ℕ) (b : IsBetween before mid old part s) → IsFedAndWorkedOff s t chunk part new → (w : IsFedAndWorkedOff s t chunk part new) → (x : List ℕ) → (b.made ++ w.made) ++ due t x ≡ replies ((b.read ++ chunk) ++ x)
+worked before mid after old part new s t chunk b _ w x =
+    append_assoc b.made w.made (due t x) ∙ (ap (λ xs. b.made ++ xs) (sym (w.owed x)) ∙ (b.owed (chunk ++ x) ∙ ap replies (sym (append_assoc b.read chunk x))))
 
-left_more : (before mid old part new : Option (List ℕ)) (s t : Talk) (piece : List ℕ) → (b : IsBetween before mid old part s) → (w : IsFedAndWorkedOff s t piece part new) → (x : List ℕ) → state_due t x ≡ state_from opening (lines ((b.read ++ piece) ++ x))
-left_more before mid old part new s t piece b w x =
-    w.left x ∙ (b.left (piece ++ x) ∙ ap (λ xs. state_from opening (lines xs)) (sym (append_assoc b.read piece x)))
+left_more : (before mid old part new : Option (List ℕ)) (s t : SessionView) (chunk : List ℕ) → (b : IsBetween before mid old part s) → (w : IsFedAndWorkedOff s t chunk part new) → (x : List ℕ) → state_due t x ≡ state_from opening (lines ((b.read ++ chunk) ++ x))
+left_more before mid old part new s t chunk b w x =
+    w.left x ∙ (b.left (chunk ++ x) ∙ ap (λ xs. state_from opening (lines xs)) (sym (append_assoc b.read chunk x)))
 
-pub between_more : (before mid after old part new : Option (List ℕ)) (s t : Talk) (piece : List ℕ) → IsBetween before mid old part s → Consumes mid after piece → IsFedAndWorkedOff s t piece part new → t.state.is_over ≡ false → IsBetween before after old new t
-between_more before mid after old part new s t piece b consumed w alive = record {
-  read = b.read ++ piece;
-  consumed = Consumes-trans before mid after b.read piece b.consumed consumed;
+pub between_more : (before mid after old part new : Option (List ℕ)) (s t : SessionView) (chunk : List ℕ) → IsBetween before mid old part s → Consumes mid after chunk → IsFedAndWorkedOff s t chunk part new → t.state.is_over ≡ false → IsBetween before after old new t
+between_more before mid after old part new s t chunk b consumed w alive = record {
+  read = b.read ++ chunk;
+  consumed = Consumes-trans before mid after b.read chunk b.consumed consumed;
   made = b.made ++ w.made;
   written = Appends-trans old part new b.made w.made b.written w.written;
-  owed = worked before mid after old part new s t piece b w w;
-  left = left_more before mid old part new s t piece b w;
+  owed = worked before mid after old part new s t chunk b w w;
+  left = left_more before mid old part new s t chunk b w;
   empty = w.empty;
   wants = wants_after t alive w.settled w.empty;
 }
 
 -- all that was read is answered while the session wants input
-all_written : (before after old new : Option (List ℕ)) (s : Talk) → (b : IsBetween before after old new s) → b.made ≡ replies b.read
+all_written : (before after old new : Option (List ℕ)) (s : SessionView) → (b : IsBetween before after old new s) → b.made ≡ replies b.read
 all_written before after old new s b =
     sym (append-nil b.made) ∙ (ap (λ xs. b.made ++ xs) (sym (due-wanting s b.wants ∙ b.empty)) ∙ (b.owed [] ∙ ap replies (append-nil b.read)))
 
 -- the input ended
-pub answered_at_end : (before mid after old new : Option (List ℕ)) (s : Talk) (none : List ℕ) → IsBetween before mid old new s → none ≡ [] → Consumes mid after none → IsAtEnd after → IsAnswered before after old new
+pub answered_at_end : (before mid after old new : Option (List ℕ)) (s : SessionView) (none : List ℕ) → IsBetween before mid old new s → none ≡ [] → Consumes mid after none → IsAtEnd after → IsAnswered before after old new
 answered_at_end before mid after old new s none b e consumed ended = record {
   read = b.read;
   consumed = (let all : Consumes before after (b.read ++ none) = Consumes-trans before mid after b.read none b.consumed consumed in let same : b.read ++ none ≡ b.read = ap (λ xs. b.read ++ xs) e ∙ append-nil b.read in rw same at all);
@@ -85,21 +86,21 @@ answered_at_end before mid after old new s none b e consumed ended = record {
 }
 
 -- the session is over
-pub answered_over : (before mid after old part new : Option (List ℕ)) (s t : Talk) (piece : List ℕ) → IsBetween before mid old part s → Consumes mid after piece → IsFedAndWorkedOff s t piece part new → t.state.is_over ≡ true → length piece ≤ 4096 → IsAnswered before after old new
-answered_over before mid after old part new s t piece b consumed w over short =
-    let all : b.made ++ w.made ≡ replies (b.read ++ piece) =
-    sym (append-nil (b.made ++ w.made)) ∙ (ap (λ xs. (b.made ++ w.made) ++ xs) (sym (due-over t [] over ∙ w.empty)) ∙ (worked before mid after old part new s t piece b w w [] ∙ ap replies (append-nil (b.read ++ piece)))) in
+pub answered_over : (before mid after old part new : Option (List ℕ)) (s t : SessionView) (chunk : List ℕ) → IsBetween before mid old part s → Consumes mid after chunk → IsFedAndWorkedOff s t chunk part new → t.state.is_over ≡ true → length chunk ≤ CHUNK_MAX → IsAnswered before after old new
+answered_over before mid after old part new s t chunk b consumed w over most =
+    let all : b.made ++ w.made ≡ replies (b.read ++ chunk) =
+    sym (append-nil (b.made ++ w.made)) ∙ (ap (λ xs. (b.made ++ w.made) ++ xs) (sym (due-over t [] over ∙ w.empty)) ∙ (worked before mid after old part new s t chunk b w w [] ∙ ap replies (append-nil (b.read ++ chunk)))) in
     let appended : Appends old new (b.made ++ w.made) = Appends-trans old part new b.made w.made b.written w.written in
     record {
-      read = b.read ++ piece;
-      consumed = Consumes-trans before mid after b.read piece b.consumed consumed;
+      read = b.read ++ chunk;
+      consumed = Consumes-trans before mid after b.read chunk b.consumed consumed;
       written = rw all at appended;
-      ended = inr (ap (λ xs. is_over_after xs) (sym (append-nil (b.read ++ piece))) ∙ (ap (λ (q : State). q.is_over) (sym (left_more before mid old part new s t piece b w [])) ∙ state_due-over t [] over));
-      stops = stops_at before mid old part s piece b short;
+      ended = inr (ap (λ xs. is_over_after xs) (sym (append-nil (b.read ++ chunk))) ∙ (ap (λ (q : State). q.is_over) (sym (left_more before mid old part new s t chunk b w [])) ∙ state_due-over t [] over));
+      stops = stops_at before mid old part s chunk b most;
     }
 
 -- no further read is tried
-pub part_between : (before mid old new : Option (List ℕ)) (s : Talk) → IsBetween before mid old new s → IsAnsweredInPart before mid old new
+pub part_between : (before mid old new : Option (List ℕ)) (s : SessionView) → IsBetween before mid old new s → IsAnsweredInPart before mid old new
 part_between before mid old new s b = record {
   read = b.read;
   consumed = b.consumed;
@@ -108,7 +109,7 @@ part_between before mid old new s b = record {
 }
 
 -- a read failed
-pub part_read : (before mid after old new : Option (List ℕ)) (s : Talk) → IsBetween before mid old new s → Keeps mid after → IsAnsweredInPart before after old new
+pub part_read : (before mid after old new : Option (List ℕ)) (s : SessionView) → IsBetween before mid old new s → Keeps mid after → IsAnsweredInPart before after old new
 part_read before mid after old new s b kept = record {
   read = b.read;
   consumed = Consumes-kept before mid after b.read b.consumed kept;
@@ -116,18 +117,18 @@ part_read before mid after old new s b kept = record {
   stops = stops_between before mid old new s b;
 }
 
--- memory was refused for a piece, or a write of its answers failed
-pub part_piece : (before mid after old part new : Option (List ℕ)) (s : Talk) (piece : List ℕ) → IsBetween before mid old part s → Consumes mid after piece → WritesFront part new (due s piece) → length piece ≤ 4096 → IsAnsweredInPart before after old new
-part_piece before mid after old part new s piece b consumed (left, w) short = record {
-  stops = stops_at before mid old part s piece b short;
-  read = b.read ++ piece;
-  consumed = Consumes-trans before mid after b.read piece b.consumed consumed;
+-- memory was refused for a chunk, or a write of its answers failed
+pub part_chunk : (before mid after old part new : Option (List ℕ)) (s : SessionView) (chunk : List ℕ) → IsBetween before mid old part s → Consumes mid after chunk → WritesFront part new (due s chunk) → length chunk ≤ CHUNK_MAX → IsAnsweredInPart before after old new
+part_chunk before mid after old part new s chunk b consumed (left, w) most = record {
+  stops = stops_at before mid old part s chunk b most;
+  read = b.read ++ chunk;
+  consumed = Consumes-trans before mid after b.read chunk b.consumed consumed;
   written = (
     left,
     record {
       done = b.made ++ w.done;
       appended = Appends-trans old part new b.made w.done b.written w.appended;
-      split = sym (b.owed piece) ∙ (ap (λ xs. b.made ++ xs) w.split ∙ sym (append_assoc b.made w.done left));
+      split = sym (b.owed chunk) ∙ (ap (λ xs. b.made ++ xs) w.split ∙ sym (append_assoc b.made w.done left));
     },
   );
 }

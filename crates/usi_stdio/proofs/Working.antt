@@ -2,7 +2,7 @@
 use Rattle.std.proofs.Common.{◌≡◌, ℕ, ◌+◌, ◌≤◌, ◌<◌, List, [], ◌++◌, Option, refl, sym, ap, ◌∙◌, append_assoc, append-nil, true, false, arith, Bool, Result, OnErr, Ok, Err}
 use Rattle.std.specs.Io.KnownBytes.{Appends, Keeps}
 use Rattle.std.proofs.KnownBytes.{Appends-nil, Appends-trans, Appends-kept}
-use Rattle.usi_session.specs.Due.{Talk, due, state_due, is_pending, load}
+use Rattle.usi_session.specs.Due.{SessionView, due, state_due, is_pending, load}
 use Rattle.usi_stdio.specs.Stdio.{WritesFront, IsWritten, IsWorkedOn, slices_of}
 
 -- a front of a front
@@ -21,30 +21,30 @@ pub front_of_all : (old mid new : Option (List ℕ)) (bytes : List ℕ) → Appe
 front_of_all old mid new bytes appended kept = ([], record { done = bytes; appended = Appends-kept old mid new bytes appended kept; split = sym (append-nil bytes) })
 
 -- what is queued, and then what is owed without it
-pub due-queued : (s : Talk) (x : List ℕ) → due s x ≡ s.queued ++ due (record s { queued = [] }) x
+pub due-queued : (s : SessionView) (x : List ℕ) → due s x ≡ s.queued ++ due (record s { queued = [] }) x
 due-queued s x = refl
 
 -- a front of what is queued is a front of what is owed
-pub front_of_due : (old new : Option (List ℕ)) (before mid : Talk) → due mid [] ≡ due before [] → WritesFront old new mid.queued → WritesFront old new (due before [])
+pub front_of_due : (old new : Option (List ℕ)) (before mid : SessionView) → due mid [] ≡ due before [] → WritesFront old new mid.queued → WritesFront old new (due before [])
 front_of_due old new before mid kept front =
     front_of_more old new mid.queued (due (record mid { queued = [] }) []) (due before []) front (sym kept ∙ due-queued mid [])
 
 -- a slice kept what is owed, and all that it queued was written
-pub worked_on : (before mid after : Talk) (old new : Option (List ℕ)) → ((x : List ℕ) → due mid x ≡ due before x) → ((x : List ℕ) → state_due mid x ≡ state_due before x) → IsWritten mid after old new → IsWorkedOn before after old new
+pub worked_on : (before mid after : SessionView) (old new : Option (List ℕ)) → ((x : List ℕ) → due mid x ≡ due before x) → ((x : List ℕ) → state_due mid x ≡ state_due before x) → IsWritten mid after old new → IsWorkedOn before after old new
 worked_on before mid after old new kept left w = record {
   made = mid.queued;
   written = w.written;
-  owed = λ x. sym (kept x) ∙ (due-queued mid x ∙ ap (λ (t : Talk). mid.queued ++ due t x) (sym w.rest));
-  left = λ x. ap (λ (t : Talk). state_due t x) w.rest ∙ left x;
-  empty = ap (λ (t : Talk). t.queued) w.rest;
+  owed = λ x. sym (kept x) ∙ (due-queued mid x ∙ ap (λ (t : SessionView). mid.queued ++ due t x) (sym w.rest));
+  left = λ x. ap (λ (t : SessionView). state_due t x) w.rest ∙ left x;
+  empty = ap (λ (t : SessionView). t.queued) w.rest;
 }
 
 -- before the first slice
-pub worked_none : (s : Talk) (old : Option (List ℕ)) → s.queued ≡ [] → IsWorkedOn s s old old
+pub worked_none : (s : SessionView) (old : Option (List ℕ)) → s.queued ≡ [] → IsWorkedOn s s old old
 worked_none s old empty = record { made = []; written = Appends-nil old; owed = λ x. refl; left = λ x. refl; empty = empty }
 
 -- one slice more
-pub worked_more : (before mid after : Talk) (old part new : Option (List ℕ)) → IsWorkedOn before mid old part → IsWorkedOn mid after part new → IsWorkedOn before after old new
+pub worked_more : (before mid after : SessionView) (old part new : Option (List ℕ)) → IsWorkedOn before mid old part → IsWorkedOn mid after part new → IsWorkedOn before after old new
 worked_more before mid after old part new a b = record {
   made = a.made ++ b.made;
   written = Appends-trans old part new a.made b.made a.written b.written;
@@ -54,7 +54,7 @@ worked_more before mid after old part new a b = record {
 }
 
 -- the slice was cut short by a fault
-pub worked_front : (before mid : Talk) (old part new : Option (List ℕ)) → IsWorkedOn before mid old part → WritesFront part new (due mid []) → WritesFront old new (due before [])
+pub worked_front : (before mid : SessionView) (old part new : Option (List ℕ)) → IsWorkedOn before mid old part → WritesFront part new (due mid []) → WritesFront old new (due before [])
 worked_front before mid old part new a (left, w) = (
   left,
   record {
@@ -65,7 +65,7 @@ worked_front before mid old part new a (left, w) = (
 )
 
 -- a slice that leaves something pending has used its budget
-pub slices_fall : (before mid after : Talk) (n slice : ℕ) → 0 < slice → is_pending before ≡ true → n + load mid ≤ load before → (is_pending mid ≡ true → n ≡ slice) → after ≡ record mid { queued = [] } → slices_of after < slices_of before
+pub slices_fall : (before mid after : SessionView) (n slice : ℕ) → 0 < slice → is_pending before ≡ true → n + load mid ≤ load before → (is_pending mid ≡ true → n ≡ slice) → after ≡ record mid { queued = [] } → slices_of after < slices_of before
 slices_fall before mid after n slice some pending made spent rest = fall (is_pending mid) refl
   where
     fall : (b : Bool) → is_pending mid ≡ b → slices_of after < slices_of before

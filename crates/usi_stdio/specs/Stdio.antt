@@ -1,10 +1,11 @@
 -- One session over a reader and a writer: what is written is what the session's replies are to what was read (own choice).
 use Rattle.std.specs.Prelude.{◌≡◌, ℕ, ◌+◌, ◌*◌, ◌≤◌, length, List, [], ◌++◌, Option, ◌⊎◌, true, false, cond}
 use Rattle.std.specs.Io.KnownBytes.{Appends, Consumes, IsAtEnd}
-use Rattle.usi_session.specs.Due.{Talk, due, state_due, load, is_pending, wants_input}
+use Rattle.usi_session.specs.Due.{SessionView, due, state_due, load, is_pending, wants_input}
 use Rattle.usi_lines.specs.Lines.{lines}
 use Rattle.usi_session.specs.Answer.{opening}
 use Rattle.usi_session.specs.Replies.{replies, state_from, is_over_after}
+use Rattle.usi_session.specs.declared.limits.TheConstants.{CHUNK_MAX}
 
 -- the writer took the bytes but for those that are left
 pub record WritesBut (old new : Option (List ℕ)) (bytes left : List ℕ) : Type 0 where
@@ -16,12 +17,12 @@ pub record WritesBut (old new : Option (List ℕ)) (bytes left : List ℕ) : Typ
 abbrev pub WritesFront : Option (List ℕ) → Option (List ℕ) → List ℕ → Type 0
 WritesFront old new bytes = (left : List ℕ) × WritesBut old new bytes left
 
--- the session was not over before the last piece: once it is over, nothing further is read
+-- the session was not over before the last chunk: once it is over, nothing further is read
 pub record StopsInTime (read : List ℕ) : Type 0 where
   pub front : List ℕ
-  pub piece : List ℕ
-  pub split : read ≡ front ++ piece
-  pub short : length piece ≤ 4096
+  pub chunk : List ℕ
+  pub split : read ≡ front ++ chunk
+  pub most : length chunk ≤ CHUNK_MAX
   pub alive : is_over_after front ≡ false
 
 -- all replies to what was read were written, and the input ended or the session is over
@@ -40,12 +41,12 @@ pub record IsAnsweredInPart (before after old new : Option (List ℕ)) : Type 0 
   pub stops : StopsInTime read
 
 -- all that was queued was written and taken, and nothing else changed
-pub record IsWritten (before after : Talk) (old new : Option (List ℕ)) : Type 0 where
+pub record IsWritten (before after : SessionView) (old new : Option (List ℕ)) : Type 0 where
   pub written : Appends old new before.queued
   pub rest : after ≡ record before { queued = [] }
 
 -- what was made was written at once: nothing waits, and the rest is owed
-pub record IsWorkedOn (before after : Talk) (old new : Option (List ℕ)) : Type 0 where
+pub record IsWorkedOn (before after : SessionView) (old new : Option (List ℕ)) : Type 0 where
   pub made : List ℕ
   pub written : Appends old new made
   pub owed : (x : List ℕ) → due before x ≡ made ++ due after x
@@ -53,20 +54,20 @@ pub record IsWorkedOn (before after : Talk) (old new : Option (List ℕ)) : Type
   pub empty : after.queued ≡ []
 
 -- falls with each slice, since a slice makes a step where something is pending after it
-abbrev pub slices_of : Talk → ℕ
+abbrev pub slices_of : SessionView → ℕ
 slices_of s = 2 * load s + cond (is_pending s) 1 0
 
--- a piece was fed and answered in full, and the answers were written
-pub record IsFedAndWorkedOff (before after : Talk) (piece : List ℕ) (old new : Option (List ℕ)) : Type 0 where
+-- a chunk was fed and answered in full, and the answers were written
+pub record IsFedAndWorkedOff (before after : SessionView) (chunk : List ℕ) (old new : Option (List ℕ)) : Type 0 where
   pub made : List ℕ
   pub written : Appends old new made
-  pub owed : (x : List ℕ) → due before (piece ++ x) ≡ made ++ due after x
-  pub left : (x : List ℕ) → state_due after x ≡ state_due before (piece ++ x)
+  pub owed : (x : List ℕ) → due before (chunk ++ x) ≡ made ++ due after x
+  pub left : (x : List ℕ) → state_due after x ≡ state_due before (chunk ++ x)
   pub empty : after.queued ≡ []
   pub settled : is_pending after ≡ false
 
 -- between two reads: what was written and what is owed are the replies, and the session may be fed
-pub record IsBetween (before after old new : Option (List ℕ)) (s : Talk) : Type 0 where
+pub record IsBetween (before after old new : Option (List ℕ)) (s : SessionView) : Type 0 where
   pub read : List ℕ
   pub consumed : Consumes before after read
   pub made : List ℕ

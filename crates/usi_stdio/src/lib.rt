@@ -3,4 +3,4 @@
 
 mod streams;
 
-pub use streams::{StdioFault, stdio, write_out};
+pub use streams::{SLICE, StdioFault, stdio, write_out};

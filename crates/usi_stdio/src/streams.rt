@@ -5,6 +5,7 @@ ghost use Rattle.std.specs.Io.KnownBytes.{Appends, Consumes, IsAtEnd, Keeps};
 ghost use Rattle.usi_stdio.specs.Stdio.{WritesFront, IsAnswered, IsAnsweredInPart, IsWritten, IsWorkedOn, IsFedAndWorkedOff, slices_of};
 ghost use Rattle.usi_stdio.specs.declared.streams.StdioFault.TheVariants.{WriteFailed};
 ghost use Rattle.usi_session.specs.Due.{due, is_pending, wants_input};
+ghost use Rattle.usi_session.specs.declared.limits.TheConstants.{CHUNK_MAX};
 
 use shared_table::{SharedTable, TableFault};
 use shogi_search::Memo;
@@ -12,13 +13,10 @@ use std::alloc::Allocator;
 use std::hash::{BuildHasherDefault, FoldHasher};
 use std::io::{Read, Write};
 use thiserror::Error;
-use usi_session::{Session, SessionFault};
-
-/// The most bytes that are read at once.
-const PIECE: usize = 4096;
+use usi_session::{CHUNK_MAX, Session, SessionFault};
 
 /// The most steps of search before what is queued is written.
-const SLICE: u64 = 1000;
+pub const SLICE: u64 = 1000;
 
 /// Why a run over a reader and a writer ended early.
 #[derive(Debug, PartialEq, Eq, Drop, Error)]
@@ -122,38 +120,38 @@ fn work_off<A: Allocator + Copy, M: Memo, W: Write>(
     Ok(())
 }
 
-/// Reads once, and gives the number of bytes at the front of the piece; 0 where the input ended.
-fn read_piece<R: Read>(reader: &mut R, piece: &mut [u8]) -> Result<usize, StdioFault>
-    requires { 0 < length piece.old }
-    ensures within { IfOk result (λ n. n ≤ length piece.new) }
-    ensures given { IfOk result (λ n. Consumes (R.remaining reader.old) (R.remaining reader.new) (take n piece.new)) }
+/// Reads once, and gives the number of bytes at the front of the chunk; 0 where the input ended.
+fn read_chunk<R: Read>(reader: &mut R, chunk: &mut [u8]) -> Result<usize, StdioFault>
+    requires { 0 < length chunk.old }
+    ensures most { IfOk result (λ n. n ≤ length chunk.new) }
+    ensures given { IfOk result (λ n. Consumes (R.remaining reader.old) (R.remaining reader.new) (take n chunk.new)) }
     ensures ended { IfOk result (λ n. n ≡ 0 → IsAtEnd (R.remaining reader.new)) }
     ensures err { OnErr result (Keeps (R.remaining reader.old) (R.remaining reader.new)) }
 {
-    match reader.read(piece) {
+    match reader.read(chunk) {
         Ok(n) => Ok(n),
         Err(_) => Err(StdioFault::ReadFailed),
     }
 }
 
-/// Feeds one piece, answers it, and writes the answers.
-fn answer_piece<A: Allocator + Copy, M: Memo, W: Write>(
+/// Feeds one chunk, answers it, and writes the answers.
+fn answer_chunk<A: Allocator + Copy, M: Memo, W: Write>(
     session: &mut Session<A>,
     memo: &mut M,
     writer: &mut W,
-    piece: &[u8],
+    chunk: &[u8],
 ) -> Result<(), StdioFault>
     requires wants { wants_input session.old ≡ true }
     requires empty { session.old.queued ≡ [] }
-    requires short { length piece.now ≤ 4096 }
-    ensures ok { OnOk result (IsFedAndWorkedOff session.old session.new piece.now (W.contents writer.old) (W.contents writer.new)) }
-    ensures err { OnErr result (WritesFront (W.contents writer.old) (W.contents writer.new) (due session.old piece.now)) }
+    requires most { length chunk.now ≤ CHUNK_MAX }
+    ensures ok { OnOk result (IsFedAndWorkedOff session.old session.new chunk.now (W.contents writer.old) (W.contents writer.new)) }
+    ensures err { OnErr result (WritesFront (W.contents writer.old) (W.contents writer.new) (due session.old chunk.now)) }
 {
-    session.feed(piece)?;
+    session.feed(chunk)?;
     work_off(session, memo, writer)
 }
 
-/// Runs one session: reads pieces of at most 4,096 bytes and answers each before the next, until the
+/// Runs one session: reads chunks of at most 4,096 bytes and answers each before the next, until the
 /// input ends or the session is over. Replies are written and flushed as they are found: the info line
 /// of a depth comes before the next 1,000 steps of search are made. Bytes after the last LF are no
 /// line, but for 65,536 or more, which are a line that is too long. The table has `entries` entries,
@@ -175,14 +173,14 @@ pub fn stdio<A: Allocator + Copy, R: Read, W: Write>(
 {
     let mut table = SharedTable::new(alloc, entries, BuildHasherDefault::<FoldHasher>::new())?;
     let mut session = Session::new(alloc);
-    let mut piece = [0u8; PIECE];
-    'pieces: for _ in 0..u64::MAX {
-        let n = read_piece(reader, &mut piece)?;
+    let mut chunk = [0u8; CHUNK_MAX];
+    'chunks: for _ in 0..u64::MAX {
+        let n = read_chunk(reader, &mut chunk)?;
         if n == 0 {
             return Ok(());
         }
-        let (given, _) = piece.split_at(n);
-        answer_piece(&mut session, &mut table, writer, given)?;
+        let (given, _) = chunk.split_at(n);
+        answer_chunk(&mut session, &mut table, writer, given)?;
         if session.is_over() {
             return Ok(());
         }

@@ -10,6 +10,6 @@ returns-then-len-bytes-clause-none c = first_none c.args.bytes.now c.line_len-le
 
 pub returns-clause-first : goal.returns-clause-first
 returns-clause-first c =
-    let b : c.line_len-len.result ≤ length c.args.bytes.now = c.line_len-len.ensures.bound in
+    let b : c.line_len-len.result ≤ length c.args.bytes.now = c.line_len-len.ensures.most in
     let t = first_text c.args.bytes.now c.line_len-len.result c.line_len-len.ensures.value (omega arith) (search rules) in
     search (rules, t)

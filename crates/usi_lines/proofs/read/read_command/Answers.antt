@@ -7,8 +7,8 @@ pub returns-in-None-clause-command : goal.returns-in-None-clause-command
 returns-in-None-clause-command c =
     command_of-none c.args.line.now (ap words (sym c.words-rest.ensures) ∙ c.in-None.ensures.steps.0)
 
-pub returns-in-None-clause-depth : goal.returns-in-None-clause-depth
-returns-in-None-clause-depth c = command_of_fits c.args.line.now
+pub returns-in-None-clause-range : goal.returns-in-None-clause-range
+returns-in-None-clause-range c = command_of_fits c.args.line.now
 
 pub returns-in-Some-clause-command : goal.returns-in-Some-clause-command
 returns-in-Some-clause-command c =
@@ -18,5 +18,5 @@ returns-in-Some-clause-command c =
     let after : c.rest.result.now ≡ after_word c.args.line.now = c.rest.ensures ∙ (step.1 ∙ ap after_word c.words-rest.ensures) in
     c.named.ensures ∙ command_of-some c.args.line.now c.in-Some.name.now c.rest.result.now first after
 
-pub returns-in-Some-clause-depth : goal.returns-in-Some-clause-depth
-returns-in-Some-clause-depth c = command_of_fits c.args.line.now
+pub returns-in-Some-clause-range : goal.returns-in-Some-clause-range
+returns-in-Some-clause-range c = command_of_fits c.args.line.now

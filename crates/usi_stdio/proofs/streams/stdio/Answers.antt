@@ -1,5 +1,5 @@
 use Rattle.std.proofs.Common.{sym, ◌∙◌, ap, take, rules}
-use Rattle.usi_stdio.proofs.Between.{part_start, part_between, part_read, between_start, between_more, answered_at_end, answered_over, part_piece}
+use Rattle.usi_stdio.proofs.Between.{part_start, part_between, part_read, between_start, between_more, answered_at_end, answered_over, part_chunk}
 use Rattle.usi_stdio.proofs.Working.{on_err}
 use Rattle.usi_stdio.proofs.streams.stdio.Goals as goal
 
@@ -7,33 +7,33 @@ use Rattle.usi_stdio.proofs.streams.stdio.Goals as goal
 pub returns-in_err-table-clause-fault : goal.returns-in_err-table-clause-fault
 returns-in_err-table-clause-fault g c = on_err _ (part_start _ _)
 
-pub pieces-init : goal.pieces-init
-pieces-init g c = between_start _ _ c.new-session.result c.new-session.ensures.opening c.new-session.ensures.due c.new-session.ensures.after
+pub chunks-init : goal.chunks-init
+chunks-init g c = between_start _ _ c.new-session.result c.new-session.ensures.opening c.new-session.ensures.due c.new-session.ensures.after
 
 -- a read failed
 pub returns-in_err-n-clause-fault : goal.returns-in_err-n-clause-fault
-returns-in_err-n-clause-fault g c = on_err _ (part_read _ _ _ _ _ c.pieces.session c.pieces.invariant c.in_err-n.ensures.err)
+returns-in_err-n-clause-fault g c = on_err _ (part_read _ _ _ _ _ c.chunks.session c.chunks.invariant c.in_err-n.ensures.err)
 
 -- the input ended
 pub returns-then-n-eq0-clause-answered : goal.returns-then-n-eq0-clause-answered
 returns-then-n-eq0-clause-answered g c =
-    answered_at_end _ _ _ _ _ c.pieces.session (take c.in_ok-n.n c.read_piece.new.piece) c.pieces.invariant (ap (λ k. take k c.read_piece.new.piece) c.if-n-eq0.true) c.in_ok-n.ensures.given (c.in_ok-n.ensures.ended c.if-n-eq0.true)
+    answered_at_end _ _ _ _ _ c.chunks.session (take c.in_ok-n.n c.read_chunk.new.chunk) c.chunks.invariant (ap (λ k. take k c.read_chunk.new.chunk) c.if-n-eq0.true) c.in_ok-n.ensures.given (c.in_ok-n.ensures.ended c.if-n-eq0.true)
 
--- a front of the piece's answers was written
-pub returns-in_err-answer_piece-clause-fault : goal.returns-in_err-answer_piece-clause-fault
-returns-in_err-answer_piece-clause-fault g c =
-    on_err _ (part_piece _ _ _ _ _ _ c.pieces.session c.split_at.result.0.now c.pieces.invariant (rw c.split_at.ensures.front c.in_ok-n.ensures.given) c.in_err-answer_piece.ensures.err (search rules))
+-- a front of the chunk's answers was written
+pub returns-in_err-answer_chunk-clause-fault : goal.returns-in_err-answer_chunk-clause-fault
+returns-in_err-answer_chunk-clause-fault g c =
+    on_err _ (part_chunk _ _ _ _ _ _ c.chunks.session c.split_at.result.0.now c.chunks.invariant (rw c.split_at.ensures.front c.in_ok-n.ensures.given) c.in_err-answer_chunk.ensures.err (search rules))
 
 -- the session is over
 pub returns-then-is_over-clause-answered : goal.returns-then-is_over-clause-answered
 returns-then-is_over-clause-answered g c =
-    answered_over _ _ _ _ _ _ c.pieces.session c.answer_piece.new.session c.split_at.result.0.now c.pieces.invariant (rw c.split_at.ensures.front c.in_ok-n.ensures.given) c.in_ok-answer_piece.ensures.ok (sym c.is_over.ensures ∙ c.if-is_over.true) (search rules)
+    answered_over _ _ _ _ _ _ c.chunks.session c.answer_chunk.new.session c.split_at.result.0.now c.chunks.invariant (rw c.split_at.ensures.front c.in_ok-n.ensures.given) c.in_ok-answer_chunk.ensures.ok (sym c.is_over.ensures ∙ c.if-is_over.true) (search rules)
 
--- one piece more
-pub pieces-preserved : goal.pieces-preserved
-pieces-preserved g c =
-    between_more _ _ _ _ _ _ c.pieces.session c.answer_piece.new.session c.split_at.result.0.now c.pieces.invariant (rw c.split_at.ensures.front c.in_ok-n.ensures.given) c.in_ok-answer_piece.ensures.ok (sym c.is_over.ensures ∙ c.if-is_over.false)
+-- one chunk more
+pub chunks-preserved : goal.chunks-preserved
+chunks-preserved g c =
+    between_more _ _ _ _ _ _ c.chunks.session c.answer_chunk.new.session c.split_at.result.0.now c.chunks.invariant (rw c.split_at.ensures.front c.in_ok-n.ensures.given) c.in_ok-answer_chunk.ensures.ok (sym c.is_over.ensures ∙ c.if-is_over.false)
 
 -- the greatest number of reads was made
 pub returns-clause-fault : goal.returns-clause-fault
-returns-clause-fault g c = part_between _ _ _ _ c.pieces.session c.pieces.invariant
+returns-clause-fault g c = part_between _ _ _ _ c.chunks.session c.chunks.invariant

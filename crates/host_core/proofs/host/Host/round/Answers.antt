@@ -6,8 +6,8 @@ use Rattle.host_core.proofs.host.Host.round.Goals as goal
 pub loop-id-init : goal.loop-id-init
 loop-id-init g c = record { so_far = round_start c.args.self.now c.args.budget; few = search rules }
 
-pub round_at-round-requires-clause-few : goal.round_at-round-requires-clause-few
-round_at-round-requires-clause-few g c = (let from : start_of c.loop-id.after ≤ c.in-Some.id.slot = next_from (start_of c.loop-id.after) (drop (start_of c.loop-id.after) c.self.inside.slots.slots) c.in-Some.id (sym c.in-Some.ensures.value) in omega arith)
+pub round_at-round-requires-clause-most : goal.round_at-round-requires-clause-most
+round_at-round-requires-clause-most g c = (let from : start_of c.loop-id.after ≤ c.in-Some.id.slot = next_from (start_of c.loop-id.after) (drop (start_of c.loop-id.after) c.self.inside.slots.slots) c.in-Some.id (sym c.in-Some.ensures.value) in omega arith)
 
 pub loop-id-smaller : goal.loop-id-smaller
 loop-id-smaller g c = (let from : start_of c.loop-id.after ≤ c.in-Some.id.slot = next_from (start_of c.loop-id.after) (drop (start_of c.loop-id.after) c.self.inside.slots.slots) c.in-Some.id (sym c.in-Some.ensures.value) in omega arith)

@@ -4,17 +4,18 @@ use Rattle.std.proofs.lemmas.Bool.{cases_lt, false_from_ne_true}
 use Rattle.usi_lines.specs.Lines.{Line, Text, Buffer, ahead, lines}
 use Rattle.usi_lines.proofs.Waiting.{waits_not, dropped_long, dropped_text, first_text, no_text}
 use Rattle.usi_lines.proofs.buffer.LineBuffer.drop_line.Goals as goal
+use Rattle.usi_lines.specs.declared.line.TheConstants.{LINE_MAX}
 
 pub returns-then-self-gt-LINE_MAX-clause-rest : goal.returns-then-self-gt-LINE_MAX-clause-rest
 returns-then-self-gt-LINE_MAX-clause-rest g c =
     let i = c.self.inside in
-    let over : 65535 < i.end - i.start = search rules in
+    let over : LINE_MAX < i.end - i.start = search rules in
     subst (λ (b : Buffer). (x : List ℕ) → let none : List Line = [] in none ≡ drop 1 (ahead b x)) c.self.view_is (dropped_long i.bytes.items i.start i.end c.self.invariant i.closed over)
 
 pub compact-self-inside-requires : goal.compact-self-inside-requires
 compact-self-inside-requires g c =
     let i = c.self.inside in
-    let fits : i.end - i.start ≤ 65535 = search rules in
+    let fits : i.end - i.start ≤ LINE_MAX = search rules in
     elim (cases_lt i.end (length i.bytes.items)) [
       | inl below ↦ omega arith
       | inr over ↦ absurd (c.requires (subst (λ (b : Buffer). ahead b [] ≡ []) c.self.view_is (waits_not i.bytes.items i.start i.end c.self.invariant i.closed over fits)))
@@ -23,7 +24,7 @@ compact-self-inside-requires g c =
 pub returns-clause-rest : goal.returns-clause-rest
 returns-clause-rest g c =
     let i = c.self.inside in
-    let fits : i.end - i.start ≤ 65535 = search rules in
+    let fits : i.end - i.start ≤ LINE_MAX = search rules in
     let below : i.end < length i.bytes.items = elim (cases_lt i.end (length i.bytes.items)) [
       | inl below ↦ below
       | inr over ↦ absurd (c.requires (subst (λ (b : Buffer). ahead b [] ≡ []) c.self.view_is (waits_not i.bytes.items i.start i.end c.self.invariant i.closed over fits)))
@@ -35,7 +36,7 @@ returns-clause-rest g c =
 pub returns-clause-too_long : goal.returns-clause-too_long
 returns-clause-too_long g c = λ long.
     let i = c.self.inside in
-    let fits : i.end - i.start ≤ 65535 = search rules in
+    let fits : i.end - i.start ≤ LINE_MAX = search rules in
     let below : i.end < length i.bytes.items = elim (cases_lt i.end (length i.bytes.items)) [
       | inl below ↦ below
       | inr over ↦ absurd (c.requires (subst (λ (b : Buffer). ahead b [] ≡ []) c.self.view_is (waits_not i.bytes.items i.start i.end c.self.invariant i.closed over fits)))

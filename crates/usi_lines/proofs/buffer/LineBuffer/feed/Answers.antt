@@ -8,15 +8,15 @@ pub invariant_of-self-then-self-len : goal.invariant_of-self-then-self-len
 invariant_of-self-then-self-len g c =
     let i = c.self.inside in
     let here : i.end ≡ length i.bytes.items = search rules in
-    let items : c.extend_from_slice.new.self.items ≡ i.bytes.items ++ c.args.piece.now = search rules in
-    let len : c.line_len.result ≡ position_or_len is_line_feed c.args.piece.now = c.line_len.ensures.value in
-    let on = searched_on i.bytes.items i.start i.end c.self.invariant c.args.piece.now here in
+    let items : c.extend_from_slice.new.self.items ≡ i.bytes.items ++ c.args.chunk.now = search rules in
+    let len : c.line_len.result ≡ position_or_len is_line_feed c.args.chunk.now = c.line_len.ensures.value in
+    let on = searched_on i.bytes.items i.start i.end c.self.invariant c.args.chunk.now here in
     subst (λ (n : ℕ). IsSearched c.extend_from_slice.new.self.items i.start (i.end + n)) (sym len)
-    (subst (λ (bytes : List ℕ). IsSearched bytes i.start (i.end + position_or_len is_line_feed c.args.piece.now)) (sym items) on)
+    (subst (λ (bytes : List ℕ). IsSearched bytes i.start (i.end + position_or_len is_line_feed c.args.chunk.now)) (sym items) on)
 
 pub invariant_of-self-else-self-len : goal.invariant_of-self-else-self-len
 invariant_of-self-else-self-len g c =
     let i = c.self.inside in
     let other : i.end ≡ length i.bytes.items → ⊥ = λ e. search rules in
-    let items : c.extend_from_slice.new.self.items ≡ i.bytes.items ++ c.args.piece.now = search rules in
-    subst (λ (bytes : List ℕ). IsSearched bytes i.start i.end) (sym items) (searched_before i.bytes.items i.start i.end c.self.invariant c.args.piece.now other)
+    let items : c.extend_from_slice.new.self.items ≡ i.bytes.items ++ c.args.chunk.now = search rules in
+    subst (λ (bytes : List ℕ). IsSearched bytes i.start i.end) (sym items) (searched_before i.bytes.items i.start i.end c.self.invariant c.args.chunk.now other)

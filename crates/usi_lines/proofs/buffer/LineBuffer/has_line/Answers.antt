@@ -3,6 +3,7 @@ use Rattle.std.proofs.lemmas.Bool.{lt-ltb, ltb-true, cases_lt}
 use Rattle.usi_lines.specs.Lines.{Buffer, ahead}
 use Rattle.usi_lines.proofs.Waiting.{waits, waits_not}
 use Rattle.usi_lines.proofs.buffer.LineBuffer.has_line.Goals as goal
+use Rattle.usi_lines.specs.declared.line.TheConstants.{LINE_MAX}
 
 pub returns-then-self-len : goal.returns-then-self-len
 returns-then-self-len g c =
@@ -16,9 +17,9 @@ returns-else-self-len g c =
     let i = c.self.inside in
     let alive : i.closed ≡ false = search rules in
     let over : length i.bytes.items ≤ i.end = search rules in (
-      λ t. subst (λ (b : Buffer). ahead b [] ≢ []) c.self.view_is (waits i.bytes.items i.start i.end c.self.invariant i.closed alive (inr (ltb-true 65535 (i.end - i.start) t))),
-      λ h. elim (cases_lt 65535 (i.end - i.start)) [
-        | inl long ↦ lt-ltb 65535 (i.end - i.start) long
+      λ t. subst (λ (b : Buffer). ahead b [] ≢ []) c.self.view_is (waits i.bytes.items i.start i.end c.self.invariant i.closed alive (inr (ltb-true LINE_MAX (i.end - i.start) t))),
+      λ h. elim (cases_lt LINE_MAX (i.end - i.start)) [
+        | inl long ↦ lt-ltb LINE_MAX (i.end - i.start) long
         | inr fits ↦ absurd (h (subst (λ (b : Buffer). ahead b [] ≡ []) c.self.view_is (waits_not i.bytes.items i.start i.end c.self.invariant i.closed over fits)))
       ],
     )

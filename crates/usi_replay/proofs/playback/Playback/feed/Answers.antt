@@ -8,12 +8,12 @@ returns-in_default-clause-fed g c =
     let l : open_id c.index.result.now ≡ None = search rules in
     let lt : c.args.place < length c.collect.new.self.transcripts.items = search rules in
     let used : (get_or c.collect.new.self.transcripts.items c.args.place no_transcript).in_use ≡ true = c.in_ok-collect.ensures.used ∙ c.requires.used in
-    played_fed _ c.collect.new.self.host _ _ c.collect.new.self.transcripts.items _ c.args.place c.args.piece.now c.in_ok-collect.ensures.kept
-    (fed_refused c.collect.new.self.host c.collect.new.self.transcripts.items c.args.place c.index.result.now c.args.piece.now lt c.index.ensures used l)
+    played_fed _ c.collect.new.self.host _ _ c.collect.new.self.transcripts.items _ c.args.place c.args.chunk.now c.in_ok-collect.ensures.kept
+    (fed_refused c.collect.new.self.host c.collect.new.self.transcripts.items c.args.place c.index.result.now c.args.chunk.now lt c.index.ensures used l)
 
 pub returns-clause-fed : goal.returns-clause-fed
 returns-clause-fed g c =
     let l : open_id c.index.result.now ≡ Some c.in-Some.id = search rules in
     let lt : c.args.place < length c.collect.new.self.transcripts.items = search rules in
-    played_fed _ c.collect.new.self.host _ _ c.collect.new.self.transcripts.items _ c.args.place c.args.piece.now c.in_ok-collect.ensures.kept
-    (fed_live c.collect.new.self.host c.feed.new.host c.in-Some.id c.collect.new.self.transcripts.items c.args.place c.index.result.now c.args.piece.now lt c.index.ensures l c.in_ok-feed.ensures.others c.in_ok-feed.ensures.fed)
+    played_fed _ c.collect.new.self.host _ _ c.collect.new.self.transcripts.items _ c.args.place c.args.chunk.now c.in_ok-collect.ensures.kept
+    (fed_live c.collect.new.self.host c.feed.new.host c.in-Some.id c.collect.new.self.transcripts.items c.args.place c.index.result.now c.args.chunk.now lt c.index.ensures l c.in_ok-feed.ensures.others c.in_ok-feed.ensures.fed)

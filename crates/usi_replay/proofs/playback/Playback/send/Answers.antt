@@ -3,12 +3,12 @@ use Rattle.std.proofs.lemmas.List.{take-append-drop}
 use Rattle.usi_replay.proofs.Transcripts.{fed_start, fed_next, fed_whole, rounds_played, empty_list}
 use Rattle.usi_replay.proofs.playback.Playback.send.Goals as goal
 
-pub pieces-init : goal.pieces-init
-pieces-init g c = record { fed = fed_start c.args.self.now.host c.args.self.now.transcripts.items c.args.place c.args.text.now; used = c.requires.used; len = search rules; slice = search rules }
+pub chunks-init : goal.chunks-init
+chunks-init g c = record { fed = fed_start c.args.self.now.host c.args.self.now.transcripts.items c.args.place c.args.text.now; used = c.requires.used; len = search rules; slice = search rules }
 
-pub pieces-preserved : goal.pieces-preserved
-pieces-preserved g c = record {
-  fed = fed_next c.args.self.now.host c.pieces.self.host c.feed.new.self.host c.args.self.now.transcripts.items c.pieces.self.transcripts.items c.feed.new.self.transcripts.items c.args.place c.args.text.now c.pieces.rest.now c.split_at.result.0.now c.split_at.result.1.now c.requires.within c.pieces.invariant.fed c.in_ok-feed.ensures.fed (rw (c.split_at.ensures.front, c.split_at.ensures.back) (sym (take-append-drop c.min.result c.pieces.rest.now)));
+pub chunks-preserved : goal.chunks-preserved
+chunks-preserved g c = record {
+  fed = fed_next c.args.self.now.host c.chunks.self.host c.feed.new.self.host c.args.self.now.transcripts.items c.chunks.self.transcripts.items c.feed.new.self.transcripts.items c.args.place c.args.text.now c.chunks.rest.now c.split_at.result.0.now c.split_at.result.1.now c.requires.within c.chunks.invariant.fed c.in_ok-feed.ensures.fed (rw (c.split_at.ensures.front, c.split_at.ensures.back) (sym (take-append-drop c.min.result c.chunks.rest.now)));
   used = search rules;
   len = search rules;
   slice = search rules;
@@ -16,6 +16,6 @@ pieces-preserved g c = record {
 
 pub returns-clause-fed : goal.returns-clause-fed
 returns-clause-fed g c =
-    let none : c.pieces.rest.now ≡ [] = empty_list c.pieces.rest.now c.is_empty.result c.is_empty.ensures (search rules) in
-    fed_whole c.args.self.now.host c.pieces.self.host c.feed-2.new.self.host c.work_round.new.host c.args.self.now.transcripts.items c.pieces.self.transcripts.items c.feed-2.new.self.transcripts.items c.feed-2.new.self.transcripts.items c.args.place c.args.text.now c.pieces.rest.now c.requires.within c.pieces.invariant.fed none c.in_ok-feed-2.ensures.fed
+    let none : c.chunks.rest.now ≡ [] = empty_list c.chunks.rest.now c.is_empty.result c.is_empty.ensures (search rules) in
+    fed_whole c.args.self.now.host c.chunks.self.host c.feed-2.new.self.host c.work_round.new.host c.args.self.now.transcripts.items c.chunks.self.transcripts.items c.feed-2.new.self.transcripts.items c.feed-2.new.self.transcripts.items c.args.place c.args.text.now c.chunks.rest.now c.requires.within c.chunks.invariant.fed none c.in_ok-feed-2.ensures.fed
     (rounds_played c.feed-2.new.self.host c.work_round.new.host c.feed-2.new.self.transcripts.items c.in_ok-work_round.ensures.due)

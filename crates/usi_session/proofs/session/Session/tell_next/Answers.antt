@@ -1,6 +1,6 @@
 use Rattle.std.proofs.Common.{◌≡◌, ◌+◌, ap, ◌∙◌, rules, false}
 use Rattle.usi_lines.specs.Lines.{ahead}
-use Rattle.usi_session.specs.Due.{Talk}
+use Rattle.usi_session.specs.Due.{SessionView}
 use Rattle.usi_session.proofs.Steps.{due_ends, pending_alive}
 use Rattle.usi_session.proofs.WholeReplies.{told_whole, end_whole}
 use Rattle.usi_session.proofs.session.Session.tell_next.Goals as goal
@@ -8,13 +8,13 @@ use Rattle.usi_session.proofs.session.Session.tell_next.Goals as goal
 pub returns-clause-due : goal.returns-clause-due
 returns-clause-due g c = λ x.
     let s = c.self.inside in
-    let alive : s.state.is_over ≡ false = ap (λ (t : Talk). t.state.is_over) c.self.view_is ∙ pending_alive c.args.self.now c.requires.pending in
-    rw (← c.self.view_is) (due_ends s.state c.release.new.state s.output c.push-2.new.self c.tell.new.out.items c.release.new.out.items c.in-Some.going s.going c.choice.result (ahead s.input x)
+    let alive : s.state.is_over ≡ false = ap (λ (t : SessionView). t.state.is_over) c.self.view_is ∙ pending_alive c.args.self.now c.requires.pending in
+    rw (← c.self.view_is) (due_ends s.state c.give_bestmove.new.state s.queue c.push-2.new.self c.tell.new.out.items c.give_bestmove.new.out.items c.in-Some.in_hand s.in_hand c.bestmove.result (ahead s.input x)
     alive c.in-Some.is (search rules) (search rules) (search rules) (search rules) (search rules) (search rules))
 
 pub returns-then-not-is_last-clause-grown : goal.returns-then-not-is_last-clause-grown
 returns-then-not-is_last-clause-grown g c =
-    let go = c.in-Some.going in
+    let go = c.in-Some.in_hand in
     rw (← c.self.view_is) (record {
       lines = c.tell.new.out.items;
       after_is = search rules;
@@ -23,9 +23,9 @@ returns-then-not-is_last-clause-grown g c =
 
 pub returns-clause-grown : goal.returns-clause-grown
 returns-clause-grown g c =
-    let go = c.in-Some.going in
+    let go = c.in-Some.in_hand in
     rw (← c.self.view_is) (record {
-      lines = c.release.new.out.items;
+      lines = c.give_bestmove.new.out.items;
       after_is = search rules;
-      whole = end_whole c.self.inside.state go.root (go.told + 1) c.tell.new.out.items c.release.new.out.items c.choice.result (search rules) (search rules);
+      whole = end_whole c.self.inside.state go.root (go.told + 1) c.tell.new.out.items c.give_bestmove.new.out.items c.bestmove.result (search rules) (search rules);
     })

@@ -1,0 +1,34 @@
+-- The options of a session: their ranges, and the values that a line may set (USI, setoption; that numbers are clamped is an own choice).
+use Rattle.std.specs.Prelude.{ℕ, ◌≤◌, ◌&&◌, List, [], ◌∷◌, Option, Some, None, cond, min, max, codes}
+use Rattle.std.specs.Option.{option_map_or}
+use Rattle.std.specs.Str.{bytes_eq}
+use Rattle.shogi_sfen.specs.Numbers.{is_number, number_of}
+use Rattle.usi_lines.specs.declared.options.TheConstants.{DEPTH_MIN, DEPTH_MAX}
+use Rattle.usi_lines.specs.Commands.{Command, SetDepth, Go, Other}
+
+-- the range of a depth
+pub record IsDepth (depth : ℕ) : Type 0 where
+  pub least : DEPTH_MIN ≤ depth
+  pub most : depth ≤ DEPTH_MAX
+
+-- a depth, clamped to its range, where the word is a number
+abbrev pub depth_read : List ℕ → Option ℕ
+depth_read word = cond (is_number word) (Some (max DEPTH_MIN (min DEPTH_MAX (number_of word)))) None
+
+-- the option of a name is set to a value: a row for each option
+abbrev pub command_for : List ℕ → List ℕ → Command
+command_for name value =
+    cond (bytes_eq name (codes "Depth")) (option_map_or SetDepth (depth_read value) Other)
+    Other
+
+-- exactly the words `name NAME value VALUE`
+abbrev pub option_of : List (List ℕ) → Command
+option_of (first ∷ name ∷ third ∷ value ∷ []) =
+    cond (bytes_eq first (codes "name") && bytes_eq third (codes "value")) (command_for name value) Other
+option_of _ = Other
+
+-- each number in a command lies in its range: a row for each option that is a number
+abbrev pub IsInRange : Command → Type 0
+IsInRange (SetDepth depth) = IsDepth depth
+IsInRange (Go (Some depth) hold) = IsDepth depth
+IsInRange _ = Unit {0}

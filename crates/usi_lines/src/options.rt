@@ -1,0 +1,60 @@
+//! The options of a session: their ranges, and how their values are read.
+
+ghost use Rattle.std.specs.Prelude.{◌≡◌};
+ghost use Rattle.shogi_sfen.specs.Words.{words};
+ghost use Rattle.usi_lines.specs.Options.{depth_read, command_for, option_of};
+ghost use Rattle.usi_lines.specs.Seen.{meaning_of};
+
+use crate::command::Command;
+use crate::words::is;
+use shogi_sfen::{read_number, words};
+
+/// The least depth of a `go` (own choice, as is the greatest).
+pub const DEPTH_MIN: u8 = 1;
+
+/// The greatest depth of a `go`.
+pub const DEPTH_MAX: u8 = 16;
+
+/// A depth, clamped to its range, where the word is a number.
+pub fn read_depth(word: &[u8]) -> Option<u8>
+    ensures { result ≡ depth_read word.now }
+{
+    let number = read_number(word, DEPTH_MAX as u32)?;
+    Some(number.clamp(DEPTH_MIN as u32, DEPTH_MAX as u32) as u8)
+}
+
+/// The command that sets the option of a name to a value, with a row for each option; `Other` where
+/// there is no such option, or where it has no such value.
+fn command_for<'a>(name: &[u8], value: &[u8]) -> Command<'a>
+    ensures { meaning_of result ≡ command_for name.now value.now }
+{
+    if is(name, b"Depth") {
+        match read_depth(value) {
+            Some(depth) => Command::SetDepth(depth),
+            None => Command::Other,
+        }
+    } else {
+        Command::Other
+    }
+}
+
+/// What follows `setoption`: the words `name NAME value VALUE`, and no others.
+pub fn read_option<'a>(text: &[u8]) -> Command<'a>
+    ensures { meaning_of result ≡ option_of (words text.now) }
+{
+    let mut rest = words(text);
+    let (Some(first), Some(name), Some(third), Some(value), None) = (
+        rest.next(),
+        rest.next(),
+        rest.next(),
+        rest.next(),
+        rest.next(),
+    ) else {
+        return Command::Other;
+    };
+    if is(first, b"name") && is(third, b"value") {
+        command_for(name, value)
+    } else {
+        Command::Other
+    }
+}

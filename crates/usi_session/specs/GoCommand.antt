@@ -1,0 +1,28 @@
+-- What `go` says of a position (USI, go; a fixed depth is an own choice).
+use Rattle.std.specs.Prelude.{ℕ, zero, suc, List, [], ◌∷◌, ◌++◌, Option, slice_get}
+use Rattle.shogi_core.specs.declared.moves.Move.{Move}
+use Rattle.shogi_core.specs.Position.{Shogi}
+use Rattle.shogi_moves.specs.LegalMoves.{legal_moves}
+use Rattle.usi_session.specs.Texts.{info_line}
+
+-- the move to play
+abbrev pub first : List Move → Option Move
+first moves = slice_get moves 0
+
+-- the reply to it
+abbrev pub second : List Move → Option Move
+second moves = slice_get moves 1
+
+-- what is said of a position at each depth from 1 to the given one
+unfoldable pub info_lines : Shogi → ℕ → List ℕ
+info_lines p zero = []
+info_lines p (suc depth) = info_lines p depth ++ info_line p (suc depth)
+
+-- no info lines where no move is legal
+abbrev pub infos_of : Shogi → ℕ → List ℕ → List ℕ
+infos_of p depth [] = []
+infos_of p depth (code ∷ codes) = info_lines p depth
+
+-- what is said of a position before the bestmove
+abbrev pub infos : Shogi → ℕ → List ℕ
+infos p depth = infos_of p depth (legal_moves p)

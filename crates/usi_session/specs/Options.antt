@@ -1,0 +1,30 @@
+-- The options of a session: what they are set to, and how they are offered (USI, option and setoption; names, ranges and defaults are an own choice).
+use Rattle.std.specs.Prelude.{ℕ, List, ◌++◌, codes, decimal}
+use Rattle.usi_lines.specs.declared.options.TheConstants.{DEPTH_MIN, DEPTH_MAX}
+use Rattle.usi_lines.specs.Options.{IsDepth}
+use Rattle.usi_session.specs.declared.options.TheConstants.{DEPTH_DEFAULT}
+use Rattle.usi_session.specs.declared.options.Options.{Options}
+
+-- each option at its default
+abbrev pub default_options : Options
+default_options = record { depth = DEPTH_DEFAULT }
+
+-- each option that is a number lies in its range
+pub record AreInRange (options : Options) : Type 0 where
+  pub depth_fits : IsDepth options.depth
+
+-- the name of an option that is a number
+abbrev pub spin_name : List ℕ → List ℕ
+spin_name name = codes "option name " ++ (name ++ codes " type spin")
+
+-- its range, to the end of the line
+abbrev pub spin_range : ℕ → ℕ → List ℕ
+spin_range least most = (codes " min " ++ decimal least) ++ ((codes " max " ++ decimal most) ++ codes "\n")
+
+-- the line that offers it
+abbrev pub spin_line : List ℕ → ℕ → ℕ → ℕ → List ℕ
+spin_line name default least most = spin_name name ++ ((codes " default " ++ decimal default) ++ spin_range least most)
+
+-- what is offered: a row for each option
+abbrev pub option_lines : List ℕ
+option_lines = spin_line (codes "Depth") DEPTH_DEFAULT DEPTH_MIN DEPTH_MAX

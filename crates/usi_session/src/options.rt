@@ -1,0 +1,85 @@
+//! The options of a session: what they are set to, and how they are offered.
+
+ghost use Rattle.std.specs.Prelude.{◌≡◌, ◌++◌, OnOk, decimal};
+ghost use Rattle.usi_session.specs.Options.{default_options, option_lines, spin_name, spin_range, spin_line};
+
+use crate::text::write_parts;
+use itoa::Buffer;
+use std::alloc::{AllocError, Allocator};
+use usi_lines::{DEPTH_MAX, DEPTH_MIN};
+
+/// The depth of a session whose `Depth` was never set (own choice).
+pub const DEPTH_DEFAULT: u8 = 3;
+
+/// What the options are set to.
+#[derive(Clone, Copy, Debug)]
+pub struct Options {
+    /// `Depth`: the depth of a `go` that names none, in its range.
+    pub depth: u8,
+}
+
+impl Options {
+    /// Each option at its default.
+    pub fn new() -> Options
+        ensures { result ≡ default_options }
+    {
+        Options {
+            depth: DEPTH_DEFAULT,
+        }
+    }
+}
+
+/// A word of an option's line, and its number.
+fn write_number<A: Allocator>(
+    out: &mut Vec<u8, A>,
+    word: &[u8],
+    number: u8,
+) -> Result<(), AllocError>
+    ensures { OnOk result (out.new.items ≡ out.old.items ++ (word.now ++ decimal number)) }
+{
+    let mut buffer = Buffer::new();
+    let digits = buffer.format(number).as_bytes();
+    write_parts(out, &[word, digits])
+}
+
+/// The name of an option that is a number.
+fn write_name<A: Allocator>(out: &mut Vec<u8, A>, name: &[u8]) -> Result<(), AllocError>
+    ensures { OnOk result (out.new.items ≡ out.old.items ++ spin_name name.now) }
+{
+    write_parts(out, &[b"option name ", name, b" type spin"])
+}
+
+/// The range of an option that is a number, to the end of its line.
+#[tactic(auto, using(crate::proofs::Appends::after_three))]
+fn write_range<A: Allocator>(out: &mut Vec<u8, A>, least: u8, most: u8) -> Result<(), AllocError>
+    ensures { OnOk result (out.new.items ≡ out.old.items ++ spin_range least most) }
+{
+    write_number(out, b" min ", least)?;
+    write_number(out, b" max ", most)?;
+    out.extend_from_slice(b"\n")?;
+    Ok(())
+}
+
+/// Offers an option that is a number (USI, option).
+#[tactic(auto, using(crate::proofs::Appends::after_three))]
+fn write_spin<A: Allocator>(
+    out: &mut Vec<u8, A>,
+    name: &[u8],
+    default: u8,
+    least: u8,
+    most: u8,
+) -> Result<(), AllocError>
+    ensures { OnOk result (out.new.items ≡ out.old.items ++ spin_line name.now default least most) }
+{
+    write_name(out, name)?;
+    write_number(out, b" default ", default)?;
+    write_range(out, least, most)?;
+    Ok(())
+}
+
+/// Offers the options: a row for each.
+pub fn write_options<A: Allocator>(out: &mut Vec<u8, A>) -> Result<(), AllocError>
+    ensures { OnOk result (out.new.items ≡ out.old.items ++ option_lines) }
+{
+    write_spin(out, b"Depth", DEPTH_DEFAULT, DEPTH_MIN, DEPTH_MAX)
+}
