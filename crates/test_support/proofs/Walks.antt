@@ -9,7 +9,7 @@ use denote.RattleType.{RattleType}
 use Rattle.std.specs.Allocator.{block_if_ok}
 use Rattle.std.proofs.alloc.Calls.{Al, α, token, got}
 use Rattle.std.proofs.alloc.Resizes.{result_of}
-use Rattle.failing_allocator.specs.contracts.allocator.FailingAllocator as whole
+use Rattle.test_support.specs.contracts.allocator.FailingAllocator as whole
 
 module _ (Z : Al) where
   abbrev pub Whole : RattleType

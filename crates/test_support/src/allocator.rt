@@ -4,7 +4,7 @@ use crate::requests::Requests;
 use std::alloc::{AllocError, Allocator};
 
 /// Hands each request on to the inner allocator, but for those that it is told to refuse. A `&` to it is an
-/// allocator too.
+/// allocator too. A block that grows is a new request.
 pub struct FailingAllocator<B: Allocator> {
     inner: B,
     requests: Requests,
@@ -17,6 +17,33 @@ impl<B: Allocator> FailingAllocator<B> {
             inner,
             requests: Requests::new(),
         }
+    }
+
+    /// Refuses the n-th request from now on, counted from 1, and no other.
+    pub fn refuse_at(&self, n: u64) {
+        let number = self.requests.asked().saturating_add(n);
+        self.requests.refuse(number, number);
+    }
+
+    /// Refuses the n-th request from now on, counted from 1, and each one after it.
+    pub fn refuse_from(&self, n: u64) {
+        let number = self.requests.asked().saturating_add(n);
+        self.requests.refuse(number, u64::MAX);
+    }
+
+    /// Refuses nothing from now on.
+    pub fn refuse_nothing(&self) {
+        self.requests.refuse(0, 0);
+    }
+
+    /// How many requests there were.
+    pub fn asked(&self) -> u64 {
+        self.requests.asked()
+    }
+
+    /// How many of them were refused.
+    pub fn refused(&self) -> u64 {
+        self.requests.refused()
     }
 }
 

@@ -30,11 +30,11 @@ use denote.Triple.Walked.{Stays, stay_dropped, walk_of, ends_at, Goes-dropped}
 use Rattle.std.specs.Allocator.{owned_block}
 use Rattle.std.proofs.alloc.Calls.{Al, token, seen, Gives, at_gives, Gives-goes, Gives-Gives}
 use Rattle.std.proofs.raw_atomic.Walks.{proved}
-use Rattle.failing_allocator.proofs.Walks.{inner_at}
-use Rattle.failing_allocator.specs.contracts.allocator.FailingAllocator as whole
-use Rattle.failing_allocator.specs.contracts.allocator.FailingAllocatorAllocator.deallocate as F
-use Rattle.failing_allocator.proofs.allocator.FailingAllocatorAllocator.deallocate.Statement.{statement}
-use Rattle.failing_allocator.proofs.allocator.FailingAllocatorAllocator.deallocate.Code as code
+use Rattle.test_support.proofs.Walks.{inner_at}
+use Rattle.test_support.specs.contracts.allocator.FailingAllocator as whole
+use Rattle.test_support.specs.contracts.allocator.FailingAllocatorAllocator.deallocate as F
+use Rattle.test_support.proofs.allocator.FailingAllocatorAllocator.deallocate.Statement.{statement}
+use Rattle.test_support.proofs.allocator.FailingAllocatorAllocator.deallocate.Code as code
 
 module _ (Z : Al) where
   abbrev args : Args

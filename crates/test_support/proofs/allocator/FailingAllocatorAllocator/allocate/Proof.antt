@@ -33,14 +33,14 @@ use Rattle.std.proofs.alloc.Calls.{Al, Answer, answer_val, Answer-typed, token, 
 use Rattle.std.proofs.alloc.Resizes.{result_of, result_own}
 use Rattle.std.proofs.alloc.Shapes.{after}
 use Rattle.std.proofs.raw_atomic.Walks.{proved}
-use Rattle.failing_allocator.proofs.Walks.{inner_at, requests_at, promised}
-use Rattle.failing_allocator.specs.contracts.allocator.FailingAllocator as whole
-use Rattle.failing_allocator.specs.contracts.requests.Requests as counter
-use Rattle.failing_allocator.specs.contracts.requests.Requests.refuses as R
-use Rattle.failing_allocator.proofs.requests.Requests.refuses.Met.{met as refuses_met}
-use Rattle.failing_allocator.specs.contracts.allocator.FailingAllocatorAllocator.allocate as F
-use Rattle.failing_allocator.proofs.allocator.FailingAllocatorAllocator.allocate.Statement.{statement}
-use Rattle.failing_allocator.proofs.allocator.FailingAllocatorAllocator.allocate.Code as code
+use Rattle.test_support.proofs.Walks.{inner_at, requests_at, promised}
+use Rattle.test_support.specs.contracts.allocator.FailingAllocator as whole
+use Rattle.test_support.specs.contracts.requests.Requests as counter
+use Rattle.test_support.specs.contracts.requests.Requests.refuses as R
+use Rattle.test_support.proofs.requests.Requests.refuses.Met.{met as refuses_met}
+use Rattle.test_support.specs.contracts.allocator.FailingAllocatorAllocator.allocate as F
+use Rattle.test_support.proofs.allocator.FailingAllocatorAllocator.allocate.Statement.{statement}
+use Rattle.test_support.proofs.allocator.FailingAllocatorAllocator.allocate.Code as code
 
 module _ (Z : Al) where
   abbrev args : Args
@@ -88,7 +88,7 @@ allocate_spec 𝓤 𝓛 𝓜 𝓡 wired B laws g d drops met _ =
     move ! (0 ∷ 2 ∷ []) $ feq_i ! (List Val) (vptr (requests_at Z r).0 (requests_at Z r).1 ∷ []) _ refl $ fjoin ! $
     nothing ! $ move ! (1 ∷ 0 ∷ []) $ join ! $ nothing ! $ move ! (2 ∷ 0 ∷ []) $ join ! $ join ! $
     nothing ! $ move ! (1 ∷ 0 ∷ []) $ use2 𝓛 (raw (counted.pre x)) (id⊢ 𝓤 _) $
-    calls_at ! (framed 𝓤 𝓛.H 𝓜 𝓣) counted (refuses_met 𝓤 𝓛 𝓜 𝓡 (code.calls-failing_allocator::requests::Requests::refuses 𝓡.env wired)) x (and_then ! (get ! refl) (no_more !)) (λ v.
+    calls_at ! (framed 𝓤 𝓛.H 𝓜 𝓣) counted (refuses_met 𝓤 𝓛 𝓜 𝓡 (code.calls-test_support::requests::Requests::refuses 𝓡.env wired)) x (and_then ! (get ! refl) (no_more !)) (λ v.
     use1 𝓛 (later (some (λ (b : Bool). ((‵ (flft κ q) ⊛ ‵ ftrue) ⊛ ‵ (bool.own_val b (v ∷ []))) ⊛ some (λ (ws : Unit {0} × Unit {0}). ‵ (lasts R.ended x.0.0 x.0.3 ws) ⊛ ‵ ftrue)))) (id⊢ 𝓤 _) $
     await ! tt $ pick ! (λ b. split ! $ split ! $ split ! $ move ! (2 ∷ []) $ feq_l ! (λ e. move ! (1 ∷ 2 ∷ []) $ drop ! $ drop ! $
     -- [the token; the inner allocator; the other token]
