@@ -6,6 +6,7 @@ pub mod fakes;
 pub mod positions;
 mod requests;
 pub mod rows;
+pub mod scripts;
 #[cfg(test)]
 mod tests;
 

@@ -1,12 +1,12 @@
 //! Rows through a session, in one piece and in several.
 
-use crate::rows::{CUT, CUT_READY, DEEP, QUICK, Row, joined};
 use shared_table::SharedTable;
 use shogi_search::{Memo, NoMemo};
 use std::alloc::Global;
 use std::hash::{BuildHasherDefault, FoldHasher};
 use std::process::Abort;
 use std::test::Fail;
+use test_support::rows::{CUT, CUT_READY, DEEP, QUICK, Row, joined};
 use usi_lines::{Command, Hold, read_command};
 use usi_session::Session;
 

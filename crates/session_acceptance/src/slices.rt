@@ -1,13 +1,13 @@
 //! Sessions that are worked in slices, and lines that are written as they are found.
 
-use crate::fakes::{FailingWriter, NotingWriter};
-use crate::rows::{CUT, DEEP, INFO_ONE, QUICK, Row, SLICED, joined};
 use shared_table::SharedTable;
 use shogi_search::{Memo, NoMemo};
 use std::alloc::Global;
 use std::hash::{BuildHasherDefault, FoldHasher};
 use std::process::Abort;
 use std::test::Fail;
+use test_support::fakes::{FailingWriter, NotingWriter};
+use test_support::rows::{CUT, DEEP, INFO_ONE, QUICK, Row, SLICED, joined};
 use usi_session::Session;
 use usi_stdio::{StdioFault, stdio};
 
