@@ -6,6 +6,8 @@ mod connections;
 #[cfg(test)]
 mod events;
 #[cfg(test)]
+mod given_back;
+#[cfg(test)]
 mod hosts;
 #[cfg(test)]
 mod scripts;
