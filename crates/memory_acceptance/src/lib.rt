@@ -1,12 +1,10 @@
-//! Tests of memory that is refused, and of memory that is given back.
+//! Tests of memory that is refused.
 #![tactic(auto)]
 
 #[cfg(test)]
 mod connections;
 #[cfg(test)]
 mod events;
-#[cfg(test)]
-mod given_back;
 #[cfg(test)]
 mod hosts;
 #[cfg(test)]
