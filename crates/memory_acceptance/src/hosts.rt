@@ -1,6 +1,5 @@
 //! Memory that is refused at one place after another.
 
-use crate::rows::{CUT, INFO_AND_BEST_ONE, Row, SLICED, joined};
 use host_core::{Event, Host, HostFault, Outcome};
 use linked_list_allocator::LocalHeap;
 use session_slots::SessionId;
@@ -9,6 +8,7 @@ use std::alloc::{AllocError, Global};
 use std::hash::{BuildHasherDefault, FoldHasher};
 use std::process::Abort;
 use std::test::Fail;
+use test_support::rows::{CUT, INFO_AND_BEST_ONE, Row, SLICED, joined};
 use usi_session::Session;
 
 // Room for the search in hand, which is the largest block, and for what is read and queued.

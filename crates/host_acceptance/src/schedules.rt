@@ -2,15 +2,14 @@
 
 ghost use Rattle.std.specs.Prelude.{◌<◌};
 
-use crate::hosts::{TestHost, answered, opened};
-use crate::rows::{DEEP, QUICK, Row, joined};
-use host_core::{Event, Host, HostFault, Outcome};
+use crate::host::TestHost;
+use host_core::{Event, HostFault, Outcome};
 use session_slots::SessionId;
 use shogi_search::NoMemo;
 use std::alloc::Global;
-use std::hash::{BuildHasherDefault, FoldHasher};
 use std::process::Abort;
 use std::test::Fail;
+use test_support::rows::{DEEP, QUICK, Row, joined};
 use usi_session::Session;
 
 /// Numbers that follow from a seed (a linear congruence modulo 2^64).
@@ -128,7 +127,7 @@ fn act(
                 .get(client.stored..)
                 .unwrap_or(b"");
             let piece = rest.get(..random.below(12) as usize).unwrap_or(rest);
-            match answered(host, Event::Feed(id, piece))? {
+            match host.answered(Event::Feed(id, piece))? {
                 Outcome::Done => client.stored = client.stored.saturating_add(piece.len()),
                 Outcome::Refused(HostFault::NotReady) => assert!(rt; !host.wants_input(id)),
                 _ => return Err("a feed is done, or comes too early".into()),
@@ -136,7 +135,7 @@ fn act(
         }
         3..=5 => {
             let (budget, pending) = (random.below(400), host.pending(id));
-            let Outcome::Worked(steps) = answered(host, Event::Work(id, budget))? else {
+            let Outcome::Worked(steps) = host.answered(Event::Work(id, budget))? else {
                 return Err("a work is done".into());
             };
             assert!(rt; steps <= budget && (pending || steps == 0));
@@ -145,7 +144,7 @@ fn act(
         6 => {
             let queued = host.output(id).unwrap_or(b"").len();
             let n = random.below(40) as usize;
-            match answered(host, Event::Take(id, n))? {
+            match host.answered(Event::Take(id, n))? {
                 Outcome::Gave(bytes) => {
                     assert!(rt; bytes.as_slice().len() == n && n <= queued);
                     client.taken.extend_from_slice(bytes.as_slice())?;
@@ -169,11 +168,11 @@ fn replace(
     client: &mut Client,
     random: &mut Random,
 ) -> Result<(), Fail> {
-    let Outcome::Done = answered(host, Event::Close(client.id))? else {
+    let Outcome::Done = host.answered(Event::Close(client.id))? else {
         return Err("an open session is closed".into());
     };
     *client = Client {
-        id: opened(host)?,
+        id: host.opened()?,
         row: row_of(random.below(1000)),
         stored: 0,
         taken: Vec::new(alloc),
@@ -192,16 +191,11 @@ fn schedule(
 ) -> Result<u64, Fail> {
     let mut random = Random { state: seed };
     let (slots, entries) = (clients.clamp(1, 8), entries.clamp(1, 100_000));
-    let mut host = Host::new(
-        alloc,
-        slots,
-        entries,
-        BuildHasherDefault::<FoldHasher>::new(),
-    )?;
+    let mut host = TestHost::new(alloc, slots, entries)?;
     let mut present = Vec::new(alloc);
     for number in 0..slots {
         present.push(Client {
-            id: opened(&mut host)?,
+            id: host.opened()?,
             row: row_of(number as u64),
             stored: 0,
             taken: Vec::new(alloc),

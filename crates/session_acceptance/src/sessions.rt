@@ -1,19 +1,19 @@
 //! Rows through a session, in one piece and in several.
 
-use crate::rows::{CUT, CUT_READY, DEEP, QUICK, Row, joined};
+use crate::session::TestSession;
 use shared_table::SharedTable;
 use shogi_search::{Memo, NoMemo};
 use std::alloc::Global;
 use std::hash::{BuildHasherDefault, FoldHasher};
 use std::process::Abort;
 use std::test::Fail;
+use test_support::rows::{CUT, CUT_READY, DEEP, QUICK, Row, joined};
 use usi_lines::{Command, Hold, read_command};
-use usi_session::Session;
 
 // Feeds the piece, works it off, and takes what was answered. A session that is over is fed nothing.
 fn talk<M: Memo>(
     rt: &impl Abort,
-    session: &mut Session<Global>,
+    session: &mut TestSession,
     memo: &mut M,
     piece: &[u8],
     said: &mut Vec<u8>,
@@ -22,13 +22,12 @@ fn talk<M: Memo>(
         assert!(rt; session.is_over());
         return Ok(());
     }
-    assert!(rt; piece.len() <= 4096);
     session.feed(piece)?;
     session.work(memo, u64::MAX)?;
     assert!(rt; !session.pending());
     said.extend_from_slice(session.output())?;
     let queued = session.output().len();
-    session.take(queued);
+    session.take(queued)?;
     assert!(rt; session.output().is_empty());
     Ok(())
 }
@@ -41,7 +40,7 @@ fn said<M: Memo>(
     first: &[u8],
     second: &[u8],
 ) -> Result<Vec<u8>, Fail> {
-    let mut session = Session::new(alloc);
+    let mut session = TestSession::new(alloc);
     let mut said = Vec::new(alloc);
     talk(rt, &mut session, memo, first, &mut said)?;
     talk(rt, &mut session, memo, second, &mut said)?;
@@ -65,7 +64,7 @@ fn assert_cut<M: Memo>(rt: &impl Abort, alloc: Global, memo: &mut M, row: Row) -
 
 // What a fresh session says to the bytes, in pieces of at most 4,096.
 fn said_to_all(rt: &impl Abort, alloc: Global, bytes: &[u8]) -> Result<Vec<u8>, Fail> {
-    let mut session = Session::new(alloc);
+    let mut session = TestSession::new(alloc);
     let mut said = Vec::new(alloc);
     for piece in bytes.chunks(4096) {
         talk(rt, &mut session, &mut NoMemo, piece, &mut said)?;
@@ -150,21 +149,20 @@ fn the_longest_line(rt: HostRuntime) -> Result<(), Fail> {
 // 1,024 times `usi` queues 1,024 answers of 116 bytes each.
 #[test]
 fn input_waits_for_a_full_queue(rt: HostRuntime) -> Result<(), Fail> {
-    let mut session = Session::new(rt.alloc());
+    let mut session = TestSession::new(rt.alloc());
     let mut piece = Vec::new(rt.alloc());
     for _ in 0..1024 {
         piece.extend_from_slice(b"usi\n")?;
     }
-    assert!(rt; session.wants_input() && piece.len() <= 4096);
     session.feed(piece.as_slice())?;
     assert!(rt; session.pending() && !session.wants_input());
     session.work(&mut NoMemo, u64::MAX)?;
     assert_eq!(rt; session.output().len(), 118_784);
     assert!(rt; !session.wants_input());
-    session.take(118_784 - 65_536);
+    session.take(118_784 - 65_536)?;
     assert_eq!(rt; session.output().len(), 65_536);
     assert!(rt; !session.wants_input());
-    session.take(1);
+    session.take(1)?;
     assert!(rt; session.wants_input());
     Ok(())
 }

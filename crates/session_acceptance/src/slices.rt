@@ -1,23 +1,22 @@
 //! Sessions that are worked in slices, and lines that are written as they are found.
 
-use crate::fakes::{FailingWriter, NotingWriter};
-use crate::rows::{CUT, DEEP, INFO_ONE, QUICK, Row, SLICED, joined};
+use crate::session::TestSession;
 use shared_table::SharedTable;
 use shogi_search::{Memo, NoMemo};
 use std::alloc::Global;
 use std::hash::{BuildHasherDefault, FoldHasher};
 use std::process::Abort;
 use std::test::Fail;
-use usi_session::Session;
+use test_support::fakes::{FailingWriter, NotingWriter};
+use test_support::rows::{CUT, DEEP, INFO_ONE, QUICK, Row, SLICED, joined};
 use usi_stdio::{StdioFault, stdio};
 
 // The most slices that a test works.
 const SLICES: u64 = 100_000;
 
 // A session that was fed the row, and nothing more.
-fn fed(rt: &impl Abort, alloc: Global, sent: &str) -> Result<Session<Global>, Fail> {
-    let mut session = Session::new(alloc);
-    assert!(rt; session.wants_input() && sent.as_bytes().len() <= 4096);
+fn fed(alloc: Global, sent: &str) -> Result<TestSession, Fail> {
+    let mut session = TestSession::new(alloc);
     session.feed(sent.as_bytes())?;
     Ok(session)
 }
@@ -26,7 +25,7 @@ fn fed(rt: &impl Abort, alloc: Global, sent: &str) -> Result<Session<Global>, Fa
 // leaves something pending has used its budget.
 fn worked<M: Memo>(
     rt: &impl Abort,
-    session: &mut Session<Global>,
+    session: &mut TestSession,
     memo: &mut M,
     budget: u64,
 ) -> Result<u64, Fail> {
@@ -53,7 +52,7 @@ fn assert_worked<M: Memo>(
     row: &Row,
     budget: u64,
 ) -> Result<u64, Fail> {
-    let mut session = fed(rt, alloc, row.sent)?;
+    let mut session = fed(alloc, row.sent)?;
     let steps = worked(rt, &mut session, memo, budget)?;
     let answer = joined(alloc, row.answer)?;
     let sent = row.sent;
@@ -93,7 +92,7 @@ fn depth_one_takes_62_steps(rt: HostRuntime) -> Result<(), Fail> {
 // A load of 62: a budget of 61 leaves the last step to be made, and 62 leaves nothing.
 #[test]
 fn a_budget_of_the_load_is_enough(rt: HostRuntime) -> Result<(), Fail> {
-    let mut session = fed(&rt, rt.alloc(), "go depth 1\nisready\n")?;
+    let mut session = fed(rt.alloc(), "go depth 1\nisready\n")?;
     assert_eq!(rt; session.work(&mut NoMemo, 61)?, 61);
     assert!(rt; session.pending() && session.output().is_empty());
     assert_eq!(rt; session.work(&mut NoMemo, 1)?, 1);
@@ -106,7 +105,7 @@ fn a_budget_of_the_load_is_enough(rt: HostRuntime) -> Result<(), Fail> {
 // With no budget the lines before a search are answered, and no step is made.
 #[test]
 fn a_budget_of_nothing(rt: HostRuntime) -> Result<(), Fail> {
-    let mut session = fed(&rt, rt.alloc(), "isready\ngo depth 1\nisready\n")?;
+    let mut session = fed(rt.alloc(), "isready\ngo depth 1\nisready\n")?;
     for _ in 0..3 {
         assert_eq!(rt; session.work(&mut NoMemo, 0)?, 0);
         assert!(rt; session.pending() && !session.wants_input());
@@ -135,14 +134,14 @@ fn go_infinite_and_stop_cut_anywhere(rt: HostRuntime) -> Result<(), Fail> {
     let answer =
         "info depth 1 score cp 0 pv 1g1f\ninfo depth 2 score cp 0 pv 1g1f 1a1b\nbestmove 1g1f ponder 1a1b\nreadyok\n";
     for cut in 0..320u64 {
-        let mut session = fed(&rt, rt.alloc(), sent)?;
+        let mut session = fed(rt.alloc(), sent)?;
         session.work(&mut NoMemo, cut)?;
         let queued = session.output().len();
         assert!(rt;
             answer.as_bytes().starts_with(session.output()),
             "cut at {cut}"
         );
-        session.take(queued);
+        session.take(queued)?;
         let hasher = BuildHasherDefault::<FoldHasher>::new();
         let mut table = SharedTable::new(rt.alloc(), 1, hasher)?;
         session.work(&mut table, u64::MAX)?;
@@ -166,8 +165,8 @@ fn two_sessions_by_turns(rt: HostRuntime) -> Result<(), Fail> {
     let hasher = BuildHasherDefault::<FoldHasher>::new();
     let mut table = SharedTable::new(rt.alloc(), 1, hasher)?;
     let [one, two, three] = SLICED;
-    let mut first = fed(&rt, rt.alloc(), three.sent)?;
-    let mut second = fed(&rt, rt.alloc(), two.sent)?;
+    let mut first = fed(rt.alloc(), three.sent)?;
+    let mut second = fed(rt.alloc(), two.sent)?;
     for _ in 0..SLICES {
         if !first.pending() && !second.pending() {
             break;

@@ -1,12 +1,11 @@
 //! Rows through the program's streams, and streams that fail.
 
-use crate::fakes::{FailingReader, FailingWriter, Watch, WatchedWriter, WatchingReader};
-use crate::positions::{FAULTS, MATES, MOVES};
-use crate::rows::{DEEP, QUICK, Row, STORED, joined};
-use linked_list_allocator::LocalHeap;
 use std::alloc::Global;
 use std::process::Abort;
 use std::test::Fail;
+use test_support::fakes::{FailingReader, FailingWriter, Watch, WatchedWriter, WatchingReader};
+use test_support::positions::{FAULTS, MATES, MOVES};
+use test_support::rows::{DEEP, QUICK, Row, STORED, joined};
 use usi_stdio::{StdioFault, stdio};
 
 fn assert_row(rt: &impl Abort, alloc: Global, row: &Row, entries: usize) -> Result<(), Fail> {
@@ -209,50 +208,4 @@ fn each_piece_is_answered_and_flushed_before_the_next_read(rt: HostRuntime) -> R
     let mut writer = WatchedWriter::new(&watch);
     stdio(rt.alloc(), &mut reader, &mut writer, 1)?;
     Ok(())
-}
-
-// Heaps of growing sizes, from nothing on: out of memory with a front of the answer, or all of it. The
-// largest block is the search in hand, and the small ones come before and after it.
-fn assert_refusals(
-    rt: &impl Abort,
-    alloc: Global,
-    sent: &str,
-    entries: usize,
-    step: usize,
-) -> Result<(), Fail> {
-    assert!(rt; entries >= 1 && entries <= 1000000);
-    let mut whole = Vec::new(alloc);
-    let mut reader = sent.as_bytes();
-    stdio(alloc, &mut reader, &mut whole, entries)?;
-    let (mut refused, mut passed) = (false, false);
-    for blocks in 0..200usize {
-        let size = blocks.saturating_mul(step);
-        let heap = LocalHeap::new(alloc, size)?;
-        let mut reader = FailingReader::new(sent.as_bytes(), 16, usize::MAX);
-        let mut writer = Vec::new(alloc);
-        match stdio(&heap, &mut reader, &mut writer, entries) {
-            Ok(()) => {
-                passed = true;
-                assert_eq!(rt; writer, whole, "{size} bytes");
-            }
-            Err(fault) => {
-                refused = true;
-                assert_eq!(rt; fault, StdioFault::OutOfMemory, "{size} bytes");
-                assert!(rt; whole.starts_with(writer.as_slice()), "{size} bytes");
-            }
-        }
-    }
-    assert!(rt; refused && passed, "{refused} {passed}");
-    Ok(())
-}
-
-#[test]
-fn refused_memory(rt: HostRuntime) -> Result<(), Fail> {
-    let quick = "usi\nposition startpos moves 7g7f 7g7f\nstop\nquit\n";
-    assert_refusals(&rt, rt.alloc(), quick, 4, 32)?;
-    let many = "usi\ngo infinite depth 2\nposition startpos moves 7g7f 7g7f\nstop\nquit\n";
-    assert_refusals(&rt, rt.alloc(), many, 4, 320)?;
-    let deep = "position startpos\ngo depth 3\n";
-    assert_refusals(&rt, rt.alloc(), deep, 1, 320)?;
-    assert_refusals(&rt, rt.alloc(), deep, 4096, 4096)
 }

@@ -259,6 +259,38 @@ pub const QUICK: [Row; 39] = [
     },
 ];
 
+/// Answers of more than a thousand bytes: a pawn of each side, far from the other, at the greatest depth, and
+/// one answer of 116 bytes ten times.
+pub const LONG: [Row; 2] = [
+    Row {
+        sent: "position sfen p8/9/9/9/9/9/9/9/8P b - 1\ngo depth 16\n",
+        answer: &[
+            "info depth 1 score cp 0 pv 1i1h
+info depth 2 score cp 0 pv 1i1h 9a9b
+info depth 3 score cp 0 pv 1i1h 9a9b 1h1g
+info depth 4 score cp 0 pv 1i1h 9a9b 1h1g 9b9c
+info depth 5 score cp 0 pv 1i1h 9a9b 1h1g 9b9c 1g1f
+info depth 6 score cp 0 pv 1i1h 9a9b 1h1g 9b9c 1g1f 9c9d
+info depth 7 score cp 0 pv 1i1h 9a9b 1h1g 9b9c 1g1f 9c9d 1f1e
+info depth 8 score cp 0 pv 1i1h 9a9b 1h1g 9b9c 1g1f 9c9d 1f1e 9d9e
+info depth 9 score cp 0 pv 1i1h 9a9b 1h1g 9b9c 1g1f 9c9d 1f1e 9d9e 1e1d
+info depth 10 score cp 0 pv 1i1h 9a9b 1h1g 9b9c 1g1f 9c9d 1f1e 9d9e 1e1d 9e9f
+info depth 11 score cp 500 pv 1i1h 9a9b 1h1g 9b9c 1g1f 9c9d 1f1e 9d9e 1e1d 9e9f 1d1c+
+info depth 12 score cp 0 pv 1i1h 9a9b 1h1g 9b9c 1g1f 9c9d 1f1e 9d9e 1e1d 9e9f 1d1c+ 9f9g+
+info depth 13 score cp 0 pv 1i1h 9a9b 1h1g 9b9c 1g1f 9c9d 1f1e 9d9e 1e1d 9e9f 1d1c 9f9g+ 1c1b+
+info depth 14 score cp 0 pv 1i1h 9a9b 1h1g 9b9c 1g1f 9c9d 1f1e 9d9e 1e1d 9e9f 1d1c 9f9g 1c1b+ 9g9h+
+info depth 15 score cp 0 pv 1i1h 9a9b 1h1g 9b9c 1g1f 9c9d 1f1e 9d9e 1e1d 9e9f 1d1c 9f9g 1c1b 9g9h+ 1b1a+
+info depth 16 score cp 0 pv 1i1h 9a9b 1h1g 9b9c 1g1f 9c9d 1f1e 9d9e 1e1d 9e9f 1d1c 9f9g 1c1b 9g9h 1b1a+ 9h9i+
+bestmove 1i1h ponder 9a9b
+",
+        ],
+    },
+    Row {
+        sent: "usi\nusi\nusi\nusi\nusi\nusi\nusi\nusi\nusi\nusi\n",
+        answer: &[USI, USI, USI, USI, USI, USI, USI, USI, USI, USI],
+    },
+];
+
 /// The parts, one after another.
 pub fn joined(alloc: Global, parts: &[&str]) -> Result<String, AllocError> {
     let mut text = String::new(alloc);

@@ -1,0 +1,11 @@
+//! Tests of hosts of many sessions.
+#![tactic(auto)]
+
+#[cfg(test)]
+mod host;
+#[cfg(test)]
+mod hosts;
+#[cfg(test)]
+mod long;
+#[cfg(test)]
+mod schedules;

@@ -1,0 +1,133 @@
+//! Each request of a loop refused in turn: one connection at most is shut early.
+
+use host_core::Host;
+use socket_loop::{Loop, MemoryWire, Wire};
+use std::alloc::Global;
+use std::hash::{BuildHasherDefault, FoldHasher};
+use std::marker::Model;
+use std::process::Abort;
+use std::test::Fail;
+use test_support::FailingAllocator;
+use test_support::rows::INFO_AND_BEST_ONE;
+
+type Memory = FailingAllocator<Global>;
+
+type FailingHost<'a> = Host<BuildHasherDefault<FoldHasher>, &'a Memory>;
+
+// More requests than a run makes.
+const REQUESTS: u64 = 10_000;
+
+/// A host and a loop over memory that is refused, and a wire with memory of its own.
+#[derive(Drop)]
+struct Scene<'a> {
+    alloc: Global,
+    host: FailingHost<'a>,
+    wire: MemoryWire<Global>,
+    turns: Loop<&'a Memory>,
+}
+
+impl<'a> Model for Scene<'a> {
+    ghost use Rattle.socket_loop.specs.Links.{links_of};
+    ghost use Rattle.socket_loop.specs.Turns.{Fits, LoopState};
+
+    ghost Value = { LoopState };
+
+    ghost view = { λ s. s.turns };
+
+    ghost invariant = { λ s. Fits (links_of s.turns.held) (⟦<MemoryWire<Global> as Wire>⟧.bound s.wire) s.host };
+}
+
+impl<'a> Scene<'a> {
+    /// Two slots, and no connection yet.
+    fn new(alloc: Global, memory: &'a Memory) -> Result<Scene<'a>, Fail> {
+        Ok(Scene {
+            alloc,
+            host: Host::new(memory, 2, 4096, BuildHasherDefault::<FoldHasher>::new())?,
+            wire: MemoryWire::new(alloc),
+            turns: Loop::new(memory, 1000),
+        })
+    }
+
+    /// A new peer that asks for a search to depth 1, in two pieces.
+    fn connect(&mut self) -> Result<u64, Fail> {
+        let mut pieces = Vec::new(self.alloc);
+        for piece in [b"go de".as_slice(), b"pth 1\nquit\n"] {
+            pieces.push(Vec::from_slice(self.alloc, piece)?)?;
+        }
+        Ok(self.wire.connect(pieces).map_err(|_| "memory for a peer")?)
+    }
+
+    fn turn_times(&mut self, count: usize) {
+        for _ in 0..count {
+            self.turns.turn(&mut self.host, &mut self.wire);
+        }
+    }
+
+    /// Whether the connection was written its whole answer; else it was written a front of it. It is shut.
+    fn is_served(&self, rt: &impl Abort, number: u64) -> bool {
+        let Some(peer) = self.wire.peers.get(number as usize) else {
+            return false;
+        };
+        assert!(rt; peer.is_shut);
+        let written = peer.written.as_slice();
+        assert!(rt; INFO_AND_BEST_ONE.as_bytes().starts_with(written));
+        written == INFO_AND_BEST_ONE.as_bytes()
+    }
+}
+
+// Serves two connections while requests are refused, and a third one once memory is there again. Tells whether
+// a request was refused, and how many of the two were shut early.
+fn serve(rt: &impl Abort, alloc: Global, n: u64, stays_gone: bool) -> Result<(bool, usize), Fail> {
+    let memory = FailingAllocator::new(alloc);
+    let mut scene = Scene::new(alloc, &memory)?;
+    let x = scene.connect()?;
+    let y = scene.connect()?;
+    if stays_gone {
+        memory.refuse_from(n);
+    } else {
+        memory.refuse_at(n);
+    }
+    scene.turn_times(8);
+    memory.refuse_nothing();
+    scene.turn_times(8);
+    let mut early = 0usize;
+    for number in [x, y] {
+        if !scene.is_served(rt, number) {
+            early = early.saturating_add(1);
+        }
+    }
+    let last = scene.connect()?;
+    scene.turn_times(8);
+    assert!(rt; scene.is_served(rt, last));
+    Ok((memory.refused() > 0, early))
+}
+
+#[test]
+fn each_request_of_a_loop_is_refused_in_turn(rt: HostRuntime) -> Result<(), Fail> {
+    let mut shut = 0usize;
+    for n in 1..REQUESTS {
+        let (refused, early) = serve(&rt, rt.alloc(), n, false)?;
+        assert!(rt; early <= 1, "request {n}");
+        shut = shut.saturating_add(early);
+        if !refused {
+            assert!(rt; n > 1 && early == 0 && shut > 0);
+            return Ok(());
+        }
+    }
+    Err(Fail::from("there are always more requests"))
+}
+
+// Connections that ask while no memory is there are shut early; those that ask later are served.
+#[test]
+fn memory_of_a_loop_stays_gone_and_comes_back(rt: HostRuntime) -> Result<(), Fail> {
+    let mut shut = 0usize;
+    for n in 1..REQUESTS {
+        let (refused, early) = serve(&rt, rt.alloc(), n, true)?;
+        shut = shut.saturating_add(early);
+        if !refused {
+            assert!(rt; n > 1 && early == 0 && shut > 0);
+            return Ok(());
+        }
+    }
+    Err(Fail::from("there are always more requests"))
+}

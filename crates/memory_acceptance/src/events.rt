@@ -1,0 +1,204 @@
+//! Each request of a host refused in turn, and the event that was refused sent again.
+
+use host_core::{Event, Host, HostFault, Outcome};
+use session_slots::SessionId;
+use std::alloc::Global;
+use std::hash::{BuildHasherDefault, FoldHasher};
+use std::process::Abort;
+use std::test::Fail;
+use test_support::FailingAllocator;
+use test_support::rows::{DEEP, INFO_AND_BEST_ONE, joined};
+
+type Memory = FailingAllocator<Global>;
+
+type FailingHost<'a> = Host<BuildHasherDefault<FoldHasher>, &'a Memory>;
+
+// More requests than a run makes.
+const REQUESTS: u64 = 10_000;
+
+// More rounds than the searches take.
+const ROUNDS: u64 = 100_000;
+
+/// A host over memory that is refused, and how often one of its events was.
+#[derive(Drop)]
+struct Served<'a> {
+    memory: &'a Memory,
+    stays_gone: bool,
+    host: FailingHost<'a>,
+    refused: u64,
+}
+
+impl<'a> Served<'a> {
+    /// A host of three slots. Where memory is refused it is made again.
+    fn new(memory: &'a Memory, stays_gone: bool) -> Result<Served<'a>, Fail> {
+        let first = Host::new(memory, 3, 4096, BuildHasherDefault::<FoldHasher>::new());
+        let refused = u64::from(first.is_err());
+        let host = match first {
+            Ok(host) => host,
+            Err(_) => {
+                memory.refuse_nothing();
+                Host::new(memory, 3, 4096, BuildHasherDefault::<FoldHasher>::new())?
+            }
+        };
+        Ok(Served {
+            memory,
+            stays_gone,
+            host,
+            refused,
+        })
+    }
+
+    /// Sends the event. Where it is refused for memory it is sent again, while memory stays gone too.
+    fn send(&mut self, rt: &impl Abort, event: Event<'_>) -> Outcome<&'a Memory> {
+        let first = self.host.step(event);
+        let Outcome::Refused(HostFault::OutOfMemory) = first else {
+            return first;
+        };
+        self.refused = self.refused.saturating_add(1);
+        if self.stays_gone {
+            let second = self.host.step(event);
+            assert!(rt; matches!(second, Outcome::Refused(HostFault::OutOfMemory)));
+        }
+        self.memory.refuse_nothing();
+        self.host.step(event)
+    }
+
+    /// The id of the session that is opened, with this generation: a refusal uses none.
+    fn open(&mut self, rt: &impl Abort, generation: u64) -> Result<SessionId, Fail> {
+        let Outcome::Opened(id) = self.send(rt, Event::Open) else {
+            return Err("a session is opened".into());
+        };
+        assert_eq!(rt; id.generation, generation);
+        Ok(id)
+    }
+
+    /// Whether what is queued for the session is a front of the answer.
+    fn has_front(&self, id: SessionId, whole: &str) -> bool {
+        match self.host.output(id) {
+            Some(queued) => whole.as_bytes().starts_with(queued),
+            None => false,
+        }
+    }
+
+    fn feed(&mut self, rt: &impl Abort, id: SessionId, piece: &[u8]) {
+        let fed = self.send(rt, Event::Feed(id, piece));
+        assert!(rt; matches!(fed, Outcome::Done));
+    }
+
+    /// One step of the session, if it is pending. What is queued stays a front of the answer.
+    fn work(&mut self, rt: &impl Abort, id: SessionId, whole: &str) {
+        let before = self.refused;
+        let worked = self.send(rt, Event::Work(id, 1));
+        assert!(rt; matches!(worked, Outcome::Worked(_)));
+        assert!(rt; self.refused == before || self.has_front(id, whole));
+    }
+
+    /// Takes the whole answer.
+    fn take(&mut self, rt: &impl Abort, id: SessionId, whole: &str) -> Result<(), Fail> {
+        let Outcome::Gave(bytes) = self.send(rt, Event::Take(id, whole.len())) else {
+            return Err("the bytes are given".into());
+        };
+        assert_eq!(rt; std::str::from_utf8(bytes.as_slice())?, whole);
+        assert!(rt; self.host.output(id) == Some(b"".as_slice()));
+        Ok(())
+    }
+}
+
+// Two sessions, at depths 1 and 3, work by turns, step by step.
+fn assert_both_answered(
+    rt: &impl Abort,
+    alloc: Global,
+    served: &mut Served<'_>,
+) -> Result<(), Fail> {
+    let [deep, ..] = DEEP;
+    let three = joined(alloc, deep.answer)?;
+    let first = served.open(rt, 0)?;
+    let second = served.open(rt, 1)?;
+    served.feed(rt, first, b"setoption name Depth value 1\ngo\n");
+    served.feed(rt, second, deep.sent.as_bytes());
+    for _ in 0..ROUNDS {
+        if !served.host.pending(first) && !served.host.pending(second) {
+            break;
+        }
+        served.work(rt, first, INFO_AND_BEST_ONE);
+        served.work(rt, second, three.as_str());
+    }
+    served.take(rt, first, INFO_AND_BEST_ONE)?;
+    served.take(rt, second, three.as_str())
+}
+
+// How many runs met a refusal: the n-th request of each, until a run has no n-th one.
+fn refusals(rt: &impl Abort, alloc: Global, stays_gone: bool) -> Result<u64, Fail> {
+    let mut seen = 0u64;
+    for n in 1..REQUESTS {
+        let memory = FailingAllocator::new(alloc);
+        if stays_gone {
+            memory.refuse_from(n);
+        } else {
+            memory.refuse_at(n);
+        }
+        let mut served = Served::new(&memory, stays_gone)?;
+        assert_both_answered(rt, alloc, &mut served)?;
+        if memory.refused() == 0 {
+            assert!(rt; seen > 0);
+            return Ok(n.saturating_sub(1));
+        }
+        seen = seen.saturating_add(served.refused);
+    }
+    Err(Fail::from("there are always more requests"))
+}
+
+// A request that an event does not need, as one for an entry of the table, is refused without a word.
+#[test]
+fn each_request_of_a_host_is_refused_in_turn(rt: HostRuntime) -> Result<(), Fail> {
+    let met = refusals(&rt, rt.alloc(), false)?;
+    assert!(rt; met > 10, "{met}");
+    Ok(())
+}
+
+#[test]
+fn memory_of_a_host_stays_gone_and_comes_back(rt: HostRuntime) -> Result<(), Fail> {
+    let met = refusals(&rt, rt.alloc(), true)?;
+    assert!(rt; met > 10, "{met}");
+    Ok(())
+}
+
+// Runs the events, of which the n-th request is refused. Where the run itself is refused nothing has changed,
+// and else the work that was refused is sent again. Tells whether a request was refused.
+fn assert_run(rt: &impl Abort, alloc: Global, n: u64) -> Result<bool, Fail> {
+    let memory = FailingAllocator::new(alloc);
+    let mut served = Served::new(&memory, false)?;
+    let id = served.open(rt, 0)?;
+    served.feed(rt, id, b"isready\n");
+    served.work(rt, id, "readyok\n");
+    memory.refuse_at(n);
+    let run = served.host.run(&[
+        Event::Feed(id, b"go depth 1\n"),
+        Event::Work(id, u64::MAX),
+        Event::Close(id),
+    ]);
+    if let Err(fault) = run {
+        assert_eq!(rt; fault, HostFault::OutOfMemory);
+        assert!(rt; n == 1 && !served.host.pending(id));
+        assert!(rt; served.host.output(id) == Some(b"readyok\n".as_slice()));
+        memory.refuse_nothing();
+        served.take(rt, id, "readyok\n")?;
+    } else {
+        assert!(rt; n > 1 && served.host.output(id).is_none());
+    }
+    served.open(rt, 1)?;
+    Ok(memory.refused() > 0)
+}
+
+#[test]
+fn a_run_that_is_refused_answers_no_event(rt: HostRuntime) -> Result<(), Fail> {
+    let mut met = 0u64;
+    for n in 1..REQUESTS {
+        if !assert_run(&rt, rt.alloc(), n)? {
+            break;
+        }
+        met = met.saturating_add(1);
+    }
+    assert!(rt; met > 1, "{met}");
+    Ok(())
+}

@@ -1,0 +1,7 @@
+//! Tests of scripts of many sessions.
+#![tactic(auto)]
+
+#[cfg(test)]
+mod long;
+#[cfg(test)]
+mod scripts;

@@ -1,0 +1,13 @@
+//! Tests of a session and of the program's streams: what a fresh session is sent, and what it answers.
+#![tactic(auto)]
+
+#[cfg(test)]
+mod long;
+#[cfg(test)]
+mod session;
+#[cfg(test)]
+mod sessions;
+#[cfg(test)]
+mod slices;
+#[cfg(test)]
+mod streams;

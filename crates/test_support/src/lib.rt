@@ -1,0 +1,13 @@
+//! What the crates of tests share: worked rows, readers and writers that fail, memory that is refused.
+#![tactic(auto)]
+
+mod allocator;
+pub mod fakes;
+pub mod positions;
+mod requests;
+pub mod rows;
+pub mod scripts;
+#[cfg(test)]
+mod tests;
+
+pub use allocator::FailingAllocator;
