@@ -1,5 +1,5 @@
 -- The command line, and its answers at words that are written out.
-use Rattle.std.proofs.Common.{◌≡◌, ◌∷◌, ◌∙◌, true, List, [], Result, Ok, Err, Option, Some, None, IfOk, IfErr, codes, refl, sym, ap, subst, inl, inr, lit≤, lit<}
+use Rattle.std.proofs.Common.{◌≡◌, ◌∷◌, ◌∙◌, true, List, [], Result, Ok, Err, Option, Some, None, IfOk, IfErr, codes, refl, sym, ap, arith, subst, slice_index_or, inl, inr, lit≤, lit<}
 use Rattle.std.specs.Prelude.{MatchResult}
 use Rattle.clap.specs.Words.{App, FailsBy, HasMatchesOf, IsAmong, Kinds, Row, Text, fault_of, is_simple, is_simple_and_free, kind_of, subcommand_of, subcommand_rows_of}
 use Rattle.clap.specs.Kinds.{HasKind}
@@ -10,7 +10,7 @@ use Rattle.clap.specs.declared.error.kind.ErrorKind.{ErrorKind}
 use Rattle.clap.specs.declared.error.kind.ErrorKind.TheVariants as kinds
 use Rattle.clap.specs.declared.parser.matches.ArgMatches.{ArgMatches}
 use Rattle.clap.specs.declared.parser.matches.ValueSource.TheVariants.{DefaultValue}
-use Rattle.usi_host.specs.Answers.{Gives, HasRanges, IsAnswerTo, IsAskedBy, IsJobOf, IsRefusedFor, IsReplayOf, IsServeOf, IsStdioOf, NamesJob, NamesNoJob}
+use Rattle.usi_host.specs.Answers.{Gives, HasRanges, IsAnswerTo, IsAskedBy, IsJobOf, IsRefusedFor, IsReplayOf, IsStdioOf, NamesJob, NamesNoJob}
 use Rattle.usi_host.specs.CommandLine.{IsNumber, NamesNumber, command_line, command_of, faults_of}
 use Rattle.usi_host.specs.declared.words.Job.{Job}
 use Rattle.usi_host.specs.declared.words.Job.TheVariants.{Stdio, Replay, Serve, Help}
@@ -170,7 +170,7 @@ stdio_only (Help text) is = absurd is
 stdio_names : (job : Job) → NamesJob (Some (codes "stdio", stdio_rows)) job → job ≡ Stdio 4096
 stdio_names job (inl is) = stdio_only job is.1
 stdio_names job (inr (inl is)) = let bad : codes "stdio" ≡ codes "replay" = is.0 in cc
-stdio_names job (inr (inr is)) = let bad : codes "stdio" ≡ codes "serve" = is.0 in cc
+stdio_names job (inr (inr is)) = absurd (let second : 116 ≡ 101 = ap (λ (text : Text). slice_index_or text 1 0) is.0 in omega arith)
 
 pub gives_stdio : (words : List Text) (r : Result Job WordsFault) → words ≡ codes "stdio" ∷ []
     → IfOk r (IsAskedBy words) → IfErr r (IsRefusedFor words) → Gives (Stdio 4096) r
