@@ -32,9 +32,8 @@ def memory(pids):
 
 def seconds(pid):
     """The processor time of a process so far."""
-    with open(f"/proc/{pid}/stat", encoding="ascii") as line:
-        numbers = line.read().rsplit(")", 1)[1].split()
-    return (int(numbers[11]) + int(numbers[12])) / os.sysconf("SC_CLK_TCK")
+    with open(f"/proc/{pid}/schedstat", encoding="ascii") as line:
+        return int(line.read().split()[0]) / 1e9
 
 
 @contextlib.contextmanager

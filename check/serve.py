@@ -334,7 +334,7 @@ KILLED = """
 import socket, sys, time
 client = socket.socket(socket.AF_UNIX)
 client.connect(sys.argv[1])
-client.sendall(b"go depth 4\\n")
+client.sendall(b"go depth 6\\n")
 client.recv(10)
 print("searching", flush=True)
 time.sleep(60)
