@@ -389,7 +389,8 @@ def is_at_rest(running, descriptors):
 
 
 def hostile_clients_leave_nothing_behind():
-    with host() as running:
+    """The table is small, so that it is full after the first round."""
+    with host("--entries", "256") as running:
         want(running.ask(b"isready\n"), b"readyok\n", "a first client")
         wait_until(lambda: running.descriptors() < 8, "the first client's descriptor is closed")
         descriptors = running.descriptors()
