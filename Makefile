@@ -24,7 +24,9 @@ install: build
 test:
 	@check/gate.sh
 
-# Prints how fast moves are counted, positions searched, and `go` answered by the program.
+# Prints how fast moves are counted, positions searched, and `go` answered by the program, alone and as a
+# host on a socket.
 bench:
 	bench/run.sh
 	bench/go.sh
+	bench/serve.py

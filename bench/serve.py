@@ -150,23 +150,24 @@ def busy_clients():
 
 
 def idle_clients():
-    print("one client's `go depth 4` with a table of one entry, beside idle ones")
-    print(f"{'idle clients':<14}{'processor ms, five runs'}")
-    with host("--slots", "1024", "--entries", "1") as (path, pid):
-        with contextlib.ExitStack() as stack:
-            client = stack.enter_context(connect(path))
-            for count in (0, 1_023, 0):
-                with contextlib.ExitStack() as idle:
-                    for _ in range(count):
-                        idle.enter_context(connect(path))
-                    time.sleep(0.3)
-                    times = []
-                    for _ in range(5):
-                        before = seconds(pid)
-                        answered([(client.fileno(), client.fileno())], b"go depth 4\n")
-                        times.append(round((seconds(pid) - before) * 1000))
-                    print(f"{count:<14}{times}")
-                time.sleep(0.3)
+    """Hosts with and without idle clients are asked by turns, since the machine may do other work too."""
+    print("processor ms of one client's `go depth 4`, with a table of one entry, beside idle clients")
+    print(f"{'idle clients':<14}{'least of 25':>14}{'median of 25':>14}")
+    with contextlib.ExitStack() as stack:
+        asked = []
+        for count in (0, 1_023):
+            path, pid = stack.enter_context(host("--slots", "1024", "--entries", "1"))
+            for _ in range(count):
+                stack.enter_context(connect(path))
+            client = stack.enter_context(connect(path)).fileno()
+            asked.append((count, pid, client, []))
+        for _ in range(25):
+            for _, pid, client, times in asked:
+                before = seconds(pid)
+                answered([(client, client)], b"go depth 4\n")
+                times.append((seconds(pid) - before) * 1000)
+        for count, _, _, times in asked:
+            print(f"{count:<14}{min(times):>14.1f}{statistics.median(times):>14.1f}")
     print()
 
 

@@ -1,3 +1,5 @@
+ghost use Rattle.std.specs.Prelude.{◌≤◌};
+
 use crate::{MioWire, serve};
 use host_core::Host;
 use socket_loop::{Got, Loop, MemoryWire, Wire, WireFault};
