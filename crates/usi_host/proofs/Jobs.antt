@@ -1,5 +1,5 @@
 -- Options of which one has no number of its range.
-use Rattle.std.proofs.Common.{◌≡◌, ℕ, List, Option, None, codes}
+use Rattle.std.proofs.Common.{◌≡◌, ℕ, List, None, codes}
 use Rattle.clap.specs.Words.{Row, Text, first_of}
 use Rattle.usi_host.specs.Answers.{HasServeRanges, NamesNoReplay, NamesNoServe, NamesNoStdio, NamesNumbers}
 use Rattle.usi_host.specs.CommandLine.{IsFromOne, NamesNumber}

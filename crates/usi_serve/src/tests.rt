@@ -45,9 +45,8 @@ fn a_session_over_a_socket(rt: HostRuntime) -> Result<(), Fail> {
     client.write_all(b"usi\nquit\n")?;
     let mut host = host_of(rt.alloc(), 1)?;
     let mut connections = Loop::new(rt.alloc(), 1000);
-    for _ in 0..8 {
-        connections.turn(&mut host, &mut wire);
-    }
+    assert!(rt; connections.turn(&mut host, &mut wire).moved);
+    assert!(rt; !connections.turn(&mut host, &mut wire).moved);
     let mut answer = Vec::new(rt.alloc());
     client.read_to_end(&mut answer)?;
     assert!(rt; answer.as_slice() == USI);
@@ -89,10 +88,9 @@ fn clients_that_end(rt: HostRuntime) -> Result<(), Fail> {
     gone.write_all(b"go depth 1\n")?;
     drop(gone);
     let mut host = host_of(rt.alloc(), 2)?;
-    let mut connections = Loop::new(rt.alloc(), 10);
-    for _ in 0..64 {
-        connections.turn(&mut host, &mut wire);
-    }
+    let mut connections = Loop::new(rt.alloc(), 1000);
+    assert!(rt; connections.turn(&mut host, &mut wire).moved, "answers");
+    assert!(rt; connections.turn(&mut host, &mut wire).moved, "ends");
     let mut answer = Vec::new(rt.alloc());
     client.read_to_end(&mut answer)?;
     assert!(rt; answer.as_slice() == ANSWER);

@@ -1,4 +1,4 @@
-use Rattle.std.proofs.Common.{◌≡◌, ◌∙◌, Some, sym, codes, ap, option_map}
+use Rattle.std.proofs.Common.{◌∙◌, Some, sym, codes, ap, option_map}
 use Rattle.clap.specs.Words.{found_of, rows_of}
 use Rattle.clap.proofs.WalkLemmas.{first_value-rows}
 use Rattle.usi_host.proofs.Jobs.{no_numbers, no_socket}

@@ -1,4 +1,4 @@
-use Rattle.std.proofs.Common.{rules, ◌≡◌, ◌∙◌, arith}
+use Rattle.std.proofs.Common.{rules, ◌≡◌, arith}
 use Rattle.usi_serve.proofs.Turns.{stops_within, turns_more, turns_none}
 use Rattle.usi_serve.proofs.serving.serve.Goals as goal
 
