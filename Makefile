@@ -33,10 +33,12 @@ uninstall:
 test:
 	@check/gate.sh
 
-# Prints how fast moves are counted, positions searched, and `go` answered by the program.
+# Prints how fast moves are counted, positions searched, and `go` answered by the program, alone and as a
+# host on a socket.
 bench:
 	bench/run.sh
 	bench/go.sh
+<<<<<<< HEAD
 
 # Takes away what was built and the proofs that were kept.
 clean:
@@ -50,3 +52,6 @@ help:
 	@echo 'make test       the gate: every proof from nothing, each edit, test and program'
 	@echo 'make bench      how fast it is'
 	@echo 'make clean      takes away what was built and the proofs that were kept'
+=======
+	bench/serve.py
+>>>>>>> 045e4737742222cfefd43b136f92b47ad03cab8c

@@ -13,6 +13,7 @@ rt ci | tee -a "$log" || status=1
 if [ $status -eq 0 ]; then
     if make --no-print-directory build; then
         check/program.py | tee -a "$log" || status=1
+        check/serve.py | tee -a "$log" || status=1
     else
         echo '0 passed, 1 failed' | tee -a "$log"
         status=1

@@ -6,7 +6,7 @@ use Rattle.std.proofs.Math.IntN.{suc_ℤ-*ℤ, zero-*ℤ}
 use Rattle.std.proofs.lemmas.Bool.{cases_Bool, cond-true, cond-false, and_parts, and_from, ltb-true, lt-ltb, eqb-true, eq-eqb}
 use Rattle.shogi_core.specs.declared.offset.Offset.{Offset}
 use Rattle.shogi_core.specs.Below.{all_below}
-use Rattle.shogi_core.specs.Movement.{Cells, square_at, is_at, away, leads, offset_by, is_clear, is_empty, slides_past}
+use Rattle.shogi_core.specs.Movement.{Cells, square_at, is_at, away, leads, offset_by, is_clear, is_empty, slides_across}
 use Rattle.shogi_core.proofs.Below.{all_below_at, all_below_yes}
 use Rattle.shogi_core.specs.Lines.{back}
 
@@ -126,7 +126,7 @@ clear_back cells o a b n i h e =
     let sum : i + 1 + (n - 1 - i + 1) ≡ n + 1 = omega arith in
     ap (is_empty cells) (sym (away_between (i + 1) (n - 1 - i + 1) o a b (ap (λ (k : ℕ). away k o a) sum ∙ e)))
 
-pub slides_past_back : (cells : Cells) (o : Offset) (a b n : ℕ) → a < 81 → slides_past cells o a b n ≡ true → slides_past cells (back o) b a n ≡ true
+pub slides_past_back : (cells : Cells) (o : Offset) (a b n : ℕ) → a < 81 → slides_across cells o a b n ≡ true → slides_across cells (back o) b a n ≡ true
 slides_past_back cells o a b n h e =
     let parts : (leads (n + 1) o a b ≡ true) × (all_below n (is_clear cells o a) ≡ true) = and_parts _ _ e in
     let there : away (n + 1) o a ≡ Some b = leads_is _ b parts.0 in

@@ -13,8 +13,8 @@ use Rattle.shogi_core.specs.declared.piece.Role.TheVariants.{King}
 use Rattle.shogi_core.specs.declared.piece.Piece.{Piece}
 use Rattle.shogi_core.specs.Attack.{is_attacked_from, is_attacked, is_open_king, in_check}
 use Rattle.shogi_core.specs.Below.{some_below, all_below}
-use Rattle.shogi_core.specs.Cell.{is_of, is_king}
-use Rattle.shogi_core.specs.Movement.{Cells, away, leads, offset_by, is_clear, is_empty, slides_past, slides, seen_by, slides_of, has_slide, has_step, cell_reaches, reaches, piece_at}
+use Rattle.shogi_core.specs.Cell.{is_piece_of, is_king}
+use Rattle.shogi_core.specs.Movement.{Cells, away, leads, offset_by, is_clear, is_empty, slides_across, slides, for_side, slides_of, has_slide, has_step, cell_reaches, reaches, piece_at}
 use Rattle.shogi_core.specs.Pieces.{opponent_of}
 use Rattle.shogi_core.proofs.Below.{all_below_at, all_below_yes, some_below_at, some_below_not, some_below_no}
 use Rattle.shogi_core.specs.Lines.{around, are_lined, is_line_to_king, is_lined_with_king}
@@ -47,7 +47,7 @@ list_any_among test g (o ∷ os) ds each e =
       | inr later ↦ list_any_among test g os ds parts.1 later
     ]
 
-pub slides_around : (color : Color) (role : Role) → list_all (λ o. list_any (same_way (seen_by color o)) around) (slides_of role) ≡ true
+pub slides_around : (color : Color) (role : Role) → list_all (λ o. list_any (same_way (for_side color o)) around) (slides_of role) ≡ true
 slides_around Black King = refl
 slides_around Black _ = refl
 slides_around White King = refl
@@ -103,7 +103,7 @@ module _ (old new : Cells) (Left : ℕ → Type 0) (opened : (x : ℕ) → is_no
             inl (
               x,
               left.2,
-              some_below_at 8 (slides_past old o x s) d (omega arith) (and_from _ _ (is_leads _ s led) (all_below_yes d (is_clear old o x) (λ j l.
+              some_below_at 8 (slides_across old o x s) d (omega arith) (and_from _ _ (is_leads _ s led) (all_below_yes d (is_clear old o x) (λ j l.
                   let further : n - suc d + 1 + (j + 1) ≡ n - suc d + 1 + j + 1 = omega arith in
                   ap (is_empty old) (away_on (n - suc d + 1) (j + 1) o a x at ∙ ap (λ (k : ℕ). away k o a) further) ∙ rest (n - suc d + 1 + j) (omega arith) (omega arith)))),
             ))
@@ -114,12 +114,12 @@ module _ (old new : Cells) (Left : ℕ → Type 0) (opened : (x : ℕ) → is_no
 
   pub slides_was : (o : Offset) (a s : ℕ) → slides new o a s ≡ true → ((x : ℕ) × Left x × (slides old o x s ≡ true)) ⊎ (slides old o a s ≡ true)
   slides_was o a s e =
-      let which = some_below_which 8 (slides_past new o a s) e in
+      let which = some_below_which 8 (slides_across new o a s) e in
       let n = which.0 in
       let parts : (leads (n + 1) o a s ≡ true) × (all_below n (is_clear new o a) ≡ true) = and_parts _ _ which.2 in
       elim (behind o a n s n which.1 (leads_is _ s parts.0) parts.1) [
         | inl lined ↦ inl lined
-        | inr clear ↦ inr (some_below_at 8 (slides_past old o a s) n which.1 (and_from _ _ parts.0 (all_below_yes n (is_clear old o a) (λ i l. clear i l (omega arith)))))
+        | inr clear ↦ inr (some_below_at 8 (slides_across old o a s) n which.1 (and_from _ _ parts.0 (all_below_yes n (is_clear old o a) (λ i l. clear i l (omega arith)))))
       ]
 
   -- where no square that was left is on an open line with s, a slide to s was there before
@@ -127,26 +127,26 @@ module _ (old new : Cells) (Left : ℕ → Type 0) (opened : (x : ℕ) → is_no
   unfolding are_lined
   has_slide_was piece a s free e = each (slides_of piece.role) (slides_around piece.color piece.role) e
     where
-      each : (os : List Offset) → list_all (λ o. list_any (same_way (seen_by piece.color o)) around) os ≡ true → list_any (λ o. slides new (seen_by piece.color o) a s) os ≡ true → list_any (λ o. slides old (seen_by piece.color o) a s) os ≡ true
+      each : (os : List Offset) → list_all (λ o. list_any (same_way (for_side piece.color o)) around) os ≡ true → list_any (λ o. slides new (for_side piece.color o) a s) os ≡ true → list_any (λ o. slides old (for_side piece.color o) a s) os ≡ true
       each [] all e = e
       each (o ∷ os) all e =
-          let parts : (list_any (same_way (seen_by piece.color o)) around ≡ true) × (list_all (λ p. list_any (same_way (seen_by piece.color p)) around) os ≡ true) = and_parts _ _ all in
+          let parts : (list_any (same_way (for_side piece.color o)) around ≡ true) × (list_all (λ p. list_any (same_way (for_side piece.color p)) around) os ≡ true) = and_parts _ _ all in
           elim (or_cases _ _ e) [
-            | inl here ↦ elim (slides_was (seen_by piece.color o) a s here) [
-              | inl lined ↦ absurd (both_ways (list_any (λ d. slides old d lined.0 s) around) (free lined.0 lined.1) (one_of (λ d. slides old d lined.0 s) (seen_by piece.color o) around parts.0 lined.2))
+            | inl here ↦ elim (slides_was (for_side piece.color o) a s here) [
+              | inl lined ↦ absurd (both_ways (list_any (λ d. slides old d lined.0 s) around) (free lined.0 lined.1) (one_of (λ d. slides old d lined.0 s) (for_side piece.color o) around parts.0 lined.2))
               | inr was ↦ or_left _ _ was
             ]
-            | inr later ↦ or_right (slides old (seen_by piece.color o) a s) _ (each os parts.1 later)
+            | inr later ↦ or_right (slides old (for_side piece.color o) a s) _ (each os parts.1 later)
           ]
 
   -- a square that is attacked was attacked before
-  pub attacked_was : (color : Color) (s : ℕ) → ((a : ℕ) → is_of color (piece_at new a) ≡ true → piece_at old a ≡ piece_at new a)
+  pub attacked_was : (color : Color) (s : ℕ) → ((a : ℕ) → is_piece_of color (piece_at new a) ≡ true → piece_at old a ≡ piece_at new a)
       → ((x : ℕ) → Left x → are_lined old x s ≡ false) → is_attacked old color s ≡ false → is_attacked new color s ≡ false
   unfolding reaches
   attacked_was color s kept free safe = some_below_no 81 (is_attacked_from new color s) (λ a l. false_from_ne_true (is_attacked_from new color s a) (λ e.
-      let parts : (is_of color (piece_at new a) ≡ true) × (reaches new a s ≡ true) = and_parts _ _ e in
+      let parts : (is_piece_of color (piece_at new a) ≡ true) × (reaches new a s ≡ true) = and_parts _ _ e in
       let same : piece_at old a ≡ piece_at new a = kept a parts.0 in
-      let was : is_attacked_from old color s a ≡ true = and_from _ _ (ap (is_of color) same ∙ parts.0) (ap (λ cell. cell_reaches old cell a s) same ∙ reached (piece_at new a) a parts.1) in
+      let was : is_attacked_from old color s a ≡ true = and_from _ _ (ap (is_piece_of color) same ∙ parts.0) (ap (λ cell. cell_reaches old cell a s) same ∙ reached (piece_at new a) a parts.1) in
       both_ways (is_attacked_from old color s a) (some_below_not 81 (is_attacked_from old color s) a safe l) was))
     where
       reached : (cell : Option Piece) (a : ℕ) → cell_reaches new cell a s ≡ true → cell_reaches old cell a s ≡ true
@@ -156,7 +156,7 @@ module _ (old new : Cells) (Left : ℕ → Type 0) (opened : (x : ℕ) → is_no
         | inr slide ↦ or_right (has_step piece a s) (has_slide old piece a s) (has_slide_was piece a s free slide)
       ]
 
-  pub check_was : (color : Color) → ((a : ℕ) → is_of (opponent_of color) (piece_at new a) ≡ true → piece_at old a ≡ piece_at new a)
+  pub check_was : (color : Color) → ((a : ℕ) → is_piece_of (opponent_of color) (piece_at new a) ≡ true → piece_at old a ≡ piece_at new a)
       → ((k : ℕ) → is_king color (piece_at new k) ≡ true → piece_at old k ≡ piece_at new k)
       → ((x : ℕ) → Left x → is_lined_with_king old color x ≡ false) → in_check old color ≡ false → in_check new color ≡ false
   unfolding in_check is_lined_with_king
@@ -168,14 +168,14 @@ module _ (old new : Cells) (Left : ℕ → Type 0) (opened : (x : ℕ) → is_no
       (attacked_was (opponent_of color) k kept (λ x left. false_from_ne_true _ (λ lined. both_ways (is_line_to_king old color x k) (some_below_not 81 (is_line_to_king old color x) k (free x left) l) (and_from _ _ king lined))) shut) parts.1))
 
   -- the same where some pieces may be new, which reach nothing that matters
-  pub attacked_was_but : (color : Color) (s : ℕ) → ((a : ℕ) → is_of color (piece_at new a) ≡ true → (piece_at old a ≡ piece_at new a) ⊎ (reaches new a s ≡ false))
+  pub attacked_was_but : (color : Color) (s : ℕ) → ((a : ℕ) → is_piece_of color (piece_at new a) ≡ true → (piece_at old a ≡ piece_at new a) ⊎ (reaches new a s ≡ false))
       → ((x : ℕ) → Left x → are_lined old x s ≡ false) → is_attacked old color s ≡ false → is_attacked new color s ≡ false
   unfolding reaches
   attacked_was_but color s kept free safe = some_below_no 81 (is_attacked_from new color s) (λ a l. false_from_ne_true (is_attacked_from new color s a) (λ e.
-      let parts : (is_of color (piece_at new a) ≡ true) × (reaches new a s ≡ true) = and_parts _ _ e in
+      let parts : (is_piece_of color (piece_at new a) ≡ true) × (reaches new a s ≡ true) = and_parts _ _ e in
       elim (kept a parts.0) [
         | inl same ↦ (
-            let was : is_attacked_from old color s a ≡ true = and_from _ _ (ap (is_of color) same ∙ parts.0) (ap (λ cell. cell_reaches old cell a s) same ∙ reached (piece_at new a) a parts.1) in
+            let was : is_attacked_from old color s a ≡ true = and_from _ _ (ap (is_piece_of color) same ∙ parts.0) (ap (λ cell. cell_reaches old cell a s) same ∙ reached (piece_at new a) a parts.1) in
             both_ways (is_attacked_from old color s a) (some_below_not 81 (is_attacked_from old color s) a safe l) was)
         | inr short ↦ both_ways (reaches new a s) short parts.1
       ]))
@@ -187,7 +187,7 @@ module _ (old new : Cells) (Left : ℕ → Type 0) (opened : (x : ℕ) → is_no
         | inr slide ↦ or_right (has_step piece a s) (has_slide old piece a s) (has_slide_was piece a s free slide)
       ]
 
-  pub check_was_but : (color : Color) → ((a : ℕ) → is_of (opponent_of color) (piece_at new a) ≡ true → (piece_at old a ≡ piece_at new a) ⊎ ((k : ℕ) → k < 81 → is_king color (piece_at new k) ≡ true → reaches new a k ≡ false))
+  pub check_was_but : (color : Color) → ((a : ℕ) → is_piece_of (opponent_of color) (piece_at new a) ≡ true → (piece_at old a ≡ piece_at new a) ⊎ ((k : ℕ) → k < 81 → is_king color (piece_at new k) ≡ true → reaches new a k ≡ false))
       → ((k : ℕ) → is_king color (piece_at new k) ≡ true → piece_at old k ≡ piece_at new k)
       → ((x : ℕ) → Left x → is_lined_with_king old color x ≡ false) → in_check old color ≡ false → in_check new color ≡ false
   unfolding in_check is_lined_with_king
@@ -250,16 +250,16 @@ module _ (old new : Cells) (to : ℕ) (shut : (x : ℕ) → is_none (piece_at ol
   -- where the end is on no such line with s, a slide to s is still there
   slide_stays : (o : Offset) (a s : ℕ) → slides old o to s ≡ false → slides old o a s ≡ true → slides new o a s ≡ true
   slide_stays o a s off e =
-      let which = some_below_which 8 (slides_past old o a s) e in
+      let which = some_below_which 8 (slides_across old o a s) e in
       let n = which.0 in
       let parts : (leads (n + 1) o a s ≡ true) × (all_below n (is_clear old o a) ≡ true) = and_parts _ _ which.2 in
-      some_below_at 8 (slides_past new o a s) n which.1 (and_from _ _ parts.0 (all_below_yes n (is_clear new o a) (λ i l. elim (stays_clear o a i (all_below_at n (is_clear old o a) i parts.1 l)) [
+      some_below_at 8 (slides_across new o a s) n which.1 (and_from _ _ parts.0 (all_below_yes n (is_clear new o a) (λ i l. elim (stays_clear o a i (all_below_at n (is_clear old o a) i parts.1 l)) [
         | inl clear ↦ clear
         | inr at ↦ absurd (
             let sum : i + 1 + (n - suc i + 1) ≡ n + 1 = omega arith in
             let led : away (n - suc i + 1) o to ≡ Some s = away_on (i + 1) (n - suc i + 1) o a to at ∙ (ap (λ (k : ℕ). away k o a) sum ∙ leads_is _ s parts.0) in
             both_ways (slides old o to s) off
-            (some_below_at 8 (slides_past old o to s) (n - suc i) (omega (arith, which.1)) (and_from _ _ (is_leads _ s led) (all_below_yes (n - suc i) (is_clear old o to) (λ j m.
+            (some_below_at 8 (slides_across old o to s) (n - suc i) (omega (arith, which.1)) (and_from _ _ (is_leads _ s led) (all_below_yes (n - suc i) (is_clear old o to) (λ j m.
             let further : i + 1 + (j + 1) ≡ i + 1 + j + 1 = omega arith in
             ap (is_empty old) (away_on (i + 1) (j + 1) o a to at ∙ ap (λ (k : ℕ). away k o a) further) ∙ all_below_at n (is_clear old o a) (i + 1 + j) parts.1 (omega arith))))))
       ])))
@@ -268,18 +268,18 @@ module _ (old new : Cells) (to : ℕ) (shut : (x : ℕ) → is_none (piece_at ol
   unfolding are_lined
   has_slide_stays piece a s off e = each (slides_of piece.role) (slides_around piece.color piece.role) e
     where
-      each : (os : List Offset) → list_all (λ o. list_any (same_way (seen_by piece.color o)) around) os ≡ true → list_any (λ o. slides old (seen_by piece.color o) a s) os ≡ true → list_any (λ o. slides new (seen_by piece.color o) a s) os ≡ true
+      each : (os : List Offset) → list_all (λ o. list_any (same_way (for_side piece.color o)) around) os ≡ true → list_any (λ o. slides old (for_side piece.color o) a s) os ≡ true → list_any (λ o. slides new (for_side piece.color o) a s) os ≡ true
       each [] all e = e
       each (o ∷ os) all e =
-          let parts : (list_any (same_way (seen_by piece.color o)) around ≡ true) × (list_all (λ p. list_any (same_way (seen_by piece.color p)) around) os ≡ true) = and_parts _ _ all in
-          let far : slides old (seen_by piece.color o) to s ≡ false = false_from_ne_true _ (λ lined. both_ways (list_any (λ d. slides old d to s) around) off (one_of (λ d. slides old d to s) (seen_by piece.color o) around parts.0 lined)) in
+          let parts : (list_any (same_way (for_side piece.color o)) around ≡ true) × (list_all (λ p. list_any (same_way (for_side piece.color p)) around) os ≡ true) = and_parts _ _ all in
+          let far : slides old (for_side piece.color o) to s ≡ false = false_from_ne_true _ (λ lined. both_ways (list_any (λ d. slides old d to s) around) off (one_of (λ d. slides old d to s) (for_side piece.color o) around parts.0 lined)) in
           elim (or_cases _ _ e) [
-            | inl here ↦ or_left _ _ (slide_stays (seen_by piece.color o) a s far here)
-            | inr later ↦ or_right (slides new (seen_by piece.color o) a s) _ (each os parts.1 later)
+            | inl here ↦ or_left _ _ (slide_stays (for_side piece.color o) a s far here)
+            | inr later ↦ or_right (slides new (for_side piece.color o) a s) _ (each os parts.1 later)
           ]
 
   -- a move that takes no attacker, moves no king and ends on no open line with one leaves the check
-  pub check_stays : (color : Color) → ((a : ℕ) → is_of (opponent_of color) (piece_at old a) ≡ true → piece_at new a ≡ piece_at old a)
+  pub check_stays : (color : Color) → ((a : ℕ) → is_piece_of (opponent_of color) (piece_at old a) ≡ true → piece_at new a ≡ piece_at old a)
       → ((k : ℕ) → is_king color (piece_at old k) ≡ true → piece_at new k ≡ piece_at old k)
       → is_lined_with_king old color to ≡ false → in_check old color ≡ true → in_check new color ≡ true
   unfolding in_check is_lined_with_king reaches
@@ -289,13 +289,13 @@ module _ (old new : Cells) (to : ℕ) (shut : (x : ℕ) → is_none (piece_at ol
       let parts : (is_king color (piece_at old k) ≡ true) × (is_attacked old (opponent_of color) k ≡ true) = and_parts _ _ which.2 in
       let who = some_below_which 81 (is_attacked_from old (opponent_of color) k) parts.1 in
       let a = who.0 in
-      let both : (is_of (opponent_of color) (piece_at old a) ≡ true) × (reaches old a k ≡ true) = and_parts _ _ who.2 in
+      let both : (is_piece_of (opponent_of color) (piece_at old a) ≡ true) × (reaches old a k ≡ true) = and_parts _ _ who.2 in
       let same : piece_at new a ≡ piece_at old a = kept a both.0 in
       let far : are_lined old to k ≡ false = false_from_ne_true _ (λ lined. both_ways (is_line_to_king old color to k) (some_below_not 81 (is_line_to_king old color to) k off which.1) (and_from _ _ parts.0 lined)) in
       some_below_at 81 (is_open_king new color) k which.1
       (and_from _ _ (ap (is_king color) (kings k parts.0) ∙ parts.0)
       (some_below_at 81 (is_attacked_from new (opponent_of color) k) a who.1
-      (and_from _ _ (ap (is_of (opponent_of color)) same ∙ both.0) (ap (λ cell. cell_reaches new cell a k) same ∙ reached (piece_at old a) a k far both.1))))
+      (and_from _ _ (ap (is_piece_of (opponent_of color)) same ∙ both.0) (ap (λ cell. cell_reaches new cell a k) same ∙ reached (piece_at old a) a k far both.1))))
     where
       reached : (cell : Option Piece) (a s : ℕ) → are_lined old to s ≡ false → cell_reaches old cell a s ≡ true → cell_reaches new cell a s ≡ true
       reached None a s off e = e

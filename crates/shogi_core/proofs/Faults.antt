@@ -11,7 +11,7 @@ use Rattle.shogi_core.specs.declared.piece.Kind.TheVariants as kinds
 use Rattle.shogi_core.specs.Movement.{Cells}
 use Rattle.shogi_core.specs.Pieces.{all_kinds, set_size, kind_number}
 use Rattle.shogi_core.specs.Position.{Shogi, HandCounts}
-use Rattle.shogi_core.specs.Cell.{is_dead_on, is_king}
+use Rattle.shogi_core.specs.Cell.{is_immobile_on, is_king}
 use Rattle.shogi_core.specs.Validity.{fault_of, count_of, has_too_many, has_two_kings, has_two_pawns, has_two_pawns_on, pawns_on_file}
 use Rattle.shogi_core.specs.Faultless.{IsFaultless}
 use Rattle.shogi_core.proofs.Below.{some_below_not, some_below_no}
@@ -70,7 +70,7 @@ faultless_from p e =
       counts = counts_from p.cells p.hands (one.0);
       kings = kings_from p.cells (two.0);
       pawns = pawns_from p.cells (three.0);
-      alive = λ square h. some_below_not 81 (is_dead_on p.cells) square (four.0) h;
+      alive = λ square h. some_below_not 81 (is_immobile_on p.cells) square (four.0) h;
       shut = five.0;
     }
 
@@ -80,5 +80,5 @@ faultless_to p h =
     none_cond _ _ _ (counts_to p.cells p.hands h.counts)
     (none_cond _ _ _ (kings_to p.cells h.kings)
     (none_cond _ _ _ (pawns_to p.cells h.pawns)
-    (none_cond _ _ _ (some_below_no 81 (is_dead_on p.cells) h.alive)
+    (none_cond _ _ _ (some_below_no 81 (is_immobile_on p.cells) h.alive)
     (none_cond _ _ _ h.shut refl))))

@@ -13,16 +13,16 @@ use Rattle.shogi_core.specs.declared.piece.Color.{Color}
 use Rattle.shogi_core.specs.declared.piece.Color.TheVariants.{Black, White}
 use Rattle.shogi_core.specs.declared.piece.Piece.{Piece}
 use Rattle.shogi_core.specs.Bits.{has_bit}
-use Rattle.shogi_core.specs.Cell.{is_of}
+use Rattle.shogi_core.specs.Cell.{is_piece_of}
 use Rattle.shogi_core.specs.Pieces.{is_same_color}
-use Rattle.shogi_core.specs.Movement.{Cells, away, slides_past, slides, piece_at}
+use Rattle.shogi_core.specs.Movement.{Cells, away, slides_across, slides, piece_at}
 use Rattle.shogi_core.proofs.BitLaws.{next_none, next_some, has_bit-or, has_bit-and, has_bit-none, has_bit-above, has_bit-mask, mask_fits}
 use Rattle.shogi_core.specs.Rays.{is_on_ray, ray_of, direction_at}
 use Rattle.shogi_core.proofs.Back.{away_is, leads_is}
 use Rattle.shogi_core.proofs.Exposed.{some_below_which}
 use Rattle.shogi_core.proofs.RayLaws.{rises, falls, nearer, nearer_down, slides_free, slides_to_first}
 
-someone : (cell : Option Piece) → (is_of Black cell || is_of White cell) ≡ not (is_none cell)
+someone : (cell : Option Piece) → (is_piece_of Black cell || is_piece_of White cell) ≡ not (is_none cell)
 someone None = refl
 someone (Some piece) = one piece.color
   where
@@ -30,7 +30,7 @@ someone (Some piece) = one piece.color
     one Black = refl
     one White = refl
 
-pub occupied_bits : (cells : Cells) (a b n : ℕ) → has_bit a n ≡ is_of Black (piece_at cells n) → has_bit b n ≡ is_of White (piece_at cells n) → has_bit (bit_or a b) n ≡ not (is_none (piece_at cells n))
+pub occupied_bits : (cells : Cells) (a b n : ℕ) → has_bit a n ≡ is_piece_of Black (piece_at cells n) → has_bit b n ≡ is_piece_of White (piece_at cells n) → has_bit (bit_or a b) n ≡ not (is_none (piece_at cells n))
 occupied_bits cells a b n p q = has_bit-or a b n ∙ (rw (p, q) (someone (piece_at cells n)))
 
 -- ---- the lowest and the highest bit
@@ -100,7 +100,7 @@ ray_fits o a = mask_fits 81 (is_on_ray o a)
 
 on_board : (o : Offset) (a b : ℕ) → is_on_ray o a b ≡ true → b < 81
 on_board o a b e =
-    let which = some_below_which 8 (slides_past [] o a b) e in
+    let which = some_below_which 8 (slides_across [] o a b) e in
     (away_is (which.0 + 1) o a b (leads_is _ b ((and_parts _ _ which.2).0))).2
 
 pub direction_rises : (d : ℕ) → d < 4 → rises (direction_at d)
@@ -144,7 +144,7 @@ module _ (cells : Cells) (o : Offset) (a occ : ℕ) (occupied : (n : ℕ) → n 
         → (b : ℕ) → b < 81 → has_bit (bit_and (ray_of o a) (2 ^ 128 - 1 - ray_of o f)) b ≡ slides cells o a b
     cut_line nearest apart b h =
         let here : (is_on_ray o a f ≡ true) × (is_none (piece_at cells f) ≡ false) = there_bit f low set in
-        let which = some_below_which 8 (slides_past [] o a f) here.0 in
+        let which = some_below_which 8 (slides_across [] o a f) here.0 in
         let small : ray_of o f < 2 ^ 81 = ray_fits o f in
         has_bit-and (ray_of o a) (2 ^ 128 - 1 - ray_of o f) b
         ∙ (rw (has_bit-ray o a b h, has_bit-not (ray_of o f) b (omega arith) (omega arith), has_bit-ray o f b h)

@@ -7,7 +7,7 @@ use Rattle.std.proofs.lemmas.List.{get_or-set_same, get_or-set_other}
 use Rattle.shogi_core.specs.declared.piece.Color.{Color}
 use Rattle.shogi_core.specs.declared.piece.Piece.{Piece}
 use Rattle.shogi_core.specs.Bits.{has_bit, mask_below}
-use Rattle.shogi_core.specs.Cell.{is_of, is_king, is_king_role}
+use Rattle.shogi_core.specs.Cell.{is_piece_of, is_king, is_king_role}
 use Rattle.shogi_core.specs.Pieces.{is_same_color}
 use Rattle.shogi_core.specs.Movement.{Cells, piece_at}
 use Rattle.shogi_core.specs.Masks.{passes, places_of, is_any_king}
@@ -66,7 +66,7 @@ marked_off false i n = elim (cases_Bool (i == n)) [ inl e ↦ rw e refl | inr e 
 
 pub ruleset marks = (marked_on, marked_off)
 
-king_of : (color : Color) (cell : Option Piece) → (is_any_king cell && is_of color cell) ≡ is_king color cell
+king_of : (color : Color) (cell : Option Piece) → (is_any_king cell && is_piece_of color cell) ≡ is_king color cell
 king_of color None = refl
 king_of color (Some piece) = swap (is_king_role piece.role) (is_same_color color piece.color)
   where
@@ -76,7 +76,7 @@ king_of color (Some piece) = swap (is_king_role piece.role) (is_same_color color
     swap false true = refl
     swap false false = refl
 
-pub has_bit-kings : (cells : Cells) (color : Color) (m n : ℕ) → n < 81 → has_bit m n ≡ is_of color (piece_at cells n) → has_bit (bit_and (places_of is_any_king cells) m) n ≡ is_king color (piece_at cells n)
+pub has_bit-kings : (cells : Cells) (color : Color) (m n : ℕ) → n < 81 → has_bit m n ≡ is_piece_of color (piece_at cells n) → has_bit (bit_and (places_of is_any_king cells) m) n ≡ is_king color (piece_at cells n)
 has_bit-kings cells color m n h e = has_bit-and (places_of is_any_king cells) m n ∙ (rw (has_bit-places is_any_king cells n h, e) (king_of color (piece_at cells n)))
 
 pub kings_fit : (cells : Cells) (m : ℕ) → bit_and (places_of is_any_king cells) m < 2 ^ 81

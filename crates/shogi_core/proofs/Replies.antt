@@ -4,7 +4,7 @@ use Rattle.std.specs.Prelude.{is_none}
 use Rattle.std.proofs.lemmas.Bool.{false_from_ne_true, both_ways, and_from}
 use Rattle.shogi_core.specs.declared.piece.Color.{Color}
 use Rattle.shogi_core.specs.Attack.{in_check}
-use Rattle.shogi_core.specs.Cell.{is_of, is_king}
+use Rattle.shogi_core.specs.Cell.{is_piece_of, is_king}
 use Rattle.shogi_core.specs.Lines.{are_lined, is_line_to_king, is_lined_with_king, is_seen}
 use Rattle.shogi_core.specs.Movement.{Cells, piece_at, reaches, cell_reaches}
 use Rattle.shogi_core.specs.Pieces.{opponent_of}
@@ -15,7 +15,7 @@ use Rattle.shogi_core.proofs.SeenLaws.{cell_seen}
 module _ (old new : Cells) (Left : ℕ → Type 0) (opened : (x : ℕ) → is_none (piece_at new x) ≡ true → (is_none (piece_at old x) ≡ true) ⊎ Left x) where
   -- where the new piece is seen from no king of the side, and none is uncovered, the side is in no check
   pub no_check : (color : Color) (to : ℕ) → to < 81
-      → ((a : ℕ) → is_of (opponent_of color) (piece_at new a) ≡ true → (piece_at old a ≡ piece_at new a) ⊎ (a ≡ to))
+      → ((a : ℕ) → is_piece_of (opponent_of color) (piece_at new a) ≡ true → (piece_at old a ≡ piece_at new a) ⊎ (a ≡ to))
       → ((k : ℕ) → is_king color (piece_at new k) ≡ true → piece_at old k ≡ piece_at new k)
       → ((x : ℕ) → Left x → is_lined_with_king old color x ≡ false)
       → ((k : ℕ) → k < 81 → is_king color (piece_at old k) ≡ true → is_seen old k to ≡ false)

@@ -14,8 +14,8 @@ use Rattle.shogi_core.specs.declared.piece.Piece.{Piece}
 use Rattle.shogi_core.specs.Attack.{is_attacked_from, is_open_king}
 use Rattle.shogi_core.specs.Below.{some_below}
 use Rattle.shogi_core.specs.Bits.{has_bit}
-use Rattle.shogi_core.specs.Cell.{is_of, is_king}
-use Rattle.shogi_core.specs.Movement.{Cells, leads, offset_by, jump_left, jump_right, slides, slides_past, is_clear, seen_by, slides_of, steps_of, has_slide, has_step, cell_reaches, reaches, piece_at, straight, diagonal}
+use Rattle.shogi_core.specs.Cell.{is_piece_of, is_king}
+use Rattle.shogi_core.specs.Movement.{Cells, leads, offset_by, jump_left, jump_right, slides, slides_across, is_clear, for_side, slides_of, steps_of, has_slide, has_step, cell_reaches, reaches, piece_at, straight, diagonal}
 use Rattle.shogi_core.proofs.BitLaws.{has_bit-and, has_bit-or, has_bit-none, has_bit-without}
 use Rattle.shogi_core.proofs.Below.{all_below_none, some_below_at, some_below_no, some_below_found}
 use Rattle.shogi_core.proofs.LineBits.{and_fits}
@@ -35,10 +35,10 @@ pub ruleset cleared = (cleared_less, has_bit-without)
 
 -- ---- lines
 
-black_sees : (test : Offset → Bool) (os : List Offset) → list_any (λ o. test (seen_by Black o)) os ≡ list_any test os
+black_sees : (test : Offset → Bool) (os : List Offset) → list_any (λ o. test (for_side Black o)) os ≡ list_any test os
 black_sees test os = refl
 
-pub lined_bits : (cells : Cells) (a b m n : ℕ) → has_bit m b ≡ list_any (λ o. slides cells (seen_by Black o) a b) straight → has_bit n b ≡ list_any (λ o. slides cells (seen_by Black o) a b) diagonal → has_bit (bit_or m n) b ≡ are_lined cells a b
+pub lined_bits : (cells : Cells) (a b m n : ℕ) → has_bit m b ≡ list_any (λ o. slides cells (for_side Black o) a b) straight → has_bit n b ≡ list_any (λ o. slides cells (for_side Black o) a b) diagonal → has_bit (bit_or m n) b ≡ are_lined cells a b
 unfolding are_lined
 lined_bits cells a b m n p q = has_bit-or m n b ∙ (rw (p, q) (sym (list_any-append (λ o. slides cells o a b) straight diagonal)))
 
@@ -55,10 +55,10 @@ pub ruleset seen = (lined_bits, seen_bits, or_fits_again)
 
 pub slides_back : (cells : Cells) (o : Offset) (a b : ℕ) → a < 81 → slides cells o a b ≡ true → slides cells (back o) b a ≡ true
 slides_back cells o a b h e =
-    let which = some_below_which 8 (slides_past cells o a b) e in
-    some_below_at 8 (slides_past cells (back o) b a) which.0 which.1 (slides_past_back cells o a b which.0 h which.2)
+    let which = some_below_which 8 (slides_across cells o a b) e in
+    some_below_at 8 (slides_across cells (back o) b a) which.0 which.1 (slides_past_back cells o a b which.0 h which.2)
 
-slides_back_around : (color : Color) (role : Role) → list_all (λ o. list_any (same_way (back (seen_by color o))) around) (slides_of role) ≡ true
+slides_back_around : (color : Color) (role : Role) → list_all (λ o. list_any (same_way (back (for_side color o))) around) (slides_of role) ≡ true
 slides_back_around Black King = refl
 slides_back_around Black _ = refl
 slides_back_around White King = refl
@@ -70,7 +70,7 @@ around_back = refl
 jumps : List Offset
 jumps = jump_left ∷ jump_right ∷ offset_by (pos 1) (pos 2) ∷ offset_by (negsuc 0) (pos 2) ∷ []
 
-steps_back_near : (color : Color) (role : Role) → list_all (λ o. list_any (same_way (back (seen_by color o))) (around ++ jumps)) (steps_of role) ≡ true
+steps_back_near : (color : Color) (role : Role) → list_all (λ o. list_any (same_way (back (for_side color o))) (around ++ jumps)) (steps_of role) ≡ true
 unfolding jumps
 steps_back_near Black King = refl
 steps_back_near Black _ = refl
@@ -87,14 +87,14 @@ lined_back cells a b h e =
 slide_seen : (cells : Cells) (piece : Piece) (a b : ℕ) → a < 81 → has_slide cells piece a b ≡ true → are_lined cells b a ≡ true
 unfolding are_lined
 slide_seen cells piece a b h e =
-    list_any_among (λ o. slides cells o b a) (λ o. back (seen_by piece.color o)) (slides_of piece.role) around (slides_back_around piece.color piece.role)
-    (list_any_kept (λ o. slides cells (seen_by piece.color o) a b) (λ o. slides cells (back (seen_by piece.color o)) b a) (slides_of piece.role) (λ o e. slides_back cells (seen_by piece.color o) a b h e) e)
+    list_any_among (λ o. slides cells o b a) (λ o. back (for_side piece.color o)) (slides_of piece.role) around (slides_back_around piece.color piece.role)
+    (list_any_kept (λ o. slides cells (for_side piece.color o) a b) (λ o. slides cells (back (for_side piece.color o)) b a) (slides_of piece.role) (λ o e. slides_back cells (for_side piece.color o) a b h e) e)
 
 pub leads_back : (o : Offset) (a b : ℕ) → a < 81 → leads 1 o a b ≡ true → leads 1 (back o) b a ≡ true
 leads_back o a b h e = is_leads _ a (away_back 1 o a b h (leads_is _ b e))
 
 step_slides : (cells : Cells) (o : Offset) (a b : ℕ) → leads 1 o a b ≡ true → slides cells o a b ≡ true
-step_slides cells o a b e = some_below_at 8 (slides_past cells o a b) 0 (omega arith) (and_from _ _ e (all_below_none (is_clear cells o a)))
+step_slides cells o a b e = some_below_at 8 (slides_across cells o a b) 0 (omega arith) (and_from _ _ e (all_below_none (is_clear cells o a)))
 
 jump_either : (a b : ℕ) → list_any (λ o. leads 1 o a b) jumps ≡ is_jump a b
 unfolding jumps
@@ -109,8 +109,8 @@ step_seen : (cells : Cells) (piece : Piece) (a b : ℕ) → a < 81 → has_step 
 unfolding are_lined is_seen
 step_seen cells piece a b h e =
     let near : list_any (λ o. leads 1 o b a) (around ++ jumps) ≡ true =
-    list_any_among (λ o. leads 1 o b a) (λ o. back (seen_by piece.color o)) (steps_of piece.role) (around ++ jumps) (steps_back_near piece.color piece.role)
-    (list_any_kept (λ o. leads 1 (seen_by piece.color o) a b) (λ o. leads 1 (back (seen_by piece.color o)) b a) (steps_of piece.role) (λ o e. leads_back (seen_by piece.color o) a b h e) e) in
+    list_any_among (λ o. leads 1 o b a) (λ o. back (for_side piece.color o)) (steps_of piece.role) (around ++ jumps) (steps_back_near piece.color piece.role)
+    (list_any_kept (λ o. leads 1 (for_side piece.color o) a b) (λ o. leads 1 (back (for_side piece.color o)) b a) (steps_of piece.role) (λ o e. leads_back (for_side piece.color o) a b h e) e) in
     elim (or_cases (list_any (λ o. leads 1 o b a) around) (list_any (λ o. leads 1 o b a) jumps) (sym (list_any-append (λ o. leads 1 o b a) around jumps) ∙ near)) [
       | inl close ↦ or_left (list_any (λ o. slides cells o b a) around) (is_jump b a) (list_any_kept (λ o. leads 1 o b a) (λ o. slides cells o b a) around (λ o e. step_slides cells o b a e) close)
       | inr far ↦ or_right (list_any (λ o. slides cells o b a) around) (is_jump b a) (sym (jump_either b a) ∙ far)
@@ -143,10 +143,10 @@ covers_less left next from test rest fails bits = record {
 pub covers_none : (test : ℕ → Bool) → Covers 0 test → false ≡ some_below 81 test
 covers_none test rest = sym (some_below_no 81 test (λ a h. false_from_ne_true _ (λ e. both_ways (has_bit 0 a) (has_bit-none a) (rest.all a h e))))
 
-pub attackers_first : (cells : Cells) (color : Color) (square m n : ℕ) → ((a : ℕ) → a < 81 → has_bit m a ≡ is_of color (piece_at cells a)) → ((a : ℕ) → a < 81 → has_bit n a ≡ is_seen cells square a) → Covers (bit_and m n) (is_attacked_from cells color square)
+pub attackers_first : (cells : Cells) (color : Color) (square m n : ℕ) → ((a : ℕ) → a < 81 → has_bit m a ≡ is_piece_of color (piece_at cells a)) → ((a : ℕ) → a < 81 → has_bit n a ≡ is_seen cells square a) → Covers (bit_and m n) (is_attacked_from cells color square)
 attackers_first cells color square m n own seen = record {
   all = λ a h e. (
-      let parts : (is_of color (piece_at cells a) ≡ true) × (reaches cells a square ≡ true) = and_parts _ _ e in
+      let parts : (is_piece_of color (piece_at cells a) ≡ true) × (reaches cells a square ≡ true) = and_parts _ _ e in
       has_bit-and m n a ∙ and_from _ _ (own a h ∙ parts.0) (seen a h ∙ reaches_seen cells a square h parts.1));
 }
 

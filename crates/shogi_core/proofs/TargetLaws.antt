@@ -7,7 +7,7 @@ use Rattle.shogi_core.specs.declared.offset.Offset.{Offset}
 use Rattle.shogi_core.specs.declared.piece.Color.{Color}
 use Rattle.shogi_core.specs.declared.piece.Color.TheVariants.{Black, White}
 use Rattle.shogi_core.specs.Bits.{has_bit}
-use Rattle.shogi_core.specs.Movement.{Cells, up, down, left, right, up_left, up_right, down_left, down_right, slides, seen_by, straight, diagonal}
+use Rattle.shogi_core.specs.Movement.{Cells, up, down, left, right, up_left, up_right, down_left, down_right, slides, for_side, straight, diagonal}
 use Rattle.shogi_core.proofs.BitLaws.{has_bit-or, has_bit-none}
 
 four : (a b c d : Bool) → (((a || b) || c) || d) ≡ (a || (b || (c || (d || false))))
@@ -35,11 +35,11 @@ halves false false true false = refl
 halves false false false true = refl
 halves false false false false = refl
 
-pub any_straight : (color : Color) (test : Offset → Bool) → (((test up || test down) || test left) || test right) ≡ list_any (λ o. test (seen_by color o)) straight
+pub any_straight : (color : Color) (test : Offset → Bool) → (((test up || test down) || test left) || test right) ≡ list_any (λ o. test (for_side color o)) straight
 any_straight Black test = four (test up) (test down) (test left) (test right)
 any_straight White test = ap (λ x. (x || test left) || test right) (swap (test up) (test down)) ∙ four (test down) (test up) (test left) (test right)
 
-pub any_diagonal : (color : Color) (test : Offset → Bool) → (((test up_left || test up_right) || test down_left) || test down_right) ≡ list_any (λ o. test (seen_by color o)) diagonal
+pub any_diagonal : (color : Color) (test : Offset → Bool) → (((test up_left || test up_right) || test down_left) || test down_right) ≡ list_any (λ o. test (for_side color o)) diagonal
 any_diagonal Black test = four (test up_left) (test up_right) (test down_left) (test down_right)
 any_diagonal White test = halves (test up_left) (test up_right) (test down_left) (test down_right) ∙ four (test down_left) (test down_right) (test up_left) (test up_right)
 
@@ -51,11 +51,11 @@ pub bits_four : (a b c d n : ℕ) (p q r s : Bool) → has_bit a n ≡ p → has
 bits_four a b c d n p q r s e f g h = has_bit-or (bit_or (bit_or a b) c) d n ∙ (rw (has_bit-or (bit_or a b) c n, has_bit-or a b n, e, f, g, h) refl)
 
 pub straight_bits : (cells : Cells) (color : Color) (from n a b c d : ℕ) → has_bit a n ≡ slides cells up from n → has_bit b n ≡ slides cells down from n → has_bit c n ≡ slides cells left from n → has_bit d n ≡ slides cells right from n
-    → has_bit (bit_or (bit_or (bit_or a b) c) d) n ≡ list_any (λ o. slides cells (seen_by color o) from n) straight
+    → has_bit (bit_or (bit_or (bit_or a b) c) d) n ≡ list_any (λ o. slides cells (for_side color o) from n) straight
 straight_bits cells color from n a b c d e f g h = bits_four a b c d n (slides cells up from n) (slides cells down from n) (slides cells left from n) (slides cells right from n) e f g h ∙ any_straight color (λ o. slides cells o from n)
 
 pub diagonal_bits : (cells : Cells) (color : Color) (from n a b c d : ℕ) → has_bit a n ≡ slides cells up_left from n → has_bit b n ≡ slides cells up_right from n → has_bit c n ≡ slides cells down_left from n → has_bit d n ≡ slides cells down_right from n
-    → has_bit (bit_or (bit_or (bit_or a b) c) d) n ≡ list_any (λ o. slides cells (seen_by color o) from n) diagonal
+    → has_bit (bit_or (bit_or (bit_or a b) c) d) n ≡ list_any (λ o. slides cells (for_side color o) from n) diagonal
 diagonal_bits cells color from n a b c d e f g h = bits_four a b c d n (slides cells up_left from n) (slides cells up_right from n) (slides cells down_left from n) (slides cells down_right from n) e f g h ∙ any_diagonal color (λ o. slides cells o from n)
 
 pub or_fits : (a b : ℕ) → a < 2 ^ 81 → b < 2 ^ 81 → bit_or a b < 2 ^ 81

@@ -2,13 +2,13 @@
 use Rattle.std.specs.Prelude.{ℕ, ◌&&◌, Bool}
 use Rattle.shogi_core.specs.declared.piece.Color.{Color}
 use Rattle.shogi_core.specs.Below.{some_below}
-use Rattle.shogi_core.specs.Cell.{is_of, is_king}
+use Rattle.shogi_core.specs.Cell.{is_piece_of, is_king}
 use Rattle.shogi_core.specs.Movement.{Cells, piece_at, reaches}
 use Rattle.shogi_core.specs.Pieces.{opponent_of}
 
 -- the piece on `from` is of the side and reaches the square
 abbrev pub is_attacked_from : Cells → Color → ℕ → ℕ → Bool
-is_attacked_from cells color square from = is_of color (piece_at cells from) && reaches cells from square
+is_attacked_from cells color square from = is_piece_of color (piece_at cells from) && reaches cells from square
 
 -- a piece of the side reaches the square
 abbrev pub is_attacked : Cells → Color → ℕ → Bool

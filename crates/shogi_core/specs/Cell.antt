@@ -19,9 +19,9 @@ is_pawn_role Pawn = true
 is_pawn_role _ = false
 
 -- a piece of the side
-abbrev pub is_of : Color → Option Piece → Bool
-is_of color None = false
-is_of color (Some piece) = is_same_color color piece.color
+abbrev pub is_piece_of : Color → Option Piece → Bool
+is_piece_of color None = false
+is_piece_of color (Some piece) = is_same_color color piece.color
 
 -- the king of the side
 abbrev pub is_king : Color → Option Piece → Bool
@@ -44,10 +44,10 @@ is_dead_role White Knight rank = nat_lt 6 rank
 is_dead_role _ _ rank = false
 
 -- a piece stands there that could never move again
-abbrev pub is_dead : ℕ → Option Piece → Bool
-is_dead square None = false
-is_dead square (Some piece) = is_dead_role piece.color piece.role (square % 9)
+abbrev pub is_immobile : ℕ → Option Piece → Bool
+is_immobile square None = false
+is_immobile square (Some piece) = is_dead_role piece.color piece.role (square % 9)
 
 -- the square holds a piece that could never move again
-abbrev pub is_dead_on : Cells → ℕ → Bool
-is_dead_on cells square = is_dead square (piece_at cells square)
+abbrev pub is_immobile_on : Cells → ℕ → Bool
+is_immobile_on cells square = is_immobile square (piece_at cells square)

@@ -2,7 +2,7 @@
 use Rattle.std.specs.Prelude.{ℕ, Bool, false, Option, Some, None}
 use Rattle.shogi_core.specs.declared.piece.Color.{Color}
 use Rattle.shogi_core.specs.Bits.{mask_below}
-use Rattle.shogi_core.specs.Cell.{is_of, is_king_role}
+use Rattle.shogi_core.specs.Cell.{is_piece_of, is_king_role}
 use Rattle.shogi_core.specs.Movement.{Cells, piece_at}
 use Rattle.shogi_core.specs.declared.piece.Piece.{Piece}
 
@@ -16,7 +16,7 @@ places_of test cells = mask_below 81 (passes test cells)
 
 -- the squares on which pieces of the side stand
 abbrev pub own_of : Cells → Color → ℕ
-own_of cells color = places_of (is_of color) cells
+own_of cells color = places_of (is_piece_of color) cells
 
 -- a king of either side
 abbrev pub is_any_king : Option Piece → Bool

@@ -98,9 +98,9 @@ square_at (pos file) (negsuc rank) = None
 square_at (negsuc file) rank = None
 
 -- as the side sees it: White moves the other way
-abbrev pub seen_by : Color → Offset → Offset
-seen_by Black offset = offset
-seen_by White offset = offset_by offset.file (pos 0 -ℤ offset.rank)
+abbrev pub for_side : Color → Offset → Offset
+for_side Black offset = offset
+for_side White offset = offset_by offset.file (pos 0 -ℤ offset.rank)
 
 -- where n steps by the offset lead from a
 unfoldable pub away : ℕ → Offset → ℕ → Option ℕ
@@ -129,20 +129,20 @@ abbrev pub is_clear : Cells → Offset → ℕ → ℕ → Bool
 is_clear cells offset a k = is_empty cells (away (k + 1) offset a)
 
 -- n + 1 steps lead from a to b, and the n squares between are empty
-abbrev pub slides_past : Cells → Offset → ℕ → ℕ → ℕ → Bool
-slides_past cells offset a b n = leads (n + 1) offset a b && all_below n (is_clear cells offset a)
+abbrev pub slides_across : Cells → Offset → ℕ → ℕ → ℕ → Bool
+slides_across cells offset a b n = leads (n + 1) offset a b && all_below n (is_clear cells offset a)
 
 -- b lies on a slide from a, and each square between is empty
 abbrev pub slides : Cells → Offset → ℕ → ℕ → Bool
-slides cells offset a b = some_below 8 (slides_past cells offset a b)
+slides cells offset a b = some_below 8 (slides_across cells offset a b)
 
 -- a step or a jump of the piece leads from a to b
 abbrev pub has_step : Piece → ℕ → ℕ → Bool
-has_step piece a b = list_any (λ offset. leads 1 (seen_by piece.color offset) a b) (steps_of piece.role)
+has_step piece a b = list_any (λ offset. leads 1 (for_side piece.color offset) a b) (steps_of piece.role)
 
 -- a free slide of the piece leads from a to b
 abbrev pub has_slide : Cells → Piece → ℕ → ℕ → Bool
-has_slide cells piece a b = list_any (λ offset. slides cells (seen_by piece.color offset) a b) (slides_of piece.role)
+has_slide cells piece a b = list_any (λ offset. slides cells (for_side piece.color offset) a b) (slides_of piece.role)
 
 -- a piece reaches a square by a step, a jump or a free slide
 abbrev pub cell_reaches : Cells → Option Piece → ℕ → ℕ → Bool

@@ -5,7 +5,7 @@ use Rattle.shogi_core.specs.declared.offset.Offset.{Offset}
 use Rattle.shogi_core.specs.declared.piece.Color.{Color}
 use Rattle.shogi_core.specs.declared.piece.Color.TheVariants.{Black, White}
 use Rattle.shogi_core.specs.Bits.{mask_below}
-use Rattle.shogi_core.specs.Movement.{jump_left, jump_right, leads, seen_by, straight, diagonal, forward, gold}
+use Rattle.shogi_core.specs.Movement.{jump_left, jump_right, leads, for_side, straight, diagonal, forward, gold}
 
 -- the kinds of steps
 abbrev pub steps_at : ℕ → List Offset
@@ -22,7 +22,7 @@ color_at n = cond (n == 0) Black White
 
 -- one of the steps leads from a to b
 abbrev pub is_step : Color → List Offset → ℕ → ℕ → Bool
-is_step color os a b = list_any (λ o. leads 1 (seen_by color o) a b) os
+is_step color os a b = list_any (λ o. leads 1 (for_side color o) a b) os
 
 -- the squares to which the steps lead
 unfoldable pub steps_mask : Color → List Offset → ℕ → ℕ

@@ -8,7 +8,7 @@ use Rattle.shogi_core.specs.declared.piece.Kind.{Kind}
 use Rattle.shogi_core.specs.declared.validity.PositionFault.{PositionFault}
 use Rattle.shogi_core.specs.declared.validity.PositionFault.TheVariants.{TooMany, TwoKings, TwoPawns, DeadPiece, KingOpen}
 use Rattle.shogi_core.specs.Attack.{in_check}
-use Rattle.shogi_core.specs.Cell.{is_king, is_pawn, is_dead_on}
+use Rattle.shogi_core.specs.Cell.{is_king, is_pawn, is_immobile_on}
 use Rattle.shogi_core.specs.Movement.{Cells}
 use Rattle.shogi_core.specs.Pieces.{opponent_of, all_kinds, set_size, is_of_kind}
 use Rattle.shogi_core.specs.Position.{Shogi, HandCounts, held}
@@ -43,7 +43,7 @@ has_two_pawns cells = some_below 9 (has_two_pawns_on cells)
 
 -- some piece could never move again
 abbrev pub has_dead_piece : Cells → Bool
-has_dead_piece cells = some_below 81 (is_dead_on cells)
+has_dead_piece cells = some_below 81 (is_immobile_on cells)
 
 -- the first fault, if there is one
 unfoldable pub fault_of : Shogi → Option PositionFault

@@ -9,7 +9,7 @@ ghost use Rattle.shogi_core.specs.Movement.{piece_at};
 
 use crate::bits::{cleared, lowest};
 use crate::board::Board;
-use crate::cell::{is_king, is_of};
+use crate::cell::{is_king, is_piece_of};
 use crate::piece::Color;
 use crate::square::Square;
 use crate::steps::jump_squares;
@@ -19,7 +19,7 @@ use crate::targets::{diagonal_squares, straight_squares};
 fn is_attacked_from(board: &Board, color: Color, square: Square, from: Square) -> bool
     ensures { result ≡ is_attacked_from board.now color square from }
 {
-    is_of(board.at(from), color) && board.reaches(from, square)
+    is_piece_of(board.at(from), color) && board.reaches(from, square)
 }
 
 /// Whether a king of the side stands on the square and is attacked.

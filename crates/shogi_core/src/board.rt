@@ -2,13 +2,13 @@
 
 ghost use Rattle.std.specs.Prelude.{◌≡◌, ◌<◌, ◌^◌, ℕ, length, slice_set, cond, ◌==◌, not, is_none};
 ghost use Rattle.shogi_core.specs.Bits.{has_bit, mask_below};
-ghost use Rattle.shogi_core.specs.Cell.{is_of, is_king};
+ghost use Rattle.shogi_core.specs.Cell.{is_piece_of, is_king};
 ghost use Rattle.shogi_core.specs.Masks.{own_of, kings_of, is_any_king};
 ghost use Rattle.shogi_core.specs.Movement.{piece_at};
 ghost use Rattle.shogi_core.specs.Start.{start_cells};
 
 use crate::bits::{ALL_SQUARES, with, without};
-use crate::cell::is_of;
+use crate::cell::is_piece_of;
 use crate::piece::{Color, Piece};
 use crate::square::Square;
 use crate::start::{START, START_BLACK, START_KINGS, START_WHITE};
@@ -52,7 +52,7 @@ fn own_squares(cells: &[Option<Piece>; 81], color: Color) -> u128
 {
     let mut mask = 0;
     for square in 0..81 {
-        if is_of(cells[square], color) {
+        if is_piece_of(cells[square], color) {
             mask |= 1 << square;
         }
     }
@@ -132,7 +132,7 @@ impl Board {
     #[tactic(auto, using(crate::proofs::MaskLaws::own_bits))]
     pub fn own(&self, color: Color) -> u128
         ensures mask { result ≡ own_of self.now color }
-        ensures bits { (n : ℕ) → n < 81 → has_bit result n ≡ is_of color (piece_at self.now n) }
+        ensures bits { (n : ℕ) → n < 81 → has_bit result n ≡ is_piece_of color (piece_at self.now n) }
         ensures fits { result < 2 ^ 81 }
     {
         match color {
@@ -181,8 +181,8 @@ impl Board {
     {
         let index = square.index();
         self.cells[index] = piece;
-        self.black = marked(self.black, index, is_of(piece, Color::Black));
-        self.white = marked(self.white, index, is_of(piece, Color::White));
+        self.black = marked(self.black, index, is_piece_of(piece, Color::Black));
+        self.white = marked(self.white, index, is_piece_of(piece, Color::White));
         self.kings = marked(self.kings, index, is_any_king(piece));
     }
 

@@ -1,14 +1,14 @@
 //! What stands on a square.
 
 ghost use Rattle.std.specs.Prelude.{◌≡◌};
-ghost use Rattle.shogi_core.specs.Cell.{is_of, is_king, is_pawn, is_dead};
+ghost use Rattle.shogi_core.specs.Cell.{is_piece_of, is_king, is_pawn, is_immobile};
 ghost use Rattle.shogi_core.specs.Pieces.{is_of_kind};
 
 use crate::piece::{Color, Kind, Piece};
 
 /// Whether a piece of the side stands there.
-pub fn is_of(cell: Option<Piece>, color: Color) -> bool
-    ensures { result ≡ is_of color cell }
+pub fn is_piece_of(cell: Option<Piece>, color: Color) -> bool
+    ensures { result ≡ is_piece_of color cell }
 {
     match cell {
         None => false,
@@ -51,11 +51,11 @@ pub fn is_of_kind(cell: Option<Piece>, kind: Kind) -> bool
 
 /// Whether a piece stands there, on the square of this index, that could never move again
 /// (JSA playing rules: an unpromoted pawn or lance on its last rank, a knight on its last two).
-pub fn is_dead(cell: Option<Piece>, square: usize) -> bool
-    ensures { result ≡ is_dead square cell }
+pub fn is_immobile(cell: Option<Piece>, square: usize) -> bool
+    ensures { result ≡ is_immobile square cell }
 {
     match cell {
         None => false,
-        Some(piece) => piece.role.is_dead(piece.color, (square % 9) as u8),
+        Some(piece) => piece.role.is_immobile(piece.color, (square % 9) as u8),
     }
 }

@@ -21,7 +21,7 @@ mod tests;
 mod validity;
 
 pub use board::Board;
-pub use cell::{is_dead, is_of};
+pub use cell::{is_immobile, is_piece_of};
 pub use hands::Hands;
 pub use moves::{FIRST_DROP, MOVE_CODES, Move, SQUARE_CODES};
 pub use offset::Offset;

@@ -148,7 +148,7 @@ impl Role {
     }
 
     /// Whether a piece of the role and side could never move again from the rank, counted from 0.
-    pub fn is_dead(self, color: Color, rank: u8) -> bool
+    pub fn is_immobile(self, color: Color, rank: u8) -> bool
         ensures { result ≡ is_dead_role color self rank }
     {
         match (color, self) {

@@ -3,7 +3,7 @@
 ghost use Rattle.std.specs.Prelude.{ℕ, ◌<◌, ◌^◌, is_none, ◌≡◌, ◌↔◌, IsTrue, Ok, Err, None, Some, MatchOption};
 ghost use Rattle.shogi_core.specs.Attack.{in_check};
 ghost use Rattle.shogi_core.specs.Bits.{has_bit};
-ghost use Rattle.shogi_core.specs.Cell.{is_of, is_king};
+ghost use Rattle.shogi_core.specs.Cell.{is_piece_of, is_king};
 ghost use Rattle.shogi_core.specs.Lines.{are_lined};
 ghost use Rattle.shogi_core.specs.Movement.{reaches, piece_at};
 ghost use Rattle.shogi_core.specs.Position.{Shogi, held};
@@ -127,7 +127,7 @@ impl Position {
 
     /// The squares on which pieces of the side stand.
     pub fn own(&self, color: Color) -> u128
-        ensures bits { (n : ℕ) → n < 81 → has_bit result n ≡ is_of color (piece_at self.now.cells n) }
+        ensures bits { (n : ℕ) → n < 81 → has_bit result n ≡ is_piece_of color (piece_at self.now.cells n) }
         ensures fits { result < 2 ^ 81 }
     {
         self.board.own(color)

@@ -2,7 +2,7 @@
 
 ghost use Rattle.std.specs.Prelude.{◌≡◌, ◌<◌, ◌+◌, ◌/◌, ◌%◌, IfSome, ◌≤ℤ◌, ◌+ℤ◌, ◌*ℤ◌, pos, negsuc, IsSome, ◌↔◌};
 ghost use Rattle.shogi_core.specs.Squares.{IsOnBoard, index_of};
-ghost use Rattle.shogi_core.specs.Movement.{away, seen_by, square_at};
+ghost use Rattle.shogi_core.specs.Movement.{away, for_side, square_at};
 
 use crate::offset::Offset;
 use crate::piece::Color;
@@ -95,7 +95,7 @@ impl Square {
     #[tactic(auto, unfolding(crate::specs::Movement::away))]
     pub fn away(self, n: u8, offset: Offset, color: Color) -> Option<Square>
         requires { n < 9 }
-        ensures { result ≡ away n (seen_by color offset) self }
+        ensures { result ≡ away n (for_side color offset) self }
     {
         let file = shifted(self.index / 9, n, offset.file as i32);
         let rank = shifted(self.index % 9, n, ahead(offset, color));
@@ -105,7 +105,7 @@ impl Square {
 
 /// The change of rank as the side sees it.
 fn ahead(offset: Offset, color: Color) -> i32
-    ensures rank { result ≡ (seen_by color offset).rank }
+    ensures rank { result ≡ (for_side color offset).rank }
     ensures range { (negsuc 127 ≤ℤ result) × (result ≤ℤ pos 128) }
 {
     match color {

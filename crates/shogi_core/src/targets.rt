@@ -3,7 +3,7 @@
 ghost use Rattle.std.specs.Prelude.{◌≡◌, ◌<◌, ◌^◌, ◌||◌, ℕ};
 ghost use Rattle.std.specs.List.{list_any};
 ghost use Rattle.shogi_core.specs.Bits.{has_bit};
-ghost use Rattle.shogi_core.specs.Movement.{reaches, has_slide, slides, straight, diagonal, forward, seen_by};
+ghost use Rattle.shogi_core.specs.Movement.{reaches, has_slide, slides, straight, diagonal, forward, for_side};
 
 use crate::bits::has;
 use crate::board::Board;
@@ -19,7 +19,7 @@ use crate::steps::step_squares;
 pub fn straight_squares(board: &Board, color: Color, from: usize) -> u128
     requires { from < 81 }
     ensures fits { result < 2 ^ 81 }
-    ensures bits { (b : ℕ) → b < 81 → has_bit result b ≡ list_any (λ o. slides board.now (seen_by color o) from b) straight }
+    ensures bits { (b : ℕ) → b < 81 → has_bit result b ≡ list_any (λ o. slides board.now (for_side color o) from b) straight }
 {
     slide_squares(board, UP, from)
         | slide_squares(board, DOWN, from)
@@ -32,7 +32,7 @@ pub fn straight_squares(board: &Board, color: Color, from: usize) -> u128
 pub fn diagonal_squares(board: &Board, color: Color, from: usize) -> u128
     requires { from < 81 }
     ensures fits { result < 2 ^ 81 }
-    ensures bits { (b : ℕ) → b < 81 → has_bit result b ≡ list_any (λ o. slides board.now (seen_by color o) from b) diagonal }
+    ensures bits { (b : ℕ) → b < 81 → has_bit result b ≡ list_any (λ o. slides board.now (for_side color o) from b) diagonal }
 {
     slide_squares(board, UP_LEFT, from)
         | slide_squares(board, UP_RIGHT, from)
@@ -45,7 +45,7 @@ pub fn diagonal_squares(board: &Board, color: Color, from: usize) -> u128
 fn forward_squares(board: &Board, color: Color, from: usize) -> u128
     requires { from < 81 }
     ensures fits { result < 2 ^ 81 }
-    ensures bits { (b : ℕ) → b < 81 → has_bit result b ≡ list_any (λ o. slides board.now (seen_by color o) from b) forward }
+    ensures bits { (b : ℕ) → b < 81 → has_bit result b ≡ list_any (λ o. slides board.now (for_side color o) from b) forward }
 {
     match color {
         Color::Black => slide_squares(board, UP, from),

@@ -6,7 +6,7 @@ ghost use Rattle.shogi_core.specs.Cell.{is_king, is_pawn};
 ghost use Rattle.shogi_core.specs.Validity.{has_too_many, has_two_kings, has_two_pawns, has_dead_piece, has_two_pawns_on, count_of, pawns_on_file, fault_of, number_of_fault};
 
 use crate::board::Board;
-use crate::cell::{is_dead, is_king, is_of_kind, is_pawn};
+use crate::cell::{is_immobile, is_king, is_of_kind, is_pawn};
 use crate::hands::Hands;
 use crate::piece::{Color, KINDS, Kind, Piece};
 
@@ -128,7 +128,7 @@ fn has_dead_piece(cells: &[Option<Piece>; 81]) -> bool
     ensures { result ≡ has_dead_piece cells.now }
 {
     for square in 0..81 {
-        if is_dead(cells[square], square) {
+        if is_immobile(cells[square], square) {
             return true;
         }
     }

@@ -15,7 +15,7 @@ use Rattle.shogi_core.specs.declared.piece.Role.{Role}
 use Rattle.shogi_core.specs.declared.piece.Role.TheVariants.{King, Pawn}
 use Rattle.shogi_core.specs.declared.moves.Move.{Move}
 use Rattle.shogi_core.specs.declared.moves.Move.TheVariants.{Board, Drop}
-use Rattle.shogi_core.specs.Cell.{is_of}
+use Rattle.shogi_core.specs.Cell.{is_piece_of}
 use Rattle.shogi_core.specs.Movement.{piece_at}
 use Rattle.shogi_core.specs.Pieces.{opponent_of, is_same_color, kind_of, promoted}
 use Rattle.shogi_core.specs.Validity.{IsValid}
@@ -103,15 +103,15 @@ taken_parts : (cell : Option Piece) → taken_gain cell ≡ points_there cell + 
 taken_parts None = refl
 taken_parts (Some piece) = refl
 
-own_other : (s : Color) (cell : Option Piece) → is_of s cell ≡ true → points_at (opponent_of s) cell ≡ 0
+own_other : (s : Color) (cell : Option Piece) → is_piece_of s cell ≡ true → points_at (opponent_of s) cell ≡ 0
 own_other s None e = cc
 own_other s (Some piece) e = cond-false _ _ _ (same_other s piece.color e)
 
-free_own : (s : Color) (cell : Option Piece) → is_of s cell ≡ false → points_at s cell ≡ 0
+free_own : (s : Color) (cell : Option Piece) → is_piece_of s cell ≡ false → points_at s cell ≡ 0
 free_own s None e = refl
 free_own s (Some piece) e = cond-false _ _ _ e
 
-free_other : (s : Color) (cell : Option Piece) → is_of s cell ≡ false → points_at (opponent_of s) cell ≡ points_there cell
+free_other : (s : Color) (cell : Option Piece) → is_piece_of s cell ≡ false → points_at (opponent_of s) cell ≡ points_there cell
 free_other s None e = refl
 free_other s (Some piece) e = cond-true _ _ _ (other_same s piece.color e)
 
@@ -120,7 +120,7 @@ promoted_more King = omega arith
 promoted_more Pawn = omega arith
 promoted_more _ = omega arith
 
-moved_own : (s : Color) (promote : Bool) (cell : Option Piece) → is_of s cell ≡ true → points_at s (moved promote cell) ≡ points_at s cell + promotion_gain promote cell
+moved_own : (s : Color) (promote : Bool) (cell : Option Piece) → is_piece_of s cell ≡ true → points_at s (moved promote cell) ≡ points_at s cell + promotion_gain promote cell
 moved_own s promote None e = cc
 moved_own s false (Some piece) e = omega arith
 moved_own s true (Some piece) e =
@@ -129,7 +129,7 @@ moved_own s true (Some piece) e =
     let then : cond (is_same_color s piece.color) (value_of (promoted piece.role)) 0 ≡ value_of (promoted piece.role) = cond-true _ _ _ e in
     omega arith
 
-moved_other : (s : Color) (promote : Bool) (cell : Option Piece) → is_of s cell ≡ true → points_at (opponent_of s) (moved promote cell) ≡ 0
+moved_other : (s : Color) (promote : Bool) (cell : Option Piece) → is_piece_of s cell ≡ true → points_at (opponent_of s) (moved promote cell) ≡ 0
 moved_other s promote None e = cc
 moved_other s promote (Some piece) e = cond-false _ _ _ (same_other s piece.color e)
 
@@ -175,7 +175,7 @@ board_other p from to promote v f t ne safe =
     omega (arith, board, hand)
 
 apart : (p : Shogi) (from to : ℕ) (promote : Bool) → IsSafeBoardMove p from to promote → to ≢ from
-apart p from to promote safe e = both_ways (is_of p.side (piece_at p.cells from)) (subst (λ (x : ℕ). is_of p.side (piece_at p.cells x) ≡ false) e safe.free) safe.own
+apart p from to promote safe e = both_ways (is_piece_of p.side (piece_at p.cells from)) (subst (λ (x : ℕ). is_piece_of p.side (piece_at p.cells x) ≡ false) e safe.free) safe.own
 
 -- the material after a move on the board, from the other side
 pub material_after_board : (p : Shogi) (from to : ℕ) (promote : Bool) → IsValid p → from < 81 → to < 81 → is_legal p (Board from to promote) ≡ true

@@ -4,7 +4,7 @@ use Rattle.std.specs.Prelude.{zero, suc, ◌&&◌, is_some}
 use Rattle.std.proofs.lemmas.Bool.{cond-true, cond-false, cases_Bool, cases_lt, and_right, and_from, and_parts}
 use Rattle.shogi_core.specs.declared.moves.TheConstants.{MOVE_CODES, FIRST_DROP, SQUARE_CODES}
 use Rattle.shogi_core.specs.declared.moves.Move.{Move}
-use Rattle.shogi_core.specs.Cell.{is_of}
+use Rattle.shogi_core.specs.Cell.{is_piece_of}
 use Rattle.shogi_core.specs.Codes.{move_of}
 use Rattle.shogi_core.specs.Movement.{piece_at}
 use Rattle.shogi_core.specs.Position.{Shogi}
@@ -32,7 +32,7 @@ pub none_here : (p : Shogi) (capture : Bool) (first : ℕ) → HasNoneWanted p c
 none_here p capture first = record { none = λ code low high. absurd (omega arith) }
 
 -- no piece of the side to move stands on the square
-pub none_square : (p : Shogi) (capture : Bool) (from code end : ℕ) → from < 81 → from * SQUARE_CODES ≤ code → end ≤ from * SQUARE_CODES + SQUARE_CODES → is_of p.side (piece_at p.cells from) ≡ false → HasNoneWanted p capture code end
+pub none_square : (p : Shogi) (capture : Bool) (from code end : ℕ) → from < 81 → from * SQUARE_CODES ≤ code → end ≤ from * SQUARE_CODES + SQUARE_CODES → is_piece_of p.side (piece_at p.cells from) ≡ false → HasNoneWanted p capture code end
 none_square p capture from code end small low high e = none_safe p capture code end (idle_square p from code end small low high e)
 
 -- the target is of the other sort

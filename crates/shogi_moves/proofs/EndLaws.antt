@@ -14,7 +14,7 @@ use Rattle.shogi_core.specs.declared.piece.Role.TheVariants.{Pawn, Lance, Knight
 use Rattle.shogi_core.specs.declared.piece.Piece.{Piece}
 use Rattle.shogi_core.specs.Attack.{in_check, is_attacked}
 use Rattle.shogi_core.specs.Bits.{has_bit}
-use Rattle.shogi_core.specs.Cell.{is_of, is_dead, is_dead_role, is_king, is_king_role}
+use Rattle.shogi_core.specs.Cell.{is_piece_of, is_immobile, is_dead_role, is_king, is_king_role}
 use Rattle.shogi_core.specs.Codes.{move_of, code_of}
 use Rattle.shogi_core.specs.Movement.{Cells, piece_at, reaches}
 use Rattle.shogi_core.specs.Pieces.{opponent_of, is_same_color, promoted}
@@ -27,7 +27,7 @@ use Rattle.shogi_moves.specs.After.{moved, cells_after, dropped}
 use Rattle.shogi_moves.specs.Captures.{captures, is_asked, is_wanted}
 use Rattle.shogi_moves.specs.Ends.{is_end, is_unchecked, Sifts}
 use Rattle.shogi_moves.specs.Guards.{Guards}
-use Rattle.shogi_moves.specs.Legal.{is_safe, is_legal, is_legal_code, is_pseudo_legal_board_move, may_promote, can_promote, in_zone, is_pseudo_legal_drop, is_pawn_kind, is_pawn_drop_mate}
+use Rattle.shogi_moves.specs.Legal.{is_safe, is_legal, is_legal_code, is_pseudo_legal_board_move, may_promote, is_promotable, in_promotion_zone, is_pseudo_legal_drop, is_pawn_kind, is_pawn_drop_mate}
 use Rattle.shogi_moves.proofs.CaptureLaws.{sort_of}
 use Rattle.shogi_moves.proofs.GuardLaws.{calm_safe, filled, king_set, stays_set, stays_drop, quiet_drop_safe, calm_parts}
 use Rattle.shogi_moves.proofs.LegalLaws.{is_legal_code_of}
@@ -123,18 +123,18 @@ all_kept : (a b : Bool) → b ≡ true → a ≡ (a && b)
 all_kept true b e = sym e
 all_kept false b e = refl
 
-pub calm_kept : (p : Shogi) (checked : Bool) (exposed ends from n : ℕ) → Guards p checked exposed → length p.cells ≡ 81 → from < 81 → n < 81 → is_of p.side (piece_at p.cells from) ≡ true → (not checked && not (has_bit exposed from)) ≡ true
+pub calm_kept : (p : Shogi) (checked : Bool) (exposed ends from n : ℕ) → Guards p checked exposed → length p.cells ≡ 81 → from < 81 → n < 81 → is_piece_of p.side (piece_at p.cells from) ≡ true → (not checked && not (has_bit exposed from)) ≡ true
     → has_bit ends n ≡ (has_bit ends n && is_unchecked p (Board from n false))
 calm_kept p checked exposed ends from n g len hf hn own calm =
     let parts : (checked ≡ false) × (has_bit exposed from ≡ false) = calm_parts checked (has_bit exposed from) calm in
     all_kept (has_bit ends n) (is_unchecked p (Board from n false))
     (ap not (calm_safe p checked exposed from n false g len hf hn own parts.0 parts.1))
 
-moved_own : (side : Color) (promote : Bool) (cell : Option Piece) → is_of side (moved promote cell) ≡ is_of side cell
+moved_own : (side : Color) (promote : Bool) (cell : Option Piece) → is_piece_of side (moved promote cell) ≡ is_piece_of side cell
 moved_own side promote None = refl
 moved_own side promote (Some piece) = refl
 
-other_side : (side : Color) (cell : Option Piece) → is_of side cell ≡ true → is_of (opponent_of side) cell ≡ false
+other_side : (side : Color) (cell : Option Piece) → is_piece_of side cell ≡ true → is_piece_of (opponent_of side) cell ≡ false
 other_side side None e = refl
 other_side Black (Some piece) e = go piece.color e
   where
@@ -148,7 +148,7 @@ other_side White (Some piece) e = go piece.color e
     go Black e = absurd (cc)
 
 -- a piece without which there is no check may end anywhere
-pub free_kept : (p : Shogi) (ends from n : ℕ) → length p.cells ≡ 81 → from < 81 → n < 81 → is_of p.side (piece_at p.cells from) ≡ true → is_king p.side (piece_at p.cells from) ≡ false → not (in_check (set p.cells from None) p.side) ≡ true
+pub free_kept : (p : Shogi) (ends from n : ℕ) → length p.cells ≡ 81 → from < 81 → n < 81 → is_piece_of p.side (piece_at p.cells from) ≡ true → is_king p.side (piece_at p.cells from) ≡ false → not (in_check (set p.cells from None) p.side) ≡ true
     → has_bit ends n ≡ (has_bit ends n && is_unchecked p (Board from n false))
 free_kept p ends from n len hf hn own plain free =
     all_kept (has_bit ends n) (is_unchecked p (Board from n false))
@@ -165,7 +165,7 @@ lone_king p kings rest from b r none x h other =
     go true e f h = absurd (both_ways (not e) h (ap not f))
     go false e f h = refl
 
-pub king_steps : (p : Shogi) (from to : ℕ) → length p.cells ≡ 81 → from < 81 → to < 81 → is_of p.side (piece_at p.cells from) ≡ true → ((x : ℕ) → x < 81 → x ≢ from → is_king p.side (piece_at p.cells x) ≡ false)
+pub king_steps : (p : Shogi) (from to : ℕ) → length p.cells ≡ 81 → from < 81 → to < 81 → is_piece_of p.side (piece_at p.cells from) ≡ true → ((x : ℕ) → x < 81 → x ≢ from → is_king p.side (piece_at p.cells x) ≡ false)
     → is_attacked (set p.cells from None) (opponent_of p.side) to ≡ false → true ≡ is_unchecked p (Board from to false)
 king_steps p from to len hf ht own lone safe = sym (ap not (king_set p.cells p.side from to (moved false (piece_at p.cells from)) len hf ht (moved_own p.side false (piece_at p.cells from) ∙ own) lone safe))
 
@@ -187,8 +187,8 @@ narrowed_drops ends exposed n u cut = rw (has_bit-and ends exposed n) (go (has_b
     go true false u f = sym (f refl refl)
     go false b u f = refl
 
-pub no_answer : (p : Shogi) (checked : Bool) (exposed others from n : ℕ) → Guards p checked exposed → checked ≡ true → length p.cells ≡ 81 → from < 81 → n < 81 → is_of p.side (piece_at p.cells from) ≡ true → is_king p.side (piece_at p.cells from) ≡ false
-    → has_bit others n ≡ is_of (opponent_of p.side) (piece_at p.cells n) → has_bit exposed n ≡ false → has_bit others n ≡ false → is_unchecked p (Board from n false) ≡ false
+pub no_answer : (p : Shogi) (checked : Bool) (exposed others from n : ℕ) → Guards p checked exposed → checked ≡ true → length p.cells ≡ 81 → from < 81 → n < 81 → is_piece_of p.side (piece_at p.cells from) ≡ true → is_king p.side (piece_at p.cells from) ≡ false
+    → has_bit others n ≡ is_piece_of (opponent_of p.side) (piece_at p.cells n) → has_bit exposed n ≡ false → has_bit others n ≡ false → is_unchecked p (Board from n false) ≡ false
 no_answer p checked exposed others from n g c len hf hn own plain o out none =
     ap not (stays_set p.cells p.side from n (moved false (piece_at p.cells from)) len hf hn own plain (sym o ∙ none) (g.kings n hn out) (g.lines c n hn out) (sym g.check ∙ c))
 
@@ -229,7 +229,7 @@ mix true true true true true false = refl
 mix true true true true false true = refl
 mix true true true true false false = refl
 
-asked_end : (capture : Bool) (side : Color) (cell : Option Piece) → (not (is_of side cell) && is_asked capture (is_some cell)) ≡ is_end capture side cell
+asked_end : (capture : Bool) (side : Color) (cell : Option Piece) → (not (is_piece_of side cell) && is_asked capture (is_some cell)) ≡ is_end capture side cell
 asked_end true side None = refl
 asked_end false side None = refl
 asked_end true Black (Some piece) = go piece.color
@@ -242,7 +242,7 @@ asked_end true White (Some piece) = go piece.color
     go : (c : Color) → (not (is_same_color White c) && true) ≡ is_same_color Black c
     go Black = refl
     go White = refl
-asked_end false side (Some piece) = go (not (is_of side (Some piece)))
+asked_end false side (Some piece) = go (not (is_piece_of side (Some piece)))
   where
     go : (b : Bool) → (b && false) ≡ false
     go true = refl
@@ -302,7 +302,7 @@ king_same side a b (Some piece) e = go a b piece.role (king_of (is_same_color si
     go true false role e = rw (crown role e) refl
     go false true role e = rw (clash role e) refl
 
-module _ (cells : Cells) (side : Color) (from to : ℕ) (a b : Bool) (len : length cells ≡ 81) (ht : to < 81) (own : is_of side (piece_at cells from) ≡ true) where
+module _ (cells : Cells) (side : Color) (from to : ℕ) (a b : Bool) (len : length cells ≡ 81) (ht : to < 81) (own : is_piece_of side (piece_at cells from) ≡ true) where
   look : (x : ℕ) → ((piece_at (cells_after cells side (Board from to a)) x ≡ moved a (piece_at cells from)) × (piece_at (cells_after cells side (Board from to b)) x ≡ moved b (piece_at cells from))) ⊎ (piece_at (cells_after cells side (Board from to a)) x ≡ piece_at (cells_after cells side (Board from to b)) x)
   look x = elim (cases_eq x to) [
     | inl there ↦ inl (rw there (get_or-set_same (set cells from None) to (moved a (piece_at cells from)) None (omega (arith, length-set cells from None)), get_or-set_same (set cells from None) to (moved b (piece_at cells from)) None (omega (arith, length-set cells from None))))
@@ -318,7 +318,7 @@ module _ (cells : Cells) (side : Color) (from to : ℕ) (a b : Bool) (len : leng
       ])
       side
       (λ x e. elim (look x) [
-        | inl both ↦ absurd (both_ways (is_of (opponent_of side) (moved b (piece_at cells from))) (other_side side (moved b (piece_at cells from)) (moved_own side b (piece_at cells from) ∙ own)) (sym (ap (is_of (opponent_of side)) both.1) ∙ e))
+        | inl both ↦ absurd (both_ways (is_piece_of (opponent_of side) (moved b (piece_at cells from))) (other_side side (moved b (piece_at cells from)) (moved_own side b (piece_at cells from) ∙ own)) (sym (ap (is_piece_of (opponent_of side)) both.1) ∙ e))
         | inr same ↦ same
       ])
       (λ x e. elim (look x) [
@@ -334,52 +334,52 @@ same_tests false false f g = refl
 same_tests true false f g = g refl
 same_tests false true f g = sym (f refl)
 
-pub unchecked_either : (p : Shogi) (from to : ℕ) (promote : Bool) → length p.cells ≡ 81 → to < 81 → is_of p.side (piece_at p.cells from) ≡ true → is_unchecked p (Board from to promote) ≡ is_unchecked p (Board from to false)
+pub unchecked_either : (p : Shogi) (from to : ℕ) (promote : Bool) → length p.cells ≡ 81 → to < 81 → is_piece_of p.side (piece_at p.cells from) ≡ true → is_unchecked p (Board from to promote) ≡ is_unchecked p (Board from to false)
 unchecked_either p from to promote len ht own = ap not (same_tests (in_check (cells_after p.cells p.side (Board from to promote)) p.side) (in_check (cells_after p.cells p.side (Board from to false)) p.side)
     (unchecked_if p.cells p.side from to promote false len ht own) (unchecked_if p.cells p.side from to false promote len ht own))
 
 -- the legal ends with a choice on promotion
-pub wanted_board : (p : Shogi) (capture promote : Bool) (from to : ℕ) → length p.cells ≡ 81 → from < 81 → to < 81 → is_of p.side (piece_at p.cells from) ≡ true
-    → is_wanted p capture (code_of (Board from to promote)) ≡ (((reaches p.cells from to && is_end capture p.side (piece_at p.cells to)) && is_unchecked p (Board from to false)) && ((not promote || may_promote (piece_at p.cells from) from to) && not (is_dead to (moved promote (piece_at p.cells from)))))
+pub wanted_board : (p : Shogi) (capture promote : Bool) (from to : ℕ) → length p.cells ≡ 81 → from < 81 → to < 81 → is_piece_of p.side (piece_at p.cells from) ≡ true
+    → is_wanted p capture (code_of (Board from to promote)) ≡ (((reaches p.cells from to && is_end capture p.side (piece_at p.cells to)) && is_unchecked p (Board from to false)) && ((not promote || may_promote (piece_at p.cells from) from to) && not (is_immobile to (moved promote (piece_at p.cells from)))))
 wanted_board p capture promote from to len hf ht own =
     wanted_move p capture (Board from to promote) (move_of-board from to promote hf ht)
     ∙ (rw (legal_board p from to promote, unchecked_either p from to promote len ht own, own)
-    (mix (not (is_of p.side (piece_at p.cells to))) (reaches p.cells from to) (not promote || may_promote (piece_at p.cells from) from to) (not (is_dead to (moved promote (piece_at p.cells from)))) (is_unchecked p (Board from to false)) (is_asked capture (is_some (piece_at p.cells to)))
+    (mix (not (is_piece_of p.side (piece_at p.cells to))) (reaches p.cells from to) (not promote || may_promote (piece_at p.cells from) from to) (not (is_immobile to (moved promote (piece_at p.cells from)))) (is_unchecked p (Board from to false)) (is_asked capture (is_some (piece_at p.cells to)))
     ∙ (rw (asked_end capture p.side (piece_at p.cells to)) refl)))
 
-pub still : (n : ℕ) (cell : Option Piece) → is_dead n (moved false cell) ≡ is_dead n cell
+pub still : (n : ℕ) (cell : Option Piece) → is_immobile n (moved false cell) ≡ is_immobile n cell
 still n None = refl
 still n (Some piece) = refl
 
 -- a promoted piece can always move again
-alive : (from n : ℕ) (cell : Option Piece) → (may_promote cell from n && not (is_dead n (moved true cell))) ≡ may_promote cell from n
+alive : (from n : ℕ) (cell : Option Piece) → (may_promote cell from n && not (is_immobile n (moved true cell))) ≡ may_promote cell from n
 alive from n None = refl
-alive from n (Some piece) = go piece.role (in_zone piece.color from || in_zone piece.color n)
+alive from n (Some piece) = go piece.role (in_promotion_zone piece.color from || in_promotion_zone piece.color n)
   where
-    go : (role : Role) (z : Bool) → ((can_promote role && z) && not (is_dead_role piece.color (promoted role) (n % 9))) ≡ (can_promote role && z)
+    go : (role : Role) (z : Bool) → ((is_promotable role && z) && not (is_dead_role piece.color (promoted role) (n % 9))) ≡ (is_promotable role && z)
     go role false = low role
       where
-        low : (role : Role) → ((can_promote role && false) && not (is_dead_role piece.color (promoted role) (n % 9))) ≡ (can_promote role && false)
+        low : (role : Role) → ((is_promotable role && false) && not (is_dead_role piece.color (promoted role) (n % 9))) ≡ (is_promotable role && false)
         low Pawn = refl
         low _ = refl
     go role true = live piece.color role
       where
-        live : (color : Color) (role : Role) → ((can_promote role && true) && not (is_dead_role color (promoted role) (n % 9))) ≡ (can_promote role && true)
+        live : (color : Color) (role : Role) → ((is_promotable role && true) && not (is_dead_role color (promoted role) (n % 9))) ≡ (is_promotable role && true)
         live Black Pawn = refl
         live Black _ = refl
         live White Pawn = refl
         live White _ = refl
 
-pub plain_ends : (p : Shogi) (capture : Bool) (from n targets sort ends dead : ℕ) → length p.cells ≡ 81 → from < 81 → n < 81 → is_of p.side (piece_at p.cells from) ≡ true
+pub plain_ends : (p : Shogi) (capture : Bool) (from n targets sort ends dead : ℕ) → length p.cells ≡ 81 → from < 81 → n < 81 → is_piece_of p.side (piece_at p.cells from) ≡ true
     → has_bit targets n ≡ reaches p.cells from n → has_bit sort n ≡ is_end capture p.side (piece_at p.cells n)
-    → has_bit ends n ≡ (has_bit (bit_and targets sort) n && is_unchecked p (Board from n false)) → dead < 2 ^ 81 → has_bit dead n ≡ is_dead n (piece_at p.cells from)
+    → has_bit ends n ≡ (has_bit (bit_and targets sort) n && is_unchecked p (Board from n false)) → dead < 2 ^ 81 → has_bit dead n ≡ is_immobile n (piece_at p.cells from)
     → has_bit (bit_and ends (2 ^ 128 - 1 - dead)) n ≡ is_wanted p capture (code_of (Board from n false))
 plain_ends p capture from n targets sort ends dead len hf hn own t s e fits d =
     has_bit-and ends (2 ^ 128 - 1 - dead) n
     ∙ (rw (e, has_bit-and targets sort n, t, s, has_bit-not dead n (omega arith) (omega arith), d)
     (sym (wanted_board p capture false from n len hf hn own ∙ (rw (still n (piece_at p.cells from)) refl))))
 
-pub promoting_ends : (p : Shogi) (capture : Bool) (from n targets sort ends promoting : ℕ) → length p.cells ≡ 81 → from < 81 → n < 81 → is_of p.side (piece_at p.cells from) ≡ true
+pub promoting_ends : (p : Shogi) (capture : Bool) (from n targets sort ends promoting : ℕ) → length p.cells ≡ 81 → from < 81 → n < 81 → is_piece_of p.side (piece_at p.cells from) ≡ true
     → has_bit targets n ≡ reaches p.cells from n → has_bit sort n ≡ is_end capture p.side (piece_at p.cells n)
     → has_bit ends n ≡ (has_bit (bit_and targets sort) n && is_unchecked p (Board from n false)) → has_bit promoting n ≡ may_promote (piece_at p.cells from) from n
     → has_bit (bit_and ends promoting) n ≡ is_wanted p capture (code_of (Board from n true))
@@ -403,24 +403,24 @@ mix_all true true true false false = refl
 mix_all true true true true true = refl
 mix_all true true true true false = refl
 
-pub legal_board_code : (p : Shogi) (promote : Bool) (from to : ℕ) → length p.cells ≡ 81 → from < 81 → to < 81 → is_of p.side (piece_at p.cells from) ≡ true
-    → is_legal_code p (code_of (Board from to promote)) ≡ (((reaches p.cells from to && not (is_of p.side (piece_at p.cells to))) && is_unchecked p (Board from to false)) && ((not promote || may_promote (piece_at p.cells from) from to) && not (is_dead to (moved promote (piece_at p.cells from)))))
+pub legal_board_code : (p : Shogi) (promote : Bool) (from to : ℕ) → length p.cells ≡ 81 → from < 81 → to < 81 → is_piece_of p.side (piece_at p.cells from) ≡ true
+    → is_legal_code p (code_of (Board from to promote)) ≡ (((reaches p.cells from to && not (is_piece_of p.side (piece_at p.cells to))) && is_unchecked p (Board from to false)) && ((not promote || may_promote (piece_at p.cells from) from to) && not (is_immobile to (moved promote (piece_at p.cells from)))))
 legal_board_code p promote from to len hf ht own =
     is_legal_code_of p (code_of (Board from to promote)) (Board from to promote) (move_of-board from to promote hf ht)
     ∙ (rw (legal_board p from to promote, unchecked_either p from to promote len ht own, own)
-    (mix_all (not (is_of p.side (piece_at p.cells to))) (reaches p.cells from to) (not promote || may_promote (piece_at p.cells from) from to) (not (is_dead to (moved promote (piece_at p.cells from)))) (is_unchecked p (Board from to false))))
+    (mix_all (not (is_piece_of p.side (piece_at p.cells to))) (reaches p.cells from to) (not promote || may_promote (piece_at p.cells from) from to) (not (is_immobile to (moved promote (piece_at p.cells from)))) (is_unchecked p (Board from to false))))
 
-pub plain_legal : (p : Shogi) (from n targets own ends dead : ℕ) → length p.cells ≡ 81 → from < 81 → n < 81 → is_of p.side (piece_at p.cells from) ≡ true
-    → has_bit targets n ≡ reaches p.cells from n → own < 2 ^ 81 → has_bit own n ≡ is_of p.side (piece_at p.cells n)
-    → has_bit ends n ≡ (has_bit (bit_and targets (2 ^ 128 - 1 - own)) n && is_unchecked p (Board from n false)) → dead < 2 ^ 81 → has_bit dead n ≡ is_dead n (piece_at p.cells from)
+pub plain_legal : (p : Shogi) (from n targets own ends dead : ℕ) → length p.cells ≡ 81 → from < 81 → n < 81 → is_piece_of p.side (piece_at p.cells from) ≡ true
+    → has_bit targets n ≡ reaches p.cells from n → own < 2 ^ 81 → has_bit own n ≡ is_piece_of p.side (piece_at p.cells n)
+    → has_bit ends n ≡ (has_bit (bit_and targets (2 ^ 128 - 1 - own)) n && is_unchecked p (Board from n false)) → dead < 2 ^ 81 → has_bit dead n ≡ is_immobile n (piece_at p.cells from)
     → has_bit (bit_and ends (2 ^ 128 - 1 - dead)) n ≡ is_legal_code p (code_of (Board from n false))
 plain_legal p from n targets own ends dead len hf hn mine t of o e fits d =
     has_bit-and ends (2 ^ 128 - 1 - dead) n
     ∙ (rw (e, has_bit-and targets (2 ^ 128 - 1 - own) n, has_bit-not own n (omega arith) (omega arith), t, o, has_bit-not dead n (omega arith) (omega arith), d)
     (sym (legal_board_code p false from n len hf hn mine ∙ (rw (still n (piece_at p.cells from)) refl))))
 
-pub promoting_legal : (p : Shogi) (from n targets own ends promoting : ℕ) → length p.cells ≡ 81 → from < 81 → n < 81 → is_of p.side (piece_at p.cells from) ≡ true
-    → has_bit targets n ≡ reaches p.cells from n → own < 2 ^ 81 → has_bit own n ≡ is_of p.side (piece_at p.cells n)
+pub promoting_legal : (p : Shogi) (from n targets own ends promoting : ℕ) → length p.cells ≡ 81 → from < 81 → n < 81 → is_piece_of p.side (piece_at p.cells from) ≡ true
+    → has_bit targets n ≡ reaches p.cells from n → own < 2 ^ 81 → has_bit own n ≡ is_piece_of p.side (piece_at p.cells n)
     → has_bit ends n ≡ (has_bit (bit_and targets (2 ^ 128 - 1 - own)) n && is_unchecked p (Board from n false)) → has_bit promoting n ≡ may_promote (piece_at p.cells from) from n
     → has_bit (bit_and ends promoting) n ≡ is_legal_code p (code_of (Board from n true))
 promoting_legal p from n targets own ends promoting len hf hn mine t of o e m =
@@ -441,20 +441,20 @@ first_fails a b c d e = rw e refl
 pub right_none : (p : Shogi) (kind : Kind) (n : ℕ) → held p.hands p.side kind ≡ 0 → has_bit 0 n ≡ is_pseudo_legal_drop p.cells p.hands p.side kind n
 right_none p kind n e = has_bit-none n ∙ (rw e refl)
 
-pub right_pawn : (p : Shogi) (kind : Kind) (free dead files n : ℕ) → n < 81 → 0 < held p.hands p.side kind → is_pawn_kind kind ≡ true → has_bit free n ≡ is_none (piece_at p.cells n) → dead < 2 ^ 81 → has_bit dead n ≡ is_dead n (dropped p.side kind)
+pub right_pawn : (p : Shogi) (kind : Kind) (free dead files n : ℕ) → n < 81 → 0 < held p.hands p.side kind → is_pawn_kind kind ≡ true → has_bit free n ≡ is_none (piece_at p.cells n) → dead < 2 ^ 81 → has_bit dead n ≡ is_immobile n (dropped p.side kind)
     → files < 2 ^ 81 → has_bit files n ≡ nat_lt 0 (pawns_on_file p.side (n / 9) p.cells)
     → has_bit (bit_and (bit_and free (2 ^ 128 - 1 - dead)) (2 ^ 128 - 1 - files)) n ≡ is_pseudo_legal_drop p.cells p.hands p.side kind n
 right_pawn p kind free dead files n h some pawn f df d ff b =
     has_bit-and (bit_and free (2 ^ 128 - 1 - dead)) (2 ^ 128 - 1 - files) n
     ∙ (rw (has_bit-and free (2 ^ 128 - 1 - dead) n, has_bit-not dead n (omega arith) (omega arith), has_bit-not files n (omega arith) (omega arith), f, d, b, pawn)
-    (four (nat_lt 0 (held p.hands p.side kind)) (is_none (piece_at p.cells n)) (not (is_dead n (dropped p.side kind))) (not (nat_lt 0 (pawns_on_file p.side (n / 9) p.cells))) (lt-ltb 0 (held p.hands p.side kind) some)))
+    (four (nat_lt 0 (held p.hands p.side kind)) (is_none (piece_at p.cells n)) (not (is_immobile n (dropped p.side kind))) (not (nat_lt 0 (pawns_on_file p.side (n / 9) p.cells))) (lt-ltb 0 (held p.hands p.side kind) some)))
 
-pub right_other : (p : Shogi) (kind : Kind) (free dead n : ℕ) → n < 81 → 0 < held p.hands p.side kind → is_pawn_kind kind ≡ false → has_bit free n ≡ is_none (piece_at p.cells n) → dead < 2 ^ 81 → has_bit dead n ≡ is_dead n (dropped p.side kind)
+pub right_other : (p : Shogi) (kind : Kind) (free dead n : ℕ) → n < 81 → 0 < held p.hands p.side kind → is_pawn_kind kind ≡ false → has_bit free n ≡ is_none (piece_at p.cells n) → dead < 2 ^ 81 → has_bit dead n ≡ is_immobile n (dropped p.side kind)
     → has_bit (bit_and free (2 ^ 128 - 1 - dead)) n ≡ is_pseudo_legal_drop p.cells p.hands p.side kind n
 right_other p kind free dead n h some other f df d =
     has_bit-and free (2 ^ 128 - 1 - dead) n
     ∙ (rw (has_bit-not dead n (omega arith) (omega arith), f, d, other)
-    (sym (alone (is_none (piece_at p.cells n) && not (is_dead n (dropped p.side kind)))) ∙ four (nat_lt 0 (held p.hands p.side kind)) (is_none (piece_at p.cells n)) (not (is_dead n (dropped p.side kind))) true (lt-ltb 0 (held p.hands p.side kind) some)))
+    (sym (alone (is_none (piece_at p.cells n) && not (is_immobile n (dropped p.side kind)))) ∙ four (nat_lt 0 (held p.hands p.side kind)) (is_none (piece_at p.cells n)) (not (is_immobile n (dropped p.side kind))) true (lt-ltb 0 (held p.hands p.side kind) some)))
 
 pub ruleset dropping = (right_none, right_pawn, right_other, and_fits)
 

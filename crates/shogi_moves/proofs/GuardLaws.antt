@@ -11,7 +11,7 @@ use Rattle.shogi_core.specs.declared.piece.Piece.{Piece}
 use Rattle.shogi_core.specs.declared.moves.Move.TheVariants.{Board, Drop}
 use Rattle.shogi_core.specs.Attack.{in_check, is_attacked, is_open_king}
 use Rattle.shogi_core.specs.Bits.{has_bit}
-use Rattle.shogi_core.specs.Cell.{is_of, is_king, is_king_role}
+use Rattle.shogi_core.specs.Cell.{is_piece_of, is_king, is_king_role}
 use Rattle.shogi_core.specs.Lines.{are_lined, is_line_to_king, is_lined_with_king}
 use Rattle.shogi_core.specs.Movement.{Cells, piece_at}
 use Rattle.shogi_core.specs.Pieces.{opponent_of, is_same_color, role_of}
@@ -46,7 +46,7 @@ exposes_more cells side left next exposed king line h bits lined = record {
 
 -- ---- a piece that moves
 
-pub other_side : (side : Color) (cell : Option Piece) → is_of side cell ≡ true → is_of (opponent_of side) cell ≡ false
+pub other_side : (side : Color) (cell : Option Piece) → is_piece_of side cell ≡ true → is_piece_of (opponent_of side) cell ≡ false
 other_side side None e = refl
 other_side side (Some piece) e = go side piece.color e
   where
@@ -56,11 +56,11 @@ other_side side (Some piece) e = go side piece.color e
     go Black White e = absurd (cc)
     go White Black e = absurd (cc)
 
-pub is_of-moved : (side : Color) (promote : Bool) (cell : Option Piece) → is_of side (moved promote cell) ≡ is_of side cell
-is_of-moved side promote None = refl
-is_of-moved side promote (Some piece) = refl
+pub is_piece_of-moved : (side : Color) (promote : Bool) (cell : Option Piece) → is_piece_of side (moved promote cell) ≡ is_piece_of side cell
+is_piece_of-moved side promote None = refl
+is_piece_of-moved side promote (Some piece) = refl
 
-pub own_some : (side : Color) (cell : Option Piece) → is_of side cell ≡ true → is_none cell ≡ false
+pub own_some : (side : Color) (cell : Option Piece) → is_piece_of side cell ≡ true → is_none cell ≡ false
 own_some side None e = absurd (cc)
 own_some side (Some piece) e = refl
 
@@ -73,7 +73,7 @@ lifted_calm cells side n len h off safe =
     (λ x e. elim (cases_eq x n) [ inl here ↦ inr here | inr other ↦ inl (ap is_none (sym (get_or-set_other cells n x None None other)) ∙ e) ])
     side
     (λ a e. elim (cases_eq a n) [
-      | inl here ↦ absurd (let clash : false ≡ true = ap (is_of (opponent_of side)) (sym (lifted_at a here)) ∙ e in cc)
+      | inl here ↦ absurd (let clash : false ≡ true = ap (is_piece_of (opponent_of side)) (sym (lifted_at a here)) ∙ e in cc)
       | inr other ↦ sym (get_or-set_other cells n a None None other)
     ])
     (λ k e. elim (cases_eq k n) [
@@ -102,7 +102,7 @@ guards_from p checked exposed len h fits e = record {
         both_ways (has_bit exposed n) out (h.lines k n r l parts.0 (has_bit-none k) (lined_back p.cells n k l parts.1)))))
 
 -- a piece of the side on a square more opens no line
-pub filled : (cells : Cells) (side : Color) (to : ℕ) (v : Option Piece) → length cells ≡ 81 → to < 81 → is_of side v ≡ true → is_king side v ≡ false → in_check cells side ≡ false → in_check (set cells to v) side ≡ false
+pub filled : (cells : Cells) (side : Color) (to : ℕ) (v : Option Piece) → length cells ≡ 81 → to < 81 → is_piece_of side v ≡ true → is_king side v ≡ false → in_check cells side ≡ false → in_check (set cells to v) side ≡ false
 filled cells side to v len ht own plain safe =
     check_was cells (set cells to v) (λ x. ⊥)
     (λ x e. elim (look x) [
@@ -111,7 +111,7 @@ filled cells side to v len ht own plain safe =
     ])
     side
     (λ x e. elim (look x) [
-      | inl there ↦ absurd (both_ways (is_of (opponent_of side) v) (other_side side v own) (ap (is_of (opponent_of side)) (sym there) ∙ e))
+      | inl there ↦ absurd (both_ways (is_piece_of (opponent_of side) v) (other_side side v own) (ap (is_piece_of (opponent_of side)) (sym there) ∙ e))
       | inr same ↦ sym same
     ])
     (λ x e. elim (look x) [
@@ -132,7 +132,7 @@ filled cells side to v len ht own plain safe =
 -- of the first squares those that are not left are empty; only pieces of the side that are no kings were lifted off
 pub record IsLifted (cells lifted : Cells) (side : Color) (first left : ℕ) : Type 0 where
   pub fit : length lifted ≡ 81
-  pub stands : (x : ℕ) → (piece_at lifted x ≡ piece_at cells x) ⊎ ((piece_at lifted x ≡ None) × (is_of side (piece_at cells x) ≡ true) × (is_king side (piece_at cells x) ≡ false))
+  pub stands : (x : ℕ) → (piece_at lifted x ≡ piece_at cells x) ⊎ ((piece_at lifted x ≡ None) × (is_piece_of side (piece_at cells x) ≡ true) × (is_king side (piece_at cells x) ≡ false))
   pub gone : (x : ℕ) → has_bit first x ≡ true → has_bit left x ≡ false → piece_at lifted x ≡ None
   pub within : (x : ℕ) → has_bit left x ≡ true → has_bit first x ≡ true
 
@@ -145,19 +145,19 @@ lift_first cells side first len = record {
 }
 
 -- those that are lifted off are pieces of the side, and no kings
-pub mine : (p : Shogi) (own exposed kings x : ℕ) → kings < 2 ^ 81 → x < 81 → ((n : ℕ) → n < 81 → has_bit own n ≡ is_of p.side (piece_at p.cells n)) → ((n : ℕ) → n < 81 → has_bit kings n ≡ is_king p.side (piece_at p.cells n))
-    → has_bit (bit_and (bit_and own exposed) (2 ^ 128 - 1 - kings)) x ≡ true → (is_of p.side (piece_at p.cells x) ≡ true) × (is_king p.side (piece_at p.cells x) ≡ false)
+pub mine : (p : Shogi) (own exposed kings x : ℕ) → kings < 2 ^ 81 → x < 81 → ((n : ℕ) → n < 81 → has_bit own n ≡ is_piece_of p.side (piece_at p.cells n)) → ((n : ℕ) → n < 81 → has_bit kings n ≡ is_king p.side (piece_at p.cells n))
+    → has_bit (bit_and (bit_and own exposed) (2 ^ 128 - 1 - kings)) x ≡ true → (is_piece_of p.side (piece_at p.cells x) ≡ true) × (is_king p.side (piece_at p.cells x) ≡ false)
 mine p own exposed kings x fits h o k e =
     let both : (has_bit (bit_and own exposed) x ≡ true) × (has_bit (2 ^ 128 - 1 - kings) x ≡ true) = and_parts _ _ (sym (has_bit-and (bit_and own exposed) (2 ^ 128 - 1 - kings) x) ∙ e) in
     let here : (has_bit own x ≡ true) × (has_bit exposed x ≡ true) = and_parts _ _ (sym (has_bit-and own exposed x) ∙ both.0) in
     (sym (o x h) ∙ here.0, sym (k x h) ∙ not-true (has_bit kings x) (sym (has_bit-not kings x (omega arith) (omega arith)) ∙ both.1))
 
-pub lift_more : (cells lifted : Cells) (side : Color) (first left next s : ℕ) → IsLifted cells lifted side first left → s < 81 → has_bit left s ≡ true → (is_of side (piece_at cells s) ≡ true) × (is_king side (piece_at cells s) ≡ false)
+pub lift_more : (cells lifted : Cells) (side : Color) (first left next s : ℕ) → IsLifted cells lifted side first left → s < 81 → has_bit left s ≡ true → (is_piece_of side (piece_at cells s) ≡ true) × (is_king side (piece_at cells s) ≡ false)
     → ((i : ℕ) → has_bit next i ≡ (has_bit left i && not (i == s))) → IsLifted cells (set lifted s None) side first next
 lift_more cells lifted side first left next s l h set_s own bits = record {
   fit = length-set lifted s None ∙ l.fit;
   stands = λ x. elim (cases_eq x s) [
-    | inl here ↦ inr (out x here, subst (λ (y : ℕ). is_of side (piece_at cells y) ≡ true) (sym here) own.0, subst (λ (y : ℕ). is_king side (piece_at cells y) ≡ false) (sym here) own.1)
+    | inl here ↦ inr (out x here, subst (λ (y : ℕ). is_piece_of side (piece_at cells y) ≡ true) (sym here) own.0, subst (λ (y : ℕ). is_king side (piece_at cells y) ≡ false) (sym here) own.1)
     | inr other ↦ elim (l.stands x) [
       | inl same ↦ inl (get_or-set_other lifted s x None None other ∙ same)
       | inr off ↦ inr (get_or-set_other lifted s x None None other ∙ off.0, off.1, off.2)
@@ -178,7 +178,7 @@ lift_more cells lifted side first left next s l h set_s own bits = record {
     kept false b e f = refl
 
 -- where that gives no check, no piece is pinned
-pub all_loose : (p : Shogi) (own exposed kings : ℕ) (lifted : Cells) → Guards p false exposed → length p.cells ≡ 81 → kings < 2 ^ 81 → ((n : ℕ) → n < 81 → has_bit own n ≡ is_of p.side (piece_at p.cells n)) → ((n : ℕ) → n < 81 → has_bit kings n ≡ is_king p.side (piece_at p.cells n))
+pub all_loose : (p : Shogi) (own exposed kings : ℕ) (lifted : Cells) → Guards p false exposed → length p.cells ≡ 81 → kings < 2 ^ 81 → ((n : ℕ) → n < 81 → has_bit own n ≡ is_piece_of p.side (piece_at p.cells n)) → ((n : ℕ) → n < 81 → has_bit kings n ≡ is_king p.side (piece_at p.cells n))
     → IsLifted p.cells lifted p.side (bit_and (bit_and own exposed) (2 ^ 128 - 1 - kings)) 0 → in_check lifted p.side ≡ false → Guards p false kings
 all_loose p own exposed kings lifted g len fits o k l safe = record {
   check = g.check;
@@ -203,10 +203,10 @@ all_loose p own exposed kings lifted g len fits o k l safe = record {
         ])
         p.side
         (λ a e. elim (cases_eq a n) [
-          | inl here ↦ absurd (let clash : false ≡ true = ap (is_of (opponent_of p.side)) (sym (out a here)) ∙ e in cc)
+          | inl here ↦ absurd (let clash : false ≡ true = ap (is_piece_of (opponent_of p.side)) (sym (out a here)) ∙ e in cc)
           | inr other ↦ elim (l.stands a) [
             | inl same ↦ same ∙ sym (get_or-set_other p.cells n a None None other)
-            | inr off ↦ absurd (both_ways (is_of (opponent_of p.side) (piece_at p.cells a)) (other_side p.side (piece_at p.cells a) off.1) (ap (is_of (opponent_of p.side)) (sym (get_or-set_other p.cells n a None None other)) ∙ e))
+            | inr off ↦ absurd (both_ways (is_piece_of (opponent_of p.side) (piece_at p.cells a)) (other_side p.side (piece_at p.cells a) off.1) (ap (is_piece_of (opponent_of p.side)) (sym (get_or-set_other p.cells n a None None other)) ∙ e))
           ]
         ])
         (λ q e. elim (cases_eq q n) [
@@ -237,7 +237,7 @@ module _ (cells : Cells) (side : Color) (from to : ℕ) (v : Option Piece) (len 
     ]
   ]
 
-  pub quiet_set : is_of side v ≡ true → is_king side v ≡ false → is_lined_with_king cells side from ≡ false → in_check cells side ≡ false → in_check (set (set cells from None) to v) side ≡ false
+  pub quiet_set : is_piece_of side v ≡ true → is_king side v ≡ false → is_lined_with_king cells side from ≡ false → in_check cells side ≡ false → in_check (set (set cells from None) to v) side ≡ false
   quiet_set own plain free safe =
       check_was cells (set (set cells from None) to v) (λ x. x ≡ from)
       (λ x e. elim (look x) [
@@ -246,8 +246,8 @@ module _ (cells : Cells) (side : Color) (from to : ℕ) (v : Option Piece) (len 
       ])
       side
       (λ a e. elim (look a) [
-        | inl there ↦ absurd (both_ways (is_of (opponent_of side) v) (other_side side v own) (ap (is_of (opponent_of side)) (sym there.1) ∙ e))
-        | inr rest ↦ elim rest [ inl here ↦ absurd (let clash : false ≡ true = ap (is_of (opponent_of side)) (sym here.1) ∙ e in cc) | inr same ↦ sym same ]
+        | inl there ↦ absurd (both_ways (is_piece_of (opponent_of side) v) (other_side side v own) (ap (is_piece_of (opponent_of side)) (sym there.1) ∙ e))
+        | inr rest ↦ elim rest [ inl here ↦ absurd (let clash : false ≡ true = ap (is_piece_of (opponent_of side)) (sym here.1) ∙ e in cc) | inr same ↦ sym same ]
       ])
       (λ k e. elim (look k) [
         | inl there ↦ absurd (both_ways (is_king side v) plain (ap (is_king side) (sym there.1) ∙ e))
@@ -257,7 +257,7 @@ module _ (cells : Cells) (side : Color) (from to : ℕ) (v : Option Piece) (len 
       safe
 
   -- a move that takes no attacker and ends on no open line with a king leaves the check
-  pub stays_set : is_of side (piece_at cells from) ≡ true → is_king side (piece_at cells from) ≡ false → is_of (opponent_of side) (piece_at cells to) ≡ false → is_king side (piece_at cells to) ≡ false → is_lined_with_king cells side to ≡ false
+  pub stays_set : is_piece_of side (piece_at cells from) ≡ true → is_king side (piece_at cells from) ≡ false → is_piece_of (opponent_of side) (piece_at cells to) ≡ false → is_king side (piece_at cells to) ≡ false → is_lined_with_king cells side to ≡ false
       → in_check cells side ≡ true → in_check (set (set cells from None) to v) side ≡ true
   stays_set own plain none bare off check =
       check_stays cells (set (set cells from None) to v) to
@@ -267,9 +267,9 @@ module _ (cells : Cells) (side : Color) (from to : ℕ) (v : Option Piece) (len 
       ])
       side
       (λ a e. elim (look a) [
-        | inl there ↦ absurd (both_ways (is_of (opponent_of side) (piece_at cells to)) none (subst (λ (y : ℕ). is_of (opponent_of side) (piece_at cells y) ≡ true) there.0 e))
+        | inl there ↦ absurd (both_ways (is_piece_of (opponent_of side) (piece_at cells to)) none (subst (λ (y : ℕ). is_piece_of (opponent_of side) (piece_at cells y) ≡ true) there.0 e))
         | inr rest ↦ elim rest [
-          | inl here ↦ absurd (both_ways (is_of (opponent_of side) (piece_at cells from)) (other_side side (piece_at cells from) own) (subst (λ (y : ℕ). is_of (opponent_of side) (piece_at cells y) ≡ true) here.0 e))
+          | inl here ↦ absurd (both_ways (is_piece_of (opponent_of side) (piece_at cells from)) (other_side side (piece_at cells from) own) (subst (λ (y : ℕ). is_piece_of (opponent_of side) (piece_at cells y) ≡ true) here.0 e))
           | inr same ↦ same
         ]
       ])
@@ -283,7 +283,7 @@ module _ (cells : Cells) (side : Color) (from to : ℕ) (v : Option Piece) (len 
       off check
 
   -- a king that is the only one is attacked after its move only where it would be with its square left empty
-  pub king_set : is_of side v ≡ true → ((x : ℕ) → x < 81 → x ≢ from → is_king side (piece_at cells x) ≡ false) → is_attacked (set cells from None) (opponent_of side) to ≡ false → in_check (set (set cells from None) to v) side ≡ false
+  pub king_set : is_piece_of side v ≡ true → ((x : ℕ) → x < 81 → x ≢ from → is_king side (piece_at cells x) ≡ false) → is_attacked (set cells from None) (opponent_of side) to ≡ false → in_check (set (set cells from None) to v) side ≡ false
   unfolding in_check
   king_set own lone safe = some_below_no 81 (is_open_king (set (set cells from None) to v) side) (λ k l. false_from_ne_true (is_open_king (set (set cells from None) to v) side k) (λ e.
       let parts : (is_king side (piece_at (set (set cells from None) to v) k) ≡ true) × (is_attacked (set (set cells from None) to v) (opponent_of side) k ≡ true) = and_parts _ _ e in
@@ -296,7 +296,7 @@ module _ (cells : Cells) (side : Color) (from to : ℕ) (v : Option Piece) (len 
             ])
             (opponent_of side) to
             (λ a f. elim (cases_eq a to) [
-              | inl at ↦ absurd (both_ways (is_of (opponent_of side) v) (other_side side v own) (ap (is_of (opponent_of side)) (sym (filled_at a at)) ∙ f))
+              | inl at ↦ absurd (both_ways (is_piece_of (opponent_of side) v) (other_side side v own) (ap (is_piece_of (opponent_of side)) (sym (filled_at a at)) ∙ f))
               | inr other ↦ sym (get_or-set_other (set cells from None) to a v None other)
             ])
             (λ x left. absurd left)
@@ -317,14 +317,14 @@ module _ (cells : Cells) (side : Color) (from to : ℕ) (v : Option Piece) (len 
       filled_at : (x : ℕ) → x ≡ to → piece_at (set (set cells from None) to v) x ≡ v
       filled_at x at = rw at (get_or-set_same (set cells from None) to v None (omega (arith, length-set cells from None)))
 
-pub quiet_board : (cells : Cells) (side : Color) (from to : ℕ) (promote : Bool) → length cells ≡ 81 → from < 81 → to < 81 → is_of side (piece_at cells from) ≡ true → is_king side (piece_at cells from) ≡ false
+pub quiet_board : (cells : Cells) (side : Color) (from to : ℕ) (promote : Bool) → length cells ≡ 81 → from < 81 → to < 81 → is_piece_of side (piece_at cells from) ≡ true → is_king side (piece_at cells from) ≡ false
     → is_lined_with_king cells side from ≡ false → in_check cells side ≡ false → in_check (cells_after cells side (Board from to promote)) side ≡ false
 quiet_board cells side from to promote len hf ht own plain free safe =
-    quiet_set cells side from to (moved promote (piece_at cells from)) len hf ht (is_of-moved side promote (piece_at cells from) ∙ own) (is_king-moved side promote (piece_at cells from) ∙ plain) free safe
+    quiet_set cells side from to (moved promote (piece_at cells from)) len hf ht (is_piece_of-moved side promote (piece_at cells from) ∙ own) (is_king-moved side promote (piece_at cells from) ∙ plain) free safe
 
 -- ---- a piece that is dropped
 
-pub dropped_of : (side : Color) (kind : Kind) → is_of side (dropped side kind) ≡ true
+pub dropped_of : (side : Color) (kind : Kind) → is_piece_of side (dropped side kind) ≡ true
 dropped_of Black kind = refl
 dropped_of White kind = refl
 
@@ -348,7 +348,7 @@ quiet_drop cells side kind to len ht safe =
     ])
     side
     (λ a e. elim (look a) [
-      | inl there ↦ absurd (both_ways (is_of (opponent_of side) (dropped side kind)) (other_side side (dropped side kind) (dropped_of side kind)) (ap (is_of (opponent_of side)) (sym there) ∙ e))
+      | inl there ↦ absurd (both_ways (is_piece_of (opponent_of side) (dropped side kind)) (other_side side (dropped side kind) (dropped_of side kind)) (ap (is_piece_of (opponent_of side)) (sym there) ∙ e))
       | inr same ↦ sym same
     ])
     (λ k e. elim (look k) [
@@ -374,7 +374,7 @@ stays_drop cells side kind to free off check =
     ])
     side
     (λ a e. elim (cases_eq a to) [
-      | inl there ↦ absurd (both_ways (is_of (opponent_of side) (piece_at cells to)) (nobody (opponent_of side) (piece_at cells to) free) (subst (λ (y : ℕ). is_of (opponent_of side) (piece_at cells y) ≡ true) there e))
+      | inl there ↦ absurd (both_ways (is_piece_of (opponent_of side) (piece_at cells to)) (nobody (opponent_of side) (piece_at cells to) free) (subst (λ (y : ℕ). is_piece_of (opponent_of side) (piece_at cells y) ≡ true) there e))
       | inr other ↦ get_or-set_other cells to a (dropped side kind) None other
     ])
     (λ k e. elim (cases_eq k to) [
@@ -383,7 +383,7 @@ stays_drop cells side kind to free off check =
     ])
     off check
   where
-    nobody : (color : Color) (cell : Option Piece) → is_none cell ≡ true → is_of color cell ≡ false
+    nobody : (color : Color) (cell : Option Piece) → is_none cell ≡ true → is_piece_of color cell ≡ false
     nobody color None e = refl
     nobody color (Some piece) e = absurd (cc)
 
@@ -394,10 +394,10 @@ stays_drop cells side kind to free off check =
 -- ---- what a guard tells of a move
 
 -- a piece that is not exposed leaves no check, wherever it goes
-pub calm_safe : (p : Shogi) (checked : Bool) (exposed from to : ℕ) (promote : Bool) → Guards p checked exposed → length p.cells ≡ 81 → from < 81 → to < 81 → is_of p.side (piece_at p.cells from) ≡ true → checked ≡ false → has_bit exposed from ≡ false
+pub calm_safe : (p : Shogi) (checked : Bool) (exposed from to : ℕ) (promote : Bool) → Guards p checked exposed → length p.cells ≡ 81 → from < 81 → to < 81 → is_piece_of p.side (piece_at p.cells from) ≡ true → checked ≡ false → has_bit exposed from ≡ false
     → in_check (cells_after p.cells p.side (Board from to promote)) p.side ≡ false
 calm_safe p checked exposed from to promote g len hf ht own calm off =
-    filled (set p.cells from None) p.side to (moved promote (piece_at p.cells from)) (length-set p.cells from None ∙ len) ht (is_of-moved p.side promote (piece_at p.cells from) ∙ own) (is_king-moved p.side promote (piece_at p.cells from) ∙ g.kings from hf off) (g.free calm from hf off own)
+    filled (set p.cells from None) p.side to (moved promote (piece_at p.cells from)) (length-set p.cells from None ∙ len) ht (is_piece_of-moved p.side promote (piece_at p.cells from) ∙ own) (is_king-moved p.side promote (piece_at p.cells from) ∙ g.kings from hf off) (g.free calm from hf off own)
 
 pub quiet_board_safe : (p : Shogi) (checked : Bool) (exposed from to : ℕ) (promote : Bool) → Guards p checked exposed → length p.cells ≡ 81 → from < 81 → to < 81 → checked ≡ false → has_bit exposed from ≡ false
     → is_pseudo_legal_board_move p.cells p.side from to promote ≡ is_safe p (Board from to promote)

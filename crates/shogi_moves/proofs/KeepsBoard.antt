@@ -13,7 +13,7 @@ use Rattle.shogi_core.specs.declared.piece.Kind.{Kind}
 use Rattle.shogi_core.specs.declared.piece.Piece.{Piece}
 use Rattle.shogi_core.specs.Pieces.{is_of_kind, set_size}
 use Rattle.shogi_core.specs.Attack.{in_check}
-use Rattle.shogi_core.specs.Cell.{is_king, is_pawn, is_of, is_dead, is_dead_on}
+use Rattle.shogi_core.specs.Cell.{is_king, is_pawn, is_piece_of, is_immobile, is_immobile_on}
 use Rattle.shogi_core.specs.Validity.{pawns_on_file, count_of, IsValid}
 use Rattle.shogi_moves.specs.After.{moved, with_captured, after}
 use Rattle.shogi_moves.proofs.Counts.{count_moved, count_on_file_moved, nothing_here, here}
@@ -21,10 +21,10 @@ use Rattle.shogi_moves.proofs.MovedPieces.{is_of_kind-moved, is_king-moved, is_p
 
 -- what a safe board move keeps to
 pub record IsSafeBoardMove (p : Shogi) (from to : ℕ) (promote : Bool) : Type 0 where
-  pub own : is_of p.side (piece_at p.cells from) ≡ true
-  pub free : is_of p.side (piece_at p.cells to) ≡ false
+  pub own : is_piece_of p.side (piece_at p.cells from) ≡ true
+  pub free : is_piece_of p.side (piece_at p.cells to) ≡ false
   pub reached : reaches p.cells from to ≡ true
-  pub alive : is_dead to (moved promote (piece_at p.cells from)) ≡ false
+  pub alive : is_immobile to (moved promote (piece_at p.cells from)) ≡ false
   pub shut : in_check (after p (Board from to promote)).cells p.side ≡ false
 
 -- its parts, from the one test
@@ -39,8 +39,8 @@ safe_board_move p from to promote e =
     record { own = one.0; free = not-true _ (one.1); reached = two.1; alive = not-true _ (four.1); shut = not-true _ (ends.1) }
 
 -- the new square is another one
-apart : (cells : Cells) (side : Color) (from to : ℕ) → is_of side (piece_at cells from) ≡ true → is_of side (piece_at cells to) ≡ false → to ≢ from
-apart cells side from to own free same = both_ways (is_of side (piece_at cells from)) (subst (λ (k : ℕ). is_of side (piece_at cells k) ≡ false) same free) own
+apart : (cells : Cells) (side : Color) (from to : ℕ) → is_piece_of side (piece_at cells from) ≡ true → is_piece_of side (piece_at cells to) ≡ false → to ≢ from
+apart cells side from to own free same = both_ways (is_piece_of side (piece_at cells from)) (subst (λ (k : ℕ). is_piece_of side (piece_at cells k) ≡ false) same free) own
 
 -- no piece comes or goes
 counts_after_board : (cells : Cells) (hands : HandCounts) (side : Color) (from to : ℕ) (promote : Bool) (kind : Kind) → length cells ≡ 81 → length hands ≡ 14 → from < 81 → to < 81 → to ≢ from
@@ -76,15 +76,15 @@ pawns_after_board cells from to promote color file lc hf ht other reached =
     ]
 
 -- no piece stands where it could never move again
-alive_after_board : (cells : Cells) (from to : ℕ) (v : Option Piece) (square : ℕ) → length cells ≡ 81 → from < 81 → to < 81 → is_dead to v ≡ false → is_dead_on cells square ≡ false
-    → is_dead_on (set (set cells from None) to v) square ≡ false
+alive_after_board : (cells : Cells) (from to : ℕ) (v : Option Piece) (square : ℕ) → length cells ≡ 81 → from < 81 → to < 81 → is_immobile to v ≡ false → is_immobile_on cells square ≡ false
+    → is_immobile_on (set (set cells from None) to v) square ≡ false
 alive_after_board cells from to v square lc hf ht alive before =
     let lt : to < length (set cells from None) = rw length-set (omega arith) in
     elim (cases_eq square to) [
-      | inl there ↦ subst (λ (k : ℕ). is_dead_on (set (set cells from None) to v) k ≡ false) (sym there) (ap (is_dead to) (get_or-set_same (set cells from None) to v None lt) ∙ alive)
+      | inl there ↦ subst (λ (k : ℕ). is_immobile_on (set (set cells from None) to v) k ≡ false) (sym there) (ap (is_immobile to) (get_or-set_same (set cells from None) to v None lt) ∙ alive)
       | inr other ↦ elim (cases_eq square from) [
-        | inl left ↦ ap (is_dead square) (get_or-set_other (set cells from None) to square v None other ∙ subst (λ (k : ℕ). get_or (set cells from None) k None ≡ None) (sym left) (get_or-set_same cells from None None (omega arith)))
-        | inr elsewhere ↦ ap (is_dead square) (get_or-set_other (set cells from None) to square v None other ∙ get_or-set_other cells from square None None elsewhere) ∙ before
+        | inl left ↦ ap (is_immobile square) (get_or-set_other (set cells from None) to square v None other ∙ subst (λ (k : ℕ). get_or (set cells from None) k None ≡ None) (sym left) (get_or-set_same cells from None None (omega arith)))
+        | inr elsewhere ↦ ap (is_immobile square) (get_or-set_other (set cells from None) to square v None other ∙ get_or-set_other cells from square None None elsewhere) ∙ before
       ]
     ]
 

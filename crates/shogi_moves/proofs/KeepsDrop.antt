@@ -15,7 +15,7 @@ use Rattle.shogi_core.specs.declared.piece.Kind.TheVariants as kinds
 use Rattle.shogi_core.specs.declared.piece.Piece.{Piece}
 use Rattle.shogi_core.specs.Pieces.{kind_of, is_of_kind, is_same_color, kind_number, set_size, role_of}
 use Rattle.shogi_core.specs.Attack.{in_check}
-use Rattle.shogi_core.specs.Cell.{is_king_role, is_pawn_role, is_king, is_pawn, is_dead, is_dead_on}
+use Rattle.shogi_core.specs.Cell.{is_king_role, is_pawn_role, is_king, is_pawn, is_immobile, is_immobile_on}
 use Rattle.shogi_core.specs.Validity.{pawns_on_file, count_of, IsValid}
 use Rattle.shogi_moves.specs.After.{after, dropped}
 use Rattle.shogi_moves.proofs.Counts.{count_by-set, count_on_file-set, here_on, here_off, hand_less, nothing_here, here, tally}
@@ -49,7 +49,7 @@ is_none-true (Some x) e = cc
 pub record IsSafeDrop (p : Shogi) (kind : Kind) (to : ℕ) : Type 0 where
   pub held_one : 0 < held p.hands p.side kind
   pub free : piece_at p.cells to ≡ None
-  pub alive : is_dead to (dropped p.side kind) ≡ false
+  pub alive : is_immobile to (dropped p.side kind) ≡ false
   pub pawns : is_pawn_kind kind ≡ true → pawns_on_file p.side (to / 9) p.cells ≤ 0
   pub shut : in_check (after p (Drop kind to)).cells p.side ≡ false
 
@@ -121,10 +121,10 @@ pawns_after_drop cells side kind to color file lc ht ban before =
     ]
 
 -- no piece stands where it could never move again
-alive_after_drop : (cells : Cells) (to : ℕ) (v : Option Piece) (square : ℕ) → length cells ≡ 81 → to < 81 → is_dead to v ≡ false → is_dead_on cells square ≡ false → is_dead_on (set cells to v) square ≡ false
+alive_after_drop : (cells : Cells) (to : ℕ) (v : Option Piece) (square : ℕ) → length cells ≡ 81 → to < 81 → is_immobile to v ≡ false → is_immobile_on cells square ≡ false → is_immobile_on (set cells to v) square ≡ false
 alive_after_drop cells to v square lc ht alive before = elim (cases_eq square to) [
-  | inl there ↦ subst (λ (k : ℕ). is_dead_on (set cells to v) k ≡ false) (sym there) (ap (is_dead to) (get_or-set_same cells to v None (omega arith)) ∙ alive)
-  | inr other ↦ ap (is_dead square) (get_or-set_other cells to square v None other) ∙ before
+  | inl there ↦ subst (λ (k : ℕ). is_immobile_on (set cells to v) k ≡ false) (sym there) (ap (is_immobile to) (get_or-set_same cells to v None (omega arith)) ∙ alive)
+  | inr other ↦ ap (is_immobile square) (get_or-set_other cells to square v None other) ∙ before
 ]
 
 -- so there is no fault

@@ -8,7 +8,7 @@ use Rattle.shogi_core.specs.declared.moves.Move.TheVariants.{Board, Drop}
 use Rattle.shogi_core.specs.declared.piece.Kind.{Kind}
 use Rattle.shogi_core.specs.declared.piece.Kind.TheVariants as kinds
 use Rattle.shogi_core.specs.Below.{some_below}
-use Rattle.shogi_core.specs.Cell.{is_of}
+use Rattle.shogi_core.specs.Cell.{is_piece_of}
 use Rattle.shogi_core.specs.Codes.{move_of, code_of, kind_at}
 use Rattle.shogi_core.specs.Movement.{piece_at, reaches}
 use Rattle.shogi_core.specs.Pieces.{kind_number}
@@ -60,11 +60,11 @@ pub some_safe : (p : Shogi) (m : Move) → move_of (code_of m) ≡ Some m → is
 some_safe p m back safe = some_below_at MOVE_CODES (is_safe_code p) (code_of m) (move_below (code_of m) m back) (ap (is_safe_move p) back ∙ safe)
 
 -- a safe board move is one of one's own piece to where it reaches and none of one's own stands
-not_own : (p : Shogi) (from to : ℕ) (promote : Bool) → is_of p.side (piece_at p.cells from) ≡ false → is_safe p (Board from to promote) ≡ false
+not_own : (p : Shogi) (from to : ℕ) (promote : Bool) → is_piece_of p.side (piece_at p.cells from) ≡ false → is_safe p (Board from to promote) ≡ false
 unfolding is_safe
 not_own p from to promote e = rw e refl
 
-own_there : (p : Shogi) (from to : ℕ) (promote : Bool) → is_of p.side (piece_at p.cells to) ≡ true → is_safe p (Board from to promote) ≡ false
+own_there : (p : Shogi) (from to : ℕ) (promote : Bool) → is_piece_of p.side (piece_at p.cells to) ≡ true → is_safe p (Board from to promote) ≡ false
 unfolding is_safe
 own_there p from to promote e = second_fails _ _ _ _ _ _ (ap not e)
 
@@ -84,11 +84,11 @@ pub drop_code : (code : ℕ) → FIRST_DROP ≤ code → code < MOVE_CODES → m
 drop_code code low high = cond-false (nat_lt code FIRST_DROP) _ _ (le-ltb code FIRST_DROP low) ∙ cond-true (nat_lt code MOVE_CODES) _ _ (lt-ltb code MOVE_CODES high)
 
 -- no piece of the side to move stands on the square
-pub idle_square : (p : Shogi) (from code end : ℕ) → from < 81 → from * SQUARE_CODES ≤ code → end ≤ from * SQUARE_CODES + SQUARE_CODES → is_of p.side (piece_at p.cells from) ≡ false → HasNoSafe p code end
+pub idle_square : (p : Shogi) (from code end : ℕ) → from < 81 → from * SQUARE_CODES ≤ code → end ≤ from * SQUARE_CODES + SQUARE_CODES → is_piece_of p.side (piece_at p.cells from) ≡ false → HasNoSafe p code end
 idle_square p from code end small low high e = record {
   none = λ c above below.
       let same : c / 2 / 81 ≡ from = omega arith in
-      ap (is_safe_move p) (board_code c (omega arith)) ∙ not_own p (c / 2 / 81) (c / 2 % 81) (c % 2 == 1) (subst (λ (k : ℕ). is_of p.side (piece_at p.cells k) ≡ false) (sym same) e);
+      ap (is_safe_move p) (board_code c (omega arith)) ∙ not_own p (c / 2 / 81) (c / 2 % 81) (c % 2 == 1) (subst (λ (k : ℕ). is_piece_of p.side (piece_at p.cells k) ≡ false) (sym same) e);
 }
 
 -- the piece cannot go to the square
@@ -101,7 +101,7 @@ idle_target p from to code end hf ht low high e = record {
 }
 
 -- one of its own stands there
-pub idle_own : (p : Shogi) (from to code end : ℕ) → from < 81 → to < 81 → from * SQUARE_CODES + to * 2 ≤ code → end ≤ from * SQUARE_CODES + to * 2 + 2 → is_of p.side (piece_at p.cells to) ≡ true → HasNoSafe p code end
+pub idle_own : (p : Shogi) (from to code end : ℕ) → from < 81 → to < 81 → from * SQUARE_CODES + to * 2 ≤ code → end ≤ from * SQUARE_CODES + to * 2 + 2 → is_piece_of p.side (piece_at p.cells to) ≡ true → HasNoSafe p code end
 idle_own p from to code end hf ht low high e = idle_target p from to code end hf ht low high (λ promote. own_there p from to promote e)
 
 -- it does not reach the square

@@ -10,7 +10,7 @@ use Rattle.shogi_core.specs.declared.piece.Piece.{Piece}
 use Rattle.shogi_core.specs.Attack.{in_check}
 use Rattle.shogi_core.specs.Below.{some_below}
 use Rattle.shogi_core.specs.Bits.{has_bit}
-use Rattle.shogi_core.specs.Cell.{is_of, is_king, is_dead}
+use Rattle.shogi_core.specs.Cell.{is_piece_of, is_king, is_immobile}
 use Rattle.shogi_core.specs.Codes.{code_of}
 use Rattle.shogi_core.specs.Lines.{are_lined, is_jump, is_line_to_king, is_lined_with_king, is_seen}
 use Rattle.shogi_core.specs.Movement.{Cells, piece_at, reaches, cell_reaches, has_step, has_slide}
@@ -32,7 +32,7 @@ use Rattle.shogi_moves.specs.Replies.{cell_steps, is_open_step, is_spare, Sees, 
 use Rattle.shogi_moves.proofs.DropChecks as drops
 use Rattle.shogi_moves.proofs.EndLaws.{legal_board, still}
 use Rattle.shogi_moves.proofs.ExistenceLaws.{some_legal}
-use Rattle.shogi_moves.proofs.GuardLaws.{look, other_side, own_some, is_of-moved, dropped_of, quiet_board}
+use Rattle.shogi_moves.proofs.GuardLaws.{look, other_side, own_some, is_piece_of-moved, dropped_of, quiet_board}
 use Rattle.shogi_moves.proofs.LegalLaws.{is_legal_code_of}
 
 -- ---- what a king sees
@@ -71,34 +71,34 @@ steps_reach : (cells : Cells) (cell : Option Piece) (a t : ℕ) → cell_steps c
 steps_reach cells None a t e = absurd (cc)
 steps_reach cells (Some piece) a t e = or_left (has_step piece a t) (has_slide cells piece a t) e
 
-right_step : (new : Cells) (color : Color) (a t : ℕ) → is_of color (piece_at new a) ≡ true → is_of color (piece_at new t) ≡ false → reaches new a t ≡ true → is_dead t (piece_at new a) ≡ false → is_pseudo_legal_board_move new color a t false ≡ true
+right_step : (new : Cells) (color : Color) (a t : ℕ) → is_piece_of color (piece_at new a) ≡ true → is_piece_of color (piece_at new t) ≡ false → reaches new a t ≡ true → is_immobile t (piece_at new a) ≡ false → is_pseudo_legal_board_move new color a t false ≡ true
 right_step new color a t own free reach alive = rw (own, free, reach, still t (piece_at new a), alive) refl
 
 module _ (old new : Cells) (hands : HandCounts) (color : Color) (Left : ℕ → Type 0) (opened : (x : ℕ) → is_none (piece_at new x) ≡ true → (is_none (piece_at old x) ≡ true) ⊎ Left x) where
   replied : (to : ℕ) → length new ≡ 81 → to < 81
-      → ((a : ℕ) → is_of (opponent_of color) (piece_at new a) ≡ true → (piece_at old a ≡ piece_at new a) ⊎ (a ≡ to))
+      → ((a : ℕ) → is_piece_of (opponent_of color) (piece_at new a) ≡ true → (piece_at old a ≡ piece_at new a) ⊎ (a ≡ to))
       → ((k : ℕ) → is_king color (piece_at new k) ≡ true → piece_at old k ≡ piece_at new k)
       → ((x : ℕ) → Left x → is_lined_with_king old color x ≡ false)
       → ((k : ℕ) → k < 81 → is_king color (piece_at old k) ≡ true → is_seen old k to ≡ false)
       → in_check old color ≡ false
-      → ((a : ℕ) → is_of color (piece_at old a) ≡ true → a ≢ to → piece_at new a ≡ piece_at old a)
-      → ((t : ℕ) → is_of color (piece_at old t) ≡ false → is_of color (piece_at new t) ≡ false)
+      → ((a : ℕ) → is_piece_of color (piece_at old a) ≡ true → a ≢ to → piece_at new a ≡ piece_at old a)
+      → ((t : ℕ) → is_piece_of color (piece_at old t) ≡ false → is_piece_of color (piece_at new t) ≡ false)
       → (a : ℕ) → a < 81 → a ≢ to → is_spare old color a ≡ true → legal_moves (record { cells = new; hands = hands; side = color }) ≢ []
   unfolding is_spare reaches
   replied to len ht kept kings free far safe stays clear a ha other e =
       let q : Shogi = record { cells = new; hands = hands; side = color } in
-      let four = and_parts (is_of color (piece_at old a) && not (is_king color (piece_at old a)) && not (is_lined_with_king old color a)) (some_below 81 (is_open_step old color a)) e in
-      let three = and_parts (is_of color (piece_at old a) && not (is_king color (piece_at old a))) (not (is_lined_with_king old color a)) four.0 in
-      let two : (is_of color (piece_at old a) ≡ true) × (not (is_king color (piece_at old a)) ≡ true) = and_parts (is_of color (piece_at old a)) (not (is_king color (piece_at old a))) three.0 in
+      let four = and_parts (is_piece_of color (piece_at old a) && not (is_king color (piece_at old a)) && not (is_lined_with_king old color a)) (some_below 81 (is_open_step old color a)) e in
+      let three = and_parts (is_piece_of color (piece_at old a) && not (is_king color (piece_at old a))) (not (is_lined_with_king old color a)) four.0 in
+      let two : (is_piece_of color (piece_at old a) ≡ true) × (not (is_king color (piece_at old a)) ≡ true) = and_parts (is_piece_of color (piece_at old a)) (not (is_king color (piece_at old a))) three.0 in
       let which = some_below_which 81 (is_open_step old color a) four.1 in
       let t = which.0 in
-      let step = and_parts (cell_steps (piece_at old a) a which.0 && not (is_of color (piece_at old which.0))) (not (is_dead which.0 (piece_at old a))) which.2 in
-      let walk : (cell_steps (piece_at old a) a which.0 ≡ true) × (not (is_of color (piece_at old which.0)) ≡ true) = and_parts (cell_steps (piece_at old a) a which.0) (not (is_of color (piece_at old which.0))) step.0 in
+      let step = and_parts (cell_steps (piece_at old a) a which.0 && not (is_piece_of color (piece_at old which.0))) (not (is_immobile which.0 (piece_at old a))) which.2 in
+      let walk : (cell_steps (piece_at old a) a which.0 ≡ true) × (not (is_piece_of color (piece_at old which.0)) ≡ true) = and_parts (cell_steps (piece_at old a) a which.0) (not (is_piece_of color (piece_at old which.0))) step.0 in
       let same : piece_at new a ≡ piece_at old a = stays a two.0 other in
-      let own : is_of color (piece_at new a) ≡ true = ap (is_of color) same ∙ two.0 in
-      let open_end : is_of color (piece_at new which.0) ≡ false = clear which.0 (not-true _ walk.1) in
+      let own : is_piece_of color (piece_at new a) ≡ true = ap (is_piece_of color) same ∙ two.0 in
+      let open_end : is_piece_of color (piece_at new which.0) ≡ false = clear which.0 (not-true _ walk.1) in
       let reach : reaches new a which.0 ≡ true = ap (λ cell. cell_reaches new cell a which.0) same ∙ steps_reach new (piece_at old a) a which.0 walk.0 in
-      let alive : is_dead which.0 (piece_at new a) ≡ false = ap (is_dead which.0) same ∙ not-true _ step.1 in
+      let alive : is_immobile which.0 (piece_at new a) ≡ false = ap (is_immobile which.0) same ∙ not-true _ step.1 in
       let plain : is_king color (piece_at new a) ≡ false = ap (is_king color) same ∙ not-true _ two.1 in
       let off : is_lined_with_king new color a ≡ false = line_to_king_was old new Left opened color a kings free (not-true _ three.1) in
       let shut : in_check new color ≡ false = no_check old new Left opened color to ht kept kings free far safe in
@@ -109,11 +109,11 @@ module _ (old new : Cells) (hands : HandCounts) (color : Color) (Left : ℕ → 
 
 -- ---- after a board move, and after a drop
 
-crowned : (color : Color) (cell : Option Piece) → is_of color cell ≡ false → is_king color cell ≡ false
+crowned : (color : Color) (cell : Option Piece) → is_piece_of color cell ≡ false → is_king color cell ≡ false
 crowned color None e = refl
 crowned color (Some piece) e = rw e refl
 
-pub replied_board : (p : Shogi) (from to : ℕ) (promote : Bool) (sight spare a : ℕ) → IsValid p → IsReplies p sight spare → from < 81 → to < 81 → is_of p.side (piece_at p.cells from) ≡ true → has_bit sight from ≡ false → has_bit sight to ≡ false
+pub replied_board : (p : Shogi) (from to : ℕ) (promote : Bool) (sight spare a : ℕ) → IsValid p → IsReplies p sight spare → from < 81 → to < 81 → is_piece_of p.side (piece_at p.cells from) ≡ true → has_bit sight from ≡ false → has_bit sight to ≡ false
     → a < 81 → has_bit spare a ≡ true → a ≢ to → legal_moves (after p (Board from to promote)) ≢ []
 replied_board p from to promote sight spare a v r hf ht own out off ha some other =
     replied p.cells (cells_after p.cells p.side (Board from to promote)) (after p (Board from to promote)).hands (opponent_of p.side) (λ x. x ≡ from)
@@ -124,7 +124,7 @@ replied_board p from to promote sight spare a v r hf ht own out off ha some othe
     to (length-set (set p.cells from None) to w ∙ (length-set p.cells from None ∙ v.cells_fit)) ht
     (λ x e. elim (see x) [
       | inl there ↦ inr there.0
-      | inr rest ↦ elim rest [ inl here ↦ absurd (let clash : false ≡ true = ap (is_of (opponent_of (opponent_of p.side))) (sym here.1) ∙ e in cc) | inr same ↦ inl (sym same) ]
+      | inr rest ↦ elim rest [ inl here ↦ absurd (let clash : false ≡ true = ap (is_piece_of (opponent_of (opponent_of p.side))) (sym here.1) ∙ e in cc) | inr same ↦ inl (sym same) ]
     ])
     (λ k e. elim (see k) [
       | inl there ↦ absurd (both_ways (is_king (opponent_of p.side) w) (crowned (opponent_of p.side) w (other_side p.side w mine)) (ap (is_king (opponent_of p.side)) (sym there.1) ∙ e))
@@ -136,21 +136,21 @@ replied_board p from to promote sight spare a v r hf ht own out off ha some othe
     (λ x e ne. elim (see x) [
       | inl there ↦ absurd (ne there.0)
       | inr rest ↦ elim rest [
-        | inl here ↦ absurd (both_ways (is_of (opponent_of p.side) (piece_at p.cells from)) (other_side p.side (piece_at p.cells from) own) (subst (λ (y : ℕ). is_of (opponent_of p.side) (piece_at p.cells y) ≡ true) here.0 e))
+        | inl here ↦ absurd (both_ways (is_piece_of (opponent_of p.side) (piece_at p.cells from)) (other_side p.side (piece_at p.cells from) own) (subst (λ (y : ℕ). is_piece_of (opponent_of p.side) (piece_at p.cells y) ≡ true) here.0 e))
         | inr same ↦ same
       ]
     ])
     (λ t e. elim (see t) [
-      | inl there ↦ ap (is_of (opponent_of p.side)) there.1 ∙ other_side p.side w mine
-      | inr rest ↦ elim rest [ inl here ↦ ap (is_of (opponent_of p.side)) here.1 | inr same ↦ ap (is_of (opponent_of p.side)) same ∙ e ]
+      | inl there ↦ ap (is_piece_of (opponent_of p.side)) there.1 ∙ other_side p.side w mine
+      | inr rest ↦ elim rest [ inl here ↦ ap (is_piece_of (opponent_of p.side)) here.1 | inr same ↦ ap (is_piece_of (opponent_of p.side)) same ∙ e ]
     ])
     a ha other (r.spares a ha some)
   where
     w : Option Piece
     w = moved promote (piece_at p.cells from)
 
-    mine : is_of p.side (moved promote (piece_at p.cells from)) ≡ true
-    mine = is_of-moved p.side promote (piece_at p.cells from) ∙ own
+    mine : is_piece_of p.side (moved promote (piece_at p.cells from)) ≡ true
+    mine = is_piece_of-moved p.side promote (piece_at p.cells from) ∙ own
 
     see : (x : ℕ) → ((x ≡ to) × (piece_at (set (set p.cells from None) to (moved promote (piece_at p.cells from))) x ≡ moved promote (piece_at p.cells from))) ⊎ (((x ≡ from) × (piece_at (set (set p.cells from None) to (moved promote (piece_at p.cells from))) x ≡ None)) ⊎ (piece_at (set (set p.cells from None) to (moved promote (piece_at p.cells from))) x ≡ piece_at p.cells x))
     see x = look p.cells p.side from to (moved promote (piece_at p.cells from)) v.cells_fit hf ht x
@@ -174,8 +174,8 @@ replied_drop p kind to sight spare a v r ht off ha some other =
     (faultless_from p v.no_fault).shut
     (λ x e ne. elim (see x) [ inl there ↦ absurd (ne there.0) | inr same ↦ same ])
     (λ t e. elim (see t) [
-      | inl there ↦ ap (is_of (opponent_of p.side)) there.1 ∙ other_side p.side (dropped p.side kind) (dropped_of p.side kind)
-      | inr same ↦ ap (is_of (opponent_of p.side)) same ∙ e
+      | inl there ↦ ap (is_piece_of (opponent_of p.side)) there.1 ∙ other_side p.side (dropped p.side kind) (dropped_of p.side kind)
+      | inr same ↦ ap (is_piece_of (opponent_of p.side)) same ∙ e
     ])
     a ha other (r.spares a ha some)
   where
@@ -186,11 +186,11 @@ replied_drop p kind to sight spare a v r ht off ha some other =
 
 -- what is left and what is kept are pieces of the side off the sight of its kings; what is kept and not left is spare
 pub record IsSifted (cells : Cells) (side : Color) (sight left kept : ℕ) : Type 0 where
-  pub own : (a : ℕ) → a < 81 → has_bit left a ≡ true → (is_of side (piece_at cells a) ≡ true) × (has_bit sight a ≡ false)
+  pub own : (a : ℕ) → a < 81 → has_bit left a ≡ true → (is_piece_of side (piece_at cells a) ≡ true) × (has_bit sight a ≡ false)
   pub within : (a : ℕ) → has_bit left a ≡ true → has_bit kept a ≡ true
   pub spare : (a : ℕ) → a < 81 → has_bit kept a ≡ true → (has_bit left a ≡ true) ⊎ (is_spare cells side a ≡ true)
 
-pub sifted_first : (cells : Cells) (side : Color) (sight own : ℕ) → sight < 2 ^ 128 → ((n : ℕ) → n < 81 → has_bit own n ≡ is_of side (piece_at cells n)) → IsSifted cells side sight (bit_and own (2 ^ 128 - 1 - sight)) (bit_and own (2 ^ 128 - 1 - sight))
+pub sifted_first : (cells : Cells) (side : Color) (sight own : ℕ) → sight < 2 ^ 128 → ((n : ℕ) → n < 81 → has_bit own n ≡ is_piece_of side (piece_at cells n)) → IsSifted cells side sight (bit_and own (2 ^ 128 - 1 - sight)) (bit_and own (2 ^ 128 - 1 - sight))
 sifted_first cells side sight own fits bits = record {
   own = λ a h e. (
       let parts : (has_bit own a ≡ true) × (has_bit (2 ^ 128 - 1 - sight) a ≡ true) = and_parts _ _ (sym (has_bit-and own (2 ^ 128 - 1 - sight) a) ∙ e) in
@@ -199,7 +199,7 @@ sifted_first cells side sight own fits bits = record {
   spare = λ a h e. inl e;
 }
 
-spare_if : (cells : Cells) (side : Color) (sight a : ℕ) → Sees cells side 0 sight → a < 81 → is_of side (piece_at cells a) ≡ true → has_bit sight a ≡ false → some_below 81 (is_open_step cells side a) ≡ true → is_spare cells side a ≡ true
+spare_if : (cells : Cells) (side : Color) (sight a : ℕ) → Sees cells side 0 sight → a < 81 → is_piece_of side (piece_at cells a) ≡ true → has_bit sight a ≡ false → some_below 81 (is_open_step cells side a) ≡ true → is_spare cells side a ≡ true
 unfolding is_spare
 spare_if cells side sight a s h own off step =
     rw (own, unlined cells side sight a s h off, false_from_ne_true (is_king side (piece_at cells a)) (λ king. both_ways (has_bit sight a) off (s.kings a h king)), step) refl
@@ -241,7 +241,7 @@ sifted_done cells side sight left kept fits f a h e =
 pub ruleset sifting = (sifted_first, sifted_found, sifted_dropped, sifted_done, and_fits)
 
 -- an end that the step has, as a bit
-pub step_found : (cells : Cells) (side : Color) (piece : Piece) (a steps own dead : ℕ) → piece_at cells a ≡ Some piece → steps < 2 ^ 81 → own < 2 ^ 81 → dead < 2 ^ 81 → ((n : ℕ) → n < 81 → has_bit steps n ≡ has_step piece a n) → ((n : ℕ) → n < 81 → has_bit own n ≡ is_of side (piece_at cells n)) → ((n : ℕ) → n < 81 → has_bit dead n ≡ is_dead n (piece_at cells a))
+pub step_found : (cells : Cells) (side : Color) (piece : Piece) (a steps own dead : ℕ) → piece_at cells a ≡ Some piece → steps < 2 ^ 81 → own < 2 ^ 81 → dead < 2 ^ 81 → ((n : ℕ) → n < 81 → has_bit steps n ≡ has_step piece a n) → ((n : ℕ) → n < 81 → has_bit own n ≡ is_piece_of side (piece_at cells n)) → ((n : ℕ) → n < 81 → has_bit dead n ≡ is_immobile n (piece_at cells a))
     → bit_and (bit_and steps (2 ^ 128 - 1 - own)) (2 ^ 128 - 1 - dead) ≢ 0 → some_below 81 (is_open_step cells side a) ≡ true
 step_found cells side piece a steps own dead stands sf wf df s o d some =
     let m : ℕ = bit_and (bit_and steps (2 ^ 128 - 1 - own)) (2 ^ 128 - 1 - dead) in
@@ -269,7 +269,7 @@ another spare to fits h some =
     (trailing_zeros w128 (bit_and spare (2 ^ 128 - 1 - 1 * 2 ^ to % 2 ^ 128)), low.0, parts.0, λ same. both_ways _ (ap not (eq-eqb _ to same)) parts.1)
 
 -- the legal board move is one of one's own piece
-legal_own : (p : Shogi) (from to : ℕ) (promote : Bool) → is_legal p (Board from to promote) ≡ true → is_of p.side (piece_at p.cells from) ≡ true
+legal_own : (p : Shogi) (from to : ℕ) (promote : Bool) → is_legal p (Board from to promote) ≡ true → is_piece_of p.side (piece_at p.cells from) ≡ true
 legal_own p from to promote e =
     let parts = and_parts _ _ (sym (legal_board p from to promote) ∙ e) in
     let four = and_parts _ _ parts.0 in

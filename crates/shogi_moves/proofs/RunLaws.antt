@@ -4,7 +4,7 @@ use Rattle.std.specs.Prelude.{not, ◌&&◌, ◌||◌, is_none}
 use Rattle.std.proofs.lemmas.Bool.{and_cases, and_parts, and_from, not-false}
 use Rattle.shogi_core.specs.declared.moves.TheConstants.{FIRST_DROP, SQUARE_CODES}
 use Rattle.shogi_core.specs.Bits.{has_bit}
-use Rattle.shogi_core.specs.Cell.{is_of, is_dead}
+use Rattle.shogi_core.specs.Cell.{is_piece_of, is_immobile}
 use Rattle.shogi_core.specs.Movement.{piece_at, reaches}
 use Rattle.shogi_core.specs.Position.{Shogi}
 use Rattle.shogi_core.proofs.BitLaws.{has_bit-and}
@@ -21,7 +21,7 @@ use Rattle.shogi_core.specs.declared.moves.Move.TheVariants.{Board, Drop}
 use Rattle.shogi_core.proofs.Faults.{number_below}
 
 -- no piece of the side to move stands on the squares
-pub run_squares : (p : Shogi) (own from next code : ℕ) → from * SQUARE_CODES ≤ code → next ≤ 81 → ((n : ℕ) → n < 81 → has_bit own n ≡ is_of p.side (piece_at p.cells n))
+pub run_squares : (p : Shogi) (own from next code : ℕ) → from * SQUARE_CODES ≤ code → next ≤ 81 → ((n : ℕ) → n < 81 → has_bit own n ≡ is_piece_of p.side (piece_at p.cells n))
     → ((n : ℕ) → from ≤ n → n < next → has_bit own n ≡ false) → HasNoSafe p code (next * SQUARE_CODES)
 run_squares p own from next code low small bits none = record {
   none = λ c above below. (
@@ -31,7 +31,7 @@ run_squares p own from next code low small bits none = record {
 
 -- the piece goes to none of the squares
 pub run_targets : (p : Shogi) (own targets from to next code : ℕ) → from < 81 → own < 2 ^ 81 → from * SQUARE_CODES + to * 2 ≤ code → next ≤ 81
-    → ((n : ℕ) → n < 81 → has_bit own n ≡ is_of p.side (piece_at p.cells n)) → ((n : ℕ) → n < 81 → has_bit targets n ≡ reaches p.cells from n)
+    → ((n : ℕ) → n < 81 → has_bit own n ≡ is_piece_of p.side (piece_at p.cells n)) → ((n : ℕ) → n < 81 → has_bit targets n ≡ reaches p.cells from n)
     → ((n : ℕ) → to ≤ n → n < next → has_bit (bit_and targets (2 ^ 128 - 1 - own)) n ≡ false) → HasNoSafe p code (from * SQUARE_CODES + next * 2)
 run_targets p own targets from to next code small fits low end bits reached none = record {
   none = λ c above below. (
@@ -69,7 +69,7 @@ run_drops p kind free to next code small at end bits none =
 pub ruleset board_runs = (run_squares, run_targets)
 
 -- the bits of the square and of the target: a candidate
-pub candidate_bits : (p : Shogi) (own targets from to : ℕ) (promote : Bool) → own < 2 ^ 81 → from < 81 → to < 81 → ((n : ℕ) → n < 81 → has_bit own n ≡ is_of p.side (piece_at p.cells n)) → ((n : ℕ) → n < 81 → has_bit targets n ≡ reaches p.cells from n)
+pub candidate_bits : (p : Shogi) (own targets from to : ℕ) (promote : Bool) → own < 2 ^ 81 → from < 81 → to < 81 → ((n : ℕ) → n < 81 → has_bit own n ≡ is_piece_of p.side (piece_at p.cells n)) → ((n : ℕ) → n < 81 → has_bit targets n ≡ reaches p.cells from n)
     → has_bit own from ≡ true → has_bit (bit_and targets (2 ^ 128 - 1 - own)) to ≡ true → is_candidate p (Board from to promote) ≡ true
 candidate_bits p own targets from to promote fits hf ht bits reached here there =
     let parts : (has_bit targets to ≡ true) × (has_bit (2 ^ 128 - 1 - own) to ≡ true) = and_parts (has_bit targets to) (has_bit (2 ^ 128 - 1 - own) to) (sym (has_bit-and targets (2 ^ 128 - 1 - own) to) ∙ there) in
@@ -83,5 +83,5 @@ rest true false c d e h = absurd (cc)
 rest false b c d e h = absurd (cc)
 
 pub candidate_right : (p : Shogi) (from to : ℕ) (promote : Bool) → is_candidate p (Board from to promote) ≡ true
-    → ((not promote || may_promote (piece_at p.cells from) from to) && not (is_dead to (moved promote (piece_at p.cells from)))) ≡ is_pseudo_legal_board_move p.cells p.side from to promote
-candidate_right p from to promote h = rest (is_of p.side (piece_at p.cells from)) (not (is_of p.side (piece_at p.cells to))) (reaches p.cells from to) (not promote || may_promote (piece_at p.cells from) from to) (not (is_dead to (moved promote (piece_at p.cells from)))) h
+    → ((not promote || may_promote (piece_at p.cells from) from to) && not (is_immobile to (moved promote (piece_at p.cells from)))) ≡ is_pseudo_legal_board_move p.cells p.side from to promote
+candidate_right p from to promote h = rest (is_piece_of p.side (piece_at p.cells from)) (not (is_piece_of p.side (piece_at p.cells to))) (reaches p.cells from to) (not promote || may_promote (piece_at p.cells from) from to) (not (is_immobile to (moved promote (piece_at p.cells from)))) h

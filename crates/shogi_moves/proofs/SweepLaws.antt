@@ -7,7 +7,7 @@ use Rattle.shogi_core.specs.declared.moves.Move.{Move}
 use Rattle.shogi_core.specs.declared.moves.Move.TheVariants.{Board, Drop}
 use Rattle.shogi_core.specs.declared.piece.Kind.{Kind}
 use Rattle.shogi_core.specs.Bits.{has_bit}
-use Rattle.shogi_core.specs.Cell.{is_of}
+use Rattle.shogi_core.specs.Cell.{is_piece_of}
 use Rattle.shogi_core.specs.Codes.{move_of, code_of}
 use Rattle.shogi_core.specs.Movement.{piece_at}
 use Rattle.shogi_core.specs.Pieces.{kind_number}
@@ -25,7 +25,7 @@ use Rattle.shogi_moves.proofs.ZoneLaws.{more_fits}
 
 -- ---- no piece of the side stands on the square
 
-pub no_ends : (p : Shogi) (capture promote : Bool) (from n : ℕ) → from < 81 → n < 81 → is_of p.side (piece_at p.cells from) ≡ false → has_bit 0 n ≡ is_wanted p capture (code_of (Board from n promote))
+pub no_ends : (p : Shogi) (capture promote : Bool) (from n : ℕ) → from < 81 → n < 81 → is_piece_of p.side (piece_at p.cells from) ≡ false → has_bit 0 n ≡ is_wanted p capture (code_of (Board from n promote))
 no_ends p capture promote from n hf hn e =
     has_bit-none n ∙ sym ((none_square p capture from (from * SQUARE_CODES) (from * SQUARE_CODES + SQUARE_CODES) hf (omega arith) (omega arith) e).none (code_of (Board from n promote)) (low promote) (high promote))
   where
@@ -182,19 +182,19 @@ module _ (p : Shogi) (capture : Bool) (from code plain promoting to : ℕ) (k : 
 -- ---- from one piece to the next
 
 -- no piece of the side stands on the squares between
-pub none_between : (p : Shogi) (capture : Bool) (own from next : ℕ) → next ≤ 81 → ((n : ℕ) → n < 81 → has_bit own n ≡ is_of p.side (piece_at p.cells n)) → ((n : ℕ) → from ≤ n → n < next → has_bit own n ≡ false) → HasNoneWanted p capture (from * SQUARE_CODES) (next * SQUARE_CODES)
+pub none_between : (p : Shogi) (capture : Bool) (own from next : ℕ) → next ≤ 81 → ((n : ℕ) → n < 81 → has_bit own n ≡ is_piece_of p.side (piece_at p.cells n)) → ((n : ℕ) → from ≤ n → n < next → has_bit own n ≡ false) → HasNoneWanted p capture (from * SQUARE_CODES) (next * SQUARE_CODES)
 none_between p capture own from next h bits none = none_safe p capture (from * SQUARE_CODES) (next * SQUARE_CODES) (run_squares p own from next (from * SQUARE_CODES) (omega arith) h bits none)
 
 -- one more piece that has none
 pub none_more : (p : Shogi) (capture : Bool) (own code from next plain promoting : ℕ) → HasNoneWanted p capture code (from * SQUARE_CODES) → KeepsBoard p capture from (from * SQUARE_CODES) plain promoting → bit_or plain promoting ≡ 0
-    → next ≤ 81 → ((n : ℕ) → n < 81 → has_bit own n ≡ is_of p.side (piece_at p.cells n)) → ((n : ℕ) → from + 1 ≤ n → n < next → has_bit own n ≡ false) → HasNoneWanted p capture code (next * SQUARE_CODES)
+    → next ≤ 81 → ((n : ℕ) → n < 81 → has_bit own n ≡ is_piece_of p.side (piece_at p.cells n)) → ((n : ℕ) → from + 1 ≤ n → n < next → has_bit own n ≡ false) → HasNoneWanted p capture code (next * SQUARE_CODES)
 none_more p capture own code from next plain promoting before k none h bits free =
     none_join p capture code (from * SQUARE_CODES) (next * SQUARE_CODES) before
     (none_join p capture (from * SQUARE_CODES) (from * SQUARE_CODES + SQUARE_CODES) (next * SQUARE_CODES) (none_left p capture from (from * SQUARE_CODES) plain promoting k none)
     (subst (λ (x : ℕ). HasNoneWanted p capture x (next * SQUARE_CODES)) (omega arith) (none_between p capture own (from + 1) next h bits free)))
 
 pub none_first : (p : Shogi) (capture : Bool) (own code from next plain promoting : ℕ) → KeepsBoard p capture from code plain promoting → bit_or plain promoting ≡ 0
-    → next ≤ 81 → ((n : ℕ) → n < 81 → has_bit own n ≡ is_of p.side (piece_at p.cells n)) → ((n : ℕ) → from + 1 ≤ n → n < next → has_bit own n ≡ false) → HasNoneWanted p capture code (next * SQUARE_CODES)
+    → next ≤ 81 → ((n : ℕ) → n < 81 → has_bit own n ≡ is_piece_of p.side (piece_at p.cells n)) → ((n : ℕ) → from + 1 ≤ n → n < next → has_bit own n ≡ false) → HasNoneWanted p capture code (next * SQUARE_CODES)
 none_first p capture own code from next plain promoting k none h bits free =
     none_join p capture code (from * SQUARE_CODES + SQUARE_CODES) (next * SQUARE_CODES) (none_left p capture from code plain promoting k none)
     (subst (λ (x : ℕ). HasNoneWanted p capture x (next * SQUARE_CODES)) (omega arith) (none_between p capture own (from + 1) next h bits free))

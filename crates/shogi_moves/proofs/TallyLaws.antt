@@ -10,7 +10,7 @@ use native.Mathlib.Nat.{pow-suc}
 use Rattle.shogi_core.specs.declared.moves.TheConstants.{MOVE_CODES, FIRST_DROP, SQUARE_CODES}
 use Rattle.shogi_core.specs.declared.moves.Move.TheVariants.{Board, Drop}
 use Rattle.shogi_core.specs.declared.piece.Kind.{Kind}
-use Rattle.shogi_core.specs.Cell.{is_of}
+use Rattle.shogi_core.specs.Cell.{is_piece_of}
 use Rattle.shogi_core.specs.Movement.{piece_at}
 use Rattle.shogi_core.specs.Pieces.{kind_number}
 use Rattle.shogi_core.proofs.Faults.{number_below}
@@ -154,5 +154,5 @@ pub ones_most : (m : ℕ) → m < 2 ^ 81 → count_ones m ≤ 81
 ones_most m h = omega (arith, ones_tally 81 m h, tally_most 81 (has_bit m))
 
 -- squares without a piece of the side add nothing
-pub counted_between : (p : Shogi) (own from next : ℕ) → from ≤ next → next ≤ 81 → ((n : ℕ) → n < 81 → has_bit own n ≡ is_of p.side (piece_at p.cells n)) → ((n : ℕ) → from ≤ n → n < next → has_bit own n ≡ false) → length (legal_from p (from * SQUARE_CODES)) ≡ length (legal_from p (next * SQUARE_CODES))
+pub counted_between : (p : Shogi) (own from next : ℕ) → from ≤ next → next ≤ 81 → ((n : ℕ) → n < 81 → has_bit own n ≡ is_piece_of p.side (piece_at p.cells n)) → ((n : ℕ) → from ≤ n → n < next → has_bit own n ≡ false) → length (legal_from p (from * SQUARE_CODES)) ≡ length (legal_from p (next * SQUARE_CODES))
 counted_between p own from next up h bits none = ap length (legal_from_jumps p (from * SQUARE_CODES) (next * SQUARE_CODES) (omega arith) (omega arith) (run_squares p own from next (from * SQUARE_CODES) (omega arith) h bits none))

@@ -11,7 +11,7 @@ use Rattle.shogi_core.proofs.BitLaws.{has_bit-none, has_bit-or}
 use Rattle.shogi_core.specs.Movement.{Cells}
 use Rattle.shogi_core.specs.Validity.{pawns_on_file}
 use Rattle.shogi_moves.specs.declared.zones.TheConstants.{FILES, FIRST_RANK, FIRST_TWO_RANKS, FIRST_THREE_RANKS, LAST_RANK, LAST_TWO_RANKS, LAST_THREE_RANKS}
-use Rattle.shogi_moves.specs.Legal.{in_zone, can_promote}
+use Rattle.shogi_moves.specs.Legal.{in_promotion_zone, is_promotable}
 
 pub first_rank : (n : ℕ) → n < 81 → has_bit FIRST_RANK n ≡ nat_lt (n % 9) 1
 unfolding has_bit
@@ -54,14 +54,14 @@ none_of : (a b : Bool) → a ≡ false → false ≡ (a && b)
 none_of a b p = rw p refl
 
 -- the piece does not promote; it may from anywhere in the zone; it may to the zone
-pub promotes_never : (role : Role) (color : Color) (from n : ℕ) → n < 81 → can_promote role ≡ false → has_bit 0 n ≡ (can_promote role && (in_zone color from || in_zone color n))
-promotes_never role color from n h e = has_bit-none n ∙ none_of (can_promote role) (in_zone color from || in_zone color n) e
+pub promotes_never : (role : Role) (color : Color) (from n : ℕ) → n < 81 → is_promotable role ≡ false → has_bit 0 n ≡ (is_promotable role && (in_promotion_zone color from || in_promotion_zone color n))
+promotes_never role color from n h e = has_bit-none n ∙ none_of (is_promotable role) (in_promotion_zone color from || in_promotion_zone color n) e
 
-pub promotes_all : (role : Role) (color : Color) (from n : ℕ) → n < 81 → can_promote role ≡ true → in_zone color from ≡ true → has_bit ALL_SQUARES n ≡ (can_promote role && (in_zone color from || in_zone color n))
-promotes_all role color from n h e z = all_squares n h ∙ both_true (can_promote role) (in_zone color from) (in_zone color n) e z
+pub promotes_all : (role : Role) (color : Color) (from n : ℕ) → n < 81 → is_promotable role ≡ true → in_promotion_zone color from ≡ true → has_bit ALL_SQUARES n ≡ (is_promotable role && (in_promotion_zone color from || in_promotion_zone color n))
+promotes_all role color from n h e z = all_squares n h ∙ both_true (is_promotable role) (in_promotion_zone color from) (in_promotion_zone color n) e z
 
-pub promotes_there : (role : Role) (color : Color) (from n m : ℕ) → has_bit m n ≡ in_zone color n → can_promote role ≡ true → in_zone color from ≡ false → has_bit m n ≡ (can_promote role && (in_zone color from || in_zone color n))
-promotes_there role color from n m b e z = b ∙ right_alone (can_promote role) (in_zone color from) (in_zone color n) e z
+pub promotes_there : (role : Role) (color : Color) (from n m : ℕ) → has_bit m n ≡ in_promotion_zone color n → is_promotable role ≡ true → in_promotion_zone color from ≡ false → has_bit m n ≡ (is_promotable role && (in_promotion_zone color from || in_promotion_zone color n))
+promotes_there role color from n m b e z = b ∙ right_alone (is_promotable role) (in_promotion_zone color from) (in_promotion_zone color n) e z
 
 pub ruleset dead_bits = (first_rank, first_ranks, last_rank, last_ranks, no_squares)
 

@@ -5,14 +5,14 @@ use Rattle.shogi_core.specs.declared.piece.Piece.{Piece}
 use Rattle.shogi_core.specs.declared.moves.Move.{Move}
 use Rattle.shogi_core.specs.Attack.{in_check}
 use Rattle.shogi_core.specs.Bits.{has_bit}
-use Rattle.shogi_core.specs.Cell.{is_of}
+use Rattle.shogi_core.specs.Cell.{is_piece_of}
 use Rattle.shogi_core.specs.Pieces.{opponent_of}
 use Rattle.shogi_core.specs.Position.{Shogi}
 use Rattle.shogi_moves.specs.After.{cells_after}
 
 -- where captures end, and where the other moves do
 abbrev pub is_end : Bool → Color → Option Piece → Bool
-is_end true side cell = is_of (opponent_of side) cell
+is_end true side cell = is_piece_of (opponent_of side) cell
 is_end false side cell = is_none cell
 
 -- the move leaves the mover's king unattacked

@@ -3,7 +3,7 @@ use Rattle.std.specs.Prelude.{ℕ, ◌≡◌, ◌<◌, ◌^◌, Bool, true, fals
 use Rattle.shogi_core.specs.declared.piece.Color.{Color}
 use Rattle.shogi_core.specs.Attack.{in_check}
 use Rattle.shogi_core.specs.Bits.{has_bit}
-use Rattle.shogi_core.specs.Cell.{is_king, is_of}
+use Rattle.shogi_core.specs.Cell.{is_king, is_piece_of}
 use Rattle.shogi_core.specs.Lines.{are_lined, is_lined_with_king}
 use Rattle.shogi_core.specs.Movement.{Cells, piece_at}
 use Rattle.shogi_core.specs.Position.{Shogi}
@@ -13,7 +13,7 @@ pub record Guards (p : Shogi) (checked : Bool) (exposed : ℕ) : Type 0 where
   pub check : checked ≡ in_check p.cells p.side
   pub kings : (n : ℕ) → n < 81 → has_bit exposed n ≡ false → is_king p.side (piece_at p.cells n) ≡ false
   pub lines : checked ≡ true → (n : ℕ) → n < 81 → has_bit exposed n ≡ false → is_lined_with_king p.cells p.side n ≡ false
-  pub free : checked ≡ false → (n : ℕ) → n < 81 → has_bit exposed n ≡ false → is_of p.side (piece_at p.cells n) ≡ true → in_check (slice_set p.cells n None) p.side ≡ false
+  pub free : checked ≡ false → (n : ℕ) → n < 81 → has_bit exposed n ≡ false → is_piece_of p.side (piece_at p.cells n) ≡ true → in_check (slice_set p.cells n None) p.side ≡ false
   pub fits : exposed < 2 ^ 81
 
 -- the mask has the kings of a side, and the squares on open lines with those of them that are not left

@@ -15,29 +15,29 @@ use Rattle.shogi_core.specs.Codes.{move_of}
 use Rattle.shogi_core.specs.Movement.{Cells, piece_at, reaches}
 use Rattle.shogi_core.specs.Position.{Shogi, HandCounts, held}
 use Rattle.shogi_core.specs.Attack.{in_check}
-use Rattle.shogi_core.specs.Cell.{is_of, is_dead}
+use Rattle.shogi_core.specs.Cell.{is_piece_of, is_immobile}
 use Rattle.shogi_core.specs.Validity.{pawns_on_file}
 use Rattle.shogi_moves.specs.After.{after, moved, dropped}
 
 -- a role that can promote
-abbrev pub can_promote : Role → Bool
-can_promote Pawn = true
-can_promote Lance = true
-can_promote Knight = true
-can_promote Silver = true
-can_promote Bishop = true
-can_promote Rook = true
-can_promote _ = false
+abbrev pub is_promotable : Role → Bool
+is_promotable Pawn = true
+is_promotable Lance = true
+is_promotable Knight = true
+is_promotable Silver = true
+is_promotable Bishop = true
+is_promotable Rook = true
+is_promotable _ = false
 
 -- the three ranks farthest from the side's own
-abbrev pub in_zone : Color → ℕ → Bool
-in_zone Black square = nat_lt (square % 9) 3
-in_zone White square = nat_lt 5 (square % 9)
+abbrev pub in_promotion_zone : Color → ℕ → Bool
+in_promotion_zone Black square = nat_lt (square % 9) 3
+in_promotion_zone White square = nat_lt 5 (square % 9)
 
 -- a piece may promote by a move that begins or ends in the zone
 abbrev pub may_promote : Option Piece → ℕ → ℕ → Bool
 may_promote None from to = false
-may_promote (Some piece) from to = can_promote piece.role && (in_zone piece.color from || in_zone piece.color to)
+may_promote (Some piece) from to = is_promotable piece.role && (in_promotion_zone piece.color from || in_promotion_zone piece.color to)
 
 -- the pawn
 abbrev pub is_pawn_kind : Kind → Bool
@@ -47,18 +47,18 @@ is_pawn_kind _ = false
 -- one's own piece goes where it reaches and none of one's own stands, promotes only where it may, and can move again from there
 abbrev pub is_pseudo_legal_board_move : Cells → Color → ℕ → ℕ → Bool → Bool
 is_pseudo_legal_board_move cells side from to promote =
-    is_of side (piece_at cells from)
-    && not (is_of side (piece_at cells to))
+    is_piece_of side (piece_at cells from)
+    && not (is_piece_of side (piece_at cells to))
     && reaches cells from to
     && (not promote || may_promote (piece_at cells from) from to)
-    && not (is_dead to (moved promote (piece_at cells from)))
+    && not (is_immobile to (moved promote (piece_at cells from)))
 
 -- a held piece goes to an empty square from which it can move again, and a pawn to a file without an unpromoted pawn of the side
 abbrev pub is_pseudo_legal_drop : Cells → HandCounts → Color → Kind → ℕ → Bool
 is_pseudo_legal_drop cells hands side kind to =
     nat_lt 0 (held hands side kind)
     && is_none (piece_at cells to)
-    && not (is_dead to (dropped side kind))
+    && not (is_immobile to (dropped side kind))
     && not (is_pawn_kind kind && nat_lt 0 (pawns_on_file side (to / 9) cells))
 
 -- the rules on one move, apart from checks

@@ -4,7 +4,7 @@ use Rattle.shogi_core.specs.declared.piece.Color.{Color}
 use Rattle.shogi_core.specs.declared.piece.Piece.{Piece}
 use Rattle.shogi_core.specs.Below.{some_below}
 use Rattle.shogi_core.specs.Bits.{has_bit}
-use Rattle.shogi_core.specs.Cell.{is_of, is_king, is_dead}
+use Rattle.shogi_core.specs.Cell.{is_piece_of, is_king, is_immobile}
 use Rattle.shogi_core.specs.Lines.{is_seen, is_lined_with_king}
 use Rattle.shogi_core.specs.Movement.{Cells, piece_at, has_step}
 use Rattle.shogi_core.specs.Pieces.{opponent_of}
@@ -17,11 +17,11 @@ cell_steps (Some piece) a t = has_step piece a t
 
 -- the piece on a may step to t: none of its own stands there, and it can move again from there without promotion
 abbrev pub is_open_step : Cells → Color → ℕ → ℕ → Bool
-is_open_step cells side a t = cell_steps (piece_at cells a) a t && not (is_of side (piece_at cells t)) && not (is_dead t (piece_at cells a))
+is_open_step cells side a t = cell_steps (piece_at cells a) a t && not (is_piece_of side (piece_at cells t)) && not (is_immobile t (piece_at cells a))
 
 -- a piece of the side with such a step, which is no king and on no open line with one
 unfoldable pub is_spare : Cells → Color → ℕ → Bool
-is_spare cells side a = is_of side (piece_at cells a) && not (is_king side (piece_at cells a)) && not (is_lined_with_king cells side a) && some_below 81 (is_open_step cells side a)
+is_spare cells side a = is_piece_of side (piece_at cells a) && not (is_king side (piece_at cells a)) && not (is_lined_with_king cells side a) && some_below 81 (is_open_step cells side a)
 
 -- a mask with the kings of a side and all squares that those see which are not left
 pub record Sees (cells : Cells) (side : Color) (left sight : ℕ) : Type 0 where

@@ -10,7 +10,7 @@ ghost use Rattle.shogi_moves.specs.LegalMoves.{legal_from, legal_above};
 
 use crate::legal::is_legal_move;
 use crate::safe::skip;
-use shogi_core::{MOVE_CODES, Move, Position, SQUARE_CODES, Square, is_of};
+use shogi_core::{MOVE_CODES, Move, Position, SQUARE_CODES, Square, is_piece_of};
 
 /// Whether the move takes a piece.
 fn is_capture(p: &Position, m: &Move) -> bool
@@ -39,7 +39,7 @@ fn skip_targets(p: &Position, capture: bool, from: Square, to: Square, code: u16
     ensures none { HasNoneWanted p.now capture code result }
 {
     let first = from.index() as u16 * SQUARE_CODES;
-    if !is_of(p.at(from), p.side()) {
+    if !is_piece_of(p.at(from), p.side()) {
         return first + SQUARE_CODES;
     }
     let mut next = to.index() + 1;

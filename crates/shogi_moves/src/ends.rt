@@ -6,7 +6,7 @@ ghost use Rattle.shogi_core.specs.declared.piece.Kind.TheVariants as kinds;
 ghost use Rattle.shogi_moves.specs.Legal.{is_legal_code, is_pseudo_legal_drop, is_safe, is_pawn_drop_mate};
 ghost use Rattle.shogi_core.specs.Attack.{in_check};
 ghost use Rattle.shogi_core.specs.Bits.{has_bit};
-ghost use Rattle.shogi_core.specs.Cell.{is_of, is_king};
+ghost use Rattle.shogi_core.specs.Cell.{is_piece_of, is_king};
 ghost use Rattle.shogi_core.specs.Codes.{code_of};
 ghost use Rattle.shogi_core.specs.Movement.{piece_at};
 ghost use Rattle.shogi_moves.specs.Captures.{is_wanted};
@@ -82,7 +82,7 @@ fn is_free(p: &Position, from: Square) -> bool
 /// attacks that square once the king is lifted off its own, nothing does after the move.
 #[tactic(auto, using(crate::proofs::EndLaws::king_steps))]
 fn is_king_safe(p: &Position, lifted: &Board, from: Square, to: Square) -> bool
-    requires own { is_of p.now.side (piece_at p.now.cells from) ≡ true }
+    requires own { is_piece_of p.now.side (piece_at p.now.cells from) ≡ true }
     requires lifted { lifted.now ≡ slice_set p.now.cells from None }
     requires lone { (x : ℕ) → x < 81 → x ≢ from → is_king p.now.side (piece_at p.now.cells x) ≡ false }
     ensures { result ≡ is_unchecked p.now (moves.Board from to false) }
@@ -104,7 +104,7 @@ fn is_king_safe(p: &Position, lifted: &Board, from: Square, to: Square) -> bool
 /// Those of the ends on which the only king of the side to move is unattacked.
 #[tactic(auto, using(crate::proofs::EndLaws::sifting))]
 fn king_ends(p: &Position, from: Square, ends: u128) -> u128
-    requires own { is_of p.now.side (piece_at p.now.cells from) ≡ true }
+    requires own { is_piece_of p.now.side (piece_at p.now.cells from) ≡ true }
     requires lone { (x : ℕ) → x < 81 → x ≢ from → is_king p.now.side (piece_at p.now.cells x) ≡ false }
     requires fits { ends < 2 ^ 81 }
     ensures bits { (n : ℕ) → n < 81 → has_bit result n ≡ (has_bit ends n && is_unchecked p.now (moves.Board from n false)) }
@@ -127,7 +127,7 @@ fn king_ends(p: &Position, from: Square, ends: u128) -> u128
 #[tactic(auto, using(crate::proofs::EndLaws::calm_ends))]
 fn safe_ends(p: &Position, guard: &Guard, from: Square, ends: u128) -> u128
     requires guard { Guards p.now guard.now.checked guard.now.exposed }
-    requires own { is_of p.now.side (piece_at p.now.cells from) ≡ true }
+    requires own { is_piece_of p.now.side (piece_at p.now.cells from) ≡ true }
     requires fits { ends < 2 ^ 81 }
     ensures bits { (n : ℕ) → n < 81 → has_bit result n ≡ (has_bit ends n && is_unchecked p.now (moves.Board from n false)) }
     ensures fits { result < 2 ^ 81 }
@@ -158,7 +158,7 @@ fn safe_ends(p: &Position, guard: &Guard, from: Square, ends: u128) -> u128
 #[tactic(auto, using(crate::proofs::EndLaws::ending))]
 pub fn board_ends(p: &Position, guard: &Guard, capture: bool, from: Square) -> Ends
     requires guard { Guards p.now guard.now.checked guard.now.exposed }
-    requires own { is_of p.now.side (piece_at p.now.cells from) ≡ true }
+    requires own { is_piece_of p.now.side (piece_at p.now.cells from) ≡ true }
     ensures plain { (n : ℕ) → n < 81 → has_bit result.plain n ≡ is_wanted p.now capture (code_of (moves.Board from n false)) }
     ensures promoting { (n : ℕ) → n < 81 → has_bit result.promoting n ≡ is_wanted p.now capture (code_of (moves.Board from n true)) }
     ensures plain_fits { result.plain < 2 ^ 81 }
@@ -179,7 +179,7 @@ pub fn board_ends(p: &Position, guard: &Guard, capture: bool, from: Square) -> E
 #[tactic(auto, using(crate::proofs::EndLaws::ending_all))]
 pub fn legal_ends(p: &Position, guard: &Guard, from: Square) -> Ends
     requires guard { Guards p.now guard.now.checked guard.now.exposed }
-    requires own { is_of p.now.side (piece_at p.now.cells from) ≡ true }
+    requires own { is_piece_of p.now.side (piece_at p.now.cells from) ≡ true }
     ensures plain { (n : ℕ) → n < 81 → has_bit result.plain n ≡ is_legal_code p.now (code_of (moves.Board from n false)) }
     ensures promoting { (n : ℕ) → n < 81 → has_bit result.promoting n ≡ is_legal_code p.now (code_of (moves.Board from n true)) }
     ensures plain_fits { result.plain < 2 ^ 81 }

@@ -3,7 +3,7 @@
 ghost use Rattle.std.specs.Prelude.{◌≡◌, ◌↔◌, IsTrue, true, if◌then◌else◌, Some, None};
 ghost use Rattle.shogi_core.specs.Codes.{code_of};
 ghost use Rattle.shogi_moves.specs.After.{after};
-ghost use Rattle.shogi_moves.specs.Legal.{is_legal, is_safe, is_pseudo_legal, is_pseudo_legal_board_move, is_pseudo_legal_drop, may_promote, is_pawn_kind, is_mated, is_pawn_drop, is_pawn_drop_mate, can_promote, in_zone};
+ghost use Rattle.shogi_moves.specs.Legal.{is_legal, is_safe, is_pseudo_legal, is_pseudo_legal_board_move, is_pseudo_legal_drop, may_promote, is_pawn_kind, is_mated, is_pawn_drop, is_pawn_drop_mate, is_promotable, in_promotion_zone};
 ghost use Rattle.shogi_core.specs.declared.moves.Move.TheVariants as moves;
 ghost use Rattle.shogi_moves.specs.Candidates.{is_candidate};
 ghost use Rattle.shogi_moves.specs.Guards.{Guards};
@@ -14,11 +14,11 @@ use crate::after::{apply, apply_safe, cells_after, dropped, moved};
 use crate::attack::in_check;
 use crate::guard::{Guard, is_calm};
 use crate::safe::has_safe;
-use shogi_core::{Color, Kind, Move, Piece, Position, Role, Square, is_dead, is_of};
+use shogi_core::{Color, Kind, Move, Piece, Position, Role, Square, is_immobile, is_piece_of};
 
 /// Whether a piece of the role can promote.
-pub fn can_promote(role: Role) -> bool
-    ensures { result ≡ can_promote role }
+pub fn is_promotable(role: Role) -> bool
+    ensures { result ≡ is_promotable role }
 {
     matches!(
         role,
@@ -27,8 +27,8 @@ pub fn can_promote(role: Role) -> bool
 }
 
 /// Whether the square lies on the three ranks in which the side promotes.
-pub fn in_zone(color: Color, square: Square) -> bool
-    ensures { result ≡ in_zone color square }
+pub fn in_promotion_zone(color: Color, square: Square) -> bool
+    ensures { result ≡ in_promotion_zone color square }
 {
     match color {
         Color::Black => square.rank() < 4,
@@ -42,8 +42,8 @@ fn may_promote(cell: Option<Piece>, from: Square, to: Square) -> bool
 {
     match cell {
         None => false,
-        Some(piece) => can_promote(piece.role)
-            && (in_zone(piece.color, from) || in_zone(piece.color, to)),
+        Some(piece) => is_promotable(piece.role)
+            && (in_promotion_zone(piece.color, from) || in_promotion_zone(piece.color, to)),
     }
 }
 
@@ -60,11 +60,11 @@ fn is_pseudo_legal_board_move(p: &Position, from: Square, to: Square, promote: b
 {
     let side = p.side();
     let piece = p.at(from);
-    is_of(piece, side)
-        && !is_of(p.at(to), side)
+    is_piece_of(piece, side)
+        && !is_piece_of(p.at(to), side)
         && p.reaches(from, to)
         && (!promote || may_promote(piece, from, to))
-        && !is_dead(moved(piece, promote), to.index())
+        && !is_immobile(moved(piece, promote), to.index())
 }
 
 /// Whether the drop obeys the rules, apart from checks and mate by a pawn.
@@ -74,7 +74,7 @@ fn is_pseudo_legal_drop(p: &Position, kind: Kind, to: Square) -> bool
     let side = p.side();
     p.hand(side, kind) > 0
         && p.at(to).is_none()
-        && !is_dead(dropped(side, kind), to.index())
+        && !is_immobile(dropped(side, kind), to.index())
         && !(is_pawn_kind(kind) && p.as_board().pawns_on_file(side, to.index() / 9) > 0)
 }
 
@@ -103,7 +103,7 @@ fn is_pseudo_legal_candidate(p: &Position, from: Square, to: Square, promote: bo
     ensures { result ≡ is_pseudo_legal_board_move p.now.cells p.now.side from to promote }
 {
     let piece = p.at(from);
-    (!promote || may_promote(piece, from, to)) && !is_dead(moved(piece, promote), to.index())
+    (!promote || may_promote(piece, from, to)) && !is_immobile(moved(piece, promote), to.index())
 }
 
 /// `is_safe` of a candidate, with what is kept of the position.

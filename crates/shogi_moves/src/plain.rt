@@ -2,7 +2,7 @@
 //! scanned for attacks, and each move is made to see what it leaves.
 
 use shogi_core::{
-    Board, Color, Kind, MOVE_CODES, Move, Piece, Position, Role, Square, is_dead, is_of,
+    Board, Color, Kind, MOVE_CODES, Move, Piece, Position, Role, Square, is_immobile, is_piece_of,
 };
 
 fn steps(piece: Piece, from: Square, to: Square) -> bool {
@@ -46,7 +46,7 @@ pub fn reaches(board: &Board, from: Square, to: Square) -> bool {
 pub fn is_attacked(board: &Board, by: Color, square: Square) -> bool {
     for index in 0..81 {
         let from = Square::of_index(index);
-        if is_of(board.at(from), by) && reaches(board, from, square) {
+        if is_piece_of(board.at(from), by) && reaches(board, from, square) {
             return true;
         }
     }
@@ -68,7 +68,7 @@ pub fn in_check(board: &Board, side: Color) -> bool {
     false
 }
 
-fn in_zone(side: Color, square: Square) -> bool {
+fn in_promotion_zone(side: Color, square: Square) -> bool {
     match side {
         Color::Black => square.rank() <= 3,
         Color::White => square.rank() >= 7,
@@ -90,7 +90,7 @@ fn is_pseudo_legal_board_move(p: &Position, from: Square, to: Square, promote: b
     let Some(piece) = p.at(from) else {
         return false;
     };
-    if !piece.color.is_same(p.side()) || is_of(p.at(to), p.side()) {
+    if !piece.color.is_same(p.side()) || is_piece_of(p.at(to), p.side()) {
         return false;
     }
     if !reaches(&p.board(), from, to) {
@@ -98,9 +98,9 @@ fn is_pseudo_legal_board_move(p: &Position, from: Square, to: Square, promote: b
     }
     if promote {
         let changes = piece.role.promoted() != piece.role;
-        return changes && (in_zone(piece.color, from) || in_zone(piece.color, to));
+        return changes && (in_promotion_zone(piece.color, from) || in_promotion_zone(piece.color, to));
     }
-    !is_dead(Some(piece), to.index())
+    !is_immobile(Some(piece), to.index())
 }
 
 fn is_pseudo_legal_drop(p: &Position, kind: Kind, to: Square) -> bool {
@@ -109,7 +109,7 @@ fn is_pseudo_legal_drop(p: &Position, kind: Kind, to: Square) -> bool {
     if p.hand(side, kind) == 0 || p.at(to).is_some() {
         return false;
     }
-    if is_dead(Some(Piece { color: side, role }), to.index()) {
+    if is_immobile(Some(Piece { color: side, role }), to.index()) {
         return false;
     }
     if role != Role::Pawn {

@@ -4,7 +4,7 @@ ghost use Rattle.std.specs.Prelude.{◌≡◌, ◌≢◌, ◌<◌, ◌≤◌, �
 ghost use Rattle.shogi_core.specs.declared.moves.TheConstants.{FIRST_DROP};
 ghost use Rattle.shogi_core.specs.declared.moves.Move.TheVariants as moves;
 ghost use Rattle.shogi_core.specs.Bits.{has_bit};
-ghost use Rattle.shogi_core.specs.Cell.{is_of};
+ghost use Rattle.shogi_core.specs.Cell.{is_piece_of};
 ghost use Rattle.shogi_core.specs.Codes.{code_of};
 ghost use Rattle.shogi_core.specs.Movement.{piece_at};
 ghost use Rattle.shogi_core.specs.Pieces.{kind_number};
@@ -16,7 +16,7 @@ ghost use Rattle.shogi_moves.specs.Sweeps.{wanted_from, IsBoardSweep, IsDropSwee
 use crate::ends::{Ends, board_ends, drop_ends};
 use crate::guard::{Guard, guard_of};
 use shogi_core::bits::{cleared, has, lowest, next_of};
-use shogi_core::{FIRST_DROP, Kind, Move, Position, SQUARE_CODES, Square, is_of};
+use shogi_core::{FIRST_DROP, Kind, Move, Position, SQUARE_CODES, Square, is_piece_of};
 
 /// What is still to come of the board moves of a sort, in the order of codes: the legal ends of
 /// the piece on one square, and all of those above it.
@@ -47,7 +47,7 @@ fn ends_on(p: &Position, guard: &Guard, capture: bool, from: Square) -> Ends
     ensures promoting_fits { result.promoting < 2 ^ 81 }
 {
     from.validity();
-    if is_of(p.at(from), p.side()) {
+    if is_piece_of(p.at(from), p.side()) {
         board_ends(p, guard, capture, from)
     } else {
         Ends {

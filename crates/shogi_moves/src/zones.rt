@@ -2,11 +2,11 @@
 
 ghost use Rattle.std.specs.Prelude.{◌≡◌, ◌<◌, ◌^◌, ◌/◌, ◌==◌, ◌&&◌, ℕ, nat_lt};
 ghost use Rattle.shogi_core.specs.Bits.{has_bit};
-ghost use Rattle.shogi_core.specs.Cell.{is_dead};
+ghost use Rattle.shogi_core.specs.Cell.{is_immobile};
 ghost use Rattle.shogi_core.specs.Validity.{pawns_on_file};
-ghost use Rattle.shogi_moves.specs.Legal.{in_zone, may_promote};
+ghost use Rattle.shogi_moves.specs.Legal.{in_promotion_zone, may_promote};
 
-use crate::legal::{can_promote, in_zone};
+use crate::legal::{is_promotable, in_promotion_zone};
 use shogi_core::bits::ALL_SQUARES;
 use shogi_core::{Board, Color, Piece, Position, Role, Square};
 
@@ -26,7 +26,7 @@ const LAST_THREE_RANKS: u128 = 2119760341242089511813568;
 /// The squares on which the piece could never move again.
 #[tactic(auto, using(crate::proofs::ZoneLaws::dead_bits))]
 pub fn dead_squares(cell: Option<Piece>) -> u128
-    ensures bits { (n : ℕ) → n < 81 → has_bit result n ≡ is_dead n cell }
+    ensures bits { (n : ℕ) → n < 81 → has_bit result n ≡ is_immobile n cell }
     ensures fits { result < 2 ^ 81 }
 {
     let Some(piece) = cell else { return 0 };
@@ -42,7 +42,7 @@ pub fn dead_squares(cell: Option<Piece>) -> u128
 /// The squares of the zone in which the side promotes.
 #[tactic(auto, using(crate::proofs::ZoneLaws::zone_bits))]
 fn zone_squares(color: Color) -> u128
-    ensures bits { (n : ℕ) → n < 81 → has_bit result n ≡ in_zone color n }
+    ensures bits { (n : ℕ) → n < 81 → has_bit result n ≡ in_promotion_zone color n }
     ensures fits { result < 2 ^ 81 }
 {
     match color {
@@ -58,10 +58,10 @@ pub fn promoting_squares(cell: Option<Piece>, from: Square) -> u128
     ensures fits { result < 2 ^ 81 }
 {
     let Some(piece) = cell else { return 0 };
-    if !can_promote(piece.role) {
+    if !is_promotable(piece.role) {
         return 0;
     }
-    if in_zone(piece.color, from) {
+    if in_promotion_zone(piece.color, from) {
         return ALL_SQUARES;
     }
     zone_squares(piece.color)

@@ -3,18 +3,18 @@ use Rattle.std.proofs.Common.{◌≡◌, ◌+◌, ◌*◌, ◌-◌, ◌<◌, ℕ
 use Rattle.shogi_core.specs.declared.moves.Move.{Move}
 use Rattle.shogi_core.specs.Position.{Shogi}
 use Rattle.shogi_moves.specs.After.{after}
-use Rattle.shogi_search.specs.Minimax.{best, line, then_line, tree_size, chase, then_chase, cost}
+use Rattle.shogi_search.specs.Minimax.{best, line, then_pv, tree_size, pv_cost, then_pv_cost, cost}
 
 pub line-leaf : (p : Shogi) → line p 0 ≡ []
 unfolding line
 line-leaf p = refl
 
-line-suc : (p : Shogi) (d : ℕ) → line p (suc d) ≡ then_line (λ q. line q d) p (best p (suc d))
+line-suc : (p : Shogi) (d : ℕ) → line p (suc d) ≡ then_pv (λ q. line q d) p (best p (suc d))
 unfolding line
 line-suc p d = refl
 
 -- at a depth of at least 1
-pub line-above : (p : Shogi) (d : ℕ) → 0 < d → line p d ≡ then_line (λ q. line q (d - 1)) p (best p d)
+pub line-above : (p : Shogi) (d : ℕ) → 0 < d → line p d ≡ then_pv (λ q. line q (d - 1)) p (best p d)
 line-above p zero h = absurd (omega arith)
 line-above p (suc d) h = let e : suc d - 1 ≡ d = omega arith in rw e (line-suc p d)
 
@@ -24,32 +24,32 @@ line-some p d m h e = rw (line-above p d h, e) refl
 pub line-none : (p : Shogi) (d : ℕ) → 0 < d → best p d ≡ None → line p d ≡ []
 line-none p d h e = rw (line-above p d h, e) refl
 
-pub chase-leaf : (p : Shogi) → chase p 0 ≡ 0
-unfolding chase
-chase-leaf p = refl
+pub pv_cost-leaf : (p : Shogi) → pv_cost p 0 ≡ 0
+unfolding pv_cost
+pv_cost-leaf p = refl
 
-chase-suc : (p : Shogi) (k : ℕ) → chase p (suc k) ≡ 2 * tree_size p (suc k) + then_chase (λ q. chase q k) p (best p (suc k))
-unfolding chase
-chase-suc p k = refl
+pv_cost-suc : (p : Shogi) (k : ℕ) → pv_cost p (suc k) ≡ 2 * tree_size p (suc k) + then_pv_cost (λ q. pv_cost q k) p (best p (suc k))
+unfolding pv_cost
+pv_cost-suc p k = refl
 
-pub chase-above : (p : Shogi) (k : ℕ) → 0 < k → chase p k ≡ 2 * tree_size p k + then_chase (λ q. chase q (k - 1)) p (best p k)
-chase-above p zero h = absurd (omega arith)
-chase-above p (suc k) h = let e : suc k - 1 ≡ k = omega arith in rw e (chase-suc p k)
+pub pv_cost-above : (p : Shogi) (k : ℕ) → 0 < k → pv_cost p k ≡ 2 * tree_size p k + then_pv_cost (λ q. pv_cost q (k - 1)) p (best p k)
+pv_cost-above p zero h = absurd (omega arith)
+pv_cost-above p (suc k) h = let e : suc k - 1 ≡ k = omega arith in rw e (pv_cost-suc p k)
 
-pub chase-some : (p : Shogi) (k : ℕ) (m : Move) → 0 < k → best p k ≡ Some m → chase p k ≡ 2 * tree_size p k + chase (after p m) (k - 1)
-chase-some p k m h e = rw (chase-above p k h, e) refl
+pub pv_cost-some : (p : Shogi) (k : ℕ) (m : Move) → 0 < k → best p k ≡ Some m → pv_cost p k ≡ 2 * tree_size p k + pv_cost (after p m) (k - 1)
+pv_cost-some p k m h e = rw (pv_cost-above p k h, e) refl
 
-pub chase-none : (p : Shogi) (k : ℕ) → 0 < k → best p k ≡ None → chase p k ≡ 2 * tree_size p k
-chase-none p k h e = rw (chase-above p k h, e) (omega arith)
+pub pv_cost-none : (p : Shogi) (k : ℕ) → 0 < k → best p k ≡ None → pv_cost p k ≡ 2 * tree_size p k
+pv_cost-none p k h e = rw (pv_cost-above p k h, e) (omega arith)
 
 pub cost-none : (p : Shogi) → cost p 0 ≡ 0
 unfolding cost
 cost-none p = refl
 
-pub cost-suc : (p : Shogi) (d : ℕ) → cost p (suc d) ≡ cost p d + chase p (suc d)
+pub cost-suc : (p : Shogi) (d : ℕ) → cost p (suc d) ≡ cost p d + pv_cost p (suc d)
 unfolding cost
 cost-suc p d = refl
 
-pub cost-above : (p : Shogi) (d : ℕ) → 0 < d → cost p d ≡ cost p (d - 1) + chase p d
+pub cost-above : (p : Shogi) (d : ℕ) → 0 < d → cost p d ≡ cost p (d - 1) + pv_cost p d
 cost-above p zero h = absurd (omega arith)
 cost-above p (suc d) h = let e : suc d - 1 ≡ d = omega arith in rw e (cost-suc p d)

@@ -12,13 +12,13 @@ use Rattle.shogi_moves.specs.LegalMoves.{legal_moves}
 use Rattle.shogi_moves.specs.Rising.{is_in}
 use Rattle.shogi_eval.specs.Material.{material_of}
 use Rattle.shogi_eval.proofs.Bounds.{material_bounds}
-use Rattle.shogi_search.specs.Minimax.{value, best, best_code, move_at, tree_size, worth, lost, negated, greatest_of, at_leaf, subtrees}
+use Rattle.shogi_search.specs.Minimax.{value, best, best_code, move_at, tree_size, worth, lost, negated, greatest_of, leaf_value, subtrees}
 use Rattle.shogi_search.proofs.Greatest.{greatest_of-above, greatest_of-least}
 use Rattle.shogi_search.proofs.Valid.{after_valid}
 use Rattle.shogi_search.specs.declared.bounds.TheConstants.{MATE}
 use Rattle.std.specs.Prelude.{◌+ℤ◌}
 
-pub value-leaf : (p : Shogi) → value p 0 ≡ at_leaf (lost 0) (material_of p) (legal_moves p)
+pub value-leaf : (p : Shogi) → value p 0 ≡ leaf_value (lost 0) (material_of p) (legal_moves p)
 unfolding value
 value-leaf p = refl
 
@@ -56,7 +56,7 @@ pub record Within (d : ℕ) (v : ℤ) : Type 0 where
   pub least : lost d ≤ℤ v
   pub most : v ≤ℤ (MATE +ℤ pos d)
 
-leaf_within : (ms : List ℕ) (v : ℤ) → negsuc 25199 ≤ℤ v → v ≤ℤ pos 25200 → Within 0 (at_leaf (lost 0) v ms)
+leaf_within : (ms : List ℕ) (v : ℤ) → negsuc 25199 ≤ℤ v → v ≤ℤ pos 25200 → Within 0 (leaf_value (lost 0) v ms)
 leaf_within [] v l h = record { least = omega (arith, ints); most = omega (arith, ints) }
 leaf_within (m ∷ ms) v l h = record { least = omega (arith, ints); most = omega (arith, ints) }
 
@@ -91,13 +91,13 @@ tree_size-above p (suc d) h = let e : suc d - 1 ≡ d = omega arith in rw e (tre
 
 leaf_at : (p : Shogi) (ms : List ℕ) → legal_moves p ≡ ms → (ms ≡ [] → ⊥) → value p 0 ≡ material_of p
 leaf_at p [] e ne = absurd (ne refl)
-leaf_at p (m ∷ ms) e ne = value-leaf p ∙ ap (at_leaf (lost 0) (material_of p)) e
+leaf_at p (m ∷ ms) e ne = value-leaf p ∙ ap (leaf_value (lost 0) (material_of p)) e
 
 pub leaf_some : (p : Shogi) → (legal_moves p ≡ [] → ⊥) → value p 0 ≡ material_of p
 leaf_some p ne = leaf_at p (legal_moves p) refl ne
 
 leaf_empty : (p : Shogi) (ms : List ℕ) → legal_moves p ≡ ms → ((ms ≡ [] → ⊥) → ⊥) → value p 0 ≡ lost 0
-leaf_empty p [] e nn = value-leaf p ∙ ap (at_leaf (lost 0) (material_of p)) e
+leaf_empty p [] e nn = value-leaf p ∙ ap (leaf_value (lost 0) (material_of p)) e
 leaf_empty p (m ∷ ms) e nn = absurd (nn (λ z. cc))
 
 pub leaf_none : (p : Shogi) → ((legal_moves p ≡ [] → ⊥) → ⊥) → value p 0 ≡ lost 0

@@ -31,13 +31,13 @@ greatest_of none f [] = none
 greatest_of none f (m ∷ ms) = greatest f m ms
 
 -- one value where no move is legal, another one otherwise
-abbrev pub at_leaf : ℤ → ℤ → List ℕ → ℤ
-at_leaf none some [] = none
-at_leaf none some (m ∷ ms) = some
+abbrev pub leaf_value : ℤ → ℤ → List ℕ → ℤ
+leaf_value none some [] = none
+leaf_value none some (m ∷ ms) = some
 
 -- the value of a position at a depth, for the side to move
 unfoldable pub value : Shogi → ℕ → ℤ
-value p zero = at_leaf (lost 0) (material_of p) (legal_moves p)
+value p zero = leaf_value (lost 0) (material_of p) (legal_moves p)
 value p (suc d) = greatest_of (lost (suc d)) (λ m. negated (value (after_code p m) d)) (legal_moves p)
 
 -- what the move of a code is worth to its mover, with d plies after it
@@ -59,14 +59,14 @@ unfoldable pub best : Shogi → ℕ → Option Move
 best p d = move_at (best_code p d)
 
 -- a move and what follows it
-abbrev pub then_line : (Shogi → List Move) → Shogi → Option Move → List Move
-then_line rest p None = []
-then_line rest p (Some m) = m ∷ rest (after p m)
+abbrev pub then_pv : (Shogi → List Move) → Shogi → Option Move → List Move
+then_pv rest p None = []
+then_pv rest p (Some m) = m ∷ rest (after p m)
 
 -- the best move, and the best line after it
 unfoldable pub line : Shogi → ℕ → List Move
 line p zero = []
-line p (suc d) = then_line (λ q. line q d) p (best p (suc d))
+line p (suc d) = then_pv (λ q. line q d) p (best p (suc d))
 
 -- the nodes of the whole tree
 unfoldable pub tree_size : Shogi → ℕ → ℕ
@@ -78,19 +78,19 @@ abbrev pub subtrees : Shogi → ℕ → List ℕ → ℕ
 subtrees p d ms = sum_by (λ m. tree_size (after_code p m) d) ms
 
 -- what follows a move costs
-abbrev pub then_chase : (Shogi → ℕ) → Shogi → Option Move → ℕ
-then_chase rest p None = 0
-then_chase rest p (Some m) = rest (after p m)
+abbrev pub then_pv_cost : (Shogi → ℕ) → Shogi → Option Move → ℕ
+then_pv_cost rest p None = 0
+then_pv_cost rest p (Some m) = rest (after p m)
 
 -- the steps that may be made for the best line: two for each node of the trees along it
-unfoldable pub chase : Shogi → ℕ → ℕ
-chase p zero = 0
-chase p (suc k) = 2 * tree_size p (suc k) + then_chase (λ q. chase q k) p (best p (suc k))
+unfoldable pub pv_cost : Shogi → ℕ → ℕ
+pv_cost p zero = 0
+pv_cost p (suc k) = 2 * tree_size p (suc k) + then_pv_cost (λ q. pv_cost q k) p (best p (suc k))
 
 -- the steps that may be made for the best lines of each depth from 1 on
 unfoldable pub cost : Shogi → ℕ → ℕ
 cost p zero = 0
-cost p (suc d) = cost p d + chase p (suc d)
+cost p (suc d) = cost p d + pv_cost p (suc d)
 
 -- what an entry says of the position at the depth holds
 abbrev pub IsTrueEntry : Shogi → ℕ → Entry → Type 0

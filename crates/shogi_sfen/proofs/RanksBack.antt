@@ -11,7 +11,7 @@ use Rattle.shogi_core.specs.Movement.{Cells}
 use Rattle.shogi_sfen.specs.declared.board_text.RankItem.{RankItem}
 use Rattle.shogi_sfen.specs.declared.board_text.RankItem.TheVariants.{Empty, Occupied}
 use Rattle.shogi_sfen.specs.Letters.{piece_named, piece_text}
-use Rattle.shogi_sfen.specs.Items.{IsRankItem, item_squares, item_text}
+use Rattle.shogi_sfen.specs.Items.{IsRankItem, item_cells, item_text}
 use Rattle.shogi_sfen.specs.BoardTexts.{is_plus, onto_items, items_from, squares_in, only_nine, rank_of}
 use Rattle.shogi_sfen.specs.Written.{run_text, cells_text}
 
@@ -32,12 +32,12 @@ item_back (Empty n) rest h =
     ∙ ap (λ o. onto_items o (items_from false rest)) (cond-true (nat_lt 48 (n + 48) && nat_lt (n + 48) 58) _ _ (and_from _ _ (lt-ltb 48 (n + 48) (omega arith)) (lt-ltb (n + 48) 58 (omega arith))) ∙ ap (λ (m : ℕ). Some (Empty m)) (omega arith))
 item_back (Occupied piece) rest h = piece_back piece.color piece.role rest
 
-more_squares : (item : RankItem) (items : Option (List RankItem)) (cells : Cells) → squares_in items ≡ Some cells → squares_in (onto_items (Some item) items) ≡ Some (item_squares item ++ cells)
+more_squares : (item : RankItem) (items : Option (List RankItem)) (cells : Cells) → squares_in items ≡ Some cells → squares_in (onto_items (Some item) items) ≡ Some (item_cells item ++ cells)
 more_squares item None cells e = cc
-more_squares item (Some items) cells e = let same : flat_map item_squares items ≡ cells = cc in ap (λ (c : Cells). Some (item_squares item ++ c)) same
+more_squares item (Some items) cells e = let same : flat_map item_cells items ≡ cells = cc in ap (λ (c : Cells). Some (item_cells item ++ c)) same
 
 -- the squares of an item in front
-in_front : (item : RankItem) (rest : List ℕ) (cells : Cells) → IsRankItem item → squares_in (items_from false rest) ≡ Some cells → squares_in (items_from false (item_text item ++ rest)) ≡ Some (item_squares item ++ cells)
+in_front : (item : RankItem) (rest : List ℕ) (cells : Cells) → IsRankItem item → squares_in (items_from false rest) ≡ Some cells → squares_in (items_from false (item_text item ++ rest)) ≡ Some (item_cells item ++ cells)
 in_front item rest cells h e = ap squares_in (item_back item rest h) ∙ more_squares item (items_from false rest) cells e
 
 -- a run in front

@@ -21,7 +21,7 @@ use Rattle.shogi_core.specs.Pieces.{is_same_color, kind_number, kind_of}
 use Rattle.shogi_core.specs.Position.{HandCounts, held, place_of}
 use Rattle.shogi_core.proofs.Faults.{number_below}
 use Rattle.shogi_sfen.specs.Words.{has_bytes}
-use Rattle.shogi_sfen.specs.Letters.{letter_of, letter_or_king, as_side, piece_named}
+use Rattle.shogi_sfen.specs.Letters.{letter_of, letter_or_king, in_case_of, piece_named}
 use Rattle.shogi_sfen.specs.HandTexts.{with_kind, with_piece, with_digit, hands_from, no_hands, hands_of}
 use Rattle.shogi_sfen.specs.Written.{or_hyphen}
 use Rattle.shogi_sfen.specs.Spelling.{Entry, AreCountDigits, count_written, entry_text, count_in, SpellsHands}
@@ -126,10 +126,10 @@ steps (Some next) f hands e = record { next = next; found = refl; later = e }
 record IsLetterFor (hands : HandCounts) (n byte : ℕ) (more : HandCounts) : Type 0 where
   color : Color
   kind : Kind
-  letter : as_side color (letter_of kind) ≡ byte
+  letter : in_case_of color (letter_of kind) ≡ byte
   same : added hands color kind n ≡ more
 
-by_kind : (hands : HandCounts) (n byte : ℕ) (more : HandCounts) (piece : Piece) (o : Option Kind) → kind_of piece.role ≡ o → as_side piece.color (letter_or_king o) ≡ byte
+by_kind : (hands : HandCounts) (n byte : ℕ) (more : HandCounts) (piece : Piece) (o : Option Kind) → kind_of piece.role ≡ o → in_case_of piece.color (letter_or_king o) ≡ byte
     → with_kind hands n piece.color o ≡ Some more → IsLetterFor hands n byte more
 by_kind hands n byte more piece None k l e = cc
 by_kind hands n byte more piece (Some kind) k l e = record { color = piece.color; kind = kind; letter = l; same = cc }
@@ -186,7 +186,7 @@ held_from (byte ∷ bytes) start count ds hands len begun e = elim (cases_Bool (
       let same : added start l.color l.kind (count_written ds) ≡ s.next = ap (added start l.color l.kind) c.1 ∙ l.same in
       let grown : length s.next ≡ 14 = ap length (sym l.same) ∙ (length-set start (place_of l.color l.kind) (held start l.color l.kind + n) ∙ len) in
       let others : IsHeldFrom bytes s.next hands = held_from bytes s.next None [] hands grown refl s.later in
-      subst (λ (t : List ℕ). IsHeldFrom t start hands) (append_assoc ds (as_side l.color (letter_of l.kind) ∷ []) bytes ∙ ap (λ (b : ℕ). ds ++ b ∷ bytes) l.letter)
+      subst (λ (t : List ℕ). IsHeldFrom t start hands) (append_assoc ds (in_case_of l.color (letter_of l.kind) ∷ []) bytes ∙ ap (λ (b : ℕ). ds ++ b ∷ bytes) l.letter)
       (one_entry entry bytes start s.next hands len c.0 same others)
 ]
 
@@ -236,11 +236,11 @@ digits_read (d ∷ ds) hands n rest all =
     ∙ (ap (λ (k : ℕ). hands_from hands (Some (n * 10 + k)) (ds ++ rest)) (sym (in_range d parts.0)) ∙ digits_read ds hands (n * 10 + digit_value d) rest parts.1)
 
 count_read : (ds : List ℕ) (hands : HandCounts) (color : Color) (kind : Kind) (rest : List ℕ) → AreCountDigits ds
-    → hands_from hands None (ds ++ as_side color (letter_of kind) ∷ rest) ≡ hands_from (added hands color kind (count_written ds)) None rest
+    → hands_from hands None (ds ++ in_case_of color (letter_of kind) ∷ rest) ≡ hands_from (added hands color kind (count_written ds)) None rest
 count_read [] hands color kind rest h = letter_back color kind hands None rest
 count_read (d ∷ ds) hands color kind rest h =
     let parts = and_parts (is_ascii_digit d) (list_all is_ascii_digit ds) h.0 in
-    let letter : List ℕ = as_side color (letter_of kind) ∷ rest in
+    let letter : List ℕ = in_case_of color (letter_of kind) ∷ rest in
     cond-true (is_ascii_digit d) _ _ parts.0
     ∙ (ap (λ (b : Bool). option_and_then (λ n. hands_from hands (Some n) (ds ++ letter)) (cond (true && b) None (Some (0 * 10 + (d - 48))))) (ne_eqb d 48 h.1)
     ∙ (ap (λ (k : ℕ). hands_from hands (Some (0 * 10 + k)) (ds ++ letter)) (sym (in_range d parts.0))
@@ -262,7 +262,7 @@ are_read (entry ∷ entries) start each len =
     are_read entries next each.1 (length-set start (place_of entry.color entry.kind) (held start entry.color entry.kind + count_written entry.digits) ∙ len) in
     record {
       hands = others.hands;
-      read = ap (hands_from start None) (append_assoc entry.digits (as_side entry.color (letter_of entry.kind) ∷ []) (flat_map entry_text entries))
+      read = ap (hands_from start None) (append_assoc entry.digits (in_case_of entry.color (letter_of entry.kind) ∷ []) (flat_map entry_text entries))
           ∙ (count_read entry.digits start entry.color entry.kind (flat_map entry_text entries) each.0 ∙ others.read);
       len = others.len;
       sums = λ color kind.

@@ -10,7 +10,7 @@ use Rattle.shogi_core.specs.Movement.{Cells}
 use Rattle.shogi_sfen.specs.declared.board_text.RankItem.{RankItem}
 use Rattle.shogi_sfen.specs.declared.board_text.RankItem.TheVariants.{Empty, Occupied}
 use Rattle.shogi_sfen.specs.Letters.{is_promoted, piece_letter, piece_text, is_named, piece_named}
-use Rattle.shogi_sfen.specs.Items.{IsRankItem, item_squares, item_text}
+use Rattle.shogi_sfen.specs.Items.{IsRankItem, item_cells, item_text}
 use Rattle.shogi_sfen.specs.BoardTexts.{item_named, onto_items, is_plus, items_from, squares_in, only_nine, rank_of, is_slash}
 use Rattle.shogi_sfen.specs.Spelling.{SpellsRank}
 use Rattle.shogi_sfen.proofs.LetterLaws.{piece_named-passes}
@@ -83,9 +83,9 @@ rank_read : (text : List ℕ) (cells : Cells) (o : Option (List RankItem)) → i
 unfolding AreItemsOf behind
 rank_read text cells None e f = cc
 rank_read text cells (Some items) e f =
-    let both = cond_some (length (flat_map item_squares items) == 9) (flat_map item_squares items) cells f in
+    let both = cond_some (length (flat_map item_cells items) == 9) (flat_map item_cells items) cells f in
     let told = items_read text false items e in
-    record { items = items; each = told.0; squares = both.1; nine = ap length (sym both.1) ∙ eqb-true (length (flat_map item_squares items)) 9 both.0; spelled = told.1 }
+    record { items = items; each = told.0; squares = both.1; nine = ap length (sym both.1) ∙ eqb-true (length (flat_map item_cells items)) 9 both.0; spelled = told.1 }
 
 -- a rank that is read is spelled
 pub SpellsRank-read : (text : List ℕ) (cells : Cells) → rank_of text ≡ Some cells → SpellsRank text cells

@@ -8,7 +8,7 @@ use Rattle.shogi_sfen.specs.declared.board_text.RankItem.{RankItem}
 use Rattle.shogi_sfen.specs.declared.board_text.RankItem.TheVariants.{Empty, Occupied}
 use Rattle.shogi_sfen.specs.declared.board_text.TheConstants.{RANK_SQUARES, BOARD_SQUARES}
 use Rattle.shogi_sfen.specs.Letters.{piece_named}
-use Rattle.shogi_sfen.specs.Items.{item_squares}
+use Rattle.shogi_sfen.specs.Items.{item_cells}
 
 -- what a byte says, where a plus stands right before it or not: a number of empty squares, or a piece
 abbrev pub item_named : Bool → ℕ → Option RankItem
@@ -31,7 +31,7 @@ items_from plus (byte ∷ bytes) = cond (is_plus plus byte) (items_from true byt
 
 -- the squares of items
 abbrev pub squares_in : Option (List RankItem) → Option Cells
-squares_in items = option_map (flat_map item_squares) items
+squares_in items = option_map (flat_map item_cells) items
 
 -- exactly nine squares
 abbrev pub only_nine : Option Cells → Option Cells

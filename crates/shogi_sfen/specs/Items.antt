@@ -13,9 +13,9 @@ IsRankItem (Empty n) = (1 ≤ n) × (n ≤ RANK_SQUARES)
 IsRankItem (Occupied piece) = Unit {0}
 
 -- its squares
-abbrev pub item_squares : RankItem → Cells
-item_squares (Empty n) = replicate n None
-item_squares (Occupied piece) = Some piece ∷ []
+abbrev pub item_cells : RankItem → Cells
+item_cells (Empty n) = replicate n None
+item_cells (Occupied piece) = Some piece ∷ []
 
 -- its text: one digit, or the text of the piece
 abbrev pub item_text : RankItem → List ℕ

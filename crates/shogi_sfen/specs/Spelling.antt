@@ -12,15 +12,15 @@ use Rattle.shogi_sfen.specs.declared.byte.TheConstants.{ZERO, SLASH}
 use Rattle.shogi_sfen.specs.Numbers.{number_written}
 use Rattle.shogi_sfen.specs.declared.board_text.RankItem.{RankItem}
 use Rattle.shogi_sfen.specs.declared.board_text.TheConstants.{RANK_SQUARES, BOARD_SQUARES}
-use Rattle.shogi_sfen.specs.Letters.{letter_of, as_side}
-use Rattle.shogi_sfen.specs.Items.{IsRankItem, item_squares, item_text}
+use Rattle.shogi_sfen.specs.Letters.{letter_of, in_case_of}
+use Rattle.shogi_sfen.specs.Items.{IsRankItem, item_cells, item_text}
 use Rattle.shogi_sfen.specs.Written.{rank_cells, side_text, or_hyphen}
 
 -- a rank's text is that of items whose squares are its nine; empty squares may be cut into runs in any way
 pub record SpellsRank (text : List ℕ) (cells : Cells) : Type 0 where
   pub items : List RankItem
   pub each : AllByRecursion IsRankItem items
-  pub squares : flat_map item_squares items ≡ cells
+  pub squares : flat_map item_cells items ≡ cells
   pub nine : length cells ≡ RANK_SQUARES
   pub spelled : flat_map item_text items ≡ text
 
@@ -50,7 +50,7 @@ count_written (first ∷ others) = number_written (first ∷ others)
 
 -- the count, and the letter of the kind
 abbrev pub entry_text : Entry → List ℕ
-entry_text entry = entry.digits ++ as_side entry.color (letter_of entry.kind) ∷ []
+entry_text entry = entry.digits ++ in_case_of entry.color (letter_of entry.kind) ∷ []
 
 -- the entry is of this side and kind
 abbrev pub is_entry_of : Color → Kind → Entry → Bool

@@ -2,7 +2,7 @@
 
 ghost use Rattle.std.specs.Prelude.{◌≡◌, ◌<◌};
 ghost use Rattle.shogi_core.specs.Pieces.{kind_of};
-ghost use Rattle.shogi_sfen.specs.Letters.{letter_of, kind_named, is_promoted, letter_or_king, as_side, piece_letter, is_named, color_of_letter, role_named, piece_named};
+ghost use Rattle.shogi_sfen.specs.Letters.{letter_of, kind_named, is_promoted, letter_or_king, in_case_of, piece_letter, is_named, color_of_letter, role_named, piece_named};
 
 use crate::byte::{KING, TO_LOWER_CASE};
 use shogi_core::{Color, KINDS, Kind, Piece, Role};
@@ -61,9 +61,9 @@ fn letter_of_role(role: Role) -> u8
 }
 
 /// The letter in the case of the side.
-pub fn as_side(color: Color, letter: u8) -> u8
+pub fn in_case_of(color: Color, letter: u8) -> u8
     requires { letter < 91 }
-    ensures { result ≡ as_side color letter }
+    ensures { result ≡ in_case_of color letter }
 {
     match color {
         Color::Black => letter,
@@ -75,7 +75,7 @@ pub fn as_side(color: Color, letter: u8) -> u8
 pub fn piece_letter(piece: Piece) -> u8
     ensures { result ≡ piece_letter piece }
 {
-    as_side(piece.color, letter_of_role(piece.role))
+    in_case_of(piece.color, letter_of_role(piece.role))
 }
 
 /// Every role.

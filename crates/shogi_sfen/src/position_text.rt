@@ -15,7 +15,7 @@ ghost use Rattle.shogi_core.specs.declared.piece.Color.{Color};
 
 use crate::board_text::{RANK_SQUARES, Rank};
 use crate::byte::{PLUS, SLASH, SPACE, ZERO};
-use crate::letter::{as_side, is_promoted, letter_of, piece_letter};
+use crate::letter::{in_case_of, is_promoted, letter_of, piece_letter};
 use arrayvec::ArrayVec;
 use shogi_core::{Board, Color, Hands, Kind, Piece, Position, Square};
 
@@ -121,7 +121,7 @@ fn push_held(text: &mut Text, color: Color, kind: Kind, n: u8)
     } else if n >= 2 {
         text.push(ZERO + n);
     }
-    text.push(as_side(color, letter_of(kind)));
+    text.push(in_case_of(color, letter_of(kind)));
 }
 
 /// The kinds in their order in a text.

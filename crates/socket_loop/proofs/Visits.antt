@@ -7,12 +7,12 @@ use Rattle.std.specs.Io.KnownBytes.{Keeps, Appends, Consumes}
 use Rattle.std.proofs.KnownBytes.{Consumes-kept, Consumes-nil, Keeps-trans, Keeps-refl}
 use Rattle.session_slots.specs.declared.id.SessionId.{SessionId}
 use Rattle.session_slots.specs.Slots.{find, IsBelow}
-use Rattle.usi_session.specs.Due.{Talk}
+use Rattle.usi_session.specs.Due.{SessionView}
 use Rattle.host_core.specs.declared.event.HostFault.{HostFault}
 use Rattle.host_core.specs.declared.event.HostFault.TheVariants.{Full, OutOfMemory, UnknownSession, NotReady}
 use Rattle.host_core.specs.Steps.{HostState, Stepped, OnSession}
 use Rattle.host_core.specs.Sessions.{Feeds, Takes}
-use Rattle.host_core.specs.ById.{IsOutput as IsQueue, wants_input_of, queued_of}
+use Rattle.host_core.specs.ById.{IsQueue, wants_input_of, queued_of}
 use Rattle.host_core.specs.Events.{Event, Outcome, Opened, Worked, Done, Gave, Refused, Feed, Take, Close}
 use Rattle.host_core.specs.Seen.{passed_of}
 use Rattle.host_core.specs.Made.{Step, own, taken, is_same_id}
@@ -175,7 +175,7 @@ serves_finished m bound h a c before after has_ended marked finished s close =
     (inr (inr (record { earlier = []; later = record { event = Close h.id; outcome = close.outcome } ∷ []; steps_are = refl; moment = before; run = run-start before; has_ended = has_ended; marked = marked; finished = finished })))
 
 -- a feed of a session that wants input is refused for memory alone
-pub refused_for_memory : (before after : HostState) (id : SessionId) (chunk : List ℕ) (o : Outcome) (found : Option Talk) → find before.slots id ≡ found → wants_input_of found ≡ true → length chunk ≤ 4096 → OnSession (Feeds chunk) before id found o after → is_done o ≡ false → o ≡ Refused OutOfMemory
+pub refused_for_memory : (before after : HostState) (id : SessionId) (chunk : List ℕ) (o : Outcome) (found : Option SessionView) → find before.slots id ≡ found → wants_input_of found ≡ true → length chunk ≤ 4096 → OnSession (Feeds chunk) before id found o after → is_done o ≡ false → o ≡ Refused OutOfMemory
 refused_for_memory before after id chunk o None e w few p d = absurd (cc)
 refused_for_memory before after id chunk Done (Some t) e w few p d = absurd (cc)
 refused_for_memory before after id chunk (Opened x) (Some t) e w few p d = absurd p.went
@@ -200,7 +200,7 @@ serves_starved m bound h a b c before mid after chunk o wants few d g s step clo
         serves_closing IsInput m bound h a b c before after (record { event = Feed h.id chunk; outcome = Refused OutOfMemory } ∷ record { event = Close h.id; outcome = close.outcome } ∷ []) chunk (tt, (tt, tt)) (run-two before mid after _ _ first close.step) g s closing (inr out)
         (inr (inl (or_left (is_same_id h.id h.id) (false || false) (is_same_id-refl h.id))))
 
-wants_some : (f : Option Talk) → wants_input_of f ≡ true → IsSome f
+wants_some : (f : Option SessionView) → wants_input_of f ≡ true → IsSome f
 wants_some None e = absurd (cc)
 wants_some (Some t) e = refl
 
@@ -213,14 +213,14 @@ wanted_below host mid id event o e below s =
 
 -- ---- writes
 
-queue_of : (found : Option Talk) (bytes : Bor (List ℕ)) → IsQueue found (Some bytes) → queued_of found ≡ bytes.now
+queue_of : (found : Option SessionView) (bytes : Bor (List ℕ)) → IsQueue found (Some bytes) → queued_of found ≡ bytes.now
 queue_of None bytes p = absurd p
 queue_of (Some t) bytes p = sym p
 
 pub has_queue : (host : HostState) (id : SessionId) (bytes : Bor (List ℕ)) → IsQueue (find host.slots id) (Some bytes) → queued_of (find host.slots id) ≡ bytes.now
 has_queue host id bytes p = queue_of (find host.slots id) bytes p
 
-is_open : (found : Option Talk) (bytes : Bor (List ℕ)) → IsQueue found (Some bytes) → IsSome found
+is_open : (found : Option SessionView) (bytes : Bor (List ℕ)) → IsQueue found (Some bytes) → IsSome found
 is_open None bytes p = absurd p
 is_open (Some t) bytes p = refl
 
@@ -248,7 +248,7 @@ carried_passed m bound h a b before after n bytes l t w =
     ]
 
 -- a passing that was asked for no more than is queued is done
-passed_done : {U : Type 0} (before after : HostState) (id : SessionId) (n : ℕ) (bytes : List ℕ) (r : Result U HostFault) (found : Option Talk) → find before.slots id ≡ found → IsSome found → queued_of found ≡ bytes → n ≤ length bytes → OnSession (Takes n) before id found (passed_of (take n (queued_of found)) r) after → (IsErrOf r OutOfMemory → ⊥) → passed_of (take n (queued_of found)) r ≡ Gave (take n bytes)
+passed_done : {U : Type 0} (before after : HostState) (id : SessionId) (n : ℕ) (bytes : List ℕ) (r : Result U HostFault) (found : Option SessionView) → find before.slots id ≡ found → IsSome found → queued_of found ≡ bytes → n ≤ length bytes → OnSession (Takes n) before id found (passed_of (take n (queued_of found)) r) after → (IsErrOf r OutOfMemory → ⊥) → passed_of (take n (queued_of found)) r ≡ Gave (take n bytes)
 passed_done before after id n bytes r None e some q few p none = absurd (cc)
 passed_done before after id n bytes (Ok u) (Some t) e some q few p none = ap (λ (xs : List ℕ). Gave (take n xs)) q
 passed_done before after id n bytes (Err Full) (Some t) e some q few p none = absurd p.went

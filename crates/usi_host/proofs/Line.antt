@@ -1,5 +1,5 @@
 -- The command line, and its answers at words that are written out.
-use Rattle.std.proofs.Common.{◌≡◌, ◌∷◌, ◌∙◌, true, List, [], Result, Ok, Err, Option, Some, None, IfOk, IfErr, codes, refl, sym, ap, subst, inl, inr, lit≤, lit<}
+use Rattle.std.proofs.Common.{◌≡◌, ◌∷◌, ◌∙◌, true, List, [], Result, Ok, Err, Option, Some, None, IfOk, IfErr, codes, refl, sym, ap, arith, subst, slice_index_or, inl, inr, lit≤, lit<}
 use Rattle.std.specs.Prelude.{MatchResult}
 use Rattle.clap.specs.Words.{App, FailsBy, HasMatchesOf, IsAmong, Kinds, Row, Text, fault_of, is_simple, is_simple_and_free, kind_of, subcommand_of, subcommand_rows_of}
 use Rattle.clap.specs.Kinds.{HasKind}
@@ -13,7 +13,7 @@ use Rattle.clap.specs.declared.parser.matches.ValueSource.TheVariants.{DefaultVa
 use Rattle.usi_host.specs.Answers.{Gives, HasRanges, IsAnswerTo, IsAskedBy, IsJobOf, IsRefusedFor, IsReplayOf, IsStdioOf, NamesJob, NamesNoJob}
 use Rattle.usi_host.specs.CommandLine.{IsNumber, NamesNumber, command_line, command_of, faults_of}
 use Rattle.usi_host.specs.declared.words.Job.{Job}
-use Rattle.usi_host.specs.declared.words.Job.TheVariants.{Stdio, Replay, Help}
+use Rattle.usi_host.specs.declared.words.Job.TheVariants.{Stdio, Replay, Serve, Help}
 use Rattle.usi_host.specs.declared.words.WordsFault.{WordsFault}
 use Rattle.usi_host.specs.declared.words.WordsFault.TheVariants.{OutOfMemory, NotAccepted}
 use Rattle.usi_host.proofs.Numbers.{names_once}
@@ -88,7 +88,8 @@ parsed_line app words (Err e) is ok fails = record {
 no_help : (command : Option (Text × List Row)) (job : Job) (text : _) → job ≡ Help text → NamesJob command job → ⊥
 no_help None job text e is = let bad : Help text ≡ Stdio 4096 = sym e ∙ is in cc
 no_help (Some command) job text e (inl is) = rw e at is.1
-no_help (Some command) job text e (inr is) = rw e at is.1
+no_help (Some command) job text e (inr (inl is)) = rw e at is.1
+no_help (Some command) job text e (inr (inr is)) = rw e at is.1
 
 -- a job is one that the words ask for
 pub line_asked : (words : List Text) (parsed : Result ArgMatches Error) (r : Result Job WordsFault) → IsParsedLine words parsed
@@ -96,9 +97,11 @@ pub line_asked : (words : List Text) (parsed : Result ArgMatches Error) (r : Res
     → IfOk r (IsAskedBy words)
 line_asked words (Ok m) (Ok (Stdio entries)) line is = (line.kinds, subst (λ (c : Option (Text × List Row)). NamesJob c (Stdio entries)) line.matches is)
 line_asked words (Ok m) (Ok (Replay slots entries slice)) line is = (line.kinds, subst (λ (c : Option (Text × List Row)). NamesJob c (Replay slots entries slice)) line.matches is)
+line_asked words (Ok m) (Ok (Serve socket slots entries slice turns)) line is = (line.kinds, subst (λ (c : Option (Text × List Row)). NamesJob c (Serve socket slots entries slice turns)) line.matches is)
 line_asked words (Ok m) (Ok (Help text)) line is = absurd (no_help (subcommand_rows_of m) (Help text) text refl is)
 line_asked words (Err e) (Ok (Stdio entries)) line is = absurd is
 line_asked words (Err e) (Ok (Replay slots entries slice)) line is = absurd is
+line_asked words (Err e) (Ok (Serve socket slots entries slice turns)) line is = absurd is
 line_asked words (Err e) (Ok (Help text)) line is = elim line.kinds [
   | inl memory ↦ let bad : kinds.DisplayHelp ≡ kinds.OutOfMemory = sym is ∙ memory in cc
   | inr among ↦ subst (λ (k : ErrorKind). IsAmong k (faults_of words)) is among
@@ -124,6 +127,7 @@ gives : (words : List Text) (job : Job) (r : Result Job WordsFault) → faults_o
     → IfOk r (IsAskedBy words) → IfErr r (IsRefusedFor words) → Gives job r
 gives words job (Ok (Stdio entries)) none names range only asked refused = inl (ap Ok (only (Stdio entries) asked.1))
 gives words job (Ok (Replay slots entries slice)) none names range only asked refused = inl (ap Ok (only (Replay slots entries slice) asked.1))
+gives words job (Ok (Serve socket slots entries slice turns)) none names range only asked refused = inl (ap Ok (only (Serve socket slots entries slice turns) asked.1))
 gives words job (Ok (Help text)) none names range only asked refused = absurd (rw none at asked)
 gives words job (Err OutOfMemory) none names range only asked refused = inr refl
 gives words job (Err (NotAccepted text)) none names range only asked refused = elim refused [
@@ -160,11 +164,13 @@ stdio_entries = (codes "4096", refl, is_4096)
 stdio_only : (job : Job) → IsStdioOf stdio_rows job → job ≡ Stdio 4096
 stdio_only (Stdio entries) is = ap Stdio (names_once (codes "entries") stdio_rows entries 4096 is stdio_entries)
 stdio_only (Replay slots entries slice) is = absurd is
+stdio_only (Serve socket slots entries slice turns) is = absurd is
 stdio_only (Help text) is = absurd is
 
 stdio_names : (job : Job) → NamesJob (Some (codes "stdio", stdio_rows)) job → job ≡ Stdio 4096
 stdio_names job (inl is) = stdio_only job is.1
-stdio_names job (inr is) = let bad : codes "stdio" ≡ codes "replay" = is.0 in cc
+stdio_names job (inr (inl is)) = let bad : codes "stdio" ≡ codes "replay" = is.0 in cc
+stdio_names job (inr (inr is)) = absurd (let second : 116 ≡ 101 = ap (λ (text : Text). slice_index_or text 1 0) is.0 in omega arith)
 
 pub gives_stdio : (words : List Text) (r : Result Job WordsFault) → words ≡ codes "stdio" ∷ []
     → IfOk r (IsAskedBy words) → IfErr r (IsRefusedFor words) → Gives (Stdio 4096) r
@@ -188,14 +194,16 @@ replay_only (Replay slots entries slice) is =
     let b : entries ≡ 4096 = names_once (codes "entries") replay_rows entries 4096 is.1 replay_entries in
     let c : slice ≡ 1000 = names_once (codes "slice") replay_rows slice 1000 is.2 replay_slice in
     λ k. Replay (a k) (b k) (c k)
+replay_only (Serve socket slots entries slice turns) is = absurd is
 replay_only (Help text) is = absurd is
 
 replay_names : (job : Job) → NamesJob (Some (codes "replay", replay_rows)) job → job ≡ Replay 64 4096 1000
 replay_names job (inl is) = let bad : codes "replay" ≡ codes "stdio" = is.0 in cc
-replay_names job (inr is) = replay_only job is.1
+replay_names job (inr (inl is)) = replay_only job is.1
+replay_names job (inr (inr is)) = let bad : codes "replay" ≡ codes "serve" = is.0 in cc
 
 pub gives_replay : (words : List Text) (r : Result Job WordsFault) → words ≡ codes "replay" ∷ []
     → IfOk r (IsAskedBy words) → IfErr r (IsRefusedFor words) → Gives (Replay 64 4096 1000) r
 gives_replay words r is asked refused =
-    gives_of (codes "replay" ∷ []) (Replay 64 4096 1000) (Some (codes "replay", replay_rows)) r replay_faults replay_command_is (inr (refl, (replay_slots, replay_entries, replay_slice))) ((lit≤ tt, lit≤ tt), (lit≤ tt, lit≤ tt), (lit≤ tt, lit≤ tt)) replay_names
+    gives_of (codes "replay" ∷ []) (Replay 64 4096 1000) (Some (codes "replay", replay_rows)) r replay_faults replay_command_is (inr (inl (refl, (replay_slots, replay_entries, replay_slice)))) ((lit≤ tt, lit≤ tt), (lit≤ tt, lit≤ tt), (lit≤ tt, lit≤ tt)) replay_names
     (subst (λ (w : List Text). IfOk r (IsAskedBy w)) is asked) (subst (λ (w : List Text). IfErr r (IsRefusedFor w)) is refused)

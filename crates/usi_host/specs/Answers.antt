@@ -1,18 +1,23 @@
 -- When each answer to the words comes.
-use Rattle.std.specs.Prelude.{◌≡◌, ◌≢◌, ◌⊎◌, List, [], Option, Some, None, Result, Ok, Err, ⊤, codes}
+use Rattle.std.specs.Prelude.{◌≡◌, ◌≢◌, ◌⊎◌, ◌-◌, ◌^◌, ℕ, List, [], Option, Some, None, Result, Ok, Err, ⊤, codes, string_bytes}
 use Rattle.clap.specs.Words.{IsAmong, Row, Text}
 use Rattle.clap.specs.declared.error.kind.ErrorKind.{ErrorKind}
 use Rattle.clap.specs.declared.error.kind.ErrorKind.TheVariants as kinds
-use Rattle.usi_host.specs.CommandLine.{IsFromOne, NamesNumber, command_of, faults_of}
+use Rattle.usi_host.specs.CommandLine.{IsFromOne, NamesNumber, NamesText, command_of, faults_of}
 use Rattle.usi_host.specs.declared.words.Job.{Job}
-use Rattle.usi_host.specs.declared.words.Job.TheVariants.{Stdio, Replay, Help}
+use Rattle.usi_host.specs.declared.words.Job.TheVariants.{Stdio, Replay, Serve, Help}
 use Rattle.usi_host.specs.declared.words.WordsFault.{WordsFault}
 use Rattle.usi_host.specs.declared.words.WordsFault.TheVariants.{OutOfMemory, NotAccepted}
+
+-- the numbers of `serve` lie in their ranges
+abbrev pub HasServeRanges : ℕ → ℕ → ℕ → ℕ → Type 0
+HasServeRanges slots entries slice turns = IsFromOne 1024 slots × IsFromOne 1000000 entries × IsFromOne 1000000000 slice × IsFromOne (2 ^ 64 - 1) turns
 
 -- the numbers of the job lie in their ranges
 abbrev pub HasRanges : Job → Type 0
 HasRanges (Stdio entries) = IsFromOne 1000000 entries
 HasRanges (Replay slots entries slice) = IsFromOne 1024 slots × IsFromOne 1000000 entries × IsFromOne 1000000000 slice
+HasRanges (Serve socket slots entries slice turns) = HasServeRanges slots entries slice turns
 HasRanges (Help text) = ⊤
 
 -- the job is `stdio`, with the number that these options name
@@ -26,17 +31,33 @@ IsReplayOf options (Replay slots entries slice) =
     NamesNumber (codes "slots") options slots × NamesNumber (codes "entries") options entries × NamesNumber (codes "slice") options slice
 IsReplayOf options _ = ⊥
 
+-- the numbers that these options of `serve` name
+abbrev pub NamesNumbers : List Row → ℕ → ℕ → ℕ → ℕ → Type 0
+NamesNumbers options slots entries slice turns =
+    NamesNumber (codes "slots") options slots × NamesNumber (codes "entries") options entries × NamesNumber (codes "slice") options slice × NamesNumber (codes "turns") options turns
+
+-- the job is `serve`, with the path and the numbers that these options name
+abbrev pub IsServeOf : List Row → Job → Type 0
+IsServeOf options (Serve socket slots entries slice turns) =
+    NamesText (codes "socket") options (string_bytes socket) × NamesNumbers options slots entries slice turns
+IsServeOf options _ = ⊥
+
 -- the command names the job; without a command it is `stdio` with 4096 entries
 abbrev pub NamesJob : Option (Text × List Row) → Job → Type 0
 NamesJob None job = job ≡ Stdio 4096
-NamesJob (Some command) job = ((command.0 ≡ codes "stdio") × IsStdioOf command.1 job) ⊎ ((command.0 ≡ codes "replay") × IsReplayOf command.1 job)
+NamesJob (Some command) job = ((command.0 ≡ codes "stdio") × IsStdioOf command.1 job)
+    ⊎ ((command.0 ≡ codes "replay") × IsReplayOf command.1 job)
+    ⊎ ((command.0 ≡ codes "serve") × IsServeOf command.1 job)
 
--- these options name no `stdio`, no `replay`, whose numbers lie in their ranges
+-- these options name no `stdio`, no `replay`, no `serve`, whose numbers lie in their ranges
 abbrev pub NamesNoStdio : List Row → Type 0
 NamesNoStdio options = (job : Job) → HasRanges job → IsStdioOf options job → ⊥
 
 abbrev pub NamesNoReplay : List Row → Type 0
 NamesNoReplay options = (job : Job) → HasRanges job → IsReplayOf options job → ⊥
+
+abbrev pub NamesNoServe : List Row → Type 0
+NamesNoServe options = (job : Job) → HasRanges job → IsServeOf options job → ⊥
 
 -- the command names no job whose numbers lie in their ranges
 abbrev pub NamesNoJob : Option (Text × List Row) → Type 0

@@ -1,7 +1,7 @@
 -- What the words after the program's name ask for, as `clap` reads them (own choice).
-use Rattle.std.specs.Prelude.{◌≡◌, ◌∷◌, ◌≤◌, ℕ, true, List, [], Option, Some, codes}
+use Rattle.std.specs.Prelude.{◌≡◌, ◌∷◌, ◌≤◌, ◌-◌, ◌^◌, ℕ, true, List, [], Option, Some, codes}
 use Rattle.std.specs.Str.Parse.{IsNumeral, digits_value, without_leading_plus}
-use Rattle.clap.specs.Words.{App, Kinds, Row, Rule, Text, fault_of, new_app, new_rule, one_of, subcommand_of, with_rule, with_subcommand}
+use Rattle.clap.specs.Words.{App, Kinds, Row, Rule, Text, fault_of, first_of, new_app, new_rule, one_of, subcommand_of, with_rule, with_subcommand}
 use Rattle.clap.specs.declared.builder.value_parser.ValueParser.TheVariants as parser
 
 -- the option `--NAME N`, a number from 1 to `most`, and `usual` where it is left out
@@ -25,6 +25,18 @@ entries_option = number_option (codes "entries") 1000000 (codes "4096")
 abbrev pub slice_option : Rule
 slice_option = number_option (codes "slice") 1000000000 (codes "1000")
 
+-- after how many turns the program ends: `--turns N`, from 1 to the greatest number of 64 bits, which it is where it is left out
+abbrev pub turns_option : Rule
+turns_option = number_option (codes "turns") (2 ^ 64 - 1) (codes "18446744073709551615")
+
+-- where the socket is made: `--socket PATH`, which has to be there
+abbrev pub socket_option : Rule
+socket_option = record (new_rule (codes "socket")) {
+  long = Some (codes "socket");
+  value_names = 1;
+  required = true;
+}
+
 -- the command `stdio`
 abbrev pub stdio_command : App
 stdio_command = with_rule (new_app (codes "stdio")) entries_option
@@ -32,6 +44,14 @@ stdio_command = with_rule (new_app (codes "stdio")) entries_option
 -- the command `replay`
 abbrev pub replay_command : App
 replay_command = with_rule (with_rule (with_rule (new_app (codes "replay")) slots_option) entries_option) slice_option
+
+-- the command `serve` with its first options
+abbrev pub socket_command : App
+socket_command = with_rule (with_rule (new_app (codes "serve")) socket_option) slots_option
+
+-- the command `serve`
+abbrev pub serve_command : App
+serve_command = with_rule (with_rule (with_rule socket_command entries_option) slice_option) turns_option
 
 -- the program without a command
 abbrev pub bare_line : App
@@ -42,9 +62,13 @@ bare_line = let app = new_app (codes "usi_host") in
 abbrev pub stdio_line : App
 stdio_line = with_subcommand bare_line stdio_command.top
 
--- the command line: the program with its two commands
+-- the program with the commands `stdio` and `replay`
+abbrev pub replay_line : App
+replay_line = with_subcommand stdio_line replay_command.top
+
+-- the command line: the program with its three commands
 abbrev pub command_line : App
-command_line = with_subcommand stdio_line replay_command.top
+command_line = with_subcommand replay_line serve_command.top
 
 -- the kinds of mistake for which the words are refused, or a request for help; none where they are a command line
 abbrev pub faults_of : List Text → Kinds
@@ -63,6 +87,10 @@ IsNumber text n =
 abbrev pub NamesNumber : Text → List Row → ℕ → Type 0
 NamesNumber name options n =
     (text : Text) × (one_of name options ≡ Some text) × IsNumber text n
+
+-- the option of this name has this text
+abbrev pub NamesText : Text → List Row → Text → Type 0
+NamesText name options text = first_of name options ≡ Some text
 
 -- a number from 1 to `most`
 abbrev pub IsFromOne : ℕ → ℕ → Type 0

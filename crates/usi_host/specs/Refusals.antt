@@ -1,7 +1,9 @@
--- What is said of words that could not be read, or that name no job (own choice).
+-- What is said of words that could not be read, or that name no job, and of a host on a socket that ended early (own choice).
 use Rattle.std.specs.Prelude.{◌≡◌, ℕ, List, ⊤, codes, string_bytes}
 use Rattle.usi_host.specs.declared.words.WordsFault.{WordsFault}
 use Rattle.usi_host.specs.declared.words.WordsFault.TheVariants.{OutOfMemory, NotAccepted}
+use Rattle.usi_host.specs.declared.serving.ServeFault.{ServeFault}
+use Rattle.usi_host.specs.declared.serving.ServeFault.TheVariants as serving
 
 -- one line, which points to the help
 abbrev pub not_utf_8 : List ℕ
@@ -16,3 +18,9 @@ Says text (NotAccepted said) = string_bytes said ≡ text
 abbrev pub complaint_of : WordsFault → List ℕ
 complaint_of OutOfMemory = codes "usi_host: out of memory\n"
 complaint_of (NotAccepted text) = string_bytes text
+
+-- the text on standard error of a host on a socket that ended early
+abbrev pub serve_complaint : ServeFault → List ℕ
+serve_complaint serving.OutOfMemory = codes "usi_host: out of memory\n"
+serve_complaint serving.ReadFailed = codes "usi_host: read failed\n"
+serve_complaint serving.SocketFailed = codes "usi_host: socket failed\n"

@@ -2,6 +2,11 @@
 use Rattle.std.specs.Prelude.{ℕ}
 use Rattle.usi_host.specs.declared.words.WordsFault.{WordsFault}
 use Rattle.usi_host.specs.declared.words.WordsFault.TheVariants as words
+use Rattle.usi_host.specs.declared.serving.ServeFault.{ServeFault}
+use Rattle.usi_host.specs.declared.serving.ServeFault.TheVariants as serving
+use Rattle.host_core.specs.declared.event.HostFault.{HostFault}
+use Rattle.socket_loop.specs.declared.wire.WireFault.{WireFault}
+use Rattle.socket_loop.specs.declared.wire.WireFault.TheVariants as wires
 use Rattle.usi_replay.specs.declared.fault.ReplayFault.{ReplayFault}
 use Rattle.usi_replay.specs.declared.fault.ReplayFault.TheVariants.{OutOfMemory, ReadFailed, WriteFailed, BadScript}
 
@@ -16,3 +21,16 @@ replay_status WriteFailed = 1
 abbrev pub words_status : WordsFault → ℕ
 words_status words.OutOfMemory = 1
 words_status (words.NotAccepted text) = 2
+
+-- a host that can't be made wants memory
+abbrev pub of_host : HostFault → ServeFault
+of_host fault = serving.OutOfMemory
+
+-- what a wire answers, as the fault of a run
+abbrev pub of_wire : WireFault → ServeFault
+of_wire wires.Device = serving.SocketFailed
+of_wire wires.OutOfMemory = serving.OutOfMemory
+
+-- 1 for each fault
+abbrev pub serve_status : ServeFault → ℕ
+serve_status fault = 1

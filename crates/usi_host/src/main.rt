@@ -6,12 +6,18 @@ ghost use Rattle.usi_host.specs.Answers.{HasRanges};
 ghost use Rattle.usi_host.specs.Statuses.{replay_status};
 
 mod refusal;
+mod serving;
 mod words;
 
+use host_core::Host;
 use refusal::{FAULT, complaint, status, unread_words};
+use serving::ServeFault;
+use socket_loop::Loop;
+use std::hash::RandomState;
 use std::process::ExitCode;
 use std::{env, io};
 use usi_replay::{ReplayFault, replay};
+use usi_serve::{MioWire, serve};
 use usi_stdio::stdio;
 use words::{Job, WordsFault, read_words};
 
@@ -85,6 +91,32 @@ fn run_script(rt: &HostRuntime, slots: usize, entries: usize, slice: u64) -> Exi
     }
 }
 
+/// A host on a Unix socket at this path, for so many turns. Strangers share its table, so the hash of
+/// the table has a seed that they can't know.
+fn run_socket(
+    rt: &HostRuntime,
+    socket: &str,
+    slots: usize,
+    entries: usize,
+    slice: u64,
+    turns: u64,
+) -> Result<(), ServeFault>
+    requires least_slots { 1 ≤ slots }
+    requires most_slots { slots ≤ 1024 }
+    requires least_entries { 1 ≤ entries }
+    requires most_entries { entries ≤ 1000000 }
+    requires least_slice { 1 ≤ slice }
+{
+    let Ok(hasher) = RandomState::new(rt) else {
+        return Err(ServeFault::ReadFailed);
+    };
+    let mut host = Host::new(rt.alloc(), slots, entries, hasher)?;
+    let mut wire = MioWire::bind(rt, rt.alloc(), socket)?;
+    let mut connections = Loop::new(rt.alloc(), slice);
+    serve(&mut host, &mut connections, &mut wire, turns)?;
+    Ok(())
+}
+
 /// Does what the words of the command line ask for. The status is 0 where it was done, 1 where it
 /// ended early, 2 where the words are not accepted, and 3 where a script has a bad line.
 fn main(rt: HostRuntime) -> ExitCode {
@@ -97,6 +129,18 @@ fn main(rt: HostRuntime) -> ExitCode {
                 slice,
             },
         ) => run_script(&rt, slots, entries, slice),
+        Ok(
+            Job::Serve {
+                socket,
+                slots,
+                entries,
+                slice,
+                turns,
+            },
+        ) => match run_socket(&rt, socket.as_str(), slots, entries, slice, turns) {
+            Ok(()) => ExitCode::SUCCESS,
+            Err(fault) => complain(&rt, fault.complaint(), fault.status()),
+        },
         Ok(Job::Help { text }) => match print!(&rt; "{text}") {
             Ok(()) => ExitCode::SUCCESS,
             Err(_) => complain(&rt, "usi_host: write failed\n", FAULT),

@@ -2,8 +2,8 @@
 ghost use Rattle.std.specs.Prelude.{◌≡◌, ◌∷◌, ℕ, false, [], IfErr, IfNone, IfOk, IfSome, MatchResult, codes, map};
 ghost use Rattle.clap.specs.Words.{app_of, found_of, kind_of, rows_of, rule_of, subcommand_rows_of};
 ghost use Rattle.clap.specs.declared.builder.command.Command.TheViews.{out-Command as fields_of};
-ghost use Rattle.usi_host.specs.Answers.{Gives, HasRanges, IsAnswerTo, IsAskedBy, IsJobOf, IsRefusedFor, IsReplayOf, IsStdioOf, NamesJob, NamesNoJob, NamesNoReplay, NamesNoStdio};
-ghost use Rattle.usi_host.specs.CommandLine.{IsFromOne, NamesNumber, command_line, entries_option, replay_command, slice_option, slots_option, stdio_command, stdio_line};
+ghost use Rattle.usi_host.specs.Answers.{Gives, HasRanges, HasServeRanges, IsAnswerTo, IsAskedBy, IsJobOf, IsRefusedFor, IsReplayOf, IsServeOf, IsStdioOf, NamesJob, NamesNoJob, NamesNoReplay, NamesNoServe, NamesNoStdio, NamesNumbers};
+ghost use Rattle.usi_host.specs.CommandLine.{IsFromOne, NamesNumber, command_line, entries_option, replay_command, replay_line, serve_command, slice_option, slots_option, socket_command, socket_option, stdio_command, stdio_line, turns_option};
 ghost use Rattle.usi_host.specs.declared.words.Job.TheVariants.{Stdio, Replay};
 ghost use Rattle.usi_host.specs.declared.words.WordsFault.TheVariants.{OutOfMemory};
 
@@ -40,6 +40,16 @@ pub enum Job {
         entries: usize,
         slice: u64,
     },
+    /// The host on a Unix socket at the path `socket`, for `turns` turns, at least 1: at most `slots`
+    /// sessions, 1 to 1,024, that share a table of `entries` entries, 1 to 1,000,000; in each turn a
+    /// session goes on by at most `slice` steps of search, 1 to 1,000,000,000.
+    Serve {
+        socket: String,
+        slots: usize,
+        entries: usize,
+        slice: u64,
+        turns: u64,
+    },
     /// The text of a help that was asked for.
     Help {
         text: String,
@@ -64,7 +74,8 @@ impl From<AllocError> for WordsFault {
 }
 
 /// Reads the words that follow the program's name: none or `stdio` for one session, with `--entries N`
-/// after `stdio`; `replay` for a script, with `--slots N`, `--entries N` and `--slice N`; and `--help`,
+/// after `stdio`; `replay` for a script, with `--slots N`, `--entries N` and `--slice N`; `serve` for a
+/// Unix socket, with `--socket PATH`, which has to be there, these three and `--turns N`; and `--help`,
 /// `-h` or `help` for help. Every other line is `NotAccepted`. The texts are those of `clap`.
 pub fn read_words<'a, S: AsStr>(alloc: Global, words: &'a [S]) -> Result<Job, WordsFault>
     ensures ranges { IfOk result HasRanges }
@@ -94,7 +105,7 @@ fn job_of(alloc: Global, matches: &ArgMatches<'_>) -> Result<Job, WordsFault>
     ensures ranges { IfOk result HasRanges }
     ensures job { IsJobOf (subcommand_rows_of matches.now) result }
 {
-    match named_job(matches) {
+    match named_job(alloc, matches)? {
         Some(job) => Ok(job),
         None => Err(WordsFault::NotAccepted {
             text: String::from_str(alloc, "error: a number is out of its range\n")?,
@@ -103,22 +114,25 @@ fn job_of(alloc: Global, matches: &ArgMatches<'_>) -> Result<Job, WordsFault>
 }
 
 /// The job that the command names, where its numbers lie in their ranges.
-fn named_job(matches: &ArgMatches<'_>) -> Option<Job>
-    ensures some { IfSome result (λ job. HasRanges job × NamesJob (subcommand_rows_of matches.now) job) }
-    ensures none { IfNone result (NamesNoJob (subcommand_rows_of matches.now)) }
+fn named_job(alloc: Global, matches: &ArgMatches<'_>) -> Result<Option<Job>, AllocError>
+    ensures some { IfOk result (λ named. IfSome named (λ job. HasRanges job × NamesJob (subcommand_rows_of matches.now) job)) }
+    ensures none { IfOk result (λ named. IfNone named (NamesNoJob (subcommand_rows_of matches.now))) }
 {
     let Some((name, options)) = matches.subcommand() else {
-        return Some(Job::Stdio {
+        return Ok(Some(Job::Stdio {
             entries: USUAL_ENTRIES,
-        });
+        }));
     };
     if name == "stdio" {
-        return stdio_job(options);
+        return Ok(stdio_job(options));
     }
     if name == "replay" {
-        return replay_job(options);
+        return Ok(replay_job(options));
     }
-    None
+    if name == "serve" {
+        return serve_job(alloc, options);
+    }
+    Ok(None)
 }
 
 fn stdio_job(options: &ArgMatches<'_>) -> Option<Job>
@@ -141,6 +155,38 @@ fn replay_job(options: &ArgMatches<'_>) -> Option<Job>
         entries,
         slice: slice as u64,
     })
+}
+
+fn serve_job(alloc: Global, options: &ArgMatches<'_>) -> Result<Option<Job>, AllocError>
+    ensures some { IfOk result (λ named. IfSome named (λ job. HasRanges job × IsServeOf (rows_of (found_of options.now)) job)) }
+    ensures none { IfOk result (λ named. IfNone named (NamesNoServe (rows_of (found_of options.now)))) }
+{
+    let Some(text) = options.get_str("socket") else {
+        return Ok(None);
+    };
+    let Some((slots, entries, slice, turns)) = serve_numbers(options) else {
+        return Ok(None);
+    };
+    let socket = String::from_str(alloc, text)?;
+    Ok(Some(Job::Serve {
+        socket,
+        slots,
+        entries,
+        slice,
+        turns,
+    }))
+}
+
+/// The slots, the entries, the slice and the turns.
+fn serve_numbers(options: &ArgMatches<'_>) -> Option<(usize, usize, u64, u64)>
+    ensures some { IfSome result (λ n. HasServeRanges n.0 n.1 n.2 n.3 × NamesNumbers (rows_of (found_of options.now)) n.0 n.1 n.2 n.3) }
+    ensures none { IfNone result ((slots entries slice turns : ℕ) → HasServeRanges slots entries slice turns → NamesNumbers (rows_of (found_of options.now)) slots entries slice turns → ⊥) }
+{
+    let slots = number_of(options, "slots", MOST_SLOTS)?;
+    let entries = number_of(options, "entries", MOST_ENTRIES)?;
+    let slice = number_of(options, "slice", MOST_STEPS)?;
+    let turns = number_of(options, "turns", usize::MAX)?;
+    Some((slots, entries, slice as u64, turns as u64))
 }
 
 /// The number of an option, where it lies from 1 to `most`.
@@ -169,6 +215,12 @@ fn text_of(alloc: Global, error: &Error) -> Result<Job, WordsFault>
 
 fn command_line<'a>(alloc: Global) -> Result<Command<'a>, AllocError>
     ensures { IfOk result (λ line. app_of line ≡ command_line) }
+{
+    replay_line(alloc)?.subcommand(serve_command(alloc)?)
+}
+
+fn replay_line<'a>(alloc: Global) -> Result<Command<'a>, AllocError>
+    ensures { IfOk result (λ line. app_of line ≡ replay_line) }
 {
     stdio_line(alloc)?.subcommand(replay_command(alloc)?)
 }
@@ -204,6 +256,51 @@ fn replay_command<'a>(alloc: Global) -> Result<Command<'a>, AllocError>
         .arg(slots_option(alloc))?
         .arg(entries_option(alloc))?
         .arg(slice_option(alloc))
+}
+
+fn serve_command<'a>(alloc: Global) -> Result<Command<'a>, AllocError>
+    ensures app { IfOk result (λ command. app_of command ≡ serve_command) }
+    ensures local { IfOk result (λ command. (fields_of command).has_globals ≡ false) }
+{
+    socket_command(alloc)?
+        .arg(entries_option(alloc))?
+        .arg(slice_option(alloc))?
+        .arg(turns_option(alloc))
+}
+
+/// `serve` with its first two options.
+fn socket_command<'a>(alloc: Global) -> Result<Command<'a>, AllocError>
+    ensures app { IfOk result (λ command. app_of command ≡ socket_command) }
+    ensures local { IfOk result (λ command. (fields_of command).has_globals ≡ false) }
+{
+    Command::new(alloc, "serve")
+        .about("Serves many front ends on a Unix socket, each with a session of its own")
+        .after_help(SERVE_EXAMPLE)
+        .arg(socket_option(alloc))?
+        .arg(slots_option(alloc))
+}
+
+fn socket_option<'a>(alloc: Global) -> Arg<'a>
+    ensures rule { rule_of result ≡ socket_option }
+    ensures local { result.global ≡ false }
+{
+    Arg::new(alloc, "socket")
+        .long("socket")
+        .value_name("PATH")
+        .required(true)
+        .help("Where the socket is made; nothing may be there yet")
+}
+
+fn turns_option<'a>(alloc: Global) -> Arg<'a>
+    ensures rule { rule_of result ≡ turns_option }
+    ensures local { result.global ≡ false }
+{
+    Arg::new(alloc, "turns")
+        .long("turns")
+        .value_name("N")
+        .value_parser(ValueParser::unsigned(1, u64::MAX))
+        .default_value("18446744073709551615")
+        .help("After how many turns it ends, from 1 to 18446744073709551615")
 }
 
 fn slots_option<'a>(alloc: Global) -> Arg<'a>
@@ -257,11 +354,17 @@ Options of replay:
   --slice N    how many steps of search a session makes in its turn, from 1 to 1000000000
                [default: 1000]; it changes no output
 
+Options of serve:
+  --socket PATH  where the socket is made; nothing may be there yet
+  --slots N, --entries N, --slice N  as for replay
+  --turns N    after how many turns it ends [default: 18446744073709551615]
+
 Examples:
   usi_host
   usi_host stdio --entries 100000
   printf 'position startpos\\ngo depth 3\\nquit\\n' | usi_host
-  printf '+A\\n+B\\nA go depth 1\\nB usi\\n' | usi_host replay --slots 2";
+  printf '+A\\n+B\\nA go depth 1\\nB usi\\n' | usi_host replay --slots 2
+  usi_host serve --socket /run/usi_host/socket";
 
 const STDIO_EXAMPLE: &str = "Example:
   usi_host stdio --entries 100000";
@@ -278,6 +381,14 @@ session, or `refused 1` where as many sessions were open as may be.
 
 Example:
   printf '+A\\n+B\\nA go depth 1\\nB usi\\n' | usi_host replay --slots 2";
+
+const SERVE_EXAMPLE: &str =
+    "Each connection is a session of its own, which ends when the client sends `quit`, or ends
+its side and has its answers. Where as many sessions are open as may be, a client is told
+`info string host full`. The file of the socket stays when the program ends.
+
+Example:
+  usi_host serve --socket /run/usi_host/socket --slots 256 --entries 100000";
 
 #[cfg(test)]
 mod tests;

@@ -5,7 +5,7 @@ use Rattle.std.specs.Option.{option_map_or}
 use Rattle.std.specs.Str.{bytes_eq}
 use Rattle.std.proofs.lemmas.Bool.{cond_both}
 use Rattle.shogi_sfen.specs.Words.{words, after_word}
-use Rattle.shogi_sfen.specs.Numbers.{is_number, number_of}
+use Rattle.shogi_sfen.specs.Numbers.{is_number, number_written}
 use Rattle.usi_lines.specs.declared.command.Hold.{Hold}
 use Rattle.usi_lines.specs.declared.options.TheConstants.{DEPTH_MIN, DEPTH_MAX}
 use Rattle.usi_lines.specs.Commands.{Command, Usi, IsReady, NewGame, BadPosition, GoMate, Stop, PonderHit, GameOver, Quit, Start, Sfen, Other, SetDepth, Go}
@@ -26,7 +26,7 @@ clamped : (n : ℕ) → IsDepth (max DEPTH_MIN (min DEPTH_MAX n))
 clamped n = record { least = omega arith; most = omega arith }
 
 depth_read_fits : (word : List ℕ) → IfSome (depth_read word) IsDepth
-depth_read_fits word = cond_both (is_number word) (Some (max DEPTH_MIN (min DEPTH_MAX (number_of word)))) None (λ (o : Option ℕ). IfSome o IsDepth) (λ e. clamped (number_of word)) (λ e. tt)
+depth_read_fits word = cond_both (is_number word) (Some (max DEPTH_MIN (min DEPTH_MAX (number_written word)))) None (λ (o : Option ℕ). IfSome o IsDepth) (λ e. clamped (number_written word)) (λ e. tt)
 
 depth_first_fits : (ws : List (List ℕ)) → IfSome (depth_first ws) IsDepth
 depth_first_fits [] = tt

@@ -2,7 +2,7 @@
 use Rattle.std.specs.Prelude.{ℕ, ◌≤◌, ◌&&◌, List, [], ◌∷◌, Option, Some, None, cond, min, max, codes}
 use Rattle.std.specs.Option.{option_map_or}
 use Rattle.std.specs.Str.{bytes_eq}
-use Rattle.shogi_sfen.specs.Numbers.{is_number, number_of}
+use Rattle.shogi_sfen.specs.Numbers.{is_number, number_written}
 use Rattle.usi_lines.specs.declared.options.TheConstants.{DEPTH_MIN, DEPTH_MAX}
 use Rattle.usi_lines.specs.Commands.{Command, SetDepth, Go, Other}
 
@@ -13,7 +13,7 @@ pub record IsDepth (depth : ℕ) : Type 0 where
 
 -- a depth, clamped to its range, where the word is a number
 abbrev pub depth_read : List ℕ → Option ℕ
-depth_read word = cond (is_number word) (Some (max DEPTH_MIN (min DEPTH_MAX (number_of word)))) None
+depth_read word = cond (is_number word) (Some (max DEPTH_MIN (min DEPTH_MAX (number_written word)))) None
 
 -- the option of a name is set to a value: a row for each option
 abbrev pub command_for : List ℕ → List ℕ → Command

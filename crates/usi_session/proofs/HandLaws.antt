@@ -2,15 +2,15 @@
 use Rattle.std.proofs.Common.{◌≡◌, ◌≢◌, ℕ, zero, suc, ◌+◌, ◌-◌, ◌<◌, List, [], ◌++◌, refl, sym, ap, ◌∙◌, arith, append_assoc, append-nil}
 use Rattle.shogi_core.specs.Position.{Shogi}
 use Rattle.shogi_moves.specs.LegalMoves.{legal_moves}
-use Rattle.shogi_search.specs.Minimax.{chase, cost}
-use Rattle.shogi_search.proofs.Lines.{chase-above, cost-none, cost-suc}
+use Rattle.shogi_search.specs.Minimax.{pv_cost, cost}
+use Rattle.shogi_search.proofs.Lines.{pv_cost-above, cost-none, cost-suc}
 use Rattle.usi_lines.specs.declared.command.Hold.{Hold}
 use Rattle.usi_lines.specs.declared.command.Hold.TheVariants.{Nothing, UntilStop, UntilHit}
 use Rattle.usi_session.specs.declared.state.State.{State}
 use Rattle.usi_session.specs.declared.state.HeldBestmove.{HeldBestmove}
 use Rattle.usi_session.specs.Texts.{info_line}
 use Rattle.usi_session.specs.GoCommand.{info_lines, infos}
-use Rattle.usi_session.specs.Answer.{give_bestmove}
+use Rattle.usi_session.specs.Answer.{write_or_hold}
 use Rattle.usi_session.specs.InHand.{lines_on, costs_on, at_depth, load_of}
 use Rattle.usi_session.proofs.Infos.{info_lines-start, info_lines-more, infos-some}
 
@@ -51,11 +51,11 @@ costs_on-start : (p : Shogi) (told : ℕ) → costs_on p told 0 ≡ 0
 unfolding costs_on
 costs_on-start p told = refl
 
-costs_on-suc : (p : Shogi) (told more : ℕ) → costs_on p told (suc more) ≡ chase p (told + 1) + costs_on p (told + 1) more
+costs_on-suc : (p : Shogi) (told more : ℕ) → costs_on p told (suc more) ≡ pv_cost p (told + 1) + costs_on p (told + 1) more
 unfolding costs_on
 costs_on-suc p told more = refl
 
-costs_on-more : (p : Shogi) (told depth : ℕ) → told < depth → costs_on p told (depth - told) ≡ chase p (told + 1) + costs_on p (told + 1) (depth - (told + 1))
+costs_on-more : (p : Shogi) (told depth : ℕ) → told < depth → costs_on p told (depth - told) ≡ pv_cost p (told + 1) + costs_on p (told + 1) (depth - (told + 1))
 costs_on-more p told depth h =
     let n : depth - told ≡ suc (depth - (told + 1)) = omega arith in rw n (costs_on-suc p told (depth - (told + 1)))
 
@@ -63,13 +63,13 @@ costs_on-from : (p : Shogi) (more told : ℕ) → cost p (told + more) ≡ cost 
 costs_on-from p zero told = let n : told + 0 ≡ told = omega arith in rw (n, costs_on-start p told) (omega arith)
 costs_on-from p (suc more) told =
     let n : told + suc more ≡ (told + 1) + more = omega arith in
-    let m : cost p (told + 1) ≡ cost p told + chase p (told + 1) = (let k : told + 1 ≡ suc told = omega arith in rw k (cost-suc p told)) in
+    let m : cost p (told + 1) ≡ cost p told + pv_cost p (told + 1) = (let k : told + 1 ≡ suc told = omega arith in rw k (cost-suc p told)) in
     rw (n, costs_on-suc p told more, costs_on-from p more (told + 1), m) (omega arith)
 
 -- a depth whose first search has made no step costs it and the depths above it
 pub load_at_depth : (p : Shogi) (depth : ℕ) (hold : Hold) (told : ℕ) → told < depth → load_of (at_depth p depth hold told) ≡ costs_on p told (depth - told)
 load_at_depth p depth hold told h =
-    omega (arith, costs_on-more p told depth h, chase-above p (told + 1) (omega arith))
+    omega (arith, costs_on-more p told depth h, pv_cost-above p (told + 1) (omega arith))
 
 -- the first depth costs what all depths cost
 pub load_at_first : (p : Shogi) (depth : ℕ) (hold : Hold) → 0 < depth → load_of (at_depth p depth hold 0) ≡ cost p depth
@@ -80,18 +80,18 @@ load_at_first p depth hold h =
     load_at_depth p depth hold 0 h ∙ ap (costs_on p 0) n ∙ sym (ap (cost p) (sym m) ∙ whole ∙ omega (arith, cost-none p))
 
 -- what is said before the bestmove, and then the bestmove
-pub give_bestmove-bytes : (s : State) (infos : List ℕ) (held : HeldBestmove) (hold : Hold) → (give_bestmove s infos held hold).bytes ≡ infos ++ (give_bestmove s [] held hold).bytes
-give_bestmove-bytes s infos held Nothing = refl
-give_bestmove-bytes s infos held UntilStop = sym (append-nil infos)
-give_bestmove-bytes s infos held UntilHit = sym (append-nil infos)
+pub write_or_hold-bytes : (s : State) (infos : List ℕ) (held : HeldBestmove) (hold : Hold) → (write_or_hold s infos held hold).bytes ≡ infos ++ (write_or_hold s [] held hold).bytes
+write_or_hold-bytes s infos held Nothing = refl
+write_or_hold-bytes s infos held UntilStop = sym (append-nil infos)
+write_or_hold-bytes s infos held UntilHit = sym (append-nil infos)
 
-pub give_bestmove-state : (s : State) (infos : List ℕ) (held : HeldBestmove) (hold : Hold) → (give_bestmove s infos held hold).state ≡ (give_bestmove s [] held hold).state
-give_bestmove-state s infos held Nothing = refl
-give_bestmove-state s infos held UntilStop = refl
-give_bestmove-state s infos held UntilHit = refl
+pub write_or_hold-state : (s : State) (infos : List ℕ) (held : HeldBestmove) (hold : Hold) → (write_or_hold s infos held hold).state ≡ (write_or_hold s [] held hold).state
+write_or_hold-state s infos held Nothing = refl
+write_or_hold-state s infos held UntilStop = refl
+write_or_hold-state s infos held UntilHit = refl
 
 -- a `go` ends no session
-pub give_bestmove-over : (s : State) (infos : List ℕ) (held : HeldBestmove) (hold : Hold) → (give_bestmove s infos held hold).state.is_over ≡ s.is_over
-give_bestmove-over s infos held Nothing = refl
-give_bestmove-over s infos held UntilStop = refl
-give_bestmove-over s infos held UntilHit = refl
+pub write_or_hold-over : (s : State) (infos : List ℕ) (held : HeldBestmove) (hold : Hold) → (write_or_hold s infos held hold).state.is_over ≡ s.is_over
+write_or_hold-over s infos held Nothing = refl
+write_or_hold-over s infos held UntilStop = refl
+write_or_hold-over s infos held UntilHit = refl

@@ -5,7 +5,7 @@ use Rattle.usi_lines.specs.Lines.{Line, ahead, lines}
 use Rattle.usi_session.specs.declared.state.State.{State}
 use Rattle.usi_session.specs.InHand.{InHand, goes_on_if, lines_on}
 use Rattle.usi_session.specs.Answer.{bestmove_at}
-use Rattle.usi_session.proofs.HandLaws.{give_bestmove-over}
+use Rattle.usi_session.proofs.HandLaws.{write_or_hold-over}
 use Rattle.usi_session.specs.Due.{SessionView, due, state_due, owed, owed_after, has_line, is_pending, wants_input, new_session}
 use Rattle.usi_session.specs.Replies.{replies_from, state_from, is_over_after, answer_unless}
 use Rattle.usi_session.specs.declared.limits.TheConstants.{QUEUE_FULL}
@@ -60,7 +60,7 @@ state_from-over s (line ∷ rest) over = ap (λ (t : State). state_from t rest) 
 
 goes_on-over : (s : State) (in_hand : Option InHand) → (goes_on_if s in_hand).state.is_over ≡ s.is_over
 goes_on-over s None = refl
-goes_on-over s (Some go) = give_bestmove-over s (lines_on go.root go.told (go.depth - go.told)) (bestmove_at go.root go.depth go.hold) go.hold
+goes_on-over s (Some go) = write_or_hold-over s (lines_on go.root go.told (go.depth - go.told)) (bestmove_at go.root go.depth go.hold) go.hold
 
 -- a session that is over will be over
 pub state_due-over : (s : SessionView) (x : List ℕ) → s.state.is_over ≡ true → (state_due s x).is_over ≡ true

@@ -3,8 +3,8 @@ use Rattle.std.proofs.Common.{◌≡◌, ℕ, ◌+◌, ◌*◌, ◌<◌, ◌≤�
 use Rattle.std.specs.Prelude.{drop, not, ◌&&◌, ◌||◌, is_some, ◌-◌}
 use Rattle.usi_lines.specs.Lines.{ahead}
 use Rattle.usi_session.specs.declared.state.HeldBestmove.{HeldBestmove}
-use Rattle.usi_session.specs.Answer.{bestmove_at, give_bestmove}
-use Rattle.usi_session.proofs.HandLaws.{lines_on-none, give_bestmove-bytes, give_bestmove-state}
+use Rattle.usi_session.specs.Answer.{bestmove_at, write_or_hold}
+use Rattle.usi_session.proofs.HandLaws.{lines_on-none, write_or_hold-bytes, write_or_hold-state}
 use Rattle.usi_lines.specs.Lines.{Line}
 use Rattle.usi_session.specs.declared.state.State.{State}
 use Rattle.usi_session.specs.Replies.{replies_from, state_from, answer_to, answer_unless}
@@ -72,24 +72,24 @@ state_on s next idle in_hand line all rest alive i e h =
 -- a `go` that has told a depth more leads to the same state
 pub state_told : (s : State) (go more : InHand) (in_hand : Option InHand) (ahead : List Line) → in_hand ≡ Some go → more.root ≡ go.root → more.depth ≡ go.depth → more.hold ≡ go.hold → state_from (goes_on s more).state ahead ≡ state_from (goes_on_if s in_hand).state ahead
 state_told s go more in_hand ahead i r d h =
-    let same : (goes_on s more).state ≡ (goes_on s go).state = give_bestmove-state s (lines_on more.root more.told (more.depth - more.told)) (bestmove_at more.root more.depth more.hold) more.hold
-    ∙ (rw (r, d, h) (sym (give_bestmove-state s (lines_on go.root go.told (go.depth - go.told)) (bestmove_at go.root go.depth go.hold) go.hold))) in
+    let same : (goes_on s more).state ≡ (goes_on s go).state = write_or_hold-state s (lines_on more.root more.told (more.depth - more.told)) (bestmove_at more.root more.depth more.hold) more.hold
+    ∙ (rw (r, d, h) (sym (write_or_hold-state s (lines_on go.root go.told (go.depth - go.told)) (bestmove_at go.root go.depth go.hold) go.hold))) in
     ap (λ (t : State). state_from t ahead) same ∙ ap (λ (o : Option InHand). state_from (goes_on_if s o).state ahead) (sym i)
 
 -- and so does its end
-pub state_ends : (s next : State) (go : InHand) (in_hand : Option InHand) (held : HeldBestmove) (ahead : List Line) → in_hand ≡ Some go → held ≡ bestmove_at go.root go.depth go.hold → next ≡ (give_bestmove s [] held held.until).state → state_from next ahead ≡ state_from (goes_on_if s in_hand).state ahead
+pub state_ends : (s next : State) (go : InHand) (in_hand : Option InHand) (held : HeldBestmove) (ahead : List Line) → in_hand ≡ Some go → held ≡ bestmove_at go.root go.depth go.hold → next ≡ (write_or_hold s [] held held.until).state → state_from next ahead ≡ state_from (goes_on_if s in_hand).state ahead
 state_ends s next go in_hand held ahead i e h =
-    let state : (goes_on s go).state ≡ next = give_bestmove-state s (lines_on go.root go.told (go.depth - go.told)) (bestmove_at go.root go.depth go.hold) go.hold ∙ (ap (λ (k : HeldBestmove). (give_bestmove s [] k k.until).state) (sym e) ∙ sym h) in
+    let state : (goes_on s go).state ≡ next = write_or_hold-state s (lines_on go.root go.told (go.depth - go.told)) (bestmove_at go.root go.depth go.hold) go.hold ∙ (ap (λ (k : HeldBestmove). (write_or_hold s [] k k.until).state) (sym e) ∙ sym h) in
     ap (λ (t : State). state_from t ahead) (sym state) ∙ ap (λ (o : Option InHand). state_from (goes_on_if s o).state ahead) (sym i)
 
 -- the last depth was told, and the bestmove written or held
 pub due_ends : (s next : State) (queued more infos reply : List ℕ) (go : InHand) (in_hand : Option InHand) (held : HeldBestmove) (ahead : List Line) → s.is_over ≡ false → in_hand ≡ Some go → go.told + 1 ≡ go.depth → held ≡ bestmove_at go.root go.depth go.hold
-    → infos ++ lines_on go.root (go.told + 1) (go.depth - (go.told + 1)) ≡ lines_on go.root go.told (go.depth - go.told) → reply ≡ infos ++ (give_bestmove s [] held held.until).bytes → next ≡ (give_bestmove s [] held held.until).state → more ≡ queued ++ reply
+    → infos ++ lines_on go.root (go.told + 1) (go.depth - (go.told + 1)) ≡ lines_on go.root go.told (go.depth - go.told) → reply ≡ infos ++ (write_or_hold s [] held held.until).bytes → next ≡ (write_or_hold s [] held held.until).state → more ≡ queued ++ reply
     → more ++ owed next None ahead ≡ queued ++ owed s in_hand ahead
 due_ends s next queued more infos reply go in_hand held ahead alive i last e f g h m =
     let lines : infos ≡ lines_on go.root go.told (go.depth - go.told) = sym (append-nil infos) ∙ (ap (λ xs. infos ++ xs) (sym (lines_on-none go.root (go.told + 1) go.depth last)) ∙ f) in
-    let bytes : (goes_on s go).bytes ≡ reply = give_bestmove-bytes s (lines_on go.root go.told (go.depth - go.told)) (bestmove_at go.root go.depth go.hold) go.hold ∙ (ap (λ xs. xs ++ (give_bestmove s [] (bestmove_at go.root go.depth go.hold) go.hold).bytes) (sym lines) ∙ (ap (λ (k : HeldBestmove). infos ++ (give_bestmove s [] k k.until).bytes) (sym e) ∙ sym g)) in
-    let state : (goes_on s go).state ≡ next = give_bestmove-state s (lines_on go.root go.told (go.depth - go.told)) (bestmove_at go.root go.depth go.hold) go.hold ∙ (ap (λ (k : HeldBestmove). (give_bestmove s [] k k.until).state) (sym e) ∙ sym h) in
+    let bytes : (goes_on s go).bytes ≡ reply = write_or_hold-bytes s (lines_on go.root go.told (go.depth - go.told)) (bestmove_at go.root go.depth go.hold) go.hold ∙ (ap (λ xs. xs ++ (write_or_hold s [] (bestmove_at go.root go.depth go.hold) go.hold).bytes) (sym lines) ∙ (ap (λ (k : HeldBestmove). infos ++ (write_or_hold s [] k k.until).bytes) (sym e) ∙ sym g)) in
+    let state : (goes_on s go).state ≡ next = write_or_hold-state s (lines_on go.root go.told (go.depth - go.told)) (bestmove_at go.root go.depth go.hold) go.hold ∙ (ap (λ (k : HeldBestmove). (write_or_hold s [] k k.until).state) (sym e) ∙ sym h) in
     let before : owed s in_hand ahead ≡ (goes_on s go).bytes ++ replies_from (goes_on s go).state ahead = ap (λ (o : Option InHand). owed s o ahead) i ∙ owed-alive s (Some go) ahead alive in
     let after : owed next None ahead ≡ replies_from next ahead = owed_on next None ahead (λ _. refl) in
     ap (λ xs. more ++ xs) after ∙ (ap (λ xs. xs ++ replies_from next ahead) m ∙ (append_assoc queued reply (replies_from next ahead)

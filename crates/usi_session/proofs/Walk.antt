@@ -3,8 +3,8 @@ use Rattle.std.proofs.Common.{◌≡◌, ℕ, ◌+◌, ◌-◌, ◌*◌, ◌<◌
 use Rattle.shogi_core.specs.declared.moves.Move.{Move}
 use Rattle.shogi_core.specs.Position.{Shogi}
 use Rattle.shogi_moves.specs.After.{after}
-use Rattle.shogi_search.specs.Minimax.{value, best, line, tree, chase, then_chase}
-use Rattle.shogi_search.proofs.Lines.{line-leaf, line-none, line-some, chase-above}
+use Rattle.shogi_search.specs.Minimax.{value, best, line, tree_size, pv_cost, then_pv_cost}
+use Rattle.shogi_search.proofs.Lines.{line-leaf, line-none, line-some, pv_cost-above}
 use Rattle.shogi_search.proofs.MinimaxLaws.{best-leaf}
 use Rattle.usi_session.specs.Texts.{info_line, info_text}
 use Rattle.usi_session.specs.InHand.{InHand, at_depth, load_of, lines_on}
@@ -29,14 +29,14 @@ walked_all moves all at plies e w =
     sym (append-nil moves) ∙ (ap (λ xs. moves ++ xs) (sym (ap (line at) e ∙ line-leaf at)) ∙ w)
 
 -- no search follows a whole line
-pub load_ends : (next : Shogi) (plies rest left more : ℕ) → plies ≡ 0 → left ≡ 0 → left + (then_chase (λ q. chase q (plies - 1)) next (best next plies) + rest) ≤ more + rest
+pub load_ends : (next : Shogi) (plies rest left more : ℕ) → plies ≡ 0 → left ≡ 0 → left + (then_pv_cost (λ q. pv_cost q (plies - 1)) next (best next plies) + rest) ≤ more + rest
 load_ends next plies rest left more e f = let b : best next 0 ≡ None = best-leaf next in rw (e, b, f) (omega arith)
 
 -- the next search along the pv, and those after it, cost what was said of them before
-pub load_goes_on : (at next : Shogi) (plies rest left : ℕ) (m : Move) (b : Option Move) → 0 < plies - 1 → b ≡ best at plies → b ≡ Some m → next ≡ after at m → left ≡ 2 * tree next (plies - 1) → left + (then_chase (λ q. chase q (plies - 1 - 1)) next (best next (plies - 1)) + rest) ≤ then_chase (λ q. chase q (plies - 1)) at (best at plies) + rest
+pub load_goes_on : (at next : Shogi) (plies rest left : ℕ) (m : Move) (b : Option Move) → 0 < plies - 1 → b ≡ best at plies → b ≡ Some m → next ≡ after at m → left ≡ 2 * tree_size next (plies - 1) → left + (then_pv_cost (λ q. pv_cost q (plies - 1 - 1)) next (best next (plies - 1)) + rest) ≤ then_pv_cost (λ q. pv_cost q (plies - 1)) at (best at plies) + rest
 load_goes_on at next plies rest left m b h e n g f =
     let s : best at plies ≡ Some m = sym e ∙ n in
-    let c : chase next (plies - 1) ≡ 2 * tree next (plies - 1) + then_chase (λ q. chase q (plies - 1 - 1)) next (best next (plies - 1)) = chase-above next (plies - 1) h in
+    let c : pv_cost next (plies - 1) ≡ 2 * tree_size next (plies - 1) + then_pv_cost (λ q. pv_cost q (plies - 1 - 1)) next (best next (plies - 1)) = pv_cost-above next (plies - 1) h in
     rw (s, ← g) (omega arith)
 
 -- what is written of a depth is its info line

@@ -19,7 +19,7 @@ use Rattle.usi_session.specs.Options.{option_lines}
 use Rattle.usi_session.specs.Texts.{usi_reply, score_text, moves_text, info_line, bestmove_line, bad_position, illegal_move}
 use Rattle.usi_session.specs.PositionCommand.{position_of_start, position_of_sfen}
 use Rattle.usi_session.specs.GoCommand.{info_lines, infos, infos_of}
-use Rattle.usi_session.specs.Answer.{answer, answer_position, give_bestmove, answer_stop, answer_ponderhit_held, answer_ponderhit, held_line, bestmove_at}
+use Rattle.usi_session.specs.Answer.{answer, answer_position, write_or_hold, answer_stop, answer_ponderhit_held, answer_ponderhit, held_line, bestmove_at}
 use Rattle.usi_session.specs.Replies.{answer_to}
 use Rattle.usi_session.specs.InHand.{InHand, with_rest}
 use Rattle.usi_session.specs.WholeLines.{last_byte, AreWholeLines, GrowsByLines}
@@ -80,10 +80,10 @@ infos_of-whole : (p : Shogi) (depth : ℕ) (moves : List ℕ) → AreWholeLines 
 infos_of-whole p depth [] = refl
 infos_of-whole p depth (m ∷ rest) = info_lines-whole p depth
 
-give_bestmove-whole : (s : State) (infos : List ℕ) (held : HeldBestmove) (hold : Hold) → AreWholeLines infos → AreWholeLines (give_bestmove s infos held hold).bytes
-give_bestmove-whole s infos held Nothing e = lines_then infos (held_line held) e (bestmove_whole held.best held.ponder)
-give_bestmove-whole s infos held UntilStop e = e
-give_bestmove-whole s infos held UntilHit e = e
+write_or_hold-whole : (s : State) (infos : List ℕ) (held : HeldBestmove) (hold : Hold) → AreWholeLines infos → AreWholeLines (write_or_hold s infos held hold).bytes
+write_or_hold-whole s infos held Nothing e = lines_then infos (held_line held) e (bestmove_whole held.best held.ponder)
+write_or_hold-whole s infos held UntilStop e = e
+write_or_hold-whole s infos held UntilHit e = e
 
 answer_position-whole : (s : State) (outcome : Result Shogi Refusal) → AreWholeLines (answer_position s outcome).bytes
 answer_position-whole s (Ok p) = refl
@@ -111,7 +111,7 @@ answer-whole s NewGame = refl
 answer-whole s (Start rest) = answer_position-whole s (position_of_start rest)
 answer-whole s (Sfen rest) = answer_position-whole s (position_of_sfen rest)
 answer-whole s BadPosition = (bad_position-ends 0).ends LINE_FEED
-answer-whole s (Go depth hold) = give_bestmove-whole s (infos s.position (unwrap_or depth s.options.depth)) (bestmove_at s.position (unwrap_or depth s.options.depth) hold) hold (infos_of-whole s.position (unwrap_or depth s.options.depth) (legal_moves s.position))
+answer-whole s (Go depth hold) = write_or_hold-whole s (infos s.position (unwrap_or depth s.options.depth)) (bestmove_at s.position (unwrap_or depth s.options.depth) hold) hold (infos_of-whole s.position (unwrap_or depth s.options.depth) (legal_moves s.position))
 answer-whole s GoMate = refl
 answer-whole s Stop = answer_stop-whole s s.held
 answer-whole s PonderHit = answer_ponderhit-whole s s.held
@@ -133,9 +133,9 @@ pub told_whole : (p : Shogi) (depth : ℕ) (told : List ℕ) → told ≡ info_l
 told_whole p depth told e = ap (last_byte LINE_FEED) e ∙ info_whole p depth
 
 -- the last depth is told, and the bestmove written or held
-pub end_whole : (s : State) (p : Shogi) (depth : ℕ) (told reply : List ℕ) (held : HeldBestmove) → told ≡ info_line p depth → reply ≡ told ++ (give_bestmove s [] held held.until).bytes → AreWholeLines reply
+pub end_whole : (s : State) (p : Shogi) (depth : ℕ) (told reply : List ℕ) (held : HeldBestmove) → told ≡ info_line p depth → reply ≡ told ++ (write_or_hold s [] held held.until).bytes → AreWholeLines reply
 end_whole s p depth told reply held e f =
-    ap (last_byte LINE_FEED) f ∙ lines_then told (give_bestmove s [] held held.until).bytes (told_whole p depth told e) (give_bestmove-whole s [] held held.until refl)
+    ap (last_byte LINE_FEED) f ∙ lines_then told (write_or_hold s [] held held.until).bytes (told_whole p depth told e) (write_or_hold-whole s [] held held.until refl)
 
 -- nothing came
 pub grows_by_none : (queued : List ℕ) → GrowsByLines queued queued

@@ -13,7 +13,7 @@ use Rattle.usi_session.specs.declared.state.State.{State}
 use Rattle.usi_session.specs.Options.{default_options}
 use Rattle.usi_session.specs.PositionCommand.{position_of_start, position_of_sfen}
 use Rattle.usi_session.specs.GoCommand.{first, second, infos}
-use Rattle.usi_session.specs.Texts.{usi_reply, ready_reply, no_mate_reply, bad_position, illegal_move, bestmove_line}
+use Rattle.usi_session.specs.Texts.{usi_reply, ready_reply, mate_not_implemented_reply, bad_position, illegal_move, bestmove_line}
 
 -- what is written, and the state after it
 pub record Answer : Type 0 where
@@ -47,14 +47,14 @@ abbrev pub held_line : HeldBestmove → List ℕ
 held_line held = bestmove_line held.best held.ponder
 
 -- the bestmove is written at once, or held
-abbrev pub give_bestmove : State → List ℕ → HeldBestmove → Hold → Answer
-give_bestmove s infos held Nothing = answer_with (without_bestmove s) (infos ++ held_line held)
-give_bestmove s infos held UntilStop = answer_with (record s { held = Some held }) infos
-give_bestmove s infos held UntilHit = answer_with (record s { held = Some held }) infos
+abbrev pub write_or_hold : State → List ℕ → HeldBestmove → Hold → Answer
+write_or_hold s infos held Nothing = answer_with (without_bestmove s) (infos ++ held_line held)
+write_or_hold s infos held UntilStop = answer_with (record s { held = Some held }) infos
+write_or_hold s infos held UntilHit = answer_with (record s { held = Some held }) infos
 
 -- `go` at a depth: what was held is dropped
 abbrev pub answer_go : State → ℕ → Hold → Answer
-answer_go s depth hold = give_bestmove s (infos s.position depth) (bestmove_at s.position depth hold) hold
+answer_go s depth hold = write_or_hold s (infos s.position depth) (bestmove_at s.position depth hold) hold
 
 -- `stop`: the held bestmove is written, and nothing is held any more
 abbrev pub answer_stop : State → Option HeldBestmove → Answer
@@ -82,7 +82,7 @@ answer s (Start rest) = answer_position s (position_of_start rest)
 answer s (Sfen rest) = answer_position s (position_of_sfen rest)
 answer s BadPosition = answer_with s (bad_position 0)
 answer s (Go depth hold) = answer_go s (unwrap_or depth s.options.depth) hold
-answer s GoMate = answer_with (without_bestmove s) no_mate_reply
+answer s GoMate = answer_with (without_bestmove s) mate_not_implemented_reply
 answer s Stop = answer_stop s s.held
 answer s PonderHit = answer_ponderhit s s.held
 answer s GameOver = answer_with (without_bestmove s) []

@@ -1,11 +1,11 @@
 -- A `go` in hand: what it still owes, and the steps that it may still make (own choice).
 use Rattle.std.specs.Prelude.{ℕ, zero, suc, ◌+◌, ◌-◌, ◌*◌, List, [], ◌++◌, Option, Some, None}
 use Rattle.shogi_core.specs.Position.{Shogi}
-use Rattle.shogi_search.specs.Minimax.{best, tree_size, chase, then_chase}
+use Rattle.shogi_search.specs.Minimax.{best, tree_size, pv_cost, then_pv_cost}
 use Rattle.usi_lines.specs.declared.command.Hold.{Hold}
 use Rattle.usi_session.specs.declared.state.State.{State}
 use Rattle.usi_session.specs.Texts.{info_line}
-use Rattle.usi_session.specs.Answer.{Answer, bestmove_at, give_bestmove, answer_with}
+use Rattle.usi_session.specs.Answer.{Answer, bestmove_at, write_or_hold, answer_with}
 use Rattle.usi_lines.specs.declared.options.TheConstants.{DEPTH_MAX}
 
 -- where it was asked, how deep, what the bestmove is held until, the depths that were told, and of the search in hand
@@ -31,11 +31,11 @@ lines_on p told (suc more) = info_line p (told + 1) ++ lines_on p (told + 1) mor
 -- the steps that may be made for the pvs of each of so many depths above those that were told
 unfoldable pub costs_on : Shogi → ℕ → ℕ → ℕ
 costs_on p told zero = 0
-costs_on p told (suc more) = chase p (told + 1) + costs_on p (told + 1) more
+costs_on p told (suc more) = pv_cost p (told + 1) + costs_on p (told + 1) more
 
 -- what it still says, and the state after it: by the question alone, and not by how far the search is
 abbrev pub goes_on : State → InHand → Answer
-goes_on s go = give_bestmove s (lines_on go.root go.told (go.depth - go.told)) (bestmove_at go.root go.depth go.hold) go.hold
+goes_on s go = write_or_hold s (lines_on go.root go.told (go.depth - go.told)) (bestmove_at go.root go.depth go.hold) go.hold
 
 -- nothing more, where none is in hand
 abbrev pub goes_on_if : State → Option InHand → Answer
@@ -49,7 +49,7 @@ with_rest bytes s (Some go) = bytes ++ (goes_on s go).bytes
 
 -- the steps of the searches after the one in hand: along the pv of this depth, and at the depths above
 abbrev pub after_search : InHand → ℕ
-after_search go = then_chase (λ q. chase q (go.plies - 1)) go.at (best go.at go.plies) + costs_on go.root (go.told + 1) (go.depth - (go.told + 1))
+after_search go = then_pv_cost (λ q. pv_cost q (go.plies - 1)) go.at (best go.at go.plies) + costs_on go.root (go.told + 1) (go.depth - (go.told + 1))
 
 -- what is left of the search in hand, and the steps of those after it
 abbrev pub load_of : InHand → ℕ

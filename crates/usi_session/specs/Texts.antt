@@ -17,8 +17,8 @@ abbrev pub ready_reply : List ℕ
 ready_reply = codes "readyok\n"
 
 -- what `go mate` is answered with
-abbrev pub no_mate_reply : List ℕ
-no_mate_reply = codes "checkmate notimplemented\n"
+abbrev pub mate_not_implemented_reply : List ℕ
+mate_not_implemented_reply = codes "checkmate notimplemented\n"
 
 -- a `position` line that names no position: 0 for its form, 1 to 8 for the first fault of its SFEN
 abbrev pub bad_position : ℕ → List ℕ

@@ -6,7 +6,7 @@ ghost use Rattle.usi_lines.specs.Seen.{meaning_of, line_of};
 ghost use Rattle.usi_lines.specs.declared.options.TheConstants.{DEPTH_MIN, DEPTH_MAX};
 ghost use Rattle.usi_lines.specs.Options.{IsInRange};
 ghost use Rattle.usi_session.specs.Options.{AreInRange};
-ghost use Rattle.usi_session.specs.Answer.{answer, answer_position, answer_go, give_bestmove, answer_stop, answer_ponderhit};
+ghost use Rattle.usi_session.specs.Answer.{answer, answer_position, answer_go, write_or_hold, answer_stop, answer_ponderhit};
 ghost use Rattle.usi_session.specs.Costs.{cost_of_command, cost_to};
 ghost use Rattle.usi_session.specs.Replies.{answer_to};
 ghost use Rattle.usi_session.specs.InHand.{goes_on_if, with_rest, load_of_if, turns_of_if, most_turns};
@@ -16,7 +16,7 @@ use crate::go_command::GoCommand;
 use crate::position_command::{Refusal, position_of_sfen, position_of_start};
 use crate::state::{HeldBestmove, State};
 use crate::text::{
-    write_bad_position, write_bestmove, write_illegal_move, write_no_mate, write_usi,
+    write_bad_position, write_bestmove, write_illegal_move, write_mate_not_implemented, write_usi,
 };
 use shogi_core::Position;
 use shogi_moves::has_legal;
@@ -43,13 +43,13 @@ fn answer_position<A: Allocator>(
 }
 
 /// Writes a bestmove or holds it. What was held is dropped.
-pub fn give_bestmove<A: Allocator>(
+pub fn write_or_hold<A: Allocator>(
     out: &mut Vec<u8, A>,
     state: &mut State,
     bestmove: HeldBestmove,
 ) -> Result<(), AllocError>
-    ensures bytes { OnOk result (out.new.items ≡ out.old.items ++ (give_bestmove state.old [] bestmove bestmove.until).bytes) }
-    ensures state { OnOk result (state.new ≡ (give_bestmove state.old [] bestmove bestmove.until).state) }
+    ensures bytes { OnOk result (out.new.items ≡ out.old.items ++ (write_or_hold state.old [] bestmove bestmove.until).bytes) }
+    ensures state { OnOk result (state.new ≡ (write_or_hold state.old [] bestmove bestmove.until).state) }
 {
     match bestmove.until {
         Hold::Nothing => {
@@ -88,7 +88,7 @@ fn answer_go<A: Allocator + Copy>(
         ponder: None,
         until: hold,
     };
-    give_bestmove(out, state, bestmove)?;
+    write_or_hold(out, state, bestmove)?;
     Ok(None)
 }
 
@@ -152,7 +152,7 @@ pub fn answer<A: Allocator + Copy>(
             return answer_go(alloc, out, state, depth, hold);
         }
         Command::GoMate => {
-            write_no_mate(out)?;
+            write_mate_not_implemented(out)?;
             state.held = None;
         }
         Command::Stop => answer_stop(out, state)?,

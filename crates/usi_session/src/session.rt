@@ -8,7 +8,7 @@ ghost use Rattle.usi_session.specs.WholeLines.{GrowsByLines};
 ghost use Rattle.usi_lines.specs.Lines.{ahead, lines};
 ghost use Rattle.usi_session.specs.declared.limits.TheConstants.{CHUNK_MAX};
 
-use crate::answer::{answer_line, give_bestmove};
+use crate::answer::{answer_line, write_or_hold};
 use crate::go_command::GoCommand;
 use crate::limits::QUEUE_FULL;
 use crate::options::Options;
@@ -141,7 +141,7 @@ impl<A: Allocator + Copy> Session<A> {
             return Ok(());
         }
         let mut state = self.state;
-        give_bestmove(&mut reply, &mut state, in_hand.bestmove())?;
+        write_or_hold(&mut reply, &mut state, in_hand.bestmove())?;
         self.queue.push(reply.as_slice())?;
         self.state = state;
         self.in_hand = None;

@@ -2,7 +2,7 @@
 
 ghost use Rattle.std.specs.Prelude.{◌≡◌, ◌++◌, ◌+◌, OnOk, codes, decimal, ℤ, flat_map};
 ghost use Rattle.shogi_sfen.specs.MoveTexts.{text_of};
-ghost use Rattle.usi_session.specs.Texts.{usi_reply, no_mate_reply, bad_position, illegal_move, size_text, score_text, moves_text, info_text, bestmove_line};
+ghost use Rattle.usi_session.specs.Texts.{usi_reply, mate_not_implemented_reply, bad_position, illegal_move, size_text, score_text, moves_text, info_text, bestmove_line};
 
 use crate::options::write_options;
 use itoa::Buffer;
@@ -35,8 +35,8 @@ pub fn write_usi<A: Allocator>(out: &mut Vec<u8, A>) -> Result<(), AllocError>
 }
 
 /// Says that there is no mate solver (USI, checkmate).
-pub fn write_no_mate<A: Allocator>(out: &mut Vec<u8, A>) -> Result<(), AllocError>
-    ensures { OnOk result (out.new.items ≡ out.old.items ++ no_mate_reply) }
+pub fn write_mate_not_implemented<A: Allocator>(out: &mut Vec<u8, A>) -> Result<(), AllocError>
+    ensures { OnOk result (out.new.items ≡ out.old.items ++ mate_not_implemented_reply) }
 {
     out.extend_from_slice(b"checkmate notimplemented\n")
 }

@@ -46,9 +46,50 @@ fn numbers_of_a_replay(rt: HostRuntime) -> Result<(), Fail> {
     Ok(())
 }
 
+// A path, and then the slots, the entries, the slice and the turns.
+#[test]
+fn numbers_of_serve(rt: HostRuntime) -> Result<(), Fail> {
+    let rows: [(&[&str], &str, (usize, usize, u64, u64)); 4] = [
+        (&["serve", "--socket", "s"], "s", (64, 4096, 1000, u64::MAX)),
+        (
+            &["serve", "--socket", "s", "--turns", "3"],
+            "s",
+            (64, 4096, 1000, 3),
+        ),
+        (
+            &["serve", "--turns", "18446744073709551615", "--socket=/a b"],
+            "/a b",
+            (64, 4096, 1000, u64::MAX),
+        ),
+        (
+            &[
+                "serve",
+                "--slots=1024",
+                "--entries=7",
+                "--slice=1",
+                "--socket=",
+            ],
+            "",
+            (1024, 7, 1, u64::MAX),
+        ),
+    ];
+    for (words, path, (slots, entries, slice, turns)) in rows {
+        let job = read_words(rt.alloc(), words)?;
+        let wanted = Job::Serve {
+            socket: String::from_str(rt.alloc(), path)?,
+            slots,
+            entries,
+            slice,
+            turns,
+        };
+        assert_eq!(rt; job, wanted, "for {words:?}");
+    }
+    Ok(())
+}
+
 #[test]
 fn refused_words(rt: HostRuntime) {
-    let rows: [&[&str]; 20] = [
+    let rows: [&[&str]; 25] = [
         &["stdio", "--entries", "0"],
         &["stdio", "--entries", "1000001"],
         &["stdio", "--entries", "18446744073709551616"],
@@ -69,6 +110,11 @@ fn refused_words(rt: HostRuntime) {
         &["replay", "--slots", "1", "--slots", "2"],
         &["replay", "script"],
         &["stdio", "--slots", "1"],
+        &["serve", "--socket"],
+        &["serve", "--socket", "s", "--turns", "0"],
+        &["serve", "--socket", "s", "--turns", "18446744073709551616"],
+        &["serve", "--socket", "s", "--slots", "1025"],
+        &["serve", "--socket", "s", "--socket", "s"],
     ];
     for words in rows {
         let refused = matches!(
@@ -105,8 +151,15 @@ fn help_has_what_a_user_needs(rt: HostRuntime) -> Result<(), Fail> {
         "default: 1000]",
         "usi_host replay --slots 2",
     ];
+    let serve = [
+        "--socket",
+        "--turns",
+        "from 1 to 18446744073709551615",
+        "host full",
+        "usi_host serve --socket",
+    ];
     let script = ["+A ", "A TEXT", "-A ", "refused 1", "status is 3"];
-    let rows: [(&[&str], &[&[&str]]); 7] = [
+    let rows: [(&[&str], &[&[&str]]); 9] = [
         (&["--help"], &[&stdio, &replay]),
         (&["-h"], &[&stdio, &replay]),
         (&["help"], &[&stdio, &replay]),
@@ -114,6 +167,8 @@ fn help_has_what_a_user_needs(rt: HostRuntime) -> Result<(), Fail> {
         (&["help", "stdio"], &[&stdio]),
         (&["replay", "--help"], &[&replay, &script]),
         (&["help", "replay"], &[&replay, &script]),
+        (&["serve", "--help"], &[&serve]),
+        (&["help", "serve"], &[&serve]),
     ];
     for (words, groups) in rows {
         let text = help_of(rt.alloc(), words).ok_or("help")?;
@@ -129,9 +184,10 @@ fn help_has_what_a_user_needs(rt: HostRuntime) -> Result<(), Fail> {
 // With `rt try --test --fail-alloc N`, want of memory is the only other answer.
 #[test]
 fn only_memory_changes_an_answer(rt: HostRuntime) {
-    let rows: [(&[&str], &str); 5] = [
+    let rows: [(&[&str], &str); 6] = [
         (&["stdio", "--entries", "7"], ""),
         (&["replay", "--slots", "7"], ""),
+        (&["serve", "--socket", "s"], ""),
         (&["go"], "try '--help'"),
         (&["--help"], "usi_host stdio --entries 100000\n"),
         (&["stdio", "--help"], "default: 4096"),
@@ -147,6 +203,7 @@ fn only_memory_changes_an_answer(rt: HostRuntime) {
                     slice,
                 },
             ) => slots == 7 && entries == 4096 && slice == 1000,
+            Ok(Job::Serve { socket, .. }) => socket.as_str() == "s",
             Ok(Job::Help { text }) => text.as_str().contains(part),
             Err(WordsFault::NotAccepted { text }) => text.as_str().contains(part),
         };

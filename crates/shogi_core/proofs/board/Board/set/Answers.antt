@@ -1,5 +1,5 @@
 use Rattle.std.proofs.Common.{rules, length-set, ◌∙◌, refl}
-use Rattle.shogi_core.specs.Cell.{is_of}
+use Rattle.shogi_core.specs.Cell.{is_piece_of}
 use Rattle.shogi_core.specs.Masks.{is_any_king}
 use Rattle.shogi_core.specs.declared.piece.Color.TheVariants.{Black, White}
 use Rattle.shogi_core.proofs.MaskLaws.{places_put}
@@ -12,7 +12,7 @@ invariant_of-self c =
     let low = c.index-index.ensures.range in
     let len = c.self.invariant.0 in (
       length-set cells s c.args.piece ∙ len,
-      places_put (is_of Black) c.marked-self-inside.result s cells c.args.piece len low (search rules) (λ n. c.marked-self-inside.ensures n ∙ rw (c.is_of.ensures, c.self.invariant.1) refl),
-      places_put (is_of White) c.marked-self-inside-2.result s cells c.args.piece len low (search rules) (λ n. c.marked-self-inside-2.ensures n ∙ rw (c.is_of-2.ensures, c.self.invariant.2) refl),
+      places_put (is_piece_of Black) c.marked-self-inside.result s cells c.args.piece len low (search rules) (λ n. c.marked-self-inside.ensures n ∙ rw (c.is_piece_of.ensures, c.self.invariant.1) refl),
+      places_put (is_piece_of White) c.marked-self-inside-2.result s cells c.args.piece len low (search rules) (λ n. c.marked-self-inside-2.ensures n ∙ rw (c.is_piece_of-2.ensures, c.self.invariant.2) refl),
       places_put is_any_king c.marked-self-inside-3.result s cells c.args.piece len low (search rules) (λ n. c.marked-self-inside-3.ensures n ∙ rw (c.is_any_king.ensures, c.self.invariant.3) refl),
     )

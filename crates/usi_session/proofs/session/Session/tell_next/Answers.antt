@@ -9,7 +9,7 @@ pub returns-clause-due : goal.returns-clause-due
 returns-clause-due g c = λ x.
     let s = c.self.inside in
     let alive : s.state.is_over ≡ false = ap (λ (t : SessionView). t.state.is_over) c.self.view_is ∙ pending_alive c.args.self.now c.requires.pending in
-    rw (← c.self.view_is) (due_ends s.state c.give_bestmove.new.state s.queue c.push-2.new.self c.tell.new.out.items c.give_bestmove.new.out.items c.in-Some.in_hand s.in_hand c.bestmove.result (ahead s.input x)
+    rw (← c.self.view_is) (due_ends s.state c.write_or_hold.new.state s.queue c.push-2.new.self c.tell.new.out.items c.write_or_hold.new.out.items c.in-Some.in_hand s.in_hand c.bestmove.result (ahead s.input x)
     alive c.in-Some.is (search rules) (search rules) (search rules) (search rules) (search rules) (search rules))
 
 pub returns-then-not-is_last-clause-grown : goal.returns-then-not-is_last-clause-grown
@@ -25,7 +25,7 @@ pub returns-clause-grown : goal.returns-clause-grown
 returns-clause-grown g c =
     let go = c.in-Some.in_hand in
     rw (← c.self.view_is) (record {
-      lines = c.give_bestmove.new.out.items;
+      lines = c.write_or_hold.new.out.items;
       after_is = search rules;
-      whole = end_whole c.self.inside.state go.root (go.told + 1) c.tell.new.out.items c.give_bestmove.new.out.items c.bestmove.result (search rules) (search rules);
+      whole = end_whole c.self.inside.state go.root (go.told + 1) c.tell.new.out.items c.write_or_hold.new.out.items c.bestmove.result (search rules) (search rules);
     })

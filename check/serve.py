@@ -1,0 +1,604 @@
+#!/usr/bin/env python3
+"""Runs the built program as a host on a Unix socket, with friendly and hostile clients, and looks at
+what each of them is sent, and at the process afterwards: that it still answers, that its memory is
+flat, and that no descriptor leaked. Every socket lies in a temporary folder. Its one argument is the
+program; without it, the program that `make build` makes. Its last line is `N passed, M failed`."""
+
+import contextlib
+import os
+import random
+import resource
+import select
+import selectors
+import shutil
+import signal
+import socket
+import subprocess
+import sys
+import tempfile
+import time
+
+TOP = os.path.dirname(os.path.dirname(os.path.abspath(__file__)))
+PROGRAM = os.path.join(TOP, "crates", "usi_host", "out", "usi_host")
+
+# The longest that one step may take, in seconds.
+PATIENCE = 40
+
+USI = (
+    b"id name Shared Shogi Host\n"
+    b"id author Shared Shogi Host Team\n"
+    b"option name Depth type spin default 3 min 1 max 16\n"
+    b"usiok\n"
+)
+DEPTH_ONE = b"info depth 1 score cp 0 pv 1g1f\n"
+GO_DEPTH_ONE = DEPTH_ONE + b"bestmove 1g1f\n"
+GO = (
+    DEPTH_ONE
+    + b"info depth 2 score cp 0 pv 1g1f 1a1b\n"
+    + b"info depth 3 score cp 200 pv 7g7f 4c4d 8h4d\n"
+    + b"bestmove 7g7f ponder 4c4d\n"
+)
+HOST_FULL = b"info string host full\n"
+TOO_LONG = b"info string line too long\n"
+SOCKET_FAILED = b"usi_host: socket failed\n"
+
+
+class Wrong(Exception):
+    """What was seen is not what was wanted."""
+
+
+def want(seen, wanted, what):
+    if seen != wanted:
+        raise Wrong(f"{what}: {seen!r}, wanted {wanted!r}")
+
+
+def wait_until(test, what):
+    """Waits until the test holds, and no longer than a step may take."""
+    until = time.monotonic() + PATIENCE
+    while not test():
+        if time.monotonic() > until:
+            raise Wrong(f"not in time: {what}")
+        time.sleep(0.01)
+
+
+@contextlib.contextmanager
+def folder():
+    """A folder for a socket, which others may enter."""
+    place = tempfile.mkdtemp(prefix="usi_serve.")
+    try:
+        os.chmod(place, 0o755)
+        yield place
+    finally:
+        shutil.rmtree(place, ignore_errors=True)
+
+
+def files(most):
+    """Sets how many files a new process may have open."""
+    return lambda: resource.setrlimit(resource.RLIMIT_NOFILE, (most, most))
+
+
+class Host:
+    """The program as a host on a socket."""
+
+    def __init__(self, place, *words, **how):
+        self.path = os.path.join(place, "socket")
+        self.running = subprocess.Popen(
+            [PROGRAM, "serve", "--socket", self.path, *words],
+            stdin=subprocess.DEVNULL,
+            stdout=subprocess.PIPE,
+            stderr=subprocess.PIPE,
+            **how,
+        )
+        wait_until(
+            lambda: os.path.exists(self.path) or self.running.poll() is not None, "the socket"
+        )
+
+    def connect(self):
+        client = socket.socket(socket.AF_UNIX, socket.SOCK_STREAM)
+        client.settimeout(PATIENCE)
+        until = time.monotonic() + PATIENCE
+        while True:
+            try:
+                client.connect(self.path)
+                return client
+            except (ConnectionRefusedError, BlockingIOError):
+                # The file is there a little before somebody listens.
+                if time.monotonic() > until:
+                    raise
+                time.sleep(0.01)
+
+    def ask(self, lines):
+        """What a client is sent that sends these bytes and ends its side."""
+        with self.connect() as client:
+            client.sendall(lines)
+            client.shutdown(socket.SHUT_WR)
+            return to_the_end(client)
+
+    def descriptors(self):
+        return len(os.listdir(f"/proc/{self.running.pid}/fd"))
+
+    def memory(self):
+        """The resident memory, in bytes."""
+        with open(f"/proc/{self.running.pid}/statm", encoding="ascii") as numbers:
+            return int(numbers.read().split()[1]) * os.sysconf("SC_PAGE_SIZE")
+
+    def seconds(self):
+        """The processor time so far."""
+        with open(f"/proc/{self.running.pid}/stat", encoding="ascii") as line:
+            numbers = line.read().rsplit(")", 1)[1].split()
+        return (int(numbers[11]) + int(numbers[12])) / os.sysconf("SC_CLK_TCK")
+
+    def is_running(self):
+        return self.running.poll() is None
+
+    def stop(self):
+        """Ends it, if it runs, and gives what it wrote."""
+        if self.is_running():
+            self.running.terminate()
+        return self.running.communicate(timeout=PATIENCE)
+
+
+@contextlib.contextmanager
+def host(*words, **how):
+    with folder() as place:
+        running = Host(place, *words, **how)
+        try:
+            yield running
+        finally:
+            running.stop()
+
+
+def to_the_end(client):
+    """What a client is sent until the end. A host that closes with bytes unread resets."""
+    seen = b""
+    while True:
+        try:
+            piece = client.recv(65_536)
+        except ConnectionResetError:
+            return seen
+        if not piece:
+            return seen
+        seen += piece
+
+
+def exactly(client, size):
+    """The next bytes that a client is sent, so many, or fewer at the end."""
+    seen = b""
+    while len(seen) < size:
+        piece = client.recv(size - len(seen))
+        if not piece:
+            break
+        seen += piece
+    return seen
+
+
+def on_standard_input(lines):
+    """What one session over standard input and output answers."""
+    ended = subprocess.run(
+        [PROGRAM, "stdio"], input=lines, stdout=subprocess.PIPE, timeout=PATIENCE, check=True
+    )
+    return ended.stdout
+
+
+def cut(rng, sent):
+    """The bytes in pieces of random sizes."""
+    pieces = []
+    while sent:
+        size = rng.choice((1, 2, 3, 7, 30, 200, 5_000))
+        pieces.append(sent[:size])
+        sent = sent[size:]
+    return pieces
+
+
+LINES = (
+    b"usi\n",
+    b"isready\n",
+    b"usinewgame\r\n",
+    b"position startpos\n",
+    b"position startpos moves 7g7f 3c3d 8h2b+ 3a2b\n",
+    b"position startpos moves 7g7f 7g7f\n",
+    b"position sfen 4k4/9/4P4/9/9/9/9/9/9 b G 1\n",
+    b"position sfen 8k/6G2/7G1/9/9/9/9/9/9 w - 1\n",
+    b"position sfen x\n",
+    b"setoption name Depth value 1\n",
+    b"setoption name Depth value 2\n",
+    b"setoption name USI_Hash value 256\n",
+    b"go depth 1\n",
+    b"go depth 2\n",
+    b"go\n",
+    b"go infinite depth 1\n",
+    b"go ponder depth 2\n",
+    b"go mate infinite\n",
+    b"ponderhit\n",
+    b"stop\n",
+    b"gameover win\n",
+    b"\r\n",
+    b"what is this\n",
+    b"\xff\xfe " + b"y" * 5_000 + b"\n",
+)
+
+
+def dialogue(rng):
+    """Random lines; the last one may be cut short, or be `quit`."""
+    sent = b"".join(rng.choice(LINES) for _ in range(rng.randint(1, 30)))
+    return sent + rng.choice((b"", b"go depth", b"quit\n"))
+
+
+def converse(clients):
+    """Sends each client's pieces as the host takes them, ends its side, and reads to the end."""
+    selector = selectors.DefaultSelector()
+    seen = {}
+    left = {}
+    for client, pieces in clients:
+        client.setblocking(False)
+        seen[client] = b""
+        left[client] = list(pieces)
+        selector.register(client, selectors.EVENT_READ | selectors.EVENT_WRITE)
+    until = time.monotonic() + PATIENCE
+    open_clients = len(clients)
+    while open_clients:
+        if time.monotonic() > until:
+            raise Wrong(f"{open_clients} clients have no end in time")
+        for key, events in selector.select(1):
+            client = key.fileobj
+            if events & selectors.EVENT_WRITE:
+                try:
+                    if left[client]:
+                        size = client.send(left[client][0])
+                        left[client][0] = left[client][0][size:]
+                        if not left[client][0]:
+                            left[client].pop(0)
+                    else:
+                        selector.modify(client, selectors.EVENT_READ)
+                        client.shutdown(socket.SHUT_WR)
+                except OSError:
+                    selector.modify(client, selectors.EVENT_READ)
+            if events & selectors.EVENT_READ:
+                try:
+                    piece = client.recv(65_536)
+                except ConnectionResetError:
+                    piece = b""
+                except BlockingIOError:
+                    continue
+                seen[client] += piece
+                if not piece:
+                    selector.unregister(client)
+                    open_clients -= 1
+    selector.close()
+    return [seen[client] for client, _ in clients]
+
+
+def each_of_64_clients_gets_its_own_answers():
+    """Whatever the pieces, the slices and the table: what one session alone would answer."""
+    rng = random.Random(26)
+    sent = [dialogue(rng) for _ in range(64)]
+    answers = [on_standard_input(lines) for lines in sent]
+    for words in (("--slice", "7", "--entries", "50"), ()):
+        with host(*words) as running, contextlib.ExitStack() as stack:
+            clients = [
+                (stack.enter_context(running.connect()), cut(rng, lines)) for lines in sent
+            ]
+            for number, seen in enumerate(converse(clients)):
+                want(seen, answers[number], f"client {number}, which sent {sent[number]!r}")
+
+
+def an_end_after_go_loses_no_answer():
+    with host("--slice", "10") as running, contextlib.ExitStack() as stack:
+        clients = []
+        for _ in range(20):
+            client = stack.enter_context(running.connect())
+            client.sendall(b"go\n")
+            client.shutdown(socket.SHUT_WR)
+            clients.append(client)
+        for client in clients:
+            want(to_the_end(client), GO, "a client that ended its side")
+        want(running.ask(b""), b"", "a client that sends nothing")
+
+
+# ---- hostile clients, each on a host that goes on afterwards
+
+
+def never_reads(running):
+    """It sends until no more is taken; the others are served, and nothing spins."""
+    with running.connect() as client:
+        client.setblocking(False)
+        sent = 0
+        quiet_since = time.monotonic()
+        while time.monotonic() < quiet_since + 0.3 and sent < 50_000_000:
+            try:
+                sent += client.send((b"usi\n" * 4_096)[sent % 4 :])
+                quiet_since = time.monotonic()
+            except BlockingIOError:
+                time.sleep(0.01)
+        if sent >= 50_000_000:
+            raise Wrong("it takes bytes without end from a client that never reads")
+        want(running.ask(b"isready\n"), b"readyok\n", "another client")
+        before = running.seconds()
+        time.sleep(0.3)
+        if running.seconds() - before > 0.15:
+            raise Wrong("it spins while a client does not read")
+        client.settimeout(PATIENCE)
+        client.shutdown(socket.SHUT_WR)
+        want(to_the_end(client) == USI * (sent // 4), True, "all answers, once it reads")
+
+
+def sends_no_line_end(running):
+    with running.connect() as client:
+        with contextlib.suppress(BrokenPipeError, ConnectionResetError):
+            for _ in range(17):
+                client.sendall(b"x" * 4_096)
+        want(to_the_end(client), TOO_LONG, "17 pieces without a line's end")
+
+
+KILLED = """
+import socket, sys, time
+client = socket.socket(socket.AF_UNIX)
+client.connect(sys.argv[1])
+client.sendall(b"go depth 6\\n")
+client.recv(10)
+print("searching", flush=True)
+time.sleep(60)
+"""
+
+
+def is_killed_in_mid_search(running):
+    with subprocess.Popen(
+        [sys.executable, "-c", KILLED, running.path], stdout=subprocess.PIPE
+    ) as child:
+        want(child.stdout.readline(), b"searching\n", "the first line of an answer")
+        child.kill()
+
+
+def resets(running):
+    """It closes while bytes for it are unread."""
+    for lines in (b"usi\n" * 100, b"usi\ngo\nusi\n"):
+        with running.connect() as client:
+            client.sendall(lines)
+            want(select.select([client], [], [], PATIENCE)[0], [client], "an answer")
+
+
+def comes_and_goes(running):
+    for _ in range(50):
+        running.connect().close()
+
+
+def ends_its_side(running):
+    clients = [running.connect() for _ in range(20)]
+    for client in clients:
+        client.sendall(b"go depth 1")
+        client.shutdown(socket.SHUT_WR)
+    for client in clients:
+        want(to_the_end(client), b"", "a line without its end")
+        client.close()
+
+
+HOSTILE = (
+    never_reads,
+    sends_no_line_end,
+    is_killed_in_mid_search,
+    resets,
+    comes_and_goes,
+    ends_its_side,
+)
+
+
+def is_at_rest(running, descriptors):
+    wait_until(lambda: running.descriptors() == descriptors, "each descriptor is closed")
+    want(running.ask(b"go\n"), GO, "a client afterwards")
+    wait_until(lambda: running.descriptors() == descriptors, "the last descriptor is closed")
+
+
+def hostile_clients_leave_nothing_behind():
+    """The table is small, so that it is full after the first round."""
+    with host("--entries", "256") as running:
+        want(running.ask(b"isready\n"), b"readyok\n", "a first client")
+        wait_until(lambda: running.descriptors() < 8, "the first client's descriptor is closed")
+        descriptors = running.descriptors()
+        memory = 0
+        for number in range(4):
+            for hostile in HOSTILE:
+                hostile(running)
+                is_at_rest(running, descriptors)
+            if number == 0:
+                memory = running.memory()
+        grown = running.memory() - memory
+        if grown > 1 << 20:
+            raise Wrong(f"three more rounds take {grown} bytes more")
+        want(running.is_running(), True, "the process")
+
+
+def a_full_host_turns_away_who_comes_then():
+    soft, hard = resource.getrlimit(resource.RLIMIT_NOFILE)
+    if hard != resource.RLIM_INFINITY and hard < 2_200:
+        raise Wrong(f"this check needs 2,200 open files, and may have {hard}")
+    resource.setrlimit(resource.RLIMIT_NOFILE, (max(soft, 2_200), hard))
+    try:
+        with host("--slots", "1024", preexec_fn=files(1_100)) as running:
+            want(running.ask(b"isready\n"), b"readyok\n", "a first client")
+            wait_until(lambda: running.descriptors() < 8, "its descriptor is closed")
+            descriptors = running.descriptors()
+            for _ in range(2):
+                clients = [running.connect() for _ in range(1_030)]
+                for client in clients[1_024:]:
+                    want(to_the_end(client), HOST_FULL, "a client of a full host")
+                for client in clients[:1_024]:
+                    client.sendall(b"go depth 1\n")
+                for client in clients[:1_024]:
+                    want(exactly(client, len(GO_DEPTH_ONE)), GO_DEPTH_ONE, "a client with a slot")
+                for client in clients:
+                    client.close()
+                is_at_rest(running, descriptors)
+    finally:
+        resource.setrlimit(resource.RLIMIT_NOFILE, (soft, hard))
+
+
+def too_many_open_files_are_waited_for():
+    """With 16 descriptors some clients wait in the queue; they are served as others go."""
+    with host(preexec_fn=files(16)) as running:
+        clients = [running.connect() for _ in range(30)]
+        for client in clients:
+            client.sendall(b"isready\n")
+        want(exactly(clients[0], 8), b"readyok\n", "the first client")
+        time.sleep(0.3)
+        before = running.seconds()
+        time.sleep(0.5)
+        if running.seconds() - before > 0.25:
+            raise Wrong("it spins while it may open no more files")
+        for client in clients[1:]:
+            clients[0].close()
+            clients[0] = client
+            want(exactly(client, 8), b"readyok\n", "a client that waited")
+        clients[0].close()
+        want(running.ask(b"go\n"), GO, "a client afterwards")
+
+
+def signals_are_no_fault():
+    with host() as running, running.connect() as client:
+        client.sendall(b"isready\n")
+        want(exactly(client, 8), b"readyok\n", "before")
+        for number in (signal.SIGWINCH, signal.SIGSTOP, signal.SIGCONT, signal.SIGWINCH):
+            running.running.send_signal(number)
+            time.sleep(0.05)
+        client.sendall(b"isready\n")
+        want(exactly(client, 8), b"readyok\n", "afterwards")
+
+
+def it_ends_after_its_turns():
+    with folder() as place:
+        running = Host(place, "--turns", "1")
+        time.sleep(0.2)
+        want(running.is_running(), True, "it waits after the last turn")
+        with running.connect() as client:
+            want(running.running.wait(PATIENCE), 0, "the status")
+            want(to_the_end(client), b"", "a client of a host that ended")
+        want(running.stop(), (b"", b""), "what it wrote")
+        want(os.path.exists(running.path), True, "the socket's file stays")
+
+
+def the_mode_of_the_socket_is_the_umask():
+    with host(preexec_fn=lambda: os.umask(0o117)) as running:
+        want(oct(os.stat(running.path).st_mode & 0o777), "0o660", "the file's mode")
+
+
+def refused(path, **how):
+    """Why no socket is made at this path."""
+    ended = subprocess.run(
+        [how.pop("program", PROGRAM), "serve", f"--socket={path}"],
+        stdin=subprocess.DEVNULL,
+        capture_output=True,
+        timeout=PATIENCE,
+        check=False,
+        **how,
+    )
+    return ended.returncode, ended.stdout, ended.stderr
+
+
+def a_socket_that_cannot_be_made_is_told():
+    failed = (1, b"", SOCKET_FAILED)
+    with folder() as place:
+        there = os.path.join(place, "there")
+        with open(there, "wb"):
+            pass
+        want(refused(there), failed, "a file is there")
+        with open(there, "rb") as kept:
+            want(kept.read(), b"", "the file that was there")
+        want(refused(place), failed, "a folder is there")
+        want(refused(os.path.join(place, "no", "folder")), failed, "no folder")
+        want(refused(os.path.join(place, "l" * 108)), failed, "a path that is too long")
+        want(refused(""), failed, "an empty path")
+
+        closed = os.path.join(place, "closed")
+        os.mkdir(closed, 0o555)
+        # The system's manager may write anywhere: somebody else has to try.
+        how = {"user": 65_534, "group": 65_534} if os.geteuid() == 0 else {}
+        copy = os.path.join(place, "usi_host")
+        shutil.copy(PROGRAM, copy)
+        os.chmod(copy, 0o755)
+        seen = refused(os.path.join(closed, "socket"), program=copy, cwd=place, **how)
+        want(seen, failed, "no permission")
+    with host() as running:
+        want(refused(running.path), failed, "another host is there")
+        want(running.ask(b"isready\n"), b"readyok\n", "the other host")
+
+
+def want_of_memory_is_told():
+    """A limit that lets a small table be made refuses a large one."""
+    with folder() as place:
+        limited = lambda: resource.setrlimit(resource.RLIMIT_AS, (8 << 20, 8 << 20))
+        path = os.path.join(place, "socket")
+        ended = subprocess.run(
+            [PROGRAM, "serve", "--socket", path, "--entries", "1000000"],
+            stdin=subprocess.DEVNULL,
+            capture_output=True,
+            timeout=PATIENCE,
+            check=False,
+            preexec_fn=limited,
+        )
+        seen = (ended.returncode, ended.stdout, ended.stderr)
+        want(seen, (1, b"", b"usi_host: out of memory\n"), "a table of a million")
+        want(os.path.exists(path), False, "a socket before the host was made")
+
+
+def words_of_serve():
+    for words in (
+        [],
+        ["--socket"],
+        ["--slots", "1"],
+        ["--socket", "s", "--turns", "0"],
+        ["--socket", "s", "--turns", "18446744073709551616"],
+        ["--socket", "s", "--slots", "1025"],
+        ["--socket", "s", "--entries", "0"],
+        ["--socket", "s", "--slice", "1000000001"],
+        ["--socket", "s", "--socket", "s"],
+        ["s"],
+    ):
+        ended = subprocess.run(
+            [PROGRAM, "serve", *words], capture_output=True, timeout=PATIENCE, check=False
+        )
+        want((ended.returncode, ended.stdout), (2, b""), f"{words}")
+        if b"--help" not in ended.stderr:
+            raise Wrong(f"{words}: standard error is {ended.stderr!r}")
+    for words in (["serve", "--help"], ["help", "serve"]):
+        ended = subprocess.run([PROGRAM, *words], capture_output=True, timeout=PATIENCE, check=False)
+        want((ended.returncode, ended.stderr), (0, b""), f"{words}")
+        for part in (b"--socket <PATH>", b"--turns", b"host full"):
+            if part not in ended.stdout:
+                raise Wrong(f"{words}: no {part} in {ended.stdout!r}")
+
+
+CHECKS = (
+    each_of_64_clients_gets_its_own_answers,
+    an_end_after_go_loses_no_answer,
+    hostile_clients_leave_nothing_behind,
+    a_full_host_turns_away_who_comes_then,
+    too_many_open_files_are_waited_for,
+    signals_are_no_fault,
+    it_ends_after_its_turns,
+    the_mode_of_the_socket_is_the_umask,
+    a_socket_that_cannot_be_made_is_told,
+    want_of_memory_is_told,
+    words_of_serve,
+)
+
+
+def main():
+    global PROGRAM
+    if len(sys.argv) > 1:
+        PROGRAM = os.path.abspath(sys.argv[1])
+    failed = 0
+    for check in CHECKS:
+        began = time.monotonic()
+        try:
+            check()
+            verdict = "ok"
+        except (Wrong, OSError, subprocess.SubprocessError) as why:
+            failed += 1
+            verdict = f"FAILED: {type(why).__name__}: {why}"[:2_000]
+        took = time.monotonic() - began
+        print(f"serve {check.__name__} ... {verdict} ({took:.1f} s)", flush=True)
+    print(f"{len(CHECKS) - failed} passed, {failed} failed")
+    return 1 if failed else 0
+
+
+if __name__ == "__main__":
+    sys.exit(main())

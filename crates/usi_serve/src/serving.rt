@@ -1,0 +1,39 @@
+//! Turn after turn.
+
+ghost use Rattle.std.specs.Prelude.{◌≡◌, ℕ, IfErr, IfOk};
+ghost use Rattle.socket_loop.specs.Links.{links_of};
+ghost use Rattle.socket_loop.specs.Told.{HasCause};
+ghost use Rattle.socket_loop.specs.Turns.{Fits};
+ghost use Rattle.usi_serve.specs.Serving.{AreTurns, StopsWithin};
+
+use host_core::Host;
+use socket_loop::{Loop, Wire, WireFault};
+use std::alloc::Allocator;
+use std::hash::BuildHasher;
+
+/// Takes so many turns, and waits after each of them, the last one too: until something may be ready
+/// where the turn did not move, and not at all where it did. A wait that fails ends it, with its fault.
+/// Each connection of the loop is accepted from this wire and each session opened in this host.
+pub fn serve<W: Wire, S: BuildHasher, A: Allocator + Copy>(
+    host: &mut Host<S, A>,
+    connections: &mut Loop<A>,
+    wire: &mut W,
+    turns: u64,
+) -> Result<(), WireFault>
+    requires fits { Fits (links_of connections.old.held) (W.bound wire.old) host.old }
+    ensures done { IfOk result (λ _. AreTurns connections.old.slice turns
+        (record { held = connections.old.held; bound = W.bound wire.old; told = W.told wire.old; host = host.old })
+        (record { held = connections.new.held; bound = W.bound wire.new; told = W.told wire.new; host = host.new })) }
+    ensures stopped { IfErr result (λ _. StopsWithin connections.old.slice turns
+        (record { held = connections.old.held; bound = W.bound wire.old; told = W.told wire.old; host = host.old })
+        (record { held = connections.new.held; bound = W.bound wire.new; told = W.told wire.new; host = host.new })) }
+    ensures cause { (before : ℕ) × HasCause before (W.failed wire.new) result }
+    ensures fits { Fits (links_of connections.new.held) (W.bound wire.new) host.new }
+    ensures slice { connections.new.slice ≡ connections.old.slice }
+{
+    for _ in 0..turns {
+        let turn = connections.turn(host, wire);
+        wire.wait(!turn.moved)?;
+    }
+    Ok(())
+}

@@ -1,0 +1,250 @@
+ghost use Rattle.std.specs.Prelude.{◌≤◌};
+
+use crate::{MioWire, serve};
+use host_core::Host;
+use socket_loop::{Got, Loop, MemoryWire, Wire, WireFault};
+use std::alloc::Global;
+use std::hash::{BuildHasherDefault, FoldHasher};
+use std::io::{Read, Write};
+use std::net::Shutdown;
+use std::os::unix::net::UnixStream;
+use std::path::PathBuf;
+use std::test::Fail;
+use std::{env, fs, process};
+
+type TestHost = Host<BuildHasherDefault<FoldHasher>, Global>;
+
+// What `usi` is answered.
+const USI: &[u8] =
+    b"id name Shared Shogi Host\nid author Shared Shogi Host Team\noption name Depth type spin default 3 min 1 max 16\nusiok\n";
+// What `go depth 1` from the opening position is answered.
+const ANSWER: &[u8] = b"info depth 1 score cp 0 pv 1g1f\nbestmove 1g1f\n";
+
+const HOST_FULL: &[u8] = b"info string host full\n";
+
+// A path of this test's own.
+fn path_of(rt: &HostRuntime, name: &str) -> Result<PathBuf, Fail> {
+    let name = format!(in rt.alloc(); "usi_serve-{name}-{}", process::id(rt.process()))?;
+    Ok(env::temp_dir(rt)?.join(rt.alloc(), name.as_str())?)
+}
+
+fn host_of(alloc: Global, slots: usize) -> Result<TestHost, Fail>
+    requires least { 1 ≤ slots }
+    requires most { slots ≤ 1024 }
+{
+    Ok(Host::new(alloc, slots, 64, BuildHasherDefault::<FoldHasher>::new())?)
+}
+
+// One thread is both ends: a connection waits in the listener's queue, and bytes in the stream.
+#[test]
+fn a_session_over_a_socket(rt: HostRuntime) -> Result<(), Fail> {
+    let path = path_of(&rt, "session")?;
+    let mut wire = MioWire::bind(&rt, rt.alloc(), path.as_path().as_str())?;
+    let mut client = UnixStream::connect(&rt, path.as_path())?;
+    fs::remove_file(&rt, path.as_path())?;
+    client.write_all(b"usi\nquit\n")?;
+    let mut host = host_of(rt.alloc(), 1)?;
+    let mut connections = Loop::new(rt.alloc(), 1000);
+    assert!(rt; connections.turn(&mut host, &mut wire).moved);
+    assert!(rt; !connections.turn(&mut host, &mut wire).moved);
+    let mut answer = Vec::new(rt.alloc());
+    client.read_to_end(&mut answer)?;
+    assert!(rt; answer.as_slice() == USI);
+    assert_eq!(rt; wire.faults(), 0);
+    Ok(())
+}
+
+// The second one finds the host full.
+#[test]
+fn two_peers_in_memory(rt: HostRuntime) -> Result<(), Fail> {
+    let alloc = rt.alloc();
+    let mut wire = MemoryWire::new(alloc);
+    let mut pieces = Vec::new(alloc);
+    pieces.push(Vec::from_slice(alloc, b"go de")?)?;
+    pieces.push(Vec::from_slice(alloc, b"pth 1\nquit\n")?)?;
+    let x = wire.connect(pieces).map_err(|_| "memory for a peer")?;
+    let y = wire
+        .connect(Vec::new(alloc))
+        .map_err(|_| "memory for a peer")?;
+    let mut host = host_of(alloc, 1)?;
+    let mut connections = Loop::new(alloc, 1000);
+    assert_eq!(rt; serve(&mut host, &mut connections, &mut wire, 8), Ok(()));
+    assert!(rt; (x, y) == (0, 1) && wire.peers.len() == 2);
+    assert!(rt; wire.peers[0].written.as_slice() == ANSWER && wire.peers[0].is_shut);
+    assert!(rt; wire.peers[1].written.as_slice() == HOST_FULL && wire.peers[1].is_shut);
+    Ok(())
+}
+
+// A client that ends its side gets its answer, and then the end. Another one goes away.
+#[test]
+fn clients_that_end(rt: HostRuntime) -> Result<(), Fail> {
+    let path = path_of(&rt, "ends")?;
+    let mut wire = MioWire::bind(&rt, rt.alloc(), path.as_path().as_str())?;
+    let mut client = UnixStream::connect(&rt, path.as_path())?;
+    let mut gone = UnixStream::connect(&rt, path.as_path())?;
+    fs::remove_file(&rt, path.as_path())?;
+    client.write_all(b"go depth 1\n")?;
+    client.shutdown(Shutdown::Write)?;
+    gone.write_all(b"go depth 1\n")?;
+    drop(gone);
+    let mut host = host_of(rt.alloc(), 2)?;
+    let mut connections = Loop::new(rt.alloc(), 1000);
+    assert!(rt; connections.turn(&mut host, &mut wire).moved, "answers");
+    assert!(rt; connections.turn(&mut host, &mut wire).moved, "ends");
+    let mut answer = Vec::new(rt.alloc());
+    client.read_to_end(&mut answer)?;
+    assert!(rt; answer.as_slice() == ANSWER);
+    assert!(rt; !connections.turn(&mut host, &mut wire).moved);
+    assert_eq!(rt; wire.faults(), 1, "the write to the one that is gone");
+    Ok(())
+}
+
+// The system takes so many bytes for a peer that never reads, and no more.
+fn fill(wire: &mut MioWire<Global>, number: u64) -> Result<usize, WireFault> {
+    let piece = [7u8; 4096];
+    let mut sent = 0usize;
+    for _ in 0..1000 {
+        let n = wire.write(number, &piece)?;
+        if n == 0 {
+            break;
+        }
+        sent = sent.saturating_add(n);
+    }
+    Ok(sent)
+}
+
+#[test]
+fn calls_that_find_nothing_or_fail(rt: HostRuntime) -> Result<(), Fail> {
+    let path = path_of(&rt, "calls")?;
+    let mut wire = MioWire::bind(&rt, rt.alloc(), path.as_path().as_str())?;
+    assert_eq!(rt; wire.accept(), Ok(None));
+    let mut client = UnixStream::connect(&rt, path.as_path())?;
+    fs::remove_file(&rt, path.as_path())?;
+    wire.wait(true)?;
+    let number = wire.accept()?.ok_or("a connection")?;
+    assert_eq!(rt; wire.accept(), Ok(None));
+    let mut buf = [0u8; 4];
+    assert_eq!(rt; wire.read(number, &mut buf), Ok(Got::Nothing));
+    client.write_all(b"012345")?;
+    assert_eq!(rt; wire.accept(), Ok(None));
+    assert_eq!(rt; wire.read(number, &mut buf), Ok(Got::Bytes(4)));
+    assert_eq!(rt; wire.read(number, &mut buf), Ok(Got::Bytes(2)));
+    assert_eq!(rt; wire.read(number, &mut buf), Ok(Got::Nothing));
+    assert!(rt; fill(&mut wire, number)? > 0);
+    assert_eq!(rt; fill(&mut wire, number), Ok(0));
+    assert_eq!(rt; wire.faults(), 0);
+
+    drop(client);
+    assert_eq!(rt; wire.accept(), Ok(None));
+    assert_eq!(rt; wire.write(number, b"x"), Err(WireFault::Device));
+    wire.shut(number);
+    wire.shut(number);
+    assert_eq!(rt; wire.read(number, &mut buf), Err(WireFault::Device));
+    assert_eq!(rt; wire.write(number, b"x"), Err(WireFault::Device));
+    assert_eq!(rt; wire.read(7, &mut buf), Err(WireFault::Device));
+    assert_eq!(rt; wire.faults(), 4);
+    Ok(())
+}
+
+fn is_refused(rt: &HostRuntime, path: &str) -> bool {
+    matches!(MioWire::bind(rt, rt.alloc(), path), Err(WireFault::Device))
+}
+
+#[test]
+fn paths_that_are_refused(rt: HostRuntime) -> Result<(), Fail> {
+    assert!(rt; is_refused(&rt, ""), "the system would choose a name");
+    assert!(rt; is_refused(&rt, "a/folder/that/is/not/there"));
+    let path = path_of(&rt, "refused")?;
+    let folder = env::temp_dir(&rt)?;
+    assert!(rt; is_refused(&rt, folder.as_path().as_str()), "a folder");
+    let mut long = String::from_str(rt.alloc(), path.as_path().as_str())?;
+    for _ in 0..108 {
+        long.push('x')?;
+    }
+    assert!(rt; is_refused(&rt, long.as_str()), "over 107 bytes");
+    let first = MioWire::bind(&rt, rt.alloc(), path.as_path().as_str())?;
+    assert!(rt; is_refused(&rt, path.as_path().as_str()), "it exists");
+    drop(first);
+    assert!(rt; is_refused(&rt, path.as_path().as_str()), "its file stays");
+    fs::remove_file(&rt, path.as_path())?;
+    Ok(())
+}
+
+// A wire with one peer that ends at once. It counts its waits, and one of them may fail.
+#[derive(Drop)]
+struct Waits {
+    given: u64,
+    busy: u64,
+    idle: u64,
+    fails_at: u64,
+    failed: u64,
+}
+
+impl Wire for Waits {
+    ghost use Rattle.std.specs.Prelude.{◌≡◌};
+
+    ghost bound = { λ wire. wire.given };
+
+    ghost failed = { λ wire. wire.failed };
+
+    fn accept(&mut self) -> Result<Option<u64>, WireFault> {
+        if self.given > 0 {
+            return Ok(None);
+        }
+        self.given = 1;
+        Ok(Some(0))
+    }
+
+    fn read(&mut self, _number: u64, _buf: &mut [u8]) -> Result<Got, WireFault> {
+        Ok(Got::Ended)
+    }
+
+    fn write(&mut self, _number: u64, _buf: &[u8]) -> Result<usize, WireFault> {
+        Ok(0)
+    }
+
+    fn shut(&mut self, _number: u64) {}
+
+    fn wait(&mut self, idle: bool) -> Result<(), WireFault> {
+        if idle {
+            self.idle = self.idle.saturating_add(1);
+        } else {
+            self.busy = self.busy.saturating_add(1);
+        }
+        if self.busy.saturating_add(self.idle) == self.fails_at {
+            self.failed = self.failed.saturating_add(1);
+            return Err(WireFault::Device);
+        }
+        Ok(())
+    }
+
+    fn faults(&self) -> u64 {
+        self.failed
+    }
+}
+
+// One turn moves: the peer is accepted, ends and is shut.
+#[test]
+fn each_turn_is_followed_by_a_wait(rt: HostRuntime) -> Result<(), Fail> {
+    let rows = [
+        (0, Ok(()), 1, 4),
+        (5, Err(WireFault::Device), 1, 4),
+        (2, Err(WireFault::Device), 1, 1),
+        (1, Err(WireFault::Device), 1, 0),
+    ];
+    for (fails_at, answer, busy, idle) in rows {
+        let mut wire = Waits {
+            given: 0,
+            busy: 0,
+            idle: 0,
+            fails_at,
+            failed: 0,
+        };
+        let mut host = host_of(rt.alloc(), 1)?;
+        let mut connections = Loop::new(rt.alloc(), 1);
+        let seen = serve(&mut host, &mut connections, &mut wire, 5);
+        assert_eq!(rt; seen, answer);
+        assert_eq!(rt; (wire.busy, wire.idle), (busy, idle));
+    }
+    Ok(())
+}
