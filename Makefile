@@ -38,7 +38,7 @@ test:
 bench:
 	bench/run.sh
 	bench/go.sh
-<<<<<<< HEAD
+	bench/serve.py
 
 # Takes away what was built and the proofs that were kept.
 clean:
@@ -52,6 +52,3 @@ help:
 	@echo 'make test       the gate: every proof from nothing, each edit, test and program'
 	@echo 'make bench      how fast it is'
 	@echo 'make clean      takes away what was built and the proofs that were kept'
-=======
-	bench/serve.py
->>>>>>> 045e4737742222cfefd43b136f92b47ad03cab8c
