@@ -42,7 +42,7 @@ down_left = offset_by (pos 1) (pos 1)
 abbrev pub down_right : Offset
 down_right = offset_by (negsuc 0) (pos 1)
 
--- a knight's jumps: two squares up and one to the side
+-- a knight's jumps: two squares up and one left or right
 abbrev pub jump_left : Offset
 jump_left = offset_by (pos 1) (negsuc 1)
 
@@ -57,7 +57,7 @@ straight = up ∷ down ∷ left ∷ right ∷ []
 abbrev pub diagonal : List Offset
 diagonal = up_left ∷ up_right ∷ down_left ∷ down_right ∷ []
 
--- one square towards the other side
+-- one square towards rank 1, which is forward for Black
 abbrev pub forward : List Offset
 forward = up ∷ []
 
@@ -97,7 +97,8 @@ square_at (pos file) (pos rank) = cond (nat_lt file 9 && nat_lt rank 9) (Some (f
 square_at (pos file) (negsuc rank) = None
 square_at (negsuc file) rank = None
 
--- as the side sees it: White moves the other way
+-- an offset of Black's as the side makes it: for White its rank is reversed, and its file stays, since the offsets of
+-- every piece are the same to the left and to the right
 abbrev pub for_side : Color → Offset → Offset
 for_side Black offset = offset
 for_side White offset = offset_by offset.file (pos 0 -ℤ offset.rank)

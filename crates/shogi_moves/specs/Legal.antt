@@ -29,7 +29,7 @@ is_promotable Bishop = true
 is_promotable Rook = true
 is_promotable _ = false
 
--- the three ranks farthest from the side's own
+-- the promotion zone: the three ranks farthest from the side
 abbrev pub in_promotion_zone : Color → ℕ → Bool
 in_promotion_zone Black square = nat_lt (square % 9) 3
 in_promotion_zone White square = nat_lt 5 (square % 9)
@@ -39,7 +39,7 @@ abbrev pub may_promote : Option Piece → ℕ → ℕ → Bool
 may_promote None from to = false
 may_promote (Some piece) from to = is_promotable piece.role && (in_promotion_zone piece.color from || in_promotion_zone piece.color to)
 
--- the pawn
+-- the kind is the pawn
 abbrev pub is_pawn_kind : Kind → Bool
 is_pawn_kind kinds.Pawn = true
 is_pawn_kind _ = false
@@ -66,7 +66,7 @@ abbrev pub is_pseudo_legal : Shogi → Move → Bool
 is_pseudo_legal p (Board from to promote) = is_pseudo_legal_board_move p.cells p.side from to promote
 is_pseudo_legal p (Drop kind to) = is_pseudo_legal_drop p.cells p.hands p.side kind to
 
--- all that the rules ask but mate by the drop of a pawn: the mover's king is not attacked after it
+-- pseudo-legal, and the mover is not in check after it; mate by the drop of a pawn is not looked at
 unfoldable pub is_safe : Shogi → Move → Bool
 is_safe p m = is_pseudo_legal p m && not (in_check (after p m).cells p.side)
 

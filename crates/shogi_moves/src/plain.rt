@@ -98,7 +98,8 @@ fn is_pseudo_legal_board_move(p: &Position, from: Square, to: Square, promote: b
     }
     if promote {
         let changes = piece.role.promoted() != piece.role;
-        return changes && (in_promotion_zone(piece.color, from) || in_promotion_zone(piece.color, to));
+        return changes
+            && (in_promotion_zone(piece.color, from) || in_promotion_zone(piece.color, to));
     }
     !is_immobile(Some(piece), to.index())
 }

@@ -6,7 +6,7 @@ ghost use Rattle.shogi_core.specs.Cell.{is_immobile};
 ghost use Rattle.shogi_core.specs.Validity.{pawns_on_file};
 ghost use Rattle.shogi_moves.specs.Legal.{in_promotion_zone, may_promote};
 
-use crate::legal::{is_promotable, in_promotion_zone};
+use crate::legal::{in_promotion_zone, is_promotable};
 use shogi_core::bits::ALL_SQUARES;
 use shogi_core::{Board, Color, Piece, Position, Role, Square};
 

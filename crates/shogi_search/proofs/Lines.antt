@@ -3,26 +3,26 @@ use Rattle.std.proofs.Common.{◌≡◌, ◌+◌, ◌*◌, ◌-◌, ◌<◌, ℕ
 use Rattle.shogi_core.specs.declared.moves.Move.{Move}
 use Rattle.shogi_core.specs.Position.{Shogi}
 use Rattle.shogi_moves.specs.After.{after}
-use Rattle.shogi_search.specs.Minimax.{best, line, then_pv, tree_size, pv_cost, then_pv_cost, cost}
+use Rattle.shogi_search.specs.Minimax.{best, pv, then_pv, tree_size, pv_cost, then_pv_cost, deepening_cost}
 
-pub line-leaf : (p : Shogi) → line p 0 ≡ []
-unfolding line
-line-leaf p = refl
+pub pv-leaf : (p : Shogi) → pv p 0 ≡ []
+unfolding pv
+pv-leaf p = refl
 
-line-suc : (p : Shogi) (d : ℕ) → line p (suc d) ≡ then_pv (λ q. line q d) p (best p (suc d))
-unfolding line
-line-suc p d = refl
+pv-suc : (p : Shogi) (d : ℕ) → pv p (suc d) ≡ then_pv (λ q. pv q d) p (best p (suc d))
+unfolding pv
+pv-suc p d = refl
 
 -- at a depth of at least 1
-pub line-above : (p : Shogi) (d : ℕ) → 0 < d → line p d ≡ then_pv (λ q. line q (d - 1)) p (best p d)
-line-above p zero h = absurd (omega arith)
-line-above p (suc d) h = let e : suc d - 1 ≡ d = omega arith in rw e (line-suc p d)
+pub pv-above : (p : Shogi) (d : ℕ) → 0 < d → pv p d ≡ then_pv (λ q. pv q (d - 1)) p (best p d)
+pv-above p zero h = absurd (omega arith)
+pv-above p (suc d) h = let e : suc d - 1 ≡ d = omega arith in rw e (pv-suc p d)
 
-pub line-some : (p : Shogi) (d : ℕ) (m : Move) → 0 < d → best p d ≡ Some m → line p d ≡ m ∷ line (after p m) (d - 1)
-line-some p d m h e = rw (line-above p d h, e) refl
+pub pv-some : (p : Shogi) (d : ℕ) (m : Move) → 0 < d → best p d ≡ Some m → pv p d ≡ m ∷ pv (after p m) (d - 1)
+pv-some p d m h e = rw (pv-above p d h, e) refl
 
-pub line-none : (p : Shogi) (d : ℕ) → 0 < d → best p d ≡ None → line p d ≡ []
-line-none p d h e = rw (line-above p d h, e) refl
+pub pv-none : (p : Shogi) (d : ℕ) → 0 < d → best p d ≡ None → pv p d ≡ []
+pv-none p d h e = rw (pv-above p d h, e) refl
 
 pub pv_cost-leaf : (p : Shogi) → pv_cost p 0 ≡ 0
 unfolding pv_cost
@@ -42,14 +42,14 @@ pv_cost-some p k m h e = rw (pv_cost-above p k h, e) refl
 pub pv_cost-none : (p : Shogi) (k : ℕ) → 0 < k → best p k ≡ None → pv_cost p k ≡ 2 * tree_size p k
 pv_cost-none p k h e = rw (pv_cost-above p k h, e) (omega arith)
 
-pub cost-none : (p : Shogi) → cost p 0 ≡ 0
-unfolding cost
-cost-none p = refl
+pub deepening_cost-none : (p : Shogi) → deepening_cost p 0 ≡ 0
+unfolding deepening_cost
+deepening_cost-none p = refl
 
-pub cost-suc : (p : Shogi) (d : ℕ) → cost p (suc d) ≡ cost p d + pv_cost p (suc d)
-unfolding cost
-cost-suc p d = refl
+pub deepening_cost-suc : (p : Shogi) (d : ℕ) → deepening_cost p (suc d) ≡ deepening_cost p d + pv_cost p (suc d)
+unfolding deepening_cost
+deepening_cost-suc p d = refl
 
-pub cost-above : (p : Shogi) (d : ℕ) → 0 < d → cost p d ≡ cost p (d - 1) + pv_cost p d
-cost-above p zero h = absurd (omega arith)
-cost-above p (suc d) h = let e : suc d - 1 ≡ d = omega arith in rw e (cost-suc p d)
+pub deepening_cost-above : (p : Shogi) (d : ℕ) → 0 < d → deepening_cost p d ≡ deepening_cost p (d - 1) + pv_cost p d
+deepening_cost-above p zero h = absurd (omega arith)
+deepening_cost-above p (suc d) h = let e : suc d - 1 ≡ d = omega arith in rw e (deepening_cost-suc p d)

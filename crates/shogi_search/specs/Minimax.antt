@@ -63,10 +63,10 @@ abbrev pub then_pv : (Shogi → List Move) → Shogi → Option Move → List Mo
 then_pv rest p None = []
 then_pv rest p (Some m) = m ∷ rest (after p m)
 
--- the best move, and the best line after it
-unfoldable pub line : Shogi → ℕ → List Move
-line p zero = []
-line p (suc d) = then_pv (λ q. line q d) p (best p (suc d))
+-- the principal variation: the best move, and that of the position after it one ply less deep
+unfoldable pub pv : Shogi → ℕ → List Move
+pv p zero = []
+pv p (suc d) = then_pv (λ q. pv q d) p (best p (suc d))
 
 -- the nodes of the whole tree
 unfoldable pub tree_size : Shogi → ℕ → ℕ
@@ -77,20 +77,20 @@ tree_size p (suc d) = 1 + sum_by (λ m. tree_size (after_code p m) d) (legal_mov
 abbrev pub subtrees : Shogi → ℕ → List ℕ → ℕ
 subtrees p d ms = sum_by (λ m. tree_size (after_code p m) d) ms
 
--- what follows a move costs
+-- the search steps for the pv after a move, where there is one
 abbrev pub then_pv_cost : (Shogi → ℕ) → Shogi → Option Move → ℕ
 then_pv_cost rest p None = 0
 then_pv_cost rest p (Some m) = rest (after p m)
 
--- the steps that may be made for the best line: two for each node of the trees along it
+-- the most search steps for the pv of this depth: two for each node of the trees along it
 unfoldable pub pv_cost : Shogi → ℕ → ℕ
 pv_cost p zero = 0
-pv_cost p (suc k) = 2 * tree_size p (suc k) + then_pv_cost (λ q. pv_cost q k) p (best p (suc k))
+pv_cost p (suc d) = 2 * tree_size p (suc d) + then_pv_cost (λ q. pv_cost q d) p (best p (suc d))
 
--- the steps that may be made for the best lines of each depth from 1 on
-unfoldable pub cost : Shogi → ℕ → ℕ
-cost p zero = 0
-cost p (suc d) = cost p d + pv_cost p (suc d)
+-- the same for each depth from 1 to this one
+unfoldable pub deepening_cost : Shogi → ℕ → ℕ
+deepening_cost p zero = 0
+deepening_cost p (suc d) = deepening_cost p d + pv_cost p (suc d)
 
 -- what an entry says of the position at the depth holds
 abbrev pub IsTrueEntry : Shogi → ℕ → Entry → Type 0

@@ -68,7 +68,7 @@ pub record SpellsHands (text : List ℕ) (hands : HandCounts) : Type 0 where
   pub sums : (color : Color) (kind : Kind) → held hands color kind ≡ sum_by (count_in color kind) entries
   pub spelled : or_hyphen (flat_map entry_text entries) ≡ text
 
--- a position's first three words are texts of its board, its side and its hands
+-- the first three words are a text of the position's board, one of its side to move, and one of its hands
 pub record Spells (words : List (List ℕ)) (p : Shogi) : Type 0 where
   pub board : IsSomeAnd (slice_get words 0) (λ text. SpellsBoard text p.cells)
   pub side : IsSomeAnd (slice_get words 1) (λ text. text ≡ side_text p.side)

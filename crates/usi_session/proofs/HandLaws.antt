@@ -2,8 +2,8 @@
 use Rattle.std.proofs.Common.{◌≡◌, ◌≢◌, ℕ, zero, suc, ◌+◌, ◌-◌, ◌<◌, List, [], ◌++◌, refl, sym, ap, ◌∙◌, arith, append_assoc, append-nil}
 use Rattle.shogi_core.specs.Position.{Shogi}
 use Rattle.shogi_moves.specs.LegalMoves.{legal_moves}
-use Rattle.shogi_search.specs.Minimax.{pv_cost, cost}
-use Rattle.shogi_search.proofs.Lines.{pv_cost-above, cost-none, cost-suc}
+use Rattle.shogi_search.specs.Minimax.{pv_cost, deepening_cost}
+use Rattle.shogi_search.proofs.Lines.{pv_cost-above, deepening_cost-none, deepening_cost-suc}
 use Rattle.usi_lines.specs.declared.command.Hold.{Hold}
 use Rattle.usi_lines.specs.declared.command.Hold.TheVariants.{Nothing, UntilStop, UntilHit}
 use Rattle.usi_session.specs.declared.state.State.{State}
@@ -59,11 +59,11 @@ costs_on-more : (p : Shogi) (told depth : ℕ) → told < depth → costs_on p t
 costs_on-more p told depth h =
     let n : depth - told ≡ suc (depth - (told + 1)) = omega arith in rw n (costs_on-suc p told (depth - (told + 1)))
 
-costs_on-from : (p : Shogi) (more told : ℕ) → cost p (told + more) ≡ cost p told + costs_on p told more
+costs_on-from : (p : Shogi) (more told : ℕ) → deepening_cost p (told + more) ≡ deepening_cost p told + costs_on p told more
 costs_on-from p zero told = let n : told + 0 ≡ told = omega arith in rw (n, costs_on-start p told) (omega arith)
 costs_on-from p (suc more) told =
     let n : told + suc more ≡ (told + 1) + more = omega arith in
-    let m : cost p (told + 1) ≡ cost p told + pv_cost p (told + 1) = (let k : told + 1 ≡ suc told = omega arith in rw k (cost-suc p told)) in
+    let m : deepening_cost p (told + 1) ≡ deepening_cost p told + pv_cost p (told + 1) = (let k : told + 1 ≡ suc told = omega arith in rw k (deepening_cost-suc p told)) in
     rw (n, costs_on-suc p told more, costs_on-from p more (told + 1), m) (omega arith)
 
 -- a depth whose first search has made no step costs it and the depths above it
@@ -72,12 +72,12 @@ load_at_depth p depth hold told h =
     omega (arith, costs_on-more p told depth h, pv_cost-above p (told + 1) (omega arith))
 
 -- the first depth costs what all depths cost
-pub load_at_first : (p : Shogi) (depth : ℕ) (hold : Hold) → 0 < depth → load_of (at_depth p depth hold 0) ≡ cost p depth
+pub load_at_first : (p : Shogi) (depth : ℕ) (hold : Hold) → 0 < depth → load_of (at_depth p depth hold 0) ≡ deepening_cost p depth
 load_at_first p depth hold h =
     let n : depth - 0 ≡ depth = omega arith in
     let m : 0 + depth ≡ depth = omega arith in
-    let whole : cost p (0 + depth) ≡ cost p 0 + costs_on p 0 depth = costs_on-from p depth 0 in
-    load_at_depth p depth hold 0 h ∙ ap (costs_on p 0) n ∙ sym (ap (cost p) (sym m) ∙ whole ∙ omega (arith, cost-none p))
+    let whole : deepening_cost p (0 + depth) ≡ deepening_cost p 0 + costs_on p 0 depth = costs_on-from p depth 0 in
+    load_at_depth p depth hold 0 h ∙ ap (costs_on p 0) n ∙ sym (ap (deepening_cost p) (sym m) ∙ whole ∙ omega (arith, deepening_cost-none p))
 
 -- what is said before the bestmove, and then the bestmove
 pub write_or_hold-bytes : (s : State) (infos : List ℕ) (held : HeldBestmove) (hold : Hold) → (write_or_hold s infos held hold).bytes ≡ infos ++ (write_or_hold s [] held hold).bytes

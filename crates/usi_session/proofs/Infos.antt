@@ -4,8 +4,8 @@ use Rattle.std.specs.Prelude.{is_some, false}
 use Rattle.shogi_core.specs.declared.moves.Move.{Move}
 use Rattle.shogi_core.specs.Position.{Shogi}
 use Rattle.shogi_moves.specs.LegalMoves.{legal_moves}
-use Rattle.shogi_search.specs.Minimax.{best, line}
-use Rattle.shogi_search.proofs.Lines.{line-none}
+use Rattle.shogi_search.specs.Minimax.{best, pv}
+use Rattle.shogi_search.proofs.Lines.{pv-none}
 use Rattle.shogi_search.proofs.Best.{none_iff}
 use Rattle.usi_session.specs.Texts.{info_line}
 use Rattle.usi_session.specs.GoCommand.{info_lines, infos, infos_of}
@@ -41,5 +41,5 @@ none_is None e = refl
 none_is (Some m) e = absurd (cc)
 
 -- where no move is legal the pv is empty
-pub line-empty : (p : Shogi) (depth : ℕ) → 0 < depth → legal_moves p ≡ [] → line p depth ≡ []
-line-empty p depth h e = line-none p depth h (none_is (best p depth) ((none_iff p depth (best p depth) refl).1 (inr e)))
+pub pv-empty : (p : Shogi) (depth : ℕ) → 0 < depth → legal_moves p ≡ [] → pv p depth ≡ []
+pv-empty p depth h e = pv-none p depth h (none_is (best p depth) ((none_iff p depth (best p depth) refl).1 (inr e)))

@@ -3,30 +3,30 @@ use Rattle.std.proofs.Common.{◌≡◌, ℕ, ◌+◌, ◌-◌, ◌*◌, ◌<◌
 use Rattle.shogi_core.specs.declared.moves.Move.{Move}
 use Rattle.shogi_core.specs.Position.{Shogi}
 use Rattle.shogi_moves.specs.After.{after}
-use Rattle.shogi_search.specs.Minimax.{value, best, line, tree_size, pv_cost, then_pv_cost}
-use Rattle.shogi_search.proofs.Lines.{line-leaf, line-none, line-some, pv_cost-above}
+use Rattle.shogi_search.specs.Minimax.{value, best, pv, tree_size, pv_cost, then_pv_cost}
+use Rattle.shogi_search.proofs.Lines.{pv-leaf, pv-none, pv-some, pv_cost-above}
 use Rattle.shogi_search.proofs.MinimaxLaws.{best-leaf}
 use Rattle.usi_session.specs.Texts.{info_line, info_text}
 use Rattle.usi_session.specs.InHand.{InHand, at_depth, load_of, lines_on}
 use Rattle.usi_session.proofs.HandLaws.{lines_on-more, load_at_depth}
 
 -- there is no best move: the pv ends
-pub walked_none : (moves all : List Move) (at : Shogi) (plies : ℕ) (b : Option Move) → 0 < plies → b ≡ best at plies → b ≡ None → moves ++ line at plies ≡ all → moves ++ line at 0 ≡ all
+pub walked_none : (moves all : List Move) (at : Shogi) (plies : ℕ) (b : Option Move) → 0 < plies → b ≡ best at plies → b ≡ None → moves ++ pv at plies ≡ all → moves ++ pv at 0 ≡ all
 walked_none moves all at plies b h e n w =
-    ap (λ xs. moves ++ xs) (line-leaf at ∙ sym (line-none at plies h (sym e ∙ n))) ∙ w
+    ap (λ xs. moves ++ xs) (pv-leaf at ∙ sym (pv-none at plies h (sym e ∙ n))) ∙ w
 
 -- one move on
-pub walked_some : (moves more all : List Move) (at next : Shogi) (plies : ℕ) (m : Move) (b : Option Move) → 0 < plies → b ≡ best at plies → b ≡ Some m → more ≡ moves ++ m ∷ [] → next ≡ after at m → moves ++ line at plies ≡ all → more ++ line next (plies - 1) ≡ all
+pub walked_some : (moves more all : List Move) (at next : Shogi) (plies : ℕ) (m : Move) (b : Option Move) → 0 < plies → b ≡ best at plies → b ≡ Some m → more ≡ moves ++ m ∷ [] → next ≡ after at m → moves ++ pv at plies ≡ all → more ++ pv next (plies - 1) ≡ all
 walked_some moves more all at next plies m b h e n f g w =
-    ap (λ xs. xs ++ line next (plies - 1)) f
-    ∙ (append_assoc moves (m ∷ []) (line next (plies - 1))
-    ∙ (ap (λ q. moves ++ m ∷ line q (plies - 1)) g
-    ∙ (ap (λ xs. moves ++ xs) (sym (line-some at plies m h (sym e ∙ n))) ∙ w)))
+    ap (λ xs. xs ++ pv next (plies - 1)) f
+    ∙ (append_assoc moves (m ∷ []) (pv next (plies - 1))
+    ∙ (ap (λ q. moves ++ m ∷ pv q (plies - 1)) g
+    ∙ (ap (λ xs. moves ++ xs) (sym (pv-some at plies m h (sym e ∙ n))) ∙ w)))
 
 -- the pv is whole
-pub walked_all : (moves all : List Move) (at : Shogi) (plies : ℕ) → plies ≡ 0 → moves ++ line at plies ≡ all → moves ≡ all
+pub walked_all : (moves all : List Move) (at : Shogi) (plies : ℕ) → plies ≡ 0 → moves ++ pv at plies ≡ all → moves ≡ all
 walked_all moves all at plies e w =
-    sym (append-nil moves) ∙ (ap (λ xs. moves ++ xs) (sym (ap (line at) e ∙ line-leaf at)) ∙ w)
+    sym (append-nil moves) ∙ (ap (λ xs. moves ++ xs) (sym (ap (pv at) e ∙ pv-leaf at)) ∙ w)
 
 -- no search follows a whole line
 pub load_ends : (next : Shogi) (plies rest left more : ℕ) → plies ≡ 0 → left ≡ 0 → left + (then_pv_cost (λ q. pv_cost q (plies - 1)) next (best next plies) + rest) ≤ more + rest
@@ -40,11 +40,11 @@ load_goes_on at next plies rest left m b h e n g f =
     rw (s, ← g) (omega arith)
 
 -- what is written of a depth is its info line
-pub told_line : (p : Shogi) (told : ℕ) (old new : List ℕ) (v : ℤ) (moves : List Move) → v ≡ value p (told + 1) → moves ≡ line p (told + 1) → new ≡ old ++ info_text (told + 1) v moves → new ≡ old ++ info_line p (told + 1)
+pub told_line : (p : Shogi) (told : ℕ) (old new : List ℕ) (v : ℤ) (moves : List Move) → v ≡ value p (told + 1) → moves ≡ pv p (told + 1) → new ≡ old ++ info_text (told + 1) v moves → new ≡ old ++ info_line p (told + 1)
 told_line p told old new v moves e f g = rw (← e, ← f) g
 
 -- a depth that was told is a line more
-pub told_more : (p : Shogi) (told depth : ℕ) (old new : List ℕ) (v : ℤ) (moves : List Move) → told < depth → v ≡ value p (told + 1) → moves ≡ line p (told + 1) → new ≡ old ++ info_text (told + 1) v moves → new ++ lines_on p (told + 1) (depth - (told + 1)) ≡ old ++ lines_on p told (depth - told)
+pub told_more : (p : Shogi) (told depth : ℕ) (old new : List ℕ) (v : ℤ) (moves : List Move) → told < depth → v ≡ value p (told + 1) → moves ≡ pv p (told + 1) → new ≡ old ++ info_text (told + 1) v moves → new ++ lines_on p (told + 1) (depth - (told + 1)) ≡ old ++ lines_on p told (depth - told)
 told_more p told depth old new v moves h e f g =
     let whole : new ≡ old ++ info_line p (told + 1) = told_line p told old new v moves e f g in
     ap (λ xs. xs ++ lines_on p (told + 1) (depth - (told + 1))) whole

@@ -4,7 +4,7 @@ use Rattle.std.specs.Prelude.{codes, decimal, OnSome, unwrap_or}
 use Rattle.shogi_core.specs.Position.{Shogi}
 use Rattle.shogi_core.specs.declared.moves.Move.{Move}
 use Rattle.shogi_moves.specs.LegalMoves.{legal_moves}
-use Rattle.shogi_search.specs.Minimax.{value, line}
+use Rattle.shogi_search.specs.Minimax.{value, pv}
 use Rattle.shogi_sfen.specs.MoveTexts.{text_of}
 use Rattle.usi_lines.specs.Commands.{Command, Usi, IsReady, SetDepth, NewGame, Start, Sfen, BadPosition, Go, GoMate, Stop, PonderHit, GameOver, Quit, Other}
 use Rattle.usi_lines.specs.CommandLines.{command_of}
@@ -46,7 +46,7 @@ after xs {ys} e = record { ends = λ before. last_byte-then before xs ys ∙ e.e
 info_ends : (p : Shogi) (depth : ℕ) → EndsInLf (info_line p depth)
 info_ends p depth =
     after (codes "info depth " ++ (decimal depth ++ codes " score ")) (after (score_text depth (value p depth))
-    (after (codes " pv") (after (moves_text (line p depth)) lf)))
+    (after (codes " pv") (after (moves_text (pv p depth)) lf)))
 
 pub info_whole : (p : Shogi) (depth : ℕ) → AreWholeLines (info_line p depth)
 info_whole p depth = (info_ends p depth).ends LINE_FEED

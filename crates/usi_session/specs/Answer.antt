@@ -2,7 +2,7 @@
 use Rattle.std.specs.Prelude.{ℕ, List, [], ◌++◌, Option, Some, None, Result, Ok, Err, true, false, unwrap_or}
 use Rattle.shogi_core.specs.Position.{Shogi}
 use Rattle.shogi_core.specs.Start.{start}
-use Rattle.shogi_search.specs.Minimax.{line}
+use Rattle.shogi_search.specs.Minimax.{pv}
 use Rattle.usi_lines.specs.Commands.{Command, Usi, IsReady, SetDepth, NewGame, Start, Sfen, BadPosition, Go, GoMate, Stop, PonderHit, GameOver, Quit, Other}
 use Rattle.usi_lines.specs.declared.command.Hold.{Hold}
 use Rattle.usi_lines.specs.declared.command.Hold.TheVariants.{Nothing, UntilStop, UntilHit}
@@ -32,7 +32,7 @@ opening = record { position = start; options = default_options; held = None; is_
 abbrev pub without_bestmove : State → State
 without_bestmove s = record s { held = None }
 
--- `position`: the one that was reached is taken; after a refusal the state stays, and one line tells why
+-- `position`: the position that was reached is taken; after a refusal the state stays, and one line tells why
 abbrev pub answer_position : State → Result Shogi Refusal → Answer
 answer_position s (Ok p) = answer_with (record s { position = p }) []
 answer_position s (Err (refusals.BadPosition fault)) = answer_with s (bad_position fault)
@@ -40,7 +40,7 @@ answer_position s (Err (refusals.IllegalMove number)) = answer_with s (illegal_m
 
 -- the bestmove at a depth, and what it is held until
 abbrev pub bestmove_at : Shogi → ℕ → Hold → HeldBestmove
-bestmove_at p depth until = record { best = first (line p depth); ponder = second (line p depth); until = until }
+bestmove_at p depth until = record { best = first (pv p depth); ponder = second (pv p depth); until = until }
 
 -- the line of a held bestmove
 abbrev pub held_line : HeldBestmove → List ℕ
@@ -67,7 +67,7 @@ answer_ponderhit_held s held UntilHit = answer_with (without_bestmove s) (held_l
 answer_ponderhit_held s held UntilStop = answer_with s []
 answer_ponderhit_held s held Nothing = answer_with s []
 
--- `ponderhit`
+-- `ponderhit`: nothing where no bestmove is held
 abbrev pub answer_ponderhit : State → Option HeldBestmove → Answer
 answer_ponderhit s None = answer_with s []
 answer_ponderhit s (Some held) = answer_ponderhit_held s held held.until

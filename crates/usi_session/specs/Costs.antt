@@ -1,6 +1,6 @@
 -- The steps that the `go` lines among unread lines may cost.
 use Rattle.std.specs.Prelude.{ℕ, ◌+◌, List, [], ◌∷◌, unwrap_or, cond}
-use Rattle.shogi_search.specs.Minimax.{cost}
+use Rattle.shogi_search.specs.Minimax.{deepening_cost}
 use Rattle.usi_lines.specs.Commands.{Command, Go}
 use Rattle.usi_lines.specs.CommandLines.{command_of}
 use Rattle.usi_lines.specs.Lines.{Line, Text, TooLong}
@@ -9,7 +9,7 @@ use Rattle.usi_session.specs.Replies.{answer_line}
 
 -- a `go` costs the searches of its depth from the position where it stands; no other command costs a step
 abbrev pub cost_of_command : State → Command → ℕ
-cost_of_command s (Go depth hold) = cost s.position (unwrap_or depth s.options.depth)
+cost_of_command s (Go depth hold) = deepening_cost s.position (unwrap_or depth s.options.depth)
 cost_of_command s _ = 0
 
 abbrev pub cost_to : State → Line → ℕ

@@ -2,7 +2,7 @@
 use Rattle.std.specs.Prelude.{ℕ, ℤ, List, ◌≡◌, ◌+◌, ◌<◌, ◌≤◌, ◌++◌, length}
 use Rattle.shogi_core.specs.Position.{Shogi}
 use Rattle.shogi_core.specs.declared.moves.Move.{Move}
-use Rattle.shogi_search.specs.Minimax.{value, line}
+use Rattle.shogi_search.specs.Minimax.{value, pv}
 use Rattle.usi_lines.specs.declared.options.TheConstants.{DEPTH_MAX}
 use Rattle.shogi_search.specs.Progress.{Progress}
 
@@ -13,5 +13,5 @@ pub record IsWalked (root : Shogi) (depth told plies : ℕ) (at : Shogi) (found 
   pub within : length moves + plies ≤ told + 1
   pub at_start : told < plies → at ≡ root
   pub valued : plies ≤ told → found ≡ value root (told + 1)
-  pub walked : moves ++ line at plies ≡ line root (told + 1)
+  pub walked : moves ++ pv at plies ≡ pv root (told + 1)
   pub searched : 0 < plies → (search.root ≡ at) × (search.depth ≡ plies)

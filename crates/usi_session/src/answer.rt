@@ -10,7 +10,7 @@ ghost use Rattle.usi_session.specs.Answer.{answer, answer_position, answer_go, w
 ghost use Rattle.usi_session.specs.Costs.{cost_of_command, cost_to};
 ghost use Rattle.usi_session.specs.Replies.{answer_to};
 ghost use Rattle.usi_session.specs.InHand.{goes_on_if, with_rest, load_of_if, turns_of_if, most_turns};
-ghost use Rattle.shogi_search.specs.Minimax.{cost};
+ghost use Rattle.shogi_search.specs.Minimax.{deepening_cost};
 
 use crate::go_command::GoCommand;
 use crate::position_command::{Refusal, position_of_sfen, position_of_start};
@@ -73,7 +73,7 @@ fn answer_go<A: Allocator + Copy>(
     requires most { depth ≤ DEPTH_MAX }
     ensures bytes { IfOk result (λ in_hand. with_rest out.new.items state.new in_hand ≡ out.old.items ++ (answer_go state.old depth hold).bytes) }
     ensures state { IfOk result (λ in_hand. (goes_on_if state.new in_hand).state ≡ (answer_go state.old depth hold).state) }
-    ensures load { IfOk result (λ in_hand. load_of_if in_hand ≤ cost state.old.position depth) }
+    ensures load { IfOk result (λ in_hand. load_of_if in_hand ≤ deepening_cost state.old.position depth) }
     ensures turns { IfOk result (λ in_hand. turns_of_if in_hand ≤ most_turns) }
     ensures quiet { IfOk result (λ in_hand. OnSome in_hand (out.new.items ≡ out.old.items)) }
     ensures options { OnOk result (state.new.options ≡ state.old.options) }

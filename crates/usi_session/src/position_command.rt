@@ -6,7 +6,7 @@ ghost use Rattle.shogi_sfen.specs.MoveTexts.{move_of_text};
 ghost use Rattle.usi_session.specs.PositionCommand.{after_legal, after_moves, after_words, position_of_start, position_of_sfen};
 
 use shogi_core::Position;
-use shogi_moves::{apply, is_legal};
+use shogi_moves::play;
 use shogi_sfen::{read_move, read_position, words};
 
 /// Why a `position` line leaves the position as it was.
@@ -23,13 +23,7 @@ pub enum Refusal {
 fn after_legal(p: &Position, word: &[u8]) -> Option<Position>
     ensures { result ≡ after_legal p.now (move_of_text word.now) }
 {
-    let m = read_move(word)?;
-    let again = m;
-    if is_legal(p, again) {
-        Some(apply(p, m))
-    } else {
-        None
-    }
+    play(p, read_move(word)?)
 }
 
 /// The position after the words of the text, each a legal move where it stands.

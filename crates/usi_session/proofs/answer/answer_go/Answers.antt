@@ -1,6 +1,6 @@
 use Rattle.std.proofs.Common.{◌≡◌, [], arith, rules, refl}
 use Rattle.shogi_moves.specs.LegalMoves.{legal_moves}
-use Rattle.usi_session.proofs.Infos.{is_empty, infos-none, line-empty}
+use Rattle.usi_session.proofs.Infos.{is_empty, infos-none, pv-empty}
 use Rattle.usi_session.proofs.HandLaws.{lines_on-all, load_at_first}
 use Rattle.usi_session.proofs.answer.answer_go.Goals as goal
 
@@ -17,9 +17,9 @@ returns-then-has_legal-clause-load g c =
 pub returns-clause-bytes : goal.returns-clause-bytes
 returns-clause-bytes g c =
     let none : legal_moves c.args.state.now.position ≡ [] = is_empty _ (λ some. search rules) in
-    rw (infos-none c.args.state.now.position c.args.depth none, line-empty c.args.state.now.position c.args.depth (omega arith) none) c.in_ok-write_or_hold.ensures.bytes
+    rw (infos-none c.args.state.now.position c.args.depth none, pv-empty c.args.state.now.position c.args.depth (omega arith) none) c.in_ok-write_or_hold.ensures.bytes
 
 pub returns-clause-state : goal.returns-clause-state
 returns-clause-state g c =
     let none : legal_moves c.args.state.now.position ≡ [] = is_empty _ (λ some. search rules) in
-    rw (infos-none c.args.state.now.position c.args.depth none, line-empty c.args.state.now.position c.args.depth (omega arith) none) c.in_ok-write_or_hold.ensures.state
+    rw (infos-none c.args.state.now.position c.args.depth none, pv-empty c.args.state.now.position c.args.depth (omega arith) none) c.in_ok-write_or_hold.ensures.state
