@@ -7,7 +7,7 @@ use shared_table::SharedTable;
 use shogi_core::{Color, Move, Piece, Position, Role};
 use shogi_moves::is_legal;
 use shogi_sfen::read_position;
-use socket_loop::{Loop, MemoryWire};
+use socket_loop::{Loop, MemoryWire, WireFault};
 use std::hash::{BuildHasherDefault, FoldHasher};
 use std::test::Fail;
 
@@ -122,6 +122,17 @@ fn a_connection_in_memory(rt: HostRuntime) -> Result<(), Fail> {
     let mut turns = Loop::new(rt.alloc(), 1000);
     assert!(rt; turn_until_still(&mut turns, &mut host, &mut wire, 100));
     assert_eq!(rt; wire.written(number), b"readyok\n".as_slice());
+    Ok(())
+}
+
+#[test]
+fn a_path_without_a_name(rt: HostRuntime) -> Result<(), Fail> {
+    let hasher = BuildHasherDefault::<FoldHasher>::new();
+    let mut host = Host::new(rt.alloc(), 1, 100, hasher)?;
+    assert_eq!(rt;
+        serve_at(&rt, rt.alloc(), &mut host, "", 1),
+        Err(WireFault::Device)
+    );
     Ok(())
 }
 
