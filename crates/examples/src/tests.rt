@@ -116,9 +116,9 @@ fn a_connection_in_memory(rt: HostRuntime) -> Result<(), Fail> {
     let mut wire = MemoryWire::new(rt.alloc());
     let mut bytes = Vec::new(rt.alloc());
     bytes.extend_from_slice(b"isready\n")?;
-    let mut pieces = Vec::new(rt.alloc());
-    pieces.push(bytes)?;
-    let number = wire.connect(pieces)?;
+    let mut chunks = Vec::new(rt.alloc());
+    chunks.push(bytes)?;
+    let number = wire.connect(chunks)?;
     let mut turns = Loop::new(rt.alloc(), 1000);
     assert!(rt; turn_until_still(&mut turns, &mut host, &mut wire, 100));
     assert_eq!(rt; wire.written(number), b"readyok\n".as_slice());

@@ -48,13 +48,13 @@ impl<'a> Scene<'a> {
         })
     }
 
-    /// A new peer that asks for a search to depth 1, in two pieces.
+    /// A new peer that asks for a search to depth 1, in two chunks.
     fn connect(&mut self) -> Result<u64, Fail> {
-        let mut pieces = Vec::new(self.alloc);
-        for piece in [b"go de".as_slice(), b"pth 1\nquit\n"] {
-            pieces.push(Vec::from_slice(self.alloc, piece)?)?;
+        let mut chunks = Vec::new(self.alloc);
+        for chunk in [b"go de".as_slice(), b"pth 1\nquit\n"] {
+            chunks.push(Vec::from_slice(self.alloc, chunk)?)?;
         }
-        Ok(self.wire.connect(pieces).map_err(|_| "memory for a peer")?)
+        Ok(self.wire.connect(chunks).map_err(|_| "memory for a peer")?)
     }
 
     fn turn_times(&mut self, count: usize) {
@@ -65,11 +65,11 @@ impl<'a> Scene<'a> {
 
     /// Whether the connection was written its whole answer; else it was written a front of it. It is shut.
     fn is_served(&self, rt: &impl Abort, number: u64) -> bool {
-        let Some(peer) = self.wire.peers.get(number as usize) else {
+        if !self.wire.is_known(number) {
             return false;
-        };
-        assert!(rt; peer.is_shut);
-        let written = peer.written.as_slice();
+        }
+        assert!(rt; self.wire.is_shut(number));
+        let written = self.wire.written(number);
         assert!(rt; INFO_AND_BEST_ONE.as_bytes().starts_with(written));
         written == INFO_AND_BEST_ONE.as_bytes()
     }
