@@ -43,24 +43,24 @@ moves-preserved t c =
 
 pub returns-in-Some-best-clause-value : goal.returns-in-Some-best-clause-value
 returns-in-Some-best-clause-value t c =
-    let r : IsFound c.args.p.now c.args.depth _ (Some c.in-Some-best.m) = found_best _ _ _ _ _ _ _ (omega arith) c.next_legal.ensures.rising c.validity-in-Some.ensures.back c.in_default.ensures.next c.in-Some-best.is c.moves.invariant.covered in
+    let r : IsFound c.args.p.now c.args.depth _ (Some c.in-Some-best.m) = found_best _ _ _ _ _ _ _ (omega arith) c.next_legal.ensures.rising c.validity-in-Some-best.ensures.back c.in_default.ensures.next c.in-Some-best.is c.moves.invariant.covered in
     sym r.value_is
 
 pub returns-in-Some-best-clause-least : goal.returns-in-Some-best-clause-least
 returns-in-Some-best-clause-least t c =
-    let r : IsFound c.args.p.now c.args.depth _ (Some c.in-Some-best.m) = found_best _ _ _ _ _ _ _ (omega arith) c.next_legal.ensures.rising c.validity-in-Some.ensures.back c.in_default.ensures.next c.in-Some-best.is c.moves.invariant.covered in
+    let r : IsFound c.args.p.now c.args.depth _ (Some c.in-Some-best.m) = found_best _ _ _ _ _ _ _ (omega arith) c.next_legal.ensures.rising c.validity-in-Some-best.ensures.back c.in_default.ensures.next c.in-Some-best.is c.moves.invariant.covered in
     let w : Within c.args.depth (value c.args.p.now c.args.depth) = value_within c.args.depth c.args.p.now c.validity.ensures in
     omega (arith, ints, r.value_is)
 
 pub returns-in-Some-best-clause-most : goal.returns-in-Some-best-clause-most
 returns-in-Some-best-clause-most t c =
-    let r : IsFound c.args.p.now c.args.depth _ (Some c.in-Some-best.m) = found_best _ _ _ _ _ _ _ (omega arith) c.next_legal.ensures.rising c.validity-in-Some.ensures.back c.in_default.ensures.next c.in-Some-best.is c.moves.invariant.covered in
+    let r : IsFound c.args.p.now c.args.depth _ (Some c.in-Some-best.m) = found_best _ _ _ _ _ _ _ (omega arith) c.next_legal.ensures.rising c.validity-in-Some-best.ensures.back c.in_default.ensures.next c.in-Some-best.is c.moves.invariant.covered in
     let w : Within c.args.depth (value c.args.p.now c.args.depth) = value_within c.args.depth c.args.p.now c.validity.ensures in
     omega (arith, ints, r.value_is)
 
 pub returns-in-Some-best-clause-best : goal.returns-in-Some-best-clause-best
 returns-in-Some-best-clause-best t c =
-    let r : IsFound c.args.p.now c.args.depth _ (Some c.in-Some-best.m) = found_best _ _ _ _ _ _ _ (omega arith) c.next_legal.ensures.rising c.validity-in-Some.ensures.back c.in_default.ensures.next c.in-Some-best.is c.moves.invariant.covered in
+    let r : IsFound c.args.p.now c.args.depth _ (Some c.in-Some-best.m) = found_best _ _ _ _ _ _ _ (omega arith) c.next_legal.ensures.rising c.validity-in-Some-best.ensures.back c.in_default.ensures.next c.in-Some-best.is c.moves.invariant.covered in
     c.in-Some-best.is ∙ sym r.best_is
 
 pub returns-in-None-clause-value : goal.returns-in-None-clause-value
