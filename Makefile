@@ -34,10 +34,11 @@ test:
 	@check/gate.sh
 
 # Prints how fast moves are counted, positions searched, and `go` answered by the program, alone and as a
-# host on a socket.
+# host on a socket. Writes docs/BENCHMARKS.md with its plots.
 bench:
 	bench/run.sh
 	bench/go.sh
+	bench/curves.py
 	bench/serve.py
 
 # Takes away what was built and the proofs that were kept.
