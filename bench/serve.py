@@ -15,10 +15,19 @@ import sys
 import tempfile
 import time
 
-TOP = os.path.dirname(os.path.dirname(os.path.abspath(__file__)))
+from report import TOP, plot, put
+
 PROGRAM = os.path.join(TOP, "crates", "usi_host", "out", "usi_host")
 FAIRY = shutil.which("fairy-stockfish", path=os.environ.get("PATH", "") + ":/usr/games")
 PATIENCE = 300
+
+# What was printed, for docs/BENCHMARKS.md.
+PRINTED = []
+
+
+def tell(text=""):
+    print(text, flush=True)
+    PRINTED.append(text)
 
 
 def memory(pids):
@@ -90,7 +99,7 @@ def answered(ends, ask, last=b"bestmove", times=1):
 
 def row(name, took, firsts, megabytes):
     middle = statistics.median(firsts) * 1000
-    print(f"{name:<34}{took * 1000:>9.0f}{middle:>11.1f}{max(firsts) * 1000:>11.1f}{megabytes:>9.1f}")
+    tell(f"{name:<34}{took * 1000:>9.0f}{middle:>11.1f}{max(firsts) * 1000:>11.1f}{megabytes:>9.1f}")
 
 
 def clients_of_one_host(count):
@@ -100,7 +109,8 @@ def clients_of_one_host(count):
             time.sleep(0.2)
             ends = [(client.fileno(), client.fileno()) for client in clients]
             took, firsts = answered(ends, b"go depth 3\n")
-            row(f"one host, {count} clients", took, firsts, memory([pid]))
+            row(f"one host, {count:,} clients", took, firsts, memory([pid]))
+            return took * 1000
 
 
 def processes(count, name, words, before=b"", ready=None):
@@ -113,6 +123,7 @@ def processes(count, name, words, before=b"", ready=None):
         answered(ends, before + b"isready\n", last=ready or b"readyok")
         took, firsts = answered(ends, b"go depth 3\n")
         row(f"{count} processes of {name}", took, firsts, memory([one.pid for one in running]))
+        return took * 1000
     finally:
         for one in running:
             one.kill()
@@ -120,21 +131,33 @@ def processes(count, name, words, before=b"", ready=None):
 
 
 def table_of_one_question():
-    print("`go depth 3` from the opening position, asked by all at once")
-    print(f"{'':<34}{'all, ms':>9}{'first, ms':>11}{'worst, ms':>11}{'MB':>9}")
-    for count in (64, 1_024):
-        clients_of_one_host(count)
-    processes(64, "this program", [PROGRAM], before=b"usi\n")
+    tell("`go depth 3` from the opening position, asked by all at once")
+    tell(f"{'':<34}{'all, ms':>9}{'first, ms':>11}{'worst, ms':>11}{'MB':>9}")
+    curves = {"one host": [(count, clients_of_one_host(count)) for count in (1, 4, 16, 64, 256, 1_024)]}
+    few = (1, 4, 16, 64)
+    curves["processes"] = [
+        (count, processes(count, "this program", [PROGRAM], before=b"usi\n")) for count in few
+    ]
     if FAIRY:
         before = b"uci\nsetoption name UCI_Variant value shogi\nposition startpos\n"
-        processes(64, "fairy-stockfish", [FAIRY], before=before)
-    print()
+        curves["fairy-stockfish"] = [
+            (count, processes(count, "fairy-stockfish", [FAIRY], before=before)) for count in few
+        ]
+    plot(
+        "clients",
+        "Until all have their answer to `go depth 3`",
+        ("clients", True),
+        "milliseconds",
+        curves,
+        (1, 4, 16, 64, 256, 1_024),
+    )
+    tell()
 
 
 def busy_clients():
     """A table of one entry helps nobody, so that each search makes the same steps."""
-    print("searches at depth 3, by a host with a table of one entry")
-    print(f"{'busy clients':<14}{'searches':>10}{'a second':>10}{'processor ms each':>19}")
+    tell("searches at depth 3, by a host with a table of one entry")
+    tell(f"{'busy clients':<14}{'searches':>10}{'a second':>10}{'processor ms each':>19}")
     for count, each in ((1, 256), (64, 8), (1_024, 1)):
         with host("--slots", "1024", "--entries", "1") as (path, pid):
             with contextlib.ExitStack() as stack:
@@ -145,14 +168,14 @@ def busy_clients():
                 took, _ = answered(ends, b"go depth 3\n" * each, times=each)
                 used = seconds(pid) - before
                 made = count * each
-                print(f"{count:<14}{made:>10}{made / took:>10.1f}{used / made * 1000:>19.2f}")
-    print()
+                tell(f"{count:<14}{made:>10}{made / took:>10.1f}{used / made * 1000:>19.2f}")
+    tell()
 
 
 def idle_clients():
     """Hosts with and without idle clients are asked by turns, since the machine may do other work too."""
-    print("processor ms of one client's `go depth 4`, with a table of one entry, beside idle clients")
-    print(f"{'idle clients':<14}{'least of 25':>14}{'median of 25':>14}")
+    tell("processor ms of one client's `go depth 4`, with a table of one entry, beside idle clients")
+    tell(f"{'idle clients':<14}{'least of 25':>14}{'median of 25':>14}")
     with contextlib.ExitStack() as stack:
         asked = []
         for count in (0, 1_023):
@@ -167,13 +190,13 @@ def idle_clients():
                 answered([(client, client)], b"go depth 4\n")
                 times.append((seconds(pid) - before) * 1000)
         for count, _, _, times in asked:
-            print(f"{count:<14}{min(times):>14.1f}{statistics.median(times):>14.1f}")
-    print()
+            tell(f"{count:<14}{min(times):>14.1f}{statistics.median(times):>14.1f}")
+    tell()
 
 
 def a_busy_host():
-    print("what a client of a busy host waits for the first byte of `usi`, in ms")
-    print(f"{'busy clients':<14}{'median of 64':>14}{'worst of 64':>14}")
+    tell("what a client of a busy host waits for the first byte of `usi`, in ms")
+    tell(f"{'busy clients':<14}{'median of 64':>14}{'worst of 64':>14}")
     for count in (0, 1, 64):
         with host("--slots", "1024") as (path, _), contextlib.ExitStack() as stack:
             for _ in range(count):
@@ -187,24 +210,24 @@ def a_busy_host():
                     client.sendall(b"usi\n")
                     client.recv(1)
                     waits.append((time.monotonic() - began) * 1000)
-            print(f"{count:<14}{statistics.median(waits):>14.2f}{max(waits):>14.2f}")
-    print()
+            tell(f"{count:<14}{statistics.median(waits):>14.2f}{max(waits):>14.2f}")
+    tell()
 
 
 def what_a_session_costs():
-    print("memory of a host with a table of 4,096 entries, in MB")
+    tell("memory of a host with a table of 4,096 entries, in MB")
     with host("--slots", "1024") as (path, pid), contextlib.ExitStack() as stack:
-        print(f"{'no client':<34}{memory([pid]):>9.1f}")
+        tell(f"{'no client':<34}{memory([pid]):>9.1f}")
         clients = [stack.enter_context(connect(path)) for _ in range(1_024)]
         time.sleep(0.3)
-        print(f"{'1,024 idle clients':<34}{memory([pid]):>9.1f}")
+        tell(f"{'1,024 idle clients':<34}{memory([pid]):>9.1f}")
         for client in clients:
             client.sendall(b"go depth 5\n")
         time.sleep(2)
-        print(f"{'1,024 clients that search':<34}{memory([pid]):>9.1f}")
+        tell(f"{'1,024 clients that search':<34}{memory([pid]):>9.1f}")
     with host("--entries", "1000000") as (path, pid):
-        print(f"{'no client, 1,000,000 entries':<34}{memory([pid]):>9.1f}")
-    print()
+        tell(f"{'no client, 1,000,000 entries':<34}{memory([pid]):>9.1f}")
+    tell()
 
 
 def main():
@@ -218,6 +241,7 @@ def main():
     idle_clients()
     a_busy_host()
     what_a_session_costs()
+    put("clients", "```text\n" + "\n".join(PRINTED).strip() + "\n```")
 
 
 if __name__ == "__main__":
