@@ -11,37 +11,14 @@ import sys
 import tempfile
 import time
 
-TOP = os.path.dirname(os.path.dirname(os.path.abspath(__file__)))
-PROGRAM = os.path.join(TOP, "crates", "usi_host", "out", "usi_host")
+from checks import DEPTH_ONE, DEPTH_THREE, PROGRAM, TOP, USI, Wrong, run_all, want
 
 # The longest that a run may take, in seconds.
 PATIENCE = 60
 
-USI = (
-    b"id name Shared Shogi Host\n"
-    b"id author Shared Shogi Host Team\n"
-    b"option name Depth type spin default 3 min 1 max 16\n"
-    b"usiok\n"
-)
 NOT_UTF_8 = (
     b"error: a word of the command line is not UTF-8; for more information, try '--help'.\n"
 )
-DEPTH_ONE = b"info depth 1 score cp 0 pv 1g1f\n"
-DEPTH_THREE = (
-    DEPTH_ONE
-    + b"info depth 2 score cp 0 pv 1g1f 1a1b\n"
-    + b"info depth 3 score cp 200 pv 7g7f 4c4d 8h4d\n"
-    + b"bestmove 7g7f ponder 4c4d\n"
-)
-
-
-class Wrong(Exception):
-    """What was seen is not what was wanted."""
-
-
-def want(seen, wanted, what):
-    if seen != wanted:
-        raise Wrong(f"{what}: {seen!r}, wanted {wanted!r}")
 
 
 def run(words, sent=b"", **how):
@@ -344,22 +321,5 @@ CHECKS = (
 )
 
 
-def main():
-    global PROGRAM
-    if len(sys.argv) > 1:
-        PROGRAM = os.path.abspath(sys.argv[1])
-    failed = 0
-    for check in CHECKS:
-        try:
-            check()
-            verdict = "ok"
-        except (Wrong, OSError, subprocess.SubprocessError) as why:
-            failed += 1
-            verdict = f"FAILED: {why}"
-        print(f"program {check.__name__} ... {verdict}", flush=True)
-    print(f"{len(CHECKS) - failed} passed, {failed} failed")
-    return 1 if failed else 0
-
-
 if __name__ == "__main__":
-    sys.exit(main())
+    sys.exit(run_all("program", CHECKS))

@@ -18,38 +18,15 @@ import sys
 import tempfile
 import time
 
-TOP = os.path.dirname(os.path.dirname(os.path.abspath(__file__)))
-PROGRAM = os.path.join(TOP, "crates", "usi_host", "out", "usi_host")
+from checks import DEPTH_ONE, DEPTH_THREE, PROGRAM, USI, Wrong, run_all, want
 
 # The longest that one step may take, in seconds.
 PATIENCE = 40
 
-USI = (
-    b"id name Shared Shogi Host\n"
-    b"id author Shared Shogi Host Team\n"
-    b"option name Depth type spin default 3 min 1 max 16\n"
-    b"usiok\n"
-)
-DEPTH_ONE = b"info depth 1 score cp 0 pv 1g1f\n"
 GO_DEPTH_ONE = DEPTH_ONE + b"bestmove 1g1f\n"
-GO = (
-    DEPTH_ONE
-    + b"info depth 2 score cp 0 pv 1g1f 1a1b\n"
-    + b"info depth 3 score cp 200 pv 7g7f 4c4d 8h4d\n"
-    + b"bestmove 7g7f ponder 4c4d\n"
-)
 HOST_FULL = b"info string host full\n"
 TOO_LONG = b"info string line too long\n"
 SOCKET_FAILED = b"usi_host: socket failed\n"
-
-
-class Wrong(Exception):
-    """What was seen is not what was wanted."""
-
-
-def want(seen, wanted, what):
-    if seen != wanted:
-        raise Wrong(f"{what}: {seen!r}, wanted {wanted!r}")
 
 
 def wait_until(test, what):
@@ -291,7 +268,7 @@ def an_end_after_go_loses_no_answer():
             client.shutdown(socket.SHUT_WR)
             clients.append(client)
         for client in clients:
-            want(to_the_end(client), GO, "a client that ended its side")
+            want(to_the_end(client), DEPTH_THREE, "a client that ended its side")
         want(running.ask(b""), b"", "a client that sends nothing")
 
 
@@ -384,7 +361,7 @@ HOSTILE = (
 
 def is_at_rest(running, descriptors):
     wait_until(lambda: running.descriptors() == descriptors, "each descriptor is closed")
-    want(running.ask(b"go\n"), GO, "a client afterwards")
+    want(running.ask(b"go\n"), DEPTH_THREE, "a client afterwards")
     wait_until(lambda: running.descriptors() == descriptors, "the last descriptor is closed")
 
 
@@ -449,7 +426,7 @@ def too_many_open_files_are_waited_for():
             clients[0] = client
             want(exactly(client, 8), b"readyok\n", "a client that waited")
         clients[0].close()
-        want(running.ask(b"go\n"), GO, "a client afterwards")
+        want(running.ask(b"go\n"), DEPTH_THREE, "a client afterwards")
 
 
 def signals_are_no_fault():
@@ -581,24 +558,5 @@ CHECKS = (
 )
 
 
-def main():
-    global PROGRAM
-    if len(sys.argv) > 1:
-        PROGRAM = os.path.abspath(sys.argv[1])
-    failed = 0
-    for check in CHECKS:
-        began = time.monotonic()
-        try:
-            check()
-            verdict = "ok"
-        except (Wrong, OSError, subprocess.SubprocessError) as why:
-            failed += 1
-            verdict = f"FAILED: {type(why).__name__}: {why}"[:2_000]
-        took = time.monotonic() - began
-        print(f"serve {check.__name__} ... {verdict} ({took:.1f} s)", flush=True)
-    print(f"{len(CHECKS) - failed} passed, {failed} failed")
-    return 1 if failed else 0
-
-
 if __name__ == "__main__":
-    sys.exit(main())
+    sys.exit(run_all("serve", CHECKS))

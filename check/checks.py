@@ -1,0 +1,55 @@
+"""What the scripts share that run the built program: where it is, what it replies, and how checks are run
+and counted."""
+
+import os
+import subprocess
+import sys
+import time
+
+TOP = os.path.dirname(os.path.dirname(os.path.abspath(__file__)))
+
+# The first word of a script is the program; without it, it is the one that `make build` makes.
+PROGRAM = os.path.abspath(
+    sys.argv[1] if len(sys.argv) > 1 else os.path.join(TOP, "crates", "usi_host", "out", "usi_host")
+)
+
+USI = (
+    b"id name Shared Shogi Host\n"
+    b"id author Shared Shogi Host Team\n"
+    b"option name Depth type spin default 3 min 1 max 16\n"
+    b"usiok\n"
+)
+DEPTH_ONE = b"info depth 1 score cp 0 pv 1g1f\n"
+DEPTH_THREE = (
+    DEPTH_ONE
+    + b"info depth 2 score cp 0 pv 1g1f 1a1b\n"
+    + b"info depth 3 score cp 200 pv 7g7f 4c4d 8h4d\n"
+    + b"bestmove 7g7f ponder 4c4d\n"
+)
+
+
+class Wrong(Exception):
+    """What was seen is not what was wanted."""
+
+
+def want(seen, wanted, what):
+    if seen != wanted:
+        raise Wrong(f"{what}: {seen!r}, wanted {wanted!r}")
+
+
+def run_all(name, checks):
+    """Runs the checks, tells how each one ended and how long it took, and then counts them. Gives the
+    status of the script."""
+    failed = 0
+    for check in checks:
+        began = time.monotonic()
+        try:
+            check()
+            verdict = "ok"
+        except (Wrong, OSError, subprocess.SubprocessError) as why:
+            failed += 1
+            verdict = f"FAILED: {type(why).__name__}: {why}"[:2_000]
+        took = time.monotonic() - began
+        print(f"{name} {check.__name__} ... {verdict} ({took:.1f} s)", flush=True)
+    print(f"{len(checks) - failed} passed, {failed} failed")
+    return 1 if failed else 0
