@@ -59,19 +59,21 @@ fn a_session_over_a_socket(rt: HostRuntime) -> Result<(), Fail> {
 fn two_peers_in_memory(rt: HostRuntime) -> Result<(), Fail> {
     let alloc = rt.alloc();
     let mut wire = MemoryWire::new(alloc);
-    let mut pieces = Vec::new(alloc);
-    pieces.push(Vec::from_slice(alloc, b"go de")?)?;
-    pieces.push(Vec::from_slice(alloc, b"pth 1\nquit\n")?)?;
-    let x = wire.connect(pieces).map_err(|_| "memory for a peer")?;
+    let mut chunks = Vec::new(alloc);
+    chunks.push(Vec::from_slice(alloc, b"go de")?)?;
+    chunks.push(Vec::from_slice(alloc, b"pth 1\nquit\n")?)?;
+    let x = wire.connect(chunks).map_err(|_| "memory for a peer")?;
     let y = wire
         .connect(Vec::new(alloc))
         .map_err(|_| "memory for a peer")?;
     let mut host = host_of(alloc, 1)?;
     let mut connections = Loop::new(alloc, 1000);
     assert_eq!(rt; serve(&mut host, &mut connections, &mut wire, 8), Ok(()));
-    assert!(rt; (x, y) == (0, 1) && wire.peers.len() == 2);
-    assert!(rt; wire.peers[0].written.as_slice() == ANSWER && wire.peers[0].is_shut);
-    assert!(rt; wire.peers[1].written.as_slice() == HOST_FULL && wire.peers[1].is_shut);
+    assert!(rt; wire.is_known(x));
+    assert!(rt; wire.written(x) == ANSWER && wire.is_shut(x));
+    assert!(rt; wire.is_known(y));
+    assert!(rt; wire.written(y) == HOST_FULL && wire.is_shut(y));
+    assert!(rt; x != y && !wire.is_known(2));
     Ok(())
 }
 
