@@ -8,6 +8,7 @@ use Rattle.std.proofs.KnownBytes.{Consumes-kept, Consumes-nil, Keeps-trans, Keep
 use Rattle.session_slots.specs.declared.id.SessionId.{SessionId}
 use Rattle.session_slots.specs.Slots.{find, IsBelow}
 use Rattle.usi_session.specs.Due.{SessionView}
+use Rattle.usi_session.specs.declared.limits.TheConstants.{CHUNK_MAX}
 use Rattle.host_core.specs.declared.event.HostFault.{HostFault}
 use Rattle.host_core.specs.declared.event.HostFault.TheVariants.{Full, OutOfMemory, UnknownSession, NotReady}
 use Rattle.host_core.specs.Steps.{HostState, Stepped, OnSession}
@@ -175,7 +176,7 @@ serves_finished m bound h a c before after has_ended marked finished s close =
     (inr (inr (record { earlier = []; later = record { event = Close h.id; outcome = close.outcome } ∷ []; steps_are = refl; moment = before; run = run-start before; has_ended = has_ended; marked = marked; finished = finished })))
 
 -- a feed of a session that wants input is refused for memory alone
-pub refused_for_memory : (before after : HostState) (id : SessionId) (chunk : List ℕ) (o : Outcome) (found : Option SessionView) → find before.slots id ≡ found → wants_input_of found ≡ true → length chunk ≤ 4096 → OnSession (Feeds chunk) before id found o after → is_done o ≡ false → o ≡ Refused OutOfMemory
+pub refused_for_memory : (before after : HostState) (id : SessionId) (chunk : List ℕ) (o : Outcome) (found : Option SessionView) → find before.slots id ≡ found → wants_input_of found ≡ true → length chunk ≤ CHUNK_MAX → OnSession (Feeds chunk) before id found o after → is_done o ≡ false → o ≡ Refused OutOfMemory
 refused_for_memory before after id chunk o None e w few p d = absurd (cc)
 refused_for_memory before after id chunk Done (Some t) e w few p d = absurd (cc)
 refused_for_memory before after id chunk (Opened x) (Some t) e w few p d = absurd p.went
@@ -187,7 +188,7 @@ refused_for_memory before after id chunk (Refused OutOfMemory) (Some t) e w few 
 refused_for_memory before after id chunk (Refused NotReady) (Some t) e w few p d = absurd (p.went.0 (w, few))
 
 -- what was read was refused for memory, and the connection was shut
-pub serves_starved : (m : List Connection) (bound : ℕ) (h : Link) (a b c : Told) (before mid after : HostState) (chunk : List ℕ) (o : Outcome) → wants_input_of (find before.slots h.id) ≡ true → length chunk ≤ 4096 → is_done o ≡ false → GaveBytes a b h.number chunk → Shuts bound b c h.number → IsStep before (record { event = Feed h.id chunk; outcome = o }) mid → IsClosing mid h.id after → IsGone after h.id → Serves IsInput m bound (h ∷ []) a before c after
+pub serves_starved : (m : List Connection) (bound : ℕ) (h : Link) (a b c : Told) (before mid after : HostState) (chunk : List ℕ) (o : Outcome) → wants_input_of (find before.slots h.id) ≡ true → length chunk ≤ CHUNK_MAX → is_done o ≡ false → GaveBytes a b h.number chunk → Shuts bound b c h.number → IsStep before (record { event = Feed h.id chunk; outcome = o }) mid → IsClosing mid h.id after → IsGone after h.id → Serves IsInput m bound (h ∷ []) a before c after
 serves_starved m bound h a b c before mid after chunk o wants few d g s step close out =
     let is : o ≡ Refused OutOfMemory = refused_for_memory before mid h.id chunk o (find before.slots h.id) refl wants few step.stepped.0 d in
     starved (rw is at step)

@@ -12,7 +12,7 @@ use Rattle.socket_loop.specs.declared.wire.WireFault.{WireFault}
 use Rattle.socket_loop.specs.declared.connection.Link.{Link}
 use Rattle.socket_loop.specs.declared.connection.Connection.{Connection}
 use Rattle.socket_loop.specs.declared.turn.TheConstants.{ACCEPTS}
-use Rattle.socket_loop.specs.declared.visit.TheConstants.{CHUNK}
+use Rattle.usi_session.specs.declared.limits.TheConstants.{CHUNK_MAX}
 use Rattle.socket_loop.specs.Asked.{Call, Accept, Read, Write, Shut, Asks}
 use Rattle.socket_loop.specs.Links.{links_of, IsAmong, IsRising}
 use Rattle.socket_loop.specs.Parts.{AreAll, AddsNoMark, IsAdmission, IsInput, IsOutput, IsEnd, is_finished_with}
@@ -38,7 +38,7 @@ shuts_of old new = cond (new.is_shut && not old.is_shut) (Shut old.link.number �
 
 -- one read where it is to be read; it may be shut then
 abbrev pub reads_of : HostState → Connection → Connection → List Call
-reads_of host old new = cond (is_to_read host old) (Read old.link.number CHUNK ∷ shuts_of old new) []
+reads_of host old new = cond (is_to_read host old) (Read old.link.number CHUNK_MAX ∷ shuts_of old new) []
 
 -- one write of all that is queued, where it is to be written; it may be shut then
 abbrev pub writes_of : HostState → Connection → Connection → List Call

@@ -5,12 +5,12 @@ ghost use Rattle.std.specs.Io.KnownBytes.{Keeps};
 ghost use Rattle.host_core.specs.ById.{wants_input_of};
 ghost use Rattle.host_core.specs.Seen.{outcome_of};
 ghost use Rattle.session_slots.specs.Slots.{find};
+ghost use Rattle.usi_session.specs.declared.limits.TheConstants.{CHUNK_MAX};
 ghost use Rattle.socket_loop.specs.Links.{IsMarked, reads_ended};
 ghost use Rattle.socket_loop.specs.Parts.{Serves, GaveBytes, IsClosing, IsEmptied, IsEnd, IsGone, IsInput, IsOutput, is_done, is_finished_with};
 ghost use Rattle.socket_loop.specs.Told.{IsRaised, Shuts, Told};
 ghost use Rattle.socket_loop.specs.Asked.{Shut, Asks};
 ghost use Rattle.socket_loop.specs.Calls.{Visits, shuts_of, reads_of, writes_of, ends_of, is_to_read};
-ghost use Rattle.socket_loop.specs.declared.visit.TheConstants.{CHUNK};
 ghost use Rattle.socket_loop.specs.Turns.{EndsOrShuts, IsQuiet, KeepsMade, Transfers};
 ghost use Rattle.socket_loop.specs.declared.connection.Connection.{Connection};
 
@@ -19,9 +19,7 @@ use crate::wire::{Got, Wire};
 use host_core::{Event, Host, Outcome};
 use std::alloc::Allocator;
 use std::hash::BuildHasher;
-
-/// The most bytes of one read.
-pub const CHUNK: usize = 4096;
+use usi_session::CHUNK_MAX;
 
 /// Shuts a connection and closes its session.
 pub fn shut_down<W: Wire, S: BuildHasher, A: Allocator + Copy>(
@@ -60,7 +58,7 @@ fn feed_from<W: Wire, S: BuildHasher, A: Allocator + Copy>(
     chunk: &[u8],
 )
     requires wants { wants_input_of (find host.old.slots connection.old.link.id) ≡ true }
-    requires few { length chunk.now ≤ CHUNK }
+    requires few { length chunk.now ≤ CHUNK_MAX }
     ensures asked { connection.old.is_shut ≡ false → Asks (W.asked wire.old) (W.asked wire.new) (shuts_of connection.old connection.new) }
     ensures visits { Visits IsInput connection.old.link.id host.old host.new }
     ensures serves { (marks : List Connection) (before : Told) → GaveBytes before (W.told wire.old) connection.old.link.number chunk.now → Serves IsInput marks (W.bound wire.old) (connection.old.link ∷ []) before host.old (W.told wire.new) host.new }
@@ -91,7 +89,7 @@ fn is_to_read<S: BuildHasher, A: Allocator + Copy>(
     !connection.has_ended && !connection.is_shut && host.wants_input(connection.link.id)
 }
 
-/// One read of at most 4,096 bytes for a connection whose session wants input, and what it gave is
+/// One read of at most `CHUNK_MAX` bytes for a connection whose session wants input, and what it gave is
 /// fed. A read that fails, or a feed refused for memory, ends the connection and its session. True
 /// where something was read, or the reads ended, or the connection was shut.
 pub fn read_from<W: Wire, S: BuildHasher, A: Allocator + Copy>(
@@ -115,7 +113,7 @@ pub fn read_from<W: Wire, S: BuildHasher, A: Allocator + Copy>(
     if !is_to_read(connection, host) {
         return false;
     }
-    let mut chunk = [0u8; CHUNK];
+    let mut chunk = [0u8; CHUNK_MAX];
     match wire.read(link.number, &mut chunk) {
         Ok(Got::Bytes(n)) => {
             let (bytes, _) = chunk.split_at(n);
