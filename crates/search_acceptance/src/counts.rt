@@ -4,11 +4,11 @@ ghost use Rattle.std.specs.Prelude.{◌≤◌};
 ghost use Rattle.shogi_search.specs.declared.bounds.TheConstants.{GREATEST_DEPTH};
 
 use crate::plain::{Notes, minimax, search_plainly};
+use crate::positions::position;
 use crate::recorder::Recorder;
-use crate::tables::{table_of, two_pawns};
+use crate::tables::{TWO_PAWNS, table_of};
 use shogi_core::Position;
 use shogi_search::{Memo, NoMemo, search};
-use shogi_sfen::read_position;
 use std::alloc::Global;
 use std::process::Abort;
 use std::test::Fail;
@@ -106,7 +106,7 @@ fn the_opening_over_large_tables(rt: HostRuntime) -> Result<(), Fail> {
 #[test]
 fn two_pawns_over_tables(rt: HostRuntime) -> Result<(), Fail> {
     for capacity in [1, 2, 30, 1000] {
-        assert_counts_over(&rt, rt.alloc(), &two_pawns()?, 6, capacity)?;
+        assert_counts_over(&rt, rt.alloc(), &position(TWO_PAWNS)?, 6, capacity)?;
     }
     Ok(())
 }
@@ -124,9 +124,9 @@ const PLAYED: [&str; 6] = [
 fn assert_minimax(rt: &impl Abort, alloc: Global, p: &Position) -> Result<(), Fail> {
     let plain = minimax(p, 4);
     let found = search(p, 4, &mut NoMemo);
-    assert!(rt; plain == (found.value, found.best.map(|m| m.code())));
+    assert!(rt; found.value == plain.value && found.best == plain.best);
     let found = search(p, 4, &mut table_of(alloc, 1000)?);
-    assert!(rt; plain == (found.value, found.best.map(|m| m.code())));
+    assert!(rt; found.value == plain.value && found.best == plain.best);
     Ok(())
 }
 
@@ -134,10 +134,9 @@ fn assert_minimax(rt: &impl Abort, alloc: Global, p: &Position) -> Result<(), Fa
 #[test]
 fn plain_minimax_at_depth_four(rt: HostRuntime) -> Result<(), Fail> {
     assert_minimax(&rt, rt.alloc(), &Position::start())?;
-    assert_minimax(&rt, rt.alloc(), &two_pawns()?)?;
+    assert_minimax(&rt, rt.alloc(), &position(TWO_PAWNS)?)?;
     for sfen in PLAYED {
-        let (p, _) = read_position(sfen.as_bytes())?;
-        assert_minimax(&rt, rt.alloc(), &p)?;
+        assert_minimax(&rt, rt.alloc(), &position(sfen)?)?;
     }
     Ok(())
 }
@@ -149,8 +148,7 @@ fn mates_at_depth_four(rt: HostRuntime) -> Result<(), Fail> {
         ("4k4/9/4P4/9/9/9/9/9/9 b G", 30003, 13483),
         ("4k4/9/4G4/9/9/9/9/9/9 w G", -30002, 5886),
     ] {
-        let (p, _) = read_position(sfen.as_bytes())?;
-        let found = search(&p, 4, &mut NoMemo);
+        let found = search(&position(sfen)?, 4, &mut NoMemo);
         assert_eq!(rt;
             (found.value, found.best.map(|m| m.code())),
             (value, Some(code)),

@@ -1,12 +1,23 @@
-//! Tests of the search and the table together: counts of steps, what is asked and noted, and slices.
+//! Tests of the search over a memory: agreement with plain minimax, counts of steps, what is asked and
+//! noted, and slices.
 #![tactic(auto)]
 
 #[cfg(test)]
+mod agreement;
+#[cfg(test)]
 mod counts;
+#[cfg(test)]
+mod forgetful;
+#[cfg(test)]
+mod games;
 #[cfg(test)]
 mod hash_moves;
 #[cfg(test)]
+mod oracle;
+#[cfg(test)]
 mod plain;
+#[cfg(test)]
+mod positions;
 #[cfg(test)]
 mod recorder;
 #[cfg(test)]

@@ -3,6 +3,7 @@
 use shogi_core::{Move, Position};
 use shogi_eval::material;
 use shogi_moves::{Walk, apply, has_legal};
+use shogi_search::Found;
 use std::alloc::{AllocError, Global};
 
 /// What is known of a value: all, with the code of the best move, or a bound.
@@ -268,21 +269,28 @@ pub fn search_plainly(
     }
 }
 
-/// The value and the code of the best move by plain minimax: every move of the whole tree, nothing remembered.
-pub fn minimax(p: &Position, depth: u8) -> (i32, Option<u16>) {
+/// The value and the best move by plain minimax: every move of the whole tree, nothing remembered. A
+/// step enters or leaves a node.
+pub fn minimax(p: &Position, depth: u8) -> Found {
+    let mut found = Found {
+        value: (-30000i32).saturating_sub(i32::from(depth)),
+        best: None,
+        steps: 2,
+    };
     if depth == 0 {
-        return (leaf(p), None);
+        found.value = leaf(p);
+        return found;
     }
-    let (mut best_value, mut best) = ((-30000i32).saturating_sub(i32::from(depth)), None);
     let mut walk = Walk::new(p);
     'moves: while let Some(m) = walk.next() {
         let tried = m;
-        let (value, _) = minimax(&apply(p, tried), depth - 1);
-        let worth = value.saturating_neg();
-        if best.is_none() || worth > best_value {
-            best_value = worth;
-            best = Some(m.code());
+        let below = minimax(&apply(p, tried), depth - 1);
+        let worth = below.value.saturating_neg();
+        found.steps = found.steps.saturating_add(below.steps);
+        if found.best.is_none() || worth > found.value {
+            found.value = worth;
+            found.best = Some(m);
         }
     }
-    (best_value, best)
+    found
 }

@@ -4,8 +4,9 @@ ghost use Rattle.std.specs.Prelude.{◌≤◌};
 ghost use Rattle.shogi_search.specs.declared.bounds.TheConstants.{GREATEST_DEPTH};
 ghost use Rattle.shared_table.specs.declared.table.TheConstants.{GREATEST_CAPACITY};
 
+use crate::positions::position;
 use shared_table::{SharedTable, TableFault};
-use shogi_core::{Color, Hands, Move, Piece, Position, Role, Square};
+use shogi_core::{Move, Position};
 use shogi_moves::{apply, next_legal};
 use shogi_search::{Entry, Memo, NoMemo, search};
 use std::alloc::{AllocError, Global};
@@ -23,26 +24,8 @@ pub fn table_of(alloc: Global, capacity: usize) -> Result<TestTable, TableFault>
     SharedTable::new(alloc, capacity, BuildHasherDefault::<FoldHasher>::new())
 }
 
-/// The position of pieces by file and rank, with nothing held.
-fn placed(pieces: &[(u8, u8, Color, Role)], side: Color) -> Result<Position, Fail> {
-    let mut cells: [Option<Piece>; 81] = [None; 81];
-    for &(file, rank, color, role) in pieces {
-        let square = Square::new(file, rank).ok_or("a square")?;
-        cells[square.index()] = Some(Piece { color, role });
-    }
-    Ok(Position::new(cells, Hands::none(), side)?)
-}
-
-/// Two kings and two pawns, far apart: `4k4/4p4/9/9/9/9/9/4P4/4K4 b -`.
-pub fn two_pawns() -> Result<Position, Fail> {
-    let pieces = [
-        (5, 1, Color::White, Role::King),
-        (5, 2, Color::White, Role::Pawn),
-        (5, 8, Color::Black, Role::Pawn),
-        (5, 9, Color::Black, Role::King),
-    ];
-    placed(&pieces, Color::Black)
-}
+/// Two kings and two pawns, far apart.
+pub const TWO_PAWNS: &str = "4k4/4p4/9/9/9/9/9/4P4/4K4 b -";
 
 /// The positions after one legal move, in the order of codes.
 fn children(alloc: Global, p: &Position) -> Result<Vec<Position>, AllocError> {
@@ -120,7 +103,7 @@ fn children_searched_before(rt: HostRuntime) -> Result<(), Fail> {
     for depth in 0..4u8 {
         assert_known_children(&rt, rt.alloc(), &start, depth)?;
     }
-    let pawns = two_pawns()?;
+    let pawns = position(TWO_PAWNS)?;
     for depth in 0..8u8 {
         assert_known_children(&rt, rt.alloc(), &pawns, depth)?;
     }
@@ -161,7 +144,7 @@ fn children_left_in_the_table(rt: HostRuntime) -> Result<(), Fail> {
             "at depth {depth}"
         );
     }
-    let pawns = two_pawns()?;
+    let pawns = position(TWO_PAWNS)?;
     let moves = children(rt.alloc(), &pawns)?.len();
     for depth in 1..8u8 {
         assert_eq!(rt;
@@ -176,12 +159,7 @@ fn children_left_in_the_table(rt: HostRuntime) -> Result<(), Fail> {
 // A mate is cheap to search at every depth: White's king on 5a, Black's gold before it on a pawn.
 #[test]
 fn notes_at_every_depth(rt: HostRuntime) -> Result<(), Fail> {
-    let pieces = [
-        (5, 1, Color::White, Role::King),
-        (5, 2, Color::Black, Role::Gold),
-        (5, 3, Color::Black, Role::Pawn),
-    ];
-    let mated = placed(&pieces, Color::White)?;
+    let mated = position("4k4/4G4/4P4/9/9/9/9/9/9 w -")?;
     let mut table = table_of(rt.alloc(), 17)?;
     for depth in 0..=16u8 {
         note_exact(&mut table, &mated, depth);

@@ -3,8 +3,9 @@
 ghost use Rattle.std.specs.Prelude.{◌≤◌};
 ghost use Rattle.shogi_search.specs.declared.bounds.TheConstants.{GREATEST_DEPTH};
 
+use crate::oracle::Oracle;
 use crate::recorder::Recorder;
-use crate::tables::{TestTable, table_of};
+use crate::tables::table_of;
 use shogi_core::Position;
 use shogi_search::{Entry, Found, Memo, NoMemo, Search};
 use std::alloc::Global;
@@ -22,17 +23,17 @@ fn assert_found(rt: &impl Abort, found: &Found, value: i32, code: u16) {
     );
 }
 
-/// Goes on by turns, a step each, until both have ended: the first over the table, the second over the
-/// table and over no memory at alternate calls.
-fn by_turns(
+/// Goes on by turns, a step each, until both have ended: the first over the memory, the second over it
+/// and over none at alternate calls.
+fn by_turns<M: Memo>(
     first: &mut Search,
     second: &mut Search,
-    table: &mut TestTable,
+    memo: &mut M,
 ) -> Option<(Found, Found)> {
     for turn in 0..100000u64 {
-        let one = first.advance(table, 1);
+        let one = first.advance(memo, 1);
         let two = if turn % 2 == 0 {
-            second.advance(table, 1)
+            second.advance(memo, 1)
         } else {
             second.advance(&mut NoMemo, 1)
         };
@@ -43,21 +44,74 @@ fn by_turns(
     None
 }
 
+fn assert_turns<M: Memo>(rt: &impl Abort, memo: &mut M, depth: u8, value: i32, code: u16)
+    requires { depth ≤ GREATEST_DEPTH }
+{
+    let mut first = Search::start(&Position::start(), depth);
+    let mut second = Search::start(&Position::start(), depth);
+    let (one, two) = by_turns(&mut first, &mut second, memo).expect(rt, "an end");
+    assert_found(rt, &one, value, code);
+    assert_found(rt, &two, value, code);
+    assert_eq!(rt; (one.steps, two.steps), (first.steps(), second.steps()));
+}
+
 #[test]
 fn two_searches_by_turns_over_one_table(rt: HostRuntime) -> Result<(), Fail> {
     for capacity in [1usize, 100] {
         for (depth, value, code) in OPENING {
             assert!(rt; depth <= 16);
-            let mut table = table_of(rt.alloc(), capacity)?;
-            let mut first = Search::start(&Position::start(), depth);
-            let mut second = Search::start(&Position::start(), depth);
-            let (one, two) = by_turns(&mut first, &mut second, &mut table).ok_or("an end")?;
-            assert_found(&rt, &one, value, code);
-            assert_found(&rt, &two, value, code);
-            assert_eq!(rt; (one.steps, two.steps), (first.steps(), second.steps()));
+            assert_turns(
+                &rt,
+                &mut table_of(rt.alloc(), capacity)?,
+                depth,
+                value,
+                code,
+            );
         }
     }
     Ok(())
+}
+
+#[test]
+fn two_searches_by_turns_over_an_oracle(rt: HostRuntime) {
+    for (depth, value, code) in OPENING {
+        assert!(rt; depth <= 16);
+        assert_turns(&rt, &mut Oracle, depth, value, code);
+    }
+}
+
+// An exact answer at the root takes no step, for every budget; after the end the answer stays.
+#[test]
+fn a_root_that_is_known(rt: HostRuntime) -> Result<(), Fail> {
+    for budget in [0, 1, 1000] {
+        let mut search = Search::start(&Position::start(), 1);
+        let found = search.advance(&mut Oracle, budget).ok_or("an end at once")?;
+        assert_found(&rt, &found, 0, 982);
+        let again = search.advance(&mut NoMemo, 1000).ok_or("an end")?;
+        assert!(rt; again == found);
+        assert_eq!(rt; (found.steps, search.steps()), (0, 0));
+    }
+    Ok(())
+}
+
+// A step is no whole search: each asks and notes a few times.
+#[test]
+fn few_calls_in_a_step(rt: HostRuntime) -> Result<(), Fail> {
+    let mut search = Search::start(&Position::start(), 3);
+    let mut recorder = Recorder::new(rt.alloc(), NoMemo);
+    let mut before = 0usize;
+    for made in 0..60000u64 {
+        let found = search.advance(&mut recorder, 1);
+        let calls = recorder.calls().len();
+        assert!(rt; calls.saturating_sub(before) <= 10, "in step {made}");
+        before = calls;
+        if let Some(found) = found {
+            assert_found(&rt, &found, 200, 9838);
+            assert_eq!(rt; found.steps, search.steps());
+            return Ok(());
+        }
+    }
+    Err(Fail::from("an end"))
 }
 
 fn step_by_step<M: Memo>(search: &mut Search, memo: &mut M) -> Option<Found> {

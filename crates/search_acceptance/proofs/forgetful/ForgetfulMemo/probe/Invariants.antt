@@ -3,8 +3,8 @@ use Rattle.std.specs.Option.{option_map_or}
 use Rattle.std.specs.List.{find}
 use Rattle.shogi_core.specs.Position.{Shogi}
 use Rattle.shogi_core.specs.Same.{is_same_position}
-use Rattle.shogi_search.specs.declared.forgetful.Kept.{Kept}
-use Rattle.shogi_search.proofs.forgetful.ForgetfulMemo.probe.Given as goal
+use Rattle.search_acceptance.specs.declared.forgetful.Kept.{Kept}
+use Rattle.search_acceptance.proofs.forgetful.ForgetfulMemo.probe.Given as goal
 
 -- the slot has an entry of the position at the depth
 abbrev pub is_of : Shogi → ℕ → Option Kept → Bool

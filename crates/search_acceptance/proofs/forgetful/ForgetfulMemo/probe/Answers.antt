@@ -1,9 +1,9 @@
 use Rattle.std.proofs.Common.{◌≡◌, ◌<◌, ◌∙◌, ℕ, zero, suc, Bool, true, List, [], ◌∷◌, Some, arith, refl, sym, ap, drop, length, slice_index_or}
 use Rattle.std.specs.List.{find}
 use Rattle.std.proofs.lemmas.List.{drop_all}
-use Rattle.shogi_search.specs.declared.forgetful.Kept.{Kept}
-use Rattle.shogi_search.proofs.forgetful.ForgetfulMemo.probe.Goals as goal
-use Rattle.shogi_search.proofs.forgetful.ForgetfulMemo.probe.Invariants.{is_of}
+use Rattle.search_acceptance.specs.declared.forgetful.Kept.{Kept}
+use Rattle.search_acceptance.proofs.forgetful.ForgetfulMemo.probe.Goals as goal
+use Rattle.search_acceptance.proofs.forgetful.ForgetfulMemo.probe.Invariants.{is_of}
 
 -- from the index of one that passes on, it is the first
 found_here : {T : Type 0} (test : T → Bool) (xs : List T) (i : ℕ) (x other : T) → i < length xs → slice_index_or xs i other ≡ x → test x ≡ true

@@ -5,8 +5,8 @@ ghost use Rattle.std.specs.Option.{option_map_or};
 ghost use Rattle.std.specs.List.{find};
 ghost use Rattle.shogi_core.specs.Same.{is_same_position};
 
-use crate::memo::{Entry, Memo};
 use shogi_core::Position;
+use shogi_search::{Entry, Memo};
 use std::marker::Model;
 
 /// What was noted of a position at a depth.

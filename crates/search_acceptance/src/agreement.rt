@@ -1,0 +1,104 @@
+//! The search against plain minimax, on positions of played games and two published ones.
+
+ghost use Rattle.std.specs.Prelude.{◌≤◌};
+ghost use Rattle.shogi_search.specs.declared.bounds.TheConstants.{GREATEST_DEPTH};
+
+use crate::forgetful::Forgetful;
+use crate::games;
+use crate::plain::minimax;
+use crate::positions::{played, position};
+use shogi_core::Position;
+use shogi_moves::{has_legal, perft};
+use shogi_search::{Found, NoMemo, search};
+use std::process::Abort;
+use std::test::Fail;
+
+// The search finds the value and the best move of plain minimax, in no more steps.
+fn assert_same(rt: &impl Abort, found: &Found, plain: &Found, at: usize, depth: u8) {
+    assert_eq!(rt;
+        found.value,
+        plain.value,
+        "the value after {at} moves at depth {depth}"
+    );
+    assert!(rt;
+        found.best == plain.best,
+        "the best move after {at} moves at depth {depth}"
+    );
+    assert!(rt;
+        found.steps <= plain.steps,
+        "the steps after {at} moves at depth {depth}"
+    );
+}
+
+// The same over no memo, over one that forgets, and over that one again. Tells whether it then
+// knew the root.
+fn assert_agrees(rt: &impl Abort, p: &Position, at: usize, depth: u8, memo: &mut Forgetful) -> bool
+    requires { depth ≤ GREATEST_DEPTH }
+{
+    let plain = minimax(p, depth);
+    assert_same(rt, &search(p, depth, &mut NoMemo), &plain, at, depth);
+    assert_same(rt, &search(p, depth, memo), &plain, at, depth);
+    let again = search(p, depth, memo);
+    assert_same(rt, &again, &plain, at, depth);
+    again.steps == 0
+}
+
+// Walks through a game up to its mate, and searches each position at depths 0 to 2, and at 3 where
+// two plies have few paths. The memo is the same all along; it keeps some roots and forgets others.
+fn walk(rt: &impl Abort, moves: &[&str]) {
+    let mut memo = Forgetful::new();
+    let mut p = Position::start();
+    let (mut known, mut forgotten) = (false, false);
+    for (at, text) in moves.iter().enumerate() {
+        for depth in 0..4u8 {
+            if perft(&p, depth.saturating_sub(1)) <= Some(1500) {
+                if assert_agrees(rt, &p, at, depth, &mut memo) {
+                    known = true;
+                } else {
+                    forgotten = true;
+                }
+            }
+        }
+        p = played(rt, &p, text);
+    }
+    assert!(rt; !has_legal(&p), "the end of the game");
+    assert!(rt; known && forgotten, "each second note is forgotten");
+}
+
+#[test]
+fn first_game(rt: HostRuntime) {
+    walk(&rt, &games::FIRST);
+}
+
+#[test]
+fn second_game(rt: HostRuntime) {
+    walk(&rt, &games::SECOND);
+}
+
+#[test]
+fn third_game(rt: HostRuntime) {
+    walk(&rt, &games::THIRD);
+}
+
+// A position with so many legal moves, at depths 1 and 2.
+fn assert_wide(rt: &impl Abort, sfen: &str, moves: u64) -> Result<(), Fail> {
+    let p = position(sfen)?;
+    assert_eq!(rt; perft(&p, 1), Some(moves));
+    for depth in 1..3u8 {
+        assert_agrees(rt, &p, 0, depth, &mut Forgetful::new());
+    }
+    Ok(())
+}
+
+// The greatest number of legal moves known.
+#[test]
+fn most_moves(rt: HostRuntime) -> Result<(), Fail> {
+    let sfen = "R8/2K1S1SSk/4B4/9/9/9/9/9/1L1L1L3 b RBGSNLP3g3n17p";
+    assert_wide(&rt, sfen, 593)
+}
+
+#[test]
+fn middle_game(rt: HostRuntime) -> Result<(), Fail> {
+    let sfen = "l6nl/5+P1gk/2np1S3/p1p4Pp/3P2Sp1/1PPb2P1P/P5GS1/R8/LN4bKL w RGgsn5p";
+    assert_wide(&rt, sfen, 207)
+}

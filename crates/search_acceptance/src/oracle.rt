@@ -1,0 +1,26 @@
+//! A memory that answers exactly at depths 0 and 1, and keeps nothing.
+
+ghost use Rattle.std.specs.Prelude.{Option, nat_le, if◌then◌else◌};
+ghost use Rattle.shogi_search.specs.Minimax.{value, best};
+ghost use Rattle.shogi_search.specs.declared.memo.Entry.TheVariants.{Exact};
+
+use shogi_core::Position;
+use shogi_search::{Entry, Memo, NoMemo, search};
+
+/// Answers exactly at depths 0 and 1, by a search over no memory, and keeps nothing.
+#[derive(Clone, Copy, Debug)]
+pub struct Oracle;
+
+impl Memo for Oracle {
+    ghost answers = { λ _ p d. if nat_le d 1 then Option.Some (Exact (value p d) (best p d)) else Option.None };
+
+    fn probe(&mut self, p: &Position, d: u8) -> Option<Entry> {
+        if d > 1 {
+            return None;
+        }
+        let found = search(p, d, &mut NoMemo);
+        Some(Entry::Exact(found.value, found.best))
+    }
+
+    fn note(&mut self, _p: &Position, _d: u8, _entry: Entry) {}
+}
