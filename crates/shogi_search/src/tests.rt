@@ -2,6 +2,7 @@
 
 use crate::{NoMemo, Search, search};
 use shogi_core::{Color, Hands, Kind, Piece, Position, Role, Square};
+use shogi_eval::Eval;
 use shogi_moves::apply;
 use std::process::Abort;
 use std::test::Fail;
@@ -25,24 +26,24 @@ fn position(pieces: &[Placed], held: &[Held], side: Color) -> Result<Position, F
 }
 
 // The search finds this value, and the best line begins with the moves of these codes.
-fn assert_line(rt: &impl Abort, start: &Position, depth: u8, value: i32, codes: &[u16]) {
+fn assert_line(rt: &impl Abort, start: &Position, e: Eval, depth: u8, value: i32, codes: &[u16]) {
     let mut p = *start;
     let mut left = depth;
     assert!(rt; left <= 16);
     assert_eq!(rt;
-        search(&p, left, &mut NoMemo).value,
+        search(&p, e, left, &mut NoMemo).value,
         value,
         "the value at depth {depth}"
     );
     for code in codes {
         assert!(rt; left > 0 && left <= 16);
-        let best = search(&p, left, &mut NoMemo).best;
+        let best = search(&p, e, left, &mut NoMemo).best;
         assert_eq!(rt;
             best.map(|m| m.code()),
             Some(*code),
             "the best move {left} plies from the end"
         );
-        if let Some(m) = search(&p, left, &mut NoMemo).best {
+        if let Some(m) = search(&p, e, left, &mut NoMemo).best {
             p = apply(&p, m);
         }
         left -= 1;
@@ -53,11 +54,13 @@ fn assert_line(rt: &impl Abort, start: &Position, depth: u8, value: i32, codes: 
 #[test]
 fn opening(rt: HostRuntime) {
     let start = Position::start();
-    assert_line(&rt, &start, 0, 0, &[]);
-    assert_line(&rt, &start, 1, 0, &[982]);
-    assert_line(&rt, &start, 2, 0, &[982, 2]);
+    assert_line(&rt, &start, Eval::Plain, 0, 0, &[]);
+    assert_line(&rt, &start, Eval::Plain, 1, 0, &[982]);
+    assert_line(&rt, &start, Eval::Plain, 2, 0, &[982, 2]);
     // 7g7f, 4c4d, 8h4d
-    assert_line(&rt, &start, 3, 200, &[9838, 4758, 11400]);
+    assert_line(&rt, &start, Eval::Plain, 3, 200, &[9838, 4758, 11400]);
+    // The pawn that is taken comes to hand.
+    assert_line(&rt, &start, Eval::Hand, 3, 210, &[9838, 4758, 11400]);
 }
 
 // Black: a pawn on 5c and a gold in hand, against a king on 5a. G*5b mates, at every depth.
@@ -68,12 +71,12 @@ fn mate_in_one(rt: HostRuntime) -> Result<(), Fail> {
         (5, 3, Color::Black, Role::Pawn),
     ];
     let p = position(&pieces, &[(Color::Black, Kind::Gold, 1)], Color::Black)?;
-    assert_line(&rt, &p, 1, 30000, &[13483]);
-    assert_line(&rt, &p, 2, 30001, &[13483]);
-    let found = search(&p, 1, &mut NoMemo);
+    assert_line(&rt, &p, Eval::Plain, 1, 30000, &[13483]);
+    assert_line(&rt, &p, Eval::Plain, 2, 30001, &[13483]);
+    let found = search(&p, Eval::Plain, 1, &mut NoMemo);
     if let Some(m) = found.best {
         let mated = apply(&p, m);
-        let found = search(&mated, 1, &mut NoMemo);
+        let found = search(&mated, Eval::Plain, 1, &mut NoMemo);
         assert_eq!(rt; (found.value, found.best), (-30001, None));
     }
     Ok(())
@@ -87,8 +90,11 @@ fn mated_next(rt: HostRuntime) -> Result<(), Fail> {
         (5, 3, Color::Black, Role::Gold),
     ];
     let p = position(&pieces, &[(Color::Black, Kind::Gold, 1)], Color::White)?;
-    assert_line(&rt, &p, 1, -1200, &[5886]);
-    assert_line(&rt, &p, 2, -30000, &[5886, 13474]);
+    assert_line(&rt, &p, Eval::Plain, 1, -1200, &[5886]);
+    assert_line(&rt, &p, Eval::Plain, 2, -30000, &[5886, 13474]);
+    // The gold in hand is worth 60 more.
+    assert_line(&rt, &p, Eval::Hand, 1, -1260, &[5886]);
+    assert_line(&rt, &p, Eval::Hand, 2, -30000, &[5886, 13474]);
     Ok(())
 }
 
@@ -102,7 +108,7 @@ fn without_a_move(rt: HostRuntime) -> Result<(), Fail> {
     ];
     let p = position(&pieces, &[], Color::White)?;
     for (depth, value) in [(0, -30000), (1, -30001), (2, -30002)] {
-        let found = search(&p, depth, &mut NoMemo);
+        let found = search(&p, Eval::Plain, depth, &mut NoMemo);
         assert_eq!(rt;
             (found.value, found.best),
             (value, None),
@@ -124,9 +130,9 @@ fn pawn_and_silver(rt: HostRuntime) -> Result<(), Fail> {
     ];
     let held = [(Color::Black, Kind::Pawn, 1), (Color::White, Kind::Pawn, 1)];
     let p = position(&pieces, &held, Color::Black)?;
-    assert_line(&rt, &p, 1, 500, &[1310]);
-    assert_line(&rt, &p, 2, 500, &[1310, 1784]);
-    assert_line(&rt, &p, 3, 1000, &[13134, 1784, 1967]);
+    assert_line(&rt, &p, Eval::Plain, 1, 500, &[1310]);
+    assert_line(&rt, &p, Eval::Plain, 2, 500, &[1310, 1784]);
+    assert_line(&rt, &p, Eval::Plain, 3, 1000, &[13134, 1784, 1967]);
     Ok(())
 }
 
@@ -143,9 +149,9 @@ fn rook_and_bishop(rt: HostRuntime) -> Result<(), Fail> {
         (1, 9, Color::White, Role::Bishop),
     ];
     let p = position(&pieces, &[(Color::Black, Kind::Pawn, 1)], Color::White)?;
-    assert_line(&rt, &p, 1, 2800, &[6881]);
-    assert_line(&rt, &p, 2, 2800, &[6881, 5720]);
-    assert_line(&rt, &p, 3, 3000, &[6881, 13150, 4430]);
+    assert_line(&rt, &p, Eval::Plain, 1, 2800, &[6881]);
+    assert_line(&rt, &p, Eval::Plain, 2, 2800, &[6881, 5720]);
+    assert_line(&rt, &p, Eval::Plain, 3, 3000, &[6881, 13150, 4430]);
     Ok(())
 }
 
@@ -163,9 +169,9 @@ fn horse_and_silver(rt: HostRuntime) -> Result<(), Fail> {
         (Color::White, Kind::Pawn, 1),
     ];
     let p = position(&pieces, &held, Color::Black)?;
-    assert_line(&rt, &p, 1, 30000, &[13375]);
-    assert_line(&rt, &p, 2, 30001, &[13375]);
-    assert_line(&rt, &p, 3, 30002, &[13375]);
+    assert_line(&rt, &p, Eval::Plain, 1, 30000, &[13375]);
+    assert_line(&rt, &p, Eval::Plain, 2, 30001, &[13375]);
+    assert_line(&rt, &p, Eval::Plain, 3, 30002, &[13375]);
     Ok(())
 }
 
@@ -173,9 +179,9 @@ fn horse_and_silver(rt: HostRuntime) -> Result<(), Fail> {
 #[test]
 fn steps_from_the_opening(rt: HostRuntime) {
     let start = Position::start();
-    assert_eq!(rt; search(&start, 1, &mut NoMemo).steps, 62);
-    assert_eq!(rt; search(&start, 2, &mut NoMemo).steps, 180);
-    let third = search(&start, 3, &mut NoMemo).steps;
+    assert_eq!(rt; search(&start, Eval::Plain, 1, &mut NoMemo).steps, 62);
+    assert_eq!(rt; search(&start, Eval::Plain, 2, &mut NoMemo).steps, 180);
+    let third = search(&start, Eval::Plain, 3, &mut NoMemo).steps;
     assert!(rt; third <= 26401, "{third} steps");
     assert!(rt; third <= 2500, "{third} steps");
 }
@@ -185,7 +191,7 @@ fn steps_from_the_opening(rt: HostRuntime) {
 fn in_slices(rt: HostRuntime) {
     let start = Position::start();
     for budget in [1, 7, 1000, u64::MAX] {
-        let mut search = Search::start(&start, 3);
+        let mut search = Search::start(&start, Eval::Plain, 3);
         let mut found = None;
         for _ in 0..2500u64 {
             if found.is_none() {
