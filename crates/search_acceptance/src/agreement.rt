@@ -8,6 +8,7 @@ use crate::games;
 use crate::plain::minimax;
 use crate::positions::{played, position};
 use shogi_core::Position;
+use shogi_eval::Eval;
 use shogi_moves::{has_legal, perft};
 use shogi_search::{Found, NoMemo, search};
 use std::process::Abort;
@@ -32,19 +33,27 @@ fn assert_same(rt: &impl Abort, found: &Found, plain: &Found, at: usize, depth: 
 
 // The same over no memo, over one that forgets, and over that one again. Tells whether it then
 // knew the root.
-fn assert_agrees(rt: &impl Abort, p: &Position, at: usize, depth: u8, memo: &mut Forgetful) -> bool
+fn assert_agrees(
+    rt: &impl Abort,
+    p: &Position,
+    e: Eval,
+    at: usize,
+    depth: u8,
+    memo: &mut Forgetful,
+) -> bool
     requires { depth ≤ GREATEST_DEPTH }
 {
-    let plain = minimax(p, depth);
-    assert_same(rt, &search(p, depth, &mut NoMemo), &plain, at, depth);
-    assert_same(rt, &search(p, depth, memo), &plain, at, depth);
-    let again = search(p, depth, memo);
+    let plain = minimax(p, e, depth);
+    assert_same(rt, &search(p, e, depth, &mut NoMemo), &plain, at, depth);
+    assert_same(rt, &search(p, e, depth, memo), &plain, at, depth);
+    let again = search(p, e, depth, memo);
     assert_same(rt, &again, &plain, at, depth);
     again.steps == 0
 }
 
-// Walks through a game up to its mate, and searches each position at depths 0 to 2, and at 3 where
-// two plies have few paths. The memo is the same all along; it keeps some roots and forgets others.
+// Walks through a game up to its mate, and searches each position under both evaluations at depths 0
+// to 2, and at 3 where two plies have few paths. The memo is the same all along; it keeps some roots
+// and forgets others.
 fn walk(rt: &impl Abort, moves: &[&str]) {
     let mut memo = Forgetful::new();
     let mut p = Position::start();
@@ -52,10 +61,12 @@ fn walk(rt: &impl Abort, moves: &[&str]) {
     for (at, text) in moves.iter().enumerate() {
         for depth in 0..4u8 {
             if perft(&p, depth.saturating_sub(1)) <= Some(1500) {
-                if assert_agrees(rt, &p, at, depth, &mut memo) {
-                    known = true;
-                } else {
-                    forgotten = true;
+                for e in [Eval::Plain, Eval::Hand] {
+                    if assert_agrees(rt, &p, e, at, depth, &mut memo) {
+                        known = true;
+                    } else {
+                        forgotten = true;
+                    }
                 }
             }
         }
@@ -85,7 +96,9 @@ fn assert_wide(rt: &impl Abort, sfen: &str, moves: u64) -> Result<(), Fail> {
     let p = position(sfen)?;
     assert_eq!(rt; perft(&p, 1), Some(moves));
     for depth in 1..3u8 {
-        assert_agrees(rt, &p, 0, depth, &mut Forgetful::new());
+        for e in [Eval::Plain, Eval::Hand] {
+            assert_agrees(rt, &p, e, 0, depth, &mut Forgetful::new());
+        }
     }
     Ok(())
 }

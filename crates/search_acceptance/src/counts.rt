@@ -8,6 +8,7 @@ use crate::positions::position;
 use crate::recorder::Recorder;
 use crate::tables::{TWO_PAWNS, table_of};
 use shogi_core::Position;
+use shogi_eval::Eval;
 use shogi_search::{Memo, NoMemo, search};
 use std::alloc::Global;
 use std::process::Abort;
@@ -26,7 +27,7 @@ fn the_opening_over_no_memory(rt: HostRuntime) {
         (5, 200, 12790, 317954),
     ] {
         assert!(rt; depth <= 16);
-        let found = search(&start, depth, &mut NoMemo);
+        let found = search(&start, Eval::Plain, depth, &mut NoMemo);
         assert_eq!(rt;
             (found.value, found.best.map(|m| m.code()), found.steps),
             (value, Some(code), steps),
@@ -41,6 +42,7 @@ fn assert_counts<M: Memo + Drop>(
     rt: &impl Abort,
     alloc: Global,
     p: &Position,
+    e: Eval,
     deepest: u8,
     memo: M,
     mut notes: Notes,
@@ -50,9 +52,9 @@ fn assert_counts<M: Memo + Drop>(
     let mut recorder = Recorder::new(alloc, memo);
     let mut steps: u64 = 0;
     for depth in 1..=deepest {
-        let found = search(p, depth, &mut recorder);
+        let found = search(p, e, depth, &mut recorder);
         steps = steps.saturating_add(found.steps);
-        let plain = search_plainly(alloc, p, depth, &mut notes)?;
+        let plain = search_plainly(alloc, p, e, depth, &mut notes)?;
         assert!(rt;
             plain == Some((found.value, found.best.map(|m| m.code()))),
             "at depth {depth}"
@@ -71,6 +73,7 @@ fn assert_counts_over(
     rt: &impl Abort,
     alloc: Global,
     p: &Position,
+    e: Eval,
     deepest: u8,
     capacity: usize,
 ) -> Result<(), Fail>
@@ -78,19 +81,35 @@ fn assert_counts_over(
 {
     assert!(rt; capacity >= 1 && capacity <= 1000000);
     let table = table_of(alloc, capacity)?;
-    assert_counts(rt, alloc, p, deepest, table, Notes::new(alloc, capacity))
+    let notes = Notes::new(alloc, capacity);
+    assert_counts(rt, alloc, p, e, deepest, table, notes)
 }
 
 #[test]
 fn the_opening_over_no_memory_and_plainly(rt: HostRuntime) -> Result<(), Fail> {
     let notes = Notes::new(rt.alloc(), 0);
-    assert_counts(&rt, rt.alloc(), &Position::start(), 4, NoMemo, notes)
+    assert_counts(
+        &rt,
+        rt.alloc(),
+        &Position::start(),
+        Eval::Plain,
+        4,
+        NoMemo,
+        notes,
+    )
 }
 
 #[test]
 fn the_opening_over_small_tables(rt: HostRuntime) -> Result<(), Fail> {
     for capacity in [1, 2, 30] {
-        assert_counts_over(&rt, rt.alloc(), &Position::start(), 4, capacity)?;
+        assert_counts_over(
+            &rt,
+            rt.alloc(),
+            &Position::start(),
+            Eval::Plain,
+            4,
+            capacity,
+        )?;
     }
     Ok(())
 }
@@ -98,7 +117,14 @@ fn the_opening_over_small_tables(rt: HostRuntime) -> Result<(), Fail> {
 #[test]
 fn the_opening_over_large_tables(rt: HostRuntime) -> Result<(), Fail> {
     for capacity in [1000, 100000] {
-        assert_counts_over(&rt, rt.alloc(), &Position::start(), 4, capacity)?;
+        assert_counts_over(
+            &rt,
+            rt.alloc(),
+            &Position::start(),
+            Eval::Plain,
+            4,
+            capacity,
+        )?;
     }
     Ok(())
 }
@@ -106,7 +132,9 @@ fn the_opening_over_large_tables(rt: HostRuntime) -> Result<(), Fail> {
 #[test]
 fn two_pawns_over_tables(rt: HostRuntime) -> Result<(), Fail> {
     for capacity in [1, 2, 30, 1000] {
-        assert_counts_over(&rt, rt.alloc(), &position(TWO_PAWNS)?, 6, capacity)?;
+        for e in [Eval::Plain, Eval::Hand] {
+            assert_counts_over(&rt, rt.alloc(), &position(TWO_PAWNS)?, e, 6, capacity)?;
+        }
     }
     Ok(())
 }
@@ -121,11 +149,11 @@ const PLAYED: [&str; 6] = [
     "4k4/9/4G4/9/9/9/9/9/9 w G",
 ];
 
-fn assert_minimax(rt: &impl Abort, alloc: Global, p: &Position) -> Result<(), Fail> {
-    let plain = minimax(p, 4);
-    let found = search(p, 4, &mut NoMemo);
+fn assert_minimax(rt: &impl Abort, alloc: Global, p: &Position, e: Eval) -> Result<(), Fail> {
+    let plain = minimax(p, e, 4);
+    let found = search(p, e, 4, &mut NoMemo);
     assert!(rt; found.value == plain.value && found.best == plain.best);
-    let found = search(p, 4, &mut table_of(alloc, 1000)?);
+    let found = search(p, e, 4, &mut table_of(alloc, 1000)?);
     assert!(rt; found.value == plain.value && found.best == plain.best);
     Ok(())
 }
@@ -133,10 +161,10 @@ fn assert_minimax(rt: &impl Abort, alloc: Global, p: &Position) -> Result<(), Fa
 // The tree of the opening position has 746,132 nodes at depth 4.
 #[test]
 fn plain_minimax_at_depth_four(rt: HostRuntime) -> Result<(), Fail> {
-    assert_minimax(&rt, rt.alloc(), &Position::start())?;
-    assert_minimax(&rt, rt.alloc(), &position(TWO_PAWNS)?)?;
+    assert_minimax(&rt, rt.alloc(), &Position::start(), Eval::Plain)?;
+    assert_minimax(&rt, rt.alloc(), &position(TWO_PAWNS)?, Eval::Plain)?;
     for sfen in PLAYED {
-        assert_minimax(&rt, rt.alloc(), &position(sfen)?)?;
+        assert_minimax(&rt, rt.alloc(), &position(sfen)?, Eval::Plain)?;
     }
     Ok(())
 }
@@ -148,7 +176,7 @@ fn mates_at_depth_four(rt: HostRuntime) -> Result<(), Fail> {
         ("4k4/9/4P4/9/9/9/9/9/9 b G", 30003, 13483),
         ("4k4/9/4G4/9/9/9/9/9/9 w G", -30002, 5886),
     ] {
-        let found = search(&position(sfen)?, 4, &mut NoMemo);
+        let found = search(&position(sfen)?, Eval::Plain, 4, &mut NoMemo);
         assert_eq!(rt;
             (found.value, found.best.map(|m| m.code())),
             (value, Some(code)),

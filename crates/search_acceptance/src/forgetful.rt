@@ -4,15 +4,18 @@ ghost use Rattle.std.specs.Prelude.{◌≡◌, ◌<◌, ◌&&◌, ◌==◌, true
 ghost use Rattle.std.specs.Option.{option_map_or};
 ghost use Rattle.std.specs.List.{find};
 ghost use Rattle.shogi_core.specs.Same.{is_same_position};
+ghost use Rattle.shogi_eval.specs.Evaluated.{is_same_eval};
 
 use shogi_core::Position;
+use shogi_eval::Eval;
 use shogi_search::{Entry, Memo};
 use std::marker::Model;
 
-/// What was noted of a position at a depth.
+/// What was noted of a position under an evaluation at a depth.
 #[derive(Clone, Copy, Debug)]
 pub struct Kept {
     position: Position,
+    eval: Eval,
     depth: u8,
     entry: Entry,
 }
@@ -20,25 +23,26 @@ pub struct Kept {
 impl Model for Kept {
     ghost use Rattle.std.specs.Prelude.{ℕ};
     ghost use Rattle.shogi_core.specs.Position.{Shogi};
+    ghost use Rattle.shogi_eval.specs.declared.eval.Eval.{Eval};
     ghost use Rattle.shogi_search.specs.Minimax.{IsTrueEntry};
     ghost use Rattle.shogi_search.specs.declared.memo.Entry.{Entry};
 
-    ghost Value = { Shogi × (ℕ × Entry) };
+    ghost Value = { Shogi × (Eval × (ℕ × Entry)) };
 
-    ghost view = { λ kept. (kept.position, (kept.depth, kept.entry)) };
+    ghost view = { λ kept. (kept.position, (kept.eval, (kept.depth, kept.entry))) };
 
-    ghost invariant = { λ kept. IsTrueEntry kept.position kept.depth kept.entry };
+    ghost invariant = { λ kept. IsTrueEntry kept.position kept.eval kept.depth kept.entry };
 
-    ghost inverse = { λ v. record { position = v.0; depth = v.1.0; entry = v.1.1 } };
+    ghost inverse = { λ v. record { position = v.0; eval = v.1.0; depth = v.1.1.0; entry = v.1.1.1 } };
 }
 
 impl Kept {
-    /// Whether it is of this position at this depth.
-    fn is_of(&self, p: &Position, d: u8) -> bool
-        ensures value { result ≡ (self.now.1.0 == d && is_same_position self.now.0 p.now) }
-        ensures same { result ≡ true → (self.now.0 ≡ p.now) }
+    /// Whether it is of this position under this evaluation at this depth.
+    fn is_of(&self, p: &Position, e: Eval, d: u8) -> bool
+        ensures value { result ≡ (self.now.1.1.0 == d && is_same_eval self.now.1.0 e && is_same_position self.now.0 p.now) }
+        ensures same { result ≡ true → (self.now.0 ≡ p.now) × (self.now.1.0 ≡ e) }
     {
-        self.depth == d && self.position.is_same(p)
+        self.depth == d && self.eval.is_same(e) && self.position.is_same(p)
     }
 }
 
@@ -62,12 +66,12 @@ impl Forgetful {
 }
 
 impl Memo for Forgetful {
-    ghost answers = { λ memo p d. option_map_or (λ slot. option_map (λ kept. kept.1.1) slot) (find (λ slot. option_map_or (λ kept. kept.1.0 == d && is_same_position kept.0 p) slot false) memo.slots) None };
+    ghost answers = { λ memo p e d. option_map_or (λ slot. option_map (λ kept. kept.1.1.1) slot) (find (λ slot. option_map_or (λ kept. kept.1.1.0 == d && is_same_eval kept.1.0 e && is_same_position kept.0 p) slot false) memo.slots) None };
 
-    fn probe(&mut self, p: &Position, d: u8) -> Option<Entry> {
+    fn probe(&mut self, p: &Position, e: Eval, d: u8) -> Option<Entry> {
         'slots: for slot in &self.slots {
             if let Some(kept) = slot {
-                if kept.is_of(p, d) {
+                if kept.is_of(p, e, d) {
                     return Some(kept.entry);
                 }
             }
@@ -75,10 +79,11 @@ impl Memo for Forgetful {
         None
     }
 
-    fn note(&mut self, p: &Position, d: u8, entry: Entry) {
+    fn note(&mut self, p: &Position, e: Eval, d: u8, entry: Entry) {
         if self.keeps {
             self.slots[self.next] = Some(Kept {
                 position: *p,
+                eval: e,
                 depth: d,
                 entry,
             });

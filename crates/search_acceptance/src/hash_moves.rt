@@ -7,6 +7,7 @@ use crate::positions::{played, position};
 use crate::recorder::{Call, Recorder};
 use crate::tables::table_of;
 use shogi_core::Position;
+use shogi_eval::Eval;
 use shogi_search::{Entry, NoMemo, Search, search};
 use std::process::Abort;
 use std::test::Fail;
@@ -16,7 +17,7 @@ use std::test::Fail;
 #[test]
 fn each_node_is_asked_for_on_the_way_down(rt: HostRuntime) -> Result<(), Fail> {
     for depth in 1..=16u8 {
-        let mut search = Search::start(&Position::start(), depth);
+        let mut search = Search::start(&Position::start(), Eval::Plain, depth);
         let mut recorder = Recorder::new(rt.alloc(), NoMemo);
         search.advance(&mut recorder, u64::from(depth) + 1);
         let calls = recorder.calls();
@@ -40,15 +41,15 @@ fn a_child_visits_its_hash_move_first(rt: HostRuntime) -> Result<(), Fail> {
     let root = played(&rt, &Position::start(), "7g7f");
     let child = played(&rt, &root, "1a1b");
     let mut bare = Recorder::new(rt.alloc(), NoMemo);
-    Search::start(&root, 3).advance(&mut bare, 3);
+    Search::start(&root, Eval::Plain, 3).advance(&mut bare, 3);
     let capture = played(&rt, &child, "8h3c");
     assert!(rt; bare.calls().last().map(|call| call.position) == Some(capture));
     for (depth, best) in [(3u8, "8h3c+"), (4, "1g1f")] {
         assert!(rt; depth >= 2 && depth <= 16);
         let mut table = table_of(rt.alloc(), 10000)?;
-        search(&child, depth - 2, &mut table);
+        search(&child, Eval::Plain, depth - 2, &mut table);
         let mut recorder = Recorder::new(rt.alloc(), table);
-        Search::start(&root, depth).advance(&mut recorder, 3);
+        Search::start(&root, Eval::Plain, depth).advance(&mut recorder, 3);
         let last = played(&rt, &child, best);
         let wanted = [
             (root, depth),
@@ -69,7 +70,10 @@ const FACING: &str = "lnsgkgsnl/1r5b1/pppppp1pp/6p2/9/2P6/PP1PPPPPP/1B5R1/LNSGKG
 fn assert_asked(rt: &impl Abort, calls: &[Call], wanted: &[(Position, u8)]) {
     assert!(rt; calls.len() >= wanted.len());
     for ((position, depth), call) in wanted.iter().zip(calls) {
-        assert!(rt; call.position == *position, "at depth {depth}");
+        assert!(rt;
+            call.position == *position && call.eval == Eval::Plain,
+            "at depth {depth}"
+        );
         assert_eq!(rt; call.depth, *depth);
         assert!(rt; call.noted.is_none(), "at depth {depth}");
     }
@@ -82,12 +86,12 @@ fn the_first_capture_is_visited_first(rt: HostRuntime) -> Result<(), Fail> {
     let root = position(FACING)?;
     let capture = played(&rt, &root, "8h2b");
     let mut recorder = Recorder::new(rt.alloc(), NoMemo);
-    let found = search(&root, 2, &mut recorder);
+    let found = search(&root, Eval::Plain, 2, &mut recorder);
     assert!(rt; found.steps > 0);
     assert_asked(&rt, recorder.calls(), &[(root, 2), (root, 1), (capture, 1)]);
     for depth in [0, 1, 2] {
         let mut recorder = Recorder::new(rt.alloc(), NoMemo);
-        search(&root, depth, &mut recorder);
+        search(&root, Eval::Plain, depth, &mut recorder);
         let last = recorder.calls().last().ok_or("a call")?;
         assert!(rt; last.position == root && last.depth == depth);
         assert!(rt; matches!(last.noted, Some(Entry::Exact(_, _))));
@@ -101,7 +105,7 @@ fn the_hash_move_is_visited_before_captures(rt: HostRuntime) -> Result<(), Fail>
     let root = position(FACING)?;
     let best = played(&rt, &root, "8h2b+");
     let mut recorder = Recorder::new(rt.alloc(), Oracle);
-    search(&root, 2, &mut recorder);
+    search(&root, Eval::Plain, 2, &mut recorder);
     assert_asked(&rt, recorder.calls(), &[(root, 2), (root, 1), (best, 1)]);
     Ok(())
 }

@@ -5,6 +5,7 @@ ghost use Rattle.shogi_search.specs.Minimax.{value, best};
 ghost use Rattle.shogi_search.specs.declared.memo.Entry.TheVariants.{Exact};
 
 use shogi_core::Position;
+use shogi_eval::Eval;
 use shogi_search::{Entry, Memo, NoMemo, search};
 
 /// Answers exactly at depths 0 and 1, by a search over no memory, and keeps nothing.
@@ -12,15 +13,15 @@ use shogi_search::{Entry, Memo, NoMemo, search};
 pub struct Oracle;
 
 impl Memo for Oracle {
-    ghost answers = { λ _ p d. if nat_le d 1 then Option.Some (Exact (value p d) (best p d)) else Option.None };
+    ghost answers = { λ _ p e d. if nat_le d 1 then Option.Some (Exact (value p e d) (best p e d)) else Option.None };
 
-    fn probe(&mut self, p: &Position, d: u8) -> Option<Entry> {
+    fn probe(&mut self, p: &Position, e: Eval, d: u8) -> Option<Entry> {
         if d > 1 {
             return None;
         }
-        let found = search(p, d, &mut NoMemo);
+        let found = search(p, e, d, &mut NoMemo);
         Some(Entry::Exact(found.value, found.best))
     }
 
-    fn note(&mut self, _p: &Position, _d: u8, _entry: Entry) {}
+    fn note(&mut self, _p: &Position, _e: Eval, _d: u8, _entry: Entry) {}
 }

@@ -1,9 +1,9 @@
 //! The search written plainly, to count with: it calls itself, and remembers in a list.
 
 use shogi_core::{Move, Position};
-use shogi_eval::material;
+use shogi_eval::{Eval, material};
 use shogi_moves::{Walk, apply, has_legal};
-use shogi_search::Found;
+use shogi_search::{Found, INFINITY, MATE};
 use std::alloc::{AllocError, Global};
 
 /// What is known of a value: all, with the code of the best move, or a bound.
@@ -14,10 +14,11 @@ enum Known {
     AtMost(i32),
 }
 
-/// What was noted of a position at a depth.
+/// What was noted of a position under an evaluation at a depth.
 #[derive(Clone, Copy, Debug)]
 struct Kept {
     position: Position,
+    eval: Eval,
     depth: u8,
     known: Known,
 }
@@ -44,10 +45,10 @@ impl Notes {
         }
     }
 
-    /// Where the note of the position at the depth is.
-    fn place_of(&self, p: &Position, depth: u8) -> Option<usize> {
+    /// Where the note of the position under the evaluation at the depth is.
+    fn place_of(&self, p: &Position, e: Eval, depth: u8) -> Option<usize> {
         for (place, kept) in self.kept.as_slice().iter().enumerate() {
-            if kept.depth == depth && kept.position == *p {
+            if kept.depth == depth && kept.eval == e && kept.position == *p {
                 return Some(place);
             }
         }
@@ -55,9 +56,9 @@ impl Notes {
     }
 
     /// What was noted of the position at the depth, which is then the most recently used.
-    fn ask(&mut self, p: &Position, depth: u8) -> Result<Option<Known>, AllocError> {
+    fn ask(&mut self, p: &Position, e: Eval, depth: u8) -> Result<Option<Known>, AllocError> {
         self.calls = self.calls.saturating_add(1);
-        let Some(place) = self.place_of(p, depth) else {
+        let Some(place) = self.place_of(p, e, depth) else {
             return Ok(None);
         };
         if place >= self.kept.len() {
@@ -70,8 +71,8 @@ impl Notes {
     }
 
     /// Takes away the note of the position at the depth.
-    fn forget(&mut self, p: &Position, depth: u8) {
-        let Some(place) = self.place_of(p, depth) else {
+    fn forget(&mut self, p: &Position, e: Eval, depth: u8) {
+        let Some(place) = self.place_of(p, e, depth) else {
             return;
         };
         if place < self.kept.len() {
@@ -80,11 +81,12 @@ impl Notes {
     }
 
     /// Notes what is known of the position at the depth.
-    fn note(&mut self, p: &Position, depth: u8, known: Known) -> Result<(), AllocError> {
+    fn note(&mut self, p: &Position, e: Eval, depth: u8, known: Known) -> Result<(), AllocError> {
         self.calls = self.calls.saturating_add(1);
-        self.forget(p, depth);
+        self.forget(p, e, depth);
         let kept = Kept {
             position: *p,
+            eval: e,
             depth,
             known,
         };
@@ -108,11 +110,12 @@ impl Notes {
     fn answer(
         &mut self,
         p: &Position,
+        e: Eval,
         depth: u8,
         alpha: i32,
         beta: i32,
     ) -> Result<Option<Known>, AllocError> {
-        let known = self.ask(p, depth)?;
+        let known = self.ask(p, e, depth)?;
         let answer = known;
         if let Some(entry) = &known {
             if is_cutoff(entry, alpha, beta) {
@@ -167,8 +170,8 @@ fn branches_of(
 }
 
 /// The value at depth 0.
-fn leaf(p: &Position) -> i32 {
-    if has_legal(p) { material(p) } else { -30000 }
+fn leaf(p: &Position, e: Eval) -> i32 {
+    if has_legal(p) { material(p, e) } else { -MATE }
 }
 
 /// What a move has to be worth more than: one less for a lesser code than that of the best one.
@@ -192,6 +195,7 @@ fn is_cutoff(entry: &Known, alpha: i32, beta: i32) -> bool {
 fn visit(
     alloc: Global,
     p: &Position,
+    e: Eval,
     depth: u8,
     alpha: i32,
     beta: i32,
@@ -199,12 +203,12 @@ fn visit(
 ) -> Result<Known, AllocError> {
     notes.step(2);
     if depth == 0 {
-        return Ok(Known::Exact(leaf(p), None));
+        return Ok(Known::Exact(leaf(p, e), None));
     }
     let below = depth - 1;
     let mut hash_move = None;
     if depth > 1 {
-        if let Some(Known::Exact(_, best)) = notes.ask(p, below)? {
+        if let Some(Known::Exact(_, best)) = notes.ask(p, e, below)? {
             hash_move = best;
         }
     }
@@ -215,9 +219,9 @@ fn visit(
             if branch.turn == turn {
                 let threshold = threshold(best_value, best, branch.code);
                 let (under, over) = (beta.saturating_neg(), threshold.saturating_neg());
-                let entry = match notes.answer(&branch.position, below, under, over)? {
+                let entry = match notes.answer(&branch.position, e, below, under, over)? {
                     Some(entry) => entry,
-                    None => visit(alloc, &branch.position, below, under, over, notes)?,
+                    None => visit(alloc, &branch.position, e, below, under, over, notes)?,
                 };
                 let (worth, exact) = match entry {
                     Known::Exact(v, _) => (v.saturating_neg(), true),
@@ -227,7 +231,7 @@ fn visit(
                 if worth >= beta {
                     let cut = Known::AtLeast(worth);
                     let noted = cut;
-                    notes.note(p, depth, noted)?;
+                    notes.note(p, e, depth, noted)?;
                     return Ok(cut);
                 }
                 if exact && worth > threshold {
@@ -239,7 +243,7 @@ fn visit(
     }
     let entry = closed(best_value, best, depth, branches.is_empty());
     let noted = entry;
-    notes.note(p, depth, noted)?;
+    notes.note(p, e, depth, noted)?;
     Ok(entry)
 }
 
@@ -247,7 +251,7 @@ fn visit(
 fn closed(best_value: i32, best: Option<u16>, depth: u8, is_lost: bool) -> Known {
     match best {
         Some(_) => Known::Exact(best_value, best),
-        None if is_lost => Known::Exact((-30000i32).saturating_sub(i32::from(depth)), None),
+        None if is_lost => Known::Exact((-MATE).saturating_sub(i32::from(depth)), None),
         None => Known::AtMost(best_value),
     }
 }
@@ -256,12 +260,13 @@ fn closed(best_value: i32, best: Option<u16>, depth: u8, is_lost: bool) -> Known
 pub fn search_plainly(
     alloc: Global,
     p: &Position,
+    e: Eval,
     depth: u8,
     notes: &mut Notes,
 ) -> Result<Option<(i32, Option<u16>)>, AllocError> {
-    let mut entry = notes.ask(p, depth)?;
+    let mut entry = notes.ask(p, e, depth)?;
     if !matches!(entry, Some(Known::Exact(_, _))) {
-        entry = Some(visit(alloc, p, depth, -31000, 31000, notes)?);
+        entry = Some(visit(alloc, p, e, depth, -INFINITY, INFINITY, notes)?);
     }
     match entry {
         Some(Known::Exact(value, best)) => Ok(Some((value, best))),
@@ -271,20 +276,20 @@ pub fn search_plainly(
 
 /// The value and the best move by plain minimax: every move of the whole tree, nothing remembered. A
 /// step enters or leaves a node.
-pub fn minimax(p: &Position, depth: u8) -> Found {
+pub fn minimax(p: &Position, e: Eval, depth: u8) -> Found {
     let mut found = Found {
-        value: (-30000i32).saturating_sub(i32::from(depth)),
+        value: (-MATE).saturating_sub(i32::from(depth)),
         best: None,
         steps: 2,
     };
     if depth == 0 {
-        found.value = leaf(p);
+        found.value = leaf(p, e);
         return found;
     }
     let mut walk = Walk::new(p);
     'moves: while let Some(m) = walk.next() {
         let tried = m;
-        let below = minimax(&apply(p, tried), depth - 1);
+        let below = minimax(&apply(p, tried), e, depth - 1);
         let worth = below.value.saturating_neg();
         found.steps = found.steps.saturating_add(below.steps);
         if found.best.is_none() || worth > found.value {

@@ -1,6 +1,7 @@
 //! A memory that records its calls and leaves the rest to another one.
 
 use shogi_core::Position;
+use shogi_eval::Eval;
 use shogi_search::{Entry, Memo};
 use std::alloc::Global;
 
@@ -8,6 +9,7 @@ use std::alloc::Global;
 #[derive(Clone, Copy, Debug)]
 pub struct Call {
     pub position: Position,
+    pub eval: Eval,
     pub depth: u8,
     pub noted: Option<Entry>,
 }
@@ -34,24 +36,26 @@ impl<M: Memo> Recorder<M> {
 }
 
 impl<M: Memo> Memo for Recorder<M> {
-    ghost answers = { λ recorder p d. M.answers recorder.memo p d };
+    ghost answers = { λ recorder p e d. M.answers recorder.memo p e d };
 
-    fn probe(&mut self, p: &Position, d: u8) -> Option<Entry> {
+    fn probe(&mut self, p: &Position, e: Eval, d: u8) -> Option<Entry> {
         let _ = self.calls.push(Call {
             position: *p,
+            eval: e,
             depth: d,
             noted: None,
         });
-        self.memo.probe(p, d)
+        self.memo.probe(p, e, d)
     }
 
-    fn note(&mut self, p: &Position, d: u8, entry: Entry) {
+    fn note(&mut self, p: &Position, e: Eval, d: u8, entry: Entry) {
         let noted = entry;
         let _ = self.calls.push(Call {
             position: *p,
+            eval: e,
             depth: d,
             noted: Some(noted),
         });
-        self.memo.note(p, d, entry);
+        self.memo.note(p, e, d, entry);
     }
 }

@@ -7,6 +7,7 @@ ghost use Rattle.shared_table.specs.declared.table.TheConstants.{GREATEST_CAPACI
 use crate::positions::position;
 use shared_table::{SharedTable, TableFault};
 use shogi_core::{Move, Position};
+use shogi_eval::Eval;
 use shogi_moves::{apply, next_legal};
 use shogi_search::{Entry, Memo, NoMemo, search};
 use std::alloc::{AllocError, Global};
@@ -43,8 +44,8 @@ fn children(alloc: Global, p: &Position) -> Result<Vec<Position>, AllocError> {
 fn note_exact<M: Memo>(memo: &mut M, p: &Position, depth: u8)
     requires { depth ≤ GREATEST_DEPTH }
 {
-    let found = search(p, depth, &mut NoMemo);
-    memo.note(p, depth, Entry::Exact(found.value, found.best));
+    let found = search(p, Eval::Plain, depth, &mut NoMemo);
+    memo.note(p, Eval::Plain, depth, Entry::Exact(found.value, found.best));
 }
 
 // Depth 0 is asked for last before depth 2 comes, so depth 1 is the one that goes.
@@ -54,7 +55,7 @@ fn two_entries(rt: HostRuntime) -> Result<(), Fail> {
     let mut table = table_of(rt.alloc(), 2)?;
     note_exact(&mut table, &start, 0);
     note_exact(&mut table, &start, 1);
-    assert!(rt; table.probe(&start, 0) == Some(Entry::Exact(0, None)));
+    assert!(rt; table.probe(&start, Eval::Plain, 0) == Some(Entry::Exact(0, None)));
     note_exact(&mut table, &start, 2);
 
     let mut depths = [99, 99, 99];
@@ -65,10 +66,10 @@ fn two_entries(rt: HostRuntime) -> Result<(), Fail> {
         count += 1;
     }
     assert_eq!(rt; (depths, count), ([2, 0, 99], 2));
-    assert!(rt; table.peek(&start, 1).is_none());
+    assert!(rt; table.peek(&start, Eval::Plain, 1).is_none());
     assert_eq!(rt; table.len(), 2);
 
-    let again = search(&start, 2, &mut table);
+    let again = search(&start, Eval::Plain, 2, &mut table);
     assert_eq!(rt;
         (again.value, again.best.map(|m| m.code()), again.steps),
         (0, Some(982), 0)
@@ -88,9 +89,9 @@ fn assert_known_children(
     let mut table = table_of(alloc, 100000)?;
     let after = children(alloc, root)?;
     for p in after.as_slice() {
-        search(p, depth, &mut table);
+        search(p, Eval::Plain, depth, &mut table);
     }
-    let found = search(root, depth + 1, &mut table);
+    let found = search(root, Eval::Plain, depth + 1, &mut table);
     let steps = (after.len() as u64).saturating_add(2);
     assert_eq!(rt; found.steps, steps, "children at depth {depth}");
     Ok(())
@@ -116,11 +117,11 @@ fn left_of(alloc: Global, root: &Position, depth: u8) -> Result<(usize, usize), 
     requires { depth ≤ 15 }
 {
     let mut table = table_of(alloc, 100000)?;
-    search(root, depth + 1, &mut table);
+    search(root, Eval::Plain, depth + 1, &mut table);
     let (mut entries, mut exact) = (0usize, 0usize);
     let after = children(alloc, root)?;
     for p in after.as_slice() {
-        match table.peek(p, depth) {
+        match table.peek(p, Eval::Plain, depth) {
             Some(Entry::Exact(_, _)) => {
                 entries = entries.saturating_add(1);
                 exact = exact.saturating_add(1);
@@ -167,8 +168,30 @@ fn notes_at_every_depth(rt: HostRuntime) -> Result<(), Fail> {
     }
     for depth in 0..=16u8 {
         let lost = Some(Entry::Exact((-30000i32).saturating_sub(i32::from(depth)), None));
-        assert_eq!(rt; table.peek(&mated, depth), lost);
-        assert_eq!(rt; table.probe(&mated, depth), lost);
+        assert_eq!(rt; table.peek(&mated, Eval::Plain, depth), lost);
+        assert_eq!(rt; table.probe(&mated, Eval::Plain, depth), lost);
+    }
+    Ok(())
+}
+
+// Two pawns in hand, and one that may be taken at once: each evaluation has its own values, whichever
+// was asked first over the same table, and of any capacity.
+#[test]
+fn two_evaluations_over_one_table(rt: HostRuntime) -> Result<(), Fail> {
+    let p = position("4k4/9/9/9/4p4/4P4/9/9/4K4 b 2P")?;
+    for capacity in [1usize, 4096] {
+        assert!(rt; capacity >= 1 && capacity <= 1000000);
+        let mut table = table_of(rt.alloc(), capacity)?;
+        for (e, value) in [
+            (Eval::Plain, 400),
+            (Eval::Hand, 430),
+            (Eval::Plain, 400),
+            (Eval::Hand, 430),
+        ] {
+            let found = search(&p, e, 1, &mut table);
+            assert_eq!(rt; found.value, value);
+            assert!(rt; table.peek(&p, e, 1) == Some(Entry::Exact(value, found.best)));
+        }
     }
     Ok(())
 }
@@ -181,10 +204,10 @@ fn tables_of_every_size(rt: HostRuntime) -> Result<(), Fail> {
     ] {
         assert!(rt; capacity >= 1 && capacity <= 1000000);
         let mut table = table_of(rt.alloc(), capacity)?;
-        assert!(rt; table.len() == 0 && table.probe(&start, 1).is_none());
+        assert!(rt; table.len() == 0 && table.probe(&start, Eval::Plain, 1).is_none());
         note_exact(&mut table, &start, 1);
         assert_eq!(rt;
-            table.peek(&start, 1),
+            table.peek(&start, Eval::Plain, 1),
             Some(Entry::Exact(0, Move::of_code(982)))
         );
     }

@@ -7,6 +7,7 @@ use crate::oracle::Oracle;
 use crate::recorder::Recorder;
 use crate::tables::table_of;
 use shogi_core::Position;
+use shogi_eval::Eval;
 use shogi_search::{Entry, Found, Memo, NoMemo, Search};
 use std::alloc::Global;
 use std::process::Abort;
@@ -47,8 +48,8 @@ fn by_turns<M: Memo>(
 fn assert_turns<M: Memo>(rt: &impl Abort, memo: &mut M, depth: u8, value: i32, code: u16)
     requires { depth ≤ GREATEST_DEPTH }
 {
-    let mut first = Search::start(&Position::start(), depth);
-    let mut second = Search::start(&Position::start(), depth);
+    let mut first = Search::start(&Position::start(), Eval::Plain, depth);
+    let mut second = Search::start(&Position::start(), Eval::Plain, depth);
     let (one, two) = by_turns(&mut first, &mut second, memo).expect(rt, "an end");
     assert_found(rt, &one, value, code);
     assert_found(rt, &two, value, code);
@@ -84,7 +85,7 @@ fn two_searches_by_turns_over_an_oracle(rt: HostRuntime) {
 #[test]
 fn a_root_that_is_known(rt: HostRuntime) -> Result<(), Fail> {
     for budget in [0, 1, 1000] {
-        let mut search = Search::start(&Position::start(), 1);
+        let mut search = Search::start(&Position::start(), Eval::Plain, 1);
         let found = search.advance(&mut Oracle, budget).ok_or("an end at once")?;
         assert_found(&rt, &found, 0, 982);
         let again = search.advance(&mut NoMemo, 1000).ok_or("an end")?;
@@ -97,7 +98,7 @@ fn a_root_that_is_known(rt: HostRuntime) -> Result<(), Fail> {
 // A step is no whole search: each asks and notes a few times.
 #[test]
 fn few_calls_in_a_step(rt: HostRuntime) -> Result<(), Fail> {
-    let mut search = Search::start(&Position::start(), 3);
+    let mut search = Search::start(&Position::start(), Eval::Plain, 3);
     let mut recorder = Recorder::new(rt.alloc(), NoMemo);
     let mut before = 0usize;
     for made in 0..60000u64 {
@@ -134,12 +135,12 @@ fn assert_last_call<M: Memo + Drop>(
     requires { depth ≤ GREATEST_DEPTH }
 {
     let start = Position::start();
-    let mut search = Search::start(&start, depth);
+    let mut search = Search::start(&start, Eval::Plain, depth);
     let mut recorder = Recorder::new(alloc, memo);
     let found = step_by_step(&mut search, &mut recorder).ok_or("an end")?;
     let calls = recorder.calls().len();
     let last = recorder.calls().last().copied().ok_or("a call")?;
-    assert!(rt; last.position == start && last.depth == depth);
+    assert!(rt; last.position == start && last.eval == Eval::Plain && last.depth == depth);
     assert!(rt; last.noted == Some(Entry::Exact(found.value, found.best)));
     for budget in [0, 1, 1000, u64::MAX] {
         assert!(rt; search.advance(&mut recorder, budget) == Some(found));

@@ -1,5 +1,8 @@
 //! By which values a position is judged.
 
+ghost use Rattle.std.specs.Prelude.{◌≡◌, ◌↔◌, IsTrue};
+ghost use Rattle.shogi_eval.specs.Evaluated.{is_same_eval};
+
 /// The values that material is summed by (own choice).
 #[derive(Clone, Copy, Debug, PartialEq, Eq, Hash)]
 pub enum Eval {
@@ -7,4 +10,18 @@ pub enum Eval {
     Plain,
     /// A piece in hand is worth a tenth more.
     Hand,
+}
+
+impl Eval {
+    /// Whether the two are one evaluation.
+    pub fn is_same(self, other: Eval) -> bool
+        ensures value { result ≡ is_same_eval self other }
+        ensures same { IsTrue result ↔ (self ≡ other) }
+    {
+        match (self, other) {
+            (Eval::Plain, Eval::Plain) => true,
+            (Eval::Hand, Eval::Hand) => true,
+            _ => false,
+        }
+    }
 }

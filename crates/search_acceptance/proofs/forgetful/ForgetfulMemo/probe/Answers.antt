@@ -15,9 +15,9 @@ found_here test (y ∷ ys) (suc i) x other at is passes = found_here test ys i x
 pub returns-then-is_of-clause-answer : goal.returns-then-is_of-clause-answer
 returns-then-is_of-clause-answer c =
     let at : c.slots.slot-index < length c.args.self.now.slots = omega arith in
-    let passes : is_of c.args.p.now c.args.d (Some c.in-Some.kept) ≡ true = sym c.is_of.ensures.value ∙ c.if-is_of.true in
-    let found = found_here (is_of c.args.p.now c.args.d) c.args.self.now.slots c.slots.slot-index (Some c.in-Some.kept) c.slot-item.result at c.in-Some.is passes in
-    rw (← c.slots.invariant, found) (ap (λ (kept : Kept). Some kept.1.1) c.kept.view_is)
+    let passes : is_of c.args.p.now c.args.e c.args.d (Some c.in-Some.kept) ≡ true = sym c.is_of.ensures.value ∙ c.if-is_of.true in
+    let found = found_here (is_of c.args.p.now c.args.e c.args.d) c.args.self.now.slots c.slots.slot-index (Some c.in-Some.kept) c.slot-item.result at c.in-Some.is passes in
+    rw (← c.slots.invariant, found) (ap (λ (kept : Kept). Some kept.1.1.1) c.kept.view_is)
 
 pub returns-clause-answer : goal.returns-clause-answer
 returns-clause-answer c =
