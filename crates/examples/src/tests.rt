@@ -5,6 +5,7 @@ use host_core::{Event, Host, Outcome};
 use session_slots::Slots;
 use shared_table::SharedTable;
 use shogi_core::{Color, Move, Piece, Position, Role};
+use shogi_eval::Eval;
 use shogi_moves::is_legal;
 use shogi_sfen::read_position;
 use socket_loop::{Loop, MemoryWire, WireFault};
@@ -53,21 +54,21 @@ fn a_bishop_takes_a_bishop(rt: HostRuntime) -> Result<(), Fail> {
     let m = shogi_sfen::read_move(b"8h2b+").ok_or("a move")?;
     let tried = m;
     assert!(rt; is_legal(&p, tried));
-    assert_eq!(rt; score_of_mover(&p, m), 1900);
+    assert_eq!(rt; score_of_mover(&p, Eval::Plain, m), 1900);
     Ok(())
 }
 
 #[test]
 fn the_opening_position_at_depth_three(rt: HostRuntime) -> Result<(), Fail> {
     let start = Position::start();
-    let found = search_in_slices(&start, 3, 1000).ok_or("an end")?;
+    let found = search_in_slices(&start, Eval::Plain, 3, 1000).ok_or("an end")?;
     assert_eq!(rt;
         (found.value, found.best.map(|m| m.code())),
         (200, Some(9838))
     );
-    assert!(rt; search_in_slices(&start, 3, 1).is_none());
+    assert!(rt; search_in_slices(&start, Eval::Plain, 3, 1).is_none());
     let mut table = SharedTable::new(rt.alloc(), 100, BuildHasherDefault::<FoldHasher>::new())?;
-    let (first, second) = search_twice(&start, 3, &mut table);
+    let (first, second) = search_twice(&start, Eval::Plain, 3, &mut table);
     assert_eq!(rt; (first.value, second.value), (200, 200));
     assert_eq!(rt; second.steps, 0);
     Ok(())
