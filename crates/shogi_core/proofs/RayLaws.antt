@@ -4,9 +4,9 @@ use Rattle.std.specs.Prelude.{◌&&◌, zero, suc, is_none}
 use Rattle.std.proofs.lemmas.Int.{ints}
 use Rattle.std.proofs.lemmas.Bool.{cases_Bool, cases_lt, false_from_ne_true, both_ways, and_parts, and_from, not-true, not_from_false}
 use Rattle.shogi_core.specs.declared.offset.Offset.{Offset}
-use Rattle.shogi_core.specs.Below.{all_below}
+use Rattle.shogi_core.specs.Below.{all_below, some_below}
 use Rattle.shogi_core.specs.Movement.{Cells, away, leads, is_clear, is_empty, slides_across, slides, piece_at}
-use Rattle.shogi_core.proofs.Below.{all_below_at, all_below_yes, some_below_at}
+use Rattle.shogi_core.proofs.Below.{all_below_at, all_below_yes, some_below_at, some_below_no, some_below_not}
 use Rattle.shogi_core.specs.Rays.{is_on_ray}
 use Rattle.shogi_core.proofs.Back.{away_on, away_is, leads_is, is_leads, times_zero, times_add, one_more, same_test}
 use Rattle.shogi_core.proofs.Exposed.{some_below_which}
@@ -145,3 +145,48 @@ module _ (cells : Cells) (o : Offset) (a : ℕ) where
             let steps : n + 1 + (j.0 + 1) ≤ which.0 + 1 = apart (n + 1 + (j.0 + 1)) (which.0 + 1) b far (leads_is _ b parts.0) in
             let clear : is_clear cells o a n ≡ true = all_below_at which.0 (is_clear cells o a) n parts.1 (omega arith) in
             both_ways (is_none (piece_at cells f)) taken (ap (is_empty cells) (sym at_first) ∙ clear))))
+
+  -- indexes rise: the slide reaches what is on the line with no piece on it of lower index
+  module _ (up : rises o) (taken : ℕ → Bool)
+      (pieces : (x : ℕ) → is_on_ray o a x ≡ true → taken x ≡ not (is_none (piece_at cells x)))
+      (on_line : (x : ℕ) → taken x ≡ true → is_on_ray o a x ≡ true) where
+    pub slides_rising : (b : ℕ) → (is_on_ray o a b && not (some_below b taken)) ≡ slides cells o a b
+    slides_rising b = same_test (is_on_ray o a b && not (some_below b taken)) (slides cells o a b) forth back
+      where
+        forth : (is_on_ray o a b && not (some_below b taken)) ≡ true → slides cells o a b ≡ true
+        forth e =
+            let both : (is_on_ray o a b ≡ true) × (not (some_below b taken) ≡ true) = and_parts (is_on_ray o a b) (not (some_below b taken)) e in
+            let which = some_below_which 8 (slides_across [] o a b) both.0 in
+            let parts : (leads (which.0 + 1) o a b ≡ true) × (all_below which.0 (is_clear [] o a) ≡ true) = and_parts _ _ which.2 in
+            slides_over b which.0 which.1 which.2 (λ i l. (
+            let on = way which.0 i which.1 l parts.1 in
+            let below : on.0 < b = elim (cases_lt on.0 b) [
+              | inl lt ↦ lt
+              | inr le ↦ absurd (let back : which.0 + 1 ≤ i + 1 = nearer o a b on.0 (which.0 + 1) (i + 1) up (leads_is _ b parts.0) on.1 le in omega arith)
+            ] in
+            ap (is_empty cells) on.1 ∙ not-false-back (is_none (piece_at cells on.0)) (sym (pieces on.0 on.2) ∙ some_below_not b taken on.0 (not-true _ both.1) below)))
+          where
+            not-false-back : (x : Bool) → not x ≡ false → x ≡ true
+            not-false-back true f = refl
+            not-false-back false f = absurd (cc)
+
+        back : slides cells o a b ≡ true → (is_on_ray o a b && not (some_below b taken)) ≡ true
+        back e =
+            let which = some_below_which 8 (slides_across cells o a b) e in
+            let parts : (leads (which.0 + 1) o a b ≡ true) × (all_below which.0 (is_clear cells o a) ≡ true) = and_parts _ _ which.2 in
+            and_from (is_on_ray o a b) (not (some_below b taken)) (slides_bare b e) (not_from_false _ (some_below_no b taken (λ x l. false_from_ne_true (taken x) (λ t. (
+            let line : is_on_ray o a x ≡ true = on_line x t in
+            let j = some_below_which 8 (slides_across [] o a x) line in
+            let at : away (j.0 + 1) o a ≡ Some x = leads_is _ x ((and_parts _ _ j.2).0) in
+            let le : j.0 + 1 ≤ which.0 + 1 = nearer o a x b (j.0 + 1) (which.0 + 1) up at (leads_is _ b parts.0) (omega arith) in
+            elim (cases_lt j.0 which.0) [
+              | inl lt ↦ (
+                  let clear : is_clear cells o a j.0 ≡ true = all_below_at which.0 (is_clear cells o a) j.0 parts.1 lt in
+                  let empty : is_none (piece_at cells x) ≡ true = ap (is_empty cells) (sym at) ∙ clear in
+                  both_ways (taken x) (pieces x line ∙ ap not empty) t)
+              | inr ge ↦ (
+                  let same : j.0 ≡ which.0 = omega arith in
+                  let there : Some x ≡ Some b = sym at ∙ (ap (λ (k : ℕ). away (k + 1) o a) same ∙ leads_is _ b parts.0) in
+                  let equal : x ≡ b = cc in
+                  omega arith)
+            ])))))

@@ -7,7 +7,7 @@ ghost use Rattle.shogi_core.specs.Cell.{is_king};
 ghost use Rattle.shogi_core.specs.Lines.{are_lined, is_seen};
 ghost use Rattle.shogi_core.specs.Movement.{piece_at};
 
-use crate::bits::{cleared, lowest};
+use crate::bits::{lowest, without_lowest};
 use crate::board::Board;
 use crate::cell::{is_king, is_piece_of};
 use crate::piece::Color;
@@ -81,7 +81,7 @@ impl Board {
             if is_attacked_from(self, by, square, Square::of_index(from)) {
                 return true;
             }
-            left = cleared(left, from);
+            left = without_lowest(left, from);
         }
         false
     }
@@ -97,7 +97,7 @@ impl Board {
             if is_open_king(self, side, Square::of_index(square)) {
                 return true;
             }
-            left = cleared(left, square);
+            left = without_lowest(left, square);
         }
         false
     }

@@ -5,7 +5,7 @@ ghost use Rattle.shogi_core.specs.Bits.{has_bit};
 ghost use Rattle.shogi_core.specs.Movement.{piece_at, slides};
 ghost use Rattle.shogi_core.specs.Rays.{ray_of, direction_at};
 
-use crate::bits::{highest, lowest};
+use crate::bits::{highest, up_to_lowest};
 use crate::board::Board;
 use crate::rays::ray;
 
@@ -35,11 +35,7 @@ fn rising_squares(board: &Board, direction: usize, from: usize) -> u128
     ensures bits { (b : ℕ) → b < 81 → has_bit result b ≡ slides board.now (direction_at direction) from b }
 {
     let line = ray(direction, from);
-    let taken = line & board.occupied();
-    if taken == 0 {
-        return line;
-    }
-    line & !ray(direction, lowest(taken))
+    line & up_to_lowest(line & board.occupied())
 }
 
 /// The squares that a slide reaches in a direction in which indexes fall.
@@ -51,11 +47,9 @@ fn falling_squares(board: &Board, direction: usize, from: usize) -> u128
     ensures bits { (b : ℕ) → b < 81 → has_bit result b ≡ slides board.now (direction_at direction) from b }
 {
     let line = ray(direction, from);
-    let taken = line & board.occupied();
-    if taken == 0 {
-        return line;
-    }
-    line & !ray(direction, highest(taken))
+    // No such line leads on from the square of index 0.
+    let first = highest(line & board.occupied() | 1);
+    line & !ray(direction, first)
 }
 
 /// The squares that a slide in the direction reaches.

@@ -5,7 +5,7 @@ ghost use Rattle.shogi_core.specs.Attack.{in_check};
 ghost use Rattle.shogi_core.specs.Bits.{has_bit};
 ghost use Rattle.shogi_moves.specs.Guards.{Guards, Exposes};
 
-use shogi_core::bits::{ALL_SQUARES, cleared, has, lowest};
+use shogi_core::bits::{ALL_SQUARES, has, lowest, without_lowest};
 use shogi_core::{Color, Position, Square};
 
 /// Whether the side to move is in check, and a mask with its king: in check also the squares on open
@@ -27,7 +27,7 @@ fn exposed_squares(p: &Position, side: Color) -> u128
     while left != 0 {
         let king = lowest(left);
         exposed |= p.lined(Square::of_index(king));
-        left = cleared(left, king);
+        left = without_lowest(left, king);
     }
     exposed
 }
@@ -61,7 +61,7 @@ fn loosened(p: &Position, exposed: u128) -> u128
     while left != 0 {
         let square = lowest(left);
         lifted.set(Square::of_index(square), None);
-        left = cleared(left, square);
+        left = without_lowest(left, square);
     }
     if lifted.in_check(side) {
         exposed

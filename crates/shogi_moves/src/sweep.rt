@@ -15,7 +15,7 @@ ghost use Rattle.shogi_moves.specs.Sweeps.{wanted_from, IsBoardSweep, IsDropSwee
 
 use crate::ends::{Ends, board_ends, drop_ends};
 use crate::guard::{Guard, guard_of};
-use shogi_core::bits::{cleared, has, lowest, next_of};
+use shogi_core::bits::{has, lowest, next_of, without_lowest};
 use shogi_core::{FIRST_DROP, Kind, Move, Position, SQUARE_CODES, Square, is_piece_of};
 
 /// What is still to come of the board moves of a sort, in the order of codes: the legal ends of
@@ -95,7 +95,7 @@ impl BoardSweep {
             };
             // A copy for the caller: `code` takes the move by value.
             let found = m;
-            self.ends.plain = cleared(plain, to);
+            self.ends.plain = without_lowest(plain, to);
             self.code = m.code() + 1;
             return found;
         }
@@ -105,7 +105,7 @@ impl BoardSweep {
             promote: true,
         };
         let found = m;
-        self.ends.promoting = cleared(promoting, to);
+        self.ends.promoting = without_lowest(promoting, to);
         self.code = m.code() + 1;
         found
     }
@@ -196,7 +196,7 @@ impl DropSweep {
         let end = Square::of_index(to);
         let m = Move::Drop { kind, to: end };
         let found = m;
-        self.ends = cleared(ends, to);
+        self.ends = without_lowest(ends, to);
         self.code = m.code() + 1;
         found
     }
