@@ -242,3 +242,8 @@ pub free_fits : (a : ℕ) → bit_and a (2 ^ 81 - 1) < 2 ^ 81
 free_fits a = omega (arith, and_le_r a (2 ^ 81 - 1))
 
 pub ruleset free_bits = (free_bit, free_fits)
+
+-- ---- lines in all directions
+
+pub ray_line : (a b m : ℕ) (o : Offset) → b < 81 → m ≡ ray_of o a → has_bit m b ≡ slides [] o a b
+ray_line a b m o h e = rw e (has_bit-ray o a b h)

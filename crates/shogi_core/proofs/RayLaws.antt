@@ -87,7 +87,7 @@ module _ (cells : Cells) (o : Offset) (a : ℕ) where
       let parts : (leads (n + 1) o a b ≡ true) × (all_below n (is_clear [] o a) ≡ true) = and_parts _ _ past in
       some_below_at 8 (slides_across cells o a b) n h (and_from _ _ parts.0 (all_below_yes n (is_clear cells o a) clear))
 
-  slides_bare : (b : ℕ) → slides cells o a b ≡ true → is_on_ray o a b ≡ true
+  pub slides_bare : (b : ℕ) → slides cells o a b ≡ true → is_on_ray o a b ≡ true
   slides_bare b e =
       let which = some_below_which 8 (slides_across cells o a b) e in
       let parts : (leads (which.0 + 1) o a b ≡ true) × (all_below which.0 (is_clear cells o a) ≡ true) = and_parts _ _ which.2 in

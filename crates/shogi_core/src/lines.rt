@@ -2,6 +2,7 @@
 
 ghost use Rattle.std.specs.Prelude.{◌≡◌, ◌≢◌, ◌<◌, ◌≤◌, ◌^◌, ◌&&◌, ℕ, not, true, false, is_none};
 ghost use Rattle.shogi_core.specs.Bits.{has_bit};
+ghost use Rattle.shogi_core.specs.Lines.{are_aligned};
 ghost use Rattle.shogi_core.specs.Movement.{piece_at, slides};
 ghost use Rattle.shogi_core.specs.Rays.{ray_of, direction_at};
 
@@ -25,6 +26,21 @@ pub const DOWN_RIGHT: usize = 5;
 pub const RIGHT: usize = 6;
 
 pub const UP_RIGHT: usize = 7;
+
+/// The squares on lines with the square, whatever stands between.
+#[tactic(auto, using(crate::proofs::TargetLaws::aligned))]
+pub fn aligned_squares(from: usize) -> u128
+    requires { from < 81 }
+    ensures fits { result < 2 ^ 81 }
+    ensures bits { (b : ℕ) → b < 81 → has_bit result b ≡ are_aligned from b }
+{
+    let straight = ray(UP, from) | ray(DOWN, from) | ray(LEFT, from) | ray(RIGHT, from);
+    let diagonal = ray(UP_LEFT, from)
+        | ray(UP_RIGHT, from)
+        | ray(DOWN_LEFT, from)
+        | ray(DOWN_RIGHT, from);
+    straight | diagonal
+}
 
 /// The squares that a slide reaches in a direction in which indexes rise.
 #[tactic(auto, using(crate::proofs::LineBits::line_squares))]
