@@ -93,21 +93,18 @@ impl BoardSweep {
                 to: end,
                 promote: false,
             };
-            // A copy for the caller: `code` takes the move by value.
-            let found = m;
             self.ends.plain = without_lowest(plain, to);
             self.code = m.code() + 1;
-            return found;
+            return m;
         }
         let m = Move::Board {
             from,
             to: end,
             promote: true,
         };
-        let found = m;
         self.ends.promoting = without_lowest(promoting, to);
         self.code = m.code() + 1;
-        found
+        m
     }
 
     /// Goes on to the next piece that has a move of the sort, if there is one.
@@ -195,10 +192,9 @@ impl DropSweep {
         let to = lowest(ends);
         let end = Square::of_index(to);
         let m = Move::Drop { kind, to: end };
-        let found = m;
         self.ends = without_lowest(ends, to);
         self.code = m.code() + 1;
-        found
+        m
     }
 
     /// Goes on to the next kind that has a legal drop, if there is one.

@@ -61,10 +61,8 @@ impl Walk {
                 None
             }
             Some(m) => {
-                // A copy for the caller: `code` takes the move by value.
-                let found = m;
                 self.code = m.code() + 1;
-                Some(found)
+                Some(m)
             }
         }
     }
