@@ -15,6 +15,7 @@ ghost use Rattle.shogi_moves.specs.Sweeps.{wanted_from, IsBoardSweep, IsDropSwee
 
 use crate::ends::{Ends, board_ends, drop_ends};
 use crate::guard::{Guard, guard_of};
+use crate::next::code_above;
 use shogi_core::bits::{has, lowest, next_of, without_lowest};
 use shogi_core::{FIRST_DROP, Kind, Move, Position, SQUARE_CODES, Square, is_piece_of};
 
@@ -94,7 +95,7 @@ impl BoardSweep {
                 promote: false,
             };
             self.ends.plain = without_lowest(plain, to);
-            self.code = m.code() + 1;
+            self.code = code_above(&m);
             return m;
         }
         let m = Move::Board {
@@ -103,7 +104,7 @@ impl BoardSweep {
             promote: true,
         };
         self.ends.promoting = without_lowest(promoting, to);
-        self.code = m.code() + 1;
+        self.code = code_above(&m);
         m
     }
 
@@ -193,7 +194,7 @@ impl DropSweep {
         let end = Square::of_index(to);
         let m = Move::Drop { kind, to: end };
         self.ends = without_lowest(ends, to);
-        self.code = m.code() + 1;
+        self.code = code_above(&m);
         m
     }
 
