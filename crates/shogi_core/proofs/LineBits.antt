@@ -1,26 +1,29 @@
 -- The masks that slides are made of.
-use Rattle.std.proofs.Common.{◌≡◌, Bool, ◌≢◌, ℕ, ◌+◌, ◌-◌, ◌*◌, ◌/◌, ◌^◌, ◌<◌, ◌≤◌, true, false, not, refl, sym, ap, ◌∙◌, arith, inl, inr, Option, Some, None, [], div-lt_iff_lt-mul, le-div_iff_mul-le, bit_and, bit_or, pow_pos}
+use Rattle.std.proofs.Common.{◌≡◌, Bool, ◌≢◌, ℕ, ◌+◌, ◌-◌, ◌*◌, ◌/◌, ◌^◌, ◌<◌, ◌≤◌, true, false, not, refl, sym, ap, ◌∙◌, arith, inl, inr, Option, Some, None, [], div-lt_iff_lt-mul, le-div_iff_mul-le, bit_and, bit_or, pow_pos, get_or}
 use Rattle.std.specs.Prelude.{◌==◌, ◌&&◌, ◌||◌, zero, suc, is_none}
 use Rattle.std.specs.Int.{bit_at, trailing_zeros, w128}
 use Rattle.std.specs.Int.Count.{count_leading_zeros}
 use Rattle.std.proofs.lemmas.Int.{ints}
-use Rattle.std.proofs.lemmas.Nat.{leading_top, and_le_l, and_le_r}
+use Rattle.std.proofs.lemmas.Nat.{leading_top, and_le_l, and_le_r, or_lt}
 use Rattle.std.proofs.lemmas.Nat.Bits.{bit_at-trailing_zeros, bit_at_not, bit_at_ones}
-use Rattle.std.proofs.lemmas.Bool.{cases_lt, true_from_ne_false, both_ways, and_parts, and_from, not-true, eq-eqb, ne_eqb}
+use Rattle.std.proofs.lemmas.Bool.{cases_Bool, cases_lt, true_from_ne_false, false_from_ne_true, both_ways, and_parts, and_from, or_cases, or_left, or_right, not-true, eq-eqb, eqb-true, ne_eqb}
 use native.Mathlib.Nat.{pow-suc}
 use Rattle.shogi_core.specs.declared.offset.Offset.{Offset}
 use Rattle.shogi_core.specs.declared.piece.Color.{Color}
 use Rattle.shogi_core.specs.declared.piece.Color.TheVariants.{Black, White}
 use Rattle.shogi_core.specs.declared.piece.Piece.{Piece}
+use Rattle.shogi_core.specs.Below.{some_below}
 use Rattle.shogi_core.specs.Bits.{has_bit}
 use Rattle.shogi_core.specs.Cell.{is_piece_of}
 use Rattle.shogi_core.specs.Pieces.{is_same_color}
 use Rattle.shogi_core.specs.Movement.{Cells, away, slides_across, slides, piece_at}
-use Rattle.shogi_core.proofs.BitLaws.{next_none, next_some, has_bit-or, has_bit-and, has_bit-none, has_bit-above, has_bit-mask, mask_fits}
+use Rattle.shogi_core.proofs.BitLaws.{next_none, next_some, has_bit-or, has_bit-and, has_bit-none, has_bit-above, has_bit-one, has_bit-mask, mask_fits}
 use Rattle.shogi_core.specs.Rays.{is_on_ray, ray_of, direction_at}
 use Rattle.shogi_core.proofs.Back.{away_is, leads_is}
 use Rattle.shogi_core.proofs.Exposed.{some_below_which}
-use Rattle.shogi_core.proofs.RayLaws.{rises, falls, nearer, nearer_down, slides_free, slides_to_first}
+use Rattle.shogi_core.proofs.RayLaws.{rises, falls, nearer_down, slides_free, slides_to_first, slides_rising}
+use Rattle.shogi_core.proofs.RayTable.{rays_right}
+use Rattle.shogi_core.specs.declared.rays.TheConstants.{RAYS}
 
 someone : (cell : Option Piece) → (is_piece_of Black cell || is_piece_of White cell) ≡ not (is_none cell)
 someone None = refl
@@ -134,9 +137,19 @@ module _ (cells : Cells) (o : Offset) (a occ : ℕ) (occupied : (n : ℕ) → n 
       let parts : (has_bit (ray_of o a) x ≡ true) × (has_bit occ x ≡ true) = and_parts _ _ (sym (has_bit-and (ray_of o a) occ x) ∙ e) in
       (sym (has_bit-ray o a x low) ∙ parts.0, not-true _ (sym (occupied x low) ∙ parts.1))
 
-  pub free_line : bit_and (ray_of o a) occ ≡ 0 → (b : ℕ) → b < 81 → has_bit (ray_of o a) b ≡ slides cells o a b
+  free_line : ((x : ℕ) → x < 81 → has_bit (bit_and (ray_of o a) occ) x ≡ false) → (b : ℕ) → b < 81 → has_bit (ray_of o a) b ≡ slides cells o a b
   free_line none b h = has_bit-ray o a b h ∙ slides_free cells o a (λ x on. true_from_ne_false (is_none (piece_at cells x)) (λ taken.
-      both_ways (has_bit 0 x) (has_bit-none x) (ap (λ m. has_bit m x) (sym none) ∙ bit_there x on taken))) b
+      both_ways (has_bit (bit_and (ray_of o a) occ) x) (none x (on_board o a x on)) (bit_there x on taken))) b
+
+  -- a bit of the line's is below 81
+  line_bit : (x : ℕ) → has_bit (bit_and (ray_of o a) occ) x ≡ true → x < 81
+  line_bit x e = below_bits (ray_of o a) x (ray_fits o a) ((and_parts _ _ (sym (has_bit-and (ray_of o a) occ x) ∙ e)).0)
+
+  pub rising_bits : rises o → (m b : ℕ) → b < 81 → has_bit m b ≡ not (some_below b (has_bit (bit_and (ray_of o a) occ))) → has_bit (bit_and (ray_of o a) m) b ≡ slides cells o a b
+  rising_bits up m b h e = has_bit-and (ray_of o a) m b ∙ (rw (has_bit-ray o a b h, e)
+      (slides_rising cells o a up (has_bit (bit_and (ray_of o a) occ))
+      (λ x on. has_bit-and (ray_of o a) occ x ∙ (rw (has_bit-ray o a x (on_board o a x on), on, occupied x (on_board o a x on)) refl))
+      (λ x taken. (there_bit x (line_bit x taken) taken).0) b))
 
   module _ (f : ℕ) (low : f < 81) (set : has_bit (bit_and (ray_of o a) occ) f ≡ true) where
     cut_line : (nearest : (m n x : ℕ) → away m o a ≡ Some f → away n o a ≡ Some x → has_bit (bit_and (ray_of o a) occ) x ≡ true → m ≤ n)
@@ -152,16 +165,56 @@ module _ (cells : Cells) (o : Offset) (a occ : ℕ) (occupied : (n : ℕ) → n 
         (λ m x l at on taken. (let le : which.0 + 1 ≤ m + 1 = nearest (which.0 + 1) (m + 1) x (leads_is _ f ((and_parts _ _ which.2).0)) at (bit_there x on taken) in omega arith))
         apart b))
 
-    pub rising_line : rises o → ((n : ℕ) → has_bit (bit_and (ray_of o a) occ) n ≡ true → f ≤ n) → (b : ℕ) → b < 81 → has_bit (bit_and (ray_of o a) (2 ^ 128 - 1 - ray_of o f)) b ≡ slides cells o a b
-    rising_line up least = cut_line (λ m n x ef ex e. nearer o a f x m n up ef ex (least x e)) (λ i j x ei ej. nearer o a x x i j up ei ej (omega arith))
-
-    pub falling_line : falls o → ((n : ℕ) → has_bit (bit_and (ray_of o a) occ) n ≡ true → n ≤ f) → (b : ℕ) → b < 81 → has_bit (bit_and (ray_of o a) (2 ^ 128 - 1 - ray_of o f)) b ≡ slides cells o a b
+    falling_line : falls o → ((n : ℕ) → has_bit (bit_and (ray_of o a) occ) n ≡ true → n ≤ f) → (b : ℕ) → b < 81 → has_bit (bit_and (ray_of o a) (2 ^ 128 - 1 - ray_of o f)) b ≡ slides cells o a b
     falling_line down greatest = cut_line (λ m n x ef ex e. nearer_down o a f x m n down ef ex (greatest x e)) (λ i j x ei ej. nearer_down o a x x i j down ei ej (omega arith))
+
+  -- the highest bit of the line's and of bit 0, from where the line leads no further
+  pub falling_bits : falls o → ray_of o 0 ≡ 0 → (f : ℕ) → f < 81 → has_bit (bit_or (bit_and (ray_of o a) occ) 1) f ≡ true → ((n : ℕ) → has_bit (bit_or (bit_and (ray_of o a) occ) 1) n ≡ true → n ≤ f)
+      → (b : ℕ) → b < 81 → has_bit (bit_and (ray_of o a) (2 ^ 128 - 1 - ray_of o f)) b ≡ slides cells o a b
+  falling_bits down end f low set greatest b h = elim (cases_Bool (has_bit (bit_and (ray_of o a) occ) f)) [
+    | inl taken ↦ falling_line f low taken down (λ n e. greatest n (has_bit-or (bit_and (ray_of o a) occ) 1 n ∙ or_left _ _ e)) b h
+    | inr bare ↦ (
+        let zeroth : f ≡ 0 = elim (or_cases (has_bit (bit_and (ray_of o a) occ) f) (has_bit 1 f) (sym (has_bit-or (bit_and (ray_of o a) occ) 1 f) ∙ set)) [
+          | inl taken ↦ absurd (both_ways (has_bit (bit_and (ray_of o a) occ) f) bare taken)
+          | inr one ↦ eqb-true f 0 (sym (has_bit-one 0 f) ∙ one)
+        ] in
+        let none : (x : ℕ) → x < 81 → has_bit (bit_and (ray_of o a) occ) x ≡ false = λ x l. false_from_ne_true (has_bit (bit_and (ray_of o a) occ) x) (λ e. (
+            let le : x ≤ f = greatest x (has_bit-or (bit_and (ray_of o a) occ) 1 x ∙ or_left _ _ e) in
+            let same : x ≡ f = omega arith in
+            both_ways (has_bit (bit_and (ray_of o a) occ) f) bare (ap (has_bit (bit_and (ray_of o a) occ)) (sym same) ∙ e))) in
+        has_bit-and (ray_of o a) (2 ^ 128 - 1 - ray_of o f) b
+        ∙ (rw (zeroth, end, has_bit-not 0 b (omega arith) (omega arith), has_bit-none b) (and_true (has_bit (ray_of o a) b) ∙ free_line none b h)))
+  ]
+    where
+      and_true : (x : Bool) → (x && true) ≡ x
+      and_true true = refl
+      and_true false = refl
+
+-- no line in which indexes fall leads on from the square of index 0
+pub falling_end : (d : ℕ) → 4 ≤ d → d < 8 → ray_of (direction_at d) 0 ≡ 0
+falling_end d low high = sym (rays_right d 0 high (omega arith)) ∙ zeroth d low high
+  where
+    zeroth : (d : ℕ) → 4 ≤ d → d < 8 → get_or RAYS (d * 81 + 0) 0 ≡ 0
+    zeroth zero g h = absurd (omega arith)
+    zeroth (suc zero) g h = absurd (omega arith)
+    zeroth (suc (suc zero)) g h = absurd (omega arith)
+    zeroth (suc (suc (suc zero))) g h = absurd (omega arith)
+    zeroth (suc (suc (suc (suc zero)))) g h = refl
+    zeroth (suc (suc (suc (suc (suc zero))))) g h = refl
+    zeroth (suc (suc (suc (suc (suc (suc zero)))))) g h = refl
+    zeroth (suc (suc (suc (suc (suc (suc (suc zero))))))) g h = refl
+    zeroth (suc (suc (suc (suc (suc (suc (suc (suc d)))))))) g h = absurd (omega arith)
 
 pub and_fits : (a b : ℕ) → a < 2 ^ 81 → bit_and a b < 2 ^ 81
 and_fits a b h = omega (arith, and_le_l a b)
 
-pub ruleset line_squares = (free_line, and_fits)
+pub or_one : (a : ℕ) → bit_or a 1 ≢ 0
+or_one a e = both_ways (has_bit (bit_or a 1) 0) (ap (λ x. has_bit x 0) e ∙ has_bit-none 0) (has_bit-or a 1 0 ∙ or_right (has_bit a 0) (has_bit 1 0) (has_bit-one 0 0))
+
+pub or_one_fits : (a b : ℕ) → a < 2 ^ 81 → bit_or (bit_and a b) 1 < 2 ^ 81
+or_one_fits a b h = or_lt 81 (bit_and a b) 1 (omega (arith, and_le_l a b)) (omega arith)
+
+pub ruleset line_squares = (and_fits, or_one, or_one_fits)
 
 pub next_81 : (m n : ℕ) → m < 2 ^ 81 → 0 < m / 2 ^ n → n + trailing_zeros w128 (m / 2 ^ n) < 81
 next_81 m n fits some = let at = next_some m n (omega arith) some in below_bits m (n + trailing_zeros w128 (m / 2 ^ n)) fits at.1
@@ -189,3 +242,8 @@ pub free_fits : (a : ℕ) → bit_and a (2 ^ 81 - 1) < 2 ^ 81
 free_fits a = omega (arith, and_le_r a (2 ^ 81 - 1))
 
 pub ruleset free_bits = (free_bit, free_fits)
+
+-- ---- lines in all directions
+
+pub ray_line : (a b m : ℕ) (o : Offset) → b < 81 → m ≡ ray_of o a → has_bit m b ≡ slides [] o a b
+ray_line a b m o h e = rw e (has_bit-ray o a b h)

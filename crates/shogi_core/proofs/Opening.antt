@@ -1,13 +1,13 @@
 -- The opening position has no fault.
 use Rattle.std.proofs.Common.{◌≡◌, refl, None, false}
-use Rattle.shogi_core.specs.declared.start.TheConstants.{START_BLACK, START_WHITE, START_KINGS}
+use Rattle.shogi_core.specs.declared.start.TheConstants.{START_BLACK, START_WHITE, START_KINGS, START_SLIDERS}
 use Rattle.shogi_core.specs.declared.piece.Color.TheVariants.{Black, White}
 use Rattle.shogi_core.specs.Below.{some_below, all_below}
 use Rattle.shogi_core.specs.Movement.{reaches, away}
 use Rattle.shogi_core.specs.Attack.{in_check}
 use Rattle.shogi_core.specs.Validity.{fault_of, has_two_pawns, has_dead_piece}
 use Rattle.shogi_core.specs.Bits.{mask_below}
-use Rattle.shogi_core.specs.Masks.{places_of, own_of, kings_of}
+use Rattle.shogi_core.specs.Masks.{places_of, own_of, kings_of, sliders_of}
 use Rattle.shogi_core.specs.Start.{start, start_cells}
 
 pub start_pawns : has_two_pawns start_cells ≡ false
@@ -38,3 +38,7 @@ start_white = refl
 pub start_kings : START_KINGS ≡ kings_of start_cells
 unfolding places_of mask_below
 start_kings = refl
+
+pub start_sliders : START_SLIDERS ≡ sliders_of start_cells
+unfolding places_of mask_below
+start_sliders = refl

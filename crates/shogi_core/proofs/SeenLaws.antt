@@ -1,6 +1,7 @@
 -- A square that a piece reaches is one from which its square is seen.
-use Rattle.std.proofs.Common.{◌≡◌, ℕ, pos, negsuc, ◌-◌, ◌*◌, ◌%◌, ◌^◌, ◌<◌, Bool, true, false, not, refl, sym, ap, ◌∙◌, arith, inl, inr, Option, Some, None, bit_and, bit_or, List, [], ◌∷◌, ◌++◌}
+use Rattle.std.proofs.Common.{◌≡◌, ◌≢◌, ◌⊎◌, ℕ, pos, negsuc, ◌-◌, ◌*◌, ◌%◌, ◌^◌, ◌<◌, Bool, true, false, not, refl, sym, ap, ◌∙◌, arith, inl, inr, Option, Some, None, bit_and, bit_or, List, [], ◌∷◌, ◌++◌}
 use Rattle.std.specs.Prelude.{◌==◌, ◌&&◌, ◌||◌}
+use Rattle.std.specs.Int.{trailing_zeros, w128}
 use Rattle.std.specs.List.{list_any, list_all}
 use Rattle.std.proofs.lemmas.Nat.{and_le_l, or_lt}
 use Rattle.std.proofs.lemmas.List.Folds.{list_any-append}
@@ -9,17 +10,19 @@ use Rattle.shogi_core.specs.declared.offset.Offset.{Offset}
 use Rattle.shogi_core.specs.declared.piece.Color.{Color}
 use Rattle.shogi_core.specs.declared.piece.Color.TheVariants.{Black, White}
 use Rattle.shogi_core.specs.declared.piece.Role.{Role}
-use Rattle.shogi_core.specs.declared.piece.Role.TheVariants.{King}
+use Rattle.shogi_core.specs.declared.piece.Role.TheVariants.{King, Pawn, Lance, Knight, Silver, Gold, Bishop, Rook, PromotedPawn, PromotedLance, PromotedKnight, PromotedSilver, Horse, Dragon}
 use Rattle.shogi_core.specs.declared.piece.Piece.{Piece}
-use Rattle.shogi_core.specs.Attack.{is_attacked_from, is_open_king}
+use Rattle.shogi_core.specs.Attack.{is_attacked_from, is_attacked, is_open_king, in_check, is_sniper, is_sniped_king, is_sniped}
+use Rattle.shogi_core.specs.Pieces.{opponent_of}
 use Rattle.shogi_core.specs.Below.{some_below}
 use Rattle.shogi_core.specs.Bits.{has_bit}
-use Rattle.shogi_core.specs.Cell.{is_piece_of, is_king}
-use Rattle.shogi_core.specs.Movement.{Cells, leads, offset_by, jump_left, jump_right, slides, slides_across, is_clear, for_side, slides_of, steps_of, has_slide, has_step, cell_reaches, reaches, piece_at, straight, diagonal}
+use Rattle.shogi_core.specs.Cell.{is_piece_of, is_king, is_slider, is_sliding_role}
+use Rattle.shogi_core.specs.Movement.{Cells, leads, offset_by, jump_left, jump_right, slides, slides_across, is_step_empty, for_side, slides_of, steps_of, has_slide, has_step, cell_reaches, reaches, piece_at, straight, diagonal}
 use Rattle.shogi_core.proofs.BitLaws.{has_bit-and, has_bit-or, has_bit-none, has_bit-without}
 use Rattle.shogi_core.proofs.Below.{all_below_none, some_below_at, some_below_no, some_below_found}
-use Rattle.shogi_core.proofs.LineBits.{and_fits}
-use Rattle.shogi_core.specs.Lines.{back, around, are_lined, is_jump, is_seen}
+use Rattle.shogi_core.proofs.LineBits.{and_fits, lowest_set}
+use Rattle.shogi_core.proofs.RayLaws.{slides_bare}
+use Rattle.shogi_core.specs.Lines.{back, around, are_aligned, are_lined, is_jump, is_near, is_seen}
 use Rattle.shogi_core.proofs.Back.{away_back, leads_is, is_leads, slides_past_back}
 use Rattle.shogi_core.proofs.Exposed.{same_way, list_any_among, list_any_kept, some_below_which}
 
@@ -94,7 +97,7 @@ pub leads_back : (o : Offset) (a b : ℕ) → a < 81 → leads 1 o a b ≡ true 
 leads_back o a b h e = is_leads _ a (away_back 1 o a b h (leads_is _ b e))
 
 step_slides : (cells : Cells) (o : Offset) (a b : ℕ) → leads 1 o a b ≡ true → slides cells o a b ≡ true
-step_slides cells o a b e = some_below_at 8 (slides_across cells o a b) 0 (omega arith) (and_from _ _ e (all_below_none (is_clear cells o a)))
+step_slides cells o a b e = some_below_at 8 (slides_across cells o a b) 0 (omega arith) (and_from _ _ e (all_below_none (is_step_empty cells o a)))
 
 jump_either : (a b : ℕ) → list_any (λ o. leads 1 o a b) jumps ≡ is_jump a b
 unfolding jumps
@@ -115,6 +118,49 @@ step_seen cells piece a b h e =
       | inl close ↦ or_left (list_any (λ o. slides cells o b a) around) (is_jump b a) (list_any_kept (λ o. leads 1 o b a) (λ o. slides cells o b a) around (λ o e. step_slides cells o b a e) close)
       | inr far ↦ or_right (list_any (λ o. slides cells o b a) around) (is_jump b a) (sym (jump_either b a) ∙ far)
     ]
+
+step_near : (piece : Piece) (a b : ℕ) → a < 81 → has_step piece a b ≡ true → is_near b a ≡ true
+step_near piece a b h e =
+    let near : list_any (λ o. leads 1 o b a) (around ++ jumps) ≡ true =
+    list_any_among (λ o. leads 1 o b a) (λ o. back (for_side piece.color o)) (steps_of piece.role) (around ++ jumps) (steps_back_near piece.color piece.role)
+    (list_any_kept (λ o. leads 1 (for_side piece.color o) a b) (λ o. leads 1 (back (for_side piece.color o)) b a) (steps_of piece.role) (λ o e. leads_back (for_side piece.color o) a b h e) e) in
+    elim (or_cases (list_any (λ o. leads 1 o b a) around) (list_any (λ o. leads 1 o b a) jumps) (sym (list_any-append (λ o. leads 1 o b a) around jumps) ∙ near)) [
+      | inl close ↦ or_left (list_any (λ o. leads 1 o b a) around) (is_jump b a) close
+      | inr far ↦ or_right (list_any (λ o. leads 1 o b a) around) (is_jump b a) (sym (jump_either b a) ∙ far)
+    ]
+
+pub slides_role : (role : Role) (test : Offset → Bool) → list_any test (slides_of role) ≡ true → is_sliding_role role ≡ true
+slides_role King test e = absurd (cc)
+slides_role Pawn test e = absurd (cc)
+slides_role Lance test e = refl
+slides_role Knight test e = absurd (cc)
+slides_role Silver test e = absurd (cc)
+slides_role Gold test e = absurd (cc)
+slides_role Bishop test e = refl
+slides_role Rook test e = refl
+slides_role PromotedPawn test e = absurd (cc)
+slides_role PromotedLance test e = absurd (cc)
+slides_role PromotedKnight test e = absurd (cc)
+slides_role PromotedSilver test e = absurd (cc)
+slides_role Horse test e = refl
+slides_role Dragon test e = refl
+
+-- whatever stands on a, where it reaches b: it is near, or a slider on an open line
+cell_near : (cells : Cells) (cell : Option Piece) (a b : ℕ) → a < 81 → cell_reaches cells cell a b ≡ true → (is_near b a ≡ true) ⊎ ((is_slider cell ≡ true) × (are_lined cells b a ≡ true))
+cell_near cells None a b h e = absurd (cc)
+cell_near cells (Some piece) a b h e = elim (or_cases (has_step piece a b) (has_slide cells piece a b) e) [
+  | inl step ↦ inl (step_near piece a b h step)
+  | inr slide ↦ inr (slides_role piece.role (λ o. slides cells (for_side piece.color o) a b) slide, slide_seen cells piece a b h slide)
+]
+
+pub reaches_near : (cells : Cells) (a b : ℕ) → a < 81 → reaches cells a b ≡ true → (is_near b a ≡ true) ⊎ ((is_slider (piece_at cells a) ≡ true) × (are_lined cells b a ≡ true))
+unfolding reaches
+reaches_near cells a b h e = cell_near cells (piece_at cells a) a b h e
+
+-- an open line is a line
+pub lined_aligned : (cells : Cells) (a b : ℕ) → are_lined cells a b ≡ true → are_aligned a b ≡ true
+unfolding are_lined
+lined_aligned cells a b e = list_any_kept (λ o. slides cells o a b) (λ o. slides [] o a b) around (λ o f. slides_bare cells o a b f) e
 
 -- whatever stands on a, where it reaches b
 pub cell_seen : (cells : Cells) (cell : Option Piece) (a b : ℕ) → a < 81 → cell_reaches cells cell a b ≡ true → is_seen cells b a ≡ true
@@ -143,16 +189,97 @@ covers_less left next from test rest fails bits = record {
 pub covers_none : (test : ℕ → Bool) → Covers 0 test → false ≡ some_below 81 test
 covers_none test rest = sym (some_below_no 81 test (λ a h. false_from_ne_true _ (λ e. both_ways (has_bit 0 a) (has_bit-none a) (rest.all a h e))))
 
-pub attackers_first : (cells : Cells) (color : Color) (square m n : ℕ) → ((a : ℕ) → a < 81 → has_bit m a ≡ is_piece_of color (piece_at cells a)) → ((a : ℕ) → a < 81 → has_bit n a ≡ is_seen cells square a) → Covers (bit_and m n) (is_attacked_from cells color square)
-attackers_first cells color square m n own seen = record {
-  all = λ a h e. (
+pub sniper_bits : (cells : Cells) (color : Color) (square own sliders line b : ℕ) → has_bit own b ≡ is_piece_of color (piece_at cells b) → has_bit sliders b ≡ is_slider (piece_at cells b) → has_bit line b ≡ are_aligned square b
+    → has_bit (bit_and (bit_and own sliders) line) b ≡ is_sniper cells color square b
+sniper_bits cells color square own sliders line b e f g = has_bit-and (bit_and own sliders) line b ∙ (rw (has_bit-and own sliders b, e, f, g) refl)
+
+pub and_and_fits : (a b c : ℕ) → a < 2 ^ 81 → bit_and (bit_and a b) c < 2 ^ 81
+and_and_fits a b c h = and_fits (bit_and a b) c (and_fits a b h)
+
+pub sniper_test : (cells : Cells) (color : Color) (square snipers : ℕ) → snipers < 2 ^ 81 → ((b : ℕ) → b < 81 → has_bit snipers b ≡ is_sniper cells color square b) → not (snipers == 0) ≡ some_below 81 (is_sniper cells color square)
+sniper_test cells color square snipers fits bits = elim (cases_eq snipers 0) [
+  | inl none ↦ ap not (eq-eqb snipers 0 none) ∙ sym (some_below_no 81 (is_sniper cells color square) (λ b h. sym (bits b h) ∙ (ap (λ (m : ℕ). has_bit m b) none ∙ has_bit-none b)))
+  | inr some ↦ (
+      let low = lowest_set snipers some fits in
+      ap not (ne_eqb snipers 0 some) ∙ sym (some_below_at 81 (is_sniper cells color square) (trailing_zeros w128 snipers) low.0 (sym (bits (trailing_zeros w128 snipers) low.0) ∙ low.1)))
+]
+
+pub ruleset snipers = (sniper_bits, and_and_fits, sniper_test)
+
+module _ (cells : Cells) (color : Color) (square own near snipers : ℕ)
+    (owns : (a : ℕ) → a < 81 → has_bit own a ≡ is_piece_of color (piece_at cells a))
+    (nears : (a : ℕ) → a < 81 → has_bit near a ≡ is_near square a)
+    (shots : (a : ℕ) → a < 81 → has_bit snipers a ≡ is_sniper cells color square a) where
+  -- an attacker is near, or a sniper on an open line
+  attacks_by : (a : ℕ) → a < 81 → is_attacked_from cells color square a ≡ true → (has_bit (bit_and own near) a ≡ true) ⊎ ((has_bit snipers a ≡ true) × (are_lined cells square a ≡ true))
+  attacks_by a h e =
       let parts : (is_piece_of color (piece_at cells a) ≡ true) × (reaches cells a square ≡ true) = and_parts _ _ e in
-      has_bit-and m n a ∙ and_from _ _ (own a h ∙ parts.0) (seen a h ∙ reaches_seen cells a square h parts.1));
-}
+      elim (reaches_near cells a square h parts.1) [
+        | inl close ↦ inl (has_bit-and own near a ∙ and_from _ _ (owns a h ∙ parts.0) (nears a h ∙ close))
+        | inr far ↦ inr (shots a h ∙ and_from _ _ (and_from _ _ parts.0 far.0) (lined_aligned cells square a far.1), far.1)
+      ]
+
+  pub attackers_near : snipers ≡ 0 → (a : ℕ) → a < 81 → is_attacked_from cells color square a ≡ true → has_bit (bit_and own near) a ≡ true
+  attackers_near none a h e = elim (attacks_by a h e) [
+    | inl close ↦ close
+    | inr far ↦ absurd (both_ways (has_bit snipers a) (ap (λ (m : ℕ). has_bit m a) none ∙ has_bit-none a) far.0)
+  ]
+
+  pub attackers_all : (line : ℕ) → ((a : ℕ) → a < 81 → has_bit line a ≡ are_lined cells square a) → (a : ℕ) → a < 81 → is_attacked_from cells color square a ≡ true → has_bit (bit_or (bit_and own near) (bit_and snipers line)) a ≡ true
+  attackers_all line lines a h e = has_bit-or (bit_and own near) (bit_and snipers line) a ∙ elim (attacks_by a h e) [
+    | inl close ↦ or_left _ _ close
+    | inr far ↦ or_right (has_bit (bit_and own near) a) _ (has_bit-and snipers line a ∙ and_from _ _ far.0 (lines a h ∙ far.1))
+  ]
+
+pub attackers_fit : (a b c d : ℕ) → a < 2 ^ 81 → c < 2 ^ 81 → bit_or (bit_and a b) (bit_and c d) < 2 ^ 81
+attackers_fit a b c d h l = or_lt 81 (bit_and a b) (bit_and c d) (and_fits a b h) (and_fits c d l)
+
+-- what a loop over the attackers begins with
+pub covers_first : (test : ℕ → Bool) (m : ℕ) → ((a : ℕ) → a < 81 → test a ≡ true → has_bit m a ≡ true) → Covers m test
+covers_first test m all = record { all = all }
 
 pub kings_first : (cells : Cells) (color : Color) (m : ℕ) → ((a : ℕ) → a < 81 → has_bit m a ≡ is_king color (piece_at cells a)) → Covers m (is_open_king cells color)
 kings_first cells color m kings = record { all = λ a h e. kings a h ∙ (and_parts _ _ e).0 }
 
-pub ruleset attackers = (attackers_first, covers_less, covers_none, some_below_found, and_fits)
+pub sniped_first : (cells : Cells) (color : Color) (m : ℕ) → ((a : ℕ) → a < 81 → has_bit m a ≡ is_king color (piece_at cells a)) → Covers m (is_sniped_king cells color)
+sniped_first cells color m kings = record { all = λ a h e. kings a h ∙ (and_parts _ _ e).0 }
+
+pub ruleset attackers = (attackers_near, attackers_all, attackers_fit, covers_less, covers_none, some_below_found, and_fits)
 
 pub ruleset open_kings = (kings_first, covers_less, covers_none, some_below_found)
+
+pub ruleset sniped_kings = (sniped_first, covers_less, covers_none, some_below_found)
+
+-- ---- where no slider is on a line with a king
+
+-- what reaches a square where other squares were left did so before, or it slides and is on a line with it
+reaches_kept : (old new : Cells) (a b : ℕ) → a < 81 → piece_at new a ≡ piece_at old a → reaches new a b ≡ true → (reaches old a b ≡ true) ⊎ ((is_slider (piece_at old a) ≡ true) × (are_aligned b a ≡ true))
+unfolding reaches
+reaches_kept old new a b h same e = go (piece_at old a) (ap (λ cell. cell_reaches new cell a b) (sym same) ∙ e)
+  where
+    go : (cell : Option Piece) → cell_reaches new cell a b ≡ true → (cell_reaches old cell a b ≡ true) ⊎ ((is_slider cell ≡ true) × (are_aligned b a ≡ true))
+    go None f = absurd (cc)
+    go (Some piece) f = elim (or_cases (has_step piece a b) (has_slide new piece a b) f) [
+      | inl step ↦ inl (or_left _ _ step)
+      | inr slide ↦ inr (slides_role piece.role (λ o. slides new (for_side piece.color o) a b) slide, lined_aligned new b a (slide_seen new piece a b h slide))
+    ]
+
+-- no square that is left gives a check
+pub unsniped_calm : (old new : Cells) (color : Color)
+    → ((x : ℕ) → x < 81 → is_piece_of (opponent_of color) (piece_at new x) ≡ true → piece_at new x ≡ piece_at old x)
+    → ((x : ℕ) → x < 81 → is_king color (piece_at new x) ≡ true → piece_at new x ≡ piece_at old x)
+    → in_check old color ≡ false → is_sniped old color ≡ false → in_check new color ≡ false
+unfolding in_check is_sniped
+unsniped_calm old new color theirs crown safe calm = some_below_no 81 (is_open_king new color) (λ k h. false_from_ne_true (is_open_king new color k) (λ e. (
+    let parts : (is_king color (piece_at new k) ≡ true) × (is_attacked new (opponent_of color) k ≡ true) = and_parts _ _ e in
+    let king : is_king color (piece_at old k) ≡ true = ap (is_king color) (sym (crown k h parts.0)) ∙ parts.0 in
+    let who = some_below_which 81 (is_attacked_from new (opponent_of color) k) parts.1 in
+    let hit : (is_piece_of (opponent_of color) (piece_at new who.0) ≡ true) × (reaches new who.0 k ≡ true) = and_parts _ _ who.2 in
+    let same : piece_at new who.0 ≡ piece_at old who.0 = theirs who.0 who.1 hit.0 in
+    let foe : is_piece_of (opponent_of color) (piece_at old who.0) ≡ true = ap (is_piece_of (opponent_of color)) (sym same) ∙ hit.0 in
+    elim (reaches_kept old new who.0 k who.1 same hit.1) [
+      | inl stays ↦ both_ways (some_below 81 (is_open_king old color)) safe
+          (some_below_at 81 (is_open_king old color) k h (and_from _ _ king (some_below_at 81 (is_attacked_from old (opponent_of color) k) who.0 who.1 (and_from _ _ foe stays))))
+      | inr far ↦ both_ways (some_below 81 (is_sniped_king old color)) calm
+          (some_below_at 81 (is_sniped_king old color) k h (and_from _ _ king (some_below_at 81 (is_sniper old (opponent_of color) k) who.0 who.1 (and_from _ _ (and_from _ _ foe far.0) far.1))))
+    ])))

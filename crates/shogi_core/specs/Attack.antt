@@ -2,7 +2,8 @@
 use Rattle.std.specs.Prelude.{ℕ, ◌&&◌, Bool}
 use Rattle.shogi_core.specs.declared.piece.Color.{Color}
 use Rattle.shogi_core.specs.Below.{some_below}
-use Rattle.shogi_core.specs.Cell.{is_piece_of, is_king}
+use Rattle.shogi_core.specs.Cell.{is_piece_of, is_king, is_slider}
+use Rattle.shogi_core.specs.Lines.{are_aligned}
 use Rattle.shogi_core.specs.Movement.{Cells, piece_at, reaches}
 use Rattle.shogi_core.specs.Pieces.{opponent_of}
 
@@ -21,3 +22,15 @@ is_open_king cells color square = is_king color (piece_at cells square) && is_at
 -- a king of the side is attacked
 unfoldable pub in_check : Cells → Color → Bool
 in_check cells color = some_below 81 (is_open_king cells color)
+
+-- the piece on `from` is one of the side that slides, and on a line with the square, whatever stands between
+abbrev pub is_sniper : Cells → Color → ℕ → ℕ → Bool
+is_sniper cells color square from = is_piece_of color (piece_at cells from) && is_slider (piece_at cells from) && are_aligned square from
+
+-- on the square stands the king of the side, on a line with a piece of the other side that slides
+abbrev pub is_sniped_king : Cells → Color → ℕ → Bool
+is_sniped_king cells color square = is_king color (piece_at cells square) && some_below 81 (is_sniper cells (opponent_of color) square)
+
+-- a king of the side is on a line with a piece of the other side that slides
+unfoldable pub is_sniped : Cells → Color → Bool
+is_sniped cells color = some_below 81 (is_sniped_king cells color)

@@ -3,7 +3,7 @@ use Rattle.std.specs.Prelude.{ℕ, ◌%◌, ◌&&◌, Bool, true, false, Option,
 use Rattle.shogi_core.specs.declared.piece.Color.{Color}
 use Rattle.shogi_core.specs.declared.piece.Color.TheVariants.{Black, White}
 use Rattle.shogi_core.specs.declared.piece.Role.{Role}
-use Rattle.shogi_core.specs.declared.piece.Role.TheVariants.{King, Pawn, Lance, Knight}
+use Rattle.shogi_core.specs.declared.piece.Role.TheVariants.{King, Pawn, Lance, Knight, Bishop, Rook, Horse, Dragon}
 use Rattle.shogi_core.specs.declared.piece.Piece.{Piece}
 use Rattle.shogi_core.specs.Movement.{Cells, piece_at}
 use Rattle.shogi_core.specs.Pieces.{is_same_color}
@@ -17,6 +17,20 @@ is_king_role _ = false
 abbrev pub is_pawn_role : Role → Bool
 is_pawn_role Pawn = true
 is_pawn_role _ = false
+
+-- a role that slides
+abbrev pub is_sliding_role : Role → Bool
+is_sliding_role Lance = true
+is_sliding_role Bishop = true
+is_sliding_role Rook = true
+is_sliding_role Horse = true
+is_sliding_role Dragon = true
+is_sliding_role _ = false
+
+-- a piece that slides, of either side
+abbrev pub is_slider : Option Piece → Bool
+is_slider None = false
+is_slider (Some piece) = is_sliding_role piece.role
 
 -- a piece of the side
 abbrev pub is_piece_of : Color → Option Piece → Bool

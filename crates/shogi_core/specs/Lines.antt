@@ -1,5 +1,5 @@
 -- Lines and slides seen from both ends.
-use Rattle.std.specs.Prelude.{ℕ, pos, ◌-ℤ◌, ◌++◌, ◌&&◌, ◌||◌, Bool, List}
+use Rattle.std.specs.Prelude.{ℕ, pos, ◌-ℤ◌, ◌++◌, ◌&&◌, ◌||◌, Bool, List, []}
 use Rattle.std.specs.List.{list_any}
 use Rattle.shogi_core.specs.declared.offset.Offset.{Offset}
 use Rattle.shogi_core.specs.Movement.{Cells, offset_by, straight, diagonal, slides, piece_at, steps_of}
@@ -7,7 +7,7 @@ use Rattle.shogi_core.specs.Below.{some_below}
 use Rattle.shogi_core.specs.Cell.{is_king}
 use Rattle.shogi_core.specs.declared.piece.Color.{Color}
 use Rattle.shogi_core.specs.declared.piece.Color.TheVariants.{Black, White}
-use Rattle.shogi_core.specs.declared.piece.Role.TheVariants.{Knight}
+use Rattle.shogi_core.specs.declared.piece.Role.TheVariants.{King, Knight}
 use Rattle.shogi_core.specs.Steps.{is_step}
 
 -- the other way
@@ -21,6 +21,10 @@ around = straight ++ diagonal
 -- the squares lie on a file, a rank or a diagonal, and each square between is empty
 unfoldable pub are_lined : Cells → ℕ → ℕ → Bool
 are_lined cells a b = list_any (λ o. slides cells o a b) around
+
+-- the squares lie on a file, a rank or a diagonal, whatever stands between
+abbrev pub are_aligned : ℕ → ℕ → Bool
+are_aligned a b = are_lined [] a b
 
 -- the square lies on an open line with a king of the side
 abbrev pub is_line_to_king : Cells → Color → ℕ → ℕ → Bool
@@ -37,3 +41,7 @@ is_jump a b = is_step Black (steps_of Knight) a b || is_step White (steps_of Kni
 -- b lies on an open line with a, or a knight's jump away
 unfoldable pub is_seen : Cells → ℕ → ℕ → Bool
 is_seen cells a b = are_lined cells a b || is_jump a b
+
+-- b lies next to a, or a knight's jump away
+abbrev pub is_near : ℕ → ℕ → Bool
+is_near a b = is_step Black (steps_of King) a b || is_jump a b

@@ -2,7 +2,7 @@
 use Rattle.std.specs.Prelude.{ℕ, Bool, false, Option, Some, None}
 use Rattle.shogi_core.specs.declared.piece.Color.{Color}
 use Rattle.shogi_core.specs.Bits.{mask_below}
-use Rattle.shogi_core.specs.Cell.{is_piece_of, is_king_role}
+use Rattle.shogi_core.specs.Cell.{is_piece_of, is_king_role, is_slider}
 use Rattle.shogi_core.specs.Movement.{Cells, piece_at}
 use Rattle.shogi_core.specs.declared.piece.Piece.{Piece}
 
@@ -26,3 +26,7 @@ is_any_king (Some piece) = is_king_role piece.role
 -- the squares on which kings stand
 abbrev pub kings_of : Cells → ℕ
 kings_of cells = places_of is_any_king cells
+
+-- the squares on which pieces stand that slide
+abbrev pub sliders_of : Cells → ℕ
+sliders_of cells = places_of is_slider cells

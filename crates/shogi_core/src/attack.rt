@@ -1,18 +1,20 @@
 //! Attacks and checks, seen from the square that is attacked.
 
-ghost use Rattle.std.specs.Prelude.{◌≡◌, ◌<◌, ◌^◌, ℕ};
-ghost use Rattle.shogi_core.specs.Attack.{is_attacked_from, is_attacked, is_open_king, in_check};
+ghost use Rattle.std.specs.Prelude.{◌≡◌, ◌<◌, ◌^◌, ℕ, true};
+ghost use Rattle.shogi_core.specs.Attack.{is_attacked_from, is_attacked, is_open_king, in_check, is_sniper, is_sniped_king, is_sniped};
+ghost use Rattle.shogi_core.specs.Below.{some_below};
 ghost use Rattle.shogi_core.specs.Bits.{has_bit};
 ghost use Rattle.shogi_core.specs.Cell.{is_king};
-ghost use Rattle.shogi_core.specs.Lines.{are_lined, is_seen};
+ghost use Rattle.shogi_core.specs.Lines.{are_aligned, are_lined, is_near, is_seen};
 ghost use Rattle.shogi_core.specs.Movement.{piece_at};
 
-use crate::bits::{cleared, lowest};
+use crate::bits::{lowest, without_lowest};
 use crate::board::Board;
 use crate::cell::{is_king, is_piece_of};
+use crate::lines::aligned_squares;
 use crate::piece::Color;
 use crate::square::Square;
-use crate::steps::jump_squares;
+use crate::steps::{jump_squares, near_squares};
 use crate::targets::{diagonal_squares, straight_squares};
 
 /// Whether the piece on `from` is of the side and reaches the square.
@@ -49,6 +51,51 @@ fn seen_squares(board: &Board, from: usize) -> u128
     lined_squares(board, from) | jump_squares(from)
 }
 
+/// The squares of pieces of the side that slide and are on a line with the square.
+#[tactic(auto, using(crate::proofs::SeenLaws::snipers))]
+fn sniper_squares(board: &Board, by: Color, from: usize) -> u128
+    requires { from < 81 }
+    ensures fits { result < 2 ^ 81 }
+    ensures bits { (b : ℕ) → b < 81 → has_bit result b ≡ is_sniper board.now by from b }
+{
+    board.own(by) & board.sliders() & aligned_squares(from)
+}
+
+/// The squares of pieces of the side that could reach the square: next to it or a knight's jump
+/// away, and of those that slide also the ones on open lines with it.
+#[tactic(auto, using(crate::proofs::SeenLaws::attackers))]
+fn attacker_squares(board: &Board, by: Color, from: usize) -> u128
+    requires { from < 81 }
+    ensures fits { result < 2 ^ 81 }
+    ensures all { (b : ℕ) → b < 81 → is_attacked_from board.now by from b ≡ true → has_bit result b ≡ true }
+{
+    let near = board.own(by) & near_squares(from);
+    let snipers = sniper_squares(board, by, from);
+    if snipers == 0 {
+        return near;
+    }
+    near | (snipers & lined_squares(board, from))
+}
+
+/// Whether a piece of the side that slides is on a line with the square.
+#[tactic(auto, using(crate::proofs::SeenLaws::snipers))]
+fn has_sniper(board: &Board, by: Color, square: usize) -> bool
+    requires { square < 81 }
+    ensures { result ≡ some_below 81 (is_sniper board.now by square) }
+{
+    sniper_squares(board, by, square) != 0
+}
+
+/// Whether a king of the side stands on the square, on a line with a piece of the other side that
+/// slides.
+fn is_sniped_king(board: &Board, color: Color, square: usize) -> bool
+    requires { square < 81 }
+    ensures { result ≡ is_sniped_king board.now color square }
+{
+    is_king(board.at(Square::of_index(square)), color)
+        && has_sniper(board, color.opponent(), square)
+}
+
 impl Board {
     /// The squares on open lines with the square: on its file, its rank or a diagonal, with no
     /// piece between.
@@ -75,13 +122,13 @@ impl Board {
     pub fn is_attacked(&self, by: Color, square: Square) -> bool
         ensures { result ≡ is_attacked self.now by square }
     {
-        let mut left = self.own(by) & seen_squares(self, square.index());
+        let mut left = attacker_squares(self, by, square.index());
         while left != 0 {
             let from = lowest(left);
             if is_attacked_from(self, by, square, Square::of_index(from)) {
                 return true;
             }
-            left = cleared(left, from);
+            left = without_lowest(left, from);
         }
         false
     }
@@ -97,7 +144,23 @@ impl Board {
             if is_open_king(self, side, Square::of_index(square)) {
                 return true;
             }
-            left = cleared(left, square);
+            left = without_lowest(left, square);
+        }
+        false
+    }
+    /// Whether a king of the side is on a line with a piece of the other side that slides, whatever
+    /// stands between.
+    #[tactic(auto, using(crate::proofs::SeenLaws::sniped_kings), unfolding(crate::specs::Attack::is_sniped))]
+    pub fn is_sniped(&self, side: Color) -> bool
+        ensures { result ≡ is_sniped self.now side }
+    {
+        let mut left = self.kings(side);
+        while left != 0 {
+            let square = lowest(left);
+            if is_sniped_king(self, side, square) {
+                return true;
+            }
+            left = without_lowest(left, square);
         }
         false
     }

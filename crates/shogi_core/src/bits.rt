@@ -1,6 +1,7 @@
 //! Sets of squares as the bits of a number: bit n is the square of index n.
 
 ghost use Rattle.std.specs.Prelude.{◌≡◌, ◌≢◌, ◌<◌, ◌≤◌, ◌^◌, ◌==◌, ◌&&◌, ◌||◌, not, true, false, ℕ};
+ghost use Rattle.shogi_core.specs.Below.{some_below};
 ghost use Rattle.shogi_core.specs.Bits.{has_bit};
 
 /// Every square of the board.
@@ -67,6 +68,27 @@ pub fn highest(mask: u128) -> usize
     ensures greatest { (n : ℕ) → has_bit mask n ≡ true → n ≤ result }
 {
     127 - mask.leading_zeros() as usize
+}
+
+/// The bits up to the lowest that is set, that one included; all bits where none is set.
+#[tactic(auto, using(crate::proofs::LowBits::low_bits))]
+pub fn up_to_lowest(mask: u128) -> u128
+    ensures { (n : ℕ) → n < 81 → has_bit result n ≡ not (some_below n (has_bit mask)) }
+{
+    mask ^ mask.wrapping_sub(1)
+}
+
+/// Without bit n, its lowest; only the clauses need to know which that is.
+#[tactic(auto, using(crate::proofs::LowBits::low_bits))]
+pub fn without_lowest(mask: u128, n: usize) -> u128
+    requires fits { mask < 2 ^ 81 }
+    requires set { has_bit mask n ≡ true }
+    requires least { (i : ℕ) → has_bit mask i ≡ true → n ≤ i }
+    ensures bits { (i : ℕ) → has_bit result i ≡ (has_bit mask i && not (i == n)) }
+    ensures less { result < mask }
+{
+    let _ = n;
+    mask & (mask - 1)
 }
 
 /// The place of the lowest set bit from n on, and 81 where there is none.

@@ -2,16 +2,16 @@
 
 ghost use Rattle.std.specs.Prelude.{◌≡◌, ◌<◌, ◌^◌, ℕ, length, slice_set, cond, ◌==◌, not, is_none};
 ghost use Rattle.shogi_core.specs.Bits.{has_bit, mask_below};
-ghost use Rattle.shogi_core.specs.Cell.{is_piece_of, is_king};
-ghost use Rattle.shogi_core.specs.Masks.{own_of, kings_of, is_any_king};
+ghost use Rattle.shogi_core.specs.Cell.{is_piece_of, is_king, is_slider};
+ghost use Rattle.shogi_core.specs.Masks.{own_of, kings_of, sliders_of, is_any_king};
 ghost use Rattle.shogi_core.specs.Movement.{piece_at};
 ghost use Rattle.shogi_core.specs.Start.{start_cells};
 
 use crate::bits::{ALL_SQUARES, with, without};
-use crate::cell::is_piece_of;
+use crate::cell::{is_piece_of, is_slider};
 use crate::piece::{Color, Piece};
 use crate::square::Square;
-use crate::start::{START, START_BLACK, START_KINGS, START_WHITE};
+use crate::start::{START, START_BLACK, START_KINGS, START_SLIDERS, START_WHITE};
 use std::marker::Model;
 
 /// A board, seen as its 81 cells by index. It need not be part of a valid position.
@@ -25,24 +25,26 @@ pub struct Board {
     white: u128,
     #[derive_where(skip(EqHashOrd))]
     kings: u128,
+    #[derive_where(skip(EqHashOrd))]
+    sliders: u128,
 }
 
 impl Model for Board {
     ghost use Rattle.std.specs.Prelude.{List, Option, ◌≡◌, length};
     ghost use Rattle.shogi_core.specs.declared.piece.Piece.{Piece};
     ghost use Rattle.shogi_core.specs.declared.piece.Color.TheVariants.{Black, White};
-    ghost use Rattle.shogi_core.specs.Masks.{own_of, kings_of};
+    ghost use Rattle.shogi_core.specs.Masks.{own_of, kings_of, sliders_of};
     ghost use Rattle.std.proofs.Common.{ap, sym, ◌∙◌};
 
     ghost Value = { List (Option Piece) };
 
     ghost view = { λ b. b.cells };
 
-    ghost invariant = { λ b. (length b.cells ≡ 81) × (b.black ≡ own_of b.cells Black) × (b.white ≡ own_of b.cells White) × (b.kings ≡ kings_of b.cells) };
+    ghost invariant = { λ b. (length b.cells ≡ 81) × (b.black ≡ own_of b.cells Black) × (b.white ≡ own_of b.cells White) × (b.kings ≡ kings_of b.cells) × (b.sliders ≡ sliders_of b.cells) };
 
-    ghost inverse = { λ cells. record { cells = cells; black = own_of cells Black; white = own_of cells White; kings = kings_of cells } };
+    ghost inverse = { λ cells. record { cells = cells; black = own_of cells Black; white = own_of cells White; kings = kings_of cells; sliders = sliders_of cells } };
 
-    ghost inverse_ok = { λ b h. ap (λ black. record { cells = b.cells; black = black; white = own_of b.cells White; kings = kings_of b.cells }) (sym h.1) ∙ (ap (λ white. record { cells = b.cells; black = b.black; white = white; kings = kings_of b.cells }) (sym h.2) ∙ ap (λ kings. record { cells = b.cells; black = b.black; white = b.white; kings = kings }) (sym h.3)) };
+    ghost inverse_ok = { λ b h. ap (λ black. record { cells = b.cells; black = black; white = own_of b.cells White; kings = kings_of b.cells; sliders = sliders_of b.cells }) (sym h.1) ∙ (ap (λ white. record { cells = b.cells; black = b.black; white = white; kings = kings_of b.cells; sliders = sliders_of b.cells }) (sym h.2) ∙ (ap (λ kings. record { cells = b.cells; black = b.black; white = b.white; kings = kings; sliders = sliders_of b.cells }) (sym h.3) ∙ ap (λ sliders. record { cells = b.cells; black = b.black; white = b.white; kings = b.kings; sliders = sliders }) (sym h.4))) };
 }
 
 /// The squares on which pieces of the side stand.
@@ -83,6 +85,20 @@ fn king_squares(cells: &[Option<Piece>; 81]) -> u128
     mask
 }
 
+/// The squares on which pieces stand that slide.
+#[tactic(auto, using(crate::proofs::MaskLaws::mask_steps), unfolding(crate::specs::Masks::places_of))]
+fn slider_squares(cells: &[Option<Piece>; 81]) -> u128
+    ensures { result ≡ sliders_of cells.now }
+{
+    let mut mask = 0;
+    for square in 0..81 {
+        if is_slider(cells[square]) {
+            mask |= 1 << square;
+        }
+    }
+    mask
+}
+
 /// The mask with the bit of the square set or clear.
 #[tactic(auto, using(crate::proofs::MaskLaws::marks))]
 fn marked(mask: u128, square: usize, on: bool) -> u128
@@ -106,6 +122,7 @@ impl Board {
             black: own_squares(&cells, Color::Black),
             white: own_squares(&cells, Color::White),
             kings: king_squares(&cells),
+            sliders: slider_squares(&cells),
         }
     }
 
@@ -118,6 +135,7 @@ impl Board {
             black: START_BLACK,
             white: START_WHITE,
             kings: START_KINGS,
+            sliders: START_SLIDERS,
         }
     }
 
@@ -167,6 +185,15 @@ impl Board {
         self.kings & self.own(color)
     }
 
+    /// The squares on which pieces stand that slide, of either side.
+    #[tactic(auto, using(crate::proofs::MaskLaws::own_bits))]
+    pub fn sliders(&self) -> u128
+        ensures bits { (n : ℕ) → n < 81 → has_bit result n ≡ is_slider (piece_at self.now n) }
+        ensures fits { result < 2 ^ 81 }
+    {
+        self.sliders
+    }
+
     /// What stands on the square.
     pub fn at(&self, square: Square) -> Option<Piece>
         ensures { result ≡ piece_at self.now square }
@@ -184,6 +211,7 @@ impl Board {
         self.black = marked(self.black, index, is_piece_of(piece, Color::Black));
         self.white = marked(self.white, index, is_piece_of(piece, Color::White));
         self.kings = marked(self.kings, index, is_any_king(piece));
+        self.sliders = marked(self.sliders, index, is_slider(piece));
     }
 
     /// The board with this on the square, and all else as it was.

@@ -1,7 +1,7 @@
 //! What stands on a square.
 
 ghost use Rattle.std.specs.Prelude.{◌≡◌};
-ghost use Rattle.shogi_core.specs.Cell.{is_piece_of, is_king, is_pawn, is_immobile};
+ghost use Rattle.shogi_core.specs.Cell.{is_piece_of, is_king, is_slider, is_pawn, is_immobile};
 ghost use Rattle.shogi_core.specs.Pieces.{is_of_kind};
 
 use crate::piece::{Color, Kind, Piece};
@@ -23,6 +23,16 @@ pub fn is_king(cell: Option<Piece>, color: Color) -> bool
     match cell {
         None => false,
         Some(piece) => color.is_same(piece.color) && piece.role.is_king(),
+    }
+}
+
+/// Whether a piece stands there that slides, of either side.
+pub fn is_slider(cell: Option<Piece>) -> bool
+    ensures { result ≡ is_slider cell }
+{
+    match cell {
+        None => false,
+        Some(piece) => piece.role.is_sliding(),
     }
 }
 

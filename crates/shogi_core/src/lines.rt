@@ -2,10 +2,11 @@
 
 ghost use Rattle.std.specs.Prelude.{◌≡◌, ◌≢◌, ◌<◌, ◌≤◌, ◌^◌, ◌&&◌, ℕ, not, true, false, is_none};
 ghost use Rattle.shogi_core.specs.Bits.{has_bit};
+ghost use Rattle.shogi_core.specs.Lines.{are_aligned};
 ghost use Rattle.shogi_core.specs.Movement.{piece_at, slides};
 ghost use Rattle.shogi_core.specs.Rays.{ray_of, direction_at};
 
-use crate::bits::{highest, lowest};
+use crate::bits::{highest, up_to_lowest};
 use crate::board::Board;
 use crate::rays::ray;
 
@@ -26,6 +27,21 @@ pub const RIGHT: usize = 6;
 
 pub const UP_RIGHT: usize = 7;
 
+/// The squares on lines with the square, whatever stands between.
+#[tactic(auto, using(crate::proofs::TargetLaws::aligned))]
+pub fn aligned_squares(from: usize) -> u128
+    requires { from < 81 }
+    ensures fits { result < 2 ^ 81 }
+    ensures bits { (b : ℕ) → b < 81 → has_bit result b ≡ are_aligned from b }
+{
+    let straight = ray(UP, from) | ray(DOWN, from) | ray(LEFT, from) | ray(RIGHT, from);
+    let diagonal = ray(UP_LEFT, from)
+        | ray(UP_RIGHT, from)
+        | ray(DOWN_LEFT, from)
+        | ray(DOWN_RIGHT, from);
+    straight | diagonal
+}
+
 /// The squares that a slide reaches in a direction in which indexes rise.
 #[tactic(auto, using(crate::proofs::LineBits::line_squares))]
 fn rising_squares(board: &Board, direction: usize, from: usize) -> u128
@@ -35,11 +51,7 @@ fn rising_squares(board: &Board, direction: usize, from: usize) -> u128
     ensures bits { (b : ℕ) → b < 81 → has_bit result b ≡ slides board.now (direction_at direction) from b }
 {
     let line = ray(direction, from);
-    let taken = line & board.occupied();
-    if taken == 0 {
-        return line;
-    }
-    line & !ray(direction, lowest(taken))
+    line & up_to_lowest(line & board.occupied())
 }
 
 /// The squares that a slide reaches in a direction in which indexes fall.
@@ -51,11 +63,9 @@ fn falling_squares(board: &Board, direction: usize, from: usize) -> u128
     ensures bits { (b : ℕ) → b < 81 → has_bit result b ≡ slides board.now (direction_at direction) from b }
 {
     let line = ray(direction, from);
-    let taken = line & board.occupied();
-    if taken == 0 {
-        return line;
-    }
-    line & !ray(direction, highest(taken))
+    // No such line leads on from the square of index 0.
+    let first = highest(line & board.occupied() | 1);
+    line & !ray(direction, first)
 }
 
 /// The squares that a slide in the direction reaches.

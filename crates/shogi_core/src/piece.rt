@@ -2,7 +2,7 @@
 
 ghost use Rattle.std.specs.Prelude.{◌≡◌, ◌<◌};
 ghost use Rattle.shogi_core.specs.Pieces.{opponent_of, kind_number, set_size, kind_of, is_same_color, role_of, promoted};
-ghost use Rattle.shogi_core.specs.Cell.{is_king_role, is_pawn_role, is_dead_role};
+ghost use Rattle.shogi_core.specs.Cell.{is_king_role, is_pawn_role, is_sliding_role, is_dead_role};
 
 /// A side.
 #[derive(Clone, Copy, Debug, PartialEq, Eq, Hash)]
@@ -145,6 +145,16 @@ impl Role {
         ensures { result ≡ is_pawn_role self }
     {
         matches!(self, Role::Pawn)
+    }
+
+    /// Whether it slides.
+    pub fn is_sliding(self) -> bool
+        ensures { result ≡ is_sliding_role self }
+    {
+        matches!(
+            self,
+            Role::Lance | Role::Bishop | Role::Rook | Role::Horse | Role::Dragon
+        )
     }
 
     /// Whether a piece of the role and side could never move again from the rank, counted from 0.

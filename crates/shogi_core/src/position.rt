@@ -1,11 +1,12 @@
 //! Positions: what stands on the board, what each side holds, and whose turn it is.
 
-ghost use Rattle.std.specs.Prelude.{ℕ, ◌<◌, ◌^◌, is_none, ◌≡◌, ◌↔◌, IsTrue, Ok, Err, None, Some, MatchOption};
+ghost use Rattle.std.specs.Prelude.{slice_set, ℕ, ◌<◌, ◌^◌, is_none, ◌≡◌, ◌↔◌, IsTrue, Ok, Err, None, Some, MatchOption};
 ghost use Rattle.shogi_core.specs.Attack.{in_check};
 ghost use Rattle.shogi_core.specs.Bits.{has_bit};
 ghost use Rattle.shogi_core.specs.Cell.{is_piece_of, is_king};
 ghost use Rattle.shogi_core.specs.Lines.{are_lined};
 ghost use Rattle.shogi_core.specs.Movement.{reaches, piece_at};
+ghost use Rattle.shogi_core.specs.Pieces.{opponent_of};
 ghost use Rattle.shogi_core.specs.Position.{Shogi, held};
 ghost use Rattle.shogi_core.specs.Same.{is_same_position};
 ghost use Rattle.shogi_core.specs.Validity.{IsValid, fault_of};
@@ -65,6 +66,39 @@ impl Position {
         ensures { result ≡ record { cells = board; hands = hands; side = side } }
     {
         Position { board, hands, side }
+    }
+
+    /// The other side is to move, `from` is empty, this stands on `to`, and both sides hold these;
+    /// all else stays. The position must then have none of the faults.
+    pub fn move_piece(&mut self, from: Square, to: Square, piece: Option<Piece>, hands: Hands)
+        requires { fault_of (record { cells = slice_set (slice_set self.old.cells from None) to piece; hands = hands; side = opponent_of self.old.side }) ≡ None }
+        ensures { self.new ≡ record { cells = slice_set (slice_set self.old.cells from None) to piece; hands = hands; side = opponent_of self.old.side } }
+    {
+        let Position {
+            board,
+            hands: held,
+            side,
+        } = self;
+        board.set(from, None);
+        board.set(to, piece);
+        *held = hands;
+        *side = side.opponent();
+    }
+
+    /// The other side is to move, this stands on `to`, and both sides hold these; all else stays.
+    /// The position must then have none of the faults.
+    pub fn drop_piece(&mut self, to: Square, dropped: Option<Piece>, hands: Hands)
+        requires { fault_of (record { cells = slice_set self.old.cells to dropped; hands = hands; side = opponent_of self.old.side }) ≡ None }
+        ensures { self.new ≡ record { cells = slice_set self.old.cells to dropped; hands = hands; side = opponent_of self.old.side } }
+    {
+        let Position {
+            board,
+            hands: held,
+            side,
+        } = self;
+        board.set(to, dropped);
+        *held = hands;
+        *side = side.opponent();
     }
 
     /// The board.

@@ -8,12 +8,14 @@ use crate::hands::Hands;
 use crate::piece::{Color, Piece, Role};
 use crate::position::Position;
 
-// The squares of the sides and of the kings in the opening position.
+// The squares of the sides, of the kings and of the pieces that slide in the opening position.
 pub const START_BLACK: u128 = 1515295121079352776950080;
 
 pub const START_WHITE: u128 = 23676486266864887139845;
 
 pub const START_KINGS: u128 = 17660905521152;
+
+pub const START_SLIDERS: u128 = 1214847224462289940841729;
 
 pub const START: [Option<Piece>; 81] = [
     Some(Piece {

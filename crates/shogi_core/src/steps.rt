@@ -1304,29 +1304,19 @@ ghost use Rattle.std.specs.Prelude.{◌≡◌, ◌<◌, ◌^◌, ℕ};
 ghost use Rattle.shogi_core.specs.Bits.{has_bit};
 ghost use Rattle.shogi_core.specs.Movement.{steps_of, has_step};
 ghost use Rattle.shogi_core.specs.Steps.{steps_at, color_number};
-ghost use Rattle.shogi_core.specs.Lines.{is_jump};
+ghost use Rattle.shogi_core.specs.Lines.{is_jump, is_near};
 
 use crate::piece::{Color, Piece, Role};
+
+// Which of the kinds of steps each role has, in the order in which roles are declared.
+const STEPS_KINDS: [usize; 14] = [1, 2, 0, 3, 4, 5, 0, 0, 5, 5, 5, 5, 6, 7];
 
 /// Which of the kinds of steps the role has.
 fn steps_kind(role: Role) -> usize
     ensures steps { steps_at result ≡ steps_of role }
     ensures range { result < 8 }
 {
-    match role {
-        Role::Lance | Role::Bishop | Role::Rook => 0,
-        Role::King => 1,
-        Role::Pawn => 2,
-        Role::Knight => 3,
-        Role::Silver => 4,
-        Role::Gold
-        | Role::PromotedPawn
-        | Role::PromotedLance
-        | Role::PromotedKnight
-        | Role::PromotedSilver => 5,
-        Role::Horse => 6,
-        Role::Dragon => 7,
-    }
+    STEPS_KINDS[role as usize]
 }
 
 /// The number of a side: 0 for Black and 1 for White.
@@ -1365,4 +1355,18 @@ pub fn jump_squares(from: usize) -> u128
         role: Role::Knight,
     };
     step_squares(black, from) | step_squares(white, from)
+}
+
+/// The squares next to the square, and a knight's jump away.
+#[tactic(auto, using(crate::proofs::TargetLaws::no_bits))]
+pub fn near_squares(from: usize) -> u128
+    requires { from < 81 }
+    ensures fits { result < 2 ^ 81 }
+    ensures bits { (b : ℕ) → b < 81 → has_bit result b ≡ is_near from b }
+{
+    let king = Piece {
+        color: Color::Black,
+        role: Role::King,
+    };
+    step_squares(king, from) | jump_squares(from)
 }

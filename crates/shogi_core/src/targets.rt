@@ -53,9 +53,10 @@ fn forward_squares(board: &Board, color: Color, from: usize) -> u128
     }
 }
 
-/// The squares that slides of the piece reach.
+/// The squares that slides of the piece reach, where it slides.
+#[inline(never)]
 #[tactic(auto, using(crate::proofs::TargetLaws::no_bits))]
-fn piece_slides(board: &Board, piece: Piece, from: usize) -> u128
+fn slider_slides(board: &Board, piece: Piece, from: usize) -> u128
     requires { from < 81 }
     ensures fits { result < 2 ^ 81 }
     ensures bits { (b : ℕ) → b < 81 → has_bit result b ≡ has_slide board.now piece from b }
@@ -65,6 +66,20 @@ fn piece_slides(board: &Board, piece: Piece, from: usize) -> u128
         Role::Bishop | Role::Horse => diagonal_squares(board, piece.color, from),
         Role::Rook | Role::Dragon => straight_squares(board, piece.color, from),
         _ => 0,
+    }
+}
+
+/// The squares that slides of the piece reach. Most pieces do not slide, and are told at once.
+#[tactic(auto, using(crate::proofs::TargetLaws::no_slides))]
+fn piece_slides(board: &Board, piece: Piece, from: usize) -> u128
+    requires { from < 81 }
+    ensures fits { result < 2 ^ 81 }
+    ensures bits { (b : ℕ) → b < 81 → has_bit result b ≡ has_slide board.now piece from b }
+{
+    if piece.role.is_sliding() {
+        slider_slides(board, piece, from)
+    } else {
+        0
     }
 }
 

@@ -39,6 +39,14 @@ no_ends p capture promote from n hf hn e =
 
 pub ruleset no_piece = (no_ends)
 
+-- ---- the lowest end of both masks
+
+pub least_plain : (plain promoting to : ℕ) → ((n : ℕ) → has_bit (bit_or plain promoting) n ≡ true → to ≤ n) → (n : ℕ) → has_bit plain n ≡ true → to ≤ n
+least_plain plain promoting to least n e = least n (has_bit-or plain promoting n ∙ or_left (has_bit plain n) (has_bit promoting n) e)
+
+pub least_promoting : (plain promoting to : ℕ) → ((n : ℕ) → has_bit (bit_or plain promoting) n ≡ true → to ≤ n) → (n : ℕ) → has_bit promoting n ≡ true → to ≤ n
+least_promoting plain promoting to least n e = least n (has_bit-or plain promoting n ∙ or_right (has_bit plain n) (has_bit promoting n) e)
+
 -- ---- what is kept of a mask
 
 pub keeps_first : (test : ℕ → Bool) (place : ℕ → ℕ) (code mask : ℕ) → mask < 2 ^ 81 → ((n : ℕ) → n < 81 → has_bit mask n ≡ test (place n)) → ((n : ℕ) → code ≤ place n) → Keeps test place code mask

@@ -17,7 +17,7 @@ use crate::after::{cells_after, dropped};
 use crate::guard::{Guard, is_calm};
 use crate::legal::{is_pawn_drop_mate, is_pawn_kind};
 use crate::zones::{dead_squares, pawn_files, promoting_squares};
-use shogi_core::bits::{cleared, has, lowest};
+use shogi_core::bits::{cleared, has, lowest, without_lowest};
 use shogi_core::{Board, Kind, Move, Piece, Position, Role, Square, step_squares};
 
 /// The legal ends of a piece, without and with promotion.
@@ -65,7 +65,7 @@ fn tried_ends(p: &Position, from: Square, ends: u128) -> u128
         if !is_unchecked(p, &m) {
             kept = cleared(kept, to);
         }
-        left = cleared(left, to);
+        left = without_lowest(left, to);
     }
     kept
 }
@@ -118,7 +118,7 @@ fn king_ends(p: &Position, from: Square, ends: u128) -> u128
         if !is_king_safe(p, &lifted, from, Square::of_index(to)) {
             kept = cleared(kept, to);
         }
-        left = cleared(left, to);
+        left = without_lowest(left, to);
     }
     kept
 }
@@ -167,6 +167,12 @@ pub fn board_ends(p: &Position, guard: &Guard, capture: bool, from: Square) -> E
     p.validity();
     from.validity();
     let among = p.targets(from) & ends_of_sort(p, capture);
+    if among == 0 {
+        return Ends {
+            plain: 0,
+            promoting: 0,
+        };
+    }
     let ends = safe_ends(p, guard, from, among);
     let piece = p.at(from);
     Ends {
@@ -189,6 +195,12 @@ pub fn legal_ends(p: &Position, guard: &Guard, from: Square) -> Ends
     from.validity();
     let own = p.own(p.side());
     let among = p.targets(from) & !own;
+    if among == 0 {
+        return Ends {
+            plain: 0,
+            promoting: 0,
+        };
+    }
     let ends = safe_ends(p, guard, from, among);
     let piece = p.at(from);
     Ends {
@@ -233,7 +245,7 @@ fn tried_drops(p: &Position, kind: Kind, ends: u128) -> u128
         if !is_unchecked(p, &m) {
             kept = cleared(kept, to);
         }
-        left = cleared(left, to);
+        left = without_lowest(left, to);
     }
     kept
 }
@@ -271,7 +283,7 @@ fn facing_squares(p: &Position) -> u128
     while left != 0 {
         let king = lowest(left);
         faces |= step_squares(pawn, king);
-        left = cleared(left, king);
+        left = without_lowest(left, king);
     }
     faces
 }
@@ -295,7 +307,7 @@ fn fair_drops(p: &Position, ends: u128) -> u128
         if is_pawn_drop_mate(p, &m) {
             kept = cleared(kept, to);
         }
-        left = cleared(left, to);
+        left = without_lowest(left, to);
     }
     kept
 }

@@ -1,11 +1,11 @@
 //! What is kept of a position, so that most of its moves need no look at checks.
 
 ghost use Rattle.std.specs.Prelude.{◌≡◌, ◌<◌, ◌^◌, ◌&&◌, not, false};
-ghost use Rattle.shogi_core.specs.Attack.{in_check};
+ghost use Rattle.shogi_core.specs.Attack.{in_check, is_sniped};
 ghost use Rattle.shogi_core.specs.Bits.{has_bit};
 ghost use Rattle.shogi_moves.specs.Guards.{Guards, Exposes};
 
-use shogi_core::bits::{ALL_SQUARES, cleared, has, lowest};
+use shogi_core::bits::{ALL_SQUARES, has, lowest, without_lowest};
 use shogi_core::{Color, Position, Square};
 
 /// Whether the side to move is in check, and a mask with its king: in check also the squares on open
@@ -27,7 +27,7 @@ fn exposed_squares(p: &Position, side: Color) -> u128
     while left != 0 {
         let king = lowest(left);
         exposed |= p.lined(Square::of_index(king));
-        left = cleared(left, king);
+        left = without_lowest(left, king);
     }
     exposed
 }
@@ -61,7 +61,7 @@ fn loosened(p: &Position, exposed: u128) -> u128
     while left != 0 {
         let square = lowest(left);
         lifted.set(Square::of_index(square), None);
-        left = cleared(left, square);
+        left = without_lowest(left, square);
     }
     if lifted.in_check(side) {
         exposed
@@ -70,11 +70,30 @@ fn loosened(p: &Position, exposed: u128) -> u128
     }
 }
 
+/// What is kept where there is no check and no piece of the other side that slides is on a line
+/// with the king, so that none is pinned.
+#[tactic(auto, using(crate::proofs::GuardLaws::unsniped))]
+fn unsniped_guard(p: &Position) -> Guard
+    requires calm { in_check p.now.cells p.now.side ≡ false }
+    requires unsniped { is_sniped p.now.cells p.now.side ≡ false }
+    ensures { Guards p.now result.checked result.exposed }
+{
+    p.validity();
+    Guard {
+        checked: false,
+        exposed: p.kings(p.side()),
+    }
+}
+
 /// What is kept of the position.
 pub fn guard_of(p: &Position) -> Guard
     ensures { Guards p.now result.checked result.exposed }
 {
-    let guard = full_guard(p, p.in_check(p.side()));
+    let checked = p.in_check(p.side());
+    if !checked && !p.as_board().is_sniped(p.side()) {
+        return unsniped_guard(p);
+    }
+    let guard = full_guard(p, checked);
     if guard.checked {
         return guard;
     }

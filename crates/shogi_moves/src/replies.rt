@@ -10,7 +10,7 @@ ghost use Rattle.shogi_moves.specs.LegalMoves.{legal_moves};
 ghost use Rattle.shogi_moves.specs.Replies.{is_open_step, is_spare, Sees, IsReplies};
 
 use crate::zones::dead_squares;
-use shogi_core::bits::{ALL_SQUARES, cleared, has, lowest};
+use shogi_core::bits::{ALL_SQUARES, cleared, has, lowest, without_lowest};
 use shogi_core::{Color, Move, Position, Square, step_squares};
 
 /// What is kept of a position to tell that after most of its moves the other side is in no check
@@ -31,7 +31,7 @@ fn sight_squares(p: &Position, side: Color) -> u128
     while left != 0 {
         let king = lowest(left);
         sight |= p.as_board().seen(Square::of_index(king));
-        left = cleared(left, king);
+        left = without_lowest(left, king);
     }
     sight
 }
@@ -68,7 +68,7 @@ fn spare_pieces(p: &Position, side: Color, sight: u128) -> u128
         } else {
             kept = cleared(kept, from);
         }
-        left = cleared(left, from);
+        left = without_lowest(left, from);
     }
     kept & !left
 }

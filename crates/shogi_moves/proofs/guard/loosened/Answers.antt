@@ -5,11 +5,11 @@ use Rattle.shogi_moves.proofs.guard.loosened.Goals as goal
 pub loop-left-preserved : goal.loop-left-preserved
 loop-left-preserved c = record {
   lifts = rw (c.set.ensures, c.of_index.ensures)
-      (lift_more c.args.p.now.cells c.loop-left.lifted c.side-side.result (bit_and (bit_and c.own.result c.args.exposed) (2 ^ 128 - 1 - c.kings-kings.result)) c.loop-left.left c.cleared-left.result c.lowest-square.result c.loop-left.invariant.lifts c.lowest-square.ensures.range c.lowest-square.ensures.set
+      (lift_more c.args.p.now.cells c.loop-left.lifted c.side-side.result (bit_and (bit_and c.own.result c.args.exposed) (2 ^ 128 - 1 - c.kings-kings.result)) c.loop-left.left c.without_lowest-left.result c.lowest-square.result c.loop-left.invariant.lifts c.lowest-square.ensures.range c.lowest-square.ensures.set
       (rw c.side-side.ensures
       (mine c.args.p.now c.own.result c.args.exposed c.kings-kings.result c.lowest-square.result c.kings-kings.ensures.fits c.lowest-square.ensures.range (rw c.side-side.ensures at c.own.ensures.bits) (rw c.side-side.ensures at c.kings-kings.ensures.bits) (c.loop-left.invariant.lifts.within c.lowest-square.result c.lowest-square.ensures.set)))
-      c.cleared-left.ensures.bits);
-  left = omega (arith, c.cleared-left.ensures.less, c.loop-left.invariant.left);
+      c.without_lowest-left.ensures.bits);
+  left = omega (arith, c.without_lowest-left.ensures.less, c.loop-left.invariant.left);
 }
 
 pub returns-else-in_check : goal.returns-else-in_check

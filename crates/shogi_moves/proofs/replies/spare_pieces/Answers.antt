@@ -16,16 +16,16 @@ pub loop-left-preserved : goal.loop-left-preserved
 loop-left-preserved c = elim c.if-has_open_step.branch [
   | then-has_open_step w ↦ (rw (w.kept-is, w.found-is)
       (record {
-        sifted = sifted_found c.args.p.now.cells c.args.side c.args.sight c.loop-left.left c.loop-left.kept c.cleared-left.result c.lowest-from.result c.requires c.loop-left.invariant.sifted c.lowest-from.ensures.range c.lowest-from.ensures.set
-            (rw c.of_index.ensures at c.has_open_step.ensures w.if-has_open_step.true) c.cleared-left.ensures.bits;
-        left = omega (arith, c.cleared-left.ensures.less, c.loop-left.invariant.left);
+        sifted = sifted_found c.args.p.now.cells c.args.side c.args.sight c.loop-left.left c.loop-left.kept c.without_lowest-left.result c.lowest-from.result c.requires c.loop-left.invariant.sifted c.lowest-from.ensures.range c.lowest-from.ensures.set
+            (rw c.of_index.ensures at c.has_open_step.ensures w.if-has_open_step.true) c.without_lowest-left.ensures.bits;
+        left = omega (arith, c.without_lowest-left.ensures.less, c.loop-left.invariant.left);
         fits = c.loop-left.invariant.fits;
         few = omega arith;
       }))
   | else-has_open_step w ↦ (rw (w.kept-is, w.found-is)
       (record {
-        sifted = sifted_dropped c.args.p.now.cells c.args.side c.args.sight c.loop-left.left c.loop-left.kept c.cleared-left.result w.cleared-kept.result c.lowest-from.result c.loop-left.invariant.sifted c.cleared-left.ensures.bits w.cleared-kept.ensures.bits;
-        left = omega (arith, c.cleared-left.ensures.less, c.loop-left.invariant.left);
+        sifted = sifted_dropped c.args.p.now.cells c.args.side c.args.sight c.loop-left.left c.loop-left.kept c.without_lowest-left.result w.cleared-kept.result c.lowest-from.result c.loop-left.invariant.sifted c.without_lowest-left.ensures.bits w.cleared-kept.ensures.bits;
+        left = omega (arith, c.without_lowest-left.ensures.less, c.loop-left.invariant.left);
         fits = omega (arith, w.cleared-kept.ensures.less, c.loop-left.invariant.fits);
         few = c.loop-left.invariant.few;
       }))

@@ -1,14 +1,13 @@
 use Rattle.std.proofs.Common.{rules}
 use Rattle.shogi_core.specs.Attack.{is_attacked_from}
 use Rattle.shogi_core.proofs.Below.{some_below_found}
-use Rattle.shogi_core.proofs.LineBits.{and_fits}
-use Rattle.shogi_core.proofs.SeenLaws.{attackers_first}
+use Rattle.shogi_core.proofs.SeenLaws.{covers_first}
 use Rattle.shogi_core.proofs.board.Board.is_attacked.Goals as goal
 
 pub loop-left-init : goal.loop-left-init
 loop-left-init c = record {
-  covers = attackers_first c.args.self.now c.args.by c.args.square c.own.result c.seen_squares.result c.own.ensures.bits (rw c.index.ensures.index at c.seen_squares.ensures.bits);
-  fits = and_fits c.own.result c.seen_squares.result c.own.ensures.fits;
+  covers = covers_first (is_attacked_from c.args.self.now c.args.by c.args.square) c.attacker_squares-left.result (rw c.index.ensures.index at c.attacker_squares-left.ensures.all);
+  fits = c.attacker_squares-left.ensures.fits;
 }
 
 pub returns-then-is_attacked_from : goal.returns-then-is_attacked_from

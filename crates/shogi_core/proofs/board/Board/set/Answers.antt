@@ -1,5 +1,5 @@
 use Rattle.std.proofs.Common.{rules, length-set, ◌∙◌, refl}
-use Rattle.shogi_core.specs.Cell.{is_piece_of}
+use Rattle.shogi_core.specs.Cell.{is_piece_of, is_slider}
 use Rattle.shogi_core.specs.Masks.{is_any_king}
 use Rattle.shogi_core.specs.declared.piece.Color.TheVariants.{Black, White}
 use Rattle.shogi_core.proofs.MaskLaws.{places_put}
@@ -15,4 +15,5 @@ invariant_of-self c =
       places_put (is_piece_of Black) c.marked-self-inside.result s cells c.args.piece len low (search rules) (λ n. c.marked-self-inside.ensures n ∙ rw (c.is_piece_of.ensures, c.self.invariant.1) refl),
       places_put (is_piece_of White) c.marked-self-inside-2.result s cells c.args.piece len low (search rules) (λ n. c.marked-self-inside-2.ensures n ∙ rw (c.is_piece_of-2.ensures, c.self.invariant.2) refl),
       places_put is_any_king c.marked-self-inside-3.result s cells c.args.piece len low (search rules) (λ n. c.marked-self-inside-3.ensures n ∙ rw (c.is_any_king.ensures, c.self.invariant.3) refl),
+      places_put is_slider c.marked-self-inside-4.result s cells c.args.piece len low (search rules) (λ n. c.marked-self-inside-4.ensures n ∙ rw (c.is_slider.ensures, c.self.invariant.4) refl),
     )
