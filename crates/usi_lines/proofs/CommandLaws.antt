@@ -8,9 +8,9 @@ use Rattle.shogi_sfen.specs.Words.{words, after_word}
 use Rattle.shogi_sfen.specs.Numbers.{is_number, number_written}
 use Rattle.usi_lines.specs.declared.command.Hold.{Hold}
 use Rattle.usi_lines.specs.declared.options.TheConstants.{DEPTH_MIN, DEPTH_MAX}
-use Rattle.usi_lines.specs.Commands.{Command, Usi, IsReady, NewGame, BadPosition, GoMate, Stop, PonderHit, GameOver, Quit, Start, Sfen, Other, SetDepth, Go}
+use Rattle.usi_lines.specs.Commands.{Command, Usi, IsReady, NewGame, BadPosition, GoMate, Stop, PonderHit, GameOver, Quit, Startpos, Sfen, Other, SetDepth, Go}
 use Rattle.usi_lines.specs.Options.{IsDepth, IsInRange, depth_read, command_for, option_of}
-use Rattle.usi_lines.specs.CommandLines.{depth_first, depth_of, position_of, hold_of, has_word, named_by, by_words, command_of}
+use Rattle.usi_lines.specs.CommandLines.{depth_in_first, depth_of, position_of, hold_of, has_word, named_by, by_words, command_of}
 
 pub command_of-none : (line : List ℕ) → words line ≡ [] → Other ≡ command_of line
 unfolding command_of
@@ -28,13 +28,13 @@ clamped n = record { least = omega arith; most = omega arith }
 depth_read_fits : (word : List ℕ) → IfSome (depth_read word) IsDepth
 depth_read_fits word = cond_both (is_number word) (Some (max DEPTH_MIN (min DEPTH_MAX (number_written word)))) None (λ (o : Option ℕ). IfSome o IsDepth) (λ e. clamped (number_written word)) (λ e. tt)
 
-depth_first_fits : (ws : List (List ℕ)) → IfSome (depth_first ws) IsDepth
-depth_first_fits [] = tt
-depth_first_fits (word ∷ more) = depth_read_fits word
+depth_in_first_fits : (ws : List (List ℕ)) → IfSome (depth_in_first ws) IsDepth
+depth_in_first_fits [] = tt
+depth_in_first_fits (word ∷ more) = depth_read_fits word
 
 depth_of_fits : (ws : List (List ℕ)) → IfSome (depth_of ws) IsDepth
 depth_of_fits [] = tt
-depth_of_fits (word ∷ more) = cond_both (bytes_eq word (codes "depth")) (depth_first more) (depth_of more) (λ (o : Option ℕ). IfSome o IsDepth) (λ e. depth_first_fits more) (λ e. depth_of_fits more)
+depth_of_fits (word ∷ more) = cond_both (bytes_eq word (codes "depth")) (depth_in_first more) (depth_of more) (λ (o : Option ℕ). IfSome o IsDepth) (λ e. depth_in_first_fits more) (λ e. depth_of_fits more)
 
 -- each number in a command is in its range
 record Fits (command : Command) : Type 0 where
@@ -71,7 +71,7 @@ option_fits (a ∷ b ∷ c ∷ d ∷ e ∷ more) = plain Other tt
 
 position_fits : (ws : List (List ℕ)) (rest : List ℕ) → Fits (position_of ws rest)
 position_fits [] rest = record { in_range = tt }
-position_fits (word ∷ more) rest = either _ _ _ (plain (Start rest) tt) (either _ _ _ (plain (Sfen rest) tt) (plain BadPosition tt))
+position_fits (word ∷ more) rest = either _ _ _ (plain (Startpos rest) tt) (either _ _ _ (plain (Sfen rest) tt) (plain BadPosition tt))
 
 named_fits : (name : List ℕ) (ws : List (List ℕ)) (rest : List ℕ) → Fits (named_by name ws rest)
 named_fits name ws rest =

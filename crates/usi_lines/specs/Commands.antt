@@ -6,5 +6,5 @@ use Rattle.usi_lines.specs.declared.command.Hold.{Hold}
 pub data Command : Type 0 where
   Usi IsReady NewGame BadPosition GoMate Stop PonderHit GameOver Quit Other : Command
   SetDepth : (depth : ℕ) → Command
-  Start Sfen : (text : List ℕ) → Command
+  Startpos Sfen : (text : List ℕ) → Command
   Go : (depth : Option ℕ) (hold : Hold) → Command

@@ -23,8 +23,8 @@ command_for name value =
 
 -- exactly the words `name NAME value VALUE`
 abbrev pub option_of : List (List ℕ) → Command
-option_of (first ∷ name ∷ third ∷ value ∷ []) =
-    cond (bytes_eq first (codes "name") && bytes_eq third (codes "value")) (command_for name value) Other
+option_of (before_name ∷ name ∷ before_value ∷ value ∷ []) =
+    cond (bytes_eq before_name (codes "name") && bytes_eq before_value (codes "value")) (command_for name value) Other
 option_of _ = Other
 
 -- each number in a command lies in its range: a row for each option that is a number

@@ -23,7 +23,7 @@ pub enum Command<'a> {
     /// `usinewgame`
     NewGame,
     /// `position startpos`, with the bytes after that word
-    Start(&'a [u8]),
+    Startpos(&'a [u8]),
     /// `position sfen`, with the bytes after that word
     Sfen(&'a [u8]),
     /// Any other `position` line

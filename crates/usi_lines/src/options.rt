@@ -43,7 +43,7 @@ pub fn read_option<'a>(text: &[u8]) -> Command<'a>
     ensures { meaning_of result ≡ option_of (words text.now) }
 {
     let mut rest = words(text);
-    let (Some(first), Some(name), Some(third), Some(value), None) = (
+    let (Some(before_name), Some(name), Some(before_value), Some(value), None) = (
         rest.next(),
         rest.next(),
         rest.next(),
@@ -52,7 +52,7 @@ pub fn read_option<'a>(text: &[u8]) -> Command<'a>
     ) else {
         return Command::Other;
     };
-    if is(first, b"name") && is(third, b"value") {
+    if is(before_name, b"name") && is(before_value, b"value") {
         command_for(name, value)
     } else {
         Command::Other

@@ -8,7 +8,7 @@ use Rattle.shogi_search.specs.Minimax.{best, pv}
 use Rattle.shogi_search.proofs.Lines.{pv-none}
 use Rattle.shogi_search.proofs.Best.{none_iff}
 use Rattle.usi_session.specs.Texts.{info_line}
-use Rattle.usi_session.specs.GoCommand.{info_lines, infos, infos_of}
+use Rattle.usi_session.specs.GoCommand.{info_lines, go_infos, go_infos_where}
 
 pub info_lines-start : (p : Shogi) → info_lines p 0 ≡ []
 unfolding info_lines
@@ -25,16 +25,16 @@ is_empty [] h = refl
 is_empty (x ∷ xs) h = absurd (h (λ e. cc))
 
 -- where no move is legal nothing is said
-pub infos-none : (p : Shogi) (depth : ℕ) → legal_moves p ≡ [] → infos p depth ≡ []
-infos-none p depth e = ap (infos_of p depth) e
+pub go_infos-none : (p : Shogi) (depth : ℕ) → legal_moves p ≡ [] → go_infos p depth ≡ []
+go_infos-none p depth e = ap (go_infos_where p depth) e
 
-infos_some : (p : Shogi) (depth : ℕ) (codes : List ℕ) → codes ≢ [] → infos_of p depth codes ≡ info_lines p depth
-infos_some p depth [] h = absurd (h refl)
-infos_some p depth (code ∷ codes) h = refl
+go_infos_where-some : (p : Shogi) (depth : ℕ) (codes : List ℕ) → codes ≢ [] → go_infos_where p depth codes ≡ info_lines p depth
+go_infos_where-some p depth [] h = absurd (h refl)
+go_infos_where-some p depth (code ∷ codes) h = refl
 
 -- where a move is legal each depth is said
-pub infos-some : (p : Shogi) (depth : ℕ) → legal_moves p ≢ [] → infos p depth ≡ info_lines p depth
-infos-some p depth h = infos_some p depth (legal_moves p) h
+pub go_infos-some : (p : Shogi) (depth : ℕ) → legal_moves p ≢ [] → go_infos p depth ≡ info_lines p depth
+go_infos-some p depth h = go_infos_where-some p depth (legal_moves p) h
 
 none_is : (o : Option Move) → is_some o ≡ false → o ≡ None
 none_is None e = refl

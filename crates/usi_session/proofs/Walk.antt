@@ -7,8 +7,8 @@ use Rattle.shogi_search.specs.Minimax.{value, best, pv, tree_size, pv_cost, then
 use Rattle.shogi_search.proofs.Lines.{pv-leaf, pv-none, pv-some, pv_cost-above}
 use Rattle.shogi_search.proofs.MinimaxLaws.{best-leaf}
 use Rattle.usi_session.specs.Texts.{info_line, info_text}
-use Rattle.usi_session.specs.InHand.{InHand, at_depth, load_of, lines_on}
-use Rattle.usi_session.proofs.HandLaws.{lines_on-more, load_at_depth}
+use Rattle.usi_session.specs.InHand.{InHand, at_depth, load_of, info_lines_above}
+use Rattle.usi_session.proofs.HandLaws.{info_lines_above-more, load_at_depth}
 
 -- there is no best move: the pv ends
 pub walked_none : (moves all : List Move) (at : Shogi) (plies : ℕ) (b : Option Move) → 0 < plies → b ≡ best at plies → b ≡ None → moves ++ pv at plies ≡ all → moves ++ pv at 0 ≡ all
@@ -44,11 +44,11 @@ pub told_line : (p : Shogi) (told : ℕ) (old new : List ℕ) (v : ℤ) (moves :
 told_line p told old new v moves e f g = rw (← e, ← f) g
 
 -- a depth that was told is a line more
-pub told_more : (p : Shogi) (told depth : ℕ) (old new : List ℕ) (v : ℤ) (moves : List Move) → told < depth → v ≡ value p (told + 1) → moves ≡ pv p (told + 1) → new ≡ old ++ info_text (told + 1) v moves → new ++ lines_on p (told + 1) (depth - (told + 1)) ≡ old ++ lines_on p told (depth - told)
+pub told_more : (p : Shogi) (told depth : ℕ) (old new : List ℕ) (v : ℤ) (moves : List Move) → told < depth → v ≡ value p (told + 1) → moves ≡ pv p (told + 1) → new ≡ old ++ info_text (told + 1) v moves → new ++ info_lines_above p (told + 1) (depth - (told + 1)) ≡ old ++ info_lines_above p told (depth - told)
 told_more p told depth old new v moves h e f g =
     let whole : new ≡ old ++ info_line p (told + 1) = told_line p told old new v moves e f g in
-    ap (λ xs. xs ++ lines_on p (told + 1) (depth - (told + 1))) whole
-    ∙ (append_assoc old (info_line p (told + 1)) (lines_on p (told + 1) (depth - (told + 1))) ∙ ap (λ xs. old ++ xs) (sym (lines_on-more p told depth h)))
+    ap (λ xs. xs ++ info_lines_above p (told + 1) (depth - (told + 1))) whole
+    ∙ (append_assoc old (info_line p (told + 1)) (info_lines_above p (told + 1) (depth - (told + 1))) ∙ ap (λ xs. old ++ xs) (sym (info_lines_above-more p told depth h)))
 
 -- the next depth, and those above it, cost no more
 pub load_next_depth : (s : InHand) → s.told + 1 < s.depth → load_of (at_depth s.root s.depth s.hold (s.told + 1)) ≤ load_of s

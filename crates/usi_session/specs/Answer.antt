@@ -3,7 +3,7 @@ use Rattle.std.specs.Prelude.{ℕ, List, [], ◌++◌, Option, Some, None, Resul
 use Rattle.shogi_core.specs.Position.{Shogi}
 use Rattle.shogi_core.specs.Start.{start}
 use Rattle.shogi_search.specs.Minimax.{pv}
-use Rattle.usi_lines.specs.Commands.{Command, Usi, IsReady, SetDepth, NewGame, Start, Sfen, BadPosition, Go, GoMate, Stop, PonderHit, GameOver, Quit, Other}
+use Rattle.usi_lines.specs.Commands.{Command, Usi, IsReady, SetDepth, NewGame, Startpos, Sfen, BadPosition, Go, GoMate, Stop, PonderHit, GameOver, Quit, Other}
 use Rattle.usi_lines.specs.declared.command.Hold.{Hold}
 use Rattle.usi_lines.specs.declared.command.Hold.TheVariants.{Nothing, UntilStop, UntilHit}
 use Rattle.usi_session.specs.declared.position_command.Refusal.{Refusal}
@@ -11,9 +11,9 @@ use Rattle.usi_session.specs.declared.position_command.Refusal.TheVariants as re
 use Rattle.usi_session.specs.declared.state.HeldBestmove.{HeldBestmove}
 use Rattle.usi_session.specs.declared.state.State.{State}
 use Rattle.usi_session.specs.Options.{default_options}
-use Rattle.usi_session.specs.PositionCommand.{position_of_start, position_of_sfen}
-use Rattle.usi_session.specs.GoCommand.{first, second, infos}
-use Rattle.usi_session.specs.Texts.{usi_reply, ready_reply, mate_not_implemented_reply, bad_position, illegal_move, bestmove_line}
+use Rattle.usi_session.specs.PositionCommand.{position_of_startpos, position_of_sfen}
+use Rattle.usi_session.specs.GoCommand.{move_to_play, move_to_ponder, go_infos}
+use Rattle.usi_session.specs.Texts.{usi_reply, ready_reply, mate_not_implemented_reply, bad_position_line, illegal_move_line, bestmove_line}
 
 -- what is written, and the state after it
 pub record Answer : Type 0 where
@@ -25,8 +25,8 @@ abbrev pub answer_with : State → List ℕ → Answer
 answer_with s bytes = record { state = s; bytes = bytes }
 
 -- the state in which a session begins
-abbrev pub opening : State
-opening = record { position = start; options = default_options; held = None; is_over = false }
+abbrev pub initial_state : State
+initial_state = record { position = start; options = default_options; held = None; is_over = false }
 
 -- no bestmove is held any more
 abbrev pub without_bestmove : State → State
@@ -35,12 +35,12 @@ without_bestmove s = record s { held = None }
 -- `position`: the position that was reached is taken; after a refusal the state stays, and one line tells why
 abbrev pub answer_position : State → Result Shogi Refusal → Answer
 answer_position s (Ok p) = answer_with (record s { position = p }) []
-answer_position s (Err (refusals.BadPosition fault)) = answer_with s (bad_position fault)
-answer_position s (Err (refusals.IllegalMove number)) = answer_with s (illegal_move number)
+answer_position s (Err (refusals.BadPosition fault)) = answer_with s (bad_position_line fault)
+answer_position s (Err (refusals.IllegalMove number)) = answer_with s (illegal_move_line number)
 
 -- the bestmove at a depth, and what it is held until
 abbrev pub bestmove_at : Shogi → ℕ → Hold → HeldBestmove
-bestmove_at p depth until = record { best = first (pv p depth); ponder = second (pv p depth); until = until }
+bestmove_at p depth until = record { best = move_to_play (pv p depth); ponder = move_to_ponder (pv p depth); until = until }
 
 -- the line of a held bestmove
 abbrev pub held_line : HeldBestmove → List ℕ
@@ -54,7 +54,7 @@ write_or_hold s infos held UntilHit = answer_with (record s { held = Some held }
 
 -- `go` at a depth: what was held is dropped
 abbrev pub answer_go : State → ℕ → Hold → Answer
-answer_go s depth hold = write_or_hold s (infos s.position depth) (bestmove_at s.position depth hold) hold
+answer_go s depth hold = write_or_hold s (go_infos s.position depth) (bestmove_at s.position depth hold) hold
 
 -- `stop`: the held bestmove is written, and nothing is held any more
 abbrev pub answer_stop : State → Option HeldBestmove → Answer
@@ -78,9 +78,9 @@ answer s Usi = answer_with s usi_reply
 answer s IsReady = answer_with s ready_reply
 answer s (SetDepth depth) = answer_with (record s { options = record s.options { depth = depth } }) []
 answer s NewGame = answer_with (record s { position = start; held = None }) []
-answer s (Start rest) = answer_position s (position_of_start rest)
+answer s (Startpos rest) = answer_position s (position_of_startpos rest)
 answer s (Sfen rest) = answer_position s (position_of_sfen rest)
-answer s BadPosition = answer_with s (bad_position 0)
+answer s BadPosition = answer_with s (bad_position_line 0)
 answer s (Go depth hold) = answer_go s (unwrap_or depth s.options.depth) hold
 answer s GoMate = answer_with (without_bestmove s) mate_not_implemented_reply
 answer s Stop = answer_stop s s.held

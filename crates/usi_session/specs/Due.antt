@@ -2,8 +2,8 @@
 use Rattle.std.specs.Prelude.{◌≡◌, ℕ, ◌+◌, ◌*◌, List, [], ◌∷◌, ◌++◌, length, Bool, true, false, ◌&&◌, ◌||◌, not, nat_lt, cond, Option, None, Some, is_some, ◌<◌}
 use Rattle.usi_lines.specs.Lines.{Buffer, Line, ahead}
 use Rattle.usi_session.specs.declared.state.State.{State}
-use Rattle.usi_session.specs.Answer.{Answer, opening}
-use Rattle.usi_session.specs.InHand.{InHand, goes_on_if, load_of_if, turns_of_if, most_turns}
+use Rattle.usi_session.specs.Answer.{Answer, initial_state}
+use Rattle.usi_session.specs.InHand.{InHand, rest_of_go_if, load_of_if, turns_of_if, most_turns}
 use Rattle.usi_session.specs.Replies.{replies_from, state_from}
 use Rattle.usi_session.specs.Costs.{costs_from}
 use Rattle.usi_session.specs.declared.limits.TheConstants.{QUEUE_FULL}
@@ -21,7 +21,7 @@ owed_after a ahead = a.bytes ++ replies_from a.state ahead
 
 -- nothing, where the session is over
 abbrev pub owed : State → Option InHand → List Line → List ℕ
-owed s in_hand ahead = cond s.is_over [] (owed_after (goes_on_if s in_hand) ahead)
+owed s in_hand ahead = cond s.is_over [] (owed_after (rest_of_go_if s in_hand) ahead)
 
 -- what is owed once these further bytes were fed: the queued bytes, the rest of the `go` in hand, and the replies to the lines ahead
 abbrev pub due : SessionView → List ℕ → List ℕ
@@ -29,11 +29,11 @@ due s further = s.queued ++ owed s.state s.in_hand (ahead s.input further)
 
 -- the state once these further bytes were fed and all was answered
 abbrev pub state_due : SessionView → List ℕ → State
-state_due s further = state_from (goes_on_if s.state s.in_hand).state (ahead s.input further)
+state_due s further = state_from (rest_of_go_if s.state s.in_hand).state (ahead s.input further)
 
 -- the steps that may still be made: for the `go` in hand, and for each `go` in these lines
 abbrev pub load_ahead : State → Option InHand → List Line → ℕ
-load_ahead s in_hand ahead = load_of_if in_hand + costs_from (goes_on_if s in_hand).state ahead
+load_ahead s in_hand ahead = load_of_if in_hand + costs_from (rest_of_go_if s in_hand).state ahead
 
 -- the same for the lines that are there
 abbrev pub load : SessionView → ℕ
@@ -68,4 +68,4 @@ wants_input s = not s.state.is_over && not (is_some s.in_hand || has_line (ahead
 
 -- nothing read, nothing queued
 abbrev pub new_session : SessionView
-new_session = record { state = opening; in_hand = None; queued = []; input = record { unread = []; closed = false } }
+new_session = record { state = initial_state; in_hand = None; queued = []; input = record { unread = []; closed = false } }

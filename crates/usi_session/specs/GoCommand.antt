@@ -6,12 +6,12 @@ use Rattle.shogi_moves.specs.LegalMoves.{legal_moves}
 use Rattle.usi_session.specs.Texts.{info_line}
 
 -- the move to play
-abbrev pub first : List Move → Option Move
-first moves = slice_get moves 0
+abbrev pub move_to_play : List Move → Option Move
+move_to_play moves = slice_get moves 0
 
 -- the reply to it
-abbrev pub second : List Move → Option Move
-second moves = slice_get moves 1
+abbrev pub move_to_ponder : List Move → Option Move
+move_to_ponder moves = slice_get moves 1
 
 -- what is said of a position at each depth from 1 to the given one
 unfoldable pub info_lines : Shogi → ℕ → List ℕ
@@ -19,10 +19,10 @@ info_lines p zero = []
 info_lines p (suc depth) = info_lines p depth ++ info_line p (suc depth)
 
 -- no info lines where no move is legal
-abbrev pub infos_of : Shogi → ℕ → List ℕ → List ℕ
-infos_of p depth [] = []
-infos_of p depth (code ∷ codes) = info_lines p depth
+abbrev pub go_infos_where : Shogi → ℕ → List ℕ → List ℕ
+go_infos_where p depth [] = []
+go_infos_where p depth (code ∷ codes) = info_lines p depth
 
 -- what is said of a position before the bestmove
-abbrev pub infos : Shogi → ℕ → List ℕ
-infos p depth = infos_of p depth (legal_moves p)
+abbrev pub go_infos : Shogi → ℕ → List ℕ
+go_infos p depth = go_infos_where p depth (legal_moves p)

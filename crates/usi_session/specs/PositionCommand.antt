@@ -35,8 +35,8 @@ after_words p [] = Ok p
 after_words p (word ∷ rest) = cond (bytes_eq word (codes "moves")) (after_moves 1 p rest) (Err (BadPosition 0))
 
 -- `position startpos ..`, after the word `startpos`
-abbrev pub position_of_start : List ℕ → Result Shogi Refusal
-position_of_start rest = after_words start (words rest)
+abbrev pub position_of_startpos : List ℕ → Result Shogi Refusal
+position_of_startpos rest = after_words start (words rest)
 
 -- what follows the words of an SFEN, or the number of its fault
 abbrev pub after_sfen : List ℕ → Result (Shogi × ℕ) SfenFault → Result Shogi Refusal

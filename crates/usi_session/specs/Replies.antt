@@ -3,7 +3,7 @@ use Rattle.std.specs.Prelude.{ℕ, List, [], ◌∷◌, ◌++◌, Bool, true, fa
 use Rattle.usi_lines.specs.CommandLines.{command_of}
 use Rattle.usi_lines.specs.Lines.{Line, Text, TooLong, lines}
 use Rattle.usi_session.specs.declared.state.State.{State}
-use Rattle.usi_session.specs.Answer.{Answer, answer, answer_with, opening}
+use Rattle.usi_session.specs.Answer.{Answer, answer, answer_with, initial_state}
 use Rattle.usi_session.specs.Texts.{too_long_reply}
 
 -- the answer to a line; one that is too long ends the session
@@ -31,8 +31,8 @@ state_from s (line ∷ rest) = state_from (answer_line s line).state rest
 
 -- whether a session is over once it was sent these bytes
 abbrev pub is_over_after : List ℕ → Bool
-is_over_after bytes = (state_from opening (lines bytes)).is_over
+is_over_after bytes = (state_from initial_state (lines bytes)).is_over
 
 -- the replies of a new session to a whole stream of bytes
 abbrev pub replies : List ℕ → List ℕ
-replies bytes = replies_from opening (lines bytes)
+replies bytes = replies_from initial_state (lines bytes)

@@ -21,12 +21,12 @@ abbrev pub mate_not_implemented_reply : List ℕ
 mate_not_implemented_reply = codes "checkmate notimplemented\n"
 
 -- a `position` line that names no position: 0 for its form, 1 to 8 for the first fault of its SFEN
-abbrev pub bad_position : ℕ → List ℕ
-bad_position fault = codes "info string bad position " ++ (decimal fault ++ codes "\n")
+abbrev pub bad_position_line : ℕ → List ℕ
+bad_position_line fault = codes "info string bad position " ++ (decimal fault ++ codes "\n")
 
 -- the word of this number after `moves` is no legal move
-abbrev pub illegal_move : ℕ → List ℕ
-illegal_move number = codes "info string illegal move " ++ (decimal number ++ codes "\n")
+abbrev pub illegal_move_line : ℕ → List ℕ
+illegal_move_line number = codes "info string illegal move " ++ (decimal number ++ codes "\n")
 
 -- what a line of 65,536 bytes or more is answered with
 abbrev pub too_long_reply : List ℕ

@@ -4,9 +4,9 @@ ghost use Rattle.std.specs.Prelude.{◌≡◌, ◌≢◌, ◌≤◌, ◌<◌, �
 ghost use Rattle.shogi_search.specs.Minimax.{value, best};
 ghost use Rattle.usi_lines.specs.declared.options.TheConstants.{DEPTH_MIN, DEPTH_MAX};
 ghost use Rattle.usi_session.specs.Answer.{bestmove_at};
-ghost use Rattle.usi_session.specs.GoCommand.{first, second};
+ghost use Rattle.usi_session.specs.GoCommand.{move_to_play, move_to_ponder};
 ghost use Rattle.usi_session.specs.Texts.{info_line};
-ghost use Rattle.usi_session.specs.InHand.{at_depth, lines_on, after_search, load_of, turns_of};
+ghost use Rattle.usi_session.specs.InHand.{at_depth, info_lines_above, load_after_search, load_of, turns_of};
 
 use crate::state::HeldBestmove;
 use crate::text::write_info;
@@ -48,15 +48,15 @@ impl<A: Allocator> Model for GoCommand<A> {
 }
 
 /// The move to play.
-fn first(moves: &[Move]) -> Option<Move>
-    ensures { result ≡ first moves.now }
+fn move_to_play(moves: &[Move]) -> Option<Move>
+    ensures { result ≡ move_to_play moves.now }
 {
     moves.first().copied()
 }
 
 /// The reply to it.
-fn second(moves: &[Move]) -> Option<Move>
-    ensures { result ≡ second moves.now }
+fn move_to_ponder(moves: &[Move]) -> Option<Move>
+    ensures { result ≡ move_to_ponder moves.now }
 {
     moves.get(1).copied()
 }
@@ -101,7 +101,7 @@ impl<A: Allocator> GoCommand<A> {
         requires value { found.value ≡ value self.old.at self.old.plies }
         requires best { found.best ≡ best self.old.at self.old.plies }
         ensures same { self.new ≡ record self.old { plies = self.new.plies; at = self.new.at; left = self.new.left } }
-        ensures left { load_of self.new ≤ after_search self.old }
+        ensures left { load_of self.new ≤ load_after_search self.old }
         ensures fewer { self.new.plies < self.old.plies }
     {
         self.value = self.value_after(&found);
@@ -143,7 +143,7 @@ impl<A: Allocator> GoCommand<A> {
     pub fn tell<B: Allocator>(&self, out: &mut Vec<u8, B>) -> Result<(), AllocError>
         requires whole { self.now.plies ≡ 0 }
         ensures told { OnOk result (out.new.items ≡ out.old.items ++ info_line self.now.root (self.now.told + 1)) }
-        ensures rest { OnOk result (out.new.items ++ lines_on self.now.root (self.now.told + 1) (self.now.depth - (self.now.told + 1)) ≡ out.old.items ++ lines_on self.now.root self.now.told (self.now.depth - self.now.told)) }
+        ensures rest { OnOk result (out.new.items ++ info_lines_above self.now.root (self.now.told + 1) (self.now.depth - (self.now.told + 1)) ≡ out.old.items ++ info_lines_above self.now.root self.now.told (self.now.depth - self.now.told)) }
     {
         write_info(out, self.told + 1, self.value, self.moves.as_slice())
     }
@@ -184,8 +184,8 @@ impl<A: Allocator> GoCommand<A> {
         ensures { result ≡ bestmove_at self.now.root self.now.depth self.now.hold }
     {
         HeldBestmove {
-            best: first(self.moves.as_slice()),
-            ponder: second(self.moves.as_slice()),
+            best: move_to_play(self.moves.as_slice()),
+            ponder: move_to_ponder(self.moves.as_slice()),
             until: self.hold,
         }
     }
