@@ -1,18 +1,22 @@
 //! Material summed by hand.
 
-use crate::{Node, material};
+use crate::{Eval, Node, material};
 use shogi_core::{Color, Hands, Kind, Piece, Position, Role, Square};
 use shogi_moves::next_legal;
 use std::test::Fail;
 
+const EVALS: [Eval; 2] = [Eval::Plain, Eval::Hand];
+
 #[test]
 fn even_at_the_opening(rt: HostRuntime) {
     let start = Position::start();
-    assert_eq!(rt; material(&start), 0);
-    assert_eq!(rt; Node::start().score(), 0);
-    if let Some(m) = next_legal(&start, None) {
-        let node = Node::of(start).play(m);
-        assert_eq!(rt; (node.score(), node.position().side()), (0, Color::White));
+    for e in EVALS {
+        assert_eq!(rt; material(&start, e), 0);
+        assert_eq!(rt; Node::start(e).score(), 0);
+        if let Some(m) = next_legal(&start, None) {
+            let node = Node::of(start, e).play(m);
+            assert_eq!(rt; (node.score(), node.position().side()), (0, Color::White));
+        }
     }
 }
 
@@ -44,9 +48,11 @@ fn values_of_pieces(rt: HostRuntime) -> Result<(), Fail> {
         });
         let hands = Hands::none().with(Color::White, Kind::Silver, 2);
         let black = Position::new(cells, hands, Color::Black)?;
-        assert_eq!(rt; material(&black), points - 1000, "{role:?}");
         let white = Position::new(cells, hands, Color::White)?;
-        assert_eq!(rt; material(&white), 1000 - points, "{role:?}");
+        for (e, silvers) in [(Eval::Plain, 1000), (Eval::Hand, 1100)] {
+            assert_eq!(rt; material(&black, e), points - silvers, "{role:?}");
+            assert_eq!(rt; material(&white, e), silvers - points, "{role:?}");
+        }
     }
     Ok(())
 }
