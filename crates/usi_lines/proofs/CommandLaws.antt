@@ -4,12 +4,13 @@ use Rattle.std.specs.Prelude.{IfSome, codes, ◌&&◌}
 use Rattle.std.specs.Option.{option_map_or}
 use Rattle.std.specs.Str.{bytes_eq}
 use Rattle.std.proofs.lemmas.Bool.{cond_both}
+use Rattle.shogi_eval.specs.declared.eval.Eval.{Eval}
 use Rattle.shogi_sfen.specs.Words.{words, after_word}
 use Rattle.shogi_sfen.specs.Numbers.{is_number, number_written}
 use Rattle.usi_lines.specs.declared.command.Hold.{Hold}
 use Rattle.usi_lines.specs.declared.options.TheConstants.{DEPTH_MIN, DEPTH_MAX}
-use Rattle.usi_lines.specs.Commands.{Command, Usi, IsReady, NewGame, BadPosition, GoMate, Stop, PonderHit, GameOver, Quit, Startpos, Sfen, Other, SetDepth, Go}
-use Rattle.usi_lines.specs.Options.{IsDepth, IsInRange, depth_read, command_for, option_of}
+use Rattle.usi_lines.specs.Commands.{Command, Usi, IsReady, NewGame, BadPosition, GoMate, Stop, PonderHit, GameOver, Quit, Startpos, Sfen, Other, SetDepth, SetEval, Go}
+use Rattle.usi_lines.specs.Options.{IsDepth, IsInRange, depth_read, eval_read, command_for, option_of}
 use Rattle.usi_lines.specs.CommandLines.{depth_in_first, depth_of, position_of, hold_of, has_word, named_by, by_words, command_of}
 
 pub command_of-none : (line : List ℕ) → words line ≡ [] → Other ≡ command_of line
@@ -44,6 +45,10 @@ depth_set_fits : (o : Option ℕ) → IfSome o IsDepth → Fits (option_map_or S
 depth_set_fits None h = record { in_range = tt }
 depth_set_fits (Some d) h = record { in_range = h }
 
+eval_set_fits : (o : Option Eval) → Fits (option_map_or SetEval o Other)
+eval_set_fits None = record { in_range = tt }
+eval_set_fits (Some eval) = record { in_range = tt }
+
 go_fits : (o : Option ℕ) (hold : Hold) → IfSome o IsDepth → Fits (Go o hold)
 go_fits None hold h = record { in_range = tt }
 go_fits (Some d) hold h = record { in_range = h }
@@ -58,7 +63,8 @@ plain command h = record { in_range = h }
 command_for_fits : (name value : List ℕ) → Fits (command_for name value)
 command_for_fits name value =
     either (bytes_eq name (codes "Depth")) _ _ (depth_set_fits (depth_read value) (depth_read_fits value)) (
-    plain Other tt)
+    either (bytes_eq name (codes "Eval")) _ _ (eval_set_fits (eval_read value)) (
+    plain Other tt))
 
 option_fits : (ws : List (List ℕ)) → Fits (option_of ws)
 option_fits [] = plain Other tt
