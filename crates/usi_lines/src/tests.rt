@@ -131,7 +131,11 @@ fn evaluations_of_lines(rt: HostRuntime) {
 #[test]
 fn positions_of_lines(rt: HostRuntime) {
     let moves = b" moves 7g7f";
-    reads(&rt, b"position startpos moves 7g7f", Command::Startpos(moves));
+    reads(
+        &rt,
+        b"position startpos moves 7g7f",
+        Command::Startpos(moves),
+    );
     reads(&rt, b"position startpos", Command::Startpos(b""));
     reads(&rt, b"position  sfen\t9/9 b -", Command::Sfen(b"\t9/9 b -"));
     reads(&rt, b"position", Command::BadPosition);

@@ -60,7 +60,7 @@ state_from-over s (line ∷ rest) over = ap (λ (t : State). state_from t rest) 
 
 rest_of_go-over : (s : State) (in_hand : Option InHand) → (rest_of_go_if s in_hand).state.is_over ≡ s.is_over
 rest_of_go-over s None = refl
-rest_of_go-over s (Some go) = write_or_hold-over s (info_lines_above go.root go.told (go.depth - go.told)) (bestmove_at go.root go.depth go.hold) go.hold
+rest_of_go-over s (Some go) = write_or_hold-over s (info_lines_above go.root go.eval go.told (go.depth - go.told)) (bestmove_at go.root go.eval go.depth go.hold) go.hold
 
 -- a session that is over will be over
 pub state_due-over : (s : SessionView) (x : List ℕ) → s.state.is_over ≡ true → (state_due s x).is_over ≡ true

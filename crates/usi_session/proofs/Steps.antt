@@ -70,26 +70,26 @@ state_on s next idle in_hand line all rest alive i e h =
     ap (λ (t : State). state_from t rest) h ∙ (sym (state_from-alive s line rest alive) ∙ (ap (state_from s) (sym e) ∙ ap (λ (o : Option InHand). state_from (rest_of_go_if s o).state all) (sym i)))
 
 -- a `go` that has told a depth more leads to the same state
-pub state_told : (s : State) (go more : InHand) (in_hand : Option InHand) (ahead : List Line) → in_hand ≡ Some go → more.root ≡ go.root → more.depth ≡ go.depth → more.hold ≡ go.hold → state_from (rest_of_go s more).state ahead ≡ state_from (rest_of_go_if s in_hand).state ahead
-state_told s go more in_hand ahead i r d h =
-    let same : (rest_of_go s more).state ≡ (rest_of_go s go).state = write_or_hold-state s (info_lines_above more.root more.told (more.depth - more.told)) (bestmove_at more.root more.depth more.hold) more.hold
-    ∙ (rw (r, d, h) (sym (write_or_hold-state s (info_lines_above go.root go.told (go.depth - go.told)) (bestmove_at go.root go.depth go.hold) go.hold))) in
+pub state_told : (s : State) (go more : InHand) (in_hand : Option InHand) (ahead : List Line) → in_hand ≡ Some go → more.root ≡ go.root → more.eval ≡ go.eval → more.depth ≡ go.depth → more.hold ≡ go.hold → state_from (rest_of_go s more).state ahead ≡ state_from (rest_of_go_if s in_hand).state ahead
+state_told s go more in_hand ahead i r v d h =
+    let same : (rest_of_go s more).state ≡ (rest_of_go s go).state = write_or_hold-state s (info_lines_above more.root more.eval more.told (more.depth - more.told)) (bestmove_at more.root more.eval more.depth more.hold) more.hold
+    ∙ (rw (r, v, d, h) (sym (write_or_hold-state s (info_lines_above go.root go.eval go.told (go.depth - go.told)) (bestmove_at go.root go.eval go.depth go.hold) go.hold))) in
     ap (λ (t : State). state_from t ahead) same ∙ ap (λ (o : Option InHand). state_from (rest_of_go_if s o).state ahead) (sym i)
 
 -- and so does its end
-pub state_ends : (s next : State) (go : InHand) (in_hand : Option InHand) (held : HeldBestmove) (ahead : List Line) → in_hand ≡ Some go → held ≡ bestmove_at go.root go.depth go.hold → next ≡ (write_or_hold s [] held held.until).state → state_from next ahead ≡ state_from (rest_of_go_if s in_hand).state ahead
+pub state_ends : (s next : State) (go : InHand) (in_hand : Option InHand) (held : HeldBestmove) (ahead : List Line) → in_hand ≡ Some go → held ≡ bestmove_at go.root go.eval go.depth go.hold → next ≡ (write_or_hold s [] held held.until).state → state_from next ahead ≡ state_from (rest_of_go_if s in_hand).state ahead
 state_ends s next go in_hand held ahead i e h =
-    let state : (rest_of_go s go).state ≡ next = write_or_hold-state s (info_lines_above go.root go.told (go.depth - go.told)) (bestmove_at go.root go.depth go.hold) go.hold ∙ (ap (λ (k : HeldBestmove). (write_or_hold s [] k k.until).state) (sym e) ∙ sym h) in
+    let state : (rest_of_go s go).state ≡ next = write_or_hold-state s (info_lines_above go.root go.eval go.told (go.depth - go.told)) (bestmove_at go.root go.eval go.depth go.hold) go.hold ∙ (ap (λ (k : HeldBestmove). (write_or_hold s [] k k.until).state) (sym e) ∙ sym h) in
     ap (λ (t : State). state_from t ahead) (sym state) ∙ ap (λ (o : Option InHand). state_from (rest_of_go_if s o).state ahead) (sym i)
 
 -- the last depth was told, and the bestmove written or held
-pub due_ends : (s next : State) (queued more infos reply : List ℕ) (go : InHand) (in_hand : Option InHand) (held : HeldBestmove) (ahead : List Line) → s.is_over ≡ false → in_hand ≡ Some go → go.told + 1 ≡ go.depth → held ≡ bestmove_at go.root go.depth go.hold
-    → infos ++ info_lines_above go.root (go.told + 1) (go.depth - (go.told + 1)) ≡ info_lines_above go.root go.told (go.depth - go.told) → reply ≡ infos ++ (write_or_hold s [] held held.until).bytes → next ≡ (write_or_hold s [] held held.until).state → more ≡ queued ++ reply
+pub due_ends : (s next : State) (queued more infos reply : List ℕ) (go : InHand) (in_hand : Option InHand) (held : HeldBestmove) (ahead : List Line) → s.is_over ≡ false → in_hand ≡ Some go → go.told + 1 ≡ go.depth → held ≡ bestmove_at go.root go.eval go.depth go.hold
+    → infos ++ info_lines_above go.root go.eval (go.told + 1) (go.depth - (go.told + 1)) ≡ info_lines_above go.root go.eval go.told (go.depth - go.told) → reply ≡ infos ++ (write_or_hold s [] held held.until).bytes → next ≡ (write_or_hold s [] held held.until).state → more ≡ queued ++ reply
     → more ++ owed next None ahead ≡ queued ++ owed s in_hand ahead
 due_ends s next queued more infos reply go in_hand held ahead alive i last e f g h m =
-    let lines : infos ≡ info_lines_above go.root go.told (go.depth - go.told) = sym (append-nil infos) ∙ (ap (λ xs. infos ++ xs) (sym (info_lines_above-none go.root (go.told + 1) go.depth last)) ∙ f) in
-    let bytes : (rest_of_go s go).bytes ≡ reply = write_or_hold-bytes s (info_lines_above go.root go.told (go.depth - go.told)) (bestmove_at go.root go.depth go.hold) go.hold ∙ (ap (λ xs. xs ++ (write_or_hold s [] (bestmove_at go.root go.depth go.hold) go.hold).bytes) (sym lines) ∙ (ap (λ (k : HeldBestmove). infos ++ (write_or_hold s [] k k.until).bytes) (sym e) ∙ sym g)) in
-    let state : (rest_of_go s go).state ≡ next = write_or_hold-state s (info_lines_above go.root go.told (go.depth - go.told)) (bestmove_at go.root go.depth go.hold) go.hold ∙ (ap (λ (k : HeldBestmove). (write_or_hold s [] k k.until).state) (sym e) ∙ sym h) in
+    let lines : infos ≡ info_lines_above go.root go.eval go.told (go.depth - go.told) = sym (append-nil infos) ∙ (ap (λ xs. infos ++ xs) (sym (info_lines_above-none go.root go.eval (go.told + 1) go.depth last)) ∙ f) in
+    let bytes : (rest_of_go s go).bytes ≡ reply = write_or_hold-bytes s (info_lines_above go.root go.eval go.told (go.depth - go.told)) (bestmove_at go.root go.eval go.depth go.hold) go.hold ∙ (ap (λ xs. xs ++ (write_or_hold s [] (bestmove_at go.root go.eval go.depth go.hold) go.hold).bytes) (sym lines) ∙ (ap (λ (k : HeldBestmove). infos ++ (write_or_hold s [] k k.until).bytes) (sym e) ∙ sym g)) in
+    let state : (rest_of_go s go).state ≡ next = write_or_hold-state s (info_lines_above go.root go.eval go.told (go.depth - go.told)) (bestmove_at go.root go.eval go.depth go.hold) go.hold ∙ (ap (λ (k : HeldBestmove). (write_or_hold s [] k k.until).state) (sym e) ∙ sym h) in
     let before : owed s in_hand ahead ≡ (rest_of_go s go).bytes ++ replies_from (rest_of_go s go).state ahead = ap (λ (o : Option InHand). owed s o ahead) i ∙ owed-alive s (Some go) ahead alive in
     let after : owed next None ahead ≡ replies_from next ahead = owed_on next None ahead (λ _. refl) in
     ap (λ xs. more ++ xs) after ∙ (ap (λ xs. xs ++ replies_from next ahead) m ∙ (append_assoc queued reply (replies_from next ahead)

@@ -2,8 +2,9 @@
 use Rattle.std.specs.Prelude.{ℕ, List, [], ◌++◌, Option, Some, None, Result, Ok, Err, true, false, unwrap_or}
 use Rattle.shogi_core.specs.Position.{Shogi}
 use Rattle.shogi_core.specs.Start.{start}
+use Rattle.shogi_eval.specs.declared.eval.Eval.{Eval}
 use Rattle.shogi_search.specs.Minimax.{pv}
-use Rattle.usi_lines.specs.Commands.{Command, Usi, IsReady, SetDepth, NewGame, Startpos, Sfen, BadPosition, Go, GoMate, Stop, PonderHit, GameOver, Quit, Other}
+use Rattle.usi_lines.specs.Commands.{Command, Usi, IsReady, SetDepth, SetEval, NewGame, Startpos, Sfen, BadPosition, Go, GoMate, Stop, PonderHit, GameOver, Quit, Other}
 use Rattle.usi_lines.specs.declared.command.Hold.{Hold}
 use Rattle.usi_lines.specs.declared.command.Hold.TheVariants.{Nothing, UntilStop, UntilHit}
 use Rattle.usi_session.specs.declared.position_command.Refusal.{Refusal}
@@ -39,8 +40,8 @@ answer_position s (Err (refusals.BadPosition fault)) = answer_with s (bad_positi
 answer_position s (Err (refusals.IllegalMove number)) = answer_with s (illegal_move_line number)
 
 -- the bestmove at a depth, and what it is held until
-abbrev pub bestmove_at : Shogi → ℕ → Hold → HeldBestmove
-bestmove_at p depth until = record { best = move_to_play (pv p depth); ponder = move_to_ponder (pv p depth); until = until }
+abbrev pub bestmove_at : Shogi → Eval → ℕ → Hold → HeldBestmove
+bestmove_at p eval depth until = record { best = move_to_play (pv p eval depth); ponder = move_to_ponder (pv p eval depth); until = until }
 
 -- the line of a held bestmove
 abbrev pub held_line : HeldBestmove → List ℕ
@@ -52,9 +53,9 @@ write_or_hold s infos held Nothing = answer_with (without_bestmove s) (infos ++ 
 write_or_hold s infos held UntilStop = answer_with (record s { held = Some held }) infos
 write_or_hold s infos held UntilHit = answer_with (record s { held = Some held }) infos
 
--- `go` at a depth: what was held is dropped
+-- `go` at a depth, by the evaluation of the session: what was held is dropped
 abbrev pub answer_go : State → ℕ → Hold → Answer
-answer_go s depth hold = write_or_hold s (go_infos s.position depth) (bestmove_at s.position depth hold) hold
+answer_go s depth hold = write_or_hold s (go_infos s.position s.options.eval depth) (bestmove_at s.position s.options.eval depth hold) hold
 
 -- `stop`: the held bestmove is written, and nothing is held any more
 abbrev pub answer_stop : State → Option HeldBestmove → Answer
@@ -77,6 +78,7 @@ abbrev pub answer : State → Command → Answer
 answer s Usi = answer_with s usi_reply
 answer s IsReady = answer_with s ready_reply
 answer s (SetDepth depth) = answer_with (record s { options = record s.options { depth = depth } }) []
+answer s (SetEval eval) = answer_with (record s { options = record s.options { eval = eval } }) []
 answer s NewGame = answer_with (record s { position = start; held = None }) []
 answer s (Startpos rest) = answer_position s (position_of_startpos rest)
 answer s (Sfen rest) = answer_position s (position_of_sfen rest)

@@ -9,7 +9,7 @@ use Rattle.usi_session.specs.Replies.{answer_line}
 
 -- a `go` costs the searches of its depth from the position where it stands; no other command costs a step
 abbrev pub cost_of_command : State → Command → ℕ
-cost_of_command s (Go depth hold) = deepening_cost s.position (unwrap_or depth s.options.depth)
+cost_of_command s (Go depth hold) = deepening_cost s.position s.options.eval (unwrap_or depth s.options.depth)
 cost_of_command s _ = 0
 
 abbrev pub cost_to : State → Line → ℕ

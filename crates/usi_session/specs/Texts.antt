@@ -2,6 +2,7 @@
 use Rattle.std.specs.Prelude.{ℕ, ℤ, pos, negsuc, ◌+◌, ◌-◌, List, [], ◌++◌, codes, flat_map, Option, Some, None, nat_lt, cond, decimal}
 use Rattle.shogi_core.specs.declared.moves.Move.{Move}
 use Rattle.shogi_core.specs.Position.{Shogi}
+use Rattle.shogi_eval.specs.declared.eval.Eval.{Eval}
 use Rattle.shogi_search.specs.Minimax.{value, pv}
 use Rattle.shogi_sfen.specs.MoveTexts.{text_of}
 use Rattle.usi_session.specs.Options.{option_lines}
@@ -52,8 +53,8 @@ info_text depth value moves =
     (codes "info depth " ++ (decimal depth ++ codes " score ")) ++ (score_text depth value ++ (codes " pv" ++ (moves_text moves ++ codes "\n")))
 
 -- what is said of a position at a depth: its value and its pv
-abbrev pub info_line : Shogi → ℕ → List ℕ
-info_line p depth = info_text depth (value p depth) (pv p depth)
+abbrev pub info_line : Shogi → Eval → ℕ → List ℕ
+info_line p eval depth = info_text depth (value p eval depth) (pv p eval depth)
 
 -- the move to play, with the reply to ponder on; none where no move is legal
 abbrev pub bestmove_line : Option Move → Option Move → List ℕ

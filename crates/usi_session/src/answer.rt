@@ -73,14 +73,14 @@ fn answer_go<A: Allocator + Copy>(
     requires most { depth ≤ DEPTH_MAX }
     ensures bytes { IfOk result (λ in_hand. with_rest out.new.items state.new in_hand ≡ out.old.items ++ (answer_go state.old depth hold).bytes) }
     ensures state { IfOk result (λ in_hand. (rest_of_go_if state.new in_hand).state ≡ (answer_go state.old depth hold).state) }
-    ensures load { IfOk result (λ in_hand. load_of_if in_hand ≤ deepening_cost state.old.position depth) }
+    ensures load { IfOk result (λ in_hand. load_of_if in_hand ≤ deepening_cost state.old.position state.old.options.eval depth) }
     ensures turns { IfOk result (λ in_hand. turns_of_if in_hand ≤ most_turns) }
     ensures quiet { IfOk result (λ in_hand. OnSome in_hand (out.new.items ≡ out.old.items)) }
     ensures options { OnOk result (state.new.options ≡ state.old.options) }
     ensures alive { OnOk result (state.new.is_over ≡ state.old.is_over) }
 {
     if has_legal(&state.position) {
-        let in_hand = GoCommand::start(alloc, &state.position, depth, hold)?;
+        let in_hand = GoCommand::start(alloc, &state.position, state.options.eval, depth, hold)?;
         return Ok(Some(in_hand));
     }
     let bestmove = HeldBestmove {
@@ -140,6 +140,7 @@ pub fn answer<A: Allocator + Copy>(
         Command::Usi => write_usi(out)?,
         Command::IsReady => out.extend_from_slice(b"readyok\n")?,
         Command::SetDepth(depth) => state.options.depth = depth,
+        Command::SetEval(eval) => state.options.eval = eval,
         Command::NewGame => {
             state.position = Position::start();
             state.held = None;
