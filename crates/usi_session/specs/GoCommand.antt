@@ -16,14 +16,14 @@ move_to_ponder moves = slice_get moves 1
 
 -- what is said of a position at each depth from 1 to the given one
 unfoldable pub info_lines : Shogi → Eval → ℕ → List ℕ
-info_lines p eval zero = []
-info_lines p eval (suc depth) = info_lines p eval depth ++ info_line p eval (suc depth)
+info_lines position eval zero = []
+info_lines position eval (suc depth) = info_lines position eval depth ++ info_line position eval (suc depth)
 
 -- no info lines where no move is legal
 abbrev pub go_infos_where : Shogi → Eval → ℕ → List ℕ → List ℕ
-go_infos_where p eval depth [] = []
-go_infos_where p eval depth (code ∷ codes) = info_lines p eval depth
+go_infos_where position eval depth [] = []
+go_infos_where position eval depth (code ∷ codes) = info_lines position eval depth
 
 -- what is said of a position before the bestmove
 abbrev pub go_infos : Shogi → Eval → ℕ → List ℕ
-go_infos p eval depth = go_infos_where p eval depth (legal_moves p)
+go_infos position eval depth = go_infos_where position eval depth (legal_moves position)

@@ -23,35 +23,35 @@ pub record InHand : Type 0 where
 
 -- one depth is in hand: its first search has made no step yet
 abbrev pub at_depth : Shogi → Eval → ℕ → Hold → ℕ → InHand
-at_depth p eval depth hold told = record { root = p; eval = eval; depth = depth; hold = hold; told = told; plies = told + 1; at = p; left = 2 * tree_size p (told + 1) }
+at_depth position eval depth hold told = record { root = position; eval = eval; depth = depth; hold = hold; told = told; plies = told + 1; at = position; left = 2 * tree_size position (told + 1) }
 
 -- what is said of a position at each of so many depths above those that were told
 unfoldable pub info_lines_above : Shogi → Eval → ℕ → ℕ → List ℕ
-info_lines_above p eval told zero = []
-info_lines_above p eval told (suc more) = info_line p eval (told + 1) ++ info_lines_above p eval (told + 1) more
+info_lines_above position eval told zero = []
+info_lines_above position eval told (suc more) = info_line position eval (told + 1) ++ info_lines_above position eval (told + 1) more
 
 -- the steps that may be made for the pvs of each of so many depths above those that were told
 unfoldable pub costs_above : Shogi → Eval → ℕ → ℕ → ℕ
-costs_above p eval told zero = 0
-costs_above p eval told (suc more) = pv_cost p eval (told + 1) + costs_above p eval (told + 1) more
+costs_above position eval told zero = 0
+costs_above position eval told (suc more) = pv_cost position eval (told + 1) + costs_above position eval (told + 1) more
 
 -- what it still says, and the state after it: by the question alone, and not by how far the search is
 abbrev pub rest_of_go : State → InHand → Answer
-rest_of_go s go = write_or_hold s (info_lines_above go.root go.eval go.told (go.depth - go.told)) (bestmove_at go.root go.eval go.depth go.hold) go.hold
+rest_of_go state go = write_or_hold state (info_lines_above go.root go.eval go.told (go.depth - go.told)) (bestmove_at go.root go.eval go.depth go.hold) go.hold
 
 -- nothing more, where none is in hand
 abbrev pub rest_of_go_if : State → Option InHand → Answer
-rest_of_go_if s None = answer_with s []
-rest_of_go_if s (Some go) = rest_of_go s go
+rest_of_go_if state None = answer_with state []
+rest_of_go_if state (Some go) = rest_of_go state go
 
 -- these bytes, and what the `go` in hand still says after them
 abbrev pub with_rest : List ℕ → State → Option InHand → List ℕ
-with_rest bytes s None = bytes
-with_rest bytes s (Some go) = bytes ++ (rest_of_go s go).bytes
+with_rest bytes state None = bytes
+with_rest bytes state (Some go) = bytes ++ (rest_of_go state go).bytes
 
 -- the steps of the searches after the one in hand: along the pv of this depth, and at the depths above
 abbrev pub load_after_search : InHand → ℕ
-load_after_search go = then_pv_cost (λ q. pv_cost q go.eval (go.plies - 1)) go.at (best go.at go.eval go.plies) + costs_above go.root go.eval (go.told + 1) (go.depth - (go.told + 1))
+load_after_search go = then_pv_cost (λ next. pv_cost next go.eval (go.plies - 1)) go.at (best go.at go.eval go.plies) + costs_above go.root go.eval (go.told + 1) (go.depth - (go.told + 1))
 
 -- what is left of the search in hand, and the steps of those after it
 abbrev pub load_of : InHand → ℕ

@@ -45,7 +45,7 @@ score_text depth (negsuc size) = size_text (codes "-") depth (size + 1)
 
 -- each move after a space
 abbrev pub moves_text : List Move → List ℕ
-moves_text moves = flat_map (λ m. codes " " ++ text_of m) moves
+moves_text moves = flat_map (λ played. codes " " ++ text_of played) moves
 
 -- a value and a pv at a depth
 abbrev pub info_text : ℕ → ℤ → List Move → List ℕ
@@ -54,7 +54,7 @@ info_text depth value moves =
 
 -- what is said of a position at a depth: its value and its pv
 abbrev pub info_line : Shogi → Eval → ℕ → List ℕ
-info_line p eval depth = info_text depth (value p eval depth) (pv p eval depth)
+info_line position eval depth = info_text depth (value position eval depth) (pv position eval depth)
 
 -- the move to play, with the reply to ponder on; none where no move is legal
 abbrev pub bestmove_line : Option Move → Option Move → List ℕ
