@@ -159,27 +159,57 @@ fn go_infinite_and_stop_cut_anywhere(rt: HostRuntime) -> Result<(), Fail> {
     Ok(())
 }
 
-// Two sessions take turns, step by step, over one table of one entry.
+// The rows are sent to two sessions that take turns, step by step, over one table.
+fn assert_turns<M: Memo>(
+    rt: &impl Abort,
+    alloc: Global,
+    table: &mut M,
+    one: Row,
+    other: Row,
+) -> Result<(), Fail> {
+    let mut first = fed(alloc, one.sent)?;
+    let mut second = fed(alloc, other.sent)?;
+    for _ in 0..SLICES {
+        if !first.pending() && !second.pending() {
+            break;
+        }
+        first.work(table, 1)?;
+        second.work(table, 1)?;
+    }
+    for (session, row) in [(first, one), (second, other)] {
+        let answer = joined(alloc, row.answer)?;
+        assert!(rt; !session.pending());
+        assert_eq!(rt; std::str::from_utf8(session.output())?, answer.as_str());
+    }
+    Ok(())
+}
+
 #[test]
 fn two_sessions_by_turns(rt: HostRuntime) -> Result<(), Fail> {
     let hasher = BuildHasherDefault::<FoldHasher>::new();
     let mut table = SharedTable::new(rt.alloc(), 1, hasher)?;
     let [one, two, three] = SLICED;
-    let mut first = fed(rt.alloc(), three.sent)?;
-    let mut second = fed(rt.alloc(), two.sent)?;
-    for _ in 0..SLICES {
-        if !first.pending() && !second.pending() {
-            break;
-        }
-        first.work(&mut table, 1)?;
-        second.work(&mut table, 1)?;
-    }
-    for (session, row) in [(first, three), (second, two)] {
-        let answer = joined(rt.alloc(), row.answer)?;
-        assert!(rt; !session.pending());
-        assert_eq!(rt; std::str::from_utf8(session.output())?, answer.as_str());
-    }
+    assert_turns(&rt, rt.alloc(), &mut table, three, two)?;
     assert_worked(&rt, rt.alloc(), &mut table, &one, 1)?;
+    Ok(())
+}
+
+// To depth 3, one session by `Plain` and one by `Hand`: what the one searched is no answer to the other.
+#[test]
+fn two_evaluations_over_one_table(rt: HostRuntime) -> Result<(), Fail> {
+    let hasher = BuildHasherDefault::<FoldHasher>::new();
+    let mut table = SharedTable::new(rt.alloc(), 4096, hasher)?;
+    let [plain, .., by_hand, _] = DEEP;
+    for row in [plain, by_hand] {
+        let steps = assert_worked(&rt, rt.alloc(), &mut table, &row, 1000)?;
+        assert!(rt; steps > 0);
+        assert_eq!(rt; assert_worked(&rt, rt.alloc(), &mut table, &row, 0)?, 0);
+    }
+    for entries in [1, 4096] {
+        let hasher = BuildHasherDefault::<FoldHasher>::new();
+        let mut table = SharedTable::new(rt.alloc(), entries, hasher)?;
+        assert_turns(&rt, rt.alloc(), &mut table, by_hand, plain)?;
+    }
     Ok(())
 }
 

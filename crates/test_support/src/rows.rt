@@ -13,6 +13,7 @@ pub struct Row {
 pub const USI: &str = "id name Shared Shogi Host
 id author Shared Shogi Host Team
 option name Depth type spin default 3 min 1 max 16
+option name Eval type combo default Plain var Plain var Hand
 usiok
 ";
 
@@ -36,6 +37,12 @@ const BEST_TWO: &str = "bestmove 1g1f ponder 1a1b\n";
 pub const INFO_THREE: &str = "info depth 1 score cp 0 pv 1g1f
 info depth 2 score cp 0 pv 1g1f 1a1b
 info depth 3 score cp 200 pv 7g7f 4c4d 8h4d
+";
+
+/// The same where a piece in hand is worth a tenth more.
+const INFO_THREE_BY_HAND: &str = "info depth 1 score cp 0 pv 1g1f
+info depth 2 score cp 0 pv 1g1f 1a1b
+info depth 3 score cp 210 pv 7g7f 4c4d 8h4d
 ";
 
 const BEST_THREE: &str = "bestmove 7g7f ponder 4c4d\n";
@@ -75,7 +82,7 @@ pub const SLICED: [Row; 3] = [
 ];
 
 /// Searches of the opening position to depth 3.
-pub const DEEP: [Row; 6] = [
+pub const DEEP: [Row; 8] = [
     Row {
         sent: "position startpos\ngo depth 3\n",
         answer: &[INFO_THREE, BEST_THREE],
@@ -100,10 +107,18 @@ pub const DEEP: [Row; 6] = [
         sent: "go infinite\ngo depth 1\nstop\n",
         answer: &[INFO_THREE, INFO_ONE, BEST_ONE],
     },
+    Row {
+        sent: "setoption name Eval value hand\nsetoption name Eval value Hand\nusinewgame\ngo\n",
+        answer: &[INFO_THREE_BY_HAND, BEST_THREE],
+    },
+    Row {
+        sent: "setoption name Eval value Hand\nsetoption name Eval value Plain\ngo\n",
+        answer: &[INFO_THREE, BEST_THREE],
+    },
 ];
 
 /// Rows that search to depth 2 at most.
-pub const QUICK: [Row; 39] = [
+pub const QUICK: [Row; 45] = [
     Row {
         sent: "",
         answer: &[],
@@ -257,10 +272,38 @@ pub const QUICK: [Row; 39] = [
         sent: "stop\nponderhit\ngameover lose\nisready\n",
         answer: &[READY],
     },
+    Row {
+        sent: "setoption name Eval value Hand\nposition sfen 4k4/9/4G4/9/9/9/9/9/9 w G 1\ngo depth 2\n",
+        answer: &[
+            "info depth 1 score cp -1260 pv 5a4a\n",
+            "info depth 2 score mate -2 pv 5a4a G*4b\n",
+            "bestmove 5a4a ponder G*4b\n",
+        ],
+    },
+    Row {
+        sent: "setoption name Eval value Hand x\nsetoption name Eval value\nposition sfen 4k4/9/4G4/9/9/9/9/9/9 w G 1\ngo depth 1\n",
+        answer: &["info depth 1 score cp -1200 pv 5a4a\nbestmove 5a4a\n"],
+    },
+    Row {
+        sent: "setoption name Eval value Hand\nsetoption name Eval value plain\nposition sfen 4k4/9/4G4/9/9/9/9/9/9 w G 1\ngo depth 1\n",
+        answer: &["info depth 1 score cp -1260 pv 5a4a\nbestmove 5a4a\n"],
+    },
+    Row {
+        sent: "setoption name Eval value Hand\nsetoption name Eval value Plain\nposition sfen 4k4/9/4G4/9/9/9/9/9/9 w G 1\ngo depth 1\n",
+        answer: &["info depth 1 score cp -1200 pv 5a4a\nbestmove 5a4a\n"],
+    },
+    Row {
+        sent: "setoption name Eval value Hand\n",
+        answer: &[],
+    },
+    Row {
+        sent: "go infinite depth 1\nsetoption name Eval value Hand\nstop\n",
+        answer: &[INFO_ONE, BEST_ONE],
+    },
 ];
 
 /// Answers of more than a thousand bytes: a pawn of each side, far from the other, at the greatest depth, and
-/// one answer of 116 bytes ten times.
+/// one answer of 177 bytes ten times.
 pub const LONG: [Row; 2] = [
     Row {
         sent: "position sfen p8/9/9/9/9/9/9/9/8P b - 1\ngo depth 16\n",

@@ -16,6 +16,12 @@ info depth 3 score cp 200 pv 7g7f 4c4d 8h4d
 bestmove 7g7f ponder 4c4d
 ";
 
+const DEPTH_THREE_BY_HAND: &str = "info depth 1 score cp 0 pv 1g1f
+info depth 2 score cp 0 pv 1g1f 1a1b
+info depth 3 score cp 210 pv 7g7f 4c4d 8h4d
+bestmove 7g7f ponder 4c4d
+";
+
 /// A search to depth 1 and one to depth 3.
 pub const TWO_SESSIONS: Script = Script {
     text: "+A\n+B\nA go depth 1\nB go depth 3\nA quit\nB quit\n",
@@ -24,7 +30,7 @@ pub const TWO_SESSIONS: Script = Script {
 };
 
 /// Scripts with searches, worked out beforehand by an independent plain program.
-pub const SEARCHES: [Script; 3] = [
+pub const SEARCHES: [Script; 4] = [
     TWO_SESSIONS,
     Script {
         text: "+A\n+B\nA go depth 1\nB go depth 3\nA quit\nB quit\n+C\nC go depth 3\n",
@@ -42,6 +48,12 @@ pub const SEARCHES: [Script; 3] = [
         text: "+A\n+B\nB usi\n-B\nA setoption name Depth value 1\n-A\n+A\nA go\n-A\n",
         slots: 1,
         output: &["== A\n", "== B\n", "refused 1\n", "== A\n", DEPTH_THREE],
+    },
+    // Two sessions over one table, each by its own evaluation.
+    Script {
+        text: "+A\n+B\nB setoption name Eval value Hand\nA go\nB go\n",
+        slots: 2,
+        output: &["== A\n", DEPTH_THREE, "== B\n", DEPTH_THREE_BY_HAND],
     },
 ];
 

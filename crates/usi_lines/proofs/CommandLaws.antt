@@ -4,13 +4,14 @@ use Rattle.std.specs.Prelude.{IfSome, codes, ◌&&◌}
 use Rattle.std.specs.Option.{option_map_or}
 use Rattle.std.specs.Str.{bytes_eq}
 use Rattle.std.proofs.lemmas.Bool.{cond_both}
+use Rattle.shogi_eval.specs.declared.eval.Eval.{Eval}
 use Rattle.shogi_sfen.specs.Words.{words, after_word}
 use Rattle.shogi_sfen.specs.Numbers.{is_number, number_written}
 use Rattle.usi_lines.specs.declared.command.Hold.{Hold}
 use Rattle.usi_lines.specs.declared.options.TheConstants.{DEPTH_MIN, DEPTH_MAX}
-use Rattle.usi_lines.specs.Commands.{Command, Usi, IsReady, NewGame, BadPosition, GoMate, Stop, PonderHit, GameOver, Quit, Start, Sfen, Other, SetDepth, Go}
-use Rattle.usi_lines.specs.Options.{IsDepth, IsInRange, depth_read, command_for, option_of}
-use Rattle.usi_lines.specs.CommandLines.{depth_first, depth_of, position_of, hold_of, has_word, named_by, by_words, command_of}
+use Rattle.usi_lines.specs.Commands.{Command, Usi, IsReady, NewGame, BadPosition, GoMate, Stop, PonderHit, GameOver, Quit, Startpos, Sfen, Other, SetDepth, SetEval, Go}
+use Rattle.usi_lines.specs.Options.{IsDepth, IsInRange, depth_read, eval_read, command_for, option_of}
+use Rattle.usi_lines.specs.CommandLines.{depth_in_first, depth_of, position_of, hold_of, has_word, named_by, by_words, command_of}
 
 pub command_of-none : (line : List ℕ) → words line ≡ [] → Other ≡ command_of line
 unfolding command_of
@@ -28,13 +29,13 @@ clamped n = record { least = omega arith; most = omega arith }
 depth_read_fits : (word : List ℕ) → IfSome (depth_read word) IsDepth
 depth_read_fits word = cond_both (is_number word) (Some (max DEPTH_MIN (min DEPTH_MAX (number_written word)))) None (λ (o : Option ℕ). IfSome o IsDepth) (λ e. clamped (number_written word)) (λ e. tt)
 
-depth_first_fits : (ws : List (List ℕ)) → IfSome (depth_first ws) IsDepth
-depth_first_fits [] = tt
-depth_first_fits (word ∷ more) = depth_read_fits word
+depth_in_first_fits : (ws : List (List ℕ)) → IfSome (depth_in_first ws) IsDepth
+depth_in_first_fits [] = tt
+depth_in_first_fits (word ∷ more) = depth_read_fits word
 
 depth_of_fits : (ws : List (List ℕ)) → IfSome (depth_of ws) IsDepth
 depth_of_fits [] = tt
-depth_of_fits (word ∷ more) = cond_both (bytes_eq word (codes "depth")) (depth_first more) (depth_of more) (λ (o : Option ℕ). IfSome o IsDepth) (λ e. depth_first_fits more) (λ e. depth_of_fits more)
+depth_of_fits (word ∷ more) = cond_both (bytes_eq word (codes "depth")) (depth_in_first more) (depth_of more) (λ (o : Option ℕ). IfSome o IsDepth) (λ e. depth_in_first_fits more) (λ e. depth_of_fits more)
 
 -- each number in a command is in its range
 record Fits (command : Command) : Type 0 where
@@ -43,6 +44,10 @@ record Fits (command : Command) : Type 0 where
 depth_set_fits : (o : Option ℕ) → IfSome o IsDepth → Fits (option_map_or SetDepth o Other)
 depth_set_fits None h = record { in_range = tt }
 depth_set_fits (Some d) h = record { in_range = h }
+
+eval_set_fits : (o : Option Eval) → Fits (option_map_or SetEval o Other)
+eval_set_fits None = record { in_range = tt }
+eval_set_fits (Some eval) = record { in_range = tt }
 
 go_fits : (o : Option ℕ) (hold : Hold) → IfSome o IsDepth → Fits (Go o hold)
 go_fits None hold h = record { in_range = tt }
@@ -58,7 +63,8 @@ plain command h = record { in_range = h }
 command_for_fits : (name value : List ℕ) → Fits (command_for name value)
 command_for_fits name value =
     either (bytes_eq name (codes "Depth")) _ _ (depth_set_fits (depth_read value) (depth_read_fits value)) (
-    plain Other tt)
+    either (bytes_eq name (codes "Eval")) _ _ (eval_set_fits (eval_read value)) (
+    plain Other tt))
 
 option_fits : (ws : List (List ℕ)) → Fits (option_of ws)
 option_fits [] = plain Other tt
@@ -71,7 +77,7 @@ option_fits (a ∷ b ∷ c ∷ d ∷ e ∷ more) = plain Other tt
 
 position_fits : (ws : List (List ℕ)) (rest : List ℕ) → Fits (position_of ws rest)
 position_fits [] rest = record { in_range = tt }
-position_fits (word ∷ more) rest = either _ _ _ (plain (Start rest) tt) (either _ _ _ (plain (Sfen rest) tt) (plain BadPosition tt))
+position_fits (word ∷ more) rest = either _ _ _ (plain (Startpos rest) tt) (either _ _ _ (plain (Sfen rest) tt) (plain BadPosition tt))
 
 named_fits : (name : List ℕ) (ws : List (List ℕ)) (rest : List ℕ) → Fits (named_by name ws rest)
 named_fits name ws rest =

@@ -5,7 +5,7 @@ use Rattle.std.specs.Str.{bytes_eq}
 use Rattle.shogi_sfen.specs.Words.{words, rest_after}
 use Rattle.usi_lines.specs.declared.command.Hold.{Hold}
 use Rattle.usi_lines.specs.declared.command.Hold.TheVariants.{Nothing, UntilStop, UntilHit}
-use Rattle.usi_lines.specs.Commands.{Command, Usi, IsReady, NewGame, Start, Sfen, BadPosition, Go, GoMate, Stop, PonderHit, GameOver, Quit, Other}
+use Rattle.usi_lines.specs.Commands.{Command, Usi, IsReady, NewGame, Startpos, Sfen, BadPosition, Go, GoMate, Stop, PonderHit, GameOver, Quit, Other}
 use Rattle.usi_lines.specs.Options.{depth_read, option_of}
 
 -- the word is among these
@@ -16,18 +16,18 @@ has_word name ws = list_any (λ word. bytes_eq word name) ws
 abbrev pub position_of : List (List ℕ) → List ℕ → Command
 position_of [] rest = BadPosition
 position_of (word ∷ more) rest =
-    cond (bytes_eq word (codes "startpos")) (Start rest)
+    cond (bytes_eq word (codes "startpos")) (Startpos rest)
     (cond (bytes_eq word (codes "sfen")) (Sfen rest) BadPosition)
 
 -- the depth in the first of these words
-abbrev pub depth_first : List (List ℕ) → Option ℕ
-depth_first [] = None
-depth_first (word ∷ more) = depth_read word
+abbrev pub depth_in_first : List (List ℕ) → Option ℕ
+depth_in_first [] = None
+depth_in_first (word ∷ more) = depth_read word
 
 -- the depth in the word right after the first word depth
 abbrev pub depth_of : List (List ℕ) → Option ℕ
 depth_of [] = None
-depth_of (word ∷ more) = cond (bytes_eq word (codes "depth")) (depth_first more) (depth_of more)
+depth_of (word ∷ more) = cond (bytes_eq word (codes "depth")) (depth_in_first more) (depth_of more)
 
 -- the word infinite wins over ponder
 abbrev pub hold_of : List (List ℕ) → Hold

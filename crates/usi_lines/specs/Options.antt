@@ -2,9 +2,11 @@
 use Rattle.std.specs.Prelude.{ℕ, ◌≤◌, ◌&&◌, List, [], ◌∷◌, Option, Some, None, cond, min, max, codes}
 use Rattle.std.specs.Option.{option_map_or}
 use Rattle.std.specs.Str.{bytes_eq}
+use Rattle.shogi_eval.specs.declared.eval.Eval.{Eval}
+use Rattle.shogi_eval.specs.declared.eval.Eval.TheVariants.{Plain, Hand}
 use Rattle.shogi_sfen.specs.Numbers.{is_number, number_written}
 use Rattle.usi_lines.specs.declared.options.TheConstants.{DEPTH_MIN, DEPTH_MAX}
-use Rattle.usi_lines.specs.Commands.{Command, SetDepth, Go, Other}
+use Rattle.usi_lines.specs.Commands.{Command, SetDepth, SetEval, Go, Other}
 
 -- the range of a depth
 pub record IsDepth (depth : ℕ) : Type 0 where
@@ -15,16 +17,23 @@ pub record IsDepth (depth : ℕ) : Type 0 where
 abbrev pub depth_read : List ℕ → Option ℕ
 depth_read word = cond (is_number word) (Some (max DEPTH_MIN (min DEPTH_MAX (number_written word)))) None
 
+-- an evaluation, where the word is its name, letter for letter
+abbrev pub eval_read : List ℕ → Option Eval
+eval_read word =
+    cond (bytes_eq word (codes "Plain")) (Some Plain)
+    (cond (bytes_eq word (codes "Hand")) (Some Hand) None)
+
 -- the option of a name is set to a value: a row for each option
 abbrev pub command_for : List ℕ → List ℕ → Command
 command_for name value =
     cond (bytes_eq name (codes "Depth")) (option_map_or SetDepth (depth_read value) Other)
-    Other
+    (cond (bytes_eq name (codes "Eval")) (option_map_or SetEval (eval_read value) Other)
+    Other)
 
 -- exactly the words `name NAME value VALUE`
 abbrev pub option_of : List (List ℕ) → Command
-option_of (first ∷ name ∷ third ∷ value ∷ []) =
-    cond (bytes_eq first (codes "name") && bytes_eq third (codes "value")) (command_for name value) Other
+option_of (before_name ∷ name ∷ before_value ∷ value ∷ []) =
+    cond (bytes_eq before_name (codes "name") && bytes_eq before_value (codes "value")) (command_for name value) Other
 option_of _ = Other
 
 -- each number in a command lies in its range: a row for each option that is a number

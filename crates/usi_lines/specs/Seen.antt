@@ -16,8 +16,9 @@ abbrev pub meaning_of : code_command.Command → commands.Command
 meaning_of code.Usi = commands.Usi
 meaning_of code.IsReady = commands.IsReady
 meaning_of (code.SetDepth depth) = commands.SetDepth depth
+meaning_of (code.SetEval eval) = commands.SetEval eval
 meaning_of code.NewGame = commands.NewGame
-meaning_of (code.Start text) = commands.Start text.now
+meaning_of (code.Startpos text) = commands.Startpos text.now
 meaning_of (code.Sfen text) = commands.Sfen text.now
 meaning_of code.BadPosition = commands.BadPosition
 meaning_of (code.Go depth hold) = commands.Go depth hold

@@ -1,5 +1,7 @@
 //! The commands of USI.
 
+use shogi_eval::Eval;
+
 /// When a `bestmove` may be written (USI, go).
 #[derive(Clone, Copy, Debug, PartialEq, Eq)]
 pub enum Hold {
@@ -20,10 +22,12 @@ pub enum Command<'a> {
     IsReady,
     /// `setoption name Depth value N`, with N clamped to its range
     SetDepth(u8),
+    /// `setoption name Eval value V`, with V `Plain` or `Hand`
+    SetEval(Eval),
     /// `usinewgame`
     NewGame,
     /// `position startpos`, with the bytes after that word
-    Start(&'a [u8]),
+    Startpos(&'a [u8]),
     /// `position sfen`, with the bytes after that word
     Sfen(&'a [u8]),
     /// Any other `position` line

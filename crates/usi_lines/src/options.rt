@@ -2,11 +2,12 @@
 
 ghost use Rattle.std.specs.Prelude.{◌≡◌};
 ghost use Rattle.shogi_sfen.specs.Words.{words};
-ghost use Rattle.usi_lines.specs.Options.{depth_read, command_for, option_of};
+ghost use Rattle.usi_lines.specs.Options.{depth_read, eval_read, command_for, option_of};
 ghost use Rattle.usi_lines.specs.Seen.{meaning_of};
 
 use crate::command::Command;
 use crate::words::is;
+use shogi_eval::Eval;
 use shogi_sfen::{read_number, words};
 
 /// The least depth of a `go` (own choice, as is the greatest).
@@ -23,6 +24,19 @@ pub fn read_depth(word: &[u8]) -> Option<u8>
     Some(number.clamp(DEPTH_MIN as u32, DEPTH_MAX as u32) as u8)
 }
 
+/// An evaluation, where the word is its name.
+fn read_eval(word: &[u8]) -> Option<Eval>
+    ensures { result ≡ eval_read word.now }
+{
+    if is(word, b"Plain") {
+        Some(Eval::Plain)
+    } else if is(word, b"Hand") {
+        Some(Eval::Hand)
+    } else {
+        None
+    }
+}
+
 /// The command that sets the option of a name to a value, with a row for each option; `Other` where
 /// there is no such option, or where it has no such value.
 fn command_for<'a>(name: &[u8], value: &[u8]) -> Command<'a>
@@ -31,6 +45,11 @@ fn command_for<'a>(name: &[u8], value: &[u8]) -> Command<'a>
     if is(name, b"Depth") {
         match read_depth(value) {
             Some(depth) => Command::SetDepth(depth),
+            None => Command::Other,
+        }
+    } else if is(name, b"Eval") {
+        match read_eval(value) {
+            Some(eval) => Command::SetEval(eval),
             None => Command::Other,
         }
     } else {
@@ -43,7 +62,7 @@ pub fn read_option<'a>(text: &[u8]) -> Command<'a>
     ensures { meaning_of result ≡ option_of (words text.now) }
 {
     let mut rest = words(text);
-    let (Some(first), Some(name), Some(third), Some(value), None) = (
+    let (Some(before_name), Some(name), Some(before_value), Some(value), None) = (
         rest.next(),
         rest.next(),
         rest.next(),
@@ -52,7 +71,7 @@ pub fn read_option<'a>(text: &[u8]) -> Command<'a>
     ) else {
         return Command::Other;
     };
-    if is(first, b"name") && is(third, b"value") {
+    if is(before_name, b"name") && is(before_value, b"value") {
         command_for(name, value)
     } else {
         Command::Other

@@ -17,7 +17,7 @@ fn position(text: &[u8]) -> Command<'_>
 {
     let mut rest = words(text);
     match rest.next() {
-        Some(word) if is(word, b"startpos") => Command::Start(rest.rest()),
+        Some(word) if is(word, b"startpos") => Command::Startpos(rest.rest()),
         Some(word) if is(word, b"sfen") => Command::Sfen(rest.rest()),
         _ => Command::BadPosition,
     }

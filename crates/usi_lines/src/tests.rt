@@ -1,6 +1,7 @@
 //! Lines cut at any place, the greatest length, and the table of commands.
 
 use crate::{Command, Hold, LINE_MAX, Line, LineBuffer, first_line, read_command};
+use shogi_eval::Eval;
 use std::process::Abort;
 use std::test::Fail;
 
@@ -100,7 +101,28 @@ fn options_of_lines(rt: HostRuntime) {
         b"setoption name Depth value x".as_slice(),
         b"setoption name Depth value 3 4".as_slice(),
         b"setoption name depth value 3".as_slice(),
+    ] {
+        reads(&rt, line, Command::Other);
+    }
+}
+
+#[test]
+fn evaluations_of_lines(rt: HostRuntime) {
+    let plain = b"setoption name Eval value Plain";
+    reads(&rt, plain, Command::SetEval(Eval::Plain));
+    let hand = b" setoption\tname  Eval value Hand ";
+    reads(&rt, hand, Command::SetEval(Eval::Hand));
+    for line in [
+        b"setoption name Eval value".as_slice(),
+        b"setoption name Eval value hand".as_slice(),
+        b"setoption name Eval value PLAIN".as_slice(),
+        b"setoption name Eval value Hands".as_slice(),
         b"setoption name Eval value 1".as_slice(),
+        b"setoption name Eval value Hand x".as_slice(),
+        b"setoption name Eval Hand".as_slice(),
+        b"setoption name eval value Hand".as_slice(),
+        b"setoption name Depth value Hand".as_slice(),
+        b"setoption value Hand name Eval".as_slice(),
     ] {
         reads(&rt, line, Command::Other);
     }
@@ -109,8 +131,12 @@ fn options_of_lines(rt: HostRuntime) {
 #[test]
 fn positions_of_lines(rt: HostRuntime) {
     let moves = b" moves 7g7f";
-    reads(&rt, b"position startpos moves 7g7f", Command::Start(moves));
-    reads(&rt, b"position startpos", Command::Start(b""));
+    reads(
+        &rt,
+        b"position startpos moves 7g7f",
+        Command::Startpos(moves),
+    );
+    reads(&rt, b"position startpos", Command::Startpos(b""));
     reads(&rt, b"position  sfen\t9/9 b -", Command::Sfen(b"\t9/9 b -"));
     reads(&rt, b"position", Command::BadPosition);
     reads(&rt, b"position startposmoves", Command::BadPosition);

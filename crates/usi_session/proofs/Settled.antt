@@ -3,7 +3,7 @@ use Rattle.std.proofs.Common.{◌≡◌, ℕ, List, [], ◌∷◌, ◌++◌, ref
 use Rattle.std.specs.Prelude.{◌-◌, ◌&&◌, ◌||◌, not, nat_lt, length, cond, is_some}
 use Rattle.usi_lines.specs.Lines.{Line, ahead, lines}
 use Rattle.usi_session.specs.declared.state.State.{State}
-use Rattle.usi_session.specs.InHand.{InHand, goes_on_if, lines_on}
+use Rattle.usi_session.specs.InHand.{InHand, rest_of_go_if, info_lines_above}
 use Rattle.usi_session.specs.Answer.{bestmove_at}
 use Rattle.usi_session.proofs.HandLaws.{write_or_hold-over}
 use Rattle.usi_session.specs.Due.{SessionView, due, state_due, owed, owed_after, has_line, is_pending, wants_input, new_session}
@@ -26,13 +26,13 @@ replies_from-over s [] over = refl
 replies_from-over s (line ∷ rest) over = over_line s.is_over s line rest over (replies_from-over s rest over)
 
 owed-over : (s : State) (in_hand : Option InHand) (ahead : List Line) → s.is_over ≡ true → owed s in_hand ahead ≡ []
-owed-over s in_hand ahead over = ap (λ (b : Bool). cond b [] (owed_after (goes_on_if s in_hand) ahead)) over
+owed-over s in_hand ahead over = ap (λ (b : Bool). cond b [] (owed_after (rest_of_go_if s in_hand) ahead)) over
 
 -- a session that is over owes what is queued
 pub due-over : (s : SessionView) (x : List ℕ) → s.state.is_over ≡ true → due s x ≡ s.queued
 due-over s x over = ap (λ xs. s.queued ++ xs) (owed-over s.state s.in_hand (ahead s.input x) over) ∙ append-nil s.queued
 
-nothing_owed : (over : Bool) (s : State) (in_hand : Option InHand) (xs : List Line) → (not over && (is_some in_hand || has_line xs)) ≡ false → cond over [] (owed_after (goes_on_if s in_hand) xs) ≡ []
+nothing_owed : (over : Bool) (s : State) (in_hand : Option InHand) (xs : List Line) → (not over && (is_some in_hand || has_line xs)) ≡ false → cond over [] (owed_after (rest_of_go_if s in_hand) xs) ≡ []
 nothing_owed true s in_hand xs e = refl
 nothing_owed false s None [] e = replies_from-none s
 nothing_owed false s None (line ∷ rest) e = absurd (cc)
@@ -58,17 +58,17 @@ unfolding state_from
 state_from-over s [] over = refl
 state_from-over s (line ∷ rest) over = ap (λ (t : State). state_from t rest) (over_stays s.is_over s line over) ∙ state_from-over s rest over
 
-goes_on-over : (s : State) (in_hand : Option InHand) → (goes_on_if s in_hand).state.is_over ≡ s.is_over
-goes_on-over s None = refl
-goes_on-over s (Some go) = write_or_hold-over s (lines_on go.root go.told (go.depth - go.told)) (bestmove_at go.root go.depth go.hold) go.hold
+rest_of_go-over : (s : State) (in_hand : Option InHand) → (rest_of_go_if s in_hand).state.is_over ≡ s.is_over
+rest_of_go-over s None = refl
+rest_of_go-over s (Some go) = write_or_hold-over s (info_lines_above go.root go.eval go.told (go.depth - go.told)) (bestmove_at go.root go.eval go.depth go.hold) go.hold
 
 -- a session that is over will be over
 pub state_due-over : (s : SessionView) (x : List ℕ) → s.state.is_over ≡ true → (state_due s x).is_over ≡ true
 state_due-over s x over =
-    let ended : (goes_on_if s.state s.in_hand).state.is_over ≡ true = goes_on-over s.state s.in_hand ∙ over in
-    ap (λ (t : State). t.is_over) (state_from-over (goes_on_if s.state s.in_hand).state (ahead s.input x) ended) ∙ ended
+    let ended : (rest_of_go_if s.state s.in_hand).state.is_over ≡ true = rest_of_go-over s.state s.in_hand ∙ over in
+    ap (λ (t : State). t.is_over) (state_from-over (rest_of_go_if s.state s.in_hand).state (ahead s.input x) ended) ∙ ended
 
-idle_state : (over : Bool) (s : State) (in_hand : Option InHand) (xs : List Line) → over ≡ false → (not over && (is_some in_hand || has_line xs)) ≡ false → state_from (goes_on_if s in_hand).state xs ≡ s
+idle_state : (over : Bool) (s : State) (in_hand : Option InHand) (xs : List Line) → over ≡ false → (not over && (is_some in_hand || has_line xs)) ≡ false → state_from (rest_of_go_if s in_hand).state xs ≡ s
 idle_state true s in_hand xs alive e = absurd (cc)
 idle_state false s None [] alive e = state_from-none s
 idle_state false s None (line ∷ rest) alive e = absurd (cc)
@@ -119,6 +119,6 @@ state_due-wanting s wants =
     ap (λ (t : State). t.is_over) (state_due-settled s alive settled) ∙ alive
 
 -- no session is over before it was sent anything
-pub opening_alive : is_over_after [] ≡ false
+pub initial_state_alive : is_over_after [] ≡ false
 unfolding lines state_from
-opening_alive = refl
+initial_state_alive = refl

@@ -4,11 +4,11 @@ use Rattle.std.specs.Prelude.{drop, not, ◌&&◌, ◌||◌, is_some, ◌-◌}
 use Rattle.usi_lines.specs.Lines.{ahead}
 use Rattle.usi_session.specs.declared.state.HeldBestmove.{HeldBestmove}
 use Rattle.usi_session.specs.Answer.{bestmove_at, write_or_hold}
-use Rattle.usi_session.proofs.HandLaws.{lines_on-none, write_or_hold-bytes, write_or_hold-state}
+use Rattle.usi_session.proofs.HandLaws.{info_lines_above-none, write_or_hold-bytes, write_or_hold-state}
 use Rattle.usi_lines.specs.Lines.{Line}
 use Rattle.usi_session.specs.declared.state.State.{State}
 use Rattle.usi_session.specs.Replies.{replies_from, state_from, answer_to, answer_unless}
-use Rattle.usi_session.specs.InHand.{InHand, goes_on, goes_on_if, with_rest, load_of_if, lines_on, most_turns}
+use Rattle.usi_session.specs.InHand.{InHand, rest_of_go, rest_of_go_if, with_rest, load_of_if, info_lines_above, most_turns}
 use Rattle.usi_session.specs.Costs.{costs_from, cost_to}
 use Rattle.usi_session.specs.Due.{SessionView, owed, owed_after, load_ahead, is_pending, has_line}
 use Rattle.usi_session.proofs.Settled.{replies_from-over}
@@ -28,72 +28,72 @@ state_from-alive : (s : State) (line : Line) (rest : List Line) → s.is_over �
 unfolding state_from
 state_from-alive s line rest alive = ap (λ (over : Bool). state_from (answer_unless over s line).state rest) alive
 
-owed_either : (over : Bool) (s : State) (in_hand : Option InHand) (ahead : List Line) → s.is_over ≡ over → (over ≡ true → in_hand ≡ None) → cond over [] (owed_after (goes_on_if s in_hand) ahead) ≡ owed_after (goes_on_if s in_hand) ahead
+owed_either : (over : Bool) (s : State) (in_hand : Option InHand) (ahead : List Line) → s.is_over ≡ over → (over ≡ true → in_hand ≡ None) → cond over [] (owed_after (rest_of_go_if s in_hand) ahead) ≡ owed_after (rest_of_go_if s in_hand) ahead
 owed_either false s in_hand ahead e h = refl
 owed_either true s in_hand ahead e h = rw (h refl) (sym (replies_from-over s ahead e))
 
 -- nothing is in hand of a session that is over
-pub owed_on : (s : State) (in_hand : Option InHand) (ahead : List Line) → (s.is_over ≡ true → in_hand ≡ None) → owed s in_hand ahead ≡ owed_after (goes_on_if s in_hand) ahead
+pub owed_on : (s : State) (in_hand : Option InHand) (ahead : List Line) → (s.is_over ≡ true → in_hand ≡ None) → owed s in_hand ahead ≡ owed_after (rest_of_go_if s in_hand) ahead
 owed_on s in_hand ahead h = owed_either s.is_over s in_hand ahead refl h
 
-pub owed-alive : (s : State) (in_hand : Option InHand) (ahead : List Line) → s.is_over ≡ false → owed s in_hand ahead ≡ owed_after (goes_on_if s in_hand) ahead
-owed-alive s in_hand ahead alive = ap (λ (over : Bool). cond over [] (owed_after (goes_on_if s in_hand) ahead)) alive
+pub owed-alive : (s : State) (in_hand : Option InHand) (ahead : List Line) → s.is_over ≡ false → owed s in_hand ahead ≡ owed_after (rest_of_go_if s in_hand) ahead
+owed-alive s in_hand ahead alive = ap (λ (over : Bool). cond over [] (owed_after (rest_of_go_if s in_hand) ahead)) alive
 
-with_rest-parts : (bytes : List ℕ) (s : State) (in_hand : Option InHand) → with_rest bytes s in_hand ≡ bytes ++ (goes_on_if s in_hand).bytes
+with_rest-parts : (bytes : List ℕ) (s : State) (in_hand : Option InHand) → with_rest bytes s in_hand ≡ bytes ++ (rest_of_go_if s in_hand).bytes
 with_rest-parts bytes s None = sym (append-nil bytes)
 with_rest-parts bytes s (Some go) = refl
 
 -- the answer was queued, and the state is the one after it; or its `go` is in hand
-pub due_on : (s next : State) (queued more reply : List ℕ) (idle in_hand : Option InHand) (line : Line) (all rest : List Line) → s.is_over ≡ false → idle ≡ None → all ≡ line ∷ rest → more ≡ queued ++ reply → with_rest reply next in_hand ≡ (answer_to s line).bytes → (goes_on_if next in_hand).state ≡ (answer_to s line).state → (next.is_over ≡ true → in_hand ≡ None)
+pub due_on : (s next : State) (queued more reply : List ℕ) (idle in_hand : Option InHand) (line : Line) (all rest : List Line) → s.is_over ≡ false → idle ≡ None → all ≡ line ∷ rest → more ≡ queued ++ reply → with_rest reply next in_hand ≡ (answer_to s line).bytes → (rest_of_go_if next in_hand).state ≡ (answer_to s line).state → (next.is_over ≡ true → in_hand ≡ None)
     → more ++ owed next in_hand rest ≡ queued ++ owed s idle all
 due_on s next queued more reply idle in_hand line all rest alive i e f g h over =
-    let given : reply ++ (goes_on_if next in_hand).bytes ≡ (answer_to s line).bytes = sym (with_rest-parts reply next in_hand) ∙ g in
+    let given : reply ++ (rest_of_go_if next in_hand).bytes ≡ (answer_to s line).bytes = sym (with_rest-parts reply next in_hand) ∙ g in
     let after : owed s idle all ≡ (answer_to s line).bytes ++ replies_from (answer_to s line).state rest =
     ap (λ (o : Option InHand). owed s o all) i ∙ (owed-alive s None all alive ∙ (ap (replies_from s) e ∙ replies_from-alive s line rest alive)) in
     ap (λ xs. more ++ xs) (owed_on next in_hand rest over)
-    ∙ (ap (λ xs. xs ++ owed_after (goes_on_if next in_hand) rest) f
-    ∙ (append_assoc queued reply (owed_after (goes_on_if next in_hand) rest)
-    ∙ ap (λ xs. queued ++ xs) (sym (append_assoc reply (goes_on_if next in_hand).bytes (replies_from (goes_on_if next in_hand).state rest))
-    ∙ (ap (λ xs. xs ++ replies_from (goes_on_if next in_hand).state rest) given
+    ∙ (ap (λ xs. xs ++ owed_after (rest_of_go_if next in_hand) rest) f
+    ∙ (append_assoc queued reply (owed_after (rest_of_go_if next in_hand) rest)
+    ∙ ap (λ xs. queued ++ xs) (sym (append_assoc reply (rest_of_go_if next in_hand).bytes (replies_from (rest_of_go_if next in_hand).state rest))
+    ∙ (ap (λ xs. xs ++ replies_from (rest_of_go_if next in_hand).state rest) given
     ∙ (ap (λ (t : State). (answer_to s line).bytes ++ replies_from t rest) h ∙ sym after)))))
 
 -- the `go` of a line costs what the line did
-pub load_on : (s next : State) (idle in_hand : Option InHand) (line : Line) (all rest : List Line) → s.is_over ≡ false → idle ≡ None → all ≡ line ∷ rest → (goes_on_if next in_hand).state ≡ (answer_to s line).state → load_of_if in_hand ≤ cost_to s line → load_ahead next in_hand rest ≤ load_ahead s idle all
+pub load_on : (s next : State) (idle in_hand : Option InHand) (line : Line) (all rest : List Line) → s.is_over ≡ false → idle ≡ None → all ≡ line ∷ rest → (rest_of_go_if next in_hand).state ≡ (answer_to s line).state → load_of_if in_hand ≤ cost_to s line → load_ahead next in_hand rest ≤ load_ahead s idle all
 load_on s next idle in_hand line all rest alive i e h less =
     let whole : costs_from s all ≡ cost_to s line + costs_from (answer_to s line).state rest = ap (costs_from s) e ∙ costs_from-alive s line rest alive in
-    let same : costs_from (goes_on_if next in_hand).state rest ≡ costs_from (answer_to s line).state rest = ap (λ (t : State). costs_from t rest) h in
+    let same : costs_from (rest_of_go_if next in_hand).state rest ≡ costs_from (answer_to s line).state rest = ap (λ (t : State). costs_from t rest) h in
     rw i (omega arith)
 
 -- the state after all lines is that after the `go` of a line and the lines behind it
-pub state_on : (s next : State) (idle in_hand : Option InHand) (line : Line) (all rest : List Line) → s.is_over ≡ false → idle ≡ None → all ≡ line ∷ rest → (goes_on_if next in_hand).state ≡ (answer_to s line).state → state_from (goes_on_if next in_hand).state rest ≡ state_from (goes_on_if s idle).state all
+pub state_on : (s next : State) (idle in_hand : Option InHand) (line : Line) (all rest : List Line) → s.is_over ≡ false → idle ≡ None → all ≡ line ∷ rest → (rest_of_go_if next in_hand).state ≡ (answer_to s line).state → state_from (rest_of_go_if next in_hand).state rest ≡ state_from (rest_of_go_if s idle).state all
 state_on s next idle in_hand line all rest alive i e h =
-    ap (λ (t : State). state_from t rest) h ∙ (sym (state_from-alive s line rest alive) ∙ (ap (state_from s) (sym e) ∙ ap (λ (o : Option InHand). state_from (goes_on_if s o).state all) (sym i)))
+    ap (λ (t : State). state_from t rest) h ∙ (sym (state_from-alive s line rest alive) ∙ (ap (state_from s) (sym e) ∙ ap (λ (o : Option InHand). state_from (rest_of_go_if s o).state all) (sym i)))
 
 -- a `go` that has told a depth more leads to the same state
-pub state_told : (s : State) (go more : InHand) (in_hand : Option InHand) (ahead : List Line) → in_hand ≡ Some go → more.root ≡ go.root → more.depth ≡ go.depth → more.hold ≡ go.hold → state_from (goes_on s more).state ahead ≡ state_from (goes_on_if s in_hand).state ahead
-state_told s go more in_hand ahead i r d h =
-    let same : (goes_on s more).state ≡ (goes_on s go).state = write_or_hold-state s (lines_on more.root more.told (more.depth - more.told)) (bestmove_at more.root more.depth more.hold) more.hold
-    ∙ (rw (r, d, h) (sym (write_or_hold-state s (lines_on go.root go.told (go.depth - go.told)) (bestmove_at go.root go.depth go.hold) go.hold))) in
-    ap (λ (t : State). state_from t ahead) same ∙ ap (λ (o : Option InHand). state_from (goes_on_if s o).state ahead) (sym i)
+pub state_told : (s : State) (go more : InHand) (in_hand : Option InHand) (ahead : List Line) → in_hand ≡ Some go → more.root ≡ go.root → more.eval ≡ go.eval → more.depth ≡ go.depth → more.hold ≡ go.hold → state_from (rest_of_go s more).state ahead ≡ state_from (rest_of_go_if s in_hand).state ahead
+state_told s go more in_hand ahead i r v d h =
+    let same : (rest_of_go s more).state ≡ (rest_of_go s go).state = write_or_hold-state s (info_lines_above more.root more.eval more.told (more.depth - more.told)) (bestmove_at more.root more.eval more.depth more.hold) more.hold
+    ∙ (rw (r, v, d, h) (sym (write_or_hold-state s (info_lines_above go.root go.eval go.told (go.depth - go.told)) (bestmove_at go.root go.eval go.depth go.hold) go.hold))) in
+    ap (λ (t : State). state_from t ahead) same ∙ ap (λ (o : Option InHand). state_from (rest_of_go_if s o).state ahead) (sym i)
 
 -- and so does its end
-pub state_ends : (s next : State) (go : InHand) (in_hand : Option InHand) (held : HeldBestmove) (ahead : List Line) → in_hand ≡ Some go → held ≡ bestmove_at go.root go.depth go.hold → next ≡ (write_or_hold s [] held held.until).state → state_from next ahead ≡ state_from (goes_on_if s in_hand).state ahead
+pub state_ends : (s next : State) (go : InHand) (in_hand : Option InHand) (held : HeldBestmove) (ahead : List Line) → in_hand ≡ Some go → held ≡ bestmove_at go.root go.eval go.depth go.hold → next ≡ (write_or_hold s [] held held.until).state → state_from next ahead ≡ state_from (rest_of_go_if s in_hand).state ahead
 state_ends s next go in_hand held ahead i e h =
-    let state : (goes_on s go).state ≡ next = write_or_hold-state s (lines_on go.root go.told (go.depth - go.told)) (bestmove_at go.root go.depth go.hold) go.hold ∙ (ap (λ (k : HeldBestmove). (write_or_hold s [] k k.until).state) (sym e) ∙ sym h) in
-    ap (λ (t : State). state_from t ahead) (sym state) ∙ ap (λ (o : Option InHand). state_from (goes_on_if s o).state ahead) (sym i)
+    let state : (rest_of_go s go).state ≡ next = write_or_hold-state s (info_lines_above go.root go.eval go.told (go.depth - go.told)) (bestmove_at go.root go.eval go.depth go.hold) go.hold ∙ (ap (λ (k : HeldBestmove). (write_or_hold s [] k k.until).state) (sym e) ∙ sym h) in
+    ap (λ (t : State). state_from t ahead) (sym state) ∙ ap (λ (o : Option InHand). state_from (rest_of_go_if s o).state ahead) (sym i)
 
 -- the last depth was told, and the bestmove written or held
-pub due_ends : (s next : State) (queued more infos reply : List ℕ) (go : InHand) (in_hand : Option InHand) (held : HeldBestmove) (ahead : List Line) → s.is_over ≡ false → in_hand ≡ Some go → go.told + 1 ≡ go.depth → held ≡ bestmove_at go.root go.depth go.hold
-    → infos ++ lines_on go.root (go.told + 1) (go.depth - (go.told + 1)) ≡ lines_on go.root go.told (go.depth - go.told) → reply ≡ infos ++ (write_or_hold s [] held held.until).bytes → next ≡ (write_or_hold s [] held held.until).state → more ≡ queued ++ reply
+pub due_ends : (s next : State) (queued more infos reply : List ℕ) (go : InHand) (in_hand : Option InHand) (held : HeldBestmove) (ahead : List Line) → s.is_over ≡ false → in_hand ≡ Some go → go.told + 1 ≡ go.depth → held ≡ bestmove_at go.root go.eval go.depth go.hold
+    → infos ++ info_lines_above go.root go.eval (go.told + 1) (go.depth - (go.told + 1)) ≡ info_lines_above go.root go.eval go.told (go.depth - go.told) → reply ≡ infos ++ (write_or_hold s [] held held.until).bytes → next ≡ (write_or_hold s [] held held.until).state → more ≡ queued ++ reply
     → more ++ owed next None ahead ≡ queued ++ owed s in_hand ahead
 due_ends s next queued more infos reply go in_hand held ahead alive i last e f g h m =
-    let lines : infos ≡ lines_on go.root go.told (go.depth - go.told) = sym (append-nil infos) ∙ (ap (λ xs. infos ++ xs) (sym (lines_on-none go.root (go.told + 1) go.depth last)) ∙ f) in
-    let bytes : (goes_on s go).bytes ≡ reply = write_or_hold-bytes s (lines_on go.root go.told (go.depth - go.told)) (bestmove_at go.root go.depth go.hold) go.hold ∙ (ap (λ xs. xs ++ (write_or_hold s [] (bestmove_at go.root go.depth go.hold) go.hold).bytes) (sym lines) ∙ (ap (λ (k : HeldBestmove). infos ++ (write_or_hold s [] k k.until).bytes) (sym e) ∙ sym g)) in
-    let state : (goes_on s go).state ≡ next = write_or_hold-state s (lines_on go.root go.told (go.depth - go.told)) (bestmove_at go.root go.depth go.hold) go.hold ∙ (ap (λ (k : HeldBestmove). (write_or_hold s [] k k.until).state) (sym e) ∙ sym h) in
-    let before : owed s in_hand ahead ≡ (goes_on s go).bytes ++ replies_from (goes_on s go).state ahead = ap (λ (o : Option InHand). owed s o ahead) i ∙ owed-alive s (Some go) ahead alive in
+    let lines : infos ≡ info_lines_above go.root go.eval go.told (go.depth - go.told) = sym (append-nil infos) ∙ (ap (λ xs. infos ++ xs) (sym (info_lines_above-none go.root go.eval (go.told + 1) go.depth last)) ∙ f) in
+    let bytes : (rest_of_go s go).bytes ≡ reply = write_or_hold-bytes s (info_lines_above go.root go.eval go.told (go.depth - go.told)) (bestmove_at go.root go.eval go.depth go.hold) go.hold ∙ (ap (λ xs. xs ++ (write_or_hold s [] (bestmove_at go.root go.eval go.depth go.hold) go.hold).bytes) (sym lines) ∙ (ap (λ (k : HeldBestmove). infos ++ (write_or_hold s [] k k.until).bytes) (sym e) ∙ sym g)) in
+    let state : (rest_of_go s go).state ≡ next = write_or_hold-state s (info_lines_above go.root go.eval go.told (go.depth - go.told)) (bestmove_at go.root go.eval go.depth go.hold) go.hold ∙ (ap (λ (k : HeldBestmove). (write_or_hold s [] k k.until).state) (sym e) ∙ sym h) in
+    let before : owed s in_hand ahead ≡ (rest_of_go s go).bytes ++ replies_from (rest_of_go s go).state ahead = ap (λ (o : Option InHand). owed s o ahead) i ∙ owed-alive s (Some go) ahead alive in
     let after : owed next None ahead ≡ replies_from next ahead = owed_on next None ahead (λ _. refl) in
     ap (λ xs. more ++ xs) after ∙ (ap (λ xs. xs ++ replies_from next ahead) m ∙ (append_assoc queued reply (replies_from next ahead)
-    ∙ ap (λ xs. queued ++ xs) (ap (λ xs. xs ++ replies_from next ahead) (sym bytes) ∙ (ap (λ (t : State). (goes_on s go).bytes ++ replies_from t ahead) (sym state) ∙ sym before))))
+    ∙ ap (λ xs. queued ++ xs) (ap (λ xs. xs ++ replies_from next ahead) (sym bytes) ∙ (ap (λ (t : State). (rest_of_go s go).bytes ++ replies_from t ahead) (sym state) ∙ sym before))))
 
 alive_of : (over some : Bool) → (not over && some) ≡ true → over ≡ false
 alive_of false some e = refl

@@ -4,9 +4,10 @@ use Rattle.std.specs.Prelude.{codes, decimal, OnSome, unwrap_or}
 use Rattle.shogi_core.specs.Position.{Shogi}
 use Rattle.shogi_core.specs.declared.moves.Move.{Move}
 use Rattle.shogi_moves.specs.LegalMoves.{legal_moves}
+use Rattle.shogi_eval.specs.declared.eval.Eval.{Eval}
 use Rattle.shogi_search.specs.Minimax.{value, pv}
 use Rattle.shogi_sfen.specs.MoveTexts.{text_of}
-use Rattle.usi_lines.specs.Commands.{Command, Usi, IsReady, SetDepth, NewGame, Start, Sfen, BadPosition, Go, GoMate, Stop, PonderHit, GameOver, Quit, Other}
+use Rattle.usi_lines.specs.Commands.{Command, Usi, IsReady, SetDepth, SetEval, NewGame, Startpos, Sfen, BadPosition, Go, GoMate, Stop, PonderHit, GameOver, Quit, Other}
 use Rattle.usi_lines.specs.CommandLines.{command_of}
 use Rattle.usi_lines.specs.Lines.{Line, Text, TooLong}
 use Rattle.usi_lines.specs.declared.command.Hold.{Hold}
@@ -16,9 +17,9 @@ use Rattle.usi_session.specs.declared.position_command.Refusal.TheVariants as re
 use Rattle.usi_session.specs.declared.state.HeldBestmove.{HeldBestmove}
 use Rattle.usi_session.specs.declared.state.State.{State}
 use Rattle.usi_session.specs.Options.{option_lines}
-use Rattle.usi_session.specs.Texts.{usi_reply, score_text, moves_text, info_line, bestmove_line, bad_position, illegal_move}
-use Rattle.usi_session.specs.PositionCommand.{position_of_start, position_of_sfen}
-use Rattle.usi_session.specs.GoCommand.{info_lines, infos, infos_of}
+use Rattle.usi_session.specs.Texts.{usi_reply, score_text, moves_text, info_line, bestmove_line, bad_position_line, illegal_move_line}
+use Rattle.usi_session.specs.PositionCommand.{position_of_startpos, position_of_sfen}
+use Rattle.usi_session.specs.GoCommand.{info_lines, go_infos, go_infos_where}
 use Rattle.usi_session.specs.Answer.{answer, answer_position, write_or_hold, answer_stop, answer_ponderhit_held, answer_ponderhit, held_line, bestmove_at}
 use Rattle.usi_session.specs.Replies.{answer_to}
 use Rattle.usi_session.specs.InHand.{InHand, with_rest}
@@ -43,13 +44,13 @@ lf = record { ends = λ before. refl }
 after : (xs : List ℕ) {ys : List ℕ} → EndsInLf ys → EndsInLf (xs ++ ys)
 after xs {ys} e = record { ends = λ before. last_byte-then before xs ys ∙ e.ends (last_byte before xs) }
 
-info_ends : (p : Shogi) (depth : ℕ) → EndsInLf (info_line p depth)
-info_ends p depth =
-    after (codes "info depth " ++ (decimal depth ++ codes " score ")) (after (score_text depth (value p depth))
-    (after (codes " pv") (after (moves_text (pv p depth)) lf)))
+info_ends : (p : Shogi) (eval : Eval) (depth : ℕ) → EndsInLf (info_line p eval depth)
+info_ends p eval depth =
+    after (codes "info depth " ++ (decimal depth ++ codes " score ")) (after (score_text depth (value p eval depth))
+    (after (codes " pv") (after (moves_text (pv p eval depth)) lf)))
 
-pub info_whole : (p : Shogi) (depth : ℕ) → AreWholeLines (info_line p depth)
-info_whole p depth = (info_ends p depth).ends LINE_FEED
+pub info_whole : (p : Shogi) (eval : Eval) (depth : ℕ) → AreWholeLines (info_line p eval depth)
+info_whole p eval depth = (info_ends p eval depth).ends LINE_FEED
 
 bestmove_ends : (best ponder : Option Move) → EndsInLf (bestmove_line best ponder)
 bestmove_ends None ponder = after (codes "bestmove resign") lf
@@ -65,20 +66,20 @@ usi_ends =
     after (codes "id name Shared Shogi Host\nid author Shared Shogi Host Team\n")
     (after option_lines (after (codes "usiok") lf))
 
-bad_position-ends : (fault : ℕ) → EndsInLf (bad_position fault)
-bad_position-ends fault = after (codes "info string bad position ") (after (decimal fault) lf)
+bad_position_line-ends : (fault : ℕ) → EndsInLf (bad_position_line fault)
+bad_position_line-ends fault = after (codes "info string bad position ") (after (decimal fault) lf)
 
-illegal_move-ends : (number : ℕ) → EndsInLf (illegal_move number)
-illegal_move-ends number = after (codes "info string illegal move ") (after (decimal number) lf)
+illegal_move_line-ends : (number : ℕ) → EndsInLf (illegal_move_line number)
+illegal_move_line-ends number = after (codes "info string illegal move ") (after (decimal number) lf)
 
-info_lines-whole : (p : Shogi) (depth : ℕ) → AreWholeLines (info_lines p depth)
+info_lines-whole : (p : Shogi) (eval : Eval) (depth : ℕ) → AreWholeLines (info_lines p eval depth)
 unfolding info_lines
-info_lines-whole p zero = refl
-info_lines-whole p (suc depth) = lines_then (info_lines p depth) (info_line p (suc depth)) (info_lines-whole p depth) (info_whole p (suc depth))
+info_lines-whole p eval zero = refl
+info_lines-whole p eval (suc depth) = lines_then (info_lines p eval depth) (info_line p eval (suc depth)) (info_lines-whole p eval depth) (info_whole p eval (suc depth))
 
-infos_of-whole : (p : Shogi) (depth : ℕ) (moves : List ℕ) → AreWholeLines (infos_of p depth moves)
-infos_of-whole p depth [] = refl
-infos_of-whole p depth (m ∷ rest) = info_lines-whole p depth
+go_infos_where-whole : (p : Shogi) (eval : Eval) (depth : ℕ) (moves : List ℕ) → AreWholeLines (go_infos_where p eval depth moves)
+go_infos_where-whole p eval depth [] = refl
+go_infos_where-whole p eval depth (m ∷ rest) = info_lines-whole p eval depth
 
 write_or_hold-whole : (s : State) (infos : List ℕ) (held : HeldBestmove) (hold : Hold) → AreWholeLines infos → AreWholeLines (write_or_hold s infos held hold).bytes
 write_or_hold-whole s infos held Nothing e = lines_then infos (held_line held) e (bestmove_whole held.best held.ponder)
@@ -87,8 +88,8 @@ write_or_hold-whole s infos held UntilHit e = e
 
 answer_position-whole : (s : State) (outcome : Result Shogi Refusal) → AreWholeLines (answer_position s outcome).bytes
 answer_position-whole s (Ok p) = refl
-answer_position-whole s (Err (refusals.BadPosition fault)) = (bad_position-ends fault).ends LINE_FEED
-answer_position-whole s (Err (refusals.IllegalMove number)) = (illegal_move-ends number).ends LINE_FEED
+answer_position-whole s (Err (refusals.BadPosition fault)) = (bad_position_line-ends fault).ends LINE_FEED
+answer_position-whole s (Err (refusals.IllegalMove number)) = (illegal_move_line-ends number).ends LINE_FEED
 
 answer_stop-whole : (s : State) (held : Option HeldBestmove) → AreWholeLines (answer_stop s held).bytes
 answer_stop-whole s None = refl
@@ -107,11 +108,12 @@ answer-whole : (s : State) (command : Command) → AreWholeLines (answer s comma
 answer-whole s Usi = usi_ends.ends LINE_FEED
 answer-whole s IsReady = refl
 answer-whole s (SetDepth depth) = refl
+answer-whole s (SetEval eval) = refl
 answer-whole s NewGame = refl
-answer-whole s (Start rest) = answer_position-whole s (position_of_start rest)
+answer-whole s (Startpos rest) = answer_position-whole s (position_of_startpos rest)
 answer-whole s (Sfen rest) = answer_position-whole s (position_of_sfen rest)
-answer-whole s BadPosition = (bad_position-ends 0).ends LINE_FEED
-answer-whole s (Go depth hold) = write_or_hold-whole s (infos s.position (unwrap_or depth s.options.depth)) (bestmove_at s.position (unwrap_or depth s.options.depth) hold) hold (infos_of-whole s.position (unwrap_or depth s.options.depth) (legal_moves s.position))
+answer-whole s BadPosition = (bad_position_line-ends 0).ends LINE_FEED
+answer-whole s (Go depth hold) = write_or_hold-whole s (go_infos s.position s.options.eval (unwrap_or depth s.options.depth)) (bestmove_at s.position s.options.eval (unwrap_or depth s.options.depth) hold) hold (go_infos_where-whole s.position s.options.eval (unwrap_or depth s.options.depth) (legal_moves s.position))
 answer-whole s GoMate = refl
 answer-whole s Stop = answer_stop-whole s s.held
 answer-whole s PonderHit = answer_ponderhit-whole s s.held
@@ -129,13 +131,13 @@ reply_whole s next reply None line e quiet = ap (last_byte LINE_FEED) e ∙ answ
 reply_whole s next reply (Some go) line e quiet = ap (last_byte LINE_FEED) quiet
 
 -- a depth is told
-pub told_whole : (p : Shogi) (depth : ℕ) (told : List ℕ) → told ≡ info_line p depth → AreWholeLines told
-told_whole p depth told e = ap (last_byte LINE_FEED) e ∙ info_whole p depth
+pub told_whole : (p : Shogi) (eval : Eval) (depth : ℕ) (told : List ℕ) → told ≡ info_line p eval depth → AreWholeLines told
+told_whole p eval depth told e = ap (last_byte LINE_FEED) e ∙ info_whole p eval depth
 
 -- the last depth is told, and the bestmove written or held
-pub end_whole : (s : State) (p : Shogi) (depth : ℕ) (told reply : List ℕ) (held : HeldBestmove) → told ≡ info_line p depth → reply ≡ told ++ (write_or_hold s [] held held.until).bytes → AreWholeLines reply
-end_whole s p depth told reply held e f =
-    ap (last_byte LINE_FEED) f ∙ lines_then told (write_or_hold s [] held held.until).bytes (told_whole p depth told e) (write_or_hold-whole s [] held held.until refl)
+pub end_whole : (s : State) (p : Shogi) (eval : Eval) (depth : ℕ) (told reply : List ℕ) (held : HeldBestmove) → told ≡ info_line p eval depth → reply ≡ told ++ (write_or_hold s [] held held.until).bytes → AreWholeLines reply
+end_whole s p eval depth told reply held e f =
+    ap (last_byte LINE_FEED) f ∙ lines_then told (write_or_hold s [] held held.until).bytes (told_whole p eval depth told e) (write_or_hold-whole s [] held held.until refl)
 
 -- nothing came
 pub grows_by_none : (queued : List ℕ) → GrowsByLines queued queued

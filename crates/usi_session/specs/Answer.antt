@@ -2,8 +2,9 @@
 use Rattle.std.specs.Prelude.{ℕ, List, [], ◌++◌, Option, Some, None, Result, Ok, Err, true, false, unwrap_or}
 use Rattle.shogi_core.specs.Position.{Shogi}
 use Rattle.shogi_core.specs.Start.{start}
+use Rattle.shogi_eval.specs.declared.eval.Eval.{Eval}
 use Rattle.shogi_search.specs.Minimax.{pv}
-use Rattle.usi_lines.specs.Commands.{Command, Usi, IsReady, SetDepth, NewGame, Start, Sfen, BadPosition, Go, GoMate, Stop, PonderHit, GameOver, Quit, Other}
+use Rattle.usi_lines.specs.Commands.{Command, Usi, IsReady, SetDepth, SetEval, NewGame, Startpos, Sfen, BadPosition, Go, GoMate, Stop, PonderHit, GameOver, Quit, Other}
 use Rattle.usi_lines.specs.declared.command.Hold.{Hold}
 use Rattle.usi_lines.specs.declared.command.Hold.TheVariants.{Nothing, UntilStop, UntilHit}
 use Rattle.usi_session.specs.declared.position_command.Refusal.{Refusal}
@@ -11,9 +12,9 @@ use Rattle.usi_session.specs.declared.position_command.Refusal.TheVariants as re
 use Rattle.usi_session.specs.declared.state.HeldBestmove.{HeldBestmove}
 use Rattle.usi_session.specs.declared.state.State.{State}
 use Rattle.usi_session.specs.Options.{default_options}
-use Rattle.usi_session.specs.PositionCommand.{position_of_start, position_of_sfen}
-use Rattle.usi_session.specs.GoCommand.{first, second, infos}
-use Rattle.usi_session.specs.Texts.{usi_reply, ready_reply, mate_not_implemented_reply, bad_position, illegal_move, bestmove_line}
+use Rattle.usi_session.specs.PositionCommand.{position_of_startpos, position_of_sfen}
+use Rattle.usi_session.specs.GoCommand.{move_to_play, move_to_ponder, go_infos}
+use Rattle.usi_session.specs.Texts.{usi_reply, ready_reply, mate_not_implemented_reply, bad_position_line, illegal_move_line, bestmove_line}
 
 -- what is written, and the state after it
 pub record Answer : Type 0 where
@@ -22,25 +23,25 @@ pub record Answer : Type 0 where
 
 -- these bytes, and this state
 abbrev pub answer_with : State → List ℕ → Answer
-answer_with s bytes = record { state = s; bytes = bytes }
+answer_with state bytes = record { state = state; bytes = bytes }
 
 -- the state in which a session begins
-abbrev pub opening : State
-opening = record { position = start; options = default_options; held = None; is_over = false }
+abbrev pub initial_state : State
+initial_state = record { position = start; options = default_options; held = None; is_over = false }
 
 -- no bestmove is held any more
 abbrev pub without_bestmove : State → State
-without_bestmove s = record s { held = None }
+without_bestmove state = record state { held = None }
 
 -- `position`: the position that was reached is taken; after a refusal the state stays, and one line tells why
 abbrev pub answer_position : State → Result Shogi Refusal → Answer
-answer_position s (Ok p) = answer_with (record s { position = p }) []
-answer_position s (Err (refusals.BadPosition fault)) = answer_with s (bad_position fault)
-answer_position s (Err (refusals.IllegalMove number)) = answer_with s (illegal_move number)
+answer_position state (Ok position) = answer_with (record state { position = position }) []
+answer_position state (Err (refusals.BadPosition fault)) = answer_with state (bad_position_line fault)
+answer_position state (Err (refusals.IllegalMove number)) = answer_with state (illegal_move_line number)
 
 -- the bestmove at a depth, and what it is held until
-abbrev pub bestmove_at : Shogi → ℕ → Hold → HeldBestmove
-bestmove_at p depth until = record { best = first (pv p depth); ponder = second (pv p depth); until = until }
+abbrev pub bestmove_at : Shogi → Eval → ℕ → Hold → HeldBestmove
+bestmove_at position eval depth until = record { best = move_to_play (pv position eval depth); ponder = move_to_ponder (pv position eval depth); until = until }
 
 -- the line of a held bestmove
 abbrev pub held_line : HeldBestmove → List ℕ
@@ -48,43 +49,44 @@ held_line held = bestmove_line held.best held.ponder
 
 -- the bestmove is written at once, or held
 abbrev pub write_or_hold : State → List ℕ → HeldBestmove → Hold → Answer
-write_or_hold s infos held Nothing = answer_with (without_bestmove s) (infos ++ held_line held)
-write_or_hold s infos held UntilStop = answer_with (record s { held = Some held }) infos
-write_or_hold s infos held UntilHit = answer_with (record s { held = Some held }) infos
+write_or_hold state infos held Nothing = answer_with (without_bestmove state) (infos ++ held_line held)
+write_or_hold state infos held UntilStop = answer_with (record state { held = Some held }) infos
+write_or_hold state infos held UntilHit = answer_with (record state { held = Some held }) infos
 
--- `go` at a depth: what was held is dropped
+-- `go` at a depth, by the evaluation of the session: what was held is dropped
 abbrev pub answer_go : State → ℕ → Hold → Answer
-answer_go s depth hold = write_or_hold s (infos s.position depth) (bestmove_at s.position depth hold) hold
+answer_go state depth hold = write_or_hold state (go_infos state.position state.options.eval depth) (bestmove_at state.position state.options.eval depth hold) hold
 
 -- `stop`: the held bestmove is written, and nothing is held any more
 abbrev pub answer_stop : State → Option HeldBestmove → Answer
-answer_stop s None = answer_with s []
-answer_stop s (Some held) = answer_with (without_bestmove s) (held_line held)
+answer_stop state None = answer_with state []
+answer_stop state (Some held) = answer_with (without_bestmove state) (held_line held)
 
 -- `ponderhit` where a bestmove is held: written if it is held until `ponderhit`
 abbrev pub answer_ponderhit_held : State → HeldBestmove → Hold → Answer
-answer_ponderhit_held s held UntilHit = answer_with (without_bestmove s) (held_line held)
-answer_ponderhit_held s held UntilStop = answer_with s []
-answer_ponderhit_held s held Nothing = answer_with s []
+answer_ponderhit_held state held UntilHit = answer_with (without_bestmove state) (held_line held)
+answer_ponderhit_held state held UntilStop = answer_with state []
+answer_ponderhit_held state held Nothing = answer_with state []
 
 -- `ponderhit`: nothing where no bestmove is held
 abbrev pub answer_ponderhit : State → Option HeldBestmove → Answer
-answer_ponderhit s None = answer_with s []
-answer_ponderhit s (Some held) = answer_ponderhit_held s held held.until
+answer_ponderhit state None = answer_with state []
+answer_ponderhit state (Some held) = answer_ponderhit_held state held held.until
 
 -- the answer to each command
 abbrev pub answer : State → Command → Answer
-answer s Usi = answer_with s usi_reply
-answer s IsReady = answer_with s ready_reply
-answer s (SetDepth depth) = answer_with (record s { options = record s.options { depth = depth } }) []
-answer s NewGame = answer_with (record s { position = start; held = None }) []
-answer s (Start rest) = answer_position s (position_of_start rest)
-answer s (Sfen rest) = answer_position s (position_of_sfen rest)
-answer s BadPosition = answer_with s (bad_position 0)
-answer s (Go depth hold) = answer_go s (unwrap_or depth s.options.depth) hold
-answer s GoMate = answer_with (without_bestmove s) mate_not_implemented_reply
-answer s Stop = answer_stop s s.held
-answer s PonderHit = answer_ponderhit s s.held
-answer s GameOver = answer_with (without_bestmove s) []
-answer s Quit = answer_with (record s { held = None; is_over = true }) []
-answer s Other = answer_with s []
+answer state Usi = answer_with state usi_reply
+answer state IsReady = answer_with state ready_reply
+answer state (SetDepth depth) = answer_with (record state { options = record state.options { depth = depth } }) []
+answer state (SetEval eval) = answer_with (record state { options = record state.options { eval = eval } }) []
+answer state NewGame = answer_with (record state { position = start; held = None }) []
+answer state (Startpos rest) = answer_position state (position_of_startpos rest)
+answer state (Sfen rest) = answer_position state (position_of_sfen rest)
+answer state BadPosition = answer_with state (bad_position_line 0)
+answer state (Go depth hold) = answer_go state (unwrap_or depth state.options.depth) hold
+answer state GoMate = answer_with (without_bestmove state) mate_not_implemented_reply
+answer state Stop = answer_stop state state.held
+answer state PonderHit = answer_ponderhit state state.held
+answer state GameOver = answer_with (without_bestmove state) []
+answer state Quit = answer_with (record state { held = None; is_over = true }) []
+answer state Other = answer_with state []

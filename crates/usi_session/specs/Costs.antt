@@ -9,18 +9,18 @@ use Rattle.usi_session.specs.Replies.{answer_line}
 
 -- a `go` costs the searches of its depth from the position where it stands; no other command costs a step
 abbrev pub cost_of_command : State → Command → ℕ
-cost_of_command s (Go depth hold) = deepening_cost s.position (unwrap_or depth s.options.depth)
-cost_of_command s _ = 0
+cost_of_command state (Go depth hold) = deepening_cost state.position state.options.eval (unwrap_or depth state.options.depth)
+cost_of_command state _ = 0
 
 abbrev pub cost_to : State → Line → ℕ
-cost_to s (Text text) = cost_of_command s (command_of text)
-cost_to s TooLong = 0
+cost_to state (Text text) = cost_of_command state (command_of text)
+cost_to state TooLong = 0
 
 -- a session that is over answers nothing
 abbrev pub cost_of_line : State → Line → ℕ
-cost_of_line s line = cond s.is_over 0 (cost_to s line)
+cost_of_line state line = cond state.is_over 0 (cost_to state line)
 
 -- the costs of the lines, one after another, from a state on
 unfoldable pub costs_from : State → List Line → ℕ
-costs_from s [] = 0
-costs_from s (line ∷ rest) = cost_of_line s line + costs_from (answer_line s line).state rest
+costs_from state [] = 0
+costs_from state (line ∷ rest) = cost_of_line state line + costs_from (answer_line state line).state rest

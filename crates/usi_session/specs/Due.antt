@@ -2,8 +2,8 @@
 use Rattle.std.specs.Prelude.{◌≡◌, ℕ, ◌+◌, ◌*◌, List, [], ◌∷◌, ◌++◌, length, Bool, true, false, ◌&&◌, ◌||◌, not, nat_lt, cond, Option, None, Some, is_some, ◌<◌}
 use Rattle.usi_lines.specs.Lines.{Buffer, Line, ahead}
 use Rattle.usi_session.specs.declared.state.State.{State}
-use Rattle.usi_session.specs.Answer.{Answer, opening}
-use Rattle.usi_session.specs.InHand.{InHand, goes_on_if, load_of_if, turns_of_if, most_turns}
+use Rattle.usi_session.specs.Answer.{Answer, initial_state}
+use Rattle.usi_session.specs.InHand.{InHand, rest_of_go_if, load_of_if, turns_of_if, most_turns}
 use Rattle.usi_session.specs.Replies.{replies_from, state_from}
 use Rattle.usi_session.specs.Costs.{costs_from}
 use Rattle.usi_session.specs.declared.limits.TheConstants.{QUEUE_FULL}
@@ -17,27 +17,27 @@ pub record SessionView : Type 0 where
 
 -- what the `go` in hand still says, and then the replies to the lines from the state after it
 abbrev pub owed_after : Answer → List Line → List ℕ
-owed_after a ahead = a.bytes ++ replies_from a.state ahead
+owed_after answer ahead = answer.bytes ++ replies_from answer.state ahead
 
 -- nothing, where the session is over
 abbrev pub owed : State → Option InHand → List Line → List ℕ
-owed s in_hand ahead = cond s.is_over [] (owed_after (goes_on_if s in_hand) ahead)
+owed state in_hand ahead = cond state.is_over [] (owed_after (rest_of_go_if state in_hand) ahead)
 
 -- what is owed once these further bytes were fed: the queued bytes, the rest of the `go` in hand, and the replies to the lines ahead
 abbrev pub due : SessionView → List ℕ → List ℕ
-due s further = s.queued ++ owed s.state s.in_hand (ahead s.input further)
+due session further = session.queued ++ owed session.state session.in_hand (ahead session.input further)
 
 -- the state once these further bytes were fed and all was answered
 abbrev pub state_due : SessionView → List ℕ → State
-state_due s further = state_from (goes_on_if s.state s.in_hand).state (ahead s.input further)
+state_due session further = state_from (rest_of_go_if session.state session.in_hand).state (ahead session.input further)
 
 -- the steps that may still be made: for the `go` in hand, and for each `go` in these lines
 abbrev pub load_ahead : State → Option InHand → List Line → ℕ
-load_ahead s in_hand ahead = load_of_if in_hand + costs_from (goes_on_if s in_hand).state ahead
+load_ahead state in_hand ahead = load_of_if in_hand + costs_from (rest_of_go_if state in_hand).state ahead
 
 -- the same for the lines that are there
 abbrev pub load : SessionView → ℕ
-load s = load_ahead s.state s.in_hand (ahead s.input [])
+load session = load_ahead session.state session.in_hand (ahead session.input [])
 
 -- a line is there
 abbrev pub has_line : List Line → Bool
@@ -46,7 +46,7 @@ has_line (line ∷ rest) = true
 
 -- alive, with a `go` in hand or an unread line
 abbrev pub is_pending : SessionView → Bool
-is_pending s = not s.state.is_over && (is_some s.in_hand || has_line (ahead s.input []))
+is_pending session = not session.state.is_over && (is_some session.in_hand || has_line (ahead session.input []))
 
 -- a `go` is in hand, and a search of it is not at its end
 abbrev pub IsSearching : Option InHand → Type 0
@@ -60,12 +60,12 @@ IsWhole (Some go) = go.plies ≡ 0
 
 -- the turns that may still be taken: at most so many for each line, and one for each search that may end
 abbrev pub turns : SessionView → ℕ
-turns s = (most_turns + 1) * length (ahead s.input []) + turns_of_if s.in_hand
+turns session = (most_turns + 1) * length (ahead session.input []) + turns_of_if session.in_hand
 
 -- alive, nothing pending, and fewer than 65,536 bytes queued
 abbrev pub wants_input : SessionView → Bool
-wants_input s = not s.state.is_over && not (is_some s.in_hand || has_line (ahead s.input [])) && nat_lt (length s.queued) QUEUE_FULL
+wants_input session = not session.state.is_over && not (is_some session.in_hand || has_line (ahead session.input [])) && nat_lt (length session.queued) QUEUE_FULL
 
 -- nothing read, nothing queued
 abbrev pub new_session : SessionView
-new_session = record { state = opening; in_hand = None; queued = []; input = record { unread = []; closed = false } }
+new_session = record { state = initial_state; in_hand = None; queued = []; input = record { unread = []; closed = false } }

@@ -2,27 +2,28 @@
 use Rattle.std.specs.Prelude.{ℕ, zero, suc, List, [], ◌∷◌, ◌++◌, Option, slice_get}
 use Rattle.shogi_core.specs.declared.moves.Move.{Move}
 use Rattle.shogi_core.specs.Position.{Shogi}
+use Rattle.shogi_eval.specs.declared.eval.Eval.{Eval}
 use Rattle.shogi_moves.specs.LegalMoves.{legal_moves}
 use Rattle.usi_session.specs.Texts.{info_line}
 
 -- the move to play
-abbrev pub first : List Move → Option Move
-first moves = slice_get moves 0
+abbrev pub move_to_play : List Move → Option Move
+move_to_play moves = slice_get moves 0
 
 -- the reply to it
-abbrev pub second : List Move → Option Move
-second moves = slice_get moves 1
+abbrev pub move_to_ponder : List Move → Option Move
+move_to_ponder moves = slice_get moves 1
 
 -- what is said of a position at each depth from 1 to the given one
-unfoldable pub info_lines : Shogi → ℕ → List ℕ
-info_lines p zero = []
-info_lines p (suc depth) = info_lines p depth ++ info_line p (suc depth)
+unfoldable pub info_lines : Shogi → Eval → ℕ → List ℕ
+info_lines position eval zero = []
+info_lines position eval (suc depth) = info_lines position eval depth ++ info_line position eval (suc depth)
 
 -- no info lines where no move is legal
-abbrev pub infos_of : Shogi → ℕ → List ℕ → List ℕ
-infos_of p depth [] = []
-infos_of p depth (code ∷ codes) = info_lines p depth
+abbrev pub go_infos_where : Shogi → Eval → ℕ → List ℕ → List ℕ
+go_infos_where position eval depth [] = []
+go_infos_where position eval depth (code ∷ codes) = info_lines position eval depth
 
 -- what is said of a position before the bestmove
-abbrev pub infos : Shogi → ℕ → List ℕ
-infos p depth = infos_of p depth (legal_moves p)
+abbrev pub go_infos : Shogi → Eval → ℕ → List ℕ
+go_infos position eval depth = go_infos_where position eval depth (legal_moves position)

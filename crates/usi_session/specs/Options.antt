@@ -1,5 +1,6 @@
 -- The options of a session: what they are set to, and how they are offered (USI, option and setoption; names, ranges and defaults are an own choice).
 use Rattle.std.specs.Prelude.{ℕ, List, ◌++◌, codes, decimal}
+use Rattle.shogi_eval.specs.declared.eval.Eval.TheVariants.{Plain}
 use Rattle.usi_lines.specs.declared.options.TheConstants.{DEPTH_MIN, DEPTH_MAX}
 use Rattle.usi_lines.specs.Options.{IsDepth}
 use Rattle.usi_session.specs.declared.options.TheConstants.{DEPTH_DEFAULT}
@@ -7,7 +8,7 @@ use Rattle.usi_session.specs.declared.options.Options.{Options}
 
 -- each option at its default
 abbrev pub default_options : Options
-default_options = record { depth = DEPTH_DEFAULT }
+default_options = record { depth = DEPTH_DEFAULT; eval = Plain }
 
 -- each option that is a number lies in its range
 pub record AreInRange (options : Options) : Type 0 where
@@ -25,6 +26,10 @@ spin_range least most = (codes " min " ++ decimal least) ++ ((codes " max " ++ d
 abbrev pub spin_line : List ℕ → ℕ → ℕ → ℕ → List ℕ
 spin_line name default least most = spin_name name ++ ((codes " default " ++ decimal default) ++ spin_range least most)
 
+-- the line that offers the evaluation
+abbrev pub eval_line : List ℕ
+eval_line = codes "option name Eval type combo default Plain var Plain var Hand\n"
+
 -- what is offered: a row for each option
 abbrev pub option_lines : List ℕ
-option_lines = spin_line (codes "Depth") DEPTH_DEFAULT DEPTH_MIN DEPTH_MAX
+option_lines = spin_line (codes "Depth") DEPTH_DEFAULT DEPTH_MIN DEPTH_MAX ++ eval_line

@@ -15,8 +15,8 @@ use Rattle.usi_session.specs.declared.position_command.Refusal.TheVariants.{BadP
 
 -- the position after a move if it is legal, and none otherwise
 unfoldable pub after_legal : Shogi → Option Move → Option Shogi
-after_legal p None = None
-after_legal p (Some m) = cond (is_legal p m) (Some (after p m)) None
+after_legal position None = None
+after_legal position (Some played) = cond (is_legal position played) (Some (after position played)) None
 
 -- the moves that follow a legal one, or the number of the word that is none
 abbrev pub then_moves : (Shogi → Result Shogi Refusal) → ℕ → Option Shogi → Result Shogi Refusal
@@ -25,22 +25,22 @@ then_moves more number (Some next) = more next
 
 -- the position after the words, each a legal move where it stands; or the number of the first that is none
 unfoldable pub after_moves : ℕ → Shogi → List (List ℕ) → Result Shogi Refusal
-after_moves number p [] = Ok p
-after_moves number p (word ∷ rest) =
-    then_moves (λ next. after_moves (number + 1) next rest) number (after_legal p (move_of_text word))
+after_moves number position [] = Ok position
+after_moves number position (word ∷ rest) =
+    then_moves (λ next. after_moves (number + 1) next rest) number (after_legal position (move_of_text word))
 
 -- what follows a position: nothing, or the word `moves` and then moves
 abbrev pub after_words : Shogi → List (List ℕ) → Result Shogi Refusal
-after_words p [] = Ok p
-after_words p (word ∷ rest) = cond (bytes_eq word (codes "moves")) (after_moves 1 p rest) (Err (BadPosition 0))
+after_words position [] = Ok position
+after_words position (word ∷ rest) = cond (bytes_eq word (codes "moves")) (after_moves 1 position rest) (Err (BadPosition 0))
 
 -- `position startpos ..`, after the word `startpos`
-abbrev pub position_of_start : List ℕ → Result Shogi Refusal
-position_of_start rest = after_words start (words rest)
+abbrev pub position_of_startpos : List ℕ → Result Shogi Refusal
+position_of_startpos rest = after_words start (words rest)
 
 -- what follows the words of an SFEN, or the number of its fault
 abbrev pub after_sfen : List ℕ → Result (Shogi × ℕ) SfenFault → Result Shogi Refusal
-after_sfen rest (Ok (p, end)) = after_words p (words (drop end rest))
+after_sfen rest (Ok (position, end)) = after_words position (words (drop end rest))
 after_sfen rest (Err fault) = Err (BadPosition (number_of_sfen_fault fault))
 
 -- `position sfen ..`, after the word `sfen`

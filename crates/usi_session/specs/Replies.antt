@@ -3,36 +3,36 @@ use Rattle.std.specs.Prelude.{ℕ, List, [], ◌∷◌, ◌++◌, Bool, true, fa
 use Rattle.usi_lines.specs.CommandLines.{command_of}
 use Rattle.usi_lines.specs.Lines.{Line, Text, TooLong, lines}
 use Rattle.usi_session.specs.declared.state.State.{State}
-use Rattle.usi_session.specs.Answer.{Answer, answer, answer_with, opening}
+use Rattle.usi_session.specs.Answer.{Answer, answer, answer_with, initial_state}
 use Rattle.usi_session.specs.Texts.{too_long_reply}
 
 -- the answer to a line; one that is too long ends the session
 abbrev pub answer_to : State → Line → Answer
-answer_to s (Text text) = answer s (command_of text)
-answer_to s TooLong = answer_with (record s { held = None; is_over = true }) too_long_reply
+answer_to state (Text text) = answer state (command_of text)
+answer_to state TooLong = answer_with (record state { held = None; is_over = true }) too_long_reply
 
 -- a session that is over answers nothing
 abbrev pub answer_unless : Bool → State → Line → Answer
-answer_unless true s line = answer_with s []
-answer_unless false s line = answer_to s line
+answer_unless true state line = answer_with state []
+answer_unless false state line = answer_to state line
 
 abbrev pub answer_line : State → Line → Answer
-answer_line s line = answer_unless s.is_over s line
+answer_line state line = answer_unless state.is_over state line
 
 -- the answers to the lines, one after another, from a state on
 unfoldable pub replies_from : State → List Line → List ℕ
-replies_from s [] = []
-replies_from s (line ∷ rest) = (answer_line s line).bytes ++ replies_from (answer_line s line).state rest
+replies_from state [] = []
+replies_from state (line ∷ rest) = (answer_line state line).bytes ++ replies_from (answer_line state line).state rest
 
 -- the state after the lines
 unfoldable pub state_from : State → List Line → State
-state_from s [] = s
-state_from s (line ∷ rest) = state_from (answer_line s line).state rest
+state_from state [] = state
+state_from state (line ∷ rest) = state_from (answer_line state line).state rest
 
 -- whether a session is over once it was sent these bytes
 abbrev pub is_over_after : List ℕ → Bool
-is_over_after bytes = (state_from opening (lines bytes)).is_over
+is_over_after bytes = (state_from initial_state (lines bytes)).is_over
 
 -- the replies of a new session to a whole stream of bytes
 abbrev pub replies : List ℕ → List ℕ
-replies bytes = replies_from opening (lines bytes)
+replies bytes = replies_from initial_state (lines bytes)

@@ -2,6 +2,7 @@
 use Rattle.std.specs.Prelude.{ℕ, ℤ, pos, negsuc, ◌+◌, ◌-◌, List, [], ◌++◌, codes, flat_map, Option, Some, None, nat_lt, cond, decimal}
 use Rattle.shogi_core.specs.declared.moves.Move.{Move}
 use Rattle.shogi_core.specs.Position.{Shogi}
+use Rattle.shogi_eval.specs.declared.eval.Eval.{Eval}
 use Rattle.shogi_search.specs.Minimax.{value, pv}
 use Rattle.shogi_sfen.specs.MoveTexts.{text_of}
 use Rattle.usi_session.specs.Options.{option_lines}
@@ -21,12 +22,12 @@ abbrev pub mate_not_implemented_reply : List ℕ
 mate_not_implemented_reply = codes "checkmate notimplemented\n"
 
 -- a `position` line that names no position: 0 for its form, 1 to 8 for the first fault of its SFEN
-abbrev pub bad_position : ℕ → List ℕ
-bad_position fault = codes "info string bad position " ++ (decimal fault ++ codes "\n")
+abbrev pub bad_position_line : ℕ → List ℕ
+bad_position_line fault = codes "info string bad position " ++ (decimal fault ++ codes "\n")
 
 -- the word of this number after `moves` is no legal move
-abbrev pub illegal_move : ℕ → List ℕ
-illegal_move number = codes "info string illegal move " ++ (decimal number ++ codes "\n")
+abbrev pub illegal_move_line : ℕ → List ℕ
+illegal_move_line number = codes "info string illegal move " ++ (decimal number ++ codes "\n")
 
 -- what a line of 65,536 bytes or more is answered with
 abbrev pub too_long_reply : List ℕ
@@ -44,7 +45,7 @@ score_text depth (negsuc size) = size_text (codes "-") depth (size + 1)
 
 -- each move after a space
 abbrev pub moves_text : List Move → List ℕ
-moves_text moves = flat_map (λ m. codes " " ++ text_of m) moves
+moves_text moves = flat_map (λ played. codes " " ++ text_of played) moves
 
 -- a value and a pv at a depth
 abbrev pub info_text : ℕ → ℤ → List Move → List ℕ
@@ -52,8 +53,8 @@ info_text depth value moves =
     (codes "info depth " ++ (decimal depth ++ codes " score ")) ++ (score_text depth value ++ (codes " pv" ++ (moves_text moves ++ codes "\n")))
 
 -- what is said of a position at a depth: its value and its pv
-abbrev pub info_line : Shogi → ℕ → List ℕ
-info_line p depth = info_text depth (value p depth) (pv p depth)
+abbrev pub info_line : Shogi → Eval → ℕ → List ℕ
+info_line position eval depth = info_text depth (value position eval depth) (pv position eval depth)
 
 -- the move to play, with the reply to ponder on; none where no move is legal
 abbrev pub bestmove_line : Option Move → Option Move → List ℕ

@@ -9,11 +9,11 @@ ghost use Rattle.usi_session.specs.Options.{AreInRange};
 ghost use Rattle.usi_session.specs.Answer.{answer, answer_position, answer_go, write_or_hold, answer_stop, answer_ponderhit};
 ghost use Rattle.usi_session.specs.Costs.{cost_of_command, cost_to};
 ghost use Rattle.usi_session.specs.Replies.{answer_to};
-ghost use Rattle.usi_session.specs.InHand.{goes_on_if, with_rest, load_of_if, turns_of_if, most_turns};
+ghost use Rattle.usi_session.specs.InHand.{rest_of_go_if, with_rest, load_of_if, turns_of_if, most_turns};
 ghost use Rattle.shogi_search.specs.Minimax.{deepening_cost};
 
 use crate::go_command::GoCommand;
-use crate::position_command::{Refusal, position_of_sfen, position_of_start};
+use crate::position_command::{Refusal, position_of_sfen, position_of_startpos};
 use crate::state::{HeldBestmove, State};
 use crate::text::{
     write_bad_position, write_bestmove, write_illegal_move, write_mate_not_implemented, write_usi,
@@ -72,15 +72,15 @@ fn answer_go<A: Allocator + Copy>(
     requires least { DEPTH_MIN ≤ depth }
     requires most { depth ≤ DEPTH_MAX }
     ensures bytes { IfOk result (λ in_hand. with_rest out.new.items state.new in_hand ≡ out.old.items ++ (answer_go state.old depth hold).bytes) }
-    ensures state { IfOk result (λ in_hand. (goes_on_if state.new in_hand).state ≡ (answer_go state.old depth hold).state) }
-    ensures load { IfOk result (λ in_hand. load_of_if in_hand ≤ deepening_cost state.old.position depth) }
+    ensures state { IfOk result (λ in_hand. (rest_of_go_if state.new in_hand).state ≡ (answer_go state.old depth hold).state) }
+    ensures load { IfOk result (λ in_hand. load_of_if in_hand ≤ deepening_cost state.old.position state.old.options.eval depth) }
     ensures turns { IfOk result (λ in_hand. turns_of_if in_hand ≤ most_turns) }
     ensures quiet { IfOk result (λ in_hand. OnSome in_hand (out.new.items ≡ out.old.items)) }
     ensures options { OnOk result (state.new.options ≡ state.old.options) }
     ensures alive { OnOk result (state.new.is_over ≡ state.old.is_over) }
 {
     if has_legal(&state.position) {
-        let in_hand = GoCommand::start(alloc, &state.position, depth, hold)?;
+        let in_hand = GoCommand::start(alloc, &state.position, state.options.eval, depth, hold)?;
         return Ok(Some(in_hand));
     }
     let bestmove = HeldBestmove {
@@ -129,7 +129,7 @@ pub fn answer<A: Allocator + Copy>(
     requires options { AreInRange state.old.options }
     requires range { IsInRange (meaning_of command) }
     ensures bytes { IfOk result (λ in_hand. with_rest out.new.items state.new in_hand ≡ out.old.items ++ (answer state.old (meaning_of command.entry)).bytes) }
-    ensures state { IfOk result (λ in_hand. (goes_on_if state.new in_hand).state ≡ (answer state.old (meaning_of command.entry)).state) }
+    ensures state { IfOk result (λ in_hand. (rest_of_go_if state.new in_hand).state ≡ (answer state.old (meaning_of command.entry)).state) }
     ensures load { IfOk result (λ in_hand. load_of_if in_hand ≤ cost_of_command state.old (meaning_of command.entry)) }
     ensures turns { IfOk result (λ in_hand. turns_of_if in_hand ≤ most_turns) }
     ensures quiet { IfOk result (λ in_hand. OnSome in_hand (out.new.items ≡ out.old.items)) }
@@ -140,11 +140,12 @@ pub fn answer<A: Allocator + Copy>(
         Command::Usi => write_usi(out)?,
         Command::IsReady => out.extend_from_slice(b"readyok\n")?,
         Command::SetDepth(depth) => state.options.depth = depth,
+        Command::SetEval(eval) => state.options.eval = eval,
         Command::NewGame => {
             state.position = Position::start();
             state.held = None;
         }
-        Command::Start(text) => answer_position(out, state, position_of_start(text))?,
+        Command::Startpos(text) => answer_position(out, state, position_of_startpos(text))?,
         Command::Sfen(text) => answer_position(out, state, position_of_sfen(text))?,
         Command::BadPosition => write_bad_position(out, 0)?,
         Command::Go { depth, hold } => {
@@ -176,7 +177,7 @@ pub fn answer_line<A: Allocator + Copy>(
 ) -> Result<Option<GoCommand<A>>, AllocError>
     requires options { AreInRange state.old.options }
     ensures bytes { IfOk result (λ in_hand. with_rest out.new.items state.new in_hand ≡ out.old.items ++ (answer_to state.old (line_of line.entry)).bytes) }
-    ensures state { IfOk result (λ in_hand. (goes_on_if state.new in_hand).state ≡ (answer_to state.old (line_of line.entry)).state) }
+    ensures state { IfOk result (λ in_hand. (rest_of_go_if state.new in_hand).state ≡ (answer_to state.old (line_of line.entry)).state) }
     ensures load { IfOk result (λ in_hand. load_of_if in_hand ≤ cost_to state.old (line_of line.entry)) }
     ensures turns { IfOk result (λ in_hand. turns_of_if in_hand ≤ most_turns) }
     ensures quiet { IfOk result (λ in_hand. OnSome in_hand (out.new.items ≡ out.old.items)) }

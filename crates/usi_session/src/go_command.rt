@@ -4,14 +4,15 @@ ghost use Rattle.std.specs.Prelude.{◌≡◌, ◌≢◌, ◌≤◌, ◌<◌, �
 ghost use Rattle.shogi_search.specs.Minimax.{value, best};
 ghost use Rattle.usi_lines.specs.declared.options.TheConstants.{DEPTH_MIN, DEPTH_MAX};
 ghost use Rattle.usi_session.specs.Answer.{bestmove_at};
-ghost use Rattle.usi_session.specs.GoCommand.{first, second};
+ghost use Rattle.usi_session.specs.GoCommand.{move_to_play, move_to_ponder};
 ghost use Rattle.usi_session.specs.Texts.{info_line};
-ghost use Rattle.usi_session.specs.InHand.{at_depth, lines_on, after_search, load_of, turns_of};
+ghost use Rattle.usi_session.specs.InHand.{at_depth, info_lines_above, load_after_search, load_of, turns_of};
 
 use crate::state::HeldBestmove;
 use crate::text::write_info;
 use arrayvec::ArrayVec;
 use shogi_core::{Move, Position};
+use shogi_eval::Eval;
 use shogi_moves::apply;
 use shogi_search::{Found, Memo, Search};
 use std::alloc::{AllocError, Allocator};
@@ -26,6 +27,7 @@ const PV_MAX: usize = DEPTH_MAX as usize;
 #[derive(Drop)]
 pub struct GoCommand<A: Allocator> {
     root: Position,
+    eval: Eval,
     depth: u8,
     hold: Hold,
     told: u8,
@@ -42,35 +44,42 @@ impl<A: Allocator> Model for GoCommand<A> {
 
     ghost Value = { InHand };
 
-    ghost view = { λ g. record { root = g.root; depth = g.depth; hold = g.hold; told = g.told; plies = g.plies; at = g.at; left = g.search.value.left } };
+    ghost view = { λ g. record { root = g.root; eval = g.eval; depth = g.depth; hold = g.hold; told = g.told; plies = g.plies; at = g.at; left = g.search.value.left } };
 
-    ghost invariant = { λ g. IsWalked g.root g.depth g.told g.plies g.at g.value g.moves.items g.search.value };
+    ghost invariant = { λ g. IsWalked g.root g.eval g.depth g.told g.plies g.at g.value g.moves.items g.search.value };
 }
 
 /// The move to play.
-fn first(moves: &[Move]) -> Option<Move>
-    ensures { result ≡ first moves.now }
+fn move_to_play(moves: &[Move]) -> Option<Move>
+    ensures { result ≡ move_to_play moves.now }
 {
     moves.first().copied()
 }
 
 /// The reply to it.
-fn second(moves: &[Move]) -> Option<Move>
-    ensures { result ≡ second moves.now }
+fn move_to_ponder(moves: &[Move]) -> Option<Move>
+    ensures { result ≡ move_to_ponder moves.now }
 {
     moves.get(1).copied()
 }
 
 impl<A: Allocator> GoCommand<A> {
     /// A `go` at its first depth.
-    pub fn start(alloc: A, p: &Position, depth: u8, hold: Hold) -> Result<GoCommand<A>, AllocError>
+    pub fn start(
+        alloc: A,
+        p: &Position,
+        eval: Eval,
+        depth: u8,
+        hold: Hold,
+    ) -> Result<GoCommand<A>, AllocError>
         requires least { DEPTH_MIN ≤ depth }
         requires most { depth ≤ DEPTH_MAX }
-        ensures { IfOk result (λ in_hand. in_hand ≡ at_depth p.now depth hold 0) }
+        ensures { IfOk result (λ in_hand. in_hand ≡ at_depth p.now eval depth hold 0) }
     {
-        let search = Box::new(alloc, Search::start(p, 1))?;
+        let search = Box::new(alloc, Search::start(p, eval, 1))?;
         Ok(GoCommand {
             root: *p,
+            eval,
             depth,
             hold,
             told: 0,
@@ -84,8 +93,8 @@ impl<A: Allocator> GoCommand<A> {
 
     /// The value of the depth in hand, as its first search found it.
     fn value_after(&self, found: &Found) -> i32
-        requires { found.now.value ≡ value self.now.at self.now.plies }
-        ensures { result ≡ value self.now.root (self.now.told + 1) }
+        requires { found.now.value ≡ value self.now.at self.now.eval self.now.plies }
+        ensures { result ≡ value self.now.root self.now.eval (self.now.told + 1) }
     {
         if self.plies > self.told {
             found.value
@@ -98,10 +107,10 @@ impl<A: Allocator> GoCommand<A> {
     fn follow(&mut self, found: Found)
         requires searching { 0 < self.old.plies }
         requires over { self.old.left ≡ 0 }
-        requires value { found.value ≡ value self.old.at self.old.plies }
-        requires best { found.best ≡ best self.old.at self.old.plies }
+        requires value { found.value ≡ value self.old.at self.old.eval self.old.plies }
+        requires best { found.best ≡ best self.old.at self.old.eval self.old.plies }
         ensures same { self.new ≡ record self.old { plies = self.new.plies; at = self.new.at; left = self.new.left } }
-        ensures left { load_of self.new ≤ after_search self.old }
+        ensures left { load_of self.new ≤ load_after_search self.old }
         ensures fewer { self.new.plies < self.old.plies }
     {
         self.value = self.value_after(&found);
@@ -114,7 +123,7 @@ impl<A: Allocator> GoCommand<A> {
                 self.at = apply(&self.at, played);
                 self.plies -= 1;
                 if self.plies > 0 {
-                    *self.search = Search::start(&self.at, self.plies);
+                    *self.search = Search::start(&self.at, self.eval, self.plies);
                 }
             }
         }
@@ -142,8 +151,8 @@ impl<A: Allocator> GoCommand<A> {
     /// Says the value and the pv of the depth in hand, once its pv is whole.
     pub fn tell<B: Allocator>(&self, out: &mut Vec<u8, B>) -> Result<(), AllocError>
         requires whole { self.now.plies ≡ 0 }
-        ensures told { OnOk result (out.new.items ≡ out.old.items ++ info_line self.now.root (self.now.told + 1)) }
-        ensures rest { OnOk result (out.new.items ++ lines_on self.now.root (self.now.told + 1) (self.now.depth - (self.now.told + 1)) ≡ out.old.items ++ lines_on self.now.root self.now.told (self.now.depth - self.now.told)) }
+        ensures told { OnOk result (out.new.items ≡ out.old.items ++ info_line self.now.root self.now.eval (self.now.told + 1)) }
+        ensures rest { OnOk result (out.new.items ++ info_lines_above self.now.root self.now.eval (self.now.told + 1) (self.now.depth - (self.now.told + 1)) ≡ out.old.items ++ info_lines_above self.now.root self.now.eval self.now.told (self.now.depth - self.now.told)) }
     {
         write_info(out, self.told + 1, self.value, self.moves.as_slice())
     }
@@ -166,7 +175,7 @@ impl<A: Allocator> GoCommand<A> {
     pub fn next(&mut self)
         requires whole { self.old.plies ≡ 0 }
         requires more { self.old.told + 1 ≢ self.old.depth }
-        ensures taken { self.new ≡ at_depth self.old.root self.old.depth self.old.hold (self.old.told + 1) }
+        ensures taken { self.new ≡ at_depth self.old.root self.old.eval self.old.depth self.old.hold (self.old.told + 1) }
         ensures load { load_of self.new ≤ load_of self.old }
         ensures fewer { turns_of self.new < turns_of self.old }
     {
@@ -174,18 +183,18 @@ impl<A: Allocator> GoCommand<A> {
         self.plies = self.told + 1;
         self.at = self.root;
         self.moves.clear();
-        *self.search = Search::start(&self.root, self.plies);
+        *self.search = Search::start(&self.root, self.eval, self.plies);
     }
 
     /// The bestmove at the depth that was asked for, once its pv is whole.
     pub fn bestmove(&self) -> HeldBestmove
         requires whole { self.now.plies ≡ 0 }
         requires last { self.now.told + 1 ≡ self.now.depth }
-        ensures { result ≡ bestmove_at self.now.root self.now.depth self.now.hold }
+        ensures { result ≡ bestmove_at self.now.root self.now.eval self.now.depth self.now.hold }
     {
         HeldBestmove {
-            best: first(self.moves.as_slice()),
-            ponder: second(self.moves.as_slice()),
+            best: move_to_play(self.moves.as_slice()),
+            ponder: move_to_ponder(self.moves.as_slice()),
             until: self.hold,
         }
     }

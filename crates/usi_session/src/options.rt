@@ -1,10 +1,11 @@
 //! The options of a session: what they are set to, and how they are offered.
 
 ghost use Rattle.std.specs.Prelude.{◌≡◌, ◌++◌, OnOk, decimal};
-ghost use Rattle.usi_session.specs.Options.{default_options, option_lines, spin_name, spin_range, spin_line};
+ghost use Rattle.usi_session.specs.Options.{default_options, option_lines, eval_line, spin_name, spin_range, spin_line};
 
 use crate::text::write_parts;
 use itoa::Buffer;
+use shogi_eval::Eval;
 use std::alloc::{AllocError, Allocator};
 use usi_lines::{DEPTH_MAX, DEPTH_MIN};
 
@@ -16,6 +17,8 @@ pub const DEPTH_DEFAULT: u8 = 3;
 pub struct Options {
     /// `Depth`: the depth of a `go` that names none, in its range.
     pub depth: u8,
+    /// `Eval`: by which evaluation a `go` searches.
+    pub eval: Eval,
 }
 
 impl Options {
@@ -25,6 +28,7 @@ impl Options {
     {
         Options {
             depth: DEPTH_DEFAULT,
+            eval: Eval::Plain,
         }
     }
 }
@@ -77,9 +81,17 @@ fn write_spin<A: Allocator>(
     Ok(())
 }
 
+/// Offers the evaluations (USI, option).
+fn write_eval<A: Allocator>(out: &mut Vec<u8, A>) -> Result<(), AllocError>
+    ensures { OnOk result (out.new.items ≡ out.old.items ++ eval_line) }
+{
+    out.extend_from_slice(b"option name Eval type combo default Plain var Plain var Hand\n")
+}
+
 /// Offers the options: a row for each.
 pub fn write_options<A: Allocator>(out: &mut Vec<u8, A>) -> Result<(), AllocError>
     ensures { OnOk result (out.new.items ≡ out.old.items ++ option_lines) }
 {
-    write_spin(out, b"Depth", DEPTH_DEFAULT, DEPTH_MIN, DEPTH_MAX)
+    write_spin(out, b"Depth", DEPTH_DEFAULT, DEPTH_MIN, DEPTH_MAX)?;
+    write_eval(out)
 }

@@ -3,7 +3,7 @@
 ghost use Rattle.std.specs.Prelude.{◌≡◌, ◌+◌, ◌≤◌, ◌<◌, ◌^◌, length};
 ghost use Rattle.shogi_sfen.specs.Words.{words};
 ghost use Rattle.shogi_sfen.specs.MoveTexts.{move_of_text};
-ghost use Rattle.usi_session.specs.PositionCommand.{after_legal, after_moves, after_words, position_of_start, position_of_sfen};
+ghost use Rattle.usi_session.specs.PositionCommand.{after_legal, after_moves, after_words, position_of_startpos, position_of_sfen};
 
 use shogi_core::Position;
 use shogi_moves::play;
@@ -58,8 +58,8 @@ fn after_words(p: &Position, text: &[u8]) -> Result<Position, Refusal>
 }
 
 /// The position of `position startpos ..`, by the bytes after that word.
-pub fn position_of_start(text: &[u8]) -> Result<Position, Refusal>
-    ensures { result ≡ position_of_start text.now }
+pub fn position_of_startpos(text: &[u8]) -> Result<Position, Refusal>
+    ensures { result ≡ position_of_startpos text.now }
 {
     after_words(&Position::start(), text)
 }

@@ -3,7 +3,7 @@
 ghost use Rattle.std.specs.Prelude.{◌≡◌, ◌≤◌, ◌++◌, ℕ, List, [], true, false, OnOk, OnErr, IfOk, OnSome, IfSome, IfNone, None, length, take, drop, ◌<◌, ◌+◌};
 ghost use Rattle.usi_session.specs.Due.{SessionView, due, state_due, load, turns, is_pending, wants_input, new_session, IsSearching, IsWhole};
 ghost use Rattle.usi_session.specs.Replies.{replies, state_from};
-ghost use Rattle.usi_session.specs.Answer.{opening};
+ghost use Rattle.usi_session.specs.Answer.{initial_state};
 ghost use Rattle.usi_session.specs.WholeLines.{GrowsByLines};
 ghost use Rattle.usi_lines.specs.Lines.{ahead, lines};
 ghost use Rattle.usi_session.specs.declared.limits.TheConstants.{CHUNK_MAX};
@@ -59,9 +59,9 @@ impl<A: Allocator + Copy> Session<A> {
     /// A session at its start: the opening position, each option at its default, nothing held. It takes
     /// no memory.
     pub fn new(alloc: A) -> Session<A>
-        ensures opening { result ≡ new_session }
+        ensures initial { result ≡ new_session }
         ensures due { (x : List ℕ) → due result x ≡ replies x }
-        ensures after { (x : List ℕ) → state_due result x ≡ state_from opening (lines x) }
+        ensures after { (x : List ℕ) → state_due result x ≡ state_from initial_state (lines x) }
     {
         Session {
             alloc,

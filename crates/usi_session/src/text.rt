@@ -2,7 +2,7 @@
 
 ghost use Rattle.std.specs.Prelude.{◌≡◌, ◌++◌, ◌+◌, OnOk, codes, decimal, ℤ, flat_map};
 ghost use Rattle.shogi_sfen.specs.MoveTexts.{text_of};
-ghost use Rattle.usi_session.specs.Texts.{usi_reply, mate_not_implemented_reply, bad_position, illegal_move, size_text, score_text, moves_text, info_text, bestmove_line};
+ghost use Rattle.usi_session.specs.Texts.{usi_reply, mate_not_implemented_reply, bad_position_line, illegal_move_line, size_text, score_text, moves_text, info_text, bestmove_line};
 
 use crate::options::write_options;
 use itoa::Buffer;
@@ -43,7 +43,7 @@ pub fn write_mate_not_implemented<A: Allocator>(out: &mut Vec<u8, A>) -> Result<
 
 /// Says that a `position` line names no position: 0 for its form, 1 to 8 for its first fault.
 pub fn write_bad_position<A: Allocator>(out: &mut Vec<u8, A>, fault: u8) -> Result<(), AllocError>
-    ensures { OnOk result (out.new.items ≡ out.old.items ++ bad_position fault) }
+    ensures { OnOk result (out.new.items ≡ out.old.items ++ bad_position_line fault) }
 {
     let mut buffer = Buffer::new();
     let digits = buffer.format(fault).as_bytes();
@@ -55,7 +55,7 @@ pub fn write_illegal_move<A: Allocator>(
     out: &mut Vec<u8, A>,
     number: usize,
 ) -> Result<(), AllocError>
-    ensures { OnOk result (out.new.items ≡ out.old.items ++ illegal_move number) }
+    ensures { OnOk result (out.new.items ≡ out.old.items ++ illegal_move_line number) }
 {
     let mut buffer = Buffer::new();
     let digits = buffer.format(number).as_bytes();

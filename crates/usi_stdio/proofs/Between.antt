@@ -4,10 +4,10 @@ use Rattle.std.specs.Io.KnownBytes.{Appends, Consumes, IsAtEnd, Keeps}
 use Rattle.std.proofs.KnownBytes.{Appends-nil, Appends-trans, Consumes-nil, Consumes-trans, Consumes-kept}
 use Rattle.usi_lines.specs.Lines.{lines}
 use Rattle.usi_session.specs.declared.state.State.{State}
-use Rattle.usi_session.specs.Answer.{opening}
+use Rattle.usi_session.specs.Answer.{initial_state}
 use Rattle.usi_session.specs.Due.{SessionView, due, state_due, new_session}
 use Rattle.usi_session.specs.Replies.{replies, state_from, is_over_after}
-use Rattle.usi_session.proofs.Settled.{due-over, due-wanting, state_due-over, state_due-wanting, wants_after, new_wants, opening_alive}
+use Rattle.usi_session.proofs.Settled.{due-over, due-wanting, state_due-over, state_due-wanting, wants_after, new_wants, initial_state_alive}
 use Rattle.usi_stdio.specs.Stdio.{WritesFront, StopsInTime, IsAnswered, IsAnsweredInPart, IsFedAndWorkedOff, IsBetween}
 use Rattle.usi_session.specs.declared.limits.TheConstants.{CHUNK_MAX}
 
@@ -33,11 +33,11 @@ part_start before old = record {
   read = [];
   consumed = Consumes-nil before;
   written = (replies [], record { done = []; appended = Appends-nil old; split = refl });
-  stops = record { front = []; chunk = []; split = refl; most = omega arith; alive = opening_alive };
+  stops = record { front = []; chunk = []; split = refl; most = omega arith; alive = initial_state_alive };
 }
 
 -- before the first read
-pub between_start : (before old : Option (List ℕ)) (s : SessionView) → s ≡ new_session → ((x : List ℕ) → due s x ≡ replies x) → ((x : List ℕ) → state_due s x ≡ state_from opening (lines x)) → IsBetween before before old old s
+pub between_start : (before old : Option (List ℕ)) (s : SessionView) → s ≡ new_session → ((x : List ℕ) → due s x ≡ replies x) → ((x : List ℕ) → state_due s x ≡ state_from initial_state (lines x)) → IsBetween before before old old s
 between_start before old s new owed left = record {
   read = [];
   consumed = Consumes-nil before;
@@ -54,9 +54,9 @@ worked : (before mid after old part new : Option (List ℕ)) (s t : SessionView)
 worked before mid after old part new s t chunk b _ w x =
     append_assoc b.made w.made (due t x) ∙ (ap (λ xs. b.made ++ xs) (sym (w.owed x)) ∙ (b.owed (chunk ++ x) ∙ ap replies (sym (append_assoc b.read chunk x))))
 
-left_more : (before mid old part new : Option (List ℕ)) (s t : SessionView) (chunk : List ℕ) → (b : IsBetween before mid old part s) → (w : IsFedAndWorkedOff s t chunk part new) → (x : List ℕ) → state_due t x ≡ state_from opening (lines ((b.read ++ chunk) ++ x))
+left_more : (before mid old part new : Option (List ℕ)) (s t : SessionView) (chunk : List ℕ) → (b : IsBetween before mid old part s) → (w : IsFedAndWorkedOff s t chunk part new) → (x : List ℕ) → state_due t x ≡ state_from initial_state (lines ((b.read ++ chunk) ++ x))
 left_more before mid old part new s t chunk b w x =
-    w.left x ∙ (b.left (chunk ++ x) ∙ ap (λ xs. state_from opening (lines xs)) (sym (append_assoc b.read chunk x)))
+    w.left x ∙ (b.left (chunk ++ x) ∙ ap (λ xs. state_from initial_state (lines xs)) (sym (append_assoc b.read chunk x)))
 
 pub between_more : (before mid after old part new : Option (List ℕ)) (s t : SessionView) (chunk : List ℕ) → IsBetween before mid old part s → Consumes mid after chunk → IsFedAndWorkedOff s t chunk part new → t.state.is_over ≡ false → IsBetween before after old new t
 between_more before mid after old part new s t chunk b consumed w alive = record {

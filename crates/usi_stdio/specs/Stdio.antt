@@ -3,7 +3,7 @@ use Rattle.std.specs.Prelude.{◌≡◌, ℕ, ◌+◌, ◌*◌, ◌≤◌, lengt
 use Rattle.std.specs.Io.KnownBytes.{Appends, Consumes, IsAtEnd}
 use Rattle.usi_session.specs.Due.{SessionView, due, state_due, load, is_pending, wants_input}
 use Rattle.usi_lines.specs.Lines.{lines}
-use Rattle.usi_session.specs.Answer.{opening}
+use Rattle.usi_session.specs.Answer.{initial_state}
 use Rattle.usi_session.specs.Replies.{replies, state_from, is_over_after}
 use Rattle.usi_session.specs.declared.limits.TheConstants.{CHUNK_MAX}
 
@@ -73,6 +73,6 @@ pub record IsBetween (before after old new : Option (List ℕ)) (s : SessionView
   pub made : List ℕ
   pub written : Appends old new made
   pub owed : (x : List ℕ) → made ++ due s x ≡ replies (read ++ x)
-  pub left : (x : List ℕ) → state_due s x ≡ state_from opening (lines (read ++ x))
+  pub left : (x : List ℕ) → state_due s x ≡ state_from initial_state (lines (read ++ x))
   pub empty : s.queued ≡ []
   pub wants : wants_input s ≡ true

@@ -8,7 +8,7 @@ pub returns-in_err-table-clause-fault : goal.returns-in_err-table-clause-fault
 returns-in_err-table-clause-fault g c = on_err _ (part_start _ _)
 
 pub chunks-init : goal.chunks-init
-chunks-init g c = between_start _ _ c.new-session.result c.new-session.ensures.opening c.new-session.ensures.due c.new-session.ensures.after
+chunks-init g c = between_start _ _ c.new-session.result c.new-session.ensures.initial c.new-session.ensures.due c.new-session.ensures.after
 
 -- a read failed
 pub returns-in_err-n-clause-fault : goal.returns-in_err-n-clause-fault

@@ -18,7 +18,7 @@ returns-then-not-is_last-clause-grown g c =
     rw (← c.self.view_is) (record {
       lines = c.tell.new.out.items;
       after_is = search rules;
-      whole = told_whole go.root (go.told + 1) c.tell.new.out.items (search rules);
+      whole = told_whole go.root go.eval (go.told + 1) c.tell.new.out.items (search rules);
     })
 
 pub returns-clause-grown : goal.returns-clause-grown
@@ -27,5 +27,5 @@ returns-clause-grown g c =
     rw (← c.self.view_is) (record {
       lines = c.write_or_hold.new.out.items;
       after_is = search rules;
-      whole = end_whole c.self.inside.state go.root (go.told + 1) c.tell.new.out.items c.write_or_hold.new.out.items c.bestmove.result (search rules) (search rules);
+      whole = end_whole c.self.inside.state go.root go.eval (go.told + 1) c.tell.new.out.items c.write_or_hold.new.out.items c.bestmove.result (search rules) (search rules);
     })
