@@ -11,3 +11,4 @@ pub mod OrderLaws
 pub mod Entries
 pub mod Nodes
 pub mod Chains
+pub mod RankedLaws

@@ -6,3 +6,4 @@ pub mod Visits
 pub mod Stack
 pub mod Progress
 pub mod SlicedSearch
+pub mod Ranked

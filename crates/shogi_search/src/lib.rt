@@ -7,6 +7,7 @@ mod frame;
 mod full_search;
 mod memo;
 mod move_picker;
+mod ranks;
 mod sliced_search;
 mod stack;
 mod window;
@@ -15,6 +16,7 @@ pub use bounds::{GREATEST_DEPTH, INFINITY, MATE};
 pub use found::Found;
 pub use full_search::search;
 pub use memo::{Entry, Memo, NoMemo};
+pub use ranks::{MOST_LINES, Ranks};
 pub use sliced_search::Search;
 
 #[cfg(test)]

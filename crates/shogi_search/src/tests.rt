@@ -7,12 +7,12 @@ use shogi_moves::apply;
 use std::process::Abort;
 use std::test::Fail;
 
-type Placed = (u8, u8, Color, Role);
+pub type Placed = (u8, u8, Color, Role);
 
-type Held = (Color, Kind, u8);
+pub type Held = (Color, Kind, u8);
 
 // The position of pieces by file and rank, and of what is held.
-fn position(pieces: &[Placed], held: &[Held], side: Color) -> Result<Position, Fail> {
+pub fn position(pieces: &[Placed], held: &[Held], side: Color) -> Result<Position, Fail> {
     let mut cells: [Option<Piece>; 81] = [None; 81];
     for &(file, rank, color, role) in pieces {
         let square = Square::new(file, rank).ok_or("a square")?;

@@ -1,0 +1,99 @@
+//! The best moves of a position, for analysis with several lines.
+
+ghost use Rattle.std.specs.Prelude.{◌≡◌, ℕ, ℤ, ◌≤◌, List, [], ◌∷◌, ◌++◌, length, take, insert, true, false};
+ghost use Rattle.shogi_core.specs.Codes.{code_of};
+ghost use Rattle.shogi_moves.specs.Rising.{is_in};
+ghost use Rattle.shogi_search.specs.Ranked.{is_ahead, put_in, codes_in, are_ranked, IsTop};
+ghost use Rattle.shogi_search.specs.declared.ranks.TheConstants.{MOST_LINES};
+
+use arrayvec::ArrayVec;
+use shogi_core::Move;
+use std::marker::Model;
+
+/// The greatest number of lines.
+pub const MOST_LINES: usize = 8;
+
+/// A pair more than there are lines: a new one is put in before the last one goes.
+const ROOM: usize = 9;
+
+/// The best of the moves that were offered, with their values: at most so many as there are lines, the
+/// greater value first, among equal ones the lesser code.
+#[derive(Drop)]
+pub struct Ranks {
+    lines: usize,
+    pairs: ArrayVec<(Move, i32), ROOM>,
+}
+
+impl Model for Ranks {
+    ghost use Rattle.std.specs.Prelude.{◌≡◌, ◌≤◌, length, true};
+    ghost use Rattle.shogi_search.specs.Ranked.{Ranking, are_ranked};
+    ghost use Rattle.shogi_search.specs.declared.ranks.TheConstants.{MOST_LINES};
+
+    ghost Value = { Ranking };
+
+    ghost view = { λ r. record { lines = r.lines; pairs = r.pairs.items } };
+
+    ghost invariant = { λ r. (1 ≤ r.lines) × (r.lines ≤ MOST_LINES) × (length r.pairs.items ≤ r.lines) × (are_ranked r.pairs.items ≡ true) };
+}
+
+/// Whether a move with its value stands before another one.
+fn is_ahead(m: &Move, value: i32, other: &(Move, i32)) -> bool
+    ensures { result ≡ is_ahead value (code_of m.now) other.now.1 (code_of other.now.0) }
+{
+    value > other.1 || (value == other.1 && m.code() < other.0.code())
+}
+
+impl Ranks {
+    /// No move yet, for a number of lines from 1 to 8.
+    pub fn new(lines: usize) -> Ranks
+        requires least { 1 ≤ lines }
+        requires most { lines ≤ MOST_LINES }
+        ensures empty { result ≡ record { lines = lines; pairs = [] } }
+        ensures top { (f : ℕ → ℤ) → IsTop f [] result }
+    {
+        Ranks {
+            lines,
+            pairs: ArrayVec::new(),
+        }
+    }
+
+    /// Where a move with its value goes.
+    fn place_of(&self, m: &Move, value: i32) -> usize
+        ensures place { insert self.now.pairs result (m.now, value) ≡ put_in m.now value self.now.pairs }
+        ensures bound { result ≤ length self.now.pairs }
+    {
+        let pairs = self.pairs.as_slice();
+        for (place, pair) in pairs.iter().enumerate() {
+            if is_ahead(m, value, pair) {
+                return place;
+            }
+        }
+        pairs.len()
+    }
+
+    /// Puts a move with its value in its place, and drops the last one where there are more than lines.
+    pub fn offer(&mut self, m: Move, value: i32)
+        requires { is_in (code_of m) (codes_in self.old.pairs) ≡ false }
+        ensures lines { self.new.lines ≡ self.old.lines }
+        ensures pairs { self.new.pairs ≡ take self.old.lines (put_in m value self.old.pairs) }
+        // The first of some codes that are ranked by their worth become the first of these and one more.
+        ensures top { (f : ℕ → ℤ) → (codes : List ℕ) → IsTop f codes self.old → is_in (code_of m) codes ≡ false → value ≡ f (code_of m) → IsTop f (codes ++ code_of m ∷ []) self.new }
+    {
+        let place = self.place_of(&m, value);
+        self.pairs.insert(place, (m, value));
+        self.pairs.truncate(self.lines);
+    }
+
+    /// The best moves so far with their values.
+    pub fn list(&self) -> &[(Move, i32)]
+        ensures value { result.now ≡ self.now.pairs }
+        ensures ordered { are_ranked self.now.pairs ≡ true }
+        ensures bound { length self.now.pairs ≤ self.now.lines }
+        ensures lines { self.now.lines ≤ MOST_LINES }
+    {
+        self.pairs.as_slice()
+    }
+}
+
+#[cfg(test)]
+mod tests;

@@ -1,0 +1,151 @@
+//! Lists of the best moves, worked by hand.
+
+ghost use Rattle.std.specs.Prelude.{◌≡◌, ◌≤◌, ◌<◌};
+ghost use Rattle.shogi_core.specs.Codes.{code_of};
+ghost use Rattle.shogi_moves.specs.Rising.{is_in};
+ghost use Rattle.shogi_search.specs.Ranked.{codes_in};
+ghost use Rattle.shogi_search.specs.declared.bounds.TheConstants.{GREATEST_DEPTH};
+ghost use Rattle.shogi_search.specs.declared.ranks.TheConstants.{MOST_LINES};
+
+use crate::tests::position;
+use crate::{MOST_LINES, NoMemo, Ranks, search};
+use shogi_core::{Color, Kind, Move, Position, Role};
+use shogi_moves::{apply, next_legal};
+use std::process::Abort;
+use std::test::Fail;
+
+// Whether the list has the move.
+fn has(pairs: &[(Move, i32)], m: &Move) -> bool
+    ensures { result ≡ is_in (code_of m.now) (codes_in pairs.now) }
+{
+    for pair in pairs {
+        if m.code() == pair.0.code() {
+            return true;
+        }
+    }
+    false
+}
+
+// Offers a move with its value.
+fn offer(rt: &impl Abort, ranks: &mut Ranks, m: Move, value: i32) {
+    assert!(rt; !has(ranks.list(), &m), "a move that is not listed");
+    ranks.offer(m, value);
+}
+
+// The list has the moves of these codes with these values, in this order.
+fn assert_list(rt: &impl Abort, ranks: &Ranks, wanted: &[(u16, i32)]) {
+    let list = ranks.list();
+    assert_eq!(rt; list.len(), wanted.len());
+    for ((m, value), wanted) in list.iter().zip(wanted) {
+        assert_eq!(rt; (m.code(), *value), *wanted);
+    }
+}
+
+// The list after the moves of these codes are offered with these values.
+fn assert_offered(rt: &impl Abort, lines: usize, offers: &[(u16, i32)], wanted: &[(u16, i32)])
+    requires least { 1 ≤ lines }
+    requires most { lines ≤ MOST_LINES }
+{
+    let mut ranks = Ranks::new(lines);
+    assert_list(rt, &ranks, &[]);
+    for (code, value) in offers {
+        let m = Move::of_code(*code).expect(rt, "a move");
+        offer(rt, &mut ranks, m, *value);
+    }
+    assert_list(rt, &ranks, wanted);
+}
+
+// Greater values come first, and of equal ones lesser codes.
+#[test]
+fn order(rt: HostRuntime) {
+    let wanted = [(7000, 200), (10, 100), (30, 100), (2, -50)];
+    for offers in [
+        [(7000, 200), (10, 100), (30, 100), (2, -50)],
+        [(2, -50), (30, 100), (10, 100), (7000, 200)],
+        [(30, 100), (7000, 200), (2, -50), (10, 100)],
+        [(10, 100), (2, -50), (7000, 200), (30, 100)],
+    ] {
+        assert_offered(&rt, 8, &offers, &wanted);
+        assert_offered(&rt, 4, &offers, &wanted);
+        assert_offered(&rt, 3, &offers, &wanted[..3]);
+        assert_offered(&rt, 2, &offers, &wanted[..2]);
+        assert_offered(&rt, 1, &offers, &wanted[..1]);
+    }
+}
+
+// Of nine moves the least one goes, wherever it was offered.
+#[test]
+fn eight_of_nine(rt: HostRuntime) {
+    let wanted = [
+        (9, 30000),
+        (8, 8),
+        (7, 7),
+        (6, 6),
+        (5, 5),
+        (4, 4),
+        (3, 3),
+        (2, 2),
+    ];
+    let offers = [
+        (5, 5),
+        (4, 4),
+        (1, -30016),
+        (6, 6),
+        (3, 3),
+        (7, 7),
+        (2, 2),
+        (8, 8),
+        (9, 30000),
+    ];
+    assert_offered(&rt, 8, &offers, &wanted);
+    assert_offered(&rt, MOST_LINES, &offers, &wanted);
+}
+
+// The best lines of a position, each move searched one ply less deep.
+fn assert_lines(rt: &impl Abort, p: &Position, depth: u8, lines: usize, wanted: &[(u16, i32)])
+    requires shallow { depth ≤ GREATEST_DEPTH }
+    requires deep { 0 < depth }
+    requires least { 1 ≤ lines }
+    requires most { lines ≤ MOST_LINES }
+{
+    let mut ranks = Ranks::new(lines);
+    let mut passed: Option<Move> = None;
+    'moves: while let Some(m) = next_legal(p, passed) {
+        let (visited, offered) = (m, m);
+        let found = search(&apply(p, m), depth - 1, &mut NoMemo);
+        offer(rt, &mut ranks, offered, -found.value);
+        passed = Some(visited);
+    }
+    assert_list(rt, &ranks, wanted);
+}
+
+// All moves of the opening position are worth the same at depth 1: 1g1f and 1i1h have the least codes.
+#[test]
+fn two_lines_of_the_opening(rt: HostRuntime) {
+    assert_lines(&rt, &Position::start(), 1, 2, &[(982, 0), (1310, 0)]);
+}
+
+// Black: a pawn on 5c and a gold in hand, against a king on 5a. G*5b mates; 5c5b+ wins a gold's worth.
+#[test]
+fn a_mate_and_another_line(rt: HostRuntime) -> Result<(), Fail> {
+    let pieces = [
+        (5, 1, Color::White, Role::King),
+        (5, 3, Color::Black, Role::Pawn),
+    ];
+    let p = position(&pieces, &[(Color::Black, Kind::Gold, 1)], Color::Black)?;
+    assert_lines(&rt, &p, 1, 2, &[(13483, 30000), (6231, 1200)]);
+    Ok(())
+}
+
+// White's king on 5a can only step to 4a or 6a, and is mated by the gold in hand: two lines of eight.
+#[test]
+fn fewer_moves_than_lines(rt: HostRuntime) -> Result<(), Fail> {
+    let pieces = [
+        (5, 1, Color::White, Role::King),
+        (5, 3, Color::Black, Role::Gold),
+    ];
+    let p = position(&pieces, &[(Color::Black, Kind::Gold, 1)], Color::White)?;
+    assert_lines(&rt, &p, 1, 8, &[(5886, -1200), (5922, -1200)]);
+    assert_lines(&rt, &p, 2, 8, &[(5886, -30000), (5922, -30000)]);
+    Ok(())
+}
