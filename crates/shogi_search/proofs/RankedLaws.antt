@@ -12,7 +12,8 @@ use Rattle.shogi_core.specs.Position.{Shogi}
 use Rattle.shogi_moves.specs.LegalMoves.{legal_moves}
 use Rattle.shogi_moves.specs.Rising.{is_in, IsRising}
 use Rattle.shogi_moves.proofs.LegalLaws.{legal_rising}
-use Rattle.shogi_search.specs.Minimax.{worth, best_code, lost, greatest, greatest_of}
+use Rattle.shogi_eval.specs.declared.eval.Eval.{Eval}
+use Rattle.shogi_search.specs.Minimax.{worth, best_code, lost_value, greatest, greatest_of}
 use Rattle.shogi_search.proofs.Equal.{same_int_eq, less_int_eq}
 use Rattle.shogi_search.proofs.Greatest.{greatest_above, greatest_least, find_first}
 use Rattle.shogi_search.proofs.MinimaxLaws.{value-above, best_code-above}
@@ -357,7 +358,7 @@ first_at none f (m ∷ ms) (h ∷ rest) r e =
     (λ n i b. (let l : f n <ℤ f h = lesser f h rest o n (moved n ∙ i) b in less_int_eq (f n) (greatest f m ms) (omega (arith, ints)))))
 
 -- the first of the legal moves, ranked, is the best one
-pub best_ranked : (p : Shogi) (d : ℕ) → 0 < d → slice_get (ranked_moves p d) 0 ≡ best_code p d
-best_ranked p d h =
-    first_at (lost d) (worth p (d - 1)) (legal_moves p) (ranked_moves p d) (legal_rising p 0) refl
-    ∙ ap (λ (v : ℤ). find (λ m. int_eq (worth p (d - 1) m) v) (legal_moves p)) (sym (value-above p d h)) ∙ sym (best_code-above p d h)
+pub best_ranked : (p : Shogi) (e : Eval) (d : ℕ) → 0 < d → slice_get (ranked_moves p e d) 0 ≡ best_code p e d
+best_ranked p e d h =
+    first_at (lost_value d) (worth p e (d - 1)) (legal_moves p) (ranked_moves p e d) (legal_rising p 0) refl
+    ∙ ap (λ (v : ℤ). find (λ m. int_eq (worth p e (d - 1) m) v) (legal_moves p)) (sym (value-above p e d h)) ∙ sym (best_code-above p e d h)

@@ -5,6 +5,7 @@ use Rattle.shogi_core.specs.declared.moves.Move.{Move}
 use Rattle.shogi_core.specs.Codes.{code_of}
 use Rattle.shogi_core.specs.Position.{Shogi}
 use Rattle.shogi_moves.specs.LegalMoves.{legal_moves}
+use Rattle.shogi_eval.specs.declared.eval.Eval.{Eval}
 use Rattle.shogi_search.specs.Minimax.{worth}
 
 -- whether a move of worth v and code m stands before one of worth w and code n
@@ -21,9 +22,9 @@ unfoldable pub ranked : (ℕ → ℤ) → List ℕ → List ℕ
 ranked f [] = []
 ranked f (m ∷ ms) = rank_in f m (ranked f ms)
 
--- the codes of the legal moves, ranked by their worth at a depth of at least 1
-abbrev pub ranked_moves : Shogi → ℕ → List ℕ
-ranked_moves p d = ranked (worth p (d - 1)) (legal_moves p)
+-- the codes of the legal moves, ranked by their worth under an evaluation, at a depth of at least 1
+abbrev pub ranked_moves : Shogi → Eval → ℕ → List ℕ
+ranked_moves p e d = ranked (worth p e (d - 1)) (legal_moves p)
 
 -- moves with their values, and how many there are at most
 pub record Ranking : Type 0 where

@@ -10,6 +10,7 @@ ghost use Rattle.shogi_search.specs.declared.ranks.TheConstants.{MOST_LINES};
 use crate::tests::position;
 use crate::{MOST_LINES, NoMemo, Ranks, search};
 use shogi_core::{Color, Kind, Move, Position, Role};
+use shogi_eval::Eval;
 use shogi_moves::{apply, next_legal};
 use std::process::Abort;
 use std::test::Fail;
@@ -112,7 +113,7 @@ fn assert_lines(rt: &impl Abort, p: &Position, depth: u8, lines: usize, wanted: 
     let mut passed: Option<Move> = None;
     'moves: while let Some(m) = next_legal(p, passed) {
         let (visited, offered) = (m, m);
-        let found = search(&apply(p, m), depth - 1, &mut NoMemo);
+        let found = search(&apply(p, m), Eval::Plain, depth - 1, &mut NoMemo);
         offer(rt, &mut ranks, offered, -found.value);
         passed = Some(visited);
     }
