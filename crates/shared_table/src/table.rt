@@ -89,10 +89,7 @@ impl<S: BuildHasher, A: Allocator> SharedTable<S, A> {
     pub fn peek(&self, p: &Position, d: u8) -> Option<Entry>
         ensures { result ≡ entry_of self.now.pairs (key_of p.now d) }
     {
-        let key = TableKey {
-            position: *p,
-            depth: d,
-        };
+        let key = TableKey::of(p, d);
         self.cache.peek(&key).copied()
     }
 
@@ -137,10 +134,7 @@ impl<S: BuildHasher, A: Allocator + Clone> Memo for SharedTable<S, A> {
         if d == 0 && self.leaves == 0 {
             return None;
         }
-        let key = TableKey {
-            position: *p,
-            depth: d,
-        };
+        let key = TableKey::of(p, d);
         recall(&mut self.cache, &key)
     }
 
@@ -150,10 +144,7 @@ impl<S: BuildHasher, A: Allocator + Clone> Memo for SharedTable<S, A> {
         ensures noted { (self.new ≡ record self.old { pairs = noted self.old.capacity (key_of p.now d) entry self.old.pairs })
             ⊎ ((entry_of self.old.pairs (key_of p.now d) ≡ None) × (self.new ≡ self.old)) }
     {
-        let key = TableKey {
-            position: *p,
-            depth: d,
-        };
+        let key = TableKey::of(p, d);
         let leaves = remember(&mut self.cache, self.leaves, key, entry);
         self.leaves = leaves;
     }
@@ -184,7 +175,7 @@ fn remember<S: BuildHasher, A: Allocator + Clone>(
     ensures leaves { result ≡ leaf_count cache.new.entries }
 {
     cache.len();
-    let added = tally(key.depth);
+    let added = tally(&key);
     match cache.push(key, entry) {
         Ok(lost) => leaves + added - leaf(&lost),
         Err(_) => leaves,
@@ -196,14 +187,14 @@ fn leaf(pair: &Option<(TableKey, Entry)>) -> usize
     ensures { result ≡ leaf_of pair.now }
 {
     match pair {
-        Some((key, _)) => tally(key.depth),
+        Some((key, _)) => tally(key),
         None => 0,
     }
 }
 
-// One for a leaf.
-fn tally(depth: u8) -> usize
-    ensures { result ≡ cond (depth == 0) 1 0 }
+// One for a key of depth 0.
+fn tally(key: &TableKey) -> usize
+    ensures { result ≡ cond (key.now.depth == 0) 1 0 }
 {
-    if depth == 0 { 1 } else { 0 }
+    if key.depth() == 0 { 1 } else { 0 }
 }
