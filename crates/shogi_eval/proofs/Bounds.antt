@@ -17,6 +17,8 @@ use Rattle.shogi_core.specs.Position.{Shogi, HandCounts, held}
 use Rattle.shogi_core.specs.Validity.{IsValid, count_of}
 use Rattle.shogi_core.specs.Faultless.{IsFaultless}
 use Rattle.shogi_core.proofs.Faults.{faultless_from}
+use Rattle.shogi_eval.specs.declared.eval.Eval.{Eval}
+use Rattle.shogi_eval.specs.declared.eval.Eval.TheVariants.{Plain, Hand}
 use Rattle.shogi_eval.specs.Material.{points_at, points_on_board, points_in_hand, points_of, material_of}
 
 -- one where the cell holds a piece of the kind
@@ -25,7 +27,7 @@ tally kind cell = cond (is_of_kind kind cell) 1 0
 
 -- a value of each kind that no piece of it passes
 abbrev most : (Kind → ℕ) → ℕ
-most n = 600 * n kinds.Pawn + 600 * n kinds.Lance + 600 * n kinds.Knight + 600 * n kinds.Silver + 600 * n kinds.Gold + 1100 * n kinds.Bishop + 1300 * n kinds.Rook
+most n = 600 * n kinds.Pawn + 600 * n kinds.Lance + 600 * n kinds.Knight + 600 * n kinds.Silver + 660 * n kinds.Gold + 1100 * n kinds.Bishop + 1300 * n kinds.Rook
 
 role_within : (color : Color) (side : Color) (role : Role) → points_at color (Some (record { color = side; role = role })) ≤ most (λ kind. tally kind (Some (record { color = side; role = role })))
 role_within Black Black King = omega arith
@@ -48,19 +50,20 @@ board_within color (cell ∷ cells) =
     let c : (kind : Kind) → count_by (is_of_kind kind) (cell ∷ cells) ≡ tally kind cell + count_by (is_of_kind kind) cells = λ kind. sum_by-cons (tally kind) cell cells in
     omega (arith, c kinds.Pawn, c kinds.Lance, c kinds.Knight, c kinds.Silver, c kinds.Gold, c kinds.Bishop, c kinds.Rook)
 
-hand_within : (hands : HandCounts) (color : Color) → points_in_hand hands color ≤ most (λ kind. held hands color kind)
-hand_within hands color = omega arith
+hand_within : (hands : HandCounts) (e : Eval) (color : Color) → points_in_hand hands e color ≤ most (λ kind. held hands color kind)
+hand_within hands Plain color = omega arith
+hand_within hands Hand color = omega arith
 
 -- a side holds no more of a kind than both do
 side_within : (cells : Cells) (hands : HandCounts) (color : Color) (kind : Kind) → count_by (is_of_kind kind) cells + held hands color kind ≤ count_of kind cells hands
 side_within cells hands Black kind = omega arith
 side_within cells hands White kind = omega arith
 
-faultless_within : (p : Shogi) (color : Color) → IsFaultless p → points_of p color ≤ MOST_POINTS
+faultless_within : (p : Shogi) (e : Eval) (color : Color) → IsFaultless p → points_of p e color ≤ MOST_POINTS
 unfolding points_of
-faultless_within p color h =
+faultless_within p e color h =
     let board : points_on_board p.cells color ≤ most (λ kind. count_by (is_of_kind kind) p.cells) = board_within color p.cells in
-    let hand : points_in_hand p.hands color ≤ most (λ kind. held p.hands color kind) = hand_within p.hands color in
+    let hand : points_in_hand p.hands e color ≤ most (λ kind. held p.hands color kind) = hand_within p.hands e color in
     let s : (kind : Kind) → count_by (is_of_kind kind) p.cells + held p.hands color kind ≤ count_of kind p.cells p.hands = side_within p.cells p.hands color in
     omega (
       arith,
@@ -80,13 +83,13 @@ faultless_within p color h =
       h.counts kinds.Rook,
     )
 
-pub points_within : (p : Shogi) (color : Color) → IsValid p → points_of p color ≤ MOST_POINTS
-points_within p color v = faultless_within p color (faultless_from p v.no_fault)
+pub points_within : (p : Shogi) (e : Eval) (color : Color) → IsValid p → points_of p e color ≤ MOST_POINTS
+points_within p e color v = faultless_within p e color (faultless_from p v.no_fault)
 
 -- the material of a valid position
-pub material_bounds : (p : Shogi) → IsValid p → ((pos 0 -ℤ pos MOST_POINTS) ≤ℤ material_of p) × (material_of p ≤ℤ pos MOST_POINTS)
+pub material_bounds : (p : Shogi) (e : Eval) → IsValid p → ((pos 0 -ℤ pos MOST_POINTS) ≤ℤ material_of p e) × (material_of p e ≤ℤ pos MOST_POINTS)
 unfolding material_of
-material_bounds p v =
-    let own : points_of p p.side ≤ MOST_POINTS = points_within p p.side v in
-    let other : points_of p (opponent_of p.side) ≤ MOST_POINTS = points_within p (opponent_of p.side) v in
+material_bounds p e v =
+    let own : points_of p e p.side ≤ MOST_POINTS = points_within p e p.side v in
+    let other : points_of p e (opponent_of p.side) ≤ MOST_POINTS = points_within p e (opponent_of p.side) v in
     (omega (arith, ints), omega (arith, ints))

@@ -17,14 +17,16 @@ use Rattle.shogi_core.specs.declared.moves.Move.{Move}
 use Rattle.shogi_core.specs.declared.moves.Move.TheVariants.{Board, Drop}
 use Rattle.shogi_core.specs.Cell.{is_piece_of}
 use Rattle.shogi_core.specs.Movement.{piece_at}
-use Rattle.shogi_core.specs.Pieces.{opponent_of, is_same_color, kind_of, promoted}
+use Rattle.shogi_core.specs.Pieces.{opponent_of, is_same_color, kind_of, role_of, promoted}
 use Rattle.shogi_core.specs.Validity.{IsValid}
 use Rattle.shogi_moves.specs.After.{after, moved, dropped, with_one_more, with_captured}
 use Rattle.shogi_moves.specs.Legal.{is_legal}
 use Rattle.shogi_moves.proofs.Keeps.{is_safe_from_legal}
 use Rattle.shogi_moves.proofs.KeepsBoard.{IsSafeBoardMove, safe_board_move}
 use Rattle.shogi_moves.proofs.KeepsDrop.{IsSafeDrop, safe_drop}
-use Rattle.shogi_eval.specs.Material.{points_at, points_in_hand, points_of, material_of, value_of, value_in_hand, value_held, taken_gain, promotion_gain, gain_of}
+use Rattle.shogi_eval.specs.declared.eval.Eval.{Eval}
+use Rattle.shogi_eval.specs.declared.eval.Eval.TheVariants.{Plain, Hand}
+use Rattle.shogi_eval.specs.Material.{points_at, points_in_hand, points_of, material_of, value_of, value_in_hand, value_held, taken_gain, promotion_gain, drop_gain, gain_of}
 
 -- a sum over the cells after a move from a to b
 sum_moved : (f : Option Piece → ℕ) (xs : List (Option Piece)) (a b : ℕ) (v : Option Piece) → f None ≡ 0 → a < length xs → b < length xs → b ≢ a
@@ -37,37 +39,51 @@ sum_moved f xs a b v none ha hb other =
     omega arith
 
 -- a count in hand that is written
-in_hand_set : (hands : HandCounts) (side : Color) (kind : Kind) (n : ℕ) → length hands ≡ 14 → points_in_hand (slice_set hands (place_of side kind) n) side + held hands side kind * value_in_hand kind ≡ points_in_hand hands side + n * value_in_hand kind
-in_hand_set hands Black kinds.Pawn n len = grind (arith, common_steps, get_or-set_same, get_or-set_other)
-in_hand_set hands Black kinds.Lance n len = grind (arith, common_steps, get_or-set_same, get_or-set_other)
-in_hand_set hands Black kinds.Knight n len = grind (arith, common_steps, get_or-set_same, get_or-set_other)
-in_hand_set hands Black kinds.Silver n len = grind (arith, common_steps, get_or-set_same, get_or-set_other)
-in_hand_set hands Black kinds.Gold n len = grind (arith, common_steps, get_or-set_same, get_or-set_other)
-in_hand_set hands Black kinds.Bishop n len = grind (arith, common_steps, get_or-set_same, get_or-set_other)
-in_hand_set hands Black kinds.Rook n len = grind (arith, common_steps, get_or-set_same, get_or-set_other)
-in_hand_set hands White kinds.Pawn n len = grind (arith, common_steps, get_or-set_same, get_or-set_other)
-in_hand_set hands White kinds.Lance n len = grind (arith, common_steps, get_or-set_same, get_or-set_other)
-in_hand_set hands White kinds.Knight n len = grind (arith, common_steps, get_or-set_same, get_or-set_other)
-in_hand_set hands White kinds.Silver n len = grind (arith, common_steps, get_or-set_same, get_or-set_other)
-in_hand_set hands White kinds.Gold n len = grind (arith, common_steps, get_or-set_same, get_or-set_other)
-in_hand_set hands White kinds.Bishop n len = grind (arith, common_steps, get_or-set_same, get_or-set_other)
-in_hand_set hands White kinds.Rook n len = grind (arith, common_steps, get_or-set_same, get_or-set_other)
+in_hand_set : (hands : HandCounts) (eval : Eval) (side : Color) (kind : Kind) (n : ℕ) → length hands ≡ 14 → points_in_hand (slice_set hands (place_of side kind) n) eval side + held hands side kind * value_in_hand eval kind ≡ points_in_hand hands eval side + n * value_in_hand eval kind
+in_hand_set hands Plain Black kinds.Pawn n len = grind (arith, common_steps, get_or-set_same, get_or-set_other)
+in_hand_set hands Plain Black kinds.Lance n len = grind (arith, common_steps, get_or-set_same, get_or-set_other)
+in_hand_set hands Plain Black kinds.Knight n len = grind (arith, common_steps, get_or-set_same, get_or-set_other)
+in_hand_set hands Plain Black kinds.Silver n len = grind (arith, common_steps, get_or-set_same, get_or-set_other)
+in_hand_set hands Plain Black kinds.Gold n len = grind (arith, common_steps, get_or-set_same, get_or-set_other)
+in_hand_set hands Plain Black kinds.Bishop n len = grind (arith, common_steps, get_or-set_same, get_or-set_other)
+in_hand_set hands Plain Black kinds.Rook n len = grind (arith, common_steps, get_or-set_same, get_or-set_other)
+in_hand_set hands Plain White kinds.Pawn n len = grind (arith, common_steps, get_or-set_same, get_or-set_other)
+in_hand_set hands Plain White kinds.Lance n len = grind (arith, common_steps, get_or-set_same, get_or-set_other)
+in_hand_set hands Plain White kinds.Knight n len = grind (arith, common_steps, get_or-set_same, get_or-set_other)
+in_hand_set hands Plain White kinds.Silver n len = grind (arith, common_steps, get_or-set_same, get_or-set_other)
+in_hand_set hands Plain White kinds.Gold n len = grind (arith, common_steps, get_or-set_same, get_or-set_other)
+in_hand_set hands Plain White kinds.Bishop n len = grind (arith, common_steps, get_or-set_same, get_or-set_other)
+in_hand_set hands Plain White kinds.Rook n len = grind (arith, common_steps, get_or-set_same, get_or-set_other)
+in_hand_set hands Hand Black kinds.Pawn n len = grind (arith, common_steps, get_or-set_same, get_or-set_other)
+in_hand_set hands Hand Black kinds.Lance n len = grind (arith, common_steps, get_or-set_same, get_or-set_other)
+in_hand_set hands Hand Black kinds.Knight n len = grind (arith, common_steps, get_or-set_same, get_or-set_other)
+in_hand_set hands Hand Black kinds.Silver n len = grind (arith, common_steps, get_or-set_same, get_or-set_other)
+in_hand_set hands Hand Black kinds.Gold n len = grind (arith, common_steps, get_or-set_same, get_or-set_other)
+in_hand_set hands Hand Black kinds.Bishop n len = grind (arith, common_steps, get_or-set_same, get_or-set_other)
+in_hand_set hands Hand Black kinds.Rook n len = grind (arith, common_steps, get_or-set_same, get_or-set_other)
+in_hand_set hands Hand White kinds.Pawn n len = grind (arith, common_steps, get_or-set_same, get_or-set_other)
+in_hand_set hands Hand White kinds.Lance n len = grind (arith, common_steps, get_or-set_same, get_or-set_other)
+in_hand_set hands Hand White kinds.Knight n len = grind (arith, common_steps, get_or-set_same, get_or-set_other)
+in_hand_set hands Hand White kinds.Silver n len = grind (arith, common_steps, get_or-set_same, get_or-set_other)
+in_hand_set hands Hand White kinds.Gold n len = grind (arith, common_steps, get_or-set_same, get_or-set_other)
+in_hand_set hands Hand White kinds.Bishop n len = grind (arith, common_steps, get_or-set_same, get_or-set_other)
+in_hand_set hands Hand White kinds.Rook n len = grind (arith, common_steps, get_or-set_same, get_or-set_other)
 
-in_hand_other : (hands : HandCounts) (side : Color) (kind : Kind) (n : ℕ) → points_in_hand (slice_set hands (place_of side kind) n) (opponent_of side) ≡ points_in_hand hands (opponent_of side)
-in_hand_other hands Black kinds.Pawn n = grind (arith, common_steps, get_or-set_other)
-in_hand_other hands Black kinds.Lance n = grind (arith, common_steps, get_or-set_other)
-in_hand_other hands Black kinds.Knight n = grind (arith, common_steps, get_or-set_other)
-in_hand_other hands Black kinds.Silver n = grind (arith, common_steps, get_or-set_other)
-in_hand_other hands Black kinds.Gold n = grind (arith, common_steps, get_or-set_other)
-in_hand_other hands Black kinds.Bishop n = grind (arith, common_steps, get_or-set_other)
-in_hand_other hands Black kinds.Rook n = grind (arith, common_steps, get_or-set_other)
-in_hand_other hands White kinds.Pawn n = grind (arith, common_steps, get_or-set_other)
-in_hand_other hands White kinds.Lance n = grind (arith, common_steps, get_or-set_other)
-in_hand_other hands White kinds.Knight n = grind (arith, common_steps, get_or-set_other)
-in_hand_other hands White kinds.Silver n = grind (arith, common_steps, get_or-set_other)
-in_hand_other hands White kinds.Gold n = grind (arith, common_steps, get_or-set_other)
-in_hand_other hands White kinds.Bishop n = grind (arith, common_steps, get_or-set_other)
-in_hand_other hands White kinds.Rook n = grind (arith, common_steps, get_or-set_other)
+in_hand_other : (hands : HandCounts) (eval : Eval) (side : Color) (kind : Kind) (n : ℕ) → points_in_hand (slice_set hands (place_of side kind) n) eval (opponent_of side) ≡ points_in_hand hands eval (opponent_of side)
+in_hand_other hands eval Black kinds.Pawn n = grind (arith, common_steps, get_or-set_other)
+in_hand_other hands eval Black kinds.Lance n = grind (arith, common_steps, get_or-set_other)
+in_hand_other hands eval Black kinds.Knight n = grind (arith, common_steps, get_or-set_other)
+in_hand_other hands eval Black kinds.Silver n = grind (arith, common_steps, get_or-set_other)
+in_hand_other hands eval Black kinds.Gold n = grind (arith, common_steps, get_or-set_other)
+in_hand_other hands eval Black kinds.Bishop n = grind (arith, common_steps, get_or-set_other)
+in_hand_other hands eval Black kinds.Rook n = grind (arith, common_steps, get_or-set_other)
+in_hand_other hands eval White kinds.Pawn n = grind (arith, common_steps, get_or-set_other)
+in_hand_other hands eval White kinds.Lance n = grind (arith, common_steps, get_or-set_other)
+in_hand_other hands eval White kinds.Knight n = grind (arith, common_steps, get_or-set_other)
+in_hand_other hands eval White kinds.Silver n = grind (arith, common_steps, get_or-set_other)
+in_hand_other hands eval White kinds.Gold n = grind (arith, common_steps, get_or-set_other)
+in_hand_other hands eval White kinds.Bishop n = grind (arith, common_steps, get_or-set_other)
+in_hand_other hands eval White kinds.Rook n = grind (arith, common_steps, get_or-set_other)
 
 same_other : (s c : Color) → is_same_color s c ≡ true → is_same_color (opponent_of s) c ≡ false
 same_other Black Black e = refl
@@ -95,13 +111,13 @@ points_there None = 0
 points_there (Some piece) = value_of piece.role
 
 -- what its capture brings to hand
-abbrev captured_gain : Option Piece → ℕ
-captured_gain None = 0
-captured_gain (Some piece) = value_held (kind_of piece.role)
+abbrev captured_gain : Eval → Option Piece → ℕ
+captured_gain eval None = 0
+captured_gain eval (Some piece) = value_held eval (kind_of piece.role)
 
-taken_parts : (cell : Option Piece) → taken_gain cell ≡ points_there cell + captured_gain cell
-taken_parts None = refl
-taken_parts (Some piece) = refl
+taken_parts : (eval : Eval) (cell : Option Piece) → taken_gain eval cell ≡ points_there cell + captured_gain eval cell
+taken_parts eval None = refl
+taken_parts eval (Some piece) = refl
 
 own_other : (s : Color) (cell : Option Piece) → is_piece_of s cell ≡ true → points_at (opponent_of s) cell ≡ 0
 own_other s None e = cc
@@ -133,42 +149,42 @@ moved_other : (s : Color) (promote : Bool) (cell : Option Piece) → is_piece_of
 moved_other s promote None e = cc
 moved_other s promote (Some piece) e = cond-false _ _ _ (same_other s piece.color e)
 
-one_more_own : (hands : HandCounts) (s : Color) (kind : Option Kind) → length hands ≡ 14 → points_in_hand (with_one_more hands s kind) s ≡ points_in_hand hands s + value_held kind
-one_more_own hands s None len = omega arith
-one_more_own hands s (Some kind) len = omega (arith, in_hand_set hands s kind (held hands s kind + 1) len)
+one_more_own : (hands : HandCounts) (eval : Eval) (s : Color) (kind : Option Kind) → length hands ≡ 14 → points_in_hand (with_one_more hands s kind) eval s ≡ points_in_hand hands eval s + value_held eval kind
+one_more_own hands eval s None len = omega arith
+one_more_own hands eval s (Some kind) len = omega (arith, in_hand_set hands eval s kind (held hands s kind + 1) len)
 
-one_more_other : (hands : HandCounts) (s : Color) (kind : Option Kind) → points_in_hand (with_one_more hands s kind) (opponent_of s) ≡ points_in_hand hands (opponent_of s)
-one_more_other hands s None = refl
-one_more_other hands s (Some kind) = in_hand_other hands s kind (held hands s kind + 1)
+one_more_other : (hands : HandCounts) (eval : Eval) (s : Color) (kind : Option Kind) → points_in_hand (with_one_more hands s kind) eval (opponent_of s) ≡ points_in_hand hands eval (opponent_of s)
+one_more_other hands eval s None = refl
+one_more_other hands eval s (Some kind) = in_hand_other hands eval s kind (held hands s kind + 1)
 
-captured_own : (hands : HandCounts) (s : Color) (cell : Option Piece) → length hands ≡ 14 → points_in_hand (with_captured hands s cell) s ≡ points_in_hand hands s + captured_gain cell
-captured_own hands s None len = omega arith
-captured_own hands s (Some piece) len = one_more_own hands s (kind_of piece.role) len
+captured_own : (hands : HandCounts) (eval : Eval) (s : Color) (cell : Option Piece) → length hands ≡ 14 → points_in_hand (with_captured hands s cell) eval s ≡ points_in_hand hands eval s + captured_gain eval cell
+captured_own hands eval s None len = omega arith
+captured_own hands eval s (Some piece) len = one_more_own hands eval s (kind_of piece.role) len
 
-captured_other : (hands : HandCounts) (s : Color) (cell : Option Piece) → points_in_hand (with_captured hands s cell) (opponent_of s) ≡ points_in_hand hands (opponent_of s)
-captured_other hands s None = refl
-captured_other hands s (Some piece) = one_more_other hands s (kind_of piece.role)
+captured_other : (hands : HandCounts) (eval : Eval) (s : Color) (cell : Option Piece) → points_in_hand (with_captured hands s cell) eval (opponent_of s) ≡ points_in_hand hands eval (opponent_of s)
+captured_other hands eval s None = refl
+captured_other hands eval s (Some piece) = one_more_other hands eval s (kind_of piece.role)
 
-board_own : (p : Shogi) (from to : ℕ) (promote : Bool) → IsValid p → from < 81 → to < 81 → to ≢ from → IsSafeBoardMove p from to promote
-    → points_of (after p (Board from to promote)) p.side ≡ points_of p p.side + captured_gain (piece_at p.cells to) + promotion_gain promote (piece_at p.cells from)
+board_own : (p : Shogi) (eval : Eval) (from to : ℕ) (promote : Bool) → IsValid p → from < 81 → to < 81 → to ≢ from → IsSafeBoardMove p from to promote
+    → points_of (after p (Board from to promote)) eval p.side ≡ points_of p eval p.side + captured_gain eval (piece_at p.cells to) + promotion_gain promote (piece_at p.cells from)
 unfolding points_of
-board_own p from to promote v f t ne safe =
+board_own p eval from to promote v f t ne safe =
     let a : from < length p.cells = omega (arith, v.cells_fit) in
     let b : to < length p.cells = omega (arith, v.cells_fit) in
     let board : _ = sum_moved (points_at p.side) p.cells from to (moved promote (piece_at p.cells from)) refl a b ne in
-    let hand : _ = captured_own p.hands p.side (piece_at p.cells to) v.hands_fit in
+    let hand : _ = captured_own p.hands eval p.side (piece_at p.cells to) v.hands_fit in
     let now : points_at p.side (moved promote (piece_at p.cells from)) ≡ points_at p.side (piece_at p.cells from) + promotion_gain promote (piece_at p.cells from) = moved_own p.side promote (piece_at p.cells from) safe.own in
     let none : points_at p.side (piece_at p.cells to) ≡ 0 = free_own p.side (piece_at p.cells to) safe.free in
     omega (arith, board, hand)
 
-board_other : (p : Shogi) (from to : ℕ) (promote : Bool) → IsValid p → from < 81 → to < 81 → to ≢ from → IsSafeBoardMove p from to promote
-    → points_of (after p (Board from to promote)) (opponent_of p.side) + points_there (piece_at p.cells to) ≡ points_of p (opponent_of p.side)
+board_other : (p : Shogi) (eval : Eval) (from to : ℕ) (promote : Bool) → IsValid p → from < 81 → to < 81 → to ≢ from → IsSafeBoardMove p from to promote
+    → points_of (after p (Board from to promote)) eval (opponent_of p.side) + points_there (piece_at p.cells to) ≡ points_of p eval (opponent_of p.side)
 unfolding points_of
-board_other p from to promote v f t ne safe =
+board_other p eval from to promote v f t ne safe =
     let a : from < length p.cells = omega (arith, v.cells_fit) in
     let b : to < length p.cells = omega (arith, v.cells_fit) in
     let board : _ = sum_moved (points_at (opponent_of p.side)) p.cells from to (moved promote (piece_at p.cells from)) refl a b ne in
-    let hand : _ = captured_other p.hands p.side (piece_at p.cells to) in
+    let hand : _ = captured_other p.hands eval p.side (piece_at p.cells to) in
     let now : points_at (opponent_of p.side) (moved promote (piece_at p.cells from)) ≡ 0 = moved_other p.side promote (piece_at p.cells from) safe.own in
     let left : points_at (opponent_of p.side) (piece_at p.cells from) ≡ 0 = own_other p.side (piece_at p.cells from) safe.own in
     let taken : points_at (opponent_of p.side) (piece_at p.cells to) ≡ points_there (piece_at p.cells to) = free_other p.side (piece_at p.cells to) safe.free in
@@ -178,57 +194,57 @@ apart : (p : Shogi) (from to : ℕ) (promote : Bool) → IsSafeBoardMove p from 
 apart p from to promote safe e = both_ways (is_piece_of p.side (piece_at p.cells from)) (subst (λ (x : ℕ). is_piece_of p.side (piece_at p.cells x) ≡ false) e safe.free) safe.own
 
 -- the material after a move on the board, from the other side
-pub material_after_board : (p : Shogi) (from to : ℕ) (promote : Bool) → IsValid p → from < 81 → to < 81 → is_legal p (Board from to promote) ≡ true
-    → material_of (after p (Board from to promote)) ≡ pos 0 -ℤ (material_of p +ℤ pos (gain_of p (Board from to promote)))
+pub material_after_board : (p : Shogi) (eval : Eval) (from to : ℕ) (promote : Bool) → IsValid p → from < 81 → to < 81 → is_legal p (Board from to promote) ≡ true
+    → material_of (after p (Board from to promote)) eval ≡ pos 0 -ℤ (material_of p eval +ℤ gain_of p eval (Board from to promote))
 unfolding material_of
-material_after_board p from to promote v f t l =
+material_after_board p eval from to promote v f t l =
     let safe : IsSafeBoardMove p from to promote = safe_board_move p from to promote (is_safe_from_legal p (Board from to promote) l) in
     let ne : to ≢ from = apart p from to promote safe in
-    let own : _ = board_own p from to promote v f t ne safe in
-    let other : _ = board_other p from to promote v f t ne safe in
-    let twice : points_of (after p (Board from to promote)) (opponent_of (opponent_of p.side)) ≡ points_of (after p (Board from to promote)) p.side = ap (points_of (after p (Board from to promote))) (opponent_twice p.side) in
-    let parts : taken_gain (piece_at p.cells to) ≡ points_there (piece_at p.cells to) + captured_gain (piece_at p.cells to) = taken_parts (piece_at p.cells to) in
+    let own : _ = board_own p eval from to promote v f t ne safe in
+    let other : _ = board_other p eval from to promote v f t ne safe in
+    let twice : points_of (after p (Board from to promote)) eval (opponent_of (opponent_of p.side)) ≡ points_of (after p (Board from to promote)) eval p.side = ap (points_of (after p (Board from to promote)) eval) (opponent_twice p.side) in
+    let parts : taken_gain eval (piece_at p.cells to) ≡ points_there (piece_at p.cells to) + captured_gain eval (piece_at p.cells to) = taken_parts eval (piece_at p.cells to) in
     omega (arith, ints, own, other)
 
 one_less : (h n v : ℕ) → 1 ≤ h → n ≡ h - 1 → h * v ≡ n * v + v
 one_less h n v l e = let s : h ≡ n + 1 = omega arith in rw s (omega arith)
 
-drop_own : (p : Shogi) (kind : Kind) (to : ℕ) → IsValid p → to < 81 → 0 < held p.hands p.side kind → piece_at p.cells to ≡ None → points_of (after p (Drop kind to)) p.side ≡ points_of p p.side
+drop_own : (p : Shogi) (eval : Eval) (kind : Kind) (to : ℕ) → IsValid p → to < 81 → 0 < held p.hands p.side kind → piece_at p.cells to ≡ None → points_of (after p (Drop kind to)) eval p.side + value_in_hand eval kind ≡ points_of p eval p.side + value_of (role_of kind)
 unfolding points_of
-drop_own p kind to v t h e =
+drop_own p eval kind to v t h e =
     let b : to < length p.cells = omega (arith, v.cells_fit) in
     let board : _ = sum_by-set (points_at p.side) p.cells to (dropped p.side kind) None b in
-    let hand : _ = in_hand_set p.hands p.side kind (held p.hands p.side kind - 1) v.hands_fit in
-    let less : held p.hands p.side kind * value_in_hand kind ≡ (held p.hands p.side kind - 1) * value_in_hand kind + value_in_hand kind = one_less (held p.hands p.side kind) (held p.hands p.side kind - 1) (value_in_hand kind) (omega arith) refl in
+    let hand : _ = in_hand_set p.hands eval p.side kind (held p.hands p.side kind - 1) v.hands_fit in
+    let less : held p.hands p.side kind * value_in_hand eval kind ≡ (held p.hands p.side kind - 1) * value_in_hand eval kind + value_in_hand eval kind = one_less (held p.hands p.side kind) (held p.hands p.side kind - 1) (value_in_hand eval kind) (omega arith) refl in
     let empty : points_at p.side (piece_at p.cells to) ≡ 0 = ap (points_at p.side) e in
-    let there : points_at p.side (dropped p.side kind) ≡ value_in_hand kind = cond-true _ _ _ (same_itself p.side) in
+    let there : points_at p.side (dropped p.side kind) ≡ value_of (role_of kind) = cond-true _ _ _ (same_itself p.side) in
     omega (arith, board, hand)
 
-drop_other : (p : Shogi) (kind : Kind) (to : ℕ) → IsValid p → to < 81 → piece_at p.cells to ≡ None → points_of (after p (Drop kind to)) (opponent_of p.side) ≡ points_of p (opponent_of p.side)
+drop_other : (p : Shogi) (eval : Eval) (kind : Kind) (to : ℕ) → IsValid p → to < 81 → piece_at p.cells to ≡ None → points_of (after p (Drop kind to)) eval (opponent_of p.side) ≡ points_of p eval (opponent_of p.side)
 unfolding points_of
-drop_other p kind to v t e =
+drop_other p eval kind to v t e =
     let b : to < length p.cells = omega (arith, v.cells_fit) in
     let board : _ = sum_by-set (points_at (opponent_of p.side)) p.cells to (dropped p.side kind) None b in
-    let hand : _ = in_hand_other p.hands p.side kind (held p.hands p.side kind - 1) in
+    let hand : _ = in_hand_other p.hands eval p.side kind (held p.hands p.side kind - 1) in
     let empty : points_at (opponent_of p.side) (piece_at p.cells to) ≡ 0 = ap (points_at (opponent_of p.side)) e in
     let there : points_at (opponent_of p.side) (dropped p.side kind) ≡ 0 = cond-false _ _ _ (same_other p.side p.side (same_itself p.side)) in
     omega (arith, board, hand)
 
 -- the material after a drop, from the other side
-pub material_after_drop : (p : Shogi) (kind : Kind) (to : ℕ) → IsValid p → to < 81 → is_legal p (Drop kind to) ≡ true
-    → material_of (after p (Drop kind to)) ≡ pos 0 -ℤ material_of p
+pub material_after_drop : (p : Shogi) (eval : Eval) (kind : Kind) (to : ℕ) → IsValid p → to < 81 → is_legal p (Drop kind to) ≡ true
+    → material_of (after p (Drop kind to)) eval ≡ pos 0 -ℤ (material_of p eval +ℤ gain_of p eval (Drop kind to))
 unfolding material_of
-material_after_drop p kind to v t l =
+material_after_drop p eval kind to v t l =
     let safe : IsSafeDrop p kind to = safe_drop p kind to (is_safe_from_legal p (Drop kind to) l) in
-    let own : _ = drop_own p kind to v t safe.held_one safe.free in
-    let other : _ = drop_other p kind to v t safe.free in
-    let twice : points_of (after p (Drop kind to)) (opponent_of (opponent_of p.side)) ≡ points_of (after p (Drop kind to)) p.side = ap (points_of (after p (Drop kind to))) (opponent_twice p.side) in
+    let own : _ = drop_own p eval kind to v t safe.held_one safe.free in
+    let other : _ = drop_other p eval kind to v t safe.free in
+    let twice : points_of (after p (Drop kind to)) eval (opponent_of (opponent_of p.side)) ≡ points_of (after p (Drop kind to)) eval p.side = ap (points_of (after p (Drop kind to)) eval) (opponent_twice p.side) in
     omega (arith, ints, own, other)
 
 -- the same of a move that is one of them
-pub material_at_board : (p : Shogi) (m : Move) (from to : ℕ) (promote : Bool) → m ≡ Board from to promote → IsValid p → from < 81 → to < 81 → is_legal p m ≡ true
-    → material_of (after p m) ≡ pos 0 -ℤ (material_of p +ℤ pos (taken_gain (piece_at p.cells to) + promotion_gain promote (piece_at p.cells from)))
-material_at_board p m from to promote e v f t l = subst (λ (x : Move). is_legal p x ≡ true → material_of (after p x) ≡ pos 0 -ℤ (material_of p +ℤ pos (taken_gain (piece_at p.cells to) + promotion_gain promote (piece_at p.cells from)))) (sym e) (material_after_board p from to promote v f t) l
+pub material_at_board : (p : Shogi) (eval : Eval) (m : Move) (from to : ℕ) (promote : Bool) → m ≡ Board from to promote → IsValid p → from < 81 → to < 81 → is_legal p m ≡ true
+    → material_of (after p m) eval ≡ pos 0 -ℤ (material_of p eval +ℤ pos (taken_gain eval (piece_at p.cells to) + promotion_gain promote (piece_at p.cells from)))
+material_at_board p eval m from to promote e v f t l = subst (λ (x : Move). is_legal p x ≡ true → material_of (after p x) eval ≡ pos 0 -ℤ (material_of p eval +ℤ pos (taken_gain eval (piece_at p.cells to) + promotion_gain promote (piece_at p.cells from)))) (sym e) (material_after_board p eval from to promote v f t) l
 
-pub material_at_drop : (p : Shogi) (m : Move) (kind : Kind) (to : ℕ) → m ≡ Drop kind to → IsValid p → to < 81 → is_legal p m ≡ true → material_of (after p m) ≡ pos 0 -ℤ material_of p
-material_at_drop p m kind to e v t l = subst (λ (x : Move). is_legal p x ≡ true → material_of (after p x) ≡ pos 0 -ℤ material_of p) (sym e) (material_after_drop p kind to v t) l
+pub material_at_drop : (p : Shogi) (eval : Eval) (m : Move) (kind : Kind) (to : ℕ) → m ≡ Drop kind to → IsValid p → to < 81 → is_legal p m ≡ true → material_of (after p m) eval ≡ pos 0 -ℤ (material_of p eval +ℤ drop_gain eval kind)
+material_at_drop p eval m kind to e v t l = subst (λ (x : Move). is_legal p x ≡ true → material_of (after p x) eval ≡ pos 0 -ℤ (material_of p eval +ℤ drop_gain eval kind)) (sym e) (material_after_drop p eval kind to v t) l

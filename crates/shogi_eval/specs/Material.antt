@@ -2,6 +2,7 @@
 use Rattle.std.specs.Prelude.{ℕ, ℤ, pos, ◌-ℤ◌, ◌+◌, ◌*◌, ◌-◌, Bool, Option, Some, None, cond, sum_by}
 use Rattle.shogi_core.specs.declared.piece.Color.{Color}
 use Rattle.shogi_core.specs.declared.piece.Kind.{Kind}
+use Rattle.shogi_core.specs.declared.piece.Kind.TheVariants as kinds
 use Rattle.shogi_core.specs.declared.piece.Role.{Role}
 use Rattle.shogi_core.specs.declared.piece.Role.TheVariants.{King, Pawn, Lance, Knight, Silver, Gold, Bishop, Rook, PromotedPawn, PromotedLance, PromotedKnight, PromotedSilver, Horse, Dragon}
 use Rattle.shogi_core.specs.declared.piece.Piece.{Piece}
@@ -10,6 +11,8 @@ use Rattle.shogi_core.specs.declared.moves.Move.TheVariants.{Board, Drop}
 use Rattle.shogi_core.specs.Movement.{Cells, piece_at}
 use Rattle.shogi_core.specs.Pieces.{all_kinds, opponent_of, is_same_color, role_of, kind_of, promoted}
 use Rattle.shogi_core.specs.Position.{Shogi, HandCounts, held}
+use Rattle.shogi_eval.specs.declared.eval.Eval.{Eval}
+use Rattle.shogi_eval.specs.declared.eval.Eval.TheVariants.{Plain, Hand}
 
 -- what a piece on the board is worth
 abbrev pub value_of : Role → ℕ
@@ -28,9 +31,16 @@ value_of PromotedSilver = 600
 value_of Horse = 1100
 value_of Dragon = 1300
 
--- a piece in hand has the value of its unpromoted role
-abbrev pub value_in_hand : Kind → ℕ
-value_in_hand kind = value_of (role_of kind)
+-- what a piece in hand is worth: what it is on the board, or a tenth more
+abbrev pub value_in_hand : Eval → Kind → ℕ
+value_in_hand Plain kind = value_of (role_of kind)
+value_in_hand Hand kinds.Pawn = 110
+value_in_hand Hand kinds.Lance = 330
+value_in_hand Hand kinds.Knight = 440
+value_in_hand Hand kinds.Silver = 550
+value_in_hand Hand kinds.Gold = 660
+value_in_hand Hand kinds.Bishop = 880
+value_in_hand Hand kinds.Rook = 1100
 
 -- what stands on a square, if it is the side's
 abbrev pub points_at : Color → Option Piece → ℕ
@@ -42,37 +52,41 @@ abbrev pub points_on_board : Cells → Color → ℕ
 points_on_board cells color = sum_by (points_at color) cells
 
 -- what the side holds of a kind
-abbrev pub points_held : HandCounts → Color → Kind → ℕ
-points_held hands color kind = held hands color kind * value_in_hand kind
+abbrev pub points_held : HandCounts → Eval → Color → Kind → ℕ
+points_held hands e color kind = held hands color kind * value_in_hand e kind
 
 -- the side's pieces in hand
-abbrev pub points_in_hand : HandCounts → Color → ℕ
-points_in_hand hands color = sum_by (points_held hands color) all_kinds
+abbrev pub points_in_hand : HandCounts → Eval → Color → ℕ
+points_in_hand hands e color = sum_by (points_held hands e color) all_kinds
 
 -- all that the side has
-unfoldable pub points_of : Shogi → Color → ℕ
-points_of p color = points_on_board p.cells color + points_in_hand p.hands color
+unfoldable pub points_of : Shogi → Eval → Color → ℕ
+points_of p e color = points_on_board p.cells color + points_in_hand p.hands e color
 
 -- what the side to move has, less what the other side has
-unfoldable pub material_of : Shogi → ℤ
-material_of p = pos (points_of p p.side) -ℤ pos (points_of p (opponent_of p.side))
+unfoldable pub material_of : Shogi → Eval → ℤ
+material_of p e = pos (points_of p e p.side) -ℤ pos (points_of p e (opponent_of p.side))
 
 -- what a captured piece adds to the captor's hand
-abbrev pub value_held : Option Kind → ℕ
-value_held None = 0
-value_held (Some kind) = value_in_hand kind
+abbrev pub value_held : Eval → Option Kind → ℕ
+value_held e None = 0
+value_held e (Some kind) = value_in_hand e kind
 
 -- what a capture gains: the piece is lost to its side and comes to hand
-abbrev pub taken_gain : Option Piece → ℕ
-taken_gain None = 0
-taken_gain (Some piece) = value_of piece.role + value_held (kind_of piece.role)
+abbrev pub taken_gain : Eval → Option Piece → ℕ
+taken_gain e None = 0
+taken_gain e (Some piece) = value_of piece.role + value_held e (kind_of piece.role)
 
 -- what a promotion gains
 abbrev pub promotion_gain : Bool → Option Piece → ℕ
 promotion_gain promote None = 0
 promotion_gain promote (Some piece) = cond promote (value_of (promoted piece.role) - value_of piece.role) 0
 
+-- what a drop gains: the piece leaves the hand and stands on the board
+abbrev pub drop_gain : Eval → Kind → ℤ
+drop_gain e kind = pos (value_of (role_of kind)) -ℤ pos (value_in_hand e kind)
+
 -- what a move gains for its side
-abbrev pub gain_of : Shogi → Move → ℕ
-gain_of p (Board from to promote) = taken_gain (piece_at p.cells to) + promotion_gain promote (piece_at p.cells from)
-gain_of p (Drop kind to) = 0
+abbrev pub gain_of : Shogi → Eval → Move → ℤ
+gain_of p e (Board from to promote) = pos (taken_gain e (piece_at p.cells to) + promotion_gain promote (piece_at p.cells from))
+gain_of p e (Drop kind to) = drop_gain e kind

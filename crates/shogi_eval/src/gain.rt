@@ -1,33 +1,34 @@
 //! What a move does to the material.
 
-ghost use Rattle.std.specs.Prelude.{◌≡◌, ◌≤◌, ◌*◌, true};
+ghost use Rattle.std.specs.Prelude.{◌≡◌, ◌≤◌, ◌*◌, ◌≤ℤ◌, ◌-ℤ◌, pos, true};
 ghost use Rattle.shogi_eval.specs.declared.points.TheConstants.{MOST_VALUE};
 ghost use Rattle.shogi_moves.specs.After.{after};
 ghost use Rattle.shogi_moves.specs.Legal.{is_legal};
-ghost use Rattle.shogi_eval.specs.Material.{material_of, value_held, taken_gain, promotion_gain};
+ghost use Rattle.shogi_eval.specs.Material.{material_of, value_held, taken_gain, promotion_gain, drop_gain};
 
-use crate::points::value_of;
+use crate::eval::Eval;
+use crate::points::{value_in_hand, value_of};
 use shogi_core::{Kind, Move, Piece, Position, Role};
 
 /// What a captured piece adds to the captor's hand.
-fn value_held(kind: Option<Kind>) -> u32
-    ensures value { result ≡ value_held kind }
+fn value_held(e: Eval, kind: Option<Kind>) -> u32
+    ensures value { result ≡ value_held e kind }
     ensures range { result ≤ MOST_VALUE }
 {
     match kind {
         None => 0,
-        Some(kind) => value_of(Role::from(kind)),
+        Some(kind) => value_in_hand(e, kind),
     }
 }
 
 /// What a capture gains: the piece is lost to its side and comes to hand.
-fn taken_gain(cell: Option<Piece>) -> u32
-    ensures value { result ≡ taken_gain cell }
+fn taken_gain(e: Eval, cell: Option<Piece>) -> u32
+    ensures value { result ≡ taken_gain e cell }
     ensures range { result ≤ 2 * MOST_VALUE }
 {
     match cell {
         None => 0,
-        Some(piece) => value_of(piece.role) + value_held(piece.role.kind()),
+        Some(piece) => value_of(piece.role) + value_held(e, piece.role.kind()),
     }
 }
 
@@ -48,23 +49,35 @@ fn promotion_gain(cell: Option<Piece>, promote: bool) -> u32
     }
 }
 
+/// What a drop gains: the piece leaves the hand and stands on the board.
+fn drop_gain(e: Eval, kind: Kind) -> i32
+    ensures value { result ≡ drop_gain e kind }
+    ensures least { (pos 0 -ℤ pos MOST_VALUE) ≤ℤ result }
+    ensures most { result ≤ℤ pos MOST_VALUE }
+{
+    match e {
+        Eval::Plain => 0,
+        Eval::Hand => value_of(Role::from(kind)) as i32 - value_in_hand(e, kind) as i32,
+    }
+}
+
 /// The material after a legal move, from the side that is to move then.
-pub fn score_after(p: &Position, score: i32, m: &Move) -> i32
+pub fn score_after(p: &Position, e: Eval, score: i32, m: &Move) -> i32
     requires legal { is_legal p.now m.now ≡ true }
-    requires score { score ≡ material_of p.now }
-    ensures { result ≡ material_of (after p.now m.now) }
+    requires score { score ≡ material_of p.now e }
+    ensures { result ≡ material_of (after p.now m.now) e }
 {
     p.validity();
     match m {
         Move::Board { from, to, promote } => {
             from.validity();
             to.validity();
-            let gain = taken_gain(p.at(*to)) + promotion_gain(p.at(*from), *promote);
+            let gain = taken_gain(e, p.at(*to)) + promotion_gain(p.at(*from), *promote);
             0 - (score + gain as i32)
         }
-        Move::Drop { to, .. } => {
+        Move::Drop { kind, to } => {
             to.validity();
-            0 - score
+            0 - (score + drop_gain(e, *kind))
         }
     }
 }

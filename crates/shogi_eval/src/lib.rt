@@ -1,10 +1,12 @@
 //! What a position is worth by its material.
 #![tactic(auto)]
 
+mod eval;
 mod gain;
 mod node;
 mod points;
 
+pub use eval::Eval;
 pub use node::Node;
 pub use points::{MOST_POINTS, material};
 

@@ -9,96 +9,114 @@ ghost use Rattle.shogi_moves.specs.After.{after, after_code};
 ghost use Rattle.shogi_moves.specs.Legal.{is_legal};
 ghost use Rattle.shogi_eval.specs.Material.{material_of};
 
+use crate::eval::Eval;
 use crate::gain::score_after;
 use crate::points::material;
 use shogi_core::{Move, Position};
 use shogi_moves::apply;
 use std::marker::Model;
 
-/// A position with its material, which changes with each move that is played, seen as the position
-/// alone.
+/// A position with its material by an evaluation, which changes with each move that is played, seen
+/// as the position and the evaluation.
 #[derive(Clone, Copy, Debug)]
 pub struct Node {
     position: Position,
+    eval: Eval,
     score: i32,
 }
 
 impl Model for Node {
     ghost use Rattle.std.specs.Prelude.{◌≡◌, ℤ};
     ghost use Rattle.std.proofs.Common.{ap, sym};
-    ghost use Rattle.shogi_core.specs.Position.{Shogi};
+    ghost use Rattle.shogi_eval.specs.Evaluated.{Evaluated};
     ghost use Rattle.shogi_eval.specs.Material.{material_of};
 
-    ghost Value = { Shogi };
+    ghost Value = { Evaluated };
 
-    ghost view = { λ n. n.position };
+    ghost view = { λ n. record { position = n.position; eval = n.eval } };
 
-    ghost invariant = { λ n. n.score ≡ material_of n.position };
+    ghost invariant = { λ n. n.score ≡ material_of n.position n.eval };
 
-    ghost inverse = { λ p. record { position = p; score = material_of p } };
+    ghost inverse = { λ v. record { position = v.position; eval = v.eval; score = material_of v.position v.eval } };
 
-    ghost inverse_ok = { λ n h. ap (λ (s : ℤ). record { position = n.position; score = s }) (sym h) };
+    ghost inverse_ok = { λ n h. ap (λ (s : ℤ). record { position = n.position; eval = n.eval; score = s }) (sym h) };
 }
 
 impl Node {
-    /// The node of a position.
-    pub fn of(position: Position) -> Node
-        ensures { result ≡ position }
+    /// The node of a position, under an evaluation.
+    pub fn of(position: Position, e: Eval) -> Node
+        ensures position { result.position ≡ position }
+        ensures eval { result.eval ≡ e }
     {
-        let score = material(&position);
-        Node { position, score }
+        let score = material(&position, e);
+        Node {
+            position,
+            eval: e,
+            score,
+        }
     }
 
     /// The node of the opening position, whose sides have the same.
     #[tactic(auto, using(crate::proofs::Opening::start_even))]
-    pub fn start() -> Node
-        ensures { result ≡ start }
+    pub fn start(e: Eval) -> Node
+        ensures position { result.position ≡ start }
+        ensures eval { result.eval ≡ e }
     {
         Node {
             position: Position::start(),
+            eval: e,
             score: 0,
         }
     }
 
     /// The position.
     pub fn position(&self) -> Position
-        ensures { result ≡ self.now }
+        ensures { result ≡ self.now.position }
     {
         self.position
     }
 
     /// The position, where it stands.
     pub fn as_position(&self) -> &Position
-        ensures { result.now ≡ self.now }
+        ensures { result.now ≡ self.now.position }
     {
         &self.position
     }
 
-    /// The node after a legal move.
-    pub fn play(&self, m: Move) -> Node
-        requires { is_legal self.now m ≡ true }
-        ensures after { result ≡ after self.now m }
-        ensures by_code { result ≡ after_code self.now (code_of m) }
-        ensures valid { IsValid (after self.now m) }
+    /// The evaluation.
+    pub fn eval(&self) -> Eval
+        ensures { result ≡ self.now.eval }
     {
-        let score = score_after(&self.position, self.score, &m);
+        self.eval
+    }
+
+    /// The node after a legal move, under the same evaluation.
+    pub fn play(&self, m: Move) -> Node
+        requires { is_legal self.now.position m ≡ true }
+        ensures after { result.position ≡ after self.now.position m }
+        ensures by_code { result.position ≡ after_code self.now.position (code_of m) }
+        ensures eval { result.eval ≡ self.now.eval }
+        ensures valid { IsValid (after self.now.position m) }
+    {
+        let score = score_after(&self.position, self.eval, self.score, &m);
         Node {
             position: apply(&self.position, m),
+            eval: self.eval,
             score,
         }
     }
 
     /// The material after a legal move, from the side that is to move then; nothing is played.
     pub fn score_after(&self, m: &Move) -> i32
-        requires { is_legal self.now m.now ≡ true }
-        ensures { result ≡ material_of (after self.now m.now) }
+        requires { is_legal self.now.position m.now ≡ true }
+        ensures { result ≡ material_of (after self.now.position m.now) self.now.eval }
     {
-        score_after(&self.position, self.score, m)
+        score_after(&self.position, self.eval, self.score, m)
     }
 
     /// The material of the position, from the side to move (see `material`).
     pub fn score(&self) -> i32
-        ensures value { result ≡ material_of self.now }
+        ensures value { result ≡ material_of self.now.position self.now.eval }
         ensures least { (pos 0 -ℤ pos MOST_POINTS) ≤ℤ result }
         ensures most { result ≤ℤ pos MOST_POINTS }
     {

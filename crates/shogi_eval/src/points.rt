@@ -2,15 +2,16 @@
 
 ghost use Rattle.std.specs.Prelude.{◌≡◌, ◌≤◌, ◌<◌, ◌*◌, ◌^◌, ◌≤ℤ◌, ◌-ℤ◌, pos};
 ghost use Rattle.shogi_eval.specs.declared.points.TheConstants.{MOST_VALUE, MOST_POINTS};
-ghost use Rattle.shogi_eval.specs.Material.{value_of, points_at, points_on_board, points_in_hand, points_held, points_of, material_of};
+ghost use Rattle.shogi_eval.specs.Material.{value_of, value_in_hand, points_at, points_on_board, points_in_hand, points_held, points_of, material_of};
 
+use crate::eval::Eval;
 use shogi_core::{Color, KINDS, Kind, Piece, Position, Role};
 
 /// The greatest value of a piece, that of a promoted rook.
 pub const MOST_VALUE: u32 = 1300;
 
 /// The greatest worth of what a side has: all pieces of a set, each at its best.
-pub const MOST_POINTS: u32 = 25200;
+pub const MOST_POINTS: u32 = 25440;
 
 /// What a piece of the role is worth on the board.
 pub fn value_of(role: Role) -> u32
@@ -30,6 +31,25 @@ pub fn value_of(role: Role) -> u32
             600,
         Role::Horse => 1100,
         Role::Dragon => 1300,
+    }
+}
+
+/// What a piece of the kind is worth in hand.
+pub fn value_in_hand(e: Eval, kind: Kind) -> u32
+    ensures value { result ≡ value_in_hand e kind }
+    ensures range { result ≤ MOST_VALUE }
+{
+    match e {
+        Eval::Plain => value_of(Role::from(kind)),
+        Eval::Hand => match kind {
+            Kind::Pawn => 110,
+            Kind::Lance => 330,
+            Kind::Knight => 440,
+            Kind::Silver => 550,
+            Kind::Gold => 660,
+            Kind::Bishop => 880,
+            Kind::Rook => 1100,
+        },
     }
 }
 
@@ -63,43 +83,44 @@ fn points_on_board(cells: &[Option<Piece>; 81], color: Color) -> u32
 }
 
 /// What the side holds of a kind.
-fn points_held(p: &Position, color: Color, kind: Kind) -> u32
-    ensures value { result ≡ points_held p.now.hands color kind }
+fn points_held(p: &Position, e: Eval, color: Color, kind: Kind) -> u32
+    ensures value { result ≡ points_held p.now.hands e color kind }
     ensures range { result ≤ 255 * MOST_VALUE }
 {
-    p.hand(color, kind) as u32 * value_of(Role::from(kind))
+    p.hand(color, kind) as u32 * value_in_hand(e, kind)
 }
 
 /// The side's pieces in hand.
-fn points_in_hand(p: &Position, color: Color) -> u32
-    ensures value { result ≡ points_in_hand p.now.hands color }
+fn points_in_hand(p: &Position, e: Eval, color: Color) -> u32
+    ensures value { result ≡ points_in_hand p.now.hands e color }
     ensures range { result ≤ 7 * 255 * MOST_VALUE }
 {
     let mut points = 0;
     for kind in KINDS {
-        points += points_held(p, color, kind);
+        points += points_held(p, e, color, kind);
     }
     points
 }
 
 /// All that the side has.
 #[tactic(auto, using(crate::proofs::Bounds::points_within), unfolding(crate::specs::Material::points_of))]
-fn points_of(p: &Position, color: Color) -> u32
-    ensures value { result ≡ points_of p.now color }
+fn points_of(p: &Position, e: Eval, color: Color) -> u32
+    ensures value { result ≡ points_of p.now e color }
     ensures range { result ≤ MOST_POINTS }
 {
     p.validity();
-    points_on_board(p.board().cells(), color) + points_in_hand(p, color)
+    points_on_board(p.board().cells(), color) + points_in_hand(p, e, color)
 }
 
 /// The material of a position, from the side to move: what it has on the board and in hand, less
-/// what the other side has (own choice of values).
+/// what the other side has, by the values of the evaluation (own choice). It lies from -25,440 to
+/// 25,440.
 #[tactic(auto, unfolding(crate::specs::Material::material_of))]
-pub fn material(p: &Position) -> i32
-    ensures value { result ≡ material_of p.now }
+pub fn material(p: &Position, e: Eval) -> i32
+    ensures value { result ≡ material_of p.now e }
     ensures least { (pos 0 -ℤ pos MOST_POINTS) ≤ℤ result }
     ensures most { result ≤ℤ pos MOST_POINTS }
 {
     let side = p.side();
-    points_of(p, side) as i32 - points_of(p, side.opponent()) as i32
+    points_of(p, e, side) as i32 - points_of(p, e, side.opponent()) as i32
 }

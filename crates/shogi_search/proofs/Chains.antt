@@ -7,23 +7,25 @@ use Rattle.shogi_core.specs.declared.moves.Move.{Move}
 use Rattle.shogi_core.specs.Codes.{code_of}
 use Rattle.shogi_core.specs.Position.{Shogi}
 use Rattle.shogi_moves.specs.After.{after_code}
+use Rattle.shogi_eval.specs.declared.eval.Eval.{Eval}
+use Rattle.shogi_eval.specs.Evaluated.{Evaluated}
 use Rattle.shogi_search.specs.declared.frame.Frame.{Frame}
 use Rattle.shogi_search.specs.declared.frame.Waiting.{Waiting}
 use Rattle.shogi_search.specs.declared.frame.Waiting.TheVariants.{Next, Asked, Leaf, Cut}
 use Rattle.shogi_search.specs.declared.move_picker.MovePicker.{MovePicker}
 use Rattle.shogi_search.specs.declared.stack.Stack.{Stack}
-use Rattle.shogi_search.specs.Minimax.{negated, subtrees, tree_size}
+use Rattle.shogi_search.specs.Minimax.{negated, subtree_sizes, tree_size}
 use Rattle.shogi_search.specs.Order.{todo}
 use Rattle.shogi_search.specs.Window.{threshold, code_at}
 use Rattle.shogi_search.specs.Stack.{IsAt, IsSame, IsChain, IsStack, WhereAsked, parents_of, left_of_frame, left_of_waiting}
-use Rattle.shogi_search.proofs.MinimaxLaws.{subtrees-next}
+use Rattle.shogi_search.proofs.MinimaxLaws.{subtree_sizes-next}
 use Rattle.shogi_search.specs.declared.bounds.TheConstants.{GREATEST_DEPTH, INFINITY}
 
 -- a node is the child that another one has asked for by this move
 pub record IsChild (f q : Frame) (m : Move) : Type 0 where
   pub deep : 0 < f.depth
   pub asks : f.waiting ≡ Asked m
-  pub at_child : IsAt (after_code f.position (code_of m)) (f.depth - 1) (negated f.beta) (negated (threshold f.best_value (code_at f.best_move) (code_of m))) q
+  pub at_child : IsAt (after_code f.node.position (code_of m)) f.node.eval (f.depth - 1) (negated f.beta) (negated (threshold f.best_value (code_at f.best_move) (code_of m))) q
 
 -- where a move is asked for, what holds of it may be exchanged for what follows from it
 where_map : (w : Waiting) (P Q : Move → Type 0) → ((m : Move) → P m → Q m) → WhereAsked w P → WhereAsked w Q
@@ -35,33 +37,34 @@ where_map (Cut v) P Q g h = h
 where_asked : (w : Waiting) (P : Move → Type 0) (m : Move) → w ≡ Asked m → P m → WhereAsked w P
 where_asked w P m e h = subst (λ (x : Waiting). WhereAsked x P) (sym e) h
 
-pub chain_same : (p : Shogi) (d : ℕ) (alpha beta : ℤ) (fs : List Frame) (f g : Frame) → IsChain p d alpha beta fs f → IsSame f g → IsChain p d alpha beta fs g
-chain_same p d alpha beta [] f g c s = record { position = s.0 ∙ c.position; depth = s.1.0 ∙ c.depth; alpha_is = s.1.1.0 ∙ c.alpha_is; beta_is = s.1.1.1 ∙ c.beta_is }
-chain_same p d alpha beta (h ∷ fs) f g c s = (c.0, (c.1.0, where_map h.waiting _ _ (λ m k. chain_same (after_code p (code_of m)) (d - 1) (negated beta) (negated (threshold h.best_value (code_at h.best_move) (code_of m))) fs f g k s) c.1.1))
+pub chain_same : (p : Shogi) (eval : Eval) (d : ℕ) (alpha beta : ℤ) (fs : List Frame) (f g : Frame) → IsChain p eval d alpha beta fs f → IsSame f g → IsChain p eval d alpha beta fs g
+chain_same p eval d alpha beta [] f g c s = record { position = ap (λ (n : Evaluated). n.position) s.0 ∙ c.position; eval = ap (λ (n : Evaluated). n.eval) s.0 ∙ c.eval; depth = s.1.0 ∙ c.depth; alpha_is = s.1.1.0 ∙ c.alpha_is; beta_is = s.1.1.1 ∙ c.beta_is }
+chain_same p eval d alpha beta (h ∷ fs) f g c s = (c.0, (c.1.0, where_map h.waiting _ _ (λ m k. chain_same (after_code p (code_of m)) eval (d - 1) (negated beta) (negated (threshold h.best_value (code_at h.best_move) (code_of m))) fs f g k s) c.1.1))
 
-pub chain_push : (p : Shogi) (d : ℕ) (alpha beta : ℤ) (fs : List Frame) (f q : Frame) (m : Move) → IsChain p d alpha beta fs f → IsChild f q m → IsChain p d alpha beta (fs ++ f ∷ []) q
-chain_push p d alpha beta [] f q m c k = (
+pub chain_push : (p : Shogi) (eval : Eval) (d : ℕ) (alpha beta : ℤ) (fs : List Frame) (f q : Frame) (m : Move) → IsChain p eval d alpha beta fs f → IsChild f q m → IsChain p eval d alpha beta (fs ++ f ∷ []) q
+chain_push p eval d alpha beta [] f q m c k = (
   c,
   (
     subst (λ (x : ℕ). 0 < x) c.depth k.deep,
     where_asked
         f.waiting
-        (λ (n : Move). IsAt (after_code p (code_of n)) (d - 1) (negated beta) (negated (threshold f.best_value (code_at f.best_move) (code_of n))) q)
+        (λ (n : Move). IsAt (after_code p (code_of n)) eval (d - 1) (negated beta) (negated (threshold f.best_value (code_at f.best_move) (code_of n))) q)
         m
         k.asks
         (record {
           position = k.at_child.position ∙ ap (λ (x : Shogi). after_code x (code_of m)) c.position;
+          eval = k.at_child.eval ∙ c.eval;
           depth = k.at_child.depth ∙ ap (λ (x : ℕ). x - 1) c.depth;
           alpha_is = k.at_child.alpha_is ∙ ap negated c.beta_is;
           beta_is = k.at_child.beta_is;
         }),
   ),
 )
-chain_push p d alpha beta (h ∷ fs) f q m c k = (c.0, (c.1.0, where_map h.waiting _ _ (λ n i. chain_push (after_code p (code_of n)) (d - 1) (negated beta) (negated (threshold h.best_value (code_at h.best_move) (code_of n))) fs f q m i k) c.1.1))
+chain_push p eval d alpha beta (h ∷ fs) f q m c k = (c.0, (c.1.0, where_map h.waiting _ _ (λ n i. chain_push (after_code p (code_of n)) eval (d - 1) (negated beta) (negated (threshold h.best_value (code_at h.best_move) (code_of n))) fs f q m i k) c.1.1))
 
 -- the node below the top has asked for a move, and the top is its child
-pub record IsPopped (p : Shogi) (d : ℕ) (alpha beta : ℤ) (fs : List Frame) (f q : Frame) : Type 0 where
-  pub chain : IsChain p d alpha beta fs f
+pub record IsPopped (p : Shogi) (eval : Eval) (d : ℕ) (alpha beta : ℤ) (fs : List Frame) (f q : Frame) : Type 0 where
+  pub chain : IsChain p eval d alpha beta fs f
   pub by : Move
   pub child : IsChild f q by
 
@@ -77,9 +80,9 @@ asks (Asked m) P h = record { current = m; is = refl; has = h }
 asks (Leaf m v) P h = absurd h
 asks (Cut v) P h = absurd h
 
-pub chain_pop : (p : Shogi) (d : ℕ) (alpha beta : ℤ) (fs : List Frame) (f q : Frame) → IsChain p d alpha beta (fs ++ f ∷ []) q → IsPopped p d alpha beta fs f q
-chain_pop p d alpha beta [] f q c =
-    let a : Asks f.waiting (λ (m : Move). IsAt (after_code p (code_of m)) (d - 1) (negated beta) (negated (threshold f.best_value (code_at f.best_move) (code_of m))) q) = asks f.waiting _ c.1.1 in
+pub chain_pop : (p : Shogi) (eval : Eval) (d : ℕ) (alpha beta : ℤ) (fs : List Frame) (f q : Frame) → IsChain p eval d alpha beta (fs ++ f ∷ []) q → IsPopped p eval d alpha beta fs f q
+chain_pop p eval d alpha beta [] f q c =
+    let a : Asks f.waiting (λ (m : Move). IsAt (after_code p (code_of m)) eval (d - 1) (negated beta) (negated (threshold f.best_value (code_at f.best_move) (code_of m))) q) = asks f.waiting _ c.1.1 in
     record {
       chain = c.0;
       by = a.current;
@@ -88,44 +91,45 @@ chain_pop p d alpha beta [] f q c =
         asks = a.is;
         at_child = record {
           position = a.has.position ∙ ap (λ (x : Shogi). after_code x (code_of a.current)) (sym c.0.position);
+          eval = a.has.eval ∙ sym c.0.eval;
           depth = a.has.depth ∙ ap (λ (x : ℕ). x - 1) (sym c.0.depth);
           alpha_is = a.has.alpha_is ∙ ap negated (sym c.0.beta_is);
           beta_is = a.has.beta_is;
         };
       };
     }
-chain_pop p d alpha beta (h ∷ fs) f q c =
-    let a : Asks h.waiting (λ (m : Move). IsChain (after_code p (code_of m)) (d - 1) (negated beta) (negated (threshold h.best_value (code_at h.best_move) (code_of m))) (fs ++ f ∷ []) q) = asks h.waiting _ c.1.1 in
-    let r : IsPopped (after_code p (code_of a.current)) (d - 1) (negated beta) (negated (threshold h.best_value (code_at h.best_move) (code_of a.current))) fs f q = chain_pop (after_code p (code_of a.current)) (d - 1) (negated beta) (negated (threshold h.best_value (code_at h.best_move) (code_of a.current))) fs f q a.has in
-    record { chain = (c.0, (c.1.0, where_asked h.waiting (λ (m : Move). IsChain (after_code p (code_of m)) (d - 1) (negated beta) (negated (threshold h.best_value (code_at h.best_move) (code_of m))) fs f) a.current a.is r.chain)); by = r.by; child = r.child }
+chain_pop p eval d alpha beta (h ∷ fs) f q c =
+    let a : Asks h.waiting (λ (m : Move). IsChain (after_code p (code_of m)) eval (d - 1) (negated beta) (negated (threshold h.best_value (code_at h.best_move) (code_of m))) (fs ++ f ∷ []) q) = asks h.waiting _ c.1.1 in
+    let r : IsPopped (after_code p (code_of a.current)) eval (d - 1) (negated beta) (negated (threshold h.best_value (code_at h.best_move) (code_of a.current))) fs f q = chain_pop (after_code p (code_of a.current)) eval (d - 1) (negated beta) (negated (threshold h.best_value (code_at h.best_move) (code_of a.current))) fs f q a.has in
+    record { chain = (c.0, (c.1.0, where_asked h.waiting (λ (m : Move). IsChain (after_code p (code_of m)) eval (d - 1) (negated beta) (negated (threshold h.best_value (code_at h.best_move) (code_of m))) fs f) a.current a.is r.chain)); by = r.by; child = r.child }
 
-pub popped : (p : Shogi) (d : ℕ) (alpha beta : ℤ) (all fs : List Frame) (f q : Frame) → all ≡ fs ++ f ∷ [] → IsChain p d alpha beta all q → IsPopped p d alpha beta fs f q
-popped p d alpha beta all fs f q e c = chain_pop p d alpha beta fs f q (subst (λ (xs : List Frame). IsChain p d alpha beta xs q) e c)
+pub popped : (p : Shogi) (eval : Eval) (d : ℕ) (alpha beta : ℤ) (all fs : List Frame) (f q : Frame) → all ≡ fs ++ f ∷ [] → IsChain p eval d alpha beta all q → IsPopped p eval d alpha beta fs f q
+popped p eval d alpha beta all fs f q e c = chain_pop p eval d alpha beta fs f q (subst (λ (xs : List Frame). IsChain p eval d alpha beta xs q) e c)
 
-pub pushed : (p : Shogi) (d : ℕ) (alpha beta : ℤ) (all fs : List Frame) (f q : Frame) (m : Move) → all ≡ fs ++ f ∷ [] → IsChain p d alpha beta fs f → IsChild f q m → IsChain p d alpha beta all q
-pushed p d alpha beta all fs f q m e c k = subst (λ (xs : List Frame). IsChain p d alpha beta xs q) (sym e) (chain_push p d alpha beta fs f q m c k)
+pub pushed : (p : Shogi) (eval : Eval) (d : ℕ) (alpha beta : ℤ) (all fs : List Frame) (f q : Frame) (m : Move) → all ≡ fs ++ f ∷ [] → IsChain p eval d alpha beta fs f → IsChild f q m → IsChain p eval d alpha beta all q
+pushed p eval d alpha beta all fs f q m e c k = subst (λ (xs : List Frame). IsChain p eval d alpha beta xs q) (sym e) (chain_push p eval d alpha beta fs f q m c k)
 
 -- the stack is no higher than the root's depth
-pub chain_height : (p : Shogi) (d : ℕ) (alpha beta : ℤ) (fs : List Frame) (f : Frame) → IsChain p d alpha beta fs f → length fs + f.depth ≡ d
-chain_height p d alpha beta [] f c = let e : f.depth ≡ d = c.depth in omega arith
-chain_height p d alpha beta (h ∷ fs) f c =
-    let a : Asks h.waiting (λ (m : Move). IsChain (after_code p (code_of m)) (d - 1) (negated beta) (negated (threshold h.best_value (code_at h.best_move) (code_of m))) fs f) = asks h.waiting _ c.1.1 in
-    let ih : length fs + f.depth ≡ d - 1 = chain_height (after_code p (code_of a.current)) (d - 1) (negated beta) (negated (threshold h.best_value (code_at h.best_move) (code_of a.current))) fs f a.has in
+pub chain_height : (p : Shogi) (eval : Eval) (d : ℕ) (alpha beta : ℤ) (fs : List Frame) (f : Frame) → IsChain p eval d alpha beta fs f → length fs + f.depth ≡ d
+chain_height p eval d alpha beta [] f c = let e : f.depth ≡ d = c.depth in omega arith
+chain_height p eval d alpha beta (h ∷ fs) f c =
+    let a : Asks h.waiting (λ (m : Move). IsChain (after_code p (code_of m)) eval (d - 1) (negated beta) (negated (threshold h.best_value (code_at h.best_move) (code_of m))) fs f) = asks h.waiting _ c.1.1 in
+    let ih : length fs + f.depth ≡ d - 1 = chain_height (after_code p (code_of a.current)) eval (d - 1) (negated beta) (negated (threshold h.best_value (code_at h.best_move) (code_of a.current))) fs f a.has in
     let deep : 0 < d = c.1.0 in
     omega arith
 
 -- a chain from the root makes a stack
-pub stack_at : (s : Stack) (p : Shogi) (d : ℕ) → s.root ≡ p → s.depth ≡ d → d ≤ GREATEST_DEPTH → s.height ≤ GREATEST_DEPTH → IsChain p d (negated INFINITY) INFINITY (parents_of s) s.top → IsStack s
-stack_at s p d e h shallow fits c = record {
+pub stack_at : (s : Stack) (p : Shogi) (eval : Eval) (d : ℕ) → s.root ≡ p → s.eval ≡ eval → s.depth ≡ d → d ≤ GREATEST_DEPTH → s.height ≤ GREATEST_DEPTH → IsChain p eval d (negated INFINITY) INFINITY (parents_of s) s.top → IsStack s
+stack_at s p eval d e k h shallow fits c = record {
   shallow = subst (λ (x : ℕ). x ≤ GREATEST_DEPTH) (sym h) shallow;
   height_fits = fits;
-  chain = subst (λ (x : Shogi). IsChain x s.depth (negated INFINITY) INFINITY (parents_of s) s.top) (sym e) (subst (λ (x : ℕ). IsChain p x (negated INFINITY) INFINITY (parents_of s) s.top) (sym h) c);
+  chain = subst (λ (x : Shogi). IsChain x s.eval s.depth (negated INFINITY) INFINITY (parents_of s) s.top) (sym e) (subst (λ (x : Eval). IsChain p x s.depth (negated INFINITY) INFINITY (parents_of s) s.top) (sym k) (subst (λ (x : ℕ). IsChain p eval x (negated INFINITY) INFINITY (parents_of s) s.top) (sym h) c));
 }
 
 -- so there is room above a node that waits for a child
-pub room : (p : Shogi) (d : ℕ) (alpha beta : ℤ) (height : ℕ) (all : List Frame) (f : Frame) → d ≤ GREATEST_DEPTH → height ≤ GREATEST_DEPTH → length all ≡ 16 → 0 < f.depth → IsChain p d alpha beta (take height all) f → height < 16
-room p d alpha beta height all f shallow fits full deep c =
-    omega (arith, chain_height p d alpha beta (take height all) f c, length-take-le height all (omega arith))
+pub room : (p : Shogi) (eval : Eval) (d : ℕ) (alpha beta : ℤ) (height : ℕ) (all : List Frame) (f : Frame) → d ≤ GREATEST_DEPTH → height ≤ GREATEST_DEPTH → length all ≡ 16 → 0 < f.depth → IsChain p eval d alpha beta (take height all) f → height < 16
+room p eval d alpha beta height all f shallow fits full deep c =
+    omega (arith, chain_height p eval d alpha beta (take height all) f c, length-take-le height all (omega arith))
 
 -- a frame asks for one move
 pub same_asked : (f q : Frame) (m n : Move) → IsChild f q m → f.waiting ≡ Asked n → IsChild f q n
@@ -135,19 +139,19 @@ same_asked f q m n k e = let s : m ≡ n = one m n (sym k.asks ∙ e) in subst (
     one m n h = cc
 
 -- one move less is left of a node
-pub left_next : (f g : Frame) (q : Shogi) (m : Move) → g.position ≡ f.position → g.depth ≡ f.depth → g.waiting ≡ Asked m → q ≡ after_code g.position (code_of m) → todo f.position f.picker ≡ code_of m ∷ todo f.position g.picker → 2 * tree_size q (g.depth - 1) + left_of_frame g ≤ left_of_frame f
+pub left_next : (f g : Frame) (q : Shogi) (m : Move) → g.node ≡ f.node → g.depth ≡ f.depth → g.waiting ≡ Asked m → q ≡ after_code g.node.position (code_of m) → todo f.node.position f.picker ≡ code_of m ∷ todo f.node.position g.picker → 2 * tree_size q (g.depth - 1) + left_of_frame g ≤ left_of_frame f
 left_next f g q m e h k a n =
-    let s : subtrees f.position (f.depth - 1) (todo f.position f.picker) ≡ tree_size q (f.depth - 1) + subtrees f.position (f.depth - 1) (todo f.position g.picker) = subtrees-next f.position (f.depth - 1) (code_of m) q _ _ (a ∙ ap (λ (x : Shogi). after_code x (code_of m)) e) n in
-    let t : subtrees g.position (g.depth - 1) (todo g.position g.picker) ≡ subtrees f.position (f.depth - 1) (todo f.position g.picker) = ap (λ (x : Shogi). subtrees x (g.depth - 1) (todo x g.picker)) e ∙ ap (λ (x : ℕ). subtrees f.position (x - 1) (todo f.position g.picker)) h in
+    let s : subtree_sizes f.node.position (f.depth - 1) (todo f.node.position f.picker) ≡ tree_size q (f.depth - 1) + subtree_sizes f.node.position (f.depth - 1) (todo f.node.position g.picker) = subtree_sizes-next f.node.position (f.depth - 1) (code_of m) q _ _ (a ∙ ap (λ (x : Evaluated). after_code x.position (code_of m)) e) n in
+    let t : subtree_sizes g.node.position (g.depth - 1) (todo g.node.position g.picker) ≡ subtree_sizes f.node.position (f.depth - 1) (todo f.node.position g.picker) = ap (λ (x : Evaluated). subtree_sizes x.position (g.depth - 1) (todo x.position g.picker)) e ∙ ap (λ (x : ℕ). subtree_sizes f.node.position (x - 1) (todo f.node.position g.picker)) h in
     let u : tree_size q (g.depth - 1) ≡ tree_size q (f.depth - 1) = ap (λ (x : ℕ). tree_size q (x - 1)) h in
     let v : left_of_waiting g.waiting ≡ 0 = ap left_of_waiting k in
     omega (arith, s, t, u, v)
 
-moves_same : (f g : Frame) → IsSame f g → g.picker ≡ f.picker → subtrees g.position (g.depth - 1) (todo g.position g.picker) ≡ subtrees f.position (f.depth - 1) (todo f.position f.picker)
+moves_same : (f g : Frame) → IsSame f g → g.picker ≡ f.picker → subtree_sizes g.node.position (g.depth - 1) (todo g.node.position g.picker) ≡ subtree_sizes f.node.position (f.depth - 1) (todo f.node.position f.picker)
 moves_same f g s k =
-    ap (λ (x : Shogi). subtrees x (g.depth - 1) (todo x g.picker)) s.0
-    ∙ ap (λ (x : ℕ). subtrees f.position (x - 1) (todo f.position g.picker)) s.1.0
-    ∙ ap (λ (x : MovePicker). subtrees f.position (f.depth - 1) (todo f.position x)) k
+    ap (λ (x : Evaluated). subtree_sizes x.position (g.depth - 1) (todo x.position g.picker)) s.0
+    ∙ ap (λ (x : ℕ). subtree_sizes f.node.position (x - 1) (todo f.node.position g.picker)) s.1.0
+    ∙ ap (λ (x : MovePicker). subtree_sizes f.node.position (f.depth - 1) (todo f.node.position x)) k
 
 -- without a leaf to be taken in, no more is left than with one
 pub left_same : (f g : Frame) → IsSame f g → g.picker ≡ f.picker → left_of_waiting g.waiting ≡ 0 → left_of_frame g ≤ left_of_frame f

@@ -7,42 +7,43 @@ use Rattle.shogi_core.specs.Validity.{IsValid}
 use Rattle.shogi_moves.specs.After.{after_code}
 use Rattle.shogi_moves.specs.LegalMoves.{legal_moves}
 use Rattle.shogi_moves.specs.Rising.{is_in}
+use Rattle.shogi_eval.specs.declared.eval.Eval.{Eval}
 use Rattle.shogi_search.specs.declared.memo.Entry.{Entry}
 use Rattle.shogi_search.specs.declared.memo.Entry.TheVariants.{Exact, AtLeast, AtMost}
-use Rattle.shogi_search.specs.Minimax.{value, worth, IsTrueEntry, negated, lost}
+use Rattle.shogi_search.specs.Minimax.{value, worth, IsTrueEntry, negated, lost_value}
 use Rattle.shogi_search.specs.Entries.{IsCutoff}
 use Rattle.shogi_search.proofs.MinimaxLaws.{worth_from, value_within, Within}
 use Rattle.shogi_search.proofs.Valid.{after_valid}
 use Rattle.shogi_search.specs.declared.bounds.TheConstants.{GREATEST_DEPTH, INFINITY}
 
 -- what a child's value says of its move
-pub record IsWorth (p : Shogi) (d m : ℕ) (r : ℤ) : Type 0 where
-  pub is : worth p d m ≡ pos 0 -ℤ r
-  pub least : lost GREATEST_DEPTH ≤ℤ r
-  pub most : r ≤ℤ negated (lost GREATEST_DEPTH)
+pub record IsWorth (p : Shogi) (eval : Eval) (d m : ℕ) (r : ℤ) : Type 0 where
+  pub is : worth p eval d m ≡ pos 0 -ℤ r
+  pub least : lost_value GREATEST_DEPTH ≤ℤ r
+  pub most : r ≤ℤ negated (lost_value GREATEST_DEPTH)
 
-pub exact_says : (p : Shogi) (d m : ℕ) (e : Entry) (v : ℤ) (b : Option Move) → IsValid p → is_in m (legal_moves p) ≡ true → d ≤ GREATEST_DEPTH → e ≡ Exact v b → IsTrueEntry (after_code p m) (d - 1) e → IsWorth p (d - 1) m v
-exact_says p d m e v b ok i h q t =
-    let k : IsTrueEntry (after_code p m) (d - 1) (Exact v b) = subst (λ (x : Entry). IsTrueEntry (after_code p m) (d - 1) x) q t in
-    let w : Within (d - 1) (value (after_code p m) (d - 1)) = value_within (d - 1) (after_code p m) (after_valid p m ok i) in
-    let s : value (after_code p m) (d - 1) ≡ v = k.0 in
-    record { is = worth_from p (d - 1) m (after_code p m) v (sym s) refl; least = omega (arith, ints); most = omega (arith, ints) }
+pub exact_says : (p : Shogi) (eval : Eval) (d m : ℕ) (e : Entry) (v : ℤ) (b : Option Move) → IsValid p → is_in m (legal_moves p) ≡ true → d ≤ GREATEST_DEPTH → e ≡ Exact v b → IsTrueEntry (after_code p m) eval (d - 1) e → IsWorth p eval (d - 1) m v
+exact_says p eval d m e v b ok i h q t =
+    let k : IsTrueEntry (after_code p m) eval (d - 1) (Exact v b) = subst (λ (x : Entry). IsTrueEntry (after_code p m) eval (d - 1) x) q t in
+    let w : Within (d - 1) (value (after_code p m) eval (d - 1)) = value_within (d - 1) (after_code p m) eval (after_valid p m ok i) in
+    let s : value (after_code p m) eval (d - 1) ≡ v = k.0 in
+    record { is = worth_from p eval (d - 1) m (after_code p m) v (sym s) refl; least = omega (arith, ints); most = omega (arith, ints) }
 
-pub record IsAtLeast (p : Shogi) (d m : ℕ) (beta v : ℤ) : Type 0 where
-  pub worth_is : (pos 0 -ℤ v) ≤ℤ worth p d m
-  pub least : lost GREATEST_DEPTH ≤ℤ v
+pub record IsAtLeast (p : Shogi) (eval : Eval) (d m : ℕ) (beta v : ℤ) : Type 0 where
+  pub worth_is : (pos 0 -ℤ v) ≤ℤ worth p eval d m
+  pub least : lost_value GREATEST_DEPTH ≤ℤ v
   pub cuts : v ≤ℤ (pos 0 -ℤ beta)
 
-pub at_most_says : (p : Shogi) (d m : ℕ) (e : Entry) (v beta below : ℤ) → IsValid p → is_in m (legal_moves p) ≡ true → d ≤ GREATEST_DEPTH → e ≡ AtMost v → IsTrueEntry (after_code p m) (d - 1) e → IsCutoff (pos 0 -ℤ beta) below e → IsAtLeast p (d - 1) m beta v
-at_most_says p d m e v beta below ok i h q t s =
-    let k : value (after_code p m) (d - 1) ≤ℤ v = subst (λ (x : Entry). IsTrueEntry (after_code p m) (d - 1) x) q t in
+pub at_most_says : (p : Shogi) (eval : Eval) (d m : ℕ) (e : Entry) (v beta below : ℤ) → IsValid p → is_in m (legal_moves p) ≡ true → d ≤ GREATEST_DEPTH → e ≡ AtMost v → IsTrueEntry (after_code p m) eval (d - 1) e → IsCutoff (pos 0 -ℤ beta) below e → IsAtLeast p eval (d - 1) m beta v
+at_most_says p eval d m e v beta below ok i h q t s =
+    let k : value (after_code p m) eval (d - 1) ≤ℤ v = subst (λ (x : Entry). IsTrueEntry (after_code p m) eval (d - 1) x) q t in
     let l : v ≤ℤ (pos 0 -ℤ beta) = subst (λ (x : Entry). IsCutoff (pos 0 -ℤ beta) below x) q s in
-    let w : Within (d - 1) (value (after_code p m) (d - 1)) = value_within (d - 1) (after_code p m) (after_valid p m ok i) in
+    let w : Within (d - 1) (value (after_code p m) eval (d - 1)) = value_within (d - 1) (after_code p m) eval (after_valid p m ok i) in
     record { worth_is = omega (arith, ints); least = omega (arith, ints); cuts = l }
 
-pub at_least_says : (p : Shogi) (d m : ℕ) (e : Entry) (v beta alpha : ℤ) → e ≡ AtLeast v → IsTrueEntry (after_code p m) (d - 1) e → IsCutoff beta (pos 0 -ℤ alpha) e → worth p (d - 1) m ≤ℤ alpha
-at_least_says p d m e v beta alpha q t s =
-    let k : v ≤ℤ value (after_code p m) (d - 1) = subst (λ (x : Entry). IsTrueEntry (after_code p m) (d - 1) x) q t in
+pub at_least_says : (p : Shogi) (eval : Eval) (d m : ℕ) (e : Entry) (v beta alpha : ℤ) → e ≡ AtLeast v → IsTrueEntry (after_code p m) eval (d - 1) e → IsCutoff beta (pos 0 -ℤ alpha) e → worth p eval (d - 1) m ≤ℤ alpha
+at_least_says p eval d m e v beta alpha q t s =
+    let k : v ≤ℤ value (after_code p m) eval (d - 1) = subst (λ (x : Entry). IsTrueEntry (after_code p m) eval (d - 1) x) q t in
     let l : (pos 0 -ℤ alpha) ≤ℤ v = subst (λ (x : Entry). IsCutoff beta (pos 0 -ℤ alpha) x) q s in
     omega (arith, ints)
 
@@ -50,10 +51,11 @@ pub same_window : (alpha alpha' beta beta' : ℤ) (e : Entry) → alpha ≡ alph
 same_window alpha alpha' beta beta' e p q s = subst (λ (x : ℤ). IsCutoff alpha' x e) q (subst (λ (x : ℤ). IsCutoff x beta e) p s)
 
 -- a true entry that is_cutoff the whole window is exact
-pub whole_window : (p : Shogi) (d : ℕ) (e : Entry) → IsValid p → d ≤ GREATEST_DEPTH → IsTrueEntry p d e → IsCutoff (negated INFINITY) INFINITY e → ((v : ℤ) (b : Option Move) → e ≡ Exact v b → ⊥) → ⊥
-whole_window p d (Exact v b) ok h t s other = other v b refl
-whole_window p d (AtLeast v) ok h t s other = let w : Within d (value p d) = value_within d p ok in omega (arith, ints)
-whole_window p d (AtMost v) ok h t s other = let w : Within d (value p d) = value_within d p ok in omega (arith, ints)
+pub whole_window : (p : Shogi) (eval : Eval) (d : ℕ) (e : Entry) → IsValid p → d ≤ GREATEST_DEPTH → IsTrueEntry p eval d e → IsCutoff (negated INFINITY) INFINITY e → ((v : ℤ) (b : Option Move) → e ≡ Exact v b → ⊥) → ⊥
+whole_window p eval d (Exact v b) ok h t s other = other v b refl
+whole_window p eval d (AtLeast v) ok h t s other = let w : Within d (value p eval d) = value_within d p eval ok in omega (arith, ints)
+whole_window p eval d (AtMost v) ok h t s other = let w : Within d (value p eval d) = value_within d p eval ok in omega (arith, ints)
 
-pub same_truth : (p p' : Shogi) (d d' : ℕ) (e : Entry) → p ≡ p' → d ≡ d' → IsTrueEntry p d e → IsTrueEntry p' d' e
-same_truth p p' d d' e a b t = subst (λ (x : ℕ). IsTrueEntry p' x e) b (subst (λ (x : Shogi). IsTrueEntry x d e) a t)
+pub same_truth : (p p' : Shogi) (eval eval' : Eval) (d d' : ℕ) (e : Entry) → p ≡ p' → eval ≡ eval' → d ≡ d' → IsTrueEntry p eval d e → IsTrueEntry p' eval' d' e
+same_truth p p' eval eval' d d' e a k b t =
+    subst (λ (x : ℕ). IsTrueEntry p' eval' x e) b (subst (λ (x : Eval). IsTrueEntry p' x d e) k (subst (λ (x : Shogi). IsTrueEntry x eval d e) a t))

@@ -11,9 +11,10 @@ use Rattle.shogi_core.specs.Validity.{IsValid}
 use Rattle.shogi_moves.specs.After.{after_code}
 use Rattle.shogi_moves.specs.LegalMoves.{legal_moves}
 use Rattle.shogi_moves.specs.Rising.{is_in}
+use Rattle.shogi_eval.specs.declared.eval.Eval.{Eval}
 use Rattle.shogi_search.specs.declared.move_picker.MovePicker.{MovePicker}
 use Rattle.shogi_search.specs.declared.move_picker.MovePicker.TheVariants.{HashMove, Start, Done}
-use Rattle.shogi_search.specs.Minimax.{tree_size, subtrees, value, best, worth, lost, greatest_of, negated}
+use Rattle.shogi_search.specs.Minimax.{tree_size, subtree_sizes, value, best, worth, lost_value, greatest_of, negated}
 use Rattle.shogi_search.specs.Window.{IsCovered, threshold}
 use Rattle.shogi_search.specs.Order.{todo, IsKept}
 use Rattle.shogi_search.specs.declared.frame.Waiting.{Waiting}
@@ -40,22 +41,22 @@ waits_at f p (suc d) m rest alpha best_value b c = record { deep = omega arith; 
 pub asked : (w : Waiting) (m : Move) → w ≡ Asked m → IsCurrent w m
 asked w m e = subst (λ (x : Waiting). IsCurrent x m) (sym e) refl
 
-pub waits : (p : Shogi) (d : ℕ) (alpha beta best_value : ℤ) (b : Option ℕ) (ms : List ℕ) (w : Waiting) (m : Move) → IsCurrent w m → IsKnownWhile p d alpha beta best_value b ms w → IsWaiting (worth p (d - 1)) p d (code_of m) ms alpha best_value b
-waits p d alpha beta best_value b ms Next m e c = absurd e
-waits p d alpha beta best_value b ms (Asked k) m e c = waits_at (worth p (d - 1)) p d (code_of m) ms alpha best_value b (subst (λ (x : Move). IsCovered (worth p (d - 1)) (moves_at p d) (code_of x ∷ ms) alpha best_value b) e c)
-waits p d alpha beta best_value b ms (Leaf k v) m e c = waits_at (worth p (d - 1)) p d (code_of m) ms alpha best_value b (subst (λ (x : Move). IsCovered (worth p (d - 1)) (moves_at p d) (code_of x ∷ ms) alpha best_value b) e c.0)
-waits p d alpha beta best_value b ms (Cut v) m e c = absurd e
+pub waits : (p : Shogi) (eval : Eval) (d : ℕ) (alpha beta best_value : ℤ) (b : Option ℕ) (ms : List ℕ) (w : Waiting) (m : Move) → IsCurrent w m → IsKnownWhile p eval d alpha beta best_value b ms w → IsWaiting (worth p eval (d - 1)) p d (code_of m) ms alpha best_value b
+waits p eval d alpha beta best_value b ms Next m e c = absurd e
+waits p eval d alpha beta best_value b ms (Asked k) m e c = waits_at (worth p eval (d - 1)) p d (code_of m) ms alpha best_value b (subst (λ (x : Move). IsCovered (worth p eval (d - 1)) (moves_at p d) (code_of x ∷ ms) alpha best_value b) e c)
+waits p eval d alpha beta best_value b ms (Leaf k v) m e c = waits_at (worth p eval (d - 1)) p d (code_of m) ms alpha best_value b (subst (λ (x : Move). IsCovered (worth p eval (d - 1)) (moves_at p d) (code_of x ∷ ms) alpha best_value b) e c.0)
+waits p eval d alpha beta best_value b ms (Cut v) m e c = absurd e
 
 -- what a node knows whose moves are all gone through
-pub record IsGone (p : Shogi) (d : ℕ) (alpha best_value : ℤ) (b : Option ℕ) (ms : List ℕ) : Type 0 where
+pub record IsGone (p : Shogi) (eval : Eval) (d : ℕ) (alpha best_value : ℤ) (b : Option ℕ) (ms : List ℕ) : Type 0 where
   pub none : ms ≡ []
-  pub covered : IsCovered (worth p (d - 1)) (moves_at p d) ms alpha best_value b
+  pub covered : IsCovered (worth p eval (d - 1)) (moves_at p d) ms alpha best_value b
 
-pub gone : (p : Shogi) (d : ℕ) (alpha beta best_value : ℤ) (b : Option ℕ) (ms : List ℕ) (w : Waiting) → IsOver w ms → ((v : ℤ) → w ≡ Cut v → ⊥) → IsKnownWhile p d alpha beta best_value b ms w → IsGone p d alpha best_value b ms
-gone p d alpha beta best_value b ms Next o n c = record { none = o; covered = c }
-gone p d alpha beta best_value b ms (Asked k) o n c = absurd o
-gone p d alpha beta best_value b ms (Leaf k v) o n c = absurd o
-gone p d alpha beta best_value b ms (Cut v) o n c = absurd (n v refl)
+pub gone : (p : Shogi) (eval : Eval) (d : ℕ) (alpha beta best_value : ℤ) (b : Option ℕ) (ms : List ℕ) (w : Waiting) → IsOver w ms → ((v : ℤ) → w ≡ Cut v → ⊥) → IsKnownWhile p eval d alpha beta best_value b ms w → IsGone p eval d alpha best_value b ms
+gone p eval d alpha beta best_value b ms Next o n c = record { none = o; covered = c }
+gone p eval d alpha beta best_value b ms (Asked k) o n c = absurd o
+gone p eval d alpha beta best_value b ms (Leaf k v) o n c = absurd o
+gone p eval d alpha beta best_value b ms (Cut v) o n c = absurd (n v refl)
 
 -- and back, once the move has its answer
 pub at_depth : (f : ℕ → ℤ) (p : Shogi) (d : ℕ) (ms : List ℕ) (alpha best_value : ℤ) (b : Option ℕ) → 0 < d → IsCovered f (legal_moves p) ms alpha best_value b → IsCovered f (moves_at p d) ms alpha best_value b
@@ -68,7 +69,7 @@ gone_through f p (suc d) ms alpha best_value b h c = c
 
 pub record IsNew (f : ℕ → ℤ) (p : Shogi) (d : ℕ) (alpha : ℤ) (picker : MovePicker) : Type 0 where
   pub covered : IsCovered f (moves_at p d) (todo p picker) alpha alpha None
-  pub counted : 1 + 2 * subtrees p (d - 1) (todo p picker) < 2 * tree_size p d
+  pub counted : 1 + 2 * subtree_sizes p (d - 1) (todo p picker) < 2 * tree_size p d
   pub kept : IsKept p picker
 
 new_leaf : (f : ℕ → ℤ) (p : Shogi) (alpha : ℤ) → IsNew f p 0 alpha Done
@@ -90,32 +91,32 @@ new_node f p (suc d) alpha hash_move picker a b l =
     kept_at (Some k) picker e = subst (IsKept p) (sym e) tt
 
 -- a move that is worth so much
-pub cut : (p : Shogi) (d m : ℕ) (v : ℤ) → 0 < d → is_in m (legal_moves p) ≡ true → v ≤ℤ worth p (d - 1) m → v ≤ℤ value p d
-cut p d m v h i l =
-    let e : value p d ≡ greatest_of (lost d) (worth p (d - 1)) (legal_moves p) = value-above p d h in
-    let g : worth p (d - 1) m ≤ℤ greatest_of (lost d) (worth p (d - 1)) (legal_moves p) = greatest_of-above (lost d) (worth p (d - 1)) (legal_moves p) m i in
+pub cut : (p : Shogi) (eval : Eval) (d m : ℕ) (v : ℤ) → 0 < d → is_in m (legal_moves p) ≡ true → v ≤ℤ worth p eval (d - 1) m → v ≤ℤ value p eval d
+cut p eval d m v h i l =
+    let e : value p eval d ≡ greatest_of (lost_value d) (worth p eval (d - 1)) (legal_moves p) = value-above p eval d h in
+    let g : worth p eval (d - 1) m ≤ℤ greatest_of (lost_value d) (worth p eval (d - 1)) (legal_moves p) = greatest_of-above (lost_value d) (worth p eval (d - 1)) (legal_moves p) m i in
     omega (arith, ints)
 
 -- a value that cuts a node off, and the same value as it is kept
-pub cuts : (p : Shogi) (d : ℕ) (beta v v' : ℤ) → v' ≡ v → v ≤ℤ value p d → beta ≤ℤ v → (v' ≤ℤ value p d) × (beta ≤ℤ v')
-cuts p d beta v v' e l h = (subst (λ (y : ℤ). y ≤ℤ value p d) (sym e) l, subst (λ (y : ℤ). beta ≤ℤ y) (sym e) h)
+pub cuts : (p : Shogi) (eval : Eval) (d : ℕ) (beta v v' : ℤ) → v' ≡ v → v ≤ℤ value p eval d → beta ≤ℤ v → (v' ≤ℤ value p eval d) × (beta ≤ℤ v')
+cuts p eval d beta v v' e l h = (subst (λ (y : ℤ). y ≤ℤ value p eval d) (sym e) l, subst (λ (y : ℤ). beta ≤ℤ y) (sym e) h)
 
 threshold_falls_one : (best_value : ℤ) (b m : ℕ) → negated INFINITY <ℤ best_value → negated INFINITY ≤ℤ threshold best_value (Some b) m
 threshold_falls_one best_value b m t = grind (arith, ints, nat_tests)
 
 -- the threshold of a node is no less than what no position reaches
-pub threshold_least : (p : Shogi) (d : ℕ) (alpha best_value : ℤ) (rest : List ℕ) (b : Option ℕ) (m : ℕ) → IsValid p → d ≤ GREATEST_DEPTH → negated INFINITY ≤ℤ alpha → IsCovered (worth p (d - 1)) (legal_moves p) rest alpha best_value b → (negated INFINITY ≤ℤ best_value) × (negated INFINITY ≤ℤ threshold best_value b m)
-threshold_least p d alpha best_value rest None m ok h l c = let e : best_value ≡ alpha = c.reached in (omega (arith, ints), omega (arith, ints))
-threshold_least p d alpha best_value rest (Some b) m ok h l c =
-    let w : Within (d - 1) (value (after_code p b) (d - 1)) = value_within (d - 1) (after_code p b) (after_valid p b ok c.reached.0) in
-    let e : worth p (d - 1) b ≡ best_value = c.reached.1 in
+pub threshold_least : (p : Shogi) (eval : Eval) (d : ℕ) (alpha best_value : ℤ) (rest : List ℕ) (b : Option ℕ) (m : ℕ) → IsValid p → d ≤ GREATEST_DEPTH → negated INFINITY ≤ℤ alpha → IsCovered (worth p eval (d - 1)) (legal_moves p) rest alpha best_value b → (negated INFINITY ≤ℤ best_value) × (negated INFINITY ≤ℤ threshold best_value b m)
+threshold_least p eval d alpha best_value rest None m ok h l c = let e : best_value ≡ alpha = c.reached in (omega (arith, ints), omega (arith, ints))
+threshold_least p eval d alpha best_value rest (Some b) m ok h l c =
+    let w : Within (d - 1) (value (after_code p b) eval (d - 1)) = value_within (d - 1) (after_code p b) eval (after_valid p b ok c.reached.0) in
+    let e : worth p eval (d - 1) b ≡ best_value = c.reached.1 in
     let t : negated INFINITY <ℤ best_value = omega (arith, ints) in
     (omega (arith, ints), threshold_falls_one best_value b m t)
 
 -- what is known of a leaf that is still to be taken in
-pub leaf_known : (p : Shogi) (d : ℕ) (alpha beta best_value : ℤ) (b : Option ℕ) (ms : List ℕ) (w : Waiting) (m : Move) (v : ℤ) → w ≡ Leaf m v → IsKnownWhile p d alpha beta best_value b ms w → (d ≡ 1) × (value (after_code p (code_of m)) 0 ≡ v)
-leaf_known p d alpha beta best_value b ms w m v e k = (subst (λ (x : Waiting). IsKnownWhile p d alpha beta best_value b ms x) e k).1
+pub leaf_known : (p : Shogi) (eval : Eval) (d : ℕ) (alpha beta best_value : ℤ) (b : Option ℕ) (ms : List ℕ) (w : Waiting) (m : Move) (v : ℤ) → w ≡ Leaf m v → IsKnownWhile p eval d alpha beta best_value b ms w → (d ≡ 1) × (value (after_code p (code_of m)) eval 0 ≡ v)
+leaf_known p eval d alpha beta best_value b ms w m v e k = (subst (λ (x : Waiting). IsKnownWhile p eval d alpha beta best_value b ms x) e k).1
 
 -- what is known of a leaf, as an entry of its depth
-pub leaf_true : (q : Shogi) (d : ℕ) (v : ℤ) → d ≡ 1 → value q 0 ≡ v → (value q (d - 1) ≡ v) × (best q (d - 1) ≡ None)
-leaf_true q d v e h = let z : d - 1 ≡ 0 = omega arith in (ap (value q) z ∙ h, ap (best q) z ∙ best-leaf q)
+pub leaf_true : (q : Shogi) (eval : Eval) (d : ℕ) (v : ℤ) → d ≡ 1 → value q eval 0 ≡ v → (value q eval (d - 1) ≡ v) × (best q eval (d - 1) ≡ None)
+leaf_true q eval d v e h = let z : d - 1 ≡ 0 = omega arith in (ap (value q eval) z ∙ h, ap (best q eval) z ∙ best-leaf q eval)

@@ -14,9 +14,10 @@ use Rattle.shogi_moves.specs.Captures.{is_capture}
 use Rattle.shogi_moves.specs.LegalMoves.{legal_moves}
 use Rattle.shogi_moves.specs.Rising.{is_in}
 use Rattle.shogi_moves.proofs.LegalLaws.{legal_in, legal_code_below}
+use Rattle.shogi_eval.specs.declared.eval.Eval.{Eval}
 use Rattle.shogi_search.specs.declared.move_picker.MovePicker.{MovePicker}
 use Rattle.shogi_search.specs.declared.move_picker.MovePicker.TheVariants.{HashMove, Start}
-use Rattle.shogi_search.specs.Minimax.{tree_size, subtrees, best, best_code, move_at}
+use Rattle.shogi_search.specs.Minimax.{tree_size, subtree_sizes, best, best_code, move_at}
 use Rattle.shogi_search.specs.Window.{IsCovered}
 use Rattle.shogi_search.specs.Order.{picks, is_hash_move, todo}
 use Rattle.shogi_search.proofs.Best.{best_in}
@@ -54,7 +55,7 @@ of_parts p hash_move n h =
 pub record IsWhole (p : Shogi) (d : ℕ) (picker : MovePicker) : Type 0 where
   pub among : (n : ℕ) → is_in n (todo p picker) ≡ true → is_in n (legal_moves p) ≡ true
   pub each : (n : ℕ) → is_in n (legal_moves p) ≡ true → is_in n (todo p picker) ≡ true
-  pub counted : subtrees p d (todo p picker) ≤ subtrees p d (legal_moves p)
+  pub counted : subtree_sizes p d (todo p picker) ≤ subtree_sizes p d (legal_moves p)
 
 whole_captures : (p : Shogi) (d : ℕ) → IsWhole p d (Start None)
 whole_captures p d = record {
@@ -95,12 +96,12 @@ code_back code m h e = elim (cases_lt code FIRST_DROP) [
   | inr beta ↦ (ap code_of (same_Some m _ (sym e ∙ drop_of code beta h)) ∙ code_of-drop code beta h)
 ]
 
-listed_at : (p : Shogi) (d : ℕ) (o : Option ℕ) (m : Move) → best_code p d ≡ o → move_at o ≡ Some m → is_in (code_of m) (legal_moves p) ≡ true
-listed_at p d None m q e = absurd (cc)
-listed_at p d (Some b) m q e =
-    let i : is_in b (legal_moves p) ≡ true = best_in p d b q in
+listed_at : (p : Shogi) (eval : Eval) (d : ℕ) (o : Option ℕ) (m : Move) → best_code p eval d ≡ o → move_at o ≡ Some m → is_in (code_of m) (legal_moves p) ≡ true
+listed_at p eval d None m q e = absurd (cc)
+listed_at p eval d (Some b) m q e =
+    let i : is_in b (legal_moves p) ≡ true = best_in p eval d b q in
     subst (λ (k : ℕ). is_in k (legal_moves p) ≡ true) (sym (code_back b m (legal_code_below p b (legal_in p 0 b i)) e)) i
 
 -- the best move is one of the legal moves
-pub best_listed : (p : Shogi) (d : ℕ) (m : Move) → best p d ≡ Some m → is_in (code_of m) (legal_moves p) ≡ true
-best_listed p d m e = listed_at p d (best_code p d) m refl (sym (best-code p d (best_code p d) refl) ∙ e)
+pub best_listed : (p : Shogi) (eval : Eval) (d : ℕ) (m : Move) → best p eval d ≡ Some m → is_in (code_of m) (legal_moves p) ≡ true
+best_listed p eval d m e = listed_at p eval d (best_code p eval d) m refl (sym (best-code p eval d (best_code p eval d) refl) ∙ e)

@@ -7,6 +7,7 @@ use Rattle.shogi_core.specs.Codes.{move_of}
 use Rattle.shogi_core.specs.Position.{Shogi}
 use Rattle.shogi_moves.specs.After.{after, after_code}
 use Rattle.shogi_moves.specs.LegalMoves.{legal_moves}
+use Rattle.shogi_eval.specs.declared.eval.Eval.{Eval}
 use Rattle.shogi_eval.specs.Material.{material_of}
 use Rattle.shogi_search.specs.declared.memo.Entry.{Entry}
 use Rattle.shogi_search.specs.declared.memo.Entry.TheVariants.{Exact, AtLeast, AtMost}
@@ -17,37 +18,37 @@ abbrev pub negated : ℤ → ℤ
 negated v = pos 0 -ℤ v
 
 -- the value of a side that has lost, in check or not, with d plies left
-abbrev pub lost : ℕ → ℤ
-lost d = negated (MATE +ℤ pos d)
+abbrev pub lost_value : ℕ → ℤ
+lost_value d = negated (MATE +ℤ pos d)
 
 -- the greatest of f at m and at each of the list
 abbrev pub greatest : (ℕ → ℤ) → ℕ → List ℕ → ℤ
 greatest f m [] = f m
 greatest f m (n ∷ ns) = int_max (f m) (greatest f n ns)
 
--- the greatest of f over the moves, or what stands for none
+-- the greatest of f over the moves, or another value where there is none
 abbrev pub greatest_of : ℤ → (ℕ → ℤ) → List ℕ → ℤ
-greatest_of none f [] = none
-greatest_of none f (m ∷ ms) = greatest f m ms
+greatest_of otherwise f [] = otherwise
+greatest_of otherwise f (m ∷ ms) = greatest f m ms
 
--- one value where no move is legal, another one otherwise
+-- one value where a move is legal, another one otherwise
 abbrev pub leaf_value : ℤ → ℤ → List ℕ → ℤ
-leaf_value none some [] = none
-leaf_value none some (m ∷ ms) = some
+leaf_value otherwise some [] = otherwise
+leaf_value otherwise some (m ∷ ms) = some
 
 -- the value of a position at a depth, for the side to move
-unfoldable pub value : Shogi → ℕ → ℤ
-value p zero = leaf_value (lost 0) (material_of p) (legal_moves p)
-value p (suc d) = greatest_of (lost (suc d)) (λ m. negated (value (after_code p m) d)) (legal_moves p)
+unfoldable pub value : Shogi → Eval → ℕ → ℤ
+value p e zero = leaf_value (lost_value 0) (material_of p e) (legal_moves p)
+value p e (suc d) = greatest_of (lost_value (suc d)) (λ m. negated (value (after_code p m) e d)) (legal_moves p)
 
 -- what the move of a code is worth to its mover, with d plies after it
-abbrev pub worth : Shogi → ℕ → ℕ → ℤ
-worth p d m = negated (value (after_code p m) d)
+abbrev pub worth : Shogi → Eval → ℕ → ℕ → ℤ
+worth p e d m = negated (value (after_code p m) e d)
 
 -- the least code whose move is worth the position's value
-unfoldable pub best_code : Shogi → ℕ → Option ℕ
-best_code p zero = None
-best_code p (suc d) = find (λ m. int_eq (worth p d m) (value p (suc d))) (legal_moves p)
+unfoldable pub best_code : Shogi → Eval → ℕ → Option ℕ
+best_code p e zero = None
+best_code p e (suc d) = find (λ m. int_eq (worth p e d m) (value p e (suc d))) (legal_moves p)
 
 -- the move of a code, if there is one
 abbrev pub move_at : Option ℕ → Option Move
@@ -55,8 +56,8 @@ move_at None = None
 move_at (Some code) = move_of code
 
 -- the best move
-unfoldable pub best : Shogi → ℕ → Option Move
-best p d = move_at (best_code p d)
+unfoldable pub best : Shogi → Eval → ℕ → Option Move
+best p e d = move_at (best_code p e d)
 
 -- a move and what follows it
 abbrev pub then_pv : (Shogi → List Move) → Shogi → Option Move → List Move
@@ -64,9 +65,9 @@ then_pv rest p None = []
 then_pv rest p (Some m) = m ∷ rest (after p m)
 
 -- the principal variation: the best move, and that of the position after it one ply less deep
-unfoldable pub pv : Shogi → ℕ → List Move
-pv p zero = []
-pv p (suc d) = then_pv (λ q. pv q d) p (best p (suc d))
+unfoldable pub pv : Shogi → Eval → ℕ → List Move
+pv p e zero = []
+pv p e (suc d) = then_pv (λ q. pv q e d) p (best p e (suc d))
 
 -- the nodes of the whole tree
 unfoldable pub tree_size : Shogi → ℕ → ℕ
@@ -74,8 +75,8 @@ tree_size p zero = 1
 tree_size p (suc d) = 1 + sum_by (λ m. tree_size (after_code p m) d) (legal_moves p)
 
 -- the nodes of the trees after these moves, each of depth d
-abbrev pub subtrees : Shogi → ℕ → List ℕ → ℕ
-subtrees p d ms = sum_by (λ m. tree_size (after_code p m) d) ms
+abbrev pub subtree_sizes : Shogi → ℕ → List ℕ → ℕ
+subtree_sizes p d ms = sum_by (λ m. tree_size (after_code p m) d) ms
 
 -- the search steps for the pv after a move, where there is one
 abbrev pub then_pv_cost : (Shogi → ℕ) → Shogi → Option Move → ℕ
@@ -83,17 +84,17 @@ then_pv_cost rest p None = 0
 then_pv_cost rest p (Some m) = rest (after p m)
 
 -- the most search steps for the pv of this depth: two for each node of the trees along it
-unfoldable pub pv_cost : Shogi → ℕ → ℕ
-pv_cost p zero = 0
-pv_cost p (suc d) = 2 * tree_size p (suc d) + then_pv_cost (λ q. pv_cost q d) p (best p (suc d))
+unfoldable pub pv_cost : Shogi → Eval → ℕ → ℕ
+pv_cost p e zero = 0
+pv_cost p e (suc d) = 2 * tree_size p (suc d) + then_pv_cost (λ q. pv_cost q e d) p (best p e (suc d))
 
 -- the same for each depth from 1 to this one
-unfoldable pub deepening_cost : Shogi → ℕ → ℕ
-deepening_cost p zero = 0
-deepening_cost p (suc d) = deepening_cost p d + pv_cost p (suc d)
+unfoldable pub deepening_cost : Shogi → Eval → ℕ → ℕ
+deepening_cost p e zero = 0
+deepening_cost p e (suc d) = deepening_cost p e d + pv_cost p e (suc d)
 
 -- what an entry says of the position at the depth holds
-abbrev pub IsTrueEntry : Shogi → ℕ → Entry → Type 0
-IsTrueEntry p d (Exact v m) = (value p d ≡ v) × (best p d ≡ m)
-IsTrueEntry p d (AtLeast v) = v ≤ℤ value p d
-IsTrueEntry p d (AtMost v) = value p d ≤ℤ v
+abbrev pub IsTrueEntry : Shogi → Eval → ℕ → Entry → Type 0
+IsTrueEntry p e d (Exact v m) = (value p e d ≡ v) × (best p e d ≡ m)
+IsTrueEntry p e d (AtLeast v) = v ≤ℤ value p e d
+IsTrueEntry p e d (AtMost v) = value p e d ≤ℤ v

@@ -19,6 +19,7 @@ left_in None true whole rest = rest
 abbrev pub progress_of : Inside → Progress
 progress_of s = record {
   root = s.stack.root;
+  eval = s.stack.eval;
   depth = s.stack.depth;
   begun = s.started;
   left = left_in s.found s.started (2 * tree_size s.stack.root s.stack.depth) (left_of_stack s.stack);
@@ -28,8 +29,8 @@ progress_of s = record {
 
 -- what it found is the value and the best move
 pub record IsKnown (s : Inside) (f : Found) : Type 0 where
-  pub value_is : f.value ≡ value s.stack.root s.stack.depth
-  pub best_is : f.best ≡ best s.stack.root s.stack.depth
+  pub value_is : f.value ≡ value s.stack.root s.stack.eval s.stack.depth
+  pub best_is : f.best ≡ best s.stack.root s.stack.eval s.stack.depth
   pub steps_are : f.steps ≡ s.steps
 
 -- once started and until it has found, the stack is a chain from the root

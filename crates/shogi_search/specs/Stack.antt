@@ -4,25 +4,27 @@ use Rattle.shogi_core.specs.declared.moves.Move.{Move}
 use Rattle.shogi_core.specs.Codes.{code_of}
 use Rattle.shogi_core.specs.Position.{Shogi}
 use Rattle.shogi_moves.specs.After.{after_code}
+use Rattle.shogi_eval.specs.declared.eval.Eval.{Eval}
 use Rattle.shogi_search.specs.declared.frame.Frame.{Frame}
 use Rattle.shogi_search.specs.declared.frame.Waiting.{Waiting}
 use Rattle.shogi_search.specs.declared.frame.Waiting.TheVariants.{Next, Asked, Leaf, Cut}
 use Rattle.shogi_search.specs.declared.stack.Stack.{Stack}
-use Rattle.shogi_search.specs.Minimax.{negated, subtrees}
+use Rattle.shogi_search.specs.Minimax.{negated, subtree_sizes}
 use Rattle.shogi_search.specs.Order.{todo}
 use Rattle.shogi_search.specs.Window.{threshold, code_at}
 use Rattle.shogi_search.specs.declared.bounds.TheConstants.{GREATEST_DEPTH, INFINITY}
 
--- a frame stands for a position at a depth, under a window
-pub record IsAt (p : Shogi) (d : ℕ) (alpha beta : ℤ) (frame : Frame) : Type 0 where
-  pub position : frame.position ≡ p
+-- a frame stands for a position under an evaluation at a depth, under a window
+pub record IsAt (p : Shogi) (e : Eval) (d : ℕ) (alpha beta : ℤ) (frame : Frame) : Type 0 where
+  pub position : frame.node.position ≡ p
+  pub eval : frame.node.eval ≡ e
   pub depth : frame.depth ≡ d
   pub alpha_is : frame.alpha ≡ alpha
   pub beta_is : frame.beta ≡ beta
 
 -- one frame has the place of another
 abbrev pub IsSame : Frame → Frame → Type 0
-IsSame f g = (g.position ≡ f.position) × ((g.depth ≡ f.depth) × ((g.alpha ≡ f.alpha) × (g.beta ≡ f.beta)))
+IsSame f g = (g.node ≡ f.node) × ((g.depth ≡ f.depth) × ((g.alpha ≡ f.alpha) × (g.beta ≡ f.beta)))
 
 -- what holds of the move that a node has asked for
 abbrev pub WhereAsked : Waiting → (Move → Type 0) → Type 0
@@ -32,9 +34,9 @@ WhereAsked (Leaf m v) fact = ⊥
 WhereAsked (Cut v) fact = ⊥
 
 -- each frame is the child that the one below it has asked for
-abbrev pub IsChain : Shogi → ℕ → ℤ → ℤ → List Frame → Frame → Type 0
-IsChain p d alpha beta [] top = IsAt p d alpha beta top
-IsChain p d alpha beta (f ∷ fs) top = IsAt p d alpha beta f × ((0 < d) × WhereAsked f.waiting (λ m. IsChain (after_code p (code_of m)) (d - 1) (negated beta) (negated (threshold f.best_value (code_at f.best_move) (code_of m))) fs top))
+abbrev pub IsChain : Shogi → Eval → ℕ → ℤ → ℤ → List Frame → Frame → Type 0
+IsChain p e d alpha beta [] top = IsAt p e d alpha beta top
+IsChain p e d alpha beta (f ∷ fs) top = IsAt p e d alpha beta f × ((0 < d) × WhereAsked f.waiting (λ m. IsChain (after_code p (code_of m)) e (d - 1) (negated beta) (negated (threshold f.best_value (code_at f.best_move) (code_of m))) fs top))
 
 -- the nodes that wait for a child, from the root on
 abbrev pub parents_of : Stack → List Frame
@@ -44,7 +46,7 @@ parents_of s = take s.height s.parents
 pub record IsStack (s : Stack) : Type 0 where
   pub shallow : s.depth ≤ GREATEST_DEPTH
   pub height_fits : s.height ≤ GREATEST_DEPTH
-  pub chain : IsChain s.root s.depth (negated INFINITY) INFINITY (parents_of s) s.top
+  pub chain : IsChain s.root s.eval s.depth (negated INFINITY) INFINITY (parents_of s) s.top
 
 -- a leaf whose value is still to be taken in
 abbrev pub left_of_waiting : Waiting → ℕ
@@ -55,7 +57,7 @@ left_of_waiting (Cut v) = 0
 
 -- what is left of a frame: itself, a leaf, and twice the nodes after the moves neither entered nor answered
 abbrev pub left_of_frame : Frame → ℕ
-left_of_frame frame = 1 + left_of_waiting frame.waiting + 2 * subtrees frame.position (frame.depth - 1) (todo frame.position frame.picker)
+left_of_frame frame = 1 + left_of_waiting frame.waiting + 2 * subtree_sizes frame.node.position (frame.depth - 1) (todo frame.node.position frame.picker)
 
 -- what is left of the whole stack
 abbrev pub left_of_stack : Stack → ℕ

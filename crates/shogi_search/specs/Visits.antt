@@ -6,6 +6,7 @@ use Rattle.shogi_core.specs.Codes.{code_of}
 use Rattle.shogi_core.specs.Position.{Shogi}
 use Rattle.shogi_moves.specs.After.{after_code}
 use Rattle.shogi_moves.specs.LegalMoves.{legal_moves}
+use Rattle.shogi_eval.specs.declared.eval.Eval.{Eval}
 use Rattle.shogi_search.specs.declared.frame.Waiting.{Waiting}
 use Rattle.shogi_search.specs.declared.frame.Waiting.TheVariants.{Next, Asked, Leaf, Cut}
 use Rattle.shogi_search.specs.Minimax.{value, worth}
@@ -38,16 +39,16 @@ IsOver (Leaf m v) ms = ⊥
 IsOver (Cut v) ms = Unit {0}
 
 -- what is known of a node with these moves to visit: the worth of all others but the current one; the value of the leaf after that; or that the node is worth enough
-abbrev pub IsKnownWhile : Shogi → ℕ → ℤ → ℤ → ℤ → Option ℕ → List ℕ → Waiting → Type 0
-IsKnownWhile p d alpha beta best_value best_move ms Next = IsCovered (worth p (d - 1)) (moves_at p d) ms alpha best_value best_move
-IsKnownWhile p d alpha beta best_value best_move ms (Asked m) = IsCovered (worth p (d - 1)) (moves_at p d) (code_of m ∷ ms) alpha best_value best_move
-IsKnownWhile p d alpha beta best_value best_move ms (Leaf m v) =
-    IsCovered (worth p (d - 1)) (moves_at p d) (code_of m ∷ ms) alpha best_value best_move × ((d ≡ 1) × (value (after_code p (code_of m)) 0 ≡ v))
-IsKnownWhile p d alpha beta best_value best_move ms (Cut v) = (v ≤ℤ value p d) × (beta ≤ℤ v)
+abbrev pub IsKnownWhile : Shogi → Eval → ℕ → ℤ → ℤ → ℤ → Option ℕ → List ℕ → Waiting → Type 0
+IsKnownWhile p e d alpha beta best_value best_move ms Next = IsCovered (worth p e (d - 1)) (moves_at p d) ms alpha best_value best_move
+IsKnownWhile p e d alpha beta best_value best_move ms (Asked m) = IsCovered (worth p e (d - 1)) (moves_at p d) (code_of m ∷ ms) alpha best_value best_move
+IsKnownWhile p e d alpha beta best_value best_move ms (Leaf m v) =
+    IsCovered (worth p e (d - 1)) (moves_at p d) (code_of m ∷ ms) alpha best_value best_move × ((d ≡ 1) × (value (after_code p (code_of m)) e 0 ≡ v))
+IsKnownWhile p e d alpha beta best_value best_move ms (Cut v) = (v ≤ℤ value p e d) × (beta ≤ℤ v)
 
 -- it has one proof at most, so it may be a ghost field
-pub IsKnownWhile-prop : (p : Shogi) (d : ℕ) (alpha beta best_value : ℤ) (best_move : Option ℕ) (ms : List ℕ) (waiting : Waiting) → IsProp (IsKnownWhile p d alpha beta best_value best_move ms waiting)
-IsKnownWhile-prop p d alpha beta best_value best_move ms Next = Prim.hlevel props
-IsKnownWhile-prop p d alpha beta best_value best_move ms (Asked m) = Prim.hlevel props
-IsKnownWhile-prop p d alpha beta best_value best_move ms (Leaf m v) = Prim.hlevel props
-IsKnownWhile-prop p d alpha beta best_value best_move ms (Cut v) = Prim.hlevel props
+pub IsKnownWhile-prop : (p : Shogi) (e : Eval) (d : ℕ) (alpha beta best_value : ℤ) (best_move : Option ℕ) (ms : List ℕ) (waiting : Waiting) → IsProp (IsKnownWhile p e d alpha beta best_value best_move ms waiting)
+IsKnownWhile-prop p e d alpha beta best_value best_move ms Next = Prim.hlevel props
+IsKnownWhile-prop p e d alpha beta best_value best_move ms (Asked m) = Prim.hlevel props
+IsKnownWhile-prop p e d alpha beta best_value best_move ms (Leaf m v) = Prim.hlevel props
+IsKnownWhile-prop p e d alpha beta best_value best_move ms (Cut v) = Prim.hlevel props

@@ -9,7 +9,8 @@ ghost use Rattle.shogi_moves.specs.After.{after_code};
 ghost use Rattle.shogi_moves.specs.LegalMoves.{legal_moves};
 ghost use Rattle.shogi_moves.specs.Replies.{IsReplies};
 ghost use Rattle.shogi_moves.specs.Rising.{is_in};
-ghost use Rattle.shogi_search.specs.Minimax.{value, tree_size, worth, negated, subtrees, IsTrueEntry};
+ghost use Rattle.shogi_eval.specs.declared.points.TheConstants.{MOST_POINTS};
+ghost use Rattle.shogi_search.specs.Minimax.{value, tree_size, worth, negated, subtree_sizes, IsTrueEntry};
 ghost use Rattle.shogi_search.specs.Entries.{IsCutoff};
 ghost use Rattle.shogi_search.specs.Order.{todo, IsKept, IsKept-prop};
 ghost use Rattle.shogi_search.specs.Visits.{IsKnownWhile, IsKnownWhile-prop, IsCurrent, IsFree, IsOver};
@@ -21,7 +22,7 @@ use crate::memo::Entry;
 use crate::move_picker::MovePicker;
 use crate::window::threshold;
 use shogi_core::Move;
-use shogi_eval::Node;
+use shogi_eval::{Eval, Node};
 use shogi_moves::{Replies, has_legal};
 
 /// What a node waits for.
@@ -40,7 +41,7 @@ pub enum Waiting {
 /// A node of any depth, and what is known of the moves gone through.
 #[derive(Clone, Copy)]
 pub struct Frame {
-    pub position: Node,
+    pub node: Node,
     pub depth: u8,
     pub alpha: i32,
     pub beta: i32,
@@ -49,19 +50,19 @@ pub struct Frame {
     pub picker: MovePicker,
     pub waiting: Waiting,
     pub replies: Replies,
-    ghost valid: { IsValid position },
+    ghost valid: { IsValid node.position },
     ghost shallow: { depth ≤ GREATEST_DEPTH },
     ghost least: { negated INFINITY ≤ℤ alpha },
     ghost open: { best_value <ℤ beta },
     ghost most: { beta ≤ℤ INFINITY },
-    ghost known: { IsKnownWhile position depth alpha beta best_value (code_at best_move) (todo position picker) waiting } by { IsKnownWhile-prop position depth alpha beta best_value (code_at best_move) (todo position picker) waiting },
-    ghost kept: { IsKept position picker } by { IsKept-prop position picker },
-    ghost replied: { IsReplies position replies.sight replies.spare } by { Prim.hlevel props },
+    ghost known: { IsKnownWhile node.position node.eval depth alpha beta best_value (code_at best_move) (todo node.position picker) waiting } by { IsKnownWhile-prop node.position node.eval depth alpha beta best_value (code_at best_move) (todo node.position picker) waiting },
+    ghost kept: { IsKept node.position picker } by { IsKept-prop node.position picker },
+    ghost replied: { IsReplies node.position replies.sight replies.spare } by { Prim.hlevel props },
 }
 
 /// Whether some move is legal.
 fn can_move(node: &Node) -> bool
-    ensures { IsTrue result ↔ (legal_moves node.now ≢ []) }
+    ensures { IsTrue result ↔ (legal_moves node.now.position ≢ []) }
 {
     has_legal(node.as_position())
 }
@@ -69,16 +70,16 @@ fn can_move(node: &Node) -> bool
 /// The value at depth 0.
 #[tactic(auto, using(crate::proofs::MinimaxLaws::leaves))]
 pub fn leaf(node: &Node) -> i32
-    ensures value { result ≡ value node.now 0 }
+    ensures value { result ≡ value node.now.position node.now.eval 0 }
     ensures least { negated MATE ≤ℤ result }
-    ensures most { result ≤ℤ pos 25200 }
+    ensures most { result ≤ℤ pos MOST_POINTS }
 {
     if can_move(node) { node.score() } else { -MATE }
 }
 
 /// What tells of the leaves after the moves, if that is asked for.
 fn replies_of(node: &Node, ahead: bool) -> Replies
-    ensures { IsReplies node.now result.sight result.spare }
+    ensures { IsReplies node.now.position result.sight result.spare }
 {
     if ahead {
         Replies::of(node.as_position())
@@ -94,7 +95,7 @@ impl Frame {
     /// asks for what tells of leaves without making them.
     pub fn enter(
         &mut self,
-        position: &Node,
+        node: &Node,
         depth: u8,
         alpha: i32,
         beta: i32,
@@ -105,18 +106,18 @@ impl Frame {
         requires least { negated INFINITY ≤ℤ alpha }
         requires open { alpha <ℤ beta }
         requires most { beta ≤ℤ INFINITY }
-        requires hash_move { ForSome hash_move (λ f. is_in (code_of f) (legal_moves position.now) ≡ true) }
-        ensures position { self.new.position ≡ position.now }
+        requires hash_move { ForSome hash_move (λ f. is_in (code_of f) (legal_moves node.now.position) ≡ true) }
+        ensures node { self.new.node ≡ node.now }
         ensures depth { self.new.depth ≡ depth }
         ensures alpha { self.new.alpha ≡ alpha }
         ensures beta { self.new.beta ≡ beta }
-        ensures counted { 1 + 2 * subtrees position.now (depth - 1) (todo position.now self.new.picker) < 2 * tree_size position.now depth }
+        ensures counted { 1 + 2 * subtree_sizes node.now.position (depth - 1) (todo node.now.position self.new.picker) < 2 * tree_size node.now.position depth }
         ensures waiting { self.new.waiting ≡ Waiting.Next }
         ensures leaf { depth ≡ 0 → self.new.picker ≡ MovePicker.Done }
         ensures hash_move { 0 < depth → MatchOption hash_move (self.new.picker ≡ MovePicker.Start None) (λ f. self.new.picker ≡ MovePicker.HashMove f) }
     {
-        position.as_position().validity();
-        self.position = *position;
+        node.as_position().validity();
+        self.node = *node;
         self.depth = depth;
         self.alpha = alpha;
         self.beta = beta;
@@ -124,20 +125,20 @@ impl Frame {
         self.best_move = None;
         self.picker = MovePicker::new(depth, hash_move);
         self.waiting = Waiting::Next;
-        self.replies = replies_of(position, ahead);
+        self.replies = replies_of(node, ahead);
     }
 
     /// What is known of the node once it is cut off or all its moves are gone through.
     pub fn close(&self) -> Entry
-        requires over { IsOver self.now.waiting (todo self.now.position self.now.picker) }
-        ensures truth { IsTrueEntry self.now.position self.now.depth result }
+        requires over { IsOver self.now.waiting (todo self.now.node.position self.now.picker) }
+        ensures truth { IsTrueEntry self.now.node.position self.now.node.eval self.now.depth result }
         ensures cutoff { IsCutoff self.now.alpha self.now.beta result }
     {
         if let Waiting::Cut(v) = self.waiting {
             return Entry::AtLeast(v);
         }
         if self.depth == 0 {
-            return Entry::Exact(leaf(&self.position), None);
+            return Entry::Exact(leaf(&self.node), None);
         }
         let best = self.best_move;
         match self.best_move {
@@ -146,7 +147,7 @@ impl Frame {
                 Entry::Exact(self.best_value, best)
             }
             None => {
-                if can_move(&self.position) {
+                if can_move(&self.node) {
                     Entry::AtMost(self.best_value)
                 } else {
                     Entry::Exact(-MATE - self.depth as i32, None)
@@ -158,11 +159,11 @@ impl Frame {
     /// Asks for the answer of the next move, where there is one.
     pub fn ask(&mut self) -> Option<Move>
         requires next { self.old.waiting ≡ Waiting.Next }
-        ensures todo { MatchOption result ((todo self.old.position self.old.picker ≡ []) × (todo self.old.position self.new.picker ≡ [])) (λ m. todo self.old.position self.old.picker ≡ code_of m ∷ todo self.old.position self.new.picker) }
+        ensures todo { MatchOption result ((todo self.old.node.position self.old.picker ≡ []) × (todo self.old.node.position self.new.picker ≡ [])) (λ m. todo self.old.node.position self.old.picker ≡ code_of m ∷ todo self.old.node.position self.new.picker) }
         ensures waiting { MatchOption result (self.new.waiting ≡ Waiting.Next) (λ m. self.new.waiting ≡ Waiting.Asked m) }
         ensures same { IsSame self.old self.new }
     {
-        match self.picker.next(self.position.as_position()) {
+        match self.picker.next(self.node.as_position()) {
             Some(m) => {
                 let current = m;
                 self.waiting = Waiting::Asked(m);
@@ -194,7 +195,7 @@ impl Frame {
     /// Takes in what is known of the current move.
     pub fn take(&mut self, current: &Move, entry: &Entry)
         requires current { IsCurrent self.old.waiting current.now }
-        requires truth { IsTrueEntry (after_code self.old.position (code_of current.now)) (self.old.depth - 1) entry.now }
+        requires truth { IsTrueEntry (after_code self.old.node.position (code_of current.now)) self.old.node.eval (self.old.depth - 1) entry.now }
         requires cutoff { IsCutoff (negated self.old.beta) (negated (threshold self.old.best_value (code_at self.old.best_move) (code_of current.now))) entry.now }
         ensures free { IsFree self.new.waiting }
         ensures taken { left_of_waiting self.new.waiting ≡ 0 }
@@ -220,7 +221,7 @@ impl Frame {
     /// The current move, which only the clauses need, is worth this much or more, which is enough.
     fn cut_with(&mut self, current: &Move, value: i32)
         requires current { IsCurrent self.old.waiting current.now }
-        requires worth { value ≤ℤ worth self.old.position (self.old.depth - 1) (code_of current.now) }
+        requires worth { value ≤ℤ worth self.old.node.position self.old.node.eval (self.old.depth - 1) (code_of current.now) }
         requires beta { self.old.beta ≤ℤ value }
         ensures free { IsFree self.new.waiting }
         ensures taken { left_of_waiting self.new.waiting ≡ 0 }
@@ -234,7 +235,7 @@ impl Frame {
     /// Passes the current move, which is not worth enough; only the clauses need to know it.
     fn skip(&mut self, current: &Move)
         requires current { IsCurrent self.old.waiting current.now }
-        requires below { worth self.old.position (self.old.depth - 1) (code_of current.now) ≤ℤ threshold self.old.best_value (code_at self.old.best_move) (code_of current.now) }
+        requires below { worth self.old.node.position self.old.node.eval (self.old.depth - 1) (code_of current.now) ≤ℤ threshold self.old.best_value (code_at self.old.best_move) (code_of current.now) }
         ensures free { IsFree self.new.waiting }
         ensures taken { left_of_waiting self.new.waiting ≡ 0 }
         ensures picker { self.new.picker ≡ self.old.picker }
@@ -247,7 +248,7 @@ impl Frame {
     /// Passes the current move, which is the best so far.
     fn raise(&mut self, current: &Move, value: i32)
         requires current { IsCurrent self.old.waiting current.now }
-        requires is { worth self.old.position (self.old.depth - 1) (code_of current.now) ≡ value }
+        requires is { worth self.old.node.position self.old.node.eval (self.old.depth - 1) (code_of current.now) ≡ value }
         requires above { threshold self.old.best_value (code_at self.old.best_move) (code_of current.now) <ℤ value }
         requires open { value <ℤ self.old.beta }
         ensures free { IsFree self.new.waiting }
@@ -264,14 +265,11 @@ impl Frame {
     /// without making the move that a move is legal there.
     pub fn certain_leaf(&self, current: &Move) -> Option<i32>
         requires current { IsCurrent self.now.waiting current.now }
-        ensures value { IfSome result (λ v. value (after_code self.now.position (code_of current.now)) 0 ≡ v) }
+        ensures value { IfSome result (λ v. value (after_code self.now.node.position (code_of current.now)) self.now.node.eval 0 ≡ v) }
     {
         current.validity();
-        if self
-            .replies
-            .is_certain(self.position.as_position(), current)
-        {
-            return Some(self.position.score_after(current));
+        if self.replies.is_certain(self.node.as_position(), current) {
+            return Some(self.node.score_after(current));
         }
         None
     }
@@ -280,7 +278,7 @@ impl Frame {
     pub fn hear(&mut self, current: &Move, found: i32)
         requires current { IsCurrent self.old.waiting current.now }
         requires last { self.old.depth ≡ 1 }
-        requires value { value (after_code self.old.position (code_of current.now)) 0 ≡ found }
+        requires value { value (after_code self.old.node.position (code_of current.now)) self.old.node.eval 0 ≡ found }
         ensures free { IsFree self.new.waiting }
         ensures picker { self.new.picker ≡ self.old.picker }
         ensures same { IsSame self.old self.new }
@@ -292,10 +290,10 @@ impl Frame {
 impl Default for Frame {
     /// A leaf at the opening position, which stands where no node is entered yet.
     fn default() -> Self {
-        let position = Node::start();
-        position.as_position().validity();
+        let node = Node::start(Eval::Plain);
+        node.as_position().validity();
         Frame {
-            position,
+            node,
             depth: 0,
             alpha: -1,
             beta: 1,
@@ -303,7 +301,7 @@ impl Default for Frame {
             best_move: None,
             picker: MovePicker::Done,
             waiting: Waiting::Next,
-            replies: Replies::unknown(position.as_position()),
+            replies: Replies::unknown(node.as_position()),
         }
     }
 }

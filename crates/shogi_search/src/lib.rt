@@ -18,14 +18,4 @@ pub use memo::{Entry, Memo, NoMemo};
 pub use sliced_search::Search;
 
 #[cfg(test)]
-mod agreement;
-#[cfg(test)]
-mod fakes;
-#[cfg(test)]
-mod forgetful;
-#[cfg(test)]
-mod games;
-#[cfg(test)]
-mod plain;
-#[cfg(test)]
 mod tests;

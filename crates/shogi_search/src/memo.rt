@@ -2,14 +2,16 @@
 
 ghost use Rattle.std.specs.Prelude.{◌≡◌, ◌≤◌, ℕ, Option, None, IfSome, false};
 ghost use Rattle.shogi_core.specs.Position.{Shogi};
+ghost use Rattle.shogi_eval.specs.declared.eval.Eval.{Eval};
 ghost use Rattle.shogi_search.specs.Minimax.{IsTrueEntry};
 ghost use Rattle.shogi_search.specs.declared.memo.Entry.{Entry};
 ghost use Rattle.shogi_search.specs.declared.bounds.TheConstants.{GREATEST_DEPTH};
 
 use shogi_core::{Move, Position};
+use shogi_eval::Eval;
 
-/// What is known of the value of a position at a depth: the value with the best move of least code,
-/// or a bound. Values are seen from the side to move.
+/// What is known of the value of a position under an evaluation at a depth: the value with the best
+/// move of least code, or a bound. Values are seen from the side to move.
 #[derive(Clone, Copy, Debug, PartialEq, Eq)]
 pub enum Entry {
     /// The value, and the best move, `None` where no move is legal or the depth is 0.
@@ -22,23 +24,23 @@ pub enum Entry {
 
 /// A memory of searched positions. It may forget at any time, and what it answers is true.
 pub trait Memo {
-    ghost answers: { Self → Shogi → ℕ → Option Entry };
+    ghost answers: { Self → Shogi → Eval → ℕ → Option Entry };
 
-    /// Whether anything may ever be answered at the depth.
+    /// Whether anything may ever be answered at the depth, under any evaluation.
     fn keeps(&self, _d: u8) -> bool
-        ensures none { result ≡ false → (p : Shogi) → answers self.now p _d ≡ None }
+        ensures none { result ≡ false → (p : Shogi) (e : Eval) → answers self.now p e _d ≡ None }
     {
         true
     }
 
-    /// What is known of the position at the depth.
-    fn probe(&mut self, p: &Position, d: u8) -> Option<Entry>
-        ensures answer { result ≡ answers self.old p.now d }
-        ensures truth { IfSome result (IsTrueEntry p.now d) };
+    /// What is known of the position under the evaluation at the depth.
+    fn probe(&mut self, p: &Position, e: Eval, d: u8) -> Option<Entry>
+        ensures answer { result ≡ answers self.old p.now e d }
+        ensures truth { IfSome result (IsTrueEntry p.now e d) };
 
     /// Takes in what a search found out. It may be kept or not.
-    fn note(&mut self, p: &Position, d: u8, entry: Entry)
-        requires truth { IsTrueEntry p.now d entry }
+    fn note(&mut self, p: &Position, e: Eval, d: u8, entry: Entry)
+        requires truth { IsTrueEntry p.now e d entry }
         requires depth { d ≤ GREATEST_DEPTH };
 }
 
@@ -47,15 +49,15 @@ pub trait Memo {
 pub struct NoMemo;
 
 impl Memo for NoMemo {
-    ghost answers = { λ _ p d. Option.None };
+    ghost answers = { λ _ p e d. Option.None };
 
     fn keeps(&self, _d: u8) -> bool {
         false
     }
 
-    fn probe(&mut self, _p: &Position, _d: u8) -> Option<Entry> {
+    fn probe(&mut self, _p: &Position, _e: Eval, _d: u8) -> Option<Entry> {
         None
     }
 
-    fn note(&mut self, _p: &Position, _d: u8, _entry: Entry) {}
+    fn note(&mut self, _p: &Position, _e: Eval, _d: u8, _entry: Entry) {}
 }

@@ -14,11 +14,12 @@ use crate::frame::Frame;
 use crate::memo::{Entry, Memo};
 use crate::stack::{Stack, hash_move_of, looks_ahead};
 use shogi_core::Position;
-use shogi_eval::Node;
+use shogi_eval::{Eval, Node};
 use std::marker::Model;
 
-/// A search of a position at a depth. It makes its steps in slices, and each slice may be given
-/// another memo. A step enters a node, leaves a node, or has a child answered by the memo.
+/// A search of a position under an evaluation at a depth. It makes its steps in slices, and each
+/// slice may be given another memo. A step enters a node, leaves a node, or has a child answered by
+/// the memo.
 #[derive(Drop)]
 pub struct Search {
     stack: Stack,
@@ -40,12 +41,12 @@ impl Model for Search {
 }
 
 /// What is known of the root once it is left.
-fn found_of(entry: &Entry, root: &Position, depth: u8, steps: u64) -> Found
+fn found_of(entry: &Entry, root: &Position, e: Eval, depth: u8, steps: u64) -> Found
     requires shallow { depth ≤ GREATEST_DEPTH }
-    requires truth { IsTrueEntry root.now depth entry.now }
+    requires truth { IsTrueEntry root.now e depth entry.now }
     requires cutoff { IsCutoff (negated INFINITY) INFINITY entry.now }
-    ensures value { result.value ≡ value root.now depth }
-    ensures best { result.best ≡ best root.now depth }
+    ensures value { result.value ≡ value root.now e depth }
+    ensures best { result.best ≡ best root.now e depth }
     ensures steps { result.steps ≡ steps }
 {
     root.validity();
@@ -61,14 +62,15 @@ fn found_of(entry: &Entry, root: &Position, depth: u8, steps: u64) -> Found
 
 impl Search {
     /// A search that has made no step yet.
-    pub fn start(p: &Position, d: u8) -> Self
+    pub fn start(p: &Position, e: Eval, d: u8) -> Self
         requires { d ≤ GREATEST_DEPTH }
-        ensures { result ≡ untouched p.now d }
+        ensures { result ≡ untouched p.now e d }
     {
         let top = Frame::default();
         Search {
             stack: Stack {
                 root: *p,
+                eval: e,
                 depth: d,
                 parents: [top; 16],
                 height: 0,
@@ -94,13 +96,14 @@ impl Search {
         ensures begun { self.new.begun ≡ true }
         ensures found { self.new.found ≡ None }
         ensures root { (self.new.root ≡ self.old.root) × (self.new.depth ≡ self.old.depth) }
+        ensures eval { self.new.eval ≡ self.old.eval }
         ensures steps { self.new.steps ≡ min (self.old.steps + 1) (2 ^ 64 - 1) }
         ensures left { left_of self.new < left_of self.old }
     {
-        let (root, depth) = (&self.stack.root, self.stack.depth);
-        let hash_move = hash_move_of(root, depth, memo);
+        let (root, e, depth) = (&self.stack.root, self.stack.eval, self.stack.depth);
+        let hash_move = hash_move_of(root, e, depth, memo);
         let ahead = looks_ahead(depth, memo);
-        let node = Node::of(*root);
+        let node = Node::of(*root, e);
         self.stack.height = 0;
         self.stack
             .top
@@ -113,11 +116,12 @@ impl Search {
     fn go_on<M: Memo>(&mut self, memo: &mut M, budget: u64) -> Option<Found>
         requires begun { self.old.begun ≡ true }
         requires open { self.old.found ≡ None }
-        ensures value { IfSome result (λ f. f.value ≡ value self.old.root self.old.depth) }
-        ensures best { IfSome result (λ f. f.best ≡ best self.old.root self.old.depth) }
+        ensures value { IfSome result (λ f. f.value ≡ value self.old.root self.old.eval self.old.depth) }
+        ensures best { IfSome result (λ f. f.best ≡ best self.old.root self.old.eval self.old.depth) }
         ensures counted { IfSome result (λ f. f.steps ≡ self.new.steps) }
         ensures range { IfSome result (λ f. f.steps ≤ 2 * tree_size self.old.root self.old.depth) }
         ensures root { (self.new.root ≡ self.old.root) × (self.new.depth ≡ self.old.depth) }
+        ensures eval { self.new.eval ≡ self.old.eval }
         ensures found { self.new.found ≡ result }
         ensures over { OnSome result (self.new.left ≡ 0) }
         ensures unfinished { IfNone result (0 < self.new.left) }
@@ -130,23 +134,24 @@ impl Search {
         ensures fell { self.new.steps + left_of self.new ≤ self.old.steps + left_of self.old }
     {
         let entry = self.stack.run(memo, budget, &mut self.steps)?;
-        let (root, depth) = (&self.stack.root, self.stack.depth);
+        let (root, e, depth) = (&self.stack.root, self.stack.eval, self.stack.depth);
         let noted = entry;
         if depth == 0 {
-            memo.note(root, depth, noted);
+            memo.note(root, e, depth, noted);
         }
-        self.found = Some(found_of(&entry, root, depth, self.steps));
+        self.found = Some(found_of(&entry, root, e, depth, self.steps));
         self.found
     }
 
     /// Goes on by so many steps, or fewer where it ends, and then tells what it found. After the end
     /// it tells the same again, without a step or a call of the memo.
     pub fn advance<M: Memo>(&mut self, memo: &mut M, budget: u64) -> Option<Found>
-        ensures value { IfSome result (λ f. f.value ≡ value self.old.root self.old.depth) }
-        ensures best { IfSome result (λ f. f.best ≡ best self.old.root self.old.depth) }
+        ensures value { IfSome result (λ f. f.value ≡ value self.old.root self.old.eval self.old.depth) }
+        ensures best { IfSome result (λ f. f.best ≡ best self.old.root self.old.eval self.old.depth) }
         ensures counted { IfSome result (λ f. f.steps ≡ self.new.steps) }
         ensures range { IfSome result (λ f. f.steps ≤ 2 * tree_size self.old.root self.old.depth) }
         ensures root { (self.new.root ≡ self.old.root) × (self.new.depth ≡ self.old.depth) }
+        ensures eval { self.new.eval ≡ self.old.eval }
         ensures found { self.new.found ≡ result }
 
         // Until the end the whole budget is used.
@@ -160,7 +165,7 @@ impl Search {
         // Once it has ended nothing is left, and until then something is.
         ensures over { OnSome result (self.new.left ≡ 0) }
         ensures unfinished { IfNone result (0 < self.new.left) }
-        ensures known { self.old.begun ≡ false → IsExactly (M.answers memo.old self.old.root self.old.depth) → IsSome result × (self.new.steps ≡ self.old.steps) }
+        ensures known { self.old.begun ≡ false → IsExactly (M.answers memo.old self.old.root self.old.eval self.old.depth) → IsSome result × (self.new.steps ≡ self.old.steps) }
     {
         if self.found.is_some() {
             return self.found;
@@ -168,7 +173,11 @@ impl Search {
         if self.started {
             return self.go_on(memo, budget);
         }
-        if let Some(Entry::Exact(value, best)) = memo.probe(&self.stack.root, self.stack.depth) {
+        if let Some(Entry::Exact(value, best)) = memo.probe(
+            &self.stack.root,
+            self.stack.eval,
+            self.stack.depth,
+        ) {
             self.found = Some(Found {
                 value,
                 best,

@@ -15,13 +15,14 @@ ghost use Rattle.shogi_search.specs.declared.bounds.TheConstants.{GREATEST_DEPTH
 use crate::frame::{Frame, Waiting, leaf};
 use crate::memo::{Entry, Memo};
 use shogi_core::{Move, Position};
-use shogi_eval::Node;
+use shogi_eval::{Eval, Node};
 
-/// The root of a search and its depth, and the nodes that are entered and not yet left: those that
-/// wait for a child, from the root on, and the one on top.
+/// The root of a search, its evaluation and its depth, and the nodes that are entered and not yet
+/// left: those that wait for a child, from the root on, and the one on top.
 #[derive(Clone, Copy)]
 pub struct Stack {
     pub root: Position,
+    pub eval: Eval,
     pub depth: u8,
     pub parents: [Frame; 16],
     pub height: usize,
@@ -41,15 +42,15 @@ fn is_cutoff(entry: &Entry, alpha: i32, beta: i32) -> bool
 
 /// The best move one ply less deep, where the memo has it.
 #[tactic(auto, using(crate::proofs::OrderLaws::best_listed))]
-pub fn hash_move_of<M: Memo>(p: &Position, depth: u8, memo: &mut M) -> Option<Move>
+pub fn hash_move_of<M: Memo>(p: &Position, e: Eval, depth: u8, memo: &mut M) -> Option<Move>
     ensures listed { ForSome result (λ f. is_in (code_of f) (legal_moves p.now) ≡ true) }
     ensures shallow { depth < 2 → result ≡ None }
-    ensures deep { 2 ≤ depth → result ≡ move_in (M.answers memo.old p.now (depth - 1)) }
+    ensures deep { 2 ≤ depth → result ≡ move_in (M.answers memo.old p.now e (depth - 1)) }
 {
     if depth < 2 {
         return None;
     }
-    match memo.probe(p, depth - 1) {
+    match memo.probe(p, e, depth - 1) {
         Some(Entry::Exact(_, best)) => best,
         _ => None,
     }
@@ -58,10 +59,11 @@ pub fn hash_move_of<M: Memo>(p: &Position, depth: u8, memo: &mut M) -> Option<Mo
 /// The child after the move that the frame has asked for.
 fn child(frame: &Frame, current: &Move) -> Node
     requires current { IsCurrent frame.now.waiting current.now }
-    ensures { result ≡ after_code frame.now.position (code_of current.now) }
+    ensures position { result.position ≡ after_code frame.now.node.position (code_of current.now) }
+    ensures eval { result.eval ≡ frame.now.node.eval }
 {
     current.validity();
-    frame.position.play(*current)
+    frame.node.play(*current)
 }
 
 /// Whether a node's children are leaves that the memo need not be asked for.
@@ -81,6 +83,7 @@ impl Stack {
         ensures height { self.new.height ≤ GREATEST_DEPTH }
         ensures top { self.new.top ≡ self.old.top }
         ensures same { (self.new.root ≡ self.old.root) × (self.new.depth ≡ self.old.depth) }
+        ensures eval { self.new.eval ≡ self.old.eval }
     {
         self.parents[self.height] = self.top;
         self.height += 1;
@@ -93,6 +96,7 @@ impl Stack {
         ensures height { self.new.height ≤ GREATEST_DEPTH }
         ensures none { result ≡ false → (parents_of self.old ≡ []) × (self.new ≡ self.old) }
         ensures same { (self.new.root ≡ self.old.root) × (self.new.depth ≡ self.old.depth) }
+        ensures eval { self.new.eval ≡ self.old.eval }
     {
         if self.height == 0 {
             return false;
@@ -110,26 +114,34 @@ impl Stack {
         requires asked { self.old.top.waiting ≡ Waiting.Asked current.now }
         ensures stack { IsStack self.new }
         ensures free { IsFree self.new.top.waiting }
-        ensures left { left_of_stack self.new < left_of_stack self.old + 2 * tree_size (after_code self.old.top.position (code_of current.now)) (self.old.top.depth - 1) }
+        ensures left { left_of_stack self.new < left_of_stack self.old + 2 * tree_size (after_code self.old.top.node.position (code_of current.now)) (self.old.top.depth - 1) }
         ensures same { (self.new.root ≡ self.old.root) × (self.new.depth ≡ self.old.depth) }
+        ensures eval { self.new.eval ≡ self.old.eval }
     {
         let threshold = self.top.threshold(current);
-        let p = child(&self.top, current);
+        let node = child(&self.top, current);
         let below = self.top.depth - 1;
         let (alpha, beta) = (-self.top.beta, -threshold);
-        if let Some(entry) = memo.probe(p.as_position(), below) {
+        if let Some(entry) = memo.probe(node.as_position(), node.eval(), below) {
             if is_cutoff(&entry, alpha, beta) {
                 self.top.take(current, &entry);
                 return;
             }
         }
         if below == 0 {
-            self.top.hear(current, leaf(&p));
+            self.top.hear(current, leaf(&node));
             return;
         }
-        let hash_move = hash_move_of(p.as_position(), below, memo);
+        let hash_move = hash_move_of(node.as_position(), node.eval(), below, memo);
         self.push();
-        self.top.enter(&p, below, alpha, beta, hash_move, looks_ahead(below, memo));
+        self.top.enter(
+            &node,
+            below,
+            alpha,
+            beta,
+            hash_move,
+            looks_ahead(below, memo),
+        );
     }
 
     /// The same; where a leaf is certain to have a legal move, its value is told without making it.
@@ -138,8 +150,9 @@ impl Stack {
         requires asked { self.old.top.waiting ≡ Waiting.Asked current.now }
         ensures stack { IsStack self.new }
         ensures free { IsFree self.new.top.waiting }
-        ensures left { left_of_stack self.new < left_of_stack self.old + 2 * tree_size (after_code self.old.top.position (code_of current.now)) (self.old.top.depth - 1) }
+        ensures left { left_of_stack self.new < left_of_stack self.old + 2 * tree_size (after_code self.old.top.node.position (code_of current.now)) (self.old.top.depth - 1) }
         ensures same { (self.new.root ≡ self.old.root) × (self.new.depth ≡ self.old.depth) }
+        ensures eval { self.new.eval ≡ self.old.eval }
     {
         if looks_ahead(self.top.depth, memo) {
             if let Some(value) = self.top.certain_leaf(current) {
@@ -154,18 +167,24 @@ impl Stack {
     #[inline(never)]
     fn leave<M: Memo>(&mut self, memo: &mut M) -> Option<Entry>
         requires stack { IsStack self.old }
-        requires over { IsOver self.old.top.waiting (todo self.old.top.position self.old.top.picker) }
+        requires over { IsOver self.old.top.waiting (todo self.old.top.node.position self.old.top.picker) }
         ensures stack { IfNone result (IsStack self.new) }
         ensures free { IfNone result (IsFree self.new.top.waiting) }
         ensures left { IfNone result (left_of_stack self.new < left_of_stack self.old) }
-        ensures truth { IfSome result (IsTrueEntry self.old.root self.old.depth) }
+        ensures truth { IfSome result (IsTrueEntry self.old.root self.old.eval self.old.depth) }
         ensures cutoff { IfSome result (IsCutoff (negated INFINITY) INFINITY) }
         ensures same { (self.new.root ≡ self.old.root) × (self.new.depth ≡ self.old.depth) }
+        ensures eval { self.new.eval ≡ self.old.eval }
     {
         let entry = self.top.close();
         let (noted, answer) = (entry, entry);
         if self.top.depth > 0 {
-            memo.note(self.top.position.as_position(), self.top.depth, noted);
+            memo.note(
+                self.top.node.as_position(),
+                self.top.node.eval(),
+                self.top.depth,
+                noted,
+            );
         }
         if self.pop() {
             let Waiting::Asked(current) = self.top.waiting else {
@@ -184,9 +203,10 @@ impl Stack {
         ensures stack { IfNone result (IsStack self.new) }
         ensures free { IfNone result (IsFree self.new.top.waiting) }
         ensures left { IfNone result (left_of_stack self.new < left_of_stack self.old) }
-        ensures truth { IfSome result (IsTrueEntry self.old.root self.old.depth) }
+        ensures truth { IfSome result (IsTrueEntry self.old.root self.old.eval self.old.depth) }
         ensures cutoff { IfSome result (IsCutoff (negated INFINITY) INFINITY) }
         ensures same { (self.new.root ≡ self.old.root) × (self.new.depth ≡ self.old.depth) }
+        ensures eval { self.new.eval ≡ self.old.eval }
     {
         match self.top.waiting {
             Waiting::Next => match self.top.ask() {
@@ -216,9 +236,10 @@ impl Stack {
         ensures rises { steps.old ≤ steps.new }
         ensures most { steps.new ≤ steps.old + budget }
         ensures fell { IfSome result (λ _. steps.new ≤ steps.old + left_of_stack self.old) }
-        ensures truth { IfSome result (IsTrueEntry self.old.root self.old.depth) }
+        ensures truth { IfSome result (IsTrueEntry self.old.root self.old.eval self.old.depth) }
         ensures cutoff { IfSome result (IsCutoff (negated INFINITY) INFINITY) }
         ensures same { (self.new.root ≡ self.old.root) × (self.new.depth ≡ self.old.depth) }
+        ensures eval { self.new.eval ≡ self.old.eval }
     {
         let _so_far = *steps;
         for made in 0..budget {

@@ -5,4 +5,4 @@ use Rattle.shogi_core.specs.Pieces.{all_kinds}
 use Rattle.shogi_eval.proofs.points.points_in_hand.Given as goal
 
 abbrev pub invariant-loop-kind : goal.invariant-loop-kind
-invariant-loop-kind l = (l.points ≡ sum_by (points_held l.p.hands l.color) (take l.kind-index all_kinds)) × (l.points ≤ l.kind-index * (255 * MOST_VALUE))
+invariant-loop-kind l = (l.points ≡ sum_by (points_held l.p.hands l.e l.color) (take l.kind-index all_kinds)) × (l.points ≤ l.kind-index * (255 * MOST_VALUE))

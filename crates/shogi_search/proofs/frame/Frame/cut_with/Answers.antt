@@ -6,6 +6,6 @@ use Rattle.shogi_search.proofs.frame.Frame.cut_with.Goals as goal
 
 pub invariant_of-self-clause-known : goal.invariant_of-self-clause-known
 invariant_of-self-clause-known c =
-    let w : _ = waits _ _ _ _ _ _ _ _ _ c.requires.current c.args.self.now.known in
+    let w : _ = waits _ _ _ _ _ _ _ _ _ _ c.requires.current c.args.self.now.known in
     let f : FitsSigned w32 c.args.value = search rules in
-    cuts _ _ _ c.args.value _ (to_z-of_z _ _ f) (cut c.args.self.now.position c.args.self.now.depth (code_of c.args.current.now) c.args.value w.deep w.is_listed c.requires.worth) c.requires.beta
+    cuts _ _ _ _ c.args.value _ (to_z-of_z _ _ f) (cut c.args.self.now.node.position c.args.self.now.node.eval c.args.self.now.depth (code_of c.args.current.now) c.args.value w.deep w.is_listed c.requires.worth) c.requires.beta

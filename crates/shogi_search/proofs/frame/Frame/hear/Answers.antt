@@ -5,5 +5,5 @@ use Rattle.shogi_search.proofs.frame.Frame.hear.Goals as goal
 
 pub invariant_of-self-clause-known : goal.invariant_of-self-clause-known
 invariant_of-self-clause-known c =
-    let w : _ = waits _ _ _ _ _ _ _ _ _ c.requires.current c.args.self.now.known in
+    let w : _ = waits _ _ _ _ _ _ _ _ _ _ c.requires.current c.args.self.now.known in
     (at_depth _ _ _ _ _ _ _ w.deep w.covered, (c.requires.last, omega (arith, ints, c.requires.value)))

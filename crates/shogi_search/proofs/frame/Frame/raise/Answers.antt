@@ -6,5 +6,5 @@ use Rattle.shogi_search.proofs.frame.Frame.raise.Goals as goal
 
 pub invariant_of-self-clause-known : goal.invariant_of-self-clause-known
 invariant_of-self-clause-known c =
-    let w : _ = waits _ _ _ _ _ _ _ _ _ c.requires.current c.args.self.now.known in
+    let w : _ = waits _ _ _ _ _ _ _ _ _ _ c.requires.current c.args.self.now.known in
     at_depth _ _ _ _ _ _ _ w.deep (IsCovered-raise _ _ _ _ _ _ _ _ w.covered (omega (arith, ints, c.requires.is)) (omega (arith, ints, c.requires.above)))

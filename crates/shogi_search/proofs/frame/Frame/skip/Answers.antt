@@ -4,5 +4,5 @@ use Rattle.shogi_search.proofs.frame.Frame.skip.Goals as goal
 
 pub invariant_of-self-clause-known : goal.invariant_of-self-clause-known
 invariant_of-self-clause-known c =
-    let w : _ = waits _ _ _ _ _ _ _ _ _ c.requires.current c.args.self.now.known in
+    let w : _ = waits _ _ _ _ _ _ _ _ _ _ c.requires.current c.args.self.now.known in
     at_depth _ _ _ _ _ _ _ w.deep (IsCovered-skip _ _ _ _ _ _ _ w.covered c.requires.below)

@@ -7,14 +7,14 @@ use Rattle.shogi_search.proofs.frame.Frame.threshold.Goals as goal
 
 pub threshold-requires : goal.threshold-requires
 threshold-requires c =
-    let w : _ = waits _ _ _ _ _ _ _ _ _ c.requires.current c.args.self.now.known in
-    let l : _ = threshold_least _ _ _ _ _ _ (code_of c.args.current.now) c.args.self.now.valid c.args.self.now.shallow c.args.self.now.least w.covered in
+    let w : _ = waits _ _ _ _ _ _ _ _ _ _ c.requires.current c.args.self.now.known in
+    let l : _ = threshold_least _ _ _ _ _ _ _ (code_of c.args.current.now) c.args.self.now.valid c.args.self.now.shallow c.args.self.now.least w.covered in
     omega (arith, ints, l.0)
 
 pub returns-clause-least : goal.returns-clause-least
 returns-clause-least c =
-    let w : _ = waits _ _ _ _ _ _ _ _ _ c.requires.current c.args.self.now.known in
-    let l : _ = threshold_least _ _ _ _ _ _ (code_of c.args.current.now) c.args.self.now.valid c.args.self.now.shallow c.args.self.now.least w.covered in
+    let w : _ = waits _ _ _ _ _ _ _ _ _ _ c.requires.current c.args.self.now.known in
+    let l : _ = threshold_least _ _ _ _ _ _ _ (code_of c.args.current.now) c.args.self.now.valid c.args.self.now.shallow c.args.self.now.least w.covered in
     let f : FitsSigned w32 c.args.self.now.best_value = search rules in
     let e : c.threshold.result ≡ threshold c.args.self.now.best_value (code_at c.args.self.now.best_move) (code_of c.args.current.now) = simp to_z-of_z at c.threshold.ensures in
     omega (arith, ints, l.1, e)

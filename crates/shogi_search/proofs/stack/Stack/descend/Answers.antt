@@ -9,9 +9,9 @@ pub returns-in-Some-clause-stack : goal.returns-in-Some-clause-stack
 returns-in-Some-clause-stack g c = record {
   shallow = c.requires.stack.shallow;
   height_fits = c.requires.stack.height_fits;
-  chain = chain_same _ _ _ _ _ _ _ c.requires.stack.chain c.hear.ensures.same;
+  chain = chain_same _ _ _ _ _ _ _ _ c.requires.stack.chain c.hear.ensures.same;
 }
 
 pub returns-in-Some-clause-left : goal.returns-in-Some-clause-left
 returns-in-Some-clause-left g c =
-    omega (arith, left_heard c.args.self.now.top c.hear.new.self c.hear.ensures.same c.hear.ensures.picker, tree_size-positive (after_code c.args.self.now.top.position (code_of c.args.current.now)) (c.args.self.now.top.depth - 1))
+    omega (arith, left_heard c.args.self.now.top c.hear.new.self c.hear.ensures.same c.hear.ensures.picker, tree_size-positive (after_code c.args.self.now.top.node.position (code_of c.args.current.now)) (c.args.self.now.top.depth - 1))

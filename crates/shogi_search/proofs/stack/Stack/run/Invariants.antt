@@ -7,6 +7,7 @@ abbrev pub invariant-loop-made : goal.invariant-loop-made
 invariant-loop-made g l = record {
   stack : IsStack l.self;
   free : IsFree l.self.top.waiting;
+  eval : l.self.eval ≡ l.fn.self.eval;
   same : (l.self.root ≡ l.fn.self.root) × (l.self.depth ≡ l.fn.self.depth);
   left : left_of_stack l.self + l.made ≤ left_of_stack l.fn.self;
   counted : l.steps ≡ min (l.fn.steps + l.made) (2 ^ 64 - 1);
