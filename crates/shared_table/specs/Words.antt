@@ -1,4 +1,4 @@
--- The words of a key (own choice): ten numbers that say what stands on the squares, what is held, whose turn it is, and the depth.
+-- The words of a key (own choice): ten numbers that say what stands on the squares, what is held, whose turn it is, the evaluation and the depth.
 use Rattle.std.specs.Prelude.{ℕ, ◌+◌, ◌*◌, ◌/◌, ◌%◌, ◌<◌, ◌≡◌, zero, suc, List, [], ◌∷◌, ◌++◌, map, slice_index, slice_index_or, slice_range, Option, Some, None}
 use Rattle.shogi_core.specs.declared.piece.Color.{Color}
 use Rattle.shogi_core.specs.declared.piece.Color.TheVariants.{Black, White}
@@ -10,7 +10,9 @@ use Rattle.shogi_core.specs.Pieces.{all_kinds}
 use Rattle.shogi_core.specs.Position.{Shogi, HandCounts, held}
 use Rattle.shogi_core.specs.Same.{role_number}
 use Rattle.shogi_core.specs.Validity.{IsValid}
-use Rattle.shared_table.specs.Keys.{Key}
+use Rattle.shogi_eval.specs.declared.eval.Eval.{Eval}
+use Rattle.shogi_eval.specs.declared.eval.Eval.TheVariants.{Plain, Hand}
+use Rattle.shared_table.specs.Keys.{Key, eval_number}
 
 -- from 1 a piece of Black, and from 15 one of White
 abbrev pub piece_number : Color → Role → ℕ
@@ -40,7 +42,7 @@ abbrev pub side_number : Color → ℕ
 side_number Black = 0
 side_number White = 1
 
--- the words: twelve squares in each of seven, and nine in the last of them; Black's counts and White's; the side to move with the depth
+-- the words: twelve squares in each of seven, and nine in the last of them; Black's counts and White's; the side to move with the evaluation and the depth
 unfoldable pub words_of : Key → List ℕ
 words_of key =
     cells_word key.position.cells 0 12
@@ -52,7 +54,7 @@ words_of key =
     ∷ cells_word key.position.cells 72 81
     ∷ number_of (counts_of key.position.hands Black)
     ∷ number_of (counts_of key.position.hands White)
-    ∷ (side_number key.position.side + 2 * key.depth)
+    ∷ (side_number key.position.side + 2 * (eval_number key.eval + 2 * key.depth))
     ∷ []
 
 -- so many of the lowest digits of a number in base 32
@@ -93,15 +95,23 @@ position_in words = record {
   side = side_at (slice_index words 9 % 2);
 }
 
+abbrev pub eval_at : ℕ → Eval
+eval_at zero = Plain
+eval_at (suc n) = Hand
+
+-- the evaluation that they say
+abbrev pub eval_in : List ℕ → Eval
+eval_in words = eval_at (slice_index words 9 / 2 % 2)
+
 -- the depth that they say
 abbrev pub depth_in : List ℕ → ℕ
-depth_in words = slice_index words 9 / 2
+depth_in words = slice_index words 9 / 4
 
 -- the key that they say
 abbrev pub key_in : List ℕ → Key
-key_in words = record { position = position_in words; depth = depth_in words }
+key_in words = record { position = position_in words; eval = eval_in words; depth = depth_in words }
 
--- they are the words of a valid position and a depth
+-- they are the words of a valid position, an evaluation and a depth
 pub record AreWords (words : List ℕ) : Type 0 where
   pub valid : IsValid (position_in words)
   pub same : words_of (key_in words) ≡ words

@@ -1,15 +1,16 @@
-//! The key of an entry: the whole position and the depth, packed.
+//! The key of an entry: the whole position, the evaluation and the depth, packed.
 
 ghost use Rattle.std.specs.Prelude.{◌≡◌, ◌↔◌, ◌≤◌, ◌<◌, ◌+◌, ◌*◌, IsTrue, length, map};
-ghost use Rattle.shared_table.specs.Keys.{key_of};
+ghost use Rattle.shared_table.specs.Keys.{eval_number, key_of};
 ghost use Rattle.shared_table.specs.Words.{cell_number, counts_of, key_in, number_of, side_number, words_of};
 
 use shogi_core::{Color, Hands, Kind, Piece, Position, Role};
+use shogi_eval::Eval;
 use std::hash::{Hash, Hasher};
 use std::marker::Model;
 
-/// The key of an entry, seen as the position and the depth. It holds them packed into ten words, from
-/// which both can be had again, so that no hash can lie.
+/// The key of an entry, seen as the position, the evaluation and the depth. It holds them packed into
+/// ten words, from which all can be had again, so that no hash can lie.
 #[derive(Clone, Copy, Debug)]
 pub struct TableKey {
     words: [u64; 10],
@@ -34,9 +35,9 @@ impl Model for TableKey {
 }
 
 impl TableKey {
-    /// The key of the position at the depth.
-    pub fn of(position: &Position, depth: u8) -> TableKey
-        ensures { result ≡ key_of position.now depth }
+    /// The key of the position under the evaluation at the depth.
+    pub fn of(position: &Position, eval: Eval, depth: u8) -> TableKey
+        ensures { result ≡ key_of position.now eval depth }
     {
         position.validity();
         let cells = position.as_board().cells();
@@ -52,7 +53,7 @@ impl TableKey {
                 cells_word(&cells[72..81]),
                 hand_word(hands, Color::Black),
                 hand_word(hands, Color::White),
-                last_word(position.side(), depth),
+                last_word(position.side(), eval, depth),
             ],
         }
     }
@@ -61,10 +62,21 @@ impl TableKey {
     pub fn depth(&self) -> u8
         ensures { result ≡ self.now.depth }
     {
-        (self.words[9] / 2) as u8
+        (self.words[9] / 4) as u8
     }
 
-    /// The ten words, from which the position and the depth can be had again.
+    /// The evaluation.
+    pub fn eval(&self) -> Eval
+        ensures { result ≡ self.now.eval }
+    {
+        if self.words[9] / 2 % 2 == 0 {
+            Eval::Plain
+        } else {
+            Eval::Hand
+        }
+    }
+
+    /// The ten words, from which the position, the evaluation and the depth can be had again.
     pub fn words(&self) -> [u64; 10]
         ensures words { result ≡ words_of self.now }
         ensures key { key_in result ≡ self.now }
@@ -73,7 +85,7 @@ impl TableKey {
         words
     }
 
-    /// Whether the position and the depth are the same: exactly where the words are.
+    /// Whether the position, the evaluation and the depth are the same: exactly where the words are.
     pub fn is_same(&self, other: &TableKey) -> bool
         ensures same { IsTrue result ↔ (self.now ≡ other.now) }
         ensures words { IsTrue result ↔ (words_of self.now ≡ words_of other.now) }
@@ -176,13 +188,17 @@ fn hand_word(hands: Hands, color: Color) -> u64
             + 32 * (knights + 32 * (silvers + 32 * (golds + 32 * (bishops + 32 * rooks)))))
 }
 
-// The word of the side to move and the depth.
-fn last_word(side: Color, depth: u8) -> u64
-    ensures { result ≡ side_number side + 2 * depth }
+// The word of the side to move, the evaluation and the depth.
+fn last_word(side: Color, eval: Eval, depth: u8) -> u64
+    ensures { result ≡ side_number side + 2 * (eval_number eval + 2 * depth) }
 {
     let side = match side {
         Color::Black => 0,
         Color::White => 1,
     };
-    side + 2 * depth as u64
+    let eval = match eval {
+        Eval::Plain => 0,
+        Eval::Hand => 1,
+    };
+    side + 2 * (eval + 2 * depth as u64)
 }
