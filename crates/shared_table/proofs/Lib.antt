@@ -1,1 +1,2 @@
 pub mod RecentLaws
+pub mod WordLaws
