@@ -82,11 +82,11 @@ put_is key entry pairs (suc n) room fits = go (lookup_entry (is_same_key key) pa
 
 -- a found entry is true
 pub found_true : (pairs : List Pair) (key : Key) (found : Option Entry) → AreTrue pairs → found ≡ entry_of pairs key
-    → IfSome found (IsTrueEntry key.position key.depth)
+    → IfSome found (IsTrueEntry key.position key.eval key.depth)
 found_true pairs key None all is = tt
 found_true pairs key (Some entry) all is =
     let at = Contains-lookup (is_same_key key) pairs entry (sym is) in
-    subst (λ (k : Key). IsTrueEntry k.position k.depth entry) (one_key key at.0 at.2) (all at.0 entry at.1)
+    subst (λ (k : Key). IsTrueEntry k.position k.eval k.depth entry) (one_key key at.0 at.2) (all at.0 entry at.1)
 
 -- a found pair and those without it have the leaves of all
 leaves-without : (test : Key → Bool) (pairs : List Pair) (found : Pair) → lookup_entry test pairs ≡ Some found
@@ -194,7 +194,7 @@ noted_pair capacity key entry pairs pair at =
 
 -- a note of a true entry keeps what holds of the table
 pub table_noted : (key : Key) (entry : Entry) (old new : LruCache Key Entry) (was is : ℕ)
-    → IsTable old.entries old.cap was → IsTrueEntry key.position key.depth entry → is ≡ leaf_count new.entries
+    → IsTable old.entries old.cap was → IsTrueEntry key.position key.eval key.depth entry → is ≡ leaf_count new.entries
     → (new ≡ lru_cache (noted old.cap key entry old.entries) old.cap) ⊎ ((entry_of old.entries key ≡ None) × (new ≡ old))
     → IsTable new.entries new.cap is
 table_noted key entry old new was is t true_entry counted (inr same) = record {
@@ -205,7 +205,7 @@ table_noted key entry old new was is t true_entry counted (inr same) = record {
 }
 table_noted key entry old new was is t true_entry counted (inl same) = record {
   truth = rw same (λ k e at. elim (noted_pair old.cap key entry old.entries (k, e) at) [
-    | inl here ↦ subst (λ (p : Pair). IsTrueEntry p.0.position p.0.depth p.1) (sym here) true_entry
+    | inl here ↦ subst (λ (p : Pair). IsTrueEntry p.0.position p.0.eval p.0.depth p.1) (sym here) true_entry
     | inr there ↦ t.truth k e there
   ]);
   counted = counted;

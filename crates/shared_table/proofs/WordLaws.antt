@@ -24,9 +24,11 @@ use Rattle.shogi_core.specs.Position.{HandCounts, Shogi, held}
 use Rattle.shogi_core.specs.Same.{role_number}
 use Rattle.shogi_core.specs.Validity.{IsValid}
 use Rattle.shogi_core.proofs.Faults.{faultless_from}
-use Rattle.shared_table.specs.Keys.{is_same_key, key_of}
+use Rattle.shogi_eval.specs.declared.eval.Eval.{Eval}
+use Rattle.shogi_eval.specs.declared.eval.Eval.TheVariants.{Plain, Hand}
+use Rattle.shared_table.specs.Keys.{eval_number, is_same_key, key_of}
 use Rattle.shared_table.specs.KeyLaws.{key_same}
-use Rattle.shared_table.specs.Words.{AreWords, cell_at, cell_number, cells_in, cells_word, counts_of, depth_in, digits_of, key_in, number_of, piece_number, position_in, side_at, side_number, words_of}
+use Rattle.shared_table.specs.Words.{AreWords, cell_at, cell_number, cells_in, cells_word, counts_of, depth_in, digits_of, eval_at, eval_in, key_in, number_of, piece_number, position_in, side_at, side_number, words_of}
 
 -- each is a digit
 abbrev pub AreDigits : List ℕ → Type 0
@@ -165,13 +167,27 @@ listed xs n len =
 hands_back : (hands : HandCounts) → length hands ≡ 14 → counts_of hands Black ++ counts_of hands White ≡ hands
 hands_back hands len = listed hands 14 len
 
-side_back : (side : Color) (depth : ℕ) → side_at ((side_number side + 2 * depth) % 2) ≡ side
-side_back Black depth = let e : (0 + 2 * depth) % 2 ≡ 0 = omega arith in rw e refl
-side_back White depth = let e : (1 + 2 * depth) % 2 ≡ 1 = omega arith in rw e refl
+side_back : (side : Color) (n : ℕ) → side_at ((side_number side + 2 * n) % 2) ≡ side
+side_back Black n = let e : (0 + 2 * n) % 2 ≡ 0 = omega arith in rw e refl
+side_back White n = let e : (1 + 2 * n) % 2 ≡ 1 = omega arith in rw e refl
 
-depth_back : (side : Color) (depth : ℕ) → (side_number side + 2 * depth) / 2 ≡ depth
-depth_back Black depth = omega arith
-depth_back White depth = omega arith
+side_fits : (side : Color) → side_number side < 2
+side_fits Black = omega arith
+side_fits White = omega arith
+
+eval_fits : (eval : Eval) → eval_number eval < 2
+eval_fits Plain = omega arith
+eval_fits Hand = omega arith
+
+eval_back : (side : Color) (eval : Eval) (depth : ℕ) → eval_at ((side_number side + 2 * (eval_number eval + 2 * depth)) / 2 % 2) ≡ eval
+eval_back side eval depth = go eval refl
+  where
+    go : (e : Eval) → eval ≡ e → eval_at ((side_number side + 2 * (eval_number e + 2 * depth)) / 2 % 2) ≡ e
+    go Plain is = let e : (side_number side + 2 * (0 + 2 * depth)) / 2 % 2 ≡ 0 = omega (arith, side_fits side) in rw e refl
+    go Hand is = let e : (side_number side + 2 * (1 + 2 * depth)) / 2 % 2 ≡ 1 = omega (arith, side_fits side) in rw e refl
+
+depth_back : (side : Color) (eval : Eval) (depth : ℕ) → (side_number side + 2 * (eval_number eval + 2 * depth)) / 4 ≡ depth
+depth_back side eval depth = omega (arith, side_fits side, eval_fits eval)
 
 -- the parts of a board are the board
 parts_back : (cells : Cells) → length cells ≡ 81
@@ -207,34 +223,42 @@ board_back cells len =
     part : (from to n : ℕ) → from ≤ to → to ≤ 81 → to - from ≡ n → cells_in n (cells_word cells from to) ≡ slice_range cells from to
     part from to n order fits count = cells_back (slice_range cells from to) n (part_length cells from to len order fits ∙ count)
 
-abbrev position_of : Cells → HandCounts → Color → Shogi
+abbrev pub position_of : Cells → HandCounts → Color → Shogi
 position_of cells hands side = record { cells = cells; hands = hands; side = side }
 
-same_parts : {c d : Cells} {h k : HandCounts} {s t : Color} → c ≡ d → h ≡ k → s ≡ t → position_of c h s ≡ position_of d k t
+pub same_parts : {c d : Cells} {h k : HandCounts} {s t : Color} → c ≡ d → h ≡ k → s ≡ t → position_of c h s ≡ position_of d k t
 same_parts {c} {d} {h} {k} {s} {t} a b e =
     ap (λ (x : Cells). position_of x h s) a ∙ (ap (λ (x : HandCounts). position_of d x s) b ∙ ap (position_of d k) e)
 
 -- the position is had again
-pub position_back : (p : Shogi) (depth : ℕ) → IsValid p → position_in (words_of (key_of p depth)) ≡ p
+pub position_back : (p : Shogi) (eval : Eval) (depth : ℕ) → IsValid p → position_in (words_of (key_of p eval depth)) ≡ p
 unfolding position_in words_of
-position_back p depth valid = same_parts (board_back p.cells valid.cells_fit)
+position_back p eval depth valid = same_parts (board_back p.cells valid.cells_fit)
     (ap₂ (λ (x y : List ℕ). x ++ y) (counts_back p Black valid) (counts_back p White valid) ∙ hands_back p.hands valid.hands_fit)
-    (side_back p.side depth)
+    (side_back p.side (eval_number eval + 2 * depth))
 
-pub depth_in_back : (p : Shogi) (depth : ℕ) → depth_in (words_of (key_of p depth)) ≡ depth
+eval_in_back : (p : Shogi) (eval : Eval) (depth : ℕ) → eval_in (words_of (key_of p eval depth)) ≡ eval
 unfolding words_of
-depth_in_back p depth = depth_back p.side depth
+eval_in_back p eval depth = eval_back p.side eval depth
+
+depth_in_back : (p : Shogi) (eval : Eval) (depth : ℕ) → depth_in (words_of (key_of p eval depth)) ≡ depth
+unfolding words_of
+depth_in_back p eval depth = depth_back p.side eval depth
+
+same_key : {p q : Shogi} {e f : Eval} {d n : ℕ} → p ≡ q → e ≡ f → d ≡ n → key_of p e d ≡ key_of q f n
+same_key {p} {q} {e} {f} {d} {n} a b k =
+    ap (λ (x : Shogi). key_of x e d) a ∙ (ap (λ (x : Eval). key_of q x d) b ∙ ap (key_of q f) k)
 
 -- the key is had again
-pub key_back : (p : Shogi) (depth : ℕ) → IsValid p → key_in (words_of (key_of p depth)) ≡ key_of p depth
-key_back p depth valid = ap₂ key_of (position_back p depth valid) (depth_in_back p depth)
+pub key_back : (p : Shogi) (eval : Eval) (depth : ℕ) → IsValid p → key_in (words_of (key_of p eval depth)) ≡ key_of p eval depth
+key_back p eval depth valid = same_key (position_back p eval depth valid) (eval_in_back p eval depth) (depth_in_back p eval depth)
 
--- so the words of a valid position at a depth are a key
-pub words_are : (p : Shogi) (depth : ℕ) → IsValid p → depth < 256 → AreWords (words_of (key_of p depth))
-words_are p depth valid fits = record {
-  valid = rw (position_back p depth valid) valid;
-  same = ap words_of (key_back p depth valid);
-  depth_fits = rw (depth_in_back p depth) fits;
+-- so the words of a valid position under an evaluation at a depth are a key
+pub words_are : (p : Shogi) (eval : Eval) (depth : ℕ) → IsValid p → depth < 256 → AreWords (words_of (key_of p eval depth))
+words_are p eval depth valid fits = record {
+  valid = rw (position_back p eval depth valid) valid;
+  same = ap words_of (key_back p eval depth valid);
+  depth_fits = rw (depth_in_back p eval depth) fits;
 }
 
 -- words are the same exactly where their keys are
@@ -248,11 +272,11 @@ pub words_test : (a b : List ℕ) → AreWords a → AreWords b → pointwise na
 words_test a b v w = same_from_decides _ _ (words_tell a b v w) (key_same (key_in a) (key_in b))
 
 -- the words, one by one
-pub words_made : (p : Shogi) (depth : ℕ) (cells : Cells) (hands : HandCounts) (side : Color) → cells ≡ p.cells → hands ≡ p.hands → side ≡ p.side
+pub words_made : (p : Shogi) (eval : Eval) (depth : ℕ) (cells : Cells) (hands : HandCounts) (side : Color) → cells ≡ p.cells → hands ≡ p.hands → side ≡ p.side
     → (a b c d e f g h i j : ℕ) → a ≡ cells_word cells 0 12 → b ≡ cells_word cells 12 24 → c ≡ cells_word cells 24 36 → d ≡ cells_word cells 36 48
     → e ≡ cells_word cells 48 60 → f ≡ cells_word cells 60 72 → g ≡ cells_word cells 72 81 → h ≡ number_of (counts_of hands Black)
-    → i ≡ number_of (counts_of hands White) → j ≡ side_number side + 2 * depth
-    → a ∷ b ∷ c ∷ d ∷ e ∷ f ∷ g ∷ h ∷ i ∷ j ∷ [] ≡ words_of (key_of p depth)
+    → i ≡ number_of (counts_of hands White) → j ≡ side_number side + 2 * (eval_number eval + 2 * depth)
+    → a ∷ b ∷ c ∷ d ∷ e ∷ f ∷ g ∷ h ∷ i ∷ j ∷ [] ≡ words_of (key_of p eval depth)
 unfolding words_of
-words_made p depth cells hands side same_cells same_hands same_side a b c d e f g h i j ea eb ec ed ee ef eg eh ei ej =
+words_made p eval depth cells hands side same_cells same_hands same_side a b c d e f g h i j ea eb ec ed ee ef eg eh ei ej =
     rw (ea, eb, ec, ed, ee, ef, eg, eh, ei, ej, same_cells, same_hands, same_side) refl

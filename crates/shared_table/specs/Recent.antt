@@ -33,10 +33,10 @@ probed key pairs =
 abbrev pub noted : ℕ → Key → Entry → List Pair → List Pair
 noted capacity key entry pairs = take capacity ((key, entry) ∷ without key pairs)
 
--- each entry is true of its position and depth
+-- each entry is true of its position under its evaluation at its depth
 abbrev pub AreTrue : List Pair → Type 0
 AreTrue pairs = (key : Key) (entry : Entry) → Contains pairs (key, entry)
-    → IsTrueEntry key.position key.depth entry
+    → IsTrueEntry key.position key.eval key.depth entry
 
 -- the pair has depth 0
 abbrev pub is_leaf : Pair → Bool

@@ -5,6 +5,7 @@ use crate::{SharedTable, TableFault, TableKey};
 use linked_list_allocator::LocalHeap;
 use lru::DefaultHasher;
 use shogi_core::{Color, Hands, KINDS, Kind, Move, Piece, Position, Role};
+use shogi_eval::Eval;
 use shogi_search::{Entry, Memo, NoMemo, search};
 use std::alloc::{Allocator, Global};
 use std::hash::BuildHasher;
@@ -14,8 +15,8 @@ use std::test::Fail;
 fn note_search<M: Memo>(table: &mut M, p: &Position, depth: u8)
     requires { depth ≤ GREATEST_DEPTH }
 {
-    let found = search(p, depth, &mut NoMemo);
-    table.note(p, depth, Entry::Exact(found.value, found.best));
+    let found = search(p, Eval::Plain, depth, &mut NoMemo);
+    table.note(p, Eval::Plain, depth, Entry::Exact(found.value, found.best));
 }
 
 // The depths of the entries, from the most recently used, as decimal digits.
@@ -31,25 +32,28 @@ fn depths<S: BuildHasher, A: Allocator>(table: &SharedTable<S, A>) -> u64 {
 fn the_least_recently_used_drops_out(rt: HostRuntime) -> Result<(), Fail> {
     let p = Position::start();
     let mut table = SharedTable::new(rt.alloc(), 2, DefaultHasher::new())?;
-    assert_eq!(rt; table.probe(&p, 0), None);
+    assert_eq!(rt; table.probe(&p, Eval::Plain, 0), None);
     note_search(&mut table, &p, 0);
     note_search(&mut table, &p, 1);
     assert_eq!(rt; depths(&table), 10);
-    assert_eq!(rt; table.probe(&p, 0), Some(Entry::Exact(0, None)));
+    assert_eq!(rt;
+        table.probe(&p, Eval::Plain, 0),
+        Some(Entry::Exact(0, None))
+    );
     assert_eq!(rt; depths(&table), 1);
     note_search(&mut table, &p, 2);
     assert_eq!(rt; depths(&table), 20);
     assert_eq!(rt; table.len(), 2);
-    assert_eq!(rt; table.peek(&p, 1), None);
-    assert_eq!(rt; table.peek(&p, 0), Some(Entry::Exact(0, None)));
+    assert_eq!(rt; table.peek(&p, Eval::Plain, 1), None);
+    assert_eq!(rt; table.peek(&p, Eval::Plain, 0), Some(Entry::Exact(0, None)));
     assert_eq!(rt;
-        table.peek(&p, 2),
+        table.peek(&p, Eval::Plain, 2),
         Some(Entry::Exact(0, Move::of_code(982)))
     );
     assert_eq!(rt; depths(&table), 20);
     note_search(&mut table, &p, 1);
     assert_eq!(rt; depths(&table), 12);
-    assert_eq!(rt; table.probe(&p, 0), None);
+    assert_eq!(rt; table.probe(&p, Eval::Plain, 0), None);
     note_search(&mut table, &p, 2);
     assert_eq!(rt; depths(&table), 21);
     Ok(())
@@ -98,7 +102,7 @@ fn promoted() -> Result<Position, Fail> {
 // The words by a script that knows only the rule: digits in base 32, the first the lowest.
 #[test]
 fn words_of_keys(rt: HostRuntime) -> Result<(), Fail> {
-    let start = TableKey::of(&Position::start(), 3);
+    let start = TableKey::of(&Position::start(), Eval::Plain, 3);
     assert_eq!(rt;
         start.words(),
         [
@@ -111,10 +115,10 @@ fn words_of_keys(rt: HostRuntime) -> Result<(), Fail> {
             3300682383377,
             0,
             0,
-            6
+            12
         ]
     );
-    let late = TableKey::of(&promoted()?, 16);
+    let late = TableKey::of(&promoted()?, Eval::Hand, 16);
     assert_eq!(rt;
         late.words(),
         [
@@ -127,19 +131,34 @@ fn words_of_keys(rt: HostRuntime) -> Result<(), Fail> {
             30786325577755,
             3211305,
             1050663,
-            33
+            67
         ]
     );
     Ok(())
 }
 
-// A key, and those that differ from it in one square, in one count, in the side or in the depth.
+// What a key was made of is had again.
+#[test]
+fn keys_are_had_again(rt: HostRuntime) -> Result<(), Fail> {
+    for p in [Position::start(), promoted()?] {
+        for eval in [Eval::Plain, Eval::Hand] {
+            let key = TableKey::of(&p, eval, 200);
+            assert!(rt; key.position() == p);
+            assert_eq!(rt; (key.eval(), key.depth()), (eval, 200));
+        }
+    }
+    Ok(())
+}
+
+// A key, and those that differ from it in one square, in one count, in the side, in the evaluation or in
+// the depth.
 #[test]
 fn keys_that_differ(rt: HostRuntime) -> Result<(), Fail> {
     let p = promoted()?;
-    let key = TableKey::of(&p, 3);
-    assert!(rt; key.is_same(&TableKey::of(&p, 3)));
-    assert!(rt; !key.is_same(&TableKey::of(&p, 4)));
+    let key = TableKey::of(&p, Eval::Plain, 3);
+    assert!(rt; key.is_same(&TableKey::of(&p, Eval::Plain, 3)));
+    assert!(rt; !key.is_same(&TableKey::of(&p, Eval::Plain, 4)));
+    assert!(rt; !key.is_same(&TableKey::of(&p, Eval::Hand, 3)));
     let cells = *p.board().cells();
     for index in 0..81usize {
         let mut others = cells;
@@ -151,7 +170,10 @@ fn keys_that_differ(rt: HostRuntime) -> Result<(), Fail> {
             }),
         };
         let other = Position::new(others, p.hands(), Color::White)?;
-        assert!(rt; !key.is_same(&TableKey::of(&other, 3)), "square {index}");
+        assert!(rt;
+            !key.is_same(&TableKey::of(&other, Eval::Plain, 3)),
+            "square {index}"
+        );
     }
     for color in [Color::Black, Color::White] {
         for kind in KINDS {
@@ -162,12 +184,16 @@ fn keys_that_differ(rt: HostRuntime) -> Result<(), Fail> {
                 Position::new(cells, p.hands(), Color::White)?,
                 Position::new(cells, p.hands().with(color, kind, fewer), Color::White)?,
             );
-            let same = TableKey::of(&had, 3).is_same(&TableKey::of(&has, 3));
+            let same = TableKey::of(&had, Eval::Plain, 3).is_same(&TableKey::of(
+                &has,
+                Eval::Plain,
+                3,
+            ));
             assert!(rt; !same, "{color:?} {kind:?}");
         }
     }
     let turned = Position::new(cells, p.hands(), Color::Black)?;
-    assert!(rt; !key.is_same(&TableKey::of(&turned, 3)));
+    assert!(rt; !key.is_same(&TableKey::of(&turned, Eval::Plain, 3)));
     Ok(())
 }
 
@@ -221,7 +247,7 @@ fn refused_memory(rt: HostRuntime) -> Result<(), Fail> {
                 }
                 note_search(&mut table, &p, 0);
                 if table.len() > 0 {
-                    assert_eq!(rt; table.peek(&p, 0), Some(Entry::Exact(0, None)));
+                    assert_eq!(rt; table.peek(&p, Eval::Plain, 0), Some(Entry::Exact(0, None)));
                 }
             }
         }

@@ -7,12 +7,12 @@ use Rattle.shared_table.proofs.table.SharedTableMemo.probe.Goals as goal
 pub returns-then-self-eq0-clause-answer : goal.returns-then-self-eq0-clause-answer
 returns-then-self-eq0-clause-answer g c =
     rw (← c.self.view_is)
-    (no_leaf_found (key_of c.args.p.now c.args.d) c.self.inside.cache.entries (sym c.if-self-eq0.true ∙ c.self.invariant.counted) c.if-d-eq0.true)
+    (no_leaf_found (key_of c.args.p.now c.args.e c.args.d) c.self.inside.cache.entries (sym c.if-self-eq0.true ∙ c.self.invariant.counted) c.if-d-eq0.true)
 
 pub returns-then-self-eq0-clause-used : goal.returns-then-self-eq0-clause-used
 returns-then-self-eq0-clause-used g c =
     let none = returns-then-self-eq0-clause-answer g c in
-    ap (λ (l : List Pair). record c.args.self.now { pairs = l }) (sym (probed_none (key_of c.args.p.now c.args.d) c.args.self.now.pairs none))
+    ap (λ (l : List Pair). record c.args.self.now { pairs = l }) (sym (probed_none (key_of c.args.p.now c.args.e c.args.d) c.args.self.now.pairs none))
 
 pub invariant_of-self : goal.invariant_of-self
 invariant_of-self g c =
@@ -27,4 +27,4 @@ pub returns-clause-used : goal.returns-clause-used
 returns-clause-used g c =
     let table : List Pair → Table = λ l. record { pairs = l; capacity = c.self.inside.cache.cap } in
     rw (c.recall.ensures.entries, c.of-key.ensures, ← c.self.view_is)
-    (ap table (promoted_is (key_of c.args.p.now c.args.d) c.self.inside.cache.entries))
+    (ap table (promoted_is (key_of c.args.p.now c.args.e c.args.d) c.self.inside.cache.entries))
