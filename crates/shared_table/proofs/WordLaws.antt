@@ -223,10 +223,10 @@ board_back cells len =
     part : (from to n : ℕ) → from ≤ to → to ≤ 81 → to - from ≡ n → cells_in n (cells_word cells from to) ≡ slice_range cells from to
     part from to n order fits count = cells_back (slice_range cells from to) n (part_length cells from to len order fits ∙ count)
 
-abbrev position_of : Cells → HandCounts → Color → Shogi
+abbrev pub position_of : Cells → HandCounts → Color → Shogi
 position_of cells hands side = record { cells = cells; hands = hands; side = side }
 
-same_parts : {c d : Cells} {h k : HandCounts} {s t : Color} → c ≡ d → h ≡ k → s ≡ t → position_of c h s ≡ position_of d k t
+pub same_parts : {c d : Cells} {h k : HandCounts} {s t : Color} → c ≡ d → h ≡ k → s ≡ t → position_of c h s ≡ position_of d k t
 same_parts {c} {d} {h} {k} {s} {t} a b e =
     ap (λ (x : Cells). position_of x h s) a ∙ (ap (λ (x : HandCounts). position_of d x s) b ∙ ap (position_of d k) e)
 

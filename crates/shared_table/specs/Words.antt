@@ -1,10 +1,10 @@
 -- The words of a key (own choice): ten numbers that say what stands on the squares, what is held, whose turn it is, the evaluation and the depth.
-use Rattle.std.specs.Prelude.{ℕ, ◌+◌, ◌*◌, ◌/◌, ◌%◌, ◌<◌, ◌≡◌, zero, suc, List, [], ◌∷◌, ◌++◌, map, slice_index, slice_index_or, slice_range, Option, Some, None}
+use Rattle.std.specs.Prelude.{ℕ, ◌+◌, ◌*◌, ◌^◌, ◌/◌, ◌%◌, ◌<◌, ◌≡◌, zero, suc, List, [], ◌∷◌, ◌++◌, map, slice_index, slice_index_or, slice_range, Option, Some, None}
+use Rattle.std.specs.Hash as fed
 use Rattle.shogi_core.specs.declared.piece.Color.{Color}
 use Rattle.shogi_core.specs.declared.piece.Color.TheVariants.{Black, White}
 use Rattle.shogi_core.specs.declared.piece.Piece.{Piece}
 use Rattle.shogi_core.specs.declared.piece.Role.{Role}
-use Rattle.shogi_core.specs.declared.piece.Role.TheVariants as role
 use Rattle.shogi_core.specs.Movement.{Cells}
 use Rattle.shogi_core.specs.Pieces.{all_kinds}
 use Rattle.shogi_core.specs.Position.{Shogi, HandCounts, held}
@@ -12,6 +12,7 @@ use Rattle.shogi_core.specs.Same.{role_number}
 use Rattle.shogi_core.specs.Validity.{IsValid}
 use Rattle.shogi_eval.specs.declared.eval.Eval.{Eval}
 use Rattle.shogi_eval.specs.declared.eval.Eval.TheVariants.{Plain, Hand}
+use Rattle.shared_table.specs.declared.packing.TheConstants.{CELLS}
 use Rattle.shared_table.specs.Keys.{Key, eval_number}
 
 -- from 1 a piece of Black, and from 15 one of White
@@ -62,20 +63,9 @@ unfoldable pub digits_of : ℕ → ℕ → List ℕ
 digits_of zero number = []
 digits_of (suc count) number = (number % 32) ∷ digits_of count (number / 32)
 
-abbrev pub piece_of : Color → Role → Option Piece
-piece_of color role = Some (record { color = color; role = role })
-
 -- what each number stands for
 abbrev pub cell_at : ℕ → Option Piece
-cell_at number = slice_index_or
-    (None ∷ piece_of Black role.King ∷ piece_of Black role.Pawn ∷ piece_of Black role.Lance ∷ piece_of Black role.Knight
-    ∷ piece_of Black role.Silver ∷ piece_of Black role.Gold ∷ piece_of Black role.Bishop ∷ piece_of Black role.Rook
-    ∷ piece_of Black role.PromotedPawn ∷ piece_of Black role.PromotedLance ∷ piece_of Black role.PromotedKnight
-    ∷ piece_of Black role.PromotedSilver ∷ piece_of Black role.Horse ∷ piece_of Black role.Dragon
-    ∷ piece_of White role.King ∷ piece_of White role.Pawn ∷ piece_of White role.Lance ∷ piece_of White role.Knight
-    ∷ piece_of White role.Silver ∷ piece_of White role.Gold ∷ piece_of White role.Bishop ∷ piece_of White role.Rook
-    ∷ piece_of White role.PromotedPawn ∷ piece_of White role.PromotedLance ∷ piece_of White role.PromotedKnight
-    ∷ piece_of White role.PromotedSilver ∷ piece_of White role.Horse ∷ piece_of White role.Dragon ∷ []) number None
+cell_at number = slice_index_or CELLS number None
 
 -- the squares of a word
 abbrev pub cells_in : ℕ → ℕ → Cells
@@ -116,3 +106,13 @@ pub record AreWords (words : List ℕ) : Type 0 where
   pub valid : IsValid (position_in words)
   pub same : words_of (key_in words) ≡ words
   pub depth_fits : depth_in words < 256
+
+-- two words from the one on, as one number
+abbrev pub pair_at : List ℕ → ℕ → ℕ
+pair_at words place = slice_index words place + 2 ^ 64 * slice_index words (place + 1)
+
+-- what a hasher is fed: the words, two at a time
+abbrev pub writes_of : List ℕ → List (List ℕ)
+writes_of words =
+    fed.u128 (pair_at words 0) ++ (fed.u128 (pair_at words 2) ++ (fed.u128 (pair_at words 4)
+    ++ (fed.u128 (pair_at words 6) ++ fed.u128 (pair_at words 8))))

@@ -1,10 +1,11 @@
 //! The key of an entry: the whole position, the evaluation and the depth, packed.
 
-ghost use Rattle.std.specs.Prelude.{◌≡◌, ◌↔◌, ◌≤◌, ◌<◌, ◌+◌, ◌*◌, IsTrue, length, map};
-ghost use Rattle.shared_table.specs.Keys.{eval_number, key_of};
-ghost use Rattle.shared_table.specs.Words.{cell_number, counts_of, key_in, number_of, side_number, words_of};
+ghost use Rattle.std.specs.Prelude.{◌≡◌, ◌↔◌, IsTrue};
+ghost use Rattle.shared_table.specs.Keys.{key_of};
+ghost use Rattle.shared_table.specs.Words.{key_in, words_of};
 
-use shogi_core::{Color, Hands, Kind, Piece, Position, Role};
+use crate::packing::{cells_word, hand_word, last_word, pair, place_cells, side_of, with_counts};
+use shogi_core::{Board, Color, Hands, Position};
 use shogi_eval::Eval;
 use std::hash::{Hash, Hasher};
 use std::marker::Model;
@@ -65,6 +66,23 @@ impl TableKey {
         (self.words[9] / 4) as u8
     }
 
+    /// The position.
+    pub fn position(&self) -> Position
+        ensures { result ≡ self.now.position }
+    {
+        let mut cells = [None; 81];
+        place_cells(&mut cells, 0, 12, self.words[0]);
+        place_cells(&mut cells, 12, 24, self.words[1]);
+        place_cells(&mut cells, 24, 36, self.words[2]);
+        place_cells(&mut cells, 36, 48, self.words[3]);
+        place_cells(&mut cells, 48, 60, self.words[4]);
+        place_cells(&mut cells, 60, 72, self.words[5]);
+        place_cells(&mut cells, 72, 81, self.words[6]);
+        let black = with_counts(Hands::none(), Color::Black, self.words[7]);
+        let hands = with_counts(black, Color::White, self.words[8]);
+        Position::of_valid(Board::of(cells), hands, side_of(self.words[9]))
+    }
+
     /// The evaluation.
     pub fn eval(&self) -> Eval
         ensures { result ≡ self.now.eval }
@@ -114,91 +132,19 @@ impl Eq for TableKey {
 }
 
 impl Hash for TableKey {
-    ghost use Rattle.std.specs.List.{flat_map};
-    ghost use Rattle.std.specs.Hash as fed;
     ghost use Rattle.shared_table.specs.KeyLaws.{key_same};
+    ghost use Rattle.shared_table.specs.Words.{writes_of};
+    ghost use Rattle.std.specs.Hash as fed;
 
-    ghost hash_input = { λ key. flat_map fed.u64 (words_of key) };
+    ghost hash_input = { λ key. writes_of (words_of key) };
 
     ghost respects_eq = { (fed.same_Alike _ key_same).fed };
 
     fn hash<H: Hasher>(&self, state: &mut H) {
-        u64::hash_slice(&self.words, state);
+        state.write_u128(pair(self.words[0], self.words[1]));
+        state.write_u128(pair(self.words[2], self.words[3]));
+        state.write_u128(pair(self.words[4], self.words[5]));
+        state.write_u128(pair(self.words[6], self.words[7]));
+        state.write_u128(pair(self.words[8], self.words[9]));
     }
-}
-
-// A number for what stands on a square, below 32.
-fn cell_number(cell: Option<Piece>) -> u64
-    ensures number { result ≡ cell_number cell }
-    ensures range { result < 32 }
-{
-    let Some(piece) = cell else {
-        return 0;
-    };
-    let role = match piece.role {
-        Role::King => 0,
-        Role::Pawn => 1,
-        Role::Lance => 2,
-        Role::Knight => 3,
-        Role::Silver => 4,
-        Role::Gold => 5,
-        Role::Bishop => 6,
-        Role::Rook => 7,
-        Role::PromotedPawn => 8,
-        Role::PromotedLance => 9,
-        Role::PromotedKnight => 10,
-        Role::PromotedSilver => 11,
-        Role::Horse => 12,
-        Role::Dragon => 13,
-    };
-    match piece.color {
-        Color::Black => role + 1,
-        Color::White => role + 15,
-    }
-}
-
-// The word of at most twelve squares.
-fn cells_word(cells: &[Option<Piece>]) -> u64
-    requires { length cells.now ≤ 12 }
-    ensures { result ≡ number_of (map cell_number cells.now) }
-{
-    let mut word = 0;
-    let mut at = cells.len();
-    while at > 0 {
-        at -= 1;
-        word = 32 * word + cell_number(cells[at]);
-    }
-    word
-}
-
-// The word of what a side holds.
-#[tactic(auto, unfolding(crate::specs::Words::number_of))]
-fn hand_word(hands: Hands, color: Color) -> u64
-    ensures { result ≡ number_of (counts_of hands color) }
-{
-    let pawns = hands.count(color, Kind::Pawn) as u64;
-    let lances = hands.count(color, Kind::Lance) as u64;
-    let knights = hands.count(color, Kind::Knight) as u64;
-    let silvers = hands.count(color, Kind::Silver) as u64;
-    let golds = hands.count(color, Kind::Gold) as u64;
-    let bishops = hands.count(color, Kind::Bishop) as u64;
-    let rooks = hands.count(color, Kind::Rook) as u64;
-    pawns
-        + 32 * (lances
-            + 32 * (knights + 32 * (silvers + 32 * (golds + 32 * (bishops + 32 * rooks)))))
-}
-
-// The word of the side to move, the evaluation and the depth.
-fn last_word(side: Color, eval: Eval, depth: u8) -> u64
-    ensures { result ≡ side_number side + 2 * (eval_number eval + 2 * depth) }
-{
-    let side = match side {
-        Color::Black => 0,
-        Color::White => 1,
-    };
-    let eval = match eval {
-        Eval::Plain => 0,
-        Eval::Hand => 1,
-    };
-    side + 2 * (eval + 2 * depth as u64)
 }

@@ -36,7 +36,10 @@ fn the_least_recently_used_drops_out(rt: HostRuntime) -> Result<(), Fail> {
     note_search(&mut table, &p, 0);
     note_search(&mut table, &p, 1);
     assert_eq!(rt; depths(&table), 10);
-    assert_eq!(rt; table.probe(&p, Eval::Plain, 0), Some(Entry::Exact(0, None)));
+    assert_eq!(rt;
+        table.probe(&p, Eval::Plain, 0),
+        Some(Entry::Exact(0, None))
+    );
     assert_eq!(rt; depths(&table), 1);
     note_search(&mut table, &p, 2);
     assert_eq!(rt; depths(&table), 20);
@@ -134,6 +137,19 @@ fn words_of_keys(rt: HostRuntime) -> Result<(), Fail> {
     Ok(())
 }
 
+// What a key was made of is had again.
+#[test]
+fn keys_are_had_again(rt: HostRuntime) -> Result<(), Fail> {
+    for p in [Position::start(), promoted()?] {
+        for eval in [Eval::Plain, Eval::Hand] {
+            let key = TableKey::of(&p, eval, 200);
+            assert!(rt; key.position() == p);
+            assert_eq!(rt; (key.eval(), key.depth()), (eval, 200));
+        }
+    }
+    Ok(())
+}
+
 // A key, and those that differ from it in one square, in one count, in the side, in the evaluation or in
 // the depth.
 #[test]
@@ -154,7 +170,10 @@ fn keys_that_differ(rt: HostRuntime) -> Result<(), Fail> {
             }),
         };
         let other = Position::new(others, p.hands(), Color::White)?;
-        assert!(rt; !key.is_same(&TableKey::of(&other, Eval::Plain, 3)), "square {index}");
+        assert!(rt;
+            !key.is_same(&TableKey::of(&other, Eval::Plain, 3)),
+            "square {index}"
+        );
     }
     for color in [Color::Black, Color::White] {
         for kind in KINDS {
@@ -165,7 +184,11 @@ fn keys_that_differ(rt: HostRuntime) -> Result<(), Fail> {
                 Position::new(cells, p.hands(), Color::White)?,
                 Position::new(cells, p.hands().with(color, kind, fewer), Color::White)?,
             );
-            let same = TableKey::of(&had, Eval::Plain, 3).is_same(&TableKey::of(&has, Eval::Plain, 3));
+            let same = TableKey::of(&had, Eval::Plain, 3).is_same(&TableKey::of(
+                &has,
+                Eval::Plain,
+                3,
+            ));
             assert!(rt; !same, "{color:?} {kind:?}");
         }
     }

@@ -1,6 +1,6 @@
 use Rattle.std.proofs.Common.{◌≡◌, ◌≤◌, length, map, drop}
 use Rattle.shared_table.specs.Words.{cell_number, number_of}
-use Rattle.shared_table.proofs.key.cells_word.Given as goal
+use Rattle.shared_table.proofs.packing.cells_word.Given as goal
 
 -- the word of the squares from here on
 abbrev pub invariant-loop-at : goal.invariant-loop-at
