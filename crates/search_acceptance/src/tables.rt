@@ -61,8 +61,8 @@ fn two_entries(rt: HostRuntime) -> Result<(), Fail> {
     let mut depths = [99, 99, 99];
     let mut count = 0usize;
     for (key, _) in table.entries() {
-        assert!(rt; key.position == start && count < 3);
-        depths[count] = key.depth;
+        assert!(rt; key.position() == start && count < 3);
+        depths[count] = key.depth();
         count += 1;
     }
     assert_eq!(rt; (depths, count), ([2, 0, 99], 2));
