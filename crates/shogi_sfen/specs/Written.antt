@@ -64,4 +64,4 @@ hands_text hands = or_hyphen (side_held_text hands Black ++ side_held_text hands
 
 -- the one written text: board, side and hands with a space between each two
 unfoldable pub position_text : Shogi → List ℕ
-position_text p = board_text p.cells ++ (SPACE ∷ (side_text p.side ++ (SPACE ∷ hands_text p.hands)))
+position_text position = board_text position.cells ++ (SPACE ∷ (side_text position.side ++ (SPACE ∷ hands_text position.hands)))
