@@ -14,13 +14,13 @@ use Rattle.shogi_sfen.specs.Letters.{piece_named}
 
 -- so many more of a kind held by the side
 abbrev pub with_kind : HandCounts → ℕ → Color → Option Kind → Option HandCounts
-with_kind hands n color None = None
-with_kind hands n color (Some kind) = Some (slice_set hands (place_of color kind) (held hands color kind + n))
+with_kind hands count color None = None
+with_kind hands count color (Some kind) = Some (slice_set hands (place_of color kind) (held hands color kind + count))
 
 -- so many more of a piece, if it can be held
 abbrev pub with_piece : HandCounts → ℕ → Option Piece → Option HandCounts
-with_piece hands n None = None
-with_piece hands n (Some piece) = with_kind hands n piece.color (kind_of piece.role)
+with_piece hands count None = None
+with_piece hands count (Some piece) = with_kind hands count piece.color (kind_of piece.role)
 
 -- one more digit of a count, of which the first is not 0
 abbrev pub with_digit : Option ℕ → ℕ → Option ℕ
@@ -29,10 +29,10 @@ with_digit count byte = cond (is_none count && byte == ZERO) None (Some (unwrap_
 -- the hands that the bytes say on top of those so far, where a count stands right before or none does
 abbrev pub hands_from : HandCounts → Option ℕ → List ℕ → Option HandCounts
 hands_from hands None [] = Some hands
-hands_from hands (Some n) [] = None
+hands_from hands (Some count) [] = None
 hands_from hands count (byte ∷ bytes) =
     cond (is_ascii_digit byte)
-    (option_and_then (λ n. hands_from hands (Some n) bytes) (with_digit count byte))
+    (option_and_then (λ more. hands_from hands (Some more) bytes) (with_digit count byte))
     (option_and_then (λ more. hands_from more None bytes) (with_piece hands (unwrap_or count 1) (piece_named false byte)))
 
 -- nothing held by either side
