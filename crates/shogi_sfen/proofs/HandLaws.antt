@@ -17,7 +17,8 @@ use Rattle.shogi_core.specs.declared.piece.Piece.{Piece}
 use Rattle.shogi_core.specs.Pieces.{kind_of}
 use Rattle.shogi_core.specs.Position.{HandCounts, held, place_of}
 use Rattle.shogi_sfen.specs.Letters.{piece_named}
-use Rattle.shogi_sfen.specs.HandTexts.{with_kind, with_piece, with_digit, hands_from, no_hands, capped_kind, capped_piece, capped_digit, capped_from, capped, hands_of}
+use Rattle.shogi_sfen.specs.HandTexts.{with_kind, with_piece, with_digit, hands_from, no_hands, hands_of}
+use Rattle.shogi_sfen.specs.CappedHands.{capped_kind, capped_piece, capped_digit, capped_from, capped}
 
 -- one byte more
 at_byte : (hands : HandCounts) (count : Option ℕ) (byte : ℕ) (bytes : List ℕ) → capped_from hands count (byte ∷ bytes) ≡ cond (is_ascii_digit byte)

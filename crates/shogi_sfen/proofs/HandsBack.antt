@@ -1,9 +1,10 @@
 -- Written hands are read as those hands.
-use Rattle.std.proofs.Common.{◌≡◌, ℕ, ◌+◌, ◌*◌, ◌/◌, ◌%◌, ◌≤◌, ◌<◌, true, refl, sym, ◌∙◌, ap, arith, List, [], ◌∷◌, ◌++◌, get_or, set, Option, Some, None, inl, inr}
-use Rattle.std.specs.Prelude.{◌==◌, ◌&&◌, zero, suc, nat_lt, unwrap_or}
+use Rattle.std.proofs.Common.{◌≡◌, ℕ, ◌+◌, ◌*◌, ◌/◌, ◌%◌, ◌≤◌, ◌<◌, true, refl, sym, ◌∙◌, ap, arith, List, [], ◌∷◌, ◌++◌, set, Option, Some, None, inl, inr}
+use Rattle.std.specs.Prelude.{◌==◌, ◌&&◌, nat_lt, unwrap_or}
 use Rattle.std.specs.Option.{option_and_then}
 use Rattle.std.specs.Char.{is_ascii_digit}
 use Rattle.std.proofs.lemmas.Bool.{cond-true, cond-false, and_from, and_right, lt-ltb, le-ltb, le-leb, eq-eqb, ne_eqb, cases_lt, cases_eq}
+use Rattle.std.proofs.lemmas.List.{set-get_or}
 use Rattle.shogi_core.specs.declared.piece.Color.{Color}
 use Rattle.shogi_core.specs.declared.piece.Color.TheVariants.{Black, White}
 use Rattle.shogi_core.specs.declared.piece.Kind.{Kind}
@@ -12,13 +13,10 @@ use Rattle.shogi_core.specs.Position.{HandCounts, held, place_of}
 use Rattle.shogi_sfen.specs.Letters.{letter_of, in_case_of, piece_named}
 use Rattle.shogi_sfen.specs.HandTexts.{hands_from}
 use Rattle.shogi_sfen.specs.Written.{count_digits, held_text}
+use Rattle.shogi_sfen.proofs.HoldingLaws.{added}
 
 digit : (n : ℕ) → n < 10 → is_ascii_digit (n + 48) ≡ true
 digit n h = and_from _ _ (le-leb 48 (n + 48) (omega arith)) (le-leb (n + 48) 57 (omega arith))
-
--- so many more of a kind
-abbrev pub added : HandCounts → Color → Kind → ℕ → HandCounts
-added hands color kind n = set hands (place_of color kind) (held hands color kind + n)
 
 -- a letter, behind a count or none
 pub letter_back : (color : Color) (kind : Kind) (hands : HandCounts) (count : Option ℕ) (rest : List ℕ)
@@ -44,17 +42,12 @@ next_digit_back : (n d : ℕ) (hands : HandCounts) (rest : List ℕ) → d < 10 
 next_digit_back n d hands rest high =
     cond-true (is_ascii_digit (d + 48)) _ _ (digit d high) ∙ ap (λ (m : ℕ). hands_from hands (Some m) rest) (omega arith)
 
-set_same : (hands : HandCounts) (i n : ℕ) → n ≡ get_or hands i 0 → set hands i n ≡ hands
-set_same [] i n e = refl
-set_same (x ∷ hands) zero n e = ap (λ (m : ℕ). m ∷ hands) e
-set_same (x ∷ hands) (suc i) n e = ap (λ (h : HandCounts). x ∷ h) (set_same hands i n e)
-
 -- a count and a letter
 pub held_back : (color : Color) (kind : Kind) (n : ℕ) (hands : HandCounts) (rest : List ℕ) → n < 100 → hands_from hands None (held_text color kind n ++ rest) ≡ hands_from (added hands color kind n) None rest
 held_back color kind n hands rest small = elim (cases_eq n 0) [
   | inl none ↦
       ap (λ (t : List ℕ). hands_from hands None (t ++ rest)) (cond-true (n == 0) [] _ (eq-eqb n 0 none))
-      ∙ ap (λ (h : HandCounts). hands_from h None rest) (sym (set_same hands (place_of color kind) (held hands color kind + n) (omega arith)))
+      ∙ ap (λ (h : HandCounts). hands_from h None rest) (sym (ap (set hands (place_of color kind)) (let same : held hands color kind + n ≡ held hands color kind = omega arith in same) ∙ set-get_or hands (place_of color kind) 0))
   | inr some ↦
       ap (λ (t : List ℕ). hands_from hands None (t ++ rest)) (cond-false (n == 0) [] (count_digits n ++ in_case_of color (letter_of kind) ∷ []) (ne_eqb n 0 some))
       ∙ elim (cases_lt n 2) as (λ _. hands_from hands None ((count_digits n ++ in_case_of color (letter_of kind) ∷ []) ++ rest) ≡ hands_from (added hands color kind n) None rest) [

@@ -5,6 +5,7 @@ pub mod Texts
 pub mod TextsFound
 pub mod BoardLaws
 pub mod HandLaws
+pub mod HoldingLaws
 pub mod TooManyHeld
 pub mod PositionLaws
 pub mod WriteLaws

@@ -11,7 +11,8 @@ use Rattle.shogi_core.specs.Position.{Shogi, HandCounts}
 use Rattle.shogi_core.specs.Validity.{fault_of}
 use Rattle.shogi_sfen.specs.Words.{is_blank, words, from_word, after_word, GivesWord}
 use Rattle.shogi_sfen.specs.BoardTexts.{board_of}
-use Rattle.shogi_sfen.specs.HandTexts.{hands_of, capped}
+use Rattle.shogi_sfen.specs.HandTexts.{hands_of}
+use Rattle.shogi_sfen.specs.CappedHands.{capped}
 use Rattle.shogi_sfen.specs.Sfen.{side_of, judged, position_of_parts, position_at, past_number, end_of}
 use Rattle.shogi_sfen.specs.declared.position.SfenFault.{SfenFault}
 use Rattle.shogi_sfen.specs.declared.position.SfenFault.TheVariants.{BadBoard, BadSide, BadHand, Invalid}

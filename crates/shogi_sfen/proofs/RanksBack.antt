@@ -12,7 +12,7 @@ use Rattle.shogi_sfen.specs.declared.board_text.RankItem.{RankItem}
 use Rattle.shogi_sfen.specs.declared.board_text.RankItem.TheVariants.{Empty, Occupied}
 use Rattle.shogi_sfen.specs.Letters.{piece_named, piece_text}
 use Rattle.shogi_sfen.specs.Items.{IsRankItem, item_cells, item_text}
-use Rattle.shogi_sfen.specs.BoardTexts.{is_plus, onto_items, items_from, squares_in, only_nine, rank_of}
+use Rattle.shogi_sfen.specs.BoardTexts.{is_first_plus, onto_items, items_from, squares_in, only_nine, rank_of}
 use Rattle.shogi_sfen.specs.Written.{run_text, cells_text}
 
 piece_back : (color : Color) (role : Role) (rest : List ℕ)
@@ -28,7 +28,7 @@ pub item_back : (item : RankItem) (rest : List ℕ) → IsRankItem item → item
 item_back (Empty n) rest h =
     let low : 1 ≤ n = h.0 in
     let high : n ≤ 9 = h.1 in
-    cond-false (is_plus false (n + 48)) _ _ (ne_eqb (n + 48) 43 (λ e. omega arith))
+    cond-false (is_first_plus false (n + 48)) _ _ (ne_eqb (n + 48) 43 (λ e. omega arith))
     ∙ ap (λ o. onto_items o (items_from false rest)) (cond-true (nat_lt 48 (n + 48) && nat_lt (n + 48) 58) _ _ (and_from _ _ (lt-ltb 48 (n + 48) (omega arith)) (lt-ltb (n + 48) 58 (omega arith))) ∙ ap (λ (m : ℕ). Some (Empty m)) (omega arith))
 item_back (Occupied piece) rest h = piece_back piece.color piece.role rest
 

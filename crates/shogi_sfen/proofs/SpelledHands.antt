@@ -1,87 +1,41 @@
 -- Hands are read exactly where they are spelled.
-use Rattle.std.proofs.Common.{◌≡◌, ℕ, ◌+◌, ◌-◌, ◌*◌, ◌<◌, Bool, true, false, cond, refl, sym, ◌∙◌, ap, subst, arith, List, [], ◌∷◌, ◌++◌, length, get_or, set, Option, Some, None, inl, inr, append_assoc, length-set, get_or-set_same, get_or-set_other}
+use Rattle.std.proofs.Common.{◌≡◌, ℕ, ◌+◌, ◌-◌, ◌*◌, ◌<◌, Bool, true, false, cond, refl, sym, ◌∙◌, ap, subst, arith, List, [], ◌∷◌, ◌++◌, length, Option, Some, None, inl, inr, append_assoc, length-set}
 use Rattle.std.specs.Prelude.{◌==◌, ◌&&◌, IfSome, unwrap_or, codes}
 use Rattle.std.specs.List.{flat_map, sum_by, list_all, AllByRecursion}
 use Rattle.std.specs.Option.{option_and_then}
 use Rattle.std.specs.Char.{is_ascii_digit, digit_value}
 use Rattle.std.specs.Str.{bytes_eq}
 use Rattle.std.specs.Str.Parse.{digits_value, digits_value_after}
-use Rattle.std.proofs.lemmas.Bool.{cond-true, cond-false, and_parts, and_from, eqb-false, eq-eqb, ne_eqb, cases_Bool, cases_eq}
-use Rattle.std.proofs.lemmas.List.{ext_get_or, length_push}
+use Rattle.std.proofs.lemmas.Bool.{cond-true, cond-false, and_parts, and_from, eqb-false, ne_eqb, cases_Bool}
+use Rattle.std.proofs.lemmas.List.{length_push}
 use Rattle.std.proofs.lemmas.List.Sums.{sum_by-cons}
 use Rattle.std.proofs.lemmas.List.Folds.{list_all-append}
 use Rattle.std.proofs.lemmas.Int.Digits.{digits_value_push}
 use Rattle.std.proofs.lemmas.Slice.Eq.{bytes_eq-Decides}
 use Rattle.shogi_core.specs.declared.piece.Color.{Color}
-use Rattle.shogi_core.specs.declared.piece.Color.TheVariants.{Black, White}
 use Rattle.shogi_core.specs.declared.piece.Kind.{Kind}
-use Rattle.shogi_core.specs.declared.piece.Kind.TheVariants as kinds
 use Rattle.shogi_core.specs.declared.piece.Piece.{Piece}
-use Rattle.shogi_core.specs.Pieces.{is_same_color, kind_number, kind_of}
+use Rattle.shogi_core.specs.Pieces.{kind_of}
 use Rattle.shogi_core.specs.Position.{HandCounts, held, place_of}
-use Rattle.shogi_core.proofs.Faults.{number_below}
 use Rattle.shogi_sfen.specs.Words.{has_bytes}
 use Rattle.shogi_sfen.specs.Letters.{letter_of, letter_or_king, in_case_of, piece_named}
 use Rattle.shogi_sfen.specs.HandTexts.{with_kind, with_piece, with_digit, hands_from, no_hands, hands_of}
 use Rattle.shogi_sfen.specs.Written.{or_hyphen}
-use Rattle.shogi_sfen.specs.Spelling.{Entry, AreCountDigits, count_written, entry_text, count_in, SpellsHands}
+use Rattle.shogi_sfen.specs.Spelling.{HandItem, AreCountDigits, count_written, hand_item_text, count_in, SpellsHands}
 use Rattle.shogi_sfen.proofs.Digits.{in_range}
 use Rattle.shogi_sfen.proofs.HandLaws.{exact_byte}
-use Rattle.shogi_sfen.proofs.TooManyHeld.{Holder, holder, hands_from-len}
-use Rattle.shogi_sfen.proofs.HandsBack.{added, letter_back}
+use Rattle.shogi_sfen.proofs.TooManyHeld.{hands_from-len}
+use Rattle.shogi_sfen.proofs.HoldingLaws.{held-holding, added, held-added, same_held}
+use Rattle.shogi_sfen.proofs.HandsBack.{letter_back}
 use Rattle.shogi_sfen.proofs.WrittenBack.{finished}
 use Rattle.shogi_sfen.proofs.LetterLaws.{piece_named-letter}
 
--- one side and kind is another exactly where the places are one
-same_place : (color other : Color) (kind third : Kind) → (is_same_color color other && kind_number kind == kind_number third) ≡ (place_of color kind == place_of other third)
-same_place Black Black kind third = refl
-same_place White White kind third = elim (cases_eq (kind_number kind) (kind_number third)) [
-  | inl same ↦ eq-eqb (kind_number kind) (kind_number third) same ∙ sym (eq-eqb (kind_number kind + 7) (kind_number third + 7) (omega arith))
-  | inr apart ↦ ne_eqb (kind_number kind) (kind_number third) apart ∙ sym (ne_eqb (kind_number kind + 7) (kind_number third + 7) (λ e. apart (omega arith)))
-]
-same_place Black White kind third = let small : kind_number kind < 7 = number_below kind in sym (ne_eqb (kind_number kind) (kind_number third + 7) (λ e. omega arith))
-same_place White Black kind third = let small : kind_number third < 7 = number_below third in sym (ne_eqb (kind_number kind + 7) (kind_number third) (λ e. omega arith))
-
-place_below : (color : Color) (kind : Kind) → place_of color kind < 14
-place_below Black kind = let small : kind_number kind < 7 = number_below kind in omega arith
-place_below White kind = let small : kind_number kind < 7 = number_below kind in omega arith
-
-get_set : (hands : HandCounts) (p q n : ℕ) → p < length hands → get_or (set hands p (get_or hands p 0 + n)) q 0 ≡ get_or hands q 0 + cond (p == q) n 0
-get_set hands p q n below = elim (cases_eq p q) [
-  | inl same ↦
-      ap (λ (i : ℕ). get_or (set hands p (get_or hands p 0 + n)) i 0) (sym same) ∙ (get_or-set_same hands p (get_or hands p 0 + n) 0 below
-      ∙ sym (ap (λ (b : Bool). get_or hands q 0 + cond b n 0) (eq-eqb p q same) ∙ ap (λ (i : ℕ). get_or hands i 0 + n) (sym same)))
-  | inr apart ↦
-      get_or-set_other hands p q (get_or hands p 0 + n) 0 (λ e. apart (sym e))
-      ∙ sym (ap (λ (b : Bool). get_or hands q 0 + cond b n 0) (ne_eqb p q apart) ∙ omega arith)
-]
-
--- what is held after an entry
-held-added : (hands : HandCounts) (color other : Color) (kind third : Kind) (n : ℕ) → length hands ≡ 14
-    → held (added hands color kind n) other third ≡ held hands other third + cond (is_same_color color other && kind_number kind == kind_number third) n 0
-held-added hands color other kind third n len =
-    let below : place_of color kind < 14 = place_below color kind in
-    get_set hands (place_of color kind) (place_of other third) n (omega arith)
-    ∙ ap (λ (b : Bool). held hands other third + cond b n 0) (sym (same_place color other kind third))
-
--- hands with the same counts are the same
-same_held : (hands others : HandCounts) → length hands ≡ 14 → length others ≡ 14 → ((color : Color) (kind : Kind) → held hands color kind ≡ held others color kind) → hands ≡ others
-same_held hands others len more each =
-    ext_get_or 0 hands others (omega arith)
-    (λ i below. let h : Holder i = holder i (omega arith) in subst (λ (p : ℕ). get_or hands p 0 ≡ get_or others p 0) h.place (each h.color h.kind))
-
-held-none : (color : Color) (kind : Kind) → held no_hands color kind ≡ 0
-held-none Black kinds.Pawn = refl
-held-none White kinds.Pawn = refl
-held-none Black kind = refl
-held-none White kind = refl
-
--- entries with this text, and what is held after them
+-- items with this text, and what is held after them
 record IsHeldFrom (text : List ℕ) (start hands : HandCounts) : Type 0 where
-  entries : List Entry
-  each : AllByRecursion (λ entry. AreCountDigits entry.digits) entries
-  sums : (color : Color) (kind : Kind) → held hands color kind ≡ held start color kind + sum_by (count_in color kind) entries
-  spelled : flat_map entry_text entries ≡ text
+  items : List HandItem
+  each : AllByRecursion (λ item. AreCountDigits item.digits) items
+  sums : (color : Color) (kind : Kind) → held hands color kind ≡ held start color kind + sum_by (count_in color kind) items
+  spelled : flat_map hand_item_text items ≡ text
 
 -- the digits of a count so far
 IsBegun : List ℕ → Option ℕ → Type 0
@@ -146,25 +100,25 @@ counted ds None begun = subst (λ (xs : List ℕ). AreCountDigits xs × (count_w
 counted [] (Some n) begun = let some : 0 < 0 = begun.2 in absurd (omega arith)
 counted (d ∷ ds) (Some n) begun = (begun.0, begun.1)
 
-one_entry : (entry : Entry) (text : List ℕ) (start more hands : HandCounts) → length start ≡ 14 → AreCountDigits entry.digits → added start entry.color entry.kind (count_written entry.digits) ≡ more
-    → IsHeldFrom text more hands → IsHeldFrom (entry_text entry ++ text) start hands
-one_entry entry text start more hands len count same h = record {
-  entries = entry ∷ h.entries;
+one_item : (item : HandItem) (text : List ℕ) (start more hands : HandCounts) → length start ≡ 14 → AreCountDigits item.digits → added start item.color item.kind (count_written item.digits) ≡ more
+    → IsHeldFrom text more hands → IsHeldFrom (hand_item_text item ++ text) start hands
+one_item item text start more hands len count same h = record {
+  items = item ∷ h.items;
   each = (count, h.each);
   sums = λ color kind.
-      let now : held more color kind ≡ held start color kind + count_in color kind entry =
-      ap (λ (hs : HandCounts). held hs color kind) (sym same) ∙ held-added start entry.color color entry.kind kind (count_written entry.digits) len in
-      let later : held hands color kind ≡ held more color kind + sum_by (count_in color kind) h.entries = h.sums color kind in
-      let all : sum_by (count_in color kind) (entry ∷ h.entries) ≡ count_in color kind entry + sum_by (count_in color kind) h.entries = sum_by-cons (count_in color kind) entry h.entries in
+      let now : held more color kind ≡ held start color kind + count_in color kind item =
+      ap (λ (hs : HandCounts). held hs color kind) (sym same) ∙ held-added start item.color color item.kind kind (count_written item.digits) len in
+      let later : held hands color kind ≡ held more color kind + sum_by (count_in color kind) h.items = h.sums color kind in
+      let all : sum_by (count_in color kind) (item ∷ h.items) ≡ count_in color kind item + sum_by (count_in color kind) h.items = sum_by-cons (count_in color kind) item h.items in
       omega arith;
-  spelled = ap (λ (t : List ℕ). entry_text entry ++ t) h.spelled;
+  spelled = ap (λ (t : List ℕ). hand_item_text item ++ t) h.spelled;
 }
 
 held_from : (bytes : List ℕ) (start : HandCounts) (count : Option ℕ) (ds : List ℕ) (hands : HandCounts) → length start ≡ 14 → IsBegun ds count → hands_from start count bytes ≡ Some hands
     → IsHeldFrom (ds ++ bytes) start hands
 unfolding IsBegun
 held_from [] start None ds hands len begun e = record {
-  entries = [];
+  items = [];
   each = tt;
   sums = λ color kind. let same : start ≡ hands = cc in ap (λ (hs : HandCounts). held hs color kind) (sym same) ∙ omega arith;
   spelled = sym (ap (λ (xs : List ℕ). xs ++ []) begun);
@@ -182,12 +136,12 @@ held_from (byte ∷ bytes) start count ds hands len begun e = elim (cases_Bool (
       steps (with_piece start n (piece_named false byte)) (λ more. hands_from more None bytes) hands (sym (cond-false (is_ascii_digit byte) _ _ letter) ∙ (sym (exact_byte start count byte bytes) ∙ e)) in
       let l : IsLetterFor start n byte s.next = by_piece start n byte s.next (piece_named false byte) refl s.found in
       let c = counted ds count begun in
-      let entry : Entry = record { digits = ds; color = l.color; kind = l.kind } in
+      let item : HandItem = record { digits = ds; color = l.color; kind = l.kind } in
       let same : added start l.color l.kind (count_written ds) ≡ s.next = ap (added start l.color l.kind) c.1 ∙ l.same in
       let grown : length s.next ≡ 14 = ap length (sym l.same) ∙ (length-set start (place_of l.color l.kind) (held start l.color l.kind + n) ∙ len) in
       let others : IsHeldFrom bytes s.next hands = held_from bytes s.next None [] hands grown refl s.later in
       subst (λ (t : List ℕ). IsHeldFrom t start hands) (append_assoc ds (in_case_of l.color (letter_of l.kind) ∷ []) bytes ∙ ap (λ (b : ℕ). ds ++ b ∷ bytes) l.letter)
-      (one_entry entry bytes start s.next hands len c.0 same others)
+      (one_item item bytes start s.next hands len c.0 same others)
 ]
 
 some_bytes : (text : List ℕ) → has_bytes text ≡ true → or_hyphen text ≡ text
@@ -204,9 +158,9 @@ by_items true text hands t e =
     let h : IsHeldFrom text no_hands hands = held_from text no_hands None [] hands refl refl e in
     record {
       places = held_len (hands_from no_hands None text) hands (hands_from-len text no_hands None) e;
-      entries = h.entries;
+      items = h.items;
       each = h.each;
-      sums = λ color kind. let none : held no_hands color kind ≡ 0 = held-none color kind in let all : held hands color kind ≡ held no_hands color kind + sum_by (count_in color kind) h.entries = h.sums color kind in omega arith;
+      sums = λ color kind. let none : held no_hands color kind ≡ 0 = held-holding (λ color kind. 0) color kind in let all : held hands color kind ≡ held no_hands color kind + sum_by (count_in color kind) h.items = h.sums color kind in omega arith;
       spelled = ap or_hyphen h.spelled ∙ some_bytes text t;
     }
 by_items false text hands t e = cc
@@ -216,9 +170,9 @@ by_hyphen true text hands t e =
     let same : no_hands ≡ hands = cc in
     record {
       places = ap length (sym same);
-      entries = [];
+      items = [];
       each = tt;
-      sums = λ color kind. ap (λ (hs : HandCounts). held hs color kind) (sym same) ∙ held-none color kind;
+      sums = λ color kind. ap (λ (hs : HandCounts). held hs color kind) (sym same) ∙ held-holding (λ color kind. 0) color kind;
       spelled = sym ((bytes_eq-Decides text (codes "-")).0 t);
     }
 by_hyphen false text hands t e = by_items (has_bytes text) text hands refl e
@@ -247,40 +201,40 @@ count_read (d ∷ ds) hands color kind rest h =
     ∙ (digits_read ds hands (0 * 10 + digit_value d) letter parts.1
     ∙ letter_back color kind hands (Some (digits_value 10 (d ∷ ds))) rest)))
 
--- what entries are read as
-record AreRead (entries : List Entry) (start : HandCounts) : Type 0 where
+-- what items are read as
+record AreRead (items : List HandItem) (start : HandCounts) : Type 0 where
   hands : HandCounts
-  read : hands_from start None (flat_map entry_text entries) ≡ Some hands
+  read : hands_from start None (flat_map hand_item_text items) ≡ Some hands
   len : length hands ≡ 14
-  sums : (color : Color) (kind : Kind) → held hands color kind ≡ held start color kind + sum_by (count_in color kind) entries
+  sums : (color : Color) (kind : Kind) → held hands color kind ≡ held start color kind + sum_by (count_in color kind) items
 
-are_read : (entries : List Entry) (start : HandCounts) → AllByRecursion (λ entry. AreCountDigits entry.digits) entries → length start ≡ 14 → AreRead entries start
+are_read : (items : List HandItem) (start : HandCounts) → AllByRecursion (λ item. AreCountDigits item.digits) items → length start ≡ 14 → AreRead items start
 are_read [] start each len = record { hands = start; read = refl; len = len; sums = λ color kind. omega arith }
-are_read (entry ∷ entries) start each len =
-    let next : HandCounts = added start entry.color entry.kind (count_written entry.digits) in
-    let others : AreRead entries next =
-    are_read entries next each.1 (length-set start (place_of entry.color entry.kind) (held start entry.color entry.kind + count_written entry.digits) ∙ len) in
+are_read (item ∷ items) start each len =
+    let next : HandCounts = added start item.color item.kind (count_written item.digits) in
+    let others : AreRead items next =
+    are_read items next each.1 (length-set start (place_of item.color item.kind) (held start item.color item.kind + count_written item.digits) ∙ len) in
     record {
       hands = others.hands;
-      read = ap (hands_from start None) (append_assoc entry.digits (in_case_of entry.color (letter_of entry.kind) ∷ []) (flat_map entry_text entries))
-          ∙ (count_read entry.digits start entry.color entry.kind (flat_map entry_text entries) each.0 ∙ others.read);
+      read = ap (hands_from start None) (append_assoc item.digits (in_case_of item.color (letter_of item.kind) ∷ []) (flat_map hand_item_text items))
+          ∙ (count_read item.digits start item.color item.kind (flat_map hand_item_text items) each.0 ∙ others.read);
       len = others.len;
       sums = λ color kind.
-          let now : held next color kind ≡ held start color kind + count_in color kind entry = held-added start entry.color color entry.kind kind (count_written entry.digits) len in
-          let later : held others.hands color kind ≡ held next color kind + sum_by (count_in color kind) entries = others.sums color kind in
-          let all : sum_by (count_in color kind) (entry ∷ entries) ≡ count_in color kind entry + sum_by (count_in color kind) entries = sum_by-cons (count_in color kind) entry entries in
+          let now : held next color kind ≡ held start color kind + count_in color kind item = held-added start item.color color item.kind kind (count_written item.digits) len in
+          let later : held others.hands color kind ≡ held next color kind + sum_by (count_in color kind) items = others.sums color kind in
+          let all : sum_by (count_in color kind) (item ∷ items) ≡ count_in color kind item + sum_by (count_in color kind) items = sum_by-cons (count_in color kind) item items in
           omega arith;
     }
 
 -- hands that are spelled are read
 pub hands_of-spelled : (text : List ℕ) (hands : HandCounts) → SpellsHands text hands → hands_of text ≡ Some hands
 hands_of-spelled text hands s =
-    let r : AreRead s.entries no_hands = are_read s.entries no_hands s.each refl in
+    let r : AreRead s.items no_hands = are_read s.items no_hands s.each refl in
     let same : r.hands ≡ hands =
     same_held r.hands hands r.len s.places
     (λ color kind.
-    let none : held no_hands color kind ≡ 0 = held-none color kind in
-    let all : held r.hands color kind ≡ held no_hands color kind + sum_by (count_in color kind) s.entries = r.sums color kind in
-    let told : held hands color kind ≡ sum_by (count_in color kind) s.entries = s.sums color kind in
+    let none : held no_hands color kind ≡ 0 = held-holding (λ color kind. 0) color kind in
+    let all : held r.hands color kind ≡ held no_hands color kind + sum_by (count_in color kind) s.items = r.sums color kind in
+    let told : held hands color kind ≡ sum_by (count_in color kind) s.items = s.sums color kind in
     omega arith) in
-    ap hands_of (sym s.spelled) ∙ (finished (flat_map entry_text s.entries) r.hands r.read ∙ ap Some same)
+    ap hands_of (sym s.spelled) ∙ (finished (flat_map hand_item_text s.items) r.hands r.read ∙ ap Some same)

@@ -11,7 +11,7 @@ use Rattle.shogi_sfen.specs.declared.board_text.RankItem.{RankItem}
 use Rattle.shogi_sfen.specs.declared.board_text.RankItem.TheVariants.{Empty, Occupied}
 use Rattle.shogi_sfen.specs.Letters.{is_promoted, piece_letter, piece_text, is_named, piece_named}
 use Rattle.shogi_sfen.specs.Items.{IsRankItem, item_cells, item_text}
-use Rattle.shogi_sfen.specs.BoardTexts.{item_named, onto_items, is_plus, items_from, squares_in, only_nine, rank_of, is_slash}
+use Rattle.shogi_sfen.specs.BoardTexts.{item_named, onto_items, is_first_plus, items_from, squares_in, only_nine, rank_of, is_slash}
 use Rattle.shogi_sfen.specs.Spelling.{SpellsRank}
 use Rattle.shogi_sfen.proofs.LetterLaws.{piece_named-passes}
 use Rattle.shogi_sfen.proofs.RanksBack.{item_back}
@@ -74,9 +74,9 @@ items_read [] true items e = cc
 items_read [] false items e = let same : [] ≡ items = cc in subst (λ (is : List RankItem). AllByRecursion IsRankItem is × (flat_map item_text is ≡ [])) same (tt, refl)
 items_read (byte ∷ bytes) true items e = one_more (43 ∷ byte ∷ []) bytes (item_named true byte) (items_from false bytes) items (λ item f. item_read true byte item f) (λ others f. items_read bytes false others f) e
 items_read (byte ∷ bytes) false items e = elim (cases_Bool (byte == 43)) [
-  | inl plus ↦ subst (λ (b : ℕ). AllByRecursion IsRankItem items × (flat_map item_text items ≡ b ∷ bytes)) (sym (eqb-true byte 43 plus)) (items_read bytes true items (sym (cond-true (is_plus false byte) _ _ plus) ∙ e))
+  | inl plus ↦ subst (λ (b : ℕ). AllByRecursion IsRankItem items × (flat_map item_text items ≡ b ∷ bytes)) (sym (eqb-true byte 43 plus)) (items_read bytes true items (sym (cond-true (is_first_plus false byte) _ _ plus) ∙ e))
   | inr other ↦
-      one_more (byte ∷ []) bytes (item_named false byte) (items_from false bytes) items (λ item f. item_read false byte item f) (λ others f. items_read bytes false others f) (sym (cond-false (is_plus false byte) _ _ other) ∙ e)
+      one_more (byte ∷ []) bytes (item_named false byte) (items_from false bytes) items (λ item f. item_read false byte item f) (λ others f. items_read bytes false others f) (sym (cond-false (is_first_plus false byte) _ _ other) ∙ e)
 ]
 
 rank_read : (text : List ℕ) (cells : Cells) (o : Option (List RankItem)) → items_from false text ≡ o → only_nine (squares_in o) ≡ Some cells → SpellsRank text cells

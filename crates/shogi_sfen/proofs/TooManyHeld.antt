@@ -1,12 +1,12 @@
 -- Counts in hand that no set has, stopped at the most that is counted or not.
-use Rattle.std.proofs.Common.{◌≡◌, ℕ, ◌+◌, ◌-◌, ◌≤◌, ◌<◌, Bool, true, false, refl, sym, ◌∙◌, ap, subst, arith, List, [], ◌∷◌, length, get_or, Option, Some, None, min, inl, inr, length-set}
-use Rattle.std.specs.Prelude.{zero, suc, nat_lt, IfSome, unwrap_or, codes}
-use Rattle.std.specs.List.{list_all}
+use Rattle.std.proofs.Common.{◌≡◌, ℕ, ◌+◌, ◌≤◌, Bool, true, false, refl, sym, ◌∙◌, ap, subst, arith, List, [], ◌∷◌, length, Option, Some, None, min, inl, inr, length-set}
+use Rattle.std.specs.Prelude.{nat_lt, IfSome, unwrap_or, codes}
+use Rattle.std.specs.List.{list_any}
 use Rattle.std.specs.Option.{option_and_then}
 use Rattle.std.specs.Char.{is_ascii_digit}
 use Rattle.std.specs.Str.{bytes_eq}
 use Rattle.std.proofs.lemmas.Option.{IfSome_then}
-use Rattle.std.proofs.lemmas.Bool.{cond-true, cond_both, lt-ltb, ltb-true, ltb-false, cases_lt, cases_Bool, and_parts, and_cases}
+use Rattle.std.proofs.lemmas.Bool.{cond-true, cond_both, ltb-false, both_ways, false_from_ne_true, cases_Bool}
 use Rattle.std.proofs.lemmas.List.Folds.{list_any_at}
 use Rattle.shogi_core.specs.declared.piece.Color.{Color}
 use Rattle.shogi_core.specs.declared.piece.Color.TheVariants.{Black, White}
@@ -14,7 +14,6 @@ use Rattle.shogi_core.specs.declared.piece.Kind.{Kind}
 use Rattle.shogi_core.specs.declared.piece.Kind.TheVariants as kinds
 use Rattle.shogi_core.specs.declared.piece.Piece.{Piece}
 use Rattle.shogi_core.specs.declared.validity.PositionFault.TheVariants.{TooMany}
-use Rattle.shogi_core.specs.Codes.{kind_at}
 use Rattle.shogi_core.specs.Movement.{Cells}
 use Rattle.shogi_core.specs.Pieces.{kind_number, all_kinds, set_size, kind_of}
 use Rattle.shogi_core.specs.Position.{Shogi, HandCounts, held, place_of}
@@ -23,97 +22,60 @@ use Rattle.shogi_core.proofs.Faults.{number_below, kind_there}
 use Rattle.shogi_sfen.specs.declared.hand_text.TheConstants.{MOST_COUNTED}
 use Rattle.shogi_sfen.specs.Words.{has_bytes}
 use Rattle.shogi_sfen.specs.Letters.{piece_named}
-use Rattle.shogi_sfen.specs.HandTexts.{with_kind, with_piece, with_digit, hands_from, hands_of, no_hands, capped}
+use Rattle.shogi_sfen.specs.HandTexts.{with_kind, with_piece, with_digit, hands_from, hands_of, no_hands}
+use Rattle.shogi_sfen.specs.CappedHands.{capped}
 use Rattle.shogi_sfen.specs.Sfen.{judged}
 use Rattle.shogi_sfen.proofs.HandLaws.{held-capped, exact_byte}
+use Rattle.shogi_sfen.proofs.HoldingLaws.{holding-held, holding_same}
 
-pub set_small : (kind : Kind) → set_size kind ≤ 18
+set_small : (kind : Kind) → set_size kind ≤ 18
 set_small kinds.Pawn = omega arith
 set_small kinds.Bishop = omega arith
 set_small kinds.Rook = omega arith
 set_small _ = omega arith
 
-pub counted : (cells : Cells) (hands : HandCounts) (color : Color) (kind : Kind) → held hands color kind ≤ count_of kind cells hands
+counted : (cells : Cells) (hands : HandCounts) (color : Color) (kind : Kind) → held hands color kind ≤ count_of kind cells hands
 counted cells hands Black kind = omega arith
 counted cells hands White kind = omega arith
 
--- as many of a kind as no set has
-too_many_at : (cells : Cells) (hands : HandCounts) (color : Color) (kind : Kind) → MOST_COUNTED ≤ held hands color kind → has_too_many cells hands ≡ true
-too_many_at cells hands color kind h =
+-- where there are no more than a set has, few are held
+pub held_of_set : (cells : Cells) (hands : HandCounts) → has_too_many cells hands ≡ false → (color : Color) (kind : Kind) → held hands color kind ≤ 18
+held_of_set cells hands e color kind =
     let test : Kind → Bool = λ (k : Kind). nat_lt (set_size k) (count_of k cells hands) in
+    let none : test kind ≡ false =
+    false_from_ne_true (test kind) (λ found. both_ways (list_any test all_kinds) e (list_any_at test all_kinds (kind_number kind) kinds.Pawn (number_below kind) (subst (λ (k : Kind). test k ≡ true) (sym (kind_there kind)) found))) in
+    let all : count_of kind cells hands ≤ set_size kind = ltb-false (set_size kind) (count_of kind cells hands) none in
     let small : set_size kind ≤ 18 = set_small kind in
-    let all : held hands color kind ≤ count_of kind cells hands = counted cells hands color kind in
-    let found : test kind ≡ true = lt-ltb (set_size kind) (count_of kind cells hands) (omega arith) in
-    list_any_at test all_kinds (kind_number kind) kinds.Pawn (number_below kind) (subst (λ (k : Kind). test k ≡ true) (sym (kind_there kind)) found)
+    let one : held hands color kind ≤ count_of kind cells hands = counted cells hands color kind in
+    omega arith
 
-number_at : (n : ℕ) → n < 7 → kind_number (kind_at n) ≡ n
-number_at zero h = refl
-number_at (suc zero) h = refl
-number_at (suc (suc zero)) h = refl
-number_at (suc (suc (suc zero))) h = refl
-number_at (suc (suc (suc (suc zero)))) h = refl
-number_at (suc (suc (suc (suc (suc zero))))) h = refl
-number_at (suc (suc (suc (suc (suc (suc zero)))))) h = refl
-number_at (suc (suc (suc (suc (suc (suc (suc n))))))) h = absurd (omega arith)
-
--- the side and the kind of a place
-pub record Holder (i : ℕ) : Type 0 where
-  pub color : Color
-  pub kind : Kind
-  pub place : place_of color kind ≡ i
-
-pub holder : (i : ℕ) → i < 14 → Holder i
-holder i h = elim (cases_lt i 7) [
-  | inl below ↦ record { color = Black; kind = kind_at i; place = number_at i below }
-  | inr above ↦ record { color = White; kind = kind_at (i - 7); place = let n : kind_number (kind_at (i - 7)) ≡ i - 7 = number_at (i - 7) (omega arith) in omega arith }
-]
-
--- where each count is below 256, all stay
-small_capped : (hands : HandCounts) → list_all (λ n. nat_lt n 256) hands ≡ true → capped hands ≡ hands
-small_capped [] e = refl
-small_capped (n ∷ hands) e =
-    let parts = and_parts (nat_lt n 256) (list_all (λ n. nat_lt n 256) hands) e in
-    let below : n < 256 = ltb-true n 256 parts.0 in
-    let one : min MOST_COUNTED n ≡ n = omega arith in
-    ap (λ (m : ℕ). m ∷ capped hands) one ∙ ap (λ (hs : HandCounts). n ∷ hs) (small_capped hands parts.1)
-
-record Big (hands : HandCounts) : Type 0 where
-  at : ℕ
-  within : at < length hands
-  big : 256 ≤ get_or hands at 0
-
-found_big : (hands : HandCounts) → list_all (λ n. nat_lt n 256) hands ≡ false → Big hands
-found_big [] e = cc
-found_big (n ∷ hands) e = elim (and_cases (nat_lt n 256) (list_all (λ n. nat_lt n 256) hands) e) [
-  | inl here ↦ record { at = 0; within = omega arith; big = ltb-false n 256 here }
-  | inr there ↦ let b : Big hands = found_big hands there in let w : b.at < length hands = b.within in record { at = suc b.at; within = omega arith; big = b.big }
-]
-
-fault-too_many : (p : Shogi) → has_too_many p.cells p.hands ≡ true → fault_of p ≡ Some TooMany
-unfolding fault_of
-fault-too_many p e = cond-true (has_too_many p.cells p.hands) _ _ e
+few_capped : (hands : HandCounts) → length hands ≡ 14 → ((color : Color) (kind : Kind) → min MOST_COUNTED (held hands color kind) ≤ 18) → capped hands ≡ hands
+few_capped hands len few =
+    ap capped (holding-held hands len)
+    ∙ (holding_same (λ color kind. min MOST_COUNTED (held hands color kind)) (held hands) (λ color kind. let h : min MOST_COUNTED (held hands color kind) ≤ 18 = few color kind in omega arith)
+    ∙ sym (holding-held hands len))
 
 -- the parts of a position
 abbrev pub parts : Cells → HandCounts → Color → Shogi
 parts cells hands side = record { cells = cells; hands = hands; side = side }
 
-big_both : (cells : Cells) (hands : HandCounts) → length hands ≡ 14 → Big hands → (has_too_many cells hands ≡ true) × (has_too_many cells (capped hands) ≡ true)
-big_both cells hands len b =
-    let w : b.at < length hands = b.within in
-    let h : Holder b.at = holder b.at (omega arith) in
-    let big : 256 ≤ held hands h.color h.kind = subst (λ (i : ℕ). 256 ≤ get_or hands i 0) (sym h.place) b.big in
-    let same : held (capped hands) h.color h.kind ≡ min MOST_COUNTED (held hands h.color h.kind) = held-capped hands h.color h.kind in
-    (too_many_at cells hands h.color h.kind (omega arith), too_many_at cells (capped hands) h.color h.kind (omega arith))
+too_many : (p : Shogi) → has_too_many p.cells p.hands ≡ true → fault_of p ≡ Some TooMany
+unfolding fault_of
+too_many p e = cond-true (has_too_many p.cells p.hands) _ _ e
 
 -- a position is judged alike with the counts and with those that stop at the most that is counted
 pub judged-capped : (cells : Cells) (hands : HandCounts) (side : Color) (end : ℕ) → length hands ≡ 14
     → judged (fault_of (parts cells (capped hands) side)) (parts cells (capped hands) side) end ≡ judged (fault_of (parts cells hands side)) (parts cells hands side) end
-judged-capped cells hands side end len = elim (cases_Bool (list_all (λ n. nat_lt n 256) hands)) [
-  | inl small ↦ ap (λ (hs : HandCounts). judged (fault_of (parts cells hs side)) (parts cells hs side) end) (small_capped hands small)
-  | inr big ↦
-      let many = big_both cells hands len (found_big hands big) in
-      ap (λ o. judged o (parts cells (capped hands) side) end) (fault-too_many (parts cells (capped hands) side) many.1)
-      ∙ sym (ap (λ o. judged o (parts cells hands side) end) (fault-too_many (parts cells hands side) many.0))
+judged-capped cells hands side end len = elim (cases_Bool (has_too_many cells hands)) [
+  | inr few ↦ ap (λ (hs : HandCounts). judged (fault_of (parts cells hs side)) (parts cells hs side) end) (few_capped hands len (λ color kind. let h : held hands color kind ≤ 18 = held_of_set cells hands few color kind in omega arith))
+  | inl many ↦ elim (cases_Bool (has_too_many cells (capped hands))) [
+    | inr few ↦
+        ap (λ (hs : HandCounts). judged (fault_of (parts cells hs side)) (parts cells hs side) end)
+        (few_capped hands len (λ color kind. subst (λ (n : ℕ). n ≤ 18) (held-capped hands color kind) (held_of_set cells (capped hands) few color kind)))
+    | inl also ↦
+        ap (λ o. judged o (parts cells (capped hands) side) end) (too_many (parts cells (capped hands) side) also)
+        ∙ sym (ap (λ o. judged o (parts cells hands side) end) (too_many (parts cells hands side) many))
+  ]
 ]
 
 -- hands keep their fourteen places

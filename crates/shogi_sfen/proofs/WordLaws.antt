@@ -5,7 +5,7 @@ use Rattle.std.specs.List.{slice_split, onto_first, position_or_len, before_firs
 use Rattle.std.proofs.lemmas.List.Splits.{slice_split-cons_yes, slice_split-cons_no}
 use Rattle.std.proofs.lemmas.List.Sums.{prefix_len-le-length}
 use Rattle.std.proofs.lemmas.Bool.{cases_lt, lt-ltb, le-ltb, not_from_false, not_from_true}
-use Rattle.shogi_sfen.specs.Words.{is_blank, is_inner, has_bytes, words, from_word, after_word}
+use Rattle.shogi_sfen.specs.Words.{is_blank, is_word_byte, has_bytes, words, from_word, after_word}
 
 -- where nothing passes, a search by `position` gives the length
 unwrapped : (n len : ℕ) → n ≤ len → unwrap_or (cond (nat_lt n len) (Some n) None) len ≡ n
@@ -32,8 +32,8 @@ unfolding words
 words-blank b bs e = ap (filter has_bytes) (slice_split-cons_yes is_blank b bs e)
 
 words-from_word-cons : (b : ℕ) (bs : List ℕ) → words bs ≡ words (from_word bs) → (t : Bool) → is_blank b ≡ t → words (b ∷ bs) ≡ words (from_word (b ∷ bs))
-words-from_word-cons b bs ih true e = words-blank b bs e ∙ (ih ∙ ap (λ k. words (drop k (b ∷ bs))) (sym (position_or_len-no is_inner b bs (not_from_true (is_blank b) e))))
-words-from_word-cons b bs ih false e = ap (λ k. words (drop k (b ∷ bs))) (sym (position_or_len-yes is_inner b bs (not_from_false (is_blank b) e)))
+words-from_word-cons b bs ih true e = words-blank b bs e ∙ (ih ∙ ap (λ k. words (drop k (b ∷ bs))) (sym (position_or_len-no is_word_byte b bs (not_from_true (is_blank b) e))))
+words-from_word-cons b bs ih false e = ap (λ k. words (drop k (b ∷ bs))) (sym (position_or_len-yes is_word_byte b bs (not_from_false (is_blank b) e)))
 
 -- blanks in front
 pub words-from_word : (text : List ℕ) → words text ≡ words (from_word text)
@@ -84,10 +84,10 @@ record Begins (from : List ℕ) : Type 0 where
 
 begins-cons : (b : ℕ) (bs : List ℕ) → (0 < length (from_word bs) → Begins (from_word bs)) → (t : Bool) → is_blank b ≡ t → 0 < length (from_word (b ∷ bs)) → Begins (from_word (b ∷ bs))
 begins-cons b bs ih true e h =
-    let n : position_or_len is_inner (b ∷ bs) ≡ suc (position_or_len is_inner bs) = position_or_len-no is_inner b bs (not_from_true (is_blank b) e) in
+    let n : position_or_len is_word_byte (b ∷ bs) ≡ suc (position_or_len is_word_byte bs) = position_or_len-no is_word_byte b bs (not_from_true (is_blank b) e) in
     subst (λ (k : ℕ). Begins (drop k (b ∷ bs))) (sym n) (ih (subst (λ (k : ℕ). 0 < length (drop k (b ∷ bs))) n h))
 begins-cons b bs ih false e h =
-    let n : position_or_len is_inner (b ∷ bs) ≡ 0 = position_or_len-yes is_inner b bs (not_from_false (is_blank b) e) in
+    let n : position_or_len is_word_byte (b ∷ bs) ≡ 0 = position_or_len-yes is_word_byte b bs (not_from_false (is_blank b) e) in
     record { head = b; tail = bs; same = ap (λ (k : ℕ). drop k (b ∷ bs)) n; inner = e }
 
 begins : (text : List ℕ) → 0 < length (from_word text) → Begins (from_word text)
@@ -99,7 +99,7 @@ empty [] e = refl
 empty (x ∷ xs) e = absurd (omega arith)
 
 -- where only blanks are left, there is no word
-pub words-none : (text : List ℕ) → length (drop (position_or_len is_inner text) text) ≡ 0 → words text ≡ []
+pub words-none : (text : List ℕ) → length (drop (position_or_len is_word_byte text) text) ≡ 0 → words text ≡ []
 unfolding words
 words-none text e = words-from_word text ∙ ap words (empty (from_word text) e)
 
@@ -108,7 +108,7 @@ words-at from b =
     subst (λ (xs : List ℕ). words xs ≡ before_first is_blank xs ∷ words (drop (position_or_len is_blank xs) xs)) (sym b.same) (words-inner b.head b.tail b.inner)
 
 -- the first word, and the words after it
-pub words-some : (text : List ℕ) → 0 < length (drop (position_or_len is_inner text) text) → words text ≡ before_first is_blank (from_word text) ∷ words (after_word text)
+pub words-some : (text : List ℕ) → 0 < length (drop (position_or_len is_word_byte text) text) → words text ≡ before_first is_blank (from_word text) ∷ words (after_word text)
 unfolding after_word
 words-some text h = words-from_word text ∙ words-at (from_word text) (begins text h)
 
@@ -121,7 +121,7 @@ pub record IsNextWord (text word rest : List ℕ) : Type 0 where
 shorter : (xs ys : List (List ℕ)) (x : List ℕ) → xs ≡ x ∷ ys → length ys < length xs
 shorter xs ys x e = let n : length xs ≡ length (x ∷ ys) = ap length e in omega arith
 
-pub next_word : (text from word rest : List ℕ) (n k : ℕ) → n ≡ position_or_len is_inner text → from ≡ drop n text → 0 < length from
+pub next_word : (text from word rest : List ℕ) (n k : ℕ) → n ≡ position_or_len is_word_byte text → from ≡ drop n text → 0 < length from
     → k ≡ position_or_len is_blank from → word ≡ take k from → rest ≡ drop k from → IsNextWord text word rest
 unfolding after_word
 next_word text from word rest n k en ef h ek ew er =
@@ -133,5 +133,5 @@ next_word text from word rest n k en ef h ek ew er =
     record { first = all; after = sym r; fewer = shorter (words text) (words rest) word all }
 
 -- no word is left
-pub no_word : (text from : List ℕ) (n : ℕ) → n ≡ position_or_len is_inner text → from ≡ drop n text → length from ≡ 0 → words text ≡ []
+pub no_word : (text from : List ℕ) (n : ℕ) → n ≡ position_or_len is_word_byte text → from ≡ drop n text → length from ≡ 0 → words text ≡ []
 no_word text from n en ef h = words-none text (ap length (sym (ef ∙ ap (λ (i : ℕ). drop i text) en)) ∙ h)

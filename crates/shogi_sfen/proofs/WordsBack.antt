@@ -15,7 +15,7 @@ use Rattle.shogi_core.specs.declared.validity.PositionFault.{PositionFault}
 use Rattle.shogi_core.specs.Movement.{Cells}
 use Rattle.shogi_core.specs.Position.{Shogi, HandCounts, held}
 use Rattle.shogi_core.specs.Validity.{IsValid}
-use Rattle.shogi_sfen.specs.Words.{is_blank, is_inner, has_bytes, words}
+use Rattle.shogi_sfen.specs.Words.{is_blank, is_word_byte, has_bytes, words}
 use Rattle.shogi_sfen.specs.Letters.{letter_of, in_case_of}
 use Rattle.shogi_sfen.specs.BoardTexts.{board_of}
 use Rattle.shogi_sfen.specs.HandTexts.{hands_of}
@@ -24,48 +24,48 @@ use Rattle.shogi_sfen.specs.Written.{cells_text, rank_cells, rank_text, board_te
 use Rattle.shogi_sfen.proofs.WriteLaws.{few_held}
 use Rattle.shogi_sfen.proofs.WrittenBack.{is_plain, plain_digit, plain_cells, board_of-board_text, hands_of-hands_text}
 
-inner_plain : (text : List ℕ) → list_all is_plain text ≡ true → list_all is_inner text ≡ true
+inner_plain : (text : List ℕ) → list_all is_plain text ≡ true → list_all is_word_byte text ≡ true
 inner_plain [] e = refl
 inner_plain (b ∷ bs) e =
     let parts = and_parts (is_plain b) (list_all is_plain bs) e in
-    and_from (is_inner b) (list_all is_inner bs) ((and_parts _ (is_inner b) parts.0).1) (inner_plain bs parts.1)
+    and_from (is_word_byte b) (list_all is_word_byte bs) ((and_parts _ (is_word_byte b) parts.0).1) (inner_plain bs parts.1)
 
-inner_both : (xs ys : List ℕ) → list_all is_inner xs ≡ true → list_all is_inner ys ≡ true → list_all is_inner (xs ++ ys) ≡ true
-inner_both xs ys e f = list_all-append is_inner xs ys ∙ and_from (list_all is_inner xs) (list_all is_inner ys) e f
+inner_both : (xs ys : List ℕ) → list_all is_word_byte xs ≡ true → list_all is_word_byte ys ≡ true → list_all is_word_byte (xs ++ ys) ≡ true
+inner_both xs ys e f = list_all-append is_word_byte xs ys ∙ and_from (list_all is_word_byte xs) (list_all is_word_byte ys) e f
 
-inner_digit : (n : ℕ) → is_inner (n + 48) ≡ true
-inner_digit n = (and_parts _ (is_inner (n + 48)) (plain_digit n)).1
+inner_digit : (n : ℕ) → is_word_byte (n + 48) ≡ true
+inner_digit n = (and_parts _ (is_word_byte (n + 48)) (plain_digit n)).1
 
-inner_ranks : (cells : Cells) (n rank : ℕ) → list_all is_inner (flat_map (rank_text cells) (range_with_len rank n)) ≡ true
+inner_ranks : (cells : Cells) (n rank : ℕ) → list_all is_word_byte (flat_map (rank_text cells) (range_with_len rank n)) ≡ true
 inner_ranks cells zero rank = refl
 inner_ranks cells (suc n) rank =
     inner_both (rank_text cells rank) (flat_map (rank_text cells) (range_with_len (rank + 1) n))
-    (inner_both (cond (rank == 0) [] (codes "/")) (cells_text 0 (rank_cells cells rank)) (cond_both (rank == 0) [] (codes "/") (λ (t : List ℕ). list_all is_inner t ≡ true) (λ e. refl) (λ e. refl)) (inner_plain (cells_text 0 (rank_cells cells rank)) (plain_cells (rank_cells cells rank) 0)))
+    (inner_both (cond (rank == 0) [] (codes "/")) (cells_text 0 (rank_cells cells rank)) (cond_both (rank == 0) [] (codes "/") (λ (t : List ℕ). list_all is_word_byte t ≡ true) (λ e. refl) (λ e. refl)) (inner_plain (cells_text 0 (rank_cells cells rank)) (plain_cells (rank_cells cells rank) 0)))
     (inner_ranks cells n (rank + 1))
 
-inner_count : (n : ℕ) → list_all is_inner (count_digits n) ≡ true
+inner_count : (n : ℕ) → list_all is_word_byte (count_digits n) ≡ true
 inner_count n =
-    cond_both (nat_lt n 2) [] _ (λ (t : List ℕ). list_all is_inner t ≡ true) (λ e. refl)
-    (λ e. cond_both (nat_lt n 10) ((n + 48) ∷ []) ((n / 10 + 48) ∷ (n % 10 + 48) ∷ []) (λ (t : List ℕ). list_all is_inner t ≡ true)
-    (λ f. and_from (is_inner (n + 48)) true (inner_digit n) refl)
-    (λ f. and_from (is_inner (n / 10 + 48)) _ (inner_digit (n / 10)) (and_from (is_inner (n % 10 + 48)) true (inner_digit (n % 10)) refl)))
+    cond_both (nat_lt n 2) [] _ (λ (t : List ℕ). list_all is_word_byte t ≡ true) (λ e. refl)
+    (λ e. cond_both (nat_lt n 10) ((n + 48) ∷ []) ((n / 10 + 48) ∷ (n % 10 + 48) ∷ []) (λ (t : List ℕ). list_all is_word_byte t ≡ true)
+    (λ f. and_from (is_word_byte (n + 48)) true (inner_digit n) refl)
+    (λ f. and_from (is_word_byte (n / 10 + 48)) _ (inner_digit (n / 10)) (and_from (is_word_byte (n % 10 + 48)) true (inner_digit (n % 10)) refl)))
 
-inner_letter : (color : Color) (kind : Kind) → list_all is_inner (in_case_of color (letter_of kind) ∷ []) ≡ true
+inner_letter : (color : Color) (kind : Kind) → list_all is_word_byte (in_case_of color (letter_of kind) ∷ []) ≡ true
 inner_letter Black kinds.Pawn = refl
 inner_letter White kinds.Pawn = refl
 inner_letter Black kind = refl
 inner_letter White kind = refl
 
-inner_held : (color : Color) (kind : Kind) (n : ℕ) → list_all is_inner (held_text color kind n) ≡ true
+inner_held : (color : Color) (kind : Kind) (n : ℕ) → list_all is_word_byte (held_text color kind n) ≡ true
 inner_held color kind n =
-    cond_both (n == 0) [] (count_digits n ++ in_case_of color (letter_of kind) ∷ []) (λ (t : List ℕ). list_all is_inner t ≡ true) (λ e. refl)
+    cond_both (n == 0) [] (count_digits n ++ in_case_of color (letter_of kind) ∷ []) (λ (t : List ℕ). list_all is_word_byte t ≡ true) (λ e. refl)
     (λ e. inner_both (count_digits n) (in_case_of color (letter_of kind) ∷ []) (inner_count n) (inner_letter color kind))
 
-inner_kinds : (color : Color) (count : Kind → ℕ) (ks : List Kind) → list_all is_inner (flat_map (λ kind. held_text color kind (count kind)) ks) ≡ true
+inner_kinds : (color : Color) (count : Kind → ℕ) (ks : List Kind) → list_all is_word_byte (flat_map (λ kind. held_text color kind (count kind)) ks) ≡ true
 inner_kinds color count [] = refl
 inner_kinds color count (kind ∷ ks) = inner_both (held_text color kind (count kind)) _ (inner_held color kind (count kind)) (inner_kinds color count ks)
 
-inner_hyphen : (text : List ℕ) → list_all is_inner text ≡ true → list_all is_inner (or_hyphen text) ≡ true
+inner_hyphen : (text : List ℕ) → list_all is_word_byte text ≡ true → list_all is_word_byte (or_hyphen text) ≡ true
 inner_hyphen [] e = refl
 inner_hyphen (b ∷ bs) e = e
 
@@ -73,7 +73,7 @@ some_hyphen : (text : List ℕ) → has_bytes (or_hyphen text) ≡ true
 some_hyphen [] = refl
 some_hyphen (b ∷ bs) = refl
 
-inner_hands : (hands : HandCounts) → list_all is_inner (hands_text hands) ≡ true
+inner_hands : (hands : HandCounts) → list_all is_word_byte (hands_text hands) ≡ true
 unfolding hands_text
 inner_hands hands = inner_hyphen (side_held_text hands Black ++ side_held_text hands White) (inner_both (side_held_text hands Black) (side_held_text hands White) (inner_kinds Black (held hands Black) kinds_in_text) (inner_kinds White (held hands White) kinds_in_text))
 
@@ -81,7 +81,7 @@ some_hands : (hands : HandCounts) → has_bytes (hands_text hands) ≡ true
 unfolding hands_text
 some_hands hands = some_hyphen (side_held_text hands Black ++ side_held_text hands White)
 
-inner_board : (cells : Cells) → list_all is_inner (board_text cells) ≡ true
+inner_board : (cells : Cells) → list_all is_word_byte (board_text cells) ≡ true
 unfolding board_text
 inner_board cells = inner_ranks cells 9 0
 
@@ -93,7 +93,7 @@ some_board : (text : List ℕ) (cells : Cells) → board_of text ≡ Some cells 
 some_board [] cells e = let f : None ≡ Some cells = sym no_board ∙ e in cc
 some_board (b ∷ bs) cells e = refl
 
-inner_side : (side : Color) → list_all is_inner (side_text side) ≡ true
+inner_side : (side : Color) → list_all is_word_byte (side_text side) ≡ true
 inner_side Black = refl
 inner_side White = refl
 
@@ -105,17 +105,17 @@ side_back : (side : Color) → side_of (side_text side) ≡ Some side
 side_back Black = refl
 side_back White = refl
 
-not_blank : (text : List ℕ) → list_all is_inner text ≡ true → All (λ x. is_blank x ≡ false) text
-not_blank text e = λ k d below. not-true (is_blank (get_or text k d)) (AllPass-from_list_all is_inner text e k d below)
+not_blank : (text : List ℕ) → list_all is_word_byte text ≡ true → All (λ x. is_blank x ≡ false) text
+not_blank text e = λ k d below. not-true (is_blank (get_or text k d)) (AllPass-from_list_all is_word_byte text e k d below)
 
 -- a word, and a space after it
-words_at : (word rest : List ℕ) → list_all is_inner word ≡ true → has_bytes word ≡ true → words (word ++ (32 ∷ rest)) ≡ word ∷ words rest
+words_at : (word rest : List ℕ) → list_all is_word_byte word ≡ true → has_bytes word ≡ true → words (word ++ (32 ∷ rest)) ≡ word ∷ words rest
 unfolding words
 words_at word rest inner some =
     ap (filter has_bytes) (slice_split_at is_blank word 32 rest (not_blank word inner) refl) ∙ cond-true (has_bytes word) (word ∷ filter has_bytes (slice_split is_blank rest)) (filter has_bytes (slice_split is_blank rest)) some
 
 -- a word at the end, or before a blank
-last_word : (word tail : List ℕ) → list_all is_inner word ≡ true → has_bytes word ≡ true → EndsWord tail → slice_get (words (word ++ tail)) 0 ≡ Some word
+last_word : (word tail : List ℕ) → list_all is_word_byte word ≡ true → has_bytes word ≡ true → EndsWord tail → slice_get (words (word ++ tail)) 0 ≡ Some word
 unfolding words
 last_word word [] inner some ends =
     ap (λ (t : List ℕ). slice_get (words t) 0) (append-nil word)

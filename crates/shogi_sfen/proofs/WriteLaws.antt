@@ -7,12 +7,11 @@ use Rattle.std.proofs.lemmas.List.{length-append}
 use Rattle.shogi_core.specs.declared.piece.Color.{Color}
 use Rattle.shogi_core.specs.declared.piece.Color.TheVariants.{Black, White}
 use Rattle.shogi_core.specs.declared.piece.Kind.{Kind}
-use Rattle.shogi_core.specs.Pieces.{set_size}
 use Rattle.shogi_core.specs.Position.{Shogi, HandCounts, held}
-use Rattle.shogi_core.specs.Validity.{IsValid, count_of}
-use Rattle.shogi_core.proofs.Faults.{faultless_from}
+use Rattle.shogi_core.specs.Validity.{IsValid, fault_of}
+use Rattle.shogi_core.proofs.Faults.{cond_none}
 use Rattle.shogi_sfen.specs.Written.{side_held_text, hands_text, or_hyphen}
-use Rattle.shogi_sfen.proofs.TooManyHeld.{set_small, counted}
+use Rattle.shogi_sfen.proofs.TooManyHeld.{held_of_set}
 
 range_more : (a n : ℕ) → range_with_len a (suc n) ≡ range_with_len a n ++ (a + n) ∷ []
 range_more a zero = ap (λ (k : ℕ). k ∷ []) (omega arith)
@@ -64,12 +63,8 @@ hands-some old black white hands b w e =
 
 -- a valid position holds few of each kind
 pub few_held : (p : Shogi) → IsValid p → (color : Color) (kind : Kind) → held p.hands color kind < 100
-few_held p v color kind =
-    let f = faultless_from p v.no_fault in
-    let all : count_of kind p.cells p.hands ≤ set_size kind = f.counts kind in
-    let small : set_size kind ≤ 18 = set_small kind in
-    let one : held p.hands color kind ≤ count_of kind p.cells p.hands = counted p.cells p.hands color kind in
-    omega arith
+unfolding fault_of
+few_held p v color kind = let few : held p.hands color kind ≤ 18 = held_of_set p.cells p.hands (cond_none _ _ _ v.no_fault).0 color kind in omega arith
 
 -- board, side and hands with a space between each two
 pub assembled : (board a b c d side hands : List ℕ) (letter : ℕ) → a ≡ board ++ 32 ∷ [] → b ≡ a ++ letter ∷ [] → letter ∷ [] ≡ side → c ≡ b ++ 32 ∷ [] → d ≡ c ++ hands

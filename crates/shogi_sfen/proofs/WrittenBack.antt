@@ -26,7 +26,8 @@ use Rattle.shogi_sfen.specs.Written.{run_text, cells_text, rank_cells, rank_text
 use Rattle.shogi_sfen.specs.Letters.{piece_text, piece_named}
 use Rattle.shogi_sfen.proofs.RanksBack.{rank_of-cells_text}
 use Rattle.shogi_sfen.proofs.BoardLaws.{arranged}
-use Rattle.shogi_sfen.proofs.HandsBack.{added, held_back}
+use Rattle.shogi_sfen.proofs.HandsBack.{held_back}
+use Rattle.shogi_sfen.proofs.HoldingLaws.{added, holding-held, holding_same}
 
 -- all the counts of a side
 all_added : Color → (Kind → ℕ) → List Kind → HandCounts → HandCounts
@@ -45,22 +46,7 @@ kinds_back color count small (kind ∷ ks) hands rest =
 -- the counts of both sides, put in their places
 all_back : (hands : HandCounts) → length hands ≡ 14 → all_added White (held hands White) kinds_in_text (all_added Black (held hands Black) kinds_in_text no_hands) ≡ hands
 unfolding all_added
-all_back [] e = absurd (omega arith)
-all_back (x0 ∷ []) e = absurd (omega arith)
-all_back (x0 ∷ x1 ∷ []) e = absurd (omega arith)
-all_back (x0 ∷ x1 ∷ x2 ∷ []) e = absurd (omega arith)
-all_back (x0 ∷ x1 ∷ x2 ∷ x3 ∷ []) e = absurd (omega arith)
-all_back (x0 ∷ x1 ∷ x2 ∷ x3 ∷ x4 ∷ []) e = absurd (omega arith)
-all_back (x0 ∷ x1 ∷ x2 ∷ x3 ∷ x4 ∷ x5 ∷ []) e = absurd (omega arith)
-all_back (x0 ∷ x1 ∷ x2 ∷ x3 ∷ x4 ∷ x5 ∷ x6 ∷ []) e = absurd (omega arith)
-all_back (x0 ∷ x1 ∷ x2 ∷ x3 ∷ x4 ∷ x5 ∷ x6 ∷ x7 ∷ []) e = absurd (omega arith)
-all_back (x0 ∷ x1 ∷ x2 ∷ x3 ∷ x4 ∷ x5 ∷ x6 ∷ x7 ∷ x8 ∷ []) e = absurd (omega arith)
-all_back (x0 ∷ x1 ∷ x2 ∷ x3 ∷ x4 ∷ x5 ∷ x6 ∷ x7 ∷ x8 ∷ x9 ∷ []) e = absurd (omega arith)
-all_back (x0 ∷ x1 ∷ x2 ∷ x3 ∷ x4 ∷ x5 ∷ x6 ∷ x7 ∷ x8 ∷ x9 ∷ x10 ∷ []) e = absurd (omega arith)
-all_back (x0 ∷ x1 ∷ x2 ∷ x3 ∷ x4 ∷ x5 ∷ x6 ∷ x7 ∷ x8 ∷ x9 ∷ x10 ∷ x11 ∷ []) e = absurd (omega arith)
-all_back (x0 ∷ x1 ∷ x2 ∷ x3 ∷ x4 ∷ x5 ∷ x6 ∷ x7 ∷ x8 ∷ x9 ∷ x10 ∷ x11 ∷ x12 ∷ []) e = absurd (omega arith)
-all_back (x0 ∷ x1 ∷ x2 ∷ x3 ∷ x4 ∷ x5 ∷ x6 ∷ x7 ∷ x8 ∷ x9 ∷ x10 ∷ x11 ∷ x12 ∷ x13 ∷ []) e = simp zero-add
-all_back (x0 ∷ x1 ∷ x2 ∷ x3 ∷ x4 ∷ x5 ∷ x6 ∷ x7 ∷ x8 ∷ x9 ∷ x10 ∷ x11 ∷ x12 ∷ x13 ∷ y ∷ more) e = absurd (omega arith)
+all_back hands len = holding_same (λ color kind. 0 + held hands color kind) (held hands) (λ color kind. omega arith) ∙ sym (holding-held hands len)
 
 pub finished : (text : List ℕ) (hands : HandCounts) → hands_from no_hands None text ≡ Some hands → hands_of (or_hyphen text) ≡ Some hands
 unfolding hands_of piece_named

@@ -21,13 +21,13 @@ onto_items (Some item) (Some items) = Some (item ∷ items)
 onto_items _ _ = None
 
 -- a plus that begins an item
-abbrev pub is_plus : Bool → ℕ → Bool
-is_plus plus byte = not plus && byte == PLUS
+abbrev pub is_first_plus : Bool → ℕ → Bool
+is_first_plus plus byte = not plus && byte == PLUS
 
 -- the items of bytes, where a plus stands right before them or not
 abbrev pub items_from : Bool → List ℕ → Option (List RankItem)
 items_from plus [] = cond plus None (Some [])
-items_from plus (byte ∷ bytes) = cond (is_plus plus byte) (items_from true bytes) (onto_items (item_named plus byte) (items_from false bytes))
+items_from plus (byte ∷ bytes) = cond (is_first_plus plus byte) (items_from true bytes) (onto_items (item_named plus byte) (items_from false bytes))
 
 -- the squares of items
 abbrev pub squares_in : Option (List RankItem) → Option Cells

@@ -1,5 +1,5 @@
 -- Hands as text (SFEN, pieces in hand): a hyphen, or counts and letters in any order, which add up.
-use Rattle.std.specs.Prelude.{ℕ, ◌+◌, ◌-◌, ◌*◌, ◌==◌, ◌&&◌, false, List, [], ◌∷◌, Option, Some, None, cond, is_none, codes, replicate, slice_set, unwrap_or, min, map}
+use Rattle.std.specs.Prelude.{ℕ, ◌+◌, ◌-◌, ◌*◌, ◌==◌, ◌&&◌, false, List, [], ◌∷◌, Option, Some, None, cond, is_none, codes, replicate, slice_set, unwrap_or}
 use Rattle.std.specs.Option.{option_and_then}
 use Rattle.shogi_sfen.specs.declared.byte.TheConstants.{ZERO}
 use Rattle.shogi_sfen.specs.Words.{has_bytes}
@@ -10,18 +10,17 @@ use Rattle.shogi_core.specs.declared.piece.Kind.{Kind}
 use Rattle.shogi_core.specs.declared.piece.Piece.{Piece}
 use Rattle.shogi_core.specs.Pieces.{kind_of}
 use Rattle.shogi_core.specs.Position.{HandCounts, held, place_of}
-use Rattle.shogi_sfen.specs.declared.hand_text.TheConstants.{MOST_COUNTED}
 use Rattle.shogi_sfen.specs.Letters.{piece_named}
 
 -- so many more of a kind held by the side
 abbrev pub with_kind : HandCounts → ℕ → Color → Option Kind → Option HandCounts
-with_kind hands n color None = None
-with_kind hands n color (Some kind) = Some (slice_set hands (place_of color kind) (held hands color kind + n))
+with_kind hands count color None = None
+with_kind hands count color (Some kind) = Some (slice_set hands (place_of color kind) (held hands color kind + count))
 
 -- so many more of a piece, if it can be held
 abbrev pub with_piece : HandCounts → ℕ → Option Piece → Option HandCounts
-with_piece hands n None = None
-with_piece hands n (Some piece) = with_kind hands n piece.color (kind_of piece.role)
+with_piece hands count None = None
+with_piece hands count (Some piece) = with_kind hands count piece.color (kind_of piece.role)
 
 -- one more digit of a count, of which the first is not 0
 abbrev pub with_digit : Option ℕ → ℕ → Option ℕ
@@ -30,10 +29,10 @@ with_digit count byte = cond (is_none count && byte == ZERO) None (Some (unwrap_
 -- the hands that the bytes say on top of those so far, where a count stands right before or none does
 abbrev pub hands_from : HandCounts → Option ℕ → List ℕ → Option HandCounts
 hands_from hands None [] = Some hands
-hands_from hands (Some n) [] = None
+hands_from hands (Some count) [] = None
 hands_from hands count (byte ∷ bytes) =
     cond (is_ascii_digit byte)
-    (option_and_then (λ n. hands_from hands (Some n) bytes) (with_digit count byte))
+    (option_and_then (λ more. hands_from hands (Some more) bytes) (with_digit count byte))
     (option_and_then (λ more. hands_from more None bytes) (with_piece hands (unwrap_or count 1) (piece_named false byte)))
 
 -- nothing held by either side
@@ -45,27 +44,3 @@ unfoldable pub hands_of : List ℕ → Option HandCounts
 hands_of word =
     cond (bytes_eq word (codes "-")) (Some no_hands)
     (cond (has_bytes word) (hands_from no_hands None word) None)
-
--- the same for counts that stop at the most that is counted, as the code keeps them
-abbrev pub capped_kind : HandCounts → ℕ → Color → Option Kind → Option HandCounts
-capped_kind hands n color None = None
-capped_kind hands n color (Some kind) = Some (slice_set hands (place_of color kind) (min MOST_COUNTED (held hands color kind + n)))
-
-abbrev pub capped_piece : HandCounts → ℕ → Option Piece → Option HandCounts
-capped_piece hands n None = None
-capped_piece hands n (Some piece) = capped_kind hands n piece.color (kind_of piece.role)
-
-abbrev pub capped_digit : Option ℕ → ℕ → Option ℕ
-capped_digit count byte = cond (is_none count && byte == ZERO) None (Some (min MOST_COUNTED (unwrap_or count 0 * 10 + (byte - ZERO))))
-
-abbrev pub capped_from : HandCounts → Option ℕ → List ℕ → Option HandCounts
-capped_from hands None [] = Some hands
-capped_from hands (Some n) [] = None
-capped_from hands count (byte ∷ bytes) =
-    cond (is_ascii_digit byte)
-    (option_and_then (λ n. capped_from hands (Some n) bytes) (capped_digit count byte))
-    (option_and_then (λ more. capped_from more None bytes) (capped_piece hands (unwrap_or count 1) (piece_named false byte)))
-
--- each count, or the most that is counted where it is greater
-abbrev pub capped : HandCounts → HandCounts
-capped hands = map (min MOST_COUNTED) hands

@@ -8,7 +8,7 @@ use Rattle.shogi_core.specs.declared.piece.Role.{Role}
 use Rattle.shogi_core.specs.declared.piece.Role.TheVariants.{King, Pawn, Lance, Knight, Silver, Gold, Bishop, Rook, PromotedPawn, PromotedLance, PromotedKnight, PromotedSilver, Horse, Dragon}
 use Rattle.shogi_core.specs.declared.piece.Piece.{Piece}
 use Rattle.shogi_core.specs.Pieces.{kind_number, all_kinds, kind_of}
-use Rattle.shogi_sfen.specs.declared.byte.TheConstants.{KING, TO_LOWER_CASE, PLUS}
+use Rattle.shogi_sfen.specs.declared.byte.TheConstants.{KING, LOWER_CASE, TO_LOWER_CASE, PLUS}
 
 -- the letter of a kind, for both sides
 abbrev pub letter_of : Kind → ℕ
@@ -62,7 +62,7 @@ is_named plus letter piece = cond plus (is_promoted piece.role) (not (is_promote
 
 -- the side of a letter
 abbrev pub color_of_letter : ℕ → Color
-color_of_letter letter = cond (nat_lt letter 97) Black White
+color_of_letter letter = cond (nat_lt letter LOWER_CASE) Black White
 
 -- the role, among all there are, that the letter names for the side, behind a plus or not
 abbrev pub role_named : Bool → ℕ → Color → Option Role

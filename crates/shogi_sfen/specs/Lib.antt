@@ -7,6 +7,7 @@ pub mod Items
 pub mod BoardTexts
 pub mod Ranks
 pub mod HandTexts
+pub mod CappedHands
 pub mod Sfen
 pub mod Written
 pub mod Spelling

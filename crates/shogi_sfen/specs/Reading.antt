@@ -3,12 +3,13 @@ use Rattle.std.specs.Prelude.{ℕ, ◌+◌, ◌-◌, ◌*◌, ◌==◌, ◌&&◌
 use Rattle.shogi_core.specs.declared.piece.Kind.{Kind}
 use Rattle.shogi_core.specs.declared.moves.Move.{Move}
 use Rattle.shogi_core.specs.declared.moves.Move.TheVariants.{Board, Drop}
+use Rattle.shogi_sfen.specs.declared.byte.TheConstants.{FIRST_FILE, FIRST_RANK, PLUS, STAR}
 use Rattle.shogi_sfen.specs.Letters.{kind_named}
 
 -- the square of a digit and a letter
 abbrev pub square_read : ℕ → ℕ → Option ℕ
 square_read file rank =
-    cond (nat_lt 48 file && nat_lt file 58 && nat_lt 96 rank && nat_lt rank 106) (Some ((file - 49) * 9 + (rank - 97))) None
+    cond (nat_lt (FIRST_FILE - 1) file && nat_lt file (FIRST_FILE + 9) && nat_lt (FIRST_RANK - 1) rank && nat_lt rank (FIRST_RANK + 9)) (Some ((file - FIRST_FILE) * 9 + (rank - FIRST_RANK))) None
 
 -- a move from a square to a square
 abbrev pub board_read : Option ℕ → Option ℕ → Bool → Option Move
@@ -23,13 +24,13 @@ drop_read _ _ = None
 -- four bytes: a drop where the second is a star, else a board move
 abbrev pub short_read : List ℕ → Option Move
 short_read text =
-    cond (slice_index text 1 == 42) (drop_read (kind_named (slice_index text 0)) (square_read (slice_index text 2) (slice_index text 3)))
+    cond (slice_index text 1 == STAR) (drop_read (kind_named (slice_index text 0)) (square_read (slice_index text 2) (slice_index text 3)))
     (board_read (square_read (slice_index text 0) (slice_index text 1)) (square_read (slice_index text 2) (slice_index text 3)) false)
 
 -- five bytes: a promotion, where the last is a plus
 abbrev pub long_read : List ℕ → Option Move
 long_read text =
-    cond (slice_index text 4 == 43) (board_read (square_read (slice_index text 0) (slice_index text 1)) (square_read (slice_index text 2) (slice_index text 3)) true) None
+    cond (slice_index text 4 == PLUS) (board_read (square_read (slice_index text 0) (slice_index text 1)) (square_read (slice_index text 2) (slice_index text 3)) true) None
 
 -- the move of a text
 unfoldable pub move_read : List ℕ → Option Move

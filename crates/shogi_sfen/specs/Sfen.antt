@@ -21,8 +21,8 @@ side_of word = cond (bytes_eq word (codes "b")) (Some Black) (cond (bytes_eq wor
 
 -- a position by the first of its faults, if it has one
 abbrev pub judged : Option PositionFault → Shogi → ℕ → Result (Shogi × ℕ) SfenFault
-judged None p end = Ok (p, end)
-judged (Some fault) p end = Err (Invalid fault)
+judged None position end = Ok (position, end)
+judged (Some fault) position end = Err (Invalid fault)
 
 -- a position by its parts, and the first fault of those that are missing
 abbrev pub position_of_parts : Option Cells → Option Color → Option HandCounts → ℕ → Result (Shogi × ℕ) SfenFault
@@ -30,7 +30,7 @@ position_of_parts None side hands end = Err BadBoard
 position_of_parts (Some cells) None hands end = Err BadSide
 position_of_parts (Some cells) (Some side) None end = Err BadHand
 position_of_parts (Some cells) (Some side) (Some hands) end =
-    let p : Shogi = record { cells = cells; hands = hands; side = side } in judged (fault_of p) p end
+    let position : Shogi = record { cells = cells; hands = hands; side = side } in judged (fault_of position) position end
 
 -- what stands after a first word that is a number, or all where it is none
 abbrev pub past_number : List ℕ → List ℕ

@@ -32,8 +32,8 @@ pub record SpellsBoard (text : List ℕ) (cells : Cells) : Type 0 where
   pub each : (rank : ℕ) → rank < 9 → SpellsRank (get_or ranks rank []) (rank_cells cells rank)
   pub spelled : join_with_byte SLASH ranks ≡ text
 
--- an entry of hands: the digits of a count, which may be none, and a kind that a side holds
-pub record Entry : Type 0 where
+-- an item of hands: the digits of a count, which may be none, and a kind that a side holds
+pub record HandItem : Type 0 where
   pub digits : List ℕ
   pub color : Color
   pub kind : Kind
@@ -49,30 +49,30 @@ count_written [] = 1
 count_written (first ∷ others) = number_written (first ∷ others)
 
 -- the count, and the letter of the kind
-abbrev pub entry_text : Entry → List ℕ
-entry_text entry = entry.digits ++ in_case_of entry.color (letter_of entry.kind) ∷ []
+abbrev pub hand_item_text : HandItem → List ℕ
+hand_item_text item = item.digits ++ in_case_of item.color (letter_of item.kind) ∷ []
 
--- the entry is of this side and kind
-abbrev pub is_entry_of : Color → Kind → Entry → Bool
-is_entry_of color kind entry = is_same_color entry.color color && kind_number entry.kind == kind_number kind
+-- the item is of this side and kind
+abbrev pub is_hand_item_of : Color → Kind → HandItem → Bool
+is_hand_item_of color kind item = is_same_color item.color color && kind_number item.kind == kind_number kind
 
 -- how many of a kind it gives a side
-abbrev pub count_in : Color → Kind → Entry → ℕ
-count_in color kind entry = cond (is_entry_of color kind entry) (count_written entry.digits) 0
+abbrev pub count_in : Color → Kind → HandItem → ℕ
+count_in color kind item = cond (is_hand_item_of color kind item) (count_written item.digits) 0
 
--- hands' text is a hyphen for nothing, or that of entries in any order, whose counts add up to what each side holds
+-- hands' text is a hyphen for nothing, or that of items in any order, whose counts add up to what each side holds
 pub record SpellsHands (text : List ℕ) (hands : HandCounts) : Type 0 where
   pub places : length hands ≡ 14
-  pub entries : List Entry
-  pub each : AllByRecursion (λ entry. AreCountDigits entry.digits) entries
-  pub sums : (color : Color) (kind : Kind) → held hands color kind ≡ sum_by (count_in color kind) entries
-  pub spelled : or_hyphen (flat_map entry_text entries) ≡ text
+  pub items : List HandItem
+  pub each : AllByRecursion (λ item. AreCountDigits item.digits) items
+  pub sums : (color : Color) (kind : Kind) → held hands color kind ≡ sum_by (count_in color kind) items
+  pub spelled : or_hyphen (flat_map hand_item_text items) ≡ text
 
 -- the first three words are a text of the position's board, one of its side to move, and one of its hands
-pub record Spells (words : List (List ℕ)) (p : Shogi) : Type 0 where
-  pub board : IsSomeAnd (slice_get words 0) (λ text. SpellsBoard text p.cells)
-  pub side : IsSomeAnd (slice_get words 1) (λ text. text ≡ side_text p.side)
-  pub hands : IsSomeAnd (slice_get words 2) (λ text. SpellsHands text p.hands)
+pub record Spells (words : List (List ℕ)) (position : Shogi) : Type 0 where
+  pub board : IsSomeAnd (slice_get words 0) (λ text. SpellsBoard text position.cells)
+  pub side : IsSomeAnd (slice_get words 1) (λ text. text ≡ side_text position.side)
+  pub hands : IsSomeAnd (slice_get words 2) (λ text. SpellsHands text position.hands)
 
 -- the first word is a board's text
 abbrev pub HasBoard : List (List ℕ) → Type 0

@@ -9,8 +9,8 @@ abbrev pub is_blank : ℕ → Bool
 is_blank byte = byte == SPACE || byte == TAB
 
 -- a byte of a word
-abbrev pub is_inner : ℕ → Bool
-is_inner byte = not (is_blank byte)
+abbrev pub is_word_byte : ℕ → Bool
+is_word_byte byte = not (is_blank byte)
 
 -- it is not empty
 abbrev pub has_bytes : List ℕ → Bool
@@ -23,7 +23,7 @@ words text = filter has_bytes (slice_split is_blank text)
 
 -- the text from its first word on
 abbrev pub from_word : List ℕ → List ℕ
-from_word text = drop (position_or_len is_inner text) text
+from_word text = drop (position_or_len is_word_byte text) text
 
 -- what stands after the first word of a text
 unfoldable pub after_word : List ℕ → List ℕ

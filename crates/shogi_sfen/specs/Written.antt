@@ -12,7 +12,7 @@ use Rattle.shogi_sfen.specs.Letters.{letter_of, in_case_of, piece_text}
 
 -- a number of empty squares, if there are any
 abbrev pub run_text : ℕ → List ℕ
-run_text n = cond (n == 0) [] ((n + ZERO) ∷ [])
+run_text run = cond (run == 0) [] ((run + ZERO) ∷ [])
 
 -- the squares of a rank, behind so many empty ones
 abbrev pub cells_text : ℕ → Cells → List ℕ
@@ -39,11 +39,11 @@ side_text White = codes "w"
 
 -- a count below 100, where it is over 1
 abbrev pub count_digits : ℕ → List ℕ
-count_digits n = cond (nat_lt n 2) [] (cond (nat_lt n 10) ((n + ZERO) ∷ []) ((n / 10 + ZERO) ∷ (n % 10 + ZERO) ∷ []))
+count_digits count = cond (nat_lt count 2) [] (cond (nat_lt count 10) ((count + ZERO) ∷ []) ((count / 10 + ZERO) ∷ (count % 10 + ZERO) ∷ []))
 
 -- so many of a kind
 abbrev pub held_text : Color → Kind → ℕ → List ℕ
-held_text color kind n = cond (n == 0) [] (count_digits n ++ in_case_of color (letter_of kind) ∷ [])
+held_text color kind count = cond (count == 0) [] (count_digits count ++ in_case_of color (letter_of kind) ∷ [])
 
 -- the kinds in their order in a text: R B G S N L P
 abbrev pub kinds_in_text : List Kind
@@ -64,4 +64,4 @@ hands_text hands = or_hyphen (side_held_text hands Black ++ side_held_text hands
 
 -- the one written text: board, side and hands with a space between each two
 unfoldable pub position_text : Shogi → List ℕ
-position_text p = board_text p.cells ++ (SPACE ∷ (side_text p.side ++ (SPACE ∷ hands_text p.hands)))
+position_text position = board_text position.cells ++ (SPACE ∷ (side_text position.side ++ (SPACE ∷ hands_text position.hands)))

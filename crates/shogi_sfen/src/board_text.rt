@@ -2,7 +2,7 @@
 
 ghost use Rattle.std.specs.Prelude.{◌≡◌, ◌≤◌, ◌<◌, ◌+◌, ◌++◌, None, Some, MatchOption, IfSome, length, replicate, position, drop};
 ghost use Rattle.std.specs.List.{slice_split, position_or_len};
-ghost use Rattle.shogi_sfen.specs.BoardTexts.{item_named, is_plus, rank_of, items_from, ranks_of, board_from, board_of, squares_of, is_slash};
+ghost use Rattle.shogi_sfen.specs.BoardTexts.{item_named, is_first_plus, rank_of, items_from, ranks_of, board_from, board_of, squares_of, is_slash};
 ghost use Rattle.shogi_sfen.specs.Ranks.{TakesItem};
 ghost use Rattle.shogi_sfen.specs.declared.board_text.TheConstants.{RANK_SQUARES, BOARD_SQUARES};
 
@@ -28,8 +28,8 @@ pub enum RankItem {
 pub type Rank = ArrayVec<Option<Piece>, RANK_SQUARES>;
 
 /// Whether the byte is a plus that begins an item.
-fn is_plus(plus: bool, byte: u8) -> bool
-    ensures { result ≡ is_plus plus byte }
+fn is_first_plus(plus: bool, byte: u8) -> bool
+    ensures { result ≡ is_first_plus plus byte }
 {
     !plus && byte == PLUS
 }
@@ -48,11 +48,11 @@ fn read_item(plus: bool, byte: u8) -> Option<RankItem>
 }
 
 /// So many empty squares at the end of a rank that has room for them.
-fn push_run(rank: &mut Rank, n: u8)
-    requires { length rank.old.items + n ≤ RANK_SQUARES }
-    ensures { rank.new.items ≡ rank.old.items ++ replicate n None }
+fn push_run(rank: &mut Rank, count: u8)
+    requires { length rank.old.items + count ≤ RANK_SQUARES }
+    ensures { rank.new.items ≡ rank.old.items ++ replicate count None }
 {
-    for _ in 0..n {
+    for _ in 0..count {
         rank.push(None);
     }
 }
@@ -90,7 +90,7 @@ fn read_rank(part: &[u8]) -> Option<Rank>
     let mut rank = ArrayVec::new();
     let mut plus = false;
     for byte in part {
-        if is_plus(plus, *byte) {
+        if is_first_plus(plus, *byte) {
             plus = true;
         } else {
             if !push_item(&mut rank, read_item(plus, *byte)) {
@@ -134,12 +134,12 @@ fn push_rank(squares: &mut Squares, rank: &[Option<Piece>])
     }
 }
 
-/// What follows the first n bytes.
-fn skip(text: &[u8], n: usize) -> &[u8]
-    requires { n ≤ length text.now }
-    ensures { result.now ≡ drop n text.now }
+/// What follows so many bytes.
+fn skip(text: &[u8], count: usize) -> &[u8]
+    requires { count ≤ length text.now }
+    ensures { result.now ≡ drop count text.now }
 {
-    let (_, rest) = text.split_at(n);
+    let (_, rest) = text.split_at(count);
     rest
 }
 

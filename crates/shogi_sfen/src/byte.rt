@@ -19,6 +19,12 @@ pub const FIRST_FILE: u8 = b'1';
 /// The first rank of a square; the others follow it.
 pub const FIRST_RANK: u8 = b'a';
 
+/// Between the letter of a dropped kind and its square.
+pub const STAR: u8 = b'*';
+
+/// The first lower-case letter; the upper-case ones come before it.
+pub const LOWER_CASE: u8 = b'a';
+
 /// The letter of a king.
 pub const KING: u8 = b'K';
 

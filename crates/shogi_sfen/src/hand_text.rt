@@ -1,9 +1,12 @@
 //! Hands read from text.
 
-ghost use Rattle.std.specs.Prelude.{◌≡◌, ◌≤◌, min};
+ghost use Rattle.std.specs.Prelude.{◌≡◌, ◌≤◌, ◌+◌};
 ghost use Rattle.std.specs.Option.{option_map};
-ghost use Rattle.shogi_sfen.specs.HandTexts.{capped, capped_digit, capped_piece, capped_from, no_hands, hands_of};
+ghost use Rattle.shogi_sfen.specs.HandTexts.{no_hands, hands_of};
+ghost use Rattle.shogi_sfen.specs.declared.byte.TheConstants.{ZERO};
+ghost use Rattle.shogi_sfen.specs.CappedHands.{capped, capped_digit, capped_piece, capped_from};
 
+use crate::byte::ZERO;
 use crate::letter::read_piece;
 use shogi_core::{Hands, Piece};
 
@@ -12,28 +15,28 @@ pub const MOST_COUNTED: u8 = u8::MAX;
 
 /// One more digit of a count, of which the first is not 0; it stays at the most that is counted.
 fn with_digit(count: Option<u8>, byte: u8) -> Option<u8>
-    requires { (48 ≤ byte) × (byte ≤ 57) }
+    requires { (ZERO ≤ byte) × (byte ≤ ZERO + 9) }
     ensures { result ≡ capped_digit count byte }
 {
-    if count.is_none() && byte == b'0' {
+    if count.is_none() && byte == ZERO {
         return None;
     }
-    let number = count.unwrap_or(0) as u32 * 10 + (byte - b'0') as u32;
+    let number = count.unwrap_or(0) as u32 * 10 + (byte - ZERO) as u32;
     Some(number.min(MOST_COUNTED as u32) as u8)
 }
 
 /// So many more of a piece, if it can be held; a count stays at the most that is counted.
-fn with_piece(hands: Hands, n: u8, piece: Option<Piece>) -> Option<Hands>
-    ensures { result ≡ capped_piece hands n piece }
+fn with_piece(hands: Hands, count: u8, piece: Option<Piece>) -> Option<Hands>
+    ensures { result ≡ capped_piece hands count piece }
 {
     let piece = piece?;
     let kind = piece.role.kind()?;
     let held = hands.count(piece.color, kind);
-    Some(hands.with(piece.color, kind, held.saturating_add(n)))
+    Some(hands.with(piece.color, kind, held.saturating_add(count)))
 }
 
-/// The hands of counts and letters.
-fn read_entries(word: &[u8]) -> Option<Hands>
+/// The hands of items, each a count and a letter.
+fn read_items(word: &[u8]) -> Option<Hands>
     ensures { result ≡ capped_from no_hands None word.now }
 {
     let mut hands = Hands::none();
@@ -72,5 +75,5 @@ pub fn read_hands(word: &[u8]) -> Option<Hands>
     if word.is_empty() {
         return None;
     }
-    read_entries(word)
+    read_items(word)
 }

@@ -3,14 +3,15 @@
 ghost use Rattle.std.specs.Prelude.{◌≡◌, ◌<◌};
 ghost use Rattle.shogi_core.specs.Pieces.{kind_of};
 ghost use Rattle.shogi_sfen.specs.Letters.{letter_of, kind_named, is_promoted, letter_or_king, in_case_of, piece_letter, is_named, color_of_letter, role_named, piece_named};
+ghost use Rattle.shogi_sfen.specs.declared.byte.TheConstants.{LOWER_CASE};
 
-use crate::byte::{KING, TO_LOWER_CASE};
+use crate::byte::{KING, LOWER_CASE, TO_LOWER_CASE};
 use shogi_core::{Color, KINDS, Kind, Piece, Role};
 
 /// The upper-case letter of the kind.
 pub fn letter_of(kind: Kind) -> u8
     ensures value { result ≡ letter_of kind }
-    ensures small { result < 91 }
+    ensures small { result < LOWER_CASE }
 {
     match kind {
         Kind::Pawn => b'P',
@@ -52,7 +53,7 @@ pub fn is_promoted(role: Role) -> bool
 /// The upper-case letter of what the role is in hand, or of a king.
 fn letter_of_role(role: Role) -> u8
     ensures value { result ≡ letter_or_king (kind_of role) }
-    ensures small { result < 91 }
+    ensures small { result < LOWER_CASE }
 {
     match role.kind() {
         Some(kind) => letter_of(kind),
@@ -62,7 +63,7 @@ fn letter_of_role(role: Role) -> u8
 
 /// The letter in the case of the side.
 pub fn in_case_of(color: Color, letter: u8) -> u8
-    requires { letter < 91 }
+    requires { letter < LOWER_CASE }
     ensures { result ≡ in_case_of color letter }
 {
     match color {
@@ -107,7 +108,7 @@ fn is_named(plus: bool, letter: u8, piece: Piece) -> bool
 fn color_of_letter(letter: u8) -> Color
     ensures { result ≡ color_of_letter letter }
 {
-    if letter < b'a' {
+    if letter < LOWER_CASE {
         Color::Black
     } else {
         Color::White

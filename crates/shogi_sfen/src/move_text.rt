@@ -4,7 +4,7 @@ ghost use Rattle.std.specs.Prelude.{◌≡◌, ◌++◌, ◌<◌, Some, length};
 ghost use Rattle.shogi_sfen.specs.MoveTexts.{square_text, text_of, move_of_text};
 ghost use Rattle.shogi_sfen.specs.Reading.{square_read, board_read, drop_read, short_read, long_read, move_read};
 
-use crate::byte::{FIRST_FILE, FIRST_RANK, PLUS};
+use crate::byte::{FIRST_FILE, FIRST_RANK, PLUS, STAR};
 use crate::letter::{letter_of, read_kind};
 use arrayvec::ArrayVec;
 use shogi_core::{Kind, Move, Square};
@@ -48,7 +48,7 @@ fn read_short(bytes: &[u8]) -> Option<Move>
     ensures { result ≡ short_read bytes.now }
 {
     let to = read_square(bytes[2], bytes[3]);
-    if bytes[1] == b'*' {
+    if bytes[1] == STAR {
         drop_move(read_kind(bytes[0]), to)
     } else {
         board_move(read_square(bytes[0], bytes[1]), to, false)
@@ -105,7 +105,7 @@ pub fn write_move(m: Move) -> ArrayVec<u8, 5>
         }
         Move::Drop { kind, to } => {
             text.push(letter_of(kind));
-            text.push(b'*');
+            text.push(STAR);
             push_square(&mut text, to);
         }
     }

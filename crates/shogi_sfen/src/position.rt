@@ -4,7 +4,8 @@ ghost use Rattle.std.specs.Prelude.{◌≡◌, ◌≤◌, ◌↔◌, false, leng
 ghost use Rattle.std.specs.Option.{option_map, option_and_then, option_copied, option_map_or};
 ghost use Rattle.shogi_sfen.specs.Numbers.{is_number};
 ghost use Rattle.shogi_sfen.specs.BoardTexts.{board_of};
-ghost use Rattle.shogi_sfen.specs.HandTexts.{hands_of, capped};
+ghost use Rattle.shogi_sfen.specs.HandTexts.{hands_of};
+ghost use Rattle.shogi_sfen.specs.CappedHands.{capped};
 ghost use Rattle.shogi_sfen.specs.Words.{words};
 ghost use Rattle.shogi_sfen.specs.Spelling.{Spells, HasBoard, HasSide, HasHands};
 ghost use Rattle.shogi_sfen.specs.Sfen.{side_of, position_at, past_number, end_of, number_of_sfen_fault};
@@ -13,7 +14,7 @@ ghost use Rattle.shogi_core.specs.declared.validity.PositionFault.{PositionFault
 ghost use Rattle.shogi_core.specs.Position.{Shogi};
 ghost use Rattle.shogi_core.specs.Validity.{fault_of, IsValid};
 
-use crate::board_text::read_board;
+use crate::board_text::{BOARD_SQUARES, read_board};
 use crate::hand_text::read_hands;
 use crate::number::is_number;
 use crate::split::words;
@@ -60,7 +61,7 @@ fn read_side(word: &[u8]) -> Option<Color>
 }
 
 /// The cells of a word that may be there.
-fn board_word(word: Option<&[u8]>) -> Option<[Option<Piece>; 81]>
+fn board_word(word: Option<&[u8]>) -> Option<[Option<Piece>; BOARD_SQUARES]>
     ensures { result ≡ option_and_then board_of (option_copied word.entry) }
 {
     match word {
@@ -142,11 +143,11 @@ pub fn read_position(text: &[u8]) -> Result<(Position, usize), SfenFault>
     ensures value { result ≡ position_at text.now }
     ensures within { IfOk result (λ found. found.1 ≤ length text.now) }
     ensures spelled { IfOk result (λ found. Spells (words text.now) found.0 × IsValid found.0) }
-    ensures read { (p : Shogi) → Spells (words text.now) p → IsValid p → result ≡ Ok (p, end_of text.now) }
+    ensures read { (position : Shogi) → Spells (words text.now) position → IsValid position → result ≡ Ok (position, end_of text.now) }
     ensures bad_board { (result ≡ Err BadBoard) ↔ (HasBoard (words text.now) → ⊥) }
     ensures bad_side { (result ≡ Err BadSide) ↔ (HasBoard (words text.now) × (HasSide (words text.now) → ⊥)) }
     ensures bad_hand { (result ≡ Err BadHand) ↔ (HasBoard (words text.now) × HasSide (words text.now) × (HasHands (words text.now) → ⊥)) }
-    ensures invalid { (fault : PositionFault) → (result ≡ Err (Invalid fault)) ↔ ((p : Shogi) × Spells (words text.now) p × (fault_of p ≡ Some fault)) }
+    ensures invalid { (fault : PositionFault) → (result ≡ Err (Invalid fault)) ↔ ((position : Shogi) × Spells (words text.now) position × (fault_of position ≡ Some fault)) }
 {
     position_at(text)
 }

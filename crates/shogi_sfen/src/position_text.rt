@@ -106,26 +106,26 @@ fn push_board(text: &mut Text, board: &Board)
 }
 
 /// So many of a kind in hand: the digits of a count over 1, and the letter.
-fn push_held(text: &mut Text, color: Color, kind: Kind, n: u8)
+fn push_held(text: &mut Text, color: Color, kind: Kind, count: u8)
     requires room { length text.old.items + 3 ≤ TEXT_BYTES }
-    requires small { n < 100 }
-    ensures value { text.new.items ≡ text.old.items ++ held_text color kind n }
+    requires small { count < 100 }
+    ensures value { text.new.items ≡ text.old.items ++ held_text color kind count }
     ensures len { length text.new.items ≤ length text.old.items + 3 }
 {
-    if n == 0 {
+    if count == 0 {
         return;
     }
-    if n >= 10 {
-        text.push(ZERO + n / 10);
-        text.push(ZERO + n % 10);
-    } else if n >= 2 {
-        text.push(ZERO + n);
+    if count >= 10 {
+        text.push(ZERO + count / 10);
+        text.push(ZERO + count % 10);
+    } else if count >= 2 {
+        text.push(ZERO + count);
     }
     text.push(in_case_of(color, letter_of(kind)));
 }
 
 /// The kinds in their order in a text.
-const IN_TEXT: [Kind; 7] = [
+const KINDS_IN_TEXT: [Kind; 7] = [
     Kind::Rook,
     Kind::Bishop,
     Kind::Gold,
@@ -142,7 +142,7 @@ fn push_side_held(text: &mut Text, hands: Hands, color: Color)
     ensures value { text.new.items ≡ text.old.items ++ side_held_text hands color }
     ensures len { length text.new.items ≤ length text.old.items + 21 }
 {
-    for kind in IN_TEXT.iter() {
+    for kind in KINDS_IN_TEXT.iter() {
         push_held(text, color, *kind, hands.count(color, *kind));
     }
 }
@@ -172,18 +172,18 @@ fn side_letter(side: Color) -> u8
 }
 
 /// The one written text of the position (SFEN): board, side and hands, without a move number.
-pub fn write_position(p: &Position) -> ArrayVec<u8, TEXT_BYTES>
-    ensures text { result.items ≡ position_text p.now }
-    ensures back { (tail : List ℕ) → EndsWord tail → position_at (position_text p.now ++ tail) ≡ Ok (p.now, end_of (position_text p.now ++ tail)) }
-    ensures spelled { (tail : List ℕ) → EndsWord tail → Spells (words (position_text p.now ++ tail)) p.now }
+pub fn write_position(position: &Position) -> ArrayVec<u8, TEXT_BYTES>
+    ensures text { result.items ≡ position_text position.now }
+    ensures back { (tail : List ℕ) → EndsWord tail → position_at (position_text position.now ++ tail) ≡ Ok (position.now, end_of (position_text position.now ++ tail)) }
+    ensures spelled { (tail : List ℕ) → EndsWord tail → Spells (words (position_text position.now ++ tail)) position.now }
 {
     // Told to the proof: the position is valid, so that no side holds 100 of a kind.
-    p.validity();
+    position.validity();
     let mut text = ArrayVec::new();
-    push_board(&mut text, &p.board());
+    push_board(&mut text, &position.board());
     text.push(SPACE);
-    text.push(side_letter(p.side()));
+    text.push(side_letter(position.side()));
     text.push(SPACE);
-    push_hands(&mut text, p.hands());
+    push_hands(&mut text, position.hands());
     text
 }

@@ -3,7 +3,7 @@
 ghost use Rattle.std.specs.Prelude.{◌≡◌, ◌≤◌, length, position};
 ghost use Rattle.std.specs.List.{position_or_len};
 ghost use Rattle.std.specs.Iterator.{item_count};
-ghost use Rattle.shogi_sfen.specs.Words.{is_blank, is_inner, words, GivesWord};
+ghost use Rattle.shogi_sfen.specs.Words.{is_blank, is_word_byte, words, GivesWord};
 
 use crate::byte::{SPACE, TAB};
 use std::marker::Model;
@@ -16,8 +16,8 @@ fn is_blank(byte: u8) -> bool
 }
 
 /// Where the first byte of a word stands.
-fn first_inner(text: &[u8]) -> Option<usize>
-    ensures { result ≡ position is_inner text.now }
+fn first_word_byte(text: &[u8]) -> Option<usize>
+    ensures { result ≡ position is_word_byte text.now }
 {
     text.iter().position(|byte| !is_blank(*byte))
 }
@@ -32,10 +32,10 @@ fn first_blank(text: &[u8]) -> Option<usize>
 /// How many blanks the text begins with.
 #[tactic(auto, using(crate::proofs::WordLaws::first_or_len))]
 fn blanks_len(text: &[u8]) -> usize
-    ensures value { result ≡ position_or_len is_inner text.now }
+    ensures value { result ≡ position_or_len is_word_byte text.now }
     ensures bound { result ≤ length text.now }
 {
-    first_inner(text).unwrap_or(text.len())
+    first_word_byte(text).unwrap_or(text.len())
 }
 
 /// How many bytes stand before the first blank.
@@ -58,7 +58,7 @@ impl<'a> Model for Words<'a> {
 
     ghost Value = { List ℕ };
 
-    ghost view = { λ w. w.text.now };
+    ghost view = { λ words. words.text.now };
 }
 
 impl<'a> Words<'a> {

@@ -8,4 +8,4 @@ pub returns : goal.returns
 returns c =
     let other : bytes_eq c.args.word.now (codes "-") ≡ false = search rules in
     let some : 0 < length c.args.word.now = search rules in
-    c.read_entries.ensures ∙ hands_of-items c.args.word.now other some
+    c.read_items.ensures ∙ hands_of-items c.args.word.now other some

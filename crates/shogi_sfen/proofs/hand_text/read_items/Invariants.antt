@@ -1,6 +1,7 @@
 use Rattle.std.proofs.Common.{◌≡◌, drop, None}
-use Rattle.shogi_sfen.specs.HandTexts.{capped_from, no_hands}
-use Rattle.shogi_sfen.proofs.hand_text.read_entries.Given as goal
+use Rattle.shogi_sfen.specs.HandTexts.{no_hands}
+use Rattle.shogi_sfen.specs.CappedHands.{capped_from}
+use Rattle.shogi_sfen.proofs.hand_text.read_items.Given as goal
 
 -- what the bytes so far say, and what the others add
 abbrev pub invariant-loop-byte : goal.invariant-loop-byte

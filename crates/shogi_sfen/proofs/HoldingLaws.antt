@@ -1,0 +1,67 @@
+-- Hands by how many of each kind a side holds.
+use Rattle.std.proofs.Common.{◌≡◌, ℕ, ◌+◌, Bool, true, false, cond, refl, sym, ◌∙◌, ap, arith, List, [], ◌∷◌, ◌++◌, length, get_or, set}
+use Rattle.std.specs.Prelude.{◌==◌, ◌&&◌, map}
+use Rattle.std.specs.List.{range_with_len}
+use Rattle.std.proofs.lemmas.List.{ext_get_or}
+use Rattle.std.proofs.lemmas.List.FromFn.{length-map-range_with_len, get_or-map-range_with_len}
+use Rattle.shogi_core.specs.declared.piece.Color.{Color}
+use Rattle.shogi_core.specs.declared.piece.Color.TheVariants.{Black, White}
+use Rattle.shogi_core.specs.declared.piece.Kind.{Kind}
+use Rattle.shogi_core.specs.declared.piece.Kind.TheVariants as kinds
+use Rattle.shogi_core.specs.Pieces.{is_same_color, kind_number, all_kinds}
+use Rattle.shogi_core.specs.Position.{HandCounts, held, place_of}
+
+-- the hands in which each side holds so many of each kind
+abbrev pub hands_holding : (Color → Kind → ℕ) → HandCounts
+hands_holding count = map (count Black) all_kinds ++ map (count White) all_kinds
+
+pub held-holding : (count : Color → Kind → ℕ) (color : Color) (kind : Kind) → held (hands_holding count) color kind ≡ count color kind
+held-holding count Black kinds.Pawn = refl
+held-holding count White kinds.Pawn = refl
+held-holding count Black kind = refl
+held-holding count White kind = refl
+
+-- hands are those of their counts
+pub holding-held : (hands : HandCounts) → length hands ≡ 14 → hands ≡ hands_holding (held hands)
+holding-held hands len =
+    ext_get_or 0 hands (map (λ i. get_or hands i 0) (range_with_len 0 14)) (len ∙ sym (length-map-range_with_len (λ i. get_or hands i 0) 0 14))
+    (λ i below. sym (get_or-map-range_with_len (λ i. get_or hands i 0) 0 14 i i 0 (omega arith) (omega arith)))
+
+map_same : (f g : Kind → ℕ) → ((kind : Kind) → f kind ≡ g kind) → (ks : List Kind) → map f ks ≡ map g ks
+map_same f g same [] = refl
+map_same f g same (kind ∷ ks) = ap (λ (n : ℕ). n ∷ map f ks) (same kind) ∙ ap (λ (ns : List ℕ). g kind ∷ ns) (map_same f g same ks)
+
+-- the same counts are the same hands
+pub holding_same : (count other : Color → Kind → ℕ) → ((color : Color) (kind : Kind) → count color kind ≡ other color kind) → hands_holding count ≡ hands_holding other
+holding_same count other same =
+    ap (λ (ns : List ℕ). ns ++ map (count White) all_kinds) (map_same (count Black) (other Black) (same Black) all_kinds)
+    ∙ ap (λ (ns : List ℕ). map (other Black) all_kinds ++ ns) (map_same (count White) (other White) (same White) all_kinds)
+
+-- one count changed
+pub set-holding : (count : Color → Kind → ℕ) (change : ℕ → ℕ) (color : Color) (kind : Kind) → set (hands_holding count) (place_of color kind) (change (held (hands_holding count) color kind))
+    ≡ hands_holding (λ other third. cond (is_same_color color other && kind_number kind == kind_number third) (change (count other third)) (count other third))
+set-holding count change Black kinds.Pawn = refl
+set-holding count change White kinds.Pawn = refl
+set-holding count change Black kind = refl
+set-holding count change White kind = refl
+
+-- hands with the same counts are the same
+pub same_held : (hands others : HandCounts) → length hands ≡ 14 → length others ≡ 14 → ((color : Color) (kind : Kind) → held hands color kind ≡ held others color kind) → hands ≡ others
+same_held hands others len more each = holding-held hands len ∙ (holding_same (held hands) (held others) each ∙ sym (holding-held others more))
+
+-- so many more of a kind
+abbrev pub added : HandCounts → Color → Kind → ℕ → HandCounts
+added hands color kind n = set hands (place_of color kind) (held hands color kind + n)
+
+changed : (b : Bool) (m n : ℕ) → cond b (m + n) m ≡ m + cond b n 0
+changed true m n = refl
+changed false m n = omega arith
+
+-- what is held then
+pub held-added : (hands : HandCounts) (color other : Color) (kind third : Kind) (n : ℕ) → length hands ≡ 14
+    → held (added hands color kind n) other third ≡ held hands other third + cond (is_same_color color other && kind_number kind == kind_number third) n 0
+held-added hands color other kind third n len =
+    ap (λ (hs : HandCounts). held (added hs color kind n) other third) (holding-held hands len)
+    ∙ (ap (λ (hs : HandCounts). held hs other third) (set-holding (held hands) (λ m. m + n) color kind)
+    ∙ (held-holding (λ o t. cond (is_same_color color o && kind_number kind == kind_number t) (held hands o t + n) (held hands o t)) other third
+    ∙ changed (is_same_color color other && kind_number kind == kind_number third) (held hands other third) n))
