@@ -82,6 +82,8 @@ def build(crates):
             sys.stderr.write(log.read())
         tell(f"The build failed; {os.path.relpath(LOG, TOP)} has what was said.")
         return 1
+    # Where the toolchain finds all proved and built, it leaves the program as it is.
+    os.utime(PROGRAM)
     tell(f"{count} of {count}: usi_host, {time.time() - start:.0f} s")
     return 0
 

@@ -4,8 +4,11 @@ exit status, and at when its lines come. Its one argument is the program; withou
 `make build` makes. Its last line is `N passed, M failed`."""
 
 import os
+import re
 import resource
 import select
+import shutil
+import signal
 import subprocess
 import sys
 import tempfile
@@ -16,9 +19,8 @@ from checks import DEPTH_ONE, DEPTH_THREE, PROGRAM, TOP, USI, Wrong, run_all, wa
 # The longest that a run may take, in seconds.
 PATIENCE = 60
 
-NOT_UTF_8 = (
-    b"error: a word of the command line is not UTF-8; for more information, try '--help'.\n"
-)
+POINTER = b"\n\nFor more information, try '--help'.\n"
+NOT_UTF_8 = b"error: a word of the command line is not UTF-8" + POINTER
 
 
 def run(words, sent=b"", **how):
@@ -96,16 +98,35 @@ def a_line_that_is_too_long_ends_the_session():
 
 
 def help_is_no_fault():
-    for words in (["--help"], ["-h"], ["help"], ["stdio", "--help"], ["help", "stdio"]):
-        status, text, complaints = run(words)
-        want((status, complaints), (0, b""), f"{words}")
-        if b"--entries" not in text and b"stdio" not in text:
-            raise Wrong(f"{words}: no help in {text!r}")
-    for words in (["replay", "--help"], ["help", "replay"]):
-        status, text, complaints = run(words)
-        want((status, complaints), (0, b""), f"{words}")
-        if b"--slots" not in text or b"--slice" not in text or b"refused 1" not in text:
-            raise Wrong(f"{words}: no help in {text!r}")
+    """Each command has a short help with its options, and a long one with statuses and examples too."""
+    for command, options in (
+        ([], [b"stdio", b"replay", b"serve", b"--version"]),
+        (["stdio"], [b"--entries"]),
+        (["replay"], [b"--slots", b"--entries", b"--slice"]),
+        (["serve"], [b"--socket", b"--slots", b"--entries", b"--slice", b"--turns"]),
+    ):
+        texts = []
+        for words in ([*command, "-h"], [*command, "--help"], ["help", *command]):
+            status, text, complaints = run(words)
+            want((status, complaints), (0, b""), f"{words}")
+            for option in options:
+                if option not in text:
+                    raise Wrong(f"{words}: no {option} in {text!r}")
+            texts.append(text)
+        want(texts[2], texts[1], f"help {command}")
+        for part in (b"Exit statuses:", b"Example"):
+            want((part in texts[0], part in texts[1]), (False, True), f"{part} for {command}")
+
+
+def the_version_is_no_fault():
+    for word in ("--version", "-V"):
+        status, text, complaints = run([word])
+        want((status, complaints, text.count(b"\n")), (0, b"", 3), word)
+        if not text.startswith(b"usi_host 0.1.0\nProved: "):
+            raise Wrong(f"{word}: no version in {text!r}")
+    with open("/dev/full", "wb") as full:
+        status, _, complaints = run(["--version"], stdout=full)
+    want((status, complaints), (1, b"usi_host: write failed\n"), "a full device")
 
 
 def other_words_are_refused():
@@ -126,14 +147,17 @@ def other_words_are_refused():
         ["replay", "--entries", "1000001"],
         ["replay", "--slice", "0"],
         ["replay", "--slice", "1000000001"],
+        ["stdio", "--version"],
+        ["version"],
+        ["-v"],
     ):
         status, text, complaints = run(words)
         want((status, text), (2, b""), f"{words}")
-        if b"--help" not in complaints or not complaints.endswith(b"\n"):
+        if not complaints.startswith(b"error: ") or not complaints.endswith(POINTER):
             raise Wrong(f"{words}: standard error is {complaints!r}")
 
 
-def a_word_that_is_not_utf_8_is_refused_in_one_line():
+def a_word_that_is_not_utf_8_is_refused():
     for words in (
         [b"\xff"],
         [b"stdio\xff"],
@@ -223,6 +247,49 @@ def a_front_end_that_is_gone_is_noticed():
     ends(running, 1, b"usi_host: write failed\n")
 
 
+# A front end: it starts the program that it is given, tells the number of its group, sends a deep search,
+# and tells each line that the program writes. A shell between them tells the status on standard error.
+FRONT_END = """
+import subprocess, sys
+running = subprocess.Popen(
+    ["sh", "-c", '"$0"; echo "status $?" >&2', sys.argv[1]],
+    stdin=subprocess.PIPE, stdout=subprocess.PIPE, start_new_session=True, bufsize=0,
+)
+print(running.pid, flush=True)
+running.stdin.write(b"go depth 9\\n")
+for line in running.stdout:
+    sys.stdout.buffer.write(line)
+    sys.stdout.buffer.flush()
+"""
+
+
+def a_killed_front_end_is_noticed_at_the_next_depth():
+    """The front end is killed when depth 6 is done. Depth 7 takes several times as long as the first six,
+    and depth 8 ten times as long again: the program ends when 7 is done, and not later."""
+    with subprocess.Popen(
+        [sys.executable, "-c", FRONT_END, PROGRAM], stdout=subprocess.PIPE, stderr=subprocess.PIPE
+    ) as front_end:
+        group = int(front_end.stdout.readline())
+        began = time.monotonic()
+        for depth in range(1, 7):
+            line = front_end.stdout.readline()
+            want(line.startswith(b"info depth %d " % depth), True, f"the line of depth {depth}")
+        patience = 30 * (time.monotonic() - began) + 5
+        front_end.kill()
+        complaints = b""
+        until = time.monotonic() + patience
+        while not complaints.endswith(b"status 1\n"):
+            left = until - time.monotonic()
+            if left < 0 or not select.select([front_end.stderr], [], [], left)[0]:
+                os.killpg(group, signal.SIGKILL)
+                raise Wrong(f"it runs on for {patience:.1f} s after its front end")
+            piece = os.read(front_end.stderr.fileno(), 1_000)
+            if not piece:
+                break
+            complaints += piece
+    want(complaints, b"usi_host: write failed\nstatus 1\n", "standard error and the status")
+
+
 def a_closed_output_is_a_failed_write():
     reading, writing = os.pipe()
     os.close(reading)
@@ -294,6 +361,25 @@ def a_replay_tells_its_faults():
     want(large, (1, b"", b"usi_host: out of memory\n"), "a table of a million")
 
 
+def the_readme_shows_its_answers():
+    """Each block of README.md for a shell that is followed by a block of text writes that text. Those with
+    a socket want `socat`."""
+    with open(os.path.join(TOP, "README.md"), encoding="utf-8") as readme:
+        blocks = re.findall(r"```sh\n([^`]*)```\n\n```text\n([^`]*)```", readme.read())
+    if len(blocks) < 3:
+        raise Wrong(f"README.md has {len(blocks)} blocks with an answer")
+    for shell, answer in blocks:
+        if "socat" in shell and shutil.which("socat") is None:
+            continue
+        with tempfile.TemporaryDirectory() as folder:
+            shell = shell.replace("crates/usi_host/out/usi_host", PROGRAM)
+            shell = shell.replace("/tmp/shogi.socket", os.path.join(folder, "socket"))
+            ended = subprocess.run(
+                ["bash", "-m", "-c", shell], capture_output=True, timeout=PATIENCE, check=False
+            )
+        want(ended.stdout.decode(), answer, shell)
+
+
 CHECKS = (
     no_words_are_a_session,
     stdio_is_the_same,
@@ -301,8 +387,9 @@ CHECKS = (
     a_last_line_without_its_end_is_no_line,
     a_line_that_is_too_long_ends_the_session,
     help_is_no_fault,
+    the_version_is_no_fault,
     other_words_are_refused,
-    a_word_that_is_not_utf_8_is_refused_in_one_line,
+    a_word_that_is_not_utf_8_is_refused,
     a_full_device_is_a_failed_write,
     a_closed_output_is_a_failed_write,
     a_folder_is_a_failed_read,
@@ -312,12 +399,14 @@ CHECKS = (
     each_line_is_answered_before_the_next_is_read,
     info_lines_come_as_they_are_found,
     a_front_end_that_is_gone_is_noticed,
+    a_killed_front_end_is_noticed_at_the_next_depth,
     a_file_is_as_good_as_a_pipe,
     a_replay_writes_what_its_sessions_reply,
     neither_entries_nor_slices_change_a_replay,
     the_first_bad_line_of_a_script_is_named,
     a_replay_writes_nothing_before_its_script_ends,
     a_replay_tells_its_faults,
+    the_readme_shows_its_answers,
 )
 
 

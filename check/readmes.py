@@ -1,15 +1,19 @@
 #!/usr/bin/env python3
 """Looks whether the README of each library crate shows its use as it stands in `crates/examples`, where
-it is proved and run: everything from the first `use` of a file on. With `--write` it puts it there. Its
-last line is `N passed, M failed`."""
+it is proved and run: everything from the first `use` of a file on. With `--write` it puts it there. Then
+looks whether each link of a page leads to a file and a heading that are there. Its last line is
+`N passed, M failed`."""
 
 import os
 import re
 import sys
 
-CRATES = os.path.join(os.path.dirname(os.path.dirname(os.path.abspath(__file__))), "crates")
+TOP = os.path.dirname(os.path.dirname(os.path.abspath(__file__)))
+CRATES = os.path.join(TOP, "crates")
 USES = os.path.join(CRATES, "examples", "src")
 BLOCK = re.compile(r"```rust\n.*?```\n", re.S)
+ANY_BLOCK = re.compile(r"```.*?```", re.S)
+LINK = re.compile(r"\]\(([^)\s]+)\)")
 
 
 def read(path):
@@ -24,6 +28,30 @@ def uses():
         of = re.match(r"//! A use of `(\w+)`\.\n", text)
         if of:
             yield of.group(1), text[text.index("\nuse ") + 1 :]
+
+
+def pages():
+    """Each page of the top, of docs/ and of a crate."""
+    crates = [os.path.join(CRATES, name) for name in sorted(os.listdir(CRATES))]
+    for folder in [TOP, os.path.join(TOP, "docs"), *crates]:
+        for name in sorted(os.listdir(folder)):
+            if name.endswith(".md"):
+                yield os.path.join(folder, name)
+
+
+def anchors(page):
+    """What leads to the headings of a page."""
+    for heading in re.findall(r"^#+ (.*)$", ANY_BLOCK.sub("", read(page)), re.M):
+        yield re.sub(r"[^\w -]", "", heading.lower()).replace(" ", "-")
+
+
+def leads_nowhere(page, link):
+    """Whether a link of the page within the repository has no file, or no heading, at its end."""
+    if "://" in link:
+        return False
+    path, _, anchor = link.partition("#")
+    target = os.path.join(os.path.dirname(page), path) if path else page
+    return not os.path.exists(target) or (anchor != "" and anchor not in anchors(target))
 
 
 def main():
@@ -41,6 +69,13 @@ def main():
         else:
             failed += 1
             print(f"crates/{crate}/README.md does not show its use as crates/examples has it")
+    for page in pages():
+        dead = [link for link in LINK.findall(ANY_BLOCK.sub("", read(page))) if leads_nowhere(page, link)]
+        if dead:
+            failed += 1
+            print(f"{os.path.relpath(page, TOP)} has links that lead nowhere: {', '.join(dead)}")
+        else:
+            passed += 1
     print(f"{passed} passed, {failed} failed")
     return 1 if failed else 0
 

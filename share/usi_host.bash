@@ -13,7 +13,7 @@ _usi_host() {
     esac
     local words
     if [ "$COMP_CWORD" -eq 1 ]; then
-        words='stdio replay serve help --help'
+        words='stdio replay serve help --help --version'
     else
         case ${COMP_WORDS[1]} in
             stdio) words='--entries --help' ;;

@@ -10,10 +10,10 @@ use Rattle.clap.specs.declared.error.kind.ErrorKind.{ErrorKind}
 use Rattle.clap.specs.declared.error.kind.ErrorKind.TheVariants as kinds
 use Rattle.clap.specs.declared.parser.matches.ArgMatches.{ArgMatches}
 use Rattle.clap.specs.declared.parser.matches.ValueSource.TheVariants.{DefaultValue}
-use Rattle.usi_host.specs.Answers.{Gives, HasRanges, IsAnswerTo, IsAskedBy, IsJobOf, IsRefusedFor, IsReplayOf, IsStdioOf, NamesJob, NamesNoJob}
+use Rattle.usi_host.specs.Answers.{AreHelpWords, AreVersionWords, Gives, GivesHelp, HasRanges, IsAnswerTo, IsAskedBy, IsJobOf, IsRefusedFor, IsReplayOf, IsStdioOf, HasMistake, IsMistake, NamesJob, NamesNoJob}
 use Rattle.usi_host.specs.CommandLine.{IsNumber, NamesNumber, command_line, command_of, faults_of}
 use Rattle.usi_host.specs.declared.words.Job.{Job}
-use Rattle.usi_host.specs.declared.words.Job.TheVariants.{Stdio, Replay, Serve, Help}
+use Rattle.usi_host.specs.declared.words.Job.TheVariants.{Stdio, Replay, Serve, Help, Version}
 use Rattle.usi_host.specs.declared.words.WordsFault.{WordsFault}
 use Rattle.usi_host.specs.declared.words.WordsFault.TheVariants.{OutOfMemory, NotAccepted}
 use Rattle.usi_host.proofs.Numbers.{names_once}
@@ -33,6 +33,23 @@ bare_faults = refl
 pub bare_command : command_of [] ≡ None
 unfolding clap_on_literals
 bare_command = refl
+
+-- the words that ask for help or for the version alone
+pub help_faults : faults_of (codes "--help" ∷ []) ≡ kinds.DisplayHelp ∷ []
+unfolding clap_on_literals
+help_faults = refl
+
+pub short_help_faults : faults_of (codes "-h" ∷ []) ≡ kinds.DisplayHelp ∷ []
+unfolding clap_on_literals
+short_help_faults = refl
+
+pub version_faults : faults_of (codes "--version" ∷ []) ≡ kinds.DisplayVersion ∷ []
+unfolding clap_on_literals
+version_faults = refl
+
+pub short_version_faults : faults_of (codes "-V" ∷ []) ≡ kinds.DisplayVersion ∷ []
+unfolding clap_on_literals
+short_version_faults = refl
 
 -- an option that is left out, with its default
 abbrev row : Text → Text → Row
@@ -91,6 +108,13 @@ no_help (Some command) job text e (inl is) = rw e at is.1
 no_help (Some command) job text e (inr (inl is)) = rw e at is.1
 no_help (Some command) job text e (inr (inr is)) = rw e at is.1
 
+-- no command names the version
+no_version : (command : Option (Text × List Row)) (job : Job) → job ≡ Version → NamesJob command job → ⊥
+no_version None job e is = let bad : Version ≡ Stdio 4096 = sym e ∙ is in cc
+no_version (Some command) job e (inl is) = rw e at is.1
+no_version (Some command) job e (inr (inl is)) = rw e at is.1
+no_version (Some command) job e (inr (inr is)) = rw e at is.1
+
 -- a job is one that the words ask for
 pub line_asked : (words : List Text) (parsed : Result ArgMatches Error) (r : Result Job WordsFault) → IsParsedLine words parsed
     → MatchResult parsed (λ m. IsJobOf (subcommand_rows_of m) r) (λ e. IsAnswerTo (kind_of e) r)
@@ -99,11 +123,16 @@ line_asked words (Ok m) (Ok (Stdio entries)) line is = (line.kinds, subst (λ (c
 line_asked words (Ok m) (Ok (Replay slots entries slice)) line is = (line.kinds, subst (λ (c : Option (Text × List Row)). NamesJob c (Replay slots entries slice)) line.matches is)
 line_asked words (Ok m) (Ok (Serve socket slots entries slice turns)) line is = (line.kinds, subst (λ (c : Option (Text × List Row)). NamesJob c (Serve socket slots entries slice turns)) line.matches is)
 line_asked words (Ok m) (Ok (Help text)) line is = absurd (no_help (subcommand_rows_of m) (Help text) text refl is)
+line_asked words (Ok m) (Ok Version) line is = absurd (no_version (subcommand_rows_of m) Version refl is)
 line_asked words (Err e) (Ok (Stdio entries)) line is = absurd is
 line_asked words (Err e) (Ok (Replay slots entries slice)) line is = absurd is
 line_asked words (Err e) (Ok (Serve socket slots entries slice turns)) line is = absurd is
 line_asked words (Err e) (Ok (Help text)) line is = elim line.kinds [
   | inl memory ↦ let bad : kinds.DisplayHelp ≡ kinds.OutOfMemory = sym is ∙ memory in cc
+  | inr among ↦ subst (λ (k : ErrorKind). IsAmong k (faults_of words)) is among
+]
+line_asked words (Err e) (Ok Version) line is = elim line.kinds [
+  | inl memory ↦ let bad : kinds.DisplayVersion ≡ kinds.OutOfMemory = sym is ∙ memory in cc
   | inr among ↦ subst (λ (k : ErrorKind). IsAmong k (faults_of words)) is among
 ]
 line_asked words parsed (Err fault) line is = tt
@@ -115,7 +144,7 @@ pub line_refused : (words : List Text) (parsed : Result ArgMatches Error) (r : R
 line_refused words parsed (Ok job) line is = tt
 line_refused words parsed (Err OutOfMemory) line is = tt
 line_refused words (Ok m) (Err (NotAccepted text)) line is =
-    inr (subst (λ (c : Option (Text × List Row)). NamesNoJob c) line.matches is)
+    inr (line.kinds, subst (λ (c : Option (Text × List Row)). NamesNoJob c) line.matches is)
 line_refused words (Err e) (Err (NotAccepted text)) line is = elim line.kinds [
   | inl memory ↦ absurd (is.1 memory)
   | inr among ↦ inl (kind_of e, among, is.0)
@@ -129,10 +158,11 @@ gives words job (Ok (Stdio entries)) none names range only asked refused = inl (
 gives words job (Ok (Replay slots entries slice)) none names range only asked refused = inl (ap Ok (only (Replay slots entries slice) asked.1))
 gives words job (Ok (Serve socket slots entries slice turns)) none names range only asked refused = inl (ap Ok (only (Serve socket slots entries slice turns) asked.1))
 gives words job (Ok (Help text)) none names range only asked refused = absurd (rw none at asked)
+gives words job (Ok Version) none names range only asked refused = absurd (rw none at asked)
 gives words job (Err OutOfMemory) none names range only asked refused = inr refl
 gives words job (Err (NotAccepted text)) none names range only asked refused = elim refused [
   | inl mistake ↦ absurd (subst (λ (k : Kinds). IsAmong mistake.0 k) none mistake.1)
-  | inr no_job ↦ absurd (no_job job range names)
+  | inr no_job ↦ absurd (no_job.1 job range names)
 ]
 
 -- words whose command is known
@@ -166,6 +196,7 @@ stdio_only (Stdio entries) is = ap Stdio (names_once (codes "entries") stdio_row
 stdio_only (Replay slots entries slice) is = absurd is
 stdio_only (Serve socket slots entries slice turns) is = absurd is
 stdio_only (Help text) is = absurd is
+stdio_only Version is = absurd is
 
 stdio_names : (job : Job) → NamesJob (Some (codes "stdio", stdio_rows)) job → job ≡ Stdio 4096
 stdio_names job (inl is) = stdio_only job is.1
@@ -196,6 +227,7 @@ replay_only (Replay slots entries slice) is =
     λ k. Replay (a k) (b k) (c k)
 replay_only (Serve socket slots entries slice turns) is = absurd is
 replay_only (Help text) is = absurd is
+replay_only Version is = absurd is
 
 replay_names : (job : Job) → NamesJob (Some (codes "replay", replay_rows)) job → job ≡ Replay 64 4096 1000
 replay_names job (inl is) = let bad : codes "replay" ≡ codes "stdio" = is.0 in cc
@@ -207,3 +239,52 @@ pub gives_replay : (words : List Text) (r : Result Job WordsFault) → words ≡
 gives_replay words r is asked refused =
     gives_of (codes "replay" ∷ []) (Replay 64 4096 1000) (Some (codes "replay", replay_rows)) r replay_faults replay_command_is (inr (inl (refl, (replay_slots, replay_entries, replay_slice)))) ((lit≤ tt, lit≤ tt), (lit≤ tt, lit≤ tt), (lit≤ tt, lit≤ tt)) replay_names
     (subst (λ (w : List Text). IfOk r (IsAskedBy w)) is asked) (subst (λ (w : List Text). IfErr r (IsRefusedFor w)) is refused)
+
+among_one : (x k : ErrorKind) → IsAmong k (x ∷ []) → k ≡ x
+among_one x k (inl is) = is
+among_one x k (inr none) = absurd none
+
+-- words that are refused have a mistake: not one request alone
+not_refused : (words : List Text) (kind : ErrorKind) → faults_of words ≡ kind ∷ [] → (IsMistake kind → ⊥) → HasMistake words → ⊥
+not_refused words kind is request (inl mistake) = request (subst IsMistake (among_one kind mistake.0 (subst (λ (k : Kinds). IsAmong mistake.0 k) is mistake.1)) mistake.2)
+not_refused words kind is request (inr none) = let bad : kind ∷ [] ≡ [] = sym is ∙ none.0 in cc
+
+no_mistake_in_help : IsMistake kinds.DisplayHelp → ⊥
+no_mistake_in_help is = is.0 refl
+
+no_mistake_in_version : IsMistake kinds.DisplayVersion → ⊥
+no_mistake_in_version is = is.1 refl
+
+-- words that ask for help alone give it
+gives_help_of : (words : List Text) (r : Result Job WordsFault) → faults_of words ≡ kinds.DisplayHelp ∷ []
+    → IfOk r (IsAskedBy words) → IfErr r (IsRefusedFor words) → GivesHelp r
+gives_help_of words (Ok (Help text)) is asked refused = tt
+gives_help_of words (Ok (Stdio entries)) is asked refused = let bad : kinds.DisplayHelp ∷ [] ≡ [] = sym is ∙ asked.0 in cc
+gives_help_of words (Ok (Replay slots entries slice)) is asked refused = let bad : kinds.DisplayHelp ∷ [] ≡ [] = sym is ∙ asked.0 in cc
+gives_help_of words (Ok (Serve socket slots entries slice turns)) is asked refused = let bad : kinds.DisplayHelp ∷ [] ≡ [] = sym is ∙ asked.0 in cc
+gives_help_of words (Ok Version) is asked refused =
+    let bad : kinds.DisplayVersion ≡ kinds.DisplayHelp = among_one kinds.DisplayHelp kinds.DisplayVersion (subst (λ (k : Kinds). IsAmong kinds.DisplayVersion k) is asked) in cc
+gives_help_of words (Err OutOfMemory) is asked refused = tt
+gives_help_of words (Err (NotAccepted text)) is asked refused = not_refused words kinds.DisplayHelp is no_mistake_in_help refused
+
+-- words that ask for the version alone give it
+gives_version_of : (words : List Text) (r : Result Job WordsFault) → faults_of words ≡ kinds.DisplayVersion ∷ []
+    → IfOk r (IsAskedBy words) → IfErr r (IsRefusedFor words) → Gives Version r
+gives_version_of words (Ok Version) is asked refused = inl refl
+gives_version_of words (Ok (Stdio entries)) is asked refused = let bad : kinds.DisplayVersion ∷ [] ≡ [] = sym is ∙ asked.0 in cc
+gives_version_of words (Ok (Replay slots entries slice)) is asked refused = let bad : kinds.DisplayVersion ∷ [] ≡ [] = sym is ∙ asked.0 in cc
+gives_version_of words (Ok (Serve socket slots entries slice turns)) is asked refused = let bad : kinds.DisplayVersion ∷ [] ≡ [] = sym is ∙ asked.0 in cc
+gives_version_of words (Ok (Help text)) is asked refused =
+    let bad : kinds.DisplayHelp ≡ kinds.DisplayVersion = among_one kinds.DisplayVersion kinds.DisplayHelp (subst (λ (k : Kinds). IsAmong kinds.DisplayHelp k) is asked) in cc
+gives_version_of words (Err OutOfMemory) is asked refused = inr refl
+gives_version_of words (Err (NotAccepted text)) is asked refused = absurd (not_refused words kinds.DisplayVersion is no_mistake_in_version refused)
+
+pub gives_help : (words : List Text) (r : Result Job WordsFault) → AreHelpWords words
+    → IfOk r (IsAskedBy words) → IfErr r (IsRefusedFor words) → GivesHelp r
+gives_help words r (inl is) asked refused = gives_help_of words r (ap faults_of is ∙ help_faults) asked refused
+gives_help words r (inr is) asked refused = gives_help_of words r (ap faults_of is ∙ short_help_faults) asked refused
+
+pub gives_version : (words : List Text) (r : Result Job WordsFault) → AreVersionWords words
+    → IfOk r (IsAskedBy words) → IfErr r (IsRefusedFor words) → Gives Version r
+gives_version words r (inl is) asked refused = gives_version_of words r (ap faults_of is ∙ version_faults) asked refused
+gives_version words r (inr is) asked refused = gives_version_of words r (ap faults_of is ∙ short_version_faults) asked refused

@@ -1,11 +1,11 @@
 -- When each answer to the words comes.
-use Rattle.std.specs.Prelude.{◌≡◌, ◌≢◌, ◌⊎◌, ◌-◌, ◌^◌, ℕ, List, [], Option, Some, None, Result, Ok, Err, ⊤, codes, string_bytes}
+use Rattle.std.specs.Prelude.{◌≡◌, ◌≢◌, ◌⊎◌, ◌∷◌, ◌-◌, ◌^◌, ℕ, List, [], Option, Some, None, Result, Ok, Err, ⊤, codes, string_bytes}
 use Rattle.clap.specs.Words.{IsAmong, Row, Text}
 use Rattle.clap.specs.declared.error.kind.ErrorKind.{ErrorKind}
 use Rattle.clap.specs.declared.error.kind.ErrorKind.TheVariants as kinds
 use Rattle.usi_host.specs.CommandLine.{IsFromOne, NamesNumber, NamesText, command_of, faults_of}
 use Rattle.usi_host.specs.declared.words.Job.{Job}
-use Rattle.usi_host.specs.declared.words.Job.TheVariants.{Stdio, Replay, Serve, Help}
+use Rattle.usi_host.specs.declared.words.Job.TheVariants.{Stdio, Replay, Serve, Help, Version}
 use Rattle.usi_host.specs.declared.words.WordsFault.{WordsFault}
 use Rattle.usi_host.specs.declared.words.WordsFault.TheVariants.{OutOfMemory, NotAccepted}
 
@@ -19,6 +19,7 @@ HasRanges (Stdio entries) = IsFromOne 1000000 entries
 HasRanges (Replay slots entries slice) = IsFromOne 1024 slots × IsFromOne 1000000 entries × IsFromOne 1000000000 slice
 HasRanges (Serve socket slots entries slice turns) = HasServeRanges slots entries slice turns
 HasRanges (Help text) = ⊤
+HasRanges Version = ⊤
 
 -- the job is `stdio`, with the number that these options name
 abbrev pub IsStdioOf : List Row → Job → Type 0
@@ -66,12 +67,17 @@ NamesNoJob command = (job : Job) → HasRanges job → NamesJob command job → 
 -- the words ask for the job
 abbrev pub IsAskedBy : List Text → Job → Type 0
 IsAskedBy words (Help text) = IsAmong kinds.DisplayHelp (faults_of words)
+IsAskedBy words Version = IsAmong kinds.DisplayVersion (faults_of words)
 IsAskedBy words job = (faults_of words ≡ []) × NamesJob (command_of words) job
 
--- the words have a mistake, or name no job whose numbers lie in their ranges
+-- an error of this kind is a mistake, and no request for help or for the version
+abbrev pub IsMistake : ErrorKind → Type 0
+IsMistake kind = (kind ≢ kinds.DisplayHelp) × (kind ≢ kinds.DisplayVersion)
+
+-- the words have a mistake, or are read without one and name no job whose numbers lie in their ranges
 abbrev pub HasMistake : List Text → Type 0
-HasMistake words = ((kind : ErrorKind) × IsAmong kind (faults_of words) × (kind ≢ kinds.DisplayHelp))
-    ⊎ NamesNoJob (command_of words)
+HasMistake words = ((kind : ErrorKind) × IsAmong kind (faults_of words) × IsMistake kind)
+    ⊎ ((faults_of words ≡ []) × NamesNoJob (command_of words))
 
 -- words that are not accepted have a mistake
 abbrev pub IsRefusedFor : List Text → WordsFault → Type 0
@@ -82,6 +88,20 @@ IsRefusedFor words (NotAccepted text) = HasMistake words
 abbrev pub Gives : Job → Result Job WordsFault → Type 0
 Gives job result = (result ≡ Ok job) ⊎ (result ≡ Err OutOfMemory)
 
+-- a help, or memory ran out
+abbrev pub GivesHelp : Result Job WordsFault → Type 0
+GivesHelp (Ok (Help text)) = ⊤
+GivesHelp (Ok job) = ⊥
+GivesHelp (Err OutOfMemory) = ⊤
+GivesHelp (Err (NotAccepted text)) = ⊥
+
+-- the words ask for help, or for the version, and for nothing else
+abbrev pub AreHelpWords : List Text → Type 0
+AreHelpWords words = (words ≡ codes "--help" ∷ []) ⊎ (words ≡ codes "-h" ∷ [])
+
+abbrev pub AreVersionWords : List Text → Type 0
+AreVersionWords words = (words ≡ codes "--version" ∷ []) ⊎ (words ≡ codes "-V" ∷ [])
+
 -- the answer to a command line that was read
 abbrev pub IsJobOf : Option (Text × List Row) → Result Job WordsFault → Type 0
 IsJobOf command (Ok job) = NamesJob command job
@@ -91,6 +111,7 @@ IsJobOf command (Err (NotAccepted text)) = NamesNoJob command
 -- the answer to an error of this kind
 abbrev pub IsAnswerTo : ErrorKind → Result Job WordsFault → Type 0
 IsAnswerTo kind (Ok (Help text)) = kind ≡ kinds.DisplayHelp
+IsAnswerTo kind (Ok Version) = kind ≡ kinds.DisplayVersion
 IsAnswerTo kind (Ok job) = ⊥
 IsAnswerTo kind (Err OutOfMemory) = ⊤
-IsAnswerTo kind (Err (NotAccepted text)) = (kind ≢ kinds.DisplayHelp) × (kind ≢ kinds.OutOfMemory)
+IsAnswerTo kind (Err (NotAccepted text)) = IsMistake kind × (kind ≢ kinds.OutOfMemory)

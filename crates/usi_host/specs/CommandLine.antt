@@ -53,10 +53,10 @@ socket_command = with_rule (with_rule (new_app (codes "serve")) socket_option) s
 abbrev pub serve_command : App
 serve_command = with_rule (with_rule (with_rule socket_command entries_option) slice_option) turns_option
 
--- the program without a command
+-- the program without a command; it has a version, so `--version` and `-V` ask for it
 abbrev pub bare_line : App
 bare_line = let app = new_app (codes "usi_host") in
-    record app { top = record app.top { no_binary_name = true } }
+    record app { top = record app.top { no_binary_name = true; has_version = true } }
 
 -- the program with the command `stdio` alone
 abbrev pub stdio_line : App
@@ -70,7 +70,7 @@ replay_line = with_subcommand stdio_line replay_command.top
 abbrev pub command_line : App
 command_line = with_subcommand replay_line serve_command.top
 
--- the kinds of mistake for which the words are refused, or a request for help; none where they are a command line
+-- the kinds of mistake for which the words are refused, or a request for help or for the version; none where they are a command line
 abbrev pub faults_of : List Text → Kinds
 faults_of = fault_of command_line
 

@@ -7,6 +7,7 @@ ghost use Rattle.usi_host.specs.Statuses.{replay_status};
 
 mod refusal;
 mod serving;
+mod version;
 mod words;
 
 use host_core::Host;
@@ -19,6 +20,7 @@ use std::{env, io};
 use usi_replay::{ReplayFault, replay};
 use usi_serve::{MioWire, serve};
 use usi_stdio::stdio;
+use version::version_text;
 use words::{Job, WordsFault, read_words};
 
 /// The status of a script that has a bad line.
@@ -44,6 +46,14 @@ fn asked(rt: &HostRuntime) -> Result<Job, WordsFault>
 fn complain(rt: &HostRuntime, text: &str, status: u8) -> ExitCode {
     let _ = eprint!(rt; "{text}");
     ExitCode::from(status)
+}
+
+/// Writes a text that was asked for to standard output.
+fn tell(rt: &HostRuntime, text: &str) -> ExitCode {
+    match print!(rt; "{text}") {
+        Ok(()) => ExitCode::SUCCESS,
+        Err(_) => complain(rt, "usi_host: write failed\n", FAULT),
+    }
 }
 
 /// One session over standard input and output.
@@ -141,10 +151,8 @@ fn main(rt: HostRuntime) -> ExitCode {
             Ok(()) => ExitCode::SUCCESS,
             Err(fault) => complain(&rt, fault.complaint(), fault.status()),
         },
-        Ok(Job::Help { text }) => match print!(&rt; "{text}") {
-            Ok(()) => ExitCode::SUCCESS,
-            Err(_) => complain(&rt, "usi_host: write failed\n", FAULT),
-        },
+        Ok(Job::Help { text }) => tell(&rt, text.as_str()),
+        Ok(Job::Version) => tell(&rt, version_text()),
         Err(fault) => complain(&rt, complaint(&fault), status(&fault)),
     }
 }

@@ -48,5 +48,7 @@ pub fn complaint(fault: &WordsFault) -> &str
     }
 }
 
-const NOT_UTF_8: &str =
-    "error: a word of the command line is not UTF-8; for more information, try '--help'.\n";
+const NOT_UTF_8: &str = "error: a word of the command line is not UTF-8
+
+For more information, try '--help'.
+";

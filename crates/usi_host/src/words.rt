@@ -2,11 +2,12 @@
 ghost use Rattle.std.specs.Prelude.{◌≡◌, ◌∷◌, ℕ, false, [], IfErr, IfNone, IfOk, IfSome, MatchResult, codes, map};
 ghost use Rattle.clap.specs.Words.{app_of, found_of, kind_of, rows_of, rule_of, subcommand_rows_of};
 ghost use Rattle.clap.specs.declared.builder.command.Command.TheViews.{out-Command as fields_of};
-ghost use Rattle.usi_host.specs.Answers.{Gives, HasRanges, HasServeRanges, IsAnswerTo, IsAskedBy, IsJobOf, IsRefusedFor, IsReplayOf, IsServeOf, IsStdioOf, NamesJob, NamesNoJob, NamesNoReplay, NamesNoServe, NamesNoStdio, NamesNumbers};
+ghost use Rattle.usi_host.specs.Answers.{AreHelpWords, AreVersionWords, Gives, GivesHelp, HasRanges, HasServeRanges, IsAnswerTo, IsAskedBy, IsJobOf, IsRefusedFor, IsReplayOf, IsServeOf, IsStdioOf, NamesJob, NamesNoJob, NamesNoReplay, NamesNoServe, NamesNoStdio, NamesNumbers};
 ghost use Rattle.usi_host.specs.CommandLine.{IsFromOne, NamesNumber, command_line, entries_option, replay_command, replay_line, serve_command, slice_option, slots_option, socket_command, socket_option, stdio_command, stdio_line, turns_option};
-ghost use Rattle.usi_host.specs.declared.words.Job.TheVariants.{Stdio, Replay};
+ghost use Rattle.usi_host.specs.declared.words.Job.TheVariants.{Stdio, Replay, Version};
 ghost use Rattle.usi_host.specs.declared.words.WordsFault.TheVariants.{OutOfMemory};
 
+use crate::version::version_text;
 use clap::builder::ValueParser;
 use clap::error::ErrorKind;
 use clap::{Arg, ArgMatches, Command, Error};
@@ -54,6 +55,8 @@ pub enum Job {
     Help {
         text: String,
     },
+    /// The version; `version_text` is its text.
+    Version,
 }
 
 /// Why the words name no job.
@@ -75,8 +78,9 @@ impl From<AllocError> for WordsFault {
 
 /// Reads the words that follow the program's name: none or `stdio` for one session, with `--entries N`
 /// after `stdio`; `replay` for a script, with `--slots N`, `--entries N` and `--slice N`; `serve` for a
-/// Unix socket, with `--socket PATH`, which has to be there, these three and `--turns N`; and `--help`,
-/// `-h` or `help` for help. Every other line is `NotAccepted`. The texts are those of `clap`.
+/// Unix socket, with `--socket PATH`, which has to be there, these three and `--turns N`; `--help`, `-h`
+/// or `help` for help; and `--version` or `-V` for the version. Every other line is `NotAccepted`. The
+/// texts of help and refusals are those of `clap`.
 pub fn read_words<'a, S: AsStr>(alloc: Global, words: &'a [S]) -> Result<Job, WordsFault>
     ensures ranges { IfOk result HasRanges }
     ensures asked { IfOk result (IsAskedBy (map S.text words.entry.now)) }
@@ -84,6 +88,8 @@ pub fn read_words<'a, S: AsStr>(alloc: Global, words: &'a [S]) -> Result<Job, Wo
     ensures bare { words.entry.now ≡ [] → Gives (Stdio 4096) result }
     ensures stdio { map S.text words.entry.now ≡ codes "stdio" ∷ [] → Gives (Stdio 4096) result }
     ensures replay { map S.text words.entry.now ≡ codes "replay" ∷ [] → Gives (Replay 64 4096 1000) result }
+    ensures help { AreHelpWords (map S.text words.entry.now) → GivesHelp result }
+    ensures version { AreVersionWords (map S.text words.entry.now) → Gives Version result }
 {
     let line = command_line(alloc)?;
     answer_to(alloc, line.try_get_matches_from(words))
@@ -108,7 +114,7 @@ fn job_of(alloc: Global, matches: &ArgMatches<'_>) -> Result<Job, WordsFault>
     match named_job(alloc, matches)? {
         Some(job) => Ok(job),
         None => Err(WordsFault::NotAccepted {
-            text: String::from_str(alloc, "error: a number is out of its range\n")?,
+            text: String::from_str(alloc, OUT_OF_RANGE)?,
         }),
     }
 }
@@ -207,6 +213,7 @@ fn text_of(alloc: Global, error: &Error) -> Result<Job, WordsFault>
         ErrorKind::DisplayHelp => Ok(Job::Help {
             text: format!(in alloc; "{error}")?,
         }),
+        ErrorKind::DisplayVersion => Ok(Job::Version),
         _ => Err(WordsFault::NotAccepted {
             text: format!(in alloc; "{error}")?,
         }),
@@ -231,8 +238,10 @@ fn stdio_line<'a>(alloc: Global) -> Result<Command<'a>, AllocError>
     Command::new(alloc, "usi_host")
         .no_binary_name(true)
         .bin_name("usi_host")?
+        .version(version_text())
         .about(ABOUT)
         .after_help(AFTER_HELP)
+        .after_long_help(AFTER_LONG_HELP)
         .subcommand(stdio_command(alloc)?)
 }
 
@@ -242,7 +251,8 @@ fn stdio_command<'a>(alloc: Global) -> Result<Command<'a>, AllocError>
 {
     Command::new(alloc, "stdio")
         .about("Answers one front end over standard input and output")
-        .after_help(STDIO_EXAMPLE)
+        .after_help(STDIO_HELP)
+        .after_long_help(STDIO_LONG_HELP)
         .arg(entries_option(alloc))
 }
 
@@ -252,7 +262,8 @@ fn replay_command<'a>(alloc: Global) -> Result<Command<'a>, AllocError>
 {
     Command::new(alloc, "replay")
         .about("Runs many sessions from one script on standard input")
-        .after_help(REPLAY_EXAMPLE)
+        .after_help(REPLAY_HELP)
+        .after_long_help(REPLAY_LONG_HELP)
         .arg(slots_option(alloc))?
         .arg(entries_option(alloc))?
         .arg(slice_option(alloc))
@@ -275,7 +286,8 @@ fn socket_command<'a>(alloc: Global) -> Result<Command<'a>, AllocError>
 {
     Command::new(alloc, "serve")
         .about("Serves many front ends on a Unix socket, each with a session of its own")
-        .after_help(SERVE_EXAMPLE)
+        .after_help(SERVE_HELP)
+        .after_long_help(SERVE_LONG_HELP)
         .arg(socket_option(alloc))?
         .arg(slots_option(alloc))
 }
@@ -288,7 +300,7 @@ fn socket_option<'a>(alloc: Global) -> Arg<'a>
         .long("socket")
         .value_name("PATH")
         .required(true)
-        .help("Where the socket is made; nothing may be there yet")
+        .help("Where the socket is made: a path of 1 to 107 bytes at which nothing is yet")
 }
 
 fn turns_option<'a>(alloc: Global) -> Arg<'a>
@@ -339,37 +351,51 @@ fn slice_option<'a>(alloc: Global) -> Arg<'a>
         .help("How many steps of search a session makes in its turn, from 1 to 1000000000")
 }
 
+const OUT_OF_RANGE: &str = "error: a number is out of its range
+
+For more information, try '--help'.
+";
+
 const ABOUT: &str =
     "A shogi engine for programs that speak USI: it answers `go` by a search of fixed depth";
 
 const AFTER_HELP: &str =
-    "Without words the program runs `stdio` with its defaults, as a front end starts an engine.
+    "Without a command it does what `stdio` does: so front ends start an engine.
+`usi_host COMMAND --help` shows the options of a command, with their ranges.";
 
-Options of stdio:
-  --entries N  how many searched positions the table keeps, from 1 to 1000000 [default: 4096]
+const AFTER_LONG_HELP: &str =
+    "Without a command it does what `stdio` does: so front ends start an engine.
+`usi_host COMMAND --help` shows the options of a command, with their ranges.
 
-Options of replay:
-  --slots N    how many sessions may be open at a time, from 1 to 1024 [default: 64]
-  --entries N  how many searched positions they share, from 1 to 1000000 [default: 4096]
-  --slice N    how many steps of search a session makes in its turn, from 1 to 1000000000
-               [default: 1000]; it changes no output
-
-Options of serve:
-  --socket PATH  where the socket is made; nothing may be there yet
-  --slots N, --entries N, --slice N  as for replay
-  --turns N    after how many turns it ends [default: 18446744073709551615]
+Exit statuses:
+  0  the input ended, the session is over, the script was replayed, the last turn was taken,
+     or help or the version was asked for
+  1  memory ran out, a read or a write failed, or the socket could not be made or waited for;
+     standard error says which
+  2  the words are not accepted; standard error says why
+  3  a script has a bad line; standard error gives its number
 
 Examples:
   usi_host
   usi_host stdio --entries 100000
   printf 'position startpos\\ngo depth 3\\nquit\\n' | usi_host
   printf '+A\\n+B\\nA go depth 1\\nB usi\\n' | usi_host replay --slots 2
-  usi_host serve --socket /run/usi_host/socket";
+  usi_host serve --socket /tmp/shogi.socket";
 
-const STDIO_EXAMPLE: &str = "Example:
+const STDIO_HELP: &str = "It ends with `quit`, and when its input ends.";
+
+const STDIO_LONG_HELP: &str = "It ends with `quit`, and when its input ends.
+
+Exit statuses:
+  0  the session is over
+  1  memory ran out, a read or a write failed; standard error says which
+
+Example:
   usi_host stdio --entries 100000";
 
-const REPLAY_EXAMPLE: &str = "Lines of a script:
+const REPLAY_HELP: &str = "`usi_host replay --help` has the lines of a script.";
+
+const REPLAY_LONG_HELP: &str = "Lines of a script:
   +A      opens a session under the name A, a letter from A to Z
   A TEXT  sends the line TEXT to the session A
   -A      closes the session A once it has answered, and frees the name
@@ -377,18 +403,31 @@ Empty lines are skipped. Any other line, a name that is opened twice, or used wh
 not open, is bad: nothing is written then, and the status is 3.
 
 The output has for each + line, in their order, the line `== A` and all replies of that
-session, or `refused 1` where as many sessions were open as may be.
+session, or `refused 1` where as many sessions were open as may be. The size of the table
+and of a slice do not change it.
+
+Exit statuses:
+  0  the script was replayed
+  1  memory ran out, a read or a write failed; standard error says which
+  3  the script has a bad line; standard error gives its number
 
 Example:
   printf '+A\\n+B\\nA go depth 1\\nB usi\\n' | usi_host replay --slots 2";
 
-const SERVE_EXAMPLE: &str =
+const SERVE_HELP: &str = "Each connection is a session of its own.";
+
+const SERVE_LONG_HELP: &str =
     "Each connection is a session of its own, which ends when the client sends `quit`, or ends
 its side and has its answers. Where as many sessions are open as may be, a client is told
 `info string host full`. The file of the socket stays when the program ends.
 
+Exit statuses:
+  0  the last turn was taken
+  1  memory ran out, no random seed could be read, or the socket could not be made or waited
+     for; standard error says which
+
 Example:
-  usi_host serve --socket /run/usi_host/socket --slots 256 --entries 100000";
+  usi_host serve --socket /tmp/shogi.socket --slots 256 --entries 100000";
 
 #[cfg(test)]
 mod tests;

@@ -135,59 +135,146 @@ fn help_of(alloc: Global, words: &[&str]) -> Option<String> {
 }
 
 #[test]
-fn help_has_what_a_user_needs(rt: HostRuntime) -> Result<(), Fail> {
-    let stdio = [
-        "--entries",
-        "from 1 to 1000000",
-        "default: 4096",
-        "usi_host stdio",
+fn words_that_ask_for_the_version(rt: HostRuntime) -> Result<(), Fail> {
+    for word in ["--version", "-V"] {
+        assert_eq!(rt;
+            read_words(rt.alloc(), &[word])?,
+            Job::Version,
+            "for {word}"
+        );
+    }
+    let refused: [&[&str]; 4] = [
+        &["version"],
+        &["-v"],
+        &["stdio", "--version"],
+        &["serve", "--socket", "s", "-V"],
     ];
+    for words in refused {
+        let is_refused = matches!(
+            &read_words(rt.alloc(), words),
+            Err(WordsFault::NotAccepted { .. })
+        );
+        assert!(rt; is_refused, "for {words:?}");
+    }
+    Ok(())
+}
+
+// Whether the first words ask for a short help and the others for the long one, where both have the parts of
+// `in_both`, and the long one alone those of `in_long_alone`.
+fn are_helps(
+    alloc: Global,
+    in_short: &[&str],
+    in_long: &[&str],
+    before: &[&str],
+    in_both: &[&str],
+    in_long_alone: &[&str],
+) -> bool {
+    let Some(short) = help_of(alloc, in_short) else {
+        return false;
+    };
+    let Some(long) = help_of(alloc, in_long) else {
+        return false;
+    };
+    let Some(asked) = help_of(alloc, before) else {
+        return false;
+    };
+    if asked.as_str() != long.as_str() {
+        return false;
+    }
+    for part in in_both {
+        if !short.as_str().contains(part) || !long.as_str().contains(part) {
+            return false;
+        }
+    }
+    for part in in_long_alone {
+        if short.as_str().contains(part) || !long.as_str().contains(part) {
+            return false;
+        }
+    }
+    true
+}
+
+#[test]
+fn help_has_what_a_user_needs(rt: HostRuntime) {
+    let alloc = rt.alloc();
+    let program = ["stdio", "replay", "serve", "--version", "COMMAND --help"];
+    let statuses = ["0  ", "1  ", "2  ", "3  ", "usi_host stdio --entries"];
+    let stdio = ["--entries", "from 1 to 1000000", "[default: 4096]"];
+    let stdio_run = ["0  ", "1  ", "usi_host stdio --entries 100000"];
     let replay = [
         "--slots",
         "from 1 to 1024",
-        "default: 64",
-        "--slice",
+        "[default: 64]",
+        "from 1 to 1000000",
+        "[default: 4096]",
         "from 1 to 1000000000",
-        "default: 1000]",
+        "[default: 1000]",
+    ];
+    let script = [
+        "+A ",
+        "A TEXT",
+        "-A ",
+        "refused 1",
+        "3  ",
         "usi_host replay --slots 2",
     ];
     let serve = [
-        "--socket",
-        "--turns",
+        "1 to 107 bytes",
+        "from 1 to 1024",
+        "[default: 64]",
+        "[default: 4096]",
+        "from 1 to 1000000000",
+        "[default: 1000]",
         "from 1 to 18446744073709551615",
-        "host full",
-        "usi_host serve --socket",
     ];
-    let script = ["+A ", "A TEXT", "-A ", "refused 1", "status is 3"];
-    let rows: [(&[&str], &[&[&str]]); 9] = [
-        (&["--help"], &[&stdio, &replay]),
-        (&["-h"], &[&stdio, &replay]),
-        (&["help"], &[&stdio, &replay]),
-        (&["stdio", "--help"], &[&stdio]),
-        (&["help", "stdio"], &[&stdio]),
-        (&["replay", "--help"], &[&replay, &script]),
-        (&["help", "replay"], &[&replay, &script]),
-        (&["serve", "--help"], &[&serve]),
-        (&["help", "serve"], &[&serve]),
-    ];
-    for (words, groups) in rows {
-        let text = help_of(rt.alloc(), words).ok_or("help")?;
-        for parts in groups {
-            for part in *parts {
-                assert!(rt; text.as_str().contains(part), "{part} for {words:?}");
-            }
-        }
-    }
-    Ok(())
+    let host = ["host full", "1  ", "usi_host serve --socket"];
+    assert!(rt;
+        are_helps(alloc, &["-h"], &["--help"], &["help"], &program, &statuses),
+        "the program"
+    );
+    assert!(rt;
+        are_helps(
+            alloc,
+            &["stdio", "-h"],
+            &["stdio", "--help"],
+            &["help", "stdio"],
+            &stdio,
+            &stdio_run
+        ),
+        "stdio"
+    );
+    assert!(rt;
+        are_helps(
+            alloc,
+            &["replay", "-h"],
+            &["replay", "--help"],
+            &["help", "replay"],
+            &replay,
+            &script
+        ),
+        "replay"
+    );
+    assert!(rt;
+        are_helps(
+            alloc,
+            &["serve", "-h"],
+            &["serve", "--help"],
+            &["help", "serve"],
+            &serve,
+            &host
+        ),
+        "serve"
+    );
 }
 
 // With `rt try --test --fail-alloc N`, want of memory is the only other answer.
 #[test]
 fn only_memory_changes_an_answer(rt: HostRuntime) {
-    let rows: [(&[&str], &str); 6] = [
+    let rows: [(&[&str], &str); 7] = [
         (&["stdio", "--entries", "7"], ""),
         (&["replay", "--slots", "7"], ""),
         (&["serve", "--socket", "s"], ""),
+        (&["--version"], ""),
         (&["go"], "try '--help'"),
         (&["--help"], "usi_host stdio --entries 100000\n"),
         (&["stdio", "--help"], "default: 4096"),
@@ -205,6 +292,7 @@ fn only_memory_changes_an_answer(rt: HostRuntime) {
             ) => slots == 7 && entries == 4096 && slice == 1000,
             Ok(Job::Serve { socket, .. }) => socket.as_str() == "s",
             Ok(Job::Help { text }) => text.as_str().contains(part),
+            Ok(Job::Version) => words == ["--version"].as_slice(),
             Err(WordsFault::NotAccepted { text }) => text.as_str().contains(part),
         };
         assert!(rt; answered, "for {words:?}");

@@ -1,5 +1,5 @@
 use Rattle.std.proofs.Common.{map, ap}
-use Rattle.usi_host.proofs.Line.{gives_bare, gives_replay, gives_stdio, line_asked, line_refused, parsed_line}
+use Rattle.usi_host.proofs.Line.{gives_bare, gives_help, gives_replay, gives_stdio, gives_version, line_asked, line_refused, parsed_line}
 use Rattle.usi_host.proofs.words.read_words.Goals as goal
 
 pub returns-clause-asked : goal.returns-clause-asked
@@ -27,4 +27,14 @@ returns-clause-stdio g c = λ is.
 pub returns-clause-replay : goal.returns-clause-replay
 returns-clause-replay g c = λ is.
     gives_replay (map g.S.AsStr.text c.args.words.now) c.answer_to.result is
+    (returns-clause-asked g c) (returns-clause-refused g c)
+
+pub returns-clause-help : goal.returns-clause-help
+returns-clause-help g c = λ is.
+    gives_help (map g.S.AsStr.text c.args.words.now) c.answer_to.result is
+    (returns-clause-asked g c) (returns-clause-refused g c)
+
+pub returns-clause-version : goal.returns-clause-version
+returns-clause-version g c = λ is.
+    gives_version (map g.S.AsStr.text c.args.words.now) c.answer_to.result is
     (returns-clause-asked g c) (returns-clause-refused g c)
