@@ -17,6 +17,7 @@ USI = (
     b"id name Shared Shogi Host\n"
     b"id author Shared Shogi Host Team\n"
     b"option name Depth type spin default 3 min 1 max 16\n"
+    b"option name Eval type combo default Plain var Plain var Hand\n"
     b"usiok\n"
 )
 DEPTH_ONE = b"info depth 1 score cp 0 pv 1g1f\n"

@@ -323,6 +323,18 @@ def neither_entries_nor_slices_change_a_replay():
             want(run(words, script), (0, output, b""), f"{words}")
 
 
+def each_session_has_an_evaluation_of_its_own():
+    """Under `Hand` a piece in hand is worth a tenth more: the pawn that is taken for one counts 110 where it
+    is held, and 100 where it was lost."""
+    hand = DEPTH_THREE.replace(b"score cp 200", b"score cp 210")
+    script = b"+A\n+B\nB setoption name Eval value Hand\nA go\nB go\n"
+    want(run(["replay", "--slots", "2"], script), (0, b"== A\n" + DEPTH_THREE + b"== B\n" + hand, b""), "two")
+    option = b"setoption name Eval value "
+    want(run([], option + b"Hand\nusinewgame\ngo\n"), (0, hand, b""), "a new game keeps it")
+    want(run([], option + b"hand\ngo\n"), (0, DEPTH_THREE, b""), "another spelling")
+    want(run([], option + b"Hand\n" + option + b"Plain\ngo\n"), (0, DEPTH_THREE, b""), "back")
+
+
 def the_first_bad_line_of_a_script_is_named():
     for script, line in (
         (b"A go\n", 1),
@@ -403,6 +415,7 @@ CHECKS = (
     a_file_is_as_good_as_a_pipe,
     a_replay_writes_what_its_sessions_reply,
     neither_entries_nor_slices_change_a_replay,
+    each_session_has_an_evaluation_of_its_own,
     the_first_bad_line_of_a_script_is_named,
     a_replay_writes_nothing_before_its_script_ends,
     a_replay_tells_its_faults,
