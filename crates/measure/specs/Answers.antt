@@ -4,6 +4,7 @@ use Rattle.std.specs.Fmt.{signed_decimal}
 use Rattle.shogi_core.specs.declared.moves.Move.{Move}
 use Rattle.shogi_core.specs.declared.validity.PositionFault.TheVariants.{TooMany, TwoKings, TwoPawns, DeadPiece, KingOpen}
 use Rattle.shogi_core.specs.Position.{Shogi}
+use Rattle.shogi_eval.specs.declared.eval.Eval.TheVariants.{Plain}
 use Rattle.shogi_moves.specs.LegalMoves.{perft}
 use Rattle.shogi_search.specs.declared.found.Found.{Found}
 use Rattle.shogi_search.specs.Minimax.{value, best, tree_size}
@@ -22,9 +23,9 @@ abbrev pub IsCount : Shogi → ℕ → Option ℕ → Type 0
 IsCount p n (Some count) = count ≡ perft p n
 IsCount p n None = 2 ^ 64 ≤ perft p n
 
--- the value and the best move at a depth, after at most two steps for each node of the tree
+-- the value and the best move under the plain evaluation at a depth, after at most two steps for each node of the tree
 abbrev pub IsFound : Shogi → ℕ → Found → Type 0
-IsFound p n found = (found.value ≡ value p n) × (found.best ≡ best p n) × (found.steps ≤ 2 * tree_size p n)
+IsFound p n found = (found.value ≡ value p Plain n) × (found.best ≡ best p Plain n) × (found.steps ≤ 2 * tree_size p n)
 
 -- the reply to the work at a position, to the depth asked for
 abbrev pub IsReply : Work → Shogi → ℕ → Reply → Type 0

@@ -8,6 +8,7 @@ ghost use Rattle.measure.specs.Ranges.{HasRange};
 use crate::request::{Refusal, Request, Work};
 use shared_table::SharedTable;
 use shogi_core::Move;
+use shogi_eval::Eval;
 use shogi_moves::perft;
 use shogi_search::{Found, Memo, NoMemo, search};
 use shogi_sfen::write_move;
@@ -91,7 +92,7 @@ fn reply_to<M: Memo>(request: &Request, memo: &mut M) -> Reply
             Reply::Perft { depth, count }
         }
         Work::Search { .. } => {
-            let found = search(position, depth, memo);
+            let found = search(position, Eval::Plain, depth, memo);
             Reply::Search { depth, found }
         }
     }

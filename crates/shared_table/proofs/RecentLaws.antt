@@ -9,20 +9,19 @@ use Rattle.lru.proofs.Splits.{Contains-cons}
 use Rattle.shogi_search.specs.declared.memo.Entry.{Entry}
 use Rattle.shogi_search.specs.Minimax.{IsTrueEntry}
 use Rattle.shared_table.specs.KeyLaws.{key_same}
-use Rattle.shared_table.specs.Keys.{is_same_key}
+use Rattle.shared_table.specs.Keys.{Key, is_same_key}
 use Rattle.shared_table.specs.Recent.{AreTrue, IsTable, Pair, entry_of, is_leaf, leaf_count, leaf_of, noted, probed, without}
-use Rattle.shared_table.specs.declared.key.TableKey.{TableKey}
 
 -- keys that pass the test are one
-one_key : (a b : TableKey) → is_same_key a b ≡ true → b ≡ a
+one_key : (a b : Key) → is_same_key a b ≡ true → b ≡ a
 one_key a b e = sym ((key_same a b).0 e)
 
 -- a pair by its parts
-pair_is : (pair : Pair) (key : TableKey) → pair.0 ≡ key → pair ≡ (key, pair.1)
-pair_is pair key e = ap (λ (k : TableKey). (k, pair.1)) e
+pair_is : (pair : Pair) (key : Key) → pair.0 ≡ key → pair ≡ (key, pair.1)
+pair_is pair key e = ap (λ (k : Key). (k, pair.1)) e
 
 -- a look-up gives the value of the pair that it finds
-lookup-entry : (test : TableKey → Bool) (pairs : List Pair) → lookup test pairs ≡ option_map (λ pair. pair.1) (lookup_entry test pairs)
+lookup-entry : (test : Key → Bool) (pairs : List Pair) → lookup test pairs ≡ option_map (λ pair. pair.1) (lookup_entry test pairs)
 lookup-entry test [] = refl
 lookup-entry test (pair ∷ pairs) = go (test pair.0) (lookup-entry test pairs)
   where
@@ -32,7 +31,7 @@ lookup-entry test (pair ∷ pairs) = go (test pair.0) (lookup-entry test pairs)
     go false rest = rest
 
 -- where no pair is found, none is taken out
-nothing_without : (test : TableKey → Bool) (pairs : List Pair) → lookup_entry test pairs ≡ None → remove_entry test pairs ≡ pairs
+nothing_without : (test : Key → Bool) (pairs : List Pair) → lookup_entry test pairs ≡ None → remove_entry test pairs ≡ pairs
 nothing_without test [] none = refl
 nothing_without test (pair ∷ pairs) none = go (test pair.0) none (nothing_without test pairs)
   where
@@ -43,7 +42,7 @@ nothing_without test (pair ∷ pairs) none = go (test pair.0) none (nothing_with
     go false e rest = ap (λ (l : List Pair). pair ∷ l) (rest e)
 
 -- where a pair is found, one less is left without it
-length-without : (test : TableKey → Bool) (pairs : List Pair) (found : Pair) → lookup_entry test pairs ≡ Some found
+length-without : (test : Key → Bool) (pairs : List Pair) (found : Pair) → lookup_entry test pairs ≡ Some found
     → length (remove_entry test pairs) + 1 ≡ length pairs
 length-without test [] found e = cc
 length-without test (pair ∷ pairs) found e = go (test pair.0) e (length-without test pairs found)
@@ -55,7 +54,7 @@ length-without test (pair ∷ pairs) found e = go (test pair.0) e (length-withou
     go false h rest = let shorter = rest h in omega arith
 
 -- what `lru` makes of a probe is what the table means by it
-pub promoted_is : (key : TableKey) (pairs : List Pair) → promoted (is_same_key key) pairs ≡ probed key pairs
+pub promoted_is : (key : Key) (pairs : List Pair) → promoted (is_same_key key) pairs ≡ probed key pairs
 promoted_is key pairs = go (lookup_entry (is_same_key key) pairs) refl
   where
     go : (o : Option Pair) → lookup_entry (is_same_key key) pairs ≡ o → promoted (is_same_key key) pairs ≡ probed key pairs
@@ -65,7 +64,7 @@ promoted_is key pairs = go (lookup_entry (is_same_key key) pairs) refl
         rw (lookup-entry (is_same_key key) pairs, e) (ap (λ (p : Pair). p ∷ without key pairs) (pair_is found key same))
 
 -- what `lru` makes of a note is what the table means by it
-pub put_is : (key : TableKey) (entry : Entry) (pairs : List Pair) (capacity : ℕ) → 1 ≤ capacity → length pairs ≤ capacity
+pub put_is : (key : Key) (entry : Entry) (pairs : List Pair) (capacity : ℕ) → 1 ≤ capacity → length pairs ≤ capacity
     → put_entries is_same_key (lru_cache pairs capacity) key entry ≡ noted capacity key entry pairs
 put_is key entry pairs zero room fits = absurd (omega arith)
 put_is key entry pairs (suc n) room fits = go (lookup_entry (is_same_key key) pairs) refl
@@ -79,18 +78,18 @@ put_is key entry pairs (suc n) room fits = go (lookup_entry (is_same_key key) pa
         let same : found.0 ≡ key = one_key key found.0 (Contains-lookup_entry (is_same_key key) pairs found e).1 in
         let count = length-without (is_same_key key) pairs found e in
         let all : take n (without key pairs) ≡ without key pairs = take_all n (without key pairs) (omega arith) in
-        rw (e, all) (ap (λ (k : TableKey). (k, entry) ∷ without key pairs) same)
+        rw (e, all) (ap (λ (k : Key). (k, entry) ∷ without key pairs) same)
 
 -- a found entry is true
-pub found_true : (pairs : List Pair) (key : TableKey) (found : Option Entry) → AreTrue pairs → found ≡ entry_of pairs key
-    → IfSome found (IsTrueEntry key.position key.depth)
+pub found_true : (pairs : List Pair) (key : Key) (found : Option Entry) → AreTrue pairs → found ≡ entry_of pairs key
+    → IfSome found (IsTrueEntry key.position key.eval key.depth)
 found_true pairs key None all is = tt
 found_true pairs key (Some entry) all is =
     let at = Contains-lookup (is_same_key key) pairs entry (sym is) in
-    subst (λ (k : TableKey). IsTrueEntry k.position k.depth entry) (one_key key at.0 at.2) (all at.0 entry at.1)
+    subst (λ (k : Key). IsTrueEntry k.position k.eval k.depth entry) (one_key key at.0 at.2) (all at.0 entry at.1)
 
 -- a found pair and those without it have the leaves of all
-leaves-without : (test : TableKey → Bool) (pairs : List Pair) (found : Pair) → lookup_entry test pairs ≡ Some found
+leaves-without : (test : Key → Bool) (pairs : List Pair) (found : Pair) → lookup_entry test pairs ≡ Some found
     → cond (is_leaf found) 1 0 + leaf_count (remove_entry test pairs) ≡ leaf_count pairs
 leaves-without test [] found e = cc
 leaves-without test (pair ∷ pairs) found e = go (test pair.0) e (leaves-without test pairs found)
@@ -111,7 +110,7 @@ leaves-take zero (pair ∷ next ∷ pairs) fits = absurd (omega arith)
 leaves-take (suc n) (pair ∷ pairs) fits = let rest = leaves-take n pairs (omega arith) in omega arith
 
 -- after a put the leaves are those before, the put one's, and not the one that is gone
-pub leaves-put : (key : TableKey) (entry : Entry) (pairs : List Pair) (capacity : ℕ) → 0 < capacity → length pairs ≤ capacity
+pub leaves-put : (key : Key) (entry : Entry) (pairs : List Pair) (capacity : ℕ) → 0 < capacity → length pairs ≤ capacity
     → leaf_count (put_entries is_same_key (lru_cache pairs capacity) key entry) + leaf_of (displaced is_same_key (lru_cache pairs capacity) key entry)
     ≡ leaf_count pairs + cond (key.depth == 0) 1 0
 leaves-put key entry pairs capacity room fits = go (lookup_entry (is_same_key key) pairs) refl
@@ -128,7 +127,7 @@ leaves-put key entry pairs capacity room fits = go (lookup_entry (is_same_key ke
         rw (lookup-entry (is_same_key key) pairs, e, ← same) (omega (arith, without))
 
 -- the count after a put, or after none
-pub leaves_after : {E : Type 0} (key : TableKey) (entry : Entry) (old new : LruCache TableKey Entry) (r : Result (Option Pair) E) (lost : Option Pair)
+pub leaves_after : {E : Type 0} (key : Key) (entry : Entry) (old new : LruCache Key Entry) (r : Result (Option Pair) E) (lost : Option Pair)
     → 0 < old.cap → length old.entries ≤ old.cap → r ≡ Ok lost
     → OnOk r (new ≡ lru_cache (put_entries is_same_key old key entry) old.cap)
     → IfOk r (λ (x : Option Pair). x ≡ displaced is_same_key old key entry)
@@ -139,7 +138,7 @@ leaves_after key entry old new (Ok x) lost room fits was ok out =
 leaves_after key entry old new (Err x) lost room fits was ok out = cc
 
 -- a probe keeps what holds of the table
-pub table_probed : (key : TableKey) (pairs : List Pair) (capacity leaves : ℕ) → IsTable pairs capacity leaves
+pub table_probed : (key : Key) (pairs : List Pair) (capacity leaves : ℕ) → IsTable pairs capacity leaves
     → IsTable (promoted (is_same_key key) pairs) capacity leaves
 table_probed key pairs capacity leaves t = record {
   truth = λ k e at. t.truth k e (Contains-promoted (is_same_key key) pairs (k, e) at);
@@ -153,25 +152,25 @@ table_probed key pairs capacity leaves t = record {
     go (Some found) e = rw e (leaves-without (is_same_key key) pairs found e)
 
 -- where no entry has depth 0, none is found there
-pub no_leaf_found : (key : TableKey) (pairs : List Pair) → 0 ≡ leaf_count pairs → key.depth ≡ 0 → None ≡ entry_of pairs key
+pub no_leaf_found : (key : Key) (pairs : List Pair) → 0 ≡ leaf_count pairs → key.depth ≡ 0 → None ≡ entry_of pairs key
 no_leaf_found key pairs none leaf = rw (lookup-entry (is_same_key key) pairs) (go (lookup_entry (is_same_key key) pairs) refl)
   where
     go : (o : Option Pair) → lookup_entry (is_same_key key) pairs ≡ o → None ≡ option_map (λ p. p.1) (lookup_entry (is_same_key key) pairs)
     go None e = rw e refl
     go (Some found) e =
         let same : found.0 ≡ key = one_key key found.0 (Contains-lookup_entry (is_same_key key) pairs found e).1 in
-        let depth : found.0.depth ≡ 0 = ap (λ (k : TableKey). k.depth) same ∙ leaf in
+        let depth : found.0.depth ≡ 0 = ap (λ (k : Key). k.depth) same ∙ leaf in
         let is : is_leaf found ≡ true = eq-eqb found.0.depth 0 depth in
         let count : cond (is_leaf found) 1 0 + leaf_count (remove_entry (is_same_key key) pairs) ≡ leaf_count pairs = leaves-without (is_same_key key) pairs found e in
         let more : 1 + leaf_count (remove_entry (is_same_key key) pairs) ≡ leaf_count pairs = rw is at count in
         absurd (omega arith)
 
 -- a probe that finds nothing leaves the list
-pub probed_none : (key : TableKey) (pairs : List Pair) → None ≡ entry_of pairs key → probed key pairs ≡ pairs
+pub probed_none : (key : Key) (pairs : List Pair) → None ≡ entry_of pairs key → probed key pairs ≡ pairs
 probed_none key pairs none = rw (← none) refl
 
 -- what `lru` answers to a put is what the table means by a note, or nothing changed for want of memory
-pub put_or_not : {T E : Type 0} (key : TableKey) (entry : Entry) (old new : LruCache TableKey Entry) (r : Result T E)
+pub put_or_not : {T E : Type 0} (key : Key) (entry : Entry) (old new : LruCache Key Entry) (r : Result T E)
     → 0 < old.cap → length old.entries ≤ old.cap
     → OnOk r (new ≡ lru_cache (put_entries is_same_key old key entry) old.cap) → OnErr r (new ≡ old)
     → (IsSome (entry_of old.entries key) → IsOk r)
@@ -185,7 +184,7 @@ put_or_not key entry old new (Err x) room fits ok err succeeds = inr (none (entr
     none (Some v) e = let bad : false ≡ true = succeeds (subst (λ (x : Option Entry). IsSome x) (sym e) refl) in cc
 
 -- a pair of the list after a note is the noted one or was there
-noted_pair : (capacity : ℕ) (key : TableKey) (entry : Entry) (pairs : List Pair) (pair : Pair)
+noted_pair : (capacity : ℕ) (key : Key) (entry : Entry) (pairs : List Pair) (pair : Pair)
     → Contains (noted capacity key entry pairs) pair → (pair ≡ (key, entry)) ⊎ Contains pairs pair
 noted_pair capacity key entry pairs pair at =
     elim (Contains-cons (key, entry) (without key pairs) pair (Contains-take capacity ((key, entry) ∷ without key pairs) pair at)) [
@@ -194,8 +193,8 @@ noted_pair capacity key entry pairs pair at =
     ]
 
 -- a note of a true entry keeps what holds of the table
-pub table_noted : (key : TableKey) (entry : Entry) (old new : LruCache TableKey Entry) (was is : ℕ)
-    → IsTable old.entries old.cap was → IsTrueEntry key.position key.depth entry → is ≡ leaf_count new.entries
+pub table_noted : (key : Key) (entry : Entry) (old new : LruCache Key Entry) (was is : ℕ)
+    → IsTable old.entries old.cap was → IsTrueEntry key.position key.eval key.depth entry → is ≡ leaf_count new.entries
     → (new ≡ lru_cache (noted old.cap key entry old.entries) old.cap) ⊎ ((entry_of old.entries key ≡ None) × (new ≡ old))
     → IsTable new.entries new.cap is
 table_noted key entry old new was is t true_entry counted (inr same) = record {
@@ -206,7 +205,7 @@ table_noted key entry old new was is t true_entry counted (inr same) = record {
 }
 table_noted key entry old new was is t true_entry counted (inl same) = record {
   truth = rw same (λ k e at. elim (noted_pair old.cap key entry old.entries (k, e) at) [
-    | inl here ↦ subst (λ (p : Pair). IsTrueEntry p.0.position p.0.depth p.1) (sym here) true_entry
+    | inl here ↦ subst (λ (p : Pair). IsTrueEntry p.0.position p.0.eval p.0.depth p.1) (sym here) true_entry
     | inr there ↦ t.truth k e there
   ]);
   counted = counted;

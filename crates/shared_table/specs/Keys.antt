@@ -1,13 +1,25 @@
--- Which keys are the same: those with the same position and the same depth (own choice: the key is the whole position).
+-- Which keys are the same: those with the same position, the same evaluation and the same depth (own choice: the key is the whole position).
 use Rattle.std.specs.Prelude.{◌==◌, ◌&&◌, ℕ, Bool}
 use Rattle.shogi_core.specs.Position.{Shogi}
 use Rattle.shogi_core.specs.Same.{is_same_position}
-use Rattle.shared_table.specs.declared.key.TableKey.{TableKey}
+use Rattle.shogi_eval.specs.declared.eval.Eval.{Eval}
+use Rattle.shogi_eval.specs.declared.eval.Eval.TheVariants.{Plain, Hand}
 
--- the keys have the same depth and the same position
-unfoldable pub is_same_key : TableKey → TableKey → Bool
-is_same_key a b = a.depth == b.depth && is_same_position a.position b.position
+-- what a key says: the position, the evaluation and the depth
+pub record Key : Type 0 where
+  pub position : Shogi
+  pub eval : Eval
+  pub depth : ℕ
 
--- the key of a position at a depth
-abbrev pub key_of : Shogi → ℕ → TableKey
-key_of position depth = record { position = position; depth = depth }
+-- 0 for the plain evaluation and 1 for the one of hands
+abbrev pub eval_number : Eval → ℕ
+eval_number Plain = 0
+eval_number Hand = 1
+
+-- the keys have the same depth, the same evaluation and the same position
+unfoldable pub is_same_key : Key → Key → Bool
+is_same_key a b = a.depth == b.depth && (eval_number a.eval == eval_number b.eval && is_same_position a.position b.position)
+
+-- the key of a position under an evaluation at a depth
+abbrev pub key_of : Shogi → Eval → ℕ → Key
+key_of position eval depth = record { position = position; eval = eval; depth = depth }

@@ -2,15 +2,14 @@
 use Rattle.std.specs.Prelude.{◌≡◌, ◌≤◌, ◌∷◌, ◌==◌, ℕ, Bool, cond, List, Option, Contains, take, [], ◌+◌}
 use Rattle.std.specs.Map.{lookup, remove_entry}
 use Rattle.std.specs.Option.{option_map_or}
-use Rattle.shared_table.specs.Keys.{is_same_key}
+use Rattle.shared_table.specs.Keys.{Key, is_same_key}
 use Rattle.shared_table.specs.declared.table.TheConstants.{GREATEST_CAPACITY}
-use Rattle.shared_table.specs.declared.key.TableKey.{TableKey}
 use Rattle.shogi_search.specs.Minimax.{IsTrueEntry}
 use Rattle.shogi_search.specs.declared.memo.Entry.{Entry}
 
 -- a key with its entry
 abbrev pub Pair : Type 0
-Pair = TableKey × Entry
+Pair = Key × Entry
 
 -- the pairs, the most recently used first, and how many there may be
 pub record Table : Type 0 where
@@ -18,26 +17,26 @@ pub record Table : Type 0 where
   pub capacity : ℕ
 
 -- the entry under the key, or none
-abbrev pub entry_of : List Pair → TableKey → Option Entry
+abbrev pub entry_of : List Pair → Key → Option Entry
 entry_of pairs key = lookup (is_same_key key) pairs
 
 -- the pairs without that of the key
-abbrev pub without : TableKey → List Pair → List Pair
+abbrev pub without : Key → List Pair → List Pair
 without key pairs = remove_entry (is_same_key key) pairs
 
 -- after a probe the key's pair is the first; where there is none, all stays
-abbrev pub probed : TableKey → List Pair → List Pair
+abbrev pub probed : Key → List Pair → List Pair
 probed key pairs =
     option_map_or (λ entry. (key, entry) ∷ without key pairs) (entry_of pairs key) pairs
 
 -- after a note the key has this entry and is the first, and what is past the capacity is dropped
-abbrev pub noted : ℕ → TableKey → Entry → List Pair → List Pair
+abbrev pub noted : ℕ → Key → Entry → List Pair → List Pair
 noted capacity key entry pairs = take capacity ((key, entry) ∷ without key pairs)
 
--- each entry is true of its position and depth
+-- each entry is true of its position under its evaluation at its depth
 abbrev pub AreTrue : List Pair → Type 0
-AreTrue pairs = (key : TableKey) (entry : Entry) → Contains pairs (key, entry)
-    → IsTrueEntry key.position key.depth entry
+AreTrue pairs = (key : Key) (entry : Entry) → Contains pairs (key, entry)
+    → IsTrueEntry key.position key.eval key.depth entry
 
 -- the pair has depth 0
 abbrev pub is_leaf : Pair → Bool

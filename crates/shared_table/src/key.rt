@@ -1,23 +1,114 @@
-//! The key of an entry: the whole position and the depth.
+//! The key of an entry: the whole position, the evaluation and the depth, packed.
 
 ghost use Rattle.std.specs.Prelude.{◌≡◌, ◌↔◌, IsTrue};
+ghost use Rattle.shared_table.specs.Keys.{key_of};
+ghost use Rattle.shared_table.specs.Words.{key_in, words_of};
 
-use shogi_core::Position;
+use crate::packing::{cells_word, hand_word, last_word, pair, place_cells, side_of, with_counts};
+use shogi_core::{Board, Color, Hands, Position};
+use shogi_eval::Eval;
 use std::hash::{Hash, Hasher};
+use std::marker::Model;
 
-/// The key of an entry: the whole position and the depth, so that no hash can lie.
+/// The key of an entry, seen as the position, the evaluation and the depth. It holds them packed into
+/// ten words, from which all can be had again, so that no hash can lie.
 #[derive(Clone, Copy, Debug)]
 pub struct TableKey {
-    pub position: Position,
-    pub depth: u8,
+    words: [u64; 10],
+}
+
+impl Model for TableKey {
+    ghost use Rattle.shared_table.specs.Keys.{Key};
+    ghost use Rattle.shared_table.specs.Words.{AreWords, key_in, words_of};
+
+    ghost Value = { Key };
+
+    ghost view = { λ key. key_in key.words };
+
+    ghost invariant = { λ key. AreWords key.words };
+
+    ghost inverse = { λ key. record { words = words_of key } };
+
+    ghost use Rattle.std.proofs.Common.{ap};
+    ghost use Rattle.std.specs.Prelude.{List, ℕ};
+
+    ghost inverse_ok = { λ key h. ap (λ (words : List ℕ). record { words = words }) h.same };
 }
 
 impl TableKey {
-    /// Whether the position and the depth are the same.
-    pub fn is_same(&self, other: &TableKey) -> bool
-        ensures { IsTrue result ↔ (self.now ≡ other.now) }
+    /// The key of the position under the evaluation at the depth.
+    pub fn of(position: &Position, eval: Eval, depth: u8) -> TableKey
+        ensures { result ≡ key_of position.now eval depth }
     {
-        self == other
+        position.validity();
+        let cells = position.as_board().cells();
+        let hands = position.hands();
+        TableKey {
+            words: [
+                cells_word(&cells[0..12]),
+                cells_word(&cells[12..24]),
+                cells_word(&cells[24..36]),
+                cells_word(&cells[36..48]),
+                cells_word(&cells[48..60]),
+                cells_word(&cells[60..72]),
+                cells_word(&cells[72..81]),
+                hand_word(hands, Color::Black),
+                hand_word(hands, Color::White),
+                last_word(position.side(), eval, depth),
+            ],
+        }
+    }
+
+    /// The depth.
+    pub fn depth(&self) -> u8
+        ensures { result ≡ self.now.depth }
+    {
+        (self.words[9] / 4) as u8
+    }
+
+    /// The position.
+    pub fn position(&self) -> Position
+        ensures { result ≡ self.now.position }
+    {
+        let mut cells = [None; 81];
+        place_cells(&mut cells, 0, 12, self.words[0]);
+        place_cells(&mut cells, 12, 24, self.words[1]);
+        place_cells(&mut cells, 24, 36, self.words[2]);
+        place_cells(&mut cells, 36, 48, self.words[3]);
+        place_cells(&mut cells, 48, 60, self.words[4]);
+        place_cells(&mut cells, 60, 72, self.words[5]);
+        place_cells(&mut cells, 72, 81, self.words[6]);
+        let black = with_counts(Hands::none(), Color::Black, self.words[7]);
+        let hands = with_counts(black, Color::White, self.words[8]);
+        Position::of_valid(Board::of(cells), hands, side_of(self.words[9]))
+    }
+
+    /// The evaluation.
+    pub fn eval(&self) -> Eval
+        ensures { result ≡ self.now.eval }
+    {
+        if self.words[9] / 2 % 2 == 0 {
+            Eval::Plain
+        } else {
+            Eval::Hand
+        }
+    }
+
+    /// The ten words, from which the position, the evaluation and the depth can be had again.
+    pub fn words(&self) -> [u64; 10]
+        ensures words { result ≡ words_of self.now }
+        ensures key { key_in result ≡ self.now }
+    {
+        let TableKey { words } = *self;
+        words
+    }
+
+    /// Whether the position, the evaluation and the depth are the same: exactly where the words are.
+    pub fn is_same(&self, other: &TableKey) -> bool
+        ensures same { IsTrue result ↔ (self.now ≡ other.now) }
+        ensures words { IsTrue result ↔ (words_of self.now ≡ words_of other.now) }
+    {
+        self.words() == other.words()
     }
 }
 
@@ -29,9 +120,8 @@ impl PartialEq for TableKey {
 
     ghost laws = { key_partial_equivalence };
 
-    #[tactic(auto, unfolding(crate::specs::Keys::is_same_key))]
     fn eq(&self, other: &TableKey) -> bool {
-        self.depth == other.depth && self.position.is_same(&other.position)
+        self.words == other.words
     }
 }
 
@@ -42,16 +132,19 @@ impl Eq for TableKey {
 }
 
 impl Hash for TableKey {
-    ghost use Rattle.std.specs.Prelude.{◌++◌};
-    ghost use Rattle.std.specs.Hash as fed;
     ghost use Rattle.shared_table.specs.KeyLaws.{key_same};
+    ghost use Rattle.shared_table.specs.Words.{writes_of};
+    ghost use Rattle.std.specs.Hash as fed;
 
-    ghost hash_input = { λ key. fed.u8 key.depth ++ ⟦<Position as Hash>⟧.hash_input key.position };
+    ghost hash_input = { λ key. writes_of (words_of key) };
 
     ghost respects_eq = { (fed.same_Alike _ key_same).fed };
 
     fn hash<H: Hasher>(&self, state: &mut H) {
-        self.depth.hash(state);
-        self.position.hash(state);
+        state.write_u128(pair(self.words[0], self.words[1]));
+        state.write_u128(pair(self.words[2], self.words[3]));
+        state.write_u128(pair(self.words[4], self.words[5]));
+        state.write_u128(pair(self.words[6], self.words[7]));
+        state.write_u128(pair(self.words[8], self.words[9]));
     }
 }

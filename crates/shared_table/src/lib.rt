@@ -2,6 +2,7 @@
 #![tactic(auto)]
 
 mod key;
+mod packing;
 mod table;
 
 pub use key::TableKey;

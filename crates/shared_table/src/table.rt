@@ -2,6 +2,7 @@
 
 ghost use Rattle.std.specs.Prelude.{◌≡◌, ◌≤◌, ◌⊎◌, ◌==◌, ◌&&◌, not, cond, [], length, None, IfOk, false};
 ghost use Rattle.shogi_core.specs.Position.{Shogi};
+ghost use Rattle.shogi_eval.specs.declared.eval.Eval.{Eval};
 ghost use Rattle.lru.specs.LruCache.{lru_cache, promoted};
 ghost use Rattle.std.specs.List.{IsDistinct};
 ghost use Rattle.std.specs.Map.{keys_of};
@@ -15,6 +16,7 @@ ghost use Rattle.shared_table.specs.declared.table.TableFault.TheVariants.{OutOf
 use crate::key::TableKey;
 use lru::{Iter, LruCache};
 use shogi_core::Position;
+use shogi_eval::Eval;
 use shogi_search::{Entry, Memo};
 use std::alloc::{AllocError, Allocator};
 use std::hash::BuildHasher;
@@ -85,14 +87,11 @@ impl<S: BuildHasher, A: Allocator> SharedTable<S, A> {
         self.len();
     }
 
-    /// The entry of the position at the depth. The order stays.
-    pub fn peek(&self, p: &Position, d: u8) -> Option<Entry>
-        ensures { result ≡ entry_of self.now.pairs (key_of p.now d) }
+    /// The entry of the position under the evaluation at the depth. The order stays.
+    pub fn peek(&self, p: &Position, e: Eval, d: u8) -> Option<Entry>
+        ensures { result ≡ entry_of self.now.pairs (key_of p.now e d) }
     {
-        let key = TableKey {
-            position: *p,
-            depth: d,
-        };
+        let key = TableKey::of(p, e, d);
         self.cache.peek(&key).copied()
     }
 
@@ -119,41 +118,35 @@ impl<S: BuildHasher, A: Allocator + Clone> Memo for SharedTable<S, A> {
     ghost use Rattle.std.specs.Prelude.{IfSome};
     ghost use Rattle.shogi_search.specs.Minimax.{IsTrueEntry};
 
-    ghost answers = { λ table p d. entry_of table.pairs (key_of p d) };
+    ghost answers = { λ table p e d. entry_of table.pairs (key_of p e d) };
 
     /// Depth 0 only while an entry of that depth is held, and every other depth.
     fn keeps(&self, d: u8) -> bool
-        ensures none { result ≡ false → (p : Shogi) → entry_of self.now.pairs (key_of p d) ≡ None }
+        ensures none { result ≡ false → (p : Shogi) (e : Eval) → entry_of self.now.pairs (key_of p e d) ≡ None }
         ensures kept { result ≡ not (d == 0 && leaf_count self.now.pairs == 0) }
     {
         d > 0 || self.leaves > 0
     }
 
-    fn probe(&mut self, p: &Position, d: u8) -> Option<Entry>
-        ensures answer { result ≡ entry_of self.old.pairs (key_of p.now d) }
-        ensures truth { IfSome result (IsTrueEntry p.now d) }
-        ensures used { self.new ≡ record self.old { pairs = probed (key_of p.now d) self.old.pairs } }
+    fn probe(&mut self, p: &Position, e: Eval, d: u8) -> Option<Entry>
+        ensures answer { result ≡ entry_of self.old.pairs (key_of p.now e d) }
+        ensures truth { IfSome result (IsTrueEntry p.now e d) }
+        ensures used { self.new ≡ record self.old { pairs = probed (key_of p.now e d) self.old.pairs } }
     {
         if d == 0 && self.leaves == 0 {
             return None;
         }
-        let key = TableKey {
-            position: *p,
-            depth: d,
-        };
+        let key = TableKey::of(p, e, d);
         recall(&mut self.cache, &key)
     }
 
-    fn note(&mut self, p: &Position, d: u8, entry: Entry)
-        requires truth { IsTrueEntry p.now d entry }
+    fn note(&mut self, p: &Position, e: Eval, d: u8, entry: Entry)
+        requires truth { IsTrueEntry p.now e d entry }
         requires depth { d ≤ GREATEST_DEPTH }
-        ensures noted { (self.new ≡ record self.old { pairs = noted self.old.capacity (key_of p.now d) entry self.old.pairs })
-            ⊎ ((entry_of self.old.pairs (key_of p.now d) ≡ None) × (self.new ≡ self.old)) }
+        ensures noted { (self.new ≡ record self.old { pairs = noted self.old.capacity (key_of p.now e d) entry self.old.pairs })
+            ⊎ ((entry_of self.old.pairs (key_of p.now e d) ≡ None) × (self.new ≡ self.old)) }
     {
-        let key = TableKey {
-            position: *p,
-            depth: d,
-        };
+        let key = TableKey::of(p, e, d);
         let leaves = remember(&mut self.cache, self.leaves, key, entry);
         self.leaves = leaves;
     }
@@ -184,7 +177,7 @@ fn remember<S: BuildHasher, A: Allocator + Clone>(
     ensures leaves { result ≡ leaf_count cache.new.entries }
 {
     cache.len();
-    let added = tally(key.depth);
+    let added = tally(&key);
     match cache.push(key, entry) {
         Ok(lost) => leaves + added - leaf(&lost),
         Err(_) => leaves,
@@ -196,14 +189,14 @@ fn leaf(pair: &Option<(TableKey, Entry)>) -> usize
     ensures { result ≡ leaf_of pair.now }
 {
     match pair {
-        Some((key, _)) => tally(key.depth),
+        Some((key, _)) => tally(key),
         None => 0,
     }
 }
 
-// One for a leaf.
-fn tally(depth: u8) -> usize
-    ensures { result ≡ cond (depth == 0) 1 0 }
+// One for a key of depth 0.
+fn tally(key: &TableKey) -> usize
+    ensures { result ≡ cond (key.now.depth == 0) 1 0 }
 {
-    if depth == 0 { 1 } else { 0 }
+    if key.depth() == 0 { 1 } else { 0 }
 }

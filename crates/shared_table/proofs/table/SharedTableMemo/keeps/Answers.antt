@@ -5,7 +5,7 @@ use Rattle.shared_table.proofs.table.SharedTableMemo.keeps.Goals as goal
 
 -- no entry of depth 0 is held, so none is found
 pub returns-else-d-gt0-clause-none : goal.returns-else-d-gt0-clause-none
-returns-else-d-gt0-clause-none g c = λ no p.
+returns-else-d-gt0-clause-none g c = λ no p e.
     let none : 0 ≡ c.self.inside.leaves = grind (arith, no) in
     let shallow : c.args.d ≡ 0 = omega (arith, c.if-d-gt0.false) in
-    rw (← c.self.view_is) (sym (no_leaf_found (key_of p c.args.d) c.self.inside.cache.entries (none ∙ c.self.invariant.counted) shallow))
+    rw (← c.self.view_is) (sym (no_leaf_found (key_of p e c.args.d) c.self.inside.cache.entries (none ∙ c.self.invariant.counted) shallow))

@@ -7,23 +7,24 @@ use Rattle.shared_table.proofs.table.SharedTableMemo.probe.Goals as goal
 pub returns-then-self-eq0-clause-answer : goal.returns-then-self-eq0-clause-answer
 returns-then-self-eq0-clause-answer g c =
     rw (← c.self.view_is)
-    (no_leaf_found (key_of c.args.p.now c.args.d) c.self.inside.cache.entries (sym c.if-self-eq0.true ∙ c.self.invariant.counted) c.if-d-eq0.true)
+    (no_leaf_found (key_of c.args.p.now c.args.e c.args.d) c.self.inside.cache.entries (sym c.if-self-eq0.true ∙ c.self.invariant.counted) c.if-d-eq0.true)
 
 pub returns-then-self-eq0-clause-used : goal.returns-then-self-eq0-clause-used
 returns-then-self-eq0-clause-used g c =
     let none = returns-then-self-eq0-clause-answer g c in
-    ap (λ (l : List Pair). record c.args.self.now { pairs = l }) (sym (probed_none (key_of c.args.p.now c.args.d) c.args.self.now.pairs none))
+    ap (λ (l : List Pair). record c.args.self.now { pairs = l }) (sym (probed_none (key_of c.args.p.now c.args.e c.args.d) c.args.self.now.pairs none))
 
 pub invariant_of-self : goal.invariant_of-self
 invariant_of-self g c =
     rw c.recall.ensures.entries
-    (table_probed (key_of c.args.p.now c.args.d) c.self.inside.cache.entries c.self.inside.cache.cap c.self.inside.leaves c.self.invariant)
+    (table_probed c.of-key.result c.self.inside.cache.entries c.self.inside.cache.cap c.self.inside.leaves c.self.invariant)
 
 pub returns-clause-truth : goal.returns-clause-truth
 returns-clause-truth g c =
-    found_true c.self.inside.cache.entries (key_of c.args.p.now c.args.d) c.recall.result c.self.invariant.truth c.recall.ensures.value
+    rw c.of-key.ensures at (found_true c.self.inside.cache.entries c.of-key.result c.recall.result c.self.invariant.truth c.recall.ensures.value)
 
 pub returns-clause-used : goal.returns-clause-used
 returns-clause-used g c =
     let table : List Pair → Table = λ l. record { pairs = l; capacity = c.self.inside.cache.cap } in
-    rw (c.recall.ensures.entries, ← c.self.view_is) (ap table (promoted_is (key_of c.args.p.now c.args.d) c.self.inside.cache.entries))
+    rw (c.recall.ensures.entries, c.of-key.ensures, ← c.self.view_is)
+    (ap table (promoted_is (key_of c.args.p.now c.args.e c.args.d) c.self.inside.cache.entries))

@@ -1,0 +1,19 @@
+use Rattle.std.proofs.Common.{◌≡◌, ◌∙◌, ap, arith, [], ◌∷◌}
+use Rattle.shared_table.specs.Keys.{key_of}
+use Rattle.shared_table.specs.Words.{key_in, words_of}
+use Rattle.shared_table.proofs.WordLaws.{key_back, words_are, words_made}
+use Rattle.shared_table.proofs.key.TableKey.of.Goals as goal
+
+-- the words are those of the position and the depth
+words_are_those : (c : goal.After-last_word) → c.cells_word.result ∷ c.cells_word-2.result ∷ c.cells_word-3.result ∷ c.cells_word-4.result ∷ c.cells_word-5.result
+    ∷ c.cells_word-6.result ∷ c.cells_word-7.result ∷ c.hand_word.result ∷ c.hand_word-2.result ∷ c.last_word.result ∷ []
+    ≡ words_of (key_of c.args.position.now c.args.eval c.args.depth)
+words_are_those c = words_made c.args.position.now c.args.eval c.args.depth _ _ _ (c.cells-cells.ensures ∙ c.as_board.ensures) c.hands-hands.ensures c.side.ensures _ _ _ _ _ _ _ _ _ _
+    c.cells_word.ensures c.cells_word-2.ensures c.cells_word-3.ensures c.cells_word-4.ensures c.cells_word-5.ensures c.cells_word-6.ensures c.cells_word-7.ensures
+    c.hand_word.ensures c.hand_word-2.ensures c.last_word.ensures
+
+pub invariant_of-result : goal.invariant_of-result
+invariant_of-result c = rw (words_are_those c) (words_are c.args.position.now c.args.eval c.args.depth c.validity.ensures (omega (arith, c.ranges.depth)))
+
+pub returns : goal.returns
+returns c = ap key_in (words_are_those c) ∙ (key_back c.args.position.now c.args.eval c.args.depth c.validity.ensures)

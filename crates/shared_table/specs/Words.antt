@@ -1,0 +1,118 @@
+-- The words of a key (own choice): ten numbers that say what stands on the squares, what is held, whose turn it is, the evaluation and the depth.
+use Rattle.std.specs.Prelude.{ℕ, ◌+◌, ◌*◌, ◌^◌, ◌/◌, ◌%◌, ◌<◌, ◌≡◌, zero, suc, List, [], ◌∷◌, ◌++◌, map, slice_index, slice_index_or, slice_range, Option, Some, None}
+use Rattle.std.specs.Hash as fed
+use Rattle.shogi_core.specs.declared.piece.Color.{Color}
+use Rattle.shogi_core.specs.declared.piece.Color.TheVariants.{Black, White}
+use Rattle.shogi_core.specs.declared.piece.Piece.{Piece}
+use Rattle.shogi_core.specs.declared.piece.Role.{Role}
+use Rattle.shogi_core.specs.Movement.{Cells}
+use Rattle.shogi_core.specs.Pieces.{all_kinds}
+use Rattle.shogi_core.specs.Position.{Shogi, HandCounts, held}
+use Rattle.shogi_core.specs.Same.{role_number}
+use Rattle.shogi_core.specs.Validity.{IsValid}
+use Rattle.shogi_eval.specs.declared.eval.Eval.{Eval}
+use Rattle.shogi_eval.specs.declared.eval.Eval.TheVariants.{Plain, Hand}
+use Rattle.shared_table.specs.declared.packing.TheConstants.{CELLS}
+use Rattle.shared_table.specs.Keys.{Key, eval_number}
+
+-- from 1 a piece of Black, and from 15 one of White
+abbrev pub piece_number : Color → Role → ℕ
+piece_number Black role = role_number role + 1
+piece_number White role = role_number role + 15
+
+-- a number for what stands on a square: 0 where it is empty
+abbrev pub cell_number : Option Piece → ℕ
+cell_number None = 0
+cell_number (Some piece) = piece_number piece.color piece.role
+
+-- the number of these digits in base 32, the first the lowest
+unfoldable pub number_of : List ℕ → ℕ
+number_of [] = 0
+number_of (digit ∷ digits) = digit + 32 * number_of digits
+
+-- the word of the squares from the one up to the other, which it does not count
+abbrev pub cells_word : Cells → ℕ → ℕ → ℕ
+cells_word cells from to = number_of (map cell_number (slice_range cells from to))
+
+-- how many of each kind a side holds
+abbrev pub counts_of : HandCounts → Color → List ℕ
+counts_of hands color = map (held hands color) all_kinds
+
+-- 0 for Black and 1 for White
+abbrev pub side_number : Color → ℕ
+side_number Black = 0
+side_number White = 1
+
+-- the words: twelve squares in each of seven, and nine in the last of them; Black's counts and White's; the side to move with the evaluation and the depth
+unfoldable pub words_of : Key → List ℕ
+words_of key =
+    cells_word key.position.cells 0 12
+    ∷ cells_word key.position.cells 12 24
+    ∷ cells_word key.position.cells 24 36
+    ∷ cells_word key.position.cells 36 48
+    ∷ cells_word key.position.cells 48 60
+    ∷ cells_word key.position.cells 60 72
+    ∷ cells_word key.position.cells 72 81
+    ∷ number_of (counts_of key.position.hands Black)
+    ∷ number_of (counts_of key.position.hands White)
+    ∷ (side_number key.position.side + 2 * (eval_number key.eval + 2 * key.depth))
+    ∷ []
+
+-- so many of the lowest digits of a number in base 32
+unfoldable pub digits_of : ℕ → ℕ → List ℕ
+digits_of zero number = []
+digits_of (suc count) number = (number % 32) ∷ digits_of count (number / 32)
+
+-- what each number stands for
+abbrev pub cell_at : ℕ → Option Piece
+cell_at number = slice_index_or CELLS number None
+
+-- the squares of a word
+abbrev pub cells_in : ℕ → ℕ → Cells
+cells_in count word = map cell_at (digits_of count word)
+
+abbrev pub side_at : ℕ → Color
+side_at zero = Black
+side_at (suc n) = White
+
+-- the position that the words say
+unfoldable pub position_in : List ℕ → Shogi
+position_in words = record {
+  cells = cells_in 12 (slice_index words 0) ++ (cells_in 12 (slice_index words 1) ++ (cells_in 12 (slice_index words 2)
+      ++ (cells_in 12 (slice_index words 3) ++ (cells_in 12 (slice_index words 4) ++ (cells_in 12 (slice_index words 5)
+      ++ cells_in 9 (slice_index words 6))))));
+  hands = digits_of 7 (slice_index words 7) ++ digits_of 7 (slice_index words 8);
+  side = side_at (slice_index words 9 % 2);
+}
+
+abbrev pub eval_at : ℕ → Eval
+eval_at zero = Plain
+eval_at (suc n) = Hand
+
+-- the evaluation that they say
+abbrev pub eval_in : List ℕ → Eval
+eval_in words = eval_at (slice_index words 9 / 2 % 2)
+
+-- the depth that they say
+abbrev pub depth_in : List ℕ → ℕ
+depth_in words = slice_index words 9 / 4
+
+-- the key that they say
+abbrev pub key_in : List ℕ → Key
+key_in words = record { position = position_in words; eval = eval_in words; depth = depth_in words }
+
+-- they are the words of a valid position, an evaluation and a depth
+pub record AreWords (words : List ℕ) : Type 0 where
+  pub valid : IsValid (position_in words)
+  pub same : words_of (key_in words) ≡ words
+  pub depth_fits : depth_in words < 256
+
+-- two words from the one on, as one number
+abbrev pub pair_at : List ℕ → ℕ → ℕ
+pair_at words place = slice_index words place + 2 ^ 64 * slice_index words (place + 1)
+
+-- what a hasher is fed: the words, two at a time
+abbrev pub writes_of : List ℕ → List (List ℕ)
+writes_of words =
+    fed.u128 (pair_at words 0) ++ (fed.u128 (pair_at words 2) ++ (fed.u128 (pair_at words 4)
+    ++ (fed.u128 (pair_at words 6) ++ fed.u128 (pair_at words 8))))

@@ -1,0 +1,261 @@
+//! The words of a key: how a position is packed, and had again.
+
+ghost use Rattle.std.specs.Prelude.{◌≡◌, ◌≤◌, ◌<◌, ◌+◌, ◌-◌, ◌*◌, ◌%◌, ◌^◌, ◌++◌, length, map, take};
+ghost use Rattle.shogi_core.specs.Position.{place_of};
+ghost use Rattle.shogi_core.specs.declared.piece.Kind.TheVariants.{Pawn};
+ghost use Rattle.shared_table.specs.Keys.{eval_number};
+ghost use Rattle.shared_table.specs.Words.{cell_at, cell_number, cells_in, counts_of, digits_of, number_of, side_at, side_number};
+
+use shogi_core::{Color, Hands, KINDS, Kind, Piece, Role};
+use shogi_eval::Eval;
+
+/// What each number stands for.
+pub const CELLS: [Option<Piece>; 29] = [
+    None,
+    Some(Piece {
+        color: Color::Black,
+        role: Role::King,
+    }),
+    Some(Piece {
+        color: Color::Black,
+        role: Role::Pawn,
+    }),
+    Some(Piece {
+        color: Color::Black,
+        role: Role::Lance,
+    }),
+    Some(Piece {
+        color: Color::Black,
+        role: Role::Knight,
+    }),
+    Some(Piece {
+        color: Color::Black,
+        role: Role::Silver,
+    }),
+    Some(Piece {
+        color: Color::Black,
+        role: Role::Gold,
+    }),
+    Some(Piece {
+        color: Color::Black,
+        role: Role::Bishop,
+    }),
+    Some(Piece {
+        color: Color::Black,
+        role: Role::Rook,
+    }),
+    Some(Piece {
+        color: Color::Black,
+        role: Role::PromotedPawn,
+    }),
+    Some(Piece {
+        color: Color::Black,
+        role: Role::PromotedLance,
+    }),
+    Some(Piece {
+        color: Color::Black,
+        role: Role::PromotedKnight,
+    }),
+    Some(Piece {
+        color: Color::Black,
+        role: Role::PromotedSilver,
+    }),
+    Some(Piece {
+        color: Color::Black,
+        role: Role::Horse,
+    }),
+    Some(Piece {
+        color: Color::Black,
+        role: Role::Dragon,
+    }),
+    Some(Piece {
+        color: Color::White,
+        role: Role::King,
+    }),
+    Some(Piece {
+        color: Color::White,
+        role: Role::Pawn,
+    }),
+    Some(Piece {
+        color: Color::White,
+        role: Role::Lance,
+    }),
+    Some(Piece {
+        color: Color::White,
+        role: Role::Knight,
+    }),
+    Some(Piece {
+        color: Color::White,
+        role: Role::Silver,
+    }),
+    Some(Piece {
+        color: Color::White,
+        role: Role::Gold,
+    }),
+    Some(Piece {
+        color: Color::White,
+        role: Role::Bishop,
+    }),
+    Some(Piece {
+        color: Color::White,
+        role: Role::Rook,
+    }),
+    Some(Piece {
+        color: Color::White,
+        role: Role::PromotedPawn,
+    }),
+    Some(Piece {
+        color: Color::White,
+        role: Role::PromotedLance,
+    }),
+    Some(Piece {
+        color: Color::White,
+        role: Role::PromotedKnight,
+    }),
+    Some(Piece {
+        color: Color::White,
+        role: Role::PromotedSilver,
+    }),
+    Some(Piece {
+        color: Color::White,
+        role: Role::Horse,
+    }),
+    Some(Piece {
+        color: Color::White,
+        role: Role::Dragon,
+    }),
+];
+
+/// Two words as one number, which hashers take in one go.
+pub fn pair(low: u64, high: u64) -> u128
+    ensures { result ≡ low + 2 ^ 64 * high }
+{
+    low as u128 + 0x1_0000_0000_0000_0000 * high as u128
+}
+
+/// A number for what stands on a square, below 32.
+pub fn cell_number(cell: Option<Piece>) -> u64
+    ensures number { result ≡ cell_number cell }
+    ensures range { result < 32 }
+{
+    let Some(piece) = cell else {
+        return 0;
+    };
+    let role = match piece.role {
+        Role::King => 0,
+        Role::Pawn => 1,
+        Role::Lance => 2,
+        Role::Knight => 3,
+        Role::Silver => 4,
+        Role::Gold => 5,
+        Role::Bishop => 6,
+        Role::Rook => 7,
+        Role::PromotedPawn => 8,
+        Role::PromotedLance => 9,
+        Role::PromotedKnight => 10,
+        Role::PromotedSilver => 11,
+        Role::Horse => 12,
+        Role::Dragon => 13,
+    };
+    match piece.color {
+        Color::Black => role + 1,
+        Color::White => role + 15,
+    }
+}
+
+/// The word of at most twelve squares.
+pub fn cells_word(cells: &[Option<Piece>]) -> u64
+    requires { length cells.now ≤ 12 }
+    ensures { result ≡ number_of (map cell_number cells.now) }
+{
+    let mut word = 0;
+    let mut at = cells.len();
+    while at > 0 {
+        at -= 1;
+        word = 32 * word + cell_number(cells[at]);
+    }
+    word
+}
+
+/// The word of what a side holds.
+#[tactic(auto, unfolding(crate::specs::Words::number_of))]
+pub fn hand_word(hands: Hands, color: Color) -> u64
+    ensures { result ≡ number_of (counts_of hands color) }
+{
+    let pawns = hands.count(color, Kind::Pawn) as u64;
+    let lances = hands.count(color, Kind::Lance) as u64;
+    let knights = hands.count(color, Kind::Knight) as u64;
+    let silvers = hands.count(color, Kind::Silver) as u64;
+    let golds = hands.count(color, Kind::Gold) as u64;
+    let bishops = hands.count(color, Kind::Bishop) as u64;
+    let rooks = hands.count(color, Kind::Rook) as u64;
+    pawns
+        + 32 * (lances
+            + 32 * (knights + 32 * (silvers + 32 * (golds + 32 * (bishops + 32 * rooks)))))
+}
+
+/// The word of the side to move, the evaluation and the depth.
+pub fn last_word(side: Color, eval: Eval, depth: u8) -> u64
+    ensures { result ≡ side_number side + 2 * (eval_number eval + 2 * depth) }
+{
+    let side = match side {
+        Color::Black => 0,
+        Color::White => 1,
+    };
+    let eval = match eval {
+        Eval::Plain => 0,
+        Eval::Hand => 1,
+    };
+    side + 2 * (eval + 2 * depth as u64)
+}
+
+/// What the number stands for.
+pub fn cell_at(number: u64) -> Option<Piece>
+    requires { number < 32 }
+    ensures { result ≡ cell_at number }
+{
+    if number < 29 {
+        CELLS[number as usize]
+    } else {
+        None
+    }
+}
+
+/// Puts what a word says on the squares from the one up to the other.
+pub fn place_cells(cells: &mut [Option<Piece>; 81], from: usize, end: usize, word: u64)
+    requires order { from ≤ end }
+    requires fits { end ≤ 81 }
+    ensures { take end cells.new ≡ take from cells.old ++ cells_in (end - from) word }
+{
+    let mut rest = word;
+    for at in from..end {
+        cells[at] = cell_at(rest % 32);
+        rest /= 32;
+    }
+}
+
+/// The hands with the counts of a side that the word says.
+pub fn with_counts(hands: Hands, color: Color, word: u64) -> Hands
+    requires { length hands ≡ 14 }
+    ensures counts { take (place_of color Pawn + 7) result ≡ take (place_of color Pawn) hands ++ digits_of 7 word }
+    ensures length { length result ≡ 14 }
+{
+    let mut counted = hands;
+    let mut rest = word;
+    for number in 0..7usize {
+        counted = counted.with(color, KINDS[number], (rest % 32) as u8);
+        rest /= 32;
+    }
+    counted
+}
+
+/// The side that the last word says.
+pub fn side_of(word: u64) -> Color
+    ensures { result ≡ side_at (word % 2) }
+{
+    if word % 2 == 0 {
+        Color::Black
+    } else {
+        Color::White
+    }
+}
