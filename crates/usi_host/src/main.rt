@@ -2,6 +2,8 @@
 #![tactic(auto)]
 
 ghost use Rattle.std.specs.Prelude.{◌≡◌, ◌≤◌, IfOk};
+ghost use Rattle.session_slots.specs.declared.limits.TheConstants.{SESSIONS_MAX};
+ghost use Rattle.shared_table.specs.declared.table.TheConstants.{GREATEST_CAPACITY};
 ghost use Rattle.usi_host.specs.Answers.{HasRanges};
 ghost use Rattle.usi_host.specs.Statuses.{replay_status};
 
@@ -59,7 +61,7 @@ fn tell(rt: &HostRuntime, text: &str) -> ExitCode {
 /// One session over standard input and output.
 fn run(rt: &HostRuntime, entries: usize) -> ExitCode
     requires least { 1 ≤ entries }
-    requires most { entries ≤ 1000000 }
+    requires most { entries ≤ GREATEST_CAPACITY }
 {
     let mut input = rt.reader();
     let mut output = io::writer(rt);
@@ -85,9 +87,9 @@ fn status_of(fault: &ReplayFault) -> u8
 /// A script on standard input, and its output on standard output.
 fn run_script(rt: &HostRuntime, slots: usize, entries: usize, slice: u64) -> ExitCode
     requires least_slots { 1 ≤ slots }
-    requires most_slots { slots ≤ 1024 }
+    requires most_slots { slots ≤ SESSIONS_MAX }
     requires least_entries { 1 ≤ entries }
-    requires most_entries { entries ≤ 1000000 }
+    requires most_entries { entries ≤ GREATEST_CAPACITY }
     requires least_slice { 1 ≤ slice }
 {
     let mut input = rt.reader();
@@ -112,9 +114,9 @@ fn run_socket(
     turns: u64,
 ) -> Result<(), ServeFault>
     requires least_slots { 1 ≤ slots }
-    requires most_slots { slots ≤ 1024 }
+    requires most_slots { slots ≤ SESSIONS_MAX }
     requires least_entries { 1 ≤ entries }
-    requires most_entries { entries ≤ 1000000 }
+    requires most_entries { entries ≤ GREATEST_CAPACITY }
     requires least_slice { 1 ≤ slice }
 {
     let Ok(hasher) = RandomState::new(rt) else {

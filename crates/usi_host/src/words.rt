@@ -11,17 +11,13 @@ use crate::version::version_text;
 use clap::builder::ValueParser;
 use clap::error::ErrorKind;
 use clap::{Arg, ArgMatches, Command, Error};
+use session_slots::SESSIONS_MAX;
+use shared_table::GREATEST_CAPACITY;
 use std::alloc::{AllocError, Global};
 use std::convert::AsStr;
 
-/// The most entries that the table may be asked for (own choice).
-const MOST_ENTRIES: usize = 1_000_000;
-
-/// The most sessions that may be asked for (own choice).
-const MOST_SLOTS: usize = 1024;
-
 /// The most steps of search in a round that may be asked for (own choice).
-const MOST_STEPS: usize = 1_000_000_000;
+const STEPS_MAX: usize = 1_000_000_000;
 
 /// The entries of the table where the words name no command (own choice).
 const USUAL_ENTRIES: usize = 4096;
@@ -145,7 +141,7 @@ fn stdio_job(options: &ArgMatches<'_>) -> Option<Job>
     ensures some { IfSome result (λ job. HasRanges job × IsStdioOf (rows_of (found_of options.now)) job) }
     ensures none { IfNone result (NamesNoStdio (rows_of (found_of options.now))) }
 {
-    let entries = number_of(options, "entries", MOST_ENTRIES)?;
+    let entries = number_of(options, "entries", GREATEST_CAPACITY)?;
     Some(Job::Stdio { entries })
 }
 
@@ -153,9 +149,9 @@ fn replay_job(options: &ArgMatches<'_>) -> Option<Job>
     ensures some { IfSome result (λ job. HasRanges job × IsReplayOf (rows_of (found_of options.now)) job) }
     ensures none { IfNone result (NamesNoReplay (rows_of (found_of options.now))) }
 {
-    let slots = number_of(options, "slots", MOST_SLOTS)?;
-    let entries = number_of(options, "entries", MOST_ENTRIES)?;
-    let slice = number_of(options, "slice", MOST_STEPS)?;
+    let slots = number_of(options, "slots", SESSIONS_MAX)?;
+    let entries = number_of(options, "entries", GREATEST_CAPACITY)?;
+    let slice = number_of(options, "slice", STEPS_MAX)?;
     Some(Job::Replay {
         slots,
         entries,
@@ -188,9 +184,9 @@ fn serve_numbers(options: &ArgMatches<'_>) -> Option<(usize, usize, u64, u64)>
     ensures some { IfSome result (λ n. HasServeRanges n.0 n.1 n.2 n.3 × NamesNumbers (rows_of (found_of options.now)) n.0 n.1 n.2 n.3) }
     ensures none { IfNone result ((slots entries slice turns : ℕ) → HasServeRanges slots entries slice turns → NamesNumbers (rows_of (found_of options.now)) slots entries slice turns → ⊥) }
 {
-    let slots = number_of(options, "slots", MOST_SLOTS)?;
-    let entries = number_of(options, "entries", MOST_ENTRIES)?;
-    let slice = number_of(options, "slice", MOST_STEPS)?;
+    let slots = number_of(options, "slots", SESSIONS_MAX)?;
+    let entries = number_of(options, "entries", GREATEST_CAPACITY)?;
+    let slice = number_of(options, "slice", STEPS_MAX)?;
     let turns = number_of(options, "turns", usize::MAX)?;
     Some((slots, entries, slice as u64, turns as u64))
 }
