@@ -109,7 +109,7 @@ def safe_moves(position):
                     found.append(('drop', kind, (file, rank)))
     return [m for m in found if not in_check(after(position, m)[0], black)]
 
-def legal_moves(position):
+def legal_codes(position):
     kept = []
     for m in safe_moves(position):
         if m[0] == 'drop' and m[1] == 'P':
@@ -137,7 +137,7 @@ def material(position):
     return total(black) - total(not black)
 
 def search(position, depth):
-    moves = legal_moves(position)
+    moves = legal_codes(position)
     if not moves:
         return -(30000 + depth), [], 1
     if depth == 0:

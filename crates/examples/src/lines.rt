@@ -6,7 +6,7 @@ ghost use Rattle.usi_lines.specs.Lines.{lines};
 use std::alloc::Allocator;
 use usi_lines::{LineBuffer, LineFault};
 
-/// Whether two pieces of a stream, one after the other, have a whole line.
+/// Whether two chunks of a stream, one after the other, have a whole line.
 pub fn has_whole_line<A: Allocator>(
     alloc: A,
     first: &[u8],

@@ -75,7 +75,7 @@ fn the_opening_position_at_depth_three(rt: HostRuntime) -> Result<(), Fail> {
 }
 
 #[test]
-fn a_line_in_two_pieces(rt: HostRuntime) -> Result<(), Fail> {
+fn a_line_in_two_chunks(rt: HostRuntime) -> Result<(), Fail> {
     assert!(rt; has_whole_line(rt.alloc(), b"go de", b"pth 1\n")?);
     assert!(rt; !has_whole_line(rt.alloc(), b"go de", b"pth 1")?);
     Ok(())

@@ -127,16 +127,16 @@ fn ids_of_no_session(rt: HostRuntime) -> Result<(), Fail> {
     Ok(())
 }
 
-// A piece has at most 4,096 bytes, and none is wanted while a line is unread. Nothing of what is
+// A chunk has at most 4,096 bytes, and none is wanted while a line is unread. Nothing of what is
 // refused is kept.
 #[test]
 fn a_session_that_is_not_ready(rt: HostRuntime) -> Result<(), Fail> {
     let mut host = TestHost::new(rt.alloc(), 1, 64)?;
     let id = host.opened()?;
     let not_ready = Some(HostFault::NotReady);
-    let piece = vec![in rt.alloc(); b'x'; 4097]?;
-    let longest = piece.as_slice().get(1..).unwrap_or(b"");
-    assert_eq!(rt; host.refusal(Event::Feed(id, piece.as_slice())), not_ready);
+    let chunk = vec![in rt.alloc(); b'x'; 4097]?;
+    let longest = chunk.as_slice().get(1..).unwrap_or(b"");
+    assert_eq!(rt; host.refusal(Event::Feed(id, chunk.as_slice())), not_ready);
     assert!(rt; host.is_done(Event::Feed(id, longest)));
     assert!(rt; host.is_done(Event::Feed(id, b"\nisready\n")));
     assert_eq!(rt; host.refusal(Event::Feed(id, b"usi\n")), not_ready);
@@ -173,11 +173,11 @@ fn a_session_that_is_over(rt: HostRuntime) -> Result<(), Fail> {
 fn a_full_queue_wants_no_input(rt: HostRuntime) -> Result<(), Fail> {
     let mut host = TestHost::new(rt.alloc(), 1, 1)?;
     let id = host.opened()?;
-    let mut piece = Vec::new(rt.alloc());
+    let mut chunk = Vec::new(rt.alloc());
     for _ in 0..1024 {
-        piece.extend_from_slice(b"usi\n")?;
+        chunk.extend_from_slice(b"usi\n")?;
     }
-    assert!(rt; host.is_done(Event::Feed(id, piece.as_slice())));
+    assert!(rt; host.is_done(Event::Feed(id, chunk.as_slice())));
     assert_eq!(rt; host.steps_of(id, 0), Some(0));
     assert_eq!(rt; host.output(id).map(|bytes| bytes.len()), Some(181_248));
     assert_eq!(rt; host.pass(id, 181_248 - 65_536), Ok(()));

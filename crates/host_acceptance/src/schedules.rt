@@ -55,9 +55,9 @@ fn row_of(number: u64) -> Row {
 /// What a session of its own says to the bytes, without a table.
 fn said_alone(rt: &impl Abort, alloc: Global, bytes: &[u8]) -> Result<Vec<u8>, Fail> {
     let mut session = Session::new(alloc);
-    for piece in bytes.chunks(4096) {
-        if session.wants_input() && piece.len() <= 4096 {
-            session.feed(piece)?;
+    for chunk in bytes.chunks(4096) {
+        if session.wants_input() && chunk.len() <= 4096 {
+            session.feed(chunk)?;
             session.work(&mut NoMemo, u64::MAX)?;
         }
     }
@@ -126,9 +126,9 @@ fn act(
                 .as_bytes()
                 .get(client.stored..)
                 .unwrap_or(b"");
-            let piece = rest.get(..random.below(12) as usize).unwrap_or(rest);
-            match host.answered(Event::Feed(id, piece))? {
-                Outcome::Done => client.stored = client.stored.saturating_add(piece.len()),
+            let chunk = rest.get(..random.below(12) as usize).unwrap_or(rest);
+            match host.answered(Event::Feed(id, chunk))? {
+                Outcome::Done => client.stored = client.stored.saturating_add(chunk.len()),
                 Outcome::Refused(HostFault::NotReady) => assert!(rt; !host.wants_input(id)),
                 _ => return Err("a feed is done, or comes too early".into()),
             }

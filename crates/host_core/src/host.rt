@@ -13,7 +13,7 @@ ghost use Rattle.host_core.specs.Seen.{event_of, outcome_of, answered, passed_of
 ghost use Rattle.host_core.specs.Steps.{HostState, Stepped, new_host};
 ghost use Rattle.host_core.specs.declared.event.HostFault.TheVariants.{OutOfMemory};
 ghost use Rattle.session_slots.specs.declared.limits.TheConstants.{SESSIONS_MAX};
-ghost use Rattle.shared_table.specs.declared.table.TheConstants.{GREATEST_CAPACITY};
+ghost use Rattle.shared_table.specs.declared.table.TheConstants.{CAPACITY_MAX};
 
 use crate::event::{Event, HostFault, Outcome};
 use crate::round::{Round, counted};
@@ -50,7 +50,7 @@ impl<S: BuildHasher, A: Allocator + Copy> Host<S, A> {
         requires least_slots { 1 ≤ slots }
         requires most_slots { slots ≤ SESSIONS_MAX }
         requires least_entries { 1 ≤ entries }
-        requires most_entries { entries ≤ GREATEST_CAPACITY }
+        requires most_entries { entries ≤ CAPACITY_MAX }
         ensures new { IfOk result (λ host. host ≡ new_host slots entries) }
         ensures fault { OnErr result (result ≡ Err OutOfMemory) }
     {

@@ -7,8 +7,8 @@ use Rattle.shogi_sfen.specs.Numbers.{is_number, number_written}
 use Rattle.shogi_sfen.specs.Sfen.{position_at}
 use Rattle.shogi_sfen.specs.Words.{words, after_word}
 use Rattle.shogi_sfen.specs.declared.position.SfenFault.{SfenFault}
-use Rattle.shared_table.specs.declared.table.TheConstants.{GREATEST_CAPACITY}
-use Rattle.shogi_search.specs.declared.bounds.TheConstants.{GREATEST_DEPTH}
+use Rattle.shared_table.specs.declared.table.TheConstants.{CAPACITY_MAX}
+use Rattle.shogi_search.specs.declared.bounds.TheConstants.{SEARCH_DEPTH_MAX}
 use Rattle.measure.specs.declared.request.Refusal.{Refusal}
 use Rattle.measure.specs.declared.request.Refusal.TheVariants.{UnknownWord, BadDepth, BadEntries, BadPosition, FurtherWords}
 use Rattle.measure.specs.declared.request.Request.{Request}
@@ -61,12 +61,12 @@ search_by (Some depth) (Some entries) place = placed (Search entries) depth plac
 
 -- what follows `perft`: a depth from 0 to 16, and a position
 unfoldable pub perft_of : List ℕ → Result Request Refusal
-perft_of text = perft_by (number_to GREATEST_DEPTH (slice_get (words text) 0)) (place_of (after_word text))
+perft_of text = perft_by (number_to SEARCH_DEPTH_MAX (slice_get (words text) 0)) (place_of (after_word text))
 
 -- what follows `search`: a depth from 0 to 16, entries from 0 to 1,000,000, and a position
 unfoldable pub search_of : List ℕ → Result Request Refusal
 search_of text =
-    search_by (number_to GREATEST_DEPTH (slice_get (words text) 0)) (number_to GREATEST_CAPACITY (slice_get (words text) 1)) (place_of (after_word (after_word text)))
+    search_by (number_to SEARCH_DEPTH_MAX (slice_get (words text) 0)) (number_to CAPACITY_MAX (slice_get (words text) 1)) (place_of (after_word (after_word text)))
 
 -- a request by the words of its line, and the bytes after the first
 abbrev pub request_by : List (List ℕ) → List ℕ → Result Request Refusal

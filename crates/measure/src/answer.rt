@@ -1,7 +1,7 @@
 //! What a request is answered by.
 
 ghost use Rattle.std.specs.Prelude.{◌≤◌, Some};
-ghost use Rattle.shogi_search.specs.declared.bounds.TheConstants.{GREATEST_DEPTH};
+ghost use Rattle.shogi_search.specs.declared.bounds.TheConstants.{SEARCH_DEPTH_MAX};
 ghost use Rattle.measure.specs.Answers.{IsReply, reply_text, best_text, count_text};
 ghost use Rattle.measure.specs.Ranges.{HasRange};
 
@@ -81,7 +81,7 @@ impl fmt::Display for BestMove {
 
 /// Does what the request asks for. Only a search asks the memo.
 fn reply_to<M: Memo>(request: &Request, memo: &mut M) -> Reply
-    requires { request.now.depth ≤ GREATEST_DEPTH }
+    requires { request.now.depth ≤ SEARCH_DEPTH_MAX }
     ensures { IsReply request.now.work request.now.position request.now.depth result }
 {
     let depth = request.depth;
@@ -100,7 +100,7 @@ fn reply_to<M: Memo>(request: &Request, memo: &mut M) -> Reply
 
 /// Prints the answer to the request of the line of this number, or why there is none.
 pub fn answer(rt: &HostRuntime, number: usize, request: &Request) -> io::Result<()>
-    requires depth { request.now.depth ≤ GREATEST_DEPTH }
+    requires depth { request.now.depth ≤ SEARCH_DEPTH_MAX }
     requires entries { HasRange request.now.work }
 {
     match request.work {
@@ -126,7 +126,7 @@ fn answer_over<M: Memo>(
     request: &Request,
     memo: &mut M,
 ) -> io::Result<()>
-    requires { request.now.depth ≤ GREATEST_DEPTH }
+    requires { request.now.depth ≤ SEARCH_DEPTH_MAX }
 {
     let start = Instant::now(rt)?;
     let reply = reply_to(request, memo);

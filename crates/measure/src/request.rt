@@ -5,15 +5,15 @@ ghost use Rattle.std.specs.Option.{option_copied};
 ghost use Rattle.std.specs.Str.{bytes_eq};
 ghost use Rattle.shogi_sfen.specs.Sfen.{position_at};
 ghost use Rattle.shogi_sfen.specs.Words.{words};
-ghost use Rattle.shared_table.specs.declared.table.TheConstants.{GREATEST_CAPACITY};
-ghost use Rattle.shogi_search.specs.declared.bounds.TheConstants.{GREATEST_DEPTH};
+ghost use Rattle.shared_table.specs.declared.table.TheConstants.{CAPACITY_MAX};
+ghost use Rattle.shogi_search.specs.declared.bounds.TheConstants.{SEARCH_DEPTH_MAX};
 ghost use Rattle.measure.specs.Answers.{fault_text, refusal_text};
 ghost use Rattle.measure.specs.Ranges.{HasRange};
 ghost use Rattle.measure.specs.Requests.{number_to, alone, of_sfen, place_of, placed, perft_of, search_of, request_of};
 
-use shared_table::GREATEST_CAPACITY;
+use shared_table::CAPACITY_MAX;
 use shogi_core::{Position, PositionFault};
-use shogi_search::GREATEST_DEPTH;
+use shogi_search::SEARCH_DEPTH_MAX;
 use shogi_sfen::{SfenFault, read_number, read_position, words};
 use std::fmt;
 
@@ -112,18 +112,18 @@ fn read_up_to(word: Option<&[u8]>, most: u32) -> Option<u32>
 
 /// The depth that a word asks for.
 fn read_depth(word: Option<&[u8]>) -> Option<u8>
-    ensures number { result ≡ number_to GREATEST_DEPTH (option_copied word.entry) }
-    ensures most { IfSome result (λ depth. depth ≤ GREATEST_DEPTH) }
+    ensures number { result ≡ number_to SEARCH_DEPTH_MAX (option_copied word.entry) }
+    ensures most { IfSome result (λ depth. depth ≤ SEARCH_DEPTH_MAX) }
 {
-    Some(read_up_to(word, GREATEST_DEPTH as u32)? as u8)
+    Some(read_up_to(word, SEARCH_DEPTH_MAX as u32)? as u8)
 }
 
 /// How many entries of a table a word asks for.
 fn read_entries(word: Option<&[u8]>) -> Option<usize>
-    ensures number { result ≡ number_to GREATEST_CAPACITY (option_copied word.entry) }
-    ensures most { IfSome result (λ entries. entries ≤ GREATEST_CAPACITY) }
+    ensures number { result ≡ number_to CAPACITY_MAX (option_copied word.entry) }
+    ensures most { IfSome result (λ entries. entries ≤ CAPACITY_MAX) }
 {
-    Some(read_up_to(word, GREATEST_CAPACITY as u32)? as usize)
+    Some(read_up_to(word, CAPACITY_MAX as u32)? as usize)
 }
 
 /// The position, where no word stands in the text after it.
@@ -177,7 +177,7 @@ fn placed(work: Work, depth: u8, place: Result<Position, Refusal>) -> Result<Req
 /// What follows `perft`.
 fn read_perft(text: &[u8]) -> Result<Request, Refusal>
     ensures request { result ≡ perft_of text.now }
-    ensures depth { IfOk result (λ request. request.depth ≤ GREATEST_DEPTH) }
+    ensures depth { IfOk result (λ request. request.depth ≤ SEARCH_DEPTH_MAX) }
     ensures entries { IfOk result (λ request. HasRange request.work) }
 {
     let mut rest = words(text);
@@ -190,7 +190,7 @@ fn read_perft(text: &[u8]) -> Result<Request, Refusal>
 /// What follows `search`.
 fn read_search(text: &[u8]) -> Result<Request, Refusal>
     ensures request { result ≡ search_of text.now }
-    ensures depth { IfOk result (λ request. request.depth ≤ GREATEST_DEPTH) }
+    ensures depth { IfOk result (λ request. request.depth ≤ SEARCH_DEPTH_MAX) }
     ensures entries { IfOk result (λ request. HasRange request.work) }
 {
     let mut rest = words(text);
@@ -208,7 +208,7 @@ fn read_search(text: &[u8]) -> Result<Request, Refusal>
 #[tactic(auto, unfolding(crate::specs::Requests::request_of))]
 pub fn read(line: &str) -> Result<Request, Refusal>
     ensures request { result ≡ request_of line.now }
-    ensures depth { IfOk result (λ request. request.depth ≤ GREATEST_DEPTH) }
+    ensures depth { IfOk result (λ request. request.depth ≤ SEARCH_DEPTH_MAX) }
     ensures entries { IfOk result (λ request. HasRange request.work) }
 {
     let mut rest = words(line.as_bytes());

@@ -80,8 +80,8 @@ impl<'a> Served<'a> {
         }
     }
 
-    fn feed(&mut self, rt: &impl Abort, id: SessionId, piece: &[u8]) {
-        let fed = self.send(rt, Event::Feed(id, piece));
+    fn feed(&mut self, rt: &impl Abort, id: SessionId, chunk: &[u8]) {
+        let fed = self.send(rt, Event::Feed(id, chunk));
         assert!(rt; matches!(fed, Outcome::Done));
     }
 

@@ -1,7 +1,7 @@
 //! The search against plain minimax, on positions of played games and two published ones.
 
 ghost use Rattle.std.specs.Prelude.{◌≤◌};
-ghost use Rattle.shogi_search.specs.declared.bounds.TheConstants.{GREATEST_DEPTH};
+ghost use Rattle.shogi_search.specs.declared.bounds.TheConstants.{SEARCH_DEPTH_MAX};
 
 use crate::forgetful::Forgetful;
 use crate::games;
@@ -41,7 +41,7 @@ fn assert_agrees(
     depth: u8,
     memo: &mut Forgetful,
 ) -> bool
-    requires { depth ≤ GREATEST_DEPTH }
+    requires { depth ≤ SEARCH_DEPTH_MAX }
 {
     let plain = minimax(p, e, depth);
     assert_same(rt, &search(p, e, depth, &mut NoMemo), &plain, at, depth);

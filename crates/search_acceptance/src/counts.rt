@@ -1,7 +1,7 @@
 //! Values, best moves and counts of steps: published ones, and those of the search written plainly.
 
 ghost use Rattle.std.specs.Prelude.{◌≤◌};
-ghost use Rattle.shogi_search.specs.declared.bounds.TheConstants.{GREATEST_DEPTH};
+ghost use Rattle.shogi_search.specs.declared.bounds.TheConstants.{SEARCH_DEPTH_MAX};
 
 use crate::plain::{Notes, minimax, search_plainly};
 use crate::positions::position;
@@ -47,7 +47,7 @@ fn assert_counts<M: Memo + Drop>(
     memo: M,
     mut notes: Notes,
 ) -> Result<(), Fail>
-    requires { deepest ≤ GREATEST_DEPTH }
+    requires { deepest ≤ SEARCH_DEPTH_MAX }
 {
     let mut recorder = Recorder::new(alloc, memo);
     let mut steps: u64 = 0;
@@ -77,7 +77,7 @@ fn assert_counts_over(
     deepest: u8,
     capacity: usize,
 ) -> Result<(), Fail>
-    requires { deepest ≤ GREATEST_DEPTH }
+    requires { deepest ≤ SEARCH_DEPTH_MAX }
 {
     assert!(rt; capacity >= 1 && capacity <= 1000000);
     let table = table_of(alloc, capacity)?;

@@ -1,8 +1,8 @@
 //! What a search leaves in a table, and what it finds there.
 
 ghost use Rattle.std.specs.Prelude.{◌≤◌};
-ghost use Rattle.shogi_search.specs.declared.bounds.TheConstants.{GREATEST_DEPTH};
-ghost use Rattle.shared_table.specs.declared.table.TheConstants.{GREATEST_CAPACITY};
+ghost use Rattle.shogi_search.specs.declared.bounds.TheConstants.{SEARCH_DEPTH_MAX};
+ghost use Rattle.shared_table.specs.declared.table.TheConstants.{CAPACITY_MAX};
 
 use crate::positions::position;
 use shared_table::{SharedTable, TableFault};
@@ -20,7 +20,7 @@ pub type TestTable = SharedTable<BuildHasherDefault<FoldHasher>, Global>;
 
 pub fn table_of(alloc: Global, capacity: usize) -> Result<TestTable, TableFault>
     requires least { 1 ≤ capacity }
-    requires most { capacity ≤ GREATEST_CAPACITY }
+    requires most { capacity ≤ CAPACITY_MAX }
 {
     SharedTable::new(alloc, capacity, BuildHasherDefault::<FoldHasher>::new())
 }
@@ -42,7 +42,7 @@ fn children(alloc: Global, p: &Position) -> Result<Vec<Position>, AllocError> {
 
 /// Notes the value and the best move that a search without a memory finds.
 fn note_exact<M: Memo>(memo: &mut M, p: &Position, depth: u8)
-    requires { depth ≤ GREATEST_DEPTH }
+    requires { depth ≤ SEARCH_DEPTH_MAX }
 {
     let found = search(p, Eval::Plain, depth, &mut NoMemo);
     memo.note(p, Eval::Plain, depth, Entry::Exact(found.value, found.best));

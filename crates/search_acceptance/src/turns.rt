@@ -1,7 +1,7 @@
 //! Searches that go on in slices: two by turns, and the calls of one that makes a step at a time.
 
 ghost use Rattle.std.specs.Prelude.{◌≤◌};
-ghost use Rattle.shogi_search.specs.declared.bounds.TheConstants.{GREATEST_DEPTH};
+ghost use Rattle.shogi_search.specs.declared.bounds.TheConstants.{SEARCH_DEPTH_MAX};
 
 use crate::oracle::Oracle;
 use crate::recorder::Recorder;
@@ -46,7 +46,7 @@ fn by_turns<M: Memo>(
 }
 
 fn assert_turns<M: Memo>(rt: &impl Abort, memo: &mut M, depth: u8, value: i32, code: u16)
-    requires { depth ≤ GREATEST_DEPTH }
+    requires { depth ≤ SEARCH_DEPTH_MAX }
 {
     let mut first = Search::start(&Position::start(), Eval::Plain, depth);
     let mut second = Search::start(&Position::start(), Eval::Plain, depth);
@@ -132,7 +132,7 @@ fn assert_last_call<M: Memo + Drop>(
     memo: M,
     depth: u8,
 ) -> Result<Found, Fail>
-    requires { depth ≤ GREATEST_DEPTH }
+    requires { depth ≤ SEARCH_DEPTH_MAX }
 {
     let start = Position::start();
     let mut search = Search::start(&start, Eval::Plain, depth);
@@ -157,7 +157,7 @@ fn assert_last_calls(
     value: i32,
     code: u16,
 ) -> Result<(), Fail>
-    requires { depth ≤ GREATEST_DEPTH }
+    requires { depth ≤ SEARCH_DEPTH_MAX }
 {
     let found = assert_last_call(rt, alloc, NoMemo, depth)?;
     assert_found(rt, &found, value, code);

@@ -6,7 +6,7 @@ use std::marker::Model;
 use std::test::Fail;
 use usi_session::Session;
 
-/// A session that refuses a piece which it may not be fed.
+/// A session that refuses a chunk which it may not be fed.
 #[derive(Drop)]
 pub struct TestSession {
     session: Session<Global>,
@@ -25,11 +25,11 @@ impl TestSession {
         }
     }
 
-    pub fn feed(&mut self, piece: &[u8]) -> Result<(), Fail> {
-        if !self.session.wants_input() || piece.len() > 4096 {
-            return Err("a piece of 4,096 bytes is fed where input is wanted".into());
+    pub fn feed(&mut self, chunk: &[u8]) -> Result<(), Fail> {
+        if !self.session.wants_input() || chunk.len() > 4096 {
+            return Err("a chunk of 4,096 bytes is fed where input is wanted".into());
         }
-        Ok(self.session.feed(piece)?)
+        Ok(self.session.feed(chunk)?)
     }
 
     /// The steps that were made.

@@ -1,4 +1,4 @@
-//! Rows through a session, in one piece and in several.
+//! Rows through a session, in one chunk and in several.
 
 use crate::session::TestSession;
 use shared_table::SharedTable;
@@ -10,19 +10,19 @@ use std::test::Fail;
 use test_support::rows::{CUT, CUT_READY, DEEP, QUICK, Row, joined};
 use usi_lines::{Command, Hold, read_command};
 
-// Feeds the piece, works it off, and takes what was answered. A session that is over is fed nothing.
+// Feeds the chunk, works it off, and takes what was answered. A session that is over is fed nothing.
 fn talk<M: Memo>(
     rt: &impl Abort,
     session: &mut TestSession,
     memo: &mut M,
-    piece: &[u8],
+    chunk: &[u8],
     said: &mut Vec<u8>,
 ) -> Result<(), Fail> {
     if !session.wants_input() {
         assert!(rt; session.is_over());
         return Ok(());
     }
-    session.feed(piece)?;
+    session.feed(chunk)?;
     session.work(memo, u64::MAX)?;
     assert!(rt; !session.pending());
     said.extend_from_slice(session.output())?;
@@ -32,7 +32,7 @@ fn talk<M: Memo>(
     Ok(())
 }
 
-// What a fresh session says to two pieces, the second fed after the first was answered.
+// What a fresh session says to two chunks, the second fed after the first was answered.
 fn said<M: Memo>(
     rt: &impl Abort,
     alloc: Global,
@@ -62,12 +62,12 @@ fn assert_cut<M: Memo>(rt: &impl Abort, alloc: Global, memo: &mut M, row: Row) -
     Ok(())
 }
 
-// What a fresh session says to the bytes, in pieces of at most 4,096.
+// What a fresh session says to the bytes, in chunks of at most 4,096.
 fn said_to_all(rt: &impl Abort, alloc: Global, bytes: &[u8]) -> Result<Vec<u8>, Fail> {
     let mut session = TestSession::new(alloc);
     let mut said = Vec::new(alloc);
-    for piece in bytes.chunks(4096) {
-        talk(rt, &mut session, &mut NoMemo, piece, &mut said)?;
+    for chunk in bytes.chunks(4096) {
+        talk(rt, &mut session, &mut NoMemo, chunk, &mut said)?;
     }
     Ok(said)
 }
@@ -150,11 +150,11 @@ fn the_longest_line(rt: HostRuntime) -> Result<(), Fail> {
 #[test]
 fn input_waits_for_a_full_queue(rt: HostRuntime) -> Result<(), Fail> {
     let mut session = TestSession::new(rt.alloc());
-    let mut piece = Vec::new(rt.alloc());
+    let mut chunk = Vec::new(rt.alloc());
     for _ in 0..1024 {
-        piece.extend_from_slice(b"usi\n")?;
+        chunk.extend_from_slice(b"usi\n")?;
     }
-    session.feed(piece.as_slice())?;
+    session.feed(chunk.as_slice())?;
     assert!(rt; session.pending() && !session.wants_input());
     session.work(&mut NoMemo, u64::MAX)?;
     assert_eq!(rt; session.output().len(), 181_248);

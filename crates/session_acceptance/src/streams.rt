@@ -193,10 +193,10 @@ fn nothing_is_read_after_quit(rt: HostRuntime) -> Result<(), Fail> {
     Ok(())
 }
 
-// Each piece with the number of bytes of its answer.
+// Each chunk with the number of bytes of its answer.
 #[test]
 fn each_piece_is_answered_and_flushed_before_the_next_read(rt: HostRuntime) -> Result<(), Fail> {
-    let pieces = [
+    let chunks = [
         ("isready\n", 8),
         ("isre", 0),
         ("ady\nposition startpos\n", 8),
@@ -204,7 +204,7 @@ fn each_piece_is_answered_and_flushed_before_the_next_read(rt: HostRuntime) -> R
         ("isready\nisready\n", 16),
     ];
     let watch = Watch::new();
-    let mut reader = WatchingReader::new(&watch, &pieces);
+    let mut reader = WatchingReader::new(&watch, &chunks);
     let mut writer = WatchedWriter::new(&watch);
     stdio(rt.alloc(), &mut reader, &mut writer, 1)?;
     Ok(())

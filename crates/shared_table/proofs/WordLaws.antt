@@ -20,7 +20,7 @@ use Rattle.shogi_core.specs.declared.piece.Role.{Role}
 use Rattle.shogi_core.specs.declared.piece.Role.TheVariants as role
 use Rattle.shogi_core.specs.Movement.{Cells}
 use Rattle.shogi_core.specs.Pieces.{set_size}
-use Rattle.shogi_core.specs.Position.{HandCounts, Shogi, held}
+use Rattle.shogi_core.specs.Position.{HandCounts, Shogi, count_in_hand}
 use Rattle.shogi_core.specs.Same.{role_number}
 use Rattle.shogi_core.specs.Validity.{IsValid}
 use Rattle.shogi_core.proofs.Faults.{faultless_from}
@@ -127,7 +127,7 @@ set_size_fits kinds.Pawn = omega arith
 set_size_fits _ = omega arith
 
 -- a count in hand is a digit
-held_fits : (p : Shogi) (side : Color) (kind : Kind) → IsValid p → held p.hands side kind < 32
+held_fits : (p : Shogi) (side : Color) (kind : Kind) → IsValid p → count_in_hand p.hands side kind < 32
 held_fits p Black kind valid = omega (arith, (faultless_from p valid.no_fault).counts kind, set_size_fits kind)
 held_fits p White kind valid = omega (arith, (faultless_from p valid.no_fault).counts kind, set_size_fits kind)
 

@@ -3,7 +3,7 @@ use Rattle.std.specs.Prelude.{◌≡◌, ◌≤◌, ◌∷◌, ◌==◌, ℕ, Bo
 use Rattle.std.specs.Map.{lookup, remove_entry}
 use Rattle.std.specs.Option.{option_map_or}
 use Rattle.shared_table.specs.Keys.{Key, is_same_key}
-use Rattle.shared_table.specs.declared.table.TheConstants.{GREATEST_CAPACITY}
+use Rattle.shared_table.specs.declared.table.TheConstants.{CAPACITY_MAX}
 use Rattle.shogi_search.specs.Minimax.{IsTrueEntry}
 use Rattle.shogi_search.specs.declared.memo.Entry.{Entry}
 
@@ -56,4 +56,4 @@ pub record IsTable (pairs : List Pair) (capacity leaves : ℕ) : Type 0 where
   pub truth : AreTrue pairs
   pub counted : leaves ≡ leaf_count pairs
   pub least : 1 ≤ capacity
-  pub most : capacity ≤ GREATEST_CAPACITY
+  pub most : capacity ≤ CAPACITY_MAX

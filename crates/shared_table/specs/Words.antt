@@ -7,7 +7,7 @@ use Rattle.shogi_core.specs.declared.piece.Piece.{Piece}
 use Rattle.shogi_core.specs.declared.piece.Role.{Role}
 use Rattle.shogi_core.specs.Movement.{Cells}
 use Rattle.shogi_core.specs.Pieces.{all_kinds}
-use Rattle.shogi_core.specs.Position.{Shogi, HandCounts, held}
+use Rattle.shogi_core.specs.Position.{Shogi, HandCounts, count_in_hand}
 use Rattle.shogi_core.specs.Same.{role_number}
 use Rattle.shogi_core.specs.Validity.{IsValid}
 use Rattle.shogi_eval.specs.declared.eval.Eval.{Eval}
@@ -36,7 +36,7 @@ cells_word cells from to = number_of (map cell_number (slice_range cells from to
 
 -- how many of each kind a side holds
 abbrev pub counts_of : HandCounts → Color → List ℕ
-counts_of hands color = map (held hands color) all_kinds
+counts_of hands color = map (count_in_hand hands color) all_kinds
 
 -- 0 for Black and 1 for White
 abbrev pub side_number : Color → ℕ

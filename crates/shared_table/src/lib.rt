@@ -6,7 +6,7 @@ mod packing;
 mod table;
 
 pub use key::TableKey;
-pub use table::{GREATEST_CAPACITY, SharedTable, TableFault};
+pub use table::{CAPACITY_MAX, SharedTable, TableFault};
 
 #[cfg(test)]
 mod tests;

@@ -9,8 +9,8 @@ ghost use Rattle.std.specs.Map.{keys_of};
 ghost use Rattle.std.specs.Map.Iter.{ShowsInOrder, deref_pair};
 ghost use Rattle.shared_table.specs.Keys.{is_same_key, key_of};
 ghost use Rattle.shared_table.specs.Recent.{AreTrue, entry_of, leaf_count, leaf_of, noted, probed};
-ghost use Rattle.shared_table.specs.declared.table.TheConstants.{GREATEST_CAPACITY};
-ghost use Rattle.shogi_search.specs.declared.bounds.TheConstants.{GREATEST_DEPTH};
+ghost use Rattle.shared_table.specs.declared.table.TheConstants.{CAPACITY_MAX};
+ghost use Rattle.shogi_search.specs.declared.bounds.TheConstants.{SEARCH_DEPTH_MAX};
 ghost use Rattle.shared_table.specs.declared.table.TableFault.TheVariants.{OutOfMemory};
 
 use crate::key::TableKey;
@@ -24,7 +24,7 @@ use std::marker::Model;
 use std::num::NonZeroUsize;
 
 /// How many entries a table may hold at most (own choice).
-pub const GREATEST_CAPACITY: usize = 1_000_000;
+pub const CAPACITY_MAX: usize = 1_000_000;
 
 /// Why a table could not be made.
 #[derive(Clone, Copy, Debug, PartialEq, Eq)]
@@ -64,7 +64,7 @@ impl<S: BuildHasher + Drop, A: Allocator + Clone> SharedTable<S, A> {
     /// An empty table for `capacity` entries, from 1 to 1,000,000.
     pub fn new(alloc: A, capacity: usize, hasher: S) -> Result<SharedTable<S, A>, TableFault>
         requires least { 1 ≤ capacity }
-        requires most { capacity ≤ GREATEST_CAPACITY }
+        requires most { capacity ≤ CAPACITY_MAX }
         ensures { IfOk result (λ table. table ≡ record { pairs = []; capacity = capacity }) }
     {
         let bound = NonZeroUsize::new(capacity).unwrap();
@@ -80,7 +80,7 @@ impl<S: BuildHasher, A: Allocator> SharedTable<S, A> {
         ensures keys { IsDistinct is_same_key (keys_of self.now.pairs) }
         ensures fits { length self.now.pairs ≤ self.now.capacity }
         ensures least { 1 ≤ self.now.capacity }
-        ensures most { self.now.capacity ≤ GREATEST_CAPACITY }
+        ensures most { self.now.capacity ≤ CAPACITY_MAX }
         ensures truth { AreTrue self.now.pairs }
     {
         let _ = &self.leaves;
@@ -142,7 +142,7 @@ impl<S: BuildHasher, A: Allocator + Clone> Memo for SharedTable<S, A> {
 
     fn note(&mut self, p: &Position, e: Eval, d: u8, entry: Entry)
         requires truth { IsTrueEntry p.now e d entry }
-        requires depth { d ≤ GREATEST_DEPTH }
+        requires depth { d ≤ SEARCH_DEPTH_MAX }
         ensures noted { (self.new ≡ record self.old { pairs = noted self.old.capacity (key_of p.now e d) entry self.old.pairs })
             ⊎ ((entry_of self.old.pairs (key_of p.now e d) ≡ None) × (self.new ≡ self.old)) }
     {

@@ -1,5 +1,5 @@
 ghost use Rattle.std.specs.Prelude.{◌≤◌};
-ghost use Rattle.shogi_search.specs.declared.bounds.TheConstants.{GREATEST_DEPTH};
+ghost use Rattle.shogi_search.specs.declared.bounds.TheConstants.{SEARCH_DEPTH_MAX};
 
 use crate::{SharedTable, TableFault, TableKey};
 use linked_list_allocator::LocalHeap;
@@ -13,7 +13,7 @@ use std::test::Fail;
 
 // Notes what a search at the depth finds.
 fn note_search<M: Memo>(table: &mut M, p: &Position, depth: u8)
-    requires { depth ≤ GREATEST_DEPTH }
+    requires { depth ≤ SEARCH_DEPTH_MAX }
 {
     let found = search(p, Eval::Plain, depth, &mut NoMemo);
     table.note(p, Eval::Plain, depth, Entry::Exact(found.value, found.best));

@@ -16,8 +16,8 @@ place_of Black kind = kind_number kind
 place_of White kind = kind_number kind + 7
 
 -- how many of a kind the side holds
-abbrev pub held : HandCounts → Color → Kind → ℕ
-held hands color kind = slice_index hands (place_of color kind)
+abbrev pub count_in_hand : HandCounts → Color → Kind → ℕ
+count_in_hand hands color kind = slice_index hands (place_of color kind)
 
 -- a position, valid or not
 pub record Shogi : Type 0 where

@@ -11,11 +11,11 @@ use Rattle.shogi_core.specs.Attack.{in_check}
 use Rattle.shogi_core.specs.Cell.{is_king, is_pawn, is_immobile_on}
 use Rattle.shogi_core.specs.Movement.{Cells}
 use Rattle.shogi_core.specs.Pieces.{opponent_of, all_kinds, set_size, is_of_kind}
-use Rattle.shogi_core.specs.Position.{Shogi, HandCounts, held}
+use Rattle.shogi_core.specs.Position.{Shogi, HandCounts, count_in_hand}
 
 -- how many of a kind there are, on the board and in both hands
 abbrev pub count_of : Kind → Cells → HandCounts → ℕ
-count_of kind cells hands = count_by (is_of_kind kind) cells + held hands Black kind + held hands White kind
+count_of kind cells hands = count_by (is_of_kind kind) cells + count_in_hand hands Black kind + count_in_hand hands White kind
 
 -- more of a kind than one set has
 abbrev pub has_too_many : Cells → HandCounts → Bool

@@ -1,7 +1,7 @@
 //! What each side holds.
 
 ghost use Rattle.std.specs.Prelude.{◌≡◌, ◌<◌, slice_set, replicate};
-ghost use Rattle.shogi_core.specs.Position.{held, place_of};
+ghost use Rattle.shogi_core.specs.Position.{count_in_hand, place_of};
 
 use crate::piece::{Color, Kind};
 use std::marker::Model;
@@ -34,7 +34,7 @@ impl Hands {
 
     /// How many pieces of the kind the side holds.
     pub fn count(self, color: Color, kind: Kind) -> u8
-        ensures { result ≡ held self color kind }
+        ensures { result ≡ count_in_hand self color kind }
     {
         self.counts[place(color, kind)]
     }

@@ -7,7 +7,7 @@ ghost use Rattle.shogi_core.specs.Cell.{is_piece_of, is_king};
 ghost use Rattle.shogi_core.specs.Lines.{are_lined};
 ghost use Rattle.shogi_core.specs.Movement.{reaches, piece_at};
 ghost use Rattle.shogi_core.specs.Pieces.{opponent_of};
-ghost use Rattle.shogi_core.specs.Position.{Shogi, held};
+ghost use Rattle.shogi_core.specs.Position.{Shogi, count_in_hand};
 ghost use Rattle.shogi_core.specs.Same.{is_same_position};
 ghost use Rattle.shogi_core.specs.Validity.{IsValid, fault_of};
 
@@ -131,7 +131,7 @@ impl Position {
 
     /// How many pieces of the kind the side holds.
     pub fn hand(&self, color: Color, kind: Kind) -> u8
-        ensures { result ≡ held self.now.hands color kind }
+        ensures { result ≡ count_in_hand self.now.hands color kind }
     {
         self.hands.count(color, kind)
     }

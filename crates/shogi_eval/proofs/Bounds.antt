@@ -3,7 +3,7 @@ use Rattle.std.proofs.Common.{◌≡◌, ◌≤◌, ◌+◌, ◌*◌, ℕ, pos, 
 use Rattle.std.specs.Prelude.{count_by}
 use Rattle.std.proofs.lemmas.List.Sums.{sum_by-cons}
 use Rattle.std.proofs.lemmas.Int.{ints}
-use Rattle.shogi_eval.specs.declared.points.TheConstants.{MOST_POINTS}
+use Rattle.shogi_eval.specs.declared.points.TheConstants.{POINTS_MAX}
 use Rattle.shogi_core.specs.declared.piece.Color.{Color}
 use Rattle.shogi_core.specs.declared.piece.Color.TheVariants.{Black, White}
 use Rattle.shogi_core.specs.declared.piece.Kind.{Kind}
@@ -13,7 +13,7 @@ use Rattle.shogi_core.specs.declared.piece.Role.TheVariants.{King}
 use Rattle.shogi_core.specs.declared.piece.Piece.{Piece}
 use Rattle.shogi_core.specs.Movement.{Cells}
 use Rattle.shogi_core.specs.Pieces.{is_of_kind, opponent_of}
-use Rattle.shogi_core.specs.Position.{Shogi, HandCounts, held}
+use Rattle.shogi_core.specs.Position.{Shogi, HandCounts, count_in_hand}
 use Rattle.shogi_core.specs.Validity.{IsValid, count_of}
 use Rattle.shogi_core.specs.Faultless.{IsFaultless}
 use Rattle.shogi_core.proofs.Faults.{faultless_from}
@@ -50,21 +50,21 @@ board_within color (cell ∷ cells) =
     let c : (kind : Kind) → count_by (is_of_kind kind) (cell ∷ cells) ≡ tally kind cell + count_by (is_of_kind kind) cells = λ kind. sum_by-cons (tally kind) cell cells in
     omega (arith, c kinds.Pawn, c kinds.Lance, c kinds.Knight, c kinds.Silver, c kinds.Gold, c kinds.Bishop, c kinds.Rook)
 
-hand_within : (hands : HandCounts) (e : Eval) (color : Color) → points_in_hand hands e color ≤ most (λ kind. held hands color kind)
+hand_within : (hands : HandCounts) (e : Eval) (color : Color) → points_in_hand hands e color ≤ most (λ kind. count_in_hand hands color kind)
 hand_within hands Plain color = omega arith
 hand_within hands Hand color = omega arith
 
 -- a side holds no more of a kind than both do
-side_within : (cells : Cells) (hands : HandCounts) (color : Color) (kind : Kind) → count_by (is_of_kind kind) cells + held hands color kind ≤ count_of kind cells hands
+side_within : (cells : Cells) (hands : HandCounts) (color : Color) (kind : Kind) → count_by (is_of_kind kind) cells + count_in_hand hands color kind ≤ count_of kind cells hands
 side_within cells hands Black kind = omega arith
 side_within cells hands White kind = omega arith
 
-faultless_within : (p : Shogi) (e : Eval) (color : Color) → IsFaultless p → points_of p e color ≤ MOST_POINTS
+faultless_within : (p : Shogi) (e : Eval) (color : Color) → IsFaultless p → points_of p e color ≤ POINTS_MAX
 unfolding points_of
 faultless_within p e color h =
     let board : points_on_board p.cells color ≤ most (λ kind. count_by (is_of_kind kind) p.cells) = board_within color p.cells in
-    let hand : points_in_hand p.hands e color ≤ most (λ kind. held p.hands color kind) = hand_within p.hands e color in
-    let s : (kind : Kind) → count_by (is_of_kind kind) p.cells + held p.hands color kind ≤ count_of kind p.cells p.hands = side_within p.cells p.hands color in
+    let hand : points_in_hand p.hands e color ≤ most (λ kind. count_in_hand p.hands color kind) = hand_within p.hands e color in
+    let s : (kind : Kind) → count_by (is_of_kind kind) p.cells + count_in_hand p.hands color kind ≤ count_of kind p.cells p.hands = side_within p.cells p.hands color in
     omega (
       arith,
       s kinds.Pawn,
@@ -83,13 +83,13 @@ faultless_within p e color h =
       h.counts kinds.Rook,
     )
 
-pub points_within : (p : Shogi) (e : Eval) (color : Color) → IsValid p → points_of p e color ≤ MOST_POINTS
+pub points_within : (p : Shogi) (e : Eval) (color : Color) → IsValid p → points_of p e color ≤ POINTS_MAX
 points_within p e color v = faultless_within p e color (faultless_from p v.no_fault)
 
 -- the material of a valid position
-pub material_bounds : (p : Shogi) (e : Eval) → IsValid p → ((pos 0 -ℤ pos MOST_POINTS) ≤ℤ material_of p e) × (material_of p e ≤ℤ pos MOST_POINTS)
+pub material_bounds : (p : Shogi) (e : Eval) → IsValid p → ((pos 0 -ℤ pos POINTS_MAX) ≤ℤ material_of p e) × (material_of p e ≤ℤ pos POINTS_MAX)
 unfolding material_of
 material_bounds p e v =
-    let own : points_of p e p.side ≤ MOST_POINTS = points_within p e p.side v in
-    let other : points_of p e (opponent_of p.side) ≤ MOST_POINTS = points_within p e (opponent_of p.side) v in
+    let own : points_of p e p.side ≤ POINTS_MAX = points_within p e p.side v in
+    let other : points_of p e (opponent_of p.side) ≤ POINTS_MAX = points_within p e (opponent_of p.side) v in
     (omega (arith, ints), omega (arith, ints))

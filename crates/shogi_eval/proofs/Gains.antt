@@ -10,7 +10,7 @@ use Rattle.shogi_core.specs.declared.piece.Color.TheVariants.{Black, White}
 use Rattle.shogi_core.specs.declared.piece.Kind.{Kind}
 use Rattle.shogi_core.specs.declared.piece.Kind.TheVariants as kinds
 use Rattle.shogi_core.specs.declared.piece.Piece.{Piece}
-use Rattle.shogi_core.specs.Position.{Shogi, HandCounts, held, place_of}
+use Rattle.shogi_core.specs.Position.{Shogi, HandCounts, count_in_hand, place_of}
 use Rattle.shogi_core.specs.declared.piece.Role.{Role}
 use Rattle.shogi_core.specs.declared.piece.Role.TheVariants.{King, Pawn}
 use Rattle.shogi_core.specs.declared.moves.Move.{Move}
@@ -39,7 +39,7 @@ sum_moved f xs a b v none ha hb other =
     omega arith
 
 -- a count in hand that is written
-in_hand_set : (hands : HandCounts) (eval : Eval) (side : Color) (kind : Kind) (n : ℕ) → length hands ≡ 14 → points_in_hand (slice_set hands (place_of side kind) n) eval side + held hands side kind * value_in_hand eval kind ≡ points_in_hand hands eval side + n * value_in_hand eval kind
+in_hand_set : (hands : HandCounts) (eval : Eval) (side : Color) (kind : Kind) (n : ℕ) → length hands ≡ 14 → points_in_hand (slice_set hands (place_of side kind) n) eval side + count_in_hand hands side kind * value_in_hand eval kind ≡ points_in_hand hands eval side + n * value_in_hand eval kind
 in_hand_set hands Plain Black kinds.Pawn n len = grind (arith, common_steps, get_or-set_same, get_or-set_other)
 in_hand_set hands Plain Black kinds.Lance n len = grind (arith, common_steps, get_or-set_same, get_or-set_other)
 in_hand_set hands Plain Black kinds.Knight n len = grind (arith, common_steps, get_or-set_same, get_or-set_other)
@@ -151,11 +151,11 @@ moved_other s promote (Some piece) e = cond-false _ _ _ (same_other s piece.colo
 
 one_more_own : (hands : HandCounts) (eval : Eval) (s : Color) (kind : Option Kind) → length hands ≡ 14 → points_in_hand (with_one_more hands s kind) eval s ≡ points_in_hand hands eval s + value_held eval kind
 one_more_own hands eval s None len = omega arith
-one_more_own hands eval s (Some kind) len = omega (arith, in_hand_set hands eval s kind (held hands s kind + 1) len)
+one_more_own hands eval s (Some kind) len = omega (arith, in_hand_set hands eval s kind (count_in_hand hands s kind + 1) len)
 
 one_more_other : (hands : HandCounts) (eval : Eval) (s : Color) (kind : Option Kind) → points_in_hand (with_one_more hands s kind) eval (opponent_of s) ≡ points_in_hand hands eval (opponent_of s)
 one_more_other hands eval s None = refl
-one_more_other hands eval s (Some kind) = in_hand_other hands eval s kind (held hands s kind + 1)
+one_more_other hands eval s (Some kind) = in_hand_other hands eval s kind (count_in_hand hands s kind + 1)
 
 captured_own : (hands : HandCounts) (eval : Eval) (s : Color) (cell : Option Piece) → length hands ≡ 14 → points_in_hand (with_captured hands s cell) eval s ≡ points_in_hand hands eval s + captured_gain eval cell
 captured_own hands eval s None len = omega arith
@@ -209,13 +209,13 @@ material_after_board p eval from to promote v f t l =
 one_less : (h n v : ℕ) → 1 ≤ h → n ≡ h - 1 → h * v ≡ n * v + v
 one_less h n v l e = let s : h ≡ n + 1 = omega arith in rw s (omega arith)
 
-drop_own : (p : Shogi) (eval : Eval) (kind : Kind) (to : ℕ) → IsValid p → to < 81 → 0 < held p.hands p.side kind → piece_at p.cells to ≡ None → points_of (after p (Drop kind to)) eval p.side + value_in_hand eval kind ≡ points_of p eval p.side + value_of (role_of kind)
+drop_own : (p : Shogi) (eval : Eval) (kind : Kind) (to : ℕ) → IsValid p → to < 81 → 0 < count_in_hand p.hands p.side kind → piece_at p.cells to ≡ None → points_of (after p (Drop kind to)) eval p.side + value_in_hand eval kind ≡ points_of p eval p.side + value_of (role_of kind)
 unfolding points_of
 drop_own p eval kind to v t h e =
     let b : to < length p.cells = omega (arith, v.cells_fit) in
     let board : _ = sum_by-set (points_at p.side) p.cells to (dropped p.side kind) None b in
-    let hand : _ = in_hand_set p.hands eval p.side kind (held p.hands p.side kind - 1) v.hands_fit in
-    let less : held p.hands p.side kind * value_in_hand eval kind ≡ (held p.hands p.side kind - 1) * value_in_hand eval kind + value_in_hand eval kind = one_less (held p.hands p.side kind) (held p.hands p.side kind - 1) (value_in_hand eval kind) (omega arith) refl in
+    let hand : _ = in_hand_set p.hands eval p.side kind (count_in_hand p.hands p.side kind - 1) v.hands_fit in
+    let less : count_in_hand p.hands p.side kind * value_in_hand eval kind ≡ (count_in_hand p.hands p.side kind - 1) * value_in_hand eval kind + value_in_hand eval kind = one_less (count_in_hand p.hands p.side kind) (count_in_hand p.hands p.side kind - 1) (value_in_hand eval kind) (omega arith) refl in
     let empty : points_at p.side (piece_at p.cells to) ≡ 0 = ap (points_at p.side) e in
     let there : points_at p.side (dropped p.side kind) ≡ value_of (role_of kind) = cond-true _ _ _ (same_itself p.side) in
     omega (arith, board, hand)
@@ -225,7 +225,7 @@ unfolding points_of
 drop_other p eval kind to v t e =
     let b : to < length p.cells = omega (arith, v.cells_fit) in
     let board : _ = sum_by-set (points_at (opponent_of p.side)) p.cells to (dropped p.side kind) None b in
-    let hand : _ = in_hand_other p.hands eval p.side kind (held p.hands p.side kind - 1) in
+    let hand : _ = in_hand_other p.hands eval p.side kind (count_in_hand p.hands p.side kind - 1) in
     let empty : points_at (opponent_of p.side) (piece_at p.cells to) ≡ 0 = ap (points_at (opponent_of p.side)) e in
     let there : points_at (opponent_of p.side) (dropped p.side kind) ≡ 0 = cond-false _ _ _ (same_other p.side p.side (same_itself p.side)) in
     omega (arith, board, hand)

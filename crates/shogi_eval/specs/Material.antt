@@ -10,7 +10,7 @@ use Rattle.shogi_core.specs.declared.moves.Move.{Move}
 use Rattle.shogi_core.specs.declared.moves.Move.TheVariants.{Board, Drop}
 use Rattle.shogi_core.specs.Movement.{Cells, piece_at}
 use Rattle.shogi_core.specs.Pieces.{all_kinds, opponent_of, is_same_color, role_of, kind_of, promoted}
-use Rattle.shogi_core.specs.Position.{Shogi, HandCounts, held}
+use Rattle.shogi_core.specs.Position.{Shogi, HandCounts, count_in_hand}
 use Rattle.shogi_eval.specs.declared.eval.Eval.{Eval}
 use Rattle.shogi_eval.specs.declared.eval.Eval.TheVariants.{Plain, Hand}
 
@@ -53,7 +53,7 @@ points_on_board cells color = sum_by (points_at color) cells
 
 -- what the side holds of a kind
 abbrev pub points_held : HandCounts → Eval → Color → Kind → ℕ
-points_held hands e color kind = held hands color kind * value_in_hand e kind
+points_held hands e color kind = count_in_hand hands color kind * value_in_hand e kind
 
 -- the side's pieces in hand
 abbrev pub points_in_hand : HandCounts → Eval → Color → ℕ

@@ -1,7 +1,7 @@
 //! What a move does to the material.
 
 ghost use Rattle.std.specs.Prelude.{◌≡◌, ◌≤◌, ◌*◌, ◌≤ℤ◌, ◌-ℤ◌, pos, true};
-ghost use Rattle.shogi_eval.specs.declared.points.TheConstants.{MOST_VALUE};
+ghost use Rattle.shogi_eval.specs.declared.points.TheConstants.{PIECE_VALUE_MAX};
 ghost use Rattle.shogi_moves.specs.After.{after};
 ghost use Rattle.shogi_moves.specs.Legal.{is_legal};
 ghost use Rattle.shogi_eval.specs.Material.{material_of, value_held, taken_gain, promotion_gain, drop_gain};
@@ -13,7 +13,7 @@ use shogi_core::{Kind, Move, Piece, Position, Role};
 /// What a captured piece adds to the captor's hand.
 fn value_held(e: Eval, kind: Option<Kind>) -> u32
     ensures value { result ≡ value_held e kind }
-    ensures range { result ≤ MOST_VALUE }
+    ensures range { result ≤ PIECE_VALUE_MAX }
 {
     match kind {
         None => 0,
@@ -24,7 +24,7 @@ fn value_held(e: Eval, kind: Option<Kind>) -> u32
 /// What a capture gains: the piece is lost to its side and comes to hand.
 fn taken_gain(e: Eval, cell: Option<Piece>) -> u32
     ensures value { result ≡ taken_gain e cell }
-    ensures range { result ≤ 2 * MOST_VALUE }
+    ensures range { result ≤ 2 * PIECE_VALUE_MAX }
 {
     match cell {
         None => 0,
@@ -35,7 +35,7 @@ fn taken_gain(e: Eval, cell: Option<Piece>) -> u32
 /// What a promotion gains.
 fn promotion_gain(cell: Option<Piece>, promote: bool) -> u32
     ensures value { result ≡ promotion_gain promote cell }
-    ensures range { result ≤ MOST_VALUE }
+    ensures range { result ≤ PIECE_VALUE_MAX }
 {
     match cell {
         None => 0,
@@ -52,8 +52,8 @@ fn promotion_gain(cell: Option<Piece>, promote: bool) -> u32
 /// What a drop gains: the piece leaves the hand and stands on the board.
 fn drop_gain(e: Eval, kind: Kind) -> i32
     ensures value { result ≡ drop_gain e kind }
-    ensures least { (pos 0 -ℤ pos MOST_VALUE) ≤ℤ result }
-    ensures most { result ≤ℤ pos MOST_VALUE }
+    ensures least { (pos 0 -ℤ pos PIECE_VALUE_MAX) ≤ℤ result }
+    ensures most { result ≤ℤ pos PIECE_VALUE_MAX }
 {
     match e {
         Eval::Plain => 0,

@@ -8,7 +8,7 @@ mod points;
 
 pub use eval::Eval;
 pub use node::Node;
-pub use points::{MOST_POINTS, material};
+pub use points::{POINTS_MAX, material};
 
 #[cfg(test)]
 mod tests;

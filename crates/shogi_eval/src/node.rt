@@ -1,7 +1,7 @@
 //! A position on the way of a search.
 
 ghost use Rattle.std.specs.Prelude.{◌≡◌, ◌≤ℤ◌, true, ◌-ℤ◌, pos};
-ghost use Rattle.shogi_eval.specs.declared.points.TheConstants.{MOST_POINTS};
+ghost use Rattle.shogi_eval.specs.declared.points.TheConstants.{POINTS_MAX};
 ghost use Rattle.shogi_core.specs.Codes.{code_of};
 ghost use Rattle.shogi_core.specs.Start.{start};
 ghost use Rattle.shogi_core.specs.Validity.{IsValid};
@@ -117,8 +117,8 @@ impl Node {
     /// The material of the position, from the side to move (see `material`).
     pub fn score(&self) -> i32
         ensures value { result ≡ material_of self.now.position self.now.eval }
-        ensures least { (pos 0 -ℤ pos MOST_POINTS) ≤ℤ result }
-        ensures most { result ≤ℤ pos MOST_POINTS }
+        ensures least { (pos 0 -ℤ pos POINTS_MAX) ≤ℤ result }
+        ensures most { result ≤ℤ pos POINTS_MAX }
     {
         self.position.validity();
         self.score

@@ -1,22 +1,22 @@
 //! The values of pieces, and the material of a position.
 
 ghost use Rattle.std.specs.Prelude.{◌≡◌, ◌≤◌, ◌<◌, ◌*◌, ◌^◌, ◌≤ℤ◌, ◌-ℤ◌, pos};
-ghost use Rattle.shogi_eval.specs.declared.points.TheConstants.{MOST_VALUE, MOST_POINTS};
+ghost use Rattle.shogi_eval.specs.declared.points.TheConstants.{PIECE_VALUE_MAX, POINTS_MAX};
 ghost use Rattle.shogi_eval.specs.Material.{value_of, value_in_hand, points_at, points_on_board, points_in_hand, points_held, points_of, material_of};
 
 use crate::eval::Eval;
 use shogi_core::{Color, KINDS, Kind, Piece, Position, Role};
 
 /// The greatest value of a piece, that of a promoted rook.
-pub const MOST_VALUE: u32 = 1300;
+pub const PIECE_VALUE_MAX: u32 = 1300;
 
 /// The greatest worth of what a side has: all pieces of a set, each at its best.
-pub const MOST_POINTS: u32 = 25440;
+pub const POINTS_MAX: u32 = 25440;
 
 /// What a piece of the role is worth on the board.
 pub fn value_of(role: Role) -> u32
     ensures value { result ≡ value_of role }
-    ensures range { result ≤ MOST_VALUE }
+    ensures range { result ≤ PIECE_VALUE_MAX }
 {
     match role {
         Role::King => 0,
@@ -37,7 +37,7 @@ pub fn value_of(role: Role) -> u32
 /// What a piece of the kind is worth in hand.
 pub fn value_in_hand(e: Eval, kind: Kind) -> u32
     ensures value { result ≡ value_in_hand e kind }
-    ensures range { result ≤ MOST_VALUE }
+    ensures range { result ≤ PIECE_VALUE_MAX }
 {
     match e {
         Eval::Plain => value_of(Role::from(kind)),
@@ -56,7 +56,7 @@ pub fn value_in_hand(e: Eval, kind: Kind) -> u32
 /// What stands on a square, if it is the side's.
 fn points_at(cell: Option<Piece>, color: Color) -> u32
     ensures value { result ≡ points_at color cell }
-    ensures range { result ≤ MOST_VALUE }
+    ensures range { result ≤ PIECE_VALUE_MAX }
 {
     match cell {
         None => 0,
@@ -73,7 +73,7 @@ fn points_at(cell: Option<Piece>, color: Color) -> u32
 /// The side's pieces on the board.
 fn points_on_board(cells: &[Option<Piece>; 81], color: Color) -> u32
     ensures value { result ≡ points_on_board cells.now color }
-    ensures range { result ≤ 81 * MOST_VALUE }
+    ensures range { result ≤ 81 * PIECE_VALUE_MAX }
 {
     let mut points = 0;
     for cell in cells {
@@ -85,7 +85,7 @@ fn points_on_board(cells: &[Option<Piece>; 81], color: Color) -> u32
 /// What the side holds of a kind.
 fn points_held(p: &Position, e: Eval, color: Color, kind: Kind) -> u32
     ensures value { result ≡ points_held p.now.hands e color kind }
-    ensures range { result ≤ 255 * MOST_VALUE }
+    ensures range { result ≤ 255 * PIECE_VALUE_MAX }
 {
     p.hand(color, kind) as u32 * value_in_hand(e, kind)
 }
@@ -93,7 +93,7 @@ fn points_held(p: &Position, e: Eval, color: Color, kind: Kind) -> u32
 /// The side's pieces in hand.
 fn points_in_hand(p: &Position, e: Eval, color: Color) -> u32
     ensures value { result ≡ points_in_hand p.now.hands e color }
-    ensures range { result ≤ 7 * 255 * MOST_VALUE }
+    ensures range { result ≤ 7 * 255 * PIECE_VALUE_MAX }
 {
     let mut points = 0;
     for kind in KINDS {
@@ -106,7 +106,7 @@ fn points_in_hand(p: &Position, e: Eval, color: Color) -> u32
 #[tactic(auto, using(crate::proofs::Bounds::points_within), unfolding(crate::specs::Material::points_of))]
 fn points_of(p: &Position, e: Eval, color: Color) -> u32
     ensures value { result ≡ points_of p.now e color }
-    ensures range { result ≤ MOST_POINTS }
+    ensures range { result ≤ POINTS_MAX }
 {
     p.validity();
     points_on_board(p.board().cells(), color) + points_in_hand(p, e, color)
@@ -118,8 +118,8 @@ fn points_of(p: &Position, e: Eval, color: Color) -> u32
 #[tactic(auto, unfolding(crate::specs::Material::material_of))]
 pub fn material(p: &Position, e: Eval) -> i32
     ensures value { result ≡ material_of p.now e }
-    ensures least { (pos 0 -ℤ pos MOST_POINTS) ≤ℤ result }
-    ensures most { result ≤ℤ pos MOST_POINTS }
+    ensures least { (pos 0 -ℤ pos POINTS_MAX) ≤ℤ result }
+    ensures most { result ≤ℤ pos POINTS_MAX }
 {
     let side = p.side();
     points_of(p, e, side) as i32 - points_of(p, e, side.opponent()) as i32

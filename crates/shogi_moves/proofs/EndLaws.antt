@@ -18,7 +18,7 @@ use Rattle.shogi_core.specs.Cell.{is_piece_of, is_immobile, is_dead_role, is_kin
 use Rattle.shogi_core.specs.Codes.{move_of, code_of}
 use Rattle.shogi_core.specs.Movement.{Cells, piece_at, reaches}
 use Rattle.shogi_core.specs.Pieces.{opponent_of, is_same_color, promoted}
-use Rattle.shogi_core.specs.Position.{Shogi, held}
+use Rattle.shogi_core.specs.Position.{Shogi, count_in_hand}
 use Rattle.shogi_core.proofs.BitLaws.{has_bit-and, has_bit-or, has_bit-none}
 use Rattle.shogi_core.proofs.Exposed.{check_was}
 use Rattle.shogi_core.proofs.CodesBack.{move_of-board, move_of-drop}
@@ -453,23 +453,23 @@ four a b c d e = rw e refl
 first_fails : (a b c d : Bool) → a ≡ false → false ≡ (((a && b) && c) && d)
 first_fails a b c d e = rw e refl
 
-pub right_none : (p : Shogi) (kind : Kind) (n : ℕ) → held p.hands p.side kind ≡ 0 → has_bit 0 n ≡ is_pseudo_legal_drop p.cells p.hands p.side kind n
+pub right_none : (p : Shogi) (kind : Kind) (n : ℕ) → count_in_hand p.hands p.side kind ≡ 0 → has_bit 0 n ≡ is_pseudo_legal_drop p.cells p.hands p.side kind n
 right_none p kind n e = has_bit-none n ∙ (rw e refl)
 
-pub right_pawn : (p : Shogi) (kind : Kind) (free dead files n : ℕ) → n < 81 → 0 < held p.hands p.side kind → is_pawn_kind kind ≡ true → has_bit free n ≡ is_none (piece_at p.cells n) → dead < 2 ^ 81 → has_bit dead n ≡ is_immobile n (dropped p.side kind)
+pub right_pawn : (p : Shogi) (kind : Kind) (free dead files n : ℕ) → n < 81 → 0 < count_in_hand p.hands p.side kind → is_pawn_kind kind ≡ true → has_bit free n ≡ is_none (piece_at p.cells n) → dead < 2 ^ 81 → has_bit dead n ≡ is_immobile n (dropped p.side kind)
     → files < 2 ^ 81 → has_bit files n ≡ nat_lt 0 (pawns_on_file p.side (n / 9) p.cells)
     → has_bit (bit_and (bit_and free (2 ^ 128 - 1 - dead)) (2 ^ 128 - 1 - files)) n ≡ is_pseudo_legal_drop p.cells p.hands p.side kind n
 right_pawn p kind free dead files n h some pawn f df d ff b =
     has_bit-and (bit_and free (2 ^ 128 - 1 - dead)) (2 ^ 128 - 1 - files) n
     ∙ (rw (has_bit-and free (2 ^ 128 - 1 - dead) n, has_bit-not dead n (omega arith) (omega arith), has_bit-not files n (omega arith) (omega arith), f, d, b, pawn)
-    (four (nat_lt 0 (held p.hands p.side kind)) (is_none (piece_at p.cells n)) (not (is_immobile n (dropped p.side kind))) (not (nat_lt 0 (pawns_on_file p.side (n / 9) p.cells))) (lt-ltb 0 (held p.hands p.side kind) some)))
+    (four (nat_lt 0 (count_in_hand p.hands p.side kind)) (is_none (piece_at p.cells n)) (not (is_immobile n (dropped p.side kind))) (not (nat_lt 0 (pawns_on_file p.side (n / 9) p.cells))) (lt-ltb 0 (count_in_hand p.hands p.side kind) some)))
 
-pub right_other : (p : Shogi) (kind : Kind) (free dead n : ℕ) → n < 81 → 0 < held p.hands p.side kind → is_pawn_kind kind ≡ false → has_bit free n ≡ is_none (piece_at p.cells n) → dead < 2 ^ 81 → has_bit dead n ≡ is_immobile n (dropped p.side kind)
+pub right_other : (p : Shogi) (kind : Kind) (free dead n : ℕ) → n < 81 → 0 < count_in_hand p.hands p.side kind → is_pawn_kind kind ≡ false → has_bit free n ≡ is_none (piece_at p.cells n) → dead < 2 ^ 81 → has_bit dead n ≡ is_immobile n (dropped p.side kind)
     → has_bit (bit_and free (2 ^ 128 - 1 - dead)) n ≡ is_pseudo_legal_drop p.cells p.hands p.side kind n
 right_other p kind free dead n h some other f df d =
     has_bit-and free (2 ^ 128 - 1 - dead) n
     ∙ (rw (has_bit-not dead n (omega arith) (omega arith), f, d, other)
-    (sym (alone (is_none (piece_at p.cells n) && not (is_immobile n (dropped p.side kind)))) ∙ four (nat_lt 0 (held p.hands p.side kind)) (is_none (piece_at p.cells n)) (not (is_immobile n (dropped p.side kind))) true (lt-ltb 0 (held p.hands p.side kind) some)))
+    (sym (alone (is_none (piece_at p.cells n) && not (is_immobile n (dropped p.side kind)))) ∙ four (nat_lt 0 (count_in_hand p.hands p.side kind)) (is_none (piece_at p.cells n)) (not (is_immobile n (dropped p.side kind))) true (lt-ltb 0 (count_in_hand p.hands p.side kind) some)))
 
 pub ruleset dropping = (right_none, right_pawn, right_other, and_fits)
 

@@ -18,7 +18,7 @@ use Rattle.shogi_core.proofs.LineBits.{lowest_set}
 use Rattle.shogi_moves.specs.Captures.{is_wanted}
 use Rattle.shogi_moves.specs.Guards.{Guards}
 use Rattle.shogi_moves.specs.Legal.{is_legal_code}
-use Rattle.shogi_moves.specs.LegalMoves.{legal_from, legal_moves}
+use Rattle.shogi_moves.specs.LegalMoves.{legal_from, legal_codes}
 use Rattle.shogi_moves.specs.Rising.{is_in}
 use Rattle.shogi_moves.proofs.EndLaws.{drop_wanted}
 use Rattle.shogi_moves.proofs.LegalLaws.{in_legal, legal_from_skips}
@@ -72,13 +72,13 @@ kind_without p kind ends bits none =
     ∙ (sym (bits (c - FIRST_DROP - kind_number kind * 81) there)
     ∙ (ap (λ m. has_bit m (c - FIRST_DROP - kind_number kind * 81)) none ∙ has_bit-none (c - FIRST_DROP - kind_number kind * 81))))))
 
-pub some_legal : (p : Shogi) (code : ℕ) → is_legal_code p code ≡ true → legal_moves p ≢ []
+pub some_legal : (p : Shogi) (code : ℕ) → is_legal_code p code ≡ true → legal_codes p ≢ []
 some_legal p code e none = let clash : false ≡ true = ap (λ codes. is_in code codes) (sym none) ∙ in_legal p 0 code (omega arith) e in cc
 
 -- a piece with an end has a move
 pub piece_with : (p : Shogi) (from plain promoting : ℕ) → plain < 2 ^ 81 → promoting < 2 ^ 81
     → ((n : ℕ) → n < 81 → has_bit plain n ≡ is_legal_code p (code_of (Board from n false))) → ((n : ℕ) → n < 81 → has_bit promoting n ≡ is_legal_code p (code_of (Board from n true)))
-    → bit_or plain promoting ≢ 0 → legal_moves p ≢ []
+    → bit_or plain promoting ≢ 0 → legal_codes p ≢ []
 piece_with p from plain promoting pf qf pb qb some =
     let low = lowest_set (bit_or plain promoting) some (more_fits plain promoting pf qf) in
     elim (or_cases (has_bit plain (trailing_zeros w128 (bit_or plain promoting))) (has_bit promoting (trailing_zeros w128 (bit_or plain promoting))) (sym (has_bit-or plain promoting (trailing_zeros w128 (bit_or plain promoting))) ∙ low.1)) [
@@ -87,7 +87,7 @@ piece_with p from plain promoting pf qf pb qb some =
     ]
 
 -- a kind with an end has a drop
-pub kind_with : (p : Shogi) (kind : Kind) (ends : ℕ) → ends < 2 ^ 81 → ((n : ℕ) → n < 81 → has_bit ends n ≡ is_wanted p false (code_of (Drop kind n))) → ends ≢ 0 → legal_moves p ≢ []
+pub kind_with : (p : Shogi) (kind : Kind) (ends : ℕ) → ends < 2 ^ 81 → ((n : ℕ) → n < 81 → has_bit ends n ≡ is_wanted p false (code_of (Drop kind n))) → ends ≢ 0 → legal_codes p ≢ []
 kind_with p kind ends fits bits some =
     let low = lowest_set ends some fits in
     some_legal p (code_of (Drop kind (trailing_zeros w128 ends))) (sym (drop_wanted p kind (trailing_zeros w128 ends) low.0) ∙ (sym (bits (trailing_zeros w128 ends) low.0) ∙ low.1))

@@ -3,7 +3,7 @@ use Rattle.std.proofs.Common.{◌≡◌, ℕ, ◌<◌, ◌≤◌, Bool, true, ar
 use Rattle.std.proofs.lemmas.Bool.{and_parts}
 use Rattle.shogi_core.specs.declared.moves.Move.{Move}
 use Rattle.shogi_core.specs.declared.moves.Move.TheVariants.{Board, Drop}
-use Rattle.shogi_core.specs.Position.{Shogi, held}
+use Rattle.shogi_core.specs.Position.{Shogi, count_in_hand}
 use Rattle.shogi_core.proofs.Faults.{faultless_from, faultless_to}
 use Rattle.shogi_moves.specs.Legal.{is_safe, is_legal}
 use Rattle.shogi_core.specs.declared.piece.Color.{Color}
@@ -21,12 +21,12 @@ set_size_fits kinds.Pawn = omega arith
 set_size_fits _ = omega arith
 
 -- a count in hand is at most a set
-pub held_fits : (p : Shogi) (side : Color) (kind : Kind) → IsValid p → held p.hands side kind < 255
+pub held_fits : (p : Shogi) (side : Color) (kind : Kind) → IsValid p → count_in_hand p.hands side kind < 255
 held_fits p Black kind valid = omega (arith, (faultless_from p valid.no_fault).counts kind, set_size_fits kind)
 held_fits p White kind valid = omega (arith, (faultless_from p valid.no_fault).counts kind, set_size_fits kind)
 
 -- a dropped piece was held
-pub held_some : (p : Shogi) (kind : Kind) (to : ℕ) → is_safe p (Drop kind to) ≡ true → 1 ≤ held p.hands p.side kind
+pub held_some : (p : Shogi) (kind : Kind) (to : ℕ) → is_safe p (Drop kind to) ≡ true → 1 ≤ count_in_hand p.hands p.side kind
 held_some p kind to safe = omega (arith, (safe_drop p kind to safe).held_one)
 
 -- what a safe move leaves has no fault

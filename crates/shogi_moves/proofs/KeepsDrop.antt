@@ -4,7 +4,7 @@ use Rattle.std.specs.Prelude.{count_by, ◌==◌, ◌&&◌, nat_lt, not, is_none
 use Rattle.std.proofs.lemmas.Bool.{and_right, and_parts, both_ways, cases_Bool, cases_eq, ltb-true, not-true, and_cases, ltb-false}
 use Rattle.shogi_core.specs.declared.moves.Move.TheVariants.{Drop}
 use Rattle.shogi_core.specs.Movement.{Cells, piece_at}
-use Rattle.shogi_core.specs.Position.{Shogi, HandCounts, held, place_of}
+use Rattle.shogi_core.specs.Position.{Shogi, HandCounts, count_in_hand, place_of}
 use Rattle.shogi_core.specs.Faultless.{IsFaultless}
 use Rattle.shogi_core.proofs.Faults.{number_below, faultless_from}
 use Rattle.shogi_moves.specs.Legal.{is_safe, is_pseudo_legal_drop, is_pawn_kind}
@@ -47,7 +47,7 @@ is_none-true (Some x) e = cc
 
 -- what a safe drop keeps to
 pub record IsSafeDrop (p : Shogi) (kind : Kind) (to : ℕ) : Type 0 where
-  pub held_one : 0 < held p.hands p.side kind
+  pub held_one : 0 < count_in_hand p.hands p.side kind
   pub free : piece_at p.cells to ≡ None
   pub alive : is_immobile to (dropped p.side kind) ≡ false
   pub pawns : is_pawn_kind kind ≡ true → pawns_on_file p.side (to / 9) p.cells ≤ 0
@@ -66,7 +66,7 @@ safe_drop p kind to e =
     let two = and_parts _ _ (three.0) in
     let one = and_parts _ _ (two.0) in
     record {
-      held_one = ltb-true 0 (held p.hands p.side kind) (one.0);
+      held_one = ltb-true 0 (count_in_hand p.hands p.side kind) (one.0);
       free = is_none-true (piece_at p.cells to) (one.1);
       alive = not-true _ (two.1);
       pawns = pawn_ban (is_pawn_kind kind) (pawns_on_file p.side (to / 9) p.cells) (three.1);
@@ -74,14 +74,14 @@ safe_drop p kind to e =
     }
 
 -- the hand has one less
-hands_after_drop : (hands : HandCounts) (side : Color) (kind other : Kind) → length hands ≡ 14 → 0 < held hands side kind
-    → held (set hands (place_of side kind) (held hands side kind - 1)) Black other + held (set hands (place_of side kind) (held hands side kind - 1)) White other + tally (kind_number kind == kind_number other) ≡ held hands Black other + held hands White other
+hands_after_drop : (hands : HandCounts) (side : Color) (kind other : Kind) → length hands ≡ 14 → 0 < count_in_hand hands side kind
+    → count_in_hand (set hands (place_of side kind) (count_in_hand hands side kind - 1)) Black other + count_in_hand (set hands (place_of side kind) (count_in_hand hands side kind - 1)) White other + tally (kind_number kind == kind_number other) ≡ count_in_hand hands Black other + count_in_hand hands White other
 hands_after_drop hands Black kind other len some = hand_less hands (kind_number kind) (kind_number kind) (kind_number other) len (number_below kind) (number_below other) (inl refl) some
 hands_after_drop hands White kind other len some = hand_less hands (kind_number kind + 7) (kind_number kind) (kind_number other) len (number_below kind) (number_below other) (inr refl) some
 
 -- no piece comes or goes
-counts_after_drop : (cells : Cells) (hands : HandCounts) (side : Color) (kind : Kind) (to : ℕ) (other : Kind) → length cells ≡ 81 → length hands ≡ 14 → to < 81 → piece_at cells to ≡ None → 0 < held hands side kind
-    → count_of other (set cells to (dropped side kind)) (set hands (place_of side kind) (held hands side kind - 1)) ≡ count_of other cells hands
+counts_after_drop : (cells : Cells) (hands : HandCounts) (side : Color) (kind : Kind) (to : ℕ) (other : Kind) → length cells ≡ 81 → length hands ≡ 14 → to < 81 → piece_at cells to ≡ None → 0 < count_in_hand hands side kind
+    → count_of other (set cells to (dropped side kind)) (set hands (place_of side kind) (count_in_hand hands side kind - 1)) ≡ count_of other cells hands
 counts_after_drop cells hands side kind to other lc lh ht free some =
     let board = count_by-set (is_of_kind other) cells to (dropped side kind) None (omega arith) in
     let board' = rw (free, kind_of-role_of kind) at board in

@@ -8,7 +8,7 @@ use Rattle.shogi_core.specs.Codes.{move_of, code_of, codes_from}
 use Rattle.shogi_core.specs.Position.{Shogi}
 use Rattle.shogi_moves.specs.After.{after, after_code, after_move}
 use Rattle.shogi_moves.specs.Legal.{is_legal, is_legal_code, is_legal_move}
-use Rattle.shogi_moves.specs.LegalMoves.{legal_from, legal_moves, legal_above}
+use Rattle.shogi_moves.specs.LegalMoves.{legal_from, legal_codes, legal_above}
 use Rattle.shogi_moves.specs.Rising.{is_in, IsRising}
 use Rattle.shogi_moves.proofs.Rising.{kept_rising, kept_passes, kept_low, passes_kept}
 
@@ -60,7 +60,7 @@ unfolding legal_from codes_from
 in_legal p first code low e = let high : code < MOVE_CODES = legal_code_below p code e in passes_kept (is_legal_code p) (MOVE_CODES - first) first code low (omega arith) e
 
 -- a legal move above another one is among the legal moves
-pub legal_above_in : (p : Shogi) (passed : Option Move) (code : ℕ) → is_in code (legal_above p passed) ≡ true → is_in code (legal_moves p) ≡ true
+pub legal_above_in : (p : Shogi) (passed : Option Move) (code : ℕ) → is_in code (legal_above p passed) ≡ true → is_in code (legal_codes p) ≡ true
 legal_above_in p None code h = h
 legal_above_in p (Some m) code h = in_legal p 0 code (omega arith) (legal_in p (code_of m + 1) code h)
 
@@ -79,10 +79,10 @@ pub after_code_of : (p : Shogi) (m : Move) → move_of (code_of m) ≡ Some m �
 after_code_of p m e = after_code_at p (code_of m) m e
 
 -- a move is legal exactly where its code is in the list
-pub legal_to_listed : (p : Shogi) (m : Move) → move_of (code_of m) ≡ Some m → is_legal p m ≡ true → is_in (code_of m) (legal_moves p) ≡ true
+pub legal_to_listed : (p : Shogi) (m : Move) → move_of (code_of m) ≡ Some m → is_legal p m ≡ true → is_in (code_of m) (legal_codes p) ≡ true
 legal_to_listed p m back e = in_legal p 0 (code_of m) (omega arith) (is_legal_code_of p (code_of m) m back ∙ e)
 
-pub listed_to_legal : (p : Shogi) (m : Move) → move_of (code_of m) ≡ Some m → is_in (code_of m) (legal_moves p) ≡ true → is_legal p m ≡ true
+pub listed_to_legal : (p : Shogi) (m : Move) → move_of (code_of m) ≡ Some m → is_in (code_of m) (legal_codes p) ≡ true → is_legal p m ≡ true
 listed_to_legal p m back h = sym (is_legal_code_of p (code_of m) m back) ∙ legal_in p 0 (code_of m) h
 
 pub ruleset steps = (legal_from_found, legal_from_skips, legal_from_end)

@@ -12,7 +12,7 @@ use Rattle.shogi_core.specs.Cell.{is_piece_of}
 use Rattle.shogi_core.specs.Codes.{move_of, code_of, kind_at}
 use Rattle.shogi_core.specs.Movement.{piece_at, reaches}
 use Rattle.shogi_core.specs.Pieces.{kind_number}
-use Rattle.shogi_core.specs.Position.{Shogi, held}
+use Rattle.shogi_core.specs.Position.{Shogi, count_in_hand}
 use Rattle.shogi_core.proofs.Below.{some_below_no, some_below_at}
 use Rattle.shogi_core.proofs.Faults.{number_below}
 use Rattle.shogi_moves.specs.Legal.{is_safe, is_safe_code, is_safe_move, is_legal, is_legal_code, is_legal_move}
@@ -72,7 +72,7 @@ not_reached : (p : Shogi) (from to : ℕ) (promote : Bool) → reaches p.cells f
 unfolding is_safe
 not_reached p from to promote e = search third_fails
 
-not_held : (p : Shogi) (kind : Kind) (to : ℕ) → held p.hands p.side kind ≡ 0 → is_safe p (Drop kind to) ≡ false
+not_held : (p : Shogi) (kind : Kind) (to : ℕ) → count_in_hand p.hands p.side kind ≡ 0 → is_safe p (Drop kind to) ≡ false
 unfolding is_safe
 not_held p kind to e = rw e refl
 
@@ -109,7 +109,7 @@ pub idle_reach : (p : Shogi) (from to code end : ℕ) → from < 81 → to < 81 
 idle_reach p from to code end hf ht low high e = idle_target p from to code end hf ht low high (λ promote. not_reached p from to promote e)
 
 -- none of the kind is held
-pub idle_drop : (p : Shogi) (kind : Kind) (code end : ℕ) → FIRST_DROP + kind_number kind * 81 ≤ code → end ≤ FIRST_DROP + 81 + kind_number kind * 81 → held p.hands p.side kind ≡ 0 → HasNoSafe p code end
+pub idle_drop : (p : Shogi) (kind : Kind) (code end : ℕ) → FIRST_DROP + kind_number kind * 81 ≤ code → end ≤ FIRST_DROP + 81 + kind_number kind * 81 → count_in_hand p.hands p.side kind ≡ 0 → HasNoSafe p code end
 idle_drop p kind code end low high e =
     let seven : kind_number kind < 7 = number_below kind in
     record {

@@ -4,7 +4,7 @@ use Rattle.std.specs.Prelude.{zero, suc, sum_by}
 use Rattle.std.proofs.lemmas.List.Sums.{sum_by-cons}
 use Rattle.shogi_core.specs.Position.{Shogi}
 use Rattle.shogi_moves.specs.After.{after_code}
-use Rattle.shogi_moves.specs.LegalMoves.{legal_moves, perft}
+use Rattle.shogi_moves.specs.LegalMoves.{legal_codes, perft}
 
 -- those of n more moves behind each of the moves
 unfoldable pub perft_by : Shogi → ℕ → List ℕ → ℕ
@@ -16,7 +16,7 @@ unfolding perft
 perft_none p n e = rw e refl
 
 -- one move more: by the first move
-pub perft_step : (p : Shogi) (n : ℕ) → 1 ≤ n → perft_by p (n - 1) (legal_moves p) ≡ perft p n
+pub perft_step : (p : Shogi) (n : ℕ) → 1 ≤ n → perft_by p (n - 1) (legal_codes p) ≡ perft p n
 unfolding perft perft_by
 perft_step p zero h = absurd (omega arith)
 perft_step p (suc n) h = let same : suc n - 1 ≡ n = omega arith in rw same refl
@@ -35,9 +35,9 @@ pub perft_by-left : (p : Shogi) (n code : ℕ) (codes rest : List ℕ) (child : 
 perft_by-left p n code codes rest child e f = rw (e, f) (perft_by-more p n code rest)
 
 -- one move: as many as are legal
-pub perft_one : (p : Shogi) → perft p 1 ≡ length (legal_moves p)
+pub perft_one : (p : Shogi) → perft p 1 ≡ length (legal_codes p)
 unfolding perft
-perft_one p = go (legal_moves p)
+perft_one p = go (legal_codes p)
   where
     go : (codes : List ℕ) → sum_by (λ code. perft (after_code p code) 0) codes ≡ length codes
     go [] = refl

@@ -27,7 +27,7 @@ use Rattle.shogi_core.proofs.Replies.{no_check}
 use Rattle.shogi_core.proofs.SeenLaws.{lined_back}
 use Rattle.shogi_moves.specs.After.{after, cells_after, moved, dropped}
 use Rattle.shogi_moves.specs.Legal.{is_legal, is_pseudo_legal_board_move}
-use Rattle.shogi_moves.specs.LegalMoves.{legal_moves}
+use Rattle.shogi_moves.specs.LegalMoves.{legal_codes}
 use Rattle.shogi_moves.specs.Replies.{cell_steps, is_open_step, is_spare, Sees, IsReplies}
 use Rattle.shogi_moves.proofs.DropChecks as drops
 use Rattle.shogi_moves.proofs.EndLaws.{legal_board, still}
@@ -83,7 +83,7 @@ module _ (old new : Cells) (hands : HandCounts) (color : Color) (Left : ℕ → 
       → in_check old color ≡ false
       → ((a : ℕ) → is_piece_of color (piece_at old a) ≡ true → a ≢ to → piece_at new a ≡ piece_at old a)
       → ((t : ℕ) → is_piece_of color (piece_at old t) ≡ false → is_piece_of color (piece_at new t) ≡ false)
-      → (a : ℕ) → a < 81 → a ≢ to → is_spare old color a ≡ true → legal_moves (record { cells = new; hands = hands; side = color }) ≢ []
+      → (a : ℕ) → a < 81 → a ≢ to → is_spare old color a ≡ true → legal_codes (record { cells = new; hands = hands; side = color }) ≢ []
   unfolding is_spare reaches
   replied to len ht kept kings free far safe stays clear a ha other e =
       let q : Shogi = record { cells = new; hands = hands; side = color } in
@@ -114,7 +114,7 @@ crowned color None e = refl
 crowned color (Some piece) e = rw e refl
 
 pub replied_board : (p : Shogi) (from to : ℕ) (promote : Bool) (sight spare a : ℕ) → IsValid p → IsReplies p sight spare → from < 81 → to < 81 → is_piece_of p.side (piece_at p.cells from) ≡ true → has_bit sight from ≡ false → has_bit sight to ≡ false
-    → a < 81 → has_bit spare a ≡ true → a ≢ to → legal_moves (after p (Board from to promote)) ≢ []
+    → a < 81 → has_bit spare a ≡ true → a ≢ to → legal_codes (after p (Board from to promote)) ≢ []
 replied_board p from to promote sight spare a v r hf ht own out off ha some other =
     replied p.cells (cells_after p.cells p.side (Board from to promote)) (after p (Board from to promote)).hands (opponent_of p.side) (λ x. x ≡ from)
     (λ x e. elim (see x) [
@@ -156,7 +156,7 @@ replied_board p from to promote sight spare a v r hf ht own out off ha some othe
     see x = look p.cells p.side from to (moved promote (piece_at p.cells from)) v.cells_fit hf ht x
 
 pub replied_drop : (p : Shogi) (kind : Kind) (to sight spare a : ℕ) → IsValid p → IsReplies p sight spare → to < 81 → has_bit sight to ≡ false
-    → a < 81 → has_bit spare a ≡ true → a ≢ to → legal_moves (after p (Drop kind to)) ≢ []
+    → a < 81 → has_bit spare a ≡ true → a ≢ to → legal_codes (after p (Drop kind to)) ≢ []
 replied_drop p kind to sight spare a v r ht off ha some other =
     replied p.cells (cells_after p.cells p.side (Drop kind to)) (after p (Drop kind to)).hands (opponent_of p.side) (λ x. ⊥)
     (λ x e. elim (see x) [
@@ -278,13 +278,13 @@ legal_own p from to promote e =
     (and_parts _ _ two.0).0
 
 pub certain_board : (p : Shogi) (from to start end : ℕ) (promote : Bool) (sight spare : ℕ) → IsValid p → IsReplies p sight spare → from < 81 → to < 81 → start ≡ from → end ≡ to → is_legal p (Board from to promote) ≡ true → has_bit sight start ≡ false → has_bit sight end ≡ false
-    → bit_and spare (2 ^ 128 - 1 - 1 * 2 ^ end % 2 ^ 128) ≢ 0 → legal_moves (after p (Board from to promote)) ≢ []
+    → bit_and spare (2 ^ 128 - 1 - 1 * 2 ^ end % 2 ^ 128) ≢ 0 → legal_codes (after p (Board from to promote)) ≢ []
 certain_board p from to start end promote sight spare v r hf ht s e legal out off some =
     let a = another spare end r.fits (omega arith) some in
     replied_board p from to promote sight spare a.0 v r hf ht (legal_own p from to promote legal) (subst (λ (y : ℕ). has_bit sight y ≡ false) s out) (subst (λ (y : ℕ). has_bit sight y ≡ false) e off) a.1 a.2 (λ same. a.3 (same ∙ sym e))
 
 pub certain_drop : (p : Shogi) (kind : Kind) (to end sight spare : ℕ) → IsValid p → IsReplies p sight spare → to < 81 → end ≡ to → has_bit sight end ≡ false
-    → bit_and spare (2 ^ 128 - 1 - 1 * 2 ^ end % 2 ^ 128) ≢ 0 → legal_moves (after p (Drop kind to)) ≢ []
+    → bit_and spare (2 ^ 128 - 1 - 1 * 2 ^ end % 2 ^ 128) ≢ 0 → legal_codes (after p (Drop kind to)) ≢ []
 certain_drop p kind to end sight spare v r ht e off some =
     let a = another spare end r.fits (omega arith) some in
     replied_drop p kind to sight spare a.0 v r ht (subst (λ (y : ℕ). has_bit sight y ≡ false) e off) a.1 a.2 (λ same. a.3 (same ∙ sym e))

@@ -8,7 +8,7 @@ use Rattle.shogi_core.specs.declared.moves.Move.TheVariants.{Board, Drop}
 use Rattle.shogi_core.specs.Codes.{move_of}
 use Rattle.shogi_core.specs.Movement.{Cells, piece_at}
 use Rattle.shogi_core.specs.Pieces.{opponent_of, kind_of, role_of, promoted}
-use Rattle.shogi_core.specs.Position.{Shogi, HandCounts, held, place_of}
+use Rattle.shogi_core.specs.Position.{Shogi, HandCounts, count_in_hand, place_of}
 
 -- what stood on a square, as it stands after its move
 abbrev pub moved : Bool → Option Piece → Option Piece
@@ -22,7 +22,7 @@ dropped color kind = Some (record { color = color; role = role_of kind })
 -- one more of a kind in the side's hand; a king goes to no hand
 abbrev pub with_one_more : HandCounts → Color → Option Kind → HandCounts
 with_one_more hands color None = hands
-with_one_more hands color (Some kind) = slice_set hands (place_of color kind) (held hands color kind + 1)
+with_one_more hands color (Some kind) = slice_set hands (place_of color kind) (count_in_hand hands color kind + 1)
 
 -- a captured piece goes to the captor's hand as its unpromoted kind
 abbrev pub with_captured : HandCounts → Color → Option Piece → HandCounts
@@ -37,7 +37,7 @@ cells_after cells side (Drop kind to) = slice_set cells to (dropped side kind)
 -- the hands after a move of the side: a capture adds one, a drop takes one
 abbrev pub hands_after : HandCounts → Cells → Color → Move → HandCounts
 hands_after hands cells side (Board from to promote) = with_captured hands side (piece_at cells to)
-hands_after hands cells side (Drop kind to) = slice_set hands (place_of side kind) (held hands side kind - 1)
+hands_after hands cells side (Drop kind to) = slice_set hands (place_of side kind) (count_in_hand hands side kind - 1)
 
 -- the position after the move; the other side is to move
 abbrev pub after : Shogi → Move → Shogi

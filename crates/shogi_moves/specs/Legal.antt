@@ -13,7 +13,7 @@ use Rattle.shogi_core.specs.declared.moves.Move.TheVariants.{Board, Drop}
 use Rattle.shogi_core.specs.Below.{some_below}
 use Rattle.shogi_core.specs.Codes.{move_of}
 use Rattle.shogi_core.specs.Movement.{Cells, piece_at, reaches}
-use Rattle.shogi_core.specs.Position.{Shogi, HandCounts, held}
+use Rattle.shogi_core.specs.Position.{Shogi, HandCounts, count_in_hand}
 use Rattle.shogi_core.specs.Attack.{in_check}
 use Rattle.shogi_core.specs.Cell.{is_piece_of, is_immobile}
 use Rattle.shogi_core.specs.Validity.{pawns_on_file}
@@ -56,7 +56,7 @@ is_pseudo_legal_board_move cells side from to promote =
 -- a held piece goes to an empty square from which it can move again, and a pawn to a file without an unpromoted pawn of the side
 abbrev pub is_pseudo_legal_drop : Cells → HandCounts → Color → Kind → ℕ → Bool
 is_pseudo_legal_drop cells hands side kind to =
-    nat_lt 0 (held hands side kind)
+    nat_lt 0 (count_in_hand hands side kind)
     && is_none (piece_at cells to)
     && not (is_immobile to (dropped side kind))
     && not (is_pawn_kind kind && nat_lt 0 (pawns_on_file side (to / 9) cells))

@@ -11,8 +11,8 @@ unfoldable pub legal_from : Shogi → ℕ → List ℕ
 legal_from p first = filter (is_legal_code p) (codes_from first)
 
 -- the codes of the legal moves, in their order
-abbrev pub legal_moves : Shogi → List ℕ
-legal_moves p = legal_from p 0
+abbrev pub legal_codes : Shogi → List ℕ
+legal_codes p = legal_from p 0
 
 -- those above the code of a move, or all of them
 abbrev pub legal_above : Shogi → Option Move → List ℕ
@@ -22,4 +22,4 @@ legal_above p (Some m) = legal_from p (code_of m + 1)
 -- how many sequences of n legal moves there are
 unfoldable pub perft : Shogi → ℕ → ℕ
 perft p zero = 1
-perft p (suc n) = sum_by (λ code. perft (after_code p code) n) (legal_moves p)
+perft p (suc n) = sum_by (λ code. perft (after_code p code) n) (legal_codes p)

@@ -4,7 +4,7 @@ ghost use Rattle.std.specs.Prelude.{◌≡◌, ◌<◌, ◌≤◌, ◌-◌, ◌+
 ghost use Rattle.shogi_core.specs.declared.piece.Kind.{Kind};
 ghost use Rattle.shogi_core.specs.declared.moves.Move.TheVariants as moves;
 ghost use Rattle.shogi_core.specs.Codes.{code_of};
-ghost use Rattle.shogi_core.specs.Position.{held, place_of};
+ghost use Rattle.shogi_core.specs.Position.{count_in_hand, place_of};
 ghost use Rattle.shogi_core.specs.Validity.{IsValid};
 ghost use Rattle.shogi_moves.specs.After.{after, after_code, moved, dropped, cells_after, with_captured};
 ghost use Rattle.shogi_moves.specs.Legal.{is_legal, is_safe};
@@ -58,7 +58,7 @@ pub fn cells_after(board: &Board, side: Color, m: &Move) -> Board
 
 /// The hands with what the side captured, as its unpromoted kind.
 fn with_captured(hands: Hands, side: Color, cell: Option<Piece>) -> Hands
-    requires { (kind : Kind) → held hands side kind < 255 }
+    requires { (kind : Kind) → count_in_hand hands side kind < 255 }
     ensures { result ≡ with_captured hands side cell }
 {
     let Some(piece) = cell else { return hands };

@@ -2,7 +2,7 @@
 
 ghost use Rattle.std.specs.Prelude.{◌≡◌, ◌≤◌, ◌<◌, ◌^◌, ◌+◌, ◌-◌, ◌↔◌, IfSome, IsNone, length};
 ghost use Rattle.shogi_core.specs.declared.moves.TheConstants.{MOVE_CODES, FIRST_DROP};
-ghost use Rattle.shogi_moves.specs.LegalMoves.{legal_from, legal_moves, perft};
+ghost use Rattle.shogi_moves.specs.LegalMoves.{legal_from, legal_codes, perft};
 ghost use Rattle.shogi_moves.specs.Guards.{Guards};
 
 use crate::after::apply;
@@ -16,7 +16,7 @@ use shogi_core::{Kind, Position, Square};
 /// How many board moves are legal.
 fn count_board(p: &Position, guard: &Guard) -> u64
     requires guard { Guards p.now guard.now.checked guard.now.exposed }
-    ensures count { result + length (legal_from p.now FIRST_DROP) ≡ length (legal_moves p.now) }
+    ensures count { result + length (legal_from p.now FIRST_DROP) ≡ length (legal_codes p.now) }
     ensures range { result ≤ FIRST_DROP }
 {
     let own = p.own(p.side());

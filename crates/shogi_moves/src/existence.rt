@@ -3,7 +3,7 @@
 ghost use Rattle.std.specs.Prelude.{◌≡◌, ◌+◌, ◌≢◌, ◌↔◌, true, false, [], IsTrue};
 ghost use Rattle.shogi_core.specs.declared.moves.TheConstants.{FIRST_DROP};
 ghost use Rattle.shogi_moves.specs.Guards.{Guards};
-ghost use Rattle.shogi_moves.specs.LegalMoves.{legal_from, legal_moves};
+ghost use Rattle.shogi_moves.specs.LegalMoves.{legal_from, legal_codes};
 
 use crate::ends::{drop_ends, legal_ends};
 use crate::guard::{Guard, full_guard, rough_guard};
@@ -14,8 +14,8 @@ use shogi_core::{Kind, Position, Square};
 /// Whether a piece on the board has a legal move.
 fn has_board_move(p: &Position, guard: &Guard) -> bool
     requires { Guards p.now guard.now.checked guard.now.exposed }
-    ensures some { result ≡ true → legal_moves p.now ≢ [] }
-    ensures none { result ≡ false → legal_moves p.now ≡ legal_from p.now FIRST_DROP }
+    ensures some { result ≡ true → legal_codes p.now ≢ [] }
+    ensures none { result ≡ false → legal_codes p.now ≡ legal_from p.now FIRST_DROP }
 {
     let own = p.own(p.side());
     let mut square = next_of(own, 0);
@@ -32,7 +32,7 @@ fn has_board_move(p: &Position, guard: &Guard) -> bool
 /// Whether a held piece other than a pawn has a legal drop.
 fn has_piece_drop(p: &Position, guard: &Guard) -> bool
     requires { Guards p.now guard.now.checked guard.now.exposed }
-    ensures some { result ≡ true → legal_moves p.now ≢ [] }
+    ensures some { result ≡ true → legal_codes p.now ≢ [] }
     ensures none { result ≡ false → legal_from p.now (FIRST_DROP + 81) ≡ [] }
 {
     let mut kind = Kind::Pawn;
@@ -48,7 +48,7 @@ fn has_piece_drop(p: &Position, guard: &Guard) -> bool
 /// Whether a held pawn has a legal drop.
 fn has_pawn_drop(p: &Position, guard: &Guard) -> bool
     requires { Guards p.now guard.now.checked guard.now.exposed }
-    ensures some { result ≡ true → legal_moves p.now ≢ [] }
+    ensures some { result ≡ true → legal_codes p.now ≢ [] }
     ensures none { result ≡ false → legal_from p.now FIRST_DROP ≡ legal_from p.now (FIRST_DROP + 81) }
 {
     drop_ends(p, guard, Kind::Pawn) != 0
@@ -57,7 +57,7 @@ fn has_pawn_drop(p: &Position, guard: &Guard) -> bool
 /// Whether some move is legal. Drops are looked for first where no check is to be answered: their
 /// ends need no look at the pieces on the board.
 pub fn has_legal(p: &Position) -> bool
-    ensures { IsTrue result ↔ (legal_moves p.now ≢ []) }
+    ensures { IsTrue result ↔ (legal_codes p.now ≢ []) }
 {
     let rough = rough_guard(p);
     if !rough.checked && has_piece_drop(p, &rough) {

@@ -7,7 +7,7 @@ ghost use Rattle.shogi_moves.specs.Legal.{is_legal, is_safe, is_pseudo_legal, is
 ghost use Rattle.shogi_core.specs.declared.moves.Move.TheVariants as moves;
 ghost use Rattle.shogi_moves.specs.Candidates.{is_candidate};
 ghost use Rattle.shogi_moves.specs.Guards.{Guards};
-ghost use Rattle.shogi_moves.specs.LegalMoves.{legal_moves};
+ghost use Rattle.shogi_moves.specs.LegalMoves.{legal_codes};
 ghost use Rattle.shogi_moves.specs.Rising.{is_in};
 
 use crate::after::{apply, apply_safe, cells_after, dropped, moved};
@@ -174,7 +174,7 @@ pub fn is_legal_move(p: &Position, m: &Move) -> bool
 #[tactic(auto, using(crate::proofs::LegalLaws::legal_to_listed, crate::proofs::LegalLaws::listed_to_legal))]
 pub fn is_legal(p: &Position, m: Move) -> bool
     ensures value { result ≡ is_legal p.now m }
-    ensures listed { IsTrue result ↔ (is_in (code_of m) (legal_moves p.now) ≡ true) }
+    ensures listed { IsTrue result ↔ (is_in (code_of m) (legal_codes p.now) ≡ true) }
 {
     let legal = is_legal_move(p, &m);
     m.validity();

@@ -5,7 +5,7 @@ ghost use Rattle.shogi_core.specs.declared.moves.TheConstants.{MOVE_CODES};
 ghost use Rattle.shogi_core.specs.Codes.{code_of};
 ghost use Rattle.shogi_moves.specs.Guards.{Guards};
 ghost use Rattle.shogi_moves.specs.Legal.{is_legal};
-ghost use Rattle.shogi_moves.specs.LegalMoves.{legal_from, legal_above, legal_moves};
+ghost use Rattle.shogi_moves.specs.LegalMoves.{legal_from, legal_above, legal_codes};
 ghost use Rattle.shogi_moves.specs.Rising.{IsRising};
 
 use crate::guard::{Guard, guard_of};
@@ -47,7 +47,7 @@ pub fn least_from(p: &Position, guard: &Guard, first: u16) -> Option<Move>
 pub fn next_legal(p: &Position, after: Option<Move>) -> Option<Move>
     ensures next { MatchOption result (legal_above p.now after ≡ []) (λ m. legal_above p.now after ≡ code_of m ∷ legal_above p.now (Some m)) }
     ensures legal { IfSome result (λ m. is_legal p.now m ≡ true) }
-    ensures rising { IsRising (legal_moves p.now) }
+    ensures rising { IsRising (legal_codes p.now) }
 {
     match after {
         None => least_from(p, &guard_of(p), 0),

@@ -6,7 +6,7 @@ ghost use Rattle.shogi_core.specs.Bits.{has_bit};
 ghost use Rattle.shogi_core.specs.Pieces.{opponent_of};
 ghost use Rattle.shogi_moves.specs.After.{after};
 ghost use Rattle.shogi_moves.specs.Legal.{is_legal};
-ghost use Rattle.shogi_moves.specs.LegalMoves.{legal_moves};
+ghost use Rattle.shogi_moves.specs.LegalMoves.{legal_codes};
 ghost use Rattle.shogi_moves.specs.Replies.{is_open_step, is_spare, Sees, IsReplies};
 
 use crate::zones::dead_squares;
@@ -101,7 +101,7 @@ impl Replies {
     pub fn is_certain(&self, p: &Position, m: &Move) -> bool
         requires kept { IsReplies p.now self.now.sight self.now.spare }
         requires legal { is_legal p.now m.now ≡ true }
-        ensures { result ≡ true → legal_moves (after p.now m.now) ≢ [] }
+        ensures { result ≡ true → legal_codes (after p.now m.now) ≢ [] }
     {
         p.validity();
         match m {

@@ -5,7 +5,7 @@ ghost use Rattle.shogi_core.specs.declared.moves.TheConstants.{MOVE_CODES};
 ghost use Rattle.shogi_core.specs.Codes.{code_of};
 ghost use Rattle.shogi_moves.specs.Guards.{Guards};
 ghost use Rattle.shogi_moves.specs.Legal.{is_legal};
-ghost use Rattle.shogi_moves.specs.LegalMoves.{legal_from, legal_moves};
+ghost use Rattle.shogi_moves.specs.LegalMoves.{legal_from, legal_codes};
 
 use crate::guard::{Guard, guard_of};
 use crate::next::{code_above, least_from};
@@ -39,7 +39,7 @@ impl Walk {
     /// A walk over all legal moves of the position.
     pub fn new(p: &Position) -> Walk
         ensures position { result.position ≡ p.now }
-        ensures codes { result.codes ≡ legal_moves p.now }
+        ensures codes { result.codes ≡ legal_codes p.now }
     {
         Walk {
             position: *p,

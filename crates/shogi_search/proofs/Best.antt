@@ -8,7 +8,7 @@ use Rattle.shogi_core.specs.declared.moves.Move.{Move}
 use Rattle.shogi_core.specs.Codes.{move_of}
 use Rattle.shogi_core.specs.Position.{Shogi}
 use Rattle.shogi_moves.specs.Legal.{is_legal}
-use Rattle.shogi_moves.specs.LegalMoves.{legal_moves}
+use Rattle.shogi_moves.specs.LegalMoves.{legal_codes}
 use Rattle.shogi_moves.specs.Rising.{is_in}
 use Rattle.shogi_moves.proofs.LegalLaws.{legal_in, legal_code_below, is_legal_code_of}
 use Rattle.shogi_eval.specs.declared.eval.Eval.{Eval}
@@ -40,7 +40,7 @@ find_passes t n (m ∷ xs) i p e =
     (λ f q. elim (or_cases (n == m) (is_in n xs) i) [ inl s ↦ both_ways (t m) f (sym (ap t (eqb-true n m s)) ∙ p) | inr r ↦ find_passes t n xs r p q ])
     e
 
-found_at : (p : Shogi) (eval : Eval) (d m : ℕ) (ms : List ℕ) → legal_moves p ≡ m ∷ ms → best_code p eval (suc d) ≡ None → ⊥
+found_at : (p : Shogi) (eval : Eval) (d m : ℕ) (ms : List ℕ) → legal_codes p ≡ m ∷ ms → best_code p eval (suc d) ≡ None → ⊥
 found_at p eval d m ms e n =
     let r : Passes (λ k. int_eq (worth p eval d k) (greatest (worth p eval d) m ms)) (m ∷ ms) = greatest_reached (worth p eval d) m ms in
     let v : value p eval (suc d) ≡ greatest (worth p eval d) m ms = value-suc p eval d ∙ ap (greatest_of (lost_value (suc d)) (worth p eval d)) e in
@@ -56,9 +56,9 @@ find_in t b (m ∷ xs) h =
     h
 
 -- a best move is legal
-pub best_in : (p : Shogi) (eval : Eval) (d b : ℕ) → best_code p eval d ≡ Some b → is_in b (legal_moves p) ≡ true
+pub best_in : (p : Shogi) (eval : Eval) (d b : ℕ) → best_code p eval d ≡ Some b → is_in b (legal_codes p) ≡ true
 best_in p eval zero b h = let q : best_code p eval 0 ≡ None = best_code-leaf p eval in absurd (cc)
-best_in p eval (suc d) b h = find_in _ b (legal_moves p) (sym (best_code-suc p eval d) ∙ h)
+best_in p eval (suc d) b h = find_in _ b (legal_codes p) (sym (best_code-suc p eval d) ∙ h)
 
 code_none : (code : ℕ) → code < MOVE_CODES → move_of code ≡ None → ⊥
 code_none code h e = elim (cases_lt code FIRST_DROP) [
@@ -66,21 +66,21 @@ code_none code h e = elim (cases_lt code FIRST_DROP) [
   | inr high ↦ (let s : _ = drop_of code high h in let q : None ≡ Some _ = sym e ∙ s in cc)
 ]
 
-none_at : (p : Shogi) (eval : Eval) (d : ℕ) (o : Option ℕ) (ms : List ℕ) → best_code p eval (suc d) ≡ o → legal_moves p ≡ ms → best p eval (suc d) ≡ None → legal_moves p ≡ []
+none_at : (p : Shogi) (eval : Eval) (d : ℕ) (o : Option ℕ) (ms : List ℕ) → best_code p eval (suc d) ≡ o → legal_codes p ≡ ms → best p eval (suc d) ≡ None → legal_codes p ≡ []
 none_at p eval d o [] q e n = e
 none_at p eval d None (m ∷ ms) q e n = absurd (found_at p eval d m ms e q)
 none_at p eval d (Some b) (m ∷ ms) q e n = absurd (code_none b (legal_code_below p b (legal_in p 0 b (best_in p eval (suc d) b q))) (sym (best-code p eval (suc d) (Some b) q) ∙ n))
 
 -- without a best move the depth is 0 or no move is legal
-pub best_none : (p : Shogi) (eval : Eval) (d : ℕ) → best p eval d ≡ None → (d ≡ 0) ⊎ (legal_moves p ≡ [])
+pub best_none : (p : Shogi) (eval : Eval) (d : ℕ) → best p eval d ≡ None → (d ≡ 0) ⊎ (legal_codes p ≡ [])
 best_none p eval zero n = inl refl
-best_none p eval (suc d) n = inr (none_at p eval d (best_code p eval (suc d)) (legal_moves p) refl refl n)
+best_none p eval (suc d) n = inr (none_at p eval d (best_code p eval (suc d)) (legal_codes p) refl refl n)
 
-lost_best : (p : Shogi) (eval : Eval) (d : ℕ) → legal_moves p ≡ [] → best p eval d ≡ None
+lost_best : (p : Shogi) (eval : Eval) (d : ℕ) → legal_codes p ≡ [] → best p eval d ≡ None
 lost_best p eval zero e = best-leaf p eval
 lost_best p eval (suc d) e = best-code p eval (suc d) None (best_code-suc p eval d ∙ ap (find (λ k. int_eq (worth p eval d k) (value p eval (suc d)))) e)
 
-none_best : (p : Shogi) (eval : Eval) (d : ℕ) → (d ≡ 0) ⊎ (legal_moves p ≡ []) → best p eval d ≡ None
+none_best : (p : Shogi) (eval : Eval) (d : ℕ) → (d ≡ 0) ⊎ (legal_codes p ≡ []) → best p eval d ≡ None
 none_best p eval d h = elim h [ inl z ↦ ap (best p eval) z ∙ best-leaf p eval | inr e ↦ lost_best p eval d e ]
 
 none_is : (o : Option Move) → is_some o ≡ false → o ≡ None
@@ -88,7 +88,7 @@ none_is None e = refl
 none_is (Some m) e = absurd (cc)
 
 -- the same of what a search found
-pub none_iff : (p : Shogi) (eval : Eval) (d : ℕ) (o : Option Move) → o ≡ best p eval d → (IsNone o ↔ ((d ≡ 0) ⊎ (legal_moves p ≡ [])))
+pub none_iff : (p : Shogi) (eval : Eval) (d : ℕ) (o : Option Move) → o ≡ best p eval d → (IsNone o ↔ ((d ≡ 0) ⊎ (legal_codes p ≡ [])))
 none_iff p eval d o e = (
   λ n. best_none p eval d (sym e ∙ none_is o n),
   λ h. ap is_some (e ∙ none_best p eval d h),

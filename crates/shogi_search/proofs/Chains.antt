@@ -19,7 +19,7 @@ use Rattle.shogi_search.specs.Order.{todo}
 use Rattle.shogi_search.specs.Window.{threshold, code_at}
 use Rattle.shogi_search.specs.Stack.{IsAt, IsSame, IsChain, IsStack, WhereAsked, parents_of, left_of_frame, left_of_waiting}
 use Rattle.shogi_search.proofs.MinimaxLaws.{subtree_sizes-next}
-use Rattle.shogi_search.specs.declared.bounds.TheConstants.{GREATEST_DEPTH, INFINITY}
+use Rattle.shogi_search.specs.declared.bounds.TheConstants.{SEARCH_DEPTH_MAX, INFINITY}
 
 -- a node is the child that another one has asked for by this move
 pub record IsChild (f q : Frame) (m : Move) : Type 0 where
@@ -119,15 +119,15 @@ chain_height p eval d alpha beta (h ∷ fs) f c =
     omega arith
 
 -- a chain from the root makes a stack
-pub stack_at : (s : Stack) (p : Shogi) (eval : Eval) (d : ℕ) → s.root ≡ p → s.eval ≡ eval → s.depth ≡ d → d ≤ GREATEST_DEPTH → s.height ≤ GREATEST_DEPTH → IsChain p eval d (negated INFINITY) INFINITY (parents_of s) s.top → IsStack s
+pub stack_at : (s : Stack) (p : Shogi) (eval : Eval) (d : ℕ) → s.root ≡ p → s.eval ≡ eval → s.depth ≡ d → d ≤ SEARCH_DEPTH_MAX → s.height ≤ SEARCH_DEPTH_MAX → IsChain p eval d (negated INFINITY) INFINITY (parents_of s) s.top → IsStack s
 stack_at s p eval d e k h shallow fits c = record {
-  shallow = subst (λ (x : ℕ). x ≤ GREATEST_DEPTH) (sym h) shallow;
+  shallow = subst (λ (x : ℕ). x ≤ SEARCH_DEPTH_MAX) (sym h) shallow;
   height_fits = fits;
   chain = subst (λ (x : Shogi). IsChain x s.eval s.depth (negated INFINITY) INFINITY (parents_of s) s.top) (sym e) (subst (λ (x : Eval). IsChain p x s.depth (negated INFINITY) INFINITY (parents_of s) s.top) (sym k) (subst (λ (x : ℕ). IsChain p eval x (negated INFINITY) INFINITY (parents_of s) s.top) (sym h) c));
 }
 
 -- so there is room above a node that waits for a child
-pub room : (p : Shogi) (eval : Eval) (d : ℕ) (alpha beta : ℤ) (height : ℕ) (all : List Frame) (f : Frame) → d ≤ GREATEST_DEPTH → height ≤ GREATEST_DEPTH → length all ≡ 16 → 0 < f.depth → IsChain p eval d alpha beta (take height all) f → height < 16
+pub room : (p : Shogi) (eval : Eval) (d : ℕ) (alpha beta : ℤ) (height : ℕ) (all : List Frame) (f : Frame) → d ≤ SEARCH_DEPTH_MAX → height ≤ SEARCH_DEPTH_MAX → length all ≡ 16 → 0 < f.depth → IsChain p eval d alpha beta (take height all) f → height < 16
 room p eval d alpha beta height all f shallow fits full deep c =
     omega (arith, chain_height p eval d alpha beta (take height all) f c, length-take-le height all (omega arith))
 

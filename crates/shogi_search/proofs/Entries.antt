@@ -5,7 +5,7 @@ use Rattle.shogi_core.specs.declared.moves.Move.{Move}
 use Rattle.shogi_core.specs.Position.{Shogi}
 use Rattle.shogi_core.specs.Validity.{IsValid}
 use Rattle.shogi_moves.specs.After.{after_code}
-use Rattle.shogi_moves.specs.LegalMoves.{legal_moves}
+use Rattle.shogi_moves.specs.LegalMoves.{legal_codes}
 use Rattle.shogi_moves.specs.Rising.{is_in}
 use Rattle.shogi_eval.specs.declared.eval.Eval.{Eval}
 use Rattle.shogi_search.specs.declared.memo.Entry.{Entry}
@@ -14,15 +14,15 @@ use Rattle.shogi_search.specs.Minimax.{value, worth, IsTrueEntry, negated, lost_
 use Rattle.shogi_search.specs.Entries.{IsCutoff}
 use Rattle.shogi_search.proofs.MinimaxLaws.{worth_from, value_within, Within}
 use Rattle.shogi_search.proofs.Valid.{after_valid}
-use Rattle.shogi_search.specs.declared.bounds.TheConstants.{GREATEST_DEPTH, INFINITY}
+use Rattle.shogi_search.specs.declared.bounds.TheConstants.{SEARCH_DEPTH_MAX, INFINITY}
 
 -- what a child's value says of its move
 pub record IsWorth (p : Shogi) (eval : Eval) (d m : ℕ) (r : ℤ) : Type 0 where
   pub is : worth p eval d m ≡ pos 0 -ℤ r
-  pub least : lost_value GREATEST_DEPTH ≤ℤ r
-  pub most : r ≤ℤ negated (lost_value GREATEST_DEPTH)
+  pub least : lost_value SEARCH_DEPTH_MAX ≤ℤ r
+  pub most : r ≤ℤ negated (lost_value SEARCH_DEPTH_MAX)
 
-pub exact_says : (p : Shogi) (eval : Eval) (d m : ℕ) (e : Entry) (v : ℤ) (b : Option Move) → IsValid p → is_in m (legal_moves p) ≡ true → d ≤ GREATEST_DEPTH → e ≡ Exact v b → IsTrueEntry (after_code p m) eval (d - 1) e → IsWorth p eval (d - 1) m v
+pub exact_says : (p : Shogi) (eval : Eval) (d m : ℕ) (e : Entry) (v : ℤ) (b : Option Move) → IsValid p → is_in m (legal_codes p) ≡ true → d ≤ SEARCH_DEPTH_MAX → e ≡ Exact v b → IsTrueEntry (after_code p m) eval (d - 1) e → IsWorth p eval (d - 1) m v
 exact_says p eval d m e v b ok i h q t =
     let k : IsTrueEntry (after_code p m) eval (d - 1) (Exact v b) = subst (λ (x : Entry). IsTrueEntry (after_code p m) eval (d - 1) x) q t in
     let w : Within (d - 1) (value (after_code p m) eval (d - 1)) = value_within (d - 1) (after_code p m) eval (after_valid p m ok i) in
@@ -31,10 +31,10 @@ exact_says p eval d m e v b ok i h q t =
 
 pub record IsAtLeast (p : Shogi) (eval : Eval) (d m : ℕ) (beta v : ℤ) : Type 0 where
   pub worth_is : (pos 0 -ℤ v) ≤ℤ worth p eval d m
-  pub least : lost_value GREATEST_DEPTH ≤ℤ v
+  pub least : lost_value SEARCH_DEPTH_MAX ≤ℤ v
   pub cuts : v ≤ℤ (pos 0 -ℤ beta)
 
-pub at_most_says : (p : Shogi) (eval : Eval) (d m : ℕ) (e : Entry) (v beta below : ℤ) → IsValid p → is_in m (legal_moves p) ≡ true → d ≤ GREATEST_DEPTH → e ≡ AtMost v → IsTrueEntry (after_code p m) eval (d - 1) e → IsCutoff (pos 0 -ℤ beta) below e → IsAtLeast p eval (d - 1) m beta v
+pub at_most_says : (p : Shogi) (eval : Eval) (d m : ℕ) (e : Entry) (v beta below : ℤ) → IsValid p → is_in m (legal_codes p) ≡ true → d ≤ SEARCH_DEPTH_MAX → e ≡ AtMost v → IsTrueEntry (after_code p m) eval (d - 1) e → IsCutoff (pos 0 -ℤ beta) below e → IsAtLeast p eval (d - 1) m beta v
 at_most_says p eval d m e v beta below ok i h q t s =
     let k : value (after_code p m) eval (d - 1) ≤ℤ v = subst (λ (x : Entry). IsTrueEntry (after_code p m) eval (d - 1) x) q t in
     let l : v ≤ℤ (pos 0 -ℤ beta) = subst (λ (x : Entry). IsCutoff (pos 0 -ℤ beta) below x) q s in
@@ -51,7 +51,7 @@ pub same_window : (alpha alpha' beta beta' : ℤ) (e : Entry) → alpha ≡ alph
 same_window alpha alpha' beta beta' e p q s = subst (λ (x : ℤ). IsCutoff alpha' x e) q (subst (λ (x : ℤ). IsCutoff x beta e) p s)
 
 -- a true entry that is_cutoff the whole window is exact
-pub whole_window : (p : Shogi) (eval : Eval) (d : ℕ) (e : Entry) → IsValid p → d ≤ GREATEST_DEPTH → IsTrueEntry p eval d e → IsCutoff (negated INFINITY) INFINITY e → ((v : ℤ) (b : Option Move) → e ≡ Exact v b → ⊥) → ⊥
+pub whole_window : (p : Shogi) (eval : Eval) (d : ℕ) (e : Entry) → IsValid p → d ≤ SEARCH_DEPTH_MAX → IsTrueEntry p eval d e → IsCutoff (negated INFINITY) INFINITY e → ((v : ℤ) (b : Option Move) → e ≡ Exact v b → ⊥) → ⊥
 whole_window p eval d (Exact v b) ok h t s other = other v b refl
 whole_window p eval d (AtLeast v) ok h t s other = let w : Within d (value p eval d) = value_within d p eval ok in omega (arith, ints)
 whole_window p eval d (AtMost v) ok h t s other = let w : Within d (value p eval d) = value_within d p eval ok in omega (arith, ints)

@@ -8,9 +8,9 @@ use Rattle.std.proofs.lemmas.List.Sums.{sum_by-cons}
 use Rattle.shogi_core.specs.Position.{Shogi}
 use Rattle.shogi_core.specs.Validity.{IsValid}
 use Rattle.shogi_moves.specs.After.{after_code}
-use Rattle.shogi_moves.specs.LegalMoves.{legal_moves}
+use Rattle.shogi_moves.specs.LegalMoves.{legal_codes}
 use Rattle.shogi_moves.specs.Rising.{is_in}
-use Rattle.shogi_eval.specs.declared.points.TheConstants.{MOST_POINTS}
+use Rattle.shogi_eval.specs.declared.points.TheConstants.{POINTS_MAX}
 use Rattle.shogi_eval.specs.Material.{material_of}
 use Rattle.shogi_eval.proofs.Bounds.{material_bounds}
 use Rattle.shogi_eval.specs.declared.eval.Eval.{Eval}
@@ -20,7 +20,7 @@ use Rattle.shogi_search.proofs.Valid.{after_valid}
 use Rattle.shogi_search.specs.declared.bounds.TheConstants.{MATE}
 use Rattle.std.specs.Prelude.{◌+ℤ◌}
 
-pub value-leaf : (p : Shogi) (eval : Eval) → value p eval 0 ≡ leaf_value (lost_value 0) (material_of p eval) (legal_moves p)
+pub value-leaf : (p : Shogi) (eval : Eval) → value p eval 0 ≡ leaf_value (lost_value 0) (material_of p eval) (legal_codes p)
 unfolding value
 value-leaf p eval = refl
 
@@ -37,11 +37,11 @@ pub best-code : (p : Shogi) (eval : Eval) (d : ℕ) (code : Option ℕ) → best
 unfolding best
 best-code p eval d code e = ap move_at e
 
-pub value-suc : (p : Shogi) (eval : Eval) (d : ℕ) → value p eval (suc d) ≡ greatest_of (lost_value (suc d)) (worth p eval d) (legal_moves p)
+pub value-suc : (p : Shogi) (eval : Eval) (d : ℕ) → value p eval (suc d) ≡ greatest_of (lost_value (suc d)) (worth p eval d) (legal_codes p)
 unfolding value
 value-suc p eval d = refl
 
-pub best_code-suc : (p : Shogi) (eval : Eval) (d : ℕ) → best_code p eval (suc d) ≡ find (λ m. int_eq (worth p eval d m) (value p eval (suc d))) (legal_moves p)
+pub best_code-suc : (p : Shogi) (eval : Eval) (d : ℕ) → best_code p eval (suc d) ≡ find (λ m. int_eq (worth p eval d m) (value p eval (suc d))) (legal_codes p)
 unfolding best_code
 best_code-suc p eval d = refl
 
@@ -49,7 +49,7 @@ pub tree_size-leaf : (p : Shogi) → tree_size p 0 ≡ 1
 unfolding tree_size
 tree_size-leaf p = refl
 
-pub tree_size-suc : (p : Shogi) (d : ℕ) → tree_size p (suc d) ≡ 1 + sum_by (λ m. tree_size (after_code p m) d) (legal_moves p)
+pub tree_size-suc : (p : Shogi) (d : ℕ) → tree_size p (suc d) ≡ 1 + sum_by (λ m. tree_size (after_code p m) d) (legal_codes p)
 unfolding tree_size
 tree_size-suc p d = refl
 
@@ -58,7 +58,7 @@ pub record Within (d : ℕ) (v : ℤ) : Type 0 where
   pub least : lost_value d ≤ℤ v
   pub most : v ≤ℤ (MATE +ℤ pos d)
 
-leaf_within : (ms : List ℕ) (v : ℤ) → (pos 0 -ℤ pos MOST_POINTS) ≤ℤ v → v ≤ℤ pos MOST_POINTS → Within 0 (leaf_value (lost_value 0) v ms)
+leaf_within : (ms : List ℕ) (v : ℤ) → (pos 0 -ℤ pos POINTS_MAX) ≤ℤ v → v ≤ℤ pos POINTS_MAX → Within 0 (leaf_value (lost_value 0) v ms)
 leaf_within [] v l h = record { least = omega (arith, ints); most = omega (arith, ints) }
 leaf_within (m ∷ ms) v l h = record { least = omega (arith, ints); most = omega (arith, ints) }
 
@@ -75,35 +75,35 @@ negated_within : (d : ℕ) (v : ℤ) → Within d v → Within d (negated v)
 negated_within d v h = record { least = omega (arith, ints); most = omega (arith, ints) }
 
 pub value_within : (d : ℕ) (p : Shogi) (eval : Eval) → IsValid p → Within d (value p eval d)
-value_within zero p eval v = rw value-leaf (leaf_within (legal_moves p) (material_of p eval) (material_bounds p eval v).0 (material_bounds p eval v).1)
-value_within (suc d) p eval v = rw value-suc (greatest_within d (worth p eval d) (legal_moves p) (λ m i. negated_within d _ (value_within d (after_code p m) eval (after_valid p m v i))))
+value_within zero p eval v = rw value-leaf (leaf_within (legal_codes p) (material_of p eval) (material_bounds p eval v).0 (material_bounds p eval v).1)
+value_within (suc d) p eval v = rw value-suc (greatest_within d (worth p eval d) (legal_codes p) (λ m i. negated_within d _ (value_within d (after_code p m) eval (after_valid p m v i))))
 
 -- the same laws at a depth d of at least 1, whose children have depth d - 1
-pub value-above : (p : Shogi) (eval : Eval) (d : ℕ) → 0 < d → value p eval d ≡ greatest_of (lost_value d) (worth p eval (d - 1)) (legal_moves p)
+pub value-above : (p : Shogi) (eval : Eval) (d : ℕ) → 0 < d → value p eval d ≡ greatest_of (lost_value d) (worth p eval (d - 1)) (legal_codes p)
 value-above p eval zero h = absurd (omega arith)
 value-above p eval (suc d) h = let e : suc d - 1 ≡ d = omega arith in rw e (value-suc p eval d)
 
-pub best_code-above : (p : Shogi) (eval : Eval) (d : ℕ) → 0 < d → best_code p eval d ≡ find (λ m. int_eq (worth p eval (d - 1) m) (value p eval d)) (legal_moves p)
+pub best_code-above : (p : Shogi) (eval : Eval) (d : ℕ) → 0 < d → best_code p eval d ≡ find (λ m. int_eq (worth p eval (d - 1) m) (value p eval d)) (legal_codes p)
 best_code-above p eval zero h = absurd (omega arith)
 best_code-above p eval (suc d) h = let e : suc d - 1 ≡ d = omega arith in rw e (best_code-suc p eval d)
 
-pub tree_size-above : (p : Shogi) (d : ℕ) → 0 < d → tree_size p d ≡ 1 + subtree_sizes p (d - 1) (legal_moves p)
+pub tree_size-above : (p : Shogi) (d : ℕ) → 0 < d → tree_size p d ≡ 1 + subtree_sizes p (d - 1) (legal_codes p)
 tree_size-above p zero h = absurd (omega arith)
 tree_size-above p (suc d) h = let e : suc d - 1 ≡ d = omega arith in rw e (tree_size-suc p d)
 
-leaf_at : (p : Shogi) (eval : Eval) (ms : List ℕ) → legal_moves p ≡ ms → (ms ≡ [] → ⊥) → value p eval 0 ≡ material_of p eval
+leaf_at : (p : Shogi) (eval : Eval) (ms : List ℕ) → legal_codes p ≡ ms → (ms ≡ [] → ⊥) → value p eval 0 ≡ material_of p eval
 leaf_at p eval [] e ne = absurd (ne refl)
 leaf_at p eval (m ∷ ms) e ne = value-leaf p eval ∙ ap (leaf_value (lost_value 0) (material_of p eval)) e
 
-pub leaf_some : (p : Shogi) (eval : Eval) → (legal_moves p ≡ [] → ⊥) → value p eval 0 ≡ material_of p eval
-leaf_some p eval ne = leaf_at p eval (legal_moves p) refl ne
+pub leaf_some : (p : Shogi) (eval : Eval) → (legal_codes p ≡ [] → ⊥) → value p eval 0 ≡ material_of p eval
+leaf_some p eval ne = leaf_at p eval (legal_codes p) refl ne
 
-leaf_empty : (p : Shogi) (eval : Eval) (ms : List ℕ) → legal_moves p ≡ ms → ((ms ≡ [] → ⊥) → ⊥) → value p eval 0 ≡ lost_value 0
+leaf_empty : (p : Shogi) (eval : Eval) (ms : List ℕ) → legal_codes p ≡ ms → ((ms ≡ [] → ⊥) → ⊥) → value p eval 0 ≡ lost_value 0
 leaf_empty p eval [] e nn = value-leaf p eval ∙ ap (leaf_value (lost_value 0) (material_of p eval)) e
 leaf_empty p eval (m ∷ ms) e nn = absurd (nn (λ z. cc))
 
-pub leaf_none : (p : Shogi) (eval : Eval) → ((legal_moves p ≡ [] → ⊥) → ⊥) → value p eval 0 ≡ lost_value 0
-leaf_none p eval nn = leaf_empty p eval (legal_moves p) refl nn
+pub leaf_none : (p : Shogi) (eval : Eval) → ((legal_codes p ≡ [] → ⊥) → ⊥) → value p eval 0 ≡ lost_value 0
+leaf_none p eval nn = leaf_empty p eval (legal_codes p) refl nn
 
 pub ruleset leaves = (leaf_some, leaf_none)
 

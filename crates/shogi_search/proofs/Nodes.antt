@@ -9,7 +9,7 @@ use Rattle.shogi_core.specs.Codes.{code_of}
 use Rattle.shogi_core.specs.Position.{Shogi}
 use Rattle.shogi_core.specs.Validity.{IsValid}
 use Rattle.shogi_moves.specs.After.{after_code}
-use Rattle.shogi_moves.specs.LegalMoves.{legal_moves}
+use Rattle.shogi_moves.specs.LegalMoves.{legal_codes}
 use Rattle.shogi_moves.specs.Rising.{is_in}
 use Rattle.shogi_eval.specs.declared.eval.Eval.{Eval}
 use Rattle.shogi_search.specs.declared.move_picker.MovePicker.{MovePicker}
@@ -25,13 +25,13 @@ use Rattle.shogi_search.proofs.OrderLaws.{IsWhole, whole, whole_covered}
 use Rattle.shogi_search.proofs.Cover.{IsCovered-start}
 use Rattle.shogi_search.proofs.Valid.{after_valid}
 use Rattle.shogi_search.proofs.Greatest.{greatest_of-above}
-use Rattle.shogi_search.specs.declared.bounds.TheConstants.{GREATEST_DEPTH, INFINITY}
+use Rattle.shogi_search.specs.declared.bounds.TheConstants.{SEARCH_DEPTH_MAX, INFINITY}
 
 -- a node with a move that waits is no leaf
 pub record IsWaiting (f : ℕ → ℤ) (p : Shogi) (d m : ℕ) (rest : List ℕ) (alpha best_value : ℤ) (b : Option ℕ) : Type 0 where
   pub deep : 0 < d
-  pub is_listed : is_in m (legal_moves p) ≡ true
-  pub covered : IsCovered f (legal_moves p) (m ∷ rest) alpha best_value b
+  pub is_listed : is_in m (legal_codes p) ≡ true
+  pub covered : IsCovered f (legal_codes p) (m ∷ rest) alpha best_value b
 
 waits_at : (f : ℕ → ℤ) (p : Shogi) (d m : ℕ) (rest : List ℕ) (alpha best_value : ℤ) (b : Option ℕ) → IsCovered f (moves_at p d) (m ∷ rest) alpha best_value b → IsWaiting f p d m rest alpha best_value b
 waits_at f p zero m rest alpha best_value b c = let i : is_in m [] ≡ true = c.among m (or_left (m == m) (is_in m rest) (eq-eqb m m refl)) in absurd (cc)
@@ -59,11 +59,11 @@ gone p eval d alpha beta best_value b ms (Leaf k v) o n c = absurd o
 gone p eval d alpha beta best_value b ms (Cut v) o n c = absurd (n v refl)
 
 -- and back, once the move has its answer
-pub at_depth : (f : ℕ → ℤ) (p : Shogi) (d : ℕ) (ms : List ℕ) (alpha best_value : ℤ) (b : Option ℕ) → 0 < d → IsCovered f (legal_moves p) ms alpha best_value b → IsCovered f (moves_at p d) ms alpha best_value b
+pub at_depth : (f : ℕ → ℤ) (p : Shogi) (d : ℕ) (ms : List ℕ) (alpha best_value : ℤ) (b : Option ℕ) → 0 < d → IsCovered f (legal_codes p) ms alpha best_value b → IsCovered f (moves_at p d) ms alpha best_value b
 at_depth f p zero ms alpha best_value b h c = absurd (omega arith)
 at_depth f p (suc d) ms alpha best_value b h c = c
 
-pub gone_through : (f : ℕ → ℤ) (p : Shogi) (d : ℕ) (ms : List ℕ) (alpha best_value : ℤ) (b : Option ℕ) → 0 < d → IsCovered f (moves_at p d) ms alpha best_value b → IsCovered f (legal_moves p) ms alpha best_value b
+pub gone_through : (f : ℕ → ℤ) (p : Shogi) (d : ℕ) (ms : List ℕ) (alpha best_value : ℤ) (b : Option ℕ) → 0 < d → IsCovered f (moves_at p d) ms alpha best_value b → IsCovered f (legal_codes p) ms alpha best_value b
 gone_through f p zero ms alpha best_value b h c = absurd (omega arith)
 gone_through f p (suc d) ms alpha best_value b h c = c
 
@@ -75,7 +75,7 @@ pub record IsNew (f : ℕ → ℤ) (p : Shogi) (d : ℕ) (alpha : ℤ) (picker :
 new_leaf : (f : ℕ → ℤ) (p : Shogi) (alpha : ℤ) → IsNew f p 0 alpha Done
 new_leaf f p alpha = record { covered = IsCovered-start f [] alpha; counted = omega (arith, tree_size-leaf p); kept = tt }
 
-pub new_node : (f : ℕ → ℤ) (p : Shogi) (d : ℕ) (alpha : ℤ) (hash_move : Option Move) (picker : MovePicker) → (d ≡ 0 → picker ≡ Done) → (0 < d → MatchOption hash_move (picker ≡ Start None) (λ k. picker ≡ HashMove k)) → ForSome hash_move (λ k. is_in (code_of k) (legal_moves p) ≡ true) → IsNew f p d alpha picker
+pub new_node : (f : ℕ → ℤ) (p : Shogi) (d : ℕ) (alpha : ℤ) (hash_move : Option Move) (picker : MovePicker) → (d ≡ 0 → picker ≡ Done) → (0 < d → MatchOption hash_move (picker ≡ Start None) (λ k. picker ≡ HashMove k)) → ForSome hash_move (λ k. is_in (code_of k) (legal_codes p) ≡ true) → IsNew f p d alpha picker
 new_node f p zero alpha hash_move picker a b l = subst (λ (c : MovePicker). IsNew f p 0 alpha c) (sym (a refl)) (new_leaf f p alpha)
 new_node f p (suc d) alpha hash_move picker a b l =
     let deep : 0 < suc d = omega arith in
@@ -91,10 +91,10 @@ new_node f p (suc d) alpha hash_move picker a b l =
     kept_at (Some k) picker e = subst (IsKept p) (sym e) tt
 
 -- a move that is worth so much
-pub cut : (p : Shogi) (eval : Eval) (d m : ℕ) (v : ℤ) → 0 < d → is_in m (legal_moves p) ≡ true → v ≤ℤ worth p eval (d - 1) m → v ≤ℤ value p eval d
+pub cut : (p : Shogi) (eval : Eval) (d m : ℕ) (v : ℤ) → 0 < d → is_in m (legal_codes p) ≡ true → v ≤ℤ worth p eval (d - 1) m → v ≤ℤ value p eval d
 cut p eval d m v h i l =
-    let e : value p eval d ≡ greatest_of (lost_value d) (worth p eval (d - 1)) (legal_moves p) = value-above p eval d h in
-    let g : worth p eval (d - 1) m ≤ℤ greatest_of (lost_value d) (worth p eval (d - 1)) (legal_moves p) = greatest_of-above (lost_value d) (worth p eval (d - 1)) (legal_moves p) m i in
+    let e : value p eval d ≡ greatest_of (lost_value d) (worth p eval (d - 1)) (legal_codes p) = value-above p eval d h in
+    let g : worth p eval (d - 1) m ≤ℤ greatest_of (lost_value d) (worth p eval (d - 1)) (legal_codes p) = greatest_of-above (lost_value d) (worth p eval (d - 1)) (legal_codes p) m i in
     omega (arith, ints)
 
 -- a value that cuts a node off, and the same value as it is kept
@@ -105,7 +105,7 @@ threshold_falls_one : (best_value : ℤ) (b m : ℕ) → negated INFINITY <ℤ b
 threshold_falls_one best_value b m t = grind (arith, ints, nat_tests)
 
 -- the threshold of a node is no less than what no position reaches
-pub threshold_least : (p : Shogi) (eval : Eval) (d : ℕ) (alpha best_value : ℤ) (rest : List ℕ) (b : Option ℕ) (m : ℕ) → IsValid p → d ≤ GREATEST_DEPTH → negated INFINITY ≤ℤ alpha → IsCovered (worth p eval (d - 1)) (legal_moves p) rest alpha best_value b → (negated INFINITY ≤ℤ best_value) × (negated INFINITY ≤ℤ threshold best_value b m)
+pub threshold_least : (p : Shogi) (eval : Eval) (d : ℕ) (alpha best_value : ℤ) (rest : List ℕ) (b : Option ℕ) (m : ℕ) → IsValid p → d ≤ SEARCH_DEPTH_MAX → negated INFINITY ≤ℤ alpha → IsCovered (worth p eval (d - 1)) (legal_codes p) rest alpha best_value b → (negated INFINITY ≤ℤ best_value) × (negated INFINITY ≤ℤ threshold best_value b m)
 threshold_least p eval d alpha best_value rest None m ok h l c = let e : best_value ≡ alpha = c.reached in (omega (arith, ints), omega (arith, ints))
 threshold_least p eval d alpha best_value rest (Some b) m ok h l c =
     let w : Within (d - 1) (value (after_code p b) eval (d - 1)) = value_within (d - 1) (after_code p b) eval (after_valid p b ok c.reached.0) in

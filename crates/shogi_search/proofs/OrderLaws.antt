@@ -11,7 +11,7 @@ use Rattle.shogi_core.specs.Position.{Shogi}
 use Rattle.shogi_core.proofs.CodesBack.{code_of-board, code_of-drop}
 use Rattle.shogi_moves.specs.After.{after_code}
 use Rattle.shogi_moves.specs.Captures.{is_capture}
-use Rattle.shogi_moves.specs.LegalMoves.{legal_moves}
+use Rattle.shogi_moves.specs.LegalMoves.{legal_codes}
 use Rattle.shogi_moves.specs.Rising.{is_in}
 use Rattle.shogi_moves.proofs.LegalLaws.{legal_in, legal_code_below}
 use Rattle.shogi_eval.specs.declared.eval.Eval.{Eval}
@@ -37,25 +37,25 @@ not_itself : (p : Shogi) (f : Move) (c : Bool) → picks p (Some f) c (code_of f
 not_itself p f c = and_right _ _ (not_from_true _ (eq-eqb (code_of f) (code_of f) refl))
 
 -- a move that is not the first one is a capture or one of the rest
-in_parts : (p : Shogi) (hash_move : Option Move) (n : ℕ) → is_in n (legal_moves p) ≡ true → is_hash_move hash_move n ≡ false → is_in n (filter (picks p hash_move true) (legal_moves p) ++ filter (picks p hash_move false) (legal_moves p)) ≡ true
+in_parts : (p : Shogi) (hash_move : Option Move) (n : ℕ) → is_in n (legal_codes p) ≡ true → is_hash_move hash_move n ≡ false → is_in n (filter (picks p hash_move true) (legal_codes p) ++ filter (picks p hash_move false) (legal_codes p)) ≡ true
 in_parts p hash_move n i o =
     let ne : not (is_hash_move hash_move n) ≡ true = not_from_false _ o in
     elim (cases_Bool (is_capture p n)) [
-      | inl c ↦ is_in-append_left n _ _ (is_in-filter (picks p hash_move true) n (legal_moves p) (and_from _ _ c ne) i)
-      | inr c ↦ is_in-append_right n _ _ (is_in-filter (picks p hash_move false) n (legal_moves p) (and_from _ _ (not_from_false _ c) ne) i)
+      | inl c ↦ is_in-append_left n _ _ (is_in-filter (picks p hash_move true) n (legal_codes p) (and_from _ _ c ne) i)
+      | inr c ↦ is_in-append_right n _ _ (is_in-filter (picks p hash_move false) n (legal_codes p) (and_from _ _ (not_from_false _ c) ne) i)
     ]
 
-of_parts : (p : Shogi) (hash_move : Option Move) (n : ℕ) → is_in n (filter (picks p hash_move true) (legal_moves p) ++ filter (picks p hash_move false) (legal_moves p)) ≡ true → is_in n (legal_moves p) ≡ true
+of_parts : (p : Shogi) (hash_move : Option Move) (n : ℕ) → is_in n (filter (picks p hash_move true) (legal_codes p) ++ filter (picks p hash_move false) (legal_codes p)) ≡ true → is_in n (legal_codes p) ≡ true
 of_parts p hash_move n h =
-    is_in-append_cases n (filter (picks p hash_move true) (legal_moves p)) (filter (picks p hash_move false) (legal_moves p)) (is_in n (legal_moves p) ≡ true)
-    (λ i. is_in-filter_from (picks p hash_move true) n (legal_moves p) i)
-    (λ i. is_in-filter_from (picks p hash_move false) n (legal_moves p) i)
+    is_in-append_cases n (filter (picks p hash_move true) (legal_codes p)) (filter (picks p hash_move false) (legal_codes p)) (is_in n (legal_codes p) ≡ true)
+    (λ i. is_in-filter_from (picks p hash_move true) n (legal_codes p) i)
+    (λ i. is_in-filter_from (picks p hash_move false) n (legal_codes p) i)
     h
 
 pub record IsWhole (p : Shogi) (d : ℕ) (picker : MovePicker) : Type 0 where
-  pub among : (n : ℕ) → is_in n (todo p picker) ≡ true → is_in n (legal_moves p) ≡ true
-  pub each : (n : ℕ) → is_in n (legal_moves p) ≡ true → is_in n (todo p picker) ≡ true
-  pub counted : subtree_sizes p d (todo p picker) ≤ subtree_sizes p d (legal_moves p)
+  pub among : (n : ℕ) → is_in n (todo p picker) ≡ true → is_in n (legal_codes p) ≡ true
+  pub each : (n : ℕ) → is_in n (legal_codes p) ≡ true → is_in n (todo p picker) ≡ true
+  pub counted : subtree_sizes p d (todo p picker) ≤ subtree_sizes p d (legal_codes p)
 
 whole_captures : (p : Shogi) (d : ℕ) → IsWhole p d (Start None)
 whole_captures p d = record {
@@ -63,27 +63,27 @@ whole_captures p d = record {
   each = λ n i. in_parts p None n i refl;
   counted =
       let g : ℕ → ℕ = λ (m : ℕ). tree_size (after_code p m) d in
-      omega (arith, two_parts g (picks p None true) (picks p None false) (apart p None) (legal_moves p), sum_by-append g (filter (picks p None true) (legal_moves p)) (filter (picks p None false) (legal_moves p)));
+      omega (arith, two_parts g (picks p None true) (picks p None false) (apart p None) (legal_codes p), sum_by-append g (filter (picks p None true) (legal_codes p)) (filter (picks p None false) (legal_codes p)));
 }
 
-whole_first : (p : Shogi) (d : ℕ) (f : Move) → is_in (code_of f) (legal_moves p) ≡ true → IsWhole p d (HashMove f)
+whole_first : (p : Shogi) (d : ℕ) (f : Move) → is_in (code_of f) (legal_codes p) ≡ true → IsWhole p d (HashMove f)
 whole_first p d f i =
-    let A : List ℕ = filter (picks p (Some f) true) (legal_moves p) in
-    let B : List ℕ = filter (picks p (Some f) false) (legal_moves p) in
+    let A : List ℕ = filter (picks p (Some f) true) (legal_codes p) in
+    let B : List ℕ = filter (picks p (Some f) false) (legal_codes p) in
     record {
-      among = λ n h. elim (in_cases n (code_of f) (A ++ B) h) [ inl e ↦ subst (λ (k : ℕ). is_in k (legal_moves p) ≡ true) (sym (eqb-true n (code_of f) e)) i | inr e ↦ of_parts p (Some f) n e ];
+      among = λ n h. elim (in_cases n (code_of f) (A ++ B) h) [ inl e ↦ subst (λ (k : ℕ). is_in k (legal_codes p) ≡ true) (sym (eqb-true n (code_of f) e)) i | inr e ↦ of_parts p (Some f) n e ];
       each = λ n h. elim (cases_eq n (code_of f)) [ inl e ↦ in_head n (code_of f) (A ++ B) (eq-eqb n (code_of f) e) | inr ne ↦ in_tail n (code_of f) (A ++ B) (in_parts p (Some f) n h (ne_eqb n (code_of f) ne)) ];
       counted =
           let g : ℕ → ℕ = λ (m : ℕ). tree_size (after_code p m) d in
-          omega (arith, three_parts g (picks p (Some f) true) (picks p (Some f) false) (code_of f) (apart p (Some f)) (not_itself p f true) (not_itself p f false) (legal_moves p) i, sum_by-cons g (code_of f) (A ++ B), sum_by-append g A B);
+          omega (arith, three_parts g (picks p (Some f) true) (picks p (Some f) false) (code_of f) (apart p (Some f)) (not_itself p f true) (not_itself p f false) (legal_codes p) i, sum_by-cons g (code_of f) (A ++ B), sum_by-append g A B);
     }
 
-pub whole : (p : Shogi) (d : ℕ) (hash_move : Option Move) (picker : MovePicker) → ForSome hash_move (λ f. is_in (code_of f) (legal_moves p) ≡ true) → MatchOption hash_move (picker ≡ Start None) (λ f. picker ≡ HashMove f) → IsWhole p d picker
+pub whole : (p : Shogi) (d : ℕ) (hash_move : Option Move) (picker : MovePicker) → ForSome hash_move (λ f. is_in (code_of f) (legal_codes p) ≡ true) → MatchOption hash_move (picker ≡ Start None) (λ f. picker ≡ HashMove f) → IsWhole p d picker
 whole p d None picker l e = subst (λ (c : MovePicker). IsWhole p d c) (sym e) (whole_captures p d)
 whole p d (Some f) picker l e = subst (λ (c : MovePicker). IsWhole p d c) (sym e) (whole_first p d f (l f refl))
 
 -- at the start of the visits no move is answered
-pub whole_covered : (p : Shogi) (d : ℕ) (picker : MovePicker) (f : ℕ → ℤ) (alpha : ℤ) → IsWhole p d picker → IsCovered f (legal_moves p) (todo p picker) alpha alpha None
+pub whole_covered : (p : Shogi) (d : ℕ) (picker : MovePicker) (f : ℕ → ℤ) (alpha : ℤ) → IsWhole p d picker → IsCovered f (legal_codes p) (todo p picker) alpha alpha None
 whole_covered p d picker f alpha w = record {
   among = w.among;
   below = λ n i o. (let t : is_in n (todo p picker) ≡ true = w.each n i in absurd (cc));
@@ -96,12 +96,12 @@ code_back code m h e = elim (cases_lt code FIRST_DROP) [
   | inr beta ↦ (ap code_of (same_Some m _ (sym e ∙ drop_of code beta h)) ∙ code_of-drop code beta h)
 ]
 
-listed_at : (p : Shogi) (eval : Eval) (d : ℕ) (o : Option ℕ) (m : Move) → best_code p eval d ≡ o → move_at o ≡ Some m → is_in (code_of m) (legal_moves p) ≡ true
+listed_at : (p : Shogi) (eval : Eval) (d : ℕ) (o : Option ℕ) (m : Move) → best_code p eval d ≡ o → move_at o ≡ Some m → is_in (code_of m) (legal_codes p) ≡ true
 listed_at p eval d None m q e = absurd (cc)
 listed_at p eval d (Some b) m q e =
-    let i : is_in b (legal_moves p) ≡ true = best_in p eval d b q in
-    subst (λ (k : ℕ). is_in k (legal_moves p) ≡ true) (sym (code_back b m (legal_code_below p b (legal_in p 0 b i)) e)) i
+    let i : is_in b (legal_codes p) ≡ true = best_in p eval d b q in
+    subst (λ (k : ℕ). is_in k (legal_codes p) ≡ true) (sym (code_back b m (legal_code_below p b (legal_in p 0 b i)) e)) i
 
 -- the best move is one of the legal moves
-pub best_listed : (p : Shogi) (eval : Eval) (d : ℕ) (m : Move) → best p eval d ≡ Some m → is_in (code_of m) (legal_moves p) ≡ true
+pub best_listed : (p : Shogi) (eval : Eval) (d : ℕ) (m : Move) → best p eval d ≡ Some m → is_in (code_of m) (legal_codes p) ≡ true
 best_listed p eval d m e = listed_at p eval d (best_code p eval d) m refl (sym (best-code p eval d (best_code p eval d) refl) ∙ e)

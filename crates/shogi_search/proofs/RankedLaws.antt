@@ -9,7 +9,7 @@ use Rattle.std.proofs.lemmas.List.{take-map, take-take, take_all, take_more, dro
 use Rattle.shogi_core.specs.declared.moves.Move.{Move}
 use Rattle.shogi_core.specs.Codes.{code_of}
 use Rattle.shogi_core.specs.Position.{Shogi}
-use Rattle.shogi_moves.specs.LegalMoves.{legal_moves}
+use Rattle.shogi_moves.specs.LegalMoves.{legal_codes}
 use Rattle.shogi_moves.specs.Rising.{is_in, IsRising}
 use Rattle.shogi_moves.proofs.LegalLaws.{legal_rising}
 use Rattle.shogi_eval.specs.declared.eval.Eval.{Eval}
@@ -360,5 +360,5 @@ first_at none f (m ∷ ms) (h ∷ rest) r e =
 -- the first of the legal moves, ranked, is the best one
 pub best_ranked : (p : Shogi) (e : Eval) (d : ℕ) → 0 < d → slice_get (ranked_moves p e d) 0 ≡ best_code p e d
 best_ranked p e d h =
-    first_at (lost_value d) (worth p e (d - 1)) (legal_moves p) (ranked_moves p e d) (legal_rising p 0) refl
-    ∙ ap (λ (v : ℤ). find (λ m. int_eq (worth p e (d - 1) m) v) (legal_moves p)) (sym (value-above p e d h)) ∙ sym (best_code-above p e d h)
+    first_at (lost_value d) (worth p e (d - 1)) (legal_codes p) (ranked_moves p e d) (legal_rising p 0) refl
+    ∙ ap (λ (v : ℤ). find (λ m. int_eq (worth p e (d - 1) m) v) (legal_codes p)) (sym (value-above p e d h)) ∙ sym (best_code-above p e d h)

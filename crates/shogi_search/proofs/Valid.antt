@@ -16,7 +16,7 @@ use Rattle.shogi_core.specs.Movement.{piece_at}
 use Rattle.shogi_core.specs.Pieces.{kind_of}
 use Rattle.shogi_moves.specs.After.{after, after_code, with_captured, with_one_more}
 use Rattle.shogi_moves.specs.Legal.{is_legal}
-use Rattle.shogi_moves.specs.LegalMoves.{legal_moves}
+use Rattle.shogi_moves.specs.LegalMoves.{legal_codes}
 use Rattle.shogi_moves.specs.Rising.{is_in}
 use Rattle.shogi_moves.proofs.Keeps.{no_fault_after_board, no_fault_after_drop, is_safe_from_legal}
 use Rattle.shogi_moves.proofs.LegalLaws.{legal_in, legal_code_below, is_legal_code_of, after_code_at}
@@ -49,10 +49,10 @@ drop_valid p kind to v t l = record {
   no_fault = no_fault_after_drop p kind to (is_safe_from_legal p (Drop kind to) l) v t;
 }
 
-at_move : (p : Shogi) (code : ℕ) (m : Move) → is_in code (legal_moves p) ≡ true → move_of code ≡ Some m → (is_legal p m ≡ true → IsValid (after p m)) → IsValid (after_code p code)
+at_move : (p : Shogi) (code : ℕ) (m : Move) → is_in code (legal_codes p) ≡ true → move_of code ≡ Some m → (is_legal p m ≡ true → IsValid (after p m)) → IsValid (after_code p code)
 at_move p code m i e h = subst IsValid (sym (after_code_at p code m e)) (h (sym (is_legal_code_of p code m e) ∙ legal_in p 0 code i))
 
-pub after_valid : (p : Shogi) (code : ℕ) → IsValid p → is_in code (legal_moves p) ≡ true → IsValid (after_code p code)
+pub after_valid : (p : Shogi) (code : ℕ) → IsValid p → is_in code (legal_codes p) ≡ true → IsValid (after_code p code)
 after_valid p code v i =
     let below : code < MOVE_CODES = legal_code_below p code (legal_in p 0 code i) in
     elim (cases_lt code FIRST_DROP) [

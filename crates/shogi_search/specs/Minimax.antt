@@ -6,7 +6,7 @@ use Rattle.shogi_core.specs.declared.moves.Move.{Move}
 use Rattle.shogi_core.specs.Codes.{move_of}
 use Rattle.shogi_core.specs.Position.{Shogi}
 use Rattle.shogi_moves.specs.After.{after, after_code}
-use Rattle.shogi_moves.specs.LegalMoves.{legal_moves}
+use Rattle.shogi_moves.specs.LegalMoves.{legal_codes}
 use Rattle.shogi_eval.specs.declared.eval.Eval.{Eval}
 use Rattle.shogi_eval.specs.Material.{material_of}
 use Rattle.shogi_search.specs.declared.memo.Entry.{Entry}
@@ -38,8 +38,8 @@ leaf_value otherwise some (m ∷ ms) = some
 
 -- the value of a position at a depth, for the side to move
 unfoldable pub value : Shogi → Eval → ℕ → ℤ
-value p e zero = leaf_value (lost_value 0) (material_of p e) (legal_moves p)
-value p e (suc d) = greatest_of (lost_value (suc d)) (λ m. negated (value (after_code p m) e d)) (legal_moves p)
+value p e zero = leaf_value (lost_value 0) (material_of p e) (legal_codes p)
+value p e (suc d) = greatest_of (lost_value (suc d)) (λ m. negated (value (after_code p m) e d)) (legal_codes p)
 
 -- what the move of a code is worth to its mover, with d plies after it
 abbrev pub worth : Shogi → Eval → ℕ → ℕ → ℤ
@@ -48,7 +48,7 @@ worth p e d m = negated (value (after_code p m) e d)
 -- the least code whose move is worth the position's value
 unfoldable pub best_code : Shogi → Eval → ℕ → Option ℕ
 best_code p e zero = None
-best_code p e (suc d) = find (λ m. int_eq (worth p e d m) (value p e (suc d))) (legal_moves p)
+best_code p e (suc d) = find (λ m. int_eq (worth p e d m) (value p e (suc d))) (legal_codes p)
 
 -- the move of a code, if there is one
 abbrev pub move_at : Option ℕ → Option Move
@@ -72,7 +72,7 @@ pv p e (suc d) = then_pv (λ q. pv q e d) p (best p e (suc d))
 -- the nodes of the whole tree
 unfoldable pub tree_size : Shogi → ℕ → ℕ
 tree_size p zero = 1
-tree_size p (suc d) = 1 + sum_by (λ m. tree_size (after_code p m) d) (legal_moves p)
+tree_size p (suc d) = 1 + sum_by (λ m. tree_size (after_code p m) d) (legal_codes p)
 
 -- the nodes of the trees after these moves, each of depth d
 abbrev pub subtree_sizes : Shogi → ℕ → List ℕ → ℕ

@@ -4,7 +4,7 @@ use Rattle.std.specs.Ordering.{int_eq}
 use Rattle.shogi_core.specs.declared.moves.Move.{Move}
 use Rattle.shogi_core.specs.Codes.{code_of}
 use Rattle.shogi_core.specs.Position.{Shogi}
-use Rattle.shogi_moves.specs.LegalMoves.{legal_moves}
+use Rattle.shogi_moves.specs.LegalMoves.{legal_codes}
 use Rattle.shogi_eval.specs.declared.eval.Eval.{Eval}
 use Rattle.shogi_search.specs.Minimax.{worth}
 
@@ -24,7 +24,7 @@ ranked f (m ∷ ms) = rank_in f m (ranked f ms)
 
 -- the codes of the legal moves, ranked by their worth under an evaluation, at a depth of at least 1
 abbrev pub ranked_moves : Shogi → Eval → ℕ → List ℕ
-ranked_moves p e d = ranked (worth p e (d - 1)) (legal_moves p)
+ranked_moves p e d = ranked (worth p e (d - 1)) (legal_codes p)
 
 -- moves with their values, and how many there are at most
 pub record Ranking : Type 0 where

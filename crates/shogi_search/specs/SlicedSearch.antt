@@ -7,7 +7,7 @@ use Rattle.shogi_search.specs.Minimax.{value, best, tree_size}
 use Rattle.shogi_search.specs.Progress.{Progress}
 use Rattle.shogi_search.specs.Visits.{IsFree}
 use Rattle.shogi_search.specs.Stack.{IsStack, left_of_stack}
-use Rattle.shogi_search.specs.declared.bounds.TheConstants.{GREATEST_DEPTH}
+use Rattle.shogi_search.specs.declared.bounds.TheConstants.{SEARCH_DEPTH_MAX}
 
 -- nothing once it has found, all before the root is entered, and else what is left of the stack
 abbrev pub left_in : Option Found → Bool → ℕ → ℕ → ℕ
@@ -35,7 +35,7 @@ pub record IsKnown (s : Inside) (f : Found) : Type 0 where
 
 -- once started and until it has found, the stack is a chain from the root
 pub record IsSearch (s : Inside) : Type 0 where
-  pub shallow : s.stack.depth ≤ GREATEST_DEPTH
+  pub shallow : s.stack.depth ≤ SEARCH_DEPTH_MAX
   pub known : ForSome s.found (IsKnown s)
   pub chain : s.found ≡ None → s.started ≡ true → IsStack s.stack
   pub free : s.found ≡ None → s.started ≡ true → IsFree s.stack.top.waiting

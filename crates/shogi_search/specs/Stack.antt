@@ -12,7 +12,7 @@ use Rattle.shogi_search.specs.declared.stack.Stack.{Stack}
 use Rattle.shogi_search.specs.Minimax.{negated, subtree_sizes}
 use Rattle.shogi_search.specs.Order.{todo}
 use Rattle.shogi_search.specs.Window.{threshold, code_at}
-use Rattle.shogi_search.specs.declared.bounds.TheConstants.{GREATEST_DEPTH, INFINITY}
+use Rattle.shogi_search.specs.declared.bounds.TheConstants.{SEARCH_DEPTH_MAX, INFINITY}
 
 -- a frame stands for a position under an evaluation at a depth, under a window
 pub record IsAt (p : Shogi) (e : Eval) (d : ℕ) (alpha beta : ℤ) (frame : Frame) : Type 0 where
@@ -44,8 +44,8 @@ parents_of s = take s.height s.parents
 
 -- a chain from the root, under the whole window
 pub record IsStack (s : Stack) : Type 0 where
-  pub shallow : s.depth ≤ GREATEST_DEPTH
-  pub height_fits : s.height ≤ GREATEST_DEPTH
+  pub shallow : s.depth ≤ SEARCH_DEPTH_MAX
+  pub height_fits : s.height ≤ SEARCH_DEPTH_MAX
   pub chain : IsChain s.root s.eval s.depth (negated INFINITY) INFINITY (parents_of s) s.top
 
 -- a leaf whose value is still to be taken in

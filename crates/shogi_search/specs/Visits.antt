@@ -5,7 +5,7 @@ use Rattle.shogi_core.specs.declared.moves.Move.{Move}
 use Rattle.shogi_core.specs.Codes.{code_of}
 use Rattle.shogi_core.specs.Position.{Shogi}
 use Rattle.shogi_moves.specs.After.{after_code}
-use Rattle.shogi_moves.specs.LegalMoves.{legal_moves}
+use Rattle.shogi_moves.specs.LegalMoves.{legal_codes}
 use Rattle.shogi_eval.specs.declared.eval.Eval.{Eval}
 use Rattle.shogi_search.specs.declared.frame.Waiting.{Waiting}
 use Rattle.shogi_search.specs.declared.frame.Waiting.TheVariants.{Next, Asked, Leaf, Cut}
@@ -15,7 +15,7 @@ use Rattle.shogi_search.specs.Window.{IsCovered}
 -- the moves that a search at a depth goes through: none at depth 0
 abbrev pub moves_at : Shogi → ℕ → List ℕ
 moves_at p zero = []
-moves_at p (suc d) = legal_moves p
+moves_at p (suc d) = legal_codes p
 
 -- the node waits for the answer of this move
 abbrev pub IsCurrent : Waiting → Move → Type 0

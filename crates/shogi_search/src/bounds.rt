@@ -7,4 +7,4 @@ pub const MATE: i32 = 30_000;
 pub const INFINITY: i32 = 31_000;
 
 /// The greatest depth of a search (own choice).
-pub const GREATEST_DEPTH: u8 = 16;
+pub const SEARCH_DEPTH_MAX: u8 = 16;

@@ -6,16 +6,16 @@ ghost use Rattle.std.proofs.Props.{props};
 ghost use Rattle.shogi_core.specs.Codes.{code_of};
 ghost use Rattle.shogi_core.specs.Validity.{IsValid};
 ghost use Rattle.shogi_moves.specs.After.{after_code};
-ghost use Rattle.shogi_moves.specs.LegalMoves.{legal_moves};
+ghost use Rattle.shogi_moves.specs.LegalMoves.{legal_codes};
 ghost use Rattle.shogi_moves.specs.Replies.{IsReplies};
 ghost use Rattle.shogi_moves.specs.Rising.{is_in};
-ghost use Rattle.shogi_eval.specs.declared.points.TheConstants.{MOST_POINTS};
+ghost use Rattle.shogi_eval.specs.declared.points.TheConstants.{POINTS_MAX};
 ghost use Rattle.shogi_search.specs.Minimax.{value, tree_size, worth, negated, subtree_sizes, IsTrueEntry};
 ghost use Rattle.shogi_search.specs.Entries.{IsCutoff};
 ghost use Rattle.shogi_search.specs.Order.{todo, IsKept, IsKept-prop};
 ghost use Rattle.shogi_search.specs.Visits.{IsKnownWhile, IsKnownWhile-prop, IsCurrent, IsFree, IsOver};
 ghost use Rattle.shogi_search.specs.Window.{threshold, code_at};
-ghost use Rattle.shogi_search.specs.declared.bounds.TheConstants.{GREATEST_DEPTH, INFINITY, MATE};
+ghost use Rattle.shogi_search.specs.declared.bounds.TheConstants.{SEARCH_DEPTH_MAX, INFINITY, MATE};
 
 use crate::bounds::MATE;
 use crate::memo::Entry;
@@ -51,7 +51,7 @@ pub struct Frame {
     pub waiting: Waiting,
     pub replies: Replies,
     ghost valid: { IsValid node.position },
-    ghost shallow: { depth ≤ GREATEST_DEPTH },
+    ghost shallow: { depth ≤ SEARCH_DEPTH_MAX },
     ghost least: { negated INFINITY ≤ℤ alpha },
     ghost open: { best_value <ℤ beta },
     ghost most: { beta ≤ℤ INFINITY },
@@ -62,7 +62,7 @@ pub struct Frame {
 
 /// Whether some move is legal.
 fn can_move(node: &Node) -> bool
-    ensures { IsTrue result ↔ (legal_moves node.now.position ≢ []) }
+    ensures { IsTrue result ↔ (legal_codes node.now.position ≢ []) }
 {
     has_legal(node.as_position())
 }
@@ -72,7 +72,7 @@ fn can_move(node: &Node) -> bool
 pub fn leaf(node: &Node) -> i32
     ensures value { result ≡ value node.now.position node.now.eval 0 }
     ensures least { negated MATE ≤ℤ result }
-    ensures most { result ≤ℤ pos MOST_POINTS }
+    ensures most { result ≤ℤ pos POINTS_MAX }
 {
     if can_move(node) { node.score() } else { -MATE }
 }
@@ -102,11 +102,11 @@ impl Frame {
         hash_move: Option<Move>,
         ahead: bool,
     )
-        requires shallow { depth ≤ GREATEST_DEPTH }
+        requires shallow { depth ≤ SEARCH_DEPTH_MAX }
         requires least { negated INFINITY ≤ℤ alpha }
         requires open { alpha <ℤ beta }
         requires most { beta ≤ℤ INFINITY }
-        requires hash_move { ForSome hash_move (λ f. is_in (code_of f) (legal_moves node.now.position) ≡ true) }
+        requires hash_move { ForSome hash_move (λ f. is_in (code_of f) (legal_codes node.now.position) ≡ true) }
         ensures node { self.new.node ≡ node.now }
         ensures depth { self.new.depth ≡ depth }
         ensures alpha { self.new.alpha ≡ alpha }

@@ -2,10 +2,10 @@
 
 ghost use Rattle.std.specs.Prelude.{◌≡◌, ◌≤◌, ◌*◌, ◌≤ℤ◌, true, [], ◌↔◌, ◌⊎◌, IfSome, IsNone};
 ghost use Rattle.shogi_moves.specs.Legal.{is_legal};
-ghost use Rattle.shogi_moves.specs.LegalMoves.{legal_moves};
+ghost use Rattle.shogi_moves.specs.LegalMoves.{legal_codes};
 ghost use Rattle.shogi_search.specs.Entries.{IsExactly};
 ghost use Rattle.shogi_search.specs.Minimax.{value, best, tree_size, lost_value, negated};
-ghost use Rattle.shogi_search.specs.declared.bounds.TheConstants.{GREATEST_DEPTH};
+ghost use Rattle.shogi_search.specs.declared.bounds.TheConstants.{SEARCH_DEPTH_MAX};
 
 use crate::found::Found;
 use crate::memo::Memo;
@@ -15,7 +15,7 @@ use shogi_eval::Eval;
 
 /// Goes on until the search has ended.
 fn to_the_end<M: Memo>(p: &Position, e: Eval, d: u8, memo: &mut M) -> Found
-    requires { d ≤ GREATEST_DEPTH }
+    requires { d ≤ SEARCH_DEPTH_MAX }
     ensures value { result.value ≡ value p.now e d }
     ensures best { result.best ≡ best p.now e d }
     ensures steps { result.steps ≤ 2 * tree_size p.now d }
@@ -35,12 +35,12 @@ fn to_the_end<M: Memo>(p: &Position, e: Eval, d: u8, memo: &mut M) -> Found
 /// The value of a position under an evaluation at a depth from 0 to 16, and its best move, by
 /// alpha-beta over any memo. A root that the memo answers exactly takes no step.
 pub fn search<M: Memo>(p: &Position, e: Eval, d: u8, memo: &mut M) -> Found
-    requires { d ≤ GREATEST_DEPTH }
+    requires { d ≤ SEARCH_DEPTH_MAX }
     ensures value { result.value ≡ value p.now e d }
-    ensures least { lost_value GREATEST_DEPTH ≤ℤ result.value }
-    ensures most { result.value ≤ℤ negated (lost_value GREATEST_DEPTH) }
+    ensures least { lost_value SEARCH_DEPTH_MAX ≤ℤ result.value }
+    ensures most { result.value ≤ℤ negated (lost_value SEARCH_DEPTH_MAX) }
     ensures best { result.best ≡ best p.now e d }
-    ensures none { IsNone result.best ↔ ((d ≡ 0) ⊎ (legal_moves p.now ≡ [])) }
+    ensures none { IsNone result.best ↔ ((d ≡ 0) ⊎ (legal_codes p.now ≡ [])) }
     ensures legal { IfSome result.best (λ m. is_legal p.now m ≡ true) }
     ensures steps { result.steps ≤ 2 * tree_size p.now d }
     ensures known { IsExactly (M.answers memo.old p.now e d) → result.steps ≡ 0 }

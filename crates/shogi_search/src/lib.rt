@@ -12,11 +12,11 @@ mod sliced_search;
 mod stack;
 mod window;
 
-pub use bounds::{GREATEST_DEPTH, INFINITY, MATE};
+pub use bounds::{INFINITY, MATE, SEARCH_DEPTH_MAX};
 pub use found::Found;
 pub use full_search::search;
 pub use memo::{Entry, Memo, NoMemo};
-pub use ranks::{MOST_LINES, Ranks};
+pub use ranks::{PV_LINES_MAX, Ranks};
 pub use sliced_search::Search;
 
 #[cfg(test)]

@@ -5,7 +5,7 @@ ghost use Rattle.shogi_core.specs.Position.{Shogi};
 ghost use Rattle.shogi_eval.specs.declared.eval.Eval.{Eval};
 ghost use Rattle.shogi_search.specs.Minimax.{IsTrueEntry};
 ghost use Rattle.shogi_search.specs.declared.memo.Entry.{Entry};
-ghost use Rattle.shogi_search.specs.declared.bounds.TheConstants.{GREATEST_DEPTH};
+ghost use Rattle.shogi_search.specs.declared.bounds.TheConstants.{SEARCH_DEPTH_MAX};
 
 use shogi_core::{Move, Position};
 use shogi_eval::Eval;
@@ -41,7 +41,7 @@ pub trait Memo {
     /// Takes in what a search found out. It may be kept or not.
     fn note(&mut self, p: &Position, e: Eval, d: u8, entry: Entry)
         requires truth { IsTrueEntry p.now e d entry }
-        requires depth { d ≤ GREATEST_DEPTH };
+        requires depth { d ≤ SEARCH_DEPTH_MAX };
 }
 
 /// Remembers nothing.

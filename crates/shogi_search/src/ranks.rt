@@ -4,14 +4,14 @@ ghost use Rattle.std.specs.Prelude.{◌≡◌, ℕ, ℤ, ◌≤◌, List, [], �
 ghost use Rattle.shogi_core.specs.Codes.{code_of};
 ghost use Rattle.shogi_moves.specs.Rising.{is_in};
 ghost use Rattle.shogi_search.specs.Ranked.{is_ahead, put_in, codes_in, are_ranked, IsTop};
-ghost use Rattle.shogi_search.specs.declared.ranks.TheConstants.{MOST_LINES};
+ghost use Rattle.shogi_search.specs.declared.ranks.TheConstants.{PV_LINES_MAX};
 
 use arrayvec::ArrayVec;
 use shogi_core::Move;
 use std::marker::Model;
 
 /// The greatest number of lines.
-pub const MOST_LINES: usize = 8;
+pub const PV_LINES_MAX: usize = 8;
 
 /// A pair more than there are lines: a new one is put in before the last one goes.
 const ROOM: usize = 9;
@@ -27,13 +27,13 @@ pub struct Ranks {
 impl Model for Ranks {
     ghost use Rattle.std.specs.Prelude.{◌≡◌, ◌≤◌, length, true};
     ghost use Rattle.shogi_search.specs.Ranked.{Ranking, are_ranked};
-    ghost use Rattle.shogi_search.specs.declared.ranks.TheConstants.{MOST_LINES};
+    ghost use Rattle.shogi_search.specs.declared.ranks.TheConstants.{PV_LINES_MAX};
 
     ghost Value = { Ranking };
 
     ghost view = { λ r. record { lines = r.lines; pairs = r.pairs.items } };
 
-    ghost invariant = { λ r. (1 ≤ r.lines) × (r.lines ≤ MOST_LINES) × (length r.pairs.items ≤ r.lines) × (are_ranked r.pairs.items ≡ true) };
+    ghost invariant = { λ r. (1 ≤ r.lines) × (r.lines ≤ PV_LINES_MAX) × (length r.pairs.items ≤ r.lines) × (are_ranked r.pairs.items ≡ true) };
 }
 
 /// Whether a move with its value stands before another one.
@@ -47,7 +47,7 @@ impl Ranks {
     /// No move yet, for a number of lines from 1 to 8.
     pub fn new(lines: usize) -> Ranks
         requires least { 1 ≤ lines }
-        requires most { lines ≤ MOST_LINES }
+        requires most { lines ≤ PV_LINES_MAX }
         ensures empty { result ≡ record { lines = lines; pairs = [] } }
         ensures top { (f : ℕ → ℤ) → IsTop f [] result }
     {
@@ -89,7 +89,7 @@ impl Ranks {
         ensures value { result.now ≡ self.now.pairs }
         ensures ordered { are_ranked self.now.pairs ≡ true }
         ensures bound { length self.now.pairs ≤ self.now.lines }
-        ensures lines { self.now.lines ≤ MOST_LINES }
+        ensures lines { self.now.lines ≤ PV_LINES_MAX }
     {
         self.pairs.as_slice()
     }

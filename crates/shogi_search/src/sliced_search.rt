@@ -6,7 +6,7 @@ ghost use Rattle.shogi_moves.specs.Legal.{is_legal};
 ghost use Rattle.shogi_search.specs.Minimax.{value, best, tree_size, IsTrueEntry, negated};
 ghost use Rattle.shogi_search.specs.Entries.{IsExactly, IsCutoff};
 ghost use Rattle.shogi_search.specs.Progress.{untouched, left_of};
-ghost use Rattle.shogi_search.specs.declared.bounds.TheConstants.{GREATEST_DEPTH, INFINITY};
+ghost use Rattle.shogi_search.specs.declared.bounds.TheConstants.{SEARCH_DEPTH_MAX, INFINITY};
 
 use crate::bounds::INFINITY;
 use crate::found::Found;
@@ -42,7 +42,7 @@ impl Model for Search {
 
 /// What is known of the root once it is left.
 fn found_of(entry: &Entry, root: &Position, e: Eval, depth: u8, steps: u64) -> Found
-    requires shallow { depth ≤ GREATEST_DEPTH }
+    requires shallow { depth ≤ SEARCH_DEPTH_MAX }
     requires truth { IsTrueEntry root.now e depth entry.now }
     requires cutoff { IsCutoff (negated INFINITY) INFINITY entry.now }
     ensures value { result.value ≡ value root.now e depth }
@@ -63,7 +63,7 @@ fn found_of(entry: &Entry, root: &Position, e: Eval, depth: u8, steps: u64) -> F
 impl Search {
     /// A search that has made no step yet.
     pub fn start(p: &Position, e: Eval, d: u8) -> Self
-        requires { d ≤ GREATEST_DEPTH }
+        requires { d ≤ SEARCH_DEPTH_MAX }
         ensures { result ≡ untouched p.now e d }
     {
         let top = Frame::default();

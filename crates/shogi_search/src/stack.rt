@@ -4,13 +4,13 @@ ghost use Rattle.std.specs.Prelude.{◌≡◌, ◌≤◌, ◌<◌, ◌+◌, ◌*
 ghost use Rattle.std.specs.Option.{ForSome};
 ghost use Rattle.shogi_core.specs.Codes.{code_of};
 ghost use Rattle.shogi_moves.specs.After.{after_code};
-ghost use Rattle.shogi_moves.specs.LegalMoves.{legal_moves};
+ghost use Rattle.shogi_moves.specs.LegalMoves.{legal_codes};
 ghost use Rattle.shogi_moves.specs.Rising.{is_in};
 ghost use Rattle.shogi_search.specs.Minimax.{value, tree_size, IsTrueEntry, negated};
 ghost use Rattle.shogi_search.specs.Entries.{IsCutoff, move_in};
 ghost use Rattle.shogi_search.specs.Order.{todo};
 ghost use Rattle.shogi_search.specs.Visits.{IsCurrent, IsFree, IsOver};
-ghost use Rattle.shogi_search.specs.declared.bounds.TheConstants.{GREATEST_DEPTH, INFINITY};
+ghost use Rattle.shogi_search.specs.declared.bounds.TheConstants.{SEARCH_DEPTH_MAX, INFINITY};
 
 use crate::frame::{Frame, Waiting, leaf};
 use crate::memo::{Entry, Memo};
@@ -43,7 +43,7 @@ fn is_cutoff(entry: &Entry, alpha: i32, beta: i32) -> bool
 /// The best move one ply less deep, where the memo has it.
 #[tactic(auto, using(crate::proofs::OrderLaws::best_listed))]
 pub fn hash_move_of<M: Memo>(p: &Position, e: Eval, depth: u8, memo: &mut M) -> Option<Move>
-    ensures listed { ForSome result (λ f. is_in (code_of f) (legal_moves p.now) ≡ true) }
+    ensures listed { ForSome result (λ f. is_in (code_of f) (legal_codes p.now) ≡ true) }
     ensures shallow { depth < 2 → result ≡ None }
     ensures deep { 2 ≤ depth → result ≡ move_in (M.answers memo.old p.now e (depth - 1)) }
 {
@@ -80,7 +80,7 @@ impl Stack {
     fn push(&mut self)
         requires { self.old.height < 16 }
         ensures parents { parents_of self.new ≡ parents_of self.old ++ self.old.top ∷ [] }
-        ensures height { self.new.height ≤ GREATEST_DEPTH }
+        ensures height { self.new.height ≤ SEARCH_DEPTH_MAX }
         ensures top { self.new.top ≡ self.old.top }
         ensures same { (self.new.root ≡ self.old.root) × (self.new.depth ≡ self.old.depth) }
         ensures eval { self.new.eval ≡ self.old.eval }
@@ -91,9 +91,9 @@ impl Stack {
 
     /// The node below is on top again, where there is one.
     fn pop(&mut self) -> bool
-        requires { self.old.height ≤ GREATEST_DEPTH }
+        requires { self.old.height ≤ SEARCH_DEPTH_MAX }
         ensures parents { result ≡ true → parents_of self.old ≡ parents_of self.new ++ self.new.top ∷ [] }
-        ensures height { self.new.height ≤ GREATEST_DEPTH }
+        ensures height { self.new.height ≤ SEARCH_DEPTH_MAX }
         ensures none { result ≡ false → (parents_of self.old ≡ []) × (self.new ≡ self.old) }
         ensures same { (self.new.root ≡ self.old.root) × (self.new.depth ≡ self.old.depth) }
         ensures eval { self.new.eval ≡ self.old.eval }

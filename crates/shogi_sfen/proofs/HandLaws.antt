@@ -8,14 +8,14 @@ use Rattle.std.specs.Str.{bytes_eq}
 use Rattle.std.proofs.Math.Seq.{drop-cons}
 use Rattle.std.proofs.Math.ListN.{get_or-map}
 use Rattle.std.proofs.lemmas.List.{map-set}
-use Rattle.shogi_sfen.specs.declared.hand_text.TheConstants.{MOST_COUNTED}
+use Rattle.shogi_sfen.specs.declared.hand_text.TheConstants.{COUNTED_MAX}
 use Rattle.shogi_sfen.specs.Words.{has_bytes}
 use Rattle.std.proofs.lemmas.Bool.{cond-true, cond-false}
 use Rattle.shogi_core.specs.declared.piece.Color.{Color}
 use Rattle.shogi_core.specs.declared.piece.Kind.{Kind}
 use Rattle.shogi_core.specs.declared.piece.Piece.{Piece}
 use Rattle.shogi_core.specs.Pieces.{kind_of}
-use Rattle.shogi_core.specs.Position.{HandCounts, held, place_of}
+use Rattle.shogi_core.specs.Position.{HandCounts, count_in_hand, place_of}
 use Rattle.shogi_sfen.specs.Letters.{piece_named}
 use Rattle.shogi_sfen.specs.HandTexts.{with_kind, with_piece, with_digit, hands_from, no_hands, hands_of}
 use Rattle.shogi_sfen.specs.CappedHands.{capped_kind, capped_piece, capped_digit, capped_from, capped}
@@ -43,14 +43,14 @@ capped_from-next word i byte hands count h e =
     (option_and_then (λ more. capped_from more None (drop k word)) (capped_piece hands (unwrap_or count 1) (piece_named false byte)))) (sym (add-one i))))
 
 -- a number capped, and then a sum
-pub min-sum : (a n : ℕ) → min MOST_COUNTED (min MOST_COUNTED a + min MOST_COUNTED n) ≡ min MOST_COUNTED (a + n)
+pub min-sum : (a n : ℕ) → min COUNTED_MAX (min COUNTED_MAX a + min COUNTED_MAX n) ≡ min COUNTED_MAX (a + n)
 min-sum a n = omega arith
 
-min-digit : (n d : ℕ) → min MOST_COUNTED (min MOST_COUNTED n * 10 + d) ≡ min MOST_COUNTED (n * 10 + d)
+min-digit : (n d : ℕ) → min COUNTED_MAX (min COUNTED_MAX n * 10 + d) ≡ min COUNTED_MAX (n * 10 + d)
 min-digit n d = omega arith
 
 -- a step of one reading is that of the other
-through : (o : Option ℕ) (f g : ℕ → Option HandCounts) → ((n : ℕ) → g (min MOST_COUNTED n) ≡ option_map capped (f n)) → option_and_then g (option_map (min MOST_COUNTED) o) ≡ option_map capped (option_and_then f o)
+through : (o : Option ℕ) (f g : ℕ → Option HandCounts) → ((n : ℕ) → g (min COUNTED_MAX n) ≡ option_map capped (f n)) → option_and_then g (option_map (min COUNTED_MAX) o) ≡ option_map capped (option_and_then f o)
 through None f g h = refl
 through (Some n) f g h = h n
 
@@ -62,28 +62,28 @@ either_way : (b : Bool) (x y : Option HandCounts) (z w : Option HandCounts) → 
 either_way true x y z w e f = e
 either_way false x y z w e f = f
 
-first : (b : Bool) (x y : ℕ) → x ≡ min MOST_COUNTED y → cond (true && b) None (Some x) ≡ option_map (min MOST_COUNTED) (cond (true && b) None (Some y))
+first : (b : Bool) (x y : ℕ) → x ≡ min COUNTED_MAX y → cond (true && b) None (Some x) ≡ option_map (min COUNTED_MAX) (cond (true && b) None (Some y))
 first true x y e = refl
 first false x y e = ap Some e
 
-digit_capped : (count : Option ℕ) (byte : ℕ) → capped_digit (option_map (min MOST_COUNTED) count) byte ≡ option_map (min MOST_COUNTED) (with_digit count byte)
-digit_capped None byte = first (byte == 48) (min MOST_COUNTED (0 * 10 + (byte - 48))) (0 * 10 + (byte - 48)) refl
+digit_capped : (count : Option ℕ) (byte : ℕ) → capped_digit (option_map (min COUNTED_MAX) count) byte ≡ option_map (min COUNTED_MAX) (with_digit count byte)
+digit_capped None byte = first (byte == 48) (min COUNTED_MAX (0 * 10 + (byte - 48))) (0 * 10 + (byte - 48)) refl
 digit_capped (Some n) byte = ap Some (min-digit n (byte - 48))
 
-unwrap_capped : (count : Option ℕ) → unwrap_or (option_map (min MOST_COUNTED) count) 1 ≡ min MOST_COUNTED (unwrap_or count 1)
+unwrap_capped : (count : Option ℕ) → unwrap_or (option_map (min COUNTED_MAX) count) 1 ≡ min COUNTED_MAX (unwrap_or count 1)
 unwrap_capped None = refl
 unwrap_capped (Some n) = refl
 
-pub held-capped : (hands : HandCounts) (color : Color) (kind : Kind) → held (capped hands) color kind ≡ min MOST_COUNTED (held hands color kind)
-held-capped hands color kind = get_or-map (min MOST_COUNTED) hands (place_of color kind) 0
+pub held-capped : (hands : HandCounts) (color : Color) (kind : Kind) → count_in_hand (capped hands) color kind ≡ min COUNTED_MAX (count_in_hand hands color kind)
+held-capped hands color kind = get_or-map (min COUNTED_MAX) hands (place_of color kind) 0
 
-kind_capped : (hands : HandCounts) (n : ℕ) (color : Color) (kind : Option Kind) → capped_kind (capped hands) (min MOST_COUNTED n) color kind ≡ option_map capped (with_kind hands n color kind)
+kind_capped : (hands : HandCounts) (n : ℕ) (color : Color) (kind : Option Kind) → capped_kind (capped hands) (min COUNTED_MAX n) color kind ≡ option_map capped (with_kind hands n color kind)
 kind_capped hands n color None = refl
 kind_capped hands n color (Some kind) =
-    ap (λ (m : ℕ). Some (set (capped hands) (place_of color kind) m)) (ap (λ (m : ℕ). min MOST_COUNTED (m + min MOST_COUNTED n)) (held-capped hands color kind) ∙ min-sum (held hands color kind) n)
-    ∙ ap Some (sym (map-set (min MOST_COUNTED) hands (place_of color kind) (held hands color kind + n)))
+    ap (λ (m : ℕ). Some (set (capped hands) (place_of color kind) m)) (ap (λ (m : ℕ). min COUNTED_MAX (m + min COUNTED_MAX n)) (held-capped hands color kind) ∙ min-sum (count_in_hand hands color kind) n)
+    ∙ ap Some (sym (map-set (min COUNTED_MAX) hands (place_of color kind) (count_in_hand hands color kind + n)))
 
-piece_capped : (hands : HandCounts) (n : ℕ) (piece : Option Piece) → capped_piece (capped hands) (min MOST_COUNTED n) piece ≡ option_map capped (with_piece hands n piece)
+piece_capped : (hands : HandCounts) (n : ℕ) (piece : Option Piece) → capped_piece (capped hands) (min COUNTED_MAX n) piece ≡ option_map capped (with_piece hands n piece)
 piece_capped hands n None = refl
 piece_capped hands n (Some piece) = kind_capped hands n piece.color (kind_of piece.role)
 
@@ -94,11 +94,11 @@ exact_byte hands None byte bytes = refl
 exact_byte hands (Some n) byte bytes = refl
 
 -- counts that stop at the most that is counted are the counts, each or the most that is counted
-hands_capped : (bytes : List ℕ) (hands : HandCounts) (count : Option ℕ) → capped_from (capped hands) (option_map (min MOST_COUNTED) count) bytes ≡ option_map capped (hands_from hands count bytes)
+hands_capped : (bytes : List ℕ) (hands : HandCounts) (count : Option ℕ) → capped_from (capped hands) (option_map (min COUNTED_MAX) count) bytes ≡ option_map capped (hands_from hands count bytes)
 hands_capped [] hands None = refl
 hands_capped [] hands (Some n) = refl
 hands_capped (byte ∷ bytes) hands count =
-    at_byte (capped hands) (option_map (min MOST_COUNTED) count) byte bytes
+    at_byte (capped hands) (option_map (min COUNTED_MAX) count) byte bytes
     ∙ (either_way (is_ascii_digit byte) _ _ _ _
     (ap (option_and_then (λ n. capped_from (capped hands) (Some n) bytes)) (digit_capped count byte)
     ∙ through (with_digit count byte) (λ n. hands_from hands (Some n) bytes) (λ n. capped_from (capped hands) (Some n) bytes) (λ n. hands_capped bytes hands (Some n)))

@@ -9,7 +9,7 @@ use Rattle.shogi_core.specs.declared.piece.Color.{Color}
 use Rattle.shogi_core.specs.declared.piece.Color.TheVariants.{Black, White}
 use Rattle.shogi_core.specs.declared.piece.Kind.{Kind}
 use Rattle.shogi_core.specs.declared.piece.Kind.TheVariants as kinds
-use Rattle.shogi_core.specs.Position.{HandCounts, held, place_of}
+use Rattle.shogi_core.specs.Position.{HandCounts, count_in_hand, place_of}
 use Rattle.shogi_sfen.specs.Letters.{letter_of, in_case_of, piece_named}
 use Rattle.shogi_sfen.specs.HandTexts.{hands_from}
 use Rattle.shogi_sfen.specs.Written.{count_digits, held_text}
@@ -47,7 +47,7 @@ pub held_back : (color : Color) (kind : Kind) (n : ℕ) (hands : HandCounts) (re
 held_back color kind n hands rest small = elim (cases_eq n 0) [
   | inl none ↦
       ap (λ (t : List ℕ). hands_from hands None (t ++ rest)) (cond-true (n == 0) [] _ (eq-eqb n 0 none))
-      ∙ ap (λ (h : HandCounts). hands_from h None rest) (sym (ap (set hands (place_of color kind)) (let same : held hands color kind + n ≡ held hands color kind = omega arith in same) ∙ set-get_or hands (place_of color kind) 0))
+      ∙ ap (λ (h : HandCounts). hands_from h None rest) (sym (ap (set hands (place_of color kind)) (let same : count_in_hand hands color kind + n ≡ count_in_hand hands color kind = omega arith in same) ∙ set-get_or hands (place_of color kind) 0))
   | inr some ↦
       ap (λ (t : List ℕ). hands_from hands None (t ++ rest)) (cond-false (n == 0) [] (count_digits n ++ in_case_of color (letter_of kind) ∷ []) (ne_eqb n 0 some))
       ∙ elim (cases_lt n 2) as (λ _. hands_from hands None ((count_digits n ++ in_case_of color (letter_of kind) ∷ []) ++ rest) ≡ hands_from (added hands color kind n) None rest) [

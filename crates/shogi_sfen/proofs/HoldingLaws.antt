@@ -9,20 +9,20 @@ use Rattle.shogi_core.specs.declared.piece.Color.TheVariants.{Black, White}
 use Rattle.shogi_core.specs.declared.piece.Kind.{Kind}
 use Rattle.shogi_core.specs.declared.piece.Kind.TheVariants as kinds
 use Rattle.shogi_core.specs.Pieces.{is_same_color, kind_number, all_kinds}
-use Rattle.shogi_core.specs.Position.{HandCounts, held, place_of}
+use Rattle.shogi_core.specs.Position.{HandCounts, count_in_hand, place_of}
 
 -- the hands in which each side holds so many of each kind
 abbrev pub hands_holding : (Color → Kind → ℕ) → HandCounts
 hands_holding count = map (count Black) all_kinds ++ map (count White) all_kinds
 
-pub held-holding : (count : Color → Kind → ℕ) (color : Color) (kind : Kind) → held (hands_holding count) color kind ≡ count color kind
+pub held-holding : (count : Color → Kind → ℕ) (color : Color) (kind : Kind) → count_in_hand (hands_holding count) color kind ≡ count color kind
 held-holding count Black kinds.Pawn = refl
 held-holding count White kinds.Pawn = refl
 held-holding count Black kind = refl
 held-holding count White kind = refl
 
 -- hands are those of their counts
-pub holding-held : (hands : HandCounts) → length hands ≡ 14 → hands ≡ hands_holding (held hands)
+pub holding-held : (hands : HandCounts) → length hands ≡ 14 → hands ≡ hands_holding (count_in_hand hands)
 holding-held hands len =
     ext_get_or 0 hands (map (λ i. get_or hands i 0) (range_with_len 0 14)) (len ∙ sym (length-map-range_with_len (λ i. get_or hands i 0) 0 14))
     (λ i below. sym (get_or-map-range_with_len (λ i. get_or hands i 0) 0 14 i i 0 (omega arith) (omega arith)))
@@ -38,7 +38,7 @@ holding_same count other same =
     ∙ ap (λ (ns : List ℕ). map (other Black) all_kinds ++ ns) (map_same (count White) (other White) (same White) all_kinds)
 
 -- one count changed
-pub set-holding : (count : Color → Kind → ℕ) (change : ℕ → ℕ) (color : Color) (kind : Kind) → set (hands_holding count) (place_of color kind) (change (held (hands_holding count) color kind))
+pub set-holding : (count : Color → Kind → ℕ) (change : ℕ → ℕ) (color : Color) (kind : Kind) → set (hands_holding count) (place_of color kind) (change (count_in_hand (hands_holding count) color kind))
     ≡ hands_holding (λ other third. cond (is_same_color color other && kind_number kind == kind_number third) (change (count other third)) (count other third))
 set-holding count change Black kinds.Pawn = refl
 set-holding count change White kinds.Pawn = refl
@@ -46,12 +46,12 @@ set-holding count change Black kind = refl
 set-holding count change White kind = refl
 
 -- hands with the same counts are the same
-pub same_held : (hands others : HandCounts) → length hands ≡ 14 → length others ≡ 14 → ((color : Color) (kind : Kind) → held hands color kind ≡ held others color kind) → hands ≡ others
-same_held hands others len more each = holding-held hands len ∙ (holding_same (held hands) (held others) each ∙ sym (holding-held others more))
+pub same_held : (hands others : HandCounts) → length hands ≡ 14 → length others ≡ 14 → ((color : Color) (kind : Kind) → count_in_hand hands color kind ≡ count_in_hand others color kind) → hands ≡ others
+same_held hands others len more each = holding-held hands len ∙ (holding_same (count_in_hand hands) (count_in_hand others) each ∙ sym (holding-held others more))
 
 -- so many more of a kind
 abbrev pub added : HandCounts → Color → Kind → ℕ → HandCounts
-added hands color kind n = set hands (place_of color kind) (held hands color kind + n)
+added hands color kind n = set hands (place_of color kind) (count_in_hand hands color kind + n)
 
 changed : (b : Bool) (m n : ℕ) → cond b (m + n) m ≡ m + cond b n 0
 changed true m n = refl
@@ -59,9 +59,9 @@ changed false m n = omega arith
 
 -- what is held then
 pub held-added : (hands : HandCounts) (color other : Color) (kind third : Kind) (n : ℕ) → length hands ≡ 14
-    → held (added hands color kind n) other third ≡ held hands other third + cond (is_same_color color other && kind_number kind == kind_number third) n 0
+    → count_in_hand (added hands color kind n) other third ≡ count_in_hand hands other third + cond (is_same_color color other && kind_number kind == kind_number third) n 0
 held-added hands color other kind third n len =
-    ap (λ (hs : HandCounts). held (added hs color kind n) other third) (holding-held hands len)
-    ∙ (ap (λ (hs : HandCounts). held hs other third) (set-holding (held hands) (λ m. m + n) color kind)
-    ∙ (held-holding (λ o t. cond (is_same_color color o && kind_number kind == kind_number t) (held hands o t + n) (held hands o t)) other third
-    ∙ changed (is_same_color color other && kind_number kind == kind_number third) (held hands other third) n))
+    ap (λ (hs : HandCounts). count_in_hand (added hs color kind n) other third) (holding-held hands len)
+    ∙ (ap (λ (hs : HandCounts). count_in_hand hs other third) (set-holding (count_in_hand hands) (λ m. m + n) color kind)
+    ∙ (held-holding (λ o t. cond (is_same_color color o && kind_number kind == kind_number t) (count_in_hand hands o t + n) (count_in_hand hands o t)) other third
+    ∙ changed (is_same_color color other && kind_number kind == kind_number third) (count_in_hand hands other third) n))

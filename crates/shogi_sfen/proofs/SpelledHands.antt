@@ -16,7 +16,7 @@ use Rattle.shogi_core.specs.declared.piece.Color.{Color}
 use Rattle.shogi_core.specs.declared.piece.Kind.{Kind}
 use Rattle.shogi_core.specs.declared.piece.Piece.{Piece}
 use Rattle.shogi_core.specs.Pieces.{kind_of}
-use Rattle.shogi_core.specs.Position.{HandCounts, held, place_of}
+use Rattle.shogi_core.specs.Position.{HandCounts, count_in_hand, place_of}
 use Rattle.shogi_sfen.specs.Words.{has_bytes}
 use Rattle.shogi_sfen.specs.Letters.{letter_of, letter_or_king, in_case_of, piece_named}
 use Rattle.shogi_sfen.specs.HandTexts.{with_kind, with_piece, with_digit, hands_from, no_hands, hands_of}
@@ -34,7 +34,7 @@ use Rattle.shogi_sfen.proofs.LetterLaws.{piece_named-letter}
 record IsHeldFrom (text : List ℕ) (start hands : HandCounts) : Type 0 where
   items : List HandItem
   each : AllByRecursion (λ item. AreCountDigits item.digits) items
-  sums : (color : Color) (kind : Kind) → held hands color kind ≡ held start color kind + sum_by (count_in color kind) items
+  sums : (color : Color) (kind : Kind) → count_in_hand hands color kind ≡ count_in_hand start color kind + sum_by (count_in color kind) items
   spelled : flat_map hand_item_text items ≡ text
 
 -- the digits of a count so far
@@ -106,9 +106,9 @@ one_item item text start more hands len count same h = record {
   items = item ∷ h.items;
   each = (count, h.each);
   sums = λ color kind.
-      let now : held more color kind ≡ held start color kind + count_in color kind item =
-      ap (λ (hs : HandCounts). held hs color kind) (sym same) ∙ held-added start item.color color item.kind kind (count_written item.digits) len in
-      let later : held hands color kind ≡ held more color kind + sum_by (count_in color kind) h.items = h.sums color kind in
+      let now : count_in_hand more color kind ≡ count_in_hand start color kind + count_in color kind item =
+      ap (λ (hs : HandCounts). count_in_hand hs color kind) (sym same) ∙ held-added start item.color color item.kind kind (count_written item.digits) len in
+      let later : count_in_hand hands color kind ≡ count_in_hand more color kind + sum_by (count_in color kind) h.items = h.sums color kind in
       let all : sum_by (count_in color kind) (item ∷ h.items) ≡ count_in color kind item + sum_by (count_in color kind) h.items = sum_by-cons (count_in color kind) item h.items in
       omega arith;
   spelled = ap (λ (t : List ℕ). hand_item_text item ++ t) h.spelled;
@@ -120,7 +120,7 @@ unfolding IsBegun
 held_from [] start None ds hands len begun e = record {
   items = [];
   each = tt;
-  sums = λ color kind. let same : start ≡ hands = cc in ap (λ (hs : HandCounts). held hs color kind) (sym same) ∙ omega arith;
+  sums = λ color kind. let same : start ≡ hands = cc in ap (λ (hs : HandCounts). count_in_hand hs color kind) (sym same) ∙ omega arith;
   spelled = sym (ap (λ (xs : List ℕ). xs ++ []) begun);
 }
 held_from [] start (Some n) ds hands len begun e = cc
@@ -138,7 +138,7 @@ held_from (byte ∷ bytes) start count ds hands len begun e = elim (cases_Bool (
       let c = counted ds count begun in
       let item : HandItem = record { digits = ds; color = l.color; kind = l.kind } in
       let same : added start l.color l.kind (count_written ds) ≡ s.next = ap (added start l.color l.kind) c.1 ∙ l.same in
-      let grown : length s.next ≡ 14 = ap length (sym l.same) ∙ (length-set start (place_of l.color l.kind) (held start l.color l.kind + n) ∙ len) in
+      let grown : length s.next ≡ 14 = ap length (sym l.same) ∙ (length-set start (place_of l.color l.kind) (count_in_hand start l.color l.kind + n) ∙ len) in
       let others : IsHeldFrom bytes s.next hands = held_from bytes s.next None [] hands grown refl s.later in
       subst (λ (t : List ℕ). IsHeldFrom t start hands) (append_assoc ds (in_case_of l.color (letter_of l.kind) ∷ []) bytes ∙ ap (λ (b : ℕ). ds ++ b ∷ bytes) l.letter)
       (one_item item bytes start s.next hands len c.0 same others)
@@ -160,7 +160,7 @@ by_items true text hands t e =
       places = held_len (hands_from no_hands None text) hands (hands_from-len text no_hands None) e;
       items = h.items;
       each = h.each;
-      sums = λ color kind. let none : held no_hands color kind ≡ 0 = held-holding (λ color kind. 0) color kind in let all : held hands color kind ≡ held no_hands color kind + sum_by (count_in color kind) h.items = h.sums color kind in omega arith;
+      sums = λ color kind. let none : count_in_hand no_hands color kind ≡ 0 = held-holding (λ color kind. 0) color kind in let all : count_in_hand hands color kind ≡ count_in_hand no_hands color kind + sum_by (count_in color kind) h.items = h.sums color kind in omega arith;
       spelled = ap or_hyphen h.spelled ∙ some_bytes text t;
     }
 by_items false text hands t e = cc
@@ -172,7 +172,7 @@ by_hyphen true text hands t e =
       places = ap length (sym same);
       items = [];
       each = tt;
-      sums = λ color kind. ap (λ (hs : HandCounts). held hs color kind) (sym same) ∙ held-holding (λ color kind. 0) color kind;
+      sums = λ color kind. ap (λ (hs : HandCounts). count_in_hand hs color kind) (sym same) ∙ held-holding (λ color kind. 0) color kind;
       spelled = sym ((bytes_eq-Decides text (codes "-")).0 t);
     }
 by_hyphen false text hands t e = by_items (has_bytes text) text hands refl e
@@ -206,22 +206,22 @@ record AreRead (items : List HandItem) (start : HandCounts) : Type 0 where
   hands : HandCounts
   read : hands_from start None (flat_map hand_item_text items) ≡ Some hands
   len : length hands ≡ 14
-  sums : (color : Color) (kind : Kind) → held hands color kind ≡ held start color kind + sum_by (count_in color kind) items
+  sums : (color : Color) (kind : Kind) → count_in_hand hands color kind ≡ count_in_hand start color kind + sum_by (count_in color kind) items
 
 are_read : (items : List HandItem) (start : HandCounts) → AllByRecursion (λ item. AreCountDigits item.digits) items → length start ≡ 14 → AreRead items start
 are_read [] start each len = record { hands = start; read = refl; len = len; sums = λ color kind. omega arith }
 are_read (item ∷ items) start each len =
     let next : HandCounts = added start item.color item.kind (count_written item.digits) in
     let others : AreRead items next =
-    are_read items next each.1 (length-set start (place_of item.color item.kind) (held start item.color item.kind + count_written item.digits) ∙ len) in
+    are_read items next each.1 (length-set start (place_of item.color item.kind) (count_in_hand start item.color item.kind + count_written item.digits) ∙ len) in
     record {
       hands = others.hands;
       read = ap (hands_from start None) (append_assoc item.digits (in_case_of item.color (letter_of item.kind) ∷ []) (flat_map hand_item_text items))
           ∙ (count_read item.digits start item.color item.kind (flat_map hand_item_text items) each.0 ∙ others.read);
       len = others.len;
       sums = λ color kind.
-          let now : held next color kind ≡ held start color kind + count_in color kind item = held-added start item.color color item.kind kind (count_written item.digits) len in
-          let later : held others.hands color kind ≡ held next color kind + sum_by (count_in color kind) items = others.sums color kind in
+          let now : count_in_hand next color kind ≡ count_in_hand start color kind + count_in color kind item = held-added start item.color color item.kind kind (count_written item.digits) len in
+          let later : count_in_hand others.hands color kind ≡ count_in_hand next color kind + sum_by (count_in color kind) items = others.sums color kind in
           let all : sum_by (count_in color kind) (item ∷ items) ≡ count_in color kind item + sum_by (count_in color kind) items = sum_by-cons (count_in color kind) item items in
           omega arith;
     }
@@ -233,8 +233,8 @@ hands_of-spelled text hands s =
     let same : r.hands ≡ hands =
     same_held r.hands hands r.len s.places
     (λ color kind.
-    let none : held no_hands color kind ≡ 0 = held-holding (λ color kind. 0) color kind in
-    let all : held r.hands color kind ≡ held no_hands color kind + sum_by (count_in color kind) s.items = r.sums color kind in
-    let told : held hands color kind ≡ sum_by (count_in color kind) s.items = s.sums color kind in
+    let none : count_in_hand no_hands color kind ≡ 0 = held-holding (λ color kind. 0) color kind in
+    let all : count_in_hand r.hands color kind ≡ count_in_hand no_hands color kind + sum_by (count_in color kind) s.items = r.sums color kind in
+    let told : count_in_hand hands color kind ≡ sum_by (count_in color kind) s.items = s.sums color kind in
     omega arith) in
     ap hands_of (sym s.spelled) ∙ (finished (flat_map hand_item_text s.items) r.hands r.read ∙ ap Some same)

@@ -16,10 +16,10 @@ use Rattle.shogi_core.specs.declared.piece.Piece.{Piece}
 use Rattle.shogi_core.specs.declared.validity.PositionFault.TheVariants.{TooMany}
 use Rattle.shogi_core.specs.Movement.{Cells}
 use Rattle.shogi_core.specs.Pieces.{kind_number, all_kinds, set_size, kind_of}
-use Rattle.shogi_core.specs.Position.{Shogi, HandCounts, held, place_of}
+use Rattle.shogi_core.specs.Position.{Shogi, HandCounts, count_in_hand, place_of}
 use Rattle.shogi_core.specs.Validity.{fault_of, has_too_many, count_of}
 use Rattle.shogi_core.proofs.Faults.{number_below, kind_there}
-use Rattle.shogi_sfen.specs.declared.hand_text.TheConstants.{MOST_COUNTED}
+use Rattle.shogi_sfen.specs.declared.hand_text.TheConstants.{COUNTED_MAX}
 use Rattle.shogi_sfen.specs.Words.{has_bytes}
 use Rattle.shogi_sfen.specs.Letters.{piece_named}
 use Rattle.shogi_sfen.specs.HandTexts.{with_kind, with_piece, with_digit, hands_from, hands_of, no_hands}
@@ -34,25 +34,25 @@ set_small kinds.Bishop = omega arith
 set_small kinds.Rook = omega arith
 set_small _ = omega arith
 
-counted : (cells : Cells) (hands : HandCounts) (color : Color) (kind : Kind) → held hands color kind ≤ count_of kind cells hands
+counted : (cells : Cells) (hands : HandCounts) (color : Color) (kind : Kind) → count_in_hand hands color kind ≤ count_of kind cells hands
 counted cells hands Black kind = omega arith
 counted cells hands White kind = omega arith
 
 -- where there are no more than a set has, few are held
-pub held_of_set : (cells : Cells) (hands : HandCounts) → has_too_many cells hands ≡ false → (color : Color) (kind : Kind) → held hands color kind ≤ 18
+pub held_of_set : (cells : Cells) (hands : HandCounts) → has_too_many cells hands ≡ false → (color : Color) (kind : Kind) → count_in_hand hands color kind ≤ 18
 held_of_set cells hands e color kind =
     let test : Kind → Bool = λ (k : Kind). nat_lt (set_size k) (count_of k cells hands) in
     let none : test kind ≡ false =
     false_from_ne_true (test kind) (λ found. both_ways (list_any test all_kinds) e (list_any_at test all_kinds (kind_number kind) kinds.Pawn (number_below kind) (subst (λ (k : Kind). test k ≡ true) (sym (kind_there kind)) found))) in
     let all : count_of kind cells hands ≤ set_size kind = ltb-false (set_size kind) (count_of kind cells hands) none in
     let small : set_size kind ≤ 18 = set_small kind in
-    let one : held hands color kind ≤ count_of kind cells hands = counted cells hands color kind in
+    let one : count_in_hand hands color kind ≤ count_of kind cells hands = counted cells hands color kind in
     omega arith
 
-few_capped : (hands : HandCounts) → length hands ≡ 14 → ((color : Color) (kind : Kind) → min MOST_COUNTED (held hands color kind) ≤ 18) → capped hands ≡ hands
+few_capped : (hands : HandCounts) → length hands ≡ 14 → ((color : Color) (kind : Kind) → min COUNTED_MAX (count_in_hand hands color kind) ≤ 18) → capped hands ≡ hands
 few_capped hands len few =
     ap capped (holding-held hands len)
-    ∙ (holding_same (λ color kind. min MOST_COUNTED (held hands color kind)) (held hands) (λ color kind. let h : min MOST_COUNTED (held hands color kind) ≤ 18 = few color kind in omega arith)
+    ∙ (holding_same (λ color kind. min COUNTED_MAX (count_in_hand hands color kind)) (count_in_hand hands) (λ color kind. let h : min COUNTED_MAX (count_in_hand hands color kind) ≤ 18 = few color kind in omega arith)
     ∙ sym (holding-held hands len))
 
 -- the parts of a position
@@ -67,7 +67,7 @@ too_many p e = cond-true (has_too_many p.cells p.hands) _ _ e
 pub judged-capped : (cells : Cells) (hands : HandCounts) (side : Color) (end : ℕ) → length hands ≡ 14
     → judged (fault_of (parts cells (capped hands) side)) (parts cells (capped hands) side) end ≡ judged (fault_of (parts cells hands side)) (parts cells hands side) end
 judged-capped cells hands side end len = elim (cases_Bool (has_too_many cells hands)) [
-  | inr few ↦ ap (λ (hs : HandCounts). judged (fault_of (parts cells hs side)) (parts cells hs side) end) (few_capped hands len (λ color kind. let h : held hands color kind ≤ 18 = held_of_set cells hands few color kind in omega arith))
+  | inr few ↦ ap (λ (hs : HandCounts). judged (fault_of (parts cells hs side)) (parts cells hs side) end) (few_capped hands len (λ color kind. let h : count_in_hand hands color kind ≤ 18 = held_of_set cells hands few color kind in omega arith))
   | inl many ↦ elim (cases_Bool (has_too_many cells (capped hands))) [
     | inr few ↦
         ap (λ (hs : HandCounts). judged (fault_of (parts cells hs side)) (parts cells hs side) end)
@@ -81,7 +81,7 @@ judged-capped cells hands side end len = elim (cases_Bool (has_too_many cells ha
 -- hands keep their fourteen places
 kind_len : (hands : HandCounts) (n : ℕ) (color : Color) (kind : Option Kind) → IfSome (with_kind hands n color kind) (λ more. length more ≡ length hands)
 kind_len hands n color None = tt
-kind_len hands n color (Some kind) = length-set hands (place_of color kind) (held hands color kind + n)
+kind_len hands n color (Some kind) = length-set hands (place_of color kind) (count_in_hand hands color kind + n)
 
 piece_len : (hands : HandCounts) (n : ℕ) (piece : Option Piece) → IfSome (with_piece hands n piece) (λ more. length more ≡ length hands)
 piece_len hands n None = tt

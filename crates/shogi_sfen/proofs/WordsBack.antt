@@ -13,7 +13,7 @@ use Rattle.shogi_core.specs.declared.piece.Kind.{Kind}
 use Rattle.shogi_core.specs.declared.piece.Kind.TheVariants as kinds
 use Rattle.shogi_core.specs.declared.validity.PositionFault.{PositionFault}
 use Rattle.shogi_core.specs.Movement.{Cells}
-use Rattle.shogi_core.specs.Position.{Shogi, HandCounts, held}
+use Rattle.shogi_core.specs.Position.{Shogi, HandCounts, count_in_hand}
 use Rattle.shogi_core.specs.Validity.{IsValid}
 use Rattle.shogi_sfen.specs.Words.{is_blank, is_word_byte, has_bytes, words}
 use Rattle.shogi_sfen.specs.Letters.{letter_of, in_case_of}
@@ -75,7 +75,7 @@ some_hyphen (b ∷ bs) = refl
 
 inner_hands : (hands : HandCounts) → list_all is_word_byte (hands_text hands) ≡ true
 unfolding hands_text
-inner_hands hands = inner_hyphen (side_held_text hands Black ++ side_held_text hands White) (inner_both (side_held_text hands Black) (side_held_text hands White) (inner_kinds Black (held hands Black) kinds_in_text) (inner_kinds White (held hands White) kinds_in_text))
+inner_hands hands = inner_hyphen (side_held_text hands Black ++ side_held_text hands White) (inner_both (side_held_text hands Black) (side_held_text hands White) (inner_kinds Black (count_in_hand hands Black) kinds_in_text) (inner_kinds White (count_in_hand hands White) kinds_in_text))
 
 some_hands : (hands : HandCounts) → has_bytes (hands_text hands) ≡ true
 unfolding hands_text
@@ -155,7 +155,7 @@ unfolding position_at
 written_back p valid tail ends =
     let text : List ℕ = position_text p ++ tail in
     let said : Spoken text (board_text p.cells) (side_text p.side) (hands_text p.hands) = spoken p valid tail ends in
-    let small : (color : Color) (kind : Kind) → held p.hands color kind < 100 = few_held p valid in
+    let small : (color : Color) (kind : Kind) → count_in_hand p.hands color kind < 100 = few_held p valid in
     ap (λ (o : Option Cells). position_of_parts o (option_and_then side_of (slice_get (words text) 1)) (option_and_then hands_of (slice_get (words text) 2)) (end_of text)) (ap (option_and_then board_of) said.one ∙ board_of-board_text p.cells valid.cells_fit)
     ∙ (ap (λ (o : Option Color). position_of_parts (Some p.cells) o (option_and_then hands_of (slice_get (words text) 2)) (end_of text)) (ap (option_and_then side_of) said.two ∙ side_back p.side)
     ∙ (ap (λ (o : Option HandCounts). position_of_parts (Some p.cells) (Some p.side) o (end_of text)) (ap (option_and_then hands_of) said.three ∙ hands_of-hands_text p.hands valid.hands_fit small)

@@ -7,7 +7,7 @@ use Rattle.std.proofs.lemmas.List.{length-append}
 use Rattle.shogi_core.specs.declared.piece.Color.{Color}
 use Rattle.shogi_core.specs.declared.piece.Color.TheVariants.{Black, White}
 use Rattle.shogi_core.specs.declared.piece.Kind.{Kind}
-use Rattle.shogi_core.specs.Position.{Shogi, HandCounts, held}
+use Rattle.shogi_core.specs.Position.{Shogi, HandCounts, count_in_hand}
 use Rattle.shogi_core.specs.Validity.{IsValid, fault_of}
 use Rattle.shogi_core.proofs.Faults.{cond_none}
 use Rattle.shogi_sfen.specs.Written.{side_held_text, hands_text, or_hyphen}
@@ -62,9 +62,9 @@ hands-some old black white hands b w e =
     all ∙ ap (λ (t : List ℕ). old ++ t) (sym (some_left (side_held_text hands Black ++ side_held_text hands White) some))
 
 -- a valid position holds few of each kind
-pub few_held : (p : Shogi) → IsValid p → (color : Color) (kind : Kind) → held p.hands color kind < 100
+pub few_held : (p : Shogi) → IsValid p → (color : Color) (kind : Kind) → count_in_hand p.hands color kind < 100
 unfolding fault_of
-few_held p v color kind = let few : held p.hands color kind ≤ 18 = held_of_set p.cells p.hands (cond_none _ _ _ v.no_fault).0 color kind in omega arith
+few_held p v color kind = let few : count_in_hand p.hands color kind ≤ 18 = held_of_set p.cells p.hands (cond_none _ _ _ v.no_fault).0 color kind in omega arith
 
 -- board, side and hands with a space between each two
 pub assembled : (board a b c d side hands : List ℕ) (letter : ℕ) → a ≡ board ++ 32 ∷ [] → b ≡ a ++ letter ∷ [] → letter ∷ [] ≡ side → c ≡ b ++ 32 ∷ [] → d ≡ c ++ hands

@@ -18,7 +18,7 @@ use Rattle.shogi_core.specs.declared.piece.Kind.{Kind}
 use Rattle.shogi_core.specs.declared.piece.Role.{Role}
 use Rattle.shogi_core.specs.declared.piece.Role.TheVariants.{Pawn}
 use Rattle.shogi_core.specs.Movement.{Cells, piece_at}
-use Rattle.shogi_core.specs.Position.{HandCounts, held}
+use Rattle.shogi_core.specs.Position.{HandCounts, count_in_hand}
 use Rattle.shogi_sfen.specs.Words.{is_blank}
 use Rattle.shogi_sfen.specs.BoardTexts.{is_slash, ranks_of, both_joined, joined, squares_of, board_from, board_of}
 use Rattle.shogi_sfen.specs.HandTexts.{hands_from, hands_of, no_hands}
@@ -44,9 +44,9 @@ kinds_back color count small (kind ∷ ks) hands rest =
     ∙ (held_back color kind (count kind) hands (others ++ rest) (small kind) ∙ kinds_back color count small ks (added hands color kind (count kind)) rest)
 
 -- the counts of both sides, put in their places
-all_back : (hands : HandCounts) → length hands ≡ 14 → all_added White (held hands White) kinds_in_text (all_added Black (held hands Black) kinds_in_text no_hands) ≡ hands
+all_back : (hands : HandCounts) → length hands ≡ 14 → all_added White (count_in_hand hands White) kinds_in_text (all_added Black (count_in_hand hands Black) kinds_in_text no_hands) ≡ hands
 unfolding all_added
-all_back hands len = holding_same (λ color kind. 0 + held hands color kind) (held hands) (λ color kind. omega arith) ∙ sym (holding-held hands len)
+all_back hands len = holding_same (λ color kind. 0 + count_in_hand hands color kind) (count_in_hand hands) (λ color kind. omega arith) ∙ sym (holding-held hands len)
 
 pub finished : (text : List ℕ) (hands : HandCounts) → hands_from no_hands None text ≡ Some hands → hands_of (or_hyphen text) ≡ Some hands
 unfolding hands_of piece_named
@@ -58,15 +58,15 @@ finished (b ∷ bs) hands e = elim (cases_Bool (bytes_eq (b ∷ bs) (codes "-"))
   | inr other ↦ cond-false (bytes_eq (b ∷ bs) (codes "-")) _ _ other ∙ e
 ]
 
-pub hands_of-hands_text : (hands : HandCounts) → length hands ≡ 14 → ((color : Color) (kind : Kind) → held hands color kind < 100) → hands_of (hands_text hands) ≡ Some hands
+pub hands_of-hands_text : (hands : HandCounts) → length hands ≡ 14 → ((color : Color) (kind : Kind) → count_in_hand hands color kind < 100) → hands_of (hands_text hands) ≡ Some hands
 unfolding hands_text
 hands_of-hands_text hands len small =
     let black : List ℕ = side_held_text hands Black in
     let white : List ℕ = side_held_text hands White in
     let done : hands_from no_hands None (black ++ white) ≡ Some hands =
     ap (λ (t : List ℕ). hands_from no_hands None (black ++ t)) (sym (append-nil white))
-    ∙ (kinds_back Black (held hands Black) (small Black) kinds_in_text no_hands (white ++ [])
-    ∙ (kinds_back White (held hands White) (small White) kinds_in_text (all_added Black (held hands Black) kinds_in_text no_hands) []
+    ∙ (kinds_back Black (count_in_hand hands Black) (small Black) kinds_in_text no_hands (white ++ [])
+    ∙ (kinds_back White (count_in_hand hands White) (small White) kinds_in_text (all_added Black (count_in_hand hands Black) kinds_in_text no_hands) []
     ∙ ap Some (all_back hands len))) in
     finished (black ++ white) hands done
 

@@ -6,15 +6,15 @@ use Rattle.shogi_core.specs.declared.piece.Color.{Color}
 use Rattle.shogi_core.specs.declared.piece.Kind.{Kind}
 use Rattle.shogi_core.specs.declared.piece.Piece.{Piece}
 use Rattle.shogi_core.specs.Pieces.{kind_of}
-use Rattle.shogi_core.specs.Position.{HandCounts, held, place_of}
+use Rattle.shogi_core.specs.Position.{HandCounts, count_in_hand, place_of}
 use Rattle.shogi_sfen.specs.declared.byte.TheConstants.{ZERO}
-use Rattle.shogi_sfen.specs.declared.hand_text.TheConstants.{MOST_COUNTED}
+use Rattle.shogi_sfen.specs.declared.hand_text.TheConstants.{COUNTED_MAX}
 use Rattle.shogi_sfen.specs.Letters.{piece_named}
 
 -- so many more of a kind held by the side
 abbrev pub capped_kind : HandCounts → ℕ → Color → Option Kind → Option HandCounts
 capped_kind hands count color None = None
-capped_kind hands count color (Some kind) = Some (slice_set hands (place_of color kind) (min MOST_COUNTED (held hands color kind + count)))
+capped_kind hands count color (Some kind) = Some (slice_set hands (place_of color kind) (min COUNTED_MAX (count_in_hand hands color kind + count)))
 
 -- so many more of a piece, if it can be held
 abbrev pub capped_piece : HandCounts → ℕ → Option Piece → Option HandCounts
@@ -23,7 +23,7 @@ capped_piece hands count (Some piece) = capped_kind hands count piece.color (kin
 
 -- one more digit of a count, of which the first is not 0
 abbrev pub capped_digit : Option ℕ → ℕ → Option ℕ
-capped_digit count byte = cond (is_none count && byte == ZERO) None (Some (min MOST_COUNTED (unwrap_or count 0 * 10 + (byte - ZERO))))
+capped_digit count byte = cond (is_none count && byte == ZERO) None (Some (min COUNTED_MAX (unwrap_or count 0 * 10 + (byte - ZERO))))
 
 -- the hands that the bytes say on top of those so far, where a count stands right before or none does
 abbrev pub capped_from : HandCounts → Option ℕ → List ℕ → Option HandCounts
@@ -36,4 +36,4 @@ capped_from hands count (byte ∷ bytes) =
 
 -- each count, or the most that is counted where it is greater
 abbrev pub capped : HandCounts → HandCounts
-capped hands = map (min MOST_COUNTED) hands
+capped hands = map (min COUNTED_MAX) hands

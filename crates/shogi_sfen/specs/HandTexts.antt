@@ -9,13 +9,13 @@ use Rattle.shogi_core.specs.declared.piece.Color.{Color}
 use Rattle.shogi_core.specs.declared.piece.Kind.{Kind}
 use Rattle.shogi_core.specs.declared.piece.Piece.{Piece}
 use Rattle.shogi_core.specs.Pieces.{kind_of}
-use Rattle.shogi_core.specs.Position.{HandCounts, held, place_of}
+use Rattle.shogi_core.specs.Position.{HandCounts, count_in_hand, place_of}
 use Rattle.shogi_sfen.specs.Letters.{piece_named}
 
 -- so many more of a kind held by the side
 abbrev pub with_kind : HandCounts → ℕ → Color → Option Kind → Option HandCounts
 with_kind hands count color None = None
-with_kind hands count color (Some kind) = Some (slice_set hands (place_of color kind) (held hands color kind + count))
+with_kind hands count color (Some kind) = Some (slice_set hands (place_of color kind) (count_in_hand hands color kind + count))
 
 -- so many more of a piece, if it can be held
 abbrev pub with_piece : HandCounts → ℕ → Option Piece → Option HandCounts

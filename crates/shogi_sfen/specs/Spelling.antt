@@ -7,7 +7,7 @@ use Rattle.shogi_core.specs.declared.piece.Color.{Color}
 use Rattle.shogi_core.specs.declared.piece.Kind.{Kind}
 use Rattle.shogi_core.specs.Movement.{Cells}
 use Rattle.shogi_core.specs.Pieces.{is_same_color, kind_number}
-use Rattle.shogi_core.specs.Position.{Shogi, HandCounts, held}
+use Rattle.shogi_core.specs.Position.{Shogi, HandCounts, count_in_hand}
 use Rattle.shogi_sfen.specs.declared.byte.TheConstants.{ZERO, SLASH}
 use Rattle.shogi_sfen.specs.Numbers.{number_written}
 use Rattle.shogi_sfen.specs.declared.board_text.RankItem.{RankItem}
@@ -65,7 +65,7 @@ pub record SpellsHands (text : List ℕ) (hands : HandCounts) : Type 0 where
   pub places : length hands ≡ 14
   pub items : List HandItem
   pub each : AllByRecursion (λ item. AreCountDigits item.digits) items
-  pub sums : (color : Color) (kind : Kind) → held hands color kind ≡ sum_by (count_in color kind) items
+  pub sums : (color : Color) (kind : Kind) → count_in_hand hands color kind ≡ sum_by (count_in color kind) items
   pub spelled : or_hyphen (flat_map hand_item_text items) ≡ text
 
 -- the first three words are a text of the position's board, one of its side to move, and one of its hands

@@ -6,7 +6,7 @@ use Rattle.shogi_core.specs.declared.piece.Color.TheVariants.{Black, White}
 use Rattle.shogi_core.specs.declared.piece.Kind.{Kind}
 use Rattle.shogi_core.specs.declared.piece.Kind.TheVariants as kinds
 use Rattle.shogi_core.specs.Movement.{Cells, piece_at}
-use Rattle.shogi_core.specs.Position.{Shogi, HandCounts, held}
+use Rattle.shogi_core.specs.Position.{Shogi, HandCounts, count_in_hand}
 use Rattle.shogi_sfen.specs.declared.byte.TheConstants.{ZERO, SPACE, SLASH}
 use Rattle.shogi_sfen.specs.Letters.{letter_of, in_case_of, piece_text}
 
@@ -51,7 +51,7 @@ kinds_in_text = kinds.Rook ∷ kinds.Bishop ∷ kinds.Gold ∷ kinds.Silver ∷ 
 
 -- what a side holds
 abbrev pub side_held_text : HandCounts → Color → List ℕ
-side_held_text hands color = flat_map (λ kind. held_text color kind (held hands color kind)) kinds_in_text
+side_held_text hands color = flat_map (λ kind. held_text color kind (count_in_hand hands color kind)) kinds_in_text
 
 -- a hyphen for nothing
 abbrev pub or_hyphen : List ℕ → List ℕ

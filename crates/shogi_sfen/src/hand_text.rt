@@ -11,7 +11,7 @@ use crate::letter::read_piece;
 use shogi_core::{Hands, Piece};
 
 /// Where a count in hand stays: more than any set has.
-pub const MOST_COUNTED: u8 = u8::MAX;
+pub const COUNTED_MAX: u8 = u8::MAX;
 
 /// One more digit of a count, of which the first is not 0; it stays at the most that is counted.
 fn with_digit(count: Option<u8>, byte: u8) -> Option<u8>
@@ -22,7 +22,7 @@ fn with_digit(count: Option<u8>, byte: u8) -> Option<u8>
         return None;
     }
     let number = count.unwrap_or(0) as u32 * 10 + (byte - ZERO) as u32;
-    Some(number.min(MOST_COUNTED as u32) as u8)
+    Some(number.min(COUNTED_MAX as u32) as u8)
 }
 
 /// So many more of a piece, if it can be held; a count stays at the most that is counted.

@@ -6,7 +6,7 @@ ghost use Rattle.shogi_sfen.specs.Written.{run_text, cells_text, rank_cells, ran
 ghost use Rattle.shogi_sfen.specs.Letters.{piece_text};
 ghost use Rattle.shogi_sfen.specs.declared.board_text.TheConstants.{RANK_SQUARES};
 ghost use Rattle.shogi_sfen.specs.declared.position_text.TheConstants.{TEXT_BYTES};
-ghost use Rattle.shogi_core.specs.Position.{held};
+ghost use Rattle.shogi_core.specs.Position.{count_in_hand};
 ghost use Rattle.shogi_sfen.specs.Words.{words};
 ghost use Rattle.shogi_sfen.specs.Sfen.{position_at, end_of, EndsWord};
 ghost use Rattle.shogi_sfen.specs.Spelling.{Spells};
@@ -138,7 +138,7 @@ const KINDS_IN_TEXT: [Kind; 7] = [
 /// What a side holds.
 fn push_side_held(text: &mut Text, hands: Hands, color: Color)
     requires room { length text.old.items + 21 ≤ TEXT_BYTES }
-    requires small { (kind : Kind) → held hands color kind < 100 }
+    requires small { (kind : Kind) → count_in_hand hands color kind < 100 }
     ensures value { text.new.items ≡ text.old.items ++ side_held_text hands color }
     ensures len { length text.new.items ≤ length text.old.items + 21 }
 {
@@ -150,7 +150,7 @@ fn push_side_held(text: &mut Text, hands: Hands, color: Color)
 /// What both sides hold, or a hyphen where they hold nothing.
 fn push_hands(text: &mut Text, hands: Hands)
     requires room { length text.old.items + 42 ≤ TEXT_BYTES }
-    requires small { (color : Color) (kind : Kind) → held hands color kind < 100 }
+    requires small { (color : Color) (kind : Kind) → count_in_hand hands color kind < 100 }
     ensures { text.new.items ≡ text.old.items ++ hands_text hands }
 {
     let start = text.len();

@@ -5,7 +5,7 @@ use std::alloc::Global;
 use std::cell::Cell;
 use std::io::{Error, ErrorKind, Read, Result, Write};
 
-/// Gives its bytes in pieces, and fails once it was read from so many times.
+/// Gives its bytes in chunks, and fails once it was read from so many times.
 #[derive(Drop)]
 pub struct FailingReader<'a> {
     bytes: &'a [u8],
@@ -174,21 +174,21 @@ impl Write for WatchedWriter<'_> {
     }
 }
 
-/// Gives one piece a read, and fails where the answers to the pieces before it, of so many bytes each,
+/// Gives one chunk a read, and fails where the answers to the chunks before it, of so many bytes each,
 /// are not flushed.
 #[derive(Drop)]
 pub struct WatchingReader<'a> {
     watch: &'a Watch,
-    pieces: &'a [(&'static str, usize)],
+    chunks: &'a [(&'static str, usize)],
     next: usize,
     owed: usize,
 }
 
 impl<'a> WatchingReader<'a> {
-    pub fn new(watch: &'a Watch, pieces: &'a [(&'static str, usize)]) -> WatchingReader<'a> {
+    pub fn new(watch: &'a Watch, chunks: &'a [(&'static str, usize)]) -> WatchingReader<'a> {
         WatchingReader {
             watch,
-            pieces,
+            chunks,
             next: 0,
             owed: 0,
         }
@@ -200,10 +200,10 @@ impl Read for WatchingReader<'_> {
         if self.watch.flushed.get() != self.owed {
             return Err(Error::from(ErrorKind::TimedOut));
         }
-        let Some((piece, answer)) = self.pieces.get(self.next) else {
+        let Some((chunk, answer)) = self.chunks.get(self.next) else {
             return Ok(0);
         };
-        let bytes = piece.as_bytes();
+        let bytes = chunk.as_bytes();
         let n = buf.len().min(bytes.len());
         buf[..n].copy_from_slice(&bytes[..n]);
         self.owed = self.owed.saturating_add(*answer);

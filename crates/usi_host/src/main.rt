@@ -3,7 +3,7 @@
 
 ghost use Rattle.std.specs.Prelude.{◌≡◌, ◌≤◌, IfOk};
 ghost use Rattle.session_slots.specs.declared.limits.TheConstants.{SESSIONS_MAX};
-ghost use Rattle.shared_table.specs.declared.table.TheConstants.{GREATEST_CAPACITY};
+ghost use Rattle.shared_table.specs.declared.table.TheConstants.{CAPACITY_MAX};
 ghost use Rattle.usi_host.specs.Answers.{HasRanges};
 ghost use Rattle.usi_host.specs.Statuses.{replay_status};
 
@@ -61,7 +61,7 @@ fn tell(rt: &HostRuntime, text: &str) -> ExitCode {
 /// One session over standard input and output.
 fn run(rt: &HostRuntime, entries: usize) -> ExitCode
     requires least { 1 ≤ entries }
-    requires most { entries ≤ GREATEST_CAPACITY }
+    requires most { entries ≤ CAPACITY_MAX }
 {
     let mut input = rt.reader();
     let mut output = io::writer(rt);
@@ -89,7 +89,7 @@ fn run_script(rt: &HostRuntime, slots: usize, entries: usize, slice: u64) -> Exi
     requires least_slots { 1 ≤ slots }
     requires most_slots { slots ≤ SESSIONS_MAX }
     requires least_entries { 1 ≤ entries }
-    requires most_entries { entries ≤ GREATEST_CAPACITY }
+    requires most_entries { entries ≤ CAPACITY_MAX }
     requires least_slice { 1 ≤ slice }
 {
     let mut input = rt.reader();
@@ -116,7 +116,7 @@ fn run_socket(
     requires least_slots { 1 ≤ slots }
     requires most_slots { slots ≤ SESSIONS_MAX }
     requires least_entries { 1 ≤ entries }
-    requires most_entries { entries ≤ GREATEST_CAPACITY }
+    requires most_entries { entries ≤ CAPACITY_MAX }
     requires least_slice { 1 ≤ slice }
 {
     let Ok(hasher) = RandomState::new(rt) else {

@@ -12,7 +12,7 @@ use clap::builder::ValueParser;
 use clap::error::ErrorKind;
 use clap::{Arg, ArgMatches, Command, Error};
 use session_slots::SESSIONS_MAX;
-use shared_table::GREATEST_CAPACITY;
+use shared_table::CAPACITY_MAX;
 use std::alloc::{AllocError, Global};
 use std::convert::AsStr;
 
@@ -141,7 +141,7 @@ fn stdio_job(options: &ArgMatches<'_>) -> Option<Job>
     ensures some { IfSome result (λ job. HasRanges job × IsStdioOf (rows_of (found_of options.now)) job) }
     ensures none { IfNone result (NamesNoStdio (rows_of (found_of options.now))) }
 {
-    let entries = number_of(options, "entries", GREATEST_CAPACITY)?;
+    let entries = number_of(options, "entries", CAPACITY_MAX)?;
     Some(Job::Stdio { entries })
 }
 
@@ -150,7 +150,7 @@ fn replay_job(options: &ArgMatches<'_>) -> Option<Job>
     ensures none { IfNone result (NamesNoReplay (rows_of (found_of options.now))) }
 {
     let slots = number_of(options, "slots", SESSIONS_MAX)?;
-    let entries = number_of(options, "entries", GREATEST_CAPACITY)?;
+    let entries = number_of(options, "entries", CAPACITY_MAX)?;
     let slice = number_of(options, "slice", STEPS_MAX)?;
     Some(Job::Replay {
         slots,
@@ -185,7 +185,7 @@ fn serve_numbers(options: &ArgMatches<'_>) -> Option<(usize, usize, u64, u64)>
     ensures none { IfNone result ((slots entries slice turns : ℕ) → HasServeRanges slots entries slice turns → NamesNumbers (rows_of (found_of options.now)) slots entries slice turns → ⊥) }
 {
     let slots = number_of(options, "slots", SESSIONS_MAX)?;
-    let entries = number_of(options, "entries", GREATEST_CAPACITY)?;
+    let entries = number_of(options, "entries", CAPACITY_MAX)?;
     let slice = number_of(options, "slice", STEPS_MAX)?;
     let turns = number_of(options, "turns", usize::MAX)?;
     Some((slots, entries, slice as u64, turns as u64))

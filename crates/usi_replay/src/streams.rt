@@ -3,7 +3,7 @@
 ghost use Rattle.std.specs.Prelude.{◌≡◌, ◌≤◌, MatchResult, OnOk, IfOk, IfErr};
 ghost use Rattle.usi_replay.specs.Replayed.{IsReplayed, IsFault, IsAllRead, IsReadFault, IsOutputOf, IsAnswerFault};
 ghost use Rattle.session_slots.specs.declared.limits.TheConstants.{SESSIONS_MAX};
-ghost use Rattle.shared_table.specs.declared.table.TheConstants.{GREATEST_CAPACITY};
+ghost use Rattle.shared_table.specs.declared.table.TheConstants.{CAPACITY_MAX};
 
 use crate::fault::ReplayFault;
 use crate::playback::Playback;
@@ -48,7 +48,7 @@ fn output_of<A: Allocator + Copy>(
     requires least_slots { 1 ≤ slots }
     requires most_slots { slots ≤ SESSIONS_MAX }
     requires least_entries { 1 ≤ entries }
-    requires most_entries { entries ≤ GREATEST_CAPACITY }
+    requires most_entries { entries ≤ CAPACITY_MAX }
     requires least_slice { 1 ≤ slice }
     ensures { MatchResult result (λ out. IsOutputOf slots script.now out.items) (IsAnswerFault slots script.now) }
 {
@@ -112,7 +112,7 @@ pub fn replay<A: Allocator + Copy, R: Read, W: Write>(
     requires least_slots { 1 ≤ slots }
     requires most_slots { slots ≤ SESSIONS_MAX }
     requires least_entries { 1 ≤ entries }
-    requires most_entries { entries ≤ GREATEST_CAPACITY }
+    requires most_entries { entries ≤ CAPACITY_MAX }
     requires least_slice { 1 ≤ slice }
     ensures replayed { OnOk result (IsReplayed slots (R.remaining reader.old) (R.remaining reader.new)
         (W.contents writer.old) (W.contents writer.new)) }

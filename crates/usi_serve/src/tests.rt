@@ -103,10 +103,10 @@ fn clients_that_end(rt: HostRuntime) -> Result<(), Fail> {
 
 // The system takes so many bytes for a peer that never reads, and no more.
 fn fill(wire: &mut MioWire<Global>, number: u64) -> Result<usize, WireFault> {
-    let piece = [7u8; 4096];
+    let chunk = [7u8; 4096];
     let mut sent = 0usize;
     for _ in 0..1000 {
-        let n = wire.write(number, &piece)?;
+        let n = wire.write(number, &chunk)?;
         if n == 0 {
             break;
         }

@@ -1,7 +1,7 @@
 -- What a `go` in hand owes and costs, one depth or one search at a time.
 use Rattle.std.proofs.Common.{◌≡◌, ◌≢◌, ℕ, zero, suc, ◌+◌, ◌-◌, ◌<◌, List, [], ◌++◌, refl, sym, ap, ◌∙◌, arith, append_assoc, append-nil}
 use Rattle.shogi_core.specs.Position.{Shogi}
-use Rattle.shogi_moves.specs.LegalMoves.{legal_moves}
+use Rattle.shogi_moves.specs.LegalMoves.{legal_codes}
 use Rattle.shogi_eval.specs.declared.eval.Eval.{Eval}
 use Rattle.shogi_search.specs.Minimax.{pv_cost, deepening_cost}
 use Rattle.shogi_search.proofs.Lines.{pv_cost-above, deepening_cost-none, deepening_cost-suc}
@@ -40,7 +40,7 @@ info_lines_above-from p eval (suc more) told =
     rw (n, info_lines_above-suc p eval told more, info_lines_above-from p eval more (told + 1), info_lines-more p eval told) (append_assoc (info_lines p eval told) (info_line p eval (told + 1)) (info_lines_above p eval (told + 1) more))
 
 -- before the first depth all is still to be said
-pub info_lines_above-all : (p : Shogi) (eval : Eval) (depth : ℕ) → legal_moves p ≢ [] → info_lines_above p eval 0 (depth - 0) ≡ go_infos p eval depth
+pub info_lines_above-all : (p : Shogi) (eval : Eval) (depth : ℕ) → legal_codes p ≢ [] → info_lines_above p eval 0 (depth - 0) ≡ go_infos p eval depth
 info_lines_above-all p eval depth h =
     let n : depth - 0 ≡ depth = omega arith in
     let m : 0 + depth ≡ depth = omega arith in

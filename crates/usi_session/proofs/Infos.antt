@@ -4,7 +4,7 @@ use Rattle.std.specs.Prelude.{is_some, false}
 use Rattle.shogi_core.specs.declared.moves.Move.{Move}
 use Rattle.shogi_core.specs.Position.{Shogi}
 use Rattle.shogi_eval.specs.declared.eval.Eval.{Eval}
-use Rattle.shogi_moves.specs.LegalMoves.{legal_moves}
+use Rattle.shogi_moves.specs.LegalMoves.{legal_codes}
 use Rattle.shogi_search.specs.Minimax.{best, pv}
 use Rattle.shogi_search.proofs.Lines.{pv-none}
 use Rattle.shogi_search.proofs.Best.{none_iff}
@@ -26,7 +26,7 @@ is_empty [] h = refl
 is_empty (x ∷ xs) h = absurd (h (λ e. cc))
 
 -- where no move is legal nothing is said
-pub go_infos-none : (p : Shogi) (eval : Eval) (depth : ℕ) → legal_moves p ≡ [] → go_infos p eval depth ≡ []
+pub go_infos-none : (p : Shogi) (eval : Eval) (depth : ℕ) → legal_codes p ≡ [] → go_infos p eval depth ≡ []
 go_infos-none p eval depth e = ap (go_infos_where p eval depth) e
 
 go_infos_where-some : (p : Shogi) (eval : Eval) (depth : ℕ) (codes : List ℕ) → codes ≢ [] → go_infos_where p eval depth codes ≡ info_lines p eval depth
@@ -34,13 +34,13 @@ go_infos_where-some p eval depth [] h = absurd (h refl)
 go_infos_where-some p eval depth (code ∷ codes) h = refl
 
 -- where a move is legal each depth is said
-pub go_infos-some : (p : Shogi) (eval : Eval) (depth : ℕ) → legal_moves p ≢ [] → go_infos p eval depth ≡ info_lines p eval depth
-go_infos-some p eval depth h = go_infos_where-some p eval depth (legal_moves p) h
+pub go_infos-some : (p : Shogi) (eval : Eval) (depth : ℕ) → legal_codes p ≢ [] → go_infos p eval depth ≡ info_lines p eval depth
+go_infos-some p eval depth h = go_infos_where-some p eval depth (legal_codes p) h
 
 none_is : (o : Option Move) → is_some o ≡ false → o ≡ None
 none_is None e = refl
 none_is (Some m) e = absurd (cc)
 
 -- where no move is legal the pv is empty
-pub pv-empty : (p : Shogi) (eval : Eval) (depth : ℕ) → 0 < depth → legal_moves p ≡ [] → pv p eval depth ≡ []
+pub pv-empty : (p : Shogi) (eval : Eval) (depth : ℕ) → 0 < depth → legal_codes p ≡ [] → pv p eval depth ≡ []
 pv-empty p eval depth h e = pv-none p eval depth h (none_is (best p eval depth) ((none_iff p eval depth (best p eval depth) refl).1 (inr e)))

@@ -3,7 +3,7 @@ use Rattle.std.proofs.Common.{◌≡◌, ℕ, zero, suc, List, [], ◌∷◌, �
 use Rattle.std.specs.Prelude.{codes, decimal, OnSome, unwrap_or}
 use Rattle.shogi_core.specs.Position.{Shogi}
 use Rattle.shogi_core.specs.declared.moves.Move.{Move}
-use Rattle.shogi_moves.specs.LegalMoves.{legal_moves}
+use Rattle.shogi_moves.specs.LegalMoves.{legal_codes}
 use Rattle.shogi_eval.specs.declared.eval.Eval.{Eval}
 use Rattle.shogi_search.specs.Minimax.{value, pv}
 use Rattle.shogi_sfen.specs.MoveTexts.{text_of}
@@ -113,7 +113,7 @@ answer-whole s NewGame = refl
 answer-whole s (Startpos rest) = answer_position-whole s (position_of_startpos rest)
 answer-whole s (Sfen rest) = answer_position-whole s (position_of_sfen rest)
 answer-whole s BadPosition = (bad_position_line-ends 0).ends LINE_FEED
-answer-whole s (Go depth hold) = write_or_hold-whole s (go_infos s.position s.options.eval (unwrap_or depth s.options.depth)) (bestmove_at s.position s.options.eval (unwrap_or depth s.options.depth) hold) hold (go_infos_where-whole s.position s.options.eval (unwrap_or depth s.options.depth) (legal_moves s.position))
+answer-whole s (Go depth hold) = write_or_hold-whole s (go_infos s.position s.options.eval (unwrap_or depth s.options.depth)) (bestmove_at s.position s.options.eval (unwrap_or depth s.options.depth) hold) hold (go_infos_where-whole s.position s.options.eval (unwrap_or depth s.options.depth) (legal_codes s.position))
 answer-whole s GoMate = refl
 answer-whole s Stop = answer_stop-whole s s.held
 answer-whole s PonderHit = answer_ponderhit-whole s s.held

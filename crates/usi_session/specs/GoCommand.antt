@@ -3,7 +3,7 @@ use Rattle.std.specs.Prelude.{ℕ, zero, suc, List, [], ◌∷◌, ◌++◌, Opt
 use Rattle.shogi_core.specs.declared.moves.Move.{Move}
 use Rattle.shogi_core.specs.Position.{Shogi}
 use Rattle.shogi_eval.specs.declared.eval.Eval.{Eval}
-use Rattle.shogi_moves.specs.LegalMoves.{legal_moves}
+use Rattle.shogi_moves.specs.LegalMoves.{legal_codes}
 use Rattle.usi_session.specs.Texts.{info_line}
 
 -- the move to play
@@ -26,4 +26,4 @@ go_infos_where position eval depth (code ∷ codes) = info_lines position eval d
 
 -- what is said of a position before the bestmove
 abbrev pub go_infos : Shogi → Eval → ℕ → List ℕ
-go_infos position eval depth = go_infos_where position eval depth (legal_moves position)
+go_infos position eval depth = go_infos_where position eval depth (legal_codes position)

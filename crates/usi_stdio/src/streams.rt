@@ -6,7 +6,7 @@ ghost use Rattle.usi_stdio.specs.Stdio.{WritesFront, IsAnswered, IsAnsweredInPar
 ghost use Rattle.usi_stdio.specs.declared.streams.StdioFault.TheVariants.{WriteFailed};
 ghost use Rattle.usi_session.specs.Due.{due, is_pending, wants_input};
 ghost use Rattle.usi_session.specs.declared.limits.TheConstants.{CHUNK_MAX};
-ghost use Rattle.shared_table.specs.declared.table.TheConstants.{GREATEST_CAPACITY};
+ghost use Rattle.shared_table.specs.declared.table.TheConstants.{CAPACITY_MAX};
 
 use shared_table::{SharedTable, TableFault};
 use shogi_search::Memo;
@@ -168,7 +168,7 @@ pub fn stdio<A: Allocator + Copy, R: Read, W: Write>(
     entries: usize,
 ) -> Result<(), StdioFault>
     requires least { 1 ≤ entries }
-    requires most { entries ≤ GREATEST_CAPACITY }
+    requires most { entries ≤ CAPACITY_MAX }
     ensures answered { OnOk result (IsAnswered (R.remaining reader.old) (R.remaining reader.new) (W.contents writer.old) (W.contents writer.new)) }
     ensures fault { OnErr result (IsAnsweredInPart (R.remaining reader.old) (R.remaining reader.new) (W.contents writer.old) (W.contents writer.new)) }
 {

@@ -4,11 +4,11 @@ ghost use Rattle.std.specs.Prelude.{◌≡◌, ◌≤◌, ◌<◌};
 ghost use Rattle.shogi_core.specs.Codes.{code_of};
 ghost use Rattle.shogi_moves.specs.Rising.{is_in};
 ghost use Rattle.shogi_search.specs.Ranked.{codes_in};
-ghost use Rattle.shogi_search.specs.declared.bounds.TheConstants.{GREATEST_DEPTH};
-ghost use Rattle.shogi_search.specs.declared.ranks.TheConstants.{MOST_LINES};
+ghost use Rattle.shogi_search.specs.declared.bounds.TheConstants.{SEARCH_DEPTH_MAX};
+ghost use Rattle.shogi_search.specs.declared.ranks.TheConstants.{PV_LINES_MAX};
 
 use crate::tests::position;
-use crate::{MOST_LINES, NoMemo, Ranks, search};
+use crate::{NoMemo, PV_LINES_MAX, Ranks, search};
 use shogi_core::{Color, Kind, Move, Position, Role};
 use shogi_eval::Eval;
 use shogi_moves::{apply, next_legal};
@@ -45,7 +45,7 @@ fn assert_list(rt: &impl Abort, ranks: &Ranks, wanted: &[(u16, i32)]) {
 // The list after the moves of these codes are offered with these values.
 fn assert_offered(rt: &impl Abort, lines: usize, offers: &[(u16, i32)], wanted: &[(u16, i32)])
     requires least { 1 ≤ lines }
-    requires most { lines ≤ MOST_LINES }
+    requires most { lines ≤ PV_LINES_MAX }
 {
     let mut ranks = Ranks::new(lines);
     assert_list(rt, &ranks, &[]);
@@ -99,15 +99,15 @@ fn eight_of_nine(rt: HostRuntime) {
         (9, 30000),
     ];
     assert_offered(&rt, 8, &offers, &wanted);
-    assert_offered(&rt, MOST_LINES, &offers, &wanted);
+    assert_offered(&rt, PV_LINES_MAX, &offers, &wanted);
 }
 
 // The best lines of a position, each move searched one ply less deep.
 fn assert_lines(rt: &impl Abort, p: &Position, depth: u8, lines: usize, wanted: &[(u16, i32)])
-    requires shallow { depth ≤ GREATEST_DEPTH }
+    requires shallow { depth ≤ SEARCH_DEPTH_MAX }
     requires deep { 0 < depth }
     requires least { 1 ≤ lines }
-    requires most { lines ≤ MOST_LINES }
+    requires most { lines ≤ PV_LINES_MAX }
 {
     let mut ranks = Ranks::new(lines);
     let mut passed: Option<Move> = None;

@@ -2,7 +2,7 @@ use Rattle.std.proofs.Common.{◌≤◌, ◌<◌, ◌∙◌, ◌+◌, ◌*◌, �
 use Rattle.std.specs.List.{flat_map}
 use Rattle.shogi_core.specs.declared.piece.Kind.{Kind}
 use Rattle.shogi_core.specs.declared.piece.Kind.TheVariants as kinds
-use Rattle.shogi_core.specs.Position.{held}
+use Rattle.shogi_core.specs.Position.{count_in_hand}
 use Rattle.shogi_sfen.specs.Written.{held_text, kinds_in_text}
 use Rattle.shogi_sfen.proofs.WriteLaws.{flat_take}
 use Rattle.shogi_sfen.proofs.position_text.push_side_held.Goals as goal
@@ -12,7 +12,7 @@ loop-kind-preserved c =
     let before : length c.loop-kind.text.items ≤ length c.args.text.now.items + 3 * c.loop-kind.kind-index = c.loop-kind.invariant.len in
     let after : length c.push_held.new.text.items ≤ length c.loop-kind.text.items + 3 = c.push_held.ensures.len in
     let below : c.loop-kind.kind-index < length kinds_in_text = c.loop-kind-test.true in
-    let text_of : Kind → List ℕ = λ (kind : Kind). held_text c.args.color kind (held c.args.hands c.args.color kind) in
+    let text_of : Kind → List ℕ = λ (kind : Kind). held_text c.args.color kind (count_in_hand c.args.hands c.args.color kind) in
     let here : Kind = get_or kinds_in_text c.loop-kind.kind-index kinds.Pawn in
     let so_far : List ℕ = flat_map text_of (take c.loop-kind.kind-index kinds_in_text) in
     record {

@@ -1,6 +1,6 @@
 use Rattle.std.proofs.Common.{◌∙◌, ◌<◌, ◌++◌, ◌∷◌, [], ℕ, List, ap, sym, subst}
 use Rattle.std.specs.Prelude.{Result, Ok}
-use Rattle.shogi_core.specs.Position.{Shogi, HandCounts, held}
+use Rattle.shogi_core.specs.Position.{Shogi, HandCounts, count_in_hand}
 use Rattle.shogi_sfen.specs.declared.position.SfenFault.{SfenFault}
 use Rattle.shogi_sfen.specs.Sfen.{end_of}
 use Rattle.shogi_sfen.proofs.SpelledPositions.{read-spelled}
@@ -11,7 +11,7 @@ use Rattle.shogi_sfen.proofs.position_text.write_position.Goals as goal
 
 pub push_hands-requires-clause-small : goal.push_hands-requires-clause-small
 push_hands-requires-clause-small c =
-    λ color kind. subst (λ (hands : HandCounts). held hands color kind < 100) (sym c.hands.ensures) (few_held c.args.position.now c.validity.ensures color kind)
+    λ color kind. subst (λ (hands : HandCounts). count_in_hand hands color kind < 100) (sym c.hands.ensures) (few_held c.args.position.now c.validity.ensures color kind)
 
 pub returns-clause-back : goal.returns-clause-back
 returns-clause-back c = λ tail ends. written_back c.args.position.now c.validity.ensures tail ends

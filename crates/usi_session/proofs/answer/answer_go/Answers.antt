@@ -1,5 +1,5 @@
 use Rattle.std.proofs.Common.{◌≡◌, [], arith, rules, refl}
-use Rattle.shogi_moves.specs.LegalMoves.{legal_moves}
+use Rattle.shogi_moves.specs.LegalMoves.{legal_codes}
 use Rattle.usi_session.proofs.Infos.{is_empty, go_infos-none, pv-empty}
 use Rattle.usi_session.proofs.HandLaws.{info_lines_above-all, load_at_first}
 use Rattle.usi_session.proofs.answer.answer_go.Goals as goal
@@ -16,10 +16,10 @@ returns-then-has_legal-clause-load g c =
 -- no move is legal, and the pv is empty
 pub returns-clause-bytes : goal.returns-clause-bytes
 returns-clause-bytes g c =
-    let none : legal_moves c.args.state.now.position ≡ [] = is_empty _ (λ some. search rules) in
+    let none : legal_codes c.args.state.now.position ≡ [] = is_empty _ (λ some. search rules) in
     rw (go_infos-none c.args.state.now.position c.args.state.now.options.eval c.args.depth none, pv-empty c.args.state.now.position c.args.state.now.options.eval c.args.depth (omega arith) none) c.in_ok-write_or_hold.ensures.bytes
 
 pub returns-clause-state : goal.returns-clause-state
 returns-clause-state g c =
-    let none : legal_moves c.args.state.now.position ≡ [] = is_empty _ (λ some. search rules) in
+    let none : legal_codes c.args.state.now.position ≡ [] = is_empty _ (λ some. search rules) in
     rw (go_infos-none c.args.state.now.position c.args.state.now.options.eval c.args.depth none, pv-empty c.args.state.now.position c.args.state.now.options.eval c.args.depth (omega arith) none) c.in_ok-write_or_hold.ensures.state

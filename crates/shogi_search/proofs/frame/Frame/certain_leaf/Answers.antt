@@ -4,7 +4,7 @@ use Rattle.shogi_core.specs.Codes.{code_of}
 use Rattle.shogi_core.specs.Position.{Shogi}
 use Rattle.shogi_eval.specs.Material.{material_of}
 use Rattle.shogi_moves.specs.After.{after, after_code}
-use Rattle.shogi_moves.specs.LegalMoves.{legal_moves}
+use Rattle.shogi_moves.specs.LegalMoves.{legal_codes}
 use Rattle.shogi_moves.proofs.LegalLaws.{after_code_of, listed_to_legal}
 use Rattle.shogi_search.specs.Minimax.{value}
 use Rattle.shogi_search.proofs.MinimaxLaws.{leaf_some}
@@ -23,7 +23,7 @@ score_after-requires c =
 
 pub returns-then-is_certain : goal.returns-then-is_certain
 returns-then-is_certain c =
-    let some : legal_moves (after c.args.self.now.node.position c.args.current.now) ≢ [] = rw c.as_position.ensures at c.is_certain.ensures c.if-is_certain.true in
+    let some : legal_codes (after c.args.self.now.node.position c.args.current.now) ≢ [] = rw c.as_position.ensures at c.is_certain.ensures c.if-is_certain.true in
     let leaf : value (after_code c.args.self.now.node.position (code_of c.args.current.now)) c.args.self.now.node.eval 0 ≡ material_of (after c.args.self.now.node.position c.args.current.now) c.args.self.now.node.eval =
     ap (λ (q : Shogi). value q c.args.self.now.node.eval 0) (after_code_of c.args.self.now.node.position c.args.current.now c.validity.ensures.back) ∙ leaf_some (after c.args.self.now.node.position c.args.current.now) c.args.self.now.node.eval some in
     let f : FitsSigned w32 c.score_after.result = search rules in
