@@ -6,7 +6,7 @@ use Rattle.std.proofs.Math.IntN.{suc_ℤ-*ℤ, zero-*ℤ}
 use Rattle.std.proofs.lemmas.Bool.{cases_Bool, cond-true, cond-false, and_parts, and_from, ltb-true, lt-ltb, eqb-true, eq-eqb}
 use Rattle.shogi_core.specs.declared.offset.Offset.{Offset}
 use Rattle.shogi_core.specs.Below.{all_below}
-use Rattle.shogi_core.specs.Movement.{Cells, square_at, is_at, away, leads, offset_by, is_clear, is_empty, slides_across}
+use Rattle.shogi_core.specs.Movement.{Cells, square_at, is_same_square, away, leads, offset_by, is_step_empty, is_empty, slides_across}
 use Rattle.shogi_core.proofs.Below.{all_below_at, all_below_yes}
 use Rattle.shogi_core.specs.Lines.{back}
 
@@ -105,12 +105,12 @@ away_is n o a x e = found _ _ x e
 
 -- ---- slides back
 
-pub leads_is : (s : Option ℕ) (b : ℕ) → is_at s b ≡ true → s ≡ Some b
+pub leads_is : (s : Option ℕ) (b : ℕ) → is_same_square s b ≡ true → s ≡ Some b
 leads_is None b e = absurd (cc)
 leads_is (Some a) b e = ap Some (eqb-true a b e)
 
-pub is_leads : (s : Option ℕ) (b : ℕ) → s ≡ Some b → is_at s b ≡ true
-is_leads s b e = ap (λ (t : Option ℕ). is_at t b) e ∙ eq-eqb b b refl
+pub is_leads : (s : Option ℕ) (b : ℕ) → s ≡ Some b → is_same_square s b ≡ true
+is_leads s b e = ap (λ (t : Option ℕ). is_same_square t b) e ∙ eq-eqb b b refl
 
 pub same_test : (x y : Bool) → (x ≡ true → y ≡ true) → (y ≡ true → x ≡ true) → x ≡ y
 same_test true y f g = sym (f refl)
@@ -121,15 +121,15 @@ pub all_below_turned : (n : ℕ) (s t : ℕ → Bool) → ((i : ℕ) → i < n �
 all_below_turned n s t h e = all_below_yes n s (λ i l. h i l ∙ all_below_at n t (n - 1 - i) e (omega arith))
 
 -- the squares between are those seen from the other end
-clear_back : (cells : Cells) (o : Offset) (a b n i : ℕ) → i < n → away (n + 1) o a ≡ Some b → is_clear cells o a i ≡ is_clear cells (back o) b (n - 1 - i)
+clear_back : (cells : Cells) (o : Offset) (a b n i : ℕ) → i < n → away (n + 1) o a ≡ Some b → is_step_empty cells o a i ≡ is_step_empty cells (back o) b (n - 1 - i)
 clear_back cells o a b n i h e =
     let sum : i + 1 + (n - 1 - i + 1) ≡ n + 1 = omega arith in
     ap (is_empty cells) (sym (away_between (i + 1) (n - 1 - i + 1) o a b (ap (λ (k : ℕ). away k o a) sum ∙ e)))
 
 pub slides_past_back : (cells : Cells) (o : Offset) (a b n : ℕ) → a < 81 → slides_across cells o a b n ≡ true → slides_across cells (back o) b a n ≡ true
 slides_past_back cells o a b n h e =
-    let parts : (leads (n + 1) o a b ≡ true) × (all_below n (is_clear cells o a) ≡ true) = and_parts _ _ e in
+    let parts : (leads (n + 1) o a b ≡ true) × (all_below n (is_step_empty cells o a) ≡ true) = and_parts _ _ e in
     let there : away (n + 1) o a ≡ Some b = leads_is _ b parts.0 in
     let here : away (n + 1) (back o) b ≡ Some a = away_back (n + 1) o a b h there in
-    and_from _ _ (is_leads _ a here) (all_below_turned n (is_clear cells (back o) b) (is_clear cells o a) (λ i l.
-    sym (clear_back cells o a b n (n - 1 - i) (omega arith) there ∙ ap (is_clear cells (back o) b) (let e : n - 1 - (n - 1 - i) ≡ i = omega arith in e))) parts.1)
+    and_from _ _ (is_leads _ a here) (all_below_turned n (is_step_empty cells (back o) b) (is_step_empty cells o a) (λ i l.
+    sym (clear_back cells o a b n (n - 1 - i) (omega arith) there ∙ ap (is_step_empty cells (back o) b) (let e : n - 1 - (n - 1 - i) ≡ i = omega arith in e))) parts.1)

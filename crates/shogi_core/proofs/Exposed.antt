@@ -14,7 +14,7 @@ use Rattle.shogi_core.specs.declared.piece.Piece.{Piece}
 use Rattle.shogi_core.specs.Attack.{is_attacked_from, is_attacked, is_open_king, in_check}
 use Rattle.shogi_core.specs.Below.{some_below, all_below}
 use Rattle.shogi_core.specs.Cell.{is_piece_of, is_king}
-use Rattle.shogi_core.specs.Movement.{Cells, away, leads, offset_by, is_clear, is_empty, slides_across, slides, for_side, slides_of, has_slide, has_step, cell_reaches, reaches, piece_at}
+use Rattle.shogi_core.specs.Movement.{Cells, away, leads, offset_by, is_step_empty, is_empty, slides_across, slides, for_side, slides_of, has_slide, has_step, cell_reaches, reaches, piece_at}
 use Rattle.shogi_core.specs.Pieces.{opponent_of}
 use Rattle.shogi_core.proofs.Below.{all_below_at, all_below_yes, some_below_at, some_below_not, some_below_no}
 use Rattle.shogi_core.specs.Lines.{around, are_lined, is_line_to_king, is_lined_with_king}
@@ -73,10 +73,10 @@ some_below_which (suc n) test e = elim (or_cases _ _ e) [
 
 module _ (old new : Cells) (Left : ℕ → Type 0) (opened : (x : ℕ) → is_none (piece_at new x) ≡ true → (is_none (piece_at old x) ≡ true) ⊎ Left x) where
   -- a square on which the slide now passes was empty, or was left and has an open line to the end
-  clear_here : (o : Offset) (a i : ℕ) → is_clear new o a i ≡ true → (is_clear old o a i ≡ true) ⊎ ((x : ℕ) × (away (i + 1) o a ≡ Some x) × Left x)
+  clear_here : (o : Offset) (a i : ℕ) → is_step_empty new o a i ≡ true → (is_step_empty old o a i ≡ true) ⊎ ((x : ℕ) × (away (i + 1) o a ≡ Some x) × Left x)
   clear_here o a i e = found (away (i + 1) o a) refl e
     where
-      found : (s : Option ℕ) → away (i + 1) o a ≡ s → is_empty new s ≡ true → (is_clear old o a i ≡ true) ⊎ ((x : ℕ) × (away (i + 1) o a ≡ Some x) × Left x)
+      found : (s : Option ℕ) → away (i + 1) o a ≡ s → is_empty new s ≡ true → (is_step_empty old o a i ≡ true) ⊎ ((x : ℕ) × (away (i + 1) o a ≡ Some x) × Left x)
       found None at e = absurd (cc)
       found (Some x) at e = elim (opened x e) [
         | inl was ↦ inl (ap (is_empty old) at ∙ was)
@@ -84,15 +84,15 @@ module _ (old new : Cells) (Left : ℕ → Type 0) (opened : (x : ℕ) → is_no
       ]
 
   -- from the far end of the slide back, the squares were empty, or one of them was left behind which all were
-  behind : (o : Offset) (a n s d : ℕ) → n < 8 → away (n + 1) o a ≡ Some s → all_below n (is_clear new o a) ≡ true
-      → ((x : ℕ) × Left x × (slides old o x s ≡ true)) ⊎ ((i : ℕ) → i < n → n ≤ i + d → is_clear old o a i ≡ true)
+  behind : (o : Offset) (a n s d : ℕ) → n < 8 → away (n + 1) o a ≡ Some s → all_below n (is_step_empty new o a) ≡ true
+      → ((x : ℕ) × Left x × (slides old o x s ≡ true)) ⊎ ((i : ℕ) → i < n → n ≤ i + d → is_step_empty old o a i ≡ true)
   behind o a n s zero small there clear = inr (λ i l g. absurd (omega arith))
   behind o a n s (suc d) small there clear = elim (behind o a n s d small there clear) [
     | inl lined ↦ inl lined
     | inr rest ↦ elim (cases_lt d n) [
-      | inl more ↦ elim (clear_here o a (n - suc d) (all_below_at n (is_clear new o a) (n - suc d) clear (omega arith))) [
+      | inl more ↦ elim (clear_here o a (n - suc d) (all_below_at n (is_step_empty new o a) (n - suc d) clear (omega arith))) [
         | inl was ↦ inr (λ i l g. elim (cases_eq i (n - suc d)) [
-          | inl same ↦ subst (λ (k : ℕ). is_clear old o a k ≡ true) (sym same) was
+          | inl same ↦ subst (λ (k : ℕ). is_step_empty old o a k ≡ true) (sym same) was
           | inr other ↦ rest i l (omega arith)
         ])
         | inr left ↦ (
@@ -103,7 +103,7 @@ module _ (old new : Cells) (Left : ℕ → Type 0) (opened : (x : ℕ) → is_no
             inl (
               x,
               left.2,
-              some_below_at 8 (slides_across old o x s) d (omega arith) (and_from _ _ (is_leads _ s led) (all_below_yes d (is_clear old o x) (λ j l.
+              some_below_at 8 (slides_across old o x s) d (omega arith) (and_from _ _ (is_leads _ s led) (all_below_yes d (is_step_empty old o x) (λ j l.
                   let further : n - suc d + 1 + (j + 1) ≡ n - suc d + 1 + j + 1 = omega arith in
                   ap (is_empty old) (away_on (n - suc d + 1) (j + 1) o a x at ∙ ap (λ (k : ℕ). away k o a) further) ∙ rest (n - suc d + 1 + j) (omega arith) (omega arith)))),
             ))
@@ -116,10 +116,10 @@ module _ (old new : Cells) (Left : ℕ → Type 0) (opened : (x : ℕ) → is_no
   slides_was o a s e =
       let which = some_below_which 8 (slides_across new o a s) e in
       let n = which.0 in
-      let parts : (leads (n + 1) o a s ≡ true) × (all_below n (is_clear new o a) ≡ true) = and_parts _ _ which.2 in
+      let parts : (leads (n + 1) o a s ≡ true) × (all_below n (is_step_empty new o a) ≡ true) = and_parts _ _ which.2 in
       elim (behind o a n s n which.1 (leads_is _ s parts.0) parts.1) [
         | inl lined ↦ inl lined
-        | inr clear ↦ inr (some_below_at 8 (slides_across old o a s) n which.1 (and_from _ _ parts.0 (all_below_yes n (is_clear old o a) (λ i l. clear i l (omega arith)))))
+        | inr clear ↦ inr (some_below_at 8 (slides_across old o a s) n which.1 (and_from _ _ parts.0 (all_below_yes n (is_step_empty old o a) (λ i l. clear i l (omega arith)))))
       ]
 
   -- where no square that was left is on an open line with s, a slide to s was there before
@@ -237,10 +237,10 @@ module _ (old new : Cells) (Left : ℕ → Type 0) (opened : (x : ℕ) → is_no
 
 module _ (old new : Cells) (to : ℕ) (shut : (x : ℕ) → is_none (piece_at old x) ≡ true → (is_none (piece_at new x) ≡ true) ⊎ (x ≡ to)) where
   -- a clear square is clear after the move, or the move ends there
-  stays_clear : (o : Offset) (a i : ℕ) → is_clear old o a i ≡ true → (is_clear new o a i ≡ true) ⊎ (away (i + 1) o a ≡ Some to)
+  stays_clear : (o : Offset) (a i : ℕ) → is_step_empty old o a i ≡ true → (is_step_empty new o a i ≡ true) ⊎ (away (i + 1) o a ≡ Some to)
   stays_clear o a i e = found (away (i + 1) o a) refl e
     where
-      found : (s : Option ℕ) → away (i + 1) o a ≡ s → is_empty old s ≡ true → (is_clear new o a i ≡ true) ⊎ (away (i + 1) o a ≡ Some to)
+      found : (s : Option ℕ) → away (i + 1) o a ≡ s → is_empty old s ≡ true → (is_step_empty new o a i ≡ true) ⊎ (away (i + 1) o a ≡ Some to)
       found None at e = absurd (cc)
       found (Some x) at e = elim (shut x e) [
         | inl still ↦ inl (ap (is_empty new) at ∙ still)
@@ -252,16 +252,16 @@ module _ (old new : Cells) (to : ℕ) (shut : (x : ℕ) → is_none (piece_at ol
   slide_stays o a s off e =
       let which = some_below_which 8 (slides_across old o a s) e in
       let n = which.0 in
-      let parts : (leads (n + 1) o a s ≡ true) × (all_below n (is_clear old o a) ≡ true) = and_parts _ _ which.2 in
-      some_below_at 8 (slides_across new o a s) n which.1 (and_from _ _ parts.0 (all_below_yes n (is_clear new o a) (λ i l. elim (stays_clear o a i (all_below_at n (is_clear old o a) i parts.1 l)) [
+      let parts : (leads (n + 1) o a s ≡ true) × (all_below n (is_step_empty old o a) ≡ true) = and_parts _ _ which.2 in
+      some_below_at 8 (slides_across new o a s) n which.1 (and_from _ _ parts.0 (all_below_yes n (is_step_empty new o a) (λ i l. elim (stays_clear o a i (all_below_at n (is_step_empty old o a) i parts.1 l)) [
         | inl clear ↦ clear
         | inr at ↦ absurd (
             let sum : i + 1 + (n - suc i + 1) ≡ n + 1 = omega arith in
             let led : away (n - suc i + 1) o to ≡ Some s = away_on (i + 1) (n - suc i + 1) o a to at ∙ (ap (λ (k : ℕ). away k o a) sum ∙ leads_is _ s parts.0) in
             both_ways (slides old o to s) off
-            (some_below_at 8 (slides_across old o to s) (n - suc i) (omega (arith, which.1)) (and_from _ _ (is_leads _ s led) (all_below_yes (n - suc i) (is_clear old o to) (λ j m.
+            (some_below_at 8 (slides_across old o to s) (n - suc i) (omega (arith, which.1)) (and_from _ _ (is_leads _ s led) (all_below_yes (n - suc i) (is_step_empty old o to) (λ j m.
             let further : i + 1 + (j + 1) ≡ i + 1 + j + 1 = omega arith in
-            ap (is_empty old) (away_on (i + 1) (j + 1) o a to at ∙ ap (λ (k : ℕ). away k o a) further) ∙ all_below_at n (is_clear old o a) (i + 1 + j) parts.1 (omega arith))))))
+            ap (is_empty old) (away_on (i + 1) (j + 1) o a to at ∙ ap (λ (k : ℕ). away k o a) further) ∙ all_below_at n (is_step_empty old o a) (i + 1 + j) parts.1 (omega arith))))))
       ])))
 
   has_slide_stays : (piece : Piece) (a s : ℕ) → are_lined old to s ≡ false → has_slide old piece a s ≡ true → has_slide new piece a s ≡ true

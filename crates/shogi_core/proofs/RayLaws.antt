@@ -5,7 +5,7 @@ use Rattle.std.proofs.lemmas.Int.{ints}
 use Rattle.std.proofs.lemmas.Bool.{cases_Bool, cases_lt, false_from_ne_true, both_ways, and_parts, and_from, not-true, not_from_false}
 use Rattle.shogi_core.specs.declared.offset.Offset.{Offset}
 use Rattle.shogi_core.specs.Below.{all_below, some_below}
-use Rattle.shogi_core.specs.Movement.{Cells, away, leads, is_clear, is_empty, slides_across, slides, piece_at}
+use Rattle.shogi_core.specs.Movement.{Cells, away, leads, is_step_empty, is_empty, slides_across, slides, piece_at}
 use Rattle.shogi_core.proofs.Below.{all_below_at, all_below_yes, some_below_at, some_below_no, some_below_not}
 use Rattle.shogi_core.specs.Rays.{is_on_ray}
 use Rattle.shogi_core.proofs.Back.{away_on, away_is, leads_is, is_leads, times_zero, times_add, one_more, same_test}
@@ -61,7 +61,7 @@ nearer_down o a x y m n down ex ey low = elim (cases_lt n m) [
 ]
 
 -- an empty board has only empty squares
-clear_of : (cells : Cells) (o : Offset) (a i : ℕ) → is_clear cells o a i ≡ true → is_clear [] o a i ≡ true
+clear_of : (cells : Cells) (o : Offset) (a i : ℕ) → is_step_empty cells o a i ≡ true → is_step_empty [] o a i ≡ true
 clear_of cells o a i e = go (away (i + 1) o a) e
   where
     go : (s : Option ℕ) → is_empty cells s ≡ true → is_empty [] s ≡ true
@@ -74,24 +74,24 @@ prefix n m test e l = all_below_yes m test (λ i h. all_below_at n test i e (ome
 
 module _ (cells : Cells) (o : Offset) (a : ℕ) where
   -- the square on the way, and that it is on the line
-  way : (n i : ℕ) → n < 8 → i < n → all_below n (is_clear [] o a) ≡ true → (x : ℕ) × (away (i + 1) o a ≡ Some x) × (is_on_ray o a x ≡ true)
-  way n i h l clear = go (away (i + 1) o a) refl (all_below_at n (is_clear [] o a) i clear l)
+  way : (n i : ℕ) → n < 8 → i < n → all_below n (is_step_empty [] o a) ≡ true → (x : ℕ) × (away (i + 1) o a ≡ Some x) × (is_on_ray o a x ≡ true)
+  way n i h l clear = go (away (i + 1) o a) refl (all_below_at n (is_step_empty [] o a) i clear l)
     where
       go : (s : Option ℕ) → away (i + 1) o a ≡ s → is_empty [] s ≡ true → (x : ℕ) × (away (i + 1) o a ≡ Some x) × (is_on_ray o a x ≡ true)
       go None at e = absurd (cc)
-      go (Some x) at e = (x, at, some_below_at 8 (slides_across [] o a x) i (omega arith) (and_from _ _ (is_leads _ x at) (prefix n i (is_clear [] o a) clear (omega arith))))
+      go (Some x) at e = (x, at, some_below_at 8 (slides_across [] o a x) i (omega arith) (and_from _ _ (is_leads _ x at) (prefix n i (is_step_empty [] o a) clear (omega arith))))
 
   -- a slide over an empty board, where the squares on the way are empty
-  slides_over : (b n : ℕ) → n < 8 → slides_across [] o a b n ≡ true → ((i : ℕ) → i < n → is_clear cells o a i ≡ true) → slides cells o a b ≡ true
+  slides_over : (b n : ℕ) → n < 8 → slides_across [] o a b n ≡ true → ((i : ℕ) → i < n → is_step_empty cells o a i ≡ true) → slides cells o a b ≡ true
   slides_over b n h past clear =
-      let parts : (leads (n + 1) o a b ≡ true) × (all_below n (is_clear [] o a) ≡ true) = and_parts _ _ past in
-      some_below_at 8 (slides_across cells o a b) n h (and_from _ _ parts.0 (all_below_yes n (is_clear cells o a) clear))
+      let parts : (leads (n + 1) o a b ≡ true) × (all_below n (is_step_empty [] o a) ≡ true) = and_parts _ _ past in
+      some_below_at 8 (slides_across cells o a b) n h (and_from _ _ parts.0 (all_below_yes n (is_step_empty cells o a) clear))
 
   pub slides_bare : (b : ℕ) → slides cells o a b ≡ true → is_on_ray o a b ≡ true
   slides_bare b e =
       let which = some_below_which 8 (slides_across cells o a b) e in
-      let parts : (leads (which.0 + 1) o a b ≡ true) × (all_below which.0 (is_clear cells o a) ≡ true) = and_parts _ _ which.2 in
-      some_below_at 8 (slides_across [] o a b) which.0 which.1 (and_from _ _ parts.0 (all_below_yes which.0 (is_clear [] o a) (λ i l. clear_of cells o a i (all_below_at which.0 (is_clear cells o a) i parts.1 l))))
+      let parts : (leads (which.0 + 1) o a b ≡ true) × (all_below which.0 (is_step_empty cells o a) ≡ true) = and_parts _ _ which.2 in
+      some_below_at 8 (slides_across [] o a b) which.0 which.1 (and_from _ _ parts.0 (all_below_yes which.0 (is_step_empty [] o a) (λ i l. clear_of cells o a i (all_below_at which.0 (is_step_empty cells o a) i parts.1 l))))
 
   -- no piece on the line: the slide reaches all of it
   pub slides_free : ((x : ℕ) → is_on_ray o a x ≡ true → is_none (piece_at cells x) ≡ true) → (b : ℕ) → is_on_ray o a b ≡ slides cells o a b
@@ -100,7 +100,7 @@ module _ (cells : Cells) (o : Offset) (a : ℕ) where
       forth : is_on_ray o a b ≡ true → slides cells o a b ≡ true
       forth e =
           let which = some_below_which 8 (slides_across [] o a b) e in
-          let parts : (leads (which.0 + 1) o a b ≡ true) × (all_below which.0 (is_clear [] o a) ≡ true) = and_parts _ _ which.2 in
+          let parts : (leads (which.0 + 1) o a b ≡ true) × (all_below which.0 (is_step_empty [] o a) ≡ true) = and_parts _ _ which.2 in
           slides_over b which.0 which.1 which.2 (λ i l. (
           let on = way which.0 i which.1 l parts.1 in
           ap (is_empty cells) on.1 ∙ free on.0 on.2))
@@ -119,7 +119,7 @@ module _ (cells : Cells) (o : Offset) (a : ℕ) where
         forth e =
             let both : (is_on_ray o a b ≡ true) × (not (is_on_ray o f b) ≡ true) = and_parts (is_on_ray o a b) (not (is_on_ray o f b)) e in
             let which = some_below_which 8 (slides_across [] o a b) both.0 in
-            let parts : (leads (which.0 + 1) o a b ≡ true) × (all_below which.0 (is_clear [] o a) ≡ true) = and_parts _ _ which.2 in
+            let parts : (leads (which.0 + 1) o a b ≡ true) × (all_below which.0 (is_step_empty [] o a) ≡ true) = and_parts _ _ which.2 in
             slides_over b which.0 which.1 which.2 (λ i l. (
             let on = way which.0 i which.1 l parts.1 in
             elim (cases_Bool (is_none (piece_at cells on.0))) [
@@ -128,22 +128,22 @@ module _ (cells : Cells) (o : Offset) (a : ℕ) where
                   let le : n ≤ i = first i on.0 (omega arith) on.1 on.2 piece in
                   let sum : n + 1 + (which.0 - n - 1 + 1) ≡ which.0 + 1 = omega arith in
                   let there : away (which.0 - n - 1 + 1) o f ≡ Some b = away_on (n + 1) (which.0 - n - 1 + 1) o a f at_first ∙ (ap (λ (k : ℕ). away k o a) sum ∙ leads_is _ b parts.0) in
-                  let beyond : is_on_ray o f b ≡ true = some_below_at 8 (slides_across [] o f b) (which.0 - n - 1) (omega arith) (and_from _ _ (is_leads _ b there) (all_below_yes (which.0 - n - 1) (is_clear [] o f) (λ j k.
+                  let beyond : is_on_ray o f b ≡ true = some_below_at 8 (slides_across [] o f b) (which.0 - n - 1) (omega arith) (and_from _ _ (is_leads _ b there) (all_below_yes (which.0 - n - 1) (is_step_empty [] o f) (λ j k.
                   let further : n + 1 + (j + 1) ≡ n + 1 + j + 1 = omega arith in
-                  ap (is_empty []) (away_on (n + 1) (j + 1) o a f at_first ∙ ap (λ (k : ℕ). away k o a) further) ∙ all_below_at which.0 (is_clear [] o a) (n + 1 + j) parts.1 (omega arith)))) in
+                  ap (is_empty []) (away_on (n + 1) (j + 1) o a f at_first ∙ ap (λ (k : ℕ). away k o a) further) ∙ all_below_at which.0 (is_step_empty [] o a) (n + 1 + j) parts.1 (omega arith)))) in
                   both_ways (is_on_ray o f b) (not-true _ both.1) beyond)
             ]))
 
         back : slides cells o a b ≡ true → (is_on_ray o a b && not (is_on_ray o f b)) ≡ true
         back e =
             let which = some_below_which 8 (slides_across cells o a b) e in
-            let parts : (leads (which.0 + 1) o a b ≡ true) × (all_below which.0 (is_clear cells o a) ≡ true) = and_parts _ _ which.2 in
+            let parts : (leads (which.0 + 1) o a b ≡ true) × (all_below which.0 (is_step_empty cells o a) ≡ true) = and_parts _ _ which.2 in
             and_from (is_on_ray o a b) (not (is_on_ray o f b)) (slides_bare b e) (not_from_false _ (false_from_ne_true (is_on_ray o f b) (λ beyond.
             let j = some_below_which 8 (slides_across [] o f b) beyond in
             let there : away (j.0 + 1) o f ≡ Some b = leads_is _ b ((and_parts _ _ j.2).0) in
             let far : away (n + 1 + (j.0 + 1)) o a ≡ Some b = sym (away_on (n + 1) (j.0 + 1) o a f at_first) ∙ there in
             let steps : n + 1 + (j.0 + 1) ≤ which.0 + 1 = apart (n + 1 + (j.0 + 1)) (which.0 + 1) b far (leads_is _ b parts.0) in
-            let clear : is_clear cells o a n ≡ true = all_below_at which.0 (is_clear cells o a) n parts.1 (omega arith) in
+            let clear : is_step_empty cells o a n ≡ true = all_below_at which.0 (is_step_empty cells o a) n parts.1 (omega arith) in
             both_ways (is_none (piece_at cells f)) taken (ap (is_empty cells) (sym at_first) ∙ clear))))
 
   -- indexes rise: the slide reaches what is on the line with no piece on it of lower index
@@ -157,7 +157,7 @@ module _ (cells : Cells) (o : Offset) (a : ℕ) where
         forth e =
             let both : (is_on_ray o a b ≡ true) × (not (some_below b taken) ≡ true) = and_parts (is_on_ray o a b) (not (some_below b taken)) e in
             let which = some_below_which 8 (slides_across [] o a b) both.0 in
-            let parts : (leads (which.0 + 1) o a b ≡ true) × (all_below which.0 (is_clear [] o a) ≡ true) = and_parts _ _ which.2 in
+            let parts : (leads (which.0 + 1) o a b ≡ true) × (all_below which.0 (is_step_empty [] o a) ≡ true) = and_parts _ _ which.2 in
             slides_over b which.0 which.1 which.2 (λ i l. (
             let on = way which.0 i which.1 l parts.1 in
             let below : on.0 < b = elim (cases_lt on.0 b) [
@@ -173,7 +173,7 @@ module _ (cells : Cells) (o : Offset) (a : ℕ) where
         back : slides cells o a b ≡ true → (is_on_ray o a b && not (some_below b taken)) ≡ true
         back e =
             let which = some_below_which 8 (slides_across cells o a b) e in
-            let parts : (leads (which.0 + 1) o a b ≡ true) × (all_below which.0 (is_clear cells o a) ≡ true) = and_parts _ _ which.2 in
+            let parts : (leads (which.0 + 1) o a b ≡ true) × (all_below which.0 (is_step_empty cells o a) ≡ true) = and_parts _ _ which.2 in
             and_from (is_on_ray o a b) (not (some_below b taken)) (slides_bare b e) (not_from_false _ (some_below_no b taken (λ x l. false_from_ne_true (taken x) (λ t. (
             let line : is_on_ray o a x ≡ true = on_line x t in
             let j = some_below_which 8 (slides_across [] o a x) line in
@@ -181,7 +181,7 @@ module _ (cells : Cells) (o : Offset) (a : ℕ) where
             let le : j.0 + 1 ≤ which.0 + 1 = nearer o a x b (j.0 + 1) (which.0 + 1) up at (leads_is _ b parts.0) (omega arith) in
             elim (cases_lt j.0 which.0) [
               | inl lt ↦ (
-                  let clear : is_clear cells o a j.0 ≡ true = all_below_at which.0 (is_clear cells o a) j.0 parts.1 lt in
+                  let clear : is_step_empty cells o a j.0 ≡ true = all_below_at which.0 (is_step_empty cells o a) j.0 parts.1 lt in
                   let empty : is_none (piece_at cells x) ≡ true = ap (is_empty cells) (sym at) ∙ clear in
                   both_ways (taken x) (pieces x line ∙ ap not empty) t)
               | inr ge ↦ (

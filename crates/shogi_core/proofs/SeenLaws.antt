@@ -12,11 +12,12 @@ use Rattle.shogi_core.specs.declared.piece.Color.TheVariants.{Black, White}
 use Rattle.shogi_core.specs.declared.piece.Role.{Role}
 use Rattle.shogi_core.specs.declared.piece.Role.TheVariants.{King, Pawn, Lance, Knight, Silver, Gold, Bishop, Rook, PromotedPawn, PromotedLance, PromotedKnight, PromotedSilver, Horse, Dragon}
 use Rattle.shogi_core.specs.declared.piece.Piece.{Piece}
-use Rattle.shogi_core.specs.Attack.{is_attacked_from, is_open_king, is_sniper, is_sniped_king}
+use Rattle.shogi_core.specs.Attack.{is_attacked_from, is_attacked, is_open_king, in_check, is_sniper, is_sniped_king, is_sniped}
+use Rattle.shogi_core.specs.Pieces.{opponent_of}
 use Rattle.shogi_core.specs.Below.{some_below}
 use Rattle.shogi_core.specs.Bits.{has_bit}
 use Rattle.shogi_core.specs.Cell.{is_piece_of, is_king, is_slider, is_sliding_role}
-use Rattle.shogi_core.specs.Movement.{Cells, leads, offset_by, jump_left, jump_right, slides, slides_across, is_clear, for_side, slides_of, steps_of, has_slide, has_step, cell_reaches, reaches, piece_at, straight, diagonal}
+use Rattle.shogi_core.specs.Movement.{Cells, leads, offset_by, jump_left, jump_right, slides, slides_across, is_step_empty, for_side, slides_of, steps_of, has_slide, has_step, cell_reaches, reaches, piece_at, straight, diagonal}
 use Rattle.shogi_core.proofs.BitLaws.{has_bit-and, has_bit-or, has_bit-none, has_bit-without}
 use Rattle.shogi_core.proofs.Below.{all_below_none, some_below_at, some_below_no, some_below_found}
 use Rattle.shogi_core.proofs.LineBits.{and_fits, lowest_set}
@@ -96,7 +97,7 @@ pub leads_back : (o : Offset) (a b : ℕ) → a < 81 → leads 1 o a b ≡ true 
 leads_back o a b h e = is_leads _ a (away_back 1 o a b h (leads_is _ b e))
 
 step_slides : (cells : Cells) (o : Offset) (a b : ℕ) → leads 1 o a b ≡ true → slides cells o a b ≡ true
-step_slides cells o a b e = some_below_at 8 (slides_across cells o a b) 0 (omega arith) (and_from _ _ e (all_below_none (is_clear cells o a)))
+step_slides cells o a b e = some_below_at 8 (slides_across cells o a b) 0 (omega arith) (and_from _ _ e (all_below_none (is_step_empty cells o a)))
 
 jump_either : (a b : ℕ) → list_any (λ o. leads 1 o a b) jumps ≡ is_jump a b
 unfolding jumps
@@ -248,3 +249,37 @@ pub ruleset attackers = (attackers_near, attackers_all, attackers_fit, covers_le
 pub ruleset open_kings = (kings_first, covers_less, covers_none, some_below_found)
 
 pub ruleset sniped_kings = (sniped_first, covers_less, covers_none, some_below_found)
+
+-- ---- where no slider is on a line with a king
+
+-- what reaches a square where other squares were left did so before, or it slides and is on a line with it
+reaches_kept : (old new : Cells) (a b : ℕ) → a < 81 → piece_at new a ≡ piece_at old a → reaches new a b ≡ true → (reaches old a b ≡ true) ⊎ ((is_slider (piece_at old a) ≡ true) × (are_aligned b a ≡ true))
+unfolding reaches
+reaches_kept old new a b h same e = go (piece_at old a) (ap (λ cell. cell_reaches new cell a b) (sym same) ∙ e)
+  where
+    go : (cell : Option Piece) → cell_reaches new cell a b ≡ true → (cell_reaches old cell a b ≡ true) ⊎ ((is_slider cell ≡ true) × (are_aligned b a ≡ true))
+    go None f = absurd (cc)
+    go (Some piece) f = elim (or_cases (has_step piece a b) (has_slide new piece a b) f) [
+      | inl step ↦ inl (or_left _ _ step)
+      | inr slide ↦ inr (slides_role piece.role (λ o. slides new (for_side piece.color o) a b) slide, lined_aligned new b a (slide_seen new piece a b h slide))
+    ]
+
+-- no square that is left gives a check
+pub unsniped_calm : (old new : Cells) (color : Color)
+    → ((x : ℕ) → x < 81 → is_piece_of (opponent_of color) (piece_at new x) ≡ true → piece_at new x ≡ piece_at old x)
+    → ((x : ℕ) → x < 81 → is_king color (piece_at new x) ≡ true → piece_at new x ≡ piece_at old x)
+    → in_check old color ≡ false → is_sniped old color ≡ false → in_check new color ≡ false
+unfolding in_check is_sniped
+unsniped_calm old new color theirs crown safe calm = some_below_no 81 (is_open_king new color) (λ k h. false_from_ne_true (is_open_king new color k) (λ e. (
+    let parts : (is_king color (piece_at new k) ≡ true) × (is_attacked new (opponent_of color) k ≡ true) = and_parts _ _ e in
+    let king : is_king color (piece_at old k) ≡ true = ap (is_king color) (sym (crown k h parts.0)) ∙ parts.0 in
+    let who = some_below_which 81 (is_attacked_from new (opponent_of color) k) parts.1 in
+    let hit : (is_piece_of (opponent_of color) (piece_at new who.0) ≡ true) × (reaches new who.0 k ≡ true) = and_parts _ _ who.2 in
+    let same : piece_at new who.0 ≡ piece_at old who.0 = theirs who.0 who.1 hit.0 in
+    let foe : is_piece_of (opponent_of color) (piece_at old who.0) ≡ true = ap (is_piece_of (opponent_of color)) (sym same) ∙ hit.0 in
+    elim (reaches_kept old new who.0 k who.1 same hit.1) [
+      | inl stays ↦ both_ways (some_below 81 (is_open_king old color)) safe
+          (some_below_at 81 (is_open_king old color) k h (and_from _ _ king (some_below_at 81 (is_attacked_from old (opponent_of color) k) who.0 who.1 (and_from _ _ foe stays))))
+      | inr far ↦ both_ways (some_below 81 (is_sniped_king old color)) calm
+          (some_below_at 81 (is_sniped_king old color) k h (and_from _ _ king (some_below_at 81 (is_sniper old (opponent_of color) k) who.0 who.1 (and_from _ _ (and_from _ _ foe far.0) far.1))))
+    ])))

@@ -62,8 +62,8 @@ abbrev pub forward : List Offset
 forward = up ∷ []
 
 -- straight, or diagonally forward
-abbrev pub gold : List Offset
-gold = up ∷ up_left ∷ up_right ∷ left ∷ right ∷ down ∷ []
+abbrev pub gold_steps : List Offset
+gold_steps = up ∷ up_left ∷ up_right ∷ left ∷ right ∷ down ∷ []
 
 -- steps and jumps
 abbrev pub steps_of : Role → List Offset
@@ -72,13 +72,13 @@ steps_of Pawn = forward
 steps_of Lance = []
 steps_of Knight = jump_left ∷ jump_right ∷ []
 steps_of Silver = forward ++ diagonal
-steps_of Gold = gold
+steps_of Gold = gold_steps
 steps_of Bishop = []
 steps_of Rook = []
-steps_of PromotedPawn = gold
-steps_of PromotedLance = gold
-steps_of PromotedKnight = gold
-steps_of PromotedSilver = gold
+steps_of PromotedPawn = gold_steps
+steps_of PromotedLance = gold_steps
+steps_of PromotedKnight = gold_steps
+steps_of PromotedSilver = gold_steps
 steps_of Horse = straight
 steps_of Dragon = diagonal
 
@@ -103,53 +103,53 @@ abbrev pub for_side : Color → Offset → Offset
 for_side Black offset = offset
 for_side White offset = offset_by offset.file (pos 0 -ℤ offset.rank)
 
--- where n steps by the offset lead from a
+-- where n steps by the offset lead from a square
 unfoldable pub away : ℕ → Offset → ℕ → Option ℕ
-away n offset a = square_at (pos (a / 9) +ℤ pos n *ℤ offset.file) (pos (a % 9) +ℤ pos n *ℤ offset.rank)
+away n offset from = square_at (pos (from / 9) +ℤ pos n *ℤ offset.file) (pos (from % 9) +ℤ pos n *ℤ offset.rank)
 
--- there is a square, and it is b
-abbrev pub is_at : Option ℕ → ℕ → Bool
-is_at None b = false
-is_at (Some a) b = a == b
+-- there is a square, and it is this one
+abbrev pub is_same_square : Option ℕ → ℕ → Bool
+is_same_square None to = false
+is_same_square (Some square) to = square == to
 
--- n steps by the offset lead from a to b
+-- n steps by the offset lead from the one square to the other
 abbrev pub leads : ℕ → Offset → ℕ → ℕ → Bool
-leads n offset a b = is_at (away n offset a) b
+leads n offset from to = is_same_square (away n offset from) to
 
 -- what stands on the square
 abbrev pub piece_at : Cells → ℕ → Option Piece
-piece_at cells a = slice_index_or cells a None
+piece_at cells square = slice_index_or cells square None
 
 -- there is a square, and nothing stands on it
 abbrev pub is_empty : Cells → Option ℕ → Bool
-is_empty cells (Some a) = is_none (piece_at cells a)
+is_empty cells (Some square) = is_none (piece_at cells square)
 is_empty cells None = false
 
 -- the square k + 1 steps away is empty
-abbrev pub is_clear : Cells → Offset → ℕ → ℕ → Bool
-is_clear cells offset a k = is_empty cells (away (k + 1) offset a)
+abbrev pub is_step_empty : Cells → Offset → ℕ → ℕ → Bool
+is_step_empty cells offset from k = is_empty cells (away (k + 1) offset from)
 
--- n + 1 steps lead from a to b, and the n squares between are empty
+-- n + 1 steps lead from the one square to the other, and the n squares between are empty
 abbrev pub slides_across : Cells → Offset → ℕ → ℕ → ℕ → Bool
-slides_across cells offset a b n = leads (n + 1) offset a b && all_below n (is_clear cells offset a)
+slides_across cells offset from to n = leads (n + 1) offset from to && all_below n (is_step_empty cells offset from)
 
--- b lies on a slide from a, and each square between is empty
+-- the other square lies on a slide from the one, and each square between is empty
 abbrev pub slides : Cells → Offset → ℕ → ℕ → Bool
-slides cells offset a b = some_below 8 (slides_across cells offset a b)
+slides cells offset from to = some_below 8 (slides_across cells offset from to)
 
--- a step or a jump of the piece leads from a to b
+-- a step or a jump of the piece leads from the one square to the other
 abbrev pub has_step : Piece → ℕ → ℕ → Bool
-has_step piece a b = list_any (λ offset. leads 1 (for_side piece.color offset) a b) (steps_of piece.role)
+has_step piece from to = list_any (λ offset. leads 1 (for_side piece.color offset) from to) (steps_of piece.role)
 
--- a free slide of the piece leads from a to b
+-- a free slide of the piece leads from the one square to the other
 abbrev pub has_slide : Cells → Piece → ℕ → ℕ → Bool
-has_slide cells piece a b = list_any (λ offset. slides cells (for_side piece.color offset) a b) (slides_of piece.role)
+has_slide cells piece from to = list_any (λ offset. slides cells (for_side piece.color offset) from to) (slides_of piece.role)
 
 -- a piece reaches a square by a step, a jump or a free slide
 abbrev pub cell_reaches : Cells → Option Piece → ℕ → ℕ → Bool
-cell_reaches cells None a b = false
-cell_reaches cells (Some piece) a b = has_step piece a b || has_slide cells piece a b
+cell_reaches cells None from to = false
+cell_reaches cells (Some piece) from to = has_step piece from to || has_slide cells piece from to
 
--- the piece on a has a step, a jump or a free slide to b
+-- the piece on the one square has a step, a jump or a free slide to the other
 unfoldable pub reaches : Cells → ℕ → ℕ → Bool
-reaches cells a b = cell_reaches cells (piece_at cells a) a b
+reaches cells from to = cell_reaches cells (piece_at cells from) from to

@@ -5,13 +5,13 @@ use Rattle.shogi_core.specs.declared.offset.Offset.{Offset}
 use Rattle.shogi_core.specs.declared.piece.Color.{Color}
 use Rattle.shogi_core.specs.declared.piece.Color.TheVariants.{Black, White}
 use Rattle.shogi_core.specs.Bits.{mask_below}
-use Rattle.shogi_core.specs.Movement.{jump_left, jump_right, leads, for_side, straight, diagonal, forward, gold}
+use Rattle.shogi_core.specs.Movement.{jump_left, jump_right, leads, for_side, straight, diagonal, forward, gold_steps}
 
 -- the kinds of steps
 abbrev pub steps_at : ℕ → List Offset
 steps_at n =
     cond (n == 0) [] (cond (n == 1) (straight ++ diagonal) (cond (n == 2) forward (cond (n == 3) (jump_left ∷ jump_right ∷ [])
-    (cond (n == 4) (forward ++ diagonal) (cond (n == 5) gold (cond (n == 6) straight diagonal))))))
+    (cond (n == 4) (forward ++ diagonal) (cond (n == 5) gold_steps (cond (n == 6) straight diagonal))))))
 
 abbrev pub color_number : Color → ℕ
 color_number Black = 0

@@ -388,7 +388,15 @@ promoting_ends p capture from n targets sort ends promoting len hf hn own t s e 
     ∙ (rw (e, has_bit-and targets sort n, t, s, m)
     (sym (wanted_board p capture true from n len hf hn own ∙ (rw (alive from n (piece_at p.cells from)) refl))))
 
-pub ruleset ending = (and_fits, plain_ends, promoting_ends)
+-- a piece that goes nowhere
+pub nowhere : (p : Shogi) (capture promote : Bool) (from n targets sort : ℕ) → length p.cells ≡ 81 → from < 81 → n < 81 → is_piece_of p.side (piece_at p.cells from) ≡ true
+    → has_bit targets n ≡ reaches p.cells from n → has_bit sort n ≡ is_end capture p.side (piece_at p.cells n) → bit_and targets sort ≡ 0
+    → has_bit 0 n ≡ is_wanted p capture (code_of (Board from n promote))
+nowhere p capture promote from n targets sort len hf hn own t s none =
+    let no : (reaches p.cells from n && is_end capture p.side (piece_at p.cells n)) ≡ false = sym (has_bit-and targets sort n ∙ (rw (t, s) refl)) ∙ (ap (λ (m : ℕ). has_bit m n) none ∙ has_bit-none n) in
+    has_bit-none n ∙ sym (wanted_board p capture promote from n len hf hn own ∙ (rw no refl))
+
+pub ruleset ending = (and_fits, plain_ends, promoting_ends, nowhere)
 
 -- ---- all legal ends of a piece, captures and others
 
@@ -428,7 +436,14 @@ promoting_legal p from n targets own ends promoting len hf hn mine t of o e m =
     ∙ (rw (e, has_bit-and targets (2 ^ 128 - 1 - own) n, has_bit-not own n (omega arith) (omega arith), t, o, m)
     (sym (legal_board_code p true from n len hf hn mine ∙ (rw (alive from n (piece_at p.cells from)) refl))))
 
-pub ruleset ending_all = (and_fits, plain_legal, promoting_legal)
+pub nowhere_legal : (p : Shogi) (promote : Bool) (from n targets own : ℕ) → length p.cells ≡ 81 → from < 81 → n < 81 → is_piece_of p.side (piece_at p.cells from) ≡ true
+    → has_bit targets n ≡ reaches p.cells from n → own < 2 ^ 81 → has_bit own n ≡ is_piece_of p.side (piece_at p.cells n) → bit_and targets (2 ^ 128 - 1 - own) ≡ 0
+    → has_bit 0 n ≡ is_legal_code p (code_of (Board from n promote))
+nowhere_legal p promote from n targets own len hf hn mine t of o none =
+    let no : (reaches p.cells from n && not (is_piece_of p.side (piece_at p.cells n))) ≡ false = sym (has_bit-and targets (2 ^ 128 - 1 - own) n ∙ (rw (has_bit-not own n (omega arith) (omega arith), t, o) refl)) ∙ (ap (λ (m : ℕ). has_bit m n) none ∙ has_bit-none n) in
+    has_bit-none n ∙ sym (legal_board_code p promote from n len hf hn mine ∙ (rw no refl))
+
+pub ruleset ending_all = (and_fits, plain_legal, promoting_legal, nowhere_legal)
 
 -- ---- drops
 

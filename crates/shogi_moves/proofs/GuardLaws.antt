@@ -9,7 +9,7 @@ use Rattle.shogi_core.specs.declared.piece.Kind.{Kind}
 use Rattle.shogi_core.specs.declared.piece.Kind.TheVariants as kinds
 use Rattle.shogi_core.specs.declared.piece.Piece.{Piece}
 use Rattle.shogi_core.specs.declared.moves.Move.TheVariants.{Board, Drop}
-use Rattle.shogi_core.specs.Attack.{in_check, is_attacked, is_open_king}
+use Rattle.shogi_core.specs.Attack.{in_check, is_attacked, is_open_king, is_sniped}
 use Rattle.shogi_core.specs.Bits.{has_bit}
 use Rattle.shogi_core.specs.Cell.{is_piece_of, is_king, is_king_role}
 use Rattle.shogi_core.specs.Lines.{are_lined, is_line_to_king, is_lined_with_king}
@@ -20,7 +20,7 @@ use Rattle.shogi_core.proofs.Below.{some_below_no}
 use Rattle.shogi_core.proofs.BitLaws.{has_bit-and, has_bit-or, has_bit-none}
 use Rattle.shogi_core.proofs.Exposed.{check_was, check_stays, attacked_was}
 use Rattle.shogi_core.proofs.LineBits.{has_bit-not}
-use Rattle.shogi_core.proofs.SeenLaws.{lined_back}
+use Rattle.shogi_core.proofs.SeenLaws.{lined_back, unsniped_calm}
 use Rattle.shogi_moves.specs.After.{cells_after, moved, dropped}
 use Rattle.shogi_moves.specs.Guards.{Guards, Exposes}
 use Rattle.shogi_moves.specs.Legal.{is_safe, is_pseudo_legal_board_move, is_pseudo_legal_drop}
@@ -223,6 +223,27 @@ all_loose p own exposed kings lifted g len fits o k l safe = record {
         out x here = rw here (get_or-set_same p.cells n None None (omega arith))
 
 pub ruleset loosening = (lift_first, all_loose)
+
+-- where no piece that slides is on a line with the king, none is pinned
+pub none_pinned : (p : Shogi) (kings : ℕ) → length p.cells ≡ 81 → kings < 2 ^ 81 → ((n : ℕ) → n < 81 → has_bit kings n ≡ is_king p.side (piece_at p.cells n)) → in_check p.cells p.side ≡ false → is_sniped p.cells p.side ≡ false → Guards p false kings
+none_pinned p kings len fits k safe calm = record {
+  check = sym safe;
+  kings = λ n h out. sym (k n h) ∙ out;
+  lines = λ c. absurd (cc);
+  free = λ c n h out here. unsniped_calm p.cells (set p.cells n None) p.side (stays n h (is_piece_of (opponent_of p.side)) refl) (stays n h (is_king p.side) refl) safe calm;
+  fits = fits;
+}
+  where
+    stays : (n : ℕ) → n < 81 → (test : Option Piece → Bool) → test None ≡ false → (x : ℕ) → x < 81 → test (piece_at (set p.cells n None) x) ≡ true → piece_at (set p.cells n None) x ≡ piece_at p.cells x
+    stays n h test bare x l e = elim (cases_eq x n) [
+      | inl here ↦ absurd (both_ways (test None) bare (ap test (sym (out here)) ∙ e))
+      | inr other ↦ get_or-set_other p.cells n x None None other
+    ]
+      where
+        out : x ≡ n → piece_at (set p.cells n None) x ≡ None
+        out here = rw here (get_or-set_same p.cells n None None (omega arith))
+
+pub ruleset unsniped = (none_pinned)
 
 module _ (cells : Cells) (side : Color) (from to : ℕ) (v : Option Piece) (len : length cells ≡ 81) (hf : from < 81) (ht : to < 81) where
   after_it : Cells

@@ -2,7 +2,7 @@
 use Rattle.std.proofs.Common.{◌≡◌, ℕ, ◌+◌, ◌*◌, ◌/◌, ◌<◌, Bool, true, false, length, refl, arith, inl, inr, Option, Some, None}
 use Rattle.std.specs.Prelude.{◌&&◌, nat_lt, ◌||◌, ℤ, pos, negsuc, ◌+ℤ◌, ◌%◌}
 use Rattle.std.proofs.lemmas.Bool.{and_right, and_parts, both_ways, cases_Bool, ltb-true, eqb-true}
-use Rattle.shogi_core.specs.Movement.{Cells, piece_at, reaches, cell_reaches, is_at, square_at, away}
+use Rattle.shogi_core.specs.Movement.{Cells, piece_at, reaches, cell_reaches, is_same_square, square_at, away}
 use Rattle.shogi_core.specs.Position.{HandCounts, held}
 use Rattle.shogi_core.proofs.Faults.{number_below}
 use Rattle.shogi_core.specs.declared.piece.Color.{Color}
@@ -82,16 +82,16 @@ hands-with_captured hands side None kind len = omega arith
 hands-with_captured hands side (Some piece) kind len = one_more hands side (kind_of piece.role) kind len
 
 -- where the file stays, so does the square's
-square_at_file : (m : ℕ) (r : ℤ) (b : ℕ) → is_at (square_at (pos m) r) b ≡ true → b / 9 ≡ m
+square_at_file : (m : ℕ) (r : ℤ) (b : ℕ) → is_same_square (square_at (pos m) r) b ≡ true → b / 9 ≡ m
 square_at_file m (pos rank) b e =
     elim (cases_Bool (nat_lt m 9 && nat_lt rank 9)) [
       | inl both ↦
           (let parts : (nat_lt m 9 ≡ true) × (nat_lt rank 9 ≡ true) = and_parts (nat_lt m 9) (nat_lt rank 9) both in
           let below : rank < 9 = ltb-true rank 9 (parts.1) in
-          let there : is_at (Some (m * 9 + rank)) b ≡ true = rw both at e in
+          let there : is_same_square (Some (m * 9 + rank)) b ≡ true = rw both at e in
           let same : m * 9 + rank ≡ b = eqb-true (m * 9 + rank) b there in
           omega arith)
-      | inr out ↦ let there : is_at None b ≡ true = rw out at e in cc
+      | inr out ↦ let there : is_same_square None b ≡ true = rw out at e in cc
     ]
 square_at_file m (negsuc rank) b e = cc
 

@@ -68,36 +68,42 @@ fn with_captured(hands: Hands, side: Color, cell: Option<Piece>) -> Hands
     hands.with(side, kind, hands.count(side, kind) + 1)
 }
 
-/// The position after a safe move of a piece on the board.
+/// Makes a safe move of a piece on the board.
 #[tactic(auto, using(crate::proofs::Keeps::no_fault_after_board))]
-fn after_board(p: &Position, from: Square, to: Square, promote: bool) -> Position
-    requires { is_safe p.now (moves.Board from to promote) ≡ true }
-    ensures { result ≡ after p.now (moves.Board from to promote) }
+fn make_board(p: &mut Position, from: Square, to: Square, promote: bool)
+    requires { is_safe p.old (moves.Board from to promote) ≡ true }
+    ensures { p.new ≡ after p.old (moves.Board from to promote) }
 {
     p.validity();
     from.validity();
     to.validity();
     let (piece, taken) = (p.at(from), p.at(to));
-    let mut board = p.board();
-    board.set(from, None);
-    board.set(to, moved(piece, promote));
     let hands = with_captured(p.hands(), p.side(), taken);
-    Position::of_valid(board, hands, p.side().opponent())
+    p.move_piece(from, to, moved(piece, promote), hands);
 }
 
-/// The position after a safe drop.
+/// Makes a safe drop.
 #[tactic(auto, using(crate::proofs::Keeps::no_fault_after_drop))]
-fn after_drop(p: &Position, kind: Kind, to: Square) -> Position
-    requires { is_safe p.now (moves.Drop kind to) ≡ true }
-    ensures { result ≡ after p.now (moves.Drop kind to) }
+fn make_drop(p: &mut Position, kind: Kind, to: Square)
+    requires { is_safe p.old (moves.Drop kind to) ≡ true }
+    ensures { p.new ≡ after p.old (moves.Drop kind to) }
 {
     p.validity();
     to.validity();
     let side = p.side();
-    let mut board = p.board();
-    board.set(to, dropped(side, kind));
     let hands = p.hands().with(side, kind, p.hand(side, kind) - 1);
-    Position::of_valid(board, hands, side.opponent())
+    p.drop_piece(to, dropped(side, kind), hands);
+}
+
+/// Makes a safe move.
+fn make_safe(p: &mut Position, m: &Move)
+    requires { is_safe p.old m.now ≡ true }
+    ensures { p.new ≡ after p.old m.now }
+{
+    match m {
+        Move::Board { from, to, promote } => make_board(p, *from, *to, *promote),
+        Move::Drop { kind, to } => make_drop(p, *kind, *to),
+    }
 }
 
 /// The position after a safe move.
@@ -105,23 +111,33 @@ pub fn apply_safe(p: &Position, m: &Move) -> Position
     requires { is_safe p.now m.now ≡ true }
     ensures { result ≡ after p.now m.now }
 {
-    match m {
-        Move::Board { from, to, promote } => after_board(p, *from, *to, *promote),
-        Move::Drop { kind, to } => after_drop(p, *kind, *to),
-    }
+    let mut next = *p;
+    make_safe(&mut next, m);
+    next
+}
+
+/// Makes a legal move where the position stands: it is then that of `apply`.
+#[tactic(auto, using(crate::proofs::Keeps::is_safe_from_legal, crate::proofs::LegalLaws::after_code_of))]
+pub fn advance(p: &mut Position, m: Move)
+    requires { is_legal p.old m ≡ true }
+    ensures after { p.new ≡ after p.old m }
+    ensures by_code { p.new ≡ after_code p.old (code_of m) }
+    ensures valid { IsValid (after p.old m) }
+{
+    make_safe(p, &m);
+    p.validity();
+    m.validity();
 }
 
 /// The position after a legal move: a captured piece is in the mover's hand as its unpromoted
 /// kind, a dropped one has left it, and the other side is to move (JSA playing rules).
-#[tactic(auto, using(crate::proofs::Keeps::is_safe_from_legal, crate::proofs::LegalLaws::after_code_of))]
 pub fn apply(p: &Position, m: Move) -> Position
     requires { is_legal p.now m ≡ true }
     ensures after { result ≡ after p.now m }
     ensures by_code { result ≡ after_code p.now (code_of m) }
     ensures valid { IsValid (after p.now m) }
 {
-    let position = apply_safe(p, &m);
-    position.validity();
-    m.validity();
-    position
+    let mut next = *p;
+    advance(&mut next, m);
+    next
 }

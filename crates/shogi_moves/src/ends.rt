@@ -167,6 +167,12 @@ pub fn board_ends(p: &Position, guard: &Guard, capture: bool, from: Square) -> E
     p.validity();
     from.validity();
     let among = p.targets(from) & ends_of_sort(p, capture);
+    if among == 0 {
+        return Ends {
+            plain: 0,
+            promoting: 0,
+        };
+    }
     let ends = safe_ends(p, guard, from, among);
     let piece = p.at(from);
     Ends {
@@ -189,6 +195,12 @@ pub fn legal_ends(p: &Position, guard: &Guard, from: Square) -> Ends
     from.validity();
     let own = p.own(p.side());
     let among = p.targets(from) & !own;
+    if among == 0 {
+        return Ends {
+            plain: 0,
+            promoting: 0,
+        };
+    }
     let ends = safe_ends(p, guard, from, among);
     let piece = p.at(from);
     Ends {

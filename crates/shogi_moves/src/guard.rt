@@ -1,7 +1,7 @@
 //! What is kept of a position, so that most of its moves need no look at checks.
 
 ghost use Rattle.std.specs.Prelude.{◌≡◌, ◌<◌, ◌^◌, ◌&&◌, not, false};
-ghost use Rattle.shogi_core.specs.Attack.{in_check};
+ghost use Rattle.shogi_core.specs.Attack.{in_check, is_sniped};
 ghost use Rattle.shogi_core.specs.Bits.{has_bit};
 ghost use Rattle.shogi_moves.specs.Guards.{Guards, Exposes};
 
@@ -70,11 +70,30 @@ fn loosened(p: &Position, exposed: u128) -> u128
     }
 }
 
+/// What is kept where there is no check and no piece of the other side that slides is on a line
+/// with the king, so that none is pinned.
+#[tactic(auto, using(crate::proofs::GuardLaws::unsniped))]
+fn unsniped_guard(p: &Position) -> Guard
+    requires calm { in_check p.now.cells p.now.side ≡ false }
+    requires unsniped { is_sniped p.now.cells p.now.side ≡ false }
+    ensures { Guards p.now result.checked result.exposed }
+{
+    p.validity();
+    Guard {
+        checked: false,
+        exposed: p.kings(p.side()),
+    }
+}
+
 /// What is kept of the position.
 pub fn guard_of(p: &Position) -> Guard
     ensures { Guards p.now result.checked result.exposed }
 {
-    let guard = full_guard(p, p.in_check(p.side()));
+    let checked = p.in_check(p.side());
+    if !checked && !p.as_board().is_sniped(p.side()) {
+        return unsniped_guard(p);
+    }
+    let guard = full_guard(p, checked);
     if guard.checked {
         return guard;
     }

@@ -22,7 +22,7 @@ mod tests;
 mod walk;
 mod zones;
 
-pub use after::apply;
+pub use after::{advance, apply};
 pub use attack::{in_check, is_attacked};
 pub use capture::{next_capture, next_quiet};
 pub use count::perft;

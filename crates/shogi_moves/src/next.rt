@@ -13,6 +13,14 @@ use crate::legal::is_pawn_drop_mate;
 use crate::safe::least_guarded;
 use shogi_core::{Move, Position};
 
+/// The first code above that of the move.
+pub fn code_above(m: &Move) -> u16
+    ensures code { result ≡ code_of m.now + 1 }
+    ensures range { result ≤ MOVE_CODES }
+{
+    m.code() + 1
+}
+
 /// The legal move of least code from the given one on.
 #[tactic(auto, using(crate::proofs::NextLaws::steps))]
 pub fn least_from(p: &Position, guard: &Guard, first: u16) -> Option<Move>

@@ -15,6 +15,7 @@ ghost use Rattle.shogi_moves.specs.Sweeps.{wanted_from, IsBoardSweep, IsDropSwee
 
 use crate::ends::{Ends, board_ends, drop_ends};
 use crate::guard::{Guard, guard_of};
+use crate::next::code_above;
 use shogi_core::bits::{has, lowest, next_of, without_lowest};
 use shogi_core::{FIRST_DROP, Kind, Move, Position, SQUARE_CODES, Square, is_piece_of};
 
@@ -93,21 +94,18 @@ impl BoardSweep {
                 to: end,
                 promote: false,
             };
-            // A copy for the caller: `code` takes the move by value.
-            let found = m;
             self.ends.plain = without_lowest(plain, to);
-            self.code = m.code() + 1;
-            return found;
+            self.code = code_above(&m);
+            return m;
         }
         let m = Move::Board {
             from,
             to: end,
             promote: true,
         };
-        let found = m;
         self.ends.promoting = without_lowest(promoting, to);
-        self.code = m.code() + 1;
-        found
+        self.code = code_above(&m);
+        m
     }
 
     /// Goes on to the next piece that has a move of the sort, if there is one.
@@ -195,10 +193,9 @@ impl DropSweep {
         let to = lowest(ends);
         let end = Square::of_index(to);
         let m = Move::Drop { kind, to: end };
-        let found = m;
         self.ends = without_lowest(ends, to);
-        self.code = m.code() + 1;
-        found
+        self.code = code_above(&m);
+        m
     }
 
     /// Goes on to the next kind that has a legal drop, if there is one.

@@ -8,7 +8,7 @@ ghost use Rattle.shogi_moves.specs.Legal.{is_legal};
 ghost use Rattle.shogi_moves.specs.LegalMoves.{legal_from, legal_moves};
 
 use crate::guard::{Guard, guard_of};
-use crate::next::least_from;
+use crate::next::{code_above, least_from};
 use shogi_core::{MOVE_CODES, Move, Position};
 use std::marker::Model;
 
@@ -61,10 +61,8 @@ impl Walk {
                 None
             }
             Some(m) => {
-                // A copy for the caller: `code` takes the move by value.
-                let found = m;
-                self.code = m.code() + 1;
-                Some(found)
+                self.code = code_above(&m);
+                Some(m)
             }
         }
     }

@@ -1,5 +1,5 @@
-use Rattle.std.proofs.Common.{arith, ◌-◌, ◌^◌}
-use Rattle.shogi_moves.proofs.EndLaws.{plain_ends, promoting_ends}
+use Rattle.std.proofs.Common.{rules, false, true, arith, ◌-◌, ◌^◌}
+use Rattle.shogi_moves.proofs.EndLaws.{plain_ends, promoting_ends, nowhere}
 use Rattle.shogi_core.proofs.LineBits.{and_fits}
 use Rattle.shogi_moves.proofs.ends.board_ends.Goals as goal
 
@@ -13,3 +13,11 @@ returns-clause-promoting c = λ n h. promoting_ends c.args.p.now c.args.capture 
 
 pub returns-clause-plain_fits : goal.returns-clause-plain_fits
 returns-clause-plain_fits c = and_fits c.safe_ends-ends.result (2 ^ 128 - 1 - c.dead_squares.result) c.safe_ends-ends.ensures.fits
+
+pub returns-then-among-eq0-clause-plain : goal.returns-then-among-eq0-clause-plain
+returns-then-among-eq0-clause-plain c = λ n h. nowhere c.args.p.now c.args.capture false c.args.from n c.targets.result c.ends_of_sort.result c.validity.ensures.cells_fit (omega arith) h c.requires.own
+    (c.targets.ensures.bits n h) (c.ends_of_sort.ensures.bits n h) (search rules)
+
+pub returns-then-among-eq0-clause-promoting : goal.returns-then-among-eq0-clause-promoting
+returns-then-among-eq0-clause-promoting c = λ n h. nowhere c.args.p.now c.args.capture true c.args.from n c.targets.result c.ends_of_sort.result c.validity.ensures.cells_fit (omega arith) h c.requires.own
+    (c.targets.ensures.bits n h) (c.ends_of_sort.ensures.bits n h) (search rules)
