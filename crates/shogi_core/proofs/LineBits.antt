@@ -179,9 +179,9 @@ module _ (cells : Cells) (o : Offset) (a occ : ℕ) (occupied : (n : ℕ) → n 
           | inr one ↦ eqb-true f 0 (sym (has_bit-one 0 f) ∙ one)
         ] in
         let none : (x : ℕ) → x < 81 → has_bit (bit_and (ray_of o a) occ) x ≡ false = λ x l. false_from_ne_true (has_bit (bit_and (ray_of o a) occ) x) (λ e. (
-            let le : x ≤ f = greatest x (has_bit-or (bit_and (ray_of o a) occ) 1 x ∙ or_left _ _ e) in
-            let same : x ≡ f = omega arith in
-            both_ways (has_bit (bit_and (ray_of o a) occ) f) bare (ap (has_bit (bit_and (ray_of o a) occ)) (sym same) ∙ e))) in
+        let le : x ≤ f = greatest x (has_bit-or (bit_and (ray_of o a) occ) 1 x ∙ or_left _ _ e) in
+        let same : x ≡ f = omega arith in
+        both_ways (has_bit (bit_and (ray_of o a) occ) f) bare (ap (has_bit (bit_and (ray_of o a) occ)) (sym same) ∙ e))) in
         has_bit-and (ray_of o a) (2 ^ 128 - 1 - ray_of o f) b
         ∙ (rw (zeroth, end, has_bit-not 0 b (omega arith) (omega arith), has_bit-none b) (and_true (has_bit (ray_of o a) b) ∙ free_line none b h)))
   ]

@@ -84,9 +84,11 @@ module _ (a b m n o p q r s t : ℕ) (low : b < 81)
   unfolding are_lined
   aligned_bits =
       has_bit-or (bit_or (bit_or (bit_or m n) o) p) (bit_or (bit_or (bit_or q r) s) t) b
-      ∙ (rw (straight_bits [] Black a b m n o p (ray_line a b m up low em) (ray_line a b n down low en) (ray_line a b o left low eo) (ray_line a b p right low ep),
-        diagonal_bits [] Black a b q r s t (ray_line a b q up_left low eq) (ray_line a b r up_right low er) (ray_line a b s down_left low es) (ray_line a b t down_right low et))
-        (sym (list_any-append (λ o. slides [] o a b) straight diagonal)))
+      ∙ (rw (
+        straight_bits [] Black a b m n o p (ray_line a b m up low em) (ray_line a b n down low en) (ray_line a b o left low eo) (ray_line a b p right low ep),
+        diagonal_bits [] Black a b q r s t (ray_line a b q up_left low eq) (ray_line a b r up_right low er) (ray_line a b s down_left low es) (ray_line a b t down_right low et),
+      )
+      (sym (list_any-append (λ o. slides [] o a b) straight diagonal)))
 
 pub ruleset aligned = (aligned_bits, or_fits)
 
