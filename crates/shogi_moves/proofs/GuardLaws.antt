@@ -19,7 +19,6 @@ use Rattle.shogi_core.specs.Position.{Shogi}
 use Rattle.shogi_core.proofs.Below.{some_below_no}
 use Rattle.shogi_core.proofs.BitLaws.{has_bit-and, has_bit-or, has_bit-none}
 use Rattle.shogi_core.proofs.Exposed.{check_was, check_stays, attacked_was}
-use Rattle.shogi_core.proofs.LineBits.{has_bit-not}
 use Rattle.shogi_core.proofs.SeenLaws.{lined_back}
 use Rattle.shogi_core.proofs.Snipers.{left_calm}
 use Rattle.shogi_moves.specs.After.{cells_after, moved, dropped}
