@@ -30,7 +30,7 @@ same_way_is p q e =
     let parts : (int_eq p.file q.file ≡ true) × (int_eq p.rank q.rank ≡ true) = and_parts _ _ e in
     ap (λ f. offset_by f p.rank) ((Decides-int_eq p.file q.file).0 parts.0) ∙ ap (offset_by q.file) ((Decides-int_eq p.rank q.rank).0 parts.1)
 
-one_of : (test : Offset → Bool) (p : Offset) (ds : List Offset) → list_any (same_way p) ds ≡ true → test p ≡ true → list_any test ds ≡ true
+pub one_of : (test : Offset → Bool) (p : Offset) (ds : List Offset) → list_any (same_way p) ds ≡ true → test p ≡ true → list_any test ds ≡ true
 one_of test p [] e h = e
 one_of test p (d ∷ ds) e h = elim (or_cases _ _ e) [
   | inl here ↦ or_left _ _ (subst (λ q. test q ≡ true) (same_way_is p d here) h)

@@ -1,6 +1,6 @@
 -- The lowest bit of a number, by what one less than the number is.
-use Rattle.std.proofs.Common.{◌≡◌, ◌≢◌, ℕ, ◌+◌, ◌-◌, ◌*◌, ◌/◌, ◌%◌, ◌^◌, ◌<◌, ◌≤◌, Bool, true, false, not, refl, sym, ap, ◌∙◌, arith, bit_and, bit_or, min, inl, inr, pow_pos}
-use Rattle.std.specs.Prelude.{zero, suc, ◌==◌, ◌&&◌, ◌||◌, bit_xor}
+use Rattle.std.proofs.Common.{◌≡◌, ◌≢◌, ℕ, ◌+◌, ◌-◌, ◌*◌, ◌/◌, ◌%◌, ◌^◌, ◌<◌, ◌≤◌, Bool, true, false, not, refl, sym, ap, ◌∙◌, arith, bit_and, min, inl, inr, pow_pos}
+use Rattle.std.specs.Prelude.{zero, suc, ◌==◌, ◌&&◌, bit_xor}
 use Rattle.std.specs.Int.{bit_at, trailing_zeros, w128}
 use Rattle.std.proofs.Math.Nat.{mod-lt}
 use Rattle.std.proofs.lemmas.Nat.{and_le_r, div-add-mod'}
@@ -9,7 +9,7 @@ use Rattle.std.proofs.lemmas.Bool.{cases_lt, cases_eq, eq-eqb, ne_eqb, eqb-true,
 use Rattle.shogi_core.specs.Below.{some_below}
 use Rattle.shogi_core.specs.Bits.{has_bit}
 use Rattle.shogi_core.proofs.Below.{some_below_at, some_below_no}
-use Rattle.shogi_core.proofs.BitLaws.{has_bit-and, has_bit-none, has_bit-above}
+use Rattle.shogi_core.proofs.BitLaws.{has_bit-none}
 
 -- ---- one less than a number whose lowest bit is k
 

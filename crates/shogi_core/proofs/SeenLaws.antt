@@ -1,7 +1,6 @@
 -- A square that a piece reaches is one from which its square is seen.
-use Rattle.std.proofs.Common.{◌≡◌, ◌≢◌, ◌⊎◌, ℕ, pos, negsuc, ◌-◌, ◌*◌, ◌%◌, ◌^◌, ◌<◌, Bool, true, false, not, refl, sym, ap, ◌∙◌, arith, inl, inr, Option, Some, None, bit_and, bit_or, List, [], ◌∷◌, ◌++◌}
+use Rattle.std.proofs.Common.{◌≡◌, ◌⊎◌, ℕ, pos, negsuc, ◌-◌, ◌*◌, ◌%◌, ◌^◌, ◌<◌, Bool, true, false, not, refl, sym, ap, ◌∙◌, arith, inl, inr, Option, Some, None, bit_and, bit_or, List, [], ◌∷◌, ◌++◌}
 use Rattle.std.specs.Prelude.{◌==◌, ◌&&◌, ◌||◌}
-use Rattle.std.specs.Int.{trailing_zeros, w128}
 use Rattle.std.specs.List.{list_any, list_all}
 use Rattle.std.proofs.lemmas.Nat.{and_le_l, or_lt}
 use Rattle.std.proofs.lemmas.List.Folds.{list_any-append}
@@ -12,15 +11,14 @@ use Rattle.shogi_core.specs.declared.piece.Color.TheVariants.{Black, White}
 use Rattle.shogi_core.specs.declared.piece.Role.{Role}
 use Rattle.shogi_core.specs.declared.piece.Role.TheVariants.{King, Pawn, Lance, Knight, Silver, Gold, Bishop, Rook, PromotedPawn, PromotedLance, PromotedKnight, PromotedSilver, Horse, Dragon}
 use Rattle.shogi_core.specs.declared.piece.Piece.{Piece}
-use Rattle.shogi_core.specs.Attack.{is_attacked_from, is_attacked, is_open_king, in_check, is_sniper, is_sniped_king, is_sniped}
-use Rattle.shogi_core.specs.Pieces.{opponent_of}
+use Rattle.shogi_core.specs.Attack.{is_attacked_from, is_open_king, is_sniper}
 use Rattle.shogi_core.specs.Below.{some_below}
 use Rattle.shogi_core.specs.Bits.{has_bit}
 use Rattle.shogi_core.specs.Cell.{is_piece_of, is_king, is_slider, is_sliding_role}
 use Rattle.shogi_core.specs.Movement.{Cells, leads, offset_by, jump_left, jump_right, slides, slides_across, is_step_empty, for_side, slides_of, steps_of, has_slide, has_step, cell_reaches, reaches, piece_at, straight, diagonal}
 use Rattle.shogi_core.proofs.BitLaws.{has_bit-and, has_bit-or, has_bit-none, has_bit-without}
 use Rattle.shogi_core.proofs.Below.{all_below_none, some_below_at, some_below_no, some_below_found}
-use Rattle.shogi_core.proofs.LineBits.{and_fits, lowest_set}
+use Rattle.shogi_core.proofs.LineBits.{and_fits}
 use Rattle.shogi_core.proofs.RayLaws.{slides_bare}
 use Rattle.shogi_core.specs.Lines.{back, around, are_aligned, are_lined, is_jump, is_near, is_seen}
 use Rattle.shogi_core.proofs.Back.{away_back, leads_is, is_leads, slides_past_back}
@@ -61,7 +59,7 @@ slides_back cells o a b h e =
     let which = some_below_which 8 (slides_across cells o a b) e in
     some_below_at 8 (slides_across cells (back o) b a) which.0 which.1 (slides_past_back cells o a b which.0 h which.2)
 
-slides_back_around : (color : Color) (role : Role) → list_all (λ o. list_any (same_way (back (for_side color o))) around) (slides_of role) ≡ true
+pub slides_back_around : (color : Color) (role : Role) → list_all (λ o. list_any (same_way (back (for_side color o))) around) (slides_of role) ≡ true
 slides_back_around Black King = refl
 slides_back_around Black _ = refl
 slides_back_around White King = refl
@@ -87,7 +85,7 @@ lined_back cells a b h e =
     list_any_among (λ o. slides cells o b a) back around around around_back
     (list_any_kept (λ o. slides cells o a b) (λ o. slides cells (back o) b a) around (λ o e. slides_back cells o a b h e) e)
 
-slide_seen : (cells : Cells) (piece : Piece) (a b : ℕ) → a < 81 → has_slide cells piece a b ≡ true → are_lined cells b a ≡ true
+pub slide_seen : (cells : Cells) (piece : Piece) (a b : ℕ) → a < 81 → has_slide cells piece a b ≡ true → are_lined cells b a ≡ true
 unfolding are_lined
 slide_seen cells piece a b h e =
     list_any_among (λ o. slides cells o b a) (λ o. back (for_side piece.color o)) (slides_of piece.role) around (slides_back_around piece.color piece.role)
@@ -196,15 +194,7 @@ sniper_bits cells color square own sliders line b e f g = has_bit-and (bit_and o
 pub and_and_fits : (a b c : ℕ) → a < 2 ^ 81 → bit_and (bit_and a b) c < 2 ^ 81
 and_and_fits a b c h = and_fits (bit_and a b) c (and_fits a b h)
 
-pub sniper_test : (cells : Cells) (color : Color) (square snipers : ℕ) → snipers < 2 ^ 81 → ((b : ℕ) → b < 81 → has_bit snipers b ≡ is_sniper cells color square b) → not (snipers == 0) ≡ some_below 81 (is_sniper cells color square)
-sniper_test cells color square snipers fits bits = elim (cases_eq snipers 0) [
-  | inl none ↦ ap not (eq-eqb snipers 0 none) ∙ sym (some_below_no 81 (is_sniper cells color square) (λ b h. sym (bits b h) ∙ (ap (λ (m : ℕ). has_bit m b) none ∙ has_bit-none b)))
-  | inr some ↦ (
-      let low = lowest_set snipers some fits in
-      ap not (ne_eqb snipers 0 some) ∙ sym (some_below_at 81 (is_sniper cells color square) (trailing_zeros w128 snipers) low.0 (sym (bits (trailing_zeros w128 snipers) low.0) ∙ low.1)))
-]
-
-pub ruleset snipers = (sniper_bits, and_and_fits, sniper_test)
+pub ruleset snipers = (sniper_bits, and_and_fits)
 
 module _ (cells : Cells) (color : Color) (square own near snipers : ℕ)
     (owns : (a : ℕ) → a < 81 → has_bit own a ≡ is_piece_of color (piece_at cells a))
@@ -241,45 +231,6 @@ covers_first test m all = record { all = all }
 pub kings_first : (cells : Cells) (color : Color) (m : ℕ) → ((a : ℕ) → a < 81 → has_bit m a ≡ is_king color (piece_at cells a)) → Covers m (is_open_king cells color)
 kings_first cells color m kings = record { all = λ a h e. kings a h ∙ (and_parts _ _ e).0 }
 
-pub sniped_first : (cells : Cells) (color : Color) (m : ℕ) → ((a : ℕ) → a < 81 → has_bit m a ≡ is_king color (piece_at cells a)) → Covers m (is_sniped_king cells color)
-sniped_first cells color m kings = record { all = λ a h e. kings a h ∙ (and_parts _ _ e).0 }
-
 pub ruleset attackers = (attackers_near, attackers_all, attackers_fit, covers_less, covers_none, some_below_found, and_fits)
 
 pub ruleset open_kings = (kings_first, covers_less, covers_none, some_below_found)
-
-pub ruleset sniped_kings = (sniped_first, covers_less, covers_none, some_below_found)
-
--- ---- where no slider is on a line with a king
-
--- what reaches a square where other squares were left did so before, or it slides and is on a line with it
-reaches_kept : (old new : Cells) (a b : ℕ) → a < 81 → piece_at new a ≡ piece_at old a → reaches new a b ≡ true → (reaches old a b ≡ true) ⊎ ((is_slider (piece_at old a) ≡ true) × (are_aligned b a ≡ true))
-unfolding reaches
-reaches_kept old new a b h same e = go (piece_at old a) (ap (λ cell. cell_reaches new cell a b) (sym same) ∙ e)
-  where
-    go : (cell : Option Piece) → cell_reaches new cell a b ≡ true → (cell_reaches old cell a b ≡ true) ⊎ ((is_slider cell ≡ true) × (are_aligned b a ≡ true))
-    go None f = absurd (cc)
-    go (Some piece) f = elim (or_cases (has_step piece a b) (has_slide new piece a b) f) [
-      | inl step ↦ inl (or_left _ _ step)
-      | inr slide ↦ inr (slides_role piece.role (λ o. slides new (for_side piece.color o) a b) slide, lined_aligned new b a (slide_seen new piece a b h slide))
-    ]
-
--- no square that is left gives a check
-pub unsniped_calm : (old new : Cells) (color : Color)
-    → ((x : ℕ) → x < 81 → is_piece_of (opponent_of color) (piece_at new x) ≡ true → piece_at new x ≡ piece_at old x)
-    → ((x : ℕ) → x < 81 → is_king color (piece_at new x) ≡ true → piece_at new x ≡ piece_at old x)
-    → in_check old color ≡ false → is_sniped old color ≡ false → in_check new color ≡ false
-unfolding in_check is_sniped
-unsniped_calm old new color theirs crown safe calm = some_below_no 81 (is_open_king new color) (λ k h. false_from_ne_true (is_open_king new color k) (λ e. (
-    let parts : (is_king color (piece_at new k) ≡ true) × (is_attacked new (opponent_of color) k ≡ true) = and_parts _ _ e in
-    let king : is_king color (piece_at old k) ≡ true = ap (is_king color) (sym (crown k h parts.0)) ∙ parts.0 in
-    let who = some_below_which 81 (is_attacked_from new (opponent_of color) k) parts.1 in
-    let hit : (is_piece_of (opponent_of color) (piece_at new who.0) ≡ true) × (reaches new who.0 k ≡ true) = and_parts _ _ who.2 in
-    let same : piece_at new who.0 ≡ piece_at old who.0 = theirs who.0 who.1 hit.0 in
-    let foe : is_piece_of (opponent_of color) (piece_at old who.0) ≡ true = ap (is_piece_of (opponent_of color)) (sym same) ∙ hit.0 in
-    elim (reaches_kept old new who.0 k who.1 same hit.1) [
-      | inl stays ↦ both_ways (some_below 81 (is_open_king old color)) safe
-          (some_below_at 81 (is_open_king old color) k h (and_from _ _ king (some_below_at 81 (is_attacked_from old (opponent_of color) k) who.0 who.1 (and_from _ _ foe stays))))
-      | inr far ↦ both_ways (some_below 81 (is_sniped_king old color)) calm
-          (some_below_at 81 (is_sniped_king old color) k h (and_from _ _ king (some_below_at 81 (is_sniper old (opponent_of color) k) who.0 who.1 (and_from _ _ (and_from _ _ foe far.0) far.1))))
-    ])))

@@ -27,10 +27,10 @@ in_check cells color = some_below 81 (is_open_king cells color)
 abbrev pub is_sniper : Cells → Color → ℕ → ℕ → Bool
 is_sniper cells color square from = is_piece_of color (piece_at cells from) && is_slider (piece_at cells from) && are_aligned square from
 
--- on the square stands the king of the side, on a line with a piece of the other side that slides
-abbrev pub is_sniped_king : Cells → Color → ℕ → Bool
-is_sniped_king cells color square = is_king color (piece_at cells square) && some_below 81 (is_sniper cells (opponent_of color) square)
+-- on the square stands the king of the side, and the piece on `from` is a sniper of the other side's
+abbrev pub is_sniper_of_king : Cells → Color → ℕ → ℕ → Bool
+is_sniper_of_king cells color from square = is_king color (piece_at cells square) && is_sniper cells (opponent_of color) square from
 
--- a king of the side is on a line with a piece of the other side that slides
-unfoldable pub is_sniped : Cells → Color → Bool
-is_sniped cells color = some_below 81 (is_sniped_king cells color)
+-- the piece on `from` is one of the other side that slides, and on a line with a king of the side, whatever stands between
+unfoldable pub is_sniping : Cells → Color → ℕ → Bool
+is_sniping cells color from = some_below 81 (is_sniper_of_king cells color from)

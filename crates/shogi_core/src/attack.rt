@@ -1,8 +1,7 @@
 //! Attacks and checks, seen from the square that is attacked.
 
 ghost use Rattle.std.specs.Prelude.{◌≡◌, ◌<◌, ◌^◌, ℕ, true};
-ghost use Rattle.shogi_core.specs.Attack.{is_attacked_from, is_attacked, is_open_king, in_check, is_sniper, is_sniped_king, is_sniped};
-ghost use Rattle.shogi_core.specs.Below.{some_below};
+ghost use Rattle.shogi_core.specs.Attack.{is_attacked_from, is_attacked, is_open_king, in_check, is_sniper, is_sniping};
 ghost use Rattle.shogi_core.specs.Bits.{has_bit};
 ghost use Rattle.shogi_core.specs.Cell.{is_king};
 ghost use Rattle.shogi_core.specs.Lines.{are_aligned, are_lined, is_near, is_seen};
@@ -77,25 +76,6 @@ fn attacker_squares(board: &Board, by: Color, from: usize) -> u128
     near | (snipers & lined_squares(board, from))
 }
 
-/// Whether a piece of the side that slides is on a line with the square.
-#[tactic(auto, using(crate::proofs::SeenLaws::snipers))]
-fn has_sniper(board: &Board, by: Color, square: usize) -> bool
-    requires { square < 81 }
-    ensures { result ≡ some_below 81 (is_sniper board.now by square) }
-{
-    sniper_squares(board, by, square) != 0
-}
-
-/// Whether a king of the side stands on the square, on a line with a piece of the other side that
-/// slides.
-fn is_sniped_king(board: &Board, color: Color, square: usize) -> bool
-    requires { square < 81 }
-    ensures { result ≡ is_sniped_king board.now color square }
-{
-    is_king(board.at(Square::of_index(square)), color)
-        && has_sniper(board, color.opponent(), square)
-}
-
 impl Board {
     /// The squares on open lines with the square: on its file, its rank or a diagonal, with no
     /// piece between.
@@ -148,20 +128,20 @@ impl Board {
         }
         false
     }
-    /// Whether a king of the side is on a line with a piece of the other side that slides, whatever
-    /// stands between.
-    #[tactic(auto, using(crate::proofs::SeenLaws::sniped_kings), unfolding(crate::specs::Attack::is_sniped))]
-    pub fn is_sniped(&self, side: Color) -> bool
-        ensures { result ≡ is_sniped self.now side }
+    /// The squares of pieces of the other side that slide and are on a line with a king of the side,
+    /// whatever stands between.
+    #[tactic(auto, using(crate::proofs::Snipers::sniping))]
+    pub fn snipers(&self, side: Color) -> u128
+        ensures fits { result < 2 ^ 81 }
+        ensures bits { (n : ℕ) → n < 81 → has_bit result n ≡ is_sniping self.now side n }
     {
         let mut left = self.kings(side);
+        let mut found = 0;
         while left != 0 {
-            let square = lowest(left);
-            if is_sniped_king(self, side, square) {
-                return true;
-            }
-            left = without_lowest(left, square);
+            let king = lowest(left);
+            found |= sniper_squares(self, side.opponent(), king);
+            left = without_lowest(left, king);
         }
-        false
+        found
     }
 }

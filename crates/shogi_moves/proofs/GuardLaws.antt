@@ -1,15 +1,15 @@
 -- Moves that cannot leave the mover's king attacked.
 use Rattle.std.proofs.Common.{◌≡◌, ◌≢◌, ℕ, ◌-◌, ◌<◌, ◌^◌, ◌⊎◌, Bool, true, false, refl, sym, ap, subst, ◌∙◌, arith, inl, inr, Option, Some, None, set, length, get_or-set_same, get_or-set_other, length-set, bit_and, bit_or}
 use Rattle.std.specs.Prelude.{◌==◌, ◌&&◌, not, is_none}
-use Rattle.std.proofs.lemmas.Nat.{or_lt}
-use Rattle.std.proofs.lemmas.Bool.{cases_Bool, cases_eq, false_from_ne_true, both_ways, and_parts, and_from, or_left, or_right, not_from_false, not-true, ne_eqb}
+use Rattle.std.proofs.lemmas.Nat.{or_lt, and_le_l}
+use Rattle.std.proofs.lemmas.Bool.{cases_Bool, cases_eq, false_from_ne_true, both_ways, and_parts, and_from, or_left, or_right, or_parts, not_from_false, not-true, ne_eqb}
 use Rattle.shogi_core.specs.declared.piece.Color.{Color}
 use Rattle.shogi_core.specs.declared.piece.Color.TheVariants.{Black, White}
 use Rattle.shogi_core.specs.declared.piece.Kind.{Kind}
 use Rattle.shogi_core.specs.declared.piece.Kind.TheVariants as kinds
 use Rattle.shogi_core.specs.declared.piece.Piece.{Piece}
 use Rattle.shogi_core.specs.declared.moves.Move.TheVariants.{Board, Drop}
-use Rattle.shogi_core.specs.Attack.{in_check, is_attacked, is_open_king, is_sniped}
+use Rattle.shogi_core.specs.Attack.{in_check, is_attacked, is_open_king, is_sniping}
 use Rattle.shogi_core.specs.Bits.{has_bit}
 use Rattle.shogi_core.specs.Cell.{is_piece_of, is_king, is_king_role}
 use Rattle.shogi_core.specs.Lines.{are_lined, is_line_to_king, is_lined_with_king}
@@ -19,8 +19,8 @@ use Rattle.shogi_core.specs.Position.{Shogi}
 use Rattle.shogi_core.proofs.Below.{some_below_no}
 use Rattle.shogi_core.proofs.BitLaws.{has_bit-and, has_bit-or, has_bit-none}
 use Rattle.shogi_core.proofs.Exposed.{check_was, check_stays, attacked_was}
-use Rattle.shogi_core.proofs.LineBits.{has_bit-not}
-use Rattle.shogi_core.proofs.SeenLaws.{lined_back, unsniped_calm}
+use Rattle.shogi_core.proofs.SeenLaws.{lined_back}
+use Rattle.shogi_core.proofs.Snipers.{left_calm}
 use Rattle.shogi_moves.specs.After.{cells_after, moved, dropped}
 use Rattle.shogi_moves.specs.Guards.{Guards, Exposes}
 use Rattle.shogi_moves.specs.Legal.{is_safe, is_pseudo_legal_board_move, is_pseudo_legal_drop}
@@ -127,115 +127,38 @@ filled cells side to v len ht own plain safe =
       | inr other ↦ inr (get_or-set_other cells to x v None other)
     ]
 
--- ---- all pieces that may be pinned are lifted off at once
+-- ---- pieces on open lines with a sniper
 
--- of the first squares those that are not left are empty; only pieces of the side that are no kings were lifted off
-pub record IsLifted (cells lifted : Cells) (side : Color) (first left : ℕ) : Type 0 where
-  pub fit : length lifted ≡ 81
-  pub stands : (x : ℕ) → (piece_at lifted x ≡ piece_at cells x) ⊎ ((piece_at lifted x ≡ None) × (is_piece_of side (piece_at cells x) ≡ true) × (is_king side (piece_at cells x) ≡ false))
-  pub gone : (x : ℕ) → has_bit first x ≡ true → has_bit left x ≡ false → piece_at lifted x ≡ None
-  pub within : (x : ℕ) → has_bit left x ≡ true → has_bit first x ≡ true
+-- the mask has the squares on open lines with those of the first squares that are not left
+pub record Watches (cells : Cells) (first left watched : ℕ) : Type 0 where
+  pub all : (a n : ℕ) → a < 81 → n < 81 → has_bit first a ≡ true → has_bit left a ≡ false → are_lined cells a n ≡ true → has_bit watched n ≡ true
 
-pub lift_first : (cells : Cells) (side : Color) (first : ℕ) → length cells ≡ 81 → IsLifted cells cells side first first
-lift_first cells side first len = record {
-  fit = len;
-  stands = λ x. inl refl;
-  gone = λ x f l. absurd (both_ways (has_bit first x) l f);
-  within = λ x e. e;
-}
+pub watches_first : (cells : Cells) (first : ℕ) → Watches cells first first 0
+watches_first cells first = record { all = λ a n h l e out lined. absurd (both_ways (has_bit first a) out e) }
 
--- those that are lifted off are pieces of the side, and no kings
-pub mine : (p : Shogi) (own exposed kings x : ℕ) → kings < 2 ^ 81 → x < 81 → ((n : ℕ) → n < 81 → has_bit own n ≡ is_piece_of p.side (piece_at p.cells n)) → ((n : ℕ) → n < 81 → has_bit kings n ≡ is_king p.side (piece_at p.cells n))
-    → has_bit (bit_and (bit_and own exposed) (2 ^ 128 - 1 - kings)) x ≡ true → (is_piece_of p.side (piece_at p.cells x) ≡ true) × (is_king p.side (piece_at p.cells x) ≡ false)
-mine p own exposed kings x fits h o k e =
-    let both : (has_bit (bit_and own exposed) x ≡ true) × (has_bit (2 ^ 128 - 1 - kings) x ≡ true) = and_parts _ _ (sym (has_bit-and (bit_and own exposed) (2 ^ 128 - 1 - kings) x) ∙ e) in
-    let here : (has_bit own x ≡ true) × (has_bit exposed x ≡ true) = and_parts _ _ (sym (has_bit-and own exposed x) ∙ both.0) in
-    (sym (o x h) ∙ here.0, sym (k x h) ∙ not-true (has_bit kings x) (sym (has_bit-not kings x (omega arith) (omega arith)) ∙ both.1))
-
-pub lift_more : (cells lifted : Cells) (side : Color) (first left next s : ℕ) → IsLifted cells lifted side first left → s < 81 → has_bit left s ≡ true → (is_piece_of side (piece_at cells s) ≡ true) × (is_king side (piece_at cells s) ≡ false)
-    → ((i : ℕ) → has_bit next i ≡ (has_bit left i && not (i == s))) → IsLifted cells (set lifted s None) side first next
-lift_more cells lifted side first left next s l h set_s own bits = record {
-  fit = length-set lifted s None ∙ l.fit;
-  stands = λ x. elim (cases_eq x s) [
-    | inl here ↦ inr (out x here, subst (λ (y : ℕ). is_piece_of side (piece_at cells y) ≡ true) (sym here) own.0, subst (λ (y : ℕ). is_king side (piece_at cells y) ≡ false) (sym here) own.1)
-    | inr other ↦ elim (l.stands x) [
-      | inl same ↦ inl (get_or-set_other lifted s x None None other ∙ same)
-      | inr off ↦ inr (get_or-set_other lifted s x None None other ∙ off.0, off.1, off.2)
-    ]
+pub watches_more : (cells : Cells) (first left next watched sniper line : ℕ) → Watches cells first left watched → ((i : ℕ) → has_bit next i ≡ (has_bit left i && not (i == sniper)))
+    → ((n : ℕ) → n < 81 → has_bit line n ≡ are_lined cells sniper n) → Watches cells first next (bit_or watched line)
+watches_more cells first left next watched sniper line w bits lined = record {
+  all = λ a n h l e out on. has_bit-or watched line n ∙ elim (cases_eq a sniper) [
+    | inl same ↦ or_right (has_bit watched n) (has_bit line n) (lined n l ∙ subst (λ (j : ℕ). are_lined cells j n ≡ true) same on)
+    | inr other ↦ or_left _ _ (w.all a n h l e (false_from_ne_true (has_bit left a) (λ set. both_ways (has_bit next a) out (bits a ∙ and_from _ _ set (not_from_false _ (ne_eqb a sniper other))))) on)
   ];
-  gone = λ x f n. elim (cases_eq x s) [
-    | inl here ↦ out x here
-    | inr other ↦ get_or-set_other lifted s x None None other ∙ l.gone x f (kept (has_bit left x) (x == s) (ne_eqb x s other) (sym (bits x) ∙ n))
-  ];
-  within = λ x e. l.within x ((and_parts (has_bit left x) (not (x == s)) (sym (bits x) ∙ e)).0);
 }
+
+pub watches_last : (cells : Cells) (first watched a n : ℕ) → Watches cells first 0 watched → a < 81 → n < 81 → has_bit first a ≡ true → are_lined cells a n ≡ true → has_bit watched n ≡ true
+watches_last cells first watched a n w h l e on = w.all a n h l e (has_bit-none a) on
+
+pub ruleset watching = (watches_first, watches_last)
+
+-- a piece that is lifted off opens no check where it is on an open line with no sniper
+lifted_off : (p : Shogi) (n : ℕ) → length p.cells ≡ 81 → n < 81 → in_check p.cells p.side ≡ false → ((a : ℕ) → a < 81 → is_sniping p.cells p.side a ≡ true → are_lined p.cells n a ≡ false) → in_check (set p.cells n None) p.side ≡ false
+lifted_off p n len h safe calm =
+    left_calm p.cells (set p.cells n None) n
+    (λ x e. elim (cases_eq x n) [ inl here ↦ inr here | inr other ↦ inl (ap is_none (sym (get_or-set_other p.cells n x None None other)) ∙ e) ])
+    p.side (stays (is_piece_of (opponent_of p.side)) refl) (stays (is_king p.side) refl) safe calm
   where
-    out : (x : ℕ) → x ≡ s → piece_at (set lifted s None) x ≡ None
-    out x here = rw here (get_or-set_same lifted s None None (omega (arith, l.fit)))
-
-    kept : (a b : Bool) → b ≡ false → (a && not b) ≡ false → a ≡ false
-    kept true b e f = absurd (both_ways (not b) f (ap not e))
-    kept false b e f = refl
-
--- where that gives no check, no piece is pinned
-pub all_loose : (p : Shogi) (own exposed kings : ℕ) (lifted : Cells) → Guards p false exposed → length p.cells ≡ 81 → kings < 2 ^ 81 → ((n : ℕ) → n < 81 → has_bit own n ≡ is_piece_of p.side (piece_at p.cells n)) → ((n : ℕ) → n < 81 → has_bit kings n ≡ is_king p.side (piece_at p.cells n))
-    → IsLifted p.cells lifted p.side (bit_and (bit_and own exposed) (2 ^ 128 - 1 - kings)) 0 → in_check lifted p.side ≡ false → Guards p false kings
-all_loose p own exposed kings lifted g len fits o k l safe = record {
-  check = g.check;
-  kings = λ n h out. sym (k n h) ∙ out;
-  lines = λ c. absurd (cc);
-  free = λ c n h out here. elim (cases_Bool (has_bit exposed n)) [
-    | inl among ↦ loose n h (l.gone n (has_bit-and (bit_and own exposed) (2 ^ 128 - 1 - kings) n ∙ and_from _ _ (has_bit-and own exposed n ∙ and_from _ _ (o n h ∙ here) among) (has_bit-not kings n (omega arith) (omega arith) ∙ ap not out)) (has_bit-none n))
-    | inr off ↦ g.free refl n h off here
-  ];
-  fits = fits;
-}
-  where
-    loose : (n : ℕ) → n < 81 → piece_at lifted n ≡ None → in_check (set p.cells n None) p.side ≡ false
-    loose n h gone =
-        check_was lifted (set p.cells n None) (λ x. ⊥)
-        (λ x e. elim (cases_eq x n) [
-          | inl here ↦ inl (rw here (ap is_none gone))
-          | inr other ↦ elim (l.stands x) [
-            | inl same ↦ inl (ap is_none same ∙ (ap is_none (sym (get_or-set_other p.cells n x None None other)) ∙ e))
-            | inr off ↦ inl (ap is_none off.0)
-          ]
-        ])
-        p.side
-        (λ a e. elim (cases_eq a n) [
-          | inl here ↦ absurd (let clash : false ≡ true = ap (is_piece_of (opponent_of p.side)) (sym (out a here)) ∙ e in cc)
-          | inr other ↦ elim (l.stands a) [
-            | inl same ↦ same ∙ sym (get_or-set_other p.cells n a None None other)
-            | inr off ↦ absurd (both_ways (is_piece_of (opponent_of p.side) (piece_at p.cells a)) (other_side p.side (piece_at p.cells a) off.1) (ap (is_piece_of (opponent_of p.side)) (sym (get_or-set_other p.cells n a None None other)) ∙ e))
-          ]
-        ])
-        (λ q e. elim (cases_eq q n) [
-          | inl here ↦ absurd (let clash : false ≡ true = ap (is_king p.side) (sym (out q here)) ∙ e in cc)
-          | inr other ↦ elim (l.stands q) [
-            | inl same ↦ same ∙ sym (get_or-set_other p.cells n q None None other)
-            | inr off ↦ absurd (both_ways (is_king p.side (piece_at p.cells q)) off.2 (ap (is_king p.side) (sym (get_or-set_other p.cells n q None None other)) ∙ e))
-          ]
-        ])
-        (λ x left. absurd left)
-        safe
-      where
-        out : (x : ℕ) → x ≡ n → piece_at (set p.cells n None) x ≡ None
-        out x here = rw here (get_or-set_same p.cells n None None (omega arith))
-
-pub ruleset loosening = (lift_first, all_loose)
-
--- where no piece that slides is on a line with the king, none is pinned
-pub none_pinned : (p : Shogi) (kings : ℕ) → length p.cells ≡ 81 → kings < 2 ^ 81 → ((n : ℕ) → n < 81 → has_bit kings n ≡ is_king p.side (piece_at p.cells n)) → in_check p.cells p.side ≡ false → is_sniped p.cells p.side ≡ false → Guards p false kings
-none_pinned p kings len fits k safe calm = record {
-  check = sym safe;
-  kings = λ n h out. sym (k n h) ∙ out;
-  lines = λ c. absurd (cc);
-  free = λ c n h out here. unsniped_calm p.cells (set p.cells n None) p.side (stays n h (is_piece_of (opponent_of p.side)) refl) (stays n h (is_king p.side) refl) safe calm;
-  fits = fits;
-}
-  where
-    stays : (n : ℕ) → n < 81 → (test : Option Piece → Bool) → test None ≡ false → (x : ℕ) → x < 81 → test (piece_at (set p.cells n None) x) ≡ true → piece_at (set p.cells n None) x ≡ piece_at p.cells x
-    stays n h test bare x l e = elim (cases_eq x n) [
+    stays : (test : Option Piece → Bool) → test None ≡ false → (x : ℕ) → x < 81 → test (piece_at (set p.cells n None) x) ≡ true → piece_at (set p.cells n None) x ≡ piece_at p.cells x
+    stays test bare x l e = elim (cases_eq x n) [
       | inl here ↦ absurd (both_ways (test None) bare (ap test (sym (out here)) ∙ e))
       | inr other ↦ get_or-set_other p.cells n x None None other
     ]
@@ -243,7 +166,37 @@ none_pinned p kings len fits k safe calm = record {
         out : x ≡ n → piece_at (set p.cells n None) x ≡ None
         out here = rw here (get_or-set_same p.cells n None None (omega arith))
 
-pub ruleset unsniped = (none_pinned)
+-- without a sniper none is pinned
+pub none_pinned : (p : Shogi) (kings snipers : ℕ) → length p.cells ≡ 81 → kings < 2 ^ 81 → ((n : ℕ) → n < 81 → has_bit kings n ≡ is_king p.side (piece_at p.cells n)) → in_check p.cells p.side ≡ false
+    → ((n : ℕ) → n < 81 → has_bit snipers n ≡ is_sniping p.cells p.side n) → snipers ≡ 0 → Guards p false kings
+none_pinned p kings snipers len fits k safe bits none = record {
+  check = sym safe;
+  kings = λ n h out. sym (k n h) ∙ out;
+  lines = λ c. absurd (cc);
+  free = λ c n h out here. lifted_off p n len h safe (λ a l s. absurd (both_ways (has_bit snipers a) (ap (λ (m : ℕ). has_bit m a) none ∙ has_bit-none a) (bits a l ∙ s)));
+  fits = fits;
+}
+
+-- of the exposed pieces those are pinned at most that are on an open line with a sniper
+pub few_pinned : (p : Shogi) (own exposed kings snipers watched : ℕ) → Guards p false exposed → length p.cells ≡ 81 → own < 2 ^ 81 → kings < 2 ^ 81
+    → ((n : ℕ) → n < 81 → has_bit own n ≡ is_piece_of p.side (piece_at p.cells n)) → ((n : ℕ) → n < 81 → has_bit kings n ≡ is_king p.side (piece_at p.cells n))
+    → ((n : ℕ) → n < 81 → has_bit snipers n ≡ is_sniping p.cells p.side n) → ((a n : ℕ) → a < 81 → n < 81 → has_bit snipers a ≡ true → are_lined p.cells a n ≡ true → has_bit watched n ≡ true)
+    → Guards p false (bit_or kings (bit_and (bit_and own exposed) watched))
+few_pinned p own exposed kings snipers watched g len low fits o k bits w = record {
+  check = g.check;
+  kings = λ n h out. sym (k n h) ∙ (apart n out).0;
+  lines = λ c. absurd (cc);
+  free = λ c n h out here. elim (cases_Bool (has_bit exposed n)) [
+    | inl among ↦ lifted_off p n len h (sym g.check) (λ a l s. false_from_ne_true (are_lined p.cells n a) (λ lined.
+        both_ways (has_bit (bit_and (bit_and own exposed) watched) n) (apart n out).1
+        (has_bit-and (bit_and own exposed) watched n ∙ and_from _ _ (has_bit-and own exposed n ∙ and_from _ _ (o n h ∙ here) among) (w a n l h (bits a l ∙ s) (lined_back p.cells n a h lined)))))
+    | inr off ↦ g.free refl n h off here
+  ];
+  fits = or_lt 81 kings (bit_and (bit_and own exposed) watched) fits (omega (arith, and_le_l own exposed, and_le_l (bit_and own exposed) watched));
+}
+  where
+    apart : (n : ℕ) → has_bit (bit_or kings (bit_and (bit_and own exposed) watched)) n ≡ false → (has_bit kings n ≡ false) × (has_bit (bit_and (bit_and own exposed) watched) n ≡ false)
+    apart n out = or_parts (has_bit kings n) (has_bit (bit_and (bit_and own exposed) watched) n) (sym (has_bit-or kings (bit_and (bit_and own exposed) watched) n) ∙ out)
 
 module _ (cells : Cells) (side : Color) (from to : ℕ) (v : Option Piece) (len : length cells ≡ 81) (hf : from < 81) (ht : to < 81) where
   after_it : Cells

@@ -1,7 +1,8 @@
 //! What is kept of a position, so that most of its moves need no look at checks.
 
-ghost use Rattle.std.specs.Prelude.{◌≡◌, ◌<◌, ◌^◌, ◌&&◌, not, false};
-ghost use Rattle.shogi_core.specs.Attack.{in_check, is_sniped};
+ghost use Rattle.std.specs.Prelude.{◌≡◌, ◌<◌, ◌^◌, ◌&&◌, ℕ, not, true, false};
+ghost use Rattle.shogi_core.specs.Attack.{in_check};
+ghost use Rattle.shogi_core.specs.Lines.{are_lined};
 ghost use Rattle.shogi_core.specs.Bits.{has_bit};
 ghost use Rattle.shogi_moves.specs.Guards.{Guards, Exposes};
 
@@ -45,43 +46,43 @@ pub fn full_guard(p: &Position, checked: bool) -> Guard
     }
 }
 
-/// The exposed squares where there is no check: those of the king alone, if all other exposed
-/// pieces of the side may be lifted off at once without one, so that none is pinned.
-#[tactic(auto, using(crate::proofs::GuardLaws::loosening))]
-fn loosened(p: &Position, exposed: u128) -> u128
-    requires { Guards p.now false exposed }
-    ensures { Guards p.now false result }
+/// The squares on open lines with the snipers.
+#[tactic(auto, using(crate::proofs::GuardLaws::watching))]
+fn watched_squares(p: &Position, snipers: u128) -> u128
+    requires { snipers < 2 ^ 81 }
+    ensures all { (a n : ℕ) → a < 81 → n < 81 → has_bit snipers a ≡ true → are_lined p.now.cells a n ≡ true → has_bit result n ≡ true }
+{
+    let mut left = snipers;
+    let mut watched = 0;
+    while left != 0 {
+        let sniper = lowest(left);
+        watched |= p.lined(Square::of_index(sniper));
+        left = without_lowest(left, sniper);
+    }
+    watched
+}
+
+/// What is kept where there is no check: of the exposed pieces those may be pinned that stand on an
+/// open line with a sniper, a piece of the other side that slides and is on a line with the king.
+fn calm_guard(p: &Position) -> Guard
+    requires { in_check p.now.cells p.now.side ≡ false }
+    ensures { Guards p.now result.checked result.exposed }
 {
     p.validity();
     let side = p.side();
     let kings = p.kings(side);
-    let mut lifted = p.board();
-    let first = p.own(side) & exposed & !kings;
-    let mut left = first;
-    while left != 0 {
-        let square = lowest(left);
-        lifted.set(Square::of_index(square), None);
-        left = without_lowest(left, square);
+    let snipers = p.as_board().snipers(side);
+    if snipers == 0 {
+        return Guard {
+            checked: false,
+            exposed: kings,
+        };
     }
-    if lifted.in_check(side) {
-        exposed
-    } else {
-        kings
-    }
-}
-
-/// What is kept where there is no check and no piece of the other side that slides is on a line
-/// with the king, so that none is pinned.
-#[tactic(auto, using(crate::proofs::GuardLaws::unsniped))]
-fn unsniped_guard(p: &Position) -> Guard
-    requires calm { in_check p.now.cells p.now.side ≡ false }
-    requires unsniped { is_sniped p.now.cells p.now.side ≡ false }
-    ensures { Guards p.now result.checked result.exposed }
-{
-    p.validity();
+    let exposed = full_guard(p, false).exposed;
+    let watched = watched_squares(p, snipers);
     Guard {
         checked: false,
-        exposed: p.kings(p.side()),
+        exposed: kings | (p.own(side) & exposed & watched),
     }
 }
 
@@ -89,17 +90,10 @@ fn unsniped_guard(p: &Position) -> Guard
 pub fn guard_of(p: &Position) -> Guard
     ensures { Guards p.now result.checked result.exposed }
 {
-    let checked = p.in_check(p.side());
-    if !checked && !p.as_board().is_sniped(p.side()) {
-        return unsniped_guard(p);
-    }
-    let guard = full_guard(p, checked);
-    if guard.checked {
-        return guard;
-    }
-    Guard {
-        checked: false,
-        exposed: loosened(p, guard.exposed),
+    if p.in_check(p.side()) {
+        full_guard(p, true)
+    } else {
+        calm_guard(p)
     }
 }
 

@@ -1,10 +1,10 @@
 use Rattle.std.proofs.Common.{◌<◌, ◌^◌}
-use Rattle.shogi_moves.proofs.GuardLaws.{IsLifted}
-use Rattle.shogi_moves.proofs.guard.loosened.Given as goal
+use Rattle.shogi_moves.proofs.GuardLaws.{Watches}
+use Rattle.shogi_moves.proofs.guard.watched_squares.Given as goal
 
 abbrev pub invariant-loop-left : goal.invariant-loop-left
 invariant-loop-left l = record {
-  lifts : IsLifted l.p.cells l.lifted l.side l.first l.left;
+  all : Watches l.p.cells l.fn.snipers l.left l.watched;
   left : l.left < 2 ^ 81;
 }
 
