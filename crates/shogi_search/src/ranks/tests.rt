@@ -1,9 +1,11 @@
 //! Lists of the best moves, worked by hand.
 
-ghost use Rattle.std.specs.Prelude.{◌≡◌, ◌≤◌, ◌<◌};
+ghost use Rattle.std.specs.Prelude.{◌≡◌, ◌≤◌, ◌<◌, ◌-◌};
 ghost use Rattle.shogi_core.specs.Codes.{code_of};
+ghost use Rattle.shogi_moves.specs.LegalMoves.{legal_moves};
 ghost use Rattle.shogi_moves.specs.Rising.{is_in};
-ghost use Rattle.shogi_search.specs.Ranked.{codes_in};
+ghost use Rattle.shogi_search.specs.Minimax.{worth};
+ghost use Rattle.shogi_search.specs.Ranked.{codes_in, IsTop};
 ghost use Rattle.shogi_search.specs.declared.bounds.TheConstants.{GREATEST_DEPTH};
 ghost use Rattle.shogi_search.specs.declared.ranks.TheConstants.{MOST_LINES};
 
@@ -101,22 +103,33 @@ fn eight_of_nine(rt: HostRuntime) {
     assert_offered(&rt, MOST_LINES, &offers, &wanted);
 }
 
-// The best lines of a position, each move searched one ply less deep.
-fn assert_lines(rt: &impl Abort, p: &Position, depth: u8, lines: usize, wanted: &[(u16, i32)])
+// The best lines of a position, each move searched one ply less deep: the first of the legal moves as
+// they are ranked.
+fn best_lines(p: &Position, depth: u8, lines: usize) -> Ranks
     requires shallow { depth ≤ GREATEST_DEPTH }
     requires deep { 0 < depth }
     requires least { 1 ≤ lines }
     requires most { lines ≤ MOST_LINES }
+    ensures { IsTop (worth p.now (depth - 1)) (legal_moves p.now) result }
 {
     let mut ranks = Ranks::new(lines);
     let mut passed: Option<Move> = None;
     'moves: while let Some(m) = next_legal(p, passed) {
         let (visited, offered) = (m, m);
         let found = search(&apply(p, m), depth - 1, &mut NoMemo);
-        offer(rt, &mut ranks, offered, -found.value);
+        ranks.offer(offered, -found.value);
         passed = Some(visited);
     }
-    assert_list(rt, &ranks, wanted);
+    ranks
+}
+
+fn assert_lines(rt: &impl Abort, p: &Position, depth: u8, lines: usize, wanted: &[(u16, i32)])
+    requires shallow { depth ≤ GREATEST_DEPTH }
+    requires deep { 0 < depth }
+    requires least { 1 ≤ lines }
+    requires most { lines ≤ MOST_LINES }
+{
+    assert_list(rt, &best_lines(p, depth, lines), wanted);
 }
 
 // All moves of the opening position are worth the same at depth 1: 1g1f and 1i1h have the least codes.
