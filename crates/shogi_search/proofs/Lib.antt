@@ -12,3 +12,4 @@ pub mod Entries
 pub mod Nodes
 pub mod Chains
 pub mod RankedLaws
+pub mod RankedUse

@@ -179,7 +179,7 @@ ranked_list f (m ∷ ms) d = rw ranked-cons (rank_keeps f m (ranked f ms) (ranke
 in_rest : (n y : ℕ) (ys : List ℕ) → (n ≡ y → ⊥) → is_in n (y ∷ ys) ≡ true → is_in n ys ≡ true
 in_rest n y ys ne h = elim (or_cases (n == y) (is_in n ys) h) [ inl e ↦ absurd (ne (eqb-true n y e)) | inr l ↦ l ]
 
-first_in : (n : ℕ) (ns : List ℕ) → is_in n (n ∷ ns) ≡ true
+pub first_in : (n : ℕ) (ns : List ℕ) → is_in n (n ∷ ns) ≡ true
 first_in n ns = or_left (n == n) (is_in n ns) (eq-eqb n n refl)
 
 same_head : (f : ℕ → ℤ) (x y : ℕ) (xs ys : List ℕ) → IsRankedList f (x ∷ xs) → IsRankedList f (y ∷ ys) → ((n : ℕ) → is_in n (x ∷ xs) ≡ is_in n (y ∷ ys)) → x ≡ y
