@@ -3,7 +3,7 @@ use Rattle.std.proofs.Common.{◌≡◌, ℕ, ◌+◌, ◌*◌, ◌/◌, ◌<◌
 use Rattle.std.specs.Prelude.{◌&&◌, nat_lt, ◌||◌, ℤ, pos, negsuc, ◌+ℤ◌, ◌%◌}
 use Rattle.std.proofs.lemmas.Bool.{and_right, and_parts, both_ways, cases_Bool, ltb-true, eqb-true}
 use Rattle.shogi_core.specs.Movement.{Cells, piece_at, reaches, cell_reaches, is_same_square, square_at, away}
-use Rattle.shogi_core.specs.Position.{HandCounts, held}
+use Rattle.shogi_core.specs.Position.{HandCounts, count_in_hand}
 use Rattle.shogi_core.proofs.Faults.{number_below}
 use Rattle.shogi_core.specs.declared.piece.Color.{Color}
 use Rattle.shogi_core.specs.declared.piece.Color.TheVariants.{Black, White}
@@ -70,14 +70,14 @@ is_pawn-moved color true cell e = absurd (both_ways (is_pawn color (moved true c
 
 -- one more in either hand is one more in both
 one_more : (hands : HandCounts) (side : Color) (taken : Option Kind) (kind : Kind) → length hands ≡ 14
-    → held (with_one_more hands side taken) Black kind + held (with_one_more hands side taken) White kind ≡ held hands Black kind + held hands White kind + tally (is_role_of_kind kind taken)
+    → count_in_hand (with_one_more hands side taken) Black kind + count_in_hand (with_one_more hands side taken) White kind ≡ count_in_hand hands Black kind + count_in_hand hands White kind + tally (is_role_of_kind kind taken)
 one_more hands side None kind len = omega arith
 one_more hands Black (Some taken) kind len = hand_added hands (kind_number taken) (kind_number taken) (kind_number kind) len (number_below taken) (number_below kind) (inl refl)
 one_more hands White (Some taken) kind len = hand_added hands (kind_number taken + 7) (kind_number taken) (kind_number kind) len (number_below taken) (number_below kind) (inr refl)
 
 -- a captured piece is one more in hand
 pub hands-with_captured : (hands : HandCounts) (side : Color) (cell : Option Piece) (kind : Kind) → length hands ≡ 14
-    → held (with_captured hands side cell) Black kind + held (with_captured hands side cell) White kind ≡ held hands Black kind + held hands White kind + tally (is_of_kind kind cell)
+    → count_in_hand (with_captured hands side cell) Black kind + count_in_hand (with_captured hands side cell) White kind ≡ count_in_hand hands Black kind + count_in_hand hands White kind + tally (is_of_kind kind cell)
 hands-with_captured hands side None kind len = omega arith
 hands-with_captured hands side (Some piece) kind len = one_more hands side (kind_of piece.role) kind len
 

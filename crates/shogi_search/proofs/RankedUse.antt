@@ -5,7 +5,7 @@ use Rattle.std.proofs.lemmas.List.{append_assoc}
 use Rattle.shogi_core.specs.declared.moves.Move.{Move}
 use Rattle.shogi_core.specs.Codes.{code_of}
 use Rattle.shogi_core.specs.Position.{Shogi}
-use Rattle.shogi_moves.specs.LegalMoves.{legal_moves, legal_above}
+use Rattle.shogi_moves.specs.LegalMoves.{legal_codes, legal_above}
 use Rattle.shogi_moves.specs.Rising.{is_in, IsRising}
 use Rattle.shogi_moves.proofs.LegalLaws.{legal_rising}
 use Rattle.shogi_search.proofs.Picks.{is_in-append_right}
@@ -42,13 +42,13 @@ rising_apart (x ∷ xs) m ys r =
 -- the legal moves up to the one that was passed last were offered
 pub record IsGoneThrough (p : Shogi) (f : ℕ → ℤ) (passed : Option Move) (r : Ranking) : Type 0 where
   pub seen : List ℕ
-  pub whole : seen ++ legal_above p passed ≡ legal_moves p
+  pub whole : seen ++ legal_above p passed ≡ legal_codes p
   pub top : IsTop f seen r
 
 pub gone_none : (p : Shogi) (f : ℕ → ℤ) (r : Ranking) → IsTop f [] r → IsGoneThrough p f None r
 gone_none p f r h = record { seen = []; whole = refl; top = h }
 
-not_seen : (p : Shogi) (seen : List ℕ) (m : ℕ) (rest above : List ℕ) → seen ++ above ≡ legal_moves p → above ≡ m ∷ rest → is_in m seen ≡ false
+not_seen : (p : Shogi) (seen : List ℕ) (m : ℕ) (rest above : List ℕ) → seen ++ above ≡ legal_codes p → above ≡ m ∷ rest → is_in m seen ≡ false
 not_seen p seen m rest above w e = rising_apart seen m rest (subst IsRising (sym w ∙ ap (λ (l : List ℕ). seen ++ l) e) (legal_rising p 0))
 
 -- the next move may be offered
@@ -65,5 +65,5 @@ gone_on p f passed r new m g e h = record {
 }
 
 -- once no move is left, the list is the first of all
-pub gone_all : (p : Shogi) (f : ℕ → ℤ) (passed : Option Move) (r : Ranking) → IsGoneThrough p f passed r → legal_above p passed ≡ [] → IsTop f (legal_moves p) r
+pub gone_all : (p : Shogi) (f : ℕ → ℤ) (passed : Option Move) (r : Ranking) → IsGoneThrough p f passed r → legal_above p passed ≡ [] → IsTop f (legal_codes p) r
 gone_all p f passed r g e = subst (λ (l : List ℕ). IsTop f l r) (sym (append-nil g.seen) ∙ ap (λ (l : List ℕ). g.seen ++ l) (sym e) ∙ g.whole) g.top

@@ -2,16 +2,17 @@
 
 ghost use Rattle.std.specs.Prelude.{◌≡◌, ◌≤◌, ◌<◌, ◌-◌};
 ghost use Rattle.shogi_core.specs.Codes.{code_of};
-ghost use Rattle.shogi_moves.specs.LegalMoves.{legal_moves};
+ghost use Rattle.shogi_moves.specs.LegalMoves.{legal_codes};
 ghost use Rattle.shogi_moves.specs.Rising.{is_in};
 ghost use Rattle.shogi_search.specs.Minimax.{worth};
 ghost use Rattle.shogi_search.specs.Ranked.{codes_in, IsTop};
-ghost use Rattle.shogi_search.specs.declared.bounds.TheConstants.{GREATEST_DEPTH};
-ghost use Rattle.shogi_search.specs.declared.ranks.TheConstants.{MOST_LINES};
+ghost use Rattle.shogi_search.specs.declared.bounds.TheConstants.{SEARCH_DEPTH_MAX};
+ghost use Rattle.shogi_search.specs.declared.ranks.TheConstants.{PV_LINES_MAX};
 
 use crate::tests::position;
-use crate::{MOST_LINES, NoMemo, Ranks, search};
+use crate::{NoMemo, PV_LINES_MAX, Ranks, search};
 use shogi_core::{Color, Kind, Move, Position, Role};
+use shogi_eval::Eval;
 use shogi_moves::{apply, next_legal};
 use std::process::Abort;
 use std::test::Fail;
@@ -46,7 +47,7 @@ fn assert_list(rt: &impl Abort, ranks: &Ranks, wanted: &[(u16, i32)]) {
 // The list after the moves of these codes are offered with these values.
 fn assert_offered(rt: &impl Abort, lines: usize, offers: &[(u16, i32)], wanted: &[(u16, i32)])
     requires least { 1 ≤ lines }
-    requires most { lines ≤ MOST_LINES }
+    requires most { lines ≤ PV_LINES_MAX }
 {
     let mut ranks = Ranks::new(lines);
     assert_list(rt, &ranks, &[]);
@@ -100,23 +101,23 @@ fn eight_of_nine(rt: HostRuntime) {
         (9, 30000),
     ];
     assert_offered(&rt, 8, &offers, &wanted);
-    assert_offered(&rt, MOST_LINES, &offers, &wanted);
+    assert_offered(&rt, PV_LINES_MAX, &offers, &wanted);
 }
 
 // The best lines of a position, each move searched one ply less deep: the first of the legal moves as
 // they are ranked.
-fn best_lines(p: &Position, depth: u8, lines: usize) -> Ranks
-    requires shallow { depth ≤ GREATEST_DEPTH }
+fn best_lines(p: &Position, e: Eval, depth: u8, lines: usize) -> Ranks
+    requires shallow { depth ≤ SEARCH_DEPTH_MAX }
     requires deep { 0 < depth }
     requires least { 1 ≤ lines }
-    requires most { lines ≤ MOST_LINES }
-    ensures { IsTop (worth p.now (depth - 1)) (legal_moves p.now) result }
+    requires most { lines ≤ PV_LINES_MAX }
+    ensures { IsTop (worth p.now e (depth - 1)) (legal_codes p.now) result }
 {
     let mut ranks = Ranks::new(lines);
     let mut passed: Option<Move> = None;
     'moves: while let Some(m) = next_legal(p, passed) {
         let (visited, offered) = (m, m);
-        let found = search(&apply(p, m), depth - 1, &mut NoMemo);
+        let found = search(&apply(p, m), e, depth - 1, &mut NoMemo);
         ranks.offer(offered, -found.value);
         passed = Some(visited);
     }
@@ -124,12 +125,12 @@ fn best_lines(p: &Position, depth: u8, lines: usize) -> Ranks
 }
 
 fn assert_lines(rt: &impl Abort, p: &Position, depth: u8, lines: usize, wanted: &[(u16, i32)])
-    requires shallow { depth ≤ GREATEST_DEPTH }
+    requires shallow { depth ≤ SEARCH_DEPTH_MAX }
     requires deep { 0 < depth }
     requires least { 1 ≤ lines }
-    requires most { lines ≤ MOST_LINES }
+    requires most { lines ≤ PV_LINES_MAX }
 {
-    assert_list(rt, &best_lines(p, depth, lines), wanted);
+    assert_list(rt, &best_lines(p, Eval::Plain, depth, lines), wanted);
 }
 
 // All moves of the opening position are worth the same at depth 1: 1g1f and 1i1h have the least codes.

@@ -14,8 +14,8 @@ offer-requires c = gone_fresh _ _ _ _ _ _ c.moves.invariant c.in-Some.ensures.ne
 
 pub moves-preserved : goal.moves-preserved
 moves-preserved c =
-    let w : worth c.args.p.now (c.args.depth - 1) (code_of c.in-Some.m) ≡ pos 0 -ℤ c.search-found.result.value = worth_from _ _ _ c.apply.result _ c.search-found.ensures.value c.apply.ensures.by_code in
-    gone_on _ _ _ _ _ _ c.moves.invariant c.in-Some.ensures.next (λ codes t i. c.offer.ensures.top (worth c.args.p.now (c.args.depth - 1)) codes t i (omega (arith, ints)))
+    let w : worth c.args.p.now c.args.e (c.args.depth - 1) (code_of c.in-Some.m) ≡ pos 0 -ℤ c.search-found.result.value = worth_from _ _ _ _ c.apply.result _ c.search-found.ensures.value c.apply.ensures.by_code in
+    gone_on _ _ _ _ _ _ c.moves.invariant c.in-Some.ensures.next (λ codes t i. c.offer.ensures.top (worth c.args.p.now c.args.e (c.args.depth - 1)) codes t i (omega (arith, ints)))
 
 pub returns : goal.returns
 returns c = gone_all _ _ _ _ c.moves.invariant c.in_default.ensures.next

@@ -5,7 +5,7 @@ use Rattle.shogi_search.proofs.RankedUse.{IsGoneThrough}
 use Rattle.shogi_search.proofs.ranks.tests.best_lines.Given as goal
 
 abbrev pub invariant-moves : goal.invariant-moves
-invariant-moves l = IsGoneThrough l.p (worth l.p (l.depth - 1)) l.passed l.ranks
+invariant-moves l = IsGoneThrough l.p (worth l.p l.e (l.depth - 1)) l.passed l.ranks
 
 abbrev pub decreases-moves : goal.decreases-moves
 decreases-moves l = length (legal_above l.p l.passed)
