@@ -64,11 +64,10 @@ fn give_back_room<A: Allocator>(bytes: &mut Vec<u8, A>)
 /// Gives up the read bytes where they are more than half of the buffer, and room with them, and tells
 /// where the unread ones begin: fewer bytes are moved than were read.
 fn compact<A: Allocator>(bytes: &mut Vec<u8, A>, start: usize) -> usize
-    requires read { 0 < start }
-    requires most { start ≤ vec_len bytes.old }
+    requires { start ≤ vec_len bytes.old }
     ensures kept { drop result bytes.new.items ≡ drop start bytes.old.items }
     ensures within { result ≤ vec_len bytes.new }
-    ensures room { result ≡ vec_len bytes.new → vec_capacity bytes.new ≤ ROOM_KEPT }
+    ensures room { 0 < start → result ≡ vec_len bytes.new → vec_capacity bytes.new ≤ ROOM_KEPT }
 {
     if start <= bytes.len() / 2 {
         return start;
