@@ -14,7 +14,7 @@ invariant_of-self-then-self-len g c =
     let within : i.start ≤ length i.bytes.items = c.self.invariant.0.within in
     let on = searched_on i.bytes.items i.start i.end c.self.invariant.0 c.args.chunk.now here in (
       subst (λ (n : ℕ). IsSearched c.extend_from_slice.new.self.items i.start (i.end + n)) (sym len)
-      (subst (λ (bytes : List ℕ). IsSearched bytes i.start (i.end + position_or_len is_line_feed c.args.chunk.now)) (sym items) on),
+          (subst (λ (bytes : List ℕ). IsSearched bytes i.start (i.end + position_or_len is_line_feed c.args.chunk.now)) (sym items) on),
       λ all. search rules,
     )
 
