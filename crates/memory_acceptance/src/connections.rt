@@ -17,12 +17,14 @@ type FailingHost<'a> = Host<BuildHasherDefault<FoldHasher>, &'a Memory>;
 // More requests than a run makes.
 const REQUESTS: u64 = 10_000;
 
-/// A host and a loop over memory that is refused, and a wire with memory of its own.
+type FailingWire<'a> = MemoryWire<&'a Memory>;
+
+/// A host and a loop over memory that is refused, and a wire over other memory that is refused.
 #[derive(Drop)]
 struct Scene<'a> {
-    alloc: Global,
+    of_wire: &'a Memory,
     host: FailingHost<'a>,
-    wire: MemoryWire<Global>,
+    wire: FailingWire<'a>,
     turns: Loop<&'a Memory>,
 }
 
@@ -34,25 +36,25 @@ impl<'a> Model for Scene<'a> {
 
     ghost view = { λ s. s.turns };
 
-    ghost invariant = { λ s. Fits (links_of s.turns.held) (⟦<MemoryWire<Global> as Wire>⟧.bound s.wire) s.host };
+    ghost invariant = { λ s. Fits (links_of s.turns.held) (⟦<MemoryWire<&'static Memory> as Wire>⟧.bound s.wire) s.host };
 }
 
 impl<'a> Scene<'a> {
     /// Two slots, and no connection yet.
-    fn new(alloc: Global, memory: &'a Memory) -> Result<Scene<'a>, Fail> {
+    fn new(of_host: &'a Memory, of_wire: &'a Memory) -> Result<Scene<'a>, Fail> {
         Ok(Scene {
-            alloc,
-            host: Host::new(memory, 2, 4096, BuildHasherDefault::<FoldHasher>::new())?,
-            wire: MemoryWire::new(alloc),
-            turns: Loop::new(memory, 1000),
+            of_wire,
+            host: Host::new(of_host, 2, 4096, BuildHasherDefault::<FoldHasher>::new())?,
+            wire: MemoryWire::new(of_wire),
+            turns: Loop::new(of_host, 1000),
         })
     }
 
     /// A new peer that asks for a search to depth 1, in two chunks.
     fn connect(&mut self) -> Result<u64, Fail> {
-        let mut chunks = Vec::new(self.alloc);
+        let mut chunks = Vec::new(self.of_wire);
         for chunk in [b"go de".as_slice(), b"pth 1\nquit\n"] {
-            chunks.push(Vec::from_slice(self.alloc, chunk)?)?;
+            chunks.push(Vec::from_slice(self.of_wire, chunk)?)?;
         }
         Ok(self.wire.connect(chunks).map_err(|_| "memory for a peer")?)
     }
@@ -75,11 +77,29 @@ impl<'a> Scene<'a> {
     }
 }
 
+/// Whose memory is refused: that of the host and its loop, or that of the wire.
+#[derive(Clone, Copy)]
+enum Owner {
+    Host,
+    Wire,
+}
+
 // Serves two connections while requests are refused, and a third one once memory is there again. Tells whether
 // a request was refused, and how many of the two were shut early.
-fn serve(rt: &impl Abort, alloc: Global, n: u64, stays_gone: bool) -> Result<(bool, usize), Fail> {
-    let memory = FailingAllocator::new(alloc);
-    let mut scene = Scene::new(alloc, &memory)?;
+fn serve(
+    rt: &impl Abort,
+    alloc: Global,
+    owner: Owner,
+    n: u64,
+    stays_gone: bool,
+) -> Result<(bool, usize), Fail> {
+    let of_host = FailingAllocator::new(alloc);
+    let of_wire = FailingAllocator::new(alloc);
+    let memory = match owner {
+        Owner::Host => &of_host,
+        Owner::Wire => &of_wire,
+    };
+    let mut scene = Scene::new(&of_host, &of_wire)?;
     let x = scene.connect()?;
     let y = scene.connect()?;
     if stays_gone {
@@ -102,32 +122,42 @@ fn serve(rt: &impl Abort, alloc: Global, n: u64, stays_gone: bool) -> Result<(bo
     Ok((memory.refused() > 0, early))
 }
 
-#[test]
-fn each_request_of_a_loop_is_refused_in_turn(rt: HostRuntime) -> Result<(), Fail> {
+// How many requests a run makes: the n-th one of each run is refused, and where memory stays gone each one after
+// it, until a run has no n-th request. One refusal alone shuts one connection at most.
+fn refusals(rt: &impl Abort, alloc: Global, owner: Owner, stays_gone: bool) -> Result<u64, Fail> {
     let mut shut = 0usize;
     for n in 1..REQUESTS {
-        let (refused, early) = serve(&rt, rt.alloc(), n, false)?;
-        assert!(rt; early <= 1, "request {n}");
+        let (refused, early) = serve(rt, alloc, owner, n, stays_gone)?;
+        assert!(rt; stays_gone || early <= 1, "request {n}");
         shut = shut.saturating_add(early);
         if !refused {
             assert!(rt; n > 1 && early == 0 && shut > 0);
-            return Ok(());
+            return Ok(n.saturating_sub(1));
         }
     }
     Err(Fail::from("there are always more requests"))
 }
 
+#[test]
+fn each_request_of_a_loop_is_refused_in_turn(rt: HostRuntime) -> Result<(), Fail> {
+    let met = refusals(&rt, rt.alloc(), Owner::Host, false)?;
+    println!(rt; "Loop::turn, one: {met} requests")?;
+    Ok(())
+}
+
 // Connections that ask while no memory is there are shut early; those that ask later are served.
 #[test]
 fn memory_of_a_loop_stays_gone_and_comes_back(rt: HostRuntime) -> Result<(), Fail> {
-    let mut shut = 0usize;
-    for n in 1..REQUESTS {
-        let (refused, early) = serve(&rt, rt.alloc(), n, true)?;
-        shut = shut.saturating_add(early);
-        if !refused {
-            assert!(rt; n > 1 && early == 0 && shut > 0);
-            return Ok(());
-        }
-    }
-    Err(Fail::from("there are always more requests"))
+    let met = refusals(&rt, rt.alloc(), Owner::Host, true)?;
+    println!(rt; "Loop::turn, all from one on: {met} requests")?;
+    Ok(())
+}
+
+// A write that the wire has no memory for shuts its connection.
+#[test]
+fn memory_of_a_wire_is_refused(rt: HostRuntime) -> Result<(), Fail> {
+    let one = refusals(&rt, rt.alloc(), Owner::Wire, false)?;
+    let all = refusals(&rt, rt.alloc(), Owner::Wire, true)?;
+    println!(rt; "MemoryWire: {one} requests, {all} where memory stays gone")?;
+    Ok(())
 }

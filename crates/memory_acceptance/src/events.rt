@@ -127,7 +127,8 @@ fn assert_both_answered(
     served.take(rt, second, three.as_str())
 }
 
-// How many runs met a refusal: the n-th request of each, until a run has no n-th one.
+// How many requests a run makes: the n-th one of each run is refused, until a run has no n-th one. With all
+// the memory there no event is refused.
 fn refusals(rt: &impl Abort, alloc: Global, stays_gone: bool) -> Result<u64, Fail> {
     let mut seen = 0u64;
     for n in 1..REQUESTS {
@@ -140,7 +141,7 @@ fn refusals(rt: &impl Abort, alloc: Global, stays_gone: bool) -> Result<u64, Fai
         let mut served = Served::new(&memory, stays_gone)?;
         assert_both_answered(rt, alloc, &mut served)?;
         if memory.refused() == 0 {
-            assert!(rt; seen > 0);
+            assert!(rt; seen > 0 && served.refused == 0);
             return Ok(n.saturating_sub(1));
         }
         seen = seen.saturating_add(served.refused);
@@ -153,6 +154,7 @@ fn refusals(rt: &impl Abort, alloc: Global, stays_gone: bool) -> Result<u64, Fai
 fn each_request_of_a_host_is_refused_in_turn(rt: HostRuntime) -> Result<(), Fail> {
     let met = refusals(&rt, rt.alloc(), false)?;
     assert!(rt; met > 10, "{met}");
+    println!(rt; "a host by steps, one: {met} requests")?;
     Ok(())
 }
 
@@ -160,6 +162,7 @@ fn each_request_of_a_host_is_refused_in_turn(rt: HostRuntime) -> Result<(), Fail
 fn memory_of_a_host_stays_gone_and_comes_back(rt: HostRuntime) -> Result<(), Fail> {
     let met = refusals(&rt, rt.alloc(), true)?;
     assert!(rt; met > 10, "{met}");
+    println!(rt; "a host by steps, all from one on: {met} requests")?;
     Ok(())
 }
 
@@ -200,5 +203,6 @@ fn a_run_that_is_refused_answers_no_event(rt: HostRuntime) -> Result<(), Fail> {
         met = met.saturating_add(1);
     }
     assert!(rt; met > 1, "{met}");
+    println!(rt; "Host::run: {met} requests")?;
     Ok(())
 }

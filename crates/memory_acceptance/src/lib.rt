@@ -1,4 +1,4 @@
-//! Tests of memory that is refused.
+//! Tests of memory that is refused, and of memory that is given back.
 #![tactic(auto)]
 
 #[cfg(test)]
@@ -6,7 +6,11 @@ mod connections;
 #[cfg(test)]
 mod events;
 #[cfg(test)]
+mod full;
+#[cfg(test)]
 mod hosts;
+#[cfg(test)]
+mod room;
 #[cfg(test)]
 mod scripts;
 #[cfg(test)]

@@ -119,6 +119,7 @@ fn each_request_of_a_script_is_refused_in_turn(rt: HostRuntime) -> Result<(), Fa
     let few = refusals(&rt, rt.alloc(), &TWO_SESSIONS, 1, false)?;
     let many = refusals(&rt, rt.alloc(), &TWO_SESSIONS, 4096, false)?;
     assert!(rt; few > 0 && many > few, "{few} {many}");
+    println!(rt; "replay, one: {few} requests with a table of 1 entry, {many} of 4,096")?;
     Ok(())
 }
 
@@ -127,5 +128,8 @@ fn memory_of_a_script_stays_gone(rt: HostRuntime) -> Result<(), Fail> {
     let few = refusals(&rt, rt.alloc(), &TWO_SESSIONS, 1, true)?;
     let many = refusals(&rt, rt.alloc(), &TWO_SESSIONS, 4096, true)?;
     assert!(rt; few > 0 && many > few, "{few} {many}");
+    println!(rt;
+        "replay, all from one on: {few} requests with a table of 1 entry, {many} of 4,096"
+    )?;
     Ok(())
 }

@@ -121,6 +121,7 @@ fn each_request_of_the_streams_is_refused_in_turn(rt: HostRuntime) -> Result<(),
     let few = refusals(&rt, rt.alloc(), &row, 1, false)?;
     let many = refusals(&rt, rt.alloc(), &row, 4096, false)?;
     assert!(rt; few > 0 && many > few, "{few} {many}");
+    println!(rt; "stdio, one: {few} requests with a table of 1 entry, {many} of 4,096")?;
     Ok(())
 }
 
@@ -130,5 +131,8 @@ fn memory_of_the_streams_stays_gone(rt: HostRuntime) -> Result<(), Fail> {
     let few = refusals(&rt, rt.alloc(), &row, 1, true)?;
     let many = refusals(&rt, rt.alloc(), &row, 4096, true)?;
     assert!(rt; few > 0 && many > few, "{few} {many}");
+    println!(rt;
+        "stdio, all from one on: {few} requests with a table of 1 entry, {many} of 4,096"
+    )?;
     Ok(())
 }

@@ -47,6 +47,10 @@ fn a_table_whose_growth_is_refused(rt: HostRuntime) -> Result<(), Fail> {
             assert_eq!(rt; std::str::from_utf8(said.as_slice())?, answer.as_str());
             if memory.refused() == 0 {
                 assert!(rt; said_with_refusals > 0);
+                println!(rt;
+                    "a table of 1,000,000 entries: {} requests",
+                    n.saturating_sub(1)
+                )?;
                 return Ok(());
             }
             said_with_refusals = said_with_refusals.saturating_add(1);

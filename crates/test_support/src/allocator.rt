@@ -1,4 +1,4 @@
-//! An allocator over another one, which refuses requests by their number.
+//! An allocator over another one, which refuses requests by their number and counts what is held.
 
 use crate::requests::Requests;
 use std::alloc::{AllocError, Allocator};
@@ -45,6 +45,12 @@ impl<B: Allocator> FailingAllocator<B> {
     pub fn refused(&self) -> u64 {
         self.requests.refused()
     }
+
+    /// How many bytes were handed out and not given back. A request that the inner allocator refuses
+    /// counts as handed out.
+    pub fn held(&self) -> usize {
+        self.requests.held()
+    }
 }
 
 impl<B: Allocator> Drop for FailingAllocator<B> {
@@ -60,13 +66,14 @@ unsafe impl<B: Allocator> Allocator for FailingAllocator<B> {
     ghost dealloc_token = { λ heap ty ptr. B.dealloc_token heap.inner ty ptr };
 
     fn allocate(&self, size: usize, align: usize) -> Result<*mut u8, AllocError> {
-        if self.requests.refuses() {
+        if self.requests.refuses(size) {
             return Err(AllocError);
         }
         self.inner.allocate(size, align)
     }
 
     unsafe fn deallocate(&self, ptr: *mut u8, size: usize, align: usize) {
+        self.requests.give_back(size);
         self.inner.deallocate(ptr, size, align);
     }
 }

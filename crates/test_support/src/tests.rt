@@ -50,3 +50,25 @@ fn a_vector_grows_after_a_refusal(rt: HostRuntime) -> Result<(), Fail> {
     assert_eq!(rt; memory.refused(), 1);
     Ok(())
 }
+
+// What is held is as large as the blocks that are out. A request that is refused changes nothing.
+#[test]
+fn held_bytes(rt: HostRuntime) -> Result<(), Fail> {
+    let memory = FailingAllocator::new(rt.alloc());
+    assert_eq!(rt; memory.held(), 0);
+    let mut bytes = Bytes::with_capacity(&memory, 1000)?;
+    let more = Bytes::with_capacity(&memory, 24)?;
+    assert_eq!(rt; memory.held(), 1024);
+    for (refused, held) in [(1, 1024), (0, 34)] {
+        memory.refuse_at(refused);
+        bytes.shrink_to(10);
+        assert_eq!(rt; memory.held(), held);
+    }
+    bytes.extend_from_slice(b"abcdefghijklmnopqrst")?;
+    assert!(rt; memory.held() >= 44);
+    drop(bytes);
+    assert_eq!(rt; memory.held(), 24);
+    drop(more);
+    assert_eq!(rt; memory.held(), 0);
+    Ok(())
+}

@@ -1,8 +1,9 @@
 //! A byte stream that comes in chunks, cut into lines.
 
-ghost use Rattle.std.specs.Prelude.{◌≡◌, ◌≢◌, ◌↔◌, ◌≤◌, ℕ, false, true, List, [], ◌∷◌, ◌++◌, IsTrue, IsNone, IsOk, IfSome, OnOk, OnErr, drop, vec_len};
+ghost use Rattle.std.specs.Prelude.{◌≡◌, ◌≢◌, ◌↔◌, ◌≤◌, ℕ, false, true, List, [], ◌∷◌, ◌++◌, IsTrue, IsNone, IsOk, IfSome, OnOk, OnErr, drop, vec_len, vec_capacity, ◌<◌};
 ghost use Rattle.usi_lines.specs.Lines.{Buffer, ahead, TooLong};
 ghost use Rattle.usi_lines.specs.Seen.{line_of};
+ghost use Rattle.usi_lines.specs.declared.buffer.TheConstants.{ROOM_KEPT};
 
 use crate::line::{LINE_MAX, Line, line_len, without_return};
 use std::alloc::{AllocError, Allocator};
@@ -21,7 +22,12 @@ impl From<AllocError> for LineFault {
     }
 }
 
-/// The bytes of a stream that were not read as lines yet, in one buffer of the given allocator.
+/// The most room that is kept while nothing is unread, in bytes: a chunk of 4,096 bytes behind a line
+/// that has begun fits in it.
+const ROOM_KEPT: usize = 8_192;
+
+/// The bytes of a stream that were not read as lines yet, in one buffer of the given allocator. While
+/// none are unread, it keeps at most `ROOM_KEPT` bytes of room.
 #[derive(Drop)]
 pub struct LineBuffer<A: Allocator> {
     bytes: Vec<u8, A>,
@@ -31,27 +37,43 @@ pub struct LineBuffer<A: Allocator> {
 }
 
 impl<A: Allocator> Model for LineBuffer<A> {
-    ghost use Rattle.std.specs.Prelude.{drop};
+    ghost use Rattle.std.specs.Prelude.{drop, ◌≡◌, ◌≤◌, vec_len, vec_capacity};
     ghost use Rattle.usi_lines.specs.Lines.{Buffer, IsSearched};
+    ghost use Rattle.usi_lines.specs.declared.buffer.TheConstants.{ROOM_KEPT};
 
     ghost Value = { Buffer };
 
     ghost view = { λ b. record { unread = drop b.start b.bytes.items; closed = b.closed } };
 
-    ghost invariant = { λ b. IsSearched b.bytes.items b.start b.end };
+    ghost invariant = { λ b. IsSearched b.bytes.items b.start b.end × (b.start ≡ vec_len b.bytes → vec_capacity b.bytes ≤ ROOM_KEPT) };
 }
 
-/// Gives up the read bytes where they are more than half of the buffer, and tells where the unread
-/// ones begin: each byte is moved once at most, on average.
+/// Gives room back where there is more than `ROOM_KEPT` and at most a quarter of it is in use. Twice
+/// what is in use is left, or all of the room where the smaller block is refused. Where nothing is in
+/// use none is left, and nothing is asked for.
+fn give_back_room<A: Allocator>(bytes: &mut Vec<u8, A>)
+    ensures items { bytes.new.items ≡ bytes.old.items }
+    ensures room { vec_len bytes.new ≡ 0 → vec_capacity bytes.new ≤ ROOM_KEPT }
+{
+    let len = bytes.len();
+    if bytes.capacity() > ROOM_KEPT && len <= bytes.capacity() / 4 {
+        bytes.shrink_to(2 * len);
+    }
+}
+
+/// Gives up the read bytes where they are more than half of the buffer, and room with them, and tells
+/// where the unread ones begin: fewer bytes are moved than were read.
 fn compact<A: Allocator>(bytes: &mut Vec<u8, A>, start: usize) -> usize
     requires { start ≤ vec_len bytes.old }
     ensures kept { drop result bytes.new.items ≡ drop start bytes.old.items }
     ensures within { result ≤ vec_len bytes.new }
+    ensures room { 0 < start → result ≡ vec_len bytes.new → vec_capacity bytes.new ≤ ROOM_KEPT }
 {
     if start <= bytes.len() / 2 {
         return start;
     }
     bytes.drain(..start);
+    give_back_room(bytes);
     0
 }
 
@@ -76,9 +98,10 @@ impl<A: Allocator> LineBuffer<A> {
         ensures closed { self.old.closed ≡ true → IsOk result × (self.new ≡ self.old) }
         ensures err { OnErr result (self.new ≡ self.old) }
     {
-        if self.closed {
+        if self.closed || chunk.is_empty() {
             return Ok(());
         }
+        self.bytes.reserve(chunk.len())?;
         let len = self.bytes.len();
         self.bytes.extend_from_slice(chunk)?;
         if self.end == len {
@@ -121,6 +144,7 @@ impl<A: Allocator> LineBuffer<A> {
         if self.end - self.start > LINE_MAX {
             self.closed = true;
             self.bytes.clear();
+            self.bytes.shrink_to_fit();
             self.start = 0;
             self.end = 0;
             return;

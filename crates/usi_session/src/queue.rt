@@ -1,11 +1,29 @@
 //! Bytes that wait until they are taken.
 
-ghost use Rattle.std.specs.Prelude.{◌≡◌, ◌≤◌, ◌++◌, [], OnOk, OnErr, drop, length};
+ghost use Rattle.std.specs.Prelude.{◌≡◌, ◌≤◌, ◌++◌, [], OnOk, OnErr, drop, length, vec_len, vec_capacity};
+ghost use Rattle.usi_session.specs.declared.queue.TheConstants.{ROOM_KEPT};
 
 use std::alloc::{AllocError, Allocator};
 use std::marker::Model;
 
-/// The bytes that were written and not yet taken.
+/// The most room that is kept while nothing waits, in bytes.
+const ROOM_KEPT: usize = 4_096;
+
+/// Gives room back where there is more than `ROOM_KEPT` and at most a quarter of it is in use. Twice
+/// what is in use is left, or all of the room where the smaller block is refused. Where nothing is in
+/// use none is left, and nothing is asked for.
+fn give_back_room<A: Allocator>(bytes: &mut Vec<u8, A>)
+    ensures items { bytes.new.items ≡ bytes.old.items }
+    ensures room { vec_len bytes.new ≡ 0 → vec_capacity bytes.new ≤ ROOM_KEPT }
+{
+    let len = bytes.len();
+    if bytes.capacity() > ROOM_KEPT && len <= bytes.capacity() / 4 {
+        bytes.shrink_to(2 * len);
+    }
+}
+
+/// The bytes that were written and not yet taken. While none wait, it keeps at most `ROOM_KEPT` bytes
+/// of room.
 #[derive(Drop)]
 pub struct Queue<A: Allocator> {
     bytes: Vec<u8, A>,
@@ -13,13 +31,14 @@ pub struct Queue<A: Allocator> {
 }
 
 impl<A: Allocator> Model for Queue<A> {
-    ghost use Rattle.std.specs.Prelude.{ℕ, List, drop, ◌≤◌, vec_len};
+    ghost use Rattle.std.specs.Prelude.{ℕ, List, drop, ◌≡◌, ◌≤◌, vec_len, vec_capacity};
+    ghost use Rattle.usi_session.specs.declared.queue.TheConstants.{ROOM_KEPT};
 
     ghost Value = { List ℕ };
 
     ghost view = { λ o. drop o.taken o.bytes.items };
 
-    ghost invariant = { λ o. o.taken ≤ vec_len o.bytes };
+    ghost invariant = { λ o. (o.taken ≤ vec_len o.bytes) × (o.taken ≡ vec_len o.bytes → vec_capacity o.bytes ≤ ROOM_KEPT) };
 }
 
 impl<A: Allocator> Queue<A> {
@@ -38,6 +57,10 @@ impl<A: Allocator> Queue<A> {
         ensures ok { OnOk result (self.new ≡ self.old ++ text.now) }
         ensures err { OnErr result (self.new ≡ self.old) }
     {
+        if text.is_empty() {
+            return Ok(());
+        }
+        self.bytes.reserve(text.len())?;
         self.bytes.extend_from_slice(text)
     }
 
@@ -48,7 +71,8 @@ impl<A: Allocator> Queue<A> {
         &self.bytes[self.taken..]
     }
 
-    /// Drops the first n bytes. What was taken is given up once it is more than half.
+    /// Drops the first n bytes. What was taken is given up once it is more than half, and room with it:
+    /// fewer bytes are moved than were taken.
     pub fn take(&mut self, n: usize)
         requires { n ≤ length self.old }
         ensures { self.new ≡ drop n self.old }
@@ -57,6 +81,7 @@ impl<A: Allocator> Queue<A> {
         if self.taken > self.bytes.len() / 2 {
             self.bytes.drain(..self.taken);
             self.taken = 0;
+            give_back_room(&mut self.bytes);
         }
     }
 }

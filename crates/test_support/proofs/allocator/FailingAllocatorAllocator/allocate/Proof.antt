@@ -1,5 +1,5 @@
 -- The counter is asked first. A refusal owns nothing, and an answer of the inner allocator is handed on as it is.
-use Rattle.std.proofs.Common.{◌≡◌, ℕ, Bool, false, List, [], ◌∷◌, refl, ap, w64}
+use Rattle.std.proofs.Common.{◌≡◌, ◌^◌, ℕ, Bool, false, List, [], ◌∷◌, refl, ap, w64}
 use mir.Syntax.{Fn, Args, a_type, dnil, dcons}
 use mir.Val.{Val, vint, vptr}
 use mir.MapTy.{inst_fn}
@@ -9,7 +9,7 @@ use prog.Memory.{size, align, capped}
 use contract.BorrowLft.{◌⊑◌, ⊑_trans}
 use contract.Monad.{fact}
 use contract.Running.{tables}
-use types.Kit.{‵, raw, ◌⊛◌, some, later, given, prop, at_ret, Sq, ◌$◌, ◌∵◌, !, qed, move, keep, drop, use0, use1, use2, split, join, learn, fsplit, fjoin, feq_i, feq_l, pick, await, suffices, done}
+use types.Kit.{‵, raw, ◌⊛◌, some, later, given, prop, at_ret, Sq, ◌$◌, ◌∵◌, !, qed, move, keep, drop, use0, use1, use2, split, join, learn, fsplit, fjoin, feq_i, feq_l, flt_i, pick, await, suffices, done}
 use types.Part.{agg}
 use types.Run.{stop, fld, lit, addr, no_more, and_then, first, branches, skips, exec, returns, returns_within, enter}
 use types.ByLocal.{env, alloc_all, pass_all, free_all, look_at, get, through, sets, lands_as}
@@ -68,7 +68,7 @@ allocate_spec 𝓤 𝓛 𝓜 𝓡 wired B laws g d drops met _ =
     let Post : Val → SProp 𝓤 = (walk_of 𝓛 E stays c).post y in
     let Fits : Type 0 = (capped (size τ) ≡ n) × (capped (align τ) ≡ al) in
     let counted = triple_of 𝓛 R.signature (R.spec 𝓛 𝓜.mem 𝓡.returns) in
-    let x : counted.Ghost = (((κ, tt), (q, tt), tt, (record { ref_ptr = requests_at Z r; now = r.now.requests }, tt), (vptr (requests_at Z r).0 (requests_at Z r).1 ∷ [], tt)), tt) in
+    let x : counted.Ghost = (((κ, tt), (q, tt), tt, (record { ref_ptr = requests_at Z r; now = r.now.requests }, (n, tt)), (vptr (requests_at Z r).0 (requests_at Z r).1 ∷ [], (vint w64 n ∷ [], tt))), tt) in
     let taken = Takes Z 𝓛 𝓜.mem 𝓡.returns in
     let z : taken.Ghost = at_takes Z 𝓛 𝓜.mem 𝓡.returns κ q (inner_at Z r) h n al τ in
     -- [what comes with the answer; the two tokens]
@@ -85,11 +85,11 @@ allocate_spec 𝓤 𝓛 𝓜 𝓡 wired B laws g d drops met _ =
     enter ! 𝓣.C 𝓣.Λ fn _ _ $ alloc_all ! (λ l. pass_all ! refl ((tt, tt), ((tt, record { fits = are.1.0.1 }), ((tt, record { fits = are.1.1.0.1 }), tt))) $
     sets ! (addr ! (through ! refl (fld ! refl (stop !)))) refl (tt, tt) $
     use1 𝓛 (‵ (hidden_shr counter.the_row κ r.now.requests (requests_at Z r).0 (requests_at Z r).1)) (id⊢ 𝓤 _) $
-    move ! (0 ∷ 2 ∷ []) $ feq_i ! (List Val) (vptr (requests_at Z r).0 (requests_at Z r).1 ∷ []) _ refl $ fjoin ! $
-    nothing ! $ move ! (1 ∷ 0 ∷ []) $ join ! $ nothing ! $ move ! (2 ∷ 0 ∷ []) $ join ! $ join ! $
-    nothing ! $ move ! (1 ∷ 0 ∷ []) $ use2 𝓛 (raw (counted.pre x)) (id⊢ 𝓤 _) $
-    calls_at ! (framed 𝓤 𝓛.H 𝓜 𝓣) counted (refuses_met 𝓤 𝓛 𝓜 𝓡 (code.calls-test_support::requests::Requests::refuses 𝓡.env wired)) x (and_then ! (get ! refl) (no_more !)) (λ v.
-    use1 𝓛 (later (some (λ (b : Bool). ((‵ (flft κ q) ⊛ ‵ ftrue) ⊛ ‵ (bool.own_val b (v ∷ []))) ⊛ some (λ (ws : Unit {0} × Unit {0}). ‵ (lasts R.ended x.0.0 x.0.3 ws) ⊛ ‵ ftrue)))) (id⊢ 𝓤 _) $
+    nothing ! $ flt_i ! n (2 ^ 64) are.1.0.1 $ feq_i ! (List Val) (vint w64 n ∷ []) (vint w64 n ∷ []) refl $ fjoin ! $ fjoin ! $
+    move ! (1 ∷ []) $ feq_i ! (List Val) (vptr (requests_at Z r).0 (requests_at Z r).1 ∷ []) _ refl $ fjoin ! $ fjoin ! $
+    nothing ! $ move ! (3 ∷ 0 ∷ []) $ join ! $ join ! $ nothing ! $ move ! (1 ∷ 0 ∷ []) $ use2 𝓛 (raw (counted.pre x)) (id⊢ 𝓤 _) $
+    calls_at ! (framed 𝓤 𝓛.H 𝓜 𝓣) counted (refuses_met 𝓤 𝓛 𝓜 𝓡 (code.calls-test_support::requests::Requests::refuses 𝓡.env wired)) x (and_then ! (get ! refl) (and_then ! (get ! refl) (no_more !))) (λ v.
+    use1 𝓛 (later (some (λ (b : Bool). ((‵ (flft κ q) ⊛ ‵ ftrue) ⊛ ‵ (bool.own_val b (v ∷ []))) ⊛ some (λ (ws : Unit {0} × (Unit {0} × Unit {0})). ‵ (lasts R.ended x.0.0 x.0.3 ws) ⊛ ‵ ftrue)))) (id⊢ 𝓤 _) $
     await ! tt $ pick ! (λ b. split ! $ split ! $ split ! $ move ! (2 ∷ []) $ feq_l ! (λ e. move ! (1 ∷ 2 ∷ []) $ drop ! $ drop ! $
     -- [the token; the inner allocator; the other token]
     lands_as ! (ap only e) refl (tt, tt) $ first ! $ branches ! (get ! refl)

@@ -1,0 +1,109 @@
+//! A table that is filled with 1,000,000 positions, and one that may not grow beyond the half.
+
+use shared_table::{SharedTable, TableFault};
+use shogi_core::{Color, Hands, Kind, Piece, Position, PositionFault, Role};
+use shogi_search::{Entry, Memo, NoMemo, search};
+use std::alloc::Global;
+use std::hash::{BuildHasherDefault, FoldHasher};
+use std::process::Abort;
+use std::test::Fail;
+use test_support::FailingAllocator;
+use test_support::rows::{DEEP, joined};
+use usi_session::Session;
+
+type Memory = FailingAllocator<Global>;
+
+type FailingTable<'a> = SharedTable<BuildHasherDefault<FoldHasher>, &'a Memory>;
+
+const ENTRIES: usize = 1_000_000;
+
+// One of 6,412,500 positions: the two kings, and what Black has in hand.
+fn position(number: usize) -> Result<Position, PositionFault> {
+    let mut hands = Hands::none();
+    let mut rest = number;
+    for (kind, most) in [
+        (Kind::Pawn, 18u8),
+        (Kind::Lance, 4),
+        (Kind::Knight, 4),
+        (Kind::Silver, 4),
+        (Kind::Gold, 4),
+        (Kind::Bishop, 2),
+        (Kind::Rook, 2),
+    ] {
+        let counts = usize::from(most) + 1;
+        hands = hands.with(Color::Black, kind, (rest % counts) as u8);
+        rest /= counts;
+    }
+    let mut cells = [None; 81];
+    cells[rest % 60] = Some(Piece {
+        color: Color::White,
+        role: Role::King,
+    });
+    cells[80] = Some(Piece {
+        color: Color::Black,
+        role: Role::King,
+    });
+    Position::new(cells, hands, Color::Black)
+}
+
+fn new_table(memory: &Memory) -> Result<FailingTable<'_>, TableFault> {
+    SharedTable::new(memory, ENTRIES, BuildHasherDefault::<FoldHasher>::new())
+}
+
+// Notes the values of so many positions.
+fn fill(table: &mut FailingTable<'_>, count: usize) {
+    for number in 0..count {
+        if let Ok(p) = position(number) {
+            let found = search(&p, 0, &mut NoMemo);
+            table.note(&p, 0, Entry::Exact(found.value, found.best));
+        }
+    }
+}
+
+// A session over the table answers the opening position at depth 3 as it should.
+fn assert_answers(
+    rt: &impl Abort,
+    alloc: Global,
+    table: &mut FailingTable<'_>,
+) -> Result<(), Fail> {
+    let [row, ..] = DEEP;
+    let answer = joined(alloc, row.answer)?;
+    let mut session = Session::new(alloc);
+    assert!(rt; session.wants_input() && row.sent.len() <= 4096);
+    session.feed(row.sent.as_bytes())?;
+    session.work(table, u64::MAX)?;
+    assert_eq!(rt; std::str::from_utf8(session.output())?, answer.as_str());
+    Ok(())
+}
+
+#[test]
+fn a_full_table_keeps_its_room(rt: HostRuntime) -> Result<(), Fail> {
+    let memory = FailingAllocator::new(rt.alloc());
+    let mut table = new_table(&memory)?;
+    let empty = memory.held();
+    fill(&mut table, ENTRIES);
+    assert_eq!(rt; table.len(), ENTRIES);
+    let full = memory.held();
+    println!(rt; "a table of {ENTRIES} entries: {empty} bytes empty, {full} full")?;
+    assert_answers(&rt, rt.alloc(), &mut table)?;
+    assert_eq!(rt; (table.len(), memory.held()), (ENTRIES, full));
+    drop(table);
+    assert_eq!(rt; memory.held(), 0);
+    Ok(())
+}
+
+#[test]
+fn a_table_that_may_not_grow_on_loses_notes_alone(rt: HostRuntime) -> Result<(), Fail> {
+    let memory = FailingAllocator::new(rt.alloc());
+    let mut table = new_table(&memory)?;
+    fill(&mut table, ENTRIES / 2);
+    assert_eq!(rt; table.len(), ENTRIES / 2);
+    let half = memory.held();
+    memory.refuse_from(1);
+    fill(&mut table, ENTRIES);
+    assert_eq!(rt; (table.len(), memory.held()), (ENTRIES / 2, half));
+    assert!(rt; memory.refused() > 0);
+    assert_answers(&rt, rt.alloc(), &mut table)?;
+    assert_eq!(rt; (table.len(), memory.held()), (ENTRIES / 2, half));
+    Ok(())
+}
