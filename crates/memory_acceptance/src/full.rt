@@ -2,6 +2,7 @@
 
 use shared_table::{SharedTable, TableFault};
 use shogi_core::{Color, Hands, Kind, Piece, Position, PositionFault, Role};
+use shogi_eval::Eval;
 use shogi_search::{Entry, Memo, NoMemo, search};
 use std::alloc::Global;
 use std::hash::{BuildHasherDefault, FoldHasher};
@@ -54,8 +55,8 @@ fn new_table(memory: &Memory) -> Result<FailingTable<'_>, TableFault> {
 fn fill(table: &mut FailingTable<'_>, count: usize) {
     for number in 0..count {
         if let Ok(p) = position(number) {
-            let found = search(&p, 0, &mut NoMemo);
-            table.note(&p, 0, Entry::Exact(found.value, found.best));
+            let found = search(&p, Eval::Plain, 0, &mut NoMemo);
+            table.note(&p, Eval::Plain, 0, Entry::Exact(found.value, found.best));
         }
     }
 }
