@@ -3,7 +3,7 @@ use Rattle.std.proofs.Common.{◌≡◌, ◌<◌, ◌≤◌, ◌<ℤ◌, ◌≤�
 use Rattle.std.specs.Prelude.{int_lt, nat_lt, slice_get, ◌||◌, ◌&&◌, insert}
 use Rattle.std.specs.Ordering.{int_eq}
 use Rattle.std.proofs.lemmas.Int.{ints, by_lt_z}
-use Rattle.std.proofs.lemmas.Bool.{or_left, or_right, or_cases, or_from, or_parts, and_parts, and_from, eq-eqb, eqb-true, cond_both, cond-true, cond-false, both_ways, false_from_ne_true, true_from_ne_false, ltb-true, lt-ltb, cases_Bool, cases_eq}
+use Rattle.std.proofs.lemmas.Bool.{or_left, or_right, or_cases, or_parts, and_parts, and_from, eq-eqb, eqb-true, cond_both, cond-true, cond-false, both_ways, false_from_ne_true, true_from_ne_false, ltb-true, lt-ltb, cases_Bool, cases_eq}
 use Rattle.std.proofs.lemmas.Bool.Decides.{Decides-int_eq}
 use Rattle.std.proofs.lemmas.List.{take-map, take-take, take_all, take_more, drop_more, drop_all, append_assoc}
 use Rattle.shogi_core.specs.declared.moves.Move.{Move}
