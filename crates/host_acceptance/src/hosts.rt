@@ -79,12 +79,13 @@ fn one_step_less_than_the_search(rt: HostRuntime) -> Result<(), Fail> {
 fn a_new_session_in_an_old_slot(rt: HostRuntime) -> Result<(), Fail> {
     let mut host = TestHost::new(rt.alloc(), 1, 1)?;
     let first = host.opened()?;
-    let held = b"setoption name Depth value 1\nposition startpos moves 7g7f\ngo infinite\n";
+    let held =
+        b"setoption name Depth value 1\nsetoption name Eval value Hand\nposition startpos moves 7g7f\ngo infinite\n";
     assert!(rt; host.is_done(Event::Feed(first, held)));
     assert!(rt; host.steps_of(first, u64::MAX).is_some());
     assert!(rt; host.is_done(Event::Close(first)));
 
-    // It has neither the Depth nor the position, nor the `bestmove` that was held.
+    // It has neither the options nor the position, nor the `bestmove` that was held.
     let second = host.opened()?;
     assert_eq!(rt; (second.slot, second.generation), (first.slot, 1));
     assert!(rt; host.output(second) == Some(b"".as_slice()) && host.output(first).is_none());

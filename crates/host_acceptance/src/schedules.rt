@@ -46,9 +46,9 @@ fn row_of(number: u64) -> Row {
     let (quick, deep) = (QUICK, DEEP);
     let place = number as usize;
     if number % 5 == 0 {
-        deep[place % 6]
+        deep[place % 8]
     } else {
-        quick[place % 39]
+        quick[place % 45]
     }
 }
 

@@ -213,7 +213,7 @@ fn each_read_of_a_script_fails_in_turn(rt: HostRuntime) -> Result<(), Fail> {
 
 // How a writer ends a replay: all was written, or a front and a fault.
 fn assert_front(rt: &impl Abort, alloc: Global, mut writer: FailingWriter) -> Result<bool, Fail> {
-    let [_, _, script] = SEARCHES;
+    let [_, _, script, _] = SEARCHES;
     let mut reader = script.text.as_bytes();
     let output = joined(alloc, script.output)?;
     let ended = replay(alloc, &mut reader, &mut writer, 1, 4096, 1000);

@@ -4,7 +4,7 @@ use Rattle.examples.proofs.session.answered.Goals as goal
 
 -- a new session wants input
 pub feed-requires-clause-wants : goal.feed-requires-clause-wants
-feed-requires-clause-wants g c = rw c.new-session.ensures.opening new_wants
+feed-requires-clause-wants g c = rw c.new-session.ensures.initial new_wants
 
 -- nothing is pending, so what is owed is queued
 pub returns-then-not-pending : goal.returns-then-not-pending
