@@ -49,7 +49,7 @@ help:
 	@echo 'make run        starts the program on standard input and output; builds it first'
 	@echo 'make build      proves and builds what is not built yet'
 	@echo 'make install    builds, and puts usi_host, its man page and completion below PREFIX (/usr/local)'
-	@echo 'make uninstall  takes it away again'
+	@echo 'make uninstall  takes it away again from PREFIX'
 	@echo 'make test       the gate: every proof from nothing, each edit, test and program'
 	@echo 'make bench      how fast it is'
 	@echo 'make clean      takes away what was built and the proofs that were kept'
