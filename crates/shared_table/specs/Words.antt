@@ -43,7 +43,7 @@ abbrev pub side_number : Color → ℕ
 side_number Black = 0
 side_number White = 1
 
--- the words: twelve squares in each of seven, and nine in the last of them; Black's counts and White's; the side to move with the evaluation and the depth
+-- the words: twelve squares in each of the first six, and nine in the seventh; Black's counts and White's; the side to move with the evaluation and the depth
 unfoldable pub words_of : Key → List ℕ
 words_of key =
     cells_word key.position.cells 0 12

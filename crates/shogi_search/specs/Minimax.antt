@@ -31,7 +31,7 @@ abbrev pub greatest_of : ℤ → (ℕ → ℤ) → List ℕ → ℤ
 greatest_of otherwise f [] = otherwise
 greatest_of otherwise f (m ∷ ms) = greatest f m ms
 
--- one value where a move is legal, another one otherwise
+-- the first value where no move is legal, the second one otherwise
 abbrev pub leaf_value : ℤ → ℤ → List ℕ → ℤ
 leaf_value otherwise some [] = otherwise
 leaf_value otherwise some (m ∷ ms) = some
