@@ -1,5 +1,5 @@
 -- What a move does to the material.
-use Rattle.std.proofs.Common.{◌≡◌, ◌≢◌, ◌≤◌, ◌<◌, ◌+◌, ◌*◌, ◌-◌, ℕ, pos, ◌-ℤ◌, ◌+ℤ◌, List, length, length-set, get_or, set, Bool, true, false, cond, Option, Some, None, refl, ap, sym, subst, arith, get_or-set_same, get_or-set_other}
+use Rattle.std.proofs.Common.{◌≡◌, ◌≢◌, ◌≤◌, ◌<◌, ◌+◌, ◌*◌, ◌-◌, ℕ, ℤ, pos, ◌-ℤ◌, ◌+ℤ◌, List, length, length-set, get_or, set, Bool, true, false, cond, Option, Some, None, refl, ap, sym, subst, arith, get_or-set_same, get_or-set_other}
 use Rattle.std.specs.Prelude.{sum_by, slice_set}
 use Rattle.std.proofs.lemmas.List.Sums.{sum_by-set}
 use Rattle.std.proofs.lemmas.Grind.{common_steps}
@@ -26,7 +26,12 @@ use Rattle.shogi_moves.proofs.KeepsBoard.{IsSafeBoardMove, safe_board_move}
 use Rattle.shogi_moves.proofs.KeepsDrop.{IsSafeDrop, safe_drop}
 use Rattle.shogi_eval.specs.declared.eval.Eval.{Eval}
 use Rattle.shogi_eval.specs.declared.eval.Eval.TheVariants.{Plain, Hand}
-use Rattle.shogi_eval.specs.Material.{points_at, points_in_hand, points_of, material_of, value_of, value_in_hand, value_held, taken_gain, promotion_gain, drop_gain, gain_of}
+use Rattle.shogi_eval.specs.Material.{points_at, points_in_hand, points_of, material_of, value_of, value_in_hand, value_held, taken_gain, promotion_gain, drop_gain}
+
+-- what a move gains for its side
+abbrev pub gain_of : Shogi → Eval → Move → ℤ
+gain_of p e (Board from to promote) = pos (taken_gain e (piece_at p.cells to) + promotion_gain promote (piece_at p.cells from))
+gain_of p e (Drop kind to) = drop_gain e kind
 
 -- a sum over the cells after a move from a to b
 sum_moved : (f : Option Piece → ℕ) (xs : List (Option Piece)) (a b : ℕ) (v : Option Piece) → f None ≡ 0 → a < length xs → b < length xs → b ≢ a

@@ -6,9 +6,7 @@ use Rattle.shogi_core.specs.declared.piece.Kind.TheVariants as kinds
 use Rattle.shogi_core.specs.declared.piece.Role.{Role}
 use Rattle.shogi_core.specs.declared.piece.Role.TheVariants.{King, Pawn, Lance, Knight, Silver, Gold, Bishop, Rook, PromotedPawn, PromotedLance, PromotedKnight, PromotedSilver, Horse, Dragon}
 use Rattle.shogi_core.specs.declared.piece.Piece.{Piece}
-use Rattle.shogi_core.specs.declared.moves.Move.{Move}
-use Rattle.shogi_core.specs.declared.moves.Move.TheVariants.{Board, Drop}
-use Rattle.shogi_core.specs.Movement.{Cells, piece_at}
+use Rattle.shogi_core.specs.Movement.{Cells}
 use Rattle.shogi_core.specs.Pieces.{all_kinds, opponent_of, is_same_color, role_of, kind_of, promoted}
 use Rattle.shogi_core.specs.Position.{Shogi, HandCounts, count_in_hand}
 use Rattle.shogi_eval.specs.declared.eval.Eval.{Eval}
@@ -85,8 +83,3 @@ promotion_gain promote (Some piece) = cond promote (value_of (promoted piece.rol
 -- what a drop gains: the piece leaves the hand and stands on the board
 abbrev pub drop_gain : Eval → Kind → ℤ
 drop_gain e kind = pos (value_of (role_of kind)) -ℤ pos (value_in_hand e kind)
-
--- what a move gains for its side
-abbrev pub gain_of : Shogi → Eval → Move → ℤ
-gain_of p e (Board from to promote) = pos (taken_gain e (piece_at p.cells to) + promotion_gain promote (piece_at p.cells from))
-gain_of p e (Drop kind to) = drop_gain e kind
