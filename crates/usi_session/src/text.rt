@@ -7,11 +7,12 @@ ghost use Rattle.usi_session.specs.Texts.{usi_reply, mate_not_implemented_reply,
 use crate::options::write_options;
 use itoa::Buffer;
 use shogi_core::Move;
+use shogi_search::MATE;
 use shogi_sfen::write_move;
 use std::alloc::{AllocError, Allocator};
 
 /// From which size on a value is a mate.
-const MATE_MIN: u32 = 30_000;
+const MATE_MIN: u32 = MATE as u32;
 
 /// Appends the parts, one after another.
 pub fn write_parts<A: Allocator>(out: &mut Vec<u8, A>, parts: &[&[u8]]) -> Result<(), AllocError>
