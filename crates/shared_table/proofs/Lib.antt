@@ -1,3 +1,3 @@
 pub mod PlaceLaws
 pub mod RecentLaws
-pub mod WordLaws
+pub mod PackedLaws

@@ -1,4 +1,4 @@
 pub mod Keys
 pub mod KeyLaws
 pub mod Recent
-pub mod Words
+pub mod Packed

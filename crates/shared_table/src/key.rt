@@ -2,7 +2,7 @@
 
 ghost use Rattle.std.specs.Prelude.{◌≡◌, ◌↔◌, IsTrue};
 ghost use Rattle.shared_table.specs.Keys.{key_of};
-ghost use Rattle.shared_table.specs.Words.{key_in, words_of};
+ghost use Rattle.shared_table.specs.Packed.{key_in, words_of};
 
 use crate::packing::{cells_word, hand_word, last_word, pair, place_cells, side_of, with_counts};
 use shogi_core::{Board, Color, Hands, Position};
@@ -19,7 +19,7 @@ pub struct TableKey {
 
 impl Model for TableKey {
     ghost use Rattle.shared_table.specs.Keys.{Key};
-    ghost use Rattle.shared_table.specs.Words.{AreWords, key_in, words_of};
+    ghost use Rattle.shared_table.specs.Packed.{AreWords, key_in, words_of};
 
     ghost Value = { Key };
 
@@ -133,7 +133,7 @@ impl Eq for TableKey {
 
 impl Hash for TableKey {
     ghost use Rattle.shared_table.specs.KeyLaws.{key_same};
-    ghost use Rattle.shared_table.specs.Words.{writes_of};
+    ghost use Rattle.shared_table.specs.Packed.{writes_of};
     ghost use Rattle.std.specs.Hash as fed;
 
     ghost hash_input = { λ key. writes_of (words_of key) };

@@ -4,7 +4,7 @@ ghost use Rattle.std.specs.Prelude.{◌≡◌, ◌≤◌, ◌<◌, ◌+◌, ◌-
 ghost use Rattle.shogi_core.specs.Position.{place_of};
 ghost use Rattle.shogi_core.specs.declared.piece.Kind.TheVariants.{Pawn};
 ghost use Rattle.shared_table.specs.Keys.{eval_number};
-ghost use Rattle.shared_table.specs.Words.{cell_at, cell_number, cells_in, counts_of, digits_of, number_of, side_at, side_number};
+ghost use Rattle.shared_table.specs.Packed.{cell_of_number, cell_number, cells_in, counts_of, digits_in_base_32, number_in_base_32, side_of_number, side_number};
 
 use shogi_core::{Color, Hands, KINDS, Kind, Piece, Role};
 use shogi_eval::Eval;
@@ -166,7 +166,7 @@ pub fn cell_number(cell: Option<Piece>) -> u64
 /// The word of at most twelve squares.
 pub fn cells_word(cells: &[Option<Piece>]) -> u64
     requires { length cells.now ≤ 12 }
-    ensures { result ≡ number_of (map cell_number cells.now) }
+    ensures { result ≡ number_in_base_32 (map cell_number cells.now) }
 {
     let mut word = 0;
     let mut at = cells.len();
@@ -178,9 +178,9 @@ pub fn cells_word(cells: &[Option<Piece>]) -> u64
 }
 
 /// The word of what a side holds.
-#[tactic(auto, unfolding(crate::specs::Words::number_of))]
+#[tactic(auto, unfolding(crate::specs::Packed::number_in_base_32))]
 pub fn hand_word(hands: Hands, color: Color) -> u64
-    ensures { result ≡ number_of (counts_of hands color) }
+    ensures { result ≡ number_in_base_32 (counts_of hands color) }
 {
     let pawns = hands.count(color, Kind::Pawn) as u64;
     let lances = hands.count(color, Kind::Lance) as u64;
@@ -210,9 +210,9 @@ pub fn last_word(side: Color, eval: Eval, depth: u8) -> u64
 }
 
 /// What the number stands for.
-pub fn cell_at(number: u64) -> Option<Piece>
+pub fn cell_of_number(number: u64) -> Option<Piece>
     requires { number < 32 }
-    ensures { result ≡ cell_at number }
+    ensures { result ≡ cell_of_number number }
 {
     if number < 29 {
         CELLS[number as usize]
@@ -229,7 +229,7 @@ pub fn place_cells(cells: &mut [Option<Piece>; 81], from: usize, end: usize, wor
 {
     let mut rest = word;
     for at in from..end {
-        cells[at] = cell_at(rest % 32);
+        cells[at] = cell_of_number(rest % 32);
         rest /= 32;
     }
 }
@@ -237,7 +237,7 @@ pub fn place_cells(cells: &mut [Option<Piece>; 81], from: usize, end: usize, wor
 /// The hands with the counts of a side that the word says.
 pub fn with_counts(hands: Hands, color: Color, word: u64) -> Hands
     requires { length hands ≡ 14 }
-    ensures counts { take (place_of color Pawn + 7) result ≡ take (place_of color Pawn) hands ++ digits_of 7 word }
+    ensures counts { take (place_of color Pawn + 7) result ≡ take (place_of color Pawn) hands ++ digits_in_base_32 7 word }
     ensures length { length result ≡ 14 }
 {
     let mut counted = hands;
@@ -251,7 +251,7 @@ pub fn with_counts(hands: Hands, color: Color, word: u64) -> Hands
 
 /// The side that the last word says.
 pub fn side_of(word: u64) -> Color
-    ensures { result ≡ side_at (word % 2) }
+    ensures { result ≡ side_of_number (word % 2) }
 {
     if word % 2 == 0 {
         Color::Black

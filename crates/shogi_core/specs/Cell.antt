@@ -48,20 +48,20 @@ is_pawn color None = false
 is_pawn color (Some piece) = is_same_color color piece.color && is_pawn_role piece.role
 
 -- a piece of the role could never move again from the rank, counted from 0
-abbrev pub is_dead_role : Color → Role → ℕ → Bool
-is_dead_role Black Pawn rank = nat_lt rank 1
-is_dead_role Black Lance rank = nat_lt rank 1
-is_dead_role Black Knight rank = nat_lt rank 2
-is_dead_role White Pawn rank = nat_lt 7 rank
-is_dead_role White Lance rank = nat_lt 7 rank
-is_dead_role White Knight rank = nat_lt 6 rank
-is_dead_role _ _ rank = false
+abbrev pub is_immobile_role : Color → Role → ℕ → Bool
+is_immobile_role Black Pawn rank = nat_lt rank 1
+is_immobile_role Black Lance rank = nat_lt rank 1
+is_immobile_role Black Knight rank = nat_lt rank 2
+is_immobile_role White Pawn rank = nat_lt 7 rank
+is_immobile_role White Lance rank = nat_lt 7 rank
+is_immobile_role White Knight rank = nat_lt 6 rank
+is_immobile_role _ _ rank = false
 
--- a piece stands there that could never move again
+-- a dead piece stands there: one that could never move again
 abbrev pub is_immobile : ℕ → Option Piece → Bool
 is_immobile square None = false
-is_immobile square (Some piece) = is_dead_role piece.color piece.role (square % 9)
+is_immobile square (Some piece) = is_immobile_role piece.color piece.role (square % 9)
 
--- the square holds a piece that could never move again
+-- the square holds a dead piece
 abbrev pub is_immobile_on : Cells → ℕ → Bool
 is_immobile_on cells square = is_immobile square (piece_at cells square)

@@ -1,7 +1,7 @@
 -- Codes of moves: 0 to 13,121 are board moves, 13,122 to 13,688 drops (own choice).
 use Rattle.std.specs.Prelude.{ℕ, List, ◌+◌, ◌*◌, ◌-◌, ◌/◌, ◌%◌, ◌==◌, Option, Some, None, nat_lt, cond}
 use Rattle.std.specs.List.{range_with_len}
-use Rattle.shogi_core.specs.declared.moves.TheConstants.{MOVE_CODES, FIRST_DROP}
+use Rattle.shogi_core.specs.declared.moves.TheConstants.{MOVE_CODE_COUNT, FIRST_DROP}
 use Rattle.shogi_core.specs.declared.piece.Kind.{Kind}
 use Rattle.shogi_core.specs.declared.piece.Kind.TheVariants as kinds
 use Rattle.shogi_core.specs.declared.moves.Move.{Move}
@@ -22,11 +22,11 @@ code_of (Drop kind to) = FIRST_DROP + kind_number kind * 81 + to
 abbrev pub move_of : ℕ → Option Move
 move_of code =
     cond (nat_lt code FIRST_DROP) (Some (Board (code / 2 / 81) (code / 2 % 81) (code % 2 == 1)))
-    (cond (nat_lt code MOVE_CODES) (Some (Drop (kind_at ((code - FIRST_DROP) / 81)) ((code - FIRST_DROP) % 81))) None)
+    (cond (nat_lt code MOVE_CODE_COUNT) (Some (Drop (kind_at ((code - FIRST_DROP) / 81)) ((code - FIRST_DROP) % 81))) None)
 
 -- the codes of all moves from the given code on, in their order
 unfoldable pub codes_from : ℕ → List ℕ
-codes_from first = range_with_len first (MOVE_CODES - first)
+codes_from first = range_with_len first (MOVE_CODE_COUNT - first)
 
 -- the codes of all moves, in their order
 abbrev pub all_codes : List ℕ

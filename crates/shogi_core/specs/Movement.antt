@@ -9,7 +9,7 @@ use Rattle.shogi_core.specs.declared.piece.Role.TheVariants.{King, Pawn, Lance, 
 use Rattle.shogi_core.specs.declared.piece.Piece.{Piece}
 use Rattle.shogi_core.specs.declared.offset.Offset.{Offset}
 
--- what stands on each square, by index
+-- what stands on each square, by index, which goes file by file: 1a is 0, 1b is 1, 2a is 9
 abbrev pub Cells : Type 0
 Cells = List (Option Piece)
 
@@ -17,7 +17,7 @@ Cells = List (Option Piece)
 abbrev pub offset_by : ℤ → ℤ → Offset
 offset_by file rank = record { file = file; rank = rank }
 
--- one square, as Black sees the board: up towards rank 1, and left towards file 9
+-- one square, as Black sees the board: up towards rank 1, and left towards file 9 (`negsuc 0` is -1)
 abbrev pub up : Offset
 up = offset_by (pos 0) (negsuc 0)
 
@@ -133,7 +133,7 @@ is_step_empty cells offset from k = is_empty cells (away (k + 1) offset from)
 abbrev pub slides_across : Cells → Offset → ℕ → ℕ → ℕ → Bool
 slides_across cells offset from to n = leads (n + 1) offset from to && all_below n (is_step_empty cells offset from)
 
--- the other square lies on a slide from the one, and each square between is empty
+-- the other square lies on a slide from the one, and each of the 0 to 7 squares between is empty
 abbrev pub slides : Cells → Offset → ℕ → ℕ → Bool
 slides cells offset from to = some_below 8 (slides_across cells offset from to)
 

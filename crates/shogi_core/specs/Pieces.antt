@@ -1,4 +1,4 @@
--- Sides, kinds and roles (JSA playing rules, pieces).
+-- Sides, kinds and roles (JSA playing rules, pieces). A kind is what stands in hand; a role is what stands on the board, promoted or not.
 use Rattle.std.specs.Prelude.{ℕ, ◌==◌, Bool, true, false, List, [], ◌∷◌, Option, Some, None}
 use Rattle.shogi_core.specs.declared.piece.Color.{Color}
 use Rattle.shogi_core.specs.declared.piece.Color.TheVariants.{Black, White}

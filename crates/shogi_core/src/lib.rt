@@ -23,7 +23,7 @@ mod validity;
 pub use board::Board;
 pub use cell::{is_immobile, is_piece_of};
 pub use hands::Hands;
-pub use moves::{FIRST_DROP, MOVE_CODES, Move, SQUARE_CODES};
+pub use moves::{FIRST_DROP, MOVE_CODE_COUNT, Move, SQUARE_CODES};
 pub use offset::Offset;
 pub use piece::{Color, KINDS, Kind, Piece, Role};
 pub use position::Position;

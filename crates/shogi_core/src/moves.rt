@@ -1,14 +1,14 @@
 //! Moves.
 
 ghost use Rattle.std.specs.Prelude.{◌≡◌, ◌<◌, ◌≤◌, ◌↔◌, IsNone, IfSome, Some};
-ghost use Rattle.shogi_core.specs.declared.moves.TheConstants.{MOVE_CODES};
+ghost use Rattle.shogi_core.specs.declared.moves.TheConstants.{MOVE_CODE_COUNT};
 ghost use Rattle.shogi_core.specs.Codes.{code_of, move_of, kind_at};
 
 use crate::piece::Kind;
 use crate::square::Square;
 
 /// How many moves there are: their codes are the numbers below it (own choice).
-pub const MOVE_CODES: u16 = 13689;
+pub const MOVE_CODE_COUNT: u16 = 13689;
 
 /// The least code of a drop; those below it are codes of moves on the board.
 pub const FIRST_DROP: u16 = 13122;
@@ -61,7 +61,7 @@ impl Move {
     #[tactic(auto, using(crate::proofs::CodesBack::codes_back))]
     pub fn code(self) -> u16
         ensures code { result ≡ code_of self }
-        ensures range { result < MOVE_CODES }
+        ensures range { result < MOVE_CODE_COUNT }
         ensures back { move_of result ≡ Some self }
     {
         match self {
@@ -76,7 +76,7 @@ impl Move {
     /// Tells a proof that the code is that of this move and no other, and does nothing.
     #[tactic(auto, using(crate::proofs::CodesBack::codes_back))]
     pub fn validity(&self)
-        ensures range { code_of self.now < MOVE_CODES }
+        ensures range { code_of self.now < MOVE_CODE_COUNT }
         ensures back { move_of (code_of self.now) ≡ Some self.now }
     {
         match self {
@@ -91,7 +91,7 @@ impl Move {
     /// The move of a code, or `None` from 13,689 up.
     pub fn of_code(code: u16) -> Option<Move>
         ensures value { result ≡ move_of code }
-        ensures none { IsNone result ↔ (MOVE_CODES ≤ code) }
+        ensures none { IsNone result ↔ (MOVE_CODE_COUNT ≤ code) }
         ensures back { IfSome result (λ m. code_of m ≡ code) }
     {
         if code < FIRST_DROP {
@@ -102,7 +102,7 @@ impl Move {
                 promote: code % 2 == 1,
             });
         }
-        if code < MOVE_CODES {
+        if code < MOVE_CODE_COUNT {
             let drop = (code - FIRST_DROP) as usize;
             return Some(Move::Drop {
                 kind: kind_at(drop / 81),

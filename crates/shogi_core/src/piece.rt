@@ -2,7 +2,7 @@
 
 ghost use Rattle.std.specs.Prelude.{◌≡◌, ◌<◌};
 ghost use Rattle.shogi_core.specs.Pieces.{opponent_of, kind_number, set_size, kind_of, is_same_color, role_of, promoted};
-ghost use Rattle.shogi_core.specs.Cell.{is_king_role, is_pawn_role, is_sliding_role, is_dead_role};
+ghost use Rattle.shogi_core.specs.Cell.{is_king_role, is_pawn_role, is_sliding_role, is_immobile_role};
 
 /// A side.
 #[derive(Clone, Copy, Debug, PartialEq, Eq, Hash)]
@@ -159,7 +159,7 @@ impl Role {
 
     /// Whether a piece of the role and side could never move again from the rank, counted from 0.
     pub fn is_immobile(self, color: Color, rank: u8) -> bool
-        ensures { result ≡ is_dead_role color self rank }
+        ensures { result ≡ is_immobile_role color self rank }
     {
         match (color, self) {
             (Color::Black, Role::Pawn | Role::Lance) => rank < 1,

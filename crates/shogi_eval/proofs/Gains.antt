@@ -19,14 +19,14 @@ use Rattle.shogi_core.specs.Cell.{is_piece_of}
 use Rattle.shogi_core.specs.Movement.{piece_at}
 use Rattle.shogi_core.specs.Pieces.{opponent_of, is_same_color, kind_of, role_of, promoted}
 use Rattle.shogi_core.specs.Validity.{IsValid}
-use Rattle.shogi_moves.specs.After.{after, moved, dropped, with_one_more, with_captured}
+use Rattle.shogi_moves.specs.After.{after, piece_moved, dropped, with_one_more, with_captured}
 use Rattle.shogi_moves.specs.Legal.{is_legal}
 use Rattle.shogi_moves.proofs.Keeps.{is_safe_from_legal}
 use Rattle.shogi_moves.proofs.KeepsBoard.{IsSafeBoardMove, safe_board_move}
 use Rattle.shogi_moves.proofs.KeepsDrop.{IsSafeDrop, safe_drop}
 use Rattle.shogi_eval.specs.declared.eval.Eval.{Eval}
 use Rattle.shogi_eval.specs.declared.eval.Eval.TheVariants.{Plain, Hand}
-use Rattle.shogi_eval.specs.Material.{points_at, points_in_hand, points_of, material_of, value_of, value_in_hand, value_held, taken_gain, promotion_gain, drop_gain}
+use Rattle.shogi_eval.specs.Material.{points_at, points_in_hand, points_of, material_of, value_of, value_in_hand, value_of_captured, taken_gain, promotion_gain, drop_gain}
 
 -- what a move gains for its side
 abbrev pub gain_of : Shogi → Eval → Move → ℤ
@@ -118,7 +118,7 @@ points_there (Some piece) = value_of piece.role
 -- what its capture brings to hand
 abbrev captured_gain : Eval → Option Piece → ℕ
 captured_gain eval None = 0
-captured_gain eval (Some piece) = value_held eval (kind_of piece.role)
+captured_gain eval (Some piece) = value_of_captured eval (kind_of piece.role)
 
 taken_parts : (eval : Eval) (cell : Option Piece) → taken_gain eval cell ≡ points_there cell + captured_gain eval cell
 taken_parts eval None = refl
@@ -141,7 +141,7 @@ promoted_more King = omega arith
 promoted_more Pawn = omega arith
 promoted_more _ = omega arith
 
-moved_own : (s : Color) (promote : Bool) (cell : Option Piece) → is_piece_of s cell ≡ true → points_at s (moved promote cell) ≡ points_at s cell + promotion_gain promote cell
+moved_own : (s : Color) (promote : Bool) (cell : Option Piece) → is_piece_of s cell ≡ true → points_at s (piece_moved promote cell) ≡ points_at s cell + promotion_gain promote cell
 moved_own s promote None e = cc
 moved_own s false (Some piece) e = omega arith
 moved_own s true (Some piece) e =
@@ -150,11 +150,11 @@ moved_own s true (Some piece) e =
     let then : cond (is_same_color s piece.color) (value_of (promoted piece.role)) 0 ≡ value_of (promoted piece.role) = cond-true _ _ _ e in
     omega arith
 
-moved_other : (s : Color) (promote : Bool) (cell : Option Piece) → is_piece_of s cell ≡ true → points_at (opponent_of s) (moved promote cell) ≡ 0
+moved_other : (s : Color) (promote : Bool) (cell : Option Piece) → is_piece_of s cell ≡ true → points_at (opponent_of s) (piece_moved promote cell) ≡ 0
 moved_other s promote None e = cc
 moved_other s promote (Some piece) e = cond-false _ _ _ (same_other s piece.color e)
 
-one_more_own : (hands : HandCounts) (eval : Eval) (s : Color) (kind : Option Kind) → length hands ≡ 14 → points_in_hand (with_one_more hands s kind) eval s ≡ points_in_hand hands eval s + value_held eval kind
+one_more_own : (hands : HandCounts) (eval : Eval) (s : Color) (kind : Option Kind) → length hands ≡ 14 → points_in_hand (with_one_more hands s kind) eval s ≡ points_in_hand hands eval s + value_of_captured eval kind
 one_more_own hands eval s None len = omega arith
 one_more_own hands eval s (Some kind) len = omega (arith, in_hand_set hands eval s kind (count_in_hand hands s kind + 1) len)
 
@@ -176,9 +176,9 @@ unfolding points_of
 board_own p eval from to promote v f t ne safe =
     let a : from < length p.cells = omega (arith, v.cells_fit) in
     let b : to < length p.cells = omega (arith, v.cells_fit) in
-    let board : _ = sum_moved (points_at p.side) p.cells from to (moved promote (piece_at p.cells from)) refl a b ne in
+    let board : _ = sum_moved (points_at p.side) p.cells from to (piece_moved promote (piece_at p.cells from)) refl a b ne in
     let hand : _ = captured_own p.hands eval p.side (piece_at p.cells to) v.hands_fit in
-    let now : points_at p.side (moved promote (piece_at p.cells from)) ≡ points_at p.side (piece_at p.cells from) + promotion_gain promote (piece_at p.cells from) = moved_own p.side promote (piece_at p.cells from) safe.own in
+    let now : points_at p.side (piece_moved promote (piece_at p.cells from)) ≡ points_at p.side (piece_at p.cells from) + promotion_gain promote (piece_at p.cells from) = moved_own p.side promote (piece_at p.cells from) safe.own in
     let none : points_at p.side (piece_at p.cells to) ≡ 0 = free_own p.side (piece_at p.cells to) safe.free in
     omega (arith, board, hand)
 
@@ -188,9 +188,9 @@ unfolding points_of
 board_other p eval from to promote v f t ne safe =
     let a : from < length p.cells = omega (arith, v.cells_fit) in
     let b : to < length p.cells = omega (arith, v.cells_fit) in
-    let board : _ = sum_moved (points_at (opponent_of p.side)) p.cells from to (moved promote (piece_at p.cells from)) refl a b ne in
+    let board : _ = sum_moved (points_at (opponent_of p.side)) p.cells from to (piece_moved promote (piece_at p.cells from)) refl a b ne in
     let hand : _ = captured_other p.hands eval p.side (piece_at p.cells to) in
-    let now : points_at (opponent_of p.side) (moved promote (piece_at p.cells from)) ≡ 0 = moved_other p.side promote (piece_at p.cells from) safe.own in
+    let now : points_at (opponent_of p.side) (piece_moved promote (piece_at p.cells from)) ≡ 0 = moved_other p.side promote (piece_at p.cells from) safe.own in
     let left : points_at (opponent_of p.side) (piece_at p.cells from) ≡ 0 = own_other p.side (piece_at p.cells from) safe.own in
     let taken : points_at (opponent_of p.side) (piece_at p.cells to) ≡ points_there (piece_at p.cells to) = free_other p.side (piece_at p.cells to) safe.free in
     omega (arith, board, hand)

@@ -50,12 +50,12 @@ abbrev pub points_on_board : Cells → Color → ℕ
 points_on_board cells color = sum_by (points_at color) cells
 
 -- what the side holds of a kind
-abbrev pub points_held : HandCounts → Eval → Color → Kind → ℕ
-points_held hands e color kind = count_in_hand hands color kind * value_in_hand e kind
+abbrev pub points_of_kind : HandCounts → Eval → Color → Kind → ℕ
+points_of_kind hands e color kind = count_in_hand hands color kind * value_in_hand e kind
 
 -- the side's pieces in hand
 abbrev pub points_in_hand : HandCounts → Eval → Color → ℕ
-points_in_hand hands e color = sum_by (points_held hands e color) all_kinds
+points_in_hand hands e color = sum_by (points_of_kind hands e color) all_kinds
 
 -- all that the side has
 unfoldable pub points_of : Shogi → Eval → Color → ℕ
@@ -66,14 +66,14 @@ unfoldable pub material_of : Shogi → Eval → ℤ
 material_of p e = pos (points_of p e p.side) -ℤ pos (points_of p e (opponent_of p.side))
 
 -- what a captured piece adds to the captor's hand
-abbrev pub value_held : Eval → Option Kind → ℕ
-value_held e None = 0
-value_held e (Some kind) = value_in_hand e kind
+abbrev pub value_of_captured : Eval → Option Kind → ℕ
+value_of_captured e None = 0
+value_of_captured e (Some kind) = value_in_hand e kind
 
 -- what a capture gains: the piece is lost to its side and comes to hand
 abbrev pub taken_gain : Eval → Option Piece → ℕ
 taken_gain e None = 0
-taken_gain e (Some piece) = value_of piece.role + value_held e (kind_of piece.role)
+taken_gain e (Some piece) = value_of piece.role + value_of_captured e (kind_of piece.role)
 
 -- what a promotion gains
 abbrev pub promotion_gain : Bool → Option Piece → ℕ

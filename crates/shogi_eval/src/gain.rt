@@ -4,15 +4,15 @@ ghost use Rattle.std.specs.Prelude.{◌≡◌, ◌≤◌, ◌*◌, ◌≤ℤ◌,
 ghost use Rattle.shogi_eval.specs.declared.points.TheConstants.{PIECE_VALUE_MAX};
 ghost use Rattle.shogi_moves.specs.After.{after};
 ghost use Rattle.shogi_moves.specs.Legal.{is_legal};
-ghost use Rattle.shogi_eval.specs.Material.{material_of, value_held, taken_gain, promotion_gain, drop_gain};
+ghost use Rattle.shogi_eval.specs.Material.{material_of, value_of_captured, taken_gain, promotion_gain, drop_gain};
 
 use crate::eval::Eval;
 use crate::points::{value_in_hand, value_of};
 use shogi_core::{Kind, Move, Piece, Position, Role};
 
 /// What a captured piece adds to the captor's hand.
-fn value_held(e: Eval, kind: Option<Kind>) -> u32
-    ensures value { result ≡ value_held e kind }
+fn value_of_captured(e: Eval, kind: Option<Kind>) -> u32
+    ensures value { result ≡ value_of_captured e kind }
     ensures range { result ≤ PIECE_VALUE_MAX }
 {
     match kind {
@@ -28,7 +28,7 @@ fn taken_gain(e: Eval, cell: Option<Piece>) -> u32
 {
     match cell {
         None => 0,
-        Some(piece) => value_of(piece.role) + value_held(e, piece.role.kind()),
+        Some(piece) => value_of(piece.role) + value_of_captured(e, piece.role.kind()),
     }
 }
 

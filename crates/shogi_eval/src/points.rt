@@ -2,7 +2,7 @@
 
 ghost use Rattle.std.specs.Prelude.{◌≡◌, ◌≤◌, ◌<◌, ◌*◌, ◌^◌, ◌≤ℤ◌, ◌-ℤ◌, pos};
 ghost use Rattle.shogi_eval.specs.declared.points.TheConstants.{PIECE_VALUE_MAX, POINTS_MAX};
-ghost use Rattle.shogi_eval.specs.Material.{value_of, value_in_hand, points_at, points_on_board, points_in_hand, points_held, points_of, material_of};
+ghost use Rattle.shogi_eval.specs.Material.{value_of, value_in_hand, points_at, points_on_board, points_in_hand, points_of_kind, points_of, material_of};
 
 use crate::eval::Eval;
 use shogi_core::{Color, KINDS, Kind, Piece, Position, Role};
@@ -83,8 +83,8 @@ fn points_on_board(cells: &[Option<Piece>; 81], color: Color) -> u32
 }
 
 /// What the side holds of a kind.
-fn points_held(p: &Position, e: Eval, color: Color, kind: Kind) -> u32
-    ensures value { result ≡ points_held p.now.hands e color kind }
+fn points_of_kind(p: &Position, e: Eval, color: Color, kind: Kind) -> u32
+    ensures value { result ≡ points_of_kind p.now.hands e color kind }
     ensures range { result ≤ 255 * PIECE_VALUE_MAX }
 {
     p.hand(color, kind) as u32 * value_in_hand(e, kind)
@@ -97,7 +97,7 @@ fn points_in_hand(p: &Position, e: Eval, color: Color) -> u32
 {
     let mut points = 0;
     for kind in KINDS {
-        points += points_held(p, e, color, kind);
+        points += points_of_kind(p, e, color, kind);
     }
     points
 }

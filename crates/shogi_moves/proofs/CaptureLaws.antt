@@ -2,14 +2,14 @@
 use Rattle.std.proofs.Common.{◌≡◌, ℕ, ◌+◌, ◌-◌, ◌*◌, ◌/◌, ◌%◌, ◌<◌, ◌≤◌, Bool, true, false, [], ◌∷◌, Some, None, filter, refl, sym, ◌∙◌, ap, arith, subst, inl, inr}
 use Rattle.std.specs.Prelude.{zero, suc, ◌&&◌, is_some}
 use Rattle.std.proofs.lemmas.Bool.{cond-true, cond-false, cases_Bool, cases_lt, and_right, and_from, and_parts}
-use Rattle.shogi_core.specs.declared.moves.TheConstants.{MOVE_CODES, FIRST_DROP, SQUARE_CODES}
+use Rattle.shogi_core.specs.declared.moves.TheConstants.{MOVE_CODE_COUNT, FIRST_DROP, SQUARE_CODES}
 use Rattle.shogi_core.specs.declared.moves.Move.{Move}
 use Rattle.shogi_core.specs.Cell.{is_piece_of}
 use Rattle.shogi_core.specs.Codes.{move_of}
 use Rattle.shogi_core.specs.Movement.{piece_at}
 use Rattle.shogi_core.specs.Position.{Shogi}
 use Rattle.shogi_moves.specs.Captures.{captures, is_asked, is_capture, is_of_sort, is_wanted, HasNoneWanted}
-use Rattle.shogi_moves.specs.Legal.{is_legal, is_legal_code, is_legal_move}
+use Rattle.shogi_moves.specs.Legal.{is_legal, is_legal_code, is_some_and_legal}
 use Rattle.shogi_moves.specs.LegalMoves.{legal_from}
 use Rattle.shogi_moves.specs.NoSafe.{HasNoSafe}
 use Rattle.shogi_moves.proofs.LegalLaws.{legal_from_found, legal_from_skips, legal_from_end, is_legal_code_of}
@@ -45,7 +45,7 @@ none_target p capture from to code end hf ht low high e = record {
 }
 
 -- drops take nothing
-pub none_drop : (p : Shogi) (capture : Bool) (code end : ℕ) → FIRST_DROP ≤ code → end ≤ MOVE_CODES → is_asked capture false ≡ false → HasNoneWanted p capture code end
+pub none_drop : (p : Shogi) (capture : Bool) (code end : ℕ) → FIRST_DROP ≤ code → end ≤ MOVE_CODE_COUNT → is_asked capture false ≡ false → HasNoneWanted p capture code end
 none_drop p capture code end low high e = record {
   none = λ c above below. and_right _ _ (ap (is_asked capture) (sort_of p c _ (drop_code c (omega arith) (omega arith))) ∙ e);
 }
@@ -60,13 +60,13 @@ none_grows p capture from to code hf ht low e h = none_join p capture code (from
 pub ruleset idle = (none_safe, none_here, none_square, none_target, none_drop)
 
 -- a step over a code
-pub skip_one : (p : Shogi) (capture : Bool) (code : ℕ) → code < MOVE_CODES → is_wanted p capture code ≡ false → filter (is_of_sort p capture) (legal_from p code) ≡ filter (is_of_sort p capture) (legal_from p (code + 1))
+pub skip_one : (p : Shogi) (capture : Bool) (code : ℕ) → code < MOVE_CODE_COUNT → is_wanted p capture code ≡ false → filter (is_of_sort p capture) (legal_from p code) ≡ filter (is_of_sort p capture) (legal_from p (code + 1))
 skip_one p capture code h e = elim (cases_Bool (is_legal_code p code)) [
   | inl legal ↦ ap (filter (is_of_sort p capture)) (legal_from_found p code h legal) ∙ cond-false (is_of_sort p capture code) _ _ (sym (ap (λ (b : Bool). b && is_of_sort p capture code) legal) ∙ e)
   | inr other ↦ ap (filter (is_of_sort p capture)) (legal_from_skips p code h other)
 ]
 
-jump : (p : Shogi) (capture : Bool) (n first : ℕ) → first + n ≤ MOVE_CODES → HasNoneWanted p capture first (first + n) → filter (is_of_sort p capture) (legal_from p first) ≡ filter (is_of_sort p capture) (legal_from p (first + n))
+jump : (p : Shogi) (capture : Bool) (n first : ℕ) → first + n ≤ MOVE_CODE_COUNT → HasNoneWanted p capture first (first + n) → filter (is_of_sort p capture) (legal_from p first) ≡ filter (is_of_sort p capture) (legal_from p (first + n))
 jump p capture zero first h none = ap (λ (k : ℕ). filter (is_of_sort p capture) (legal_from p k)) (omega arith)
 jump p capture (suc n) first h none =
     skip_one p capture first (omega arith) (none.none first (omega arith) (omega arith))
@@ -74,19 +74,19 @@ jump p capture (suc n) first h none =
     ∙ ap (λ (k : ℕ). filter (is_of_sort p capture) (legal_from p k)) (omega arith)
 
 -- the legal moves of the sort are the same from either end of such a run
-pub wanted_jumps : (p : Shogi) (capture : Bool) (first end : ℕ) → first ≤ end → end ≤ MOVE_CODES → HasNoneWanted p capture first end → filter (is_of_sort p capture) (legal_from p first) ≡ filter (is_of_sort p capture) (legal_from p end)
+pub wanted_jumps : (p : Shogi) (capture : Bool) (first end : ℕ) → first ≤ end → end ≤ MOVE_CODE_COUNT → HasNoneWanted p capture first end → filter (is_of_sort p capture) (legal_from p first) ≡ filter (is_of_sort p capture) (legal_from p end)
 wanted_jumps p capture first end low high none =
     let there : first + (end - first) ≡ end = omega arith in
     subst (λ (k : ℕ). filter (is_of_sort p capture) (legal_from p first) ≡ filter (is_of_sort p capture) (legal_from p k)) there (jump p capture (end - first) first (omega arith) (subst (λ (k : ℕ). HasNoneWanted p capture first k) (sym there) none))
 
 -- one of them comes first, and then those above it
-pub wanted_found : (p : Shogi) (capture : Bool) (code : ℕ) → code < MOVE_CODES → is_wanted p capture code ≡ true → filter (is_of_sort p capture) (legal_from p code) ≡ code ∷ filter (is_of_sort p capture) (legal_from p (code + 1))
+pub wanted_found : (p : Shogi) (capture : Bool) (code : ℕ) → code < MOVE_CODE_COUNT → is_wanted p capture code ≡ true → filter (is_of_sort p capture) (legal_from p code) ≡ code ∷ filter (is_of_sort p capture) (legal_from p (code + 1))
 wanted_found p capture code h e =
     let both : (is_legal_code p code ≡ true) × (is_of_sort p capture code ≡ true) = and_parts _ _ e in
     ap (filter (is_of_sort p capture)) (legal_from_found p code h both.0) ∙ cond-true (is_of_sort p capture code) _ _ both.1
 
 -- above the last code there is none
-pub wanted_end : (p : Shogi) (capture : Bool) (code : ℕ) → MOVE_CODES ≤ code → filter (is_of_sort p capture) (legal_from p code) ≡ []
+pub wanted_end : (p : Shogi) (capture : Bool) (code : ℕ) → MOVE_CODE_COUNT ≤ code → filter (is_of_sort p capture) (legal_from p code) ≡ []
 wanted_end p capture code h = ap (filter (is_of_sort p capture)) (legal_from_end p code h)
 
 pub ruleset steps = (skip_one, wanted_jumps, wanted_found, wanted_end)
@@ -94,7 +94,7 @@ pub ruleset steps = (skip_one, wanted_jumps, wanted_found, wanted_end)
 -- whether the move of a code is a legal one of the sort
 pub unwanted_none : (p : Shogi) (capture : Bool) (code : ℕ) → move_of code ≡ None → is_wanted p capture code ≡ false
 unfolding is_legal_code
-unwanted_none p capture code e = left_fails _ _ (ap (is_legal_move p) e)
+unwanted_none p capture code e = left_fails _ _ (ap (is_some_and_legal p) e)
 
 pub unwanted_sort : (p : Shogi) (capture : Bool) (code : ℕ) (m : Move) → move_of code ≡ Some m → is_asked capture (captures p (Some m)) ≡ false → is_wanted p capture code ≡ false
 unwanted_sort p capture code m back e = and_right _ _ (ap (is_asked capture) (sort_of p code m back) ∙ e)

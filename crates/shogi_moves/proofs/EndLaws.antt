@@ -14,7 +14,7 @@ use Rattle.shogi_core.specs.declared.piece.Role.TheVariants.{Pawn, Lance, Knight
 use Rattle.shogi_core.specs.declared.piece.Piece.{Piece}
 use Rattle.shogi_core.specs.Attack.{in_check, is_attacked}
 use Rattle.shogi_core.specs.Bits.{has_bit}
-use Rattle.shogi_core.specs.Cell.{is_piece_of, is_immobile, is_dead_role, is_king, is_king_role}
+use Rattle.shogi_core.specs.Cell.{is_piece_of, is_immobile, is_immobile_role, is_king, is_king_role}
 use Rattle.shogi_core.specs.Codes.{move_of, code_of}
 use Rattle.shogi_core.specs.Movement.{Cells, piece_at, reaches}
 use Rattle.shogi_core.specs.Pieces.{opponent_of, is_same_color, promoted}
@@ -23,7 +23,7 @@ use Rattle.shogi_core.proofs.BitLaws.{has_bit-and, has_bit-or, has_bit-none}
 use Rattle.shogi_core.proofs.Exposed.{check_was}
 use Rattle.shogi_core.proofs.CodesBack.{move_of-board, move_of-drop}
 use Rattle.shogi_core.proofs.LineBits.{has_bit-not, and_fits}
-use Rattle.shogi_moves.specs.After.{moved, cells_after, dropped}
+use Rattle.shogi_moves.specs.After.{piece_moved, cells_after, dropped}
 use Rattle.shogi_moves.specs.Captures.{captures, is_asked, is_wanted}
 use Rattle.shogi_moves.specs.Ends.{is_end, is_unchecked, Sifts}
 use Rattle.shogi_moves.specs.Guards.{Guards}
@@ -31,7 +31,7 @@ use Rattle.shogi_moves.specs.Legal.{is_safe, is_legal, is_legal_code, is_pseudo_
 use Rattle.shogi_moves.proofs.CaptureLaws.{sort_of}
 use Rattle.shogi_moves.proofs.GuardLaws.{calm_safe, filled, king_set, stays_set, stays_drop, quiet_drop_safe, calm_parts}
 use Rattle.shogi_moves.proofs.LegalLaws.{is_legal_code_of}
-use Rattle.shogi_moves.proofs.MovedPieces.{is_king-moved}
+use Rattle.shogi_moves.proofs.MovedPieces.{is_king-piece_moved}
 
 -- ---- squares are tried one by one
 
@@ -130,7 +130,7 @@ calm_kept p checked exposed ends from n g len hf hn own calm =
     all_kept (has_bit ends n) (is_unchecked p (Board from n false))
     (ap not (calm_safe p checked exposed from n false g len hf hn own parts.0 parts.1))
 
-moved_own : (side : Color) (promote : Bool) (cell : Option Piece) → is_piece_of side (moved promote cell) ≡ is_piece_of side cell
+moved_own : (side : Color) (promote : Bool) (cell : Option Piece) → is_piece_of side (piece_moved promote cell) ≡ is_piece_of side cell
 moved_own side promote None = refl
 moved_own side promote (Some piece) = refl
 
@@ -152,7 +152,7 @@ pub free_kept : (p : Shogi) (ends from n : ℕ) → length p.cells ≡ 81 → fr
     → has_bit ends n ≡ (has_bit ends n && is_unchecked p (Board from n false))
 free_kept p ends from n len hf hn own plain free =
     all_kept (has_bit ends n) (is_unchecked p (Board from n false))
-    (ap not (filled (set p.cells from None) p.side n (moved false (piece_at p.cells from)) (length-set p.cells from None ∙ len) hn (moved_own p.side false (piece_at p.cells from) ∙ own) (is_king-moved p.side false (piece_at p.cells from) ∙ plain) (not-true _ free)))
+    (ap not (filled (set p.cells from None) p.side n (piece_moved false (piece_at p.cells from)) (length-set p.cells from None ∙ len) hn (moved_own p.side false (piece_at p.cells from) ∙ own) (is_king-piece_moved p.side false (piece_at p.cells from) ∙ plain) (not-true _ free)))
 
 -- ---- the king, and answers to a check
 
@@ -167,7 +167,7 @@ lone_king p kings rest from b r none x h other =
 
 pub king_steps : (p : Shogi) (from to : ℕ) → length p.cells ≡ 81 → from < 81 → to < 81 → is_piece_of p.side (piece_at p.cells from) ≡ true → ((x : ℕ) → x < 81 → x ≢ from → is_king p.side (piece_at p.cells x) ≡ false)
     → is_attacked (set p.cells from None) (opponent_of p.side) to ≡ false → true ≡ is_unchecked p (Board from to false)
-king_steps p from to len hf ht own lone safe = sym (ap not (king_set p.cells p.side from to (moved false (piece_at p.cells from)) len hf ht (moved_own p.side false (piece_at p.cells from) ∙ own) lone safe))
+king_steps p from to len hf ht own lone safe = sym (ap not (king_set p.cells p.side from to (piece_moved false (piece_at p.cells from)) len hf ht (moved_own p.side false (piece_at p.cells from) ∙ own) lone safe))
 
 -- what no answer can be is left out
 pub narrowed : (ends exposed others n : ℕ) (u : Bool) → (has_bit exposed n ≡ false → has_bit others n ≡ false → u ≡ false) → (has_bit (bit_and ends (bit_or exposed others)) n && u) ≡ (has_bit ends n && u)
@@ -190,7 +190,7 @@ narrowed_drops ends exposed n u cut = rw (has_bit-and ends exposed n) (go (has_b
 pub no_answer : (p : Shogi) (checked : Bool) (exposed others from n : ℕ) → Guards p checked exposed → checked ≡ true → length p.cells ≡ 81 → from < 81 → n < 81 → is_piece_of p.side (piece_at p.cells from) ≡ true → is_king p.side (piece_at p.cells from) ≡ false
     → has_bit others n ≡ is_piece_of (opponent_of p.side) (piece_at p.cells n) → has_bit exposed n ≡ false → has_bit others n ≡ false → is_unchecked p (Board from n false) ≡ false
 no_answer p checked exposed others from n g c len hf hn own plain o out none =
-    ap not (stays_set p.cells p.side from n (moved false (piece_at p.cells from)) len hf hn own plain (sym o ∙ none) (g.kings n hn out) (g.lines c n hn out) (sym g.check ∙ c))
+    ap not (stays_set p.cells p.side from n (piece_moved false (piece_at p.cells from)) len hf hn own plain (sym o ∙ none) (g.kings n hn out) (g.lines c n hn out) (sym g.check ∙ c))
 
 pub no_answer_drop : (p : Shogi) (checked : Bool) (exposed ends n : ℕ) (kind : Kind) → Guards p checked exposed → checked ≡ true → n < 81 → has_bit ends n ≡ is_pseudo_legal_drop p.cells p.hands p.side kind n → has_bit ends n ≡ true → has_bit exposed n ≡ false → is_unchecked p (Drop kind n) ≡ false
 no_answer_drop p checked exposed ends n kind g c hn r e out =
@@ -249,12 +249,12 @@ asked_end false side (Some piece) = go (not (is_piece_of side (Some piece)))
     go false = refl
 
 -- promotion changes nothing for the king
-some_moved : (promote : Bool) (cell : Option Piece) → is_none (moved promote cell) ≡ is_none cell
+some_moved : (promote : Bool) (cell : Option Piece) → is_none (piece_moved promote cell) ≡ is_none cell
 some_moved promote None = refl
 some_moved promote (Some piece) = refl
 
 -- what moves with the one choice or the other differs in its role alone, and not where it is a king
-king_same : (side : Color) (a b : Bool) (cell : Option Piece) → is_king side (moved b cell) ≡ true → moved a cell ≡ moved b cell
+king_same : (side : Color) (a b : Bool) (cell : Option Piece) → is_king side (piece_moved b cell) ≡ true → piece_moved a cell ≡ piece_moved b cell
 king_same side a b None e = refl
 king_same side a b (Some piece) e = go a b piece.role (king_of (is_same_color side piece.color) _ e)
   where
@@ -303,10 +303,10 @@ king_same side a b (Some piece) e = go a b piece.role (king_of (is_same_color si
     go false true role e = rw (clash role e) refl
 
 module _ (cells : Cells) (side : Color) (from to : ℕ) (a b : Bool) (len : length cells ≡ 81) (ht : to < 81) (own : is_piece_of side (piece_at cells from) ≡ true) where
-  look : (x : ℕ) → ((piece_at (cells_after cells side (Board from to a)) x ≡ moved a (piece_at cells from)) × (piece_at (cells_after cells side (Board from to b)) x ≡ moved b (piece_at cells from))) ⊎ (piece_at (cells_after cells side (Board from to a)) x ≡ piece_at (cells_after cells side (Board from to b)) x)
+  look : (x : ℕ) → ((piece_at (cells_after cells side (Board from to a)) x ≡ piece_moved a (piece_at cells from)) × (piece_at (cells_after cells side (Board from to b)) x ≡ piece_moved b (piece_at cells from))) ⊎ (piece_at (cells_after cells side (Board from to a)) x ≡ piece_at (cells_after cells side (Board from to b)) x)
   look x = elim (cases_eq x to) [
-    | inl there ↦ inl (rw there (get_or-set_same (set cells from None) to (moved a (piece_at cells from)) None (omega (arith, length-set cells from None)), get_or-set_same (set cells from None) to (moved b (piece_at cells from)) None (omega (arith, length-set cells from None))))
-    | inr other ↦ inr (get_or-set_other (set cells from None) to x (moved a (piece_at cells from)) None other ∙ sym (get_or-set_other (set cells from None) to x (moved b (piece_at cells from)) None other))
+    | inl there ↦ inl (rw there (get_or-set_same (set cells from None) to (piece_moved a (piece_at cells from)) None (omega (arith, length-set cells from None)), get_or-set_same (set cells from None) to (piece_moved b (piece_at cells from)) None (omega (arith, length-set cells from None))))
+    | inr other ↦ inr (get_or-set_other (set cells from None) to x (piece_moved a (piece_at cells from)) None other ∙ sym (get_or-set_other (set cells from None) to x (piece_moved b (piece_at cells from)) None other))
   ]
 
   unchecked_if : in_check (cells_after cells side (Board from to a)) side ≡ false → in_check (cells_after cells side (Board from to b)) side ≡ false
@@ -318,7 +318,7 @@ module _ (cells : Cells) (side : Color) (from to : ℕ) (a b : Bool) (len : leng
       ])
       side
       (λ x e. elim (look x) [
-        | inl both ↦ absurd (both_ways (is_piece_of (opponent_of side) (moved b (piece_at cells from))) (other_side side (moved b (piece_at cells from)) (moved_own side b (piece_at cells from) ∙ own)) (sym (ap (is_piece_of (opponent_of side)) both.1) ∙ e))
+        | inl both ↦ absurd (both_ways (is_piece_of (opponent_of side) (piece_moved b (piece_at cells from))) (other_side side (piece_moved b (piece_at cells from)) (moved_own side b (piece_at cells from) ∙ own)) (sym (ap (is_piece_of (opponent_of side)) both.1) ∙ e))
         | inr same ↦ same
       ])
       (λ x e. elim (look x) [
@@ -340,31 +340,31 @@ unchecked_either p from to promote len ht own = ap not (same_tests (in_check (ce
 
 -- the legal ends with a choice on promotion
 pub wanted_board : (p : Shogi) (capture promote : Bool) (from to : ℕ) → length p.cells ≡ 81 → from < 81 → to < 81 → is_piece_of p.side (piece_at p.cells from) ≡ true
-    → is_wanted p capture (code_of (Board from to promote)) ≡ (((reaches p.cells from to && is_end capture p.side (piece_at p.cells to)) && is_unchecked p (Board from to false)) && ((not promote || may_promote (piece_at p.cells from) from to) && not (is_immobile to (moved promote (piece_at p.cells from)))))
+    → is_wanted p capture (code_of (Board from to promote)) ≡ (((reaches p.cells from to && is_end capture p.side (piece_at p.cells to)) && is_unchecked p (Board from to false)) && ((not promote || may_promote (piece_at p.cells from) from to) && not (is_immobile to (piece_moved promote (piece_at p.cells from)))))
 wanted_board p capture promote from to len hf ht own =
     wanted_move p capture (Board from to promote) (move_of-board from to promote hf ht)
     ∙ (rw (legal_board p from to promote, unchecked_either p from to promote len ht own, own)
-    (mix (not (is_piece_of p.side (piece_at p.cells to))) (reaches p.cells from to) (not promote || may_promote (piece_at p.cells from) from to) (not (is_immobile to (moved promote (piece_at p.cells from)))) (is_unchecked p (Board from to false)) (is_asked capture (is_some (piece_at p.cells to)))
+    (mix (not (is_piece_of p.side (piece_at p.cells to))) (reaches p.cells from to) (not promote || may_promote (piece_at p.cells from) from to) (not (is_immobile to (piece_moved promote (piece_at p.cells from)))) (is_unchecked p (Board from to false)) (is_asked capture (is_some (piece_at p.cells to)))
     ∙ (rw (asked_end capture p.side (piece_at p.cells to)) refl)))
 
-pub still : (n : ℕ) (cell : Option Piece) → is_immobile n (moved false cell) ≡ is_immobile n cell
+pub still : (n : ℕ) (cell : Option Piece) → is_immobile n (piece_moved false cell) ≡ is_immobile n cell
 still n None = refl
 still n (Some piece) = refl
 
 -- a promoted piece can always move again
-alive : (from n : ℕ) (cell : Option Piece) → (may_promote cell from n && not (is_immobile n (moved true cell))) ≡ may_promote cell from n
+alive : (from n : ℕ) (cell : Option Piece) → (may_promote cell from n && not (is_immobile n (piece_moved true cell))) ≡ may_promote cell from n
 alive from n None = refl
 alive from n (Some piece) = go piece.role (in_promotion_zone piece.color from || in_promotion_zone piece.color n)
   where
-    go : (role : Role) (z : Bool) → ((is_promotable role && z) && not (is_dead_role piece.color (promoted role) (n % 9))) ≡ (is_promotable role && z)
+    go : (role : Role) (z : Bool) → ((is_promotable role && z) && not (is_immobile_role piece.color (promoted role) (n % 9))) ≡ (is_promotable role && z)
     go role false = low role
       where
-        low : (role : Role) → ((is_promotable role && false) && not (is_dead_role piece.color (promoted role) (n % 9))) ≡ (is_promotable role && false)
+        low : (role : Role) → ((is_promotable role && false) && not (is_immobile_role piece.color (promoted role) (n % 9))) ≡ (is_promotable role && false)
         low Pawn = refl
         low _ = refl
     go role true = live piece.color role
       where
-        live : (color : Color) (role : Role) → ((is_promotable role && true) && not (is_dead_role color (promoted role) (n % 9))) ≡ (is_promotable role && true)
+        live : (color : Color) (role : Role) → ((is_promotable role && true) && not (is_immobile_role color (promoted role) (n % 9))) ≡ (is_promotable role && true)
         live Black Pawn = refl
         live Black _ = refl
         live White Pawn = refl
@@ -412,11 +412,11 @@ mix_all true true true true true = refl
 mix_all true true true true false = refl
 
 pub legal_board_code : (p : Shogi) (promote : Bool) (from to : ℕ) → length p.cells ≡ 81 → from < 81 → to < 81 → is_piece_of p.side (piece_at p.cells from) ≡ true
-    → is_legal_code p (code_of (Board from to promote)) ≡ (((reaches p.cells from to && not (is_piece_of p.side (piece_at p.cells to))) && is_unchecked p (Board from to false)) && ((not promote || may_promote (piece_at p.cells from) from to) && not (is_immobile to (moved promote (piece_at p.cells from)))))
+    → is_legal_code p (code_of (Board from to promote)) ≡ (((reaches p.cells from to && not (is_piece_of p.side (piece_at p.cells to))) && is_unchecked p (Board from to false)) && ((not promote || may_promote (piece_at p.cells from) from to) && not (is_immobile to (piece_moved promote (piece_at p.cells from)))))
 legal_board_code p promote from to len hf ht own =
     is_legal_code_of p (code_of (Board from to promote)) (Board from to promote) (move_of-board from to promote hf ht)
     ∙ (rw (legal_board p from to promote, unchecked_either p from to promote len ht own, own)
-    (mix_all (not (is_piece_of p.side (piece_at p.cells to))) (reaches p.cells from to) (not promote || may_promote (piece_at p.cells from) from to) (not (is_immobile to (moved promote (piece_at p.cells from)))) (is_unchecked p (Board from to false))))
+    (mix_all (not (is_piece_of p.side (piece_at p.cells to))) (reaches p.cells from to) (not promote || may_promote (piece_at p.cells from) from to) (not (is_immobile to (piece_moved promote (piece_at p.cells from)))) (is_unchecked p (Board from to false))))
 
 pub plain_legal : (p : Shogi) (from n targets own ends dead : ℕ) → length p.cells ≡ 81 → from < 81 → n < 81 → is_piece_of p.side (piece_at p.cells from) ≡ true
     → has_bit targets n ≡ reaches p.cells from n → own < 2 ^ 81 → has_bit own n ≡ is_piece_of p.side (piece_at p.cells n)

@@ -3,7 +3,7 @@ use Rattle.std.proofs.Common.{◌≡◌, ◌≢◌, ℕ, ◌+◌, ◌-◌, ◌*�
 use Rattle.std.specs.Prelude.{zero, suc}
 use Rattle.std.specs.Int.{trailing_zeros, w128}
 use Rattle.std.proofs.lemmas.Bool.{or_cases, both_ways}
-use Rattle.shogi_core.specs.declared.moves.TheConstants.{MOVE_CODES, FIRST_DROP, SQUARE_CODES}
+use Rattle.shogi_core.specs.declared.moves.TheConstants.{MOVE_CODE_COUNT, FIRST_DROP, SQUARE_CODES}
 use Rattle.shogi_core.specs.declared.bits.TheConstants.{ALL_SQUARES}
 use Rattle.shogi_core.specs.declared.moves.Move.TheVariants.{Board, Drop}
 use Rattle.shogi_core.specs.declared.piece.Kind.{Kind}
@@ -35,7 +35,7 @@ guards_rough p checked e = record {
   fits = omega arith;
 }
 
-jump : (p : Shogi) (n first : ℕ) → first + n ≤ MOVE_CODES → ((c : ℕ) → first ≤ c → c < first + n → is_legal_code p c ≡ false) → legal_from p first ≡ legal_from p (first + n)
+jump : (p : Shogi) (n first : ℕ) → first + n ≤ MOVE_CODE_COUNT → ((c : ℕ) → first ≤ c → c < first + n → is_legal_code p c ≡ false) → legal_from p first ≡ legal_from p (first + n)
 jump p zero first h none = ap (legal_from p) (omega arith)
 jump p (suc n) first h none =
     legal_from_skips p first (omega arith) (none first (omega arith) (omega arith))
@@ -43,7 +43,7 @@ jump p (suc n) first h none =
     ∙ ap (legal_from p) (omega arith)
 
 -- the legal moves are the same from either end of a run of codes without one
-run_without : (p : Shogi) (first end : ℕ) → first ≤ end → end ≤ MOVE_CODES → ((c : ℕ) → first ≤ c → c < end → is_legal_code p c ≡ false) → legal_from p first ≡ legal_from p end
+run_without : (p : Shogi) (first end : ℕ) → first ≤ end → end ≤ MOVE_CODE_COUNT → ((c : ℕ) → first ≤ c → c < end → is_legal_code p c ≡ false) → legal_from p first ≡ legal_from p end
 run_without p first end low high none =
     let there : first + (end - first) ≡ end = omega arith in
     jump p (end - first) first (omega arith) (λ c l h. none c l (omega arith)) ∙ ap (legal_from p) there

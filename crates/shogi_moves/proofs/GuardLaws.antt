@@ -21,10 +21,10 @@ use Rattle.shogi_core.proofs.BitLaws.{has_bit-and, has_bit-or, has_bit-none}
 use Rattle.shogi_core.proofs.Exposed.{check_was, check_stays, attacked_was}
 use Rattle.shogi_core.proofs.SeenLaws.{lined_back}
 use Rattle.shogi_core.proofs.Snipers.{left_calm}
-use Rattle.shogi_moves.specs.After.{cells_after, moved, dropped}
+use Rattle.shogi_moves.specs.After.{cells_after, piece_moved, dropped}
 use Rattle.shogi_moves.specs.Guards.{Guards, Exposes}
 use Rattle.shogi_moves.specs.Legal.{is_safe, is_pseudo_legal_board_move, is_pseudo_legal_drop}
-use Rattle.shogi_moves.proofs.MovedPieces.{is_king-moved}
+use Rattle.shogi_moves.proofs.MovedPieces.{is_king-piece_moved}
 
 -- ---- the squares that are on open lines with a king
 
@@ -56,9 +56,9 @@ other_side side (Some piece) e = go side piece.color e
     go Black White e = absurd (cc)
     go White Black e = absurd (cc)
 
-pub is_piece_of-moved : (side : Color) (promote : Bool) (cell : Option Piece) → is_piece_of side (moved promote cell) ≡ is_piece_of side cell
-is_piece_of-moved side promote None = refl
-is_piece_of-moved side promote (Some piece) = refl
+pub is_piece_of-piece_moved : (side : Color) (promote : Bool) (cell : Option Piece) → is_piece_of side (piece_moved promote cell) ≡ is_piece_of side cell
+is_piece_of-piece_moved side promote None = refl
+is_piece_of-piece_moved side promote (Some piece) = refl
 
 pub own_some : (side : Color) (cell : Option Piece) → is_piece_of side cell ≡ true → is_none cell ≡ false
 own_some side None e = absurd (cc)
@@ -294,7 +294,7 @@ module _ (cells : Cells) (side : Color) (from to : ℕ) (v : Option Piece) (len 
 pub quiet_board : (cells : Cells) (side : Color) (from to : ℕ) (promote : Bool) → length cells ≡ 81 → from < 81 → to < 81 → is_piece_of side (piece_at cells from) ≡ true → is_king side (piece_at cells from) ≡ false
     → is_lined_with_king cells side from ≡ false → in_check cells side ≡ false → in_check (cells_after cells side (Board from to promote)) side ≡ false
 quiet_board cells side from to promote len hf ht own plain free safe =
-    quiet_set cells side from to (moved promote (piece_at cells from)) len hf ht (is_piece_of-moved side promote (piece_at cells from) ∙ own) (is_king-moved side promote (piece_at cells from) ∙ plain) free safe
+    quiet_set cells side from to (piece_moved promote (piece_at cells from)) len hf ht (is_piece_of-piece_moved side promote (piece_at cells from) ∙ own) (is_king-piece_moved side promote (piece_at cells from) ∙ plain) free safe
 
 -- ---- a piece that is dropped
 
@@ -371,7 +371,7 @@ stays_drop cells side kind to free off check =
 pub calm_safe : (p : Shogi) (checked : Bool) (exposed from to : ℕ) (promote : Bool) → Guards p checked exposed → length p.cells ≡ 81 → from < 81 → to < 81 → is_piece_of p.side (piece_at p.cells from) ≡ true → checked ≡ false → has_bit exposed from ≡ false
     → in_check (cells_after p.cells p.side (Board from to promote)) p.side ≡ false
 calm_safe p checked exposed from to promote g len hf ht own calm off =
-    filled (set p.cells from None) p.side to (moved promote (piece_at p.cells from)) (length-set p.cells from None ∙ len) ht (is_piece_of-moved p.side promote (piece_at p.cells from) ∙ own) (is_king-moved p.side promote (piece_at p.cells from) ∙ g.kings from hf off) (g.free calm from hf off own)
+    filled (set p.cells from None) p.side to (piece_moved promote (piece_at p.cells from)) (length-set p.cells from None ∙ len) ht (is_piece_of-piece_moved p.side promote (piece_at p.cells from) ∙ own) (is_king-piece_moved p.side promote (piece_at p.cells from) ∙ g.kings from hf off) (g.free calm from hf off own)
 
 pub quiet_board_safe : (p : Shogi) (checked : Bool) (exposed from to : ℕ) (promote : Bool) → Guards p checked exposed → length p.cells ≡ 81 → from < 81 → to < 81 → checked ≡ false → has_bit exposed from ≡ false
     → is_pseudo_legal_board_move p.cells p.side from to promote ≡ is_safe p (Board from to promote)

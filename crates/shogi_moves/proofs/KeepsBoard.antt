@@ -15,16 +15,16 @@ use Rattle.shogi_core.specs.Pieces.{is_of_kind, set_size}
 use Rattle.shogi_core.specs.Attack.{in_check}
 use Rattle.shogi_core.specs.Cell.{is_king, is_pawn, is_piece_of, is_immobile, is_immobile_on}
 use Rattle.shogi_core.specs.Validity.{pawns_on_file, count_of, IsValid}
-use Rattle.shogi_moves.specs.After.{moved, with_captured, after}
+use Rattle.shogi_moves.specs.After.{piece_moved, with_captured, after}
 use Rattle.shogi_moves.proofs.Counts.{count_moved, count_on_file_moved, nothing_here, here}
-use Rattle.shogi_moves.proofs.MovedPieces.{is_of_kind-moved, is_king-moved, is_pawn-moved, hands-with_captured, pawn_stays_on_file, opponent_twice}
+use Rattle.shogi_moves.proofs.MovedPieces.{is_of_kind-piece_moved, is_king-piece_moved, is_pawn-piece_moved, hands-with_captured, pawn_stays_on_file, opponent_twice}
 
 -- what a safe board move keeps to
 pub record IsSafeBoardMove (p : Shogi) (from to : ℕ) (promote : Bool) : Type 0 where
   pub own : is_piece_of p.side (piece_at p.cells from) ≡ true
   pub free : is_piece_of p.side (piece_at p.cells to) ≡ false
   pub reached : reaches p.cells from to ≡ true
-  pub alive : is_immobile to (moved promote (piece_at p.cells from)) ≡ false
+  pub alive : is_immobile to (piece_moved promote (piece_at p.cells from)) ≡ false
   pub shut : in_check (after p (Board from to promote)).cells p.side ≡ false
 
 -- its parts, from the one test
@@ -44,34 +44,34 @@ apart cells side from to own free same = both_ways (is_piece_of side (piece_at c
 
 -- no piece comes or goes
 counts_after_board : (cells : Cells) (hands : HandCounts) (side : Color) (from to : ℕ) (promote : Bool) (kind : Kind) → length cells ≡ 81 → length hands ≡ 14 → from < 81 → to < 81 → to ≢ from
-    → count_of kind (set (set cells from None) to (moved promote (piece_at cells from))) (with_captured hands side (piece_at cells to)) ≡ count_of kind cells hands
+    → count_of kind (set (set cells from None) to (piece_moved promote (piece_at cells from))) (with_captured hands side (piece_at cells to)) ≡ count_of kind cells hands
 counts_after_board cells hands side from to promote kind lc lh hf ht other =
-    let board = count_moved (is_of_kind kind) cells from to (moved promote (piece_at cells from)) refl (omega arith) (omega arith) other in
-    let board' = rw (is_of_kind-moved kind promote (piece_at cells from)) at board in
+    let board = count_moved (is_of_kind kind) cells from to (piece_moved promote (piece_at cells from)) refl (omega arith) (omega arith) other in
+    let board' = rw (is_of_kind-piece_moved kind promote (piece_at cells from)) at board in
     let hand = hands-with_captured hands side (piece_at cells to) kind lh in
     omega arith
 
 -- no king is added
 kings_after_board : (cells : Cells) (from to : ℕ) (promote : Bool) (color : Color) → length cells ≡ 81 → from < 81 → to < 81 → to ≢ from
-    → count_by (is_king color) (set (set cells from None) to (moved promote (piece_at cells from))) ≤ count_by (is_king color) cells
+    → count_by (is_king color) (set (set cells from None) to (piece_moved promote (piece_at cells from))) ≤ count_by (is_king color) cells
 kings_after_board cells from to promote color lc hf ht other =
-    let board = count_moved (is_king color) cells from to (moved promote (piece_at cells from)) refl (omega arith) (omega arith) other in
-    let board' = rw (is_king-moved color promote (piece_at cells from)) at board in
+    let board = count_moved (is_king color) cells from to (piece_moved promote (piece_at cells from)) refl (omega arith) (omega arith) other in
+    let board' = rw (is_king-piece_moved color promote (piece_at cells from)) at board in
     omega arith
 
 -- no file gets a second pawn, since a pawn stays on its file
 pawns_after_board : (cells : Cells) (from to : ℕ) (promote : Bool) (color : Color) (file : ℕ) → length cells ≡ 81 → from < 81 → to < 81 → to ≢ from → reaches cells from to ≡ true
-    → pawns_on_file color file (set (set cells from None) to (moved promote (piece_at cells from))) ≤ pawns_on_file color file cells
+    → pawns_on_file color file (set (set cells from None) to (piece_moved promote (piece_at cells from))) ≤ pawns_on_file color file cells
 pawns_after_board cells from to promote color file lc hf ht other reached =
-    let board = count_on_file_moved (is_pawn color) file cells from to (moved promote (piece_at cells from)) refl (omega arith) (omega arith) other in
-    elim (cases_Bool (is_pawn color (moved promote (piece_at cells from)))) [
+    let board = count_on_file_moved (is_pawn color) file cells from to (piece_moved promote (piece_at cells from)) refl (omega arith) (omega arith) other in
+    elim (cases_Bool (is_pawn color (piece_moved promote (piece_at cells from)))) [
       | inl pawn ↦
-          (let before : is_pawn color (piece_at cells from) ≡ true = is_pawn-moved color promote (piece_at cells from) pawn in
+          (let before : is_pawn color (piece_at cells from) ≡ true = is_pawn-piece_moved color promote (piece_at cells from) pawn in
           let stays : from / 9 ≡ to / 9 = pawn_stays_on_file cells color from to before reached in
           let board' = rw (pawn, before, stays) at board in
           omega arith)
       | inr other_piece ↦
-          (let none : here file to (is_pawn color (moved promote (piece_at cells from))) ≡ 0 = nothing_here file to _ other_piece in
+          (let none : here file to (is_pawn color (piece_moved promote (piece_at cells from))) ≡ 0 = nothing_here file to _ other_piece in
           omega arith)
     ]
 
@@ -98,6 +98,6 @@ faultless_after_board p from to promote valid hfrom hto safe =
       counts = λ kind. subst (λ (n : ℕ). n ≤ set_size kind) (sym (counts_after_board p.cells p.hands p.side from to promote kind valid.cells_fit valid.hands_fit hfrom hto other)) (fine.counts kind);
       kings = λ color. le_trans (kings_after_board p.cells from to promote color valid.cells_fit hfrom hto other) (fine.kings color);
       pawns = λ color file h. le_trans (pawns_after_board p.cells from to promote color file valid.cells_fit hfrom hto other m.reached) (fine.pawns color file h);
-      alive = λ square h. alive_after_board p.cells from to (moved promote (piece_at p.cells from)) square valid.cells_fit hfrom hto m.alive (fine.alive square h);
+      alive = λ square h. alive_after_board p.cells from to (piece_moved promote (piece_at p.cells from)) square valid.cells_fit hfrom hto m.alive (fine.alive square h);
       shut = rw (opponent_twice p.side) m.shut;
     }

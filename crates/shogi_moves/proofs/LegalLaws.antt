@@ -2,62 +2,62 @@
 use Rattle.std.proofs.Common.{◌≡◌, ℕ, ◌+◌, ◌-◌, ◌<◌, ◌≤◌, true, false, [], ◌∷◌, Option, Some, None, refl, sym, ◌∙◌, ap, arith, inl, inr}
 use Rattle.std.specs.Prelude.{suc, nat_lt}
 use Rattle.std.proofs.lemmas.Bool.{cond-true, cond-false, cases_lt, le-ltb, both_ways}
-use Rattle.shogi_core.specs.declared.moves.TheConstants.{MOVE_CODES, FIRST_DROP}
+use Rattle.shogi_core.specs.declared.moves.TheConstants.{MOVE_CODE_COUNT, FIRST_DROP}
 use Rattle.shogi_core.specs.declared.moves.Move.{Move}
 use Rattle.shogi_core.specs.Codes.{move_of, code_of, codes_from}
 use Rattle.shogi_core.specs.Position.{Shogi}
-use Rattle.shogi_moves.specs.After.{after, after_code, after_move}
-use Rattle.shogi_moves.specs.Legal.{is_legal, is_legal_code, is_legal_move}
+use Rattle.shogi_moves.specs.After.{after, after_code, after_some}
+use Rattle.shogi_moves.specs.Legal.{is_legal, is_legal_code, is_some_and_legal}
 use Rattle.shogi_moves.specs.LegalMoves.{legal_from, legal_codes, legal_above}
 use Rattle.shogi_moves.specs.Rising.{is_in, IsRising}
 use Rattle.shogi_moves.proofs.Rising.{kept_rising, kept_passes, kept_low, passes_kept}
 
 -- a legal code comes first, and then those above it
-pub legal_from_found : (p : Shogi) (code : ℕ) → code < MOVE_CODES → is_legal_code p code ≡ true → legal_from p code ≡ code ∷ legal_from p (code + 1)
+pub legal_from_found : (p : Shogi) (code : ℕ) → code < MOVE_CODE_COUNT → is_legal_code p code ≡ true → legal_from p code ≡ code ∷ legal_from p (code + 1)
 unfolding legal_from codes_from
-legal_from_found p code h e = let n : MOVE_CODES - code ≡ suc (MOVE_CODES - (code + 1)) = omega arith in rw n (cond-true (is_legal_code p code) _ _ e)
+legal_from_found p code h e = let n : MOVE_CODE_COUNT - code ≡ suc (MOVE_CODE_COUNT - (code + 1)) = omega arith in rw n (cond-true (is_legal_code p code) _ _ e)
 
 -- a code that is not legal is left out
-pub legal_from_skips : (p : Shogi) (code : ℕ) → code < MOVE_CODES → is_legal_code p code ≡ false → legal_from p code ≡ legal_from p (code + 1)
+pub legal_from_skips : (p : Shogi) (code : ℕ) → code < MOVE_CODE_COUNT → is_legal_code p code ≡ false → legal_from p code ≡ legal_from p (code + 1)
 unfolding legal_from codes_from
-legal_from_skips p code h e = let n : MOVE_CODES - code ≡ suc (MOVE_CODES - (code + 1)) = omega arith in rw n (cond-false (is_legal_code p code) _ _ e)
+legal_from_skips p code h e = let n : MOVE_CODE_COUNT - code ≡ suc (MOVE_CODE_COUNT - (code + 1)) = omega arith in rw n (cond-false (is_legal_code p code) _ _ e)
 
 -- above the last code there is none
-pub legal_from_end : (p : Shogi) (code : ℕ) → MOVE_CODES ≤ code → legal_from p code ≡ []
+pub legal_from_end : (p : Shogi) (code : ℕ) → MOVE_CODE_COUNT ≤ code → legal_from p code ≡ []
 unfolding legal_from codes_from
-legal_from_end p code h = let n : MOVE_CODES - code ≡ 0 = omega arith in rw n refl
+legal_from_end p code h = let n : MOVE_CODE_COUNT - code ≡ 0 = omega arith in rw n refl
 
 -- the legal moves are in rising order of codes
 pub legal_rising : (p : Shogi) (first : ℕ) → IsRising (legal_from p first)
 unfolding legal_from codes_from
-legal_rising p first = kept_rising (is_legal_code p) (MOVE_CODES - first) first
+legal_rising p first = kept_rising (is_legal_code p) (MOVE_CODE_COUNT - first) first
 
 -- each code of the list is that of a legal move
 pub legal_in : (p : Shogi) (first code : ℕ) → is_in code (legal_from p first) ≡ true → is_legal_code p code ≡ true
 unfolding legal_from codes_from
-legal_in p first code h = kept_passes (is_legal_code p) (MOVE_CODES - first) first code h
+legal_in p first code h = kept_passes (is_legal_code p) (MOVE_CODE_COUNT - first) first code h
 
 -- and none is below the first
 pub legal_in_above : (p : Shogi) (first code : ℕ) → is_in code (legal_from p first) ≡ true → first ≤ code
 unfolding legal_from codes_from
-legal_in_above p first code h = kept_low (is_legal_code p) (MOVE_CODES - first) first code h
+legal_in_above p first code h = kept_low (is_legal_code p) (MOVE_CODE_COUNT - first) first code h
 
 -- above the last code there is no move
-pub none_beyond : (code : ℕ) → MOVE_CODES ≤ code → move_of code ≡ None
-none_beyond code h = cond-false (nat_lt code FIRST_DROP) _ _ (le-ltb code FIRST_DROP (omega arith)) ∙ cond-false (nat_lt code MOVE_CODES) _ _ (le-ltb code MOVE_CODES h)
+pub none_beyond : (code : ℕ) → MOVE_CODE_COUNT ≤ code → move_of code ≡ None
+none_beyond code h = cond-false (nat_lt code FIRST_DROP) _ _ (le-ltb code FIRST_DROP (omega arith)) ∙ cond-false (nat_lt code MOVE_CODE_COUNT) _ _ (le-ltb code MOVE_CODE_COUNT h)
 
 -- a legal code is one of a move
-pub legal_code_below : (p : Shogi) (code : ℕ) → is_legal_code p code ≡ true → code < MOVE_CODES
+pub legal_code_below : (p : Shogi) (code : ℕ) → is_legal_code p code ≡ true → code < MOVE_CODE_COUNT
 unfolding is_legal_code
-legal_code_below p code e = elim (cases_lt code MOVE_CODES) [
+legal_code_below p code e = elim (cases_lt code MOVE_CODE_COUNT) [
   | inl below ↦ below
-  | inr above ↦ absurd (both_ways (is_legal_move p (move_of code)) (ap (is_legal_move p) (none_beyond code above)) e)
+  | inr above ↦ absurd (both_ways (is_some_and_legal p (move_of code)) (ap (is_some_and_legal p) (none_beyond code above)) e)
 ]
 
 -- each code of a legal move is in the list
 pub in_legal : (p : Shogi) (first code : ℕ) → first ≤ code → is_legal_code p code ≡ true → is_in code (legal_from p first) ≡ true
 unfolding legal_from codes_from
-in_legal p first code low e = let high : code < MOVE_CODES = legal_code_below p code e in passes_kept (is_legal_code p) (MOVE_CODES - first) first code low (omega arith) e
+in_legal p first code low e = let high : code < MOVE_CODE_COUNT = legal_code_below p code e in passes_kept (is_legal_code p) (MOVE_CODE_COUNT - first) first code low (omega arith) e
 
 -- a legal move above another one is among the legal moves
 pub legal_above_in : (p : Shogi) (passed : Option Move) (code : ℕ) → is_in code (legal_above p passed) ≡ true → is_in code (legal_codes p) ≡ true
@@ -67,12 +67,12 @@ legal_above_in p (Some m) code h = in_legal p 0 code (omega arith) (legal_in p (
 -- a legal code is that of a legal move
 pub is_legal_code_of : (p : Shogi) (code : ℕ) (m : Move) → move_of code ≡ Some m → is_legal_code p code ≡ is_legal p m
 unfolding is_legal_code
-is_legal_code_of p code m e = ap (is_legal_move p) e
+is_legal_code_of p code m e = ap (is_some_and_legal p) e
 
 -- what the move of a code leaves
 pub after_code_at : (p : Shogi) (code : ℕ) (m : Move) → move_of code ≡ Some m → after_code p code ≡ after p m
 unfolding after_code
-after_code_at p code m e = ap (after_move p) e
+after_code_at p code m e = ap (after_some p) e
 
 -- the code of a move leads to the position after it
 pub after_code_of : (p : Shogi) (m : Move) → move_of (code_of m) ≡ Some m → after_code p (code_of m) ≡ after p m

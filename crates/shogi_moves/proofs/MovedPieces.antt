@@ -13,7 +13,7 @@ use Rattle.shogi_core.specs.declared.piece.Role.TheVariants.{King, Pawn, Lance, 
 use Rattle.shogi_core.specs.declared.piece.Piece.{Piece}
 use Rattle.shogi_core.specs.Pieces.{kind_of, is_of_kind, is_role_of_kind, is_same_color, kind_number, opponent_of, promoted}
 use Rattle.shogi_core.specs.Cell.{is_king_role, is_pawn_role, is_king, is_pawn}
-use Rattle.shogi_moves.specs.After.{moved, with_captured, with_one_more}
+use Rattle.shogi_moves.specs.After.{piece_moved, with_captured, with_one_more}
 use Rattle.shogi_moves.proofs.Counts.{tally, hand_added}
 
 -- promotion keeps the kind and the kingship, and ends a pawn
@@ -44,29 +44,29 @@ is_pawn_role-promoted King = refl
 is_pawn_role-promoted _ = refl
 
 -- a move keeps the kind and the kingship of a piece
-pub is_of_kind-moved : (kind : Kind) (promote : Bool) (cell : Option Piece) → is_of_kind kind (moved promote cell) ≡ is_of_kind kind cell
-is_of_kind-moved kind promote None = refl
-is_of_kind-moved kind false (Some piece) = refl
-is_of_kind-moved kind true (Some piece) = rw (kind_of-promoted piece.role) refl
+pub is_of_kind-piece_moved : (kind : Kind) (promote : Bool) (cell : Option Piece) → is_of_kind kind (piece_moved promote cell) ≡ is_of_kind kind cell
+is_of_kind-piece_moved kind promote None = refl
+is_of_kind-piece_moved kind false (Some piece) = refl
+is_of_kind-piece_moved kind true (Some piece) = rw (kind_of-promoted piece.role) refl
 
-pub is_king-moved : (color : Color) (promote : Bool) (cell : Option Piece) → is_king color (moved promote cell) ≡ is_king color cell
-is_king-moved color promote None = refl
-is_king-moved color false (Some piece) = refl
-is_king-moved color true (Some piece) = rw (is_king_role-promoted piece.role) refl
+pub is_king-piece_moved : (color : Color) (promote : Bool) (cell : Option Piece) → is_king color (piece_moved promote cell) ≡ is_king color cell
+is_king-piece_moved color promote None = refl
+is_king-piece_moved color false (Some piece) = refl
+is_king-piece_moved color true (Some piece) = rw (is_king_role-promoted piece.role) refl
 
 and-false_right : (b : Bool) → (b && false) ≡ false
 and-false_right b = and_right b false refl
 
 -- what has promoted is no pawn
-pub is_pawn-promoted : (color : Color) (cell : Option Piece) → is_pawn color (moved true cell) ≡ false
+pub is_pawn-promoted : (color : Color) (cell : Option Piece) → is_pawn color (piece_moved true cell) ≡ false
 is_pawn-promoted color None = refl
 is_pawn-promoted color (Some piece) = rw (is_pawn_role-promoted piece.role) (and-false_right (is_same_color color piece.color))
 
 -- a pawn after its move was one before
-pub is_pawn-moved : (color : Color) (promote : Bool) (cell : Option Piece) → is_pawn color (moved promote cell) ≡ true → is_pawn color cell ≡ true
-is_pawn-moved color false None e = e
-is_pawn-moved color false (Some piece) e = e
-is_pawn-moved color true cell e = absurd (both_ways (is_pawn color (moved true cell)) (is_pawn-promoted color cell) e)
+pub is_pawn-piece_moved : (color : Color) (promote : Bool) (cell : Option Piece) → is_pawn color (piece_moved promote cell) ≡ true → is_pawn color cell ≡ true
+is_pawn-piece_moved color false None e = e
+is_pawn-piece_moved color false (Some piece) e = e
+is_pawn-piece_moved color true cell e = absurd (both_ways (is_pawn color (piece_moved true cell)) (is_pawn-promoted color cell) e)
 
 -- one more in either hand is one more in both
 one_more : (hands : HandCounts) (side : Color) (taken : Option Kind) (kind : Kind) → length hands ≡ 14

@@ -2,7 +2,7 @@
 use Rattle.std.proofs.Common.{◌≡◌, ℕ, ◌+◌, ◌-◌, ◌*◌, ◌/◌, ◌%◌, ◌<◌, ◌≤◌, Bool, true, false, Option, Some, None, refl, sym, ◌∙◌, ap, arith, subst, inl, inr}
 use Rattle.std.specs.Prelude.{zero, suc, nat_lt, ◌==◌, not, ◌&&◌}
 use Rattle.std.proofs.lemmas.Bool.{cond-true, cond-false, cases_lt, lt-ltb, le-ltb}
-use Rattle.shogi_core.specs.declared.moves.TheConstants.{MOVE_CODES, FIRST_DROP, SQUARE_CODES}
+use Rattle.shogi_core.specs.declared.moves.TheConstants.{MOVE_CODE_COUNT, FIRST_DROP, SQUARE_CODES}
 use Rattle.shogi_core.specs.declared.moves.Move.{Move}
 use Rattle.shogi_core.specs.declared.moves.Move.TheVariants.{Board, Drop}
 use Rattle.shogi_core.specs.declared.piece.Kind.{Kind}
@@ -15,7 +15,7 @@ use Rattle.shogi_core.specs.Pieces.{kind_number}
 use Rattle.shogi_core.specs.Position.{Shogi, count_in_hand}
 use Rattle.shogi_core.proofs.Below.{some_below_no, some_below_at}
 use Rattle.shogi_core.proofs.Faults.{number_below}
-use Rattle.shogi_moves.specs.Legal.{is_safe, is_safe_code, is_safe_move, is_legal, is_legal_code, is_legal_move}
+use Rattle.shogi_moves.specs.Legal.{is_safe, is_safe_code, is_some_and_safe, is_legal, is_legal_code, is_some_and_legal}
 use Rattle.shogi_moves.specs.LegalMoves.{legal_from}
 use Rattle.shogi_moves.specs.NoSafe.{HasNoSafe}
 use Rattle.shogi_moves.proofs.LegalLaws.{none_beyond, legal_from_skips}
@@ -46,18 +46,18 @@ pub no_safe_join : (p : Shogi) (first middle end : ℕ) → HasNoSafe p first mi
 no_safe_join p first middle end h k = record { none = λ code low high. elim (cases_lt code middle) [ inl below ↦ h.none code low below | inr above ↦ k.none code above high ] }
 
 -- over all codes: no safe move, or one
-pub no_safe : (p : Shogi) → HasNoSafe p 0 MOVE_CODES → some_below MOVE_CODES (is_safe_code p) ≡ false
-no_safe p h = some_below_no MOVE_CODES (is_safe_code p) (λ code high. h.none code (omega arith) high)
+pub no_safe : (p : Shogi) → HasNoSafe p 0 MOVE_CODE_COUNT → some_below MOVE_CODE_COUNT (is_safe_code p) ≡ false
+no_safe p h = some_below_no MOVE_CODE_COUNT (is_safe_code p) (λ code high. h.none code (omega arith) high)
 
 -- a code of a move is below the last
-pub move_below : (code : ℕ) (m : Move) → move_of code ≡ Some m → code < MOVE_CODES
-move_below code m e = elim (cases_lt code MOVE_CODES) [
+pub move_below : (code : ℕ) (m : Move) → move_of code ≡ Some m → code < MOVE_CODE_COUNT
+move_below code m e = elim (cases_lt code MOVE_CODE_COUNT) [
   | inl below ↦ below
   | inr above ↦ (let clash : None ≡ Some m = sym (none_beyond code above) ∙ e in cc)
 ]
 
-pub some_safe : (p : Shogi) (m : Move) → move_of (code_of m) ≡ Some m → is_safe p m ≡ true → some_below MOVE_CODES (is_safe_code p) ≡ true
-some_safe p m back safe = some_below_at MOVE_CODES (is_safe_code p) (code_of m) (move_below (code_of m) m back) (ap (is_safe_move p) back ∙ safe)
+pub some_safe : (p : Shogi) (m : Move) → move_of (code_of m) ≡ Some m → is_safe p m ≡ true → some_below MOVE_CODE_COUNT (is_safe_code p) ≡ true
+some_safe p m back safe = some_below_at MOVE_CODE_COUNT (is_safe_code p) (code_of m) (move_below (code_of m) m back) (ap (is_some_and_safe p) back ∙ safe)
 
 -- a safe board move is one of one's own piece to where it reaches and none of one's own stands
 not_own : (p : Shogi) (from to : ℕ) (promote : Bool) → is_piece_of p.side (piece_at p.cells from) ≡ false → is_safe p (Board from to promote) ≡ false
@@ -80,15 +80,15 @@ not_held p kind to e = rw e refl
 pub board_code : (code : ℕ) → code < FIRST_DROP → move_of code ≡ Some (Board (code / 2 / 81) (code / 2 % 81) (code % 2 == 1))
 board_code code h = cond-true (nat_lt code FIRST_DROP) _ _ (lt-ltb code FIRST_DROP h)
 
-pub drop_code : (code : ℕ) → FIRST_DROP ≤ code → code < MOVE_CODES → move_of code ≡ Some (Drop (kind_at ((code - FIRST_DROP) / 81)) ((code - FIRST_DROP) % 81))
-drop_code code low high = cond-false (nat_lt code FIRST_DROP) _ _ (le-ltb code FIRST_DROP low) ∙ cond-true (nat_lt code MOVE_CODES) _ _ (lt-ltb code MOVE_CODES high)
+pub drop_code : (code : ℕ) → FIRST_DROP ≤ code → code < MOVE_CODE_COUNT → move_of code ≡ Some (Drop (kind_at ((code - FIRST_DROP) / 81)) ((code - FIRST_DROP) % 81))
+drop_code code low high = cond-false (nat_lt code FIRST_DROP) _ _ (le-ltb code FIRST_DROP low) ∙ cond-true (nat_lt code MOVE_CODE_COUNT) _ _ (lt-ltb code MOVE_CODE_COUNT high)
 
 -- no piece of the side to move stands on the square
 pub idle_square : (p : Shogi) (from code end : ℕ) → from < 81 → from * SQUARE_CODES ≤ code → end ≤ from * SQUARE_CODES + SQUARE_CODES → is_piece_of p.side (piece_at p.cells from) ≡ false → HasNoSafe p code end
 idle_square p from code end small low high e = record {
   none = λ c above below.
       let same : c / 2 / 81 ≡ from = omega arith in
-      ap (is_safe_move p) (board_code c (omega arith)) ∙ not_own p (c / 2 / 81) (c / 2 % 81) (c % 2 == 1) (subst (λ (k : ℕ). is_piece_of p.side (piece_at p.cells k) ≡ false) (sym same) e);
+      ap (is_some_and_safe p) (board_code c (omega arith)) ∙ not_own p (c / 2 / 81) (c / 2 % 81) (c % 2 == 1) (subst (λ (k : ℕ). is_piece_of p.side (piece_at p.cells k) ≡ false) (sym same) e);
 }
 
 -- the piece cannot go to the square
@@ -97,7 +97,7 @@ idle_target p from to code end hf ht low high e = record {
   none = λ c above below.
       let same : c / 2 / 81 ≡ from = omega arith in
       let there : c / 2 % 81 ≡ to = omega arith in
-      ap (is_safe_move p) (board_code c (omega arith)) ∙ rw (same, there) (e (c % 2 == 1));
+      ap (is_some_and_safe p) (board_code c (omega arith)) ∙ rw (same, there) (e (c % 2 == 1));
 }
 
 -- one of its own stands there
@@ -116,13 +116,13 @@ idle_drop p kind code end low high e =
       none = λ c above below.
           let n : (c - FIRST_DROP) / 81 ≡ kind_number kind = omega arith in
           let same : kind_at ((c - FIRST_DROP) / 81) ≡ kind = ap kind_at n ∙ kind_back kind in
-          ap (is_safe_move p) (drop_code c (omega arith) (omega arith)) ∙ rw same (not_held p kind ((c - FIRST_DROP) % 81) e);
+          ap (is_some_and_safe p) (drop_code c (omega arith) (omega arith)) ∙ rw same (not_held p kind ((c - FIRST_DROP) % 81) e);
     }
 
 pub ruleset idle_board = (idle_square, idle_own, idle_reach, no_safe_here)
 
 -- what is not safe is not legal
-legal_unsafe : (p : Shogi) (m : Option Move) → is_safe_move p m ≡ false → is_legal_move p m ≡ false
+legal_unsafe : (p : Shogi) (m : Option Move) → is_some_and_safe p m ≡ false → is_some_and_legal p m ≡ false
 unfolding is_legal
 legal_unsafe p None e = refl
 legal_unsafe p (Some m) e = rw e refl
@@ -132,14 +132,14 @@ unfolding is_legal_code
 legal_code_unsafe p code e = legal_unsafe p (move_of code) e
 
 -- the legal moves are the same from either end of such a run
-jump : (p : Shogi) (n first : ℕ) → first + n ≤ MOVE_CODES → HasNoSafe p first (first + n) → legal_from p first ≡ legal_from p (first + n)
+jump : (p : Shogi) (n first : ℕ) → first + n ≤ MOVE_CODE_COUNT → HasNoSafe p first (first + n) → legal_from p first ≡ legal_from p (first + n)
 jump p zero first h idle = ap (legal_from p) (omega arith)
 jump p (suc n) first h idle =
     legal_from_skips p first (omega arith) (legal_code_unsafe p first (idle.none first (omega arith) (omega arith)))
     ∙ jump p n (first + 1) (omega arith) (record { none = λ code low high. idle.none code (omega arith) (omega arith) })
     ∙ ap (legal_from p) (omega arith)
 
-pub legal_from_jumps : (p : Shogi) (first end : ℕ) → first ≤ end → end ≤ MOVE_CODES → HasNoSafe p first end → legal_from p first ≡ legal_from p end
+pub legal_from_jumps : (p : Shogi) (first end : ℕ) → first ≤ end → end ≤ MOVE_CODE_COUNT → HasNoSafe p first end → legal_from p first ≡ legal_from p end
 legal_from_jumps p first end low high idle =
     let there : first + (end - first) ≡ end = omega arith in
     subst (λ (k : ℕ). legal_from p first ≡ legal_from p k) there (jump p (end - first) first (omega arith) (subst (λ (k : ℕ). HasNoSafe p first k) (sym there) idle))

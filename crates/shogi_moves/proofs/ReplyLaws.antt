@@ -25,14 +25,14 @@ use Rattle.shogi_core.proofs.Faults.{faultless_from}
 use Rattle.shogi_core.proofs.LineBits.{lowest_set, and_fits, has_bit-not}
 use Rattle.shogi_core.proofs.Replies.{no_check}
 use Rattle.shogi_core.proofs.SeenLaws.{lined_back}
-use Rattle.shogi_moves.specs.After.{after, cells_after, moved, dropped}
+use Rattle.shogi_moves.specs.After.{after, cells_after, piece_moved, dropped}
 use Rattle.shogi_moves.specs.Legal.{is_legal, is_pseudo_legal_board_move}
 use Rattle.shogi_moves.specs.LegalMoves.{legal_codes}
 use Rattle.shogi_moves.specs.Replies.{cell_steps, is_open_step, is_spare, Sees, IsReplies}
 use Rattle.shogi_moves.proofs.DropChecks as drops
 use Rattle.shogi_moves.proofs.EndLaws.{legal_board, still}
 use Rattle.shogi_moves.proofs.ExistenceLaws.{some_legal}
-use Rattle.shogi_moves.proofs.GuardLaws.{look, other_side, own_some, is_piece_of-moved, dropped_of, quiet_board}
+use Rattle.shogi_moves.proofs.GuardLaws.{look, other_side, own_some, is_piece_of-piece_moved, dropped_of, quiet_board}
 use Rattle.shogi_moves.proofs.LegalLaws.{is_legal_code_of}
 
 -- ---- what a king sees
@@ -147,13 +147,13 @@ replied_board p from to promote sight spare a v r hf ht own out off ha some othe
     a ha other (r.spares a ha some)
   where
     w : Option Piece
-    w = moved promote (piece_at p.cells from)
+    w = piece_moved promote (piece_at p.cells from)
 
-    mine : is_piece_of p.side (moved promote (piece_at p.cells from)) ≡ true
-    mine = is_piece_of-moved p.side promote (piece_at p.cells from) ∙ own
+    mine : is_piece_of p.side (piece_moved promote (piece_at p.cells from)) ≡ true
+    mine = is_piece_of-piece_moved p.side promote (piece_at p.cells from) ∙ own
 
-    see : (x : ℕ) → ((x ≡ to) × (piece_at (set (set p.cells from None) to (moved promote (piece_at p.cells from))) x ≡ moved promote (piece_at p.cells from))) ⊎ (((x ≡ from) × (piece_at (set (set p.cells from None) to (moved promote (piece_at p.cells from))) x ≡ None)) ⊎ (piece_at (set (set p.cells from None) to (moved promote (piece_at p.cells from))) x ≡ piece_at p.cells x))
-    see x = look p.cells p.side from to (moved promote (piece_at p.cells from)) v.cells_fit hf ht x
+    see : (x : ℕ) → ((x ≡ to) × (piece_at (set (set p.cells from None) to (piece_moved promote (piece_at p.cells from))) x ≡ piece_moved promote (piece_at p.cells from))) ⊎ (((x ≡ from) × (piece_at (set (set p.cells from None) to (piece_moved promote (piece_at p.cells from))) x ≡ None)) ⊎ (piece_at (set (set p.cells from None) to (piece_moved promote (piece_at p.cells from))) x ≡ piece_at p.cells x))
+    see x = look p.cells p.side from to (piece_moved promote (piece_at p.cells from)) v.cells_fit hf ht x
 
 pub replied_drop : (p : Shogi) (kind : Kind) (to sight spare a : ℕ) → IsValid p → IsReplies p sight spare → to < 81 → has_bit sight to ≡ false
     → a < 81 → has_bit spare a ≡ true → a ≢ to → legal_codes (after p (Drop kind to)) ≢ []

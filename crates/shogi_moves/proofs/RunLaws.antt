@@ -11,8 +11,8 @@ use Rattle.shogi_core.proofs.BitLaws.{has_bit-and}
 use Rattle.shogi_core.proofs.LineBits.{has_bit-not}
 use Rattle.shogi_moves.specs.NoSafe.{HasNoSafe}
 use Rattle.shogi_moves.proofs.NoSafeLaws.{idle_square, idle_own, idle_reach, drop_code, kind_back}
-use Rattle.shogi_moves.specs.Legal.{is_safe, is_safe_move, is_pseudo_legal_board_move, may_promote}
-use Rattle.shogi_moves.specs.After.{moved}
+use Rattle.shogi_moves.specs.Legal.{is_safe, is_some_and_safe, is_pseudo_legal_board_move, may_promote}
+use Rattle.shogi_moves.specs.After.{piece_moved}
 use Rattle.shogi_moves.specs.Candidates.{is_candidate}
 use Rattle.shogi_core.specs.Codes.{kind_at}
 use Rattle.shogi_core.specs.Pieces.{kind_number}
@@ -63,7 +63,7 @@ run_drops p kind free to next code small at end bits none =
       none = λ c above below. (
           let k : (c - FIRST_DROP) / 81 ≡ kind_number kind = omega arith in
           let same : kind_at ((c - FIRST_DROP) / 81) ≡ kind = ap kind_at k ∙ kind_back kind in
-          ap (is_safe_move p) (drop_code c (omega arith) (omega arith)) ∙ rw same (taken_there p kind ((c - FIRST_DROP) % 81) (sym (bits ((c - FIRST_DROP) % 81) (omega arith)) ∙ none ((c - FIRST_DROP) % 81) (omega arith) (omega arith))));
+          ap (is_some_and_safe p) (drop_code c (omega arith) (omega arith)) ∙ rw same (taken_there p kind ((c - FIRST_DROP) % 81) (sym (bits ((c - FIRST_DROP) % 81) (omega arith)) ∙ none ((c - FIRST_DROP) % 81) (omega arith) (omega arith))));
     }
 
 pub ruleset board_runs = (run_squares, run_targets)
@@ -83,5 +83,5 @@ rest true false c d e h = absurd (cc)
 rest false b c d e h = absurd (cc)
 
 pub candidate_right : (p : Shogi) (from to : ℕ) (promote : Bool) → is_candidate p (Board from to promote) ≡ true
-    → ((not promote || may_promote (piece_at p.cells from) from to) && not (is_immobile to (moved promote (piece_at p.cells from)))) ≡ is_pseudo_legal_board_move p.cells p.side from to promote
-candidate_right p from to promote h = rest (is_piece_of p.side (piece_at p.cells from)) (not (is_piece_of p.side (piece_at p.cells to))) (reaches p.cells from to) (not promote || may_promote (piece_at p.cells from) from to) (not (is_immobile to (moved promote (piece_at p.cells from)))) h
+    → ((not promote || may_promote (piece_at p.cells from) from to) && not (is_immobile to (piece_moved promote (piece_at p.cells from)))) ≡ is_pseudo_legal_board_move p.cells p.side from to promote
+candidate_right p from to promote h = rest (is_piece_of p.side (piece_at p.cells from)) (not (is_piece_of p.side (piece_at p.cells to))) (reaches p.cells from to) (not promote || may_promote (piece_at p.cells from) from to) (not (is_immobile to (piece_moved promote (piece_at p.cells from)))) h

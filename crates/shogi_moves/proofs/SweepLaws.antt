@@ -2,7 +2,7 @@
 use Rattle.std.proofs.Common.{◌≡◌, ◌≢◌, ℕ, ◌+◌, ◌-◌, ◌*◌, ◌/◌, ◌%◌, ◌^◌, ◌<◌, ◌≤◌, ◌⊎◌, Bool, true, false, not, Some, [], ◌∷◌, refl, sym, ap, ◌∙◌, arith, inl, inr, subst, bit_or}
 use Rattle.std.specs.Prelude.{◌&&◌, ◌==◌}
 use Rattle.std.proofs.lemmas.Bool.{cases_eq, ne_eqb, eq-eqb, and_parts, both_ways, or_left, or_right, or_parts, or_cases, false_from_ne_true}
-use Rattle.shogi_core.specs.declared.moves.TheConstants.{MOVE_CODES, FIRST_DROP, SQUARE_CODES}
+use Rattle.shogi_core.specs.declared.moves.TheConstants.{MOVE_CODE_COUNT, FIRST_DROP, SQUARE_CODES}
 use Rattle.shogi_core.specs.declared.moves.Move.{Move}
 use Rattle.shogi_core.specs.declared.moves.Move.TheVariants.{Board, Drop}
 use Rattle.shogi_core.specs.declared.piece.Kind.{Kind}
@@ -115,7 +115,7 @@ pub record IsTaken (p : Shogi) (capture : Bool) (code : ℕ) (m : Move) : Type 0
   pub next : wanted_from p capture code ≡ code_of m ∷ wanted_from p capture (code_of m + 1)
   pub legal : is_legal p m ≡ true
 
-taken_from : (p : Shogi) (capture : Bool) (code : ℕ) (m : Move) → move_of (code_of m) ≡ Some m → code_of m < MOVE_CODES → code ≤ code_of m → is_wanted p capture (code_of m) ≡ true → HasNoneWanted p capture code (code_of m) → IsTaken p capture code m
+taken_from : (p : Shogi) (capture : Bool) (code : ℕ) (m : Move) → move_of (code_of m) ≡ Some m → code_of m < MOVE_CODE_COUNT → code ≤ code_of m → is_wanted p capture (code_of m) ≡ true → HasNoneWanted p capture code (code_of m) → IsTaken p capture code m
 taken_from p capture code m back small low wanted none = record {
   next = wanted_jumps p capture code (code_of m) low (omega arith) none ∙ wanted_found p capture (code_of m) small wanted;
   legal = (and_parts (is_legal p m) (is_asked capture (captures p (Some m))) (sym (wanted_move p capture m back) ∙ wanted)).0;
@@ -238,8 +238,8 @@ no_drop_to p kind next code before e low =
 
 pub no_drop_end : (p : Shogi) (kind : Kind) (code : ℕ) → HasNoneWanted p false code (FIRST_DROP + 81 + kind_number kind * 81) → kind_number kind ≡ 6 → code ≤ FIRST_DROP + 81 + kind_number kind * 81 → wanted_from p false code ≡ []
 no_drop_end p kind code before e low =
-    let here : FIRST_DROP + 81 + kind_number kind * 81 ≡ MOVE_CODES = omega arith in
-    wanted_jumps p false code MOVE_CODES (omega arith) (omega arith) (subst (λ (x : ℕ). HasNoneWanted p false code x) here before) ∙ wanted_end p false MOVE_CODES (omega arith)
+    let here : FIRST_DROP + 81 + kind_number kind * 81 ≡ MOVE_CODE_COUNT = omega arith in
+    wanted_jumps p false code MOVE_CODE_COUNT (omega arith) (omega arith) (subst (λ (x : ℕ). HasNoneWanted p false code x) here before) ∙ wanted_end p false MOVE_CODE_COUNT (omega arith)
 
 module _ (p : Shogi) (kind : Kind) (code ends to : ℕ) (k : KeepsDrop p kind code ends) (ht : to < 81) (set : has_bit ends to ≡ true) (least : (n : ℕ) → has_bit ends n ≡ true → to ≤ n) where
   pub drop_taken : IsTaken p false code (Drop kind to)
@@ -265,6 +265,6 @@ module _ (p : Shogi) (kind : Kind) (code ends to : ℕ) (k : KeepsDrop p kind co
 
 -- drops take nothing
 pub no_captures : (p : Shogi) → wanted_from p true FIRST_DROP ≡ []
-no_captures p = wanted_jumps p true FIRST_DROP MOVE_CODES (omega arith) (omega arith) (none_drop p true FIRST_DROP MOVE_CODES (omega arith) (omega arith) refl) ∙ wanted_end p true MOVE_CODES (omega arith)
+no_captures p = wanted_jumps p true FIRST_DROP MOVE_CODE_COUNT (omega arith) (omega arith) (none_drop p true FIRST_DROP MOVE_CODE_COUNT (omega arith) (omega arith) refl) ∙ wanted_end p true MOVE_CODE_COUNT (omega arith)
 
 pub ruleset sweeping = (keeps_square, more_fits, wanted_jumps)

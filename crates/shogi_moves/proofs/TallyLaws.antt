@@ -7,7 +7,7 @@ use Rattle.std.proofs.lemmas.Bool.{cases_Bool}
 use Rattle.std.proofs.lemmas.Nat.Bits.{bit_at-suc, bit_at_lowest, bit_at-lt}
 use Rattle.std.proofs.lemmas.Nat.{ones_le_self}
 use native.Mathlib.Nat.{pow-suc}
-use Rattle.shogi_core.specs.declared.moves.TheConstants.{MOVE_CODES, FIRST_DROP, SQUARE_CODES}
+use Rattle.shogi_core.specs.declared.moves.TheConstants.{MOVE_CODE_COUNT, FIRST_DROP, SQUARE_CODES}
 use Rattle.shogi_core.specs.declared.moves.Move.TheVariants.{Board, Drop}
 use Rattle.shogi_core.specs.declared.piece.Kind.{Kind}
 use Rattle.shogi_core.specs.Cell.{is_piece_of}
@@ -68,7 +68,7 @@ ones_tally (suc k) m h =
 
 -- ---- a code more
 
-code_more : (p : Shogi) (code : ℕ) → code < MOVE_CODES → length (legal_from p code) ≡ cond (is_legal_code p code) 1 0 + length (legal_from p (code + 1))
+code_more : (p : Shogi) (code : ℕ) → code < MOVE_CODE_COUNT → length (legal_from p code) ≡ cond (is_legal_code p code) 1 0 + length (legal_from p (code + 1))
 code_more p code h = elim (cases_Bool (is_legal_code p code)) [
   | inl yes_it ↦ (let e : length (legal_from p code) ≡ length (code ∷ legal_from p (code + 1)) = ap length (legal_from_found p code h yes_it) in rw yes_it (omega arith))
   | inr not_it ↦ (let e : length (legal_from p code) ≡ length (legal_from p (code + 1)) = ap length (legal_from_skips p code h not_it) in rw not_it (omega arith))

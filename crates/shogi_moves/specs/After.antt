@@ -11,9 +11,9 @@ use Rattle.shogi_core.specs.Pieces.{opponent_of, kind_of, role_of, promoted}
 use Rattle.shogi_core.specs.Position.{Shogi, HandCounts, count_in_hand, place_of}
 
 -- what stood on a square, as it stands after its move
-abbrev pub moved : Bool → Option Piece → Option Piece
-moved promote None = None
-moved promote (Some piece) = Some (record { color = piece.color; role = cond promote (promoted piece.role) piece.role })
+abbrev pub piece_moved : Bool → Option Piece → Option Piece
+piece_moved promote None = None
+piece_moved promote (Some piece) = Some (record { color = piece.color; role = cond promote (promoted piece.role) piece.role })
 
 -- a held piece as the side drops it, unpromoted
 abbrev pub dropped : Color → Kind → Option Piece
@@ -31,7 +31,7 @@ with_captured hands color (Some piece) = with_one_more hands color (kind_of piec
 
 -- the cells after a move of the side
 abbrev pub cells_after : Cells → Color → Move → Cells
-cells_after cells side (Board from to promote) = slice_set (slice_set cells from None) to (moved promote (piece_at cells from))
+cells_after cells side (Board from to promote) = slice_set (slice_set cells from None) to (piece_moved promote (piece_at cells from))
 cells_after cells side (Drop kind to) = slice_set cells to (dropped side kind)
 
 -- the hands after a move of the side: a capture adds one, a drop takes one
@@ -44,10 +44,10 @@ abbrev pub after : Shogi → Move → Shogi
 after p m = record { cells = cells_after p.cells p.side m; hands = hands_after p.hands p.cells p.side m; side = opponent_of p.side }
 
 -- the position after the move, and the same position where there is none
-abbrev pub after_move : Shogi → Option Move → Shogi
-after_move p None = p
-after_move p (Some m) = after p m
+abbrev pub after_some : Shogi → Option Move → Shogi
+after_some p None = p
+after_some p (Some m) = after p m
 
 -- the position after the move of a code
 unfoldable pub after_code : Shogi → ℕ → Shogi
-after_code p code = after_move p (move_of code)
+after_code p code = after_some p (move_of code)

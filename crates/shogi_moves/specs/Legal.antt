@@ -1,6 +1,6 @@
--- Which moves are legal (JSA playing rules: moves, promotion, drops, check, prohibited moves).
+-- Which moves are legal (JSA playing rules: moves, promotion, drops, check, prohibited moves). Repetition and perpetual check are not judged.
 use Rattle.std.specs.Prelude.{ℕ, ◌/◌, ◌%◌, ◌&&◌, ◌||◌, Bool, true, false, not, Option, Some, None, is_none, nat_lt}
-use Rattle.shogi_core.specs.declared.moves.TheConstants.{MOVE_CODES}
+use Rattle.shogi_core.specs.declared.moves.TheConstants.{MOVE_CODE_COUNT}
 use Rattle.shogi_core.specs.declared.piece.Color.{Color}
 use Rattle.shogi_core.specs.declared.piece.Color.TheVariants.{Black, White}
 use Rattle.shogi_core.specs.declared.piece.Kind.{Kind}
@@ -17,7 +17,7 @@ use Rattle.shogi_core.specs.Position.{Shogi, HandCounts, count_in_hand}
 use Rattle.shogi_core.specs.Attack.{in_check}
 use Rattle.shogi_core.specs.Cell.{is_piece_of, is_immobile}
 use Rattle.shogi_core.specs.Validity.{pawns_on_file}
-use Rattle.shogi_moves.specs.After.{after, moved, dropped}
+use Rattle.shogi_moves.specs.After.{after, piece_moved, dropped}
 
 -- a role that can promote
 abbrev pub is_promotable : Role → Bool
@@ -51,7 +51,7 @@ is_pseudo_legal_board_move cells side from to promote =
     && not (is_piece_of side (piece_at cells to))
     && reaches cells from to
     && (not promote || may_promote (piece_at cells from) from to)
-    && not (is_immobile to (moved promote (piece_at cells from)))
+    && not (is_immobile to (piece_moved promote (piece_at cells from)))
 
 -- a held piece goes to an empty square from which it can move again, and a pawn to a file without an unpromoted pawn of the side
 abbrev pub is_pseudo_legal_drop : Cells → HandCounts → Color → Kind → ℕ → Bool
@@ -71,22 +71,22 @@ unfoldable pub is_safe : Shogi → Move → Bool
 is_safe p m = is_pseudo_legal p m && not (in_check (after p m).cells p.side)
 
 -- there is a move, and it is safe
-abbrev pub is_safe_move : Shogi → Option Move → Bool
-is_safe_move p None = false
-is_safe_move p (Some m) = is_safe p m
+abbrev pub is_some_and_safe : Shogi → Option Move → Bool
+is_some_and_safe p None = false
+is_some_and_safe p (Some m) = is_safe p m
 
 -- the code is that of a safe move
 abbrev pub is_safe_code : Shogi → ℕ → Bool
-is_safe_code p code = is_safe_move p (move_of code)
+is_safe_code p code = is_some_and_safe p (move_of code)
 
 -- a drop of a pawn
 abbrev pub is_pawn_drop : Move → Bool
 is_pawn_drop (Board from to promote) = false
 is_pawn_drop (Drop kind to) = is_pawn_kind kind
 
--- the side to move is in check and has no safe move
+-- the side to move is in check and has no safe move. It is asked after the drop of a pawn: that check comes from the next square, so no drop answers it, and each safe move is legal
 abbrev pub is_mated : Shogi → Bool
-is_mated p = in_check p.cells p.side && not (some_below MOVE_CODES (is_safe_code p))
+is_mated p = in_check p.cells p.side && not (some_below MOVE_CODE_COUNT (is_safe_code p))
 
 -- the drop of a pawn gives mate
 abbrev pub is_pawn_drop_mate : Shogi → Move → Bool
@@ -97,10 +97,10 @@ unfoldable pub is_legal : Shogi → Move → Bool
 is_legal p m = is_safe p m && not (is_pawn_drop_mate p m)
 
 -- there is a move, and it is legal
-abbrev pub is_legal_move : Shogi → Option Move → Bool
-is_legal_move p None = false
-is_legal_move p (Some m) = is_legal p m
+abbrev pub is_some_and_legal : Shogi → Option Move → Bool
+is_some_and_legal p None = false
+is_some_and_legal p (Some m) = is_legal p m
 
 -- the code is that of a legal move
 unfoldable pub is_legal_code : Shogi → ℕ → Bool
-is_legal_code p code = is_legal_move p (move_of code)
+is_legal_code p code = is_some_and_legal p (move_of code)

@@ -6,14 +6,14 @@ ghost use Rattle.shogi_core.specs.declared.moves.Move.TheVariants as moves;
 ghost use Rattle.shogi_core.specs.Codes.{code_of};
 ghost use Rattle.shogi_core.specs.Position.{count_in_hand, place_of};
 ghost use Rattle.shogi_core.specs.Validity.{IsValid};
-ghost use Rattle.shogi_moves.specs.After.{after, after_code, moved, dropped, cells_after, with_captured};
+ghost use Rattle.shogi_moves.specs.After.{after, after_code, piece_moved, dropped, cells_after, with_captured};
 ghost use Rattle.shogi_moves.specs.Legal.{is_legal, is_safe};
 
 use shogi_core::{Board, Color, Hands, Kind, Move, Piece, Position, Role, Square};
 
 /// What stands on the new square after a move of what stood on the old one.
-pub fn moved(cell: Option<Piece>, promote: bool) -> Option<Piece>
-    ensures { result ≡ moved promote cell }
+pub fn piece_moved(cell: Option<Piece>, promote: bool) -> Option<Piece>
+    ensures { result ≡ piece_moved promote cell }
 {
     match cell {
         None => None,
@@ -49,7 +49,7 @@ pub fn cells_after(board: &Board, side: Color, m: &Move) -> Board
     match m {
         Move::Board { from, to, promote } => {
             cells.set(*from, None);
-            cells.set(*to, moved(board.at(*from), *promote));
+            cells.set(*to, piece_moved(board.at(*from), *promote));
         }
         Move::Drop { kind, to } => cells.set(*to, dropped(side, *kind)),
     }
@@ -79,7 +79,7 @@ fn make_board(p: &mut Position, from: Square, to: Square, promote: bool)
     to.validity();
     let (piece, taken) = (p.at(from), p.at(to));
     let hands = with_captured(p.hands(), p.side(), taken);
-    p.move_piece(from, to, moved(piece, promote), hands);
+    p.move_piece(from, to, piece_moved(piece, promote), hands);
 }
 
 /// Makes a safe drop.

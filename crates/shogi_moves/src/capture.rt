@@ -1,7 +1,7 @@
 //! The legal captures, and the other legal moves, in the order of their codes.
 
 ghost use Rattle.std.specs.Prelude.{◌≡◌, ◌≤◌, ◌<◌, ◌*◌, ◌+◌, true, false, [], ◌∷◌, IfSome, IsNone, MatchOption, Some, is_some, filter};
-ghost use Rattle.shogi_core.specs.declared.moves.TheConstants.{MOVE_CODES, FIRST_DROP};
+ghost use Rattle.shogi_core.specs.declared.moves.TheConstants.{MOVE_CODE_COUNT, FIRST_DROP};
 ghost use Rattle.shogi_core.specs.Codes.{code_of};
 ghost use Rattle.shogi_core.specs.Movement.{piece_at};
 ghost use Rattle.shogi_moves.specs.Captures.{captures, is_asked, is_of_sort, is_wanted, HasNoneWanted};
@@ -10,7 +10,7 @@ ghost use Rattle.shogi_moves.specs.LegalMoves.{legal_from, legal_above};
 
 use crate::legal::is_legal_move;
 use crate::safe::skip;
-use shogi_core::{MOVE_CODES, Move, Position, SQUARE_CODES, Square, is_piece_of};
+use shogi_core::{MOVE_CODE_COUNT, Move, Position, SQUARE_CODES, Square, is_piece_of};
 
 /// Whether the move takes a piece.
 fn is_capture(p: &Position, m: &Move) -> bool
@@ -52,19 +52,19 @@ fn skip_targets(p: &Position, capture: bool, from: Square, to: Square, code: u16
 /// The end of the codes, where drops are not of the sort.
 #[tactic(auto, using(crate::proofs::CaptureLaws::none_drop))]
 fn skip_drops(p: &Position, capture: bool, code: u16) -> u16
-    requires code { (FIRST_DROP ≤ code) × (code < MOVE_CODES) }
+    requires code { (FIRST_DROP ≤ code) × (code < MOVE_CODE_COUNT) }
     requires other { is_asked capture false ≡ false }
-    ensures range { (code < result) × (result ≤ MOVE_CODES) }
+    ensures range { (code < result) × (result ≤ MOVE_CODE_COUNT) }
     ensures none { HasNoneWanted p.now capture code result }
 {
-    MOVE_CODES
+    MOVE_CODE_COUNT
 }
 
 /// The first code from the given one on that is worth a test.
 #[tactic(auto, using(crate::proofs::CaptureLaws::idle))]
 fn skip_sort(p: &Position, capture: bool, code: u16) -> u16
-    requires { code < MOVE_CODES }
-    ensures range { (code ≤ result) × (result ≤ MOVE_CODES) }
+    requires { code < MOVE_CODE_COUNT }
+    ensures range { (code ≤ result) × (result ≤ MOVE_CODE_COUNT) }
     ensures none { HasNoneWanted p.now capture code result }
 {
     let Some(m) = Move::of_code(code) else {
@@ -101,12 +101,12 @@ fn wanted_of(p: &Position, capture: bool, code: u16) -> Option<Move>
 /// The legal move of the sort of least code from the given one on.
 #[tactic(auto, using(crate::proofs::CaptureLaws::steps))]
 fn least_wanted(p: &Position, capture: bool, first: u16) -> Option<Move>
-    requires { first ≤ MOVE_CODES }
+    requires { first ≤ MOVE_CODE_COUNT }
     ensures next { MatchOption result (filter (is_of_sort p.now capture) (legal_from p.now first) ≡ []) (λ m. filter (is_of_sort p.now capture) (legal_from p.now first) ≡ code_of m ∷ filter (is_of_sort p.now capture) (legal_from p.now (code_of m + 1))) }
     ensures legal { IfSome result (λ m. is_legal p.now m ≡ true) }
 {
     let mut code = first;
-    'codes: while code < MOVE_CODES {
+    'codes: while code < MOVE_CODE_COUNT {
         let next = skip_sort(p, capture, code);
         if next == code {
             if let Some(m) = wanted_of(p, capture, code) {

@@ -5,7 +5,7 @@ use crate::{
     Walk, has_legal, in_check, is_legal, next_capture, next_legal, next_quiet, perft, plain, play,
 };
 use shogi_core::Color::{Black, White};
-use shogi_core::{Color, MOVE_CODES, Move, Position, Square};
+use shogi_core::{Color, MOVE_CODE_COUNT, Move, Position, Square};
 use std::process::Abort;
 use std::test::Fail;
 
@@ -33,7 +33,7 @@ fn assert_moves(rt: &impl Abort, p: &Position, at: usize) {
     let mut walk = Walk::new(p);
     let (mut passed, mut taken, mut quiet) = (None, None, None);
     let mut count: u64 = 0;
-    for code in 0..MOVE_CODES {
+    for code in 0..MOVE_CODE_COUNT {
         let m = Move::of_code(code).expect(rt, "a move");
         let legal = plain::is_legal(p, &m);
         assert!(rt; is_legal(p, m) == legal, "the move {code} in position {at}");

@@ -1,7 +1,7 @@
 //! Counting sequences of legal moves.
 
 ghost use Rattle.std.specs.Prelude.{◌≡◌, ◌≤◌, ◌<◌, ◌^◌, ◌+◌, ◌-◌, ◌↔◌, IfSome, IsNone, length};
-ghost use Rattle.shogi_core.specs.declared.moves.TheConstants.{MOVE_CODES, FIRST_DROP};
+ghost use Rattle.shogi_core.specs.declared.moves.TheConstants.{MOVE_CODE_COUNT, FIRST_DROP};
 ghost use Rattle.shogi_moves.specs.LegalMoves.{legal_from, legal_codes, perft};
 ghost use Rattle.shogi_moves.specs.Guards.{Guards};
 
@@ -34,7 +34,7 @@ fn count_board(p: &Position, guard: &Guard) -> u64
 fn count_drops(p: &Position, guard: &Guard) -> u64
     requires guard { Guards p.now guard.now.checked guard.now.exposed }
     ensures count { result ≡ length (legal_from p.now FIRST_DROP) }
-    ensures range { result ≤ MOVE_CODES - FIRST_DROP }
+    ensures range { result ≤ MOVE_CODE_COUNT - FIRST_DROP }
 {
     let mut kind = Kind::Pawn;
     let mut total = drop_ends(p, guard, kind).count_ones() as u64;

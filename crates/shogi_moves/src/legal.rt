@@ -10,7 +10,7 @@ ghost use Rattle.shogi_moves.specs.Guards.{Guards};
 ghost use Rattle.shogi_moves.specs.LegalMoves.{legal_codes};
 ghost use Rattle.shogi_moves.specs.Rising.{is_in};
 
-use crate::after::{apply, apply_safe, cells_after, dropped, moved};
+use crate::after::{apply, apply_safe, cells_after, dropped, piece_moved};
 use crate::attack::in_check;
 use crate::guard::{Guard, is_calm};
 use crate::safe::has_safe;
@@ -64,7 +64,7 @@ fn is_pseudo_legal_board_move(p: &Position, from: Square, to: Square, promote: b
         && !is_piece_of(p.at(to), side)
         && p.reaches(from, to)
         && (!promote || may_promote(piece, from, to))
-        && !is_immobile(moved(piece, promote), to.index())
+        && !is_immobile(piece_moved(piece, promote), to.index())
 }
 
 /// Whether the drop obeys the rules, apart from checks and mate by a pawn.
@@ -103,7 +103,8 @@ fn is_pseudo_legal_candidate(p: &Position, from: Square, to: Square, promote: bo
     ensures { result ≡ is_pseudo_legal_board_move p.now.cells p.now.side from to promote }
 {
     let piece = p.at(from);
-    (!promote || may_promote(piece, from, to)) && !is_immobile(moved(piece, promote), to.index())
+    (!promote || may_promote(piece, from, to))
+        && !is_immobile(piece_moved(piece, promote), to.index())
 }
 
 /// `is_safe` of a candidate, with what is kept of the position.

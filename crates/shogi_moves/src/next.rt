@@ -1,7 +1,7 @@
 //! The legal moves in the order of their codes.
 
 ghost use Rattle.std.specs.Prelude.{◌≡◌, ◌≤◌, ◌<◌, ◌+◌, true, [], ◌∷◌, IfSome, MatchOption, Some};
-ghost use Rattle.shogi_core.specs.declared.moves.TheConstants.{MOVE_CODES};
+ghost use Rattle.shogi_core.specs.declared.moves.TheConstants.{MOVE_CODE_COUNT};
 ghost use Rattle.shogi_core.specs.Codes.{code_of};
 ghost use Rattle.shogi_moves.specs.Guards.{Guards};
 ghost use Rattle.shogi_moves.specs.Legal.{is_legal};
@@ -16,7 +16,7 @@ use shogi_core::{Move, Position};
 /// The first code above that of the move.
 pub fn code_above(m: &Move) -> u16
     ensures code { result ≡ code_of m.now + 1 }
-    ensures range { result ≤ MOVE_CODES }
+    ensures range { result ≤ MOVE_CODE_COUNT }
 {
     m.code() + 1
 }
@@ -24,9 +24,9 @@ pub fn code_above(m: &Move) -> u16
 /// The legal move of least code from the given one on.
 #[tactic(auto, using(crate::proofs::NextLaws::steps))]
 pub fn least_from(p: &Position, guard: &Guard, first: u16) -> Option<Move>
-    requires first { first ≤ MOVE_CODES }
+    requires first { first ≤ MOVE_CODE_COUNT }
     requires guard { Guards p.now guard.now.checked guard.now.exposed }
-    ensures code { IfSome result (λ m. code_of m < MOVE_CODES) }
+    ensures code { IfSome result (λ m. code_of m < MOVE_CODE_COUNT) }
     ensures next { MatchOption result (legal_from p.now first ≡ []) (λ m. legal_from p.now first ≡ code_of m ∷ legal_from p.now (code_of m + 1)) }
     ensures legal { IfSome result (λ m. is_legal p.now m ≡ true) }
 {

@@ -2,7 +2,8 @@
 //! scanned for attacks, and each move is made to see what it leaves.
 
 use shogi_core::{
-    Board, Color, Kind, MOVE_CODES, Move, Piece, Position, Role, Square, is_immobile, is_piece_of,
+    Board, Color, Kind, MOVE_CODE_COUNT, Move, Piece, Position, Role, Square, is_immobile,
+    is_piece_of,
 };
 
 fn steps(piece: Piece, from: Square, to: Square) -> bool {
@@ -157,7 +158,7 @@ fn is_safe(p: &Position, m: &Move) -> bool {
 }
 
 fn has_safe(p: &Position) -> bool {
-    for code in 0..MOVE_CODES {
+    for code in 0..MOVE_CODE_COUNT {
         if let Some(m) = Move::of_code(code) {
             if is_safe(p, &m) {
                 return true;

@@ -1,7 +1,7 @@
 //! The safe moves in the order of their codes: legal but for mate by the drop of a pawn.
 
 ghost use Rattle.std.specs.Prelude.{◌≡◌, ◌≤◌, ◌<◌, ◌*◌, ◌+◌, true, false, Bool, IfSome, IsNone, Some};
-ghost use Rattle.shogi_core.specs.declared.moves.TheConstants.{MOVE_CODES, FIRST_DROP};
+ghost use Rattle.shogi_core.specs.declared.moves.TheConstants.{MOVE_CODE_COUNT, FIRST_DROP};
 ghost use Rattle.shogi_core.specs.Codes.{code_of, move_of};
 ghost use Rattle.shogi_core.specs.Below.{some_below};
 ghost use Rattle.shogi_core.specs.Pieces.{kind_number};
@@ -15,7 +15,7 @@ ghost use Rattle.shogi_moves.specs.NoSafe.{HasNoSafe};
 use crate::guard::{Guard, guard_of};
 use crate::legal::is_safe_guarded;
 use shogi_core::bits::next_of;
-use shogi_core::{FIRST_DROP, Kind, MOVE_CODES, Move, Position, SQUARE_CODES, Square};
+use shogi_core::{FIRST_DROP, Kind, MOVE_CODE_COUNT, Move, Position, SQUARE_CODES, Square};
 
 /// The first code from that of the board move on which is worth a test: codes of a square
 /// without a piece of the side to move, and of a target that it cannot go to, are left out.
@@ -43,7 +43,7 @@ fn skip_board(p: &Position, from: Square, to: Square, code: u16) -> u16
 #[tactic(auto, using(crate::proofs::NoSafeLaws::idle_drop, crate::proofs::RunLaws::run_drops, crate::proofs::NoSafeLaws::no_safe_here))]
 fn skip_drop(p: &Position, kind: Kind, to: Square, code: u16) -> u16
     requires { code ≡ FIRST_DROP + kind_number kind * 81 + to }
-    ensures range { (code ≤ result) × (result ≤ MOVE_CODES) }
+    ensures range { (code ≤ result) × (result ≤ MOVE_CODE_COUNT) }
     ensures idle { HasNoSafe p.now code result }
 {
     let first = FIRST_DROP + kind.number() as u16 * 81;
@@ -61,8 +61,8 @@ fn skip_drop(p: &Position, kind: Kind, to: Square, code: u16) -> u16
 #[inline(always)]
 #[tactic(auto, using(crate::proofs::NoSafeLaws::no_safe_here))]
 pub fn skip(p: &Position, code: u16) -> u16
-    requires { code < MOVE_CODES }
-    ensures range { (code ≤ result) × (result ≤ MOVE_CODES) }
+    requires { code < MOVE_CODE_COUNT }
+    ensures range { (code ≤ result) × (result ≤ MOVE_CODE_COUNT) }
     ensures idle { HasNoSafe p.now code result }
     ensures candidate { (m : Move) → result ≡ code → move_of code ≡ Some m → is_candidate p.now m ≡ true }
 {
@@ -98,16 +98,16 @@ fn safe_of(p: &Position, guard: &Guard, code: u16) -> Option<Move>
 /// The safe move of least code from the given one on.
 #[tactic(auto, using(crate::proofs::NoSafeLaws::no_safe_here, crate::proofs::NoSafeLaws::no_safe_join, crate::proofs::NoSafeLaws::no_safe_one))]
 pub fn least_guarded(p: &Position, guard: &Guard, first: u16) -> Option<Move>
-    requires first { first ≤ MOVE_CODES }
+    requires first { first ≤ MOVE_CODE_COUNT }
     requires guard { Guards p.now guard.now.checked guard.now.exposed }
-    ensures none { IsNone result → HasNoSafe p.now first MOVE_CODES }
+    ensures none { IsNone result → HasNoSafe p.now first MOVE_CODE_COUNT }
     ensures idle { IfSome result (λ m. HasNoSafe p.now first (code_of m)) }
     ensures above { IfSome result (λ m. first ≤ code_of m) }
     ensures safe { IfSome result (λ m. is_safe p.now m ≡ true) }
     ensures back { IfSome result (λ m. move_of (code_of m) ≡ Some m) }
 {
     let mut code = first;
-    while code < MOVE_CODES {
+    while code < MOVE_CODE_COUNT {
         let next = skip(p, code);
         if next == code {
             if let Some(m) = safe_of(p, guard, code) {
@@ -123,8 +123,8 @@ pub fn least_guarded(p: &Position, guard: &Guard, first: u16) -> Option<Move>
 
 /// The same, where nothing of the position is kept.
 pub fn least_safe(p: &Position, first: u16) -> Option<Move>
-    requires { first ≤ MOVE_CODES }
-    ensures none { IsNone result → HasNoSafe p.now first MOVE_CODES }
+    requires { first ≤ MOVE_CODE_COUNT }
+    ensures none { IsNone result → HasNoSafe p.now first MOVE_CODE_COUNT }
     ensures idle { IfSome result (λ m. HasNoSafe p.now first (code_of m)) }
     ensures above { IfSome result (λ m. first ≤ code_of m) }
     ensures safe { IfSome result (λ m. is_safe p.now m ≡ true) }
@@ -136,7 +136,7 @@ pub fn least_safe(p: &Position, first: u16) -> Option<Move>
 /// Whether some move is safe.
 #[tactic(auto, using(crate::proofs::NoSafeLaws::some_safe, crate::proofs::NoSafeLaws::no_safe))]
 pub fn has_safe(p: &Position) -> bool
-    ensures { result ≡ some_below MOVE_CODES (is_safe_code p.now) }
+    ensures { result ≡ some_below MOVE_CODE_COUNT (is_safe_code p.now) }
 {
     least_safe(p, 0).is_some()
 }

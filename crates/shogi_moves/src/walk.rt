@@ -1,7 +1,7 @@
 //! A walk over the legal moves of a position.
 
 ghost use Rattle.std.specs.Prelude.{◌≡◌, ◌≤◌, ◌∷◌, [], true, IfSome, MatchOption};
-ghost use Rattle.shogi_core.specs.declared.moves.TheConstants.{MOVE_CODES};
+ghost use Rattle.shogi_core.specs.declared.moves.TheConstants.{MOVE_CODE_COUNT};
 ghost use Rattle.shogi_core.specs.Codes.{code_of};
 ghost use Rattle.shogi_moves.specs.Guards.{Guards};
 ghost use Rattle.shogi_moves.specs.Legal.{is_legal};
@@ -9,7 +9,7 @@ ghost use Rattle.shogi_moves.specs.LegalMoves.{legal_from, legal_codes};
 
 use crate::guard::{Guard, guard_of};
 use crate::next::{code_above, least_from};
-use shogi_core::{MOVE_CODES, Move, Position};
+use shogi_core::{MOVE_CODE_COUNT, Move, Position};
 use std::marker::Model;
 
 /// The legal moves of a position that are still to come, in the order of codes; seen as the
@@ -23,7 +23,7 @@ pub struct Walk {
 
 impl Model for Walk {
     ghost use Rattle.std.specs.Prelude.{◌≤◌};
-    ghost use Rattle.shogi_core.specs.declared.moves.TheConstants.{MOVE_CODES};
+    ghost use Rattle.shogi_core.specs.declared.moves.TheConstants.{MOVE_CODE_COUNT};
     ghost use Rattle.shogi_moves.specs.Guards.{Guards};
     ghost use Rattle.shogi_moves.specs.LegalMoves.{legal_from};
     ghost use Rattle.shogi_moves.specs.Walks.{Remaining};
@@ -32,7 +32,7 @@ impl Model for Walk {
 
     ghost view = { λ w. record { position = w.position; codes = legal_from w.position w.code } };
 
-    ghost invariant = { λ w. record { guard : Guards w.position w.guard.checked w.guard.exposed; code : w.code ≤ MOVE_CODES } };
+    ghost invariant = { λ w. record { guard : Guards w.position w.guard.checked w.guard.exposed; code : w.code ≤ MOVE_CODE_COUNT } };
 }
 
 impl Walk {
@@ -57,7 +57,7 @@ impl Walk {
     {
         match least_from(&self.position, &self.guard, self.code) {
             None => {
-                self.code = MOVE_CODES;
+                self.code = MOVE_CODE_COUNT;
                 None
             }
             Some(m) => {

@@ -3,7 +3,7 @@ use Rattle.std.proofs.Common.{◌≡◌, ◌<◌, ℕ, zero, suc, ℤ, List, [],
 use Rattle.std.specs.Prelude.{◌↔◌, IsNone, IfSome, int_lt}
 use Rattle.std.specs.Ordering.{int_eq}
 use Rattle.std.proofs.lemmas.Bool.{or_left, or_right, or_cases, eq-eqb, eqb-true, cond_both, cases_lt, both_ways}
-use Rattle.shogi_core.specs.declared.moves.TheConstants.{FIRST_DROP, MOVE_CODES}
+use Rattle.shogi_core.specs.declared.moves.TheConstants.{FIRST_DROP, MOVE_CODE_COUNT}
 use Rattle.shogi_core.specs.declared.moves.Move.{Move}
 use Rattle.shogi_core.specs.Codes.{move_of}
 use Rattle.shogi_core.specs.Position.{Shogi}
@@ -12,7 +12,7 @@ use Rattle.shogi_moves.specs.LegalMoves.{legal_codes}
 use Rattle.shogi_moves.specs.Rising.{is_in}
 use Rattle.shogi_moves.proofs.LegalLaws.{legal_in, legal_code_below, is_legal_code_of}
 use Rattle.shogi_eval.specs.declared.eval.Eval.{Eval}
-use Rattle.shogi_search.specs.Minimax.{value, best, best_code, move_at, worth, lost_value, greatest, greatest_of}
+use Rattle.shogi_search.specs.Minimax.{value, best, best_code, move_of_some, worth, lost_value, greatest, greatest_or}
 use Rattle.shogi_search.proofs.Equal.{same_int_eq}
 use Rattle.shogi_search.proofs.MinimaxLaws.{value-suc, best_code-leaf, best_code-suc, best-leaf, best-code}
 use Rattle.shogi_search.proofs.Valid.{board_of, drop_of}
@@ -43,7 +43,7 @@ find_passes t n (m ∷ xs) i p e =
 found_at : (p : Shogi) (eval : Eval) (d m : ℕ) (ms : List ℕ) → legal_codes p ≡ m ∷ ms → best_code p eval (suc d) ≡ None → ⊥
 found_at p eval d m ms e n =
     let r : Passes (λ k. int_eq (worth p eval d k) (greatest (worth p eval d) m ms)) (m ∷ ms) = greatest_reached (worth p eval d) m ms in
-    let v : value p eval (suc d) ≡ greatest (worth p eval d) m ms = value-suc p eval d ∙ ap (greatest_of (lost_value (suc d)) (worth p eval d)) e in
+    let v : value p eval (suc d) ≡ greatest (worth p eval d) m ms = value-suc p eval d ∙ ap (greatest_or (lost_value (suc d)) (worth p eval d)) e in
     find_passes (λ k. int_eq (worth p eval d k) (value p eval (suc d))) r.at (m ∷ ms) r.listed (ap (λ (x : ℤ). int_eq (worth p eval d r.at) x) v ∙ r.passed)
     (sym (ap (find (λ k. int_eq (worth p eval d k) (value p eval (suc d)))) e) ∙ sym (best_code-suc p eval d) ∙ n)
 
@@ -60,7 +60,7 @@ pub best_in : (p : Shogi) (eval : Eval) (d b : ℕ) → best_code p eval d ≡ S
 best_in p eval zero b h = let q : best_code p eval 0 ≡ None = best_code-leaf p eval in absurd (cc)
 best_in p eval (suc d) b h = find_in _ b (legal_codes p) (sym (best_code-suc p eval d) ∙ h)
 
-code_none : (code : ℕ) → code < MOVE_CODES → move_of code ≡ None → ⊥
+code_none : (code : ℕ) → code < MOVE_CODE_COUNT → move_of code ≡ None → ⊥
 code_none code h e = elim (cases_lt code FIRST_DROP) [
   | inl low ↦ (let s : _ = board_of code low in let q : None ≡ Some _ = sym e ∙ s in cc)
   | inr high ↦ (let s : _ = drop_of code high h in let q : None ≡ Some _ = sym e ∙ s in cc)
@@ -94,7 +94,7 @@ none_iff p eval d o e = (
   λ h. ap is_some (e ∙ none_best p eval d h),
 )
 
-legal_at : (p : Shogi) (eval : Eval) (d : ℕ) (o : Option ℕ) (m : Move) → best_code p eval d ≡ o → move_at o ≡ Some m → is_legal p m ≡ true
+legal_at : (p : Shogi) (eval : Eval) (d : ℕ) (o : Option ℕ) (m : Move) → best_code p eval d ≡ o → move_of_some o ≡ Some m → is_legal p m ≡ true
 legal_at p eval d None m q e = absurd (cc)
 legal_at p eval d (Some b) m q e = sym (is_legal_code_of p b m e) ∙ legal_in p 0 b (best_in p eval d b q)
 

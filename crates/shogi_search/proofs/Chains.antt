@@ -14,11 +14,11 @@ use Rattle.shogi_search.specs.declared.frame.Waiting.{Waiting}
 use Rattle.shogi_search.specs.declared.frame.Waiting.TheVariants.{Next, Asked, Leaf, Cut}
 use Rattle.shogi_search.specs.declared.move_picker.MovePicker.{MovePicker}
 use Rattle.shogi_search.specs.declared.stack.Stack.{Stack}
-use Rattle.shogi_search.specs.Minimax.{negated, subtree_sizes, tree_size}
+use Rattle.shogi_search.specs.Minimax.{negated, sum_of_tree_sizes, tree_size}
 use Rattle.shogi_search.specs.Order.{todo}
 use Rattle.shogi_search.specs.Window.{threshold, code_at}
 use Rattle.shogi_search.specs.Stack.{IsAt, IsSame, IsChain, IsStack, WhereAsked, parents_of, left_of_frame, left_of_waiting}
-use Rattle.shogi_search.proofs.MinimaxLaws.{subtree_sizes-next}
+use Rattle.shogi_search.proofs.MinimaxLaws.{sum_of_tree_sizes-next}
 use Rattle.shogi_search.specs.declared.bounds.TheConstants.{SEARCH_DEPTH_MAX, INFINITY}
 
 -- a node is the child that another one has asked for by this move
@@ -141,17 +141,17 @@ same_asked f q m n k e = let s : m ≡ n = one m n (sym k.asks ∙ e) in subst (
 -- one move less is left of a node
 pub left_next : (f g : Frame) (q : Shogi) (m : Move) → g.node ≡ f.node → g.depth ≡ f.depth → g.waiting ≡ Asked m → q ≡ after_code g.node.position (code_of m) → todo f.node.position f.picker ≡ code_of m ∷ todo f.node.position g.picker → 2 * tree_size q (g.depth - 1) + left_of_frame g ≤ left_of_frame f
 left_next f g q m e h k a n =
-    let s : subtree_sizes f.node.position (f.depth - 1) (todo f.node.position f.picker) ≡ tree_size q (f.depth - 1) + subtree_sizes f.node.position (f.depth - 1) (todo f.node.position g.picker) = subtree_sizes-next f.node.position (f.depth - 1) (code_of m) q _ _ (a ∙ ap (λ (x : Evaluated). after_code x.position (code_of m)) e) n in
-    let t : subtree_sizes g.node.position (g.depth - 1) (todo g.node.position g.picker) ≡ subtree_sizes f.node.position (f.depth - 1) (todo f.node.position g.picker) = ap (λ (x : Evaluated). subtree_sizes x.position (g.depth - 1) (todo x.position g.picker)) e ∙ ap (λ (x : ℕ). subtree_sizes f.node.position (x - 1) (todo f.node.position g.picker)) h in
+    let s : sum_of_tree_sizes f.node.position (f.depth - 1) (todo f.node.position f.picker) ≡ tree_size q (f.depth - 1) + sum_of_tree_sizes f.node.position (f.depth - 1) (todo f.node.position g.picker) = sum_of_tree_sizes-next f.node.position (f.depth - 1) (code_of m) q _ _ (a ∙ ap (λ (x : Evaluated). after_code x.position (code_of m)) e) n in
+    let t : sum_of_tree_sizes g.node.position (g.depth - 1) (todo g.node.position g.picker) ≡ sum_of_tree_sizes f.node.position (f.depth - 1) (todo f.node.position g.picker) = ap (λ (x : Evaluated). sum_of_tree_sizes x.position (g.depth - 1) (todo x.position g.picker)) e ∙ ap (λ (x : ℕ). sum_of_tree_sizes f.node.position (x - 1) (todo f.node.position g.picker)) h in
     let u : tree_size q (g.depth - 1) ≡ tree_size q (f.depth - 1) = ap (λ (x : ℕ). tree_size q (x - 1)) h in
     let v : left_of_waiting g.waiting ≡ 0 = ap left_of_waiting k in
     omega (arith, s, t, u, v)
 
-moves_same : (f g : Frame) → IsSame f g → g.picker ≡ f.picker → subtree_sizes g.node.position (g.depth - 1) (todo g.node.position g.picker) ≡ subtree_sizes f.node.position (f.depth - 1) (todo f.node.position f.picker)
+moves_same : (f g : Frame) → IsSame f g → g.picker ≡ f.picker → sum_of_tree_sizes g.node.position (g.depth - 1) (todo g.node.position g.picker) ≡ sum_of_tree_sizes f.node.position (f.depth - 1) (todo f.node.position f.picker)
 moves_same f g s k =
-    ap (λ (x : Evaluated). subtree_sizes x.position (g.depth - 1) (todo x.position g.picker)) s.0
-    ∙ ap (λ (x : ℕ). subtree_sizes f.node.position (x - 1) (todo f.node.position g.picker)) s.1.0
-    ∙ ap (λ (x : MovePicker). subtree_sizes f.node.position (f.depth - 1) (todo f.node.position x)) k
+    ap (λ (x : Evaluated). sum_of_tree_sizes x.position (g.depth - 1) (todo x.position g.picker)) s.0
+    ∙ ap (λ (x : ℕ). sum_of_tree_sizes f.node.position (x - 1) (todo f.node.position g.picker)) s.1.0
+    ∙ ap (λ (x : MovePicker). sum_of_tree_sizes f.node.position (f.depth - 1) (todo f.node.position x)) k
 
 -- without a leaf to be taken in, no more is left than with one
 pub left_same : (f g : Frame) → IsSame f g → g.picker ≡ f.picker → left_of_waiting g.waiting ≡ 0 → left_of_frame g ≤ left_of_frame f

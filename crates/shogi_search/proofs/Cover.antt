@@ -4,10 +4,10 @@ use Rattle.std.specs.Ordering.{int_eq}
 use Rattle.std.proofs.lemmas.Int.{ints}
 use Rattle.std.proofs.lemmas.Bool.{or_left, or_right, or_from, ne_eqb, eq-eqb, cases_eq}
 use Rattle.std.proofs.lemmas.Bool.Decides.{nat_tests}
-use Rattle.shogi_search.specs.Minimax.{greatest_of}
+use Rattle.shogi_search.specs.Minimax.{greatest_or}
 use Rattle.shogi_moves.specs.Rising.{IsRising}
 use Rattle.shogi_search.specs.Window.{threshold, IsCovered}
-use Rattle.shogi_search.proofs.Greatest.{greatest_of-above, greatest_of-least, find_first}
+use Rattle.shogi_search.proofs.Greatest.{greatest_or-above, greatest_or-least, find_first}
 use Rattle.shogi_search.proofs.Equal.{same_int_eq, less_int_eq}
 
 -- at the start no move is answered, and the best so far is the lower bound
@@ -49,10 +49,10 @@ IsCovered-raise f all rest alpha best_value v b m h e lt = record {
 }
 
 -- at the end a best move is the first one that is worth the most
-pub ended_exact : (otherwise : ℤ) (f : ℕ → ℤ) (all : List ℕ) (alpha best_value : ℤ) (b : ℕ) → IsRising all → IsCovered f all [] alpha best_value (Some b) → greatest_of otherwise f all ≡ best_value
+pub ended_exact : (otherwise : ℤ) (f : ℕ → ℤ) (all : List ℕ) (alpha best_value : ℤ) (b : ℕ) → IsRising all → IsCovered f all [] alpha best_value (Some b) → greatest_or otherwise f all ≡ best_value
 ended_exact otherwise f all alpha best_value b r h =
-    let up : greatest_of otherwise f all ≤ℤ best_value = greatest_of-least otherwise f all b best_value h.reached.0 (λ n i. let at_threshold : f n ≤ℤ threshold best_value (Some b) n = h.below n i refl in let le : threshold best_value (Some b) n ≤ℤ best_value = threshold-best_value best_value (Some b) n in omega (arith, ints)) in
-    let at : f b ≤ℤ greatest_of otherwise f all = greatest_of-above otherwise f all b h.reached.0 in
+    let up : greatest_or otherwise f all ≤ℤ best_value = greatest_or-least otherwise f all b best_value h.reached.0 (λ n i. let at_threshold : f n ≤ℤ threshold best_value (Some b) n = h.below n i refl in let le : threshold best_value (Some b) n ≤ℤ best_value = threshold-best_value best_value (Some b) n in omega (arith, ints)) in
+    let at : f b ≤ℤ greatest_or otherwise f all = greatest_or-above otherwise f all b h.reached.0 in
     let same : f b ≡ best_value = h.reached.1 in
     omega (arith, ints)
 
@@ -62,8 +62,8 @@ ended_first f all alpha best_value b r h =
     (λ n i lt. less_int_eq _ _ (below_lesser (f n) best_value b n lt (h.below n i refl)))
 
 -- at the end without a best move, no move is worth more than the lower bound
-pub ended_low : (otherwise : ℤ) (f : ℕ → ℤ) (m : ℕ) (ms : List ℕ) (alpha best_value : ℤ) → IsCovered f (m ∷ ms) [] alpha best_value None → greatest_of otherwise f (m ∷ ms) ≤ℤ best_value
-ended_low otherwise f m ms alpha best_value h = greatest_of-least otherwise f (m ∷ ms) m best_value (or_left _ _ (eq-eqb m m refl)) (λ n i. h.below n i refl)
+pub ended_low : (otherwise : ℤ) (f : ℕ → ℤ) (m : ℕ) (ms : List ℕ) (alpha best_value : ℤ) → IsCovered f (m ∷ ms) [] alpha best_value None → greatest_or otherwise f (m ∷ ms) ≤ℤ best_value
+ended_low otherwise f m ms alpha best_value h = greatest_or-least otherwise f (m ∷ ms) m best_value (or_left _ _ (eq-eqb m m refl)) (λ n i. h.below n i refl)
 
 -- the same steps where the list to do is only known to begin with the move
 pub skip_next : (f : ℕ → ℤ) (all todo rest : List ℕ) (alpha best_value : ℤ) (b : Option ℕ) (m : ℕ) → todo ≡ m ∷ rest → IsCovered f all todo alpha best_value b → f m ≤ℤ threshold best_value b m → IsCovered f all rest alpha best_value b

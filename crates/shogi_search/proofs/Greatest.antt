@@ -2,7 +2,7 @@
 use Rattle.std.proofs.Common.{◌≡◌, ◌<◌, ℕ, ℤ, ◌≤ℤ◌, List, [], ◌∷◌, Bool, true, false, Some, refl, ap, ◌∙◌, sym, arith, inl, inr, find}
 use Rattle.std.proofs.lemmas.Int.{ints, clamps}
 use Rattle.std.proofs.lemmas.Bool.{or_cases, eqb-true, or_left, or_right, eq-eqb, cond-true, cond-false}
-use Rattle.shogi_search.specs.Minimax.{greatest, greatest_of}
+use Rattle.shogi_search.specs.Minimax.{greatest, greatest_or}
 use Rattle.shogi_moves.specs.Rising.{is_in, IsRising}
 
 at_head : (f : ℕ → ℤ) (m n : ℕ) → n ≡ m → f n ≡ f m
@@ -25,13 +25,13 @@ greatest_least f m (k ∷ ks) v h =
     let rest : greatest f k ks ≤ℤ v = greatest_least f k ks v (λ n i. h n (or_right _ _ i)) in
     omega (arith, ints, clamps)
 
-pub greatest_of-above : (otherwise : ℤ) (f : ℕ → ℤ) (ms : List ℕ) (n : ℕ) → is_in n ms ≡ true → f n ≤ℤ greatest_of otherwise f ms
-greatest_of-above otherwise f [] n h = absurd (cc)
-greatest_of-above otherwise f (m ∷ ms) n h = greatest_above f m ms n h
+pub greatest_or-above : (otherwise : ℤ) (f : ℕ → ℤ) (ms : List ℕ) (n : ℕ) → is_in n ms ≡ true → f n ≤ℤ greatest_or otherwise f ms
+greatest_or-above otherwise f [] n h = absurd (cc)
+greatest_or-above otherwise f (m ∷ ms) n h = greatest_above f m ms n h
 
-pub greatest_of-least : (otherwise : ℤ) (f : ℕ → ℤ) (ms : List ℕ) (b : ℕ) (v : ℤ) → is_in b ms ≡ true → ((n : ℕ) → is_in n ms ≡ true → f n ≤ℤ v) → greatest_of otherwise f ms ≤ℤ v
-greatest_of-least otherwise f [] b v i h = absurd (cc)
-greatest_of-least otherwise f (m ∷ ms) b v i h = greatest_least f m ms v h
+pub greatest_or-least : (otherwise : ℤ) (f : ℕ → ℤ) (ms : List ℕ) (b : ℕ) (v : ℤ) → is_in b ms ≡ true → ((n : ℕ) → is_in n ms ≡ true → f n ≤ℤ v) → greatest_or otherwise f ms ≤ℤ v
+greatest_or-least otherwise f [] b v i h = absurd (cc)
+greatest_or-least otherwise f (m ∷ ms) b v i h = greatest_least f m ms v h
 
 -- the first of a rising list that passes is the one that no lesser one beats
 pub find_first : (t : ℕ → Bool) (ms : List ℕ) (b : ℕ) → IsRising ms → is_in b ms ≡ true → t b ≡ true → ((n : ℕ) → is_in n ms ≡ true → n < b → t n ≡ false) → find t ms ≡ Some b

@@ -9,7 +9,7 @@ use Rattle.shogi_core.specs.Validity.{IsValid}
 use Rattle.shogi_moves.specs.LegalMoves.{legal_codes}
 use Rattle.shogi_moves.specs.Rising.{IsRising}
 use Rattle.shogi_eval.specs.declared.eval.Eval.{Eval}
-use Rattle.shogi_search.specs.Minimax.{value, best, best_code, worth, lost_value, greatest_of, negated}
+use Rattle.shogi_search.specs.Minimax.{value, best, best_code, worth, lost_value, greatest_or, negated}
 use Rattle.shogi_search.specs.Window.{IsCovered, code_at}
 use Rattle.shogi_search.proofs.Cover.{ended_exact, ended_first, ended_low, at_end}
 use Rattle.shogi_search.proofs.MinimaxLaws.{value-above, best_code-above, best-code, value_within, Within}
@@ -35,11 +35,11 @@ found_best p eval d alpha best_value todo m best_so_far h r back e q c =
 pub left_lost : (p : Shogi) (eval : Eval) (d : ℕ) → 0 < d → legal_codes p ≡ [] → IsFound p eval d (lost_value d) None
 left_lost p eval d h e =
     record {
-      value_is = value-above p eval d h ∙ ap (greatest_of (lost_value d) (worth p eval (d - 1))) e;
+      value_is = value-above p eval d h ∙ ap (greatest_or (lost_value d) (worth p eval (d - 1))) e;
       best_is = best-code p eval d None (best_code-above p eval d h ∙ ap (find (λ m. int_eq (worth p eval (d - 1) m) (value p eval d))) e);
     }
 
-low_of : (otherwise : ℤ) (f : ℕ → ℤ) (ms : List ℕ) (alpha best_value : ℤ) → (ms ≡ [] → ⊥) → IsCovered f ms [] alpha best_value None → greatest_of otherwise f ms ≤ℤ best_value
+low_of : (otherwise : ℤ) (f : ℕ → ℤ) (ms : List ℕ) (alpha best_value : ℤ) → (ms ≡ [] → ⊥) → IsCovered f ms [] alpha best_value None → greatest_or otherwise f ms ≤ℤ best_value
 low_of otherwise f [] alpha best_value ne c = absurd (ne refl)
 low_of otherwise f (m ∷ ms) alpha best_value ne c = ended_low otherwise f m ms alpha best_value c
 

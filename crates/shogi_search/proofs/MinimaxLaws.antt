@@ -14,13 +14,13 @@ use Rattle.shogi_eval.specs.declared.points.TheConstants.{POINTS_MAX}
 use Rattle.shogi_eval.specs.Material.{material_of}
 use Rattle.shogi_eval.proofs.Bounds.{material_bounds}
 use Rattle.shogi_eval.specs.declared.eval.Eval.{Eval}
-use Rattle.shogi_search.specs.Minimax.{value, best, best_code, move_at, tree_size, worth, lost_value, negated, greatest_of, leaf_value, subtree_sizes}
-use Rattle.shogi_search.proofs.Greatest.{greatest_of-above, greatest_of-least}
+use Rattle.shogi_search.specs.Minimax.{value, best, best_code, move_of_some, tree_size, worth, lost_value, negated, greatest_or, if_no_move_else, sum_of_tree_sizes}
+use Rattle.shogi_search.proofs.Greatest.{greatest_or-above, greatest_or-least}
 use Rattle.shogi_search.proofs.Valid.{after_valid}
 use Rattle.shogi_search.specs.declared.bounds.TheConstants.{MATE}
 use Rattle.std.specs.Prelude.{◌+ℤ◌}
 
-pub value-leaf : (p : Shogi) (eval : Eval) → value p eval 0 ≡ leaf_value (lost_value 0) (material_of p eval) (legal_codes p)
+pub value-leaf : (p : Shogi) (eval : Eval) → value p eval 0 ≡ if_no_move_else (lost_value 0) (material_of p eval) (legal_codes p)
 unfolding value
 value-leaf p eval = refl
 
@@ -30,14 +30,14 @@ best_code-leaf p eval = refl
 
 pub best-leaf : (p : Shogi) (eval : Eval) → best p eval 0 ≡ None
 unfolding best
-best-leaf p eval = ap move_at (best_code-leaf p eval)
+best-leaf p eval = ap move_of_some (best_code-leaf p eval)
 
 -- the best move, from its code
-pub best-code : (p : Shogi) (eval : Eval) (d : ℕ) (code : Option ℕ) → best_code p eval d ≡ code → best p eval d ≡ move_at code
+pub best-code : (p : Shogi) (eval : Eval) (d : ℕ) (code : Option ℕ) → best_code p eval d ≡ code → best p eval d ≡ move_of_some code
 unfolding best
-best-code p eval d code e = ap move_at e
+best-code p eval d code e = ap move_of_some e
 
-pub value-suc : (p : Shogi) (eval : Eval) (d : ℕ) → value p eval (suc d) ≡ greatest_of (lost_value (suc d)) (worth p eval d) (legal_codes p)
+pub value-suc : (p : Shogi) (eval : Eval) (d : ℕ) → value p eval (suc d) ≡ greatest_or (lost_value (suc d)) (worth p eval d) (legal_codes p)
 unfolding value
 value-suc p eval d = refl
 
@@ -58,16 +58,16 @@ pub record Within (d : ℕ) (v : ℤ) : Type 0 where
   pub least : lost_value d ≤ℤ v
   pub most : v ≤ℤ (MATE +ℤ pos d)
 
-leaf_within : (ms : List ℕ) (v : ℤ) → (pos 0 -ℤ pos POINTS_MAX) ≤ℤ v → v ≤ℤ pos POINTS_MAX → Within 0 (leaf_value (lost_value 0) v ms)
+leaf_within : (ms : List ℕ) (v : ℤ) → (pos 0 -ℤ pos POINTS_MAX) ≤ℤ v → v ≤ℤ pos POINTS_MAX → Within 0 (if_no_move_else (lost_value 0) v ms)
 leaf_within [] v l h = record { least = omega (arith, ints); most = omega (arith, ints) }
 leaf_within (m ∷ ms) v l h = record { least = omega (arith, ints); most = omega (arith, ints) }
 
-greatest_within : (d : ℕ) (f : ℕ → ℤ) (ms : List ℕ) → ((m : ℕ) → is_in m ms ≡ true → Within d (f m)) → Within (suc d) (greatest_of (lost_value (suc d)) f ms)
+greatest_within : (d : ℕ) (f : ℕ → ℤ) (ms : List ℕ) → ((m : ℕ) → is_in m ms ≡ true → Within d (f m)) → Within (suc d) (greatest_or (lost_value (suc d)) f ms)
 greatest_within d f [] h = record { least = omega (arith, ints); most = omega (arith, ints) }
 greatest_within d f (m ∷ ms) h =
     let here : is_in m (m ∷ ms) ≡ true = or_left _ _ (eq-eqb m m refl) in
-    let above : f m ≤ℤ greatest_of (lost_value (suc d)) f (m ∷ ms) = greatest_of-above (lost_value (suc d)) f (m ∷ ms) m here in
-    let below : greatest_of (lost_value (suc d)) f (m ∷ ms) ≤ℤ (MATE +ℤ pos d) = greatest_of-least (lost_value (suc d)) f (m ∷ ms) m (MATE +ℤ pos d) here (λ n i. (h n i).most) in
+    let above : f m ≤ℤ greatest_or (lost_value (suc d)) f (m ∷ ms) = greatest_or-above (lost_value (suc d)) f (m ∷ ms) m here in
+    let below : greatest_or (lost_value (suc d)) f (m ∷ ms) ≤ℤ (MATE +ℤ pos d) = greatest_or-least (lost_value (suc d)) f (m ∷ ms) m (MATE +ℤ pos d) here (λ n i. (h n i).most) in
     let first : lost_value d ≤ℤ f m = (h m here).least in
     record { least = omega (arith, ints); most = omega (arith, ints) }
 
@@ -79,7 +79,7 @@ value_within zero p eval v = rw value-leaf (leaf_within (legal_codes p) (materia
 value_within (suc d) p eval v = rw value-suc (greatest_within d (worth p eval d) (legal_codes p) (λ m i. negated_within d _ (value_within d (after_code p m) eval (after_valid p m v i))))
 
 -- the same laws at a depth d of at least 1, whose children have depth d - 1
-pub value-above : (p : Shogi) (eval : Eval) (d : ℕ) → 0 < d → value p eval d ≡ greatest_of (lost_value d) (worth p eval (d - 1)) (legal_codes p)
+pub value-above : (p : Shogi) (eval : Eval) (d : ℕ) → 0 < d → value p eval d ≡ greatest_or (lost_value d) (worth p eval (d - 1)) (legal_codes p)
 value-above p eval zero h = absurd (omega arith)
 value-above p eval (suc d) h = let e : suc d - 1 ≡ d = omega arith in rw e (value-suc p eval d)
 
@@ -87,19 +87,19 @@ pub best_code-above : (p : Shogi) (eval : Eval) (d : ℕ) → 0 < d → best_cod
 best_code-above p eval zero h = absurd (omega arith)
 best_code-above p eval (suc d) h = let e : suc d - 1 ≡ d = omega arith in rw e (best_code-suc p eval d)
 
-pub tree_size-above : (p : Shogi) (d : ℕ) → 0 < d → tree_size p d ≡ 1 + subtree_sizes p (d - 1) (legal_codes p)
+pub tree_size-above : (p : Shogi) (d : ℕ) → 0 < d → tree_size p d ≡ 1 + sum_of_tree_sizes p (d - 1) (legal_codes p)
 tree_size-above p zero h = absurd (omega arith)
 tree_size-above p (suc d) h = let e : suc d - 1 ≡ d = omega arith in rw e (tree_size-suc p d)
 
 leaf_at : (p : Shogi) (eval : Eval) (ms : List ℕ) → legal_codes p ≡ ms → (ms ≡ [] → ⊥) → value p eval 0 ≡ material_of p eval
 leaf_at p eval [] e ne = absurd (ne refl)
-leaf_at p eval (m ∷ ms) e ne = value-leaf p eval ∙ ap (leaf_value (lost_value 0) (material_of p eval)) e
+leaf_at p eval (m ∷ ms) e ne = value-leaf p eval ∙ ap (if_no_move_else (lost_value 0) (material_of p eval)) e
 
 pub leaf_some : (p : Shogi) (eval : Eval) → (legal_codes p ≡ [] → ⊥) → value p eval 0 ≡ material_of p eval
 leaf_some p eval ne = leaf_at p eval (legal_codes p) refl ne
 
 leaf_empty : (p : Shogi) (eval : Eval) (ms : List ℕ) → legal_codes p ≡ ms → ((ms ≡ [] → ⊥) → ⊥) → value p eval 0 ≡ lost_value 0
-leaf_empty p eval [] e nn = value-leaf p eval ∙ ap (leaf_value (lost_value 0) (material_of p eval)) e
+leaf_empty p eval [] e nn = value-leaf p eval ∙ ap (if_no_move_else (lost_value 0) (material_of p eval)) e
 leaf_empty p eval (m ∷ ms) e nn = absurd (nn (λ z. cc))
 
 pub leaf_none : (p : Shogi) (eval : Eval) → ((legal_codes p ≡ [] → ⊥) → ⊥) → value p eval 0 ≡ lost_value 0
@@ -107,8 +107,8 @@ leaf_none p eval nn = leaf_empty p eval (legal_codes p) refl nn
 
 pub ruleset leaves = (leaf_some, leaf_none)
 
-pub subtree_sizes-next : (p : Shogi) (d m : ℕ) (q : Shogi) (xs rest : List ℕ) → q ≡ after_code p m → xs ≡ m ∷ rest → subtree_sizes p d xs ≡ tree_size q d + subtree_sizes p d rest
-subtree_sizes-next p d m q xs rest a e = ap (subtree_sizes p d) e ∙ sum_by-cons (λ k. tree_size (after_code p k) d) m rest ∙ ap (λ (x : Shogi). tree_size x d + subtree_sizes p d rest) (sym a)
+pub sum_of_tree_sizes-next : (p : Shogi) (d m : ℕ) (q : Shogi) (xs rest : List ℕ) → q ≡ after_code p m → xs ≡ m ∷ rest → sum_of_tree_sizes p d xs ≡ tree_size q d + sum_of_tree_sizes p d rest
+sum_of_tree_sizes-next p d m q xs rest a e = ap (sum_of_tree_sizes p d) e ∙ sum_by-cons (λ k. tree_size (after_code p k) d) m rest ∙ ap (λ (x : Shogi). tree_size x d + sum_of_tree_sizes p d rest) (sym a)
 
 -- a tree has its root
 pub tree_size-positive : (p : Shogi) (d : ℕ) → 1 ≤ tree_size p d

@@ -14,7 +14,7 @@ use Rattle.shogi_moves.specs.Rising.{is_in}
 use Rattle.shogi_eval.specs.declared.eval.Eval.{Eval}
 use Rattle.shogi_search.specs.declared.move_picker.MovePicker.{MovePicker}
 use Rattle.shogi_search.specs.declared.move_picker.MovePicker.TheVariants.{HashMove, Start, Done}
-use Rattle.shogi_search.specs.Minimax.{tree_size, subtree_sizes, value, best, worth, lost_value, greatest_of, negated}
+use Rattle.shogi_search.specs.Minimax.{tree_size, sum_of_tree_sizes, value, best, worth, lost_value, greatest_or, negated}
 use Rattle.shogi_search.specs.Window.{IsCovered, threshold}
 use Rattle.shogi_search.specs.Order.{todo, IsKept}
 use Rattle.shogi_search.specs.declared.frame.Waiting.{Waiting}
@@ -24,7 +24,7 @@ use Rattle.shogi_search.proofs.MinimaxLaws.{tree_size-above, tree_size-leaf, bes
 use Rattle.shogi_search.proofs.OrderLaws.{IsWhole, whole, whole_covered}
 use Rattle.shogi_search.proofs.Cover.{IsCovered-start}
 use Rattle.shogi_search.proofs.Valid.{after_valid}
-use Rattle.shogi_search.proofs.Greatest.{greatest_of-above}
+use Rattle.shogi_search.proofs.Greatest.{greatest_or-above}
 use Rattle.shogi_search.specs.declared.bounds.TheConstants.{SEARCH_DEPTH_MAX, INFINITY}
 
 -- a node with a move that waits is no leaf
@@ -69,7 +69,7 @@ gone_through f p (suc d) ms alpha best_value b h c = c
 
 pub record IsNew (f : ℕ → ℤ) (p : Shogi) (d : ℕ) (alpha : ℤ) (picker : MovePicker) : Type 0 where
   pub covered : IsCovered f (moves_at p d) (todo p picker) alpha alpha None
-  pub counted : 1 + 2 * subtree_sizes p (d - 1) (todo p picker) < 2 * tree_size p d
+  pub counted : 1 + 2 * sum_of_tree_sizes p (d - 1) (todo p picker) < 2 * tree_size p d
   pub kept : IsKept p picker
 
 new_leaf : (f : ℕ → ℤ) (p : Shogi) (alpha : ℤ) → IsNew f p 0 alpha Done
@@ -93,8 +93,8 @@ new_node f p (suc d) alpha hash_move picker a b l =
 -- a move that is worth so much
 pub cut : (p : Shogi) (eval : Eval) (d m : ℕ) (v : ℤ) → 0 < d → is_in m (legal_codes p) ≡ true → v ≤ℤ worth p eval (d - 1) m → v ≤ℤ value p eval d
 cut p eval d m v h i l =
-    let e : value p eval d ≡ greatest_of (lost_value d) (worth p eval (d - 1)) (legal_codes p) = value-above p eval d h in
-    let g : worth p eval (d - 1) m ≤ℤ greatest_of (lost_value d) (worth p eval (d - 1)) (legal_codes p) = greatest_of-above (lost_value d) (worth p eval (d - 1)) (legal_codes p) m i in
+    let e : value p eval d ≡ greatest_or (lost_value d) (worth p eval (d - 1)) (legal_codes p) = value-above p eval d h in
+    let g : worth p eval (d - 1) m ≤ℤ greatest_or (lost_value d) (worth p eval (d - 1)) (legal_codes p) = greatest_or-above (lost_value d) (worth p eval (d - 1)) (legal_codes p) m i in
     omega (arith, ints)
 
 -- a value that cuts a node off, and the same value as it is kept

@@ -4,7 +4,7 @@ use Rattle.std.specs.Option.{ForSome}
 use Rattle.std.proofs.lemmas.List.Sums.{sum_by-cons, sum_by-append}
 use Rattle.std.proofs.lemmas.Bool.{cases_Bool, cases_lt, eqb-true, eq-eqb, and_from, and_parts, and_right, cases_eq, ne_eqb, not_from_true, not_from_false}
 use Rattle.std.proofs.lemmas.Option.{same_Some}
-use Rattle.shogi_core.specs.declared.moves.TheConstants.{FIRST_DROP, MOVE_CODES}
+use Rattle.shogi_core.specs.declared.moves.TheConstants.{FIRST_DROP, MOVE_CODE_COUNT}
 use Rattle.shogi_core.specs.declared.moves.Move.{Move}
 use Rattle.shogi_core.specs.Codes.{code_of, move_of}
 use Rattle.shogi_core.specs.Position.{Shogi}
@@ -17,7 +17,7 @@ use Rattle.shogi_moves.proofs.LegalLaws.{legal_in, legal_code_below}
 use Rattle.shogi_eval.specs.declared.eval.Eval.{Eval}
 use Rattle.shogi_search.specs.declared.move_picker.MovePicker.{MovePicker}
 use Rattle.shogi_search.specs.declared.move_picker.MovePicker.TheVariants.{HashMove, Start}
-use Rattle.shogi_search.specs.Minimax.{tree_size, subtree_sizes, best, best_code, move_at}
+use Rattle.shogi_search.specs.Minimax.{tree_size, sum_of_tree_sizes, best, best_code, move_of_some}
 use Rattle.shogi_search.specs.Window.{IsCovered}
 use Rattle.shogi_search.specs.Order.{picks, is_hash_move, todo}
 use Rattle.shogi_search.proofs.Best.{best_in}
@@ -55,7 +55,7 @@ of_parts p hash_move n h =
 pub record IsWhole (p : Shogi) (d : ℕ) (picker : MovePicker) : Type 0 where
   pub among : (n : ℕ) → is_in n (todo p picker) ≡ true → is_in n (legal_codes p) ≡ true
   pub each : (n : ℕ) → is_in n (legal_codes p) ≡ true → is_in n (todo p picker) ≡ true
-  pub counted : subtree_sizes p d (todo p picker) ≤ subtree_sizes p d (legal_codes p)
+  pub counted : sum_of_tree_sizes p d (todo p picker) ≤ sum_of_tree_sizes p d (legal_codes p)
 
 whole_captures : (p : Shogi) (d : ℕ) → IsWhole p d (Start None)
 whole_captures p d = record {
@@ -90,13 +90,13 @@ whole_covered p d picker f alpha w = record {
   reached = refl;
 }
 
-code_back : (code : ℕ) (m : Move) → code < MOVE_CODES → move_of code ≡ Some m → code_of m ≡ code
+code_back : (code : ℕ) (m : Move) → code < MOVE_CODE_COUNT → move_of code ≡ Some m → code_of m ≡ code
 code_back code m h e = elim (cases_lt code FIRST_DROP) [
   | inl low ↦ (ap code_of (same_Some m _ (sym e ∙ board_of code low)) ∙ code_of-board code)
   | inr beta ↦ (ap code_of (same_Some m _ (sym e ∙ drop_of code beta h)) ∙ code_of-drop code beta h)
 ]
 
-listed_at : (p : Shogi) (eval : Eval) (d : ℕ) (o : Option ℕ) (m : Move) → best_code p eval d ≡ o → move_at o ≡ Some m → is_in (code_of m) (legal_codes p) ≡ true
+listed_at : (p : Shogi) (eval : Eval) (d : ℕ) (o : Option ℕ) (m : Move) → best_code p eval d ≡ o → move_of_some o ≡ Some m → is_in (code_of m) (legal_codes p) ≡ true
 listed_at p eval d None m q e = absurd (cc)
 listed_at p eval d (Some b) m q e =
     let i : is_in b (legal_codes p) ≡ true = best_in p eval d b q in

@@ -13,11 +13,11 @@ use Rattle.shogi_moves.specs.LegalMoves.{legal_codes}
 use Rattle.shogi_moves.specs.Rising.{is_in, IsRising}
 use Rattle.shogi_moves.proofs.LegalLaws.{legal_rising}
 use Rattle.shogi_eval.specs.declared.eval.Eval.{Eval}
-use Rattle.shogi_search.specs.Minimax.{worth, best_code, lost_value, greatest, greatest_of}
+use Rattle.shogi_search.specs.Minimax.{worth, best_code, lost_value, greatest, greatest_or}
 use Rattle.shogi_search.proofs.Equal.{same_int_eq, less_int_eq}
 use Rattle.shogi_search.proofs.Greatest.{greatest_above, greatest_least, find_first}
 use Rattle.shogi_search.proofs.MinimaxLaws.{value-above, best_code-above}
-use Rattle.shogi_search.specs.Ranked.{is_ahead, rank_in, ranked, ranked_moves, put_in, codes_in, are_ranked, coded, with_worth}
+use Rattle.shogi_search.specs.Ranked.{is_ahead, insert_code, ranked, ranked_codes, insert_pair, codes_in, are_ranked, coded, with_worth}
 
 same_int : (v w : ℤ) → v ≤ℤ w → w ≤ℤ v → v ≡ w
 same_int v w a b = omega (arith, ints)
@@ -77,38 +77,38 @@ before f m n = is_ahead (f m) m (f n) n
 not_itself : (f : ℕ → ℤ) (m : ℕ) → before f m m ≡ true → ⊥
 not_itself f m h = both_ways _ (ahead_not (f m) (f m) m m h) h
 
-rank_first : (f : ℕ → ℤ) (m n : ℕ) (ns : List ℕ) → before f m n ≡ true → rank_in f m (n ∷ ns) ≡ m ∷ n ∷ ns
-rank_first f m n ns h = cond-true (before f m n) (m ∷ n ∷ ns) (n ∷ rank_in f m ns) h
+rank_first : (f : ℕ → ℤ) (m n : ℕ) (ns : List ℕ) → before f m n ≡ true → insert_code f m (n ∷ ns) ≡ m ∷ n ∷ ns
+rank_first f m n ns h = cond-true (before f m n) (m ∷ n ∷ ns) (n ∷ insert_code f m ns) h
 
-rank_after : (f : ℕ → ℤ) (m n : ℕ) (ns : List ℕ) → before f m n ≡ false → rank_in f m (n ∷ ns) ≡ n ∷ rank_in f m ns
-rank_after f m n ns h = cond-false (before f m n) (m ∷ n ∷ ns) (n ∷ rank_in f m ns) h
+rank_after : (f : ℕ → ℤ) (m n : ℕ) (ns : List ℕ) → before f m n ≡ false → insert_code f m (n ∷ ns) ≡ n ∷ insert_code f m ns
+rank_after f m n ns h = cond-false (before f m n) (m ∷ n ∷ ns) (n ∷ insert_code f m ns) h
 
 -- two codes at the front of a list, in either order
-rank_two : (f : ℕ → ℤ) (m n k : ℕ) (ks : List ℕ) → before f m n ≡ true → before f m k ≡ true → before f n k ≡ true → rank_in f m (n ∷ k ∷ ks) ≡ rank_in f n (m ∷ k ∷ ks)
+rank_two : (f : ℕ → ℤ) (m n k : ℕ) (ks : List ℕ) → before f m n ≡ true → before f m k ≡ true → before f n k ≡ true → insert_code f m (n ∷ k ∷ ks) ≡ insert_code f n (m ∷ k ∷ ks)
 rank_two f m n k ks h a b = rank_first f m n (k ∷ ks) h ∙ sym (rank_after f n m (k ∷ ks) (ahead_not (f m) (f n) m n h) ∙ ap (λ (l : List ℕ). m ∷ l) (rank_first f n k ks b))
 
 -- it does not matter which of two codes is put in first
-pub rank_swap : (f : ℕ → ℤ) (m n : ℕ) (ks : List ℕ) → (m ≡ n → ⊥) → rank_in f m (rank_in f n ks) ≡ rank_in f n (rank_in f m ks)
+pub rank_swap : (f : ℕ → ℤ) (m n : ℕ) (ks : List ℕ) → (m ≡ n → ⊥) → insert_code f m (insert_code f n ks) ≡ insert_code f n (insert_code f m ks)
 rank_swap f m n [] ne = elim (cases_Bool (before f m n)) [
   | inl t ↦ rank_first f m n [] t ∙ sym (rank_after f n m [] (ahead_not (f m) (f n) m n t))
   | inr u ↦ rank_after f m n [] u ∙ sym (rank_first f n m [] (ahead_other (f m) (f n) m n ne u))
 ]
 rank_swap f m n (k ∷ ks) ne = elim (cases_Bool (before f m k)) [
   | inl a ↦ elim (cases_Bool (before f n k)) [
-    | inl b ↦ ap (rank_in f m) (rank_first f n k ks b) ∙ elim (cases_Bool (before f m n)) [
+    | inl b ↦ ap (insert_code f m) (rank_first f n k ks b) ∙ elim (cases_Bool (before f m n)) [
       | inl t ↦ rank_two f m n k ks t a b
       | inr u ↦ sym (rank_two f n m k ks (ahead_other (f m) (f n) m n ne u) b a)
-    ] ∙ sym (ap (rank_in f n) (rank_first f m k ks a))
+    ] ∙ sym (ap (insert_code f n) (rank_first f m k ks a))
     | inr b ↦ (let later : before f n m ≡ false = false_from_ne_true _ (λ t. both_ways _ b (ahead_on (f n) (f m) (f k) n m k t a)) in
-        ap (rank_in f m) (rank_after f n k ks b) ∙ rank_first f m k (rank_in f n ks) a
-        ∙ sym (ap (rank_in f n) (rank_first f m k ks a) ∙ rank_after f n m (k ∷ ks) later ∙ ap (λ (l : List ℕ). m ∷ l) (rank_after f n k ks b)))
+        ap (insert_code f m) (rank_after f n k ks b) ∙ rank_first f m k (insert_code f n ks) a
+        ∙ sym (ap (insert_code f n) (rank_first f m k ks a) ∙ rank_after f n m (k ∷ ks) later ∙ ap (λ (l : List ℕ). m ∷ l) (rank_after f n k ks b)))
   ]
   | inr a ↦ elim (cases_Bool (before f n k)) [
     | inl b ↦ (let later : before f m n ≡ false = false_from_ne_true _ (λ t. both_ways _ a (ahead_on (f m) (f n) (f k) m n k t b)) in
-        ap (rank_in f m) (rank_first f n k ks b) ∙ rank_after f m n (k ∷ ks) later ∙ ap (λ (l : List ℕ). n ∷ l) (rank_after f m k ks a)
-        ∙ sym (ap (rank_in f n) (rank_after f m k ks a) ∙ rank_first f n k (rank_in f m ks) b))
-    | inr b ↦ ap (rank_in f m) (rank_after f n k ks b) ∙ rank_after f m k (rank_in f n ks) a ∙ ap (λ (l : List ℕ). k ∷ l) (rank_swap f m n ks ne)
-        ∙ sym (ap (rank_in f n) (rank_after f m k ks a) ∙ rank_after f n k (rank_in f m ks) b)
+        ap (insert_code f m) (rank_first f n k ks b) ∙ rank_after f m n (k ∷ ks) later ∙ ap (λ (l : List ℕ). n ∷ l) (rank_after f m k ks a)
+        ∙ sym (ap (insert_code f n) (rank_after f m k ks a) ∙ rank_first f n k (insert_code f m ks) b))
+    | inr b ↦ ap (insert_code f m) (rank_after f n k ks b) ∙ rank_after f m k (insert_code f n ks) a ∙ ap (λ (l : List ℕ). k ∷ l) (rank_swap f m n ks ne)
+        ∙ sym (ap (insert_code f n) (rank_after f m k ks a) ∙ rank_after f n k (insert_code f m ks) b)
   ]
 ]
 
@@ -116,7 +116,7 @@ pub ranked-nil : (f : ℕ → ℤ) → ranked f [] ≡ []
 unfolding ranked
 ranked-nil f = refl
 
-pub ranked-cons : (f : ℕ → ℤ) (m : ℕ) (ms : List ℕ) → ranked f (m ∷ ms) ≡ rank_in f m (ranked f ms)
+pub ranked-cons : (f : ℕ → ℤ) (m : ℕ) (ms : List ℕ) → ranked f (m ∷ ms) ≡ insert_code f m (ranked f ms)
 unfolding ranked
 ranked-cons f m ms = refl
 
@@ -124,11 +124,11 @@ not_head : (m n : ℕ) (ns : List ℕ) → is_in m (n ∷ ns) ≡ false → m �
 not_head m n ns h e = both_ways _ (or_parts (m == n) (is_in m ns) h).0 (eq-eqb m n e)
 
 -- a code that comes last is put in like one that comes first
-pub ranked_last : (f : ℕ → ℤ) (ms : List ℕ) (m : ℕ) → is_in m ms ≡ false → ranked f (ms ++ m ∷ []) ≡ rank_in f m (ranked f ms)
+pub ranked_last : (f : ℕ → ℤ) (ms : List ℕ) (m : ℕ) → is_in m ms ≡ false → ranked f (ms ++ m ∷ []) ≡ insert_code f m (ranked f ms)
 ranked_last f [] m h = ranked-cons f m []
 ranked_last f (n ∷ ns) m h =
-    ranked-cons f n (ns ++ m ∷ []) ∙ ap (rank_in f n) (ranked_last f ns m (or_parts (m == n) (is_in m ns) h).1)
-    ∙ rank_swap f n m (ranked f ns) (λ e. not_head m n ns h (sym e)) ∙ ap (rank_in f m) (sym (ranked-cons f n ns))
+    ranked-cons f n (ns ++ m ∷ []) ∙ ap (insert_code f n) (ranked_last f ns m (or_parts (m == n) (is_in m ns) h).1)
+    ∙ rank_swap f n m (ranked f ns) (λ e. not_head m n ns h (sym e)) ∙ ap (insert_code f m) (sym (ranked-cons f n ns))
 
 or_swap : (a b c : Bool) → (a || (b || c)) ≡ (b || (a || c))
 or_swap true true c = refl
@@ -137,9 +137,9 @@ or_swap false true c = refl
 or_swap false false c = refl
 
 -- the code and those that were there are there
-in_rank : (f : ℕ → ℤ) (n m : ℕ) (ks : List ℕ) → is_in n (rank_in f m ks) ≡ is_in n (m ∷ ks)
+in_rank : (f : ℕ → ℤ) (n m : ℕ) (ks : List ℕ) → is_in n (insert_code f m ks) ≡ is_in n (m ∷ ks)
 in_rank f n m [] = refl
-in_rank f n m (k ∷ ks) = cond_both (before f m k) (m ∷ k ∷ ks) (k ∷ rank_in f m ks) (λ (l : List ℕ). is_in n l ≡ is_in n (m ∷ k ∷ ks))
+in_rank f n m (k ∷ ks) = cond_both (before f m k) (m ∷ k ∷ ks) (k ∷ insert_code f m ks) (λ (l : List ℕ). is_in n l ≡ is_in n (m ∷ k ∷ ks))
     (λ _. refl)
     (λ _. ap (λ (b : Bool). (n == k) || b) (in_rank f n m ks) ∙ or_swap (n == k) (n == m) (is_in n ks))
 
@@ -160,9 +160,9 @@ AreDistinct (m ∷ ms) = (is_in m ms ≡ false) × AreDistinct ms
 to_equal : (f : ℕ → ℤ) (m n k : ℕ) → n ≡ k → before f m k ≡ true → before f m n ≡ true
 to_equal f m n k e h = ap (before f m) e ∙ h
 
-rank_keeps : (f : ℕ → ℤ) (m : ℕ) (ks : List ℕ) → IsRankedList f ks → is_in m ks ≡ false → IsRankedList f (rank_in f m ks)
+rank_keeps : (f : ℕ → ℤ) (m : ℕ) (ks : List ℕ) → IsRankedList f ks → is_in m ks ≡ false → IsRankedList f (insert_code f m ks)
 rank_keeps f m [] r i = (λ n h. absurd (both_ways false refl h), tt)
-rank_keeps f m (k ∷ ks) r i = cond_both (before f m k) (m ∷ k ∷ ks) (k ∷ rank_in f m ks) (IsRankedList f)
+rank_keeps f m (k ∷ ks) r i = cond_both (before f m k) (m ∷ k ∷ ks) (k ∷ insert_code f m ks) (IsRankedList f)
     (λ t. (λ n h. elim (or_cases (n == k) (is_in n ks) h) [ inl e ↦ to_equal f m n k (eqb-true n k e) t | inr l ↦ ahead_on (f m) (f k) (f n) m k n t (r.0 n l) ], r))
     (λ u. (
       λ n h. elim (or_cases (n == m) (is_in n ks) (sym (in_rank f n m ks) ∙ h)) [
@@ -220,7 +220,7 @@ take_over zero k ks = refl
 take_over (suc n) k ks = ap (λ (l : List ℕ). k ∷ l) (take-take n (suc n) ks (omega arith))
 
 -- what was cut off does not come back
-rank_cut : (f : ℕ → ℤ) (n m : ℕ) (ks : List ℕ) → take n (rank_in f m (take n ks)) ≡ take n (rank_in f m ks)
+rank_cut : (f : ℕ → ℤ) (n m : ℕ) (ks : List ℕ) → take n (insert_code f m (take n ks)) ≡ take n (insert_code f m ks)
 rank_cut f zero m ks = refl
 rank_cut f (suc n) m [] = refl
 rank_cut f (suc n) m (k ∷ ks) = elim (cases_Bool (before f m k)) [
@@ -232,7 +232,7 @@ abbrev pair : ℕ → ℤ → ℕ × ℤ
 pair n v = (n, v)
 
 -- pairs of ranked codes take a move in as the codes do
-put_rank : (f : ℕ → ℤ) (m : Move) (v : ℤ) (xs : List (Move × ℤ)) (ks : List ℕ) → v ≡ f (code_of m) → map coded xs ≡ map (with_worth f) ks → map coded (put_in m v xs) ≡ map (with_worth f) (rank_in f (code_of m) ks)
+put_rank : (f : ℕ → ℤ) (m : Move) (v : ℤ) (xs : List (Move × ℤ)) (ks : List ℕ) → v ≡ f (code_of m) → map coded xs ≡ map (with_worth f) ks → map coded (insert_pair m v xs) ≡ map (with_worth f) (insert_code f (code_of m) ks)
 put_rank f m v [] [] e h = ap (λ (w : ℤ). pair (code_of m) w ∷ []) e
 put_rank f m v [] (k ∷ ks) e h = absurd (cc)
 put_rank f m v (x ∷ xs) [] e h = absurd (cc)
@@ -244,45 +244,45 @@ put_rank f m v (x ∷ xs) (k ∷ ks) e h =
     let same : is_ahead v (code_of m) x.1 (code_of x.0) ≡ before f (code_of m) k =
     ap (λ (z : ℤ). is_ahead z (code_of m) x.1 (code_of x.0)) e ∙ ap (λ (z : ℤ). is_ahead (f (code_of m)) (code_of m) z (code_of x.0)) w ∙ ap (λ (n : ℕ). is_ahead (f (code_of m)) (code_of m) (f k) n) c in
     let first : List (Move × ℤ) = (m, v) ∷ x ∷ xs in
-    let later : List (Move × ℤ) = x ∷ put_in m v xs in
+    let later : List (Move × ℤ) = x ∷ insert_pair m v xs in
     elim (cases_Bool (before f (code_of m) k)) [
       | inl t ↦ ap (map coded) (cond-true (is_ahead v (code_of m) x.1 (code_of x.0)) first later (same ∙ t)) ∙ ap (λ (z : ℤ). pair (code_of m) z ∷ map coded (x ∷ xs)) e
           ∙ ap (λ (l : List (ℕ × ℤ)). pair (code_of m) (f (code_of m)) ∷ l) h ∙ sym (ap (map (with_worth f)) (rank_first f (code_of m) k ks t))
       | inr u ↦ ap (map coded) (cond-false (is_ahead v (code_of m) x.1 (code_of x.0)) first later (same ∙ u)) ∙ ap (λ (l : List (ℕ × ℤ)). coded x ∷ l) (put_rank f m v xs ks e rest)
-          ∙ ap (λ (p : ℕ × ℤ). p ∷ map (with_worth f) (rank_in f (code_of m) ks)) q ∙ sym (ap (map (with_worth f)) (rank_after f (code_of m) k ks u))
+          ∙ ap (λ (p : ℕ × ℤ). p ∷ map (with_worth f) (insert_code f (code_of m) ks)) q ∙ sym (ap (map (with_worth f)) (rank_after f (code_of m) k ks u))
     ]
 
 -- the first of the codes with one more, from the first of those before
 pub top_offered : (f : ℕ → ℤ) (codes : List ℕ) (n : ℕ) (m : Move) (v : ℤ) (xs : List (Move × ℤ)) → map coded xs ≡ map (with_worth f) (take n (ranked f codes)) → is_in (code_of m) codes ≡ false → v ≡ f (code_of m)
-    → map coded (take n (put_in m v xs)) ≡ map (with_worth f) (take n (ranked f (codes ++ code_of m ∷ [])))
+    → map coded (take n (insert_pair m v xs)) ≡ map (with_worth f) (take n (ranked f (codes ++ code_of m ∷ [])))
 top_offered f codes n m v xs h i e =
-    sym (take-map coded n (put_in m v xs)) ∙ ap (take n) (put_rank f m v xs (take n (ranked f codes)) e h) ∙ take-map (with_worth f) n (rank_in f (code_of m) (take n (ranked f codes)))
+    sym (take-map coded n (insert_pair m v xs)) ∙ ap (take n) (put_rank f m v xs (take n (ranked f codes)) e h) ∙ take-map (with_worth f) n (insert_code f (code_of m) (take n (ranked f codes)))
     ∙ ap (map (with_worth f)) (rank_cut f n (code_of m) (ranked f codes) ∙ ap (take n) (sym (ranked_last f codes (code_of m) i)))
 
 pub top_empty : (f : ℕ → ℤ) (n : ℕ) → map coded [] ≡ map (with_worth f) (take n (ranked f []))
 top_empty f n = sym (ap (λ (l : List ℕ). map (with_worth f) (take n l)) (ranked-nil f) ∙ ap (map (with_worth f)) (take_all n [] (omega arith)))
 
-behind : (m : Move) (v : ℤ) (x y : Move × ℤ) (rest : List (Move × ℤ)) → is_ahead x.1 (code_of x.0) v (code_of m) ≡ true → is_ahead x.1 (code_of x.0) y.1 (code_of y.0) ≡ true → are_ranked (put_in m v (y ∷ rest)) ≡ true → are_ranked (x ∷ put_in m v (y ∷ rest)) ≡ true
+behind : (m : Move) (v : ℤ) (x y : Move × ℤ) (rest : List (Move × ℤ)) → is_ahead x.1 (code_of x.0) v (code_of m) ≡ true → is_ahead x.1 (code_of x.0) y.1 (code_of y.0) ≡ true → are_ranked (insert_pair m v (y ∷ rest)) ≡ true → are_ranked (x ∷ insert_pair m v (y ∷ rest)) ≡ true
 behind m v x y rest a b o =
     let first : List (Move × ℤ) = (m, v) ∷ y ∷ rest in
-    cond_both (is_ahead v (code_of m) y.1 (code_of y.0)) first (y ∷ put_in m v rest) (λ (l : List (Move × ℤ)). are_ranked l ≡ true → are_ranked (x ∷ l) ≡ true)
+    cond_both (is_ahead v (code_of m) y.1 (code_of y.0)) first (y ∷ insert_pair m v rest) (λ (l : List (Move × ℤ)). are_ranked l ≡ true → are_ranked (x ∷ l) ≡ true)
     (λ _ k. and_from _ _ a k)
     (λ _ k. and_from _ _ b k)
     o
 
 -- pairs stay in order where a new move is put in
-pub put_ranked : (m : Move) (v : ℤ) (xs : List (Move × ℤ)) → are_ranked xs ≡ true → is_in (code_of m) (codes_in xs) ≡ false → are_ranked (put_in m v xs) ≡ true
+pub put_ranked : (m : Move) (v : ℤ) (xs : List (Move × ℤ)) → are_ranked xs ≡ true → is_in (code_of m) (codes_in xs) ≡ false → are_ranked (insert_pair m v xs) ≡ true
 put_ranked m v [] r i = refl
 put_ranked m v (x ∷ []) r i =
     let first : List (Move × ℤ) = (m, v) ∷ x ∷ [] in
-    cond_both (is_ahead v (code_of m) x.1 (code_of x.0)) first (x ∷ put_in m v []) (λ (l : List (Move × ℤ)). are_ranked l ≡ true)
+    cond_both (is_ahead v (code_of m) x.1 (code_of x.0)) first (x ∷ insert_pair m v []) (λ (l : List (Move × ℤ)). are_ranked l ≡ true)
     (λ t. and_from _ _ t refl)
     (λ u. and_from _ _ (ahead_other v x.1 (code_of m) (code_of x.0) (not_head (code_of m) (code_of x.0) [] i) u) refl)
 put_ranked m v (x ∷ y ∷ rest) r i =
     let first : List (Move × ℤ) = (m, v) ∷ x ∷ y ∷ rest in
     let parts : (is_ahead x.1 (code_of x.0) y.1 (code_of y.0) ≡ true) × (are_ranked (y ∷ rest) ≡ true) = and_parts _ _ r in
     let others : is_in (code_of m) (codes_in (y ∷ rest)) ≡ false = (or_parts (code_of m == code_of x.0) (is_in (code_of m) (codes_in (y ∷ rest))) i).1 in
-    cond_both (is_ahead v (code_of m) x.1 (code_of x.0)) first (x ∷ put_in m v (y ∷ rest)) (λ (l : List (Move × ℤ)). are_ranked l ≡ true)
+    cond_both (is_ahead v (code_of m) x.1 (code_of x.0)) first (x ∷ insert_pair m v (y ∷ rest)) (λ (l : List (Move × ℤ)). are_ranked l ≡ true)
     (λ t. and_from _ _ t r)
     (λ u. behind m v x y rest (ahead_other v x.1 (code_of m) (code_of x.0) (not_head (code_of m) (code_of x.0) (codes_in (y ∷ rest)) i) u) parts.0 (put_ranked m v (y ∷ rest) parts.1 others))
 
@@ -297,30 +297,30 @@ take_ranked (suc (suc n)) (x ∷ y ∷ rest) r =
 
 -- past one that stands before the move
 pub place_next : (m : Move) (v : ℤ) (xs : List (Move × ℤ)) (i : ℕ) (x : Move × ℤ) → i < length xs → x ≡ get_or xs i x → is_ahead v (code_of m) x.1 (code_of x.0) ≡ false
-    → put_in m v xs ≡ take i xs ++ put_in m v (drop i xs) → put_in m v xs ≡ take (i + 1) xs ++ put_in m v (drop (i + 1) xs)
+    → insert_pair m v xs ≡ take i xs ++ insert_pair m v (drop i xs) → insert_pair m v xs ≡ take (i + 1) xs ++ insert_pair m v (drop (i + 1) xs)
 place_next m v xs i x lt at u h =
     let first : List (Move × ℤ) = (m, v) ∷ x ∷ drop (i + 1) xs in
     let here : drop i xs ≡ x ∷ drop (i + 1) xs = drop_more xs i x lt ∙ ap (λ (y : Move × ℤ). y ∷ drop (i + 1) xs) (sym at) in
     let upto : take (i + 1) xs ≡ take i xs ++ x ∷ [] = take_more xs i x lt ∙ ap (λ (y : Move × ℤ). take i xs ++ y ∷ []) (sym at) in
-    h ∙ ap (λ (l : List (Move × ℤ)). take i xs ++ put_in m v l) here
-    ∙ ap (λ (l : List (Move × ℤ)). take i xs ++ l) (cond-false (is_ahead v (code_of m) x.1 (code_of x.0)) first (x ∷ put_in m v (drop (i + 1) xs)) u)
-    ∙ sym (append_assoc (take i xs) (x ∷ []) (put_in m v (drop (i + 1) xs))) ∙ ap (λ (l : List (Move × ℤ)). l ++ put_in m v (drop (i + 1) xs)) (sym upto)
+    h ∙ ap (λ (l : List (Move × ℤ)). take i xs ++ insert_pair m v l) here
+    ∙ ap (λ (l : List (Move × ℤ)). take i xs ++ l) (cond-false (is_ahead v (code_of m) x.1 (code_of x.0)) first (x ∷ insert_pair m v (drop (i + 1) xs)) u)
+    ∙ sym (append_assoc (take i xs) (x ∷ []) (insert_pair m v (drop (i + 1) xs))) ∙ ap (λ (l : List (Move × ℤ)). l ++ insert_pair m v (drop (i + 1) xs)) (sym upto)
 
 -- before the first one that the move stands before
 pub place_here : (m : Move) (v : ℤ) (xs : List (Move × ℤ)) (i : ℕ) (x : Move × ℤ) → i < length xs → x ≡ get_or xs i x → is_ahead v (code_of m) x.1 (code_of x.0) ≡ true
-    → put_in m v xs ≡ take i xs ++ put_in m v (drop i xs) → insert xs i (m, v) ≡ put_in m v xs
+    → insert_pair m v xs ≡ take i xs ++ insert_pair m v (drop i xs) → insert xs i (m, v) ≡ insert_pair m v xs
 place_here m v xs i x lt at t h =
     let new : Move × ℤ = (m, v) in
     let here : drop i xs ≡ x ∷ drop (i + 1) xs = drop_more xs i x lt ∙ ap (λ (y : Move × ℤ). y ∷ drop (i + 1) xs) (sym at) in
-    sym (h ∙ ap (λ (l : List (Move × ℤ)). take i xs ++ put_in m v l) here
-    ∙ ap (λ (l : List (Move × ℤ)). take i xs ++ l) (cond-true (is_ahead v (code_of m) x.1 (code_of x.0)) (new ∷ x ∷ drop (i + 1) xs) (x ∷ put_in m v (drop (i + 1) xs)) t)
+    sym (h ∙ ap (λ (l : List (Move × ℤ)). take i xs ++ insert_pair m v l) here
+    ∙ ap (λ (l : List (Move × ℤ)). take i xs ++ l) (cond-true (is_ahead v (code_of m) x.1 (code_of x.0)) (new ∷ x ∷ drop (i + 1) xs) (x ∷ insert_pair m v (drop (i + 1) xs)) t)
     ∙ ap (λ (l : List (Move × ℤ)). take i xs ++ new ∷ l) (sym here))
 
 -- behind all
-pub place_last : (m : Move) (v : ℤ) (xs : List (Move × ℤ)) (i : ℕ) → length xs ≤ i → put_in m v xs ≡ take i xs ++ put_in m v (drop i xs) → insert xs i (m, v) ≡ put_in m v xs
+pub place_last : (m : Move) (v : ℤ) (xs : List (Move × ℤ)) (i : ℕ) → length xs ≤ i → insert_pair m v xs ≡ take i xs ++ insert_pair m v (drop i xs) → insert xs i (m, v) ≡ insert_pair m v xs
 place_last m v xs i le h =
     let new : Move × ℤ = (m, v) in
-    sym (h ∙ ap (λ (l : List (Move × ℤ)). take i xs ++ put_in m v l) (drop_all i xs le) ∙ ap (λ (l : List (Move × ℤ)). take i xs ++ new ∷ l) (sym (drop_all i xs le)))
+    sym (h ∙ ap (λ (l : List (Move × ℤ)). take i xs ++ insert_pair m v l) (drop_all i xs le) ∙ ap (λ (l : List (Move × ℤ)). take i xs ++ new ∷ l) (sym (drop_all i xs le)))
 
 -- a rising list has each code once
 pub rising_distinct : (ms : List ℕ) → IsRising ms → AreDistinct ms
@@ -346,7 +346,7 @@ lesser f h rest o n i b = elim (or_cases (n == h) (is_in n rest) i) [
 ]
 
 -- of a rising list the first one ranked is the least code that is worth the most
-first_at : (none : ℤ) (f : ℕ → ℤ) (ms rs : List ℕ) → IsRising ms → ranked f ms ≡ rs → slice_get rs 0 ≡ find (λ m. int_eq (f m) (greatest_of none f ms)) ms
+first_at : (none : ℤ) (f : ℕ → ℤ) (ms rs : List ℕ) → IsRising ms → ranked f ms ≡ rs → slice_get rs 0 ≡ find (λ m. int_eq (f m) (greatest_or none f ms)) ms
 first_at none f [] rs r e = ap (λ (l : List ℕ). slice_get l 0) (sym e ∙ ranked-nil f)
 first_at none f (m ∷ ms) [] r e = absurd (both_ways _ (sym (in_ranked f m (m ∷ ms)) ∙ ap (is_in m) e) (first_in m ms))
 first_at none f (m ∷ ms) (h ∷ rest) r e =
@@ -358,7 +358,7 @@ first_at none f (m ∷ ms) (h ∷ rest) r e =
     (λ n i b. (let l : f n <ℤ f h = lesser f h rest o n (moved n ∙ i) b in less_int_eq (f n) (greatest f m ms) (omega (arith, ints)))))
 
 -- the first of the legal moves, ranked, is the best one
-pub best_ranked : (p : Shogi) (e : Eval) (d : ℕ) → 0 < d → slice_get (ranked_moves p e d) 0 ≡ best_code p e d
+pub best_ranked : (p : Shogi) (e : Eval) (d : ℕ) → 0 < d → slice_get (ranked_codes p e d) 0 ≡ best_code p e d
 best_ranked p e d h =
-    first_at (lost_value d) (worth p e (d - 1)) (legal_codes p) (ranked_moves p e d) (legal_rising p 0) refl
+    first_at (lost_value d) (worth p e (d - 1)) (legal_codes p) (ranked_codes p e d) (legal_rising p 0) refl
     ∙ ap (λ (v : ℤ). find (λ m. int_eq (worth p e (d - 1) m) v) (legal_codes p)) (sym (value-above p e d h)) ∙ sym (best_code-above p e d h)

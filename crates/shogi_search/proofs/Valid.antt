@@ -3,7 +3,7 @@ use Rattle.std.proofs.Common.{◌≡◌, ℕ, ◌-◌, ◌/◌, ◌%◌, ◌<◌
 use Rattle.std.specs.Prelude.{◌==◌, nat_lt, length}
 use Rattle.std.proofs.lemmas.Grind.{common_steps}
 use Rattle.std.proofs.lemmas.Bool.{cases_lt, cond-true, cond-false, lt-ltb, le-ltb}
-use Rattle.shogi_core.specs.declared.moves.TheConstants.{FIRST_DROP, MOVE_CODES}
+use Rattle.shogi_core.specs.declared.moves.TheConstants.{FIRST_DROP, MOVE_CODE_COUNT}
 use Rattle.shogi_core.specs.declared.moves.Move.{Move}
 use Rattle.shogi_core.specs.declared.moves.Move.TheVariants.{Board, Drop}
 use Rattle.shogi_core.specs.declared.piece.Color.{Color}
@@ -24,8 +24,8 @@ use Rattle.shogi_moves.proofs.LegalLaws.{legal_in, legal_code_below, is_legal_co
 pub board_of : (code : ℕ) → code < FIRST_DROP → move_of code ≡ Some (Board (code / 2 / 81) (code / 2 % 81) (code % 2 == 1))
 board_of code h = cond-true (nat_lt code FIRST_DROP) _ _ (lt-ltb code FIRST_DROP h)
 
-pub drop_of : (code : ℕ) → FIRST_DROP ≤ code → code < MOVE_CODES → move_of code ≡ Some (Drop (kind_at ((code - FIRST_DROP) / 81)) ((code - FIRST_DROP) % 81))
-drop_of code h k = cond-false (nat_lt code FIRST_DROP) _ _ (le-ltb code FIRST_DROP h) ∙ cond-true (nat_lt code MOVE_CODES) _ _ (lt-ltb code MOVE_CODES k)
+pub drop_of : (code : ℕ) → FIRST_DROP ≤ code → code < MOVE_CODE_COUNT → move_of code ≡ Some (Drop (kind_at ((code - FIRST_DROP) / 81)) ((code - FIRST_DROP) % 81))
+drop_of code h k = cond-false (nat_lt code FIRST_DROP) _ _ (le-ltb code FIRST_DROP h) ∙ cond-true (nat_lt code MOVE_CODE_COUNT) _ _ (lt-ltb code MOVE_CODE_COUNT k)
 
 length-with_one_more : (hands : HandCounts) (color : Color) (kind : Option Kind) → length (with_one_more hands color kind) ≡ length hands
 length-with_one_more hands color None = grind (arith, common_steps)
@@ -54,7 +54,7 @@ at_move p code m i e h = subst IsValid (sym (after_code_at p code m e)) (h (sym 
 
 pub after_valid : (p : Shogi) (code : ℕ) → IsValid p → is_in code (legal_codes p) ≡ true → IsValid (after_code p code)
 after_valid p code v i =
-    let below : code < MOVE_CODES = legal_code_below p code (legal_in p 0 code i) in
+    let below : code < MOVE_CODE_COUNT = legal_code_below p code (legal_in p 0 code i) in
     elim (cases_lt code FIRST_DROP) [
       | inl low ↦ at_move p code _ i (board_of code low) (board_valid p (code / 2 / 81) (code / 2 % 81) (code % 2 == 1) v (omega arith) (omega arith))
       | inr high ↦ at_move p code _ i (drop_of code high below) (drop_valid p (kind_at ((code - FIRST_DROP) / 81)) ((code - FIRST_DROP) % 81) v (omega arith))

@@ -21,43 +21,43 @@ negated v = pos 0 -ℤ v
 abbrev pub lost_value : ℕ → ℤ
 lost_value d = negated (MATE +ℤ pos d)
 
--- the greatest of f at m and at each of the list
+-- the greatest worth, of the code and of each of the list
 abbrev pub greatest : (ℕ → ℤ) → ℕ → List ℕ → ℤ
-greatest f m [] = f m
-greatest f m (n ∷ ns) = int_max (f m) (greatest f n ns)
+greatest worth_of code [] = worth_of code
+greatest worth_of code (next ∷ more) = int_max (worth_of code) (greatest worth_of next more)
 
--- the greatest of f over the moves, or another value where there is none
-abbrev pub greatest_of : ℤ → (ℕ → ℤ) → List ℕ → ℤ
-greatest_of otherwise f [] = otherwise
-greatest_of otherwise f (m ∷ ms) = greatest f m ms
+-- the greatest worth of the codes, or another value where there is none
+abbrev pub greatest_or : ℤ → (ℕ → ℤ) → List ℕ → ℤ
+greatest_or otherwise worth_of [] = otherwise
+greatest_or otherwise worth_of (code ∷ codes) = greatest worth_of code codes
 
 -- the first value where no move is legal, the second one otherwise
-abbrev pub leaf_value : ℤ → ℤ → List ℕ → ℤ
-leaf_value otherwise some [] = otherwise
-leaf_value otherwise some (m ∷ ms) = some
+abbrev pub if_no_move_else : ℤ → ℤ → List ℕ → ℤ
+if_no_move_else lost standing [] = lost
+if_no_move_else lost standing (code ∷ codes) = standing
 
 -- the value of a position at a depth, for the side to move
 unfoldable pub value : Shogi → Eval → ℕ → ℤ
-value p e zero = leaf_value (lost_value 0) (material_of p e) (legal_codes p)
-value p e (suc d) = greatest_of (lost_value (suc d)) (λ m. negated (value (after_code p m) e d)) (legal_codes p)
+value p e zero = if_no_move_else (lost_value 0) (material_of p e) (legal_codes p)
+value p e (suc d) = greatest_or (lost_value (suc d)) (λ code. negated (value (after_code p code) e d)) (legal_codes p)
 
 -- what the move of a code is worth to its mover, with d plies after it
 abbrev pub worth : Shogi → Eval → ℕ → ℕ → ℤ
-worth p e d m = negated (value (after_code p m) e d)
+worth p e d code = negated (value (after_code p code) e d)
 
 -- the least code whose move is worth the position's value
 unfoldable pub best_code : Shogi → Eval → ℕ → Option ℕ
 best_code p e zero = None
-best_code p e (suc d) = find (λ m. int_eq (worth p e d m) (value p e (suc d))) (legal_codes p)
+best_code p e (suc d) = find (λ code. int_eq (worth p e d code) (value p e (suc d))) (legal_codes p)
 
 -- the move of a code, if there is one
-abbrev pub move_at : Option ℕ → Option Move
-move_at None = None
-move_at (Some code) = move_of code
+abbrev pub move_of_some : Option ℕ → Option Move
+move_of_some None = None
+move_of_some (Some code) = move_of code
 
 -- the best move
 unfoldable pub best : Shogi → Eval → ℕ → Option Move
-best p e d = move_at (best_code p e d)
+best p e d = move_of_some (best_code p e d)
 
 -- a move and what follows it
 abbrev pub then_pv : (Shogi → List Move) → Shogi → Option Move → List Move
@@ -72,23 +72,23 @@ pv p e (suc d) = then_pv (λ q. pv q e d) p (best p e (suc d))
 -- the nodes of the whole tree
 unfoldable pub tree_size : Shogi → ℕ → ℕ
 tree_size p zero = 1
-tree_size p (suc d) = 1 + sum_by (λ m. tree_size (after_code p m) d) (legal_codes p)
+tree_size p (suc d) = 1 + sum_by (λ code. tree_size (after_code p code) d) (legal_codes p)
 
--- the nodes of the trees after these moves, each of depth d
-abbrev pub subtree_sizes : Shogi → ℕ → List ℕ → ℕ
-subtree_sizes p d ms = sum_by (λ m. tree_size (after_code p m) d) ms
+-- the nodes of the trees after the moves of these codes, each of depth d, all together
+abbrev pub sum_of_tree_sizes : Shogi → ℕ → List ℕ → ℕ
+sum_of_tree_sizes p d codes = sum_by (λ code. tree_size (after_code p code) d) codes
 
 -- the search steps for the pv after a move, where there is one
 abbrev pub then_pv_cost : (Shogi → ℕ) → Shogi → Option Move → ℕ
 then_pv_cost rest p None = 0
 then_pv_cost rest p (Some m) = rest (after p m)
 
--- the most search steps for the pv of this depth: two for each node of the trees along it
+-- the most search steps for the pv of this depth: two for each node of the trees along it, one to enter it and one to leave it
 unfoldable pub pv_cost : Shogi → Eval → ℕ → ℕ
 pv_cost p e zero = 0
 pv_cost p e (suc d) = 2 * tree_size p (suc d) + then_pv_cost (λ q. pv_cost q e d) p (best p e (suc d))
 
--- the same for each depth from 1 to this one
+-- the same, summed over each depth from 1 to this one
 unfoldable pub deepening_cost : Shogi → Eval → ℕ → ℕ
 deepening_cost p e zero = 0
 deepening_cost p e (suc d) = deepening_cost p e d + pv_cost p e (suc d)

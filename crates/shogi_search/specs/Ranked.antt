@@ -8,33 +8,34 @@ use Rattle.shogi_moves.specs.LegalMoves.{legal_codes}
 use Rattle.shogi_eval.specs.declared.eval.Eval.{Eval}
 use Rattle.shogi_search.specs.Minimax.{worth}
 
--- whether a move of worth v and code m stands before one of worth w and code n
+-- whether a move of worth v and this code stands before one of worth w and the other code
 abbrev pub is_ahead : ℤ → ℕ → ℤ → ℕ → Bool
-is_ahead v m w n = int_lt w v || (int_eq v w && nat_lt m n)
+is_ahead v code w other = int_lt w v || (int_eq v w && nat_lt code other)
 
 -- a code before the first of the list that it stands before, or last
-abbrev pub rank_in : (ℕ → ℤ) → ℕ → List ℕ → List ℕ
-rank_in f m [] = m ∷ []
-rank_in f m (n ∷ ns) = cond (is_ahead (f m) m (f n) n) (m ∷ n ∷ ns) (n ∷ rank_in f m ns)
+abbrev pub insert_code : (ℕ → ℤ) → ℕ → List ℕ → List ℕ
+insert_code worth_of code [] = code ∷ []
+insert_code worth_of code (next ∷ more) =
+    cond (is_ahead (worth_of code) code (worth_of next) next) (code ∷ next ∷ more) (next ∷ insert_code worth_of code more)
 
 -- the codes of a list, each put in its place
 unfoldable pub ranked : (ℕ → ℤ) → List ℕ → List ℕ
-ranked f [] = []
-ranked f (m ∷ ms) = rank_in f m (ranked f ms)
+ranked worth_of [] = []
+ranked worth_of (code ∷ codes) = insert_code worth_of code (ranked worth_of codes)
 
 -- the codes of the legal moves, ranked by their worth under an evaluation, at a depth of at least 1
-abbrev pub ranked_moves : Shogi → Eval → ℕ → List ℕ
-ranked_moves p e d = ranked (worth p e (d - 1)) (legal_codes p)
+abbrev pub ranked_codes : Shogi → Eval → ℕ → List ℕ
+ranked_codes p e d = ranked (worth p e (d - 1)) (legal_codes p)
 
--- moves with their values, and how many there are at most
+-- moves with their values, one a line, and how many lines there may be
 pub record Ranking : Type 0 where
   pub lines : ℕ
   pub pairs : List (Move × ℤ)
 
 -- a move with its value before the first pair that it stands before, or last
-abbrev pub put_in : Move → ℤ → List (Move × ℤ) → List (Move × ℤ)
-put_in m v [] = (m, v) ∷ []
-put_in m v (x ∷ xs) = cond (is_ahead v (code_of m) x.1 (code_of x.0)) ((m, v) ∷ x ∷ xs) (x ∷ put_in m v xs)
+abbrev pub insert_pair : Move → ℤ → List (Move × ℤ) → List (Move × ℤ)
+insert_pair m v [] = (m, v) ∷ []
+insert_pair m v (x ∷ xs) = cond (is_ahead v (code_of m) x.1 (code_of x.0)) ((m, v) ∷ x ∷ xs) (x ∷ insert_pair m v xs)
 
 -- the codes of the moves
 abbrev pub codes_in : List (Move × ℤ) → List ℕ
@@ -52,8 +53,8 @@ coded x = (code_of x.0, x.1)
 
 -- a code with its worth
 abbrev pub with_worth : (ℕ → ℤ) → ℕ → ℕ × ℤ
-with_worth f m = (m, f m)
+with_worth worth_of code = (code, worth_of code)
 
 -- the pairs are the first of these codes, ranked, each with its worth: as many as there are lines, or all
 abbrev pub IsTop : (ℕ → ℤ) → List ℕ → Ranking → Type 0
-IsTop f codes r = map coded r.pairs ≡ map (with_worth f) (take r.lines (ranked f codes))
+IsTop worth_of codes r = map coded r.pairs ≡ map (with_worth worth_of) (take r.lines (ranked worth_of codes))

@@ -9,7 +9,7 @@ use Rattle.shogi_search.specs.declared.frame.Frame.{Frame}
 use Rattle.shogi_search.specs.declared.frame.Waiting.{Waiting}
 use Rattle.shogi_search.specs.declared.frame.Waiting.TheVariants.{Next, Asked, Leaf, Cut}
 use Rattle.shogi_search.specs.declared.stack.Stack.{Stack}
-use Rattle.shogi_search.specs.Minimax.{negated, subtree_sizes}
+use Rattle.shogi_search.specs.Minimax.{negated, sum_of_tree_sizes}
 use Rattle.shogi_search.specs.Order.{todo}
 use Rattle.shogi_search.specs.Window.{threshold, code_at}
 use Rattle.shogi_search.specs.declared.bounds.TheConstants.{SEARCH_DEPTH_MAX, INFINITY}
@@ -57,7 +57,7 @@ left_of_waiting (Cut v) = 0
 
 -- what is left of a frame: itself, a leaf, and twice the nodes after the moves neither entered nor answered
 abbrev pub left_of_frame : Frame → ℕ
-left_of_frame frame = 1 + left_of_waiting frame.waiting + 2 * subtree_sizes frame.node.position (frame.depth - 1) (todo frame.node.position frame.picker)
+left_of_frame frame = 1 + left_of_waiting frame.waiting + 2 * sum_of_tree_sizes frame.node.position (frame.depth - 1) (todo frame.node.position frame.picker)
 
 -- what is left of the whole stack
 abbrev pub left_of_stack : Stack → ℕ

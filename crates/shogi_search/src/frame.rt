@@ -10,7 +10,7 @@ ghost use Rattle.shogi_moves.specs.LegalMoves.{legal_codes};
 ghost use Rattle.shogi_moves.specs.Replies.{IsReplies};
 ghost use Rattle.shogi_moves.specs.Rising.{is_in};
 ghost use Rattle.shogi_eval.specs.declared.points.TheConstants.{POINTS_MAX};
-ghost use Rattle.shogi_search.specs.Minimax.{value, tree_size, worth, negated, subtree_sizes, IsTrueEntry};
+ghost use Rattle.shogi_search.specs.Minimax.{value, tree_size, worth, negated, sum_of_tree_sizes, IsTrueEntry};
 ghost use Rattle.shogi_search.specs.Entries.{IsCutoff};
 ghost use Rattle.shogi_search.specs.Order.{todo, IsKept, IsKept-prop};
 ghost use Rattle.shogi_search.specs.Visits.{IsKnownWhile, IsKnownWhile-prop, IsCurrent, IsFree, IsOver};
@@ -111,7 +111,7 @@ impl Frame {
         ensures depth { self.new.depth ≡ depth }
         ensures alpha { self.new.alpha ≡ alpha }
         ensures beta { self.new.beta ≡ beta }
-        ensures counted { 1 + 2 * subtree_sizes node.now.position (depth - 1) (todo node.now.position self.new.picker) < 2 * tree_size node.now.position depth }
+        ensures counted { 1 + 2 * sum_of_tree_sizes node.now.position (depth - 1) (todo node.now.position self.new.picker) < 2 * tree_size node.now.position depth }
         ensures waiting { self.new.waiting ≡ Waiting.Next }
         ensures leaf { depth ≡ 0 → self.new.picker ≡ MovePicker.Done }
         ensures hash_move { 0 < depth → MatchOption hash_move (self.new.picker ≡ MovePicker.Start None) (λ f. self.new.picker ≡ MovePicker.HashMove f) }

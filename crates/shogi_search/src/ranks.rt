@@ -3,7 +3,7 @@
 ghost use Rattle.std.specs.Prelude.{◌≡◌, ℕ, ℤ, ◌≤◌, List, [], ◌∷◌, ◌++◌, length, take, insert, true, false};
 ghost use Rattle.shogi_core.specs.Codes.{code_of};
 ghost use Rattle.shogi_moves.specs.Rising.{is_in};
-ghost use Rattle.shogi_search.specs.Ranked.{is_ahead, put_in, codes_in, are_ranked, IsTop};
+ghost use Rattle.shogi_search.specs.Ranked.{is_ahead, insert_pair, codes_in, are_ranked, IsTop};
 ghost use Rattle.shogi_search.specs.declared.ranks.TheConstants.{PV_LINES_MAX};
 
 use arrayvec::ArrayVec;
@@ -59,7 +59,7 @@ impl Ranks {
 
     /// Where a move with its value goes.
     fn place_of(&self, m: &Move, value: i32) -> usize
-        ensures place { insert self.now.pairs result (m.now, value) ≡ put_in m.now value self.now.pairs }
+        ensures place { insert self.now.pairs result (m.now, value) ≡ insert_pair m.now value self.now.pairs }
         ensures bound { result ≤ length self.now.pairs }
     {
         let pairs = self.pairs.as_slice();
@@ -75,7 +75,7 @@ impl Ranks {
     pub fn offer(&mut self, m: Move, value: i32)
         requires { is_in (code_of m) (codes_in self.old.pairs) ≡ false }
         ensures lines { self.new.lines ≡ self.old.lines }
-        ensures pairs { self.new.pairs ≡ take self.old.lines (put_in m value self.old.pairs) }
+        ensures pairs { self.new.pairs ≡ take self.old.lines (insert_pair m value self.old.pairs) }
         // The first of some codes that are ranked by their worth become the first of these and one more.
         ensures top { (f : ℕ → ℤ) → (codes : List ℕ) → IsTop f codes self.old → is_in (code_of m) codes ≡ false → value ≡ f (code_of m) → IsTop f (codes ++ code_of m ∷ []) self.new }
     {

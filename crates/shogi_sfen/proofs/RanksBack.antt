@@ -11,7 +11,7 @@ use Rattle.shogi_core.specs.Movement.{Cells}
 use Rattle.shogi_sfen.specs.declared.board_text.RankItem.{RankItem}
 use Rattle.shogi_sfen.specs.declared.board_text.RankItem.TheVariants.{Empty, Occupied}
 use Rattle.shogi_sfen.specs.Letters.{piece_named, piece_text}
-use Rattle.shogi_sfen.specs.Items.{IsRankItem, item_cells, item_text}
+use Rattle.shogi_sfen.specs.Items.{RunFits, item_cells, item_text}
 use Rattle.shogi_sfen.specs.BoardTexts.{is_first_plus, onto_items, items_from, squares_in, only_nine, rank_of}
 use Rattle.shogi_sfen.specs.Written.{run_text, cells_text}
 
@@ -24,7 +24,7 @@ piece_back Black role rest = refl
 piece_back White role rest = refl
 
 -- an item in front
-pub item_back : (item : RankItem) (rest : List ℕ) → IsRankItem item → items_from false (item_text item ++ rest) ≡ onto_items (Some item) (items_from false rest)
+pub item_back : (item : RankItem) (rest : List ℕ) → RunFits item → items_from false (item_text item ++ rest) ≡ onto_items (Some item) (items_from false rest)
 item_back (Empty n) rest h =
     let low : 1 ≤ n = h.0 in
     let high : n ≤ 9 = h.1 in
@@ -37,7 +37,7 @@ more_squares item None cells e = cc
 more_squares item (Some items) cells e = let same : flat_map item_cells items ≡ cells = cc in ap (λ (c : Cells). Some (item_cells item ++ c)) same
 
 -- the squares of an item in front
-in_front : (item : RankItem) (rest : List ℕ) (cells : Cells) → IsRankItem item → squares_in (items_from false rest) ≡ Some cells → squares_in (items_from false (item_text item ++ rest)) ≡ Some (item_cells item ++ cells)
+in_front : (item : RankItem) (rest : List ℕ) (cells : Cells) → RunFits item → squares_in (items_from false rest) ≡ Some cells → squares_in (items_from false (item_text item ++ rest)) ≡ Some (item_cells item ++ cells)
 in_front item rest cells h e = ap squares_in (item_back item rest h) ∙ more_squares item (items_from false rest) cells e
 
 -- a run in front

@@ -103,7 +103,7 @@ SpellsBoard-read text cells e =
     let n : AreNine parts b.squares = at_nine (length parts == 9) parts b.squares refl b.found in
     let nine : length parts ≡ 9 = n.nine in
     record {
-      squares = ap length (sym b.same) ∙ length-map-range_with_len (λ (s : ℕ). piece_at b.squares (place_in_text s)) 0 81;
+      cells_fit = ap length (sym b.same) ∙ length-map-range_with_len (λ (s : ℕ). piece_at b.squares (place_in_text s)) 0 81;
       ranks = parts;
       nine = nine;
       each = λ k below.
@@ -142,4 +142,4 @@ board_of-spelled text cells s =
     ∙ ap (λ (n : ℕ). Some (flat_map (rank_cells cells) (range_with_len 0 n))) nine in
     ap (λ (ps : List (List ℕ)). option_map board_from (squares_of ps)) split
     ∙ (ap (option_map board_from) (cond-true (length s.ranks == 9) (ranks_of s.ranks) None (eq-eqb (length s.ranks) 9 nine) ∙ read)
-    ∙ ap Some (board_from-ranks cells s.squares))
+    ∙ ap Some (board_from-ranks cells s.cells_fit))

@@ -18,10 +18,10 @@ use Rattle.shogi_core.specs.declared.piece.Piece.{Piece}
 use Rattle.shogi_core.specs.Pieces.{kind_of}
 use Rattle.shogi_core.specs.Position.{HandCounts, count_in_hand, place_of}
 use Rattle.shogi_sfen.specs.Words.{has_bytes}
-use Rattle.shogi_sfen.specs.Letters.{letter_of, letter_or_king, in_case_of, piece_named}
+use Rattle.shogi_sfen.specs.Letters.{letter_of, letter_or_king, cased_for, piece_named}
 use Rattle.shogi_sfen.specs.HandTexts.{with_kind, with_piece, with_digit, hands_from, no_hands, hands_of}
 use Rattle.shogi_sfen.specs.Written.{or_hyphen}
-use Rattle.shogi_sfen.specs.Spelling.{HandItem, AreCountDigits, count_written, hand_item_text, count_in, SpellsHands}
+use Rattle.shogi_sfen.specs.Spelling.{HandItem, AreCountDigits, count_written, hand_item_text, count_given, SpellsHands}
 use Rattle.shogi_sfen.proofs.Digits.{in_range}
 use Rattle.shogi_sfen.proofs.HandLaws.{exact_byte}
 use Rattle.shogi_sfen.proofs.TooManyHeld.{hands_from-len}
@@ -34,7 +34,7 @@ use Rattle.shogi_sfen.proofs.LetterLaws.{piece_named-letter}
 record IsHeldFrom (text : List ℕ) (start hands : HandCounts) : Type 0 where
   items : List HandItem
   each : AllByRecursion (λ item. AreCountDigits item.digits) items
-  sums : (color : Color) (kind : Kind) → count_in_hand hands color kind ≡ count_in_hand start color kind + sum_by (count_in color kind) items
+  sums : (color : Color) (kind : Kind) → count_in_hand hands color kind ≡ count_in_hand start color kind + sum_by (count_given color kind) items
   spelled : flat_map hand_item_text items ≡ text
 
 -- the digits of a count so far
@@ -80,10 +80,10 @@ steps (Some next) f hands e = record { next = next; found = refl; later = e }
 record IsLetterFor (hands : HandCounts) (n byte : ℕ) (more : HandCounts) : Type 0 where
   color : Color
   kind : Kind
-  letter : in_case_of color (letter_of kind) ≡ byte
+  letter : cased_for color (letter_of kind) ≡ byte
   same : added hands color kind n ≡ more
 
-by_kind : (hands : HandCounts) (n byte : ℕ) (more : HandCounts) (piece : Piece) (o : Option Kind) → kind_of piece.role ≡ o → in_case_of piece.color (letter_or_king o) ≡ byte
+by_kind : (hands : HandCounts) (n byte : ℕ) (more : HandCounts) (piece : Piece) (o : Option Kind) → kind_of piece.role ≡ o → cased_for piece.color (letter_or_king o) ≡ byte
     → with_kind hands n piece.color o ≡ Some more → IsLetterFor hands n byte more
 by_kind hands n byte more piece None k l e = cc
 by_kind hands n byte more piece (Some kind) k l e = record { color = piece.color; kind = kind; letter = l; same = cc }
@@ -106,10 +106,10 @@ one_item item text start more hands len count same h = record {
   items = item ∷ h.items;
   each = (count, h.each);
   sums = λ color kind.
-      let now : count_in_hand more color kind ≡ count_in_hand start color kind + count_in color kind item =
+      let now : count_in_hand more color kind ≡ count_in_hand start color kind + count_given color kind item =
       ap (λ (hs : HandCounts). count_in_hand hs color kind) (sym same) ∙ held-added start item.color color item.kind kind (count_written item.digits) len in
-      let later : count_in_hand hands color kind ≡ count_in_hand more color kind + sum_by (count_in color kind) h.items = h.sums color kind in
-      let all : sum_by (count_in color kind) (item ∷ h.items) ≡ count_in color kind item + sum_by (count_in color kind) h.items = sum_by-cons (count_in color kind) item h.items in
+      let later : count_in_hand hands color kind ≡ count_in_hand more color kind + sum_by (count_given color kind) h.items = h.sums color kind in
+      let all : sum_by (count_given color kind) (item ∷ h.items) ≡ count_given color kind item + sum_by (count_given color kind) h.items = sum_by-cons (count_given color kind) item h.items in
       omega arith;
   spelled = ap (λ (t : List ℕ). hand_item_text item ++ t) h.spelled;
 }
@@ -140,7 +140,7 @@ held_from (byte ∷ bytes) start count ds hands len begun e = elim (cases_Bool (
       let same : added start l.color l.kind (count_written ds) ≡ s.next = ap (added start l.color l.kind) c.1 ∙ l.same in
       let grown : length s.next ≡ 14 = ap length (sym l.same) ∙ (length-set start (place_of l.color l.kind) (count_in_hand start l.color l.kind + n) ∙ len) in
       let others : IsHeldFrom bytes s.next hands = held_from bytes s.next None [] hands grown refl s.later in
-      subst (λ (t : List ℕ). IsHeldFrom t start hands) (append_assoc ds (in_case_of l.color (letter_of l.kind) ∷ []) bytes ∙ ap (λ (b : ℕ). ds ++ b ∷ bytes) l.letter)
+      subst (λ (t : List ℕ). IsHeldFrom t start hands) (append_assoc ds (cased_for l.color (letter_of l.kind) ∷ []) bytes ∙ ap (λ (b : ℕ). ds ++ b ∷ bytes) l.letter)
       (one_item item bytes start s.next hands len c.0 same others)
 ]
 
@@ -160,7 +160,7 @@ by_items true text hands t e =
       places = held_len (hands_from no_hands None text) hands (hands_from-len text no_hands None) e;
       items = h.items;
       each = h.each;
-      sums = λ color kind. let none : count_in_hand no_hands color kind ≡ 0 = held-holding (λ color kind. 0) color kind in let all : count_in_hand hands color kind ≡ count_in_hand no_hands color kind + sum_by (count_in color kind) h.items = h.sums color kind in omega arith;
+      sums = λ color kind. let none : count_in_hand no_hands color kind ≡ 0 = held-holding (λ color kind. 0) color kind in let all : count_in_hand hands color kind ≡ count_in_hand no_hands color kind + sum_by (count_given color kind) h.items = h.sums color kind in omega arith;
       spelled = ap or_hyphen h.spelled ∙ some_bytes text t;
     }
 by_items false text hands t e = cc
@@ -190,11 +190,11 @@ digits_read (d ∷ ds) hands n rest all =
     ∙ (ap (λ (k : ℕ). hands_from hands (Some (n * 10 + k)) (ds ++ rest)) (sym (in_range d parts.0)) ∙ digits_read ds hands (n * 10 + digit_value d) rest parts.1)
 
 count_read : (ds : List ℕ) (hands : HandCounts) (color : Color) (kind : Kind) (rest : List ℕ) → AreCountDigits ds
-    → hands_from hands None (ds ++ in_case_of color (letter_of kind) ∷ rest) ≡ hands_from (added hands color kind (count_written ds)) None rest
+    → hands_from hands None (ds ++ cased_for color (letter_of kind) ∷ rest) ≡ hands_from (added hands color kind (count_written ds)) None rest
 count_read [] hands color kind rest h = letter_back color kind hands None rest
 count_read (d ∷ ds) hands color kind rest h =
     let parts = and_parts (is_ascii_digit d) (list_all is_ascii_digit ds) h.0 in
-    let letter : List ℕ = in_case_of color (letter_of kind) ∷ rest in
+    let letter : List ℕ = cased_for color (letter_of kind) ∷ rest in
     cond-true (is_ascii_digit d) _ _ parts.0
     ∙ (ap (λ (b : Bool). option_and_then (λ n. hands_from hands (Some n) (ds ++ letter)) (cond (true && b) None (Some (0 * 10 + (d - 48))))) (ne_eqb d 48 h.1)
     ∙ (ap (λ (k : ℕ). hands_from hands (Some (0 * 10 + k)) (ds ++ letter)) (sym (in_range d parts.0))
@@ -206,7 +206,7 @@ record AreRead (items : List HandItem) (start : HandCounts) : Type 0 where
   hands : HandCounts
   read : hands_from start None (flat_map hand_item_text items) ≡ Some hands
   len : length hands ≡ 14
-  sums : (color : Color) (kind : Kind) → count_in_hand hands color kind ≡ count_in_hand start color kind + sum_by (count_in color kind) items
+  sums : (color : Color) (kind : Kind) → count_in_hand hands color kind ≡ count_in_hand start color kind + sum_by (count_given color kind) items
 
 are_read : (items : List HandItem) (start : HandCounts) → AllByRecursion (λ item. AreCountDigits item.digits) items → length start ≡ 14 → AreRead items start
 are_read [] start each len = record { hands = start; read = refl; len = len; sums = λ color kind. omega arith }
@@ -216,13 +216,13 @@ are_read (item ∷ items) start each len =
     are_read items next each.1 (length-set start (place_of item.color item.kind) (count_in_hand start item.color item.kind + count_written item.digits) ∙ len) in
     record {
       hands = others.hands;
-      read = ap (hands_from start None) (append_assoc item.digits (in_case_of item.color (letter_of item.kind) ∷ []) (flat_map hand_item_text items))
+      read = ap (hands_from start None) (append_assoc item.digits (cased_for item.color (letter_of item.kind) ∷ []) (flat_map hand_item_text items))
           ∙ (count_read item.digits start item.color item.kind (flat_map hand_item_text items) each.0 ∙ others.read);
       len = others.len;
       sums = λ color kind.
-          let now : count_in_hand next color kind ≡ count_in_hand start color kind + count_in color kind item = held-added start item.color color item.kind kind (count_written item.digits) len in
-          let later : count_in_hand others.hands color kind ≡ count_in_hand next color kind + sum_by (count_in color kind) items = others.sums color kind in
-          let all : sum_by (count_in color kind) (item ∷ items) ≡ count_in color kind item + sum_by (count_in color kind) items = sum_by-cons (count_in color kind) item items in
+          let now : count_in_hand next color kind ≡ count_in_hand start color kind + count_given color kind item = held-added start item.color color item.kind kind (count_written item.digits) len in
+          let later : count_in_hand others.hands color kind ≡ count_in_hand next color kind + sum_by (count_given color kind) items = others.sums color kind in
+          let all : sum_by (count_given color kind) (item ∷ items) ≡ count_given color kind item + sum_by (count_given color kind) items = sum_by-cons (count_given color kind) item items in
           omega arith;
     }
 
@@ -234,7 +234,7 @@ hands_of-spelled text hands s =
     same_held r.hands hands r.len s.places
     (λ color kind.
     let none : count_in_hand no_hands color kind ≡ 0 = held-holding (λ color kind. 0) color kind in
-    let all : count_in_hand r.hands color kind ≡ count_in_hand no_hands color kind + sum_by (count_in color kind) s.items = r.sums color kind in
-    let told : count_in_hand hands color kind ≡ sum_by (count_in color kind) s.items = s.sums color kind in
+    let all : count_in_hand r.hands color kind ≡ count_in_hand no_hands color kind + sum_by (count_given color kind) s.items = r.sums color kind in
+    let told : count_in_hand hands color kind ≡ sum_by (count_given color kind) s.items = s.sums color kind in
     omega arith) in
     ap hands_of (sym s.spelled) ∙ (finished (flat_map hand_item_text s.items) r.hands r.read ∙ ap Some same)

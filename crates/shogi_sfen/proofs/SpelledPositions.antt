@@ -72,7 +72,7 @@ none_with (Some text) P f read e h = let found : f text ≡ Some h.0 = read h.0 
 
 board_fits : (o : Option (List ℕ)) (cells : Cells) → IsSomeAnd o (λ text. SpellsBoard text cells) → length cells ≡ 81
 board_fits None cells h = absurd h
-board_fits (Some text) cells h = h.squares
+board_fits (Some text) cells h = h.cells_fit
 
 hands_fit : (o : Option (List ℕ)) (hands : HandCounts) → IsSomeAnd o (λ text. SpellsHands text hands) → length hands ≡ 14
 hands_fit None hands h = absurd h

@@ -5,7 +5,7 @@ use Rattle.std.specs.List.{find, range_with_len}
 use Rattle.std.specs.Option.{option_and_then}
 use Rattle.std.proofs.lemmas.Slice.Eq.{bytes_eq-Decides}
 use Rattle.std.proofs.lemmas.Bool.{cond-true, cond-false, lt-ltb, le-ltb, cases_lt, cases_Bool, false_from_ne_true}
-use Rattle.shogi_core.specs.declared.moves.TheConstants.{FIRST_DROP, MOVE_CODES}
+use Rattle.shogi_core.specs.declared.moves.TheConstants.{FIRST_DROP, MOVE_CODE_COUNT}
 use Rattle.shogi_core.specs.declared.moves.Move.{Move}
 use Rattle.shogi_core.specs.declared.moves.Move.TheVariants.{Board, Drop}
 use Rattle.shogi_core.specs.Pieces.{kind_number}
@@ -38,7 +38,7 @@ record HasMove (code : ℕ) : Type 0 where
   back : code_of move ≡ code
   read_back : move_read (text_of move) ≡ Some move
 
-has_move : (code : ℕ) → code < MOVE_CODES → HasMove code
+has_move : (code : ℕ) → code < MOVE_CODE_COUNT → HasMove code
 has_move code h = elim (cases_lt code FIRST_DROP) [
   | inl below ↦ record {
     move = Board (code / 2 / 81) (code / 2 % 81) (code % 2 == 1);
@@ -48,7 +48,7 @@ has_move code h = elim (cases_lt code FIRST_DROP) [
   }
   | inr above ↦ record {
     move = Drop (kind_at ((code - FIRST_DROP) / 81)) ((code - FIRST_DROP) % 81);
-    move_is = cond-false (nat_lt code FIRST_DROP) _ _ (le-ltb code FIRST_DROP above) ∙ cond-true (nat_lt code MOVE_CODES) _ _ (lt-ltb code MOVE_CODES h);
+    move_is = cond-false (nat_lt code FIRST_DROP) _ _ (le-ltb code FIRST_DROP above) ∙ cond-true (nat_lt code MOVE_CODE_COUNT) _ _ (lt-ltb code MOVE_CODE_COUNT h);
     back = code_of-drop code above h;
     read_back = move_read-drop (kind_at ((code - FIRST_DROP) / 81)) ((code - FIRST_DROP) % 81) (omega arith);
   }
@@ -60,7 +60,7 @@ record Found (text : List ℕ) (code : ℕ) : Type 0 where
   read_is : move_read text ≡ Some move
   code_is : code ≡ code_of move
 
-found : (text : List ℕ) (code : ℕ) → code < MOVE_CODES → is_text_of_code text code ≡ true → Found text code
+found : (text : List ℕ) (code : ℕ) → code < MOVE_CODE_COUNT → is_text_of_code text code ≡ true → Found text code
 found text code h e =
     let m = has_move code h in
     let is : is_text_of text (Some m.move) ≡ true = ap (is_text_of text) (sym m.move_is) ∙ e in
@@ -69,7 +69,7 @@ found text code h e =
 
 -- the code of a move on the board is one of all codes
 record IsCoded (m : Move) : Type 0 where
-  below : code_of m < MOVE_CODES
+  below : code_of m < MOVE_CODE_COUNT
   back : move_of (code_of m) ≡ Some m
 
 coded : (m : Move) → IsOnBoard m → IsCoded m
@@ -84,16 +84,16 @@ search_some text m e =
     let t : IsMoveText text m = move_read-some text m e in
     let c : IsCoded m = coded m t.on_board in
     let here : is_text_of_code text (code_of m) ≡ true = ap (is_text_of text) c.back ∙ (bytes_eq-Decides (text_of m) text).1 t.spelled in
-    let only : (k : ℕ) → k < 0 + MOVE_CODES → is_text_of_code text k ≡ true → k ≡ code_of m = λ k below passes.
+    let only : (k : ℕ) → k < 0 + MOVE_CODE_COUNT → is_text_of_code text k ≡ true → k ≡ code_of m = λ k below passes.
     let f : Found text k = found text k (omega arith) passes in
     let same : f.move ≡ m = let p : Some f.move ≡ Some m = sym f.read_is ∙ e in cc in
     f.code_is ∙ ap code_of same in
-    ap (option_and_then move_of) (find-one (is_text_of_code text) MOVE_CODES 0 (code_of m) (omega arith) (omega (arith, c.below)) here only) ∙ c.back
+    ap (option_and_then move_of) (find-one (is_text_of_code text) MOVE_CODE_COUNT 0 (code_of m) (omega arith) (omega (arith, c.below)) here only) ∙ c.back
 
 search_none : (text : List ℕ) → move_read text ≡ None → move_of_text text ≡ None
 unfolding move_of_text codes_from
 search_none text e =
-    ap (option_and_then move_of) (find-none (is_text_of_code text) MOVE_CODES 0 (λ k below. false_from_ne_true (is_text_of_code text k) (λ passes.
+    ap (option_and_then move_of) (find-none (is_text_of_code text) MOVE_CODE_COUNT 0 (λ k below. false_from_ne_true (is_text_of_code text k) (λ passes.
     let f : Found text k = found text k (omega arith) passes in
     let p : None ≡ Some f.move = sym e ∙ f.read_is in cc)))
 
@@ -106,7 +106,7 @@ pub move_read-is : (text : List ℕ) → move_read text ≡ move_of_text text
 move_read-is text = search text (move_read text) refl
 
 -- the text of a move that has a code is that move's
-pub move_of_text-coded : (m : Move) (code : ℕ) → code < MOVE_CODES → move_of code ≡ Some m → move_of_text (text_of m) ≡ Some m
+pub move_of_text-coded : (m : Move) (code : ℕ) → code < MOVE_CODE_COUNT → move_of code ≡ Some m → move_of_text (text_of m) ≡ Some m
 move_of_text-coded m code below e =
     let h : HasMove code = has_move code below in
     let same : h.move ≡ m = let p : Some h.move ≡ Some m = sym h.move_is ∙ e in cc in

@@ -16,7 +16,7 @@ use Rattle.shogi_core.specs.Movement.{Cells}
 use Rattle.shogi_core.specs.Position.{Shogi, HandCounts, count_in_hand}
 use Rattle.shogi_core.specs.Validity.{IsValid}
 use Rattle.shogi_sfen.specs.Words.{is_blank, is_word_byte, has_bytes, words}
-use Rattle.shogi_sfen.specs.Letters.{letter_of, in_case_of}
+use Rattle.shogi_sfen.specs.Letters.{letter_of, cased_for}
 use Rattle.shogi_sfen.specs.BoardTexts.{board_of}
 use Rattle.shogi_sfen.specs.HandTexts.{hands_of}
 use Rattle.shogi_sfen.specs.Sfen.{side_of, judged, position_of_parts, position_at, end_of, EndsWord}
@@ -50,7 +50,7 @@ inner_count n =
     (λ f. and_from (is_word_byte (n + 48)) true (inner_digit n) refl)
     (λ f. and_from (is_word_byte (n / 10 + 48)) _ (inner_digit (n / 10)) (and_from (is_word_byte (n % 10 + 48)) true (inner_digit (n % 10)) refl)))
 
-inner_letter : (color : Color) (kind : Kind) → list_all is_word_byte (in_case_of color (letter_of kind) ∷ []) ≡ true
+inner_letter : (color : Color) (kind : Kind) → list_all is_word_byte (cased_for color (letter_of kind) ∷ []) ≡ true
 inner_letter Black kinds.Pawn = refl
 inner_letter White kinds.Pawn = refl
 inner_letter Black kind = refl
@@ -58,8 +58,8 @@ inner_letter White kind = refl
 
 inner_held : (color : Color) (kind : Kind) (n : ℕ) → list_all is_word_byte (held_text color kind n) ≡ true
 inner_held color kind n =
-    cond_both (n == 0) [] (count_digits n ++ in_case_of color (letter_of kind) ∷ []) (λ (t : List ℕ). list_all is_word_byte t ≡ true) (λ e. refl)
-    (λ e. inner_both (count_digits n) (in_case_of color (letter_of kind) ∷ []) (inner_count n) (inner_letter color kind))
+    cond_both (n == 0) [] (count_digits n ++ cased_for color (letter_of kind) ∷ []) (λ (t : List ℕ). list_all is_word_byte t ≡ true) (λ e. refl)
+    (λ e. inner_both (count_digits n) (cased_for color (letter_of kind) ∷ []) (inner_count n) (inner_letter color kind))
 
 inner_kinds : (color : Color) (count : Kind → ℕ) (ks : List Kind) → list_all is_word_byte (flat_map (λ kind. held_text color kind (count kind)) ks) ≡ true
 inner_kinds color count [] = refl

@@ -8,9 +8,9 @@ use Rattle.shogi_sfen.specs.declared.board_text.TheConstants.{RANK_SQUARES}
 use Rattle.shogi_sfen.specs.Letters.{piece_text}
 
 -- a run is of one to nine squares
-abbrev pub IsRankItem : RankItem → Type 0
-IsRankItem (Empty n) = (1 ≤ n) × (n ≤ RANK_SQUARES)
-IsRankItem (Occupied piece) = Unit {0}
+abbrev pub RunFits : RankItem → Type 0
+RunFits (Empty n) = (1 ≤ n) × (n ≤ RANK_SQUARES)
+RunFits (Occupied piece) = Unit {0}
 
 -- its squares
 abbrev pub item_cells : RankItem → Cells

@@ -38,13 +38,13 @@ letter_or_king None = KING
 letter_or_king (Some kind) = letter_of kind
 
 -- upper case for Black, lower case for White
-abbrev pub in_case_of : Color → ℕ → ℕ
-in_case_of Black letter = letter
-in_case_of White letter = letter + TO_LOWER_CASE
+abbrev pub cased_for : Color → ℕ → ℕ
+cased_for Black letter = letter
+cased_for White letter = letter + TO_LOWER_CASE
 
 -- the letter of a piece
 abbrev pub piece_letter : Piece → ℕ
-piece_letter piece = in_case_of piece.color (letter_or_king (kind_of piece.role))
+piece_letter piece = cased_for piece.color (letter_or_king (kind_of piece.role))
 
 -- a plus where it is promoted, and its letter
 abbrev pub piece_text : Piece → List ℕ

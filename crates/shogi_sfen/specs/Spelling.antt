@@ -1,4 +1,4 @@
--- How positions are spelled (SFEN): all the texts of a rank, a board, hands and a position. It says what the texts of a meaning are, and not how a text is read.
+-- How positions are spelled (SFEN): all the texts of a rank, of a board and of hands, and the three words that spell a position. It says what the texts of a meaning are, and not how a text is read.
 use Rattle.std.specs.Prelude.{◌≡◌, ◌≢◌, ℕ, ◌<◌, ◌==◌, ◌&&◌, Bool, true, List, [], ◌∷◌, ◌++◌, cond, length, get_or, slice_get}
 use Rattle.std.specs.List.{flat_map, sum_by, list_all, join_with_byte, AllByRecursion}
 use Rattle.std.specs.Option.{IsSomeAnd}
@@ -12,21 +12,21 @@ use Rattle.shogi_sfen.specs.declared.byte.TheConstants.{ZERO, SLASH}
 use Rattle.shogi_sfen.specs.Numbers.{number_written}
 use Rattle.shogi_sfen.specs.declared.board_text.RankItem.{RankItem}
 use Rattle.shogi_sfen.specs.declared.board_text.TheConstants.{RANK_SQUARES, BOARD_SQUARES}
-use Rattle.shogi_sfen.specs.Letters.{letter_of, in_case_of}
-use Rattle.shogi_sfen.specs.Items.{IsRankItem, item_cells, item_text}
+use Rattle.shogi_sfen.specs.Letters.{letter_of, cased_for}
+use Rattle.shogi_sfen.specs.Items.{RunFits, item_cells, item_text}
 use Rattle.shogi_sfen.specs.Written.{rank_cells, side_text, or_hyphen}
 
 -- a rank's text is that of items whose squares are its nine; empty squares may be cut into runs in any way
 pub record SpellsRank (text : List ℕ) (cells : Cells) : Type 0 where
   pub items : List RankItem
-  pub each : AllByRecursion IsRankItem items
-  pub squares : flat_map item_cells items ≡ cells
+  pub each : AllByRecursion RunFits items
+  pub cells_said : flat_map item_cells items ≡ cells
   pub nine : length cells ≡ RANK_SQUARES
   pub spelled : flat_map item_text items ≡ text
 
 -- a board's text is that of its nine ranks, from a to i and each from file 9 to file 1, with a slash between each two
 pub record SpellsBoard (text : List ℕ) (cells : Cells) : Type 0 where
-  pub squares : length cells ≡ BOARD_SQUARES
+  pub cells_fit : length cells ≡ BOARD_SQUARES
   pub ranks : List (List ℕ)
   pub nine : length ranks ≡ 9
   pub each : (rank : ℕ) → rank < 9 → SpellsRank (get_or ranks rank []) (rank_cells cells rank)
@@ -50,22 +50,22 @@ count_written (first ∷ others) = number_written (first ∷ others)
 
 -- the count, and the letter of the kind
 abbrev pub hand_item_text : HandItem → List ℕ
-hand_item_text item = item.digits ++ in_case_of item.color (letter_of item.kind) ∷ []
+hand_item_text item = item.digits ++ cased_for item.color (letter_of item.kind) ∷ []
 
 -- the item is of this side and kind
 abbrev pub is_hand_item_of : Color → Kind → HandItem → Bool
 is_hand_item_of color kind item = is_same_color item.color color && kind_number item.kind == kind_number kind
 
 -- how many of a kind it gives a side
-abbrev pub count_in : Color → Kind → HandItem → ℕ
-count_in color kind item = cond (is_hand_item_of color kind item) (count_written item.digits) 0
+abbrev pub count_given : Color → Kind → HandItem → ℕ
+count_given color kind item = cond (is_hand_item_of color kind item) (count_written item.digits) 0
 
 -- hands' text is a hyphen for nothing, or that of items in any order, whose counts add up to what each side holds
 pub record SpellsHands (text : List ℕ) (hands : HandCounts) : Type 0 where
   pub places : length hands ≡ 14
   pub items : List HandItem
   pub each : AllByRecursion (λ item. AreCountDigits item.digits) items
-  pub sums : (color : Color) (kind : Kind) → count_in_hand hands color kind ≡ sum_by (count_in color kind) items
+  pub sums : (color : Color) (kind : Kind) → count_in_hand hands color kind ≡ sum_by (count_given color kind) items
   pub spelled : or_hyphen (flat_map hand_item_text items) ≡ text
 
 -- the first three words are a text of the position's board, one of its side to move, and one of its hands

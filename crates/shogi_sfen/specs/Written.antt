@@ -8,7 +8,7 @@ use Rattle.shogi_core.specs.declared.piece.Kind.TheVariants as kinds
 use Rattle.shogi_core.specs.Movement.{Cells, piece_at}
 use Rattle.shogi_core.specs.Position.{Shogi, HandCounts, count_in_hand}
 use Rattle.shogi_sfen.specs.declared.byte.TheConstants.{ZERO, SPACE, SLASH}
-use Rattle.shogi_sfen.specs.Letters.{letter_of, in_case_of, piece_text}
+use Rattle.shogi_sfen.specs.Letters.{letter_of, cased_for, piece_text}
 
 -- a number of empty squares, if there are any
 abbrev pub run_text : ℕ → List ℕ
@@ -43,7 +43,7 @@ count_digits count = cond (nat_lt count 2) [] (cond (nat_lt count 10) ((count + 
 
 -- so many of a kind
 abbrev pub held_text : Color → Kind → ℕ → List ℕ
-held_text color kind count = cond (count == 0) [] (count_digits count ++ in_case_of color (letter_of kind) ∷ [])
+held_text color kind count = cond (count == 0) [] (count_digits count ++ cased_for color (letter_of kind) ∷ [])
 
 -- the kinds in their order in a text: R B G S N L P
 abbrev pub kinds_in_text : List Kind

@@ -2,7 +2,7 @@
 
 ghost use Rattle.std.specs.Prelude.{◌≡◌, ◌<◌};
 ghost use Rattle.shogi_core.specs.Pieces.{kind_of};
-ghost use Rattle.shogi_sfen.specs.Letters.{letter_of, kind_named, is_promoted, letter_or_king, in_case_of, piece_letter, is_named, color_of_letter, role_named, piece_named};
+ghost use Rattle.shogi_sfen.specs.Letters.{letter_of, kind_named, is_promoted, letter_or_king, cased_for, piece_letter, is_named, color_of_letter, role_named, piece_named};
 ghost use Rattle.shogi_sfen.specs.declared.byte.TheConstants.{LOWER_CASE};
 
 use crate::byte::{KING, LOWER_CASE, TO_LOWER_CASE};
@@ -62,9 +62,9 @@ fn letter_of_role(role: Role) -> u8
 }
 
 /// The letter in the case of the side.
-pub fn in_case_of(color: Color, letter: u8) -> u8
+pub fn cased_for(color: Color, letter: u8) -> u8
     requires { letter < LOWER_CASE }
-    ensures { result ≡ in_case_of color letter }
+    ensures { result ≡ cased_for color letter }
 {
     match color {
         Color::Black => letter,
@@ -76,7 +76,7 @@ pub fn in_case_of(color: Color, letter: u8) -> u8
 pub fn piece_letter(piece: Piece) -> u8
     ensures { result ≡ piece_letter piece }
 {
-    in_case_of(piece.color, letter_of_role(piece.role))
+    cased_for(piece.color, letter_of_role(piece.role))
 }
 
 /// Every role.

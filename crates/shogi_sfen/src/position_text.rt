@@ -15,7 +15,7 @@ ghost use Rattle.shogi_core.specs.declared.piece.Color.{Color};
 
 use crate::board_text::{RANK_SQUARES, Rank};
 use crate::byte::{PLUS, SLASH, SPACE, ZERO};
-use crate::letter::{in_case_of, is_promoted, letter_of, piece_letter};
+use crate::letter::{cased_for, is_promoted, letter_of, piece_letter};
 use arrayvec::ArrayVec;
 use shogi_core::{Board, Color, Hands, Kind, Piece, Position, Square};
 
@@ -121,7 +121,7 @@ fn push_held(text: &mut Text, color: Color, kind: Kind, count: u8)
     } else if count >= 2 {
         text.push(ZERO + count);
     }
-    text.push(in_case_of(color, letter_of(kind)));
+    text.push(cased_for(color, letter_of(kind)));
 }
 
 /// The kinds in their order in a text.

@@ -73,7 +73,7 @@ abbrev pub answer_ponderhit : State → Option HeldBestmove → Answer
 answer_ponderhit state None = answer_with state []
 answer_ponderhit state (Some held) = answer_ponderhit_held state held held.until
 
--- the answer to each command
+-- the answer to each command. A held bestmove stays after `usi`, `isready`, `setoption`, `position`, a line that is no command, and `ponderhit` where it is held until `stop`; each other command writes it or drops it
 abbrev pub answer : State → Command → Answer
 answer state Usi = answer_with state usi_reply
 answer state IsReady = answer_with state ready_reply

@@ -1,6 +1,6 @@
 use Rattle.std.proofs.Common.{◌≡◌, ◌+◌, ◌-◌, ◌*◌, ◌<◌, ◌^◌, arith, drop, map, subst, ℕ}
-use Rattle.shared_table.specs.Words.{cell_number, number_of}
-use Rattle.shared_table.proofs.WordLaws.{word_room, word_start, word_step}
+use Rattle.shared_table.specs.Packed.{cell_number, number_in_base_32}
+use Rattle.shared_table.proofs.PackedLaws.{word_room, word_start, word_step}
 use Rattle.shared_table.proofs.packing.cells_word.Goals as goal
 
 pub loop-at-init : goal.loop-at-init
@@ -21,6 +21,6 @@ loop-at-preserved c =
     let next : c.loop-at.at ≡ c.loop-at.at - 1 + 1 = omega arith in
     record {
       word = word_step c.args.cells.now (c.loop-at.at - 1) c.loop-at.word c.cell_number.result (omega arith)
-          (subst (λ (at : ℕ). c.loop-at.word ≡ number_of (map cell_number (drop at c.args.cells.now))) next c.loop-at.invariant.word) c.cell_number.ensures.number;
+          (subst (λ (at : ℕ). c.loop-at.word ≡ number_in_base_32 (map cell_number (drop at c.args.cells.now))) next c.loop-at.invariant.word) c.cell_number.ensures.number;
       at = omega arith;
     }

@@ -1,10 +1,10 @@
 use Rattle.std.proofs.Common.{◌≡◌, ◌≤◌, length, map, drop}
-use Rattle.shared_table.specs.Words.{cell_number, number_of}
+use Rattle.shared_table.specs.Packed.{cell_number, number_in_base_32}
 use Rattle.shared_table.proofs.packing.cells_word.Given as goal
 
 -- the word of the squares from here on
 abbrev pub invariant-loop-at : goal.invariant-loop-at
-invariant-loop-at l = record { word : l.word ≡ number_of (map cell_number (drop l.at l.cells)); at : l.at ≤ length l.cells }
+invariant-loop-at l = record { word : l.word ≡ number_in_base_32 (map cell_number (drop l.at l.cells)); at : l.at ≤ length l.cells }
 
 abbrev pub decreases-loop-at : goal.decreases-loop-at
 decreases-loop-at l = l.at

@@ -1,5 +1,5 @@
 use Rattle.std.proofs.Common.{◌≡◌, ◌++◌, ◌-◌, length, take}
-use Rattle.shared_table.specs.Words.{cells_in}
+use Rattle.shared_table.specs.Packed.{cells_in}
 use Rattle.shared_table.proofs.packing.place_cells.Given as goal
 
 -- the squares so far, and then what is left of the word

@@ -3,7 +3,7 @@ use Rattle.std.proofs.lemmas.List.{length-set}
 use Rattle.shogi_core.specs.Position.{place_of}
 use Rattle.shogi_core.specs.declared.piece.Kind.TheVariants.{Pawn}
 use Rattle.shogi_core.specs.declared.piece.TheConstants.{KINDS}
-use Rattle.shared_table.specs.Words.{digits_of}
+use Rattle.shared_table.specs.Packed.{digits_in_base_32}
 use Rattle.shared_table.proofs.PlaceLaws.{counts_end, counts_step, place_at, place_fits}
 use Rattle.shared_table.proofs.packing.with_counts.Goals as goal
 
@@ -17,7 +17,7 @@ loop-number-preserved c =
     let place : place_of c.args.color (get_or KINDS c.loop-number.number Pawn) ≡ place_of c.args.color Pawn + c.loop-number.number = place_at c.args.color c.loop-number.number c.loop-number-test.true in
     let fits = place_fits c.args.color c.loop-number.number c.loop-number-test.true in
     let step = counts_step c.loop-number.counted (place_of c.args.color Pawn) c.loop-number.number c.loop-number.rest
-    (take (place_of c.args.color Pawn) c.args.hands ++ digits_of 7 c.args.word) c.loop-number-test.true (omega (arith, fits)) c.loop-number.invariant.made in
+    (take (place_of c.args.color Pawn) c.args.hands ++ digits_in_base_32 7 c.args.word) c.loop-number-test.true (omega (arith, fits)) c.loop-number.invariant.made in
     record {
       made = rw (c.with-counted.ensures, place) step;
       all = rw c.with-counted.ensures

@@ -1,14 +1,14 @@
 use Rattle.std.proofs.Common.{◌≡◌, ◌≤◌, ◌-◌, filter}
-use Rattle.shogi_core.specs.declared.moves.TheConstants.{MOVE_CODES}
+use Rattle.shogi_core.specs.declared.moves.TheConstants.{MOVE_CODE_COUNT}
 use Rattle.shogi_moves.specs.Captures.{is_of_sort}
 use Rattle.shogi_moves.specs.LegalMoves.{legal_from}
 use Rattle.shogi_moves.proofs.capture.least_wanted.Given as goal
 
 abbrev pub invariant-codes : goal.invariant-codes
 invariant-codes l = record {
-  within : l.code ≤ MOVE_CODES;
+  within : l.code ≤ MOVE_CODE_COUNT;
   same : filter (is_of_sort l.p l.capture) (legal_from l.p l.fn.first) ≡ filter (is_of_sort l.p l.capture) (legal_from l.p l.code);
 }
 
 abbrev pub decreases-codes : goal.decreases-codes
-decreases-codes l = MOVE_CODES - l.code
+decreases-codes l = MOVE_CODE_COUNT - l.code

@@ -1,13 +1,13 @@
 use Rattle.std.proofs.Common.{◌≡◌, ◌≤◌, ◌-◌}
-use Rattle.shogi_core.specs.declared.moves.TheConstants.{MOVE_CODES}
+use Rattle.shogi_core.specs.declared.moves.TheConstants.{MOVE_CODE_COUNT}
 use Rattle.shogi_moves.specs.LegalMoves.{legal_from}
 use Rattle.shogi_moves.proofs.next.least_from.Given as goal
 
 abbrev pub invariant-loop-m : goal.invariant-loop-m
 invariant-loop-m l = record {
-  within : l.code ≤ MOVE_CODES;
+  within : l.code ≤ MOVE_CODE_COUNT;
   same : legal_from l.p l.fn.first ≡ legal_from l.p l.code;
 }
 
 abbrev pub decreases-loop-m : goal.decreases-loop-m
-decreases-loop-m l = MOVE_CODES - l.code
+decreases-loop-m l = MOVE_CODE_COUNT - l.code

@@ -1,7 +1,7 @@
 use Rattle.std.proofs.Common.{◌≡◌, ◌∙◌, ap, arith, [], ◌∷◌}
 use Rattle.shared_table.specs.Keys.{key_of}
-use Rattle.shared_table.specs.Words.{key_in, words_of}
-use Rattle.shared_table.proofs.WordLaws.{key_back, words_are, words_made}
+use Rattle.shared_table.specs.Packed.{key_in, words_of}
+use Rattle.shared_table.proofs.PackedLaws.{key_back, words_are, words_made}
 use Rattle.shared_table.proofs.key.TableKey.of.Goals as goal
 
 -- the words are those of the position and the depth

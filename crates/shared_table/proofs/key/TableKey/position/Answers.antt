@@ -2,9 +2,9 @@ use Rattle.std.proofs.Common.{◌≡◌, ◌∙◌, [], ap}
 use Rattle.shogi_core.specs.Movement.{Cells}
 use Rattle.shogi_core.specs.Validity.{fault_of}
 use Rattle.shared_table.specs.Keys.{Key}
-use Rattle.shared_table.specs.Words.{position_in}
+use Rattle.shared_table.specs.Packed.{position_in}
 use Rattle.shared_table.proofs.PlaceLaws.{position_made}
-use Rattle.shared_table.proofs.WordLaws.{position_of}
+use Rattle.shared_table.proofs.PackedLaws.{position_of}
 use Rattle.shared_table.proofs.key.TableKey.position.Goals as goal
 
 -- what was put together is the position that the words say

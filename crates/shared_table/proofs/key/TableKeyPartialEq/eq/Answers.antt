@@ -1,5 +1,5 @@
 use Rattle.std.proofs.Common.{◌∙◌}
-use Rattle.shared_table.proofs.WordLaws.{words_test}
+use Rattle.shared_table.proofs.PackedLaws.{words_test}
 use Rattle.shared_table.proofs.key.TableKeyPartialEq.eq.Goals as goal
 
 pub returns : goal.returns

@@ -4,14 +4,14 @@ use Rattle.std.proofs.lemmas.Int.{to_z-of_z}
 use Rattle.std.proofs.lemmas.List.{length-take}
 use Rattle.shogi_core.specs.declared.moves.Move.{Move}
 use Rattle.shogi_core.specs.Codes.{code_of}
-use Rattle.shogi_search.specs.Ranked.{Ranking, ranked, put_in, are_ranked, coded, with_worth}
+use Rattle.shogi_search.specs.Ranked.{Ranking, ranked, insert_pair, are_ranked, coded, with_worth}
 use Rattle.shogi_search.proofs.RankedLaws.{top_offered, put_ranked, take_ranked}
 use Rattle.shogi_search.proofs.ranks.Ranks.offer.Goals as goal
 
 -- put in at its place and cut off behind the last line
-cut_off : (m : Move) (v w : ℤ) (xs ys more new : List (Move × ℤ)) (i n k : ℕ) → v ≡ w → xs ≡ ys → n ≡ k → more ≡ insert xs i (m, v) → new ≡ take n more → insert ys i (m, v) ≡ put_in m v ys → new ≡ take k (put_in m w ys)
+cut_off : (m : Move) (v w : ℤ) (xs ys more new : List (Move × ℤ)) (i n k : ℕ) → v ≡ w → xs ≡ ys → n ≡ k → more ≡ insert xs i (m, v) → new ≡ take n more → insert ys i (m, v) ≡ insert_pair m v ys → new ≡ take k (insert_pair m w ys)
 cut_off m v w xs ys more new i n k e l q a b h =
-    b ∙ ap (λ (j : ℕ). take j more) q ∙ ap (take k) (a ∙ ap (λ (zs : List (Move × ℤ)). insert zs i (m, v)) l ∙ h ∙ ap (λ (z : ℤ). put_in m z ys) e)
+    b ∙ ap (λ (j : ℕ). take j more) q ∙ ap (take k) (a ∙ ap (λ (zs : List (Move × ℤ)). insert zs i (m, v)) l ∙ h ∙ ap (λ (z : ℤ). insert_pair m z ys) e)
 
 within : (xs new : List (Move × ℤ)) (n : ℕ) → new ≡ take n xs → length new ≤ n
 within xs new n e = omega (arith, ap length e, length-take n xs)
@@ -32,5 +32,5 @@ invariant_of-self c =
       c.self.invariant.0,
       c.self.invariant.1,
       within c.insert.new.self.items c.truncate.new.self.items c.self.inside.lines c.truncate.ensures.items,
-      ap are_ranked (returns-clause-pairs c) ∙ take_ranked c.args.self.now.lines (put_in c.args.m c.args.value c.args.self.now.pairs) (put_ranked c.args.m c.args.value c.args.self.now.pairs before c.requires),
+      ap are_ranked (returns-clause-pairs c) ∙ take_ranked c.args.self.now.lines (insert_pair c.args.m c.args.value c.args.self.now.pairs) (put_ranked c.args.m c.args.value c.args.self.now.pairs before c.requires),
     )

@@ -2,14 +2,14 @@ use Rattle.std.proofs.Common.{◌≡◌, ◌∙◌, ℕ, ℤ, List, ap, sym, ref
 use Rattle.std.specs.Prelude.{insert}
 use Rattle.std.proofs.lemmas.Int.{to_z-of_z}
 use Rattle.shogi_core.specs.declared.moves.Move.{Move}
-use Rattle.shogi_search.specs.Ranked.{Ranking, put_in}
+use Rattle.shogi_search.specs.Ranked.{Ranking, insert_pair}
 use Rattle.shogi_search.proofs.RankedLaws.{place_next, place_here, place_last}
 use Rattle.shogi_search.proofs.ranks.Ranks.place_of.Goals as goal
 
 -- the same of equal lists, values and places
-of_equal : (m : Move) (v w : ℤ) (xs ys : List (Move × ℤ)) (i j : ℕ) → i ≡ j → v ≡ w → xs ≡ ys → insert xs i (m, v) ≡ put_in m v xs → insert ys j (m, w) ≡ put_in m w ys
+of_equal : (m : Move) (v w : ℤ) (xs ys : List (Move × ℤ)) (i j : ℕ) → i ≡ j → v ≡ w → xs ≡ ys → insert xs i (m, v) ≡ insert_pair m v xs → insert ys j (m, w) ≡ insert_pair m w ys
 of_equal m v w xs ys i j at e l h =
-    subst (λ (n : ℕ). insert ys n (m, w) ≡ put_in m w ys) at (subst (λ (zs : List (Move × ℤ)). insert zs i (m, w) ≡ put_in m w zs) l (subst (λ (z : ℤ). insert xs i (m, z) ≡ put_in m z xs) e h))
+    subst (λ (n : ℕ). insert ys n (m, w) ≡ insert_pair m w ys) at (subst (λ (zs : List (Move × ℤ)). insert zs i (m, w) ≡ insert_pair m w zs) l (subst (λ (z : ℤ). insert xs i (m, z) ≡ insert_pair m z xs) e h))
 
 pub loop-place-preserved : goal.loop-place-preserved
 loop-place-preserved c = place_next _ _ _ _ c.index-pairs-place.result c.loop-place-test.true c.index-pairs-place.is (sym c.is_ahead.ensures ∙ c.if-is_ahead.false) c.loop-place.invariant

@@ -25,14 +25,14 @@ abbrev pub cell_number : Option Piece → ℕ
 cell_number None = 0
 cell_number (Some piece) = piece_number piece.color piece.role
 
--- the number of these digits in base 32, the first the lowest
-unfoldable pub number_of : List ℕ → ℕ
-number_of [] = 0
-number_of (digit ∷ digits) = digit + 32 * number_of digits
+-- the number of these digits in base 32, the first the lowest. What stands on a square is a number from 0 to 28, and a count in hand one from 0 to 18, so each is a digit; twelve digits of five bits fit in a word of 64 bits
+unfoldable pub number_in_base_32 : List ℕ → ℕ
+number_in_base_32 [] = 0
+number_in_base_32 (digit ∷ digits) = digit + 32 * number_in_base_32 digits
 
 -- the word of the squares from the one up to the other, which it does not count
 abbrev pub cells_word : Cells → ℕ → ℕ → ℕ
-cells_word cells from to = number_of (map cell_number (slice_range cells from to))
+cells_word cells from to = number_in_base_32 (map cell_number (slice_range cells from to))
 
 -- how many of each kind a side holds
 abbrev pub counts_of : HandCounts → Color → List ℕ
@@ -53,27 +53,27 @@ words_of key =
     ∷ cells_word key.position.cells 48 60
     ∷ cells_word key.position.cells 60 72
     ∷ cells_word key.position.cells 72 81
-    ∷ number_of (counts_of key.position.hands Black)
-    ∷ number_of (counts_of key.position.hands White)
+    ∷ number_in_base_32 (counts_of key.position.hands Black)
+    ∷ number_in_base_32 (counts_of key.position.hands White)
     ∷ (side_number key.position.side + 2 * (eval_number key.eval + 2 * key.depth))
     ∷ []
 
 -- so many of the lowest digits of a number in base 32
-unfoldable pub digits_of : ℕ → ℕ → List ℕ
-digits_of zero number = []
-digits_of (suc count) number = (number % 32) ∷ digits_of count (number / 32)
+unfoldable pub digits_in_base_32 : ℕ → ℕ → List ℕ
+digits_in_base_32 zero number = []
+digits_in_base_32 (suc count) number = (number % 32) ∷ digits_in_base_32 count (number / 32)
 
 -- what each number stands for
-abbrev pub cell_at : ℕ → Option Piece
-cell_at number = slice_index_or CELLS number None
+abbrev pub cell_of_number : ℕ → Option Piece
+cell_of_number number = slice_index_or CELLS number None
 
 -- the squares of a word
 abbrev pub cells_in : ℕ → ℕ → Cells
-cells_in count word = map cell_at (digits_of count word)
+cells_in count word = map cell_of_number (digits_in_base_32 count word)
 
-abbrev pub side_at : ℕ → Color
-side_at zero = Black
-side_at (suc n) = White
+abbrev pub side_of_number : ℕ → Color
+side_of_number zero = Black
+side_of_number (suc n) = White
 
 -- the position that the words say
 unfoldable pub position_in : List ℕ → Shogi
@@ -81,17 +81,17 @@ position_in words = record {
   cells = cells_in 12 (slice_index words 0) ++ (cells_in 12 (slice_index words 1) ++ (cells_in 12 (slice_index words 2)
       ++ (cells_in 12 (slice_index words 3) ++ (cells_in 12 (slice_index words 4) ++ (cells_in 12 (slice_index words 5)
       ++ cells_in 9 (slice_index words 6))))));
-  hands = digits_of 7 (slice_index words 7) ++ digits_of 7 (slice_index words 8);
-  side = side_at (slice_index words 9 % 2);
+  hands = digits_in_base_32 7 (slice_index words 7) ++ digits_in_base_32 7 (slice_index words 8);
+  side = side_of_number (slice_index words 9 % 2);
 }
 
-abbrev pub eval_at : ℕ → Eval
-eval_at zero = Plain
-eval_at (suc n) = Hand
+abbrev pub eval_of_number : ℕ → Eval
+eval_of_number zero = Plain
+eval_of_number (suc n) = Hand
 
 -- the evaluation that they say
 abbrev pub eval_in : List ℕ → Eval
-eval_in words = eval_at (slice_index words 9 / 2 % 2)
+eval_in words = eval_of_number (slice_index words 9 / 2 % 2)
 
 -- the depth that they say
 abbrev pub depth_in : List ℕ → ℕ
@@ -107,12 +107,12 @@ pub record AreWords (words : List ℕ) : Type 0 where
   pub same : words_of (key_in words) ≡ words
   pub depth_fits : depth_in words < 256
 
--- two words from the one on, as one number
-abbrev pub pair_at : List ℕ → ℕ → ℕ
-pair_at words place = slice_index words place + 2 ^ 64 * slice_index words (place + 1)
+-- two words from a place on, as one number of 128 bits
+abbrev pub double_word_at : List ℕ → ℕ → ℕ
+double_word_at words place = slice_index words place + 2 ^ 64 * slice_index words (place + 1)
 
 -- what a hasher is fed: the words, two at a time
 abbrev pub writes_of : List ℕ → List (List ℕ)
 writes_of words =
-    fed.u128 (pair_at words 0) ++ (fed.u128 (pair_at words 2) ++ (fed.u128 (pair_at words 4)
-    ++ (fed.u128 (pair_at words 6) ++ fed.u128 (pair_at words 8))))
+    fed.u128 (double_word_at words 0) ++ (fed.u128 (double_word_at words 2) ++ (fed.u128 (double_word_at words 4)
+    ++ (fed.u128 (double_word_at words 6) ++ fed.u128 (double_word_at words 8))))

@@ -28,7 +28,7 @@ use Rattle.shogi_eval.specs.declared.eval.Eval.{Eval}
 use Rattle.shogi_eval.specs.declared.eval.Eval.TheVariants.{Plain, Hand}
 use Rattle.shared_table.specs.Keys.{eval_number, is_same_key, key_of}
 use Rattle.shared_table.specs.KeyLaws.{key_same}
-use Rattle.shared_table.specs.Words.{AreWords, cell_at, cell_number, cells_in, cells_word, counts_of, depth_in, digits_of, eval_at, eval_in, key_in, number_of, piece_number, position_in, side_at, side_number, words_of}
+use Rattle.shared_table.specs.Packed.{AreWords, cell_of_number, cell_number, cells_in, cells_word, counts_of, depth_in, digits_in_base_32, eval_of_number, eval_in, key_in, number_in_base_32, piece_number, position_in, side_of_number, side_number, words_of}
 
 -- each is a digit
 abbrev pub AreDigits : List ℕ → Type 0
@@ -47,35 +47,35 @@ cell_fits (Some piece) = go piece.color
     go Black = omega (arith, role_fits piece.role)
     go White = omega (arith, role_fits piece.role)
 
-black_back : (r : Role) → cell_at (role_number r + 1) ≡ Some (record { color = Black; role = r })
+black_back : (r : Role) → cell_of_number (role_number r + 1) ≡ Some (record { color = Black; role = r })
 black_back role.King = refl
 black_back _ = refl
 
-white_back : (r : Role) → cell_at (role_number r + 15) ≡ Some (record { color = White; role = r })
+white_back : (r : Role) → cell_of_number (role_number r + 15) ≡ Some (record { color = White; role = r })
 white_back role.King = refl
 white_back _ = refl
 
 -- what stands on a square is had again from its number
-pub cell_back : (cell : Option Piece) → cell_at (cell_number cell) ≡ cell
+pub cell_back : (cell : Option Piece) → cell_of_number (cell_number cell) ≡ cell
 cell_back None = refl
 cell_back (Some piece) = go piece.color refl
   where
-    go : (color : Color) → piece.color ≡ color → cell_at (piece_number color piece.role) ≡ Some piece
+    go : (color : Color) → piece.color ≡ color → cell_of_number (piece_number color piece.role) ≡ Some piece
     go Black e = black_back piece.role ∙ ap (λ (c : Color). Some (record { color = c; role = piece.role })) (sym e)
     go White e = white_back piece.role ∙ ap (λ (c : Color). Some (record { color = c; role = piece.role })) (sym e)
 
 -- digits are had again from their number
-pub digits_back : (ds : List ℕ) → AreDigits ds → digits_of (length ds) (number_of ds) ≡ ds
-unfolding digits_of number_of
+pub digits_back : (ds : List ℕ) → AreDigits ds → digits_in_base_32 (length ds) (number_in_base_32 ds) ≡ ds
+unfolding digits_in_base_32 number_in_base_32
 digits_back [] fits = refl
 digits_back (d ∷ ds) fits =
-    let low : (d + 32 * number_of ds) % 32 ≡ d = omega (arith, fits.0) in
-    let high : (d + 32 * number_of ds) / 32 ≡ number_of ds = omega (arith, fits.0) in
+    let low : (d + 32 * number_in_base_32 ds) % 32 ≡ d = omega (arith, fits.0) in
+    let high : (d + 32 * number_in_base_32 ds) / 32 ≡ number_in_base_32 ds = omega (arith, fits.0) in
     rw (low, high) (ap (λ (rest : List ℕ). d ∷ rest) (digits_back ds fits.1))
 
 -- so many digits are a number below the power
-number_fits : (ds : List ℕ) → AreDigits ds → number_of ds < 32 ^ length ds
-unfolding number_of
+number_fits : (ds : List ℕ) → AreDigits ds → number_in_base_32 ds < 32 ^ length ds
+unfolding number_in_base_32
 number_fits [] fits = omega arith
 number_fits (d ∷ ds) fits =
     let rest = number_fits ds fits.1 in
@@ -86,41 +86,41 @@ cells_are_digits [] = tt
 cells_are_digits (cell ∷ cells) = (cell_fits cell, cells_are_digits cells)
 
 -- there is room for one more square
-pub word_fits : (cells : Cells) → length cells < 12 → number_of (map cell_number cells) < 2 ^ 55
+pub word_fits : (cells : Cells) → length cells < 12 → number_in_base_32 (map cell_number cells) < 2 ^ 55
 word_fits cells few =
     let fits = number_fits (map cell_number cells) (cells_are_digits cells) in
-    let below : number_of (map cell_number cells) < 32 ^ length cells = rw (length-map cells cell_number) at fits in
+    let below : number_in_base_32 (map cell_number cells) < 32 ^ length cells = rw (length-map cells cell_number) at fits in
     let most : 32 ^ length cells ≤ 32 ^ 11 = pow-le-pow_right {n = 32} (omega arith) {i = length cells} {j = 11} (omega arith) in
     omega (arith, below, most)
 
 -- before the first square there is none
-pub word_start : (cells : Cells) → 0 ≡ number_of (map cell_number (drop (length cells) cells))
-unfolding number_of
+pub word_start : (cells : Cells) → 0 ≡ number_in_base_32 (map cell_number (drop (length cells) cells))
+unfolding number_in_base_32
 word_start cells = rw (drop-length cells) refl
 
 -- one more square in front
-pub word_step : (cells : Cells) (at word number : ℕ) → at < length cells → word ≡ number_of (map cell_number (drop (at + 1) cells))
-    → number ≡ cell_number (get_or cells at None) → 32 * word + number ≡ number_of (map cell_number (drop at cells))
-unfolding number_of
+pub word_step : (cells : Cells) (at word number : ℕ) → at < length cells → word ≡ number_in_base_32 (map cell_number (drop (at + 1) cells))
+    → number ≡ cell_number (get_or cells at None) → 32 * word + number ≡ number_in_base_32 (map cell_number (drop at cells))
+unfolding number_in_base_32
 word_step cells at word number below rest is = rw (drop_more cells at None below, rest, is) (omega arith)
 
 -- there is room for it
 pub word_room : (cells : Cells) (at word number : ℕ) → 0 < at → at ≤ length cells → length cells ≤ 12 → number < 32
-    → word ≡ number_of (map cell_number (drop at cells)) → 32 * word + number < 2 ^ 64
+    → word ≡ number_in_base_32 (map cell_number (drop at cells)) → 32 * word + number < 2 ^ 64
 word_room cells at word number some below few digit is =
     let fits = word_fits (drop at cells) (omega (arith, length-drop at cells)) in
     omega (arith, fits, is)
 
-all_back : (cells : Cells) → map cell_at (map cell_number cells) ≡ cells
+all_back : (cells : Cells) → map cell_of_number (map cell_number cells) ≡ cells
 all_back [] = refl
 all_back (cell ∷ cells) = ap₂ (λ (c : Option Piece) (cs : Cells). c ∷ cs) (cell_back cell) (all_back cells)
 
 -- the squares of a word are had again
-pub cells_back : (cells : Cells) (n : ℕ) → length cells ≡ n → cells_in n (number_of (map cell_number cells)) ≡ cells
+pub cells_back : (cells : Cells) (n : ℕ) → length cells ≡ n → cells_in n (number_in_base_32 (map cell_number cells)) ≡ cells
 cells_back cells n len =
     let digits = digits_back (map cell_number cells) (cells_are_digits cells) in
     let same : length (map cell_number cells) ≡ n = length-map cells cell_number ∙ len in
-    ap (map cell_at) (ap (λ k. digits_of k (number_of (map cell_number cells))) (sym same) ∙ digits) ∙ all_back cells
+    ap (map cell_of_number) (ap (λ k. digits_in_base_32 k (number_in_base_32 (map cell_number cells))) (sym same) ∙ digits) ∙ all_back cells
 
 set_size_fits : (kind : Kind) → set_size kind ≤ 18
 set_size_fits kinds.Pawn = omega arith
@@ -153,7 +153,7 @@ counts_are_digits p side valid = (
 )
 
 -- what a side holds is had again
-counts_back : (p : Shogi) (side : Color) → IsValid p → digits_of 7 (number_of (counts_of p.hands side)) ≡ counts_of p.hands side
+counts_back : (p : Shogi) (side : Color) → IsValid p → digits_in_base_32 7 (number_in_base_32 (counts_of p.hands side)) ≡ counts_of p.hands side
 counts_back p side valid = digits_back (counts_of p.hands side) (counts_are_digits p side valid)
 
 -- a list is made of what stands at each place
@@ -167,7 +167,7 @@ listed xs n len =
 hands_back : (hands : HandCounts) → length hands ≡ 14 → counts_of hands Black ++ counts_of hands White ≡ hands
 hands_back hands len = listed hands 14 len
 
-side_back : (side : Color) (n : ℕ) → side_at ((side_number side + 2 * n) % 2) ≡ side
+side_back : (side : Color) (n : ℕ) → side_of_number ((side_number side + 2 * n) % 2) ≡ side
 side_back Black n = let e : (0 + 2 * n) % 2 ≡ 0 = omega arith in rw e refl
 side_back White n = let e : (1 + 2 * n) % 2 ≡ 1 = omega arith in rw e refl
 
@@ -179,10 +179,10 @@ eval_fits : (eval : Eval) → eval_number eval < 2
 eval_fits Plain = omega arith
 eval_fits Hand = omega arith
 
-eval_back : (side : Color) (eval : Eval) (depth : ℕ) → eval_at ((side_number side + 2 * (eval_number eval + 2 * depth)) / 2 % 2) ≡ eval
+eval_back : (side : Color) (eval : Eval) (depth : ℕ) → eval_of_number ((side_number side + 2 * (eval_number eval + 2 * depth)) / 2 % 2) ≡ eval
 eval_back side eval depth = go eval refl
   where
-    go : (e : Eval) → eval ≡ e → eval_at ((side_number side + 2 * (eval_number e + 2 * depth)) / 2 % 2) ≡ e
+    go : (e : Eval) → eval ≡ e → eval_of_number ((side_number side + 2 * (eval_number e + 2 * depth)) / 2 % 2) ≡ e
     go Plain is = let e : (side_number side + 2 * (0 + 2 * depth)) / 2 % 2 ≡ 0 = omega (arith, side_fits side) in rw e refl
     go Hand is = let e : (side_number side + 2 * (1 + 2 * depth)) / 2 % 2 ≡ 1 = omega (arith, side_fits side) in rw e refl
 
@@ -274,8 +274,8 @@ words_test a b v w = same_from_decides _ _ (words_tell a b v w) (key_same (key_i
 -- the words, one by one
 pub words_made : (p : Shogi) (eval : Eval) (depth : ℕ) (cells : Cells) (hands : HandCounts) (side : Color) → cells ≡ p.cells → hands ≡ p.hands → side ≡ p.side
     → (a b c d e f g h i j : ℕ) → a ≡ cells_word cells 0 12 → b ≡ cells_word cells 12 24 → c ≡ cells_word cells 24 36 → d ≡ cells_word cells 36 48
-    → e ≡ cells_word cells 48 60 → f ≡ cells_word cells 60 72 → g ≡ cells_word cells 72 81 → h ≡ number_of (counts_of hands Black)
-    → i ≡ number_of (counts_of hands White) → j ≡ side_number side + 2 * (eval_number eval + 2 * depth)
+    → e ≡ cells_word cells 48 60 → f ≡ cells_word cells 60 72 → g ≡ cells_word cells 72 81 → h ≡ number_in_base_32 (counts_of hands Black)
+    → i ≡ number_in_base_32 (counts_of hands White) → j ≡ side_number side + 2 * (eval_number eval + 2 * depth)
     → a ∷ b ∷ c ∷ d ∷ e ∷ f ∷ g ∷ h ∷ i ∷ j ∷ [] ≡ words_of (key_of p eval depth)
 unfolding words_of
 words_made p eval depth cells hands side same_cells same_hands same_side a b c d e f g h i j ea eb ec ed ee ef eg eh ei ej =
