@@ -1,27 +1,23 @@
 //! Attacks and checks, seen from the square that is attacked.
 
 ghost use Rattle.std.specs.Prelude.{◌≡◌, ◌<◌, ◌^◌, ℕ, true};
-ghost use Rattle.shogi_core.specs.Attack.{is_attacked_from, is_attacked, is_open_king, in_check, is_sniper, is_sniping};
+ghost use Rattle.shogi_core.specs.Attack.{is_attacked, is_open_king, in_check, is_sniper, is_sniping, cell_steps, cell_slides_back, is_step_from, is_shot_along};
+ghost use Rattle.shogi_core.specs.Below.{some_below};
 ghost use Rattle.shogi_core.specs.Bits.{has_bit};
 ghost use Rattle.shogi_core.specs.Cell.{is_king};
 ghost use Rattle.shogi_core.specs.Lines.{are_aligned, are_lined, is_near, is_seen};
 ghost use Rattle.shogi_core.specs.Movement.{piece_at};
+ghost use Rattle.shogi_core.specs.Rays.{direction_at};
 
-use crate::bits::{lowest, without_lowest};
+use crate::bits::{has, lowest, without_lowest};
 use crate::board::Board;
-use crate::cell::{is_king, is_piece_of};
-use crate::lines::aligned_squares;
-use crate::piece::Color;
+use crate::cell::is_king;
+use crate::lines::{DOWN, UP, aligned_squares, slide_squares};
+use crate::piece::{Color, Piece, Role};
+use crate::rays::ray;
 use crate::square::Square;
-use crate::steps::{jump_squares, near_squares};
+use crate::steps::{jump_squares, near_squares, step_squares};
 use crate::targets::{diagonal_squares, straight_squares};
-
-/// Whether the piece on `from` is of the side and reaches the square.
-fn is_attacked_from(board: &Board, color: Color, square: Square, from: Square) -> bool
-    ensures { result ≡ is_attacked_from board.now color square from }
-{
-    is_piece_of(board.at(from), color) && board.reaches(from, square)
-}
 
 /// Whether a king of the side stands on the square and is attacked.
 fn is_open_king(board: &Board, color: Color, square: Square) -> bool
@@ -60,20 +56,87 @@ fn sniper_squares(board: &Board, by: Color, from: usize) -> u128
     board.own(by) & board.sliders() & aligned_squares(from)
 }
 
-/// The squares of pieces of the side that could reach the square: next to it or a knight's jump
-/// away, and of those that slide also the ones on open lines with it.
-#[tactic(auto, using(crate::proofs::SeenLaws::attackers))]
-fn attacker_squares(board: &Board, by: Color, from: usize) -> u128
-    requires { from < 81 }
-    ensures fits { result < 2 ^ 81 }
-    ensures all { (b : ℕ) → b < 81 → is_attacked_from board.now by from b ≡ true → has_bit result b ≡ true }
+/// Whether a step or a jump of what stands on the one square leads to the other.
+fn steps_to(cell: Option<Piece>, from: usize, to: usize) -> bool
+    requires from { from < 81 }
+    requires to { to < 81 }
+    ensures { result ≡ cell_steps cell from to }
 {
-    let near = board.own(by) & near_squares(from);
-    let snipers = sniper_squares(board, by, from);
-    if snipers == 0 {
-        return near;
+    match cell {
+        None => false,
+        Some(piece) => has(step_squares(piece, from), to),
     }
-    near | (snipers & lined_squares(board, from))
+}
+
+/// Whether a step or a jump of a piece of the side leads to the square.
+#[tactic(auto, using(crate::proofs::Shots::stepping))]
+fn is_stepped_on(board: &Board, by: Color, square: usize) -> bool
+    requires { square < 81 }
+    ensures { result ≡ some_below 81 (is_step_from board.now by square) }
+{
+    let mut left = board.own(by) & near_squares(square);
+    while left != 0 {
+        let from = lowest(left);
+        if steps_to(board.at(Square::of_index(from)), from, square) {
+            return true;
+        }
+        left = without_lowest(left, from);
+    }
+    false
+}
+
+/// Whether what stands there slides against the direction.
+#[tactic(auto, using(crate::proofs::Shots::backing))]
+fn slides_back(cell: Option<Piece>, direction: usize) -> bool
+    requires { direction < 8 }
+    ensures { result ≡ cell_slides_back (direction_at direction) cell }
+{
+    let Some(piece) = cell else { return false };
+    match piece.role {
+        Role::Lance => match piece.color {
+            Color::Black => direction == DOWN,
+            Color::White => direction == UP,
+        },
+        Role::Bishop | Role::Horse => direction % 2 == 1,
+        Role::Rook | Role::Dragon => direction % 2 == 0,
+        _ => false,
+    }
+}
+
+/// Whether one of the snipers of the square slides to it against the direction.
+#[tactic(auto, using(crate::proofs::Shots::shooting))]
+fn is_shot_along(board: &Board, by: Color, square: usize, direction: usize, snipers: u128) -> bool
+    requires direction { direction < 8 }
+    requires square { square < 81 }
+    requires snipers { (b : ℕ) → b < 81 → has_bit snipers b ≡ is_sniper board.now by square b }
+    ensures { result ≡ is_shot_along board.now by square direction }
+{
+    if ray(direction, square) & snipers == 0 {
+        return false;
+    }
+    let mut left = slide_squares(board, direction, square) & snipers;
+    while left != 0 {
+        let from = lowest(left);
+        if slides_back(board.at(Square::of_index(from)), direction) {
+            return true;
+        }
+        left = without_lowest(left, from);
+    }
+    false
+}
+
+/// Whether one of the snipers of the square slides to it.
+fn is_shot(board: &Board, by: Color, square: usize, snipers: u128) -> bool
+    requires square { square < 81 }
+    requires snipers { (b : ℕ) → b < 81 → has_bit snipers b ≡ is_sniper board.now by square b }
+    ensures { result ≡ some_below 8 (is_shot_along board.now by square) }
+{
+    for direction in 0..8 {
+        if is_shot_along(board, by, square, direction, snipers) {
+            return true;
+        }
+    }
+    false
 }
 
 impl Board {
@@ -98,19 +161,19 @@ impl Board {
     }
 
     /// Whether a piece of the side reaches the square, whoever stands there.
-    #[tactic(auto, using(crate::proofs::SeenLaws::attackers))]
+    #[tactic(auto, using(crate::proofs::Shots::attacking))]
     pub fn is_attacked(&self, by: Color, square: Square) -> bool
         ensures { result ≡ is_attacked self.now by square }
     {
-        let mut left = attacker_squares(self, by, square.index());
-        while left != 0 {
-            let from = lowest(left);
-            if is_attacked_from(self, by, square, Square::of_index(from)) {
-                return true;
-            }
-            left = without_lowest(left, from);
+        let index = square.index();
+        if is_stepped_on(self, by, index) {
+            return true;
         }
-        false
+        let snipers = sniper_squares(self, by, index);
+        if snipers == 0 {
+            return false;
+        }
+        is_shot(self, by, index, snipers)
     }
 
     /// Whether a king of the side is attacked; a side without a king is never in check.
