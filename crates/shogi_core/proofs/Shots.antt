@@ -135,7 +135,7 @@ pub ruleset backing = (back_forward_black, back_forward_white, back_diagonal, ba
 
 -- ---- a slide is one against a direction
 
-shot_by : (cells : Cells) (color : Color) (a b : ℕ) → a < 81 → (os : List Offset) → list_all (λ o. list_any (same_way (back (for_side color o))) around) os ≡ true → list_any (λ o. slides cells (for_side color o) a b) os ≡ true
+pub shot_by : (cells : Cells) (color : Color) (a b : ℕ) → a < 81 → (os : List Offset) → list_all (λ o. list_any (same_way (back (for_side color o))) around) os ≡ true → list_any (λ o. slides cells (for_side color o) a b) os ≡ true
     → (d : ℕ) × (d < 8) × (list_any (λ p. same_way (back (for_side color p)) (direction_at d)) os ≡ true) × (slides cells (direction_at d) b a ≡ true)
 shot_by cells color a b h [] all e = absurd (cc)
 shot_by cells color a b h (o ∷ os) all e =

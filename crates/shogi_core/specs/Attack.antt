@@ -9,7 +9,7 @@ use Rattle.shogi_core.specs.Cell.{is_piece_of, is_king, is_slider}
 use Rattle.shogi_core.specs.Lines.{are_aligned, back, is_same_offset}
 use Rattle.shogi_core.specs.Movement.{Cells, piece_at, reaches, has_step, slides, slides_of, for_side}
 use Rattle.shogi_core.specs.Pieces.{opponent_of}
-use Rattle.shogi_core.specs.Rays.{direction_at}
+use Rattle.shogi_core.specs.Rays.{direction_at, is_on_ray}
 
 -- the piece on `from` is of the side and reaches the square
 abbrev pub is_attacked_from : Cells → Color → ℕ → ℕ → Bool
@@ -60,3 +60,8 @@ is_shot_from cells color square o from = is_piece_of color (piece_at cells from)
 -- a piece of the side slides to the square against the direction of that number
 unfoldable pub is_shot_along : Cells → Color → ℕ → ℕ → Bool
 is_shot_along cells color square direction = some_below 81 (is_shot_from cells color square (direction_at direction))
+
+-- the piece on `from` is of the side and stands alone between the square and a sniper of the other side's, which is on `sniper`, in the direction
+abbrev pub is_pinned_by : Cells → Color → ℕ → Offset → ℕ → ℕ → Bool
+is_pinned_by cells color square o from sniper =
+    is_piece_of color (piece_at cells from) && is_sniper cells (opponent_of color) square sniper && is_on_ray o square sniper && slides cells o square from && slides cells o from sniper

@@ -1,11 +1,12 @@
 //! Attacks and checks, seen from the square that is attacked.
 
-ghost use Rattle.std.specs.Prelude.{◌≡◌, ◌<◌, ◌^◌, ℕ, true};
-ghost use Rattle.shogi_core.specs.Attack.{is_attacked, is_open_king, in_check, is_sniper, is_sniping, cell_steps, cell_slides_back, is_step_from, is_shot_along};
+ghost use Rattle.std.specs.Prelude.{◌≡◌, ◌<◌, ◌^◌, ℕ, true, false, None, slice_set};
+ghost use Rattle.shogi_core.specs.Attack.{is_attacked, is_open_king, in_check, is_sniper, is_sniping, cell_steps, cell_slides_back, is_step_from, is_shot_along, is_pinned_by};
 ghost use Rattle.shogi_core.specs.Below.{some_below};
 ghost use Rattle.shogi_core.specs.Bits.{has_bit};
-ghost use Rattle.shogi_core.specs.Cell.{is_king};
+ghost use Rattle.shogi_core.specs.Cell.{is_king, is_piece_of};
 ghost use Rattle.shogi_core.specs.Lines.{are_aligned, are_lined, is_near, is_seen};
+ghost use Rattle.shogi_core.specs.Pieces.{opponent_of};
 ghost use Rattle.shogi_core.specs.Movement.{piece_at};
 ghost use Rattle.shogi_core.specs.Rays.{direction_at};
 
@@ -139,6 +140,57 @@ fn is_shot(board: &Board, by: Color, square: usize, snipers: u128) -> bool
     false
 }
 
+/// The square of the piece of the side, if there is one, that stands alone in the direction between
+/// the square and one of its snipers.
+#[tactic(auto, using(crate::proofs::Pins::pinning))]
+fn pinned_along(board: &Board, side: Color, square: usize, direction: usize, snipers: u128) -> u128
+    requires direction { direction < 8 }
+    requires square { square < 81 }
+    requires snipers { (b : ℕ) → b < 81 → has_bit snipers b ≡ is_sniper board.now (opponent_of side) square b }
+    ensures fits { result < 2 ^ 81 }
+    ensures all { (n a : ℕ) → n < 81 → a < 81 → is_pinned_by board.now side square (direction_at direction) n a ≡ true → has_bit result n ≡ true }
+{
+    if ray(direction, square) & snipers == 0 {
+        return 0;
+    }
+    let blockers = slide_squares(board, direction, square) & board.own(side);
+    if blockers == 0 {
+        return 0;
+    }
+    if slide_squares(board, direction, lowest(blockers)) & snipers == 0 {
+        return 0;
+    }
+    blockers
+}
+
+/// The squares of pieces of the side that stand alone between the square and one of its snipers.
+fn pinned_to(board: &Board, side: Color, square: usize, snipers: u128) -> u128
+    requires square { square < 81 }
+    requires snipers { (b : ℕ) → b < 81 → has_bit snipers b ≡ is_sniper board.now (opponent_of side) square b }
+    ensures fits { result < 2 ^ 81 }
+    ensures all { (d n a : ℕ) → d < 8 → n < 81 → a < 81 → is_pinned_by board.now side square (direction_at d) n a ≡ true → has_bit result n ≡ true }
+{
+    let mut pinned = 0;
+    for direction in 0..8 {
+        pinned |= pinned_along(board, side, square, direction, snipers);
+    }
+    pinned
+}
+
+/// The same of the snipers of the square.
+#[tactic(auto, using(crate::proofs::Pins::unpinned))]
+fn pinned_pieces(board: &Board, side: Color, square: usize) -> u128
+    requires square { square < 81 }
+    ensures fits { result < 2 ^ 81 }
+    ensures all { (d n a : ℕ) → d < 8 → n < 81 → a < 81 → is_pinned_by board.now side square (direction_at d) n a ≡ true → has_bit result n ≡ true }
+{
+    let snipers = sniper_squares(board, side.opponent(), square);
+    if snipers == 0 {
+        return 0;
+    }
+    pinned_to(board, side, square, snipers)
+}
+
 impl Board {
     /// The squares on open lines with the square: on its file, its rank or a diagonal, with no
     /// piece between.
@@ -203,6 +255,23 @@ impl Board {
         while left != 0 {
             let king = lowest(left);
             found |= sniper_squares(self, side.opponent(), king);
+            left = without_lowest(left, king);
+        }
+        found
+    }
+
+    /// The squares of pieces of the side that may be pinned: where there is no check, there is none
+    /// either once a piece of the side on any other square is lifted off.
+    #[tactic(auto, using(crate::proofs::Pins::pins))]
+    pub fn pinned(&self, side: Color) -> u128
+        ensures fits { result < 2 ^ 81 }
+        ensures free { in_check self.now side ≡ false → (n : ℕ) → n < 81 → has_bit result n ≡ false → is_piece_of side (piece_at self.now n) ≡ true → in_check (slice_set self.now n None) side ≡ false }
+    {
+        let mut left = self.kings(side);
+        let mut found = 0;
+        while left != 0 {
+            let king = lowest(left);
+            found |= pinned_pieces(self, side, king);
             left = without_lowest(left, king);
         }
         found
