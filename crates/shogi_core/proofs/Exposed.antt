@@ -25,7 +25,7 @@ use Rattle.shogi_core.proofs.Back.{away_on, leads_is, is_leads}
 abbrev pub same_way : Offset → Offset → Bool
 same_way p q = int_eq p.file q.file && int_eq p.rank q.rank
 
-same_way_is : (p q : Offset) → same_way p q ≡ true → p ≡ q
+pub same_way_is : (p q : Offset) → same_way p q ≡ true → p ≡ q
 same_way_is p q e =
     let parts : (int_eq p.file q.file ≡ true) × (int_eq p.rank q.rank ≡ true) = and_parts _ _ e in
     ap (λ f. offset_by f p.rank) ((Decides-int_eq p.file q.file).0 parts.0) ∙ ap (offset_by q.file) ((Decides-int_eq p.rank q.rank).0 parts.1)

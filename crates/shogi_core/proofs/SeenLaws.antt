@@ -117,7 +117,7 @@ step_seen cells piece a b h e =
       | inr far ↦ or_right (list_any (λ o. slides cells o b a) around) (is_jump b a) (sym (jump_either b a) ∙ far)
     ]
 
-step_near : (piece : Piece) (a b : ℕ) → a < 81 → has_step piece a b ≡ true → is_near b a ≡ true
+pub step_near : (piece : Piece) (a b : ℕ) → a < 81 → has_step piece a b ≡ true → is_near b a ≡ true
 step_near piece a b h e =
     let near : list_any (λ o. leads 1 o b a) (around ++ jumps) ≡ true =
     list_any_among (λ o. leads 1 o b a) (λ o. back (for_side piece.color o)) (steps_of piece.role) (around ++ jumps) (steps_back_near piece.color piece.role)

@@ -1,11 +1,15 @@
 -- Attacks and checks (JSA playing rules, check).
-use Rattle.std.specs.Prelude.{ℕ, ◌&&◌, Bool}
+use Rattle.std.specs.Prelude.{ℕ, ◌&&◌, Bool, false, Option, Some, None}
+use Rattle.std.specs.List.{list_any}
+use Rattle.shogi_core.specs.declared.offset.Offset.{Offset}
 use Rattle.shogi_core.specs.declared.piece.Color.{Color}
+use Rattle.shogi_core.specs.declared.piece.Piece.{Piece}
 use Rattle.shogi_core.specs.Below.{some_below}
 use Rattle.shogi_core.specs.Cell.{is_piece_of, is_king, is_slider}
-use Rattle.shogi_core.specs.Lines.{are_aligned}
-use Rattle.shogi_core.specs.Movement.{Cells, piece_at, reaches}
+use Rattle.shogi_core.specs.Lines.{are_aligned, back, is_same_offset}
+use Rattle.shogi_core.specs.Movement.{Cells, piece_at, reaches, has_step, slides, slides_of, for_side}
 use Rattle.shogi_core.specs.Pieces.{opponent_of}
+use Rattle.shogi_core.specs.Rays.{direction_at, is_on_ray}
 
 -- the piece on `from` is of the side and reaches the square
 abbrev pub is_attacked_from : Cells → Color → ℕ → ℕ → Bool
@@ -34,3 +38,30 @@ is_sniper_of_king cells color from square = is_king color (piece_at cells square
 -- the piece on `from` is one of the other side that slides, and on a line with a king of the side, whatever stands between
 unfoldable pub is_sniping : Cells → Color → ℕ → Bool
 is_sniping cells color from = some_below 81 (is_sniper_of_king cells color from)
+
+-- a step or a jump of what stands there leads from the one square to the other
+abbrev pub cell_steps : Option Piece → ℕ → ℕ → Bool
+cell_steps None from to = false
+cell_steps (Some piece) from to = has_step piece from to
+
+-- what stands there slides against the direction
+abbrev pub cell_slides_back : Offset → Option Piece → Bool
+cell_slides_back o None = false
+cell_slides_back o (Some piece) = list_any (λ p. is_same_offset (back (for_side piece.color p)) o) (slides_of piece.role)
+
+-- the piece on `from` is of the side, and a step or a jump of it leads to the square
+abbrev pub is_step_from : Cells → Color → ℕ → ℕ → Bool
+is_step_from cells color square from = is_piece_of color (piece_at cells from) && cell_steps (piece_at cells from) from square
+
+-- the piece on `from` is of the side, and slides to the square against the direction
+abbrev pub is_shot_from : Cells → Color → ℕ → Offset → ℕ → Bool
+is_shot_from cells color square o from = is_piece_of color (piece_at cells from) && cell_slides_back o (piece_at cells from) && slides cells o square from
+
+-- a piece of the side slides to the square against the direction of that number
+unfoldable pub is_shot_along : Cells → Color → ℕ → ℕ → Bool
+is_shot_along cells color square direction = some_below 81 (is_shot_from cells color square (direction_at direction))
+
+-- the piece on `from` is of the side and stands alone between the square and a sniper of the other side's, which is on `sniper`, in the direction
+abbrev pub is_pinned_by : Cells → Color → ℕ → Offset → ℕ → ℕ → Bool
+is_pinned_by cells color square o from sniper =
+    is_piece_of color (piece_at cells from) && is_sniper cells (opponent_of color) square sniper && is_on_ray o square sniper && slides cells o square from && slides cells o from sniper

@@ -1,6 +1,7 @@
 -- Lines and slides seen from both ends.
 use Rattle.std.specs.Prelude.{ℕ, pos, ◌-ℤ◌, ◌++◌, ◌&&◌, ◌||◌, Bool, List, []}
 use Rattle.std.specs.List.{list_any}
+use Rattle.std.specs.Ordering.{int_eq}
 use Rattle.shogi_core.specs.declared.offset.Offset.{Offset}
 use Rattle.shogi_core.specs.Movement.{Cells, offset_by, straight, diagonal, slides, piece_at, steps_of}
 use Rattle.shogi_core.specs.Below.{some_below}
@@ -17,6 +18,10 @@ back o = offset_by (pos 0 -ℤ o.file) (pos 0 -ℤ o.rank)
 -- the eight directions of lines
 abbrev pub around : List Offset
 around = straight ++ diagonal
+
+-- the offsets are the same
+abbrev pub is_same_offset : Offset → Offset → Bool
+is_same_offset p q = int_eq p.file q.file && int_eq p.rank q.rank
 
 -- the squares lie on a file, a rank or a diagonal, and each square between is empty
 unfoldable pub are_lined : Cells → ℕ → ℕ → Bool

@@ -1,27 +1,24 @@
 //! Attacks and checks, seen from the square that is attacked.
 
-ghost use Rattle.std.specs.Prelude.{◌≡◌, ◌<◌, ◌^◌, ℕ, true};
-ghost use Rattle.shogi_core.specs.Attack.{is_attacked_from, is_attacked, is_open_king, in_check, is_sniper, is_sniping};
+ghost use Rattle.std.specs.Prelude.{◌≡◌, ◌<◌, ◌^◌, ℕ, true, false, None, slice_set};
+ghost use Rattle.shogi_core.specs.Attack.{is_attacked, is_open_king, in_check, is_sniper, is_sniping, cell_steps, cell_slides_back, is_step_from, is_shot_along, is_pinned_by};
+ghost use Rattle.shogi_core.specs.Below.{some_below};
 ghost use Rattle.shogi_core.specs.Bits.{has_bit};
-ghost use Rattle.shogi_core.specs.Cell.{is_king};
+ghost use Rattle.shogi_core.specs.Cell.{is_king, is_piece_of};
 ghost use Rattle.shogi_core.specs.Lines.{are_aligned, are_lined, is_near, is_seen};
+ghost use Rattle.shogi_core.specs.Pieces.{opponent_of};
 ghost use Rattle.shogi_core.specs.Movement.{piece_at};
+ghost use Rattle.shogi_core.specs.Rays.{direction_at};
 
-use crate::bits::{lowest, without_lowest};
+use crate::bits::{has, lowest, without_lowest};
 use crate::board::Board;
-use crate::cell::{is_king, is_piece_of};
-use crate::lines::aligned_squares;
-use crate::piece::Color;
+use crate::cell::is_king;
+use crate::lines::{DOWN, UP, aligned_squares, slide_squares};
+use crate::piece::{Color, Piece, Role};
+use crate::rays::ray;
 use crate::square::Square;
-use crate::steps::{jump_squares, near_squares};
+use crate::steps::{jump_squares, near_squares, step_squares};
 use crate::targets::{diagonal_squares, straight_squares};
-
-/// Whether the piece on `from` is of the side and reaches the square.
-fn is_attacked_from(board: &Board, color: Color, square: Square, from: Square) -> bool
-    ensures { result ≡ is_attacked_from board.now color square from }
-{
-    is_piece_of(board.at(from), color) && board.reaches(from, square)
-}
 
 /// Whether a king of the side stands on the square and is attacked.
 fn is_open_king(board: &Board, color: Color, square: Square) -> bool
@@ -60,20 +57,138 @@ fn sniper_squares(board: &Board, by: Color, from: usize) -> u128
     board.own(by) & board.sliders() & aligned_squares(from)
 }
 
-/// The squares of pieces of the side that could reach the square: next to it or a knight's jump
-/// away, and of those that slide also the ones on open lines with it.
-#[tactic(auto, using(crate::proofs::SeenLaws::attackers))]
-fn attacker_squares(board: &Board, by: Color, from: usize) -> u128
-    requires { from < 81 }
-    ensures fits { result < 2 ^ 81 }
-    ensures all { (b : ℕ) → b < 81 → is_attacked_from board.now by from b ≡ true → has_bit result b ≡ true }
+/// Whether a step or a jump of what stands on the one square leads to the other.
+fn steps_to(cell: Option<Piece>, from: usize, to: usize) -> bool
+    requires from { from < 81 }
+    requires to { to < 81 }
+    ensures { result ≡ cell_steps cell from to }
 {
-    let near = board.own(by) & near_squares(from);
-    let snipers = sniper_squares(board, by, from);
-    if snipers == 0 {
-        return near;
+    match cell {
+        None => false,
+        Some(piece) => has(step_squares(piece, from), to),
     }
-    near | (snipers & lined_squares(board, from))
+}
+
+/// Whether a step or a jump of a piece of the side leads to the square.
+#[tactic(auto, using(crate::proofs::Shots::stepping))]
+fn is_stepped_on(board: &Board, by: Color, square: usize) -> bool
+    requires { square < 81 }
+    ensures { result ≡ some_below 81 (is_step_from board.now by square) }
+{
+    let mut left = board.own(by) & near_squares(square);
+    while left != 0 {
+        let from = lowest(left);
+        if steps_to(board.at(Square::of_index(from)), from, square) {
+            return true;
+        }
+        left = without_lowest(left, from);
+    }
+    false
+}
+
+/// Whether what stands there slides against the direction.
+#[tactic(auto, using(crate::proofs::Shots::backing))]
+fn slides_back(cell: Option<Piece>, direction: usize) -> bool
+    requires { direction < 8 }
+    ensures { result ≡ cell_slides_back (direction_at direction) cell }
+{
+    let Some(piece) = cell else { return false };
+    match piece.role {
+        Role::Lance => match piece.color {
+            Color::Black => direction == DOWN,
+            Color::White => direction == UP,
+        },
+        Role::Bishop | Role::Horse => direction % 2 == 1,
+        Role::Rook | Role::Dragon => direction % 2 == 0,
+        _ => false,
+    }
+}
+
+/// Whether one of the snipers of the square slides to it against the direction.
+#[tactic(auto, using(crate::proofs::Shots::shooting))]
+fn is_shot_along(board: &Board, by: Color, square: usize, direction: usize, snipers: u128) -> bool
+    requires direction { direction < 8 }
+    requires square { square < 81 }
+    requires snipers { (b : ℕ) → b < 81 → has_bit snipers b ≡ is_sniper board.now by square b }
+    ensures { result ≡ is_shot_along board.now by square direction }
+{
+    if ray(direction, square) & snipers == 0 {
+        return false;
+    }
+    let mut left = slide_squares(board, direction, square) & snipers;
+    while left != 0 {
+        let from = lowest(left);
+        if slides_back(board.at(Square::of_index(from)), direction) {
+            return true;
+        }
+        left = without_lowest(left, from);
+    }
+    false
+}
+
+/// Whether one of the snipers of the square slides to it.
+fn is_shot(board: &Board, by: Color, square: usize, snipers: u128) -> bool
+    requires square { square < 81 }
+    requires snipers { (b : ℕ) → b < 81 → has_bit snipers b ≡ is_sniper board.now by square b }
+    ensures { result ≡ some_below 8 (is_shot_along board.now by square) }
+{
+    for direction in 0..8 {
+        if is_shot_along(board, by, square, direction, snipers) {
+            return true;
+        }
+    }
+    false
+}
+
+/// The square of the piece of the side, if there is one, that stands alone in the direction between
+/// the square and one of its snipers.
+#[tactic(auto, using(crate::proofs::Pins::pinning))]
+fn pinned_along(board: &Board, side: Color, square: usize, direction: usize, snipers: u128) -> u128
+    requires direction { direction < 8 }
+    requires square { square < 81 }
+    requires snipers { (b : ℕ) → b < 81 → has_bit snipers b ≡ is_sniper board.now (opponent_of side) square b }
+    ensures fits { result < 2 ^ 81 }
+    ensures all { (n a : ℕ) → n < 81 → a < 81 → is_pinned_by board.now side square (direction_at direction) n a ≡ true → has_bit result n ≡ true }
+{
+    if ray(direction, square) & snipers == 0 {
+        return 0;
+    }
+    let blockers = slide_squares(board, direction, square) & board.own(side);
+    if blockers == 0 {
+        return 0;
+    }
+    if slide_squares(board, direction, lowest(blockers)) & snipers == 0 {
+        return 0;
+    }
+    blockers
+}
+
+/// The squares of pieces of the side that stand alone between the square and one of its snipers.
+fn pinned_to(board: &Board, side: Color, square: usize, snipers: u128) -> u128
+    requires square { square < 81 }
+    requires snipers { (b : ℕ) → b < 81 → has_bit snipers b ≡ is_sniper board.now (opponent_of side) square b }
+    ensures fits { result < 2 ^ 81 }
+    ensures all { (d n a : ℕ) → d < 8 → n < 81 → a < 81 → is_pinned_by board.now side square (direction_at d) n a ≡ true → has_bit result n ≡ true }
+{
+    let mut pinned = 0;
+    for direction in 0..8 {
+        pinned |= pinned_along(board, side, square, direction, snipers);
+    }
+    pinned
+}
+
+/// The same of the snipers of the square.
+#[tactic(auto, using(crate::proofs::Pins::unpinned))]
+fn pinned_pieces(board: &Board, side: Color, square: usize) -> u128
+    requires square { square < 81 }
+    ensures fits { result < 2 ^ 81 }
+    ensures all { (d n a : ℕ) → d < 8 → n < 81 → a < 81 → is_pinned_by board.now side square (direction_at d) n a ≡ true → has_bit result n ≡ true }
+{
+    let snipers = sniper_squares(board, side.opponent(), square);
+    if snipers == 0 {
+        return 0;
+    }
+    pinned_to(board, side, square, snipers)
 }
 
 impl Board {
@@ -98,19 +213,19 @@ impl Board {
     }
 
     /// Whether a piece of the side reaches the square, whoever stands there.
-    #[tactic(auto, using(crate::proofs::SeenLaws::attackers))]
+    #[tactic(auto, using(crate::proofs::Shots::attacking))]
     pub fn is_attacked(&self, by: Color, square: Square) -> bool
         ensures { result ≡ is_attacked self.now by square }
     {
-        let mut left = attacker_squares(self, by, square.index());
-        while left != 0 {
-            let from = lowest(left);
-            if is_attacked_from(self, by, square, Square::of_index(from)) {
-                return true;
-            }
-            left = without_lowest(left, from);
+        let index = square.index();
+        if is_stepped_on(self, by, index) {
+            return true;
         }
-        false
+        let snipers = sniper_squares(self, by, index);
+        if snipers == 0 {
+            return false;
+        }
+        is_shot(self, by, index, snipers)
     }
 
     /// Whether a king of the side is attacked; a side without a king is never in check.
@@ -140,6 +255,23 @@ impl Board {
         while left != 0 {
             let king = lowest(left);
             found |= sniper_squares(self, side.opponent(), king);
+            left = without_lowest(left, king);
+        }
+        found
+    }
+
+    /// The squares of pieces of the side that may be pinned: where there is no check, there is none
+    /// either once a piece of the side on any other square is lifted off.
+    #[tactic(auto, using(crate::proofs::Pins::pins))]
+    pub fn pinned(&self, side: Color) -> u128
+        ensures fits { result < 2 ^ 81 }
+        ensures free { in_check self.now side ≡ false → (n : ℕ) → n < 81 → has_bit result n ≡ false → is_piece_of side (piece_at self.now n) ≡ true → in_check (slice_set self.now n None) side ≡ false }
+    {
+        let mut left = self.kings(side);
+        let mut found = 0;
+        while left != 0 {
+            let king = lowest(left);
+            found |= pinned_pieces(self, side, king);
             left = without_lowest(left, king);
         }
         found

@@ -13,7 +13,7 @@ use crate::eval::Eval;
 use crate::gain::score_after;
 use crate::points::material;
 use shogi_core::{Move, Position};
-use shogi_moves::apply;
+use shogi_moves::advance;
 use std::marker::Model;
 
 /// A position with its material by an evaluation, which changes with each move that is played, seen
@@ -98,12 +98,10 @@ impl Node {
         ensures eval { result.eval ≡ self.now.eval }
         ensures valid { IsValid (after self.now.position m) }
     {
-        let score = score_after(&self.position, self.eval, self.score, &m);
-        Node {
-            position: apply(&self.position, m),
-            eval: self.eval,
-            score,
-        }
+        let mut next = *self;
+        next.score = score_after(&self.position, self.eval, self.score, &m);
+        advance(&mut next.position, m);
+        next
     }
 
     /// The material after a legal move, from the side that is to move then; nothing is played.

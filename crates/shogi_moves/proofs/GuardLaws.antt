@@ -127,76 +127,24 @@ filled cells side to v len ht own plain safe =
       | inr other ↦ inr (get_or-set_other cells to x v None other)
     ]
 
--- ---- pieces on open lines with a sniper
+-- ---- where there is no check
 
--- the mask has the squares on open lines with those of the first squares that are not left
-pub record Watches (cells : Cells) (first left watched : ℕ) : Type 0 where
-  pub all : (a n : ℕ) → a < 81 → n < 81 → has_bit first a ≡ true → has_bit left a ≡ false → are_lined cells a n ≡ true → has_bit watched n ≡ true
-
-pub watches_first : (cells : Cells) (first : ℕ) → Watches cells first first 0
-watches_first cells first = record { all = λ a n h l e out lined. absurd (both_ways (has_bit first a) out e) }
-
-pub watches_more : (cells : Cells) (first left next watched sniper line : ℕ) → Watches cells first left watched → ((i : ℕ) → has_bit next i ≡ (has_bit left i && not (i == sniper)))
-    → ((n : ℕ) → n < 81 → has_bit line n ≡ are_lined cells sniper n) → Watches cells first next (bit_or watched line)
-watches_more cells first left next watched sniper line w bits lined = record {
-  all = λ a n h l e out on. has_bit-or watched line n ∙ elim (cases_eq a sniper) [
-    | inl same ↦ or_right (has_bit watched n) (has_bit line n) (lined n l ∙ subst (λ (j : ℕ). are_lined cells j n ≡ true) same on)
-    | inr other ↦ or_left _ _ (w.all a n h l e (false_from_ne_true (has_bit left a) (λ set. both_ways (has_bit next a) out (bits a ∙ and_from _ _ set (not_from_false _ (ne_eqb a sniper other))))) on)
-  ];
-}
-
-pub watches_last : (cells : Cells) (first watched a n : ℕ) → Watches cells first 0 watched → a < 81 → n < 81 → has_bit first a ≡ true → are_lined cells a n ≡ true → has_bit watched n ≡ true
-watches_last cells first watched a n w h l e on = w.all a n h l e (has_bit-none a) on
-
-pub ruleset watching = (watches_first, watches_last)
-
--- a piece that is lifted off opens no check where it is on an open line with no sniper
-lifted_off : (p : Shogi) (n : ℕ) → length p.cells ≡ 81 → n < 81 → in_check p.cells p.side ≡ false → ((a : ℕ) → a < 81 → is_sniping p.cells p.side a ≡ true → are_lined p.cells n a ≡ false) → in_check (set p.cells n None) p.side ≡ false
-lifted_off p n len h safe calm =
-    left_calm p.cells (set p.cells n None) n
-    (λ x e. elim (cases_eq x n) [ inl here ↦ inr here | inr other ↦ inl (ap is_none (sym (get_or-set_other p.cells n x None None other)) ∙ e) ])
-    p.side (stays (is_piece_of (opponent_of p.side)) refl) (stays (is_king p.side) refl) safe calm
-  where
-    stays : (test : Option Piece → Bool) → test None ≡ false → (x : ℕ) → x < 81 → test (piece_at (set p.cells n None) x) ≡ true → piece_at (set p.cells n None) x ≡ piece_at p.cells x
-    stays test bare x l e = elim (cases_eq x n) [
-      | inl here ↦ absurd (both_ways (test None) bare (ap test (sym (out here)) ∙ e))
-      | inr other ↦ get_or-set_other p.cells n x None None other
-    ]
-      where
-        out : x ≡ n → piece_at (set p.cells n None) x ≡ None
-        out here = rw here (get_or-set_same p.cells n None None (omega arith))
-
--- without a sniper none is pinned
-pub none_pinned : (p : Shogi) (kings snipers : ℕ) → length p.cells ≡ 81 → kings < 2 ^ 81 → ((n : ℕ) → n < 81 → has_bit kings n ≡ is_king p.side (piece_at p.cells n)) → in_check p.cells p.side ≡ false
-    → ((n : ℕ) → n < 81 → has_bit snipers n ≡ is_sniping p.cells p.side n) → snipers ≡ 0 → Guards p false kings
-none_pinned p kings snipers len fits k safe bits none = record {
+-- the kings, and pieces without which there might be one
+pub guards_calm : (p : Shogi) (kings pinned : ℕ) → in_check p.cells p.side ≡ false → kings < 2 ^ 81 → pinned < 2 ^ 81 → ((n : ℕ) → n < 81 → has_bit kings n ≡ is_king p.side (piece_at p.cells n))
+    → (in_check p.cells p.side ≡ false → (n : ℕ) → n < 81 → has_bit pinned n ≡ false → is_piece_of p.side (piece_at p.cells n) ≡ true → in_check (set p.cells n None) p.side ≡ false)
+    → Guards p false (bit_or kings pinned)
+guards_calm p kings pinned safe low fits k free = record {
   check = sym safe;
-  kings = λ n h out. sym (k n h) ∙ out;
-  lines = λ c. absurd (cc);
-  free = λ c n h out here. lifted_off p n len h safe (λ a l s. absurd (both_ways (has_bit snipers a) (ap (λ (m : ℕ). has_bit m a) none ∙ has_bit-none a) (bits a l ∙ s)));
-  fits = fits;
-}
-
--- of the exposed pieces those are pinned at most that are on an open line with a sniper
-pub few_pinned : (p : Shogi) (own exposed kings snipers watched : ℕ) → Guards p false exposed → length p.cells ≡ 81 → own < 2 ^ 81 → kings < 2 ^ 81
-    → ((n : ℕ) → n < 81 → has_bit own n ≡ is_piece_of p.side (piece_at p.cells n)) → ((n : ℕ) → n < 81 → has_bit kings n ≡ is_king p.side (piece_at p.cells n))
-    → ((n : ℕ) → n < 81 → has_bit snipers n ≡ is_sniping p.cells p.side n) → ((a n : ℕ) → a < 81 → n < 81 → has_bit snipers a ≡ true → are_lined p.cells a n ≡ true → has_bit watched n ≡ true)
-    → Guards p false (bit_or kings (bit_and (bit_and own exposed) watched))
-few_pinned p own exposed kings snipers watched g len low fits o k bits w = record {
-  check = g.check;
   kings = λ n h out. sym (k n h) ∙ (apart n out).0;
   lines = λ c. absurd (cc);
-  free = λ c n h out here. elim (cases_Bool (has_bit exposed n)) [
-    | inl among ↦ lifted_off p n len h (sym g.check) (λ a l s. false_from_ne_true (are_lined p.cells n a) (λ lined.
-        both_ways (has_bit (bit_and (bit_and own exposed) watched) n) (apart n out).1
-        (has_bit-and (bit_and own exposed) watched n ∙ and_from _ _ (has_bit-and own exposed n ∙ and_from _ _ (o n h ∙ here) among) (w a n l h (bits a l ∙ s) (lined_back p.cells n a h lined)))))
-    | inr off ↦ g.free refl n h off here
-  ];
-  fits = or_lt 81 kings (bit_and (bit_and own exposed) watched) fits (omega (arith, and_le_l own exposed, and_le_l (bit_and own exposed) watched));
+  free = λ c n h out own. free safe n h (apart n out).1 own;
+  fits = or_lt 81 kings pinned low fits;
 }
   where
-    apart : (n : ℕ) → has_bit (bit_or kings (bit_and (bit_and own exposed) watched)) n ≡ false → (has_bit kings n ≡ false) × (has_bit (bit_and (bit_and own exposed) watched) n ≡ false)
-    apart n out = or_parts (has_bit kings n) (has_bit (bit_and (bit_and own exposed) watched) n) (sym (has_bit-or kings (bit_and (bit_and own exposed) watched) n) ∙ out)
+    apart : (n : ℕ) → has_bit (bit_or kings pinned) n ≡ false → (has_bit kings n ≡ false) × (has_bit pinned n ≡ false)
+    apart n out = or_parts (has_bit kings n) (has_bit pinned n) (sym (has_bit-or kings pinned n) ∙ out)
+
+pub ruleset calming = (guards_calm)
 
 module _ (cells : Cells) (side : Color) (from to : ℕ) (v : Option Piece) (len : length cells ≡ 81) (hf : from < 81) (ht : to < 81) where
   after_it : Cells

@@ -46,43 +46,17 @@ pub fn full_guard(p: &Position, checked: bool) -> Guard
     }
 }
 
-/// The squares on open lines with the snipers.
-#[tactic(auto, using(crate::proofs::GuardLaws::watching))]
-fn watched_squares(p: &Position, snipers: u128) -> u128
-    requires { snipers < 2 ^ 81 }
-    ensures all { (a n : ℕ) → a < 81 → n < 81 → has_bit snipers a ≡ true → are_lined p.now.cells a n ≡ true → has_bit result n ≡ true }
-{
-    let mut left = snipers;
-    let mut watched = 0;
-    while left != 0 {
-        let sniper = lowest(left);
-        watched |= p.lined(Square::of_index(sniper));
-        left = without_lowest(left, sniper);
-    }
-    watched
-}
-
-/// What is kept where there is no check: of the exposed pieces those may be pinned that stand on an
-/// open line with a sniper, a piece of the other side that slides and is on a line with the king.
+/// What is kept where there is no check: of the pieces of the side to move, the king and those that
+/// may be pinned.
+#[tactic(auto, using(crate::proofs::GuardLaws::calming))]
 fn calm_guard(p: &Position) -> Guard
     requires { in_check p.now.cells p.now.side ≡ false }
     ensures { Guards p.now result.checked result.exposed }
 {
-    p.validity();
     let side = p.side();
-    let kings = p.kings(side);
-    let snipers = p.as_board().snipers(side);
-    if snipers == 0 {
-        return Guard {
-            checked: false,
-            exposed: kings,
-        };
-    }
-    let exposed = full_guard(p, false).exposed;
-    let watched = watched_squares(p, snipers);
     Guard {
         checked: false,
-        exposed: kings | (p.own(side) & exposed & watched),
+        exposed: p.kings(side) | p.as_board().pinned(side),
     }
 }
 

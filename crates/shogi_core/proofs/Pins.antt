@@ -1,0 +1,223 @@
+-- A piece whose leaving would give check stands alone between a king and a sniper.
+use Rattle.std.proofs.Common.{◌≡◌, ◌≢◌, ◌⊎◌, ℕ, ◌+◌, ◌<◌, ◌^◌, Bool, true, false, not, refl, sym, ap, subst, ◌∙◌, arith, inl, inr, Option, Some, None, bit_and, bit_or, set, length, get_or-set_same, get_or-set_other, []}
+use Rattle.std.specs.Prelude.{◌==◌, ◌&&◌, is_none}
+use Rattle.std.specs.List.{list_any, list_all}
+use Rattle.std.proofs.lemmas.Nat.{or_lt}
+use Rattle.std.proofs.lemmas.List.{get_or_past}
+use Rattle.std.proofs.lemmas.Bool.{cases_lt, cases_eq, false_from_ne_true, both_ways, and_parts, and_from, or_cases, or_left, or_right, not_from_false, ne_eqb}
+use Rattle.shogi_core.specs.declared.offset.Offset.{Offset}
+use Rattle.shogi_core.specs.declared.piece.Color.{Color}
+use Rattle.shogi_core.specs.declared.piece.Piece.{Piece}
+use Rattle.shogi_core.specs.Attack.{is_attacked_from, is_attacked, is_open_king, in_check, is_sniper, is_pinned_by, cell_slides_back}
+use Rattle.shogi_core.specs.Below.{some_below, all_below}
+use Rattle.shogi_core.specs.Bits.{has_bit}
+use Rattle.shogi_core.specs.Cell.{is_piece_of, is_king, is_slider}
+use Rattle.shogi_core.specs.Lines.{back, around, are_aligned, are_lined, is_same_offset}
+use Rattle.shogi_core.specs.Movement.{Cells, away, leads, is_step_empty, is_empty, slides_across, slides, for_side, slides_of, has_slide, has_step, cell_reaches, reaches, piece_at}
+use Rattle.shogi_core.specs.Pieces.{opponent_of}
+use Rattle.shogi_core.specs.Rays.{direction_at, ray_of, is_on_ray}
+use Rattle.shogi_core.proofs.Back.{back_twice, leads_is}
+use Rattle.shogi_core.proofs.Below.{all_below_at, some_below_at, some_below_no, some_below_not}
+use Rattle.shogi_core.proofs.BitLaws.{has_bit-and, has_bit-or, has_bit-none}
+use Rattle.shogi_core.proofs.Exposed.{one_of, some_below_which, slides_was}
+use Rattle.shogi_core.proofs.LineBits.{and_fits, has_bit-ray}
+use Rattle.shogi_core.proofs.RayLaws.{slides_bare}
+use Rattle.shogi_core.proofs.SeenLaws.{slides_back, slides_back_around, slides_role}
+use Rattle.shogi_core.proofs.Shots.{direction_around, shot_by, slide_by}
+
+-- ---- the first piece on a line
+
+some_of : (color : Color) (cell : Option Piece) → is_piece_of color cell ≡ true → is_none cell ≡ false
+some_of color None e = absurd (cc)
+some_of color (Some piece) e = refl
+
+-- a piece nearer than the end of a slide is not passed
+not_nearer : (cells : Cells) (o : Offset) (s a b i j : ℕ) → i < j → slides_across cells o s a i ≡ true → slides_across cells o s b j ≡ true → is_none (piece_at cells a) ≡ false → false ≡ true
+not_nearer cells o s a b i j l e f taken =
+    let here : away (i + 1) o s ≡ Some a = leads_is _ a ((and_parts _ _ e).0) in
+    sym taken ∙ (sym (ap (is_empty cells) here) ∙ all_below_at j (is_step_empty cells o s) i ((and_parts _ _ f).1) l)
+
+some_same : (s : Option ℕ) (a b : ℕ) → s ≡ Some a → s ≡ Some b → a ≡ b
+some_same s a b e f = let both : Some a ≡ Some b = sym e ∙ f in cc
+
+-- a slide ends at one piece
+pub one_end : (cells : Cells) (color : Color) (o : Offset) (s a b : ℕ) → slides cells o s a ≡ true → slides cells o s b ≡ true → is_piece_of color (piece_at cells a) ≡ true → is_piece_of color (piece_at cells b) ≡ true → a ≡ b
+one_end cells color o s a b e f p q =
+    let i = some_below_which 8 (slides_across cells o s a) e in
+    let j = some_below_which 8 (slides_across cells o s b) f in
+    elim (cases_eq i.0 j.0) [
+      | inl same ↦ some_same (away (i.0 + 1) o s) a b (leads_is _ a ((and_parts _ _ i.2).0)) (ap (λ (k : ℕ). away (k + 1) o s) same ∙ leads_is _ b ((and_parts _ _ j.2).0))
+      | inr other ↦ elim (cases_lt i.0 j.0) [
+        | inl near ↦ absurd (let clash : false ≡ true = not_nearer cells o s a b i.0 j.0 near i.2 j.2 (some_of color (piece_at cells a) p) in cc)
+        | inr far ↦ absurd (let clash : false ≡ true = not_nearer cells o s b a j.0 i.0 (omega arith) j.2 i.2 (some_of color (piece_at cells b) q) in cc)
+      ]
+    ]
+
+-- ---- the masks of one direction
+
+module _ (cells : Cells) (side : Color) (square d n a : ℕ) (pin : is_pinned_by cells side square (direction_at d) n a ≡ true) where
+  pub pin_own : is_piece_of side (piece_at cells n) ≡ true
+  pin_own = (and_parts _ _ ((and_parts _ _ ((and_parts _ _ ((and_parts _ _ pin).0)).0)).0)).0
+
+  pub pin_sniper : is_sniper cells (opponent_of side) square a ≡ true
+  pin_sniper = (and_parts _ _ ((and_parts _ _ ((and_parts _ _ ((and_parts _ _ pin).0)).0)).0)).1
+
+  pub pin_ray : is_on_ray (direction_at d) square a ≡ true
+  pin_ray = (and_parts _ _ ((and_parts _ _ ((and_parts _ _ pin).0)).0)).1
+
+  pub pin_near : slides cells (direction_at d) square n ≡ true
+  pin_near = (and_parts _ _ ((and_parts _ _ pin).0)).1
+
+  pub pin_far : slides cells (direction_at d) n a ≡ true
+  pin_far = (and_parts _ _ pin).1
+
+no_bit : (m n : ℕ) → m ≡ 0 → has_bit m n ≡ true → false ≡ true
+no_bit m n none e = sym (has_bit-none n) ∙ (ap (λ (k : ℕ). has_bit k n) (sym none) ∙ e)
+
+module _ (cells : Cells) (side : Color) (square d snipers : ℕ) (shots : (b : ℕ) → b < 81 → has_bit snipers b ≡ is_sniper cells (opponent_of side) square b) where
+  pub no_sniper_there : (line n a : ℕ) → line ≡ ray_of (direction_at d) square → bit_and line snipers ≡ 0 → n < 81 → a < 81 → is_pinned_by cells side square (direction_at d) n a ≡ true → has_bit 0 n ≡ true
+  no_sniper_there line n a there none l h pin = absurd (let clash : false ≡ true = no_bit (bit_and line snipers) a none
+      (has_bit-and line snipers a ∙ and_from _ _ (ap (λ (m : ℕ). has_bit m a) there ∙ (has_bit-ray (direction_at d) square a h ∙ pin_ray cells side square d n a pin)) (shots a h ∙ pin_sniper cells side square d n a pin)) in cc)
+
+  module _ (line own : ℕ) (lines : (b : ℕ) → b < 81 → has_bit line b ≡ slides cells (direction_at d) square b) (owns : (b : ℕ) → b < 81 → has_bit own b ≡ is_piece_of side (piece_at cells b)) where
+    pub blocker : (n a : ℕ) → n < 81 → a < 81 → is_pinned_by cells side square (direction_at d) n a ≡ true → has_bit (bit_and line own) n ≡ true
+    blocker n a l h pin = has_bit-and line own n ∙ and_from _ _ (lines n l ∙ pin_near cells side square d n a pin) (owns n l ∙ pin_own cells side square d n a pin)
+
+    pub no_blocker : bit_and line own ≡ 0 → (n a : ℕ) → n < 81 → a < 81 → is_pinned_by cells side square (direction_at d) n a ≡ true → has_bit 0 n ≡ true
+    no_blocker none n a l h pin = absurd (let clash : false ≡ true = no_bit (bit_and line own) n none (blocker n a l h pin) in cc)
+
+    pub no_sniper_behind : (first beyond : ℕ) → first < 81 → has_bit (bit_and line own) first ≡ true → ((b : ℕ) → b < 81 → has_bit beyond b ≡ slides cells (direction_at d) first b) → bit_and beyond snipers ≡ 0
+        → (n a : ℕ) → n < 81 → a < 81 → is_pinned_by cells side square (direction_at d) n a ≡ true → has_bit 0 n ≡ true
+    no_sniper_behind first beyond low set rest none n a l h pin =
+        let parts : (has_bit line first ≡ true) × (has_bit own first ≡ true) = and_parts _ _ (sym (has_bit-and line own first) ∙ set) in
+        let same : n ≡ first = one_end cells side (direction_at d) square n first (pin_near cells side square d n a pin) (sym (lines first low) ∙ parts.0) (pin_own cells side square d n a pin) (sym (owns first low) ∙ parts.1) in
+        absurd (let clash : false ≡ true = no_bit (bit_and beyond snipers) a none
+        (has_bit-and beyond snipers a ∙ and_from _ _ (rest a h ∙ subst (λ (k : ℕ). slides cells (direction_at d) k a ≡ true) same (pin_far cells side square d n a pin)) (shots a h ∙ pin_sniper cells side square d n a pin)) in cc)
+
+pub pins_fit : (a b : ℕ) → a < 2 ^ 81 → b < 2 ^ 81 → bit_or a b < 2 ^ 81
+pins_fit a b h l = or_lt 81 a b h l
+
+pub ruleset pinning = (and_fits)
+
+-- ---- all directions
+
+-- the mask has what is pinned in the first directions
+pub record PinsTo (cells : Cells) (side : Color) (square count found : ℕ) : Type 0 where
+  pub fits : found < 2 ^ 81
+  pub all : (d n a : ℕ) → d < count → n < 81 → a < 81 → is_pinned_by cells side square (direction_at d) n a ≡ true → has_bit found n ≡ true
+
+pub pins_to_none : (cells : Cells) (side : Color) (square : ℕ) → PinsTo cells side square 0 0
+pins_to_none cells side square = record { fits = omega arith; all = λ d n a none l h e. absurd (omega arith) }
+
+pub pins_to_more : (cells : Cells) (side : Color) (square count found more : ℕ) → PinsTo cells side square count found → more < 2 ^ 81
+    → ((n a : ℕ) → n < 81 → a < 81 → is_pinned_by cells side square (direction_at count) n a ≡ true → has_bit more n ≡ true) → PinsTo cells side square (count + 1) (bit_or found more)
+pins_to_more cells side square count found more p fits next = record {
+  fits = or_lt 81 found more p.fits fits;
+  all = λ d n a low l h e. has_bit-or found more n ∙ elim (cases_eq d count) [
+    | inl same ↦ or_right (has_bit found n) (has_bit more n) (next n a l h (subst (λ (k : ℕ). is_pinned_by cells side square (direction_at k) n a ≡ true) same e))
+    | inr other ↦ or_left _ _ (p.all d n a (omega arith) l h e)
+  ];
+}
+
+pub no_pins : (cells : Cells) (side : Color) (square snipers : ℕ) → ((b : ℕ) → b < 81 → has_bit snipers b ≡ is_sniper cells (opponent_of side) square b) → snipers ≡ 0
+    → (d n a : ℕ) → d < 8 → n < 81 → a < 81 → is_pinned_by cells side square (direction_at d) n a ≡ true → has_bit 0 n ≡ true
+no_pins cells side square snipers shots none d n a low l h e = absurd (let clash : false ≡ true = no_bit snipers a none (shots a h ∙ pin_sniper cells side square d n a e) in cc)
+
+pub ruleset unpinned = (no_pins)
+
+-- ---- all kings
+
+-- the mask has what is pinned to the kings that are not left
+pub record Pins (cells : Cells) (side : Color) (left found : ℕ) : Type 0 where
+  pub fits : found < 2 ^ 81
+  pub all : (k d n a : ℕ) → k < 81 → is_king side (piece_at cells k) ≡ true → has_bit left k ≡ false → d < 8 → n < 81 → a < 81 → is_pinned_by cells side k (direction_at d) n a ≡ true → has_bit found n ≡ true
+
+pub pins_first : (cells : Cells) (side : Color) (m : ℕ) → ((n : ℕ) → n < 81 → has_bit m n ≡ is_king side (piece_at cells n)) → Pins cells side m 0
+pins_first cells side m kings = record {
+  fits = omega arith;
+  all = λ k d n a hk king out low l h e. absurd (both_ways (has_bit m k) out (kings k hk ∙ king));
+}
+
+pub pins_more : (cells : Cells) (side : Color) (left next found king more : ℕ) → Pins cells side left found → more < 2 ^ 81 → ((i : ℕ) → has_bit next i ≡ (has_bit left i && not (i == king)))
+    → ((d n a : ℕ) → d < 8 → n < 81 → a < 81 → is_pinned_by cells side king (direction_at d) n a ≡ true → has_bit more n ≡ true) → Pins cells side next (bit_or found more)
+pins_more cells side left next found king more p fits bits new = record {
+  fits = or_lt 81 found more p.fits fits;
+  all = λ k d n a hk mine out low l h e. has_bit-or found more n ∙ elim (cases_eq k king) [
+    | inl same ↦ or_right (has_bit found n) (has_bit more n) (new d n a low l h (subst (λ (j : ℕ). is_pinned_by cells side j (direction_at d) n a ≡ true) same e))
+    | inr other ↦ or_left _ _ (p.all k d n a hk mine (false_from_ne_true (has_bit left k) (λ set. both_ways (has_bit next k) out (bits k ∙ and_from _ _ set (not_from_false _ (ne_eqb k king other))))) low l h e)
+  ];
+}
+
+-- ---- a piece that is lifted off
+
+module _ (cells : Cells) (side : Color) (n : ℕ) (inside : n < length cells) (low : n < 81) (safe : in_check cells side ≡ false) where
+  lifted_at : (x : ℕ) → x ≡ n → piece_at (set cells n None) x ≡ None
+  lifted_at x here = rw here (get_or-set_same cells n None None inside)
+
+  opened : (x : ℕ) → is_none (piece_at (set cells n None) x) ≡ true → (is_none (piece_at cells x) ≡ true) ⊎ (x ≡ n)
+  opened x e = elim (cases_eq x n) [ inl here ↦ inr here | inr other ↦ inl (ap is_none (sym (get_or-set_other cells n x None None other)) ∙ e) ]
+
+  -- who stands there after it stood there before
+  there : (test : Option Piece → Bool) → test None ≡ false → (x : ℕ) → test (piece_at (set cells n None) x) ≡ true → piece_at (set cells n None) x ≡ piece_at cells x
+  there test none x e = elim (cases_eq x n) [
+    | inl here ↦ absurd (both_ways (test None) none (ap test (sym (lifted_at x here)) ∙ e))
+    | inr other ↦ get_or-set_other cells n x None None other
+  ]
+
+  not_before : (k a : ℕ) → k < 81 → a < 81 → is_king side (piece_at cells k) ≡ true → is_piece_of (opponent_of side) (piece_at cells a) ≡ true → reaches cells a k ≡ false
+  unfolding in_check
+  not_before k a hk ha king foe = false_from_ne_true (reaches cells a k) (λ e. both_ways (some_below 81 (is_open_king cells side)) safe
+      (some_below_at 81 (is_open_king cells side) k hk (and_from _ _ king (some_below_at 81 (is_attacked_from cells (opponent_of side) k) a ha (and_from _ _ foe e)))))
+
+  module _ (found : ℕ) (out : has_bit found n ≡ false) (own : is_piece_of side (piece_at cells n) ≡ true)
+      (pins : (k d n a : ℕ) → k < 81 → is_king side (piece_at cells k) ≡ true → d < 8 → n < 81 → a < 81 → is_pinned_by cells side k (direction_at d) n a ≡ true → has_bit found n ≡ true) where
+    no_new_slide : (k a : ℕ) → k < 81 → a < 81 → is_king side (piece_at cells k) ≡ true → is_piece_of (opponent_of side) (piece_at cells a) ≡ true → (piece : Piece) → piece_at cells a ≡ Some piece → has_slide cells piece a k ≡ false
+        → has_slide (set cells n None) piece a k ≡ false
+    unfolding are_lined
+    no_new_slide k a hk ha king foe piece at was = false_from_ne_true (has_slide (set cells n None) piece a k) (λ e. (
+        let s = shot_by (set cells n None) piece.color a k ha (slides_of piece.role) (slides_back_around piece.color piece.role) e in
+        let o : Offset = direction_at s.0 in
+        let old : slides cells (direction_at s.0) k a ≡ false = false_from_ne_true (slides cells (direction_at s.0) k a) (λ f. both_ways (has_slide cells piece a k) was (slide_by cells (direction_at s.0) piece a k hk s.2 f)) in
+        let far : slides cells (direction_at s.0) n a ≡ true = elim (slides_was cells (set cells n None) (λ x. x ≡ n) opened (direction_at s.0) k a s.3) [
+          | inl left ↦ subst (λ (x : ℕ). slides cells (direction_at s.0) x a ≡ true) left.1 left.2
+          | inr still ↦ absurd (both_ways (slides cells (direction_at s.0) k a) old still)
+        ] in
+        let near : slides cells (direction_at s.0) k n ≡ true = elim (slides_was cells (set cells n None) (λ x. x ≡ n) opened (back (direction_at s.0)) a k (slides_back (set cells n None) (direction_at s.0) k a hk s.3)) [
+          | inl left ↦ ap (λ q. slides cells q k n) (sym (back_twice (direction_at s.0))) ∙ slides_back cells (back (direction_at s.0)) n k low (subst (λ (x : ℕ). slides cells (back (direction_at s.0)) x k ≡ true) left.1 left.2)
+          | inr still ↦ absurd (both_ways (slides cells (direction_at s.0) k a) old (ap (λ q. slides cells q k a) (sym (back_twice (direction_at s.0))) ∙ slides_back cells (back (direction_at s.0)) a k ha still))
+        ] in
+        let bare : is_on_ray (direction_at s.0) k a ≡ true = slides_bare (set cells n None) (direction_at s.0) k a s.3 in
+        let slider : is_slider (piece_at cells a) ≡ true = ap is_slider at ∙ slides_role piece.role (λ p. is_same_offset (back (for_side piece.color p)) (direction_at s.0)) s.2 in
+        let sniper : is_sniper cells (opponent_of side) k a ≡ true = and_from _ _ (and_from _ _ foe slider) (one_of (λ q. slides [] q k a) (direction_at s.0) around (direction_around s.0 s.1) bare) in
+        both_ways (has_bit found n) out (pins k s.0 n a hk king s.1 low ha (and_from _ _ (and_from _ _ (and_from _ _ (and_from _ _ own sniper) bare) near) far))))
+
+    no_new_reach : (k a : ℕ) → k < 81 → a < 81 → is_king side (piece_at cells k) ≡ true → is_piece_of (opponent_of side) (piece_at cells a) ≡ true → (cell : Option Piece) → piece_at cells a ≡ cell → cell_reaches (set cells n None) cell a k ≡ true → cell_reaches cells cell a k ≡ false → false ≡ true
+    no_new_reach k a hk ha king foe None at e was = e
+    no_new_reach k a hk ha king foe (Some piece) at e was =
+        elim (or_cases (has_step piece a k) (has_slide (set cells n None) piece a k) e) [
+          | inl step ↦ sym was ∙ or_left _ _ step
+          | inr slide ↦ sym (no_new_slide k a hk ha king foe piece at (false_from_ne_true (has_slide cells piece a k) (λ f. both_ways (cell_reaches cells (Some piece) a k) was (or_right (has_step piece a k) _ f)))) ∙ slide
+        ]
+
+    pub lifted_free : in_check (set cells n None) side ≡ false
+    unfolding in_check reaches
+    lifted_free = some_below_no 81 (is_open_king (set cells n None) side) (λ k hk. false_from_ne_true (is_open_king (set cells n None) side k) (λ e. (
+        let parts : (is_king side (piece_at (set cells n None) k) ≡ true) × (is_attacked (set cells n None) (opponent_of side) k ≡ true) = and_parts _ _ e in
+        let king : is_king side (piece_at cells k) ≡ true = ap (is_king side) (sym (there (is_king side) refl k parts.0)) ∙ parts.0 in
+        let who = some_below_which 81 (is_attacked_from (set cells n None) (opponent_of side) k) parts.1 in
+        let hit : (is_piece_of (opponent_of side) (piece_at (set cells n None) who.0) ≡ true) × (reaches (set cells n None) who.0 k ≡ true) = and_parts _ _ who.2 in
+        let same : piece_at (set cells n None) who.0 ≡ piece_at cells who.0 = there (is_piece_of (opponent_of side)) refl who.0 hit.0 in
+        let foe : is_piece_of (opponent_of side) (piece_at cells who.0) ≡ true = ap (is_piece_of (opponent_of side)) (sym same) ∙ hit.0 in
+        let clash : false ≡ true = no_new_reach k who.0 hk who.1 king foe (piece_at cells who.0) refl (ap (λ cell. cell_reaches (set cells n None) cell who.0 k) (sym same) ∙ hit.1) (not_before k who.0 hk who.1 king foe) in
+        cc)))
+
+pub pins_last : (cells : Cells) (side : Color) (found n : ℕ) → Pins cells side 0 found → in_check cells side ≡ false → n < 81 → has_bit found n ≡ false → is_piece_of side (piece_at cells n) ≡ true → in_check (set cells n None) side ≡ false
+pins_last cells side found n p safe low out own = lifted_free cells side n inside low safe found out own (λ k d m a hk king hd hm ha e. p.all k d m a hk king (has_bit-none k) hd hm ha e)
+  where
+    inside : n < length cells
+    inside = elim (cases_lt n (length cells)) [
+      | inl here ↦ here
+      | inr past ↦ absurd (let clash : false ≡ true = ap (is_piece_of side) (sym (get_or_past cells n None past)) ∙ own in cc)
+    ]
+
+pub ruleset pins = (pins_first)

@@ -1,0 +1,27 @@
+use Rattle.std.proofs.Common.{rules}
+use Rattle.std.proofs.lemmas.Bool.{and_from}
+use Rattle.shogi_core.specs.Attack.{is_shot_from, is_shot_along}
+use Rattle.shogi_core.specs.Rays.{direction_at}
+use Rattle.shogi_core.proofs.Below.{some_below_found}
+use Rattle.shogi_core.proofs.LineBits.{and_fits}
+use Rattle.shogi_core.proofs.SeenLaws.{covers_none}
+use Rattle.shogi_core.proofs.Shots.{shots_first, shots_open}
+use Rattle.shogi_core.proofs.attack.is_shot_along.Goals as goal
+
+pub loop-left-init : goal.loop-left-init
+loop-left-init c = record {
+  covers = shots_first c.args.board.now c.args.by c.args.square c.requires.square c.args.snipers c.requires.snipers c.args.direction c.slide_squares.result c.requires.direction c.slide_squares.ensures.bits;
+  clear = λ n h e. shots_open c.args.board.now c.args.by c.args.square c.requires.square c.args.snipers c.requires.snipers c.args.direction c.slide_squares.result n c.slide_squares.ensures.bits h e;
+  fits = and_fits c.slide_squares.result c.args.snipers c.slide_squares.ensures.fits;
+}
+
+pub returns-then-slides_back : goal.returns-then-slides_back
+unfolding is_shot_along
+returns-then-slides_back c =
+    let line = c.loop-left.invariant.clear c.lowest-from.result c.lowest-from.ensures.range c.lowest-from.ensures.set in
+    some_below_found 81 (is_shot_from c.args.board.now c.args.by c.args.square (direction_at c.args.direction)) c.lowest-from.result c.lowest-from.ensures.range
+    (and_from _ _ (and_from _ _ line.0 (search rules)) line.1)
+
+pub returns : goal.returns
+unfolding is_shot_along
+returns c = covers_none (is_shot_from c.args.board.now c.args.by c.args.square (direction_at c.args.direction)) (search rules)
