@@ -8,9 +8,9 @@ use Rattle.shogi_eval.specs.declared.eval.Eval.{Eval}
 use Rattle.shogi_sfen.specs.Words.{words, after_word}
 use Rattle.shogi_sfen.specs.Numbers.{is_number, number_written}
 use Rattle.usi_lines.specs.declared.command.Hold.{Hold}
-use Rattle.usi_lines.specs.declared.options.TheConstants.{DEPTH_MIN, DEPTH_MAX}
-use Rattle.usi_lines.specs.Commands.{Command, Usi, IsReady, NewGame, BadPosition, GoMate, Stop, PonderHit, GameOver, Quit, Startpos, Sfen, Other, SetDepth, SetEval, Go}
-use Rattle.usi_lines.specs.Options.{IsDepth, IsInRange, depth_read, eval_read, command_for, option_of}
+use Rattle.usi_lines.specs.declared.options.TheConstants.{DEPTH_MIN, DEPTH_MAX, PV_LINES_MIN, PV_LINES_MAX}
+use Rattle.usi_lines.specs.Commands.{Command, Usi, IsReady, NewGame, BadPosition, GoMate, Stop, PonderHit, GameOver, Quit, Startpos, Sfen, Other, SetDepth, SetEval, SetLines, Go}
+use Rattle.usi_lines.specs.Options.{IsDepth, IsLineCount, IsInRange, clamped_read, depth_read, eval_read, lines_read, command_for, option_of}
 use Rattle.usi_lines.specs.CommandLines.{depth_in_first, depth_of, position_of, hold_of, has_word, named_by, by_words, command_of}
 
 pub command_of-none : (line : List ℕ) → words line ≡ [] → Other ≡ command_of line
@@ -23,11 +23,21 @@ command_of-some line name rest e r =
     ap (λ (t : List ℕ). named_by name (words rest) (after_word t)) r
     ∙ sym (ap (λ (ws : List (List ℕ)). by_words ws (after_word (after_word line))) e)
 
-clamped : (n : ℕ) → IsDepth (max DEPTH_MIN (min DEPTH_MAX n))
-clamped n = record { least = omega arith; most = omega arith }
+-- what holds of each clamped number holds of one that is read
+clamped_read_fits : (least most : ℕ) (word : List ℕ) (P : ℕ → Type 0) → ((n : ℕ) → P (max least (min most n))) → IfSome (clamped_read least most word) P
+clamped_read_fits least most word P h = cond_both (is_number word) (Some (max least (min most (number_written word)))) None (λ (o : Option ℕ). IfSome o P) (λ e. h (number_written word)) (λ e. tt)
+
+depth_clamped : (n : ℕ) → IsDepth (max DEPTH_MIN (min DEPTH_MAX n))
+depth_clamped n = record { least = omega arith; most = omega arith }
 
 depth_read_fits : (word : List ℕ) → IfSome (depth_read word) IsDepth
-depth_read_fits word = cond_both (is_number word) (Some (max DEPTH_MIN (min DEPTH_MAX (number_written word)))) None (λ (o : Option ℕ). IfSome o IsDepth) (λ e. clamped (number_written word)) (λ e. tt)
+depth_read_fits word = clamped_read_fits DEPTH_MIN DEPTH_MAX word IsDepth depth_clamped
+
+lines_clamped : (n : ℕ) → IsLineCount (max PV_LINES_MIN (min PV_LINES_MAX n))
+lines_clamped n = record { least = omega arith; most = omega arith }
+
+lines_read_fits : (word : List ℕ) → IfSome (lines_read word) IsLineCount
+lines_read_fits word = clamped_read_fits PV_LINES_MIN PV_LINES_MAX word IsLineCount lines_clamped
 
 depth_in_first_fits : (ws : List (List ℕ)) → IfSome (depth_in_first ws) IsDepth
 depth_in_first_fits [] = tt
@@ -49,6 +59,10 @@ eval_set_fits : (o : Option Eval) → Fits (option_map_or SetEval o Other)
 eval_set_fits None = record { in_range = tt }
 eval_set_fits (Some eval) = record { in_range = tt }
 
+lines_set_fits : (o : Option ℕ) → IfSome o IsLineCount → Fits (option_map_or SetLines o Other)
+lines_set_fits None h = record { in_range = tt }
+lines_set_fits (Some lines) h = record { in_range = h }
+
 go_fits : (o : Option ℕ) (hold : Hold) → IfSome o IsDepth → Fits (Go o hold)
 go_fits None hold h = record { in_range = tt }
 go_fits (Some d) hold h = record { in_range = h }
@@ -64,7 +78,8 @@ command_for_fits : (name value : List ℕ) → Fits (command_for name value)
 command_for_fits name value =
     either (bytes_eq name (codes "Depth")) _ _ (depth_set_fits (depth_read value) (depth_read_fits value)) (
     either (bytes_eq name (codes "Eval")) _ _ (eval_set_fits (eval_read value)) (
-    plain Other tt))
+    either (bytes_eq name (codes "MultiPV")) _ _ (lines_set_fits (lines_read value) (lines_read_fits value)) (
+    plain Other tt)))
 
 option_fits : (ws : List (List ℕ)) → Fits (option_of ws)
 option_fits [] = plain Other tt

@@ -8,5 +8,6 @@ pub data Command : Type 0 where
   Usi IsReady NewGame BadPosition GoMate Stop PonderHit GameOver Quit Other : Command
   SetDepth : (depth : ℕ) → Command
   SetEval : (eval : Eval) → Command
+  SetLines : (lines : ℕ) → Command
   Startpos Sfen : (text : List ℕ) → Command
   Go : (depth : Option ℕ) (hold : Hold) → Command

@@ -17,6 +17,7 @@ meaning_of code.Usi = commands.Usi
 meaning_of code.IsReady = commands.IsReady
 meaning_of (code.SetDepth depth) = commands.SetDepth depth
 meaning_of (code.SetEval eval) = commands.SetEval eval
+meaning_of (code.SetLines lines) = commands.SetLines lines
 meaning_of code.NewGame = commands.NewGame
 meaning_of (code.Startpos text) = commands.Startpos text.now
 meaning_of (code.Sfen text) = commands.Sfen text.now

@@ -24,6 +24,8 @@ pub enum Command<'a> {
     SetDepth(u8),
     /// `setoption name Eval value V`, with V `Plain` or `Hand`
     SetEval(Eval),
+    /// `setoption name MultiPV value N`, with N clamped to its range
+    SetLines(u8),
     /// `usinewgame`
     NewGame,
     /// `position startpos`, with the bytes after that word

@@ -2,7 +2,7 @@
 
 ghost use Rattle.std.specs.Prelude.{◌≡◌};
 ghost use Rattle.shogi_sfen.specs.Words.{words};
-ghost use Rattle.usi_lines.specs.Options.{depth_read, eval_read, command_for, option_of};
+ghost use Rattle.usi_lines.specs.Options.{clamped_read, depth_read, eval_read, lines_read, command_for, option_of};
 ghost use Rattle.usi_lines.specs.Seen.{meaning_of};
 
 use crate::command::Command;
@@ -16,12 +16,32 @@ pub const DEPTH_MIN: u8 = 1;
 /// The greatest depth of a `go`.
 pub const DEPTH_MAX: u8 = 16;
 
+/// The least number of best lines of a `go` (own choice, as is the greatest).
+pub const PV_LINES_MIN: u8 = 1;
+
+/// The greatest number of best lines of a `go`.
+pub const PV_LINES_MAX: u8 = 8;
+
+/// A number, clamped to a range, where the word is one.
+fn read_clamped(word: &[u8], least: u8, most: u8) -> Option<u8>
+    ensures { result ≡ clamped_read least most word.now }
+{
+    let number = read_number(word, most as u32)?;
+    Some(number.max(least as u32) as u8)
+}
+
 /// A depth, clamped to its range, where the word is a number.
 pub fn read_depth(word: &[u8]) -> Option<u8>
     ensures { result ≡ depth_read word.now }
 {
-    let number = read_number(word, DEPTH_MAX as u32)?;
-    Some(number.clamp(DEPTH_MIN as u32, DEPTH_MAX as u32) as u8)
+    read_clamped(word, DEPTH_MIN, DEPTH_MAX)
+}
+
+/// A number of best lines, clamped to its range, where the word is a number.
+fn read_lines(word: &[u8]) -> Option<u8>
+    ensures { result ≡ lines_read word.now }
+{
+    read_clamped(word, PV_LINES_MIN, PV_LINES_MAX)
 }
 
 /// An evaluation, where the word is its name.
@@ -50,6 +70,11 @@ fn command_for<'a>(name: &[u8], value: &[u8]) -> Command<'a>
     } else if is(name, b"Eval") {
         match read_eval(value) {
             Some(eval) => Command::SetEval(eval),
+            None => Command::Other,
+        }
+    } else if is(name, b"MultiPV") {
+        match read_lines(value) {
+            Some(lines) => Command::SetLines(lines),
             None => Command::Other,
         }
     } else {

@@ -129,6 +129,37 @@ fn evaluations_of_lines(rt: HostRuntime) {
 }
 
 #[test]
+fn numbers_of_best_lines(rt: HostRuntime) {
+    reads(&rt, b"setoption name MultiPV value 1", Command::SetLines(1));
+    let five = b" setoption\tname  MultiPV value 005 ";
+    reads(&rt, five, Command::SetLines(5));
+    reads(&rt, b"setoption name MultiPV value 8", Command::SetLines(8));
+    reads(&rt, b"setoption name MultiPV value 0", Command::SetLines(1));
+    reads(&rt, b"setoption name MultiPV value 9", Command::SetLines(8));
+    let past_a_byte = b"setoption name MultiPV value 258";
+    reads(&rt, past_a_byte, Command::SetLines(8));
+    let long = b"setoption name MultiPV value 99999999999999999999";
+    reads(&rt, long, Command::SetLines(8));
+    for line in [
+        b"setoption name MultiPV value".as_slice(),
+        b"setoption name MultiPV value x".as_slice(),
+        b"setoption name MultiPV value 2x".as_slice(),
+        b"setoption name MultiPV value -1".as_slice(),
+        b"setoption name MultiPV value +2".as_slice(),
+        b"setoption name MultiPV value 2 3".as_slice(),
+        b"setoption name MultiPV value Hand".as_slice(),
+        b"setoption name MultiPV 2".as_slice(),
+        b"setoption name multipv value 2".as_slice(),
+        b"setoption name Multipv value 2".as_slice(),
+        b"setoption name MultiPVs value 2".as_slice(),
+        b"setoption name Eval value 2".as_slice(),
+        b"setoption value 2 name MultiPV".as_slice(),
+    ] {
+        reads(&rt, line, Command::Other);
+    }
+}
+
+#[test]
 fn positions_of_lines(rt: HostRuntime) {
     let moves = b" moves 7g7f";
     reads(

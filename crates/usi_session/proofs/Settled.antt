@@ -3,7 +3,7 @@ use Rattle.std.proofs.Common.{◌≡◌, ℕ, List, [], ◌∷◌, ◌++◌, ref
 use Rattle.std.specs.Prelude.{◌-◌, ◌&&◌, ◌||◌, not, nat_lt, length, cond, is_some}
 use Rattle.usi_lines.specs.Lines.{Line, ahead, lines}
 use Rattle.usi_session.specs.declared.state.State.{State}
-use Rattle.usi_session.specs.InHand.{InHand, rest_of_go_if, info_lines_above}
+use Rattle.usi_session.specs.InHand.{InHand, rest_of_go_if, infos_left}
 use Rattle.usi_session.specs.Answer.{bestmove_at}
 use Rattle.usi_session.proofs.HandLaws.{write_or_hold-over}
 use Rattle.usi_session.specs.Due.{SessionView, due, state_due, owed, owed_after, has_line, is_pending, wants_input, new_session}
@@ -60,7 +60,7 @@ state_from-over s (line ∷ rest) over = ap (λ (t : State). state_from t rest) 
 
 rest_of_go-over : (s : State) (in_hand : Option InHand) → (rest_of_go_if s in_hand).state.is_over ≡ s.is_over
 rest_of_go-over s None = refl
-rest_of_go-over s (Some go) = write_or_hold-over s (info_lines_above go.root go.eval go.told (go.depth - go.told)) (bestmove_at go.root go.eval go.depth go.hold) go.hold
+rest_of_go-over s (Some go) = write_or_hold-over s (infos_left go.question go.told go.shown) (bestmove_at go.question.position go.question.eval go.question.depth go.question.hold) go.question.hold
 
 -- a session that is over will be over
 pub state_due-over : (s : SessionView) (x : List ℕ) → s.state.is_over ≡ true → (state_due s x).is_over ≡ true

@@ -1,14 +1,15 @@
--- One line more is answered, or one depth more is told.
+-- One line more is answered, or one line of a `go` is told.
 use Rattle.std.proofs.Common.{◌≡◌, ℕ, ◌+◌, ◌*◌, ◌<◌, ◌≤◌, List, [], ◌∷◌, ◌++◌, length, refl, sym, ap, ◌∙◌, arith, append_assoc, append-nil, true, false, Bool, Option, Some, None, cond}
 use Rattle.std.specs.Prelude.{drop, not, ◌&&◌, ◌||◌, is_some, ◌-◌}
 use Rattle.usi_lines.specs.Lines.{ahead}
+use Rattle.usi_session.specs.declared.question.Question.{Question}
 use Rattle.usi_session.specs.declared.state.HeldBestmove.{HeldBestmove}
 use Rattle.usi_session.specs.Answer.{bestmove_at, write_or_hold}
-use Rattle.usi_session.proofs.HandLaws.{info_lines_above-none, write_or_hold-bytes, write_or_hold-state}
+use Rattle.usi_session.proofs.HandLaws.{infos_after-last, write_or_hold-bytes, write_or_hold-state}
 use Rattle.usi_lines.specs.Lines.{Line}
 use Rattle.usi_session.specs.declared.state.State.{State}
 use Rattle.usi_session.specs.Replies.{replies_from, state_from, answer_to, answer_unless}
-use Rattle.usi_session.specs.InHand.{InHand, rest_of_go, rest_of_go_if, with_rest, load_of_if, info_lines_above, most_turns}
+use Rattle.usi_session.specs.InHand.{InHand, rest_of_go, rest_of_go_if, with_rest, load_of, load_of_if, infos_left, infos_after, is_last, tells_of_if, most_tells}
 use Rattle.usi_session.specs.Costs.{costs_from, cost_to}
 use Rattle.usi_session.specs.Due.{SessionView, owed, owed_after, load_ahead, is_pending, has_line}
 use Rattle.usi_session.proofs.Settled.{replies_from-over}
@@ -69,27 +70,64 @@ pub state_on : (s next : State) (idle in_hand : Option InHand) (line : Line) (al
 state_on s next idle in_hand line all rest alive i e h =
     ap (λ (t : State). state_from t rest) h ∙ (sym (state_from-alive s line rest alive) ∙ (ap (state_from s) (sym e) ∙ ap (λ (o : Option InHand). state_from (rest_of_go_if s o).state all) (sym i)))
 
--- a `go` that has told a depth more leads to the same state
-pub state_told : (s : State) (go more : InHand) (in_hand : Option InHand) (ahead : List Line) → in_hand ≡ Some go → more.root ≡ go.root → more.eval ≡ go.eval → more.depth ≡ go.depth → more.hold ≡ go.hold → state_from (rest_of_go s more).state ahead ≡ state_from (rest_of_go_if s in_hand).state ahead
-state_told s go more in_hand ahead i r v d h =
-    let same : (rest_of_go s more).state ≡ (rest_of_go s go).state = write_or_hold-state s (info_lines_above more.root more.eval more.told (more.depth - more.told)) (bestmove_at more.root more.eval more.depth more.hold) more.hold
-    ∙ (rw (r, v, d, h) (sym (write_or_hold-state s (info_lines_above go.root go.eval go.told (go.depth - go.told)) (bestmove_at go.root go.eval go.depth go.hold) go.hold))) in
-    ap (λ (t : State). state_from t ahead) same ∙ ap (λ (o : Option InHand). state_from (rest_of_go_if s o).state ahead) (sym i)
+-- the bestmove of a `go` in hand
+abbrev bestmove_of : InHand → HeldBestmove
+bestmove_of go = bestmove_at go.question.position go.question.eval go.question.depth go.question.hold
 
--- and so does its end
-pub state_ends : (s next : State) (go : InHand) (in_hand : Option InHand) (held : HeldBestmove) (ahead : List Line) → in_hand ≡ Some go → held ≡ bestmove_at go.root go.eval go.depth go.hold → next ≡ (write_or_hold s [] held held.until).state → state_from next ahead ≡ state_from (rest_of_go_if s in_hand).state ahead
+rest-bytes : (s : State) (go : InHand) → (rest_of_go s go).bytes ≡ infos_left go.question go.told go.shown ++ (write_or_hold s [] (bestmove_of go) go.question.hold).bytes
+rest-bytes s go = write_or_hold-bytes s (infos_left go.question go.told go.shown) (bestmove_of go) go.question.hold
+
+rest-state : (s : State) (go : InHand) → (rest_of_go s go).state ≡ (write_or_hold s [] (bestmove_of go) go.question.hold).state
+rest-state s go = write_or_hold-state s (infos_left go.question go.told go.shown) (bestmove_of go) go.question.hold
+
+-- a `go` that has told a line more leads to the same state
+rest_told-state : (s : State) (go more : InHand) → more.question ≡ go.question → (rest_of_go s more).state ≡ (rest_of_go s go).state
+rest_told-state s go more q =
+    rest-state s more ∙ (ap (λ (asked : Question). (write_or_hold s [] (bestmove_at asked.position asked.eval asked.depth asked.hold) asked.hold).state) q ∙ sym (rest-state s go))
+
+pub state_told : (s : State) (go more : InHand) (in_hand : Option InHand) (ahead : List Line) → in_hand ≡ Some go → more.question ≡ go.question → state_from (rest_of_go s more).state ahead ≡ state_from (rest_of_go_if s in_hand).state ahead
+state_told s go more in_hand ahead i q =
+    ap (λ (t : State). state_from t ahead) (rest_told-state s go more q) ∙ ap (λ (o : Option InHand). state_from (rest_of_go_if s o).state ahead) (sym i)
+
+-- and costs no more, with the lines ahead
+pub load_told : (s : State) (go more : InHand) (in_hand : Option InHand) (ahead : List Line) → in_hand ≡ Some go → more.question ≡ go.question → load_of more ≤ load_of go → load_ahead s (Some more) ahead ≤ load_ahead s in_hand ahead
+load_told s go more in_hand ahead i q less =
+    let same : costs_from (rest_of_go s more).state ahead ≡ costs_from (rest_of_go s go).state ahead = ap (λ (t : State). costs_from t ahead) (rest_told-state s go more q) in
+    rw i (omega arith)
+
+-- the line was told
+pub due_told : (s : State) (queued more infos : List ℕ) (go next : InHand) (in_hand : Option InHand) (ahead : List Line) → s.is_over ≡ false → in_hand ≡ Some go → next.question ≡ go.question → infos_left next.question next.told next.shown ≡ infos_after go.question go.told go.shown
+    → infos ++ infos_after go.question go.told go.shown ≡ infos_left go.question go.told go.shown → more ≡ queued ++ infos → more ++ owed s (Some next) ahead ≡ queued ++ owed s in_hand ahead
+due_told s queued more infos go next in_hand ahead alive i q f g m =
+    let last : (write_or_hold s [] (bestmove_of next) next.question.hold).bytes ≡ (write_or_hold s [] (bestmove_of go) go.question.hold).bytes = ap (λ (asked : Question). (write_or_hold s [] (bestmove_at asked.position asked.eval asked.depth asked.hold) asked.hold).bytes) q in
+    let bytes : infos ++ (rest_of_go s next).bytes ≡ (rest_of_go s go).bytes = ap (λ xs. infos ++ xs) (rest-bytes s next) ∙ (sym (append_assoc infos (infos_left next.question next.told next.shown) (write_or_hold s [] (bestmove_of next) next.question.hold).bytes)
+    ∙ (ap (λ xs. (infos ++ xs) ++ (write_or_hold s [] (bestmove_of next) next.question.hold).bytes) f ∙ (ap (λ xs. xs ++ (write_or_hold s [] (bestmove_of next) next.question.hold).bytes) g ∙ (ap (λ xs. infos_left go.question go.told go.shown ++ xs) last ∙ sym (rest-bytes s go))))) in
+    let before : owed s in_hand ahead ≡ (rest_of_go s go).bytes ++ replies_from (rest_of_go s go).state ahead = ap (λ (o : Option InHand). owed s o ahead) i ∙ owed-alive s (Some go) ahead alive in
+    let after : owed s (Some next) ahead ≡ (rest_of_go s next).bytes ++ replies_from (rest_of_go s go).state ahead = owed-alive s (Some next) ahead alive ∙ ap (λ (t : State). (rest_of_go s next).bytes ++ replies_from t ahead) (rest_told-state s go next q) in
+    ap (λ xs. xs ++ owed s (Some next) ahead) m ∙ (append_assoc queued infos (owed s (Some next) ahead)
+    ∙ ap (λ xs. queued ++ xs) (ap (λ xs. infos ++ xs) after ∙ (sym (append_assoc infos (rest_of_go s next).bytes (replies_from (rest_of_go s go).state ahead)) ∙ (ap (λ xs. xs ++ replies_from (rest_of_go s go).state ahead) bytes ∙ sym before))))
+
+-- its end leads to the same state
+ends-state : (s next : State) (go : InHand) (held : HeldBestmove) → held ≡ bestmove_of go → next ≡ (write_or_hold s [] held held.until).state → (rest_of_go s go).state ≡ next
+ends-state s next go held e h = rest-state s go ∙ (ap (λ (k : HeldBestmove). (write_or_hold s [] k k.until).state) (sym e) ∙ sym h)
+
+pub state_ends : (s next : State) (go : InHand) (in_hand : Option InHand) (held : HeldBestmove) (ahead : List Line) → in_hand ≡ Some go → held ≡ bestmove_at go.question.position go.question.eval go.question.depth go.question.hold → next ≡ (write_or_hold s [] held held.until).state → state_from next ahead ≡ state_from (rest_of_go_if s in_hand).state ahead
 state_ends s next go in_hand held ahead i e h =
-    let state : (rest_of_go s go).state ≡ next = write_or_hold-state s (info_lines_above go.root go.eval go.told (go.depth - go.told)) (bestmove_at go.root go.eval go.depth go.hold) go.hold ∙ (ap (λ (k : HeldBestmove). (write_or_hold s [] k k.until).state) (sym e) ∙ sym h) in
-    ap (λ (t : State). state_from t ahead) (sym state) ∙ ap (λ (o : Option InHand). state_from (rest_of_go_if s o).state ahead) (sym i)
+    ap (λ (t : State). state_from t ahead) (sym (ends-state s next go held e h)) ∙ ap (λ (o : Option InHand). state_from (rest_of_go_if s o).state ahead) (sym i)
 
--- the last depth was told, and the bestmove written or held
-pub due_ends : (s next : State) (queued more infos reply : List ℕ) (go : InHand) (in_hand : Option InHand) (held : HeldBestmove) (ahead : List Line) → s.is_over ≡ false → in_hand ≡ Some go → go.told + 1 ≡ go.depth → held ≡ bestmove_at go.root go.eval go.depth go.hold
-    → infos ++ info_lines_above go.root go.eval (go.told + 1) (go.depth - (go.told + 1)) ≡ info_lines_above go.root go.eval go.told (go.depth - go.told) → reply ≡ infos ++ (write_or_hold s [] held held.until).bytes → next ≡ (write_or_hold s [] held held.until).state → more ≡ queued ++ reply
-    → more ++ owed next None ahead ≡ queued ++ owed s in_hand ahead
+-- and costs no more
+pub load_ends : (s next : State) (go : InHand) (in_hand : Option InHand) (held : HeldBestmove) (ahead : List Line) → in_hand ≡ Some go → held ≡ bestmove_at go.question.position go.question.eval go.question.depth go.question.hold → next ≡ (write_or_hold s [] held held.until).state → load_ahead next None ahead ≤ load_ahead s in_hand ahead
+load_ends s next go in_hand held ahead i e h =
+    let same : costs_from (rest_of_go s go).state ahead ≡ costs_from next ahead = ap (λ (t : State). costs_from t ahead) (ends-state s next go held e h) in
+    rw i (omega arith)
+
+-- the last line was told, and the bestmove written or held
+pub due_ends : (s next : State) (queued more infos reply : List ℕ) (go : InHand) (in_hand : Option InHand) (held : HeldBestmove) (ahead : List Line) → s.is_over ≡ false → in_hand ≡ Some go → is_last go ≡ true → held ≡ bestmove_at go.question.position go.question.eval go.question.depth go.question.hold
+    → infos ++ infos_after go.question go.told go.shown ≡ infos_left go.question go.told go.shown → reply ≡ infos ++ (write_or_hold s [] held held.until).bytes → next ≡ (write_or_hold s [] held held.until).state → more ≡ queued ++ reply → more ++ owed next None ahead ≡ queued ++ owed s in_hand ahead
 due_ends s next queued more infos reply go in_hand held ahead alive i last e f g h m =
-    let lines : infos ≡ info_lines_above go.root go.eval go.told (go.depth - go.told) = sym (append-nil infos) ∙ (ap (λ xs. infos ++ xs) (sym (info_lines_above-none go.root go.eval (go.told + 1) go.depth last)) ∙ f) in
-    let bytes : (rest_of_go s go).bytes ≡ reply = write_or_hold-bytes s (info_lines_above go.root go.eval go.told (go.depth - go.told)) (bestmove_at go.root go.eval go.depth go.hold) go.hold ∙ (ap (λ xs. xs ++ (write_or_hold s [] (bestmove_at go.root go.eval go.depth go.hold) go.hold).bytes) (sym lines) ∙ (ap (λ (k : HeldBestmove). infos ++ (write_or_hold s [] k k.until).bytes) (sym e) ∙ sym g)) in
-    let state : (rest_of_go s go).state ≡ next = write_or_hold-state s (info_lines_above go.root go.eval go.told (go.depth - go.told)) (bestmove_at go.root go.eval go.depth go.hold) go.hold ∙ (ap (λ (k : HeldBestmove). (write_or_hold s [] k k.until).state) (sym e) ∙ sym h) in
+    let lines : infos ≡ infos_left go.question go.told go.shown = sym (append-nil infos) ∙ (ap (λ xs. infos ++ xs) (sym (infos_after-last go last)) ∙ f) in
+    let bytes : (rest_of_go s go).bytes ≡ reply = rest-bytes s go ∙ (ap (λ xs. xs ++ (write_or_hold s [] (bestmove_of go) go.question.hold).bytes) (sym lines) ∙ (ap (λ (k : HeldBestmove). infos ++ (write_or_hold s [] k k.until).bytes) (sym e) ∙ sym g)) in
+    let state : (rest_of_go s go).state ≡ next = ends-state s next go held e h in
     let before : owed s in_hand ahead ≡ (rest_of_go s go).bytes ++ replies_from (rest_of_go s go).state ahead = ap (λ (o : Option InHand). owed s o ahead) i ∙ owed-alive s (Some go) ahead alive in
     let after : owed next None ahead ≡ replies_from next ahead = owed_on next None ahead (λ _. refl) in
     ap (λ xs. more ++ xs) after ∙ (ap (λ xs. xs ++ replies_from next ahead) m ∙ (append_assoc queued reply (replies_from next ahead)
@@ -103,6 +141,9 @@ alive_of true some e = absurd (cc)
 pub pending_alive : (s : SessionView) → is_pending s ≡ true → s.state.is_over ≡ false
 pending_alive s e = alive_of s.state.is_over (is_some s.in_hand || has_line (ahead s.input [])) e
 
--- fewer lines are ahead
-pub fewer : (line : Line) (old new : List Line) (more : ℕ) → old ≡ line ∷ drop 1 old → new ≡ drop 1 old → more ≤ most_turns → (most_turns + 1) * length new + more < (most_turns + 1) * length old + 0
-fewer line old new more e f less = let n : length old ≡ length (line ∷ drop 1 old) = ap length e in rw f (omega arith)
+-- a line less is ahead, and its `go` has fewer lines to tell than it stood for
+pub turns_on : (s next : State) (idle in_hand : Option InHand) (line : Line) (all rest : List Line) → s.is_over ≡ false → idle ≡ None → all ≡ line ∷ rest → (rest_of_go_if next in_hand).state ≡ (answer_to s line).state → load_of_if in_hand ≤ cost_to s line → tells_of_if in_hand ≤ most_tells
+    → load_ahead next in_hand rest + ((most_tells + 1) * length rest + tells_of_if in_hand) < load_ahead s idle all + ((most_tells + 1) * length all + tells_of_if idle)
+turns_on s next idle in_hand line all rest alive i e h less least =
+    let n : length all ≡ length (line ∷ rest) = ap length e in
+    omega (arith, load_on s next idle in_hand line all rest alive i e h less)

@@ -1,13 +1,13 @@
 -- Every reply is whole lines.
-use Rattle.std.proofs.Common.{◌≡◌, ℕ, zero, suc, List, [], ◌∷◌, ◌++◌, refl, sym, ap, ◌∙◌, append_assoc, append-nil, Option, Some, None, Result, Ok, Err}
+use Rattle.std.proofs.Common.{◌≡◌, ℕ, ℤ, zero, suc, ◌+◌, ◌-◌, ◌==◌, Bool, true, false, cond, List, [], ◌∷◌, ◌++◌, refl, sym, ap, ◌∙◌, append_assoc, append-nil, Option, Some, None, Result, Ok, Err}
 use Rattle.std.specs.Prelude.{codes, decimal, OnSome, unwrap_or}
 use Rattle.shogi_core.specs.Position.{Shogi}
 use Rattle.shogi_core.specs.declared.moves.Move.{Move}
 use Rattle.shogi_moves.specs.LegalMoves.{legal_codes}
 use Rattle.shogi_eval.specs.declared.eval.Eval.{Eval}
-use Rattle.shogi_search.specs.Minimax.{value, pv}
+use Rattle.shogi_search.specs.Minimax.{value, worth, pv}
 use Rattle.shogi_sfen.specs.MoveTexts.{text_of}
-use Rattle.usi_lines.specs.Commands.{Command, Usi, IsReady, SetDepth, SetEval, NewGame, Startpos, Sfen, BadPosition, Go, GoMate, Stop, PonderHit, GameOver, Quit, Other}
+use Rattle.usi_lines.specs.Commands.{Command, Usi, IsReady, SetDepth, SetEval, SetLines, NewGame, Startpos, Sfen, BadPosition, Go, GoMate, Stop, PonderHit, GameOver, Quit, Other}
 use Rattle.usi_lines.specs.CommandLines.{command_of}
 use Rattle.usi_lines.specs.Lines.{Line, Text, TooLong}
 use Rattle.usi_lines.specs.declared.command.Hold.{Hold}
@@ -17,9 +17,9 @@ use Rattle.usi_session.specs.declared.position_command.Refusal.TheVariants as re
 use Rattle.usi_session.specs.declared.state.HeldBestmove.{HeldBestmove}
 use Rattle.usi_session.specs.declared.state.State.{State}
 use Rattle.usi_session.specs.Options.{option_lines}
-use Rattle.usi_session.specs.Texts.{usi_reply, score_text, moves_text, info_line, bestmove_line, bad_position_line, illegal_move_line}
+use Rattle.usi_session.specs.Texts.{usi_reply, score_text, moves_text, valued_pv_text, info_text, numbered_info_text, info_line, bestmove_line, bad_position_line, illegal_move_line}
 use Rattle.usi_session.specs.PositionCommand.{position_of_startpos, position_of_sfen}
-use Rattle.usi_session.specs.GoCommand.{info_lines, go_infos, go_infos_where}
+use Rattle.usi_session.specs.GoCommand.{listed, pv_by, numbered_line, numbered_lines, depth_lines, info_lines, go_infos, go_infos_where}
 use Rattle.usi_session.specs.Answer.{answer, answer_position, write_or_hold, answer_stop, answer_ponderhit_held, answer_ponderhit, held_line, bestmove_at}
 use Rattle.usi_session.specs.Replies.{answer_to}
 use Rattle.usi_session.specs.InHand.{InHand, with_rest}
@@ -44,13 +44,20 @@ lf = record { ends = λ before. refl }
 after : (xs : List ℕ) {ys : List ℕ} → EndsInLf ys → EndsInLf (xs ++ ys)
 after xs {ys} e = record { ends = λ before. last_byte-then before xs ys ∙ e.ends (last_byte before xs) }
 
-info_ends : (p : Shogi) (eval : Eval) (depth : ℕ) → EndsInLf (info_line p eval depth)
-info_ends p eval depth =
-    after (codes "info depth " ++ (decimal depth ++ codes " score ")) (after (score_text depth (value p eval depth))
-    (after (codes " pv") (after (moves_text (pv p eval depth)) lf)))
+valued_pv_ends : (which : List ℕ) (depth : ℕ) (value : ℤ) (moves : List Move) → EndsInLf (valued_pv_text which depth value moves)
+valued_pv_ends which depth value moves =
+    after (codes "info depth " ++ (decimal depth ++ (which ++ codes " score "))) (after (score_text depth value)
+    (after (codes " pv") (after (moves_text moves) lf)))
 
-pub info_whole : (p : Shogi) (eval : Eval) (depth : ℕ) → AreWholeLines (info_line p eval depth)
-info_whole p eval depth = (info_ends p eval depth).ends LINE_FEED
+pub info_whole : (depth : ℕ) (value : ℤ) (moves : List Move) → AreWholeLines (info_text depth value moves)
+info_whole depth value moves = (valued_pv_ends [] depth value moves).ends LINE_FEED
+
+pub numbered_info_whole : (depth number : ℕ) (value : ℤ) (moves : List Move) → AreWholeLines (numbered_info_text depth number value moves)
+numbered_info_whole depth number value moves = (valued_pv_ends (codes " multipv " ++ decimal number) depth value moves).ends LINE_FEED
+
+-- a text of whole lines was appended
+pub grows_by_text : (old new text : List ℕ) → new ≡ old ++ text → AreWholeLines text → GrowsByLines old new
+grows_by_text old new text e whole = record { lines = text; after_is = e; whole = whole }
 
 bestmove_ends : (best ponder : Option Move) → EndsInLf (bestmove_line best ponder)
 bestmove_ends None ponder = after (codes "bestmove resign") lf
@@ -72,14 +79,26 @@ bad_position_line-ends fault = after (codes "info string bad position ") (after 
 illegal_move_line-ends : (number : ℕ) → EndsInLf (illegal_move_line number)
 illegal_move_line-ends number = after (codes "info string illegal move ") (after (decimal number) lf)
 
-info_lines-whole : (p : Shogi) (eval : Eval) (depth : ℕ) → AreWholeLines (info_lines p eval depth)
-unfolding info_lines
-info_lines-whole p eval zero = refl
-info_lines-whole p eval (suc depth) = lines_then (info_lines p eval depth) (info_line p eval (suc depth)) (info_lines-whole p eval depth) (info_whole p eval (suc depth))
+numbered_lines-whole : (p : Shogi) (eval : Eval) (depth number : ℕ) (codes : List ℕ) → AreWholeLines (numbered_lines p eval depth number codes)
+unfolding numbered_lines
+numbered_lines-whole p eval depth number [] = refl
+numbered_lines-whole p eval depth number (code ∷ rest) = lines_then (numbered_line p eval depth number code) (numbered_lines p eval depth (number + 1) rest) (numbered_info_whole depth number (worth p eval (depth - 1) code) (pv_by p eval depth code)) (numbered_lines-whole p eval depth (number + 1) rest)
 
-go_infos_where-whole : (p : Shogi) (eval : Eval) (depth : ℕ) (moves : List ℕ) → AreWholeLines (go_infos_where p eval depth moves)
-go_infos_where-whole p eval depth [] = refl
-go_infos_where-whole p eval depth (m ∷ rest) = info_lines-whole p eval depth
+either-whole : (b : Bool) (xs ys : List ℕ) → AreWholeLines xs → AreWholeLines ys → AreWholeLines (cond b xs ys)
+either-whole true xs ys e f = e
+either-whole false xs ys e f = f
+
+depth_lines-whole : (p : Shogi) (eval : Eval) (pv_lines depth : ℕ) → AreWholeLines (depth_lines p eval pv_lines depth)
+depth_lines-whole p eval pv_lines depth = either-whole (pv_lines == 1) (info_line p eval depth) (numbered_lines p eval depth 1 (listed p eval pv_lines depth)) (info_whole depth (value p eval depth) (pv p eval depth)) (numbered_lines-whole p eval depth 1 (listed p eval pv_lines depth))
+
+info_lines-whole : (p : Shogi) (eval : Eval) (pv_lines depth : ℕ) → AreWholeLines (info_lines p eval pv_lines depth)
+unfolding info_lines
+info_lines-whole p eval pv_lines zero = refl
+info_lines-whole p eval pv_lines (suc depth) = lines_then (info_lines p eval pv_lines depth) (depth_lines p eval pv_lines (suc depth)) (info_lines-whole p eval pv_lines depth) (depth_lines-whole p eval pv_lines (suc depth))
+
+go_infos_where-whole : (p : Shogi) (eval : Eval) (pv_lines depth : ℕ) (moves : List ℕ) → AreWholeLines (go_infos_where p eval pv_lines depth moves)
+go_infos_where-whole p eval pv_lines depth [] = refl
+go_infos_where-whole p eval pv_lines depth (m ∷ rest) = info_lines-whole p eval pv_lines depth
 
 write_or_hold-whole : (s : State) (infos : List ℕ) (held : HeldBestmove) (hold : Hold) → AreWholeLines infos → AreWholeLines (write_or_hold s infos held hold).bytes
 write_or_hold-whole s infos held Nothing e = lines_then infos (held_line held) e (bestmove_whole held.best held.ponder)
@@ -109,11 +128,12 @@ answer-whole s Usi = usi_ends.ends LINE_FEED
 answer-whole s IsReady = refl
 answer-whole s (SetDepth depth) = refl
 answer-whole s (SetEval eval) = refl
+answer-whole s (SetLines pv_lines) = refl
 answer-whole s NewGame = refl
 answer-whole s (Startpos rest) = answer_position-whole s (position_of_startpos rest)
 answer-whole s (Sfen rest) = answer_position-whole s (position_of_sfen rest)
 answer-whole s BadPosition = (bad_position_line-ends 0).ends LINE_FEED
-answer-whole s (Go depth hold) = write_or_hold-whole s (go_infos s.position s.options.eval (unwrap_or depth s.options.depth)) (bestmove_at s.position s.options.eval (unwrap_or depth s.options.depth) hold) hold (go_infos_where-whole s.position s.options.eval (unwrap_or depth s.options.depth) (legal_codes s.position))
+answer-whole s (Go depth hold) = write_or_hold-whole s (go_infos s.position s.options.eval s.options.pv_lines (unwrap_or depth s.options.depth)) (bestmove_at s.position s.options.eval (unwrap_or depth s.options.depth) hold) hold (go_infos_where-whole s.position s.options.eval s.options.pv_lines (unwrap_or depth s.options.depth) (legal_codes s.position))
 answer-whole s GoMate = refl
 answer-whole s Stop = answer_stop-whole s s.held
 answer-whole s PonderHit = answer_ponderhit-whole s s.held
@@ -130,14 +150,14 @@ pub reply_whole : (s next : State) (reply : List ℕ) (in_hand : Option InHand) 
 reply_whole s next reply None line e quiet = ap (last_byte LINE_FEED) e ∙ answer_to-whole s line
 reply_whole s next reply (Some go) line e quiet = ap (last_byte LINE_FEED) quiet
 
--- a depth is told
-pub told_whole : (p : Shogi) (eval : Eval) (depth : ℕ) (told : List ℕ) → told ≡ info_line p eval depth → AreWholeLines told
-told_whole p eval depth told e = ap (last_byte LINE_FEED) e ∙ info_whole p eval depth
+-- a line is told
+pub told_whole : (told : List ℕ) → GrowsByLines [] told → AreWholeLines told
+told_whole told g = ap (last_byte LINE_FEED) g.after_is ∙ g.whole
 
--- the last depth is told, and the bestmove written or held
-pub end_whole : (s : State) (p : Shogi) (eval : Eval) (depth : ℕ) (told reply : List ℕ) (held : HeldBestmove) → told ≡ info_line p eval depth → reply ≡ told ++ (write_or_hold s [] held held.until).bytes → AreWholeLines reply
-end_whole s p eval depth told reply held e f =
-    ap (last_byte LINE_FEED) f ∙ lines_then told (write_or_hold s [] held held.until).bytes (told_whole p eval depth told e) (write_or_hold-whole s [] held held.until refl)
+-- the last line is told, and the bestmove written or held
+pub end_whole : (s : State) (told reply : List ℕ) (held : HeldBestmove) → GrowsByLines [] told → reply ≡ told ++ (write_or_hold s [] held held.until).bytes → AreWholeLines reply
+end_whole s told reply held g f =
+    ap (last_byte LINE_FEED) f ∙ lines_then told (write_or_hold s [] held held.until).bytes (told_whole told g) (write_or_hold-whole s [] held held.until refl)
 
 -- nothing came
 pub grows_by_none : (queued : List ℕ) → GrowsByLines queued queued

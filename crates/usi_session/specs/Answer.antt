@@ -4,7 +4,7 @@ use Rattle.shogi_core.specs.Position.{Shogi}
 use Rattle.shogi_core.specs.Start.{start}
 use Rattle.shogi_eval.specs.declared.eval.Eval.{Eval}
 use Rattle.shogi_search.specs.Minimax.{pv}
-use Rattle.usi_lines.specs.Commands.{Command, Usi, IsReady, SetDepth, SetEval, NewGame, Startpos, Sfen, BadPosition, Go, GoMate, Stop, PonderHit, GameOver, Quit, Other}
+use Rattle.usi_lines.specs.Commands.{Command, Usi, IsReady, SetDepth, SetEval, SetLines, NewGame, Startpos, Sfen, BadPosition, Go, GoMate, Stop, PonderHit, GameOver, Quit, Other}
 use Rattle.usi_lines.specs.declared.command.Hold.{Hold}
 use Rattle.usi_lines.specs.declared.command.Hold.TheVariants.{Nothing, UntilStop, UntilHit}
 use Rattle.usi_session.specs.declared.position_command.Refusal.{Refusal}
@@ -53,9 +53,9 @@ write_or_hold state infos held Nothing = answer_with (without_bestmove state) (i
 write_or_hold state infos held UntilStop = answer_with (record state { held = Some held }) infos
 write_or_hold state infos held UntilHit = answer_with (record state { held = Some held }) infos
 
--- `go` at a depth, by the evaluation of the session: what was held is dropped
+-- `go` at a depth, by the evaluation and with the lines of the session: what was held is dropped
 abbrev pub answer_go : State → ℕ → Hold → Answer
-answer_go state depth hold = write_or_hold state (go_infos state.position state.options.eval depth) (bestmove_at state.position state.options.eval depth hold) hold
+answer_go state depth hold = write_or_hold state (go_infos state.position state.options.eval state.options.pv_lines depth) (bestmove_at state.position state.options.eval depth hold) hold
 
 -- `stop`: the held bestmove is written, and nothing is held any more
 abbrev pub answer_stop : State → Option HeldBestmove → Answer
@@ -79,6 +79,7 @@ answer state Usi = answer_with state usi_reply
 answer state IsReady = answer_with state ready_reply
 answer state (SetDepth depth) = answer_with (record state { options = record state.options { depth = depth } }) []
 answer state (SetEval eval) = answer_with (record state { options = record state.options { eval = eval } }) []
+answer state (SetLines pv_lines) = answer_with (record state { options = record state.options { pv_lines = pv_lines } }) []
 answer state NewGame = answer_with (record state { position = start; held = None }) []
 answer state (Startpos rest) = answer_position state (position_of_startpos rest)
 answer state (Sfen rest) = answer_position state (position_of_sfen rest)

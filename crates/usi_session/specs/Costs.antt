@@ -1,15 +1,35 @@
 -- The steps that the `go` lines among unread lines may cost.
-use Rattle.std.specs.Prelude.{ℕ, ◌+◌, List, [], ◌∷◌, unwrap_or, cond}
-use Rattle.shogi_search.specs.Minimax.{deepening_cost}
+use Rattle.std.specs.Prelude.{ℕ, zero, suc, ◌+◌, ◌-◌, ◌*◌, ◌==◌, List, [], ◌∷◌, unwrap_or, cond, sum_by}
+use Rattle.shogi_core.specs.Position.{Shogi}
+use Rattle.shogi_eval.specs.declared.eval.Eval.{Eval}
+use Rattle.shogi_moves.specs.After.{after_code}
+use Rattle.shogi_moves.specs.LegalMoves.{legal_codes}
+use Rattle.shogi_search.specs.Minimax.{pv_cost, subtree_sizes}
 use Rattle.usi_lines.specs.Commands.{Command, Go}
 use Rattle.usi_lines.specs.CommandLines.{command_of}
 use Rattle.usi_lines.specs.Lines.{Line, Text, TooLong}
 use Rattle.usi_session.specs.declared.state.State.{State}
+use Rattle.usi_session.specs.GoCommand.{listed}
 use Rattle.usi_session.specs.Replies.{answer_line}
 
--- a `go` costs the searches of its depth from the position where it stands; no other command costs a step
+-- the search steps along the pvs of these moves, each with depth plies after the move
+abbrev pub pvs_cost : Shogi → Eval → ℕ → List ℕ → ℕ
+pvs_cost position eval depth moves = sum_by (λ code. pv_cost (after_code position code) eval depth) moves
+
+-- a depth costs the searches along its pv, or with several lines the search after each legal move, and those along each pv listed
+abbrev pub depth_cost : Shogi → Eval → ℕ → ℕ → ℕ
+depth_cost position eval pv_lines depth =
+    cond (pv_lines == 1) (pv_cost position eval depth)
+    (2 * subtree_sizes position (depth - 1) (legal_codes position) + pvs_cost position eval (depth - 1) (listed position eval pv_lines depth))
+
+-- the sum over each depth from 1 to this one
+unfoldable pub depths_cost : Shogi → Eval → ℕ → ℕ → ℕ
+depths_cost position eval pv_lines zero = 0
+depths_cost position eval pv_lines (suc depth) = depths_cost position eval pv_lines depth + depth_cost position eval pv_lines (suc depth)
+
+-- a `go` costs the searches of its depths from the position where it stands; no other command costs a step
 abbrev pub cost_of_command : State → Command → ℕ
-cost_of_command state (Go depth hold) = deepening_cost state.position state.options.eval (unwrap_or depth state.options.depth)
+cost_of_command state (Go depth hold) = depths_cost state.position state.options.eval state.options.pv_lines (unwrap_or depth state.options.depth)
 cost_of_command state _ = 0
 
 abbrev pub cost_to : State → Line → ℕ

@@ -3,7 +3,7 @@ use Rattle.std.specs.Prelude.{◌≡◌, ℕ, ◌+◌, ◌*◌, List, [], ◌∷
 use Rattle.usi_lines.specs.Lines.{Buffer, Line, ahead}
 use Rattle.usi_session.specs.declared.state.State.{State}
 use Rattle.usi_session.specs.Answer.{Answer, initial_state}
-use Rattle.usi_session.specs.InHand.{InHand, rest_of_go_if, load_of_if, turns_of_if, most_turns}
+use Rattle.usi_session.specs.InHand.{InHand, rest_of_go_if, load_of_if, is_searching, tells_of_if, most_tells}
 use Rattle.usi_session.specs.Replies.{replies_from, state_from}
 use Rattle.usi_session.specs.Costs.{costs_from}
 use Rattle.usi_session.specs.declared.limits.TheConstants.{QUEUE_FULL}
@@ -51,16 +51,16 @@ is_pending session = not session.state.is_over && (is_some session.in_hand || ha
 -- a `go` is in hand, and a search of it is not at its end
 abbrev pub IsSearching : Option InHand → Type 0
 IsSearching None = ⊥
-IsSearching (Some go) = (0 < go.plies) × (0 < go.left)
+IsSearching (Some go) = (is_searching go ≡ true) × (0 < go.left)
 
--- the pv of the depth in hand is whole
+-- the pv of the line in hand is whole
 abbrev pub IsWhole : Option InHand → Type 0
 IsWhole None = ⊥
-IsWhole (Some go) = go.plies ≡ 0
+IsWhole (Some go) = is_searching go ≡ false
 
--- the turns that may still be taken: at most so many for each line, and one for each search that may end
+-- more than the turns that may still be taken: each makes a step less left, tells a line, or answers one
 abbrev pub turns : SessionView → ℕ
-turns session = (most_turns + 1) * length (ahead session.input []) + turns_of_if session.in_hand
+turns session = load session + ((most_tells + 1) * length (ahead session.input []) + tells_of_if session.in_hand)
 
 -- alive, nothing pending, and fewer than 65,536 bytes queued
 abbrev pub wants_input : SessionView → Bool

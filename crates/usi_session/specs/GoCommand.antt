@@ -1,10 +1,13 @@
--- What `go` says of a position (USI, go; a fixed depth is an own choice).
-use Rattle.std.specs.Prelude.{ℕ, zero, suc, List, [], ◌∷◌, ◌++◌, Option, slice_get}
+-- What `go` says of a position (USI, go, and info for several pvs; a fixed depth is an own choice).
+use Rattle.std.specs.Prelude.{ℕ, zero, suc, ◌+◌, ◌-◌, ◌==◌, List, [], ◌∷◌, ◌++◌, Option, slice_get, take, cond}
+use Rattle.shogi_core.specs.Codes.{move_of}
 use Rattle.shogi_core.specs.declared.moves.Move.{Move}
 use Rattle.shogi_core.specs.Position.{Shogi}
 use Rattle.shogi_eval.specs.declared.eval.Eval.{Eval}
 use Rattle.shogi_moves.specs.LegalMoves.{legal_codes}
-use Rattle.usi_session.specs.Texts.{info_line}
+use Rattle.shogi_search.specs.Minimax.{worth, pv, then_pv}
+use Rattle.shogi_search.specs.Ranked.{ranked_moves}
+use Rattle.usi_session.specs.Texts.{info_line, numbered_info_text}
 
 -- the move to play
 abbrev pub move_to_play : List Move → Option Move
@@ -14,16 +17,41 @@ move_to_play moves = slice_get moves 0
 abbrev pub move_to_ponder : List Move → Option Move
 move_to_ponder moves = slice_get moves 1
 
+-- the codes of the best moves at a depth of at least 1: as many as there are lines, or all that are legal
+abbrev pub listed : Shogi → Eval → ℕ → ℕ → List ℕ
+listed position eval pv_lines depth = take pv_lines (ranked_moves position eval depth)
+
+-- the move of a code, and the pv after it
+abbrev pub pv_by : Shogi → Eval → ℕ → ℕ → List Move
+pv_by position eval depth code = then_pv (λ next. pv next eval (depth - 1)) position (move_of code)
+
+-- what is said of a listed move at a depth: its number, what it is worth, and its pv
+abbrev pub numbered_line : Shogi → Eval → ℕ → ℕ → ℕ → List ℕ
+numbered_line position eval depth number code =
+    numbered_info_text depth number (worth position eval (depth - 1) code) (pv_by position eval depth code)
+
+-- the same of each of these moves, numbered from a number on
+unfoldable pub numbered_lines : Shogi → Eval → ℕ → ℕ → List ℕ → List ℕ
+numbered_lines position eval depth number [] = []
+numbered_lines position eval depth number (code ∷ rest) =
+    numbered_line position eval depth number code ++ numbered_lines position eval depth (number + 1) rest
+
+-- what is said of a position at a depth: its value and its pv, or with several lines each of the best moves
+abbrev pub depth_lines : Shogi → Eval → ℕ → ℕ → List ℕ
+depth_lines position eval pv_lines depth =
+    cond (pv_lines == 1) (info_line position eval depth) (numbered_lines position eval depth 1 (listed position eval pv_lines depth))
+
 -- what is said of a position at each depth from 1 to the given one
-unfoldable pub info_lines : Shogi → Eval → ℕ → List ℕ
-info_lines position eval zero = []
-info_lines position eval (suc depth) = info_lines position eval depth ++ info_line position eval (suc depth)
+unfoldable pub info_lines : Shogi → Eval → ℕ → ℕ → List ℕ
+info_lines position eval pv_lines zero = []
+info_lines position eval pv_lines (suc depth) =
+    info_lines position eval pv_lines depth ++ depth_lines position eval pv_lines (suc depth)
 
 -- no info lines where no move is legal
-abbrev pub go_infos_where : Shogi → Eval → ℕ → List ℕ → List ℕ
-go_infos_where position eval depth [] = []
-go_infos_where position eval depth (code ∷ codes) = info_lines position eval depth
+abbrev pub go_infos_where : Shogi → Eval → ℕ → ℕ → List ℕ → List ℕ
+go_infos_where position eval pv_lines depth [] = []
+go_infos_where position eval pv_lines depth (code ∷ codes) = info_lines position eval pv_lines depth
 
 -- what is said of a position before the bestmove
-abbrev pub go_infos : Shogi → Eval → ℕ → List ℕ
-go_infos position eval depth = go_infos_where position eval depth (legal_codes position)
+abbrev pub go_infos : Shogi → Eval → ℕ → ℕ → List ℕ
+go_infos position eval pv_lines depth = go_infos_where position eval pv_lines depth (legal_codes position)

@@ -4,8 +4,8 @@ pub mod PositionCommand
 pub mod GoCommand
 pub mod Answer
 pub mod Replies
+pub mod Costs
 pub mod InHand
 pub mod Walked
-pub mod Costs
 pub mod Due
 pub mod WholeLines

@@ -1,18 +1,19 @@
 -- The options of a session: what they are set to, and how they are offered (USI, option and setoption; names, ranges and defaults are an own choice).
 use Rattle.std.specs.Prelude.{ℕ, List, ◌++◌, codes, decimal}
 use Rattle.shogi_eval.specs.declared.eval.Eval.TheVariants.{Plain}
-use Rattle.usi_lines.specs.declared.options.TheConstants.{DEPTH_MIN, DEPTH_MAX}
-use Rattle.usi_lines.specs.Options.{IsDepth}
-use Rattle.usi_session.specs.declared.options.TheConstants.{DEPTH_DEFAULT}
+use Rattle.usi_lines.specs.declared.options.TheConstants.{DEPTH_MIN, DEPTH_MAX, PV_LINES_MIN, PV_LINES_MAX}
+use Rattle.usi_lines.specs.Options.{IsDepth, IsLineCount}
+use Rattle.usi_session.specs.declared.options.TheConstants.{DEPTH_DEFAULT, PV_LINES_DEFAULT}
 use Rattle.usi_session.specs.declared.options.Options.{Options}
 
 -- each option at its default
 abbrev pub default_options : Options
-default_options = record { depth = DEPTH_DEFAULT; eval = Plain }
+default_options = record { depth = DEPTH_DEFAULT; eval = Plain; pv_lines = PV_LINES_DEFAULT }
 
 -- each option that is a number lies in its range
 pub record AreInRange (options : Options) : Type 0 where
   pub depth_fits : IsDepth options.depth
+  pub pv_lines_fit : IsLineCount options.pv_lines
 
 -- the name of an option that is a number
 abbrev pub spin_name : List ℕ → List ℕ
@@ -32,4 +33,6 @@ eval_line = codes "option name Eval type combo default Plain var Plain var Hand\
 
 -- what is offered: a row for each option
 abbrev pub option_lines : List ℕ
-option_lines = spin_line (codes "Depth") DEPTH_DEFAULT DEPTH_MIN DEPTH_MAX ++ eval_line
+option_lines =
+    spin_line (codes "Depth") DEPTH_DEFAULT DEPTH_MIN DEPTH_MAX
+    ++ (eval_line ++ spin_line (codes "MultiPV") PV_LINES_DEFAULT PV_LINES_MIN PV_LINES_MAX)

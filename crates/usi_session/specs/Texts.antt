@@ -47,10 +47,18 @@ score_text depth (negsuc size) = size_text (codes "-") depth (size + 1)
 abbrev pub moves_text : List Move → List ℕ
 moves_text moves = flat_map (λ played. codes " " ++ text_of played) moves
 
+-- a value and a pv at a depth, after the words for which
+abbrev pub valued_pv_text : List ℕ → ℕ → ℤ → List Move → List ℕ
+valued_pv_text which depth value moves =
+    (codes "info depth " ++ (decimal depth ++ (which ++ codes " score "))) ++ (score_text depth value ++ (codes " pv" ++ (moves_text moves ++ codes "\n")))
+
 -- a value and a pv at a depth
 abbrev pub info_text : ℕ → ℤ → List Move → List ℕ
-info_text depth value moves =
-    (codes "info depth " ++ (decimal depth ++ codes " score ")) ++ (score_text depth value ++ (codes " pv" ++ (moves_text moves ++ codes "\n")))
+info_text depth value moves = valued_pv_text [] depth value moves
+
+-- the same for the pv of this number among several
+abbrev pub numbered_info_text : ℕ → ℕ → ℤ → List Move → List ℕ
+numbered_info_text depth number value moves = valued_pv_text (codes " multipv " ++ decimal number) depth value moves
 
 -- what is said of a position at a depth: its value and its pv
 abbrev pub info_line : Shogi → Eval → ℕ → List ℕ

@@ -7,19 +7,19 @@ ghost use Rattle.usi_lines.specs.declared.options.TheConstants.{DEPTH_MIN, DEPTH
 ghost use Rattle.usi_lines.specs.Options.{IsInRange};
 ghost use Rattle.usi_session.specs.Options.{AreInRange};
 ghost use Rattle.usi_session.specs.Answer.{answer, answer_position, answer_go, write_or_hold, answer_stop, answer_ponderhit};
-ghost use Rattle.usi_session.specs.Costs.{cost_of_command, cost_to};
+ghost use Rattle.usi_session.specs.Costs.{cost_of_command, cost_to, depths_cost};
 ghost use Rattle.usi_session.specs.Replies.{answer_to};
-ghost use Rattle.usi_session.specs.InHand.{rest_of_go_if, with_rest, load_of_if, turns_of_if, most_turns};
-ghost use Rattle.shogi_search.specs.Minimax.{deepening_cost};
+ghost use Rattle.usi_session.specs.InHand.{rest_of_go_if, with_rest, load_of_if, tells_of_if, most_tells};
 
 use crate::go_command::GoCommand;
 use crate::position_command::{Refusal, position_of_sfen, position_of_startpos};
+use crate::question::Question;
 use crate::state::{HeldBestmove, State};
 use crate::text::{
     write_bad_position, write_bestmove, write_illegal_move, write_mate_not_implemented, write_usi,
 };
 use shogi_core::Position;
-use shogi_moves::has_legal;
+use shogi_moves::next_legal;
 use std::alloc::{AllocError, Allocator};
 use usi_lines::{Command, Hold, Line, read_command};
 
@@ -69,27 +69,35 @@ fn answer_go<A: Allocator + Copy>(
     depth: u8,
     hold: Hold,
 ) -> Result<Option<GoCommand<A>>, AllocError>
+    requires options { AreInRange state.old.options }
     requires least { DEPTH_MIN ≤ depth }
     requires most { depth ≤ DEPTH_MAX }
     ensures bytes { IfOk result (λ in_hand. with_rest out.new.items state.new in_hand ≡ out.old.items ++ (answer_go state.old depth hold).bytes) }
     ensures state { IfOk result (λ in_hand. (rest_of_go_if state.new in_hand).state ≡ (answer_go state.old depth hold).state) }
-    ensures load { IfOk result (λ in_hand. load_of_if in_hand ≤ deepening_cost state.old.position state.old.options.eval depth) }
-    ensures turns { IfOk result (λ in_hand. turns_of_if in_hand ≤ most_turns) }
+    ensures load { IfOk result (λ in_hand. load_of_if in_hand ≤ depths_cost state.old.position state.old.options.eval state.old.options.pv_lines depth) }
+    ensures tells { IfOk result (λ in_hand. tells_of_if in_hand ≤ most_tells) }
     ensures quiet { IfOk result (λ in_hand. OnSome in_hand (out.new.items ≡ out.old.items)) }
     ensures options { OnOk result (state.new.options ≡ state.old.options) }
     ensures alive { OnOk result (state.new.is_over ≡ state.old.is_over) }
 {
-    if has_legal(&state.position) {
-        let in_hand = GoCommand::start(alloc, &state.position, state.options.eval, depth, hold)?;
-        return Ok(Some(in_hand));
-    }
-    let bestmove = HeldBestmove {
-        best: None,
-        ponder: None,
-        until: hold,
+    let Some(first) = next_legal(&state.position, None) else {
+        let bestmove = HeldBestmove {
+            best: None,
+            ponder: None,
+            until: hold,
+        };
+        write_or_hold(out, state, bestmove)?;
+        return Ok(None);
     };
-    write_or_hold(out, state, bestmove)?;
-    Ok(None)
+    let question = Question {
+        position: state.position,
+        eval: state.options.eval,
+        pv_lines: state.options.pv_lines,
+        depth,
+        hold,
+    };
+    let in_hand = GoCommand::start(alloc, question, first)?;
+    Ok(Some(in_hand))
 }
 
 /// Writes the held bestmove, if there is one, and holds nothing any more.
@@ -131,7 +139,7 @@ pub fn answer<A: Allocator + Copy>(
     ensures bytes { IfOk result (λ in_hand. with_rest out.new.items state.new in_hand ≡ out.old.items ++ (answer state.old (meaning_of command.entry)).bytes) }
     ensures state { IfOk result (λ in_hand. (rest_of_go_if state.new in_hand).state ≡ (answer state.old (meaning_of command.entry)).state) }
     ensures load { IfOk result (λ in_hand. load_of_if in_hand ≤ cost_of_command state.old (meaning_of command.entry)) }
-    ensures turns { IfOk result (λ in_hand. turns_of_if in_hand ≤ most_turns) }
+    ensures tells { IfOk result (λ in_hand. tells_of_if in_hand ≤ most_tells) }
     ensures quiet { IfOk result (λ in_hand. OnSome in_hand (out.new.items ≡ out.old.items)) }
     ensures over { IfOk result (λ in_hand. state.old.is_over ≡ false → state.new.is_over ≡ true → in_hand ≡ None) }
     ensures options { OnOk result (AreInRange state.new.options) }
@@ -141,6 +149,7 @@ pub fn answer<A: Allocator + Copy>(
         Command::IsReady => out.extend_from_slice(b"readyok\n")?,
         Command::SetDepth(depth) => state.options.depth = depth,
         Command::SetEval(eval) => state.options.eval = eval,
+        Command::SetLines(pv_lines) => state.options.pv_lines = pv_lines,
         Command::NewGame => {
             state.position = Position::start();
             state.held = None;
@@ -179,7 +188,7 @@ pub fn answer_line<A: Allocator + Copy>(
     ensures bytes { IfOk result (λ in_hand. with_rest out.new.items state.new in_hand ≡ out.old.items ++ (answer_to state.old (line_of line.entry)).bytes) }
     ensures state { IfOk result (λ in_hand. (rest_of_go_if state.new in_hand).state ≡ (answer_to state.old (line_of line.entry)).state) }
     ensures load { IfOk result (λ in_hand. load_of_if in_hand ≤ cost_to state.old (line_of line.entry)) }
-    ensures turns { IfOk result (λ in_hand. turns_of_if in_hand ≤ most_turns) }
+    ensures tells { IfOk result (λ in_hand. tells_of_if in_hand ≤ most_tells) }
     ensures quiet { IfOk result (λ in_hand. OnSome in_hand (out.new.items ≡ out.old.items)) }
     ensures over { IfOk result (λ in_hand. state.old.is_over ≡ false → state.new.is_over ≡ true → in_hand ≡ None) }
     ensures options { OnOk result (AreInRange state.new.options) }

@@ -1,52 +1,47 @@
-//! A `go` in hand: the searches along the pv of each depth, one after another.
+//! A `go` in hand: its searches, one after another, depth by depth.
 
-ghost use Rattle.std.specs.Prelude.{◌≡◌, ◌≢◌, ◌≤◌, ◌<◌, ◌+◌, ◌*◌, ◌-◌, ◌++◌, ◌==◌, nat_lt, IfOk, IfSome, IfNone, OnSome, OnOk};
-ghost use Rattle.shogi_search.specs.Minimax.{value, best};
-ghost use Rattle.usi_lines.specs.declared.options.TheConstants.{DEPTH_MIN, DEPTH_MAX};
+ghost use Rattle.std.specs.Prelude.{◌≡◌, ◌≤◌, ◌<◌, ◌+◌, ◌++◌, IfOk, IfSome, IfNone, OnSome, OnOk, true, false};
 ghost use Rattle.usi_session.specs.Answer.{bestmove_at};
 ghost use Rattle.usi_session.specs.GoCommand.{move_to_play, move_to_ponder};
-ghost use Rattle.usi_session.specs.Texts.{info_line};
-ghost use Rattle.usi_session.specs.InHand.{at_depth, info_lines_above, load_after_search, load_of, turns_of};
+ghost use Rattle.usi_session.specs.InHand.{infos_left, infos_after, ends_depth, is_last, is_searching, costs_above, load_of, tells_of};
+ghost use Rattle.usi_session.specs.Walked.{IsAsked, IsFirst};
+ghost use Rattle.usi_session.specs.WholeLines.{GrowsByLines};
 
+use crate::pv_walk::PvWalk;
+use crate::question::Question;
 use crate::state::HeldBestmove;
-use crate::text::write_info;
-use arrayvec::ArrayVec;
-use shogi_core::{Move, Position};
-use shogi_eval::Eval;
-use shogi_moves::apply;
-use shogi_search::{Found, Memo, Search};
+use crate::text::{write_info, write_numbered_info};
+use shogi_core::Move;
+use shogi_moves::{apply, next_legal};
+use shogi_search::{Memo, Ranks, Search};
 use std::alloc::{AllocError, Allocator};
 use std::marker::Model;
-use usi_lines::{DEPTH_MAX, Hold};
 
-/// The most moves of a pv: one for each ply.
-const PV_MAX: usize = DEPTH_MAX as usize;
-
-/// A `go` in hand. Of the depth after those that were told it knows the front of the pv, and
-/// the search of the position after that front. The search lies apart, since its stack is large.
+/// A `go` in hand. With one line it walks along the pv of each depth; with several it first searches
+/// each child of the root and ranks the moves, and then walks along the pv of each move that is
+/// listed. The search lies apart, since its stack is large.
 #[derive(Drop)]
 pub struct GoCommand<A: Allocator> {
-    root: Position,
-    eval: Eval,
-    depth: u8,
-    hold: Hold,
+    question: Question,
+    first: Move,
     told: u8,
-    plies: u8,
-    at: Position,
-    value: i32,
-    moves: ArrayVec<Move, PV_MAX>,
+    shown: u8,
+    child: Option<Move>,
+    ranks: Ranks,
+    walk: PvWalk,
+    bestmove: HeldBestmove,
     search: Box<Search, A>,
 }
 
 impl<A: Allocator> Model for GoCommand<A> {
     ghost use Rattle.usi_session.specs.InHand.{InHand};
-    ghost use Rattle.usi_session.specs.Walked.{IsWalked};
+    ghost use Rattle.usi_session.specs.Walked.{IsInHand};
 
     ghost Value = { InHand };
 
-    ghost view = { λ g. record { root = g.root; eval = g.eval; depth = g.depth; hold = g.hold; told = g.told; plies = g.plies; at = g.at; left = g.search.value.left } };
+    ghost view = { λ g. record { question = g.question; told = g.told; shown = g.shown; child = g.child; at = g.walk.at; plies = g.walk.plies; left = g.search.value.left } };
 
-    ghost invariant = { λ g. IsWalked g.root g.eval g.depth g.told g.plies g.at g.value g.moves.items g.search.value };
+    ghost invariant = { λ g. IsInHand g.question g.first g.told g.shown g.child g.ranks g.walk g.bestmove g.search.value };
 }
 
 /// The move to play.
@@ -65,137 +60,66 @@ fn move_to_ponder(moves: &[Move]) -> Option<Move>
 
 impl<A: Allocator> GoCommand<A> {
     /// A `go` at its first depth.
-    pub fn start(
-        alloc: A,
-        p: &Position,
-        eval: Eval,
-        depth: u8,
-        hold: Hold,
-    ) -> Result<GoCommand<A>, AllocError>
-        requires least { DEPTH_MIN ≤ depth }
-        requires most { depth ≤ DEPTH_MAX }
-        ensures { IfOk result (λ in_hand. in_hand ≡ at_depth p.now eval depth hold 0) }
+    pub fn start(alloc: A, question: Question, first: Move) -> Result<GoCommand<A>, AllocError>
+        requires asked { IsAsked question }
+        requires first { IsFirst question.position first }
+        ensures question { IfOk result (λ in_hand. in_hand.question ≡ question) }
+        ensures told { IfOk result (λ in_hand. (in_hand.told ≡ 0) × (in_hand.shown ≡ 0)) }
+        ensures load { IfOk result (λ in_hand. load_of in_hand ≤ costs_above question 0 question.depth) }
     {
-        let search = Box::new(alloc, Search::start(p, eval, 1))?;
-        Ok(GoCommand {
-            root: *p,
-            eval,
-            depth,
-            hold,
-            told: 0,
-            plies: 1,
-            at: *p,
-            value: 0,
-            moves: ArrayVec::new(),
-            search,
-        })
-    }
-
-    /// The value of the depth in hand, as its first search found it.
-    fn value_after(&self, found: &Found) -> i32
-        requires { found.now.value ≡ value self.now.at self.now.eval self.now.plies }
-        ensures { result ≡ value self.now.root self.now.eval (self.now.told + 1) }
-    {
-        if self.plies > self.told {
-            found.value
-        } else {
-            self.value
-        }
-    }
-
-    /// Takes the end of the search in hand: the next one along the pv is in hand, or the pv is whole.
-    fn follow(&mut self, found: Found)
-        requires searching { 0 < self.old.plies }
-        requires over { self.old.left ≡ 0 }
-        requires value { found.value ≡ value self.old.at self.old.eval self.old.plies }
-        requires best { found.best ≡ best self.old.at self.old.eval self.old.plies }
-        ensures same { self.new ≡ record self.old { plies = self.new.plies; at = self.new.at; left = self.new.left } }
-        ensures left { load_of self.new ≤ load_after_search self.old }
-        ensures fewer { self.new.plies < self.old.plies }
-    {
-        self.value = self.value_after(&found);
-        let best = found.best;
-        match best {
-            None => self.plies = 0,
-            Some(m) => {
-                let played = m;
-                self.moves.push(m);
-                self.at = apply(&self.at, played);
-                self.plies -= 1;
-                if self.plies > 0 {
-                    *self.search = Search::start(&self.at, self.eval, self.plies);
-                }
-            }
-        }
     }
 
     /// Goes on with the search in hand. Where it ends in at most so many steps, tells how many it made,
     /// and the next one is in hand, or the pv is whole. Otherwise all of the budget was used.
     pub fn advance<M: Memo>(&mut self, memo: &mut M, budget: u64) -> Option<u64>
-        requires searching { 0 < self.old.plies }
-        ensures same { self.new ≡ record self.old { plies = self.new.plies; at = self.new.at; left = self.new.left } }
+        requires searching { is_searching self.old ≡ true }
+        ensures same { self.new ≡ record self.old { child = self.new.child; at = self.new.at; plies = self.new.plies; left = self.new.left } }
         ensures spent { IfNone result (budget + load_of self.new ≤ load_of self.old) }
-        ensures stays { IfNone result (self.new.plies ≡ self.old.plies) }
+        ensures stays { IfNone result (is_searching self.new ≡ true) }
         ensures unfinished { IfNone result (0 < self.new.left) }
         ensures most { IfSome result (λ made. made ≤ budget) }
         ensures made { IfSome result (λ made. made + load_of self.new ≤ load_of self.old) }
-        ensures fewer { OnSome result (self.new.plies < self.old.plies) }
+        ensures fewer { OnSome result (load_of self.new < load_of self.old) }
     {
-        let before = self.search.steps();
-        let found = self.search.advance(memo, budget)?;
-        let after = found.steps;
-        self.follow(found);
-        Some(after.saturating_sub(before))
     }
 
-    /// Says the value and the pv of the depth in hand, once its pv is whole.
+    /// Says the line in hand, once its pv is whole.
     pub fn tell<B: Allocator>(&self, out: &mut Vec<u8, B>) -> Result<(), AllocError>
-        requires whole { self.now.plies ≡ 0 }
-        ensures told { OnOk result (out.new.items ≡ out.old.items ++ info_line self.now.root self.now.eval (self.now.told + 1)) }
-        ensures rest { OnOk result (out.new.items ++ info_lines_above self.now.root self.now.eval (self.now.told + 1) (self.now.depth - (self.now.told + 1)) ≡ out.old.items ++ info_lines_above self.now.root self.now.eval self.now.told (self.now.depth - self.now.told)) }
+        requires whole { is_searching self.now ≡ false }
+        ensures rest { OnOk result (out.new.items ++ infos_after self.now.question self.now.told self.now.shown ≡ out.old.items ++ infos_left self.now.question self.now.told self.now.shown) }
+        ensures lines { OnOk result (GrowsByLines out.old.items out.new.items) }
     {
-        write_info(out, self.told + 1, self.value, self.moves.as_slice())
     }
 
-    /// Whether the search in hand is still to end.
+    /// Whether a search is in hand.
     pub fn is_searching(&self) -> bool
-        ensures { result ≡ nat_lt 0 self.now.plies }
+        ensures { result ≡ is_searching self.now }
     {
-        self.plies > 0
+        self.child.is_some() || self.walk.plies() > 0
     }
 
-    /// Whether the depth in hand is the one that was asked for.
+    /// Whether the line in hand is the last one of the depth that was asked for.
     pub fn is_last(&self) -> bool
-        ensures { result ≡ self.now.told + 1 == self.now.depth }
+        ensures { result ≡ is_last self.now }
     {
-        self.told + 1 == self.depth
     }
 
-    /// Takes the next depth in hand.
+    /// Takes the next line in hand, or the next depth.
     pub fn next(&mut self)
-        requires whole { self.old.plies ≡ 0 }
-        requires more { self.old.told + 1 ≢ self.old.depth }
-        ensures taken { self.new ≡ at_depth self.old.root self.old.eval self.old.depth self.old.hold (self.old.told + 1) }
+        requires whole { is_searching self.old ≡ false }
+        requires more { is_last self.old ≡ false }
+        ensures question { self.new.question ≡ self.old.question }
+        ensures rest { infos_left self.new.question self.new.told self.new.shown ≡ infos_after self.old.question self.old.told self.old.shown }
         ensures load { load_of self.new ≤ load_of self.old }
-        ensures fewer { turns_of self.new < turns_of self.old }
+        ensures fewer { tells_of self.new < tells_of self.old }
     {
-        self.told += 1;
-        self.plies = self.told + 1;
-        self.at = self.root;
-        self.moves.clear();
-        *self.search = Search::start(&self.root, self.eval, self.plies);
     }
 
-    /// The bestmove at the depth that was asked for, once its pv is whole.
+    /// The bestmove at the depth that was asked for, once its last line is whole.
     pub fn bestmove(&self) -> HeldBestmove
-        requires whole { self.now.plies ≡ 0 }
-        requires last { self.now.told + 1 ≡ self.now.depth }
-        ensures { result ≡ bestmove_at self.now.root self.now.eval self.now.depth self.now.hold }
+        requires whole { is_searching self.now ≡ false }
+        requires last { is_last self.now ≡ true }
+        ensures { result ≡ bestmove_at self.now.question.position self.now.question.eval self.now.question.depth self.now.question.hold }
     {
-        HeldBestmove {
-            best: move_to_play(self.moves.as_slice()),
-            ponder: move_to_ponder(self.moves.as_slice()),
-            until: self.hold,
-        }
     }
 }

@@ -6,6 +6,8 @@ mod go_command;
 mod limits;
 mod options;
 mod position_command;
+mod pv_walk;
+mod question;
 mod queue;
 mod session;
 mod state;

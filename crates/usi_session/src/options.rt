@@ -7,10 +7,13 @@ use crate::text::write_parts;
 use itoa::Buffer;
 use shogi_eval::Eval;
 use std::alloc::{AllocError, Allocator};
-use usi_lines::{DEPTH_MAX, DEPTH_MIN};
+use usi_lines::{DEPTH_MAX, DEPTH_MIN, PV_LINES_MAX, PV_LINES_MIN};
 
 /// The depth of a session whose `Depth` was never set (own choice).
 pub const DEPTH_DEFAULT: u8 = 3;
+
+/// The number of best lines of a session whose `MultiPV` was never set (USI, option).
+pub const PV_LINES_DEFAULT: u8 = 1;
 
 /// What the options are set to.
 #[derive(Clone, Copy, Debug)]
@@ -19,6 +22,8 @@ pub struct Options {
     pub depth: u8,
     /// `Eval`: by which evaluation a `go` searches.
     pub eval: Eval,
+    /// `MultiPV`: how many best lines a `go` shows at most, in its range.
+    pub pv_lines: u8,
 }
 
 impl Options {
@@ -29,6 +34,7 @@ impl Options {
         Options {
             depth: DEPTH_DEFAULT,
             eval: Eval::Plain,
+            pv_lines: PV_LINES_DEFAULT,
         }
     }
 }
@@ -89,9 +95,18 @@ fn write_eval<A: Allocator>(out: &mut Vec<u8, A>) -> Result<(), AllocError>
 }
 
 /// Offers the options: a row for each.
+#[tactic(auto, using(crate::proofs::Appends::after_three))]
 pub fn write_options<A: Allocator>(out: &mut Vec<u8, A>) -> Result<(), AllocError>
     ensures { OnOk result (out.new.items ≡ out.old.items ++ option_lines) }
 {
     write_spin(out, b"Depth", DEPTH_DEFAULT, DEPTH_MIN, DEPTH_MAX)?;
-    write_eval(out)
+    write_eval(out)?;
+    write_spin(
+        out,
+        b"MultiPV",
+        PV_LINES_DEFAULT,
+        PV_LINES_MIN,
+        PV_LINES_MAX,
+    )?;
+    Ok(())
 }

@@ -118,8 +118,8 @@ impl<A: Allocator + Copy> Session<A> {
         Ok(())
     }
 
-    /// Tells the depth in hand, once its pv is whole, and takes the next depth in hand or ends the
-    /// `go`. Where memory is refused nothing changed.
+    /// Tells the line in hand, once its pv is whole, and takes the next line in hand or ends the `go`.
+    /// Where memory is refused nothing changed.
     fn tell_next(&mut self) -> Result<(), SessionFault>
         requires whole { IsWhole self.old.in_hand }
         requires pending { is_pending self.old ≡ true }
@@ -148,8 +148,9 @@ impl<A: Allocator + Copy> Session<A> {
         Ok(())
     }
 
-    /// Makes steps of the search in hand, or what needs none: tells a depth, or answers a line. Tells
-    /// how many steps were made, or nothing where the budget was used up within a search.
+    /// Makes steps of the search in hand, or what needs none: tells a line of the `go` in hand, or answers
+    /// an unread one. Tells how many steps were made, or nothing where the budget was used up within a
+    /// search.
     fn turn<M: Memo>(&mut self, memo: &mut M, budget: u64) -> Result<Option<u64>, SessionFault>
         requires pending { is_pending self.old ≡ true }
         ensures due { (x : List ℕ) → due self.new x ≡ due self.old x }

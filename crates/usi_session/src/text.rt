@@ -2,7 +2,7 @@
 
 ghost use Rattle.std.specs.Prelude.{◌≡◌, ◌++◌, ◌+◌, OnOk, codes, decimal, ℤ, flat_map};
 ghost use Rattle.shogi_sfen.specs.MoveTexts.{text_of};
-ghost use Rattle.usi_session.specs.Texts.{usi_reply, mate_not_implemented_reply, bad_position_line, illegal_move_line, size_text, score_text, moves_text, info_text, bestmove_line};
+ghost use Rattle.usi_session.specs.Texts.{usi_reply, mate_not_implemented_reply, bad_position_line, illegal_move_line, size_text, score_text, moves_text, valued_pv_text, info_text, numbered_info_text, bestmove_line};
 
 use crate::options::write_options;
 use itoa::Buffer;
@@ -101,13 +101,18 @@ fn write_moves<A: Allocator>(out: &mut Vec<u8, A>, moves: &[Move]) -> Result<(),
     Ok(())
 }
 
-/// The depth of an info line, from its start.
-fn write_head<A: Allocator>(out: &mut Vec<u8, A>, depth: u8) -> Result<(), AllocError>
-    ensures { OnOk result (out.new.items ≡ out.old.items ++ (codes "info depth " ++ (decimal depth ++ codes " score "))) }
+/// The depth of an info line, from its start, and the word and the digits after it.
+fn write_head<A: Allocator>(
+    out: &mut Vec<u8, A>,
+    depth: u8,
+    word: &[u8],
+    number: &[u8],
+) -> Result<(), AllocError>
+    ensures { OnOk result (out.new.items ≡ out.old.items ++ (codes "info depth " ++ (decimal depth ++ ((word.now ++ number.now) ++ codes " score ")))) }
 {
     let mut buffer = Buffer::new();
     let digits = buffer.format(depth).as_bytes();
-    write_parts(out, &[b"info depth ", digits, b" score "])
+    write_parts(out, &[b"info depth ", digits, word, number, b" score "])
 }
 
 /// The pv of an info line, to its end.
@@ -120,8 +125,25 @@ fn write_pv<A: Allocator>(out: &mut Vec<u8, A>, moves: &[Move]) -> Result<(), Al
     Ok(())
 }
 
-/// Says the value and the pv of a position at a depth (USI, info).
+/// Says a value and a pv at a depth, after a word and digits for which.
 #[tactic(auto, using(crate::proofs::Appends::after_three))]
+fn write_valued_pv<A: Allocator>(
+    out: &mut Vec<u8, A>,
+    word: &[u8],
+    number: &[u8],
+    depth: u8,
+    value: i32,
+    moves: &[Move],
+) -> Result<(), AllocError>
+    ensures { OnOk result (out.new.items ≡ out.old.items ++ valued_pv_text (word.now ++ number.now) depth value moves.now) }
+{
+    write_head(out, depth, word, number)?;
+    write_score(out, depth, value)?;
+    write_pv(out, moves)?;
+    Ok(())
+}
+
+/// Says a value and a pv at a depth (USI, info).
 pub fn write_info<A: Allocator>(
     out: &mut Vec<u8, A>,
     depth: u8,
@@ -130,10 +152,22 @@ pub fn write_info<A: Allocator>(
 ) -> Result<(), AllocError>
     ensures { OnOk result (out.new.items ≡ out.old.items ++ info_text depth value moves.now) }
 {
-    write_head(out, depth)?;
-    write_score(out, depth, value)?;
-    write_pv(out, moves)?;
-    Ok(())
+    write_valued_pv(out, b"", b"", depth, value, moves)
+}
+
+/// The same for the pv of this number among several, from 1 (USI, info, multipv).
+pub fn write_numbered_info<A: Allocator>(
+    out: &mut Vec<u8, A>,
+    depth: u8,
+    number: u8,
+    value: i32,
+    moves: &[Move],
+) -> Result<(), AllocError>
+    ensures { OnOk result (out.new.items ≡ out.old.items ++ numbered_info_text depth number value moves.now) }
+{
+    let mut buffer = Buffer::new();
+    let digits = buffer.format(number).as_bytes();
+    write_valued_pv(out, b" multipv ", digits, depth, value, moves)
 }
 
 /// Names the move to play, with the reply to ponder on (USI, bestmove).

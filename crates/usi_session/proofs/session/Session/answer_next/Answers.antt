@@ -1,8 +1,8 @@
-use Rattle.std.proofs.Common.{◌≡◌, ap, ◌∙◌, sym, rules, false, [], ◌∷◌}
+use Rattle.std.proofs.Common.{◌≡◌, ap, ◌∙◌, sym, rules, refl, false, [], ◌∷◌}
 use Rattle.usi_lines.specs.Lines.{ahead}
 use Rattle.usi_lines.specs.Seen.{line_of}
 use Rattle.usi_session.specs.Due.{SessionView}
-use Rattle.usi_session.proofs.Steps.{due_on, state_on, load_on, pending_alive}
+use Rattle.usi_session.proofs.Steps.{due_on, state_on, load_on, turns_on, pending_alive}
 use Rattle.usi_session.proofs.WholeReplies.{reply_whole}
 use Rattle.usi_session.proofs.session.Session.answer_next.Goals as goal
 
@@ -35,3 +35,15 @@ returns-clause-grown g c =
       after_is = search rules;
       whole = reply_whole s.state c.answer_line.new.state c.answer_line.new.out.items c.in_ok-in_hand.in_hand (line_of c.in-Some.line) (search rules) (search rules);
     })
+
+pub returns-clause-fewer : goal.returns-clause-fewer
+returns-clause-fewer g c =
+    let s = c.self.inside in
+    let alive : s.state.is_over ≡ false = ap (λ (t : SessionView). t.state.is_over) c.self.view_is ∙ pending_alive c.args.self.now c.requires.pending in
+    rw (← c.self.view_is) (turns_on s.state c.answer_line.new.state s.in_hand c.in_ok-in_hand.in_hand (line_of c.in-Some.line) (ahead s.input []) (ahead c.drop_line.new.self [])
+    alive (ap (λ (t : SessionView). t.in_hand) c.self.view_is ∙ c.requires.idle) (c.in-Some.ensures.first [] ∙ ap (λ xs. line_of c.in-Some.line ∷ xs) (sym (c.drop_line.ensures.rest []))) (search rules) (search rules) (search rules))
+
+-- nothing was queued
+pub returns-in_err-push-clause-grown : goal.returns-in_err-push-clause-grown
+returns-in_err-push-clause-grown g c =
+    rw (← c.self.view_is) (record { lines = []; after_is = search rules; whole = refl })

@@ -1,0 +1,129 @@
+//! A walk along a pv, ply by ply.
+
+ghost use Rattle.std.specs.Prelude.{◌≡◌, ◌≤◌, ◌<◌, ◌+◌, ◌-◌};
+ghost use Rattle.shogi_search.specs.Minimax.{value, best, pv_cost, then_pv_cost};
+ghost use Rattle.shogi_moves.specs.After.{after};
+ghost use Rattle.usi_lines.specs.declared.options.TheConstants.{DEPTH_MAX};
+ghost use Rattle.usi_session.specs.Walked.{walk_from, walk_by};
+
+use arrayvec::ArrayVec;
+use shogi_core::{Move, Position};
+use shogi_eval::Eval;
+use shogi_moves::apply;
+use shogi_search::Found;
+use std::marker::Model;
+use usi_lines::DEPTH_MAX;
+
+/// The most moves of a pv: one for each ply.
+const PV_MAX: usize = DEPTH_MAX as usize;
+
+/// A walk along a pv: the moves so far, the position after them, and the plies that are left. The
+/// value is known once the first search has ended, or from the start.
+#[derive(Drop)]
+pub struct PvWalk {
+    eval: Eval,
+    at: Position,
+    plies: u8,
+    value: Option<i32>,
+    moves: ArrayVec<Move, PV_MAX>,
+}
+
+impl Model for PvWalk {
+    ghost use Rattle.std.specs.Prelude.{◌≡◌, ◌≤◌, ◌+◌, ◌++◌, length, unwrap_or, is_some, true};
+    ghost use Rattle.shogi_search.specs.Minimax.{value, pv};
+    ghost use Rattle.usi_lines.specs.declared.options.TheConstants.{DEPTH_MAX};
+    ghost use Rattle.usi_session.specs.Walked.{Walked};
+
+    ghost Value = { Walked };
+
+    ghost view = { λ w. record { eval = w.eval; at = w.at; plies = w.plies; pv = w.moves.items ++ pv w.at w.eval w.plies; value = unwrap_or w.value (value w.at w.eval w.plies) } };
+
+    ghost invariant = { λ w. (length w.moves.items + w.plies ≤ DEPTH_MAX) × (w.plies ≡ 0 → is_some w.value ≡ true) };
+}
+
+impl PvWalk {
+    /// A walk that begins at a position, with so many plies to go.
+    pub fn new(p: &Position, eval: Eval, plies: u8) -> PvWalk
+        requires some { 0 < plies }
+        requires most { plies ≤ DEPTH_MAX }
+        ensures { result ≡ walk_from p.now eval plies }
+    {
+        PvWalk {
+            eval,
+            at: *p,
+            plies,
+            value: None,
+            moves: ArrayVec::new(),
+        }
+    }
+
+    /// A walk that has made a move of known worth, with so many plies to go from the position after it.
+    pub fn after(played: Move, next: &Position, eval: Eval, plies: u8, worth: i32) -> PvWalk
+        requires most { plies < DEPTH_MAX }
+        ensures { result ≡ walk_by played next.now eval plies worth }
+    {
+        let mut moves = ArrayVec::new();
+        moves.push(played);
+        PvWalk {
+            eval,
+            at: *next,
+            plies,
+            value: Some(worth),
+            moves,
+        }
+    }
+
+    /// Goes one ply on, by what a search of the position where it stands found; where no move is legal
+    /// the pv is whole.
+    pub fn follow(&mut self, found: &Found)
+        requires some { 0 < self.old.plies }
+        requires value { found.now.value ≡ value self.old.at self.old.eval self.old.plies }
+        requires best { found.now.best ≡ best self.old.at self.old.eval self.old.plies }
+        ensures same { self.new ≡ record self.old { at = self.new.at; plies = self.new.plies } }
+        ensures fewer { self.new.plies < self.old.plies }
+        ensures cost { pv_cost self.new.at self.new.eval self.new.plies ≤ then_pv_cost (λ next. pv_cost next self.old.eval (self.old.plies - 1)) self.old.at (best self.old.at self.old.eval self.old.plies) }
+    {
+        if self.value.is_none() {
+            self.value = Some(found.value);
+        }
+        match found.best {
+            None => self.plies = 0,
+            Some(m) => {
+                let played = m;
+                self.moves.push(m);
+                self.at = apply(&self.at, played);
+                self.plies -= 1;
+            }
+        }
+    }
+
+    /// The position where it stands.
+    pub fn at(&self) -> &Position
+        ensures { result.now ≡ self.now.at }
+    {
+        &self.at
+    }
+
+    /// The plies that are left.
+    pub fn plies(&self) -> u8
+        ensures { result ≡ self.now.plies }
+    {
+        self.plies
+    }
+
+    /// The pv, once it is whole.
+    pub fn moves(&self) -> &[Move]
+        requires whole { self.now.plies ≡ 0 }
+        ensures { result.now ≡ self.now.pv }
+    {
+        self.moves.as_slice()
+    }
+
+    /// Its value, once it is whole.
+    pub fn value(&self) -> i32
+        requires whole { self.now.plies ≡ 0 }
+        ensures { result ≡ self.now.value }
+    {
+        self.value.unwrap_or(0)
+    }
+}
