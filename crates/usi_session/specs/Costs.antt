@@ -4,7 +4,7 @@ use Rattle.shogi_core.specs.Position.{Shogi}
 use Rattle.shogi_eval.specs.declared.eval.Eval.{Eval}
 use Rattle.shogi_moves.specs.After.{after_code}
 use Rattle.shogi_moves.specs.LegalMoves.{legal_codes}
-use Rattle.shogi_search.specs.Minimax.{pv_cost, subtree_sizes}
+use Rattle.shogi_search.specs.Minimax.{pv_cost, sum_of_tree_sizes}
 use Rattle.usi_lines.specs.Commands.{Command, Go}
 use Rattle.usi_lines.specs.CommandLines.{command_of}
 use Rattle.usi_lines.specs.Lines.{Line, Text, TooLong}
@@ -20,7 +20,7 @@ pvs_cost position eval depth moves = sum_by (λ code. pv_cost (after_code positi
 abbrev pub depth_cost : Shogi → Eval → ℕ → ℕ → ℕ
 depth_cost position eval pv_lines depth =
     cond (pv_lines == 1) (pv_cost position eval depth)
-    (2 * subtree_sizes position (depth - 1) (legal_codes position) + pvs_cost position eval (depth - 1) (listed position eval pv_lines depth))
+    (2 * sum_of_tree_sizes position (depth - 1) (legal_codes position) + pvs_cost position eval (depth - 1) (listed position eval pv_lines depth))
 
 -- the sum over each depth from 1 to this one
 unfoldable pub depths_cost : Shogi → Eval → ℕ → ℕ → ℕ

@@ -6,7 +6,7 @@ use Rattle.shogi_core.specs.Position.{Shogi}
 use Rattle.shogi_eval.specs.declared.eval.Eval.{Eval}
 use Rattle.shogi_moves.specs.LegalMoves.{legal_codes}
 use Rattle.shogi_search.specs.Minimax.{worth, pv, then_pv}
-use Rattle.shogi_search.specs.Ranked.{ranked_moves}
+use Rattle.shogi_search.specs.Ranked.{ranked_codes}
 use Rattle.usi_session.specs.Texts.{info_line, numbered_info_text}
 
 -- the move to play
@@ -19,7 +19,7 @@ move_to_ponder moves = slice_get moves 1
 
 -- the codes of the best moves at a depth of at least 1: as many as there are lines, or all that are legal
 abbrev pub listed : Shogi → Eval → ℕ → ℕ → List ℕ
-listed position eval pv_lines depth = take pv_lines (ranked_moves position eval depth)
+listed position eval pv_lines depth = take pv_lines (ranked_codes position eval depth)
 
 -- the move of a code, and the pv after it
 abbrev pub pv_by : Shogi → Eval → ℕ → ℕ → List Move

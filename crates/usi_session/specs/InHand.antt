@@ -3,7 +3,7 @@ use Rattle.std.specs.Prelude.{ℕ, zero, suc, ◌+◌, ◌-◌, ◌*◌, ◌==�
 use Rattle.shogi_core.specs.declared.moves.Move.{Move}
 use Rattle.shogi_core.specs.Position.{Shogi}
 use Rattle.shogi_moves.specs.LegalMoves.{legal_above}
-use Rattle.shogi_search.specs.Minimax.{best, pv_cost, then_pv_cost, subtree_sizes}
+use Rattle.shogi_search.specs.Minimax.{best, pv_cost, then_pv_cost, sum_of_tree_sizes}
 use Rattle.usi_lines.specs.declared.options.TheConstants.{DEPTH_MAX, PV_LINES_MAX}
 use Rattle.usi_session.specs.declared.question.Question.{Question}
 use Rattle.usi_session.specs.declared.state.State.{State}
@@ -82,7 +82,7 @@ with_rest bytes state (Some go) = bytes ++ (rest_of_go state go).bytes
 -- the steps of the searches after the one in hand, at the depth in hand: after each further move and along each pv listed, or along this pv and those listed behind it
 abbrev pub load_of_depth : Option Move → InHand → ℕ
 load_of_depth (Some child) go =
-    2 * subtree_sizes go.question.position go.told (legal_above go.question.position (Some child))
+    2 * sum_of_tree_sizes go.question.position go.told (legal_above go.question.position (Some child))
     + pvs_cost go.question.position go.question.eval go.told (listed_at go.question go.told)
 load_of_depth None go =
     then_pv_cost (λ next. pv_cost next go.question.eval (go.plies - 1)) go.at (best go.at go.question.eval go.plies)
