@@ -39,6 +39,7 @@ bench:
 	bench/run.sh
 	bench/go.sh
 	bench/curves.py
+	bench/multipv.py
 	bench/serve.py
 
 # Takes away what was built and the proofs that were kept.
