@@ -14,6 +14,7 @@ pub const USI: &str = "id name Shared Shogi Host
 id author Shared Shogi Host Team
 option name Depth type spin default 3 min 1 max 16
 option name Eval type combo default Plain var Plain var Hand
+option name MultiPV type spin default 1 min 1 max 8
 usiok
 ";
 
@@ -303,7 +304,7 @@ pub const QUICK: [Row; 45] = [
 ];
 
 /// Answers of more than a thousand bytes: a pawn of each side, far from the other, at the greatest depth, and
-/// one answer of 177 bytes ten times.
+/// one answer of 229 bytes ten times.
 pub const LONG: [Row; 2] = [
     Row {
         sent: "position sfen p8/9/9/9/9/9/9/9/8P b - 1\ngo depth 16\n",
