@@ -80,7 +80,7 @@ fn a_new_session_in_an_old_slot(rt: HostRuntime) -> Result<(), Fail> {
     let mut host = TestHost::new(rt.alloc(), 1, 1)?;
     let first = host.opened()?;
     let held =
-        b"setoption name Depth value 1\nsetoption name Eval value Hand\nposition startpos moves 7g7f\ngo infinite\n";
+        b"setoption name Depth value 1\nsetoption name Eval value Hand\nsetoption name MultiPV value 2\nposition startpos moves 7g7f\ngo infinite\n";
     assert!(rt; host.is_done(Event::Feed(first, held)));
     assert!(rt; host.steps_of(first, u64::MAX).is_some());
     assert!(rt; host.is_done(Event::Close(first)));
