@@ -18,6 +18,7 @@ USI = (
     b"id author Shared Shogi Host Team\n"
     b"option name Depth type spin default 3 min 1 max 16\n"
     b"option name Eval type combo default Plain var Plain var Hand\n"
+    b"option name MultiPV type spin default 1 min 1 max 8\n"
     b"usiok\n"
 )
 DEPTH_ONE = b"info depth 1 score cp 0 pv 1g1f\n"

@@ -335,6 +335,58 @@ def each_session_has_an_evaluation_of_its_own():
     want(run([], option + b"Hand\n" + option + b"Plain\ngo\n"), (0, DEPTH_THREE, b""), "back")
 
 
+def several_lines_are_ranked():
+    """The moves by what they are worth, and then by code; never more lines than legal moves, or than 8."""
+    option = b"setoption name MultiPV value "
+    two = (
+        b"info depth 1 multipv 1 score cp 0 pv 1g1f\n"
+        b"info depth 1 multipv 2 score cp 0 pv 1i1h\n"
+        b"bestmove 1g1f\n"
+    )
+    one = DEPTH_ONE + b"bestmove 1g1f\n"
+    want(run([], option + b"2\ngo depth 1\n"), (0, two, b""), "two lines")
+    want(run([], option + b"2\nusinewgame\ngo depth 1\n"), (0, two, b""), "a new game keeps it")
+    want(run([], option + b"0\ngo\n"), (0, DEPTH_THREE, b""), "no line is one")
+    want(run([], b"setoption name multipv value 2\ngo depth 1\n"), (0, one, b""), "another spelling")
+    mate = (
+        b"info depth 1 multipv 1 score mate 1 pv G*5b\n"
+        b"info depth 1 multipv 2 score cp 1200 pv 5c5b+\n"
+        b"bestmove G*5b\n"
+    )
+    sent = option + b"2\nposition sfen 4k4/9/4P4/9/9/9/9/9/9 b G 1\ngo depth 1\n"
+    want(run([], sent), (0, mate, b""), "a mate before a promotion")
+    king = (
+        b"info depth 1 multipv 1 score cp -1200 pv 5a4a\n"
+        b"info depth 1 multipv 2 score cp -1200 pv 5a6a\n"
+        b"info depth 2 multipv 1 score mate -2 pv 5a4a G*4b\n"
+        b"info depth 2 multipv 2 score mate -2 pv 5a6a G*6b\n"
+        b"bestmove 5a4a ponder G*4b\n"
+    )
+    sent = option + b"9\nposition sfen 4k4/9/4G4/9/9/9/9/9/9 w G 1\ngo depth 2\n"
+    want(run([], sent), (0, king, b""), "more lines than moves")
+    sent = option + b"8\nposition sfen 8k/6G2/7G1/9/9/9/9/9/9 w - 1\ngo depth 2\n"
+    want(run([], sent), (0, b"bestmove resign\n", b""), "no move")
+    script = b"+A\n+B\nA " + option + b"2\nB go depth 1\nA go depth 1\n"
+    for slice_ in ("1", "1000"):
+        words = ["replay", "--slots", "2", "--slice", slice_]
+        want(run(words, script), (0, b"== A\n" + two + b"== B\n" + one, b""), f"{words}")
+
+
+def several_lines_come_as_they_are_found():
+    """The lines of depth 1 come before a search that would not end; a held move waits for `stop`."""
+    running = start()
+    running.stdin.write(b"setoption name MultiPV value 2\ngo infinite depth 1\n")
+    want(line_of(running), b"info depth 1 multipv 1 score cp 0 pv 1g1f\n", "the first line")
+    want(line_of(running), b"info depth 1 multipv 2 score cp 0 pv 1i1h\n", "the second line")
+    ready, _, _ = select.select([running.stdout], [], [], 0.3)
+    want(ready, [], "what can be read before `stop`")
+    running.stdin.write(b"stop\ngo depth 16\n")
+    want(line_of(running), b"bestmove 1g1f\n", "the held move")
+    want(line_of(running), b"info depth 1 multipv 1 score cp 0 pv 1g1f\n", "the first line again")
+    running.kill()
+    running.communicate()
+
+
 def the_first_bad_line_of_a_script_is_named():
     for script, line in (
         (b"A go\n", 1),
@@ -416,6 +468,8 @@ CHECKS = (
     a_replay_writes_what_its_sessions_reply,
     neither_entries_nor_slices_change_a_replay,
     each_session_has_an_evaluation_of_its_own,
+    several_lines_are_ranked,
+    several_lines_come_as_they_are_found,
     the_first_bad_line_of_a_script_is_named,
     a_replay_writes_nothing_before_its_script_ends,
     a_replay_tells_its_faults,

@@ -183,6 +183,8 @@ LINES = (
     b"setoption name Eval value Hand\n",
     b"setoption name Eval value Plain\n",
     b"setoption name Eval value hand\n",
+    b"setoption name MultiPV value 3\n",
+    b"setoption name MultiPV value 1\n",
     b"go depth 1\n",
     b"go depth 2\n",
     b"go\n",
@@ -273,6 +275,25 @@ def an_end_after_go_loses_no_answer():
         for client in clients:
             want(to_the_end(client), DEPTH_THREE, "a client that ended its side")
         want(running.ask(b""), b"", "a client that sends nothing")
+
+
+def lines_of_their_own():
+    """Each client has as many lines as it set, whatever the others have."""
+    with host("--slice", "7") as running, contextlib.ExitStack() as stack:
+        clients = [stack.enter_context(running.connect()) for _ in range(8)]
+        for number, client in enumerate(clients):
+            client.sendall(b"setoption name MultiPV value %d\ngo depth 1\n" % (number + 1))
+            client.shutdown(socket.SHUT_WR)
+        # No first move gains or loses anything: the eight of least code.
+        moves = (b"1g1f", b"1i1h", b"2g2f", b"2h1h", b"2h3h", b"2h4h", b"2h5h", b"2h6h")
+        want(to_the_end(clients[0]), GO_DEPTH_ONE, "a client with one line")
+        for number in range(1, 8):
+            lines = b"".join(
+                b"info depth 1 multipv %d score cp 0 pv %s\n" % (place + 1, moves[place])
+                for place in range(number + 1)
+            )
+            answer = lines + b"bestmove 1g1f\n"
+            want(to_the_end(clients[number]), answer, f"a client with {number + 1} lines")
 
 
 # ---- hostile clients, each on a host that goes on afterwards
@@ -549,6 +570,7 @@ def words_of_serve():
 CHECKS = (
     each_of_64_clients_gets_its_own_answers,
     an_end_after_go_loses_no_answer,
+    lines_of_their_own,
     hostile_clients_leave_nothing_behind,
     a_full_host_turns_away_who_comes_then,
     too_many_open_files_are_waited_for,

@@ -80,7 +80,7 @@ fn a_new_session_in_an_old_slot(rt: HostRuntime) -> Result<(), Fail> {
     let mut host = TestHost::new(rt.alloc(), 1, 1)?;
     let first = host.opened()?;
     let held =
-        b"setoption name Depth value 1\nsetoption name Eval value Hand\nposition startpos moves 7g7f\ngo infinite\n";
+        b"setoption name Depth value 1\nsetoption name Eval value Hand\nsetoption name MultiPV value 2\nposition startpos moves 7g7f\ngo infinite\n";
     assert!(rt; host.is_done(Event::Feed(first, held)));
     assert!(rt; host.steps_of(first, u64::MAX).is_some());
     assert!(rt; host.is_done(Event::Close(first)));
@@ -168,7 +168,7 @@ fn a_session_that_is_over(rt: HostRuntime) -> Result<(), Fail> {
     Ok(())
 }
 
-// 1,024 times `usi` queues 1,024 answers of 177 bytes each. With fewer than 65,536 bytes queued more
+// 1,024 times `usi` queues 1,024 answers of 229 bytes each. With fewer than 65,536 bytes queued more
 // input is wanted.
 #[test]
 fn a_full_queue_wants_no_input(rt: HostRuntime) -> Result<(), Fail> {
@@ -180,8 +180,8 @@ fn a_full_queue_wants_no_input(rt: HostRuntime) -> Result<(), Fail> {
     }
     assert!(rt; host.is_done(Event::Feed(id, chunk.as_slice())));
     assert_eq!(rt; host.steps_of(id, 0), Some(0));
-    assert_eq!(rt; host.output(id).map(|bytes| bytes.len()), Some(181_248));
-    assert_eq!(rt; host.pass(id, 181_248 - 65_536), Ok(()));
+    assert_eq!(rt; host.output(id).map(|bytes| bytes.len()), Some(234_496));
+    assert_eq!(rt; host.pass(id, 234_496 - 65_536), Ok(()));
     let more = Event::Feed(id, b"usi\n");
     assert_eq!(rt; host.refusal(more), Some(HostFault::NotReady));
     assert_eq!(rt; host.pass(id, 1), Ok(()));

@@ -8,4 +8,6 @@ mod hosts;
 #[cfg(test)]
 mod long;
 #[cfg(test)]
+mod multipv;
+#[cfg(test)]
 mod schedules;

@@ -9,6 +9,7 @@ use shogi_search::NoMemo;
 use std::alloc::Global;
 use std::process::Abort;
 use std::test::Fail;
+use test_support::pv_lines;
 use test_support::rows::{DEEP, QUICK, Row, joined};
 use usi_session::Session;
 
@@ -41,14 +42,14 @@ struct Client {
     taken: Vec<u8>,
 }
 
-/// The row of a number: mostly short searches, some deep ones.
+/// The row of a number: mostly short searches, some deep ones, some with several lines.
 fn row_of(number: u64) -> Row {
-    let (quick, deep) = (QUICK, DEEP);
+    let (quick, deep, several) = (QUICK, DEEP, pv_lines::QUICK);
     let place = number as usize;
-    if number % 5 == 0 {
-        deep[place % 8]
-    } else {
-        quick[place % 45]
+    match number % 5 {
+        0 => deep[place % 8],
+        1 => several[place % 26],
+        _ => quick[place % 45],
     }
 }
 

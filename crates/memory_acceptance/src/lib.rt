@@ -10,6 +10,8 @@ mod full;
 #[cfg(test)]
 mod hosts;
 #[cfg(test)]
+mod multipv;
+#[cfg(test)]
 mod room;
 #[cfg(test)]
 mod scripts;

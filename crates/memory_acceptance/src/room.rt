@@ -24,7 +24,7 @@ fn longest_line(alloc: Global) -> Result<Vec<u8>, Fail> {
     Ok(line)
 }
 
-// 4,096 bytes for which 181,248 are answered.
+// 4,096 bytes for which 234,496 are answered.
 fn usi_lines(alloc: Global) -> Result<Vec<u8>, Fail> {
     let mut lines = Vec::new(alloc);
     for _ in 0..1024 {
@@ -62,8 +62,8 @@ fn an_idle_session_is_small(rt: HostRuntime) -> Result<(), Fail> {
         say(&rt, &mut session, b"\n")?;
         assert!(rt; memory.held() <= KEPT, "{}", memory.held());
         say(&rt, &mut session, lines.as_slice())?;
-        assert!(rt; memory.held() >= 181_248);
-        for _ in 0..181_248 {
+        assert!(rt; memory.held() >= 234_496);
+        for _ in 0..234_496 {
             if session.output().is_empty() {
                 break;
             }
@@ -109,11 +109,11 @@ fn a_refused_block_loses_nothing(rt: HostRuntime) -> Result<(), Fail> {
     say(&rt, &mut session, longest_line(rt.alloc())?.as_slice())?;
     say(&rt, &mut session, lines.as_slice())?;
     memory.refuse_from(1);
-    take(&mut session, 181_248 - 20);
-    assert!(rt; memory.refused() > 0 && memory.held() >= 181_248);
-    assert!(rt; session.output() == b"lain var Hand\nusiok\n".as_slice());
+    take(&mut session, 234_496 - 20);
+    assert!(rt; memory.refused() > 0 && memory.held() >= 234_496);
+    assert!(rt; session.output() == b"1 min 1 max 8\nusiok\n".as_slice());
     take(&mut session, 10);
-    assert!(rt; session.output() == b"and\nusiok\n".as_slice());
+    assert!(rt; session.output() == b"x 8\nusiok\n".as_slice());
     take(&mut session, 10);
     assert!(rt; memory.held() <= KEPT, "{}", memory.held());
     memory.refuse_nothing();
@@ -186,7 +186,7 @@ fn a_host_is_as_small_as_it_was(rt: HostRuntime) -> Result<(), Fail> {
     for number in 0..10_000u64 {
         let (sent, answer) = match number % 100 {
             98 => (line.as_slice(), 0),
-            99 => (lines.as_slice(), 181_248),
+            99 => (lines.as_slice(), 234_496),
             _ => (b"go depth 1\n".as_slice(), INFO_AND_BEST_ONE.len()),
         };
         assert_eq!(rt; serve(&rt, &mut host, sent)?, answer);

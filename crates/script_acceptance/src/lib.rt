@@ -4,4 +4,6 @@
 #[cfg(test)]
 mod long;
 #[cfg(test)]
+mod multipv;
+#[cfg(test)]
 mod scripts;

@@ -4,6 +4,12 @@
 #[cfg(test)]
 mod long;
 #[cfg(test)]
+mod multipv;
+#[cfg(test)]
+mod plain;
+#[cfg(test)]
+mod ranking;
+#[cfg(test)]
 mod session;
 #[cfg(test)]
 mod sessions;

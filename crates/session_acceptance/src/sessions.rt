@@ -146,7 +146,7 @@ fn the_longest_line(rt: HostRuntime) -> Result<(), Fail> {
     Ok(())
 }
 
-// 1,024 times `usi` queues 1,024 answers of 177 bytes each.
+// 1,024 times `usi` queues 1,024 answers of 229 bytes each.
 #[test]
 fn input_waits_for_a_full_queue(rt: HostRuntime) -> Result<(), Fail> {
     let mut session = TestSession::new(rt.alloc());
@@ -157,9 +157,9 @@ fn input_waits_for_a_full_queue(rt: HostRuntime) -> Result<(), Fail> {
     session.feed(chunk.as_slice())?;
     assert!(rt; session.pending() && !session.wants_input());
     session.work(&mut NoMemo, u64::MAX)?;
-    assert_eq!(rt; session.output().len(), 181_248);
+    assert_eq!(rt; session.output().len(), 234_496);
     assert!(rt; !session.wants_input());
-    session.take(115_712)?;
+    session.take(168_960)?;
     assert_eq!(rt; session.output().len(), 65_536);
     assert!(rt; !session.wants_input());
     session.take(1)?;

@@ -48,7 +48,7 @@ fn a_read_takes_at_most_4096_bytes(rt: HostRuntime) -> Result<(), Fail> {
     Ok(())
 }
 
-// Each `usi` is answered with 177 bytes.
+// Each `usi` is answered with 229 bytes.
 #[test]
 fn a_full_queue_wants_no_input(rt: HostRuntime) -> Result<(), Fail> {
     let mut host: TestHost = Host::new(
@@ -63,9 +63,9 @@ fn a_full_queue_wants_no_input(rt: HostRuntime) -> Result<(), Fail> {
     let sent = repeated(rt.alloc(), b"usi\n", 1024)?;
     assert!(rt; matches!(host.step(Event::Feed(id, sent.as_slice())), Outcome::Done));
     host.round(1);
-    assert_eq!(rt; host.output(id).unwrap_or(b"").len(), 181248);
+    assert_eq!(rt; host.output(id).unwrap_or(b"").len(), 234496);
     assert!(rt; !host.wants_input(id));
-    assert_eq!(rt; host.pass(id, 115712), Ok(()));
+    assert_eq!(rt; host.pass(id, 168960), Ok(()));
     assert!(rt; !host.wants_input(id));
     assert_eq!(rt; host.pass(id, 1), Ok(()));
     assert!(rt; host.wants_input(id));

@@ -96,3 +96,20 @@ fn a_slot_is_used_again(rt: HostRuntime) -> Result<(), Fail> {
     assert!(rt; scene.written(x).is_empty());
     Ok(())
 }
+
+// A connection with two lines beside one with one, over the table of both, with rounds of 10 steps.
+#[test]
+fn lines_of_their_own(rt: HostRuntime) -> Result<(), Fail> {
+    let two = b"info depth 1 multipv 1 score cp 0 pv 1g1f
+info depth 1 multipv 2 score cp 0 pv 1i1h
+bestmove 1g1f
+"
+        .as_slice();
+    let mut scene = Scene::new(rt.alloc(), 2, 10)?;
+    let x = scene.connect(&[b"setoption name MultiPV value 2\ngo de", b"pth 1\nquit\n"])?;
+    let y = scene.connect(GO_AND_QUIT)?;
+    assert!(rt; !scene.turn_times(64));
+    assert!(rt; scene.written(x) == two && scene.is_shut(x));
+    assert!(rt; scene.written(y) == ANSWER && scene.is_shut(y));
+    Ok(())
+}

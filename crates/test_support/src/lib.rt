@@ -4,6 +4,7 @@
 mod allocator;
 pub mod fakes;
 pub mod positions;
+pub mod pv_lines;
 mod requests;
 pub mod rows;
 pub mod scripts;

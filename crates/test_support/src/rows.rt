@@ -14,15 +14,16 @@ pub const USI: &str = "id name Shared Shogi Host
 id author Shared Shogi Host Team
 option name Depth type spin default 3 min 1 max 16
 option name Eval type combo default Plain var Plain var Hand
+option name MultiPV type spin default 1 min 1 max 8
 usiok
 ";
 
-const READY: &str = "readyok\n";
+pub(crate) const READY: &str = "readyok\n";
 
 /// What is said of the opening position at depth 1.
 pub const INFO_ONE: &str = "info depth 1 score cp 0 pv 1g1f\n";
 
-const BEST_ONE: &str = "bestmove 1g1f\n";
+pub(crate) const BEST_ONE: &str = "bestmove 1g1f\n";
 
 /// What `go depth 1` says of the opening position.
 pub const INFO_AND_BEST_ONE: &str = "info depth 1 score cp 0 pv 1g1f\nbestmove 1g1f\n";
@@ -31,7 +32,7 @@ const INFO_TWO: &str = "info depth 1 score cp 0 pv 1g1f
 info depth 2 score cp 0 pv 1g1f 1a1b
 ";
 
-const BEST_TWO: &str = "bestmove 1g1f ponder 1a1b\n";
+pub(crate) const BEST_TWO: &str = "bestmove 1g1f ponder 1a1b\n";
 
 /// What `go` says of the opening position at depths 1 to 3.
 pub const INFO_THREE: &str = "info depth 1 score cp 0 pv 1g1f
@@ -45,7 +46,7 @@ info depth 2 score cp 0 pv 1g1f 1a1b
 info depth 3 score cp 210 pv 7g7f 4c4d 8h4d
 ";
 
-const BEST_THREE: &str = "bestmove 7g7f ponder 4c4d\n";
+pub(crate) const BEST_THREE: &str = "bestmove 7g7f ponder 4c4d\n";
 
 /// The opening position at depth 3, as a front end on another system sends it.
 pub const CUT: Row = Row {
@@ -303,7 +304,7 @@ pub const QUICK: [Row; 45] = [
 ];
 
 /// Answers of more than a thousand bytes: a pawn of each side, far from the other, at the greatest depth, and
-/// one answer of 177 bytes ten times.
+/// one answer of 229 bytes ten times.
 pub const LONG: [Row; 2] = [
     Row {
         sent: "position sfen p8/9/9/9/9/9/9/9/8P b - 1\ngo depth 16\n",

@@ -16,7 +16,7 @@ type TestHost = Host<BuildHasherDefault<FoldHasher>, Global>;
 
 // What `usi` is answered.
 const USI: &[u8] =
-    b"id name Shared Shogi Host\nid author Shared Shogi Host Team\noption name Depth type spin default 3 min 1 max 16\noption name Eval type combo default Plain var Plain var Hand\nusiok\n";
+    b"id name Shared Shogi Host\nid author Shared Shogi Host Team\noption name Depth type spin default 3 min 1 max 16\noption name Eval type combo default Plain var Plain var Hand\noption name MultiPV type spin default 1 min 1 max 8\nusiok\n";
 // What `go depth 1` from the opening position is answered.
 const ANSWER: &[u8] = b"info depth 1 score cp 0 pv 1g1f\nbestmove 1g1f\n";
 
