@@ -4,6 +4,8 @@
 #[cfg(test)]
 mod long;
 #[cfg(test)]
+mod rows;
+#[cfg(test)]
 mod session;
 #[cfg(test)]
 mod sessions;
