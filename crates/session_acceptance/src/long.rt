@@ -1,11 +1,12 @@
 //! Answers of more than a thousand bytes, through a session and the program's streams.
 
+use crate::rows::long;
 use crate::session::TestSession;
 use shogi_search::NoMemo;
 use std::alloc::Global;
 use std::process::Abort;
 use std::test::Fail;
-use test_support::rows::{LONG, Row, joined};
+use test_support::rows::{Row, joined};
 use usi_stdio::stdio;
 
 fn assert_written(rt: &impl Abort, written: &[u8], answer: &str) -> Result<(), Fail> {
@@ -33,9 +34,9 @@ fn assert_stdio(rt: &impl Abort, alloc: Global, row: &Row) -> Result<(), Fail> {
 
 #[test]
 fn long_answers(rt: HostRuntime) -> Result<(), Fail> {
-    for row in LONG {
-        assert_session(&rt, rt.alloc(), &row)?;
-        assert_stdio(&rt, rt.alloc(), &row)?;
+    for row in long() {
+        assert_session(&rt, rt.alloc(), row)?;
+        assert_stdio(&rt, rt.alloc(), row)?;
     }
     Ok(())
 }

@@ -1,5 +1,6 @@
 //! Sessions that are worked in slices, and lines that are written as they are found.
 
+use crate::rows::{assert_answer, cut, deep, quick, sliced};
 use crate::session::TestSession;
 use shared_table::SharedTable;
 use shogi_search::{Memo, NoMemo};
@@ -8,7 +9,7 @@ use std::hash::{BuildHasherDefault, FoldHasher};
 use std::process::Abort;
 use std::test::Fail;
 use test_support::fakes::{FailingWriter, NotingWriter};
-use test_support::rows::{CUT, DEEP, INFO_ONE, QUICK, Row, SLICED, joined};
+use test_support::rows::{INFO_ONE, Row, joined};
 use usi_stdio::{StdioFault, stdio};
 
 // The most slices that a test works.
@@ -21,8 +22,22 @@ fn fed(alloc: Global, sent: &str) -> Result<TestSession, Fail> {
     Ok(session)
 }
 
-// Works slice by slice until nothing is pending, and gives the sum of the steps made. A slice that
-// leaves something pending has used its budget.
+// Works one slice, and gives the steps made. One that leaves something pending has used its budget.
+fn work_slice<M: Memo>(
+    rt: &impl Abort,
+    session: &mut TestSession,
+    memo: &mut M,
+    budget: u64,
+) -> Result<u64, Fail> {
+    let made = session.work(memo, budget)?;
+    assert!(rt; made <= budget);
+    if session.pending() {
+        assert_eq!(rt; made, budget, "still pending");
+    }
+    Ok(made)
+}
+
+// Works slice by slice until nothing is pending, and gives the sum of the steps made.
 fn worked<M: Memo>(
     rt: &impl Abort,
     session: &mut TestSession,
@@ -34,11 +49,7 @@ fn worked<M: Memo>(
         if !session.pending() {
             return Ok(steps);
         }
-        let made = session.work(memo, budget)?;
-        assert!(rt; made <= budget);
-        if session.pending() {
-            assert_eq!(rt; made, budget, "still pending");
-        }
+        let made = work_slice(rt, session, memo, budget)?;
         steps = steps.saturating_add(made);
     }
     Err(Fail::from("it never ends"))
@@ -64,24 +75,30 @@ fn assert_worked<M: Memo>(
     Ok(steps)
 }
 
-// The loads are counts of the whole tree: 31 positions at depth 1, 931 at depth 2 and 26,401 at depth 3,
-// each counted twice, for every search along the best lines.
-#[test]
-fn every_budget_gives_the_same_bytes_and_steps(rt: HostRuntime) -> Result<(), Fail> {
-    for (row, load) in SLICED.into_iter().zip([62u64, 1_986, 57_142]) {
-        let whole = assert_worked(&rt, rt.alloc(), &mut NoMemo, &row, u64::MAX)?;
-        assert!(rt; whole <= load, "{whole} steps");
-        for budget in 1..71u64 {
-            let steps = assert_worked(&rt, rt.alloc(), &mut NoMemo, &row, budget)?;
-            assert_eq!(rt; steps, whole, "with a budget of {budget}");
-        }
+// With each budget from 1 to 70 the row takes the same steps, and no more than the load.
+fn assert_every_budget(rt: &impl Abort, alloc: Global, row: &Row, load: u64) -> Result<(), Fail> {
+    let whole = assert_worked(rt, alloc, &mut NoMemo, row, u64::MAX)?;
+    assert!(rt; whole <= load, "{whole} steps");
+    for budget in 1..71u64 {
+        let steps = assert_worked(rt, alloc, &mut NoMemo, row, budget)?;
+        assert_eq!(rt; steps, whole, "with a budget of {budget}");
     }
     Ok(())
 }
 
+// The loads are counts of the whole tree: 31 positions at depth 1, 931 at depth 2 and 26,401 at depth 3,
+// each counted twice, for every search along the best lines.
+#[test]
+fn every_budget_gives_the_same_bytes_and_steps(rt: HostRuntime) -> Result<(), Fail> {
+    let [one, two, three] = sliced();
+    assert_every_budget(&rt, rt.alloc(), &one, 62)?;
+    assert_every_budget(&rt, rt.alloc(), &two, 1_986)?;
+    assert_every_budget(&rt, rt.alloc(), &three, 57_142)
+}
+
 #[test]
 fn depth_one_takes_62_steps(rt: HostRuntime) -> Result<(), Fail> {
-    let [row, ..] = SLICED;
+    let [row, ..] = sliced();
     for budget in [1, 61, 62, 63, u64::MAX] {
         let steps = assert_worked(&rt, rt.alloc(), &mut NoMemo, &row, budget)?;
         assert_eq!(rt; steps, 62, "with a budget of {budget}");
@@ -116,15 +133,53 @@ fn a_budget_of_nothing(rt: HostRuntime) -> Result<(), Fail> {
 
 #[test]
 fn rows_with_a_budget_of_one(rt: HostRuntime) -> Result<(), Fail> {
-    for row in QUICK {
-        assert_worked(&rt, rt.alloc(), &mut NoMemo, &row, 1)?;
+    for row in quick() {
+        assert_worked(&rt, rt.alloc(), &mut NoMemo, row, 1)?;
     }
     let hasher = BuildHasherDefault::<FoldHasher>::new();
     let mut table = SharedTable::new(rt.alloc(), 4096, hasher)?;
-    for row in DEEP {
+    for row in deep() {
         assert_worked(&rt, rt.alloc(), &mut table, &row, 1)?;
     }
     Ok(())
+}
+
+// Takes what is queued, which is a front of the answer, and tells how many bytes it has.
+fn taken_front(
+    rt: &impl Abort,
+    session: &mut TestSession,
+    answer: &str,
+    cut: u64,
+) -> Result<usize, Fail> {
+    let queued = session.output().len();
+    assert!(rt;
+        answer.as_bytes().starts_with(session.output()),
+        "cut at {cut}"
+    );
+    session.take(queued)?;
+    Ok(queued)
+}
+
+// Works to the end over a table of its own.
+fn finish(alloc: Global, session: &mut TestSession) -> Result<(), Fail> {
+    let hasher = BuildHasherDefault::<FoldHasher>::new();
+    let mut table = SharedTable::new(alloc, 1, hasher)?;
+    session.work(&mut table, u64::MAX)?;
+    Ok(())
+}
+
+// What was taken and what is queued are the answer.
+fn assert_rest(rt: &impl Abort, session: &TestSession, answer: &str, taken: usize, cut: u64) {
+    assert!(rt; !session.pending(), "cut at {cut}");
+    assert!(rt;
+        answer.as_bytes().ends_with(session.output()),
+        "cut at {cut}"
+    );
+    assert_eq!(rt;
+        taken.saturating_add(session.output().len()),
+        answer.len(),
+        "cut at {cut}"
+    );
 }
 
 // The search is cut after each number of steps, once over each memo.
@@ -136,27 +191,38 @@ fn go_infinite_and_stop_cut_anywhere(rt: HostRuntime) -> Result<(), Fail> {
     for cut in 0..320u64 {
         let mut session = fed(rt.alloc(), sent)?;
         session.work(&mut NoMemo, cut)?;
-        let queued = session.output().len();
-        assert!(rt;
-            answer.as_bytes().starts_with(session.output()),
-            "cut at {cut}"
-        );
-        session.take(queued)?;
-        let hasher = BuildHasherDefault::<FoldHasher>::new();
-        let mut table = SharedTable::new(rt.alloc(), 1, hasher)?;
-        session.work(&mut table, u64::MAX)?;
-        assert!(rt; !session.pending(), "cut at {cut}");
-        assert!(rt;
-            answer.as_bytes().ends_with(session.output()),
-            "cut at {cut}"
-        );
-        assert_eq!(rt;
-            queued.saturating_add(session.output().len()),
-            answer.len(),
-            "cut at {cut}"
-        );
+        let taken = taken_front(&rt, &mut session, answer, cut)?;
+        finish(rt.alloc(), &mut session)?;
+        assert_rest(&rt, &session, answer, taken, cut);
     }
     Ok(())
+}
+
+// Works two sessions by turns, step by step, until nothing is pending.
+fn take_turns<M: Memo>(
+    table: &mut M,
+    first: &mut TestSession,
+    second: &mut TestSession,
+) -> Result<(), Fail> {
+    for _ in 0..SLICES {
+        if !first.pending() && !second.pending() {
+            break;
+        }
+        first.work(table, 1)?;
+        second.work(table, 1)?;
+    }
+    Ok(())
+}
+
+// Nothing is pending, and the answer of the row is queued.
+fn assert_done(
+    rt: &impl Abort,
+    alloc: Global,
+    session: &TestSession,
+    row: &Row,
+) -> Result<(), Fail> {
+    assert!(rt; !session.pending());
+    assert_answer(rt, alloc, row, session.output())
 }
 
 // The rows are sent to two sessions that take turns, step by step, over one table.
@@ -169,26 +235,16 @@ fn assert_turns<M: Memo>(
 ) -> Result<(), Fail> {
     let mut first = fed(alloc, one.sent)?;
     let mut second = fed(alloc, other.sent)?;
-    for _ in 0..SLICES {
-        if !first.pending() && !second.pending() {
-            break;
-        }
-        first.work(table, 1)?;
-        second.work(table, 1)?;
-    }
-    for (session, row) in [(first, one), (second, other)] {
-        let answer = joined(alloc, row.answer)?;
-        assert!(rt; !session.pending());
-        assert_eq!(rt; std::str::from_utf8(session.output())?, answer.as_str());
-    }
-    Ok(())
+    take_turns(table, &mut first, &mut second)?;
+    assert_done(rt, alloc, &first, &one)?;
+    assert_done(rt, alloc, &second, &other)
 }
 
 #[test]
 fn two_sessions_by_turns(rt: HostRuntime) -> Result<(), Fail> {
     let hasher = BuildHasherDefault::<FoldHasher>::new();
     let mut table = SharedTable::new(rt.alloc(), 1, hasher)?;
-    let [one, two, three] = SLICED;
+    let [one, two, three] = sliced();
     assert_turns(&rt, rt.alloc(), &mut table, three, two)?;
     assert_worked(&rt, rt.alloc(), &mut table, &one, 1)?;
     Ok(())
@@ -199,7 +255,7 @@ fn two_sessions_by_turns(rt: HostRuntime) -> Result<(), Fail> {
 fn two_evaluations_over_one_table(rt: HostRuntime) -> Result<(), Fail> {
     let hasher = BuildHasherDefault::<FoldHasher>::new();
     let mut table = SharedTable::new(rt.alloc(), 4096, hasher)?;
-    let [plain, .., by_hand, _] = DEEP;
+    let [plain, .., by_hand, _] = deep();
     for row in [plain, by_hand] {
         let steps = assert_worked(&rt, rt.alloc(), &mut table, &row, 1000)?;
         assert!(rt; steps > 0);
@@ -218,7 +274,7 @@ fn two_evaluations_over_one_table(rt: HostRuntime) -> Result<(), Fail> {
 fn a_second_session_finds_what_the_first_one_searched(rt: HostRuntime) -> Result<(), Fail> {
     let hasher = BuildHasherDefault::<FoldHasher>::new();
     let mut table = SharedTable::new(rt.alloc(), 4096, hasher)?;
-    for row in SLICED {
+    for row in sliced() {
         let steps = assert_worked(&rt, rt.alloc(), &mut table, &row, 1)?;
         assert!(rt; steps > 0);
         assert_eq!(rt; assert_worked(&rt, rt.alloc(), &mut table, &row, 0)?, 0);
@@ -230,10 +286,11 @@ fn a_second_session_finds_what_the_first_one_searched(rt: HostRuntime) -> Result
 // is written before the search at depth 3 has made its last step.
 #[test]
 fn lines_are_flushed_as_they_are_found(rt: HostRuntime) -> Result<(), Fail> {
-    let mut reader = CUT.sent.as_bytes();
+    let row = cut();
+    let mut reader = row.sent.as_bytes();
     let mut writer = NotingWriter::new(rt.alloc());
     stdio(rt.alloc(), &mut reader, &mut writer, 4096)?;
-    let answer = joined(rt.alloc(), CUT.answer)?;
+    let answer = joined(rt.alloc(), row.answer)?;
     assert_eq!(rt; std::str::from_utf8(writer.written())?, answer.as_str());
     let flushed = writer.flushed();
     let first = flushed.first().copied().unwrap_or(0);

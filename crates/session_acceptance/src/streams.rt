@@ -1,43 +1,32 @@
 //! Rows through the program's streams, and streams that fail.
 
+use crate::rows::{assert_answer, deep, faults, mates, moves, quick, stored};
 use std::alloc::Global;
 use std::process::Abort;
 use std::test::Fail;
 use test_support::fakes::{FailingReader, FailingWriter, Watch, WatchedWriter, WatchingReader};
-use test_support::positions::{FAULTS, MATES, MOVES};
-use test_support::rows::{DEEP, QUICK, Row, STORED, joined};
+use test_support::rows::{Row, joined};
 use usi_stdio::{StdioFault, stdio};
 
 fn assert_row(rt: &impl Abort, alloc: Global, row: &Row, entries: usize) -> Result<(), Fail> {
     assert!(rt; entries >= 1 && entries <= 1000000);
     let mut reader = row.sent.as_bytes();
     let mut writer = Vec::new(alloc);
-    let answer = joined(alloc, row.answer)?;
-    let sent = row.sent;
-    assert_eq!(rt;
-        stdio(alloc, &mut reader, &mut writer, entries),
-        Ok(()),
-        "after {sent:?} with {entries} entries"
-    );
-    assert_eq!(rt;
-        std::str::from_utf8(writer.as_slice())?,
-        answer.as_str(),
-        "after {sent:?} with {entries} entries"
-    );
-    Ok(())
+    stdio(alloc, &mut reader, &mut writer, entries)?;
+    assert_answer(rt, alloc, row, writer.as_slice())
 }
 
 #[test]
 fn rows_of_quick_lines(rt: HostRuntime) -> Result<(), Fail> {
-    for row in QUICK {
-        assert_row(&rt, rt.alloc(), &row, 4096)?;
+    for row in quick() {
+        assert_row(&rt, rt.alloc(), row, 4096)?;
     }
     Ok(())
 }
 
 #[test]
 fn rows_of_deep_searches(rt: HostRuntime) -> Result<(), Fail> {
-    for row in DEEP {
+    for row in deep() {
         for entries in [1, 2, 4096] {
             assert_row(&rt, rt.alloc(), &row, entries)?;
         }
@@ -47,31 +36,33 @@ fn rows_of_deep_searches(rt: HostRuntime) -> Result<(), Fail> {
 
 #[test]
 fn rows_of_positions(rt: HostRuntime) -> Result<(), Fail> {
-    for row in MATES {
-        assert_row(&rt, rt.alloc(), &row, 4096)?;
+    for row in mates() {
+        assert_row(&rt, rt.alloc(), row, 4096)?;
     }
-    for row in MOVES {
-        assert_row(&rt, rt.alloc(), &row, 4096)?;
+    for row in moves() {
+        assert_row(&rt, rt.alloc(), row, 4096)?;
     }
+    Ok(())
+}
+
+// What the streams write for the bytes.
+fn assert_written(rt: &impl Abort, alloc: Global, sent: &[u8], answer: &str) -> Result<(), Fail> {
+    let mut reader = sent;
+    let mut writer = Vec::new(alloc);
+    stdio(alloc, &mut reader, &mut writer, 4096)?;
+    assert_eq!(rt; std::str::from_utf8(writer.as_slice())?, answer);
     Ok(())
 }
 
 // A refused position is told by its number, and leaves the opening position.
 #[test]
 fn rows_of_refused_positions(rt: HostRuntime) -> Result<(), Fail> {
-    for (sfen, fault) in FAULTS {
+    for (sfen, fault) in faults() {
         let sent = format!(in rt.alloc(); "position sfen {sfen}\ngo depth 1\n")?;
         let answer = format!(in rt.alloc();
             "info string bad position {fault}\ninfo depth 1 score cp 0 pv 1g1f\nbestmove 1g1f\n"
         )?;
-        let mut reader = sent.as_bytes();
-        let mut writer = Vec::new(rt.alloc());
-        assert_eq!(rt; stdio(rt.alloc(), &mut reader, &mut writer, 4096), Ok(()));
-        assert_eq!(rt;
-            std::str::from_utf8(writer.as_slice())?,
-            answer.as_str(),
-            "after {sfen:?}"
-        );
+        assert_written(&rt, rt.alloc(), sent.as_bytes(), answer.as_str())?;
     }
     Ok(())
 }
@@ -85,59 +76,72 @@ fn a_line_that_is_too_long(rt: HostRuntime) -> Result<(), Fail> {
     ] {
         let mut sent = vec![in rt.alloc(); b'x'; length]?;
         sent.extend_from_slice(b"\nisready\n")?;
-        let mut reader = sent.as_slice();
-        let mut writer = Vec::new(rt.alloc());
-        assert_eq!(rt; stdio(rt.alloc(), &mut reader, &mut writer, 1), Ok(()));
-        assert_eq!(rt;
-            std::str::from_utf8(writer.as_slice())?,
-            answer,
-            "{length} bytes"
-        );
+        assert_written(&rt, rt.alloc(), sent.as_slice(), answer)?;
     }
     Ok(())
 }
 
-// Each read failing in turn: what was written answers the bytes that were read, and they alone.
+// What is written answers the bytes.
+fn assert_answers(rt: &impl Abort, alloc: Global, read: &[u8], written: &[u8]) -> Result<(), Fail> {
+    let (mut reader, mut wanted) = (read, Vec::new(alloc));
+    stdio(alloc, &mut reader, &mut wanted, 1)?;
+    assert!(rt; written == wanted.as_slice());
+    Ok(())
+}
+
+// A reader that fails after so many reads: what was written answers the bytes that were read, and they
+// alone. Tells whether all was written.
+fn assert_read(rt: &impl Abort, alloc: Global, reads: usize) -> Result<bool, Fail> {
+    let row = stored();
+    let mut reader = FailingReader::new(row.sent.as_bytes(), 5, reads);
+    let mut writer = Vec::new(alloc);
+    match stdio(alloc, &mut reader, &mut writer, 1) {
+        Ok(()) => {
+            assert_answer(rt, alloc, &row, writer.as_slice())?;
+            Ok(true)
+        }
+        Err(fault) => {
+            assert_eq!(rt; fault, StdioFault::ReadFailed, "after {reads} reads");
+            assert_answers(rt, alloc, reader.given(), writer.as_slice())?;
+            Ok(false)
+        }
+    }
+}
+
+// Each read failing in turn.
 #[test]
 fn each_read_fails_in_turn(rt: HostRuntime) -> Result<(), Fail> {
-    let sent = STORED.sent.as_bytes();
-    let whole = joined(rt.alloc(), STORED.answer)?;
     let (mut failed, mut passed) = (false, false);
     for reads in 0..20usize {
-        let mut reader = FailingReader::new(sent, 5, reads);
-        let mut writer = Vec::new(rt.alloc());
-        match stdio(rt.alloc(), &mut reader, &mut writer, 1) {
-            Ok(()) => {
-                passed = true;
-                assert_eq!(rt; std::str::from_utf8(writer.as_slice())?, whole.as_str());
-            }
-            Err(fault) => {
-                failed = true;
-                assert_eq!(rt; fault, StdioFault::ReadFailed, "after {reads} reads");
-                let (mut front, mut wanted) = (reader.given(), Vec::new(rt.alloc()));
-                stdio(rt.alloc(), &mut front, &mut wanted, 1)?;
-                assert_eq!(rt; writer, wanted, "after {reads} reads");
-            }
+        if assert_read(&rt, rt.alloc(), reads)? {
+            passed = true;
+        } else {
+            failed = true;
         }
     }
     assert!(rt; failed && passed, "{failed} {passed}");
     Ok(())
 }
 
+// The bytes are a front of the answer of the row.
+fn assert_starts(rt: &impl Abort, alloc: Global, row: &Row, written: &[u8]) -> Result<(), Fail> {
+    let whole = joined(alloc, row.answer)?;
+    assert!(rt; whole.as_bytes().starts_with(written));
+    Ok(())
+}
+
 // How a writer ends a run: all was written, or a front and a fault.
 fn assert_front(rt: &impl Abort, alloc: Global, mut writer: FailingWriter) -> Result<bool, Fail> {
-    let mut reader = FailingReader::new(STORED.sent.as_bytes(), 5, usize::MAX);
-    let whole = joined(alloc, STORED.answer)?;
-    let ended = stdio(alloc, &mut reader, &mut writer, 1);
-    let written = writer.written();
-    match ended {
+    let row = stored();
+    let mut reader = FailingReader::new(row.sent.as_bytes(), 5, usize::MAX);
+    match stdio(alloc, &mut reader, &mut writer, 1) {
         Ok(()) => {
-            assert_eq!(rt; std::str::from_utf8(written)?, whole.as_str());
+            assert_answer(rt, alloc, &row, writer.written())?;
             Ok(true)
         }
         Err(fault) => {
             assert_eq!(rt; fault, StdioFault::WriteFailed);
-            assert!(rt; whole.as_bytes().starts_with(written));
+            assert_starts(rt, alloc, &row, writer.written())?;
             Ok(false)
         }
     }
@@ -185,12 +189,11 @@ fn writers_of_one_byte_and_of_none(rt: HostRuntime) -> Result<(), Fail> {
 // The second read would fail.
 #[test]
 fn nothing_is_read_after_quit(rt: HostRuntime) -> Result<(), Fail> {
-    let mut reader = FailingReader::new(STORED.sent.as_bytes(), 4096, 1);
+    let row = stored();
+    let mut reader = FailingReader::new(row.sent.as_bytes(), 4096, 1);
     let mut writer = Vec::new(rt.alloc());
     stdio(rt.alloc(), &mut reader, &mut writer, 1)?;
-    let answer = joined(rt.alloc(), STORED.answer)?;
-    assert_eq!(rt; std::str::from_utf8(writer.as_slice())?, answer.as_str());
-    Ok(())
+    assert_answer(&rt, rt.alloc(), &row, writer.as_slice())
 }
 
 // Each chunk with the number of bytes of its answer.
