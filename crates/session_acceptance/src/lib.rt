@@ -10,6 +10,8 @@ mod plain;
 #[cfg(test)]
 mod ranking;
 #[cfg(test)]
+mod rows;
+#[cfg(test)]
 mod session;
 #[cfg(test)]
 mod sessions;

@@ -1,5 +1,6 @@
 //! Rows through a session, in one chunk and in several.
 
+use crate::rows::{assert_answer, cut, cut_ready, deep, quick};
 use crate::session::TestSession;
 use shared_table::SharedTable;
 use shogi_search::{Memo, NoMemo};
@@ -7,8 +8,17 @@ use std::alloc::Global;
 use std::hash::{BuildHasherDefault, FoldHasher};
 use std::process::Abort;
 use std::test::Fail;
-use test_support::rows::{CUT, CUT_READY, DEEP, QUICK, Row, joined};
+use test_support::rows::{Row, joined};
 use usi_lines::{Command, Hold, read_command};
+
+// Takes what was answered.
+fn take_all(rt: &impl Abort, session: &mut TestSession, said: &mut Vec<u8>) -> Result<(), Fail> {
+    said.extend_from_slice(session.output())?;
+    let queued = session.output().len();
+    session.take(queued)?;
+    assert!(rt; session.output().is_empty());
+    Ok(())
+}
 
 // Feeds the chunk, works it off, and takes what was answered. A session that is over is fed nothing.
 fn talk<M: Memo>(
@@ -25,11 +35,7 @@ fn talk<M: Memo>(
     session.feed(chunk)?;
     session.work(memo, u64::MAX)?;
     assert!(rt; !session.pending());
-    said.extend_from_slice(session.output())?;
-    let queued = session.output().len();
-    session.take(queued)?;
-    assert!(rt; session.output().is_empty());
-    Ok(())
+    take_all(rt, session, said)
 }
 
 // What a fresh session says to two chunks, the second fed after the first was answered.
@@ -74,15 +80,9 @@ fn said_to_all(rt: &impl Abort, alloc: Global, bytes: &[u8]) -> Result<Vec<u8>, 
 
 #[test]
 fn rows_without_a_memory(rt: HostRuntime) -> Result<(), Fail> {
-    for row in QUICK {
+    for row in quick() {
         let got = said(&rt, rt.alloc(), &mut NoMemo, row.sent.as_bytes(), b"")?;
-        let answer = joined(rt.alloc(), row.answer)?;
-        let sent = row.sent;
-        assert_eq!(rt;
-            std::str::from_utf8(got.as_slice())?,
-            answer.as_str(),
-            "after {sent:?}"
-        );
+        assert_answer(&rt, rt.alloc(), row, got.as_slice())?;
     }
     Ok(())
 }
@@ -92,25 +92,19 @@ fn rows_without_a_memory(rt: HostRuntime) -> Result<(), Fail> {
 fn rows_over_one_table(rt: HostRuntime) -> Result<(), Fail> {
     let hasher = BuildHasherDefault::<FoldHasher>::new();
     let mut table = SharedTable::new(rt.alloc(), 4096, hasher)?;
-    for row in DEEP {
+    for row in deep() {
         let got = said(&rt, rt.alloc(), &mut table, row.sent.as_bytes(), b"")?;
-        let answer = joined(rt.alloc(), row.answer)?;
-        let sent = row.sent;
-        assert_eq!(rt;
-            std::str::from_utf8(got.as_slice())?,
-            answer.as_str(),
-            "after {sent:?}"
-        );
+        assert_answer(&rt, rt.alloc(), &row, got.as_slice())?;
     }
-    assert_cut(&rt, rt.alloc(), &mut table, CUT)?;
-    assert_cut(&rt, rt.alloc(), &mut table, CUT_READY)
+    assert_cut(&rt, rt.alloc(), &mut table, cut())?;
+    assert_cut(&rt, rt.alloc(), &mut table, cut_ready())
 }
 
 #[test]
 fn rows_cut_at_each_place(rt: HostRuntime) -> Result<(), Fail> {
-    for row in QUICK {
+    for row in quick() {
         if row.sent.len() < 40 {
-            assert_cut(&rt, rt.alloc(), &mut NoMemo, row)?;
+            assert_cut(&rt, rt.alloc(), &mut NoMemo, *row)?;
         }
     }
     Ok(())
@@ -146,24 +140,35 @@ fn the_longest_line(rt: HostRuntime) -> Result<(), Fail> {
     Ok(())
 }
 
-// 1,024 times `usi` queues 1,024 answers of 229 bytes each.
-#[test]
-fn input_waits_for_a_full_queue(rt: HostRuntime) -> Result<(), Fail> {
-    let mut session = TestSession::new(rt.alloc());
-    let mut chunk = Vec::new(rt.alloc());
+// How many bytes are queued, and whether input is wanted.
+fn assert_queued(rt: &impl Abort, session: &TestSession, queued: usize, wants_input: bool) {
+    assert_eq!(rt; session.output().len(), queued);
+    assert_eq!(rt; session.wants_input(), wants_input);
+}
+
+// A session that was fed 1,024 times `usi`, and nothing more.
+fn fed_usi(alloc: Global) -> Result<TestSession, Fail> {
+    let mut chunk = Vec::new(alloc);
     for _ in 0..1024 {
         chunk.extend_from_slice(b"usi\n")?;
     }
+    let mut session = TestSession::new(alloc);
     session.feed(chunk.as_slice())?;
-    assert!(rt; session.pending() && !session.wants_input());
+    Ok(session)
+}
+
+// 1,024 times `usi` queues 1,024 answers of 229 bytes each.
+#[test]
+fn input_waits_for_a_full_queue(rt: HostRuntime) -> Result<(), Fail> {
+    let mut session = fed_usi(rt.alloc())?;
+    assert!(rt; session.pending());
+    assert_queued(&rt, &session, 0, false);
     session.work(&mut NoMemo, u64::MAX)?;
-    assert_eq!(rt; session.output().len(), 234_496);
-    assert!(rt; !session.wants_input());
+    assert_queued(&rt, &session, 234_496, false);
     session.take(168_960)?;
-    assert_eq!(rt; session.output().len(), 65_536);
-    assert!(rt; !session.wants_input());
+    assert_queued(&rt, &session, 65_536, false);
     session.take(1)?;
-    assert!(rt; session.wants_input());
+    assert_queued(&rt, &session, 65_535, true);
     Ok(())
 }
 
