@@ -1,8 +1,7 @@
 -- A `go` in hand, from one search or one line to the next.
-use Rattle.std.proofs.Common.{◌≡◌, ◌≢◌, ◌<◌, ◌≤◌, ℕ, zero, suc, ◌+◌, ◌-◌, ◌*◌, ◌==◌, ℤ, List, [], ◌∷◌, ◌++◌, Bool, true, false, Option, Some, None, refl, sym, ap, ◌∙◌, arith, drop, length, append_assoc}
-use Rattle.std.specs.Prelude.{cond, ◌||◌, nat_lt, is_some, pos, ◌-ℤ◌, ◌<ℤ◌}
+use Rattle.std.proofs.Common.{◌≡◌, ◌≢◌, ◌<◌, ◌≤◌, ℕ, suc, ◌+◌, ◌-◌, ◌*◌, ◌==◌, List, [], ◌∷◌, ◌++◌, Bool, true, false, Option, Some, None, refl, sym, ap, ◌∙◌, arith, drop, length}
+use Rattle.std.specs.Prelude.{cond, ◌||◌, nat_lt, is_some}
 use Rattle.std.proofs.lemmas.Bool.{both_ways, eqb-true, ltb-false}
-use Rattle.std.proofs.lemmas.Int.{ints}
 use Rattle.std.proofs.lemmas.List.{drop_all}
 use Rattle.shogi_core.specs.declared.moves.Move.{Move}
 use Rattle.shogi_core.specs.Codes.{code_of, move_of}
@@ -19,15 +18,15 @@ use Rattle.shogi_search.specs.Ranked.{Ranking, IsTop}
 use Rattle.shogi_search.proofs.Lines.{pv_cost-above}
 use Rattle.shogi_search.proofs.MinimaxLaws.{tree_size-positive, subtree_sizes-next, Within, value_within}
 use Rattle.shogi_search.proofs.RankedLaws.{first_in}
-use Rattle.shogi_search.proofs.RankedUse.{IsGoneThrough, gone_none, gone_on, gone_all}
+use Rattle.shogi_search.proofs.RankedUse.{gone_none, gone_on, gone_all}
 use Rattle.shogi_search.proofs.Valid.{after_valid}
 use Rattle.usi_session.specs.declared.question.Question.{Question}
 use Rattle.usi_session.specs.declared.state.HeldBestmove.{HeldBestmove}
 use Rattle.usi_session.specs.Answer.{bestmove_at}
 use Rattle.usi_session.specs.Costs.{pvs_cost, depth_cost}
 use Rattle.usi_session.specs.GoCommand.{listed}
-use Rattle.usi_session.specs.InHand.{InHand, listed_at, is_searching, costs_above, load_of, load_after_search}
-use Rattle.usi_session.specs.Walked.{Walked, walk_from, IsAsked, IsFirst, IsUnder, IsLine, IsRanked, IsRankedTo, IsRanking, IsWalking, IsAtDepth, IsInHand, first_child, first_search, cost_after, in_hand_of}
+use Rattle.usi_session.specs.InHand.{listed_at, costs_above, load_of, load_after_search}
+use Rattle.usi_session.specs.Walked.{Walked, walk_from, IsAsked, IsFirst, IsUnder, IsLine, IsRanked, IsRankedTo, IsAtDepth, first_child, first_search, cost_after, in_hand_of}
 use Rattle.usi_session.proofs.Listed.{IsFirstLine, first_line, first_listed, first_some, one_listed}
 
 -- a search that was just started is not at its end

@@ -1,13 +1,13 @@
 -- The moves that are listed at a depth, and the first of them.
-use Rattle.std.proofs.Common.{◌≡◌, ◌≢◌, ◌<◌, ◌≤◌, ℕ, zero, suc, ◌+◌, ◌-◌, ◌*◌, ◌==◌, ℤ, List, [], ◌∷◌, ◌++◌, Bool, true, false, Option, Some, None, refl, sym, ap, ◌∙◌, arith, subst, map, take, drop, length, find, inl, inr}
-use Rattle.std.specs.Prelude.{slice_get, cond}
+use Rattle.std.proofs.Common.{◌≡◌, ◌≢◌, ◌<◌, ◌≤◌, ℕ, zero, suc, ◌+◌, ◌-◌, ◌==◌, ℤ, List, [], ◌∷◌, Bool, true, Option, Some, None, refl, sym, ap, ◌∙◌, arith, map, take, drop, length, find, inl, inr}
+use Rattle.std.specs.Prelude.{slice_get}
 use Rattle.std.specs.Option.{option_map}
 use Rattle.std.specs.Ordering.{int_eq}
-use Rattle.std.proofs.lemmas.Bool.{or_left, or_right, or_cases, both_ways, eqb-true, eq-eqb, cond_both}
+use Rattle.std.proofs.lemmas.Bool.{or_left, or_right, both_ways, eq-eqb, cond_both}
 use Rattle.std.proofs.lemmas.Bool.Decides.{Decides-int_eq}
-use Rattle.std.proofs.lemmas.List.{drop_more, drop_all, length-map}
+use Rattle.std.proofs.lemmas.List.{drop_more, length-map}
 use Rattle.std.proofs.lemmas.List.Sums.{sum_by-cons}
-use Rattle.std.proofs.lemmas.Option.{slice_get-map, slice_get_within, get_or_from_slice_get, slice_get-get_or}
+use Rattle.std.proofs.lemmas.Option.{slice_get-map, slice_get_within, get_or_from_slice_get}
 use Rattle.shogi_core.specs.declared.moves.Move.{Move}
 use Rattle.shogi_core.specs.Codes.{code_of, move_of}
 use Rattle.shogi_core.specs.Position.{Shogi}
@@ -17,8 +17,8 @@ use Rattle.shogi_moves.specs.LegalMoves.{legal_codes, legal_above}
 use Rattle.shogi_moves.specs.Rising.{is_in}
 use Rattle.shogi_moves.proofs.LegalLaws.{listed_to_legal, legal_above_in}
 use Rattle.shogi_eval.specs.declared.eval.Eval.{Eval}
-use Rattle.shogi_search.specs.Minimax.{value, worth, best, best_code, move_at, pv, then_pv, pv_cost}
-use Rattle.shogi_search.specs.Ranked.{ranked, ranked_moves, coded, with_worth, Ranking, IsTop}
+use Rattle.shogi_search.specs.Minimax.{value, worth, best_code, pv, then_pv, pv_cost}
+use Rattle.shogi_search.specs.Ranked.{ranked, ranked_moves, coded, with_worth, Ranking}
 use Rattle.shogi_search.proofs.Best.{best_none}
 use Rattle.shogi_search.proofs.Lines.{pv-above}
 use Rattle.shogi_search.proofs.MinimaxLaws.{best-code, best_code-above}
@@ -151,8 +151,7 @@ line_first asked told w l h ne =
     let f : IsFirstLine asked.position asked.eval (told + 1) = first_line asked.position asked.eval (told + 1) (omega arith) ne in
     let s : Some l.code ≡ Some f.code = sym l.listed_as ∙ first_listed asked.position asked.eval asked.pv_lines (told + 1) f h in
     let c : l.code ≡ f.code = cc in
-    let n : told + 1 - 1 ≡ told = omega arith in
-    (
+    let n : told + 1 - 1 ≡ told = omega arith in (
       l.value_is ∙ ap (worth asked.position asked.eval told) c ∙ sym (f.value_is ∙ ap (λ (k : ℕ). worth asked.position asked.eval k f.code) n),
       l.pv_is ∙ ap (pv_by asked.position asked.eval (told + 1)) c ∙ sym f.pv_is,
     )

@@ -1,5 +1,5 @@
 -- A line of a `go` in hand is told.
-use Rattle.std.proofs.Common.{◌≡◌, ◌≢◌, ℕ, ◌+◌, ◌-◌, ◌<◌, ◌≤◌, ℤ, List, [], ◌∷◌, ◌++◌, refl, sym, ap, ◌∙◌, arith, append_assoc, subst, true, false, Bool, Some, length, drop}
+use Rattle.std.proofs.Common.{◌≡◌, ◌≢◌, ℕ, suc, ◌+◌, ◌-◌, ◌<◌, ℤ, List, [], ◌∷◌, ◌++◌, refl, sym, ap, ◌∙◌, arith, append_assoc, subst, true, false, Bool, length, drop}
 use Rattle.std.proofs.lemmas.Bool.{eqb-true, eq-eqb, cond-true, cond-false, false_from_ne_true}
 use Rattle.std.proofs.lemmas.List.{drop_all}
 use Rattle.std.specs.Prelude.{cond, ◌==◌}
@@ -10,8 +10,8 @@ use Rattle.shogi_eval.specs.declared.eval.Eval.{Eval}
 use Rattle.shogi_search.specs.Minimax.{value, worth, pv}
 use Rattle.usi_session.specs.declared.question.Question.{Question}
 use Rattle.usi_session.specs.Texts.{info_line, info_text, numbered_info_text}
-use Rattle.usi_session.specs.GoCommand.{pv_by, numbered_line, numbered_lines}
-use Rattle.usi_session.specs.InHand.{listed_at, lines_later, lines_left, infos_left, infos_after, ends_depth}
+use Rattle.usi_session.specs.GoCommand.{numbered_line, numbered_lines, depth_lines}
+use Rattle.usi_session.specs.InHand.{listed_at, lines_above, lines_later, lines_left, infos_left, infos_after, ends_depth}
 use Rattle.usi_session.specs.Walked.{Walked, IsLine}
 use Rattle.usi_session.specs.WholeLines.{GrowsByLines}
 use Rattle.usi_session.proofs.WholeReplies.{info_whole, numbered_info_whole, grows_by_text}
@@ -86,3 +86,13 @@ one_grows old new depth v moves e = grows_by_text old new (info_text depth v mov
 -- and one of several
 pub several_grow : (old new : List ℕ) (depth number : ℕ) (v : ℤ) (moves : List Move) → new ≡ old ++ numbered_info_text depth number v moves → GrowsByLines old new
 several_grow old new depth number v moves e = grows_by_text old new (numbered_info_text depth number v moves) e (numbered_info_whole depth number v moves)
+
+lines_above-suc : (asked : Question) (told more : ℕ) → lines_above asked told (suc more) ≡ depth_lines asked.position asked.eval asked.pv_lines (told + 1) ++ lines_above asked (told + 1) more
+unfolding lines_above
+lines_above-suc asked told more = refl
+
+-- after the last line of a depth comes the next depth
+pub told_depth : (asked : Question) (told : ℕ) → told + 1 < asked.depth → infos_left asked (told + 1) 0 ≡ lines_later asked told
+told_depth asked told h =
+    let n : asked.depth - (told + 1) ≡ suc (asked.depth - (told + 1 + 1)) = omega arith in
+    sym (ap (lines_above asked (told + 1)) n ∙ lines_above-suc asked (told + 1) (asked.depth - (told + 1 + 1)))

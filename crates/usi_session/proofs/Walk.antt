@@ -8,7 +8,7 @@ use Rattle.shogi_eval.specs.declared.eval.Eval.{Eval}
 use Rattle.shogi_search.specs.Minimax.{value, best, pv, tree_size, pv_cost, then_pv_cost}
 use Rattle.shogi_search.proofs.Lines.{pv-leaf, pv-none, pv-some, pv_cost-leaf, pv_cost-above}
 use Rattle.shogi_search.proofs.MinimaxLaws.{best-leaf}
-use Rattle.usi_session.specs.Walked.{Walked, walk_of}
+use Rattle.usi_session.specs.Walked.{walk_of}
 
 -- there is no best move: the pv ends
 pub walked_none : (moves all : List Move) (at : Shogi) (eval : Eval) (plies : ℕ) (b : Option Move) → 0 < plies → b ≡ best at eval plies → b ≡ None → moves ++ pv at eval plies ≡ all → moves ++ pv at eval 0 ≡ all

@@ -7,7 +7,7 @@ ghost use Rattle.usi_session.specs.declared.state.HeldBestmove.{HeldBestmove};
 ghost use Rattle.usi_session.specs.Answer.{bestmove_at};
 ghost use Rattle.usi_session.specs.Costs.{pvs_cost};
 ghost use Rattle.usi_session.specs.GoCommand.{move_to_play, move_to_ponder};
-ghost use Rattle.usi_session.specs.InHand.{listed_at, infos_left, infos_after, ends_depth, is_last, is_searching, costs_above, load_after_search, load_of, tells_of};
+ghost use Rattle.usi_session.specs.InHand.{listed_at, infos_left, infos_after, lines_later, ends_depth, is_last, is_searching, costs_above, load_after_search, load_of, tells_of};
 ghost use Rattle.usi_session.specs.Walked.{IsAsked, IsFirst, IsRankedTo, IsRanked, IsLine, IsUnder, IsAtDepth, first_child, first_search, cost_after, in_hand_of};
 ghost use Rattle.usi_session.specs.WholeLines.{GrowsByLines};
 
@@ -318,9 +318,10 @@ impl<A: Allocator> GoCommand<A> {
     /// Takes the next depth in hand.
     fn next_depth(&mut self)
         requires whole { is_searching self.old ≡ false }
-        requires more { self.old.told + 1 < self.old.question.depth }
+        requires more { self.old.told + 1 ≢ self.old.question.depth }
         ensures question { self.new.question ≡ self.old.question }
         ensures told { (self.new.told ≡ self.old.told + 1) × (self.new.shown ≡ 0) }
+        ensures rest { infos_left self.new.question self.new.told self.new.shown ≡ lines_later self.old.question self.old.told }
         ensures load { load_of self.new ≤ load_of self.old }
         ensures fewer { tells_of self.new < tells_of self.old }
     {

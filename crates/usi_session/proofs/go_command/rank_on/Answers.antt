@@ -1,16 +1,12 @@
-use Rattle.std.proofs.Common.{◌≡◌, ◌+◌, ◌*◌, ◌<◌, ◌≤◌, ℕ, ℤ, pos, ◌-ℤ◌, List, [], ◌∷◌, ◌++◌, Some, false, refl, sym, ap, ◌∙◌, arith, rules, subst}
-use Rattle.std.specs.Prelude.{◌≤ℤ◌}
+use Rattle.std.proofs.Common.{◌≡◌, ◌≤◌, pos, ◌-ℤ◌, refl, sym, ap, ◌∙◌, arith, subst}
 use Rattle.std.proofs.lemmas.Int.{ints}
 use Rattle.shogi_core.specs.Codes.{code_of}
 use Rattle.shogi_core.specs.Position.{Shogi}
 use Rattle.shogi_moves.specs.After.{after}
 use Rattle.shogi_moves.proofs.LegalLaws.{after_code_of}
-use Rattle.shogi_moves.specs.LegalMoves.{legal_above}
-use Rattle.shogi_moves.specs.Rising.{is_in}
 use Rattle.shogi_eval.specs.declared.eval.Eval.{Eval}
 use Rattle.shogi_search.specs.Minimax.{worth, value}
 use Rattle.shogi_search.specs.Progress.{untouched}
-use Rattle.shogi_search.specs.Ranked.{IsTop}
 use Rattle.shogi_search.proofs.MinimaxLaws.{Within, worth_from}
 use Rattle.shogi_search.proofs.RankedUse.{gone_fresh}
 use Rattle.usi_session.specs.Walked.{IsUnder, IsRanked}

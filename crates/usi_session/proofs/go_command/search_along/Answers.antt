@@ -1,4 +1,4 @@
-use Rattle.std.proofs.Common.{◌≡◌, rules, ap, refl, arith, ◌*◌}
+use Rattle.std.proofs.Common.{◌≡◌, rules, ap, refl, arith}
 use Rattle.shogi_search.specs.Progress.{Progress, untouched}
 use Rattle.usi_session.proofs.Walk.{cost_begun, cost_over}
 use Rattle.usi_session.proofs.GoOn.{under_start}

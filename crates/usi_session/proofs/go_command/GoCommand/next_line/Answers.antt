@@ -1,4 +1,4 @@
-use Rattle.std.proofs.Common.{◌≡◌, ◌≢◌, ◌+◌, ◌<◌, ◌*◌, ◌-◌, false, ap, ◌∙◌, arith, length}
+use Rattle.std.proofs.Common.{◌≢◌, ◌+◌, ◌<◌, ap, ◌∙◌, arith, length}
 use Rattle.std.proofs.lemmas.Bool.{eqb-false}
 use Rattle.usi_session.specs.InHand.{InHand, is_searching, ends_depth, listed_at}
 use Rattle.usi_session.proofs.Listed.{line_below, line_within, one_listed, first_some}

@@ -1,4 +1,4 @@
-use Rattle.std.proofs.Common.{◌≡◌, ◌+◌, ◌<◌, ◌-◌, ap, ◌∙◌, arith, rules}
+use Rattle.std.proofs.Common.{◌≡◌, ◌-◌, ap, arith, rules}
 use Rattle.shogi_search.specs.Ranked.{Ranking}
 use Rattle.usi_session.specs.InHand.{costs_above}
 use Rattle.usi_session.specs.Walked.{first_search}

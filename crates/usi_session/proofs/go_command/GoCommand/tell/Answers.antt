@@ -1,4 +1,4 @@
-use Rattle.std.proofs.Common.{◌≡◌, ◌≢◌, ◌+◌, ◌<◌, ◌≤◌, ap, ◌∙◌, arith, rules, refl}
+use Rattle.std.proofs.Common.{◌+◌, ◌<◌, ap, ◌∙◌, arith, rules, refl}
 use Rattle.std.proofs.lemmas.Result.{on_ok_weaker}
 use Rattle.usi_session.specs.InHand.{is_searching}
 use Rattle.usi_session.proofs.Listed.{line_below, first_some}

@@ -1,4 +1,4 @@
-use Rattle.std.proofs.Common.{◌≡◌, rules, refl, sym, ◌∙◌, ap}
+use Rattle.std.proofs.Common.{◌≡◌, refl, ◌∙◌, ap}
 use Rattle.usi_session.specs.Walked.{Walked}
 use Rattle.usi_session.proofs.Walk.{walked_all}
 use Rattle.usi_session.proofs.pv_walk.PvWalk.moves.Goals as goal
