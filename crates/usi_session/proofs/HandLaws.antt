@@ -1,8 +1,7 @@
 -- What a `go` in hand owes and costs, one depth or one search at a time.
-use Rattle.std.proofs.Common.{◌≡◌, ◌≢◌, ℕ, zero, suc, ◌+◌, ◌-◌, ◌<◌, ◌≤◌, List, [], ◌++◌, refl, sym, ap, ◌∙◌, arith, append_assoc, append-nil, add-one, true, false, Bool, Some}
+use Rattle.std.proofs.Common.{◌≡◌, ◌≢◌, ℕ, zero, suc, ◌+◌, ◌-◌, ◌<◌, List, [], ◌++◌, refl, sym, ap, ◌∙◌, arith, append_assoc, append-nil, add-one, true, false, Bool, Some}
 use Rattle.std.proofs.lemmas.Bool.{eqb-true}
-use Rattle.std.specs.Prelude.{cond, ◌&&◌, ◌==◌, length}
-use Rattle.shogi_core.specs.Position.{Shogi}
+use Rattle.std.specs.Prelude.{cond, ◌&&◌, ◌==◌}
 use Rattle.shogi_core.specs.Codes.{code_of}
 use Rattle.shogi_core.specs.declared.moves.Move.{Move}
 use Rattle.shogi_moves.specs.LegalMoves.{legal_codes, legal_above}
@@ -15,7 +14,7 @@ use Rattle.usi_session.specs.GoCommand.{info_lines, depth_lines, go_infos}
 use Rattle.usi_session.specs.Costs.{depth_cost, depths_cost}
 use Rattle.usi_session.specs.Answer.{write_or_hold, answer_go, bestmove_at}
 use Rattle.usi_session.specs.Walked.{IsFirst}
-use Rattle.usi_session.specs.InHand.{InHand, listed_at, lines_above, lines_later, lines_left, infos_left, infos_after, rest_of_go, ends_depth, is_last, costs_above}
+use Rattle.usi_session.specs.InHand.{InHand, lines_above, lines_later, infos_left, infos_after, rest_of_go, ends_depth, is_last, costs_above}
 use Rattle.usi_session.proofs.Infos.{info_lines-start, info_lines-more, go_infos-some, not_empty}
 
 lines_above-start : (asked : Question) (told : ℕ) → lines_above asked told 0 ≡ []

@@ -2,7 +2,10 @@ pub mod Appends
 pub mod PositionLaws
 pub mod HandLaws
 pub mod Walk
+pub mod Listed
+pub mod GoOn
 pub mod Infos
+pub mod Tells
 pub mod WholeReplies
 pub mod Steps
 pub mod Settled

@@ -1,6 +1,6 @@
 -- What a session that is settled or over still owes.
 use Rattle.std.proofs.Common.{◌≡◌, ℕ, List, [], ◌∷◌, ◌++◌, refl, ap, ◌∙◌, false, true, Bool, append-nil, Option, Some, None}
-use Rattle.std.specs.Prelude.{◌-◌, ◌&&◌, ◌||◌, not, nat_lt, length, cond, is_some}
+use Rattle.std.specs.Prelude.{◌&&◌, ◌||◌, not, nat_lt, length, cond, is_some}
 use Rattle.usi_lines.specs.Lines.{Line, ahead, lines}
 use Rattle.usi_session.specs.declared.state.State.{State}
 use Rattle.usi_session.specs.InHand.{InHand, rest_of_go_if, infos_left}

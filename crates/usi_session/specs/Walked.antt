@@ -1,13 +1,13 @@
 -- A walk along a pv, ply by ply, and what a `go` in hand knows of the depth that it is at (own choice).
-use Rattle.std.specs.Prelude.{ℕ, ℤ, List, ◌∷◌, Option, None, Some, ◌≡◌, ◌≢◌, ◌+◌, ◌-◌, ◌*◌, ◌<◌, ◌≤◌, ◌++◌, length, unwrap_or, is_some, slice_get, true}
+use Rattle.std.specs.Prelude.{ℕ, ℤ, List, ◌∷◌, Option, None, Some, ◌≡◌, ◌≢◌, ◌+◌, ◌-◌, ◌<◌, ◌++◌, ◌==◌, cond, slice_get, unwrap_or}
 use Rattle.shogi_core.specs.Codes.{code_of}
 use Rattle.shogi_core.specs.Position.{Shogi}
 use Rattle.shogi_core.specs.declared.moves.Move.{Move}
 use Rattle.shogi_moves.specs.After.{after}
 use Rattle.shogi_moves.specs.LegalMoves.{legal_codes, legal_above}
 use Rattle.shogi_eval.specs.declared.eval.Eval.{Eval}
-use Rattle.shogi_search.specs.Minimax.{value, worth, pv}
-use Rattle.shogi_search.specs.Progress.{Progress}
+use Rattle.shogi_search.specs.Minimax.{value, worth, best, pv, pv_cost, then_pv_cost}
+use Rattle.shogi_search.specs.Progress.{Progress, untouched}
 use Rattle.shogi_search.specs.Ranked.{Ranking, IsTop}
 use Rattle.shogi_search.proofs.RankedUse.{IsGoneThrough}
 use Rattle.usi_lines.specs.Options.{IsDepth, IsLineCount}
@@ -15,7 +15,7 @@ use Rattle.usi_session.specs.declared.question.Question.{Question}
 use Rattle.usi_session.specs.declared.state.HeldBestmove.{HeldBestmove}
 use Rattle.usi_session.specs.Answer.{bestmove_at}
 use Rattle.usi_session.specs.GoCommand.{pv_by}
-use Rattle.usi_session.specs.InHand.{listed_at}
+use Rattle.usi_session.specs.InHand.{InHand, listed_at}
 
 -- the evaluation, the position after the moves so far, the plies that are left, and the whole pv with its value
 pub record Walked : Type 0 where
@@ -24,6 +24,10 @@ pub record Walked : Type 0 where
   pub plies : ℕ
   pub pv : List Move
   pub value : ℤ
+
+-- the moves so far and those still to come, with the value once it is known
+abbrev pub walk_of : Eval → Shogi → ℕ → List Move → Option ℤ → Walked
+walk_of eval at plies moves found = record { eval = eval; at = at; plies = plies; pv = moves ++ pv at eval plies; value = unwrap_or found (value at eval plies) }
 
 -- before the first ply
 abbrev pub walk_from : Shogi → Eval → ℕ → Walked
@@ -42,6 +46,24 @@ pub record IsAsked (asked : Question) : Type 0 where
 abbrev pub IsFirst : Shogi → Move → Type 0
 IsFirst position first = legal_above position None ≡ code_of first ∷ legal_above position (Some first)
 
+-- where a depth begins: with one line at the root, with several at its first child
+abbrev pub first_child : Question → Move → Option Move
+first_child asked first = cond (asked.pv_lines == 1) None (Some first)
+
+-- and the search that it begins with
+abbrev pub first_search : Question → Move → ℕ → Progress
+first_search asked first told =
+    cond (asked.pv_lines == 1) (untouched asked.position asked.eval (told + 1)) (untouched (after asked.position first) asked.eval told)
+
+-- the steps of the searches along a walk after the one where it stands
+abbrev pub cost_after : Walked → ℕ
+cost_after walk = then_pv_cost (λ next. pv_cost next walk.eval (walk.plies - 1)) walk.at (best walk.at walk.eval walk.plies)
+
+-- what callers see of a `go` in hand
+abbrev pub in_hand_of : Question → ℕ → ℕ → Option Move → Walked → Progress → InHand
+in_hand_of asked told shown child walk search =
+    record { question = asked; told = told; shown = shown; child = child; at = walk.at; plies = walk.plies; left = search.left }
+
 -- a search that is not at its end
 pub record IsUnder (search : Progress) (position : Shogi) (eval : Eval) (depth : ℕ) : Type 0 where
   pub root : search.root ≡ position
@@ -56,14 +78,23 @@ pub record IsRankedTo (asked : Question) (told : ℕ) (child : Move) (ranks : Ra
   pub gone : IsGoneThrough asked.position (worth asked.position asked.eval told) passed ranks
   pub most : ranks.lines ≡ asked.pv_lines
 
--- the pv of the line in hand is walked
-pub record IsWalking (asked : Question) (told shown : ℕ) (ranks : Ranking) (walk : Walked) (kept : HeldBestmove) (search : Progress) : Type 0 where
+-- all legal moves were ranked
+pub record IsRanked (asked : Question) (told : ℕ) (ranks : Ranking) : Type 0 where
+  pub top : IsTop (worth asked.position asked.eval told) (legal_codes asked.position) ranks
+  pub most : ranks.lines ≡ asked.pv_lines
+
+-- the walk is along the pv of the line of this number, from 0
+pub record IsLine (asked : Question) (told shown : ℕ) (walk : Walked) : Type 0 where
   pub code : ℕ
   pub listed_as : slice_get (listed_at asked told) shown ≡ Some code
   pub pv_is : walk.pv ≡ pv_by asked.position asked.eval (told + 1) code
   pub value_is : walk.value ≡ worth asked.position asked.eval told code
   pub eval_is : walk.eval ≡ asked.eval
-  pub ranked : asked.pv_lines ≢ 1 → (IsTop (worth asked.position asked.eval told) (legal_codes asked.position) ranks) × (ranks.lines ≡ asked.pv_lines)
+
+-- the pv of the line in hand is walked
+pub record IsWalking (asked : Question) (told shown : ℕ) (ranks : Ranking) (walk : Walked) (kept : HeldBestmove) (search : Progress) : Type 0 where
+  pub line : IsLine asked told shown walk
+  pub ranked : asked.pv_lines ≢ 1 → IsRanked asked told ranks
   pub kept_is : 0 < shown → kept ≡ bestmove_at asked.position asked.eval (told + 1) asked.hold
   pub searched : 0 < walk.plies → IsUnder search walk.at asked.eval walk.plies
 

@@ -1,10 +1,10 @@
 //! A walk along a pv, ply by ply.
 
 ghost use Rattle.std.specs.Prelude.{◌≡◌, ◌≤◌, ◌<◌, ◌+◌, ◌-◌};
-ghost use Rattle.shogi_search.specs.Minimax.{value, best, pv_cost, then_pv_cost};
+ghost use Rattle.shogi_search.specs.Minimax.{value, best, pv_cost};
 ghost use Rattle.shogi_moves.specs.After.{after};
 ghost use Rattle.usi_lines.specs.declared.options.TheConstants.{DEPTH_MAX};
-ghost use Rattle.usi_session.specs.Walked.{walk_from, walk_by};
+ghost use Rattle.usi_session.specs.Walked.{walk_from, walk_by, cost_after};
 
 use arrayvec::ArrayVec;
 use shogi_core::{Move, Position};
@@ -29,14 +29,13 @@ pub struct PvWalk {
 }
 
 impl Model for PvWalk {
-    ghost use Rattle.std.specs.Prelude.{◌≡◌, ◌≤◌, ◌+◌, ◌++◌, length, unwrap_or, is_some, true};
-    ghost use Rattle.shogi_search.specs.Minimax.{value, pv};
+    ghost use Rattle.std.specs.Prelude.{◌≡◌, ◌≤◌, ◌+◌, length, is_some, true};
     ghost use Rattle.usi_lines.specs.declared.options.TheConstants.{DEPTH_MAX};
-    ghost use Rattle.usi_session.specs.Walked.{Walked};
+    ghost use Rattle.usi_session.specs.Walked.{Walked, walk_of};
 
     ghost Value = { Walked };
 
-    ghost view = { λ w. record { eval = w.eval; at = w.at; plies = w.plies; pv = w.moves.items ++ pv w.at w.eval w.plies; value = unwrap_or w.value (value w.at w.eval w.plies) } };
+    ghost view = { λ w. walk_of w.eval w.at w.plies w.moves.items w.value };
 
     ghost invariant = { λ w. (length w.moves.items + w.plies ≤ DEPTH_MAX) × (w.plies ≡ 0 → is_some w.value ≡ true) };
 }
@@ -81,11 +80,9 @@ impl PvWalk {
         requires best { found.now.best ≡ best self.old.at self.old.eval self.old.plies }
         ensures same { self.new ≡ record self.old { at = self.new.at; plies = self.new.plies } }
         ensures fewer { self.new.plies < self.old.plies }
-        ensures cost { pv_cost self.new.at self.new.eval self.new.plies ≤ then_pv_cost (λ next. pv_cost next self.old.eval (self.old.plies - 1)) self.old.at (best self.old.at self.old.eval self.old.plies) }
+        ensures cost { pv_cost self.new.at self.new.eval self.new.plies ≤ cost_after self.old }
     {
-        if self.value.is_none() {
-            self.value = Some(found.value);
-        }
+        self.value = Some(self.value.unwrap_or(found.value));
         match found.best {
             None => self.plies = 0,
             Some(m) => {
@@ -104,9 +101,17 @@ impl PvWalk {
         &self.at
     }
 
+    /// The evaluation.
+    pub fn eval(&self) -> Eval
+        ensures { result ≡ self.now.eval }
+    {
+        self.eval
+    }
+
     /// The plies that are left.
     pub fn plies(&self) -> u8
-        ensures { result ≡ self.now.plies }
+        ensures plies { result ≡ self.now.plies }
+        ensures most { self.now.plies ≤ DEPTH_MAX }
     {
         self.plies
     }

@@ -1,4 +1,4 @@
-use Rattle.std.proofs.Common.{◌≡◌, ◌++◌, ap, [], arith, rules, refl}
+use Rattle.std.proofs.Common.{◌≡◌, ◌++◌, ap, [], arith, rules}
 use Rattle.shogi_moves.specs.LegalMoves.{legal_codes}
 use Rattle.usi_session.specs.Answer.{Answer}
 use Rattle.usi_session.proofs.Infos.{go_infos-none, pv-empty}

@@ -1,9 +1,12 @@
-use Rattle.std.proofs.Common.{◌+◌, ◌<◌, arith}
-use Rattle.usi_session.proofs.Walk.{load_next_depth}
+use Rattle.std.proofs.Common.{◌+◌, ◌∙◌, sym}
+use Rattle.std.proofs.lemmas.Bool.{and_from, both_ways, cond-true, eq-eqb}
+use Rattle.usi_session.specs.InHand.{ends_depth, infos_left, lines_later}
 use Rattle.usi_session.proofs.go_command.GoCommand.next.Goals as goal
 
-pub returns-clause-load : goal.returns-clause-load
-returns-clause-load g c =
-    let s = c.self.inside in
-    let more : s.told + 1 < s.depth = grind (arith, c.self.invariant.left, c.requires.more, c.self.view_is) in
-    rw (c.start.ensures, ← c.self.view_is) (load_next_depth (record { root = s.root; eval = s.eval; depth = s.depth; hold = s.hold; told = s.told; plies = s.plies; at = s.at; left = s.search.value.left }) more)
+pub next_depth-requires-clause-more : goal.next_depth-requires-clause-more
+next_depth-requires-clause-more g c = λ e. both_ways _ c.requires.more (and_from _ _ (sym c.ends_depth.ensures ∙ c.if-ends_depth.true) (eq-eqb _ _ e))
+
+pub returns-then-ends_depth-clause-rest : goal.returns-then-ends_depth-clause-rest
+returns-then-ends_depth-clause-rest g c =
+    let s = c.args.self.now in
+    c.next_depth.ensures.rest ∙ sym (cond-true (ends_depth s.question s.told s.shown) (lines_later s.question s.told) (infos_left s.question s.told (s.shown + 1)) (sym c.ends_depth.ensures ∙ c.if-ends_depth.true))

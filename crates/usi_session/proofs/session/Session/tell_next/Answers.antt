@@ -1,7 +1,7 @@
-use Rattle.std.proofs.Common.{◌≡◌, ◌+◌, ap, ◌∙◌, rules, false, []}
+use Rattle.std.proofs.Common.{◌≡◌, ap, ◌∙◌, rules, false, []}
 use Rattle.usi_lines.specs.Lines.{ahead}
 use Rattle.usi_session.specs.Due.{SessionView}
-use Rattle.usi_session.proofs.Steps.{due_told, due_ends, load_told, load_ends, state_told, state_ends, pending_alive}
+use Rattle.usi_session.proofs.Steps.{due_told, due_ends, load_told, pending_alive}
 use Rattle.usi_session.proofs.WholeReplies.{told_whole, end_whole}
 use Rattle.usi_session.proofs.session.Session.tell_next.Goals as goal
 
