@@ -12,11 +12,11 @@ use Rattle.shogi_moves.specs.LegalMoves.{legal_codes, legal_above}
 use Rattle.shogi_moves.specs.Rising.{is_in}
 use Rattle.shogi_moves.proofs.LegalLaws.{after_code_of, legal_above_in}
 use Rattle.shogi_eval.specs.declared.eval.Eval.{Eval}
-use Rattle.shogi_search.specs.Minimax.{value, worth, best, tree_size, pv_cost, then_pv_cost, subtree_sizes}
+use Rattle.shogi_search.specs.Minimax.{value, worth, best, tree_size, pv_cost, then_pv_cost, sum_of_tree_sizes}
 use Rattle.shogi_search.specs.Progress.{Progress, untouched}
 use Rattle.shogi_search.specs.Ranked.{Ranking, IsTop}
 use Rattle.shogi_search.proofs.Lines.{pv_cost-above}
-use Rattle.shogi_search.proofs.MinimaxLaws.{tree_size-positive, subtree_sizes-next, Within, value_within}
+use Rattle.shogi_search.proofs.MinimaxLaws.{tree_size-positive, sum_of_tree_sizes-next, Within, value_within}
 use Rattle.shogi_search.proofs.RankedLaws.{first_in}
 use Rattle.shogi_search.proofs.RankedUse.{gone_none, gone_on, gone_all}
 use Rattle.shogi_search.proofs.Valid.{after_valid}
@@ -94,7 +94,7 @@ costs_above-next asked told h = let n : asked.depth - told ≡ suc (asked.depth 
 
 begun_cost_at : (asked : Question) (first : Move) (told : ℕ) (above : ℕ) (one : Bool) → (asked.pv_lines == 1) ≡ one → IsFirst asked.position first → move_of (code_of first) ≡ Some first → above ≡ costs_above asked (told + 1) (asked.depth - (told + 1))
     → load_of (in_hand_of asked told 0 (cond one None (Some first)) (walk_from asked.position asked.eval (told + 1)) (cond one (untouched asked.position asked.eval (told + 1)) (untouched (after asked.position first) asked.eval told)))
-    ≤ cond one (pv_cost asked.position asked.eval (told + 1)) (2 * subtree_sizes asked.position (told + 1 - 1) (legal_codes asked.position) + pvs_cost asked.position asked.eval (told + 1 - 1) (listed asked.position asked.eval asked.pv_lines (told + 1))) + above
+    ≤ cond one (pv_cost asked.position asked.eval (told + 1)) (2 * sum_of_tree_sizes asked.position (told + 1 - 1) (legal_codes asked.position) + pvs_cost asked.position asked.eval (told + 1 - 1) (listed asked.position asked.eval asked.pv_lines (told + 1))) + above
 begun_cost_at asked first told above true e f b a =
     let n : asked.pv_lines ≡ 1 = eqb-true asked.pv_lines 1 e in
     let l : length (listed_at asked told) ≡ 1 = one_listed asked.position asked.eval asked.pv_lines (told + 1) n (omega arith) (first_some asked.position first f) in
@@ -103,8 +103,8 @@ begun_cost_at asked first told above true e f b a =
     omega (arith, pv_cost-above asked.position asked.eval (told + 1) (omega arith))
 begun_cost_at asked first told above false e f b a =
     let k : told + 1 - 1 ≡ told = omega arith in
-    let c : subtree_sizes asked.position told (legal_codes asked.position) ≡ tree_size (after asked.position first) told + subtree_sizes asked.position told (legal_above asked.position (Some first)) =
-    subtree_sizes-next asked.position told (code_of first) (after asked.position first) (legal_codes asked.position) (legal_above asked.position (Some first)) (sym (after_code_of asked.position first b)) f in
+    let c : sum_of_tree_sizes asked.position told (legal_codes asked.position) ≡ tree_size (after asked.position first) told + sum_of_tree_sizes asked.position told (legal_above asked.position (Some first)) =
+    sum_of_tree_sizes-next asked.position told (code_of first) (after asked.position first) (legal_codes asked.position) (legal_above asked.position (Some first)) (sym (after_code_of asked.position first b)) f in
     rw k (omega arith)
 
 -- a depth that begins costs it and the depths above it
@@ -143,8 +143,8 @@ pub next_child_cost : (asked : Question) (told : ℕ) (child m : Move) (w v : Wa
     → legal_above asked.position (Some child) ≡ code_of m ∷ legal_above asked.position (Some m) → load_of (in_hand_of asked told 0 (Some m) w s) ≤ load_after_search (in_hand_of asked told 0 (Some child) v t)
 next_child_cost asked told child m w v s t e a n =
     let l : s.left ≡ 2 * tree_size (after asked.position m) told = ap (λ (x : Progress). x.left) e in
-    let c : subtree_sizes asked.position told (legal_above asked.position (Some child)) ≡ tree_size (after asked.position m) told + subtree_sizes asked.position told (legal_above asked.position (Some m)) =
-    subtree_sizes-next asked.position told (code_of m) (after asked.position m) (legal_above asked.position (Some child)) (legal_above asked.position (Some m)) a n in
+    let c : sum_of_tree_sizes asked.position told (legal_above asked.position (Some child)) ≡ tree_size (after asked.position m) told + sum_of_tree_sizes asked.position told (legal_above asked.position (Some m)) =
+    sum_of_tree_sizes-next asked.position told (code_of m) (after asked.position m) (legal_above asked.position (Some child)) (legal_above asked.position (Some m)) a n in
     omega arith
 
 cost_of : (w : Walked) (eval : Eval) → w.eval ≡ eval → cost_after w ≡ then_pv_cost (λ next. pv_cost next eval (w.plies - 1)) w.at (best w.at eval w.plies)

@@ -18,7 +18,7 @@ use Rattle.shogi_moves.specs.Rising.{is_in}
 use Rattle.shogi_moves.proofs.LegalLaws.{listed_to_legal, legal_above_in}
 use Rattle.shogi_eval.specs.declared.eval.Eval.{Eval}
 use Rattle.shogi_search.specs.Minimax.{value, worth, best_code, pv, then_pv, pv_cost}
-use Rattle.shogi_search.specs.Ranked.{ranked, ranked_moves, coded, with_worth, Ranking}
+use Rattle.shogi_search.specs.Ranked.{ranked, ranked_codes, coded, with_worth, Ranking}
 use Rattle.shogi_search.proofs.Best.{best_none}
 use Rattle.shogi_search.proofs.Lines.{pv-above}
 use Rattle.shogi_search.proofs.MinimaxLaws.{best-code, best_code-above}
@@ -45,7 +45,7 @@ in_front (y ∷ xs) (suc n) (suc i) x e = or_right (x == y) (is_in x xs) (in_fro
 
 -- a listed move is legal
 pub listed_legal : (p : Shogi) (eval : Eval) (n d i : ℕ) (m : Move) → slice_get (listed p eval n d) i ≡ Some (code_of m) → move_of (code_of m) ≡ Some m → is_legal p m ≡ true
-listed_legal p eval n d i m e b = listed_to_legal p m b (sym (in_ranked (worth p eval (d - 1)) (code_of m) (legal_codes p)) ∙ in_front (ranked_moves p eval d) n i (code_of m) e)
+listed_legal p eval n d i m e b = listed_to_legal p m b (sym (in_ranked (worth p eval (d - 1)) (code_of m) (legal_codes p)) ∙ in_front (ranked_codes p eval d) n i (code_of m) e)
 
 take_first : (xs : List ℕ) (n x : ℕ) → 1 ≤ n → slice_get xs 0 ≡ Some x → slice_get (take n xs) 0 ≡ Some x
 take_first xs zero x h e = absurd (omega arith)
@@ -67,7 +67,7 @@ find_that t b (m ∷ xs) h =
 -- the first move listed has the value and the pv of the position
 pub record IsFirstLine (p : Shogi) (eval : Eval) (d : ℕ) : Type 0 where
   pub code : ℕ
-  pub first_is : slice_get (ranked_moves p eval d) 0 ≡ Some code
+  pub first_is : slice_get (ranked_codes p eval d) 0 ≡ Some code
   pub value_is : value p eval d ≡ worth p eval (d - 1) code
   pub pv_is : pv p eval d ≡ pv_by p eval d code
 
@@ -85,12 +85,12 @@ first_line p eval d h ne = first_line_at p eval d (best_code p eval d) h ne refl
 
 -- it is listed
 pub first_listed : (p : Shogi) (eval : Eval) (n d : ℕ) (l : IsFirstLine p eval d) → 1 ≤ n → slice_get (listed p eval n d) 0 ≡ Some l.code
-first_listed p eval n d l h = take_first (ranked_moves p eval d) n l.code h l.first_is
+first_listed p eval n d l h = take_first (ranked_codes p eval d) n l.code h l.first_is
 
 -- one line
 pub one_listed : (p : Shogi) (eval : Eval) (n d : ℕ) → n ≡ 1 → 0 < d → legal_codes p ≢ [] → length (listed p eval n d) ≡ 1
 one_listed p eval n d e h ne =
-    ap (λ (k : ℕ). length (take k (ranked_moves p eval d))) e ∙ (let l : IsFirstLine p eval d = first_line p eval d h ne in take_one (ranked_moves p eval d) l.code l.first_is)
+    ap (λ (k : ℕ). length (take k (ranked_codes p eval d))) e ∙ (let l : IsFirstLine p eval d = first_line p eval d h ne in take_one (ranked_codes p eval d) l.code l.first_is)
 
 some_in : (xs : List ℕ) (c : ℕ) → is_in c xs ≡ true → xs ≢ []
 some_in xs c i e = both_ways _ (sym i ∙ ap (is_in c) e) refl
@@ -166,7 +166,7 @@ take_below [] (suc n) = omega arith
 take_below (x ∷ xs) (suc n) = omega (arith, take_below xs n)
 
 pub line_below : (asked : Question) (told shown : ℕ) (w : Walked) → IsLine asked told shown w → shown < asked.pv_lines
-line_below asked told shown w l = omega (arith, line_within asked told shown w l, take_below (ranked_moves asked.position asked.eval (told + 1)) asked.pv_lines)
+line_below asked told shown w l = omega (arith, line_within asked told shown w l, take_below (ranked_codes asked.position asked.eval (told + 1)) asked.pv_lines)
 
 -- some move is listed
 pub some_listed : (asked : Question) (told : ℕ) → 1 ≤ asked.pv_lines → legal_codes asked.position ≢ [] → 0 < length (listed_at asked told)
