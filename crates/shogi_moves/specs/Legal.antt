@@ -84,7 +84,7 @@ abbrev pub is_pawn_drop : Move → Bool
 is_pawn_drop (Board from to promote) = false
 is_pawn_drop (Drop kind to) = is_pawn_kind kind
 
--- the side to move is in check and has no safe move. It is asked after the drop of a pawn: that check comes from the next square, so no drop answers it, and each safe move is legal
+-- the side to move is in check and has no safe move. It is asked after the drop of a pawn in a valid position: that check comes from the next square, so no drop answers it, and each safe move is legal
 abbrev pub is_mated : Shogi → Bool
 is_mated p = in_check p.cells p.side && not (some_below MOVE_CODE_COUNT (is_safe_code p))
 

@@ -45,7 +45,7 @@ value p e (suc d) = greatest_or (lost_value (suc d)) (λ code. negated (value (a
 abbrev pub worth : Shogi → Eval → ℕ → ℕ → ℤ
 worth p e d code = negated (value (after_code p code) e d)
 
--- the least code whose move is worth the position's value
+-- the least code whose move is worth the position's value; none at depth 0, and where no move is legal
 unfoldable pub best_code : Shogi → Eval → ℕ → Option ℕ
 best_code p e zero = None
 best_code p e (suc d) = find (λ code. int_eq (worth p e d code) (value p e (suc d))) (legal_codes p)
@@ -55,7 +55,7 @@ abbrev pub move_of_some : Option ℕ → Option Move
 move_of_some None = None
 move_of_some (Some code) = move_of code
 
--- the best move
+-- the best move; none at depth 0, and where no move is legal
 unfoldable pub best : Shogi → Eval → ℕ → Option Move
 best p e d = move_of_some (best_code p e d)
 
@@ -64,12 +64,12 @@ abbrev pub then_pv : (Shogi → List Move) → Shogi → Option Move → List Mo
 then_pv rest p None = []
 then_pv rest p (Some m) = m ∷ rest (after p m)
 
--- the principal variation: the best move, and that of the position after it one ply less deep
+-- the principal variation: the best move, and the principal variation of the position after it one ply less deep
 unfoldable pub pv : Shogi → Eval → ℕ → List Move
 pv p e zero = []
 pv p e (suc d) = then_pv (λ q. pv q e d) p (best p e (suc d))
 
--- the nodes of the whole tree
+-- how many nodes the whole tree has, with its root
 unfoldable pub tree_size : Shogi → ℕ → ℕ
 tree_size p zero = 1
 tree_size p (suc d) = 1 + sum_by (λ code. tree_size (after_code p code) d) (legal_codes p)
@@ -83,7 +83,7 @@ abbrev pub then_pv_cost : (Shogi → ℕ) → Shogi → Option Move → ℕ
 then_pv_cost rest p None = 0
 then_pv_cost rest p (Some m) = rest (after p m)
 
--- the most search steps for the pv of this depth: two for each node of the trees along it, one to enter it and one to leave it
+-- the most search steps for the pv of this depth, where each of its positions is searched anew: two for each node of the trees along it, one to enter it and one to leave it
 unfoldable pub pv_cost : Shogi → Eval → ℕ → ℕ
 pv_cost p e zero = 0
 pv_cost p e (suc d) = 2 * tree_size p (suc d) + then_pv_cost (λ q. pv_cost q e d) p (best p e (suc d))

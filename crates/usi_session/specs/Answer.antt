@@ -47,17 +47,17 @@ bestmove_at position eval depth until = record { best = move_to_play (pv positio
 abbrev pub held_line : HeldBestmove → List ℕ
 held_line held = bestmove_line held.best held.ponder
 
--- the bestmove is written at once, or held
+-- the info lines are written, and then the bestmove at once, or it is held; one that was held before is dropped
 abbrev pub write_or_hold : State → List ℕ → HeldBestmove → Hold → Answer
 write_or_hold state infos held Nothing = answer_with (without_bestmove state) (infos ++ held_line held)
 write_or_hold state infos held UntilStop = answer_with (record state { held = Some held }) infos
 write_or_hold state infos held UntilHit = answer_with (record state { held = Some held }) infos
 
--- `go` at a depth, by the evaluation and with the lines of the session: what was held is dropped
+-- `go` at a depth, by the evaluation and with the lines of the session: it is answered whole, also under `go infinite`, and what was held is dropped
 abbrev pub answer_go : State → ℕ → Hold → Answer
 answer_go state depth hold = write_or_hold state (go_infos state.position state.options.eval state.options.pv_lines depth) (bestmove_at state.position state.options.eval depth hold) hold
 
--- `stop`: the held bestmove is written, and nothing is held any more
+-- `stop`: the held bestmove is written, and nothing is held any more; it cuts no search short
 abbrev pub answer_stop : State → Option HeldBestmove → Answer
 answer_stop state None = answer_with state []
 answer_stop state (Some held) = answer_with (without_bestmove state) (held_line held)

@@ -12,26 +12,27 @@ use Rattle.usi_session.specs.declared.state.State.{State}
 use Rattle.usi_session.specs.GoCommand.{listed}
 use Rattle.usi_session.specs.Replies.{answer_line}
 
--- the search steps along the pvs of these moves, each with depth plies after the move
+-- the most search steps along the pvs of these moves, each with so many plies after the move
 abbrev pub pvs_cost : Shogi → Eval → ℕ → List ℕ → ℕ
-pvs_cost position eval depth moves = sum_by (λ code. pv_cost (after_code position code) eval depth) moves
+pvs_cost position eval plies codes = sum_by (λ code. pv_cost (after_code position code) eval plies) codes
 
--- a depth costs the searches along its pv, or with several lines the search after each legal move, and those along each pv listed
+-- the most search steps of a depth: those along its pv, or with several lines those of the search after each legal move, and those along each pv listed
 abbrev pub depth_cost : Shogi → Eval → ℕ → ℕ → ℕ
 depth_cost position eval pv_lines depth =
     cond (pv_lines == 1) (pv_cost position eval depth)
     (2 * sum_of_tree_sizes position (depth - 1) (legal_codes position) + pvs_cost position eval (depth - 1) (listed position eval pv_lines depth))
 
--- the sum over each depth from 1 to this one
+-- the same, summed over each depth from 1 to this one
 unfoldable pub depths_cost : Shogi → Eval → ℕ → ℕ → ℕ
 depths_cost position eval pv_lines zero = 0
 depths_cost position eval pv_lines (suc depth) = depths_cost position eval pv_lines depth + depth_cost position eval pv_lines (suc depth)
 
--- a `go` costs the searches of its depths from the position where it stands; no other command costs a step
+-- a `go` costs at most the searches of its depths from the position where it stands; no other command costs a step
 abbrev pub cost_of_command : State → Command → ℕ
 cost_of_command state (Go depth hold) = depths_cost state.position state.options.eval state.options.pv_lines (unwrap_or depth state.options.depth)
 cost_of_command state _ = 0
 
+-- what a line may cost in a session that is not over
 abbrev pub cost_to : State → Line → ℕ
 cost_to state (Text text) = cost_of_command state (command_of text)
 cost_to state TooLong = 0

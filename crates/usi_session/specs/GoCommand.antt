@@ -47,7 +47,7 @@ info_lines position eval pv_lines zero = []
 info_lines position eval pv_lines (suc depth) =
     info_lines position eval pv_lines depth ++ depth_lines position eval pv_lines (suc depth)
 
--- no info lines where no move is legal
+-- the info lines, and none where no move is legal
 abbrev pub go_infos_where : Shogi → Eval → ℕ → ℕ → List ℕ → List ℕ
 go_infos_where position eval pv_lines depth [] = []
 go_infos_where position eval pv_lines depth (code ∷ codes) = info_lines position eval pv_lines depth

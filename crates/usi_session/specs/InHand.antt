@@ -12,9 +12,9 @@ use Rattle.usi_session.specs.GoCommand.{listed, numbered_lines, depth_lines}
 use Rattle.usi_session.specs.Costs.{depth_cost, pvs_cost}
 use Rattle.usi_session.specs.Answer.{Answer, bestmove_at, write_or_hold, answer_with}
 
--- what was asked, the depths that were told, and the lines that were told of the depth after them;
--- of this depth the move whose child is searched for what the move is worth, or none where a pv is walked:
--- then the position that the front of the pv leads to and the plies that are left of it; and what is left of the search in hand
+-- what was asked; how many depths were told, so that the depth in hand is the next one, and a move of it has as many plies after it; the lines that were told of the depth in hand;
+-- with several lines the root move whose child is searched for what the move is worth, and none where a pv is walked;
+-- where one is walked, the position that its moves so far lead to, and the plies that are left of it; and what is left of the search in hand
 pub record InHand : Type 0 where
   pub question : Question
   pub told : ℕ
@@ -51,7 +51,7 @@ infos_left asked told shown = lines_left asked told shown ++ lines_later asked t
 abbrev pub ends_depth : Question → ℕ → ℕ → Bool
 ends_depth asked told shown = shown + 1 == length (listed_at asked told)
 
--- and of all
+-- whether it is the last one of the depth that was asked for
 abbrev pub is_last : InHand → Bool
 is_last go = ends_depth go.question go.told go.shown && go.told + 1 == go.question.depth
 
@@ -60,7 +60,7 @@ abbrev pub infos_after : Question → ℕ → ℕ → List ℕ
 infos_after asked told shown =
     cond (ends_depth asked told shown) (lines_later asked told) (infos_left asked told (shown + 1))
 
--- the steps that may be made for each of so many depths above those that were told
+-- the most steps for each of so many depths above those that were told
 unfoldable pub costs_above : Question → ℕ → ℕ → ℕ
 costs_above asked told zero = 0
 costs_above asked told (suc more) = depth_cost asked.position asked.eval asked.pv_lines (told + 1) + costs_above asked (told + 1) more
@@ -79,7 +79,7 @@ abbrev pub with_rest : List ℕ → State → Option InHand → List ℕ
 with_rest bytes state None = bytes
 with_rest bytes state (Some go) = bytes ++ (rest_of_go state go).bytes
 
--- the steps of the searches after the one in hand, at the depth in hand: after each further move and along each pv listed, or along this pv and those listed behind it
+-- the most steps of the searches after the one in hand, at the depth in hand: after each further move and along each pv listed, or along this pv and those listed behind it
 abbrev pub load_of_depth : Option Move → InHand → ℕ
 load_of_depth (Some child) go =
     2 * sum_of_tree_sizes go.question.position go.told (legal_above go.question.position (Some child))
@@ -88,15 +88,16 @@ load_of_depth None go =
     then_pv_cost (λ next. pv_cost next go.question.eval (go.plies - 1)) go.at (best go.at go.question.eval go.plies)
     + pvs_cost go.question.position go.question.eval go.told (drop (go.shown + 1) (listed_at go.question go.told))
 
--- the same, and at the depths above
+-- the most steps of all searches after the one in hand: those of its depth, and those of the depths above
 abbrev pub load_after_search : InHand → ℕ
 load_after_search go =
     load_of_depth go.child go + costs_above go.question (go.told + 1) (go.question.depth - (go.told + 1))
 
--- what is left of the search in hand, and the steps of those after it
+-- the most steps that it may still make: what is left of the search in hand, and those of the searches after it
 abbrev pub load_of : InHand → ℕ
 load_of go = go.left + load_after_search go
 
+-- none, where none is in hand
 abbrev pub load_of_if : Option InHand → ℕ
 load_of_if None = 0
 load_of_if (Some go) = load_of go
@@ -105,14 +106,15 @@ load_of_if (Some go) = load_of go
 abbrev pub is_searching : InHand → Bool
 is_searching go = is_some go.child || nat_lt 0 go.plies
 
--- more than the lines that it may still tell
+-- no fewer than the lines that it may still tell
 abbrev pub tells_of : InHand → ℕ
 tells_of go = PV_LINES_MAX * (go.question.depth - go.told) - go.shown
 
+-- more than those, and none where none is in hand
 abbrev pub tells_of_if : Option InHand → ℕ
 tells_of_if None = 0
 tells_of_if (Some go) = tells_of go + 1
 
--- the most of a `go` that was just taken in hand
+-- the most that this is for a `go` that was just taken in hand
 abbrev pub most_tells : ℕ
 most_tells = PV_LINES_MAX * DEPTH_MAX + 1
