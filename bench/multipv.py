@@ -10,7 +10,7 @@ from curves import POSITIONS
 from report import TOP, put, table
 
 PROGRAM = os.path.join(TOP, "crates", "usi_host", "out", "usi_host")
-DEPTHS = {"opening": [3, 4, 5, 6], "middle game": [3, 4, 5], "end of a game": [3, 4, 5]}
+DEPTHS = {"opening": [3, 4, 5, 6], "middle game": [3, 4], "end of a game": [3, 4]}
 LINES = [1, 2, 4, 8]
 TRIES = 3
 
