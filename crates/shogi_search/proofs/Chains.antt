@@ -119,11 +119,13 @@ chain_height p eval d alpha beta (h ∷ fs) f c =
     omega arith
 
 -- a chain from the root makes a stack
-pub stack_at : (s : Stack) (p : Shogi) (eval : Eval) (d : ℕ) → s.root ≡ p → s.eval ≡ eval → s.depth ≡ d → d ≤ SEARCH_DEPTH_MAX → s.height ≤ SEARCH_DEPTH_MAX → IsChain p eval d (negated INFINITY) INFINITY (parents_of s) s.top → IsStack s
-stack_at s p eval d e k h shallow fits c = record {
+pub stack_at : (s : Stack) (p : Shogi) (eval : Eval) (d : ℕ) (beta : ℤ) → s.root ≡ p → s.eval ≡ eval → s.depth ≡ d → s.beta ≡ beta → d ≤ SEARCH_DEPTH_MAX → s.height ≤ SEARCH_DEPTH_MAX → IsChain p eval d (negated INFINITY) beta (parents_of s) s.top → IsStack s
+stack_at s p eval d beta e k h b shallow fits c = record {
   shallow = subst (λ (x : ℕ). x ≤ SEARCH_DEPTH_MAX) (sym h) shallow;
   height_fits = fits;
-  chain = subst (λ (x : Shogi). IsChain x s.eval s.depth (negated INFINITY) INFINITY (parents_of s) s.top) (sym e) (subst (λ (x : Eval). IsChain p x s.depth (negated INFINITY) INFINITY (parents_of s) s.top) (sym k) (subst (λ (x : ℕ). IsChain p eval x (negated INFINITY) INFINITY (parents_of s) s.top) (sym h) c));
+  chain = subst (λ (x : Shogi). IsChain x s.eval s.depth (negated INFINITY) s.beta (parents_of s) s.top) (sym e)
+      (subst (λ (x : Eval). IsChain p x s.depth (negated INFINITY) s.beta (parents_of s) s.top) (sym k)
+      (subst (λ (x : ℕ). IsChain p eval x (negated INFINITY) s.beta (parents_of s) s.top) (sym h) (subst (λ (x : ℤ). IsChain p eval d (negated INFINITY) x (parents_of s) s.top) (sym b) c)));
 }
 
 -- so there is room above a node that waits for a child

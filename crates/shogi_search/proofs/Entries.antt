@@ -1,5 +1,5 @@
 -- What a true entry of a child says of its move.
-use Rattle.std.proofs.Common.{◌≡◌, ◌≤◌, ◌-◌, ℕ, ℤ, pos, ◌-ℤ◌, ◌≤ℤ◌, Option, refl, sym, arith, subst, true}
+use Rattle.std.proofs.Common.{◌≡◌, ◌≤◌, ◌-◌, ℕ, ℤ, pos, ◌-ℤ◌, ◌≤ℤ◌, ◌<ℤ◌, Option, Some, None, refl, sym, ◌∙◌, arith, subst, true}
 use Rattle.std.proofs.lemmas.Int.{ints}
 use Rattle.shogi_core.specs.declared.moves.Move.{Move}
 use Rattle.shogi_core.specs.Position.{Shogi}
@@ -10,8 +10,10 @@ use Rattle.shogi_moves.specs.Rising.{is_in}
 use Rattle.shogi_eval.specs.declared.eval.Eval.{Eval}
 use Rattle.shogi_search.specs.declared.memo.Entry.{Entry}
 use Rattle.shogi_search.specs.declared.memo.Entry.TheVariants.{Exact, AtLeast, AtMost}
-use Rattle.shogi_search.specs.Minimax.{value, worth, IsTrueEntry, negated, lost_value}
+use Rattle.shogi_search.specs.Minimax.{value, best, worth, IsTrueEntry, negated, lost_value}
+use Rattle.shogi_search.specs.declared.found.Found.{Found}
 use Rattle.shogi_search.specs.Entries.{IsCutoff}
+use Rattle.shogi_search.specs.Progress.{IsFoundBelow}
 use Rattle.shogi_search.proofs.MinimaxLaws.{worth_from, value_within, Within}
 use Rattle.shogi_search.proofs.Valid.{after_valid}
 use Rattle.shogi_search.specs.declared.bounds.TheConstants.{SEARCH_DEPTH_MAX, INFINITY}
@@ -50,11 +52,44 @@ at_least_says p eval d m e v beta alpha q t s =
 pub same_window : (alpha alpha' beta beta' : ℤ) (e : Entry) → alpha ≡ alpha' → beta ≡ beta' → IsCutoff alpha beta e → IsCutoff alpha' beta' e
 same_window alpha alpha' beta beta' e p q s = subst (λ (x : ℤ). IsCutoff alpha' x e) q (subst (λ (x : ℤ). IsCutoff x beta e) p s)
 
--- a true entry that is_cutoff the whole window is exact
-pub whole_window : (p : Shogi) (eval : Eval) (d : ℕ) (e : Entry) → IsValid p → d ≤ SEARCH_DEPTH_MAX → IsTrueEntry p eval d e → IsCutoff (negated INFINITY) INFINITY e → ((v : ℤ) (b : Option Move) → e ≡ Exact v b → ⊥) → ⊥
-whole_window p eval d (Exact v b) ok h t s other = other v b refl
-whole_window p eval d (AtLeast v) ok h t s other = let w : Within d (value p eval d) = value_within d p eval ok in omega (arith, ints)
-whole_window p eval d (AtMost v) ok h t s other = let w : Within d (value p eval d) = value_within d p eval ok in omega (arith, ints)
+-- a true value at or below the whole window there is not
+pub not_at_most : (p : Shogi) (eval : Eval) (d : ℕ) (e : Entry) (v beta : ℤ) → IsValid p → d ≤ SEARCH_DEPTH_MAX → IsTrueEntry p eval d e → IsCutoff (negated INFINITY) beta e → e ≡ AtMost v → ⊥
+not_at_most p eval d e v beta ok h t s q =
+    let k : value p eval d ≤ℤ v = subst (λ (x : Entry). IsTrueEntry p eval d x) q t in
+    let l : v ≤ℤ negated INFINITY = subst (λ (x : Entry). IsCutoff (negated INFINITY) beta x) q s in
+    let w : Within d (value p eval d) = value_within d p eval ok in
+    omega (arith, ints)
+
+-- what a true entry says is found
+pub exact_found : (p : Shogi) (eval : Eval) (d : ℕ) (e : Entry) (v beta : ℤ) (m : Option Move) (f : Found) → IsValid p → d ≤ SEARCH_DEPTH_MAX → IsTrueEntry p eval d e → e ≡ Exact v m → f.value ≡ v → f.best ≡ m → IsFoundBelow p eval d beta f
+exact_found p eval d e v beta m f ok h t q a b =
+    let k : IsTrueEntry p eval d (Exact v m) = subst (λ (x : Entry). IsTrueEntry p eval d x) q t in
+    let w : Within d (value p eval d) = value_within d p eval ok in
+    let same : value p eval d ≡ v = k.0 in
+    let first : best p eval d ≡ f.best = k.1 ∙ sym b in
+    record { value_is = λ _. a ∙ sym same; best_is = λ _. sym first; lower = omega (arith, ints); told = λ n q. first ∙ q; least = omega (arith, ints); most = omega (arith, ints) }
+
+-- and what a true bound that is at or above the window
+pub at_least_found : (p : Shogi) (eval : Eval) (d : ℕ) (e : Entry) (v beta : ℤ) (f : Found) → IsValid p → d ≤ SEARCH_DEPTH_MAX → negated INFINITY <ℤ beta → IsTrueEntry p eval d e → IsCutoff (negated INFINITY) beta e → e ≡ AtLeast v → f.value ≡ v → f.best ≡ None → IsFoundBelow p eval d beta f
+at_least_found p eval d e v beta f ok h above t s q a b =
+    let k : v ≤ℤ value p eval d = subst (λ (x : Entry). IsTrueEntry p eval d x) q t in
+    let l : beta ≤ℤ v = subst (λ (x : Entry). IsCutoff (negated INFINITY) beta x) q s in
+    let w : Within d (value p eval d) = value_within d p eval ok in
+    record {
+      value_is = λ lt. absurd (omega (arith, ints));
+      best_is = λ lt. absurd (omega (arith, ints));
+      lower = omega (arith, ints);
+      told = λ n q. (let none : None ≡ Some n = sym b ∙ q in absurd (cc));
+      least = omega (arith, ints);
+      most = omega (arith, ints);
+    }
+
+-- below the end of the whole window lies every value
+pub whole_value : (p : Shogi) (eval : Eval) (d : ℕ) (beta : ℤ) (f : Found) → IsFoundBelow p eval d beta f → beta ≡ INFINITY → f.value ≡ value p eval d
+whole_value p eval d beta f h e = h.value_is (let m : f.value <ℤ INFINITY = h.most in omega (arith, ints))
+
+pub whole_best : (p : Shogi) (eval : Eval) (d : ℕ) (beta : ℤ) (f : Found) → IsFoundBelow p eval d beta f → beta ≡ INFINITY → f.best ≡ best p eval d
+whole_best p eval d beta f h e = h.best_is (let m : f.value <ℤ INFINITY = h.most in omega (arith, ints))
 
 pub same_truth : (p p' : Shogi) (eval eval' : Eval) (d d' : ℕ) (e : Entry) → p ≡ p' → eval ≡ eval' → d ≡ d' → IsTrueEntry p eval d e → IsTrueEntry p' eval' d' e
 same_truth p p' eval eval' d d' e a k b t =

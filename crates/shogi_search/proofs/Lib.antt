@@ -9,6 +9,7 @@ pub mod Lines
 pub mod Picks
 pub mod OrderLaws
 pub mod Entries
+pub mod Searches
 pub mod Nodes
 pub mod Chains
 pub mod RankedLaws

@@ -1,5 +1,5 @@
 -- Codes ranked by their worth: the same in any order, and the best move first.
-use Rattle.std.proofs.Common.{◌≡◌, ◌<◌, ◌≤◌, ◌<ℤ◌, ◌≤ℤ◌, ℕ, zero, suc, ◌+◌, ◌-◌, ℤ, List, [], ◌∷◌, ◌++◌, ◌⊎◌, ◌==◌, Bool, true, false, refl, ap, ◌∙◌, sym, arith, inl, inr, map, take, drop, length, get_or, find, subst}
+use Rattle.std.proofs.Common.{◌≡◌, ◌<◌, ◌≤◌, ◌<ℤ◌, ◌≤ℤ◌, ℕ, zero, suc, ◌+◌, ◌-◌, ℤ, Some, List, [], ◌∷◌, ◌++◌, ◌⊎◌, ◌==◌, Bool, true, false, refl, ap, ◌∙◌, sym, arith, inl, inr, map, take, drop, length, get_or, find, subst}
 use Rattle.std.specs.Prelude.{int_lt, nat_lt, slice_get, ◌||◌, ◌&&◌, insert}
 use Rattle.std.specs.Ordering.{int_eq}
 use Rattle.std.proofs.lemmas.Int.{ints, by_lt_z}
@@ -227,6 +227,29 @@ rank_cut f (suc n) m (k ∷ ks) = elim (cases_Bool (before f m k)) [
   | inl t ↦ ap (take (suc n)) (rank_first f m k (take n ks) t) ∙ ap (λ (l : List ℕ). m ∷ l) (take_over n k ks) ∙ sym (ap (take (suc n)) (rank_first f m k ks t))
   | inr u ↦ ap (take (suc n)) (rank_after f m k (take n ks) u) ∙ ap (λ (l : List ℕ). k ∷ l) (rank_cut f n m ks) ∙ sym (ap (take (suc n)) (rank_after f m k ks u))
 ]
+
+-- a code at a place is in the list
+pub at_place_in : (ks : List ℕ) (i l : ℕ) → slice_get ks i ≡ Some l → is_in l ks ≡ true
+at_place_in [] i l h = absurd (cc)
+at_place_in (k ∷ ks) zero l h = let e : k ≡ l = cc in or_left (l == k) (is_in l ks) (eq-eqb l k (sym e))
+at_place_in (k ∷ ks) (suc i) l h = or_right (l == k) (is_in l ks) (at_place_in ks i l h)
+
+-- a code that the one at a place stands before changes nothing up to there
+pub rank_past : (f : ℕ → ℤ) (m : ℕ) (ks : List ℕ) (i l : ℕ) → IsRankedList f ks → slice_get ks i ≡ Some l → is_ahead (f m) m (f l) l ≡ false → take (suc i) (insert_code f m ks) ≡ take (suc i) ks
+rank_past f m [] i l r h u = absurd (cc)
+rank_past f m (k ∷ ks) zero l r h u =
+    let e : k ≡ l = cc in
+    ap (take 1) (rank_after f m k ks (ap (before f m) e ∙ u))
+rank_past f m (k ∷ ks) (suc i) l r h u =
+    let later : before f m k ≡ false = false_from_ne_true _ (λ t. both_ways _ u (ahead_on (f m) (f k) (f l) m k l t (r.0 l (at_place_in ks i l h)))) in
+    ap (take (suc (suc i))) (rank_after f m k ks later) ∙ ap (λ (x : List ℕ). k ∷ x) (rank_past f m ks i l r.1 h u)
+
+-- a move of greater code that is worth no more stands behind
+pub not_before : (f : ℕ → ℤ) (m l : ℕ) → l < m → f m ≤ℤ f l → is_ahead (f m) m (f l) l ≡ false
+not_before f m l b w = false_from_ne_true _ (λ t. elim (ahead_cases (f m) (f l) m l t) [
+  | inl x ↦ omega (arith, ints)
+  | inr x ↦ (let q : m < l = x.1 in omega arith)
+])
 
 abbrev pair : ℕ → ℤ → ℕ × ℤ
 pair n v = (n, v)

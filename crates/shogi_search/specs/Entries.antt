@@ -10,6 +10,11 @@ IsCutoff alpha beta (Exact v m) = Unit {0}
 IsCutoff alpha beta (AtLeast v) = beta ≤ℤ v
 IsCutoff alpha beta (AtMost v) = v ≤ℤ alpha
 
+-- the answer says enough for a window
+abbrev pub IsEnough : ℤ → ℤ → Option Entry → Type 0
+IsEnough alpha beta None = ⊥
+IsEnough alpha beta (Some e) = IsCutoff alpha beta e
+
 -- the answer is the value itself
 abbrev pub IsExactly : Option Entry → Type 0
 IsExactly None = ⊥

@@ -1,15 +1,18 @@
 -- A search that goes on in slices, as its caller sees it (own choice).
-use Rattle.std.specs.Prelude.{ℕ, ◌*◌, Bool, false, Option, None}
+use Rattle.std.specs.Prelude.{◌≡◌, ℕ, ℤ, ◌*◌, ◌≤ℤ◌, ◌<ℤ◌, Bool, false, Option, None, Some}
+use Rattle.std.specs.Option.{ForSome}
 use Rattle.shogi_core.specs.Position.{Shogi}
 use Rattle.shogi_eval.specs.declared.eval.Eval.{Eval}
 use Rattle.shogi_search.specs.declared.found.Found.{Found}
-use Rattle.shogi_search.specs.Minimax.{tree_size}
+use Rattle.shogi_search.specs.Minimax.{value, best, tree_size, negated}
+use Rattle.shogi_search.specs.declared.bounds.TheConstants.{INFINITY}
 
--- where it began, under which evaluation, how deep it looks, whether its root is entered, what is left of it, its steps so far, and what it found
+-- where it began, under which evaluation, how deep it looks, the bound below which values are found, whether its root is entered, what is left of it, its steps so far, and what it found
 pub record Progress : Type 0 where
   pub root : Shogi
   pub eval : Eval
   pub depth : ℕ
+  pub beta : ℤ
   pub begun : Bool
   pub left : ℕ
   pub steps : ℕ
@@ -20,5 +23,18 @@ abbrev pub left_of : Progress → ℕ
 left_of search = search.left
 
 -- before the first slice
+abbrev pub untouched_below : Shogi → Eval → ℕ → ℤ → Progress
+untouched_below p e d beta = record { root = p; eval = e; depth = d; beta = beta; begun = false; left = 2 * tree_size p d; steps = 0; found = None }
+
+-- the same, where every value is below the bound
 abbrev pub untouched : Shogi → Eval → ℕ → Progress
-untouched p e d = record { root = p; eval = e; depth = d; begun = false; left = 2 * tree_size p d; steps = 0; found = None }
+untouched p e d = untouched_below p e d INFINITY
+
+-- what is found of a position below a bound: the value and the best move where it is less, and else no more than the value; a best move that is told is the best move
+pub record IsFoundBelow (p : Shogi) (e : Eval) (d : ℕ) (beta : ℤ) (f : Found) : Type 0 where
+  pub value_is : f.value <ℤ beta → f.value ≡ value p e d
+  pub best_is : f.value <ℤ beta → f.best ≡ best p e d
+  pub lower : f.value ≤ℤ value p e d
+  pub told : ForSome f.best (λ m. best p e d ≡ Some m)
+  pub least : negated INFINITY <ℤ f.value
+  pub most : f.value <ℤ INFINITY

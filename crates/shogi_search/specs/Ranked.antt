@@ -1,12 +1,14 @@
 -- Moves ranked by what they are worth (own choice: the greater worth first, among equal ones the lesser code).
-use Rattle.std.specs.Prelude.{◌≡◌, ℕ, ℤ, ◌-◌, List, [], ◌∷◌, map, take, cond, ◌&&◌, ◌||◌, Bool, true, int_lt, nat_lt}
+use Rattle.std.specs.List.{slice_get}
+use Rattle.std.specs.Prelude.{◌≡◌, Option, Some, None, ℕ, ℤ, ◌-◌, List, [], ◌∷◌, map, take, cond, ◌&&◌, ◌||◌, Bool, true, int_lt, nat_lt}
 use Rattle.std.specs.Ordering.{int_eq}
 use Rattle.shogi_core.specs.declared.moves.Move.{Move}
 use Rattle.shogi_core.specs.Codes.{code_of}
 use Rattle.shogi_core.specs.Position.{Shogi}
 use Rattle.shogi_moves.specs.LegalMoves.{legal_codes}
 use Rattle.shogi_eval.specs.declared.eval.Eval.{Eval}
-use Rattle.shogi_search.specs.Minimax.{worth}
+use Rattle.shogi_search.specs.Minimax.{worth, negated}
+use Rattle.shogi_search.specs.declared.bounds.TheConstants.{INFINITY}
 
 -- whether a move of worth v and this code stands before one of worth w and the other code
 abbrev pub is_ahead : ℤ → ℕ → ℤ → ℕ → Bool
@@ -58,3 +60,21 @@ with_worth worth_of code = (code, worth_of code)
 -- the pairs are the first of these codes, ranked, each with its worth: as many as there are lines, or all
 abbrev pub IsTop : (ℕ → ℤ) → List ℕ → Ranking → Type 0
 IsTop worth_of codes r = map coded r.pairs ≡ map (with_worth worth_of) (take r.lines (ranked worth_of codes))
+
+-- the value of a pair, if there is one
+abbrev pub value_in : Option (Move × ℤ) → Option ℤ
+value_in None = None
+value_in (Some x) = Some x.1
+
+-- the value on the last line, where the list is full: a later move of greater code is listed only if it is worth more
+abbrev pub value_to_pass : Ranking → Option ℤ
+value_to_pass r = value_in (slice_get r.pairs (r.lines - 1))
+
+-- a value to pass as the other side sees it, or the end of the whole window
+abbrev pub beta_above : Option ℤ → ℤ
+beta_above None = INFINITY
+beta_above (Some v) = negated v
+
+-- the end of the window under which the next child is searched: a child whose value is not below it is not listed
+abbrev pub child_beta : Ranking → ℤ
+child_beta r = beta_above (value_to_pass r)

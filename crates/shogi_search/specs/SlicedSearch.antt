@@ -1,13 +1,13 @@
 -- What holds of a search between its slices, whatever memos they were given.
-use Rattle.std.specs.Prelude.{◌≡◌, ℕ, ◌+◌, ◌*◌, ◌≤◌, Bool, true, false, Option, None, Some}
+use Rattle.std.specs.Prelude.{◌≡◌, ℕ, ◌+◌, ◌*◌, ◌≤◌, ◌<ℤ◌, ◌≤ℤ◌, Bool, true, false, Option, None, Some}
 use Rattle.std.specs.Option.{ForSome}
 use Rattle.shogi_search.specs.declared.found.Found.{Found}
 use Rattle.shogi_search.specs.declared.sliced_search.Search.TheInside.{Inside}
-use Rattle.shogi_search.specs.Minimax.{value, best, tree_size}
-use Rattle.shogi_search.specs.Progress.{Progress}
+use Rattle.shogi_search.specs.Minimax.{tree_size, negated}
+use Rattle.shogi_search.specs.Progress.{Progress, IsFoundBelow}
 use Rattle.shogi_search.specs.Visits.{IsFree}
 use Rattle.shogi_search.specs.Stack.{IsStack, left_of_stack}
-use Rattle.shogi_search.specs.declared.bounds.TheConstants.{SEARCH_DEPTH_MAX}
+use Rattle.shogi_search.specs.declared.bounds.TheConstants.{SEARCH_DEPTH_MAX, INFINITY}
 
 -- nothing once it has found, all before the root is entered, and else what is left of the stack
 abbrev pub left_in : Option Found → Bool → ℕ → ℕ → ℕ
@@ -21,21 +21,23 @@ progress_of s = record {
   root = s.stack.root;
   eval = s.stack.eval;
   depth = s.stack.depth;
+  beta = s.stack.beta;
   begun = s.started;
   left = left_in s.found s.started (2 * tree_size s.stack.root s.stack.depth) (left_of_stack s.stack);
   steps = s.steps;
   found = s.found;
 }
 
--- what it found is the value and the best move
+-- what it found is found below its bound, in all its steps
 pub record IsKnown (s : Inside) (f : Found) : Type 0 where
-  pub value_is : f.value ≡ value s.stack.root s.stack.eval s.stack.depth
-  pub best_is : f.best ≡ best s.stack.root s.stack.eval s.stack.depth
+  pub below : IsFoundBelow s.stack.root s.stack.eval s.stack.depth s.stack.beta f
   pub steps_are : f.steps ≡ s.steps
 
 -- once started and until it has found, the stack is a chain from the root
 pub record IsSearch (s : Inside) : Type 0 where
   pub shallow : s.stack.depth ≤ SEARCH_DEPTH_MAX
+  pub above : negated INFINITY <ℤ s.stack.beta
+  pub most : s.stack.beta ≤ℤ INFINITY
   pub known : ForSome s.found (IsKnown s)
   pub chain : s.found ≡ None → s.started ≡ true → IsStack s.stack
   pub free : s.found ≡ None → s.started ≡ true → IsFree s.stack.top.waiting

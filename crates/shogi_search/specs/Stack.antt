@@ -42,11 +42,11 @@ IsChain p e d alpha beta (f ∷ fs) top = IsAt p e d alpha beta f × ((0 < d) ×
 abbrev pub parents_of : Stack → List Frame
 parents_of s = take s.height s.parents
 
--- a chain from the root, under the whole window
+-- a chain from the root, under the window that ends at its bound
 pub record IsStack (s : Stack) : Type 0 where
   pub shallow : s.depth ≤ SEARCH_DEPTH_MAX
   pub height_fits : s.height ≤ SEARCH_DEPTH_MAX
-  pub chain : IsChain s.root s.eval s.depth (negated INFINITY) INFINITY (parents_of s) s.top
+  pub chain : IsChain s.root s.eval s.depth (negated INFINITY) s.beta (parents_of s) s.top
 
 -- a leaf whose value is still to be taken in
 abbrev pub left_of_waiting : Waiting → ℕ

@@ -1,27 +1,36 @@
 //! A search at once.
 
-ghost use Rattle.std.specs.Prelude.{◌≡◌, ◌≤◌, ◌*◌, ◌≤ℤ◌, true, [], ◌↔◌, ◌⊎◌, IfSome, IsNone};
+ghost use Rattle.std.specs.Prelude.{◌≡◌, ◌≤◌, ◌*◌, ◌≤ℤ◌, ◌<ℤ◌, true, [], ◌↔◌, ◌⊎◌, IfSome, IsNone};
 ghost use Rattle.shogi_moves.specs.Legal.{is_legal};
 ghost use Rattle.shogi_moves.specs.LegalMoves.{legal_codes};
-ghost use Rattle.shogi_search.specs.Entries.{IsExactly};
+ghost use Rattle.shogi_search.specs.Entries.{IsExactly, IsEnough};
 ghost use Rattle.shogi_search.specs.Minimax.{value, best, tree_size, lost_value, negated};
-ghost use Rattle.shogi_search.specs.declared.bounds.TheConstants.{SEARCH_DEPTH_MAX};
+ghost use Rattle.shogi_search.specs.declared.bounds.TheConstants.{SEARCH_DEPTH_MAX, INFINITY};
+ghost use Rattle.shogi_search.specs.Progress.{IsFoundBelow};
 
+use crate::bounds::INFINITY;
 use crate::found::Found;
 use crate::memo::Memo;
 use crate::sliced_search::Search;
 use shogi_core::Position;
 use shogi_eval::Eval;
 
-/// Goes on until the search has ended.
-fn to_the_end<M: Memo>(p: &Position, e: Eval, d: u8, memo: &mut M) -> Found
-    requires { d ≤ SEARCH_DEPTH_MAX }
-    ensures value { result.value ≡ value p.now e d }
-    ensures best { result.best ≡ best p.now e d }
+/// The value of a position under an evaluation at a depth from 0 to 16, and its best move, where the
+/// value is below `beta`, from -30,999 to 31,000; a value from `beta` on that is not above the
+/// position's otherwise. A root of which the memo knows enough takes no step.
+pub fn search_below<M: Memo>(p: &Position, e: Eval, d: u8, beta: i32, memo: &mut M) -> Found
+    requires shallow { d ≤ SEARCH_DEPTH_MAX }
+    requires open { negated INFINITY <ℤ beta }
+    requires most { beta ≤ℤ INFINITY }
+    ensures below { IsFoundBelow p.now e d beta result }
+    // Below the end of the whole window lies every value.
+    ensures value { beta ≡ INFINITY → result.value ≡ value p.now e d }
+    ensures best { beta ≡ INFINITY → result.best ≡ best p.now e d }
     ensures steps { result.steps ≤ 2 * tree_size p.now d }
+    ensures enough { IsEnough (negated INFINITY) beta (M.answers memo.old p.now e d) → result.steps ≡ 0 }
     ensures known { IsExactly (M.answers memo.old p.now e d) → result.steps ≡ 0 }
 {
-    let mut search = Search::start(p, e, d);
+    let mut search = Search::start_below(p, e, d, beta);
     if let Some(found) = search.advance(memo, u64::MAX) {
         return found;
     }
@@ -46,5 +55,5 @@ pub fn search<M: Memo>(p: &Position, e: Eval, d: u8, memo: &mut M) -> Found
     ensures known { IsExactly (M.answers memo.old p.now e d) → result.steps ≡ 0 }
 {
     p.validity();
-    to_the_end(p, e, d, memo)
+    search_below(p, e, d, INFINITY, memo)
 }

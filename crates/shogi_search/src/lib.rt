@@ -14,7 +14,7 @@ mod window;
 
 pub use bounds::{INFINITY, MATE, SEARCH_DEPTH_MAX};
 pub use found::Found;
-pub use full_search::search;
+pub use full_search::{search, search_below};
 pub use memo::{Entry, Memo, NoMemo};
 pub use ranks::{PV_LINES_MAX, Ranks};
 pub use sliced_search::Search;

@@ -3,7 +3,7 @@
 ghost use Rattle.std.specs.Prelude.{◌≡◌, ℕ, ℤ, ◌≤◌, List, [], ◌∷◌, ◌++◌, length, take, insert, true, false};
 ghost use Rattle.shogi_core.specs.Codes.{code_of};
 ghost use Rattle.shogi_moves.specs.Rising.{is_in};
-ghost use Rattle.shogi_search.specs.Ranked.{is_ahead, insert_pair, codes_in, are_ranked, IsTop};
+ghost use Rattle.shogi_search.specs.Ranked.{is_ahead, insert_pair, codes_in, are_ranked, IsTop, value_to_pass};
 ghost use Rattle.shogi_search.specs.declared.ranks.TheConstants.{PV_LINES_MAX};
 
 use arrayvec::ArrayVec;
@@ -82,6 +82,15 @@ impl Ranks {
         let place = self.place_of(&m, value);
         self.pairs.insert(place, (m, value));
         self.pairs.truncate(self.lines);
+    }
+
+    /// What a move has to be worth more than to be listed, if its code is greater than those of all
+    /// moves offered so far: the value on the last line. `None` where a line is free.
+    pub fn threshold(&self) -> Option<i32>
+        ensures { result ≡ value_to_pass self.now }
+    {
+        let (_, value) = self.pairs.as_slice().get(self.lines - 1)?;
+        Some(*value)
     }
 
     /// The best moves so far with their values.

@@ -1,25 +1,25 @@
 //! A search that goes on in slices.
 
-ghost use Rattle.std.specs.Prelude.{◌≡◌, ◌≤◌, ◌<◌, ◌+◌, ◌*◌, ◌-◌, ◌^◌, ◌≤ℤ◌, true, false, Some, None, IfSome, IfNone, OnSome, IsSome, min};
+ghost use Rattle.std.specs.Prelude.{◌≡◌, ◌≤◌, ◌<◌, ◌+◌, ◌*◌, ◌-◌, ◌^◌, ◌≤ℤ◌, ◌<ℤ◌, true, false, Some, None, IfSome, IfNone, OnSome, IsSome, ◌↔◌, min};
 ghost use Rattle.std.specs.Option.{ForSome};
 ghost use Rattle.shogi_moves.specs.Legal.{is_legal};
 ghost use Rattle.shogi_search.specs.Minimax.{value, best, tree_size, IsTrueEntry, negated};
-ghost use Rattle.shogi_search.specs.Entries.{IsExactly, IsCutoff};
-ghost use Rattle.shogi_search.specs.Progress.{untouched, left_of};
+ghost use Rattle.shogi_search.specs.Entries.{IsExactly, IsEnough, IsCutoff};
+ghost use Rattle.shogi_search.specs.Progress.{untouched, untouched_below, left_of, IsFoundBelow};
 ghost use Rattle.shogi_search.specs.declared.bounds.TheConstants.{SEARCH_DEPTH_MAX, INFINITY};
 
 use crate::bounds::INFINITY;
 use crate::found::Found;
 use crate::frame::Frame;
 use crate::memo::{Entry, Memo};
-use crate::stack::{Stack, hash_move_of, looks_ahead};
+use crate::stack::{Stack, hash_move_of, is_cutoff, looks_ahead};
 use shogi_core::Position;
 use shogi_eval::{Eval, Node};
 use std::marker::Model;
 
-/// A search of a position under an evaluation at a depth. It makes its steps in slices, and each
-/// slice may be given another memo. A step enters a node, leaves a node, or has a child answered by
-/// the memo.
+/// A search of a position under an evaluation at a depth, for its value below a bound. It makes its
+/// steps in slices, and each slice may be given another memo. A step enters a node, leaves a node, or
+/// has a child answered by the memo.
 #[derive(Drop)]
 pub struct Search {
     stack: Stack,
@@ -41,12 +41,12 @@ impl Model for Search {
 }
 
 /// What is known of the root once it is left.
-fn found_of(entry: &Entry, root: &Position, e: Eval, depth: u8, steps: u64) -> Found
+fn found_of(entry: &Entry, root: &Position, e: Eval, depth: u8, beta: i32, steps: u64) -> Found
     requires shallow { depth ≤ SEARCH_DEPTH_MAX }
+    requires open { negated INFINITY <ℤ beta }
     requires truth { IsTrueEntry root.now e depth entry.now }
-    requires cutoff { IsCutoff (negated INFINITY) INFINITY entry.now }
-    ensures value { result.value ≡ value root.now e depth }
-    ensures best { result.best ≡ best root.now e depth }
+    requires cutoff { IsCutoff (negated INFINITY) beta entry.now }
+    ensures below { IsFoundBelow root.now e depth beta result }
     ensures steps { result.steps ≡ steps }
 {
     root.validity();
@@ -56,7 +56,12 @@ fn found_of(entry: &Entry, root: &Position, e: Eval, depth: u8, steps: u64) -> F
             best: *best,
             steps,
         },
-        _ => unreachable!(),
+        Entry::AtLeast(value) => Found {
+            value: *value,
+            best: None,
+            steps,
+        },
+        Entry::AtMost(_) => unreachable!(),
     }
 }
 
@@ -66,12 +71,24 @@ impl Search {
         requires { d ≤ SEARCH_DEPTH_MAX }
         ensures { result ≡ untouched p.now e d }
     {
+        Search::start_below(p, e, d, INFINITY)
+    }
+
+    /// The same, which finds the value and the best move only where the value is below `beta`, from
+    /// -30,999 to 31,000. Otherwise it finds a value from `beta` on that is not above the position's.
+    pub fn start_below(p: &Position, e: Eval, d: u8, beta: i32) -> Self
+        requires shallow { d ≤ SEARCH_DEPTH_MAX }
+        requires open { negated INFINITY <ℤ beta }
+        requires most { beta ≤ℤ INFINITY }
+        ensures { result ≡ untouched_below p.now e d beta }
+    {
         let top = Frame::default();
         Search {
             stack: Stack {
                 root: *p,
                 eval: e,
                 depth: d,
+                beta,
                 parents: [top; 16],
                 height: 0,
                 top,
@@ -97,6 +114,7 @@ impl Search {
         ensures found { self.new.found ≡ None }
         ensures root { (self.new.root ≡ self.old.root) × (self.new.depth ≡ self.old.depth) }
         ensures eval { self.new.eval ≡ self.old.eval }
+        ensures beta { self.new.beta ≡ self.old.beta }
         ensures steps { self.new.steps ≡ min (self.old.steps + 1) (2 ^ 64 - 1) }
         ensures left { left_of self.new < left_of self.old }
     {
@@ -107,7 +125,7 @@ impl Search {
         self.stack.height = 0;
         self.stack
             .top
-            .enter(&node, depth, -INFINITY, INFINITY, hash_move, ahead);
+            .enter(&node, depth, -INFINITY, self.stack.beta, hash_move, ahead);
         self.started = true;
         self.steps = self.steps.saturating_add(1);
     }
@@ -116,12 +134,15 @@ impl Search {
     fn go_on<M: Memo>(&mut self, memo: &mut M, budget: u64) -> Option<Found>
         requires begun { self.old.begun ≡ true }
         requires open { self.old.found ≡ None }
-        ensures value { IfSome result (λ f. f.value ≡ value self.old.root self.old.eval self.old.depth) }
-        ensures best { IfSome result (λ f. f.best ≡ best self.old.root self.old.eval self.old.depth) }
+        ensures below { IfSome result (IsFoundBelow self.old.root self.old.eval self.old.depth self.old.beta) }
+        // Below the end of the whole window lies every value.
+        ensures value { IfSome result (λ f. self.old.beta ≡ INFINITY → f.value ≡ value self.old.root self.old.eval self.old.depth) }
+        ensures best { IfSome result (λ f. self.old.beta ≡ INFINITY → f.best ≡ best self.old.root self.old.eval self.old.depth) }
         ensures counted { IfSome result (λ f. f.steps ≡ self.new.steps) }
         ensures range { IfSome result (λ f. f.steps ≤ 2 * tree_size self.old.root self.old.depth) }
         ensures root { (self.new.root ≡ self.old.root) × (self.new.depth ≡ self.old.depth) }
         ensures eval { self.new.eval ≡ self.old.eval }
+        ensures beta { self.new.beta ≡ self.old.beta }
         ensures found { self.new.found ≡ result }
         ensures over { OnSome result (self.new.left ≡ 0) }
         ensures unfinished { IfNone result (0 < self.new.left) }
@@ -135,23 +156,42 @@ impl Search {
     {
         let entry = self.stack.run(memo, budget, &mut self.steps)?;
         let (root, e, depth) = (&self.stack.root, self.stack.eval, self.stack.depth);
+        let beta = self.stack.beta;
         let noted = entry;
         if depth == 0 {
             memo.note(root, e, depth, noted);
         }
-        self.found = Some(found_of(&entry, root, e, depth, self.steps));
+        self.found = Some(found_of(&entry, root, e, depth, beta, self.steps));
         self.found
+    }
+
+    /// What is found where the memo's answer for the root says enough.
+    fn answered<M: Memo>(&self, memo: &mut M) -> Option<Found>
+        ensures below { IfSome result (IsFoundBelow self.now.root self.now.eval self.now.depth self.now.beta) }
+        ensures steps { IfSome result (λ f. f.steps ≡ self.now.steps) }
+        ensures enough { IsSome result ↔ IsEnough (negated INFINITY) self.now.beta (M.answers memo.old self.now.root self.now.eval self.now.depth) }
+    {
+        let (root, e, depth) = (&self.stack.root, self.stack.eval, self.stack.depth);
+        let beta = self.stack.beta;
+        let entry = memo.probe(root, e, depth)?;
+        if is_cutoff(&entry, -INFINITY, beta) {
+            return Some(found_of(&entry, root, e, depth, beta, self.steps));
+        }
+        None
     }
 
     /// Goes on by so many steps, or fewer where it ends, and then tells what it found. After the end
     /// it tells the same again, without a step or a call of the memo.
     pub fn advance<M: Memo>(&mut self, memo: &mut M, budget: u64) -> Option<Found>
-        ensures value { IfSome result (λ f. f.value ≡ value self.old.root self.old.eval self.old.depth) }
-        ensures best { IfSome result (λ f. f.best ≡ best self.old.root self.old.eval self.old.depth) }
+        ensures below { IfSome result (IsFoundBelow self.old.root self.old.eval self.old.depth self.old.beta) }
+        // Below the end of the whole window lies every value.
+        ensures value { IfSome result (λ f. self.old.beta ≡ INFINITY → f.value ≡ value self.old.root self.old.eval self.old.depth) }
+        ensures best { IfSome result (λ f. self.old.beta ≡ INFINITY → f.best ≡ best self.old.root self.old.eval self.old.depth) }
         ensures counted { IfSome result (λ f. f.steps ≡ self.new.steps) }
         ensures range { IfSome result (λ f. f.steps ≤ 2 * tree_size self.old.root self.old.depth) }
         ensures root { (self.new.root ≡ self.old.root) × (self.new.depth ≡ self.old.depth) }
         ensures eval { self.new.eval ≡ self.old.eval }
+        ensures beta { self.new.beta ≡ self.old.beta }
         ensures found { self.new.found ≡ result }
 
         // Until the end the whole budget is used.
@@ -165,6 +205,8 @@ impl Search {
         // Once it has ended nothing is left, and until then something is.
         ensures over { OnSome result (self.new.left ≡ 0) }
         ensures unfinished { IfNone result (0 < self.new.left) }
+        // Before the first step an answer for the root that says enough ends it.
+        ensures enough { self.old.begun ≡ false → IsEnough (negated INFINITY) self.old.beta (M.answers memo.old self.old.root self.old.eval self.old.depth) → IsSome result × (self.new.steps ≡ self.old.steps) }
         ensures known { self.old.begun ≡ false → IsExactly (M.answers memo.old self.old.root self.old.eval self.old.depth) → IsSome result × (self.new.steps ≡ self.old.steps) }
     {
         if self.found.is_some() {
@@ -173,16 +215,8 @@ impl Search {
         if self.started {
             return self.go_on(memo, budget);
         }
-        if let Some(Entry::Exact(value, best)) = memo.probe(
-            &self.stack.root,
-            self.stack.eval,
-            self.stack.depth,
-        ) {
-            self.found = Some(Found {
-                value,
-                best,
-                steps: self.steps,
-            });
+        if let Some(found) = self.answered(memo) {
+            self.found = Some(found);
             return self.found;
         }
         if budget == 0 {

@@ -17,20 +17,21 @@ use crate::memo::{Entry, Memo};
 use shogi_core::{Move, Position};
 use shogi_eval::{Eval, Node};
 
-/// The root of a search, its evaluation and its depth, and the nodes that are entered and not yet
-/// left: those that wait for a child, from the root on, and the one on top.
+/// The root of a search, its evaluation, its depth and the end of its window, and the nodes that are
+/// entered and not yet left: those that wait for a child, from the root on, and the one on top.
 #[derive(Clone, Copy)]
 pub struct Stack {
     pub root: Position,
     pub eval: Eval,
     pub depth: u8,
+    pub beta: i32,
     pub parents: [Frame; 16],
     pub height: usize,
     pub top: Frame,
 }
 
 /// Whether an entry says enough for a window.
-fn is_cutoff(entry: &Entry, alpha: i32, beta: i32) -> bool
+pub fn is_cutoff(entry: &Entry, alpha: i32, beta: i32) -> bool
     ensures { IsTrue result ↔ IsCutoff alpha beta entry.now }
 {
     match entry {
@@ -84,6 +85,7 @@ impl Stack {
         ensures top { self.new.top ≡ self.old.top }
         ensures same { (self.new.root ≡ self.old.root) × (self.new.depth ≡ self.old.depth) }
         ensures eval { self.new.eval ≡ self.old.eval }
+        ensures beta { self.new.beta ≡ self.old.beta }
     {
         self.parents[self.height] = self.top;
         self.height += 1;
@@ -97,6 +99,7 @@ impl Stack {
         ensures none { result ≡ false → (parents_of self.old ≡ []) × (self.new ≡ self.old) }
         ensures same { (self.new.root ≡ self.old.root) × (self.new.depth ≡ self.old.depth) }
         ensures eval { self.new.eval ≡ self.old.eval }
+        ensures beta { self.new.beta ≡ self.old.beta }
     {
         if self.height == 0 {
             return false;
@@ -117,6 +120,7 @@ impl Stack {
         ensures left { left_of_stack self.new < left_of_stack self.old + 2 * tree_size (after_code self.old.top.node.position (code_of current.now)) (self.old.top.depth - 1) }
         ensures same { (self.new.root ≡ self.old.root) × (self.new.depth ≡ self.old.depth) }
         ensures eval { self.new.eval ≡ self.old.eval }
+        ensures beta { self.new.beta ≡ self.old.beta }
     {
         let threshold = self.top.threshold(current);
         let node = child(&self.top, current);
@@ -153,6 +157,7 @@ impl Stack {
         ensures left { left_of_stack self.new < left_of_stack self.old + 2 * tree_size (after_code self.old.top.node.position (code_of current.now)) (self.old.top.depth - 1) }
         ensures same { (self.new.root ≡ self.old.root) × (self.new.depth ≡ self.old.depth) }
         ensures eval { self.new.eval ≡ self.old.eval }
+        ensures beta { self.new.beta ≡ self.old.beta }
     {
         if looks_ahead(self.top.depth, memo) {
             if let Some(value) = self.top.certain_leaf(current) {
@@ -172,9 +177,10 @@ impl Stack {
         ensures free { IfNone result (IsFree self.new.top.waiting) }
         ensures left { IfNone result (left_of_stack self.new < left_of_stack self.old) }
         ensures truth { IfSome result (IsTrueEntry self.old.root self.old.eval self.old.depth) }
-        ensures cutoff { IfSome result (IsCutoff (negated INFINITY) INFINITY) }
+        ensures cutoff { IfSome result (IsCutoff (negated INFINITY) self.old.beta) }
         ensures same { (self.new.root ≡ self.old.root) × (self.new.depth ≡ self.old.depth) }
         ensures eval { self.new.eval ≡ self.old.eval }
+        ensures beta { self.new.beta ≡ self.old.beta }
     {
         let entry = self.top.close();
         let (noted, answer) = (entry, entry);
@@ -204,9 +210,10 @@ impl Stack {
         ensures free { IfNone result (IsFree self.new.top.waiting) }
         ensures left { IfNone result (left_of_stack self.new < left_of_stack self.old) }
         ensures truth { IfSome result (IsTrueEntry self.old.root self.old.eval self.old.depth) }
-        ensures cutoff { IfSome result (IsCutoff (negated INFINITY) INFINITY) }
+        ensures cutoff { IfSome result (IsCutoff (negated INFINITY) self.old.beta) }
         ensures same { (self.new.root ≡ self.old.root) × (self.new.depth ≡ self.old.depth) }
         ensures eval { self.new.eval ≡ self.old.eval }
+        ensures beta { self.new.beta ≡ self.old.beta }
     {
         match self.top.waiting {
             Waiting::Next => match self.top.ask() {
@@ -237,9 +244,10 @@ impl Stack {
         ensures most { steps.new ≤ steps.old + budget }
         ensures fell { IfSome result (λ _. steps.new ≤ steps.old + left_of_stack self.old) }
         ensures truth { IfSome result (IsTrueEntry self.old.root self.old.eval self.old.depth) }
-        ensures cutoff { IfSome result (IsCutoff (negated INFINITY) INFINITY) }
+        ensures cutoff { IfSome result (IsCutoff (negated INFINITY) self.old.beta) }
         ensures same { (self.new.root ≡ self.old.root) × (self.new.depth ≡ self.old.depth) }
         ensures eval { self.new.eval ≡ self.old.eval }
+        ensures beta { self.new.beta ≡ self.old.beta }
     {
         let _so_far = *steps;
         for made in 0..budget {

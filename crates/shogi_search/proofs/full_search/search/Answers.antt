@@ -1,4 +1,4 @@
-use Rattle.std.proofs.Common.{arith}
+use Rattle.std.proofs.Common.{arith, refl}
 use Rattle.std.proofs.lemmas.Int.{ints}
 use Rattle.shogi_search.specs.Minimax.{value}
 use Rattle.shogi_search.proofs.Best.{none_iff, legal_best}
@@ -8,15 +8,15 @@ use Rattle.shogi_search.proofs.full_search.search.Goals as goal
 pub returns-clause-least : goal.returns-clause-least
 returns-clause-least g c =
     let w : Within c.args.d (value c.args.p.now c.args.e c.args.d) = value_within c.args.d c.args.p.now c.args.e c.validity.ensures in
-    omega (arith, ints, c.to_the_end.ensures.value)
+    omega (arith, ints, c.search_below.ensures.value refl)
 
 pub returns-clause-most : goal.returns-clause-most
 returns-clause-most g c =
     let w : Within c.args.d (value c.args.p.now c.args.e c.args.d) = value_within c.args.d c.args.p.now c.args.e c.validity.ensures in
-    omega (arith, ints, c.to_the_end.ensures.value)
+    omega (arith, ints, c.search_below.ensures.value refl)
 
 pub returns-clause-none : goal.returns-clause-none
-returns-clause-none g c = none_iff _ _ _ _ c.to_the_end.ensures.best
+returns-clause-none g c = none_iff _ _ _ _ (c.search_below.ensures.best refl)
 
 pub returns-clause-legal : goal.returns-clause-legal
-returns-clause-legal g c = legal_best _ _ _ _ c.to_the_end.ensures.best
+returns-clause-legal g c = legal_best _ _ _ _ (c.search_below.ensures.best refl)

@@ -43,7 +43,7 @@ push-requires g c =
 pub returns-clause-stack : goal.returns-clause-stack
 returns-clause-stack g c =
     let w : _ = waits _ _ _ _ _ _ _ _ _ _ (asked _ _ c.requires.asked) c.args.self.now.top.known in
-    stack_at _ _ _ _ c.push.ensures.same.0 c.push.ensures.eval c.push.ensures.same.1 c.requires.stack.shallow c.push.ensures.height
+    stack_at _ _ _ _ _ c.push.ensures.same.0 c.push.ensures.eval c.push.ensures.same.1 c.push.ensures.beta c.requires.stack.shallow c.push.ensures.height
     (pushed _ _ _ _ _ _ _ _ _ c.args.current.now c.push.ensures.parents c.requires.stack.chain (record {
       deep = w.deep;
       asks = c.requires.asked;

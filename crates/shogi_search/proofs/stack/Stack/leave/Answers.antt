@@ -22,4 +22,4 @@ take-requires-clause-cutoff g c =
 pub returns-then-pop-clause-stack : goal.returns-then-pop-clause-stack
 returns-then-pop-clause-stack g c =
     let r : IsPopped _ _ _ _ _ _ _ _ = popped _ _ _ _ _ _ _ c.pop.new.self.top c.args.self.now.top (c.pop.ensures.parents c.if-pop.true) c.requires.stack.chain in
-    stack_at _ _ _ _ c.pop.ensures.same.0 c.pop.ensures.eval c.pop.ensures.same.1 c.requires.stack.shallow c.pop.ensures.height (chain_same _ _ _ _ _ _ _ _ r.chain c.take.ensures.same)
+    stack_at _ _ _ _ _ c.pop.ensures.same.0 c.pop.ensures.eval c.pop.ensures.same.1 c.pop.ensures.beta c.requires.stack.shallow c.pop.ensures.height (chain_same _ _ _ _ _ _ _ _ r.chain c.take.ensures.same)

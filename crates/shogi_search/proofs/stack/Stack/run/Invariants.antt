@@ -8,6 +8,7 @@ invariant-loop-made g l = record {
   stack : IsStack l.self;
   free : IsFree l.self.top.waiting;
   eval : l.self.eval ≡ l.fn.self.eval;
+  beta : l.self.beta ≡ l.fn.self.beta;
   same : (l.self.root ≡ l.fn.self.root) × (l.self.depth ≡ l.fn.self.depth);
   left : left_of_stack l.self + l.made ≤ left_of_stack l.fn.self;
   counted : l.steps ≡ min (l.fn.steps + l.made) (2 ^ 64 - 1);
