@@ -1,5 +1,5 @@
 -- A `go` in hand, from one search or one line to the next.
-use Rattle.std.proofs.Common.{◌≡◌, ◌≢◌, ◌<◌, ◌≤◌, ℕ, suc, ◌+◌, ◌-◌, ◌*◌, ◌==◌, List, [], ◌∷◌, ◌++◌, Bool, true, false, Option, Some, None, refl, sym, ap, ◌∙◌, arith, drop, length}
+use Rattle.std.proofs.Common.{◌≡◌, ◌≢◌, ◌<◌, ◌≤◌, ◌<ℤ◌, ◌≤ℤ◌, ℕ, ℤ, suc, ◌+◌, ◌-◌, ◌*◌, ◌==◌, [], ◌∷◌, Bool, true, false, Option, Some, None, refl, sym, ap, ◌∙◌, arith, drop, length}
 use Rattle.std.specs.Prelude.{cond, ◌||◌, nat_lt, is_some}
 use Rattle.std.proofs.lemmas.Bool.{both_ways, eqb-true, ltb-false}
 use Rattle.std.proofs.lemmas.List.{drop_all}
@@ -7,19 +7,20 @@ use Rattle.shogi_core.specs.declared.moves.Move.{Move}
 use Rattle.shogi_core.specs.Codes.{code_of, move_of}
 use Rattle.shogi_core.specs.Position.{Shogi}
 use Rattle.shogi_core.specs.Validity.{IsValid}
+use Rattle.shogi_moves.specs.Legal.{is_legal}
 use Rattle.shogi_moves.specs.After.{after, after_code}
 use Rattle.shogi_moves.specs.LegalMoves.{legal_codes, legal_above}
 use Rattle.shogi_moves.specs.Rising.{is_in}
-use Rattle.shogi_moves.proofs.LegalLaws.{after_code_of, legal_above_in}
+use Rattle.shogi_moves.proofs.LegalLaws.{after_code_of, legal_above_in, listed_to_legal}
 use Rattle.shogi_eval.specs.declared.eval.Eval.{Eval}
-use Rattle.shogi_search.specs.Minimax.{value, worth, best, tree_size, pv_cost, then_pv_cost, sum_of_tree_sizes}
-use Rattle.shogi_search.specs.Progress.{Progress, untouched}
-use Rattle.shogi_search.specs.Ranked.{Ranking, IsTop}
+use Rattle.shogi_search.specs.Minimax.{worth, negated, best, tree_size, pv_cost, then_pv_cost, sum_of_tree_sizes}
+use Rattle.shogi_search.specs.Progress.{Progress, untouched, untouched_below}
+use Rattle.shogi_search.specs.Ranked.{Ranking, IsTop, child_beta}
+use Rattle.shogi_search.specs.declared.bounds.TheConstants.{INFINITY}
 use Rattle.shogi_search.proofs.Lines.{pv_cost-above}
-use Rattle.shogi_search.proofs.MinimaxLaws.{tree_size-positive, sum_of_tree_sizes-next, Within, value_within}
+use Rattle.shogi_search.proofs.MinimaxLaws.{tree_size-positive, sum_of_tree_sizes-next}
 use Rattle.shogi_search.proofs.RankedLaws.{first_in}
-use Rattle.shogi_search.proofs.RankedUse.{gone_none, gone_on, gone_all}
-use Rattle.shogi_search.proofs.Valid.{after_valid}
+use Rattle.shogi_search.proofs.RankedUse.{IsGoneThrough, gone_none, gone_all, gone_window}
 use Rattle.usi_session.specs.declared.question.Question.{Question}
 use Rattle.usi_session.specs.declared.state.HeldBestmove.{HeldBestmove}
 use Rattle.usi_session.specs.Answer.{bestmove_at}
@@ -30,13 +31,14 @@ use Rattle.usi_session.specs.Walked.{Walked, walk_from, IsAsked, IsFirst, IsUnde
 use Rattle.usi_session.proofs.Listed.{IsFirstLine, first_line, first_listed, first_some, one_listed}
 
 -- a search that was just started is not at its end
-pub under_start : (s : Progress) (p : Shogi) (eval : Eval) (d : ℕ) → s ≡ untouched p eval d → IsUnder s p eval d
-under_start s p eval d e =
+pub under_start : (s : Progress) (p : Shogi) (eval : Eval) (d : ℕ) (beta : ℤ) → s ≡ untouched_below p eval d beta → IsUnder s p eval d beta
+under_start s p eval d beta e =
     let l : s.left ≡ 2 * tree_size p d = ap (λ (t : Progress). t.left) e in
     record {
       root = ap (λ (t : Progress). t.root) e;
       eval_is = ap (λ (t : Progress). t.eval) e;
       depth_is = ap (λ (t : Progress). t.depth) e;
+      beta_is = ap (λ (t : Progress). t.beta) e;
       left = omega (arith, tree_size-positive p d);
     }
 
@@ -56,9 +58,9 @@ whole_line asked told shown (Some m) ranks walk kept search h e = absurd (cc)
 whole_line asked told shown None ranks walk kept search h e = record { line = h.line; ranked = h.ranked; kept_is = h.kept_is; none = refl; plies_is = not_above walk.plies e }
 
 -- where a depth begins
-begun_at : (asked : Question) (first : Move) (told : ℕ) (ranks : Ranking) (kept : HeldBestmove) (one : Bool) → (asked.pv_lines == 1) ≡ one → IsAsked asked → IsFirst asked.position first → ranks.lines ≡ asked.pv_lines → IsTop (worth asked.position asked.eval told) [] ranks
+begun_at : (asked : Question) (first : Move) (told : ℕ) (ranks : Ranking) (kept : HeldBestmove) (one : Bool) → (asked.pv_lines == 1) ≡ one → IsAsked asked → IsFirst asked.position first → ranks.lines ≡ asked.pv_lines → IsTop (worth asked.position asked.eval told) [] ranks → child_beta ranks ≡ INFINITY
     → IsAtDepth asked told 0 (cond one None (Some first)) ranks (walk_from asked.position asked.eval (told + 1)) kept (cond one (untouched asked.position asked.eval (told + 1)) (untouched (after asked.position first) asked.eval told))
-begun_at asked first told ranks kept true e a f l t =
+begun_at asked first told ranks kept true e a f l t b =
     let n : asked.pv_lines ≡ 1 = eqb-true asked.pv_lines 1 e in
     let w : IsFirstLine asked.position asked.eval (told + 1) = first_line asked.position asked.eval (told + 1) (omega arith) (first_some asked.position first f) in
     let k : told + 1 - 1 ≡ told = omega arith in
@@ -72,18 +74,18 @@ begun_at asked first told ranks kept true e a f l t =
       };
       ranked = λ ne. absurd (ne n);
       kept_is = λ h. absurd (omega arith);
-      searched = λ h. under_start _ asked.position asked.eval (told + 1) refl;
+      searched = λ h. under_start _ asked.position asked.eval (told + 1) INFINITY refl;
     }
-begun_at asked first told ranks kept false e a f l t = record {
+begun_at asked first told ranks kept false e a f l t b = record {
   several = λ n. both_ways _ e (ap (λ (k : ℕ). k == 1) n);
   none_shown = refl;
   ranked = record { passed = None; next = f; gone = gone_none asked.position (worth asked.position asked.eval told) ranks t; most = l };
-  searched = under_start _ (after asked.position first) asked.eval told refl;
+  searched = under_start _ (after asked.position first) asked.eval told (child_beta ranks) (ap (untouched_below (after asked.position first) asked.eval told) (sym b));
 }
 
-pub begun : (asked : Question) (first : Move) (told : ℕ) (ranks : Ranking) (kept : HeldBestmove) → IsAsked asked → IsFirst asked.position first → ranks.lines ≡ asked.pv_lines → IsTop (worth asked.position asked.eval told) [] ranks
+pub begun : (asked : Question) (first : Move) (told : ℕ) (ranks : Ranking) (kept : HeldBestmove) → IsAsked asked → IsFirst asked.position first → ranks.lines ≡ asked.pv_lines → IsTop (worth asked.position asked.eval told) [] ranks → child_beta ranks ≡ INFINITY
     → IsAtDepth asked told 0 (first_child asked first) ranks (walk_from asked.position asked.eval (told + 1)) kept (first_search asked first told)
-begun asked first told ranks kept a f l t = begun_at asked first told ranks kept (asked.pv_lines == 1) refl a f l t
+begun asked first told ranks kept a f l t b = begun_at asked first told ranks kept (asked.pv_lines == 1) refl a f l t b
 
 costs_above-suc : (asked : Question) (told more : ℕ) → costs_above asked told (suc more) ≡ depth_cost asked.position asked.eval asked.pv_lines (told + 1) + costs_above asked (told + 1) more
 unfolding costs_above
@@ -113,35 +115,27 @@ pub begun_cost : (asked : Question) (first : Move) (told : ℕ) → told < asked
 begun_cost asked first told h f b =
     rw (costs_above-next asked told h) (begun_cost_at asked first told (costs_above asked (told + 1) (asked.depth - (told + 1))) (asked.pv_lines == 1) refl f b refl)
 
--- the value of a child has a negation
-pub child_value : (p : Shogi) (eval : Eval) (d : ℕ) (m : Move) (passed : Option Move) (rest : List ℕ) → IsValid p → d ≤ 16 → move_of (code_of m) ≡ Some m → legal_above p passed ≡ code_of m ∷ rest → Within d (value (after p m) eval d)
-child_value p eval d m passed rest v h b e =
-    let i : is_in (code_of m) (legal_codes p) ≡ true = legal_above_in p passed (code_of m) (ap (is_in (code_of m)) e ∙ first_in (code_of m) rest) in
-    rw (sym (after_code_of p m b)) (value_within d (after_code p (code_of m)) eval (after_valid p (code_of m) v i))
+-- the bound of a child is one that a search may be given
+pub child_window : (asked : Question) (told : ℕ) (child : Move) (ranks : Ranking) → IsValid asked.position → IsAsked asked → told < asked.depth → IsRankedTo asked told child ranks → (negated INFINITY <ℤ child_beta ranks) × (child_beta ranks ≤ℤ INFINITY)
+child_window asked told child ranks ok a h r = gone_window asked.position asked.eval told r.passed ranks ok (let d = a.depth_fits.most in omega arith) r.gone
+
+pub child_legal : (asked : Question) (told : ℕ) (child : Move) (ranks : Ranking) → move_of (code_of child) ≡ Some child → IsRankedTo asked told child ranks → is_legal asked.position child ≡ true
+child_legal asked told child ranks b r =
+    listed_to_legal asked.position child b (legal_above_in asked.position r.passed (code_of child) (ap (is_in (code_of child)) r.next ∙ first_in (code_of child) (legal_above asked.position (Some child))))
 
 -- the child was ranked, and the next one is in hand
-pub ranked_on : (asked : Question) (told : ℕ) (child m : Move) (r new : Ranking) → IsRankedTo asked told child r → legal_above asked.position (Some child) ≡ code_of m ∷ legal_above asked.position (Some m)
-    → ((codes : List ℕ) → IsTop (worth asked.position asked.eval told) codes r → is_in (code_of child) codes ≡ false → IsTop (worth asked.position asked.eval told) (codes ++ code_of child ∷ []) new)
-    → new.lines ≡ r.lines → IsRankedTo asked told m new
-ranked_on asked told child m r new h n t l = record {
-  passed = Some child;
-  next = n;
-  gone = gone_on asked.position (worth asked.position asked.eval told) h.passed r new child h.gone h.next t;
-  most = l ∙ h.most;
-}
+pub ranked_on : (asked : Question) (told : ℕ) (child m : Move) (r new : Ranking) → IsRankedTo asked told child r → IsGoneThrough asked.position (worth asked.position asked.eval told) (Some child) new
+    → legal_above asked.position (Some child) ≡ code_of m ∷ legal_above asked.position (Some m) → new.lines ≡ r.lines → IsRankedTo asked told m new
+ranked_on asked told child m r new h g n l = record { passed = Some child; next = n; gone = g; most = l ∙ h.most }
 
 -- or it was the last one
-pub ranked_all : (asked : Question) (told : ℕ) (child : Move) (r new : Ranking) → IsRankedTo asked told child r → legal_above asked.position (Some child) ≡ []
-    → ((codes : List ℕ) → IsTop (worth asked.position asked.eval told) codes r → is_in (code_of child) codes ≡ false → IsTop (worth asked.position asked.eval told) (codes ++ code_of child ∷ []) new)
-    → new.lines ≡ r.lines → IsRanked asked told new
-ranked_all asked told child r new h n t l = record {
-  top = gone_all asked.position (worth asked.position asked.eval told) (Some child) new (gone_on asked.position (worth asked.position asked.eval told) h.passed r new child h.gone h.next t) n;
-  most = l ∙ h.most;
-}
+pub ranked_all : (asked : Question) (told : ℕ) (child : Move) (r new : Ranking) → IsRankedTo asked told child r → IsGoneThrough asked.position (worth asked.position asked.eval told) (Some child) new
+    → legal_above asked.position (Some child) ≡ [] → new.lines ≡ r.lines → IsRanked asked told new
+ranked_all asked told child r new h g n l = record { top = gone_all asked.position (worth asked.position asked.eval told) (Some child) new g n; most = l ∙ h.most }
 
-pub next_child_cost : (asked : Question) (told : ℕ) (child m : Move) (w v : Walked) (s t : Progress) → s ≡ untouched (after asked.position m) asked.eval told → after asked.position m ≡ after_code asked.position (code_of m)
+pub next_child_cost : (asked : Question) (told : ℕ) (child m : Move) (w v : Walked) (s t : Progress) (beta : ℤ) → s ≡ untouched_below (after asked.position m) asked.eval told beta → after asked.position m ≡ after_code asked.position (code_of m)
     → legal_above asked.position (Some child) ≡ code_of m ∷ legal_above asked.position (Some m) → load_of (in_hand_of asked told 0 (Some m) w s) ≤ load_after_search (in_hand_of asked told 0 (Some child) v t)
-next_child_cost asked told child m w v s t e a n =
+next_child_cost asked told child m w v s t beta e a n =
     let l : s.left ≡ 2 * tree_size (after asked.position m) told = ap (λ (x : Progress). x.left) e in
     let c : sum_of_tree_sizes asked.position told (legal_above asked.position (Some child)) ≡ tree_size (after asked.position m) told + sum_of_tree_sizes asked.position told (legal_above asked.position (Some m)) =
     sum_of_tree_sizes-next asked.position told (code_of m) (after asked.position m) (legal_above asked.position (Some child)) (legal_above asked.position (Some m)) a n in

@@ -8,7 +8,8 @@ use Rattle.shogi_moves.specs.LegalMoves.{legal_codes, legal_above}
 use Rattle.shogi_eval.specs.declared.eval.Eval.{Eval}
 use Rattle.shogi_search.specs.Minimax.{value, worth, best, pv, pv_cost, then_pv_cost}
 use Rattle.shogi_search.specs.Progress.{Progress, untouched}
-use Rattle.shogi_search.specs.Ranked.{Ranking, IsTop}
+use Rattle.shogi_search.specs.Ranked.{Ranking, IsTop, child_beta}
+use Rattle.shogi_search.specs.declared.bounds.TheConstants.{INFINITY}
 use Rattle.shogi_search.proofs.RankedUse.{IsGoneThrough}
 use Rattle.usi_lines.specs.Options.{IsDepth, IsLineCount}
 use Rattle.usi_session.specs.declared.question.Question.{Question}
@@ -64,11 +65,12 @@ abbrev pub in_hand_of : Question → ℕ → ℕ → Option Move → Walked → 
 in_hand_of asked told shown child walk search =
     record { question = asked; told = told; shown = shown; child = child; at = walk.at; plies = walk.plies; left = search.left }
 
--- a search that is not at its end
-pub record IsUnder (search : Progress) (position : Shogi) (eval : Eval) (depth : ℕ) : Type 0 where
+-- a search that is not at its end, for values below a bound
+pub record IsUnder (search : Progress) (position : Shogi) (eval : Eval) (depth : ℕ) (beta : ℤ) : Type 0 where
   pub root : search.root ≡ position
   pub eval_is : search.eval ≡ eval
   pub depth_is : search.depth ≡ depth
+  pub beta_is : search.beta ≡ beta
   pub left : 0 < search.left
 
 -- all legal moves before this one were ranked
@@ -96,14 +98,14 @@ pub record IsWalking (asked : Question) (told shown : ℕ) (ranks : Ranking) (wa
   pub line : IsLine asked told shown walk
   pub ranked : asked.pv_lines ≢ 1 → IsRanked asked told ranks
   pub kept_is : 0 < shown → kept ≡ bestmove_at asked.position asked.eval (told + 1) asked.hold
-  pub searched : 0 < walk.plies → IsUnder search walk.at asked.eval walk.plies
+  pub searched : 0 < walk.plies → IsUnder search walk.at asked.eval walk.plies INFINITY
 
--- the child after a move is searched for what the move is worth
+-- the child after a move is searched for what the move is worth, below the bound that its place in the list needs
 pub record IsRanking (asked : Question) (told shown : ℕ) (child : Move) (ranks : Ranking) (search : Progress) : Type 0 where
   pub several : asked.pv_lines ≢ 1
   pub none_shown : shown ≡ 0
   pub ranked : IsRankedTo asked told child ranks
-  pub searched : IsUnder search (after asked.position child) asked.eval told
+  pub searched : IsUnder search (after asked.position child) asked.eval told (child_beta ranks)
 
 -- of the one or the other
 abbrev pub IsAtDepth : Question → ℕ → ℕ → Option Move → Ranking → Walked → HeldBestmove → Progress → Type 0

@@ -1,8 +1,12 @@
 //! A `go` in hand: its searches, one after another, depth by depth.
 
-ghost use Rattle.std.specs.Prelude.{◌≡◌, ◌≢◌, ◌≤◌, ◌<◌, ◌+◌, ◌++◌, IfOk, IfSome, IfNone, OnSome, OnOk, Some, drop, length, true, false};
+ghost use Rattle.std.specs.Prelude.{◌≡◌, ◌≢◌, ◌≤◌, ◌<◌, ◌≤ℤ◌, ◌<ℤ◌, ◌+◌, ◌++◌, IfOk, IfSome, IfNone, OnSome, OnOk, Some, drop, length, true, false};
 ghost use Rattle.shogi_moves.specs.After.{after};
-ghost use Rattle.shogi_search.specs.Minimax.{value, best, pv_cost};
+ghost use Rattle.shogi_search.specs.Minimax.{value, best, worth, negated, pv_cost};
+ghost use Rattle.shogi_search.specs.Progress.{untouched_below, IsFoundBelow};
+ghost use Rattle.shogi_search.specs.Ranked.{child_beta};
+ghost use Rattle.shogi_search.specs.declared.bounds.TheConstants.{INFINITY};
+ghost use Rattle.shogi_search.proofs.RankedUse.{IsGoneThrough};
 ghost use Rattle.usi_session.specs.declared.state.HeldBestmove.{HeldBestmove};
 ghost use Rattle.usi_session.specs.Answer.{bestmove_at};
 ghost use Rattle.usi_session.specs.Costs.{pvs_cost};
@@ -17,14 +21,14 @@ use crate::state::HeldBestmove;
 use crate::text::{write_info, write_numbered_info};
 use shogi_core::Move;
 use shogi_moves::{apply, next_legal};
-use shogi_search::{Found, Memo, Ranks, Search};
+use shogi_search::{Found, INFINITY, Memo, Ranks, Search};
 use std::alloc::{AllocError, Allocator};
 use std::marker::Model;
 use usi_lines::Hold;
 
 /// A `go` in hand. With one line it walks along the pv of each depth; with several it first searches
-/// each child of the root and ranks the moves, and then walks along the pv of each move that is
-/// listed. The search lies apart, since its stack is large.
+/// each child of the root, only as far as its move may still be listed, and ranks the moves, and then
+/// walks along the pv of each move that is listed. The search lies apart, since its stack is large.
 #[derive(Drop)]
 pub struct GoCommand<A: Allocator> {
     question: Question,
@@ -117,7 +121,7 @@ fn line_of(question: &Question, told: u8, ranks: &Ranks, shown: u8) -> PvWalk
 
 /// Searches the position where a walk stands, where plies are left.
 fn search_along(walk: &PvWalk, search: &mut Search)
-    ensures under { 0 < walk.now.plies → IsUnder search.new walk.now.at walk.now.eval walk.now.plies }
+    ensures under { 0 < walk.now.plies → IsUnder search.new walk.now.at walk.now.eval walk.now.plies INFINITY }
     ensures cost { search.new.left + cost_after walk.now ≤ search.old.left + pv_cost walk.now.at walk.now.eval walk.now.plies }
 {
     let plies = walk.plies();
@@ -133,11 +137,53 @@ fn walk_on(walk: &mut PvWalk, search: &mut Search, found: &Found)
     requires value { found.now.value ≡ value walk.old.at walk.old.eval walk.old.plies }
     requires best { found.now.best ≡ best walk.old.at walk.old.eval walk.old.plies }
     ensures same { walk.new ≡ record walk.old { at = walk.new.at; plies = walk.new.plies } }
-    ensures under { 0 < walk.new.plies → IsUnder search.new walk.new.at walk.new.eval walk.new.plies }
+    ensures under { 0 < walk.new.plies → IsUnder search.new walk.new.at walk.new.eval walk.new.plies INFINITY }
     ensures cost { search.new.left + cost_after walk.new ≤ cost_after walk.old }
 {
     walk.follow(found);
     search_along(walk, search);
+}
+
+/// The bound below which the next child is searched: from there on its move is not listed.
+fn child_beta(ranks: &Ranks) -> i32
+    requires open { negated INFINITY <ℤ child_beta ranks.now }
+    requires most { child_beta ranks.now ≤ℤ INFINITY }
+    ensures { result ≡ child_beta ranks.now }
+{
+    match ranks.threshold() {
+        Some(value) => -value,
+        None => INFINITY,
+    }
+}
+
+/// The search of a child, once all legal moves before its own are ranked.
+fn child_search(question: &Question, told: u8, child: Move, ranks: &Ranks) -> Search
+    requires asked { IsAsked question.now }
+    requires more { told < question.now.depth }
+    requires ranked { IsRankedTo question.now told child ranks.now }
+    ensures { result ≡ untouched_below (after question.now.position child) question.now.eval told (child_beta ranks.now) }
+{
+    child.validity();
+    question.position.validity();
+    let next = apply(&question.position, child);
+    Search::start_below(&next, question.eval, told, child_beta(ranks))
+}
+
+/// Ranks a move by what the search of its child found. A value that is not below the bound ranks it
+/// behind a full list, and the list stays.
+fn rank(question: &Question, told: u8, child: Move, found: &Found, ranks: &mut Ranks)
+    requires asked { IsAsked question.now }
+    requires more { told < question.now.depth }
+    requires ranked { IsRankedTo question.now told child ranks.old }
+    requires below { IsFoundBelow (after question.now.position child) question.now.eval told (child_beta ranks.old) found.now }
+    ensures gone { IsGoneThrough question.now.position (worth question.now.position question.now.eval told) (Some child) ranks.new }
+    ensures lines { ranks.new.lines ≡ ranks.old.lines }
+{
+    child.validity();
+    question.position.validity();
+    if found.value < child_beta(ranks) {
+        ranks.offer(child, -found.value);
+    }
 }
 
 /// Takes the end of the search of a child: the next child is in hand, or the first line.
@@ -155,17 +201,16 @@ fn rank_on(
     requires more { told < question.now.depth }
     requires ranked { IsRankedTo question.now told child ranks.old }
     requires over { search.old.left ≡ 0 }
-    requires value { found.now.value ≡ value (after question.now.position child) question.now.eval told }
+    requires below { IsFoundBelow (after question.now.position child) question.now.eval told (child_beta ranks.old) found.now }
     ensures at_depth { (kept : HeldBestmove) → IsAtDepth question.now told 0 result ranks.new walk.new kept search.new }
     ensures cost { load_of (in_hand_of question.now told 0 result walk.new search.new) ≤ load_after_search (in_hand_of question.now told 0 (Some child) walk.old search.old) }
 {
     let visited = child;
-    child.validity();
-    question.position.validity();
-    ranks.offer(child, -found.value);
+    rank(question, told, child, found, ranks);
     if let Some(m) = next_legal(&question.position, Some(visited)) {
         let next = m;
-        *search = Search::start(&apply(&question.position, m), question.eval, told);
+        m.validity();
+        *search = child_search(question, told, m, ranks);
         return Some(next);
     }
     *walk = line_of(question, told, ranks, 0);

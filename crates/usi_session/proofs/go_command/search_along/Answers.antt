@@ -1,5 +1,6 @@
 use Rattle.std.proofs.Common.{◌≡◌, rules, ap, refl, arith}
 use Rattle.shogi_search.specs.Progress.{Progress, untouched}
+use Rattle.shogi_search.specs.declared.bounds.TheConstants.{INFINITY}
 use Rattle.usi_session.proofs.Walk.{cost_begun, cost_over}
 use Rattle.usi_session.proofs.GoOn.{under_start}
 use Rattle.usi_session.proofs.go_command.search_along.Goals as goal
@@ -7,7 +8,7 @@ use Rattle.usi_session.proofs.go_command.search_along.Goals as goal
 pub returns-then-plies-gt0-clause-under : goal.returns-then-plies-gt0-clause-under
 returns-then-plies-gt0-clause-under c =
     let w = c.args.walk.now in
-    λ h. under_start c.start.result w.at w.eval w.plies (search rules)
+    λ h. under_start c.start.result w.at w.eval w.plies INFINITY (search rules)
 
 pub returns-then-plies-gt0-clause-cost : goal.returns-then-plies-gt0-clause-cost
 returns-then-plies-gt0-clause-cost c =

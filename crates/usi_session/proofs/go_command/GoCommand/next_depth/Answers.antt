@@ -1,5 +1,5 @@
 use Rattle.std.proofs.Common.{◌≡◌, ◌+◌, ◌<◌, ap, ◌∙◌, arith}
-use Rattle.shogi_search.specs.Ranked.{Ranking}
+use Rattle.shogi_search.specs.Ranked.{Ranking, child_beta}
 use Rattle.usi_session.specs.InHand.{InHand, is_searching}
 use Rattle.usi_session.proofs.Listed.{line_below}
 use Rattle.usi_session.proofs.Tells.{told_depth}
@@ -15,7 +15,7 @@ invariant_of-self g c =
       range = c.self.invariant.range;
       first_is = c.self.invariant.first_is;
       left = omega (arith, t, d, c.self.invariant.left, c.requires.more);
-      at_depth = rw (c.first_child-child.ensures, c.new-walk.ensures, c.first_search.ensures) (begun s.question s.first (s.told + 1) c.new-ranks.result s.bestmove c.self.invariant.range c.self.invariant.first_is (ap (λ (r : Ranking). r.lines) c.new-ranks.ensures.empty) (c.new-ranks.ensures.top _));
+      at_depth = rw (c.first_child-child.ensures, c.new-walk.ensures, c.first_search.ensures) (begun s.question s.first (s.told + 1) c.new-ranks.result s.bestmove c.self.invariant.range c.self.invariant.first_is (ap (λ (r : Ranking). r.lines) c.new-ranks.ensures.empty) (c.new-ranks.ensures.top _) (ap child_beta c.new-ranks.ensures.empty));
     }
 
 pub returns-clause-load : goal.returns-clause-load

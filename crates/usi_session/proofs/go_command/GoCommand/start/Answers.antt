@@ -1,5 +1,5 @@
 use Rattle.std.proofs.Common.{◌≡◌, ◌-◌, ap, arith, rules}
-use Rattle.shogi_search.specs.Ranked.{Ranking}
+use Rattle.shogi_search.specs.Ranked.{Ranking, child_beta}
 use Rattle.usi_session.specs.InHand.{costs_above}
 use Rattle.usi_session.specs.Walked.{first_search}
 use Rattle.usi_session.proofs.GoOn.{begun, begun_cost}
@@ -14,7 +14,7 @@ invariant_of-result g c =
       range = c.requires.asked;
       first_is = c.requires.first;
       left = omega arith;
-      at_depth = rw (c.first_child-child.ensures, c.new-walk.ensures, s) (begun q c.args.first 0 c.new-ranks.result _ c.requires.asked c.requires.first (ap (λ (r : Ranking). r.lines) c.new-ranks.ensures.empty) (c.new-ranks.ensures.top _));
+      at_depth = rw (c.first_child-child.ensures, c.new-walk.ensures, s) (begun q c.args.first 0 c.new-ranks.result _ c.requires.asked c.requires.first (ap (λ (r : Ranking). r.lines) c.new-ranks.ensures.empty) (c.new-ranks.ensures.top _) (ap child_beta c.new-ranks.ensures.empty));
     }
 
 pub returns-clause-load : goal.returns-clause-load
