@@ -1,16 +1,16 @@
 //! Lists of the best moves, worked by hand.
 
-ghost use Rattle.std.specs.Prelude.{◌≡◌, ◌≤◌, ◌<◌, ◌-◌};
+ghost use Rattle.std.specs.Prelude.{◌≡◌, ◌≤◌, ◌<◌, ◌-◌, ◌≤ℤ◌, ◌<ℤ◌};
 ghost use Rattle.shogi_core.specs.Codes.{code_of};
 ghost use Rattle.shogi_moves.specs.LegalMoves.{legal_codes};
 ghost use Rattle.shogi_moves.specs.Rising.{is_in};
-ghost use Rattle.shogi_search.specs.Minimax.{worth};
-ghost use Rattle.shogi_search.specs.Ranked.{codes_in, IsTop};
-ghost use Rattle.shogi_search.specs.declared.bounds.TheConstants.{SEARCH_DEPTH_MAX};
+ghost use Rattle.shogi_search.specs.Minimax.{worth, negated};
+ghost use Rattle.shogi_search.specs.Ranked.{codes_in, IsTop, child_beta};
+ghost use Rattle.shogi_search.specs.declared.bounds.TheConstants.{SEARCH_DEPTH_MAX, INFINITY};
 ghost use Rattle.shogi_search.specs.declared.ranks.TheConstants.{PV_LINES_MAX};
 
 use crate::tests::position;
-use crate::{NoMemo, PV_LINES_MAX, Ranks, search};
+use crate::{INFINITY, NoMemo, PV_LINES_MAX, Ranks, search_below};
 use shogi_core::{Color, Kind, Move, Position, Role};
 use shogi_eval::Eval;
 use shogi_moves::{apply, next_legal};
@@ -104,8 +104,71 @@ fn eight_of_nine(rt: HostRuntime) {
     assert_offered(&rt, PV_LINES_MAX, &offers, &wanted);
 }
 
-// The best lines of a position, each move searched one ply less deep: the first of the legal moves as
-// they are ranked.
+// The value on the last line after each offer: none until every line has a move, and then these.
+fn assert_thresholds(rt: &impl Abort, lines: usize, offers: &[(u16, i32)], wanted: &[i32])
+    requires least { 1 ≤ lines }
+    requires most { lines ≤ PV_LINES_MAX }
+{
+    let mut ranks = Ranks::new(lines);
+    assert_eq!(rt; ranks.threshold(), None);
+    let mut left = wanted.iter();
+    for (at, (code, value)) in offers.iter().enumerate() {
+        let m = Move::of_code(*code).expect(rt, "a move");
+        offer(rt, &mut ranks, m, *value);
+        let wanted = if at + 1 < lines {
+            None
+        } else {
+            left.next().copied()
+        };
+        assert!(rt; ranks.threshold() == wanted, "move {at} on {lines} lines");
+    }
+}
+
+// Nine moves, four of them worth the same, on one to eight lines.
+#[test]
+fn thresholds(rt: HostRuntime) {
+    let offers = [
+        (2, -50),
+        (30, 100),
+        (10, 100),
+        (7000, 200),
+        (40, 100),
+        (5, -60),
+        (6, 300),
+        (8, 250),
+        (9, 100),
+    ];
+    assert_thresholds(
+        &rt,
+        1,
+        &offers,
+        &[-50, 100, 100, 200, 200, 200, 300, 300, 300],
+    );
+    assert_thresholds(&rt, 2, &offers, &[-50, 100, 100, 100, 100, 200, 250, 250]);
+    assert_thresholds(&rt, 3, &offers, &[-50, 100, 100, 100, 100, 200, 200]);
+    assert_thresholds(&rt, 4, &offers, &[-50, 100, 100, 100, 100, 100]);
+    assert_thresholds(&rt, 5, &offers, &[-50, -50, 100, 100, 100]);
+    assert_thresholds(&rt, 6, &offers, &[-60, -50, 100, 100]);
+    assert_thresholds(&rt, 7, &offers, &[-60, -50, 100]);
+    assert_thresholds(&rt, 8, &offers, &[-60, -50]);
+}
+
+// The end of the window of the next child: one that is worth so much to the other side is not listed.
+fn child_beta(ranks: &Ranks) -> i32
+    requires least { negated INFINITY <ℤ child_beta ranks.now }
+    requires most { child_beta ranks.now ≤ℤ INFINITY }
+    ensures value { result ≡ child_beta ranks.now }
+    ensures open { negated INFINITY <ℤ result }
+    ensures end { result ≤ℤ INFINITY }
+{
+    match ranks.threshold() {
+        Some(value) => -value,
+        None => INFINITY,
+    }
+}
+
+// The best lines of a position, each move searched one ply less deep, and no deeper into its window
+// than its place in the list needs: the first of the legal moves as they are ranked.
 fn best_lines(p: &Position, e: Eval, depth: u8, lines: usize) -> Ranks
     requires shallow { depth ≤ SEARCH_DEPTH_MAX }
     requires deep { 0 < depth }
@@ -113,12 +176,16 @@ fn best_lines(p: &Position, e: Eval, depth: u8, lines: usize) -> Ranks
     requires most { lines ≤ PV_LINES_MAX }
     ensures { IsTop (worth p.now e (depth - 1)) (legal_codes p.now) result }
 {
+    p.validity();
     let mut ranks = Ranks::new(lines);
     let mut passed: Option<Move> = None;
     'moves: while let Some(m) = next_legal(p, passed) {
         let (visited, offered) = (m, m);
-        let found = search(&apply(p, m), e, depth - 1, &mut NoMemo);
-        ranks.offer(offered, -found.value);
+        let beta = child_beta(&ranks);
+        let found = search_below(&apply(p, m), e, depth - 1, beta, &mut NoMemo);
+        if found.value < beta {
+            ranks.offer(offered, -found.value);
+        }
         passed = Some(visited);
     }
     ranks
