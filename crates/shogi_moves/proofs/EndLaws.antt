@@ -12,7 +12,7 @@ use Rattle.shogi_core.specs.declared.piece.Color.TheVariants.{Black, White}
 use Rattle.shogi_core.specs.declared.piece.Role.{Role}
 use Rattle.shogi_core.specs.declared.piece.Role.TheVariants.{Pawn, Lance, Knight, Silver, Gold, Bishop, Rook, King, PromotedPawn, PromotedLance, PromotedKnight, PromotedSilver, Horse, Dragon}
 use Rattle.shogi_core.specs.declared.piece.Piece.{Piece}
-use Rattle.shogi_core.specs.Attack.{in_check, is_attacked}
+use Rattle.shogi_core.specs.Attack.{in_check}
 use Rattle.shogi_core.specs.Bits.{has_bit}
 use Rattle.shogi_core.specs.Cell.{is_piece_of, is_immobile, is_immobile_role, is_king, is_king_role}
 use Rattle.shogi_core.specs.Codes.{move_of, code_of}
@@ -29,7 +29,7 @@ use Rattle.shogi_moves.specs.Ends.{is_end, is_unchecked, Sifts}
 use Rattle.shogi_moves.specs.Guards.{Guards}
 use Rattle.shogi_moves.specs.Legal.{is_safe, is_legal, is_legal_code, is_pseudo_legal_board_move, may_promote, is_promotable, in_promotion_zone, is_pseudo_legal_drop, is_pawn_kind, is_pawn_drop_mate}
 use Rattle.shogi_moves.proofs.CaptureLaws.{sort_of}
-use Rattle.shogi_moves.proofs.GuardLaws.{calm_safe, filled, king_set, stays_set, stays_drop, quiet_drop_safe, calm_parts}
+use Rattle.shogi_moves.proofs.GuardLaws.{calm_safe, filled, stays_set, stays_drop, quiet_drop_safe, calm_parts}
 use Rattle.shogi_moves.proofs.LegalLaws.{is_legal_code_of}
 use Rattle.shogi_moves.proofs.MovedPieces.{is_king-piece_moved}
 
@@ -164,10 +164,6 @@ lone_king p kings rest from b r none x h other =
     go : (a e : Bool) → e ≡ false → (a && not e) ≡ false → a ≡ false
     go true e f h = absurd (both_ways (not e) h (ap not f))
     go false e f h = refl
-
-pub king_steps : (p : Shogi) (from to : ℕ) → length p.cells ≡ 81 → from < 81 → to < 81 → is_piece_of p.side (piece_at p.cells from) ≡ true → ((x : ℕ) → x < 81 → x ≢ from → is_king p.side (piece_at p.cells x) ≡ false)
-    → is_attacked (set p.cells from None) (opponent_of p.side) to ≡ false → true ≡ is_unchecked p (Board from to false)
-king_steps p from to len hf ht own lone safe = sym (ap not (king_set p.cells p.side from to (piece_moved false (piece_at p.cells from)) len hf ht (moved_own p.side false (piece_at p.cells from) ∙ own) lone safe))
 
 -- what no answer can be is left out
 pub narrowed : (ends exposed others n : ℕ) (u : Bool) → (has_bit exposed n ≡ false → has_bit others n ≡ false → u ≡ false) → (has_bit (bit_and ends (bit_or exposed others)) n && u) ≡ (has_bit ends n && u)

@@ -13,7 +13,7 @@ ghost use Rattle.shogi_moves.specs.Captures.{is_wanted};
 ghost use Rattle.shogi_moves.specs.Ends.{is_end, is_unchecked};
 ghost use Rattle.shogi_moves.specs.Guards.{Guards};
 
-use crate::after::{cells_after, dropped};
+use crate::after::{dropped, is_checked_after};
 use crate::guard::{Guard, is_calm};
 use crate::legal::{is_pawn_drop_mate, is_pawn_kind};
 use crate::zones::{dead_squares, pawn_files, promoting_squares};
@@ -43,7 +43,7 @@ fn ends_of_sort(p: &Position, capture: bool) -> u128
 fn is_unchecked(p: &Position, m: &Move) -> bool
     ensures { result ≡ is_unchecked p.now m.now }
 {
-    !cells_after(p.as_board(), p.side(), m).in_check(p.side())
+    !is_checked_after(p.as_board(), p.side(), m)
 }
 
 /// Those of the ends that leave the king unattacked, each of them tried.
@@ -75,14 +75,15 @@ fn tried_ends(p: &Position, from: Square, ends: u128) -> u128
 fn is_free(p: &Position, from: Square) -> bool
     ensures { result ≡ not (in_check (slice_set p.now.cells from None) p.now.side) }
 {
-    !p.as_board().put(from, None).in_check(p.side())
+    let mut board = *p.as_board();
+    board.set(from, None);
+    !board.in_check(p.side())
 }
 
-/// Whether the only king of the side to move may go from the one square to the other. Where nothing
-/// attacks that square once the king is lifted off its own, nothing does after the move.
-#[tactic(auto, using(crate::proofs::EndLaws::king_steps))]
+/// Whether the only king of the side to move may go from the one square to the other: nothing attacks
+/// that square once the king is lifted off its own.
 fn is_king_safe(p: &Position, lifted: &Board, from: Square, to: Square) -> bool
-    requires own { is_piece_of p.now.side (piece_at p.now.cells from) ≡ true }
+    requires king { is_king p.now.side (piece_at p.now.cells from) ≡ true }
     requires lifted { lifted.now ≡ slice_set p.now.cells from None }
     requires lone { (x : ℕ) → x < 81 → x ≢ from → is_king p.now.side (piece_at p.now.cells x) ≡ false }
     ensures { result ≡ is_unchecked p.now (moves.Board from to false) }
@@ -90,27 +91,20 @@ fn is_king_safe(p: &Position, lifted: &Board, from: Square, to: Square) -> bool
     p.validity();
     from.validity();
     to.validity();
-    if !lifted.is_attacked(p.side().opponent(), to) {
-        return true;
-    }
-    let m = Move::Board {
-        from,
-        to,
-        promote: false,
-    };
-    is_unchecked(p, &m)
+    !lifted.is_attacked(p.side().opponent(), to)
 }
 
 /// Those of the ends on which the only king of the side to move is unattacked.
 #[tactic(auto, using(crate::proofs::EndLaws::sifting))]
 fn king_ends(p: &Position, from: Square, ends: u128) -> u128
-    requires own { is_piece_of p.now.side (piece_at p.now.cells from) ≡ true }
+    requires king { is_king p.now.side (piece_at p.now.cells from) ≡ true }
     requires lone { (x : ℕ) → x < 81 → x ≢ from → is_king p.now.side (piece_at p.now.cells x) ≡ false }
     requires fits { ends < 2 ^ 81 }
     ensures bits { (n : ℕ) → n < 81 → has_bit result n ≡ (has_bit ends n && is_unchecked p.now (moves.Board from n false)) }
     ensures fits { result < 2 ^ 81 }
 {
-    let lifted = p.as_board().put(from, None);
+    let mut lifted = *p.as_board();
+    lifted.set(from, None);
     let mut left = ends;
     let mut kept = ends;
     while left != 0 {
