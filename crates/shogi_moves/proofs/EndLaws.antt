@@ -366,22 +366,26 @@ alive from n (Some piece) = go piece.role (in_promotion_zone piece.color from ||
         live White Pawn = refl
         live White _ = refl
 
-pub plain_ends : (p : Shogi) (capture : Bool) (from n targets sort ends dead : ℕ) → length p.cells ≡ 81 → from < 81 → n < 81 → is_piece_of p.side (piece_at p.cells from) ≡ true
-    → has_bit targets n ≡ reaches p.cells from n → has_bit sort n ≡ is_end capture p.side (piece_at p.cells n)
-    → has_bit ends n ≡ (has_bit (bit_and targets sort) n && is_unchecked p (Board from n false)) → dead < 2 ^ 81 → has_bit dead n ≡ is_immobile n (piece_at p.cells from)
+-- the squares of a sort that a piece reaches
+pub among_bits : (targets sort n : ℕ) (r e : Bool) → has_bit targets n ≡ r → has_bit sort n ≡ e → has_bit (bit_and targets sort) n ≡ (r && e)
+among_bits targets sort n r e t s = has_bit-and targets sort n ∙ (rw (t, s) refl)
+
+pub plain_ends : (p : Shogi) (capture : Bool) (from n among ends dead : ℕ) → length p.cells ≡ 81 → from < 81 → n < 81 → is_piece_of p.side (piece_at p.cells from) ≡ true
+    → has_bit among n ≡ (reaches p.cells from n && is_end capture p.side (piece_at p.cells n))
+    → has_bit ends n ≡ (has_bit among n && is_unchecked p (Board from n false)) → dead < 2 ^ 81 → has_bit dead n ≡ is_immobile n (piece_at p.cells from)
     → has_bit (bit_and ends (2 ^ 128 - 1 - dead)) n ≡ is_wanted p capture (code_of (Board from n false))
-plain_ends p capture from n targets sort ends dead len hf hn own t s e fits d =
+plain_ends p capture from n among ends dead len hf hn own a e fits d =
     has_bit-and ends (2 ^ 128 - 1 - dead) n
-    ∙ (rw (e, has_bit-and targets sort n, t, s, has_bit-not dead n (omega arith) (omega arith), d)
+    ∙ (rw (e, a, has_bit-not dead n (omega arith) (omega arith), d)
     (sym (wanted_board p capture false from n len hf hn own ∙ (rw (still n (piece_at p.cells from)) refl))))
 
-pub promoting_ends : (p : Shogi) (capture : Bool) (from n targets sort ends promoting : ℕ) → length p.cells ≡ 81 → from < 81 → n < 81 → is_piece_of p.side (piece_at p.cells from) ≡ true
-    → has_bit targets n ≡ reaches p.cells from n → has_bit sort n ≡ is_end capture p.side (piece_at p.cells n)
-    → has_bit ends n ≡ (has_bit (bit_and targets sort) n && is_unchecked p (Board from n false)) → has_bit promoting n ≡ may_promote (piece_at p.cells from) from n
+pub promoting_ends : (p : Shogi) (capture : Bool) (from n among ends promoting : ℕ) → length p.cells ≡ 81 → from < 81 → n < 81 → is_piece_of p.side (piece_at p.cells from) ≡ true
+    → has_bit among n ≡ (reaches p.cells from n && is_end capture p.side (piece_at p.cells n))
+    → has_bit ends n ≡ (has_bit among n && is_unchecked p (Board from n false)) → has_bit promoting n ≡ may_promote (piece_at p.cells from) from n
     → has_bit (bit_and ends promoting) n ≡ is_wanted p capture (code_of (Board from n true))
-promoting_ends p capture from n targets sort ends promoting len hf hn own t s e m =
+promoting_ends p capture from n among ends promoting len hf hn own a e m =
     has_bit-and ends promoting n
-    ∙ (rw (e, has_bit-and targets sort n, t, s, m)
+    ∙ (rw (e, a, m)
     (sym (wanted_board p capture true from n len hf hn own ∙ (rw (alive from n (piece_at p.cells from)) refl))))
 
 -- a piece that goes nowhere
@@ -392,7 +396,7 @@ nowhere p capture promote from n targets sort len hf hn own t s none =
     let no : (reaches p.cells from n && is_end capture p.side (piece_at p.cells n)) ≡ false = sym (has_bit-and targets sort n ∙ (rw (t, s) refl)) ∙ (ap (λ (m : ℕ). has_bit m n) none ∙ has_bit-none n) in
     has_bit-none n ∙ sym (wanted_board p capture promote from n len hf hn own ∙ (rw no refl))
 
-pub ruleset ending = (and_fits, plain_ends, promoting_ends, nowhere)
+pub ruleset ending = (and_fits, plain_ends, promoting_ends, nowhere, among_bits)
 
 -- ---- all legal ends of a piece, captures and others
 

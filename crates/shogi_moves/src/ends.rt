@@ -8,7 +8,7 @@ ghost use Rattle.shogi_core.specs.Attack.{in_check};
 ghost use Rattle.shogi_core.specs.Bits.{has_bit};
 ghost use Rattle.shogi_core.specs.Cell.{is_piece_of, is_king};
 ghost use Rattle.shogi_core.specs.Codes.{code_of};
-ghost use Rattle.shogi_core.specs.Movement.{piece_at};
+ghost use Rattle.shogi_core.specs.Movement.{piece_at, reaches};
 ghost use Rattle.shogi_moves.specs.Captures.{is_wanted};
 ghost use Rattle.shogi_moves.specs.Ends.{is_end, is_unchecked};
 ghost use Rattle.shogi_moves.specs.Guards.{Guards};
@@ -148,7 +148,34 @@ fn safe_ends(p: &Position, guard: &Guard, from: Square, ends: u128) -> u128
     tried_ends(p, from, ends)
 }
 
-/// The legal ends of one of the pieces of the side to move, for captures or for the other moves.
+/// The legal ends of one of the pieces of the side to move among the squares of a sort that it
+/// reaches; only the clauses need to know which sort that is.
+#[inline(never)]
+#[tactic(auto, using(crate::proofs::EndLaws::ending))]
+fn ends_among(p: &Position, guard: &Guard, capture: bool, from: Square, among: u128) -> Ends
+    requires guard { Guards p.now guard.now.checked guard.now.exposed }
+    requires own { is_piece_of p.now.side (piece_at p.now.cells from) ≡ true }
+    requires among { (n : ℕ) → n < 81 → has_bit among n ≡ (reaches p.now.cells from n && is_end capture p.now.side (piece_at p.now.cells n)) }
+    requires fits { among < 2 ^ 81 }
+    ensures plain { (n : ℕ) → n < 81 → has_bit result.plain n ≡ is_wanted p.now capture (code_of (moves.Board from n false)) }
+    ensures promoting { (n : ℕ) → n < 81 → has_bit result.promoting n ≡ is_wanted p.now capture (code_of (moves.Board from n true)) }
+    ensures plain_fits { result.plain < 2 ^ 81 }
+    ensures promoting_fits { result.promoting < 2 ^ 81 }
+{
+    let _ = capture;
+    p.validity();
+    from.validity();
+    let ends = safe_ends(p, guard, from, among);
+    let piece = p.at(from);
+    Ends {
+        plain: ends & !dead_squares(piece),
+        promoting: ends & promoting_squares(piece, from),
+    }
+}
+
+/// The legal ends of one of the pieces of the side to move, for captures or for the other moves. Most
+/// pieces reach no square of the sort, and are told at once.
+#[inline(always)]
 #[tactic(auto, using(crate::proofs::EndLaws::ending))]
 pub fn board_ends(p: &Position, guard: &Guard, capture: bool, from: Square) -> Ends
     requires guard { Guards p.now guard.now.checked guard.now.exposed }
@@ -167,12 +194,7 @@ pub fn board_ends(p: &Position, guard: &Guard, capture: bool, from: Square) -> E
             promoting: 0,
         };
     }
-    let ends = safe_ends(p, guard, from, among);
-    let piece = p.at(from);
-    Ends {
-        plain: ends & !dead_squares(piece),
-        promoting: ends & promoting_squares(piece, from),
-    }
+    ends_among(p, guard, capture, from, among)
 }
 
 /// All legal ends of one of the pieces of the side to move.
