@@ -99,9 +99,20 @@ impl Node {
         ensures valid { IsValid (after self.now.position m) }
     {
         let mut next = *self;
-        next.score = score_after(&self.position, self.eval, self.score, &m);
-        advance(&mut next.position, m);
+        next.advance(m);
         next
+    }
+
+    /// The node becomes that after a legal move, under the same evaluation.
+    pub fn advance(&mut self, m: Move)
+        requires { is_legal self.old.position m ≡ true }
+        ensures after { self.new.position ≡ after self.old.position m }
+        ensures by_code { self.new.position ≡ after_code self.old.position (code_of m) }
+        ensures eval { self.new.eval ≡ self.old.eval }
+        ensures valid { IsValid (after self.old.position m) }
+    {
+        self.score = score_after(&self.position, self.eval, self.score, &m);
+        advance(&mut self.position, m);
     }
 
     /// The material after a legal move, from the side that is to move then; nothing is played.

@@ -12,7 +12,7 @@ use Rattle.shogi_core.specs.declared.piece.Color.TheVariants.{Black, White}
 use Rattle.shogi_core.specs.declared.piece.Role.{Role}
 use Rattle.shogi_core.specs.declared.piece.Role.TheVariants.{Pawn, Lance, Knight, Silver, Gold, Bishop, Rook, King, PromotedPawn, PromotedLance, PromotedKnight, PromotedSilver, Horse, Dragon}
 use Rattle.shogi_core.specs.declared.piece.Piece.{Piece}
-use Rattle.shogi_core.specs.Attack.{in_check, is_attacked}
+use Rattle.shogi_core.specs.Attack.{in_check}
 use Rattle.shogi_core.specs.Bits.{has_bit}
 use Rattle.shogi_core.specs.Cell.{is_piece_of, is_immobile, is_immobile_role, is_king, is_king_role}
 use Rattle.shogi_core.specs.Codes.{move_of, code_of}
@@ -29,7 +29,7 @@ use Rattle.shogi_moves.specs.Ends.{is_end, is_unchecked, Sifts}
 use Rattle.shogi_moves.specs.Guards.{Guards}
 use Rattle.shogi_moves.specs.Legal.{is_safe, is_legal, is_legal_code, is_pseudo_legal_board_move, may_promote, is_promotable, in_promotion_zone, is_pseudo_legal_drop, is_pawn_kind, is_pawn_drop_mate}
 use Rattle.shogi_moves.proofs.CaptureLaws.{sort_of}
-use Rattle.shogi_moves.proofs.GuardLaws.{calm_safe, filled, king_set, stays_set, stays_drop, quiet_drop_safe, calm_parts}
+use Rattle.shogi_moves.proofs.GuardLaws.{calm_safe, filled, stays_set, stays_drop, quiet_drop_safe, calm_parts}
 use Rattle.shogi_moves.proofs.LegalLaws.{is_legal_code_of}
 use Rattle.shogi_moves.proofs.MovedPieces.{is_king-piece_moved}
 
@@ -164,10 +164,6 @@ lone_king p kings rest from b r none x h other =
     go : (a e : Bool) → e ≡ false → (a && not e) ≡ false → a ≡ false
     go true e f h = absurd (both_ways (not e) h (ap not f))
     go false e f h = refl
-
-pub king_steps : (p : Shogi) (from to : ℕ) → length p.cells ≡ 81 → from < 81 → to < 81 → is_piece_of p.side (piece_at p.cells from) ≡ true → ((x : ℕ) → x < 81 → x ≢ from → is_king p.side (piece_at p.cells x) ≡ false)
-    → is_attacked (set p.cells from None) (opponent_of p.side) to ≡ false → true ≡ is_unchecked p (Board from to false)
-king_steps p from to len hf ht own lone safe = sym (ap not (king_set p.cells p.side from to (piece_moved false (piece_at p.cells from)) len hf ht (moved_own p.side false (piece_at p.cells from) ∙ own) lone safe))
 
 -- what no answer can be is left out
 pub narrowed : (ends exposed others n : ℕ) (u : Bool) → (has_bit exposed n ≡ false → has_bit others n ≡ false → u ≡ false) → (has_bit (bit_and ends (bit_or exposed others)) n && u) ≡ (has_bit ends n && u)
@@ -370,22 +366,26 @@ alive from n (Some piece) = go piece.role (in_promotion_zone piece.color from ||
         live White Pawn = refl
         live White _ = refl
 
-pub plain_ends : (p : Shogi) (capture : Bool) (from n targets sort ends dead : ℕ) → length p.cells ≡ 81 → from < 81 → n < 81 → is_piece_of p.side (piece_at p.cells from) ≡ true
-    → has_bit targets n ≡ reaches p.cells from n → has_bit sort n ≡ is_end capture p.side (piece_at p.cells n)
-    → has_bit ends n ≡ (has_bit (bit_and targets sort) n && is_unchecked p (Board from n false)) → dead < 2 ^ 81 → has_bit dead n ≡ is_immobile n (piece_at p.cells from)
+-- the squares of a sort that a piece reaches
+pub among_bits : (targets sort n : ℕ) (r e : Bool) → has_bit targets n ≡ r → has_bit sort n ≡ e → has_bit (bit_and targets sort) n ≡ (r && e)
+among_bits targets sort n r e t s = has_bit-and targets sort n ∙ (rw (t, s) refl)
+
+pub plain_ends : (p : Shogi) (capture : Bool) (from n among ends dead : ℕ) → length p.cells ≡ 81 → from < 81 → n < 81 → is_piece_of p.side (piece_at p.cells from) ≡ true
+    → has_bit among n ≡ (reaches p.cells from n && is_end capture p.side (piece_at p.cells n))
+    → has_bit ends n ≡ (has_bit among n && is_unchecked p (Board from n false)) → dead < 2 ^ 81 → has_bit dead n ≡ is_immobile n (piece_at p.cells from)
     → has_bit (bit_and ends (2 ^ 128 - 1 - dead)) n ≡ is_wanted p capture (code_of (Board from n false))
-plain_ends p capture from n targets sort ends dead len hf hn own t s e fits d =
+plain_ends p capture from n among ends dead len hf hn own a e fits d =
     has_bit-and ends (2 ^ 128 - 1 - dead) n
-    ∙ (rw (e, has_bit-and targets sort n, t, s, has_bit-not dead n (omega arith) (omega arith), d)
+    ∙ (rw (e, a, has_bit-not dead n (omega arith) (omega arith), d)
     (sym (wanted_board p capture false from n len hf hn own ∙ (rw (still n (piece_at p.cells from)) refl))))
 
-pub promoting_ends : (p : Shogi) (capture : Bool) (from n targets sort ends promoting : ℕ) → length p.cells ≡ 81 → from < 81 → n < 81 → is_piece_of p.side (piece_at p.cells from) ≡ true
-    → has_bit targets n ≡ reaches p.cells from n → has_bit sort n ≡ is_end capture p.side (piece_at p.cells n)
-    → has_bit ends n ≡ (has_bit (bit_and targets sort) n && is_unchecked p (Board from n false)) → has_bit promoting n ≡ may_promote (piece_at p.cells from) from n
+pub promoting_ends : (p : Shogi) (capture : Bool) (from n among ends promoting : ℕ) → length p.cells ≡ 81 → from < 81 → n < 81 → is_piece_of p.side (piece_at p.cells from) ≡ true
+    → has_bit among n ≡ (reaches p.cells from n && is_end capture p.side (piece_at p.cells n))
+    → has_bit ends n ≡ (has_bit among n && is_unchecked p (Board from n false)) → has_bit promoting n ≡ may_promote (piece_at p.cells from) from n
     → has_bit (bit_and ends promoting) n ≡ is_wanted p capture (code_of (Board from n true))
-promoting_ends p capture from n targets sort ends promoting len hf hn own t s e m =
+promoting_ends p capture from n among ends promoting len hf hn own a e m =
     has_bit-and ends promoting n
-    ∙ (rw (e, has_bit-and targets sort n, t, s, m)
+    ∙ (rw (e, a, m)
     (sym (wanted_board p capture true from n len hf hn own ∙ (rw (alive from n (piece_at p.cells from)) refl))))
 
 -- a piece that goes nowhere
@@ -396,7 +396,7 @@ nowhere p capture promote from n targets sort len hf hn own t s none =
     let no : (reaches p.cells from n && is_end capture p.side (piece_at p.cells n)) ≡ false = sym (has_bit-and targets sort n ∙ (rw (t, s) refl)) ∙ (ap (λ (m : ℕ). has_bit m n) none ∙ has_bit-none n) in
     has_bit-none n ∙ sym (wanted_board p capture promote from n len hf hn own ∙ (rw no refl))
 
-pub ruleset ending = (and_fits, plain_ends, promoting_ends, nowhere)
+pub ruleset ending = (and_fits, plain_ends, promoting_ends, nowhere, among_bits)
 
 -- ---- all legal ends of a piece, captures and others
 

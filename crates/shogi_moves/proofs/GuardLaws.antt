@@ -1,15 +1,15 @@
 -- Moves that cannot leave the mover's king attacked.
-use Rattle.std.proofs.Common.{◌≡◌, ◌≢◌, ℕ, ◌-◌, ◌<◌, ◌^◌, ◌⊎◌, Bool, true, false, refl, sym, ap, subst, ◌∙◌, arith, inl, inr, Option, Some, None, set, length, get_or-set_same, get_or-set_other, length-set, bit_and, bit_or}
+use Rattle.std.proofs.Common.{◌≡◌, ◌≢◌, ℕ, ◌<◌, ◌^◌, ◌⊎◌, Bool, true, false, refl, sym, ap, subst, ◌∙◌, arith, inl, inr, Option, Some, None, set, length, get_or-set_same, get_or-set_other, length-set, bit_or}
 use Rattle.std.specs.Prelude.{◌==◌, ◌&&◌, not, is_none}
-use Rattle.std.proofs.lemmas.Nat.{or_lt, and_le_l}
-use Rattle.std.proofs.lemmas.Bool.{cases_Bool, cases_eq, false_from_ne_true, both_ways, and_parts, and_from, or_left, or_right, or_parts, not_from_false, not-true, ne_eqb}
+use Rattle.std.proofs.lemmas.Nat.{or_lt}
+use Rattle.std.proofs.lemmas.Bool.{cases_eq, false_from_ne_true, both_ways, and_parts, and_from, or_left, or_right, or_parts, not_from_false, not-true, ne_eqb}
 use Rattle.shogi_core.specs.declared.piece.Color.{Color}
 use Rattle.shogi_core.specs.declared.piece.Color.TheVariants.{Black, White}
 use Rattle.shogi_core.specs.declared.piece.Kind.{Kind}
 use Rattle.shogi_core.specs.declared.piece.Kind.TheVariants as kinds
 use Rattle.shogi_core.specs.declared.piece.Piece.{Piece}
 use Rattle.shogi_core.specs.declared.moves.Move.TheVariants.{Board, Drop}
-use Rattle.shogi_core.specs.Attack.{in_check, is_attacked, is_open_king, is_sniping}
+use Rattle.shogi_core.specs.Attack.{in_check, is_attacked, is_open_king}
 use Rattle.shogi_core.specs.Bits.{has_bit}
 use Rattle.shogi_core.specs.Cell.{is_piece_of, is_king, is_king_role}
 use Rattle.shogi_core.specs.Lines.{are_lined, is_line_to_king, is_lined_with_king}
@@ -17,10 +17,9 @@ use Rattle.shogi_core.specs.Movement.{Cells, piece_at}
 use Rattle.shogi_core.specs.Pieces.{opponent_of, is_same_color, role_of}
 use Rattle.shogi_core.specs.Position.{Shogi}
 use Rattle.shogi_core.proofs.Below.{some_below_no}
-use Rattle.shogi_core.proofs.BitLaws.{has_bit-and, has_bit-or, has_bit-none}
+use Rattle.shogi_core.proofs.BitLaws.{has_bit-or, has_bit-none}
 use Rattle.shogi_core.proofs.Exposed.{check_was, check_stays, attacked_was}
 use Rattle.shogi_core.proofs.SeenLaws.{lined_back}
-use Rattle.shogi_core.proofs.Snipers.{left_calm}
 use Rattle.shogi_moves.specs.After.{cells_after, piece_moved, dropped}
 use Rattle.shogi_moves.specs.Guards.{Guards, Exposes}
 use Rattle.shogi_moves.specs.Legal.{is_safe, is_pseudo_legal_board_move, is_pseudo_legal_drop}

@@ -10,6 +10,7 @@ pub mod NextLaws
 pub mod CaptureLaws
 pub mod PerftLaws
 pub mod GuardLaws
+pub mod KingLaws
 pub mod RunLaws
 pub mod ZoneLaws
 pub mod EndLaws

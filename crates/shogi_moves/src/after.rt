@@ -3,6 +3,7 @@
 ghost use Rattle.std.specs.Prelude.{◌≡◌, ◌<◌, ◌≤◌, ◌-◌, ◌+◌, true, slice_set};
 ghost use Rattle.shogi_core.specs.declared.piece.Kind.{Kind};
 ghost use Rattle.shogi_core.specs.declared.moves.Move.TheVariants as moves;
+ghost use Rattle.shogi_core.specs.Attack.{in_check};
 ghost use Rattle.shogi_core.specs.Codes.{code_of};
 ghost use Rattle.shogi_core.specs.Position.{count_in_hand, place_of};
 ghost use Rattle.shogi_core.specs.Validity.{IsValid};
@@ -41,19 +42,27 @@ pub fn dropped(color: Color, kind: Kind) -> Option<Piece>
     })
 }
 
-/// The board after a move of the side.
-pub fn cells_after(board: &Board, side: Color, m: &Move) -> Board
-    ensures { result ≡ cells_after board.now side m.now }
+/// Makes a move of the side where the board stands.
+pub fn move_on(board: &mut Board, side: Color, m: &Move)
+    ensures { board.new ≡ cells_after board.old side m.now }
 {
-    let mut cells = *board;
     match m {
         Move::Board { from, to, promote } => {
-            cells.set(*from, None);
-            cells.set(*to, piece_moved(board.at(*from), *promote));
+            let piece = board.at(*from);
+            board.set(*from, None);
+            board.set(*to, piece_moved(piece, *promote));
         }
-        Move::Drop { kind, to } => cells.set(*to, dropped(side, *kind)),
+        Move::Drop { kind, to } => board.set(*to, dropped(side, *kind)),
     }
-    cells
+}
+
+/// Whether a king of the side is attacked after its move.
+pub fn is_checked_after(board: &Board, side: Color, m: &Move) -> bool
+    ensures { result ≡ in_check (cells_after board.now side m.now) side }
+{
+    let mut next = *board;
+    move_on(&mut next, side, m);
+    next.in_check(side)
 }
 
 /// The hands with what the side captured, as its unpromoted kind.

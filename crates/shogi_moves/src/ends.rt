@@ -8,12 +8,12 @@ ghost use Rattle.shogi_core.specs.Attack.{in_check};
 ghost use Rattle.shogi_core.specs.Bits.{has_bit};
 ghost use Rattle.shogi_core.specs.Cell.{is_piece_of, is_king};
 ghost use Rattle.shogi_core.specs.Codes.{code_of};
-ghost use Rattle.shogi_core.specs.Movement.{piece_at};
+ghost use Rattle.shogi_core.specs.Movement.{piece_at, reaches};
 ghost use Rattle.shogi_moves.specs.Captures.{is_wanted};
 ghost use Rattle.shogi_moves.specs.Ends.{is_end, is_unchecked};
 ghost use Rattle.shogi_moves.specs.Guards.{Guards};
 
-use crate::after::{cells_after, dropped};
+use crate::after::{dropped, is_checked_after};
 use crate::guard::{Guard, is_calm};
 use crate::legal::{is_pawn_drop_mate, is_pawn_kind};
 use crate::zones::{dead_squares, pawn_files, promoting_squares};
@@ -43,7 +43,7 @@ fn ends_of_sort(p: &Position, capture: bool) -> u128
 fn is_unchecked(p: &Position, m: &Move) -> bool
     ensures { result ≡ is_unchecked p.now m.now }
 {
-    !cells_after(p.as_board(), p.side(), m).in_check(p.side())
+    !is_checked_after(p.as_board(), p.side(), m)
 }
 
 /// Those of the ends that leave the king unattacked, each of them tried.
@@ -75,14 +75,15 @@ fn tried_ends(p: &Position, from: Square, ends: u128) -> u128
 fn is_free(p: &Position, from: Square) -> bool
     ensures { result ≡ not (in_check (slice_set p.now.cells from None) p.now.side) }
 {
-    !p.as_board().put(from, None).in_check(p.side())
+    let mut board = *p.as_board();
+    board.set(from, None);
+    !board.in_check(p.side())
 }
 
-/// Whether the only king of the side to move may go from the one square to the other. Where nothing
-/// attacks that square once the king is lifted off its own, nothing does after the move.
-#[tactic(auto, using(crate::proofs::EndLaws::king_steps))]
+/// Whether the only king of the side to move may go from the one square to the other: nothing attacks
+/// that square once the king is lifted off its own.
 fn is_king_safe(p: &Position, lifted: &Board, from: Square, to: Square) -> bool
-    requires own { is_piece_of p.now.side (piece_at p.now.cells from) ≡ true }
+    requires king { is_king p.now.side (piece_at p.now.cells from) ≡ true }
     requires lifted { lifted.now ≡ slice_set p.now.cells from None }
     requires lone { (x : ℕ) → x < 81 → x ≢ from → is_king p.now.side (piece_at p.now.cells x) ≡ false }
     ensures { result ≡ is_unchecked p.now (moves.Board from to false) }
@@ -90,27 +91,20 @@ fn is_king_safe(p: &Position, lifted: &Board, from: Square, to: Square) -> bool
     p.validity();
     from.validity();
     to.validity();
-    if !lifted.is_attacked(p.side().opponent(), to) {
-        return true;
-    }
-    let m = Move::Board {
-        from,
-        to,
-        promote: false,
-    };
-    is_unchecked(p, &m)
+    !lifted.is_attacked(p.side().opponent(), to)
 }
 
 /// Those of the ends on which the only king of the side to move is unattacked.
 #[tactic(auto, using(crate::proofs::EndLaws::sifting))]
 fn king_ends(p: &Position, from: Square, ends: u128) -> u128
-    requires own { is_piece_of p.now.side (piece_at p.now.cells from) ≡ true }
+    requires king { is_king p.now.side (piece_at p.now.cells from) ≡ true }
     requires lone { (x : ℕ) → x < 81 → x ≢ from → is_king p.now.side (piece_at p.now.cells x) ≡ false }
     requires fits { ends < 2 ^ 81 }
     ensures bits { (n : ℕ) → n < 81 → has_bit result n ≡ (has_bit ends n && is_unchecked p.now (moves.Board from n false)) }
     ensures fits { result < 2 ^ 81 }
 {
-    let lifted = p.as_board().put(from, None);
+    let mut lifted = *p.as_board();
+    lifted.set(from, None);
     let mut left = ends;
     let mut kept = ends;
     while left != 0 {
@@ -154,7 +148,34 @@ fn safe_ends(p: &Position, guard: &Guard, from: Square, ends: u128) -> u128
     tried_ends(p, from, ends)
 }
 
-/// The legal ends of one of the pieces of the side to move, for captures or for the other moves.
+/// The legal ends of one of the pieces of the side to move among the squares of a sort that it
+/// reaches; only the clauses need to know which sort that is.
+#[inline(never)]
+#[tactic(auto, using(crate::proofs::EndLaws::ending))]
+fn ends_among(p: &Position, guard: &Guard, capture: bool, from: Square, among: u128) -> Ends
+    requires guard { Guards p.now guard.now.checked guard.now.exposed }
+    requires own { is_piece_of p.now.side (piece_at p.now.cells from) ≡ true }
+    requires among { (n : ℕ) → n < 81 → has_bit among n ≡ (reaches p.now.cells from n && is_end capture p.now.side (piece_at p.now.cells n)) }
+    requires fits { among < 2 ^ 81 }
+    ensures plain { (n : ℕ) → n < 81 → has_bit result.plain n ≡ is_wanted p.now capture (code_of (moves.Board from n false)) }
+    ensures promoting { (n : ℕ) → n < 81 → has_bit result.promoting n ≡ is_wanted p.now capture (code_of (moves.Board from n true)) }
+    ensures plain_fits { result.plain < 2 ^ 81 }
+    ensures promoting_fits { result.promoting < 2 ^ 81 }
+{
+    let _ = capture;
+    p.validity();
+    from.validity();
+    let ends = safe_ends(p, guard, from, among);
+    let piece = p.at(from);
+    Ends {
+        plain: ends & !dead_squares(piece),
+        promoting: ends & promoting_squares(piece, from),
+    }
+}
+
+/// The legal ends of one of the pieces of the side to move, for captures or for the other moves. Most
+/// pieces reach no square of the sort, and are told at once.
+#[inline(always)]
 #[tactic(auto, using(crate::proofs::EndLaws::ending))]
 pub fn board_ends(p: &Position, guard: &Guard, capture: bool, from: Square) -> Ends
     requires guard { Guards p.now guard.now.checked guard.now.exposed }
@@ -173,12 +194,7 @@ pub fn board_ends(p: &Position, guard: &Guard, capture: bool, from: Square) -> E
             promoting: 0,
         };
     }
-    let ends = safe_ends(p, guard, from, among);
-    let piece = p.at(from);
-    Ends {
-        plain: ends & !dead_squares(piece),
-        promoting: ends & promoting_squares(piece, from),
-    }
+    ends_among(p, guard, capture, from, among)
 }
 
 /// All legal ends of one of the pieces of the side to move.

@@ -10,7 +10,7 @@ ghost use Rattle.shogi_moves.specs.Guards.{Guards};
 ghost use Rattle.shogi_moves.specs.LegalMoves.{legal_codes};
 ghost use Rattle.shogi_moves.specs.Rising.{is_in};
 
-use crate::after::{apply, apply_safe, cells_after, dropped, piece_moved};
+use crate::after::{apply, apply_safe, dropped, is_checked_after, piece_moved};
 use crate::attack::in_check;
 use crate::guard::{Guard, is_calm};
 use crate::safe::has_safe;
@@ -93,7 +93,7 @@ fn is_pseudo_legal(p: &Position, m: &Move) -> bool
 pub fn is_safe(p: &Position, m: &Move) -> bool
     ensures { result ≡ is_safe p.now m.now }
 {
-    is_pseudo_legal(p, m) && !cells_after(p.as_board(), p.side(), m).in_check(p.side())
+    is_pseudo_legal(p, m) && !is_checked_after(p.as_board(), p.side(), m)
 }
 
 /// Whether the candidate obeys the rules on promotion, and so all rules apart from checks.
@@ -123,7 +123,7 @@ pub fn is_safe_guarded(p: &Position, guard: &Guard, m: &Move) -> bool
             if is_calm(guard, *from) {
                 return allowed;
             }
-            allowed && !cells_after(p.as_board(), p.side(), m).in_check(p.side())
+            allowed && !is_checked_after(p.as_board(), p.side(), m)
         }
         Move::Drop { kind, to } => {
             to.validity();
@@ -131,7 +131,7 @@ pub fn is_safe_guarded(p: &Position, guard: &Guard, m: &Move) -> bool
             if !guard.checked {
                 return allowed;
             }
-            allowed && !cells_after(p.as_board(), p.side(), m).in_check(p.side())
+            allowed && !is_checked_after(p.as_board(), p.side(), m)
         }
     }
 }

@@ -1,5 +1,5 @@
 -- The stack grows and shrinks at its top.
-use Rattle.std.proofs.Common.{◌≡◌, ◌<◌, ◌+◌, ◌-◌, ◌*◌, ℕ, ℤ, List, [], ◌∷◌, ◌++◌, length, take, ◌≤◌, refl, ap, ◌∙◌, sym, arith, subst}
+use Rattle.std.proofs.Common.{Bool, true, false, ◌≡◌, ◌<◌, ◌+◌, ◌-◌, ◌*◌, ℕ, ℤ, List, [], ◌∷◌, ◌++◌, length, take, ◌≤◌, refl, ap, ◌∙◌, sym, arith, subst}
 use Rattle.std.specs.Prelude.{sum_by}
 use Rattle.std.proofs.lemmas.List.{length-take-le}
 use Rattle.std.proofs.lemmas.List.Sums.{sum_by-append}
@@ -18,6 +18,7 @@ use Rattle.shogi_search.specs.Minimax.{negated, sum_of_tree_sizes, tree_size}
 use Rattle.shogi_search.specs.Order.{todo}
 use Rattle.shogi_search.specs.Window.{threshold, code_at}
 use Rattle.shogi_search.specs.Stack.{IsAt, IsSame, IsChain, IsStack, WhereAsked, parents_of, left_of_frame, left_of_waiting}
+use Rattle.shogi_search.specs.Visits.{IsFree}
 use Rattle.shogi_search.proofs.MinimaxLaws.{sum_of_tree_sizes-next}
 use Rattle.shogi_search.specs.declared.bounds.TheConstants.{SEARCH_DEPTH_MAX, INFINITY}
 
@@ -26,6 +27,25 @@ pub record IsChild (f q : Frame) (m : Move) : Type 0 where
   pub deep : 0 < f.depth
   pub asks : f.waiting ≡ Asked m
   pub at_child : IsAt (after_code f.node.position (code_of m)) f.node.eval (f.depth - 1) (negated f.beta) (negated (threshold f.best_value (code_at f.best_move) (code_of m))) q
+
+-- the child of a node, made where a copy of that node stands
+pub child_of : (f g q : Frame) (m : Move) → g ≡ f → 0 < f.depth → f.waiting ≡ Asked m → q.node.position ≡ after_code g.node.position (code_of m) → q.node.eval ≡ g.node.eval → q.depth ≡ g.depth - 1 → q.alpha ≡ negated f.beta → q.beta ≡ negated (threshold f.best_value (code_at f.best_move) (code_of m)) → IsChild f q m
+child_of f g q m copy deep asks position eval depth alpha_is beta_is = record {
+  deep = deep;
+  asks = asks;
+  at_child = record {
+    position = position ∙ ap (λ (x : Frame). after_code x.node.position (code_of m)) copy;
+    eval = eval ∙ ap (λ (x : Frame). x.node.eval) copy;
+    depth = depth ∙ ap (λ (x : Frame). x.depth - 1) copy;
+    alpha_is = alpha_is;
+    beta_is = beta_is;
+  };
+}
+
+-- what holds of a stack after a step back, and where there was none, holds
+pub either_way : (s t : Stack) (back : Bool) → (back ≡ true → IsFree s.top.waiting) → (back ≡ false → s ≡ t) → t.top.waiting ≡ Next → IsFree s.top.waiting
+either_way s t true free none next = free refl
+either_way s t false free none next = subst IsFree (sym (ap (λ (x : Stack). x.top.waiting) (none refl) ∙ next)) tt
 
 -- where a move is asked for, what holds of it may be exchanged for what follows from it
 where_map : (w : Waiting) (P Q : Move → Type 0) → ((m : Move) → P m → Q m) → WhereAsked w P → WhereAsked w Q

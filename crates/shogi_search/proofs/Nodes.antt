@@ -90,6 +90,17 @@ new_node f p (suc d) alpha hash_move picker a b l =
     kept_at None picker e = subst (IsKept p) (sym e) tt
     kept_at (Some k) picker e = subst (IsKept p) (sym e) tt
 
+no_hash_move : (p : Shogi) → ForSome None (λ (k : Move). is_in (code_of k) (legal_codes p) ≡ true)
+no_hash_move p k e = absurd (cc)
+
+-- the same without a hash move
+pub new_start : (f : ℕ → ℤ) (p : Shogi) (d : ℕ) (alpha : ℤ) (picker : MovePicker) → (d ≡ 0 → picker ≡ Done) → (0 < d → picker ≡ Start None) → IsNew f p d alpha picker
+new_start f p d alpha picker a b = new_node f p d alpha None picker a b (no_hash_move p)
+
+-- the same where the best value so far is that of the window, as it is kept
+pub kept_value : (f : ℕ → ℤ) (p : Shogi) (d : ℕ) (alpha kept : ℤ) (picker : MovePicker) → kept ≡ alpha → IsNew f p d alpha picker → IsCovered f (moves_at p d) (todo p picker) alpha kept None
+kept_value f p d alpha kept picker e n = subst (λ (v : ℤ). IsCovered f (moves_at p d) (todo p picker) alpha v None) (sym e) n.covered
+
 -- a move that is worth so much
 pub cut : (p : Shogi) (eval : Eval) (d m : ℕ) (v : ℤ) → 0 < d → is_in m (legal_codes p) ≡ true → v ≤ℤ worth p eval (d - 1) m → v ≤ℤ value p eval d
 cut p eval d m v h i l =

@@ -128,6 +128,51 @@ impl Frame {
         self.replies = replies_of(node, ahead);
     }
 
+    /// The frame becomes that of the child after the current move, under this window and with all of
+    /// the child's moves to visit; nothing tells of leaves without making them.
+    pub fn play_on(&mut self, current: &Move, alpha: i32, beta: i32)
+        requires current { IsCurrent self.old.waiting current.now }
+        requires least { negated INFINITY ≤ℤ alpha }
+        requires open { alpha <ℤ beta }
+        requires most { beta ≤ℤ INFINITY }
+        ensures position { self.new.node.position ≡ after_code self.old.node.position (code_of current.now) }
+        ensures eval { self.new.node.eval ≡ self.old.node.eval }
+        ensures depth { self.new.depth ≡ self.old.depth - 1 }
+        ensures alpha { self.new.alpha ≡ alpha }
+        ensures beta { self.new.beta ≡ beta }
+        ensures counted { 1 + 2 * sum_of_tree_sizes self.new.node.position (self.new.depth - 1) (todo self.new.node.position self.new.picker) < 2 * tree_size self.new.node.position self.new.depth }
+        ensures waiting { self.new.waiting ≡ Waiting.Next }
+    {
+        current.validity();
+        self.node.advance(*current);
+        self.node.as_position().validity();
+        self.depth -= 1;
+        self.alpha = alpha;
+        self.beta = beta;
+        self.best_value = alpha;
+        self.best_move = None;
+        self.picker = MovePicker::new(self.depth, None);
+        self.waiting = Waiting::Next;
+        self.replies = Replies::unknown(self.node.as_position());
+    }
+
+    /// Begins with the node's moves, the hash move first; `ahead` asks for what tells of leaves
+    /// without making them.
+    pub fn begin(&mut self, hash_move: Option<Move>, ahead: bool)
+        requires open { self.old.alpha <ℤ self.old.beta }
+        requires hash_move { ForSome hash_move (λ f. is_in (code_of f) (legal_codes self.old.node.position) ≡ true) }
+        ensures same { IsSame self.old self.new }
+        ensures counted { 1 + 2 * sum_of_tree_sizes self.new.node.position (self.new.depth - 1) (todo self.new.node.position self.new.picker) < 2 * tree_size self.new.node.position self.new.depth }
+        ensures waiting { self.new.waiting ≡ Waiting.Next }
+        ensures hash_move { 0 < self.new.depth → MatchOption hash_move (self.new.picker ≡ MovePicker.Start None) (λ f. self.new.picker ≡ MovePicker.HashMove f) }
+    {
+        self.best_value = self.alpha;
+        self.best_move = None;
+        self.picker = MovePicker::new(self.depth, hash_move);
+        self.waiting = Waiting::Next;
+        self.replies = replies_of(&self.node, ahead);
+    }
+
     /// What is known of the node once it is cut off or all its moves are gone through.
     pub fn close(&self) -> Entry
         requires over { IsOver self.now.waiting (todo self.now.node.position self.now.picker) }

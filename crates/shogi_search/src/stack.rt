@@ -57,16 +57,6 @@ pub fn hash_move_of<M: Memo>(p: &Position, e: Eval, depth: u8, memo: &mut M) -> 
     }
 }
 
-/// The child after the move that the frame has asked for.
-fn child(frame: &Frame, current: &Move) -> Node
-    requires current { IsCurrent frame.now.waiting current.now }
-    ensures position { result.position ≡ after_code frame.now.node.position (code_of current.now) }
-    ensures eval { result.eval ≡ frame.now.node.eval }
-{
-    current.validity();
-    frame.node.play(*current)
-}
-
 /// Whether a node's children are leaves that the memo need not be asked for.
 pub fn looks_ahead<M: Memo>(depth: u8, memo: &M) -> bool
     ensures { result ≡ true → depth ≡ 1 }
@@ -109,8 +99,61 @@ impl Stack {
         true
     }
 
-    /// Goes on with the current move of the node on top, and makes its child: by the memo's answer,
-    /// by the value of a leaf, which the next step takes in, or into the child.
+    /// The node below the top takes in what is known of the node on top, where there is one.
+    fn go_back(&mut self, entry: &Entry) -> bool
+        requires stack { IsStack self.old }
+        requires truth { IsTrueEntry self.old.top.node.position self.old.top.node.eval self.old.top.depth entry.now }
+        requires cutoff { IsCutoff self.old.top.alpha self.old.top.beta entry.now }
+        ensures stack { IsStack self.new }
+        ensures free { result ≡ true → IsFree self.new.top.waiting }
+        ensures left { result ≡ true → left_of_stack self.new < left_of_stack self.old }
+        ensures truth { result ≡ false → IsTrueEntry self.old.root self.old.eval self.old.depth entry.now }
+        ensures cutoff { result ≡ false → IsCutoff (negated INFINITY) self.old.beta entry.now }
+        ensures most { left_of_stack self.new ≤ left_of_stack self.old }
+        ensures none { result ≡ false → self.new ≡ self.old }
+        ensures same { (self.new.root ≡ self.old.root) × (self.new.depth ≡ self.old.depth) }
+        ensures eval { self.new.eval ≡ self.old.eval }
+        ensures beta { self.new.beta ≡ self.old.beta }
+    {
+        if self.pop() {
+            let Waiting::Asked(current) = self.top.waiting else {
+                unreachable!();
+            };
+            self.top.take(&current, entry);
+            return true;
+        }
+        false
+    }
+
+    /// Goes on with the current move of a node of depth 1, and makes its child, a leaf: by the memo's
+    /// answer, or by the leaf's value, which the next step takes in.
+    #[inline(never)]
+    fn make_leaf<M: Memo>(&mut self, current: &Move, memo: &mut M)
+        requires stack { IsStack self.old }
+        requires asked { self.old.top.waiting ≡ Waiting.Asked current.now }
+        requires last { self.old.top.depth ≡ 1 }
+        ensures stack { IsStack self.new }
+        ensures free { IsFree self.new.top.waiting }
+        ensures left { left_of_stack self.new < left_of_stack self.old + 2 * tree_size (after_code self.old.top.node.position (code_of current.now)) 0 }
+        ensures same { (self.new.root ≡ self.old.root) × (self.new.depth ≡ self.old.depth) }
+        ensures eval { self.new.eval ≡ self.old.eval }
+        ensures beta { self.new.beta ≡ self.old.beta }
+    {
+        let threshold = self.top.threshold(current);
+        let mut node = self.top.node;
+        current.validity();
+        node.advance(*current);
+        if let Some(entry) = memo.probe(node.as_position(), node.eval(), 0) {
+            if is_cutoff(&entry, -self.top.beta, -threshold) {
+                self.top.take(current, &entry);
+                return;
+            }
+        }
+        self.top.hear(current, leaf(&node));
+    }
+
+    /// Goes on with the current move of the node on top, and makes its child where a copy of that
+    /// node stands: by the memo's answer, or into the child.
     #[inline(never)]
     fn enter_child<M: Memo>(&mut self, current: &Move, memo: &mut M)
         requires stack { IsStack self.old }
@@ -123,29 +166,21 @@ impl Stack {
         ensures beta { self.new.beta ≡ self.old.beta }
     {
         let threshold = self.top.threshold(current);
-        let node = child(&self.top, current);
-        let below = self.top.depth - 1;
         let (alpha, beta) = (-self.top.beta, -threshold);
-        if let Some(entry) = memo.probe(node.as_position(), node.eval(), below) {
+        self.push();
+        self.top.play_on(current, alpha, beta);
+        let depth = self.top.depth;
+        let answer = memo.probe(self.top.node.as_position(), self.top.node.eval(), depth);
+        if let Some(entry) = answer {
             if is_cutoff(&entry, alpha, beta) {
-                self.top.take(current, &entry);
+                let _ = self.go_back(&entry);
                 return;
             }
         }
-        if below == 0 {
-            self.top.hear(current, leaf(&node));
-            return;
-        }
-        let hash_move = hash_move_of(node.as_position(), node.eval(), below, memo);
-        self.push();
-        self.top.enter(
-            &node,
-            below,
-            alpha,
-            beta,
-            hash_move,
-            looks_ahead(below, memo),
-        );
+        let (position, eval) = (self.top.node.as_position(), self.top.node.eval());
+        let hash_move = hash_move_of(position, eval, depth, memo);
+        let ahead = looks_ahead(depth, memo);
+        self.top.begin(hash_move, ahead);
     }
 
     /// The same; where a leaf is certain to have a legal move, its value is told without making it.
@@ -165,7 +200,11 @@ impl Stack {
                 return;
             }
         }
-        self.enter_child(current, memo)
+        if self.top.depth == 1 {
+            self.make_leaf(current, memo)
+        } else {
+            self.enter_child(current, memo)
+        }
     }
 
     /// Leaves the node on top, and gives what is known of the root where that was it.
@@ -192,11 +231,7 @@ impl Stack {
                 noted,
             );
         }
-        if self.pop() {
-            let Waiting::Asked(current) = self.top.waiting else {
-                unreachable!();
-            };
-            self.top.take(&current, &entry);
+        if self.go_back(&entry) {
             return None;
         }
         Some(answer)

@@ -1,18 +1,6 @@
-use Rattle.std.proofs.Common.{rules, false, true, arith, ◌-◌, ◌^◌}
-use Rattle.shogi_moves.proofs.EndLaws.{plain_ends, promoting_ends, nowhere}
-use Rattle.shogi_core.proofs.LineBits.{and_fits}
+use Rattle.std.proofs.Common.{rules, false, true, arith}
+use Rattle.shogi_moves.proofs.EndLaws.{among_bits, nowhere}
 use Rattle.shogi_moves.proofs.ends.board_ends.Goals as goal
-
-pub returns-clause-plain : goal.returns-clause-plain
-returns-clause-plain c = λ n h. plain_ends c.args.p.now c.args.capture c.args.from n c.targets.result c.ends_of_sort.result c.safe_ends-ends.result c.dead_squares.result c.validity.ensures.cells_fit (omega arith) h c.requires.own
-    (c.targets.ensures.bits n h) (c.ends_of_sort.ensures.bits n h) (c.safe_ends-ends.ensures.bits n h) c.dead_squares.ensures.fits (rw c.at-piece.ensures at (c.dead_squares.ensures.bits n h))
-
-pub returns-clause-promoting : goal.returns-clause-promoting
-returns-clause-promoting c = λ n h. promoting_ends c.args.p.now c.args.capture c.args.from n c.targets.result c.ends_of_sort.result c.safe_ends-ends.result c.promoting_squares.result c.validity.ensures.cells_fit (omega arith) h c.requires.own
-    (c.targets.ensures.bits n h) (c.ends_of_sort.ensures.bits n h) (c.safe_ends-ends.ensures.bits n h) (rw c.at-piece.ensures at (c.promoting_squares.ensures.bits n h))
-
-pub returns-clause-plain_fits : goal.returns-clause-plain_fits
-returns-clause-plain_fits c = and_fits c.safe_ends-ends.result (2 ^ 128 - 1 - c.dead_squares.result) c.safe_ends-ends.ensures.fits
 
 pub returns-then-among-eq0-clause-plain : goal.returns-then-among-eq0-clause-plain
 returns-then-among-eq0-clause-plain c = λ n h. nowhere c.args.p.now c.args.capture false c.args.from n c.targets.result c.ends_of_sort.result c.validity.ensures.cells_fit (omega arith) h c.requires.own
@@ -21,3 +9,6 @@ returns-then-among-eq0-clause-plain c = λ n h. nowhere c.args.p.now c.args.capt
 pub returns-then-among-eq0-clause-promoting : goal.returns-then-among-eq0-clause-promoting
 returns-then-among-eq0-clause-promoting c = λ n h. nowhere c.args.p.now c.args.capture true c.args.from n c.targets.result c.ends_of_sort.result c.validity.ensures.cells_fit (omega arith) h c.requires.own
     (c.targets.ensures.bits n h) (c.ends_of_sort.ensures.bits n h) (search rules)
+
+pub ends_among-requires-clause-among : goal.ends_among-requires-clause-among
+ends_among-requires-clause-among c = λ n h. among_bits c.targets.result c.ends_of_sort.result n _ _ (c.targets.ensures.bits n h) (c.ends_of_sort.ensures.bits n h)
