@@ -8,6 +8,7 @@ pub mod pv_lines;
 mod requests;
 pub mod rows;
 pub mod scripts;
+pub mod tables;
 #[cfg(test)]
 mod tests;
 
