@@ -1,11 +1,14 @@
 //! The best moves of a position, for analysis with several lines.
 
-ghost use Rattle.std.specs.Prelude.{◌≡◌, ℕ, ℤ, ◌≤◌, List, [], ◌∷◌, ◌++◌, length, take, insert, true, false};
+ghost use Rattle.std.specs.Prelude.{◌≡◌, ℕ, ℤ, ◌≤◌, ◌≤ℤ◌, ◌<ℤ◌, List, [], ◌∷◌, ◌++◌, length, take, insert, true, false};
 ghost use Rattle.shogi_core.specs.Codes.{code_of};
 ghost use Rattle.shogi_moves.specs.Rising.{is_in};
-ghost use Rattle.shogi_search.specs.Ranked.{is_ahead, insert_pair, codes_in, are_ranked, IsTop, value_to_pass};
+ghost use Rattle.shogi_search.specs.Ranked.{is_ahead, insert_pair, codes_in, are_ranked, IsTop, value_to_pass, child_beta};
+ghost use Rattle.shogi_search.specs.Minimax.{negated};
+ghost use Rattle.shogi_search.specs.declared.bounds.TheConstants.{INFINITY};
 ghost use Rattle.shogi_search.specs.declared.ranks.TheConstants.{PV_LINES_MAX};
 
+use crate::bounds::INFINITY;
 use arrayvec::ArrayVec;
 use shogi_core::Move;
 use std::marker::Model;
@@ -91,6 +94,21 @@ impl Ranks {
     {
         let (_, value) = self.pairs.as_slice().get(self.lines - 1)?;
         Some(*value)
+    }
+
+    /// The bound below which the child of such a move is searched: from there on the move is not listed.
+    /// The end of the whole window where a line is free.
+    pub fn child_beta(&self) -> i32
+        requires least { negated INFINITY <ℤ child_beta self.now }
+        requires most { child_beta self.now ≤ℤ INFINITY }
+        ensures value { result ≡ child_beta self.now }
+        ensures open { negated INFINITY <ℤ result }
+        ensures end { result ≤ℤ INFINITY }
+    {
+        match self.threshold() {
+            Some(value) => -value,
+            None => INFINITY,
+        }
     }
 
     /// The best moves so far with their values.

@@ -21,7 +21,7 @@ use crate::state::HeldBestmove;
 use crate::text::{write_info, write_numbered_info};
 use shogi_core::Move;
 use shogi_moves::{apply, next_legal};
-use shogi_search::{Found, INFINITY, Memo, Ranks, Search};
+use shogi_search::{Found, Memo, Ranks, Search};
 use std::alloc::{AllocError, Allocator};
 use std::marker::Model;
 use usi_lines::Hold;
@@ -144,18 +144,6 @@ fn walk_on(walk: &mut PvWalk, search: &mut Search, found: &Found)
     search_along(walk, search);
 }
 
-/// The bound below which the next child is searched: from there on its move is not listed.
-fn child_beta(ranks: &Ranks) -> i32
-    requires open { negated INFINITY <ℤ child_beta ranks.now }
-    requires most { child_beta ranks.now ≤ℤ INFINITY }
-    ensures { result ≡ child_beta ranks.now }
-{
-    match ranks.threshold() {
-        Some(value) => -value,
-        None => INFINITY,
-    }
-}
-
 /// The search of a child, once all legal moves before its own are ranked.
 fn child_search(question: &Question, told: u8, child: Move, ranks: &Ranks) -> Search
     requires asked { IsAsked question.now }
@@ -166,7 +154,7 @@ fn child_search(question: &Question, told: u8, child: Move, ranks: &Ranks) -> Se
     child.validity();
     question.position.validity();
     let next = apply(&question.position, child);
-    Search::start_below(&next, question.eval, told, child_beta(ranks))
+    Search::start_below(&next, question.eval, told, ranks.child_beta())
 }
 
 /// Ranks a move by what the search of its child found. A value that is not below the bound ranks it
@@ -181,7 +169,7 @@ fn rank(question: &Question, told: u8, child: Move, found: &Found, ranks: &mut R
 {
     child.validity();
     question.position.validity();
-    if found.value < child_beta(ranks) {
+    if found.value < ranks.child_beta() {
         ranks.offer(child, -found.value);
     }
 }

@@ -1,16 +1,16 @@
 //! Lists of the best moves, worked by hand.
 
-ghost use Rattle.std.specs.Prelude.{◌≡◌, ◌≤◌, ◌<◌, ◌-◌, ◌≤ℤ◌, ◌<ℤ◌};
+ghost use Rattle.std.specs.Prelude.{◌≡◌, ◌≤◌, ◌<◌, ◌-◌};
 ghost use Rattle.shogi_core.specs.Codes.{code_of};
 ghost use Rattle.shogi_moves.specs.LegalMoves.{legal_codes};
 ghost use Rattle.shogi_moves.specs.Rising.{is_in};
-ghost use Rattle.shogi_search.specs.Minimax.{worth, negated};
-ghost use Rattle.shogi_search.specs.Ranked.{codes_in, IsTop, child_beta};
-ghost use Rattle.shogi_search.specs.declared.bounds.TheConstants.{SEARCH_DEPTH_MAX, INFINITY};
+ghost use Rattle.shogi_search.specs.Minimax.{worth};
+ghost use Rattle.shogi_search.specs.Ranked.{codes_in, IsTop};
+ghost use Rattle.shogi_search.specs.declared.bounds.TheConstants.{SEARCH_DEPTH_MAX};
 ghost use Rattle.shogi_search.specs.declared.ranks.TheConstants.{PV_LINES_MAX};
 
 use crate::tests::position;
-use crate::{INFINITY, NoMemo, PV_LINES_MAX, Ranks, search_below};
+use crate::{NoMemo, PV_LINES_MAX, Ranks, search_below};
 use shogi_core::{Color, Kind, Move, Position, Role};
 use shogi_eval::Eval;
 use shogi_moves::{apply, next_legal};
@@ -153,20 +153,6 @@ fn thresholds(rt: HostRuntime) {
     assert_thresholds(&rt, 8, &offers, &[-60, -50]);
 }
 
-// The end of the window of the next child: one that is worth so much to the other side is not listed.
-fn child_beta(ranks: &Ranks) -> i32
-    requires least { negated INFINITY <ℤ child_beta ranks.now }
-    requires most { child_beta ranks.now ≤ℤ INFINITY }
-    ensures value { result ≡ child_beta ranks.now }
-    ensures open { negated INFINITY <ℤ result }
-    ensures end { result ≤ℤ INFINITY }
-{
-    match ranks.threshold() {
-        Some(value) => -value,
-        None => INFINITY,
-    }
-}
-
 // The best lines of a position, each move searched one ply less deep, and no deeper into its window
 // than its place in the list needs: the first of the legal moves as they are ranked.
 fn best_lines(p: &Position, e: Eval, depth: u8, lines: usize) -> Ranks
@@ -181,7 +167,7 @@ fn best_lines(p: &Position, e: Eval, depth: u8, lines: usize) -> Ranks
     let mut passed: Option<Move> = None;
     'moves: while let Some(m) = next_legal(p, passed) {
         let (visited, offered) = (m, m);
-        let beta = child_beta(&ranks);
+        let beta = ranks.child_beta();
         let found = search_below(&apply(p, m), e, depth - 1, beta, &mut NoMemo);
         if found.value < beta {
             ranks.offer(offered, -found.value);

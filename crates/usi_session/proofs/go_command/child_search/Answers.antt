@@ -7,8 +7,8 @@ use Rattle.shogi_search.specs.declared.bounds.TheConstants.{INFINITY}
 use Rattle.usi_session.proofs.GoOn.{child_window, child_legal}
 use Rattle.usi_session.proofs.go_command.child_search.Goals as goal
 
-pub child_beta-requires-clause-open : goal.child_beta-requires-clause-open
-child_beta-requires-clause-open c = (child_window c.args.question.now c.args.told c.args.child c.args.ranks.now c.validity-2.ensures c.requires.asked c.requires.more c.requires.ranked).0
+pub child_beta-requires-clause-least : goal.child_beta-requires-clause-least
+child_beta-requires-clause-least c = (child_window c.args.question.now c.args.told c.args.child c.args.ranks.now c.validity-2.ensures c.requires.asked c.requires.more c.requires.ranked).0
 
 pub child_beta-requires-clause-most : goal.child_beta-requires-clause-most
 child_beta-requires-clause-most c = (child_window c.args.question.now c.args.told c.args.child c.args.ranks.now c.validity-2.ensures c.requires.asked c.requires.more c.requires.ranked).1
@@ -22,7 +22,7 @@ start_below-requires-clause-open c =
     let low : negated INFINITY <ℤ child_beta c.args.ranks.now = w.0 in
     let high : child_beta c.args.ranks.now ≤ℤ INFINITY = w.1 in
     let f : FitsSigned w32 c.child_beta.result = search rules in
-    omega (arith, ints, c.child_beta.ensures, to_z-of_z _ _ f)
+    omega (arith, ints, c.child_beta.ensures.value, to_z-of_z _ _ f)
 
 pub start_below-requires-clause-most : goal.start_below-requires-clause-most
 start_below-requires-clause-most c =
@@ -30,4 +30,4 @@ start_below-requires-clause-most c =
     let low : negated INFINITY <ℤ child_beta c.args.ranks.now = w.0 in
     let high : child_beta c.args.ranks.now ≤ℤ INFINITY = w.1 in
     let f : FitsSigned w32 c.child_beta.result = search rules in
-    omega (arith, ints, c.child_beta.ensures, to_z-of_z _ _ f)
+    omega (arith, ints, c.child_beta.ensures.value, to_z-of_z _ _ f)

@@ -10,8 +10,8 @@ use Rattle.shogi_search.proofs.RankedUse.{gone_fresh, gone_on, gone_unlisted}
 use Rattle.usi_session.proofs.GoOn.{child_window}
 use Rattle.usi_session.proofs.go_command.rank.Goals as goal
 
-pub child_beta-requires-clause-open : goal.child_beta-requires-clause-open
-child_beta-requires-clause-open c = (child_window c.args.question.now c.args.told c.args.child c.args.ranks.now c.validity-2.ensures c.requires.asked c.requires.more c.requires.ranked).0
+pub child_beta-requires-clause-least : goal.child_beta-requires-clause-least
+child_beta-requires-clause-least c = (child_window c.args.question.now c.args.told c.args.child c.args.ranks.now c.validity-2.ensures c.requires.asked c.requires.more c.requires.ranked).0
 
 pub child_beta-requires-clause-most : goal.child_beta-requires-clause-most
 child_beta-requires-clause-most c = (child_window c.args.question.now c.args.told c.args.child c.args.ranks.now c.validity-2.ensures c.requires.asked c.requires.more c.requires.ranked).1
