@@ -5,7 +5,8 @@ use host_core::{Event, Outcome};
 use std::alloc::Global;
 use std::process::Abort;
 use std::test::Fail;
-use test_support::rows::{LONG, Row, joined};
+use test_support::rows::{Row, joined};
+use test_support::tables::long;
 
 fn assert_written(rt: &impl Abort, written: &[u8], answer: &str) -> Result<(), Fail> {
     assert!(rt; answer.len() > 1000);
@@ -28,7 +29,7 @@ fn assert_host(rt: &impl Abort, alloc: Global, row: &Row) -> Result<(), Fail> {
 
 #[test]
 fn long_answers(rt: HostRuntime) -> Result<(), Fail> {
-    for row in LONG {
+    for row in long() {
         assert_host(&rt, rt.alloc(), &row)?;
     }
     Ok(())

@@ -6,8 +6,10 @@ use session_slots::SessionId;
 use std::alloc::Global;
 use std::process::Abort;
 use std::test::Fail;
-use test_support::pv_lines::{DEEP, MORE_LINES_THAN_MOVES, QUICK, THREE_OF_A_MATE, TWO_PLIES};
 use test_support::rows::{Row, joined};
+use test_support::tables::{
+    deep_with_lines, more_lines_than_moves, quick_with_lines, three_of_a_mate, two_plies,
+};
 
 // More rounds than the searches take.
 const ROUNDS: u64 = 200_000;
@@ -63,7 +65,7 @@ fn assert_rounds(
 #[test]
 fn sessions_with_lines_of_their_own(rt: HostRuntime) -> Result<(), Fail> {
     for (entries, budget) in [(1, 1), (4096, 1), (4096, 97), (64, 1000)] {
-        assert_rounds(&rt, rt.alloc(), &QUICK, entries, budget)?;
+        assert_rounds(&rt, rt.alloc(), quick_with_lines(), entries, budget)?;
     }
     Ok(())
 }
@@ -72,7 +74,7 @@ fn sessions_with_lines_of_their_own(rt: HostRuntime) -> Result<(), Fail> {
 #[test]
 fn deep_searches_over_one_table(rt: HostRuntime) -> Result<(), Fail> {
     for (entries, budget) in [(1, 1000), (4096, 7), (4096, 1000)] {
-        assert_rounds(&rt, rt.alloc(), &DEEP, entries, budget)?;
+        assert_rounds(&rt, rt.alloc(), &deep_with_lines(), entries, budget)?;
     }
     Ok(())
 }
@@ -86,11 +88,11 @@ fn a_new_session_has_one_line(rt: HostRuntime) -> Result<(), Fail> {
         answer: &["info depth 1 score cp 0 pv 1g1f\nbestmove 1g1f\n"],
     };
     for row in [
-        TWO_PLIES,
+        two_plies(),
         one_line,
-        MORE_LINES_THAN_MOVES,
+        more_lines_than_moves(),
         one_line,
-        THREE_OF_A_MATE,
+        three_of_a_mate(),
         one_line,
     ] {
         let id = host.opened()?;

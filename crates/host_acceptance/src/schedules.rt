@@ -9,8 +9,8 @@ use shogi_search::NoMemo;
 use std::alloc::Global;
 use std::process::Abort;
 use std::test::Fail;
-use test_support::pv_lines;
-use test_support::rows::{DEEP, QUICK, Row, joined};
+use test_support::rows::{Row, joined};
+use test_support::tables::{deep, quick, quick_with_lines};
 use usi_session::Session;
 
 /// Numbers that follow from a seed (a linear congruence modulo 2^64).
@@ -44,12 +44,11 @@ struct Client {
 
 /// The row of a number: mostly short searches, some deep ones, some with several lines.
 fn row_of(number: u64) -> Row {
-    let (quick, deep, several) = (QUICK, DEEP, pv_lines::QUICK);
     let place = number as usize;
     match number % 5 {
-        0 => deep[place % 8],
-        1 => several[place % 26],
-        _ => quick[place % 45],
+        0 => deep()[place % 8],
+        1 => quick_with_lines()[place % 26],
+        _ => quick()[place % 45],
     }
 }
 
