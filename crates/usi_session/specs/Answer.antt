@@ -21,7 +21,7 @@ pub record Answer : Type 0 where
   pub state : State
   pub bytes : List ℕ
 
--- these bytes, and this state
+-- the answer of these bytes, with this state after it
 abbrev pub answer_with : State → List ℕ → Answer
 answer_with state bytes = record { state = state; bytes = bytes }
 
