@@ -61,7 +61,7 @@ diagonal = up_left ∷ up_right ∷ down_left ∷ down_right ∷ []
 abbrev pub forward : List Offset
 forward = up ∷ []
 
--- straight, or diagonally forward
+-- the steps of a gold: straight, or diagonally forward
 abbrev pub gold_steps : List Offset
 gold_steps = up ∷ up_left ∷ up_right ∷ left ∷ right ∷ down ∷ []
 
@@ -125,7 +125,7 @@ abbrev pub is_empty : Cells → Option ℕ → Bool
 is_empty cells (Some square) = is_none (piece_at cells square)
 is_empty cells None = false
 
--- the square k + 1 steps away is empty
+-- the square k + 1 steps away is empty; with k from 0 on these are the squares of a slide in order
 abbrev pub is_step_empty : Cells → Offset → ℕ → ℕ → Bool
 is_step_empty cells offset from k = is_empty cells (away (k + 1) offset from)
 
