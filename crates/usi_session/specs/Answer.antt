@@ -47,7 +47,7 @@ bestmove_at position eval depth until = record { best = move_to_play (pv positio
 abbrev pub held_line : HeldBestmove → List ℕ
 held_line held = bestmove_line held.best held.ponder
 
--- the info lines are written, and then the bestmove at once (`Nothing`: it is held for nothing), or it is held; one that was held before is dropped
+-- the info lines are written, and then the bestmove, at once where `Nothing` holds it; else it is held. One that was held before is dropped
 abbrev pub write_or_hold : State → List ℕ → HeldBestmove → Hold → Answer
 write_or_hold state infos held Nothing = answer_with (without_bestmove state) (infos ++ held_line held)
 write_or_hold state infos held UntilStop = answer_with (record state { held = Some held }) infos
