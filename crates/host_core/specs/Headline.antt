@@ -22,7 +22,7 @@ IsSettled (Some t) = is_pending t ≡ false
 abbrev pub FrontOfReplies : List Step → HostState → Type 0
 FrontOfReplies steps end = (id : SessionId) → is_opened id steps ≡ true → IsFrontOf (made id steps (queued_of (find end.slots id))) (replies (own id steps))
 
--- and all of them, where it is open at the end with nothing pending
+-- the bytes made for a session that the run opened are all of the replies to its own bytes, where it is open at the end with nothing pending
 abbrev pub AllReplies : List Step → HostState → Type 0
 AllReplies steps end = (id : SessionId) → is_opened id steps ≡ true → IsSettled (find end.slots id) → made id steps (queued_of (find end.slots id)) ≡ replies (own id steps)
 

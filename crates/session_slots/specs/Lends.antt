@@ -13,6 +13,6 @@ module _ (A : RattleType) (alloc : Ghosts A.Denot) (s : MutBor OpenSessions) (id
   abbrev pub lends_found : MutBor SessionView → Fml
   lends_found r = Lends (the_row A alloc) (session_row A alloc) s r (with_session s.now id)
 
-  -- the same where the session is open; else the slots stay as they are
+  -- where a session was lent, the id has it as it was left once the borrow ends; else the slots stay as they are
   abbrev pub lends_if_found : Option (MutBor SessionView) → Fml
   lends_if_found r = LendsIf (the_row A alloc) (session_row A alloc) s r (with_session s.now id) s.now

@@ -9,7 +9,7 @@ use Rattle.shogi_core.specs.declared.piece.Role.TheVariants.{King, Pawn, Lance, 
 use Rattle.shogi_core.specs.declared.piece.Piece.{Piece}
 use Rattle.shogi_core.specs.declared.offset.Offset.{Offset}
 
--- what stands on each square, by index, which goes file by file: 1a is 0, 1b is 1, 2a is 9
+-- a board: for each square its cell, which is what stands there, by the square's index, which goes file by file: 1a is 0, 1b is 1, 2a is 9
 abbrev pub Cells : Type 0
 Cells = List (Option Piece)
 
@@ -61,11 +61,11 @@ diagonal = up_left ∷ up_right ∷ down_left ∷ down_right ∷ []
 abbrev pub forward : List Offset
 forward = up ∷ []
 
--- straight, or diagonally forward
+-- the steps of a gold: straight, or diagonally forward
 abbrev pub gold_steps : List Offset
 gold_steps = up ∷ up_left ∷ up_right ∷ left ∷ right ∷ down ∷ []
 
--- steps and jumps
+-- the steps and jumps of a role
 abbrev pub steps_of : Role → List Offset
 steps_of King = straight ++ diagonal
 steps_of Pawn = forward
@@ -82,7 +82,7 @@ steps_of PromotedSilver = gold_steps
 steps_of Horse = straight
 steps_of Dragon = diagonal
 
--- directions in which it slides
+-- the directions in which a role slides, each as a step of one square
 abbrev pub slides_of : Role → List Offset
 slides_of Lance = forward
 slides_of Bishop = diagonal
@@ -103,7 +103,7 @@ abbrev pub for_side : Color → Offset → Offset
 for_side Black offset = offset
 for_side White offset = offset_by offset.file (pos 0 -ℤ offset.rank)
 
--- where n steps by the offset lead from a square
+-- the square n steps by the offset from a square, if it is on the board
 unfoldable pub away : ℕ → Offset → ℕ → Option ℕ
 away n offset from = square_at (pos (from / 9) +ℤ pos n *ℤ offset.file) (pos (from % 9) +ℤ pos n *ℤ offset.rank)
 
@@ -125,15 +125,15 @@ abbrev pub is_empty : Cells → Option ℕ → Bool
 is_empty cells (Some square) = is_none (piece_at cells square)
 is_empty cells None = false
 
--- the square k + 1 steps away is empty
+-- the square k + 1 steps away is empty; with k from 0 on these are the squares of a slide in order
 abbrev pub is_step_empty : Cells → Offset → ℕ → ℕ → Bool
 is_step_empty cells offset from k = is_empty cells (away (k + 1) offset from)
 
--- n + 1 steps lead from the one square to the other, and the n squares between are empty
+-- a slide of n + 1 steps in the direction leads from the one square to the other, and the n squares between are empty
 abbrev pub slides_across : Cells → Offset → ℕ → ℕ → ℕ → Bool
 slides_across cells offset from to n = leads (n + 1) offset from to && all_below n (is_step_empty cells offset from)
 
--- the other square lies on a slide from the one, and each of the 0 to 7 squares between is empty
+-- a slide in the direction leads from the one square to the other, and each of the 0 to 7 squares between is empty, whatever stands on the two
 abbrev pub slides : Cells → Offset → ℕ → ℕ → Bool
 slides cells offset from to = some_below 8 (slides_across cells offset from to)
 
@@ -145,11 +145,11 @@ has_step piece from to = list_any (λ offset. leads 1 (for_side piece.color offs
 abbrev pub has_slide : Cells → Piece → ℕ → ℕ → Bool
 has_slide cells piece from to = list_any (λ offset. slides cells (for_side piece.color offset) from to) (slides_of piece.role)
 
--- a piece reaches a square by a step, a jump or a free slide
+-- what stands in a cell, if it stood on the one square, has a step, a jump or a free slide to the other
 abbrev pub cell_reaches : Cells → Option Piece → ℕ → ℕ → Bool
 cell_reaches cells None from to = false
 cell_reaches cells (Some piece) from to = has_step piece from to || has_slide cells piece from to
 
--- the piece on the one square has a step, a jump or a free slide to the other
+-- the piece on the one square has a step, a jump or a free slide to the other: it attacks that square, whoever stands there
 unfoldable pub reaches : Cells → ℕ → ℕ → Bool
 reaches cells from to = cell_reaches cells (piece_at cells from) from to

@@ -13,7 +13,7 @@ captures p None = false
 captures p (Some (Board from to promote)) = is_some (piece_at p.cells to)
 captures p (Some (Drop kind to)) = false
 
--- the same of the move of a code
+-- the code is that of a move that takes what stands on its target
 unfoldable pub is_capture : Shogi → ℕ → Bool
 is_capture p code = captures p (move_of code)
 

@@ -61,7 +61,7 @@ is_pseudo_legal_drop cells hands side kind to =
     && not (is_immobile to (dropped side kind))
     && not (is_pawn_kind kind && nat_lt 0 (pawns_on_file side (to / 9) cells))
 
--- the rules on one move, apart from checks
+-- the rules on one move, apart from checks and mates
 abbrev pub is_pseudo_legal : Shogi → Move → Bool
 is_pseudo_legal p (Board from to promote) = is_pseudo_legal_board_move p.cells p.side from to promote
 is_pseudo_legal p (Drop kind to) = is_pseudo_legal_drop p.cells p.hands p.side kind to

@@ -14,7 +14,7 @@ legal_from p first = filter (is_legal_code p) (codes_from first)
 abbrev pub legal_codes : Shogi → List ℕ
 legal_codes p = legal_from p 0
 
--- those above the code of a move, or all of them
+-- the codes of the legal moves above the code of a move, in their order; all of them where there is no move
 abbrev pub legal_above : Shogi → Option Move → List ℕ
 legal_above p None = legal_from p 0
 legal_above p (Some m) = legal_from p (code_of m + 1)

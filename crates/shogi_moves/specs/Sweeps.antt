@@ -36,7 +36,7 @@ pub record KeepsDrop (p : Shogi) (kind : Kind) (code ends : ℕ) : Type 0 where
   pub high : code ≤ FIRST_DROP + 81 + kind_number kind * 81
   pub drops : Keeps (is_wanted p false) (λ n. code_of (Drop kind n)) code ends
 
--- the same of what a sweep holds, with what is known of the position
+-- the ends still to come of the present piece or kind of a sweep, with what is known of the position
 pub record IsBoardSweep (p : Shogi) (capture : Bool) (s : BoardSweep) : Type 0 where
   pub guard : Guards p s.guard.checked s.guard.exposed
   pub ends : KeepsBoard p capture s.from s.code s.ends.plain s.ends.promoting

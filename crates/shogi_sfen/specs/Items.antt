@@ -12,12 +12,12 @@ abbrev pub RunFits : RankItem → Type 0
 RunFits (Empty n) = (1 ≤ n) × (n ≤ RANK_SQUARES)
 RunFits (Occupied piece) = Unit {0}
 
--- its squares
+-- the cells of an item
 abbrev pub item_cells : RankItem → Cells
 item_cells (Empty n) = replicate n None
 item_cells (Occupied piece) = Some piece ∷ []
 
--- its text: one digit, or the text of the piece
+-- the text of an item: one digit, or the text of the piece
 abbrev pub item_text : RankItem → List ℕ
 item_text (Empty n) = (n + ZERO) ∷ []
 item_text (Occupied piece) = piece_text piece

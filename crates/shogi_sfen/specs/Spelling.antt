@@ -16,7 +16,7 @@ use Rattle.shogi_sfen.specs.Letters.{letter_of, cased_for}
 use Rattle.shogi_sfen.specs.Items.{RunFits, item_cells, item_text}
 use Rattle.shogi_sfen.specs.Written.{rank_cells, side_text, or_hyphen}
 
--- a rank's text is that of items whose squares are its nine; empty squares may be cut into runs in any way
+-- a rank's text is that of items, as `3` or `+P`, whose cells are the rank's nine; empty squares may be cut into runs in any way
 pub record SpellsRank (text : List ℕ) (cells : Cells) : Type 0 where
   pub items : List RankItem
   pub each : AllByRecursion RunFits items
@@ -43,12 +43,12 @@ abbrev pub AreCountDigits : List ℕ → Type 0
 AreCountDigits [] = Unit {0}
 AreCountDigits (first ∷ others) = (list_all is_ascii_digit (first ∷ others) ≡ true) × (first ≢ ZERO)
 
--- one where no count is written, and else the number that the digits write
+-- the count that digits write: one where there are none, and else their number
 abbrev pub count_written : List ℕ → ℕ
 count_written [] = 1
 count_written (first ∷ others) = number_written (first ∷ others)
 
--- the count, and the letter of the kind
+-- the text of an item of hands: its digits, and the letter of its kind, in the case of its side
 abbrev pub hand_item_text : HandItem → List ℕ
 hand_item_text item = item.digits ++ cased_for item.color (letter_of item.kind) ∷ []
 
@@ -56,11 +56,11 @@ hand_item_text item = item.digits ++ cased_for item.color (letter_of item.kind) 
 abbrev pub is_hand_item_of : Color → Kind → HandItem → Bool
 is_hand_item_of color kind item = is_same_color item.color color && kind_number item.kind == kind_number kind
 
--- how many of a kind it gives a side
+-- how many of a kind an item gives a side
 abbrev pub count_given : Color → Kind → HandItem → ℕ
 count_given color kind item = cond (is_hand_item_of color kind item) (count_written item.digits) 0
 
--- hands' text is a hyphen for nothing, or that of items in any order, whose counts add up to what each side holds
+-- hands' text is a hyphen for nothing, or that of items in any order, whose counts add up to what each side holds; there are fourteen counts, one for each side and kind
 pub record SpellsHands (text : List ℕ) (hands : HandCounts) : Type 0 where
   pub places : length hands ≡ 14
   pub items : List HandItem

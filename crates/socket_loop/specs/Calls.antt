@@ -20,11 +20,11 @@ use Rattle.socket_loop.specs.Turns.{host_full}
 
 -- ---- one connection
 
--- its reads have not ended, it is not shut, and its session wants input
+-- the connection is one to read from: its reads have not ended, it is not shut, and its session wants input
 abbrev pub is_to_read : HostState → Connection → Bool
 is_to_read host connection = (not connection.has_ended && not connection.is_shut) && wants_input_of (find host.slots connection.link.id)
 
--- it is not shut, and something is queued for it
+-- the connection is one to write to: it is not shut, and something is queued for it
 abbrev pub is_to_write : HostState → Connection → Bool
 is_to_write host connection = not connection.is_shut && nat_lt 0 (length (queued_of (find host.slots connection.link.id)))
 

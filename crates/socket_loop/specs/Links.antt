@@ -18,7 +18,7 @@ abbrev pub IsApart : List Link → ℕ → Type 0
 IsApart [] number = ⊤
 IsApart (first ∷ rest) number = (first.number ≢ number) × IsApart rest number
 
--- one of these
+-- the link is one of these
 abbrev pub IsAmong : List Link → Link → Type 0
 IsAmong [] link = ⊥
 IsAmong (first ∷ rest) link = (link ≡ first) ⊎ IsAmong rest link
@@ -31,11 +31,11 @@ abbrev pub IsMarked : (Connection → Bool) → List Connection → ℕ → Type
 IsMarked mark [] number = ⊥
 IsMarked mark (first ∷ rest) number = ((first.link.number ≡ number) × (mark first ≡ true)) ⊎ IsMarked mark rest number
 
--- its reads have ended
+-- the reads of the connection have ended
 abbrev pub reads_ended : Connection → Bool
 reads_ended connection = connection.has_ended
 
--- it was shut
+-- the connection was shut
 abbrev pub was_shut : Connection → Bool
 was_shut connection = connection.is_shut
 

@@ -156,7 +156,7 @@ pub record Carried (marks : List Connection) (bound : ℕ) (old : Told) (before 
 
 -- ---- many connections
 
--- these steps of the host, with these connections, and with no other
+-- the steps of the host carry the bytes of each of these connections, and of no other
 pub record Carries (marks : List Connection) (bound : ℕ) (links : List Link) (old : Told) (before : HostState) (steps : List Step) (new : Told) (after : HostState) : Type 0 where
   pub chain : IsRun before steps after
   pub carried : (link : Link) → IsTied links link → Carried marks bound old before steps new after link

@@ -232,7 +232,7 @@ OneEndsOrShuts (x ∷ xs) (y ∷ ys) = EndsOrShuts x y ⊎ OneEndsOrShuts xs ys
 abbrev pub Stirs : Told → List Connection → Told → List Connection → Type 0
 Stirs old held new now = ((number : ℕ) × Transfers old new number) ⊎ OneEndsOrShuts held now
 
--- the same, where those that were shut are held no more
+-- a connection gave or took at least one byte, or ended, or was shut, where those that were shut are held no more
 pub record StirsHeld (old : Told) (held : List Connection) (new : Told) (now : List Connection) : Type 0 where
   pub last : List Connection
   pub links : links_of last ≡ links_of held

@@ -29,7 +29,7 @@ meaning_of (first ∷ second ∷ rest) =
     (cond (is_signed_name 45 first second rest) (Close second)
     (cond (is_name first && second == 32) (Send first rest) Bad))
 
--- the same of a line that is cut
+-- what a line of a script means; one that is too long is bad
 abbrev pub meaning : Line → ScriptLine
 meaning (Text text) = meaning_of text
 meaning TooLong = Bad
@@ -50,7 +50,7 @@ abbrev pub is_used : ℕ → List Opening → Bool
 is_used name [] = false
 is_used name (o ∷ os) = cond (is_under name o) true (is_used name os)
 
--- its session is open
+-- the session of a `+` line is open
 abbrev pub has_session : Opening → Bool
 has_session o = o.in_use && not o.refused
 
@@ -68,11 +68,11 @@ change name by (o ∷ os) = change_into (is_under name o) by o os (change name b
 abbrev pub new_opening : ℕ → ℕ → List Opening → Opening
 new_opening slots name os = record { name = name; in_use = true; refused = nat_le slots (count_by has_session os); text = [] }
 
--- its session is closed, and the name is free
+-- a `+` line whose session is closed, so that its name is free
 abbrev pub closed_opening : Opening → Opening
 closed_opening o = record o { in_use = false }
 
--- it is sent a text, and an LF
+-- a `+` line that is sent a text, and an LF
 abbrev pub sent_opening : List ℕ → Opening → Opening
 sent_opening text o = record o { text = o.text ++ (text ++ LINE_FEED ∷ []) }
 
@@ -84,7 +84,7 @@ openings_after slots (Close name) os = change name closed_opening os
 openings_after slots (Send name text) os = change name (sent_opening text) os
 openings_after slots Bad os = None
 
--- the same of a line that is cut
+-- the `+` lines after one line more of the script
 abbrev pub openings_after_line : ℕ → Line → List Opening → Option (List Opening)
 openings_after_line slots line os = openings_after slots (meaning line) os
 

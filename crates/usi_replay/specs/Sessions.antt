@@ -8,7 +8,7 @@ use Rattle.host_core.specs.Steps.{HostState, IsOpened, IsClosed}
 use Rattle.host_core.specs.Events.{Outcome, Opened, Refused}
 use Rattle.host_core.specs.declared.event.HostFault.TheVariants.{Full}
 
--- the same session, that owes the same
+-- there is no session in either, or one in both that owes the same
 abbrev pub OwesTheSame : Option SessionView → Option SessionView → Type 0
 OwesTheSame None None = Unit {0}
 OwesTheSame (Some s) (Some t) = (x : List ℕ) → due t x ≡ due s x

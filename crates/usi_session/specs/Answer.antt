@@ -21,7 +21,7 @@ pub record Answer : Type 0 where
   pub state : State
   pub bytes : List ℕ
 
--- these bytes, and this state
+-- the answer of these bytes, with this state after it
 abbrev pub answer_with : State → List ℕ → Answer
 answer_with state bytes = record { state = state; bytes = bytes }
 
@@ -29,7 +29,7 @@ answer_with state bytes = record { state = state; bytes = bytes }
 abbrev pub initial_state : State
 initial_state = record { position = start; options = default_options; held = None; is_over = false }
 
--- no bestmove is held any more
+-- the state, with no bestmove held any more
 abbrev pub without_bestmove : State → State
 without_bestmove state = record state { held = None }
 
@@ -47,7 +47,7 @@ bestmove_at position eval depth until = record { best = move_to_play (pv positio
 abbrev pub held_line : HeldBestmove → List ℕ
 held_line held = bestmove_line held.best held.ponder
 
--- the info lines are written, and then the bestmove at once, or it is held; one that was held before is dropped
+-- the info lines are written, and then the bestmove, at once where `Nothing` holds it; else it is held. One that was held before is dropped
 abbrev pub write_or_hold : State → List ℕ → HeldBestmove → Hold → Answer
 write_or_hold state infos held Nothing = answer_with (without_bestmove state) (infos ++ held_line held)
 write_or_hold state infos held UntilStop = answer_with (record state { held = Some held }) infos

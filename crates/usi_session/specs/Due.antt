@@ -35,7 +35,7 @@ state_due session further = state_from (rest_of_go_if session.state session.in_h
 abbrev pub load_ahead : State → Option InHand → List Line → ℕ
 load_ahead state in_hand ahead = load_of_if in_hand + costs_from (rest_of_go_if state in_hand).state ahead
 
--- the same for the lines that are there
+-- the load of a session: the steps that may still be made for the `go` in hand and for the unread lines
 abbrev pub load : SessionView → ℕ
 load session = load_ahead session.state session.in_hand (ahead session.input [])
 

@@ -19,11 +19,11 @@ pub record AreInRange (options : Options) : Type 0 where
 abbrev pub spin_name : List ℕ → List ℕ
 spin_name name = codes "option name " ++ (name ++ codes " type spin")
 
--- its range, to the end of the line
+-- the range of such an option, to the end of its line
 abbrev pub spin_range : ℕ → ℕ → List ℕ
 spin_range least most = (codes " min " ++ decimal least) ++ ((codes " max " ++ decimal most) ++ codes "\n")
 
--- the line that offers it
+-- the line that offers an option that is a number
 abbrev pub spin_line : List ℕ → ℕ → ℕ → ℕ → List ℕ
 spin_line name default least most = spin_name name ++ ((codes " default " ++ decimal default) ++ spin_range least most)
 

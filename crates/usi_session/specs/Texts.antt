@@ -56,7 +56,7 @@ valued_pv_text which depth value moves =
 abbrev pub info_text : ℕ → ℤ → List Move → List ℕ
 info_text depth value moves = valued_pv_text [] depth value moves
 
--- the same for the pv of this number among several
+-- a value and a pv at a depth, for the pv of this number among several
 abbrev pub numbered_info_text : ℕ → ℕ → ℤ → List Move → List ℕ
 numbered_info_text depth number value moves = valued_pv_text (codes " multipv " ++ decimal number) depth value moves
 

@@ -155,7 +155,7 @@ pub fn write_info<A: Allocator>(
     write_valued_pv(out, b"", b"", depth, value, moves)
 }
 
-/// The same for the pv of this number among several, from 1 (USI, info, multipv).
+/// A value and a pv at a depth, for the pv of this number among several, from 1 (USI, info, multipv).
 pub fn write_numbered_info<A: Allocator>(
     out: &mut Vec<u8, A>,
     depth: u8,
