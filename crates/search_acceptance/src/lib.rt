@@ -5,6 +5,8 @@
 #[cfg(test)]
 mod agreement;
 #[cfg(test)]
+mod below;
+#[cfg(test)]
 mod counts;
 #[cfg(test)]
 mod forgetful;
@@ -12,6 +14,8 @@ mod forgetful;
 mod games;
 #[cfg(test)]
 mod hash_moves;
+#[cfg(test)]
+mod lines;
 #[cfg(test)]
 mod oracle;
 #[cfg(test)]

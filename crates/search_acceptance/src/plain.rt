@@ -133,10 +133,10 @@ impl Notes {
 
 /// A legal move, where it leads, and when it is visited: 0 the hash move, 1 a capture, 2 a quiet move.
 #[derive(Clone, Copy, Debug)]
-struct Branch {
-    code: u16,
-    position: Position,
-    turn: u8,
+pub struct Branch {
+    pub code: u16,
+    pub position: Position,
+    pub turn: u8,
 }
 
 /// When a move is visited.
@@ -151,7 +151,7 @@ fn turn_of(p: &Position, m: &Move, hash_move: Option<u16>) -> u8 {
 }
 
 /// The legal moves by rising code.
-fn branches_of(
+pub fn branches_of(
     alloc: Global,
     p: &Position,
     hash_move: Option<u16>,
@@ -264,13 +264,28 @@ pub fn search_plainly(
     depth: u8,
     notes: &mut Notes,
 ) -> Result<Option<(i32, Option<u16>)>, AllocError> {
-    let mut entry = notes.ask(p, e, depth)?;
-    if !matches!(entry, Some(Known::Exact(_, _))) {
-        entry = Some(visit(alloc, p, e, depth, -INFINITY, INFINITY, notes)?);
-    }
+    search_plainly_below(alloc, p, e, depth, INFINITY, notes)
+}
+
+/// The same below a bound. A value that is no less than the bound is only known to be reached, and has
+/// no best move where the search was cut off.
+pub fn search_plainly_below(
+    alloc: Global,
+    p: &Position,
+    e: Eval,
+    depth: u8,
+    beta: i32,
+    notes: &mut Notes,
+) -> Result<Option<(i32, Option<u16>)>, AllocError> {
+    let known = notes.ask(p, e, depth)?;
+    let entry = match known {
+        Some(entry) if is_cutoff(&entry, -INFINITY, beta) => entry,
+        _ => visit(alloc, p, e, depth, -INFINITY, beta, notes)?,
+    };
     match entry {
-        Some(Known::Exact(value, best)) => Ok(Some((value, best))),
-        _ => Ok(None),
+        Known::Exact(value, best) => Ok(Some((value, best))),
+        Known::AtLeast(value) => Ok(Some((value, None))),
+        Known::AtMost(_) => Ok(None),
     }
 }
 

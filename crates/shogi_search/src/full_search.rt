@@ -16,8 +16,8 @@ use shogi_core::Position;
 use shogi_eval::Eval;
 
 /// The value of a position under an evaluation at a depth from 0 to 16, and its best move, where the
-/// value is below `beta`, from -30,999 to 31,000; a value from `beta` on that is not above the
-/// position's otherwise. A root of which the memo knows enough takes no step.
+/// value is less than `beta`, from -30,999 to 31,000. Otherwise a number from `beta` on that is no more
+/// than the value. A root of which the memo knows enough takes no step.
 pub fn search_below<M: Memo>(p: &Position, e: Eval, d: u8, beta: i32, memo: &mut M) -> Found
     requires shallow { d ≤ SEARCH_DEPTH_MAX }
     requires open { negated INFINITY <ℤ beta }

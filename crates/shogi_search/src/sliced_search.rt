@@ -74,8 +74,8 @@ impl Search {
         Search::start_below(p, e, d, INFINITY)
     }
 
-    /// The same, which finds the value and the best move only where the value is below `beta`, from
-    /// -30,999 to 31,000. Otherwise it finds a value from `beta` on that is not above the position's.
+    /// The same, which finds the value and the best move only where the value is less than `beta`, from
+    /// -30,999 to 31,000. Otherwise it finds a number from `beta` on that is no more than the value.
     pub fn start_below(p: &Position, e: Eval, d: u8, beta: i32) -> Self
         requires shallow { d ≤ SEARCH_DEPTH_MAX }
         requires open { negated INFINITY <ℤ beta }

@@ -1,0 +1,194 @@
+//! Searches below a bound: against plain minimax, the search written plainly, and themselves in slices.
+
+ghost use Rattle.std.specs.Prelude.{◌≤◌, ◌<ℤ◌, ◌≤ℤ◌};
+ghost use Rattle.shogi_search.specs.Minimax.{negated};
+ghost use Rattle.shogi_search.specs.declared.bounds.TheConstants.{SEARCH_DEPTH_MAX, INFINITY};
+
+use crate::forgetful::Forgetful;
+use crate::games;
+use crate::plain::{Notes, minimax, search_plainly_below};
+use crate::positions::{played, position};
+use crate::recorder::Recorder;
+use crate::tables::{TWO_PAWNS, table_of};
+use shogi_core::Position;
+use shogi_eval::Eval;
+use shogi_moves::perft;
+use shogi_search::{Found, INFINITY, Memo, NoMemo, Search, search, search_below};
+use std::alloc::Global;
+use std::process::Abort;
+use std::test::Fail;
+
+// Bounds at both ends, and far below, just below, at, just above and far above a value.
+fn bounds_of(value: i32) -> [i32; 7] {
+    [
+        -30999,
+        value.saturating_sub(250),
+        value.saturating_sub(1),
+        value,
+        value.saturating_add(1),
+        value.saturating_add(250),
+        31000,
+    ]
+}
+
+// Below the bound lies the value, and then it is found with the best move; or what is found is no less
+// than the bound and no more than the value.
+fn assert_below(rt: &impl Abort, found: &Found, plain: &Found, beta: i32) {
+    if plain.value < beta {
+        assert_eq!(rt; found.value, plain.value, "below {beta}");
+        assert!(rt; found.best == plain.best, "the best move below {beta}");
+    } else {
+        assert!(rt; beta <= found.value, "no less than {beta}");
+        assert!(rt; found.value <= plain.value, "no more than the value");
+        assert!(rt; found.best.is_none() || found.best == plain.best);
+    }
+    assert!(rt; found.steps <= plain.steps, "the steps below {beta}");
+}
+
+// The search below a bound, made a step at a time.
+fn in_steps<M: Memo>(p: &Position, e: Eval, depth: u8, beta: i32, memo: &mut M) -> Option<Found>
+    requires shallow { depth ≤ SEARCH_DEPTH_MAX }
+    requires open { negated INFINITY <ℤ beta }
+    requires most { beta ≤ℤ INFINITY }
+{
+    let mut search = Search::start_below(p, e, depth, beta);
+    for made in 0..1000000u64 {
+        let found = search.advance(memo, 1);
+        if let Some(found) = found {
+            if found.steps == search.steps() && found.steps >= made {
+                return Some(found);
+            }
+            return None;
+        }
+    }
+    None
+}
+
+// Over no memory, whole and in steps, over one that forgets, and over a table of its own. Over that
+// table the whole search then finds the value and the best move.
+fn assert_bound(
+    rt: &impl Abort,
+    alloc: Global,
+    p: &Position,
+    e: Eval,
+    depth: u8,
+    plain: &Found,
+    beta: i32,
+    memo: &mut Forgetful,
+) -> Result<(), Fail>
+    requires { depth ≤ SEARCH_DEPTH_MAX }
+{
+    assert!(rt; -INFINITY < beta && beta <= INFINITY);
+    let found = search_below(p, e, depth, beta, &mut NoMemo);
+    assert_below(rt, &found, plain, beta);
+    assert!(rt; in_steps(p, e, depth, beta, &mut NoMemo) == Some(found));
+    assert_below(rt, &search_below(p, e, depth, beta, memo), plain, beta);
+
+    let mut table = table_of(alloc, 1000)?;
+    let found = in_steps(p, e, depth, beta, &mut table).ok_or("an end")?;
+    assert_below(rt, &found, plain, beta);
+    let again = search_below(p, e, depth, beta, &mut table);
+    assert_below(rt, &again, plain, beta);
+    let whole = search(p, e, depth, &mut table);
+    assert!(rt; whole.value == plain.value && whole.best == plain.best);
+    Ok(())
+}
+
+// Below each bound around its value.
+fn assert_bounds(
+    rt: &impl Abort,
+    alloc: Global,
+    p: &Position,
+    e: Eval,
+    depth: u8,
+    memo: &mut Forgetful,
+) -> Result<(), Fail>
+    requires { depth ≤ SEARCH_DEPTH_MAX }
+{
+    let plain = minimax(p, e, depth);
+    for beta in bounds_of(plain.value) {
+        assert_bound(rt, alloc, p, e, depth, &plain, beta, memo)?;
+    }
+    Ok(())
+}
+
+// Each fifth position of a game, at depths 0 to 2, and at 3 where two plies have few paths.
+fn walk(rt: &impl Abort, alloc: Global, moves: &[&str]) -> Result<(), Fail> {
+    let mut memo = Forgetful::new();
+    let mut p = Position::start();
+    for (at, text) in moves.iter().enumerate() {
+        for depth in 0..4u8 {
+            if at % 5 == 0 && perft(&p, depth.saturating_sub(1)) <= Some(1500) {
+                for e in [Eval::Plain, Eval::Hand] {
+                    assert_bounds(rt, alloc, &p, e, depth, &mut memo)?;
+                }
+            }
+        }
+        p = played(rt, &p, text);
+    }
+    Ok(())
+}
+
+#[test]
+fn first_game_below(rt: HostRuntime) -> Result<(), Fail> {
+    walk(&rt, rt.alloc(), &games::FIRST)
+}
+
+#[test]
+fn second_game_below(rt: HostRuntime) -> Result<(), Fail> {
+    walk(&rt, rt.alloc(), &games::SECOND)
+}
+
+#[test]
+fn third_game_below(rt: HostRuntime) -> Result<(), Fail> {
+    walk(&rt, rt.alloc(), &games::THIRD)
+}
+
+// The search below each bound finds what the plain one finds below it, in as many steps and with as
+// many calls.
+fn assert_counts<M: Memo + Drop>(
+    rt: &impl Abort,
+    alloc: Global,
+    p: &Position,
+    depth: u8,
+    memo: M,
+    mut notes: Notes,
+) -> Result<(), Fail>
+    requires { depth ≤ SEARCH_DEPTH_MAX }
+{
+    let mut recorder = Recorder::new(alloc, memo);
+    let mut steps: u64 = 0;
+    for beta in [-30999, -100, -1, 0, 1, 200, 201, 31000] {
+        assert!(rt; -INFINITY < beta && beta <= INFINITY);
+        let found = search_below(p, Eval::Plain, depth, beta, &mut recorder);
+        steps = steps.saturating_add(found.steps);
+        let plain = search_plainly_below(alloc, p, Eval::Plain, depth, beta, &mut notes)?;
+        assert!(rt;
+            plain == Some((found.value, found.best.map(|m| m.code()))),
+            "below {beta}"
+        );
+        assert_eq!(rt; steps, notes.steps, "the steps below {beta}");
+        assert_eq!(rt;
+            recorder.calls().len(),
+            notes.calls,
+            "the calls below {beta}"
+        );
+    }
+    Ok(())
+}
+
+#[test]
+fn steps_below_a_bound(rt: HostRuntime) -> Result<(), Fail> {
+    for (p, depth) in [(Position::start(), 4u8), (position(TWO_PAWNS)?, 5)] {
+        assert!(rt; depth <= 16);
+        let notes = Notes::new(rt.alloc(), 0);
+        assert_counts(&rt, rt.alloc(), &p, depth, NoMemo, notes)?;
+        for capacity in [1, 30, 1000] {
+            assert!(rt; capacity >= 1 && capacity <= 1000000);
+            let table = table_of(rt.alloc(), capacity)?;
+            let notes = Notes::new(rt.alloc(), capacity);
+            assert_counts(&rt, rt.alloc(), &p, depth, table, notes)?;
+        }
+    }
+    Ok(())
+}

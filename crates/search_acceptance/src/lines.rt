@@ -1,0 +1,182 @@
+//! Lists of several lines, each child searched below the bound that its place in the list needs: against a
+//! plain ranking, and in how many steps.
+
+ghost use Rattle.std.specs.Prelude.{◌≡◌, ◌≤◌, ◌<◌};
+ghost use Rattle.shogi_core.specs.Codes.{code_of};
+ghost use Rattle.shogi_moves.specs.Rising.{is_in};
+ghost use Rattle.shogi_search.specs.Ranked.{codes_in};
+ghost use Rattle.shogi_search.specs.declared.bounds.TheConstants.{SEARCH_DEPTH_MAX};
+ghost use Rattle.shogi_search.specs.declared.ranks.TheConstants.{PV_LINES_MAX};
+
+use crate::games;
+use crate::plain::{Branch, Notes, branches_of, minimax, search_plainly_below};
+use crate::positions::{played, position};
+use crate::tables::table_of;
+use shogi_core::{Move, Position};
+use shogi_eval::Eval;
+use shogi_moves::perft;
+use shogi_search::{INFINITY, Memo, NoMemo, Ranks, search, search_below};
+use std::alloc::{AllocError, Global};
+use std::process::Abort;
+use std::test::Fail;
+
+// Whether the list has the move.
+fn has(pairs: &[(Move, i32)], m: &Move) -> bool
+    ensures { result ≡ is_in (code_of m.now) (codes_in pairs.now) }
+{
+    for pair in pairs {
+        if m.code() == pair.0.code() {
+            return true;
+        }
+    }
+    false
+}
+
+// The end of the window of the next child.
+fn child_beta(ranks: &Ranks) -> i32 {
+    match ranks.threshold() {
+        Some(value) => value.saturating_neg(),
+        None => INFINITY,
+    }
+}
+
+// Searches the position after a move below its bound, and lists the move where it is worth more than
+// the last line. Gives the bound and the steps.
+fn take_in<M: Memo>(
+    rt: &impl Abort,
+    ranks: &mut Ranks,
+    branch: &Branch,
+    e: Eval,
+    depth: u8,
+    memo: &mut M,
+) -> (i32, u64)
+    requires { depth ≤ SEARCH_DEPTH_MAX }
+{
+    let beta = child_beta(ranks);
+    assert!(rt; -INFINITY < beta && beta <= INFINITY);
+    let found = search_below(&branch.position, e, depth, beta, memo);
+    if found.value < beta {
+        let m = Move::of_code(branch.code).expect(rt, "a move");
+        assert!(rt; !has(ranks.list(), &m), "a move that is not listed");
+        ranks.offer(m, found.value.saturating_neg());
+    }
+    (beta, found.steps)
+}
+
+// A move of the code and the worth stands on the line: so many other moves are worth more, or as much
+// and have a lesser code.
+fn assert_line(rt: &impl Abort, worths: &[(u16, i32)], line: usize, listed: (u16, i32)) {
+    let mut ahead: usize = 0;
+    let mut is_worth = false;
+    for (code, worth) in worths {
+        if *worth > listed.1 || (*worth == listed.1 && *code < listed.0) {
+            ahead = ahead.saturating_add(1);
+        }
+        if *code == listed.0 {
+            is_worth = *worth == listed.1;
+        }
+    }
+    assert!(rt; is_worth, "the worth on line {line}");
+    assert_eq!(rt; ahead, line, "the moves before line {line}");
+}
+
+// The list of a position at a depth has the first of its moves, ranked by plain minimax.
+fn assert_ranked<M: Memo>(
+    rt: &impl Abort,
+    alloc: Global,
+    p: &Position,
+    depth: u8,
+    lines: usize,
+    memo: &mut M,
+) -> Result<(), Fail>
+    requires shallow { depth ≤ SEARCH_DEPTH_MAX }
+    requires least { 1 ≤ lines }
+    requires most { lines ≤ PV_LINES_MAX }
+{
+    let mut ranks = Ranks::new(lines);
+    let mut worths = Vec::new(alloc);
+    for branch in branches_of(alloc, p, None)?.as_slice() {
+        take_in(rt, &mut ranks, branch, Eval::Plain, depth, memo);
+        let plain = minimax(&branch.position, Eval::Plain, depth);
+        worths.push((branch.code, plain.value.saturating_neg()))?;
+    }
+    assert_eq!(rt; ranks.list().len(), worths.len().min(lines));
+    for (line, (m, value)) in ranks.list().iter().enumerate() {
+        assert_line(rt, worths.as_slice(), line, (m.code(), *value));
+    }
+    Ok(())
+}
+
+// Each tenth position of a game, at depths 1 and 2, and at 3 where two plies have few paths.
+fn walk(rt: &impl Abort, alloc: Global, moves: &[&str]) -> Result<(), Fail> {
+    let mut table = table_of(alloc, 1000)?;
+    let mut p = Position::start();
+    for (at, text) in moves.iter().enumerate() {
+        for below in 0..3u8 {
+            if at % 10 == 0 && perft(&p, below) <= Some(1000) {
+                for lines in [1usize, 2, 4, 8] {
+                    assert_ranked(rt, alloc, &p, below, lines, &mut NoMemo)?;
+                    assert_ranked(rt, alloc, &p, below, lines, &mut table)?;
+                }
+            }
+        }
+        p = played(rt, &p, text);
+    }
+    Ok(())
+}
+
+#[test]
+fn lines_of_the_first_game(rt: HostRuntime) -> Result<(), Fail> {
+    walk(&rt, rt.alloc(), &games::FIRST)
+}
+
+#[test]
+fn lines_of_the_second_game(rt: HostRuntime) -> Result<(), Fail> {
+    walk(&rt, rt.alloc(), &games::SECOND)
+}
+
+// The children of a position take the steps of the plain search below the same bounds, and fewer than
+// whole searches.
+fn assert_steps(
+    rt: &impl Abort,
+    alloc: Global,
+    p: &Position,
+    depth: u8,
+    lines: usize,
+) -> Result<(), Fail>
+    requires shallow { depth ≤ SEARCH_DEPTH_MAX }
+    requires least { 1 ≤ lines }
+    requires most { lines ≤ PV_LINES_MAX }
+{
+    let mut ranks = Ranks::new(lines);
+    let mut notes = Notes::new(alloc, 0);
+    let (mut steps, mut whole): (u64, u64) = (0, 0);
+    for branch in branches_of(alloc, p, None)?.as_slice() {
+        let (beta, made) = take_in(rt, &mut ranks, branch, Eval::Plain, depth, &mut NoMemo);
+        steps = steps.saturating_add(made);
+        search_plainly_below(
+            alloc,
+            &branch.position,
+            Eval::Plain,
+            depth,
+            beta,
+            &mut notes,
+        )?;
+        let found = search(&branch.position, Eval::Plain, depth, &mut NoMemo);
+        whole = whole.saturating_add(found.steps);
+    }
+    assert_eq!(rt; steps, notes.steps, "the steps of {lines} lines");
+    assert!(rt; steps < whole, "{steps} steps of {whole}");
+    Ok(())
+}
+
+// The opening position at depth 4, and a middle game at depth 3.
+#[test]
+fn steps_of_several_lines(rt: HostRuntime) -> Result<(), Fail> {
+    let sfen = "l6nl/5+P1gk/2np1S3/p1p4Pp/3P2Sp1/1PPb2P1P/P5GS1/R8/LN4bKL w RGgsn5p";
+    for lines in [1usize, 2, 4, 8] {
+        assert_steps(&rt, rt.alloc(), &Position::start(), 3, lines)?;
+        assert_steps(&rt, rt.alloc(), &position(sfen)?, 2, lines)?;
+    }
+    Ok(())
+}
