@@ -112,13 +112,13 @@ fn assert_bounds(
     Ok(())
 }
 
-// Each fifth position of a game, at depths 0 to 2, and at 3 where two plies have few paths.
+// Each twentieth position of a game, at depths 0 to 2, and at 3 where two plies have few paths.
 fn walk(rt: &impl Abort, alloc: Global, moves: &[&str]) -> Result<(), Fail> {
     let mut memo = Forgetful::new();
     let mut p = Position::start();
     for (at, text) in moves.iter().enumerate() {
         for depth in 0..4u8 {
-            if at % 5 == 0 && perft(&p, depth.saturating_sub(1)) <= Some(1500) {
+            if at % 20 == 0 && perft(&p, depth.saturating_sub(1)) <= Some(1000) {
                 for e in [Eval::Plain, Eval::Hand] {
                     assert_bounds(rt, alloc, &p, e, depth, &mut memo)?;
                 }
@@ -158,7 +158,7 @@ fn assert_counts<M: Memo + Drop>(
 {
     let mut recorder = Recorder::new(alloc, memo);
     let mut steps: u64 = 0;
-    for beta in [-30999, -100, -1, 0, 1, 200, 201, 31000] {
+    for beta in [-30999, 0, 1, 200] {
         assert!(rt; -INFINITY < beta && beta <= INFINITY);
         let found = search_below(p, Eval::Plain, depth, beta, &mut recorder);
         steps = steps.saturating_add(found.steps);

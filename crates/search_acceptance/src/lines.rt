@@ -107,13 +107,13 @@ fn assert_ranked<M: Memo>(
     Ok(())
 }
 
-// Each tenth position of a game, at depths 1 and 2, and at 3 where two plies have few paths.
+// Each twentieth position of a game, at depths 1 and 2, and at 3 where two plies have few paths.
 fn walk(rt: &impl Abort, alloc: Global, moves: &[&str]) -> Result<(), Fail> {
     let mut table = table_of(alloc, 1000)?;
     let mut p = Position::start();
     for (at, text) in moves.iter().enumerate() {
         for below in 0..3u8 {
-            if at % 10 == 0 && perft(&p, below) <= Some(1000) {
+            if at % 20 == 0 && perft(&p, below) <= Some(1000) {
                 for lines in [1usize, 2, 4, 8] {
                     assert_ranked(rt, alloc, &p, below, lines, &mut NoMemo)?;
                     assert_ranked(rt, alloc, &p, below, lines, &mut table)?;
