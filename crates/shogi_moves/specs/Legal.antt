@@ -19,6 +19,8 @@ use Rattle.shogi_core.specs.Cell.{is_piece_of, is_immobile}
 use Rattle.shogi_core.specs.Validity.{pawns_on_file}
 use Rattle.shogi_moves.specs.After.{after, piece_moved, dropped}
 
+-- A `Kind` is a piece as it lies in hand, and a `Role` what stands on the board, promoted or not. A move is `Board from to promote` or `Drop kind to`.
+
 -- a role that can promote
 abbrev pub is_promotable : Role → Bool
 is_promotable Pawn = true

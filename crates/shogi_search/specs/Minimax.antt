@@ -13,6 +13,8 @@ use Rattle.shogi_search.specs.declared.memo.Entry.{Entry}
 use Rattle.shogi_search.specs.declared.memo.Entry.TheVariants.{Exact, AtLeast, AtMost}
 use Rattle.shogi_search.specs.declared.bounds.TheConstants.{MATE}
 
+-- Here e is an evaluation, d a number of plies that are left, and a code the number of a move. A step of a search enters a node or leaves it.
+
 -- a value as the other side sees it
 abbrev pub negated : ℤ → ℤ
 negated v = pos 0 -ℤ v

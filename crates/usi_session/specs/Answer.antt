@@ -16,6 +16,8 @@ use Rattle.usi_session.specs.PositionCommand.{position_of_startpos, position_of_
 use Rattle.usi_session.specs.GoCommand.{move_to_play, move_to_ponder, go_infos}
 use Rattle.usi_session.specs.Texts.{usi_reply, ready_reply, mate_not_implemented_reply, bad_position_line, illegal_move_line, bestmove_line}
 
+-- A bestmove is held until nothing, until `stop`, or until `ponderhit` (`UntilHit`). `Other` is a line that is no command, and `rest` what follows the first words of a `position` line.
+
 -- what is written, and the state after it
 pub record Answer : Type 0 where
   pub state : State
