@@ -1,6 +1,6 @@
 -- What one session answers to an event of its own: its own calls, with their refusals in order (own choice).
 use Rattle.std.specs.Prelude.{◌≡◌, ℕ, ◌+◌, ◌≤◌, ◌<◌, List, ◌++◌, length, take, drop, true, false}
-use Rattle.usi_session.specs.Due.{SessionView, due, load, is_pending, wants_input, IsSearching}
+use Rattle.usi_session.specs.Due.{SessionView, due, load, is_pending, wants_input, IsMidSearch}
 use Rattle.host_core.specs.declared.event.HostFault.TheVariants.{OutOfMemory, NotReady}
 use Rattle.host_core.specs.Events.{Outcome, Done, Worked, Gave, Refused}
 use Rattle.usi_session.specs.declared.limits.TheConstants.{CHUNK_MAX}
@@ -15,14 +15,14 @@ pub record Fed (old : SessionView) (chunk : List ℕ) (new : SessionView) : Type
   pub owed : (x : List ℕ) → due new x ≡ due old (chunk ++ x)
   pub queued_is : new.queued ≡ old.queued
   pub state_is : new.state ≡ old.state
-  pub in_hand_is : new.in_hand ≡ old.in_hand
+  pub running_go_is : new.running_go ≡ old.running_go
 
 -- it went on by so many steps, and owes what it owed; where something is still pending, the budget is spent within a search
 pub record WorkedOn (old : SessionView) (budget steps : ℕ) (new : SessionView) : Type 0 where
   pub owed : (x : List ℕ) → due new x ≡ due old x
   pub most : steps ≤ budget
   pub made : steps + load new ≤ load old
-  pub spent : is_pending new ≡ true → (steps ≡ budget) × IsSearching new.in_hand
+  pub spent : is_pending new ≡ true → (steps ≡ budget) × IsMidSearch new.running_go
   pub enough : load old ≤ budget → is_pending new ≡ false
   pub idle : is_pending old ≡ false → (steps ≡ 0) × (new ≡ old)
 
@@ -39,7 +39,7 @@ pub record Taken (old : SessionView) (n : ℕ) (bytes : List ℕ) (new : Session
   pub owed : (x : List ℕ) → due old x ≡ take n old.queued ++ due new x
   pub queued_is : new.queued ≡ drop n old.queued
   pub state_is : new.state ≡ old.state
-  pub in_hand_is : new.in_hand ≡ old.in_hand
+  pub running_go_is : new.running_go ≡ old.running_go
   pub input_is : new.input ≡ old.input
 
 abbrev pub Feeds : List ℕ → SessionView → Outcome → SessionView → Type 0

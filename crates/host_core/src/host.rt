@@ -154,7 +154,7 @@ impl<S: BuildHasher, A: Allocator + Copy> Host<S, A> {
         }
     }
 
-    /// Whether the session has something pending: a `go` in hand or an unread line, and it has not
+    /// Whether the session has something pending: a running `go` or an unread line, and it has not
     /// ended. No where none is open under the id.
     pub fn pending(&self, id: SessionId) -> bool
         ensures { result ≡ pending_of (find self.now.slots id) }

@@ -11,10 +11,10 @@ use std::test::Fail;
 use test_support::rows::{CUT, INFO_AND_BEST_ONE, Row, SLICED, joined};
 use usi_session::Session;
 
-// Room for the search in hand, which is the largest block, and for what is read and queued.
+// Room for the current search, which is the largest block, and for what is read and queued.
 const HEAP: usize = 65_536;
 
-// Memory for two sessions with a search in hand each, and for the table.
+// Memory for two sessions with a search under way each, and for the table.
 const HOST_HEAP: usize = 131_072;
 
 type HeapHost<'a> = Host<BuildHasherDefault<FoldHasher>, &'a LocalHeap>;
@@ -78,7 +78,7 @@ fn assert_goes_on(
     Ok(Some(Refused { feed, work }))
 }
 
-// From no memory on: the feed is refused, then the search in hand, then one reply after another, then
+// From no memory on: the feed is refused, then the current search, then one reply after another, then
 // nothing.
 #[test]
 fn a_session_goes_on_after_a_refusal(rt: HostRuntime) -> Result<(), Fail> {

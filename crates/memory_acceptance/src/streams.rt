@@ -13,7 +13,7 @@ use usi_stdio::{StdioFault, stdio};
 const REQUESTS: u64 = 10_000;
 
 // Heaps of growing sizes, from nothing on: out of memory with a front of the answer, or all of it. The
-// largest block is the search in hand, and the small ones come before and after it.
+// largest block is the current search, and the small ones come before and after it.
 fn assert_refusals(
     rt: &impl Abort,
     alloc: Global,

@@ -6,7 +6,7 @@ ghost use Rattle.shogi_core.specs.Codes.{code_of};
 ghost use Rattle.shogi_moves.specs.Rising.{is_in};
 ghost use Rattle.shogi_search.specs.Ranked.{codes_in};
 ghost use Rattle.shogi_search.specs.declared.bounds.TheConstants.{SEARCH_DEPTH_MAX};
-ghost use Rattle.shogi_search.specs.declared.ranks.TheConstants.{PV_LINES_MAX};
+ghost use Rattle.shogi_search.specs.declared.ranks.TheConstants.{MULTI_PV_MAX};
 
 use crate::games;
 use crate::plain::{Branch, Notes, branches_of, minimax, search_plainly_below};
@@ -91,7 +91,7 @@ fn assert_ranked<M: Memo>(
 ) -> Result<(), Fail>
     requires shallow { depth ≤ SEARCH_DEPTH_MAX }
     requires least { 1 ≤ lines }
-    requires most { lines ≤ PV_LINES_MAX }
+    requires most { lines ≤ MULTI_PV_MAX }
 {
     let mut ranks = Ranks::new(lines);
     let mut worths = Vec::new(alloc);
@@ -146,7 +146,7 @@ fn assert_steps(
 ) -> Result<(), Fail>
     requires shallow { depth ≤ SEARCH_DEPTH_MAX }
     requires least { 1 ≤ lines }
-    requires most { lines ≤ PV_LINES_MAX }
+    requires most { lines ≤ MULTI_PV_MAX }
 {
     let mut ranks = Ranks::new(lines);
     let mut notes = Notes::new(alloc, 0);

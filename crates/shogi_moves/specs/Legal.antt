@@ -87,12 +87,12 @@ is_pawn_drop (Board from to promote) = false
 is_pawn_drop (Drop kind to) = is_pawn_kind kind
 
 -- the side to move is in check and has no safe move. It is asked after the drop of a pawn in a valid position: that check comes from the next square, so no drop answers it, and each safe move is legal
-abbrev pub is_mated : Shogi → Bool
-is_mated p = in_check p.cells p.side && not (some_below MOVE_CODE_COUNT (is_safe_code p))
+abbrev pub is_mated_by_drop : Shogi → Bool
+is_mated_by_drop p = in_check p.cells p.side && not (some_below MOVE_CODE_COUNT (is_safe_code p))
 
 -- the drop of a pawn gives mate
 abbrev pub is_pawn_drop_mate : Shogi → Move → Bool
-is_pawn_drop_mate p m = is_pawn_drop m && is_mated (after p m)
+is_pawn_drop_mate p m = is_pawn_drop m && is_mated_by_drop (after p m)
 
 -- a safe move that does not mate by the drop of a pawn
 unfoldable pub is_legal : Shogi → Move → Bool

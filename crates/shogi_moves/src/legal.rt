@@ -3,7 +3,7 @@
 ghost use Rattle.std.specs.Prelude.{◌≡◌, ◌↔◌, IsTrue, true, if◌then◌else◌, Some, None};
 ghost use Rattle.shogi_core.specs.Codes.{code_of};
 ghost use Rattle.shogi_moves.specs.After.{after};
-ghost use Rattle.shogi_moves.specs.Legal.{is_legal, is_safe, is_pseudo_legal, is_pseudo_legal_board_move, is_pseudo_legal_drop, may_promote, is_pawn_kind, is_mated, is_pawn_drop, is_pawn_drop_mate, is_promotable, in_promotion_zone};
+ghost use Rattle.shogi_moves.specs.Legal.{is_legal, is_safe, is_pseudo_legal, is_pseudo_legal_board_move, is_pseudo_legal_drop, may_promote, is_pawn_kind, is_mated_by_drop, is_pawn_drop, is_pawn_drop_mate, is_promotable, in_promotion_zone};
 ghost use Rattle.shogi_core.specs.declared.moves.Move.TheVariants as moves;
 ghost use Rattle.shogi_moves.specs.Candidates.{is_candidate};
 ghost use Rattle.shogi_moves.specs.Guards.{Guards};
@@ -137,8 +137,8 @@ pub fn is_safe_guarded(p: &Position, guard: &Guard, m: &Move) -> bool
 }
 
 /// Whether the side to move is in check and has no safe move.
-fn is_mated(p: &Position) -> bool
-    ensures { result ≡ is_mated p.now }
+fn is_mated_by_drop(p: &Position) -> bool
+    ensures { result ≡ is_mated_by_drop p.now }
 {
     in_check(p) && !has_safe(p)
 }
@@ -158,7 +158,7 @@ pub fn is_pawn_drop_mate(p: &Position, m: &Move) -> bool
     requires { is_safe p.now m.now ≡ true }
     ensures { result ≡ is_pawn_drop_mate p.now m.now }
 {
-    is_pawn_drop(m) && is_mated(&apply_safe(p, m))
+    is_pawn_drop(m) && is_mated_by_drop(&apply_safe(p, m))
 }
 
 /// As `is_legal`, of a move that is lent.

@@ -4,7 +4,7 @@ use Rattle.shogi_core.specs.declared.moves.Move.{Move}
 use Rattle.shogi_core.specs.Position.{Shogi}
 use Rattle.shogi_moves.specs.After.{after}
 use Rattle.shogi_eval.specs.declared.eval.Eval.{Eval}
-use Rattle.shogi_search.specs.Minimax.{best, pv, then_pv, tree_size, pv_cost, then_pv_cost, deepening_cost}
+use Rattle.shogi_search.specs.Minimax.{best, pv, then_pv, tree_size, pv_cost, then_pv_cost}
 
 pub pv-leaf : (p : Shogi) (eval : Eval) → pv p eval 0 ≡ []
 unfolding pv
@@ -42,15 +42,3 @@ pv_cost-some p eval k m h e = rw (pv_cost-above p eval k h, e) refl
 
 pub pv_cost-none : (p : Shogi) (eval : Eval) (k : ℕ) → 0 < k → best p eval k ≡ None → pv_cost p eval k ≡ 2 * tree_size p k
 pv_cost-none p eval k h e = rw (pv_cost-above p eval k h, e) (omega arith)
-
-pub deepening_cost-none : (p : Shogi) (eval : Eval) → deepening_cost p eval 0 ≡ 0
-unfolding deepening_cost
-deepening_cost-none p eval = refl
-
-pub deepening_cost-suc : (p : Shogi) (eval : Eval) (d : ℕ) → deepening_cost p eval (suc d) ≡ deepening_cost p eval d + pv_cost p eval (suc d)
-unfolding deepening_cost
-deepening_cost-suc p eval d = refl
-
-pub deepening_cost-above : (p : Shogi) (eval : Eval) (d : ℕ) → 0 < d → deepening_cost p eval d ≡ deepening_cost p eval (d - 1) + pv_cost p eval d
-deepening_cost-above p eval zero h = absurd (omega arith)
-deepening_cost-above p eval (suc d) h = let e : suc d - 1 ≡ d = omega arith in rw e (deepening_cost-suc p eval d)

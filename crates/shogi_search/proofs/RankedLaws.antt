@@ -17,65 +17,65 @@ use Rattle.shogi_search.specs.Minimax.{worth, best_code, lost_value, greatest, g
 use Rattle.shogi_search.proofs.Equal.{same_int_eq, less_int_eq}
 use Rattle.shogi_search.proofs.Greatest.{greatest_above, greatest_least, find_first}
 use Rattle.shogi_search.proofs.MinimaxLaws.{value-above, best_code-above}
-use Rattle.shogi_search.specs.Ranked.{is_ahead, insert_code, ranked, ranked_codes, insert_pair, codes_in, are_ranked, coded, with_worth}
+use Rattle.shogi_search.specs.Ranked.{is_better, insert_code, ranked, ranked_codes, insert_pair, codes_in, are_ranked, coded, with_worth}
 
 same_int : (v w : ℤ) → v ≤ℤ w → w ≤ℤ v → v ≡ w
 same_int v w a b = omega (arith, ints)
 
 -- what the test tells
-pub ahead_cases : (v w : ℤ) (m n : ℕ) → is_ahead v m w n ≡ true → (w <ℤ v) ⊎ ((v ≡ w) × (m < n))
-ahead_cases v w m n h = elim (or_cases (int_lt w v) (int_eq v w && nat_lt m n) h) [
+pub better_cases : (v w : ℤ) (m n : ℕ) → is_better v m w n ≡ true → (w <ℤ v) ⊎ ((v ≡ w) × (m < n))
+better_cases v w m n h = elim (or_cases (int_lt w v) (int_eq v w && nat_lt m n) h) [
   | inl l ↦ inl (omega (arith, ints))
   | inr b ↦ inr ((Decides-int_eq v w).0 (and_parts (int_eq v w) (nat_lt m n) b).0, ltb-true m n (and_parts (int_eq v w) (nat_lt m n) b).1)
 ]
 
-pub ahead_more : (v w : ℤ) (m n : ℕ) → w <ℤ v → is_ahead v m w n ≡ true
-ahead_more v w m n l = let t : int_lt w v ≡ true = true_from_ne_false _ (λ f. omega (arith, ints)) in or_left _ _ t
+pub better_more : (v w : ℤ) (m n : ℕ) → w <ℤ v → is_better v m w n ≡ true
+better_more v w m n l = let t : int_lt w v ≡ true = true_from_ne_false _ (λ f. omega (arith, ints)) in or_left _ _ t
 
-pub ahead_equal : (v w : ℤ) (m n : ℕ) → v ≡ w → m < n → is_ahead v m w n ≡ true
-ahead_equal v w m n e l = or_right _ _ (and_from _ _ ((Decides-int_eq v w).1 e) (lt-ltb m n l))
+pub better_equal : (v w : ℤ) (m n : ℕ) → v ≡ w → m < n → is_better v m w n ≡ true
+better_equal v w m n e l = or_right _ _ (and_from _ _ ((Decides-int_eq v w).1 e) (lt-ltb m n l))
 
 -- what stands before what stands before another stands before that one
-pub ahead_on : (u v w : ℤ) (l m n : ℕ) → is_ahead u l v m ≡ true → is_ahead v m w n ≡ true → is_ahead u l w n ≡ true
-ahead_on u v w l m n a b = elim (ahead_cases u v l m a) [
-  | inl x ↦ elim (ahead_cases v w m n b) [
-    | inl y ↦ ahead_more u w l n (omega (arith, ints))
-    | inr y ↦ ahead_more u w l n (let e : v ≡ w = y.0 in omega (arith, ints))
+pub better_on : (u v w : ℤ) (l m n : ℕ) → is_better u l v m ≡ true → is_better v m w n ≡ true → is_better u l w n ≡ true
+better_on u v w l m n a b = elim (better_cases u v l m a) [
+  | inl x ↦ elim (better_cases v w m n b) [
+    | inl y ↦ better_more u w l n (omega (arith, ints))
+    | inr y ↦ better_more u w l n (let e : v ≡ w = y.0 in omega (arith, ints))
   ]
-  | inr x ↦ elim (ahead_cases v w m n b) [
-    | inl y ↦ ahead_more u w l n (let e : u ≡ v = x.0 in omega (arith, ints))
-    | inr y ↦ ahead_equal u w l n (x.0 ∙ y.0) (let p : l < m = x.1 in let q : m < n = y.1 in omega arith)
+  | inr x ↦ elim (better_cases v w m n b) [
+    | inl y ↦ better_more u w l n (let e : u ≡ v = x.0 in omega (arith, ints))
+    | inr y ↦ better_equal u w l n (x.0 ∙ y.0) (let p : l < m = x.1 in let q : m < n = y.1 in omega arith)
   ]
 ]
 
 -- of two codes one stands before the other, and not that one before it
-pub ahead_not : (v w : ℤ) (m n : ℕ) → is_ahead v m w n ≡ true → is_ahead w n v m ≡ false
-ahead_not v w m n h = false_from_ne_true _ (λ k. elim (ahead_cases v w m n h) [
-  | inl x ↦ elim (ahead_cases w v n m k) [
+pub better_not : (v w : ℤ) (m n : ℕ) → is_better v m w n ≡ true → is_better w n v m ≡ false
+better_not v w m n h = false_from_ne_true _ (λ k. elim (better_cases v w m n h) [
+  | inl x ↦ elim (better_cases w v n m k) [
     | inl y ↦ omega (arith, ints)
     | inr y ↦ (let e : w ≡ v = y.0 in omega (arith, ints))
   ]
-  | inr x ↦ elim (ahead_cases w v n m k) [
+  | inr x ↦ elim (better_cases w v n m k) [
     | inl y ↦ (let e : v ≡ w = x.0 in omega (arith, ints))
     | inr y ↦ (let p : m < n = x.1 in let q : n < m = y.1 in omega arith)
   ]
 ])
 
-pub ahead_other : (v w : ℤ) (m n : ℕ) → (m ≡ n → ⊥) → is_ahead v m w n ≡ false → is_ahead w n v m ≡ true
-ahead_other v w m n ne h = true_from_ne_false _ (λ k.
-    let no : (v <ℤ w → ⊥) = (λ l. both_ways _ k (ahead_more w v n m l)) in
-    let on : (w <ℤ v → ⊥) = (λ l. both_ways _ h (ahead_more v w m n l)) in
+pub better_other : (v w : ℤ) (m n : ℕ) → (m ≡ n → ⊥) → is_better v m w n ≡ false → is_better w n v m ≡ true
+better_other v w m n ne h = true_from_ne_false _ (λ k.
+    let no : (v <ℤ w → ⊥) = (λ l. both_ways _ k (better_more w v n m l)) in
+    let on : (w <ℤ v → ⊥) = (λ l. both_ways _ h (better_more v w m n l)) in
     let e : v ≡ w = by_lt_z v w (λ l. absurd (no l)) (λ ge. by_lt_z w v (λ l. absurd (on l)) (λ le. same_int v w le ge)) in
-    let a : (m < n → ⊥) = (λ l. both_ways _ h (ahead_equal v w m n e l)) in
-    let b : (n < m → ⊥) = (λ l. both_ways _ k (ahead_equal w v n m (sym e) l)) in
+    let a : (m < n → ⊥) = (λ l. both_ways _ h (better_equal v w m n e l)) in
+    let b : (n < m → ⊥) = (λ l. both_ways _ k (better_equal w v n m (sym e) l)) in
     ne (omega arith))
 
 -- a code stands before another, by what they are worth
 abbrev before : (ℕ → ℤ) → ℕ → ℕ → Bool
-before f m n = is_ahead (f m) m (f n) n
+before f m n = is_better (f m) m (f n) n
 
 not_itself : (f : ℕ → ℤ) (m : ℕ) → before f m m ≡ true → ⊥
-not_itself f m h = both_ways _ (ahead_not (f m) (f m) m m h) h
+not_itself f m h = both_ways _ (better_not (f m) (f m) m m h) h
 
 rank_first : (f : ℕ → ℤ) (m n : ℕ) (ns : List ℕ) → before f m n ≡ true → insert_code f m (n ∷ ns) ≡ m ∷ n ∷ ns
 rank_first f m n ns h = cond-true (before f m n) (m ∷ n ∷ ns) (n ∷ insert_code f m ns) h
@@ -85,26 +85,26 @@ rank_after f m n ns h = cond-false (before f m n) (m ∷ n ∷ ns) (n ∷ insert
 
 -- two codes at the front of a list, in either order
 rank_two : (f : ℕ → ℤ) (m n k : ℕ) (ks : List ℕ) → before f m n ≡ true → before f m k ≡ true → before f n k ≡ true → insert_code f m (n ∷ k ∷ ks) ≡ insert_code f n (m ∷ k ∷ ks)
-rank_two f m n k ks h a b = rank_first f m n (k ∷ ks) h ∙ sym (rank_after f n m (k ∷ ks) (ahead_not (f m) (f n) m n h) ∙ ap (λ (l : List ℕ). m ∷ l) (rank_first f n k ks b))
+rank_two f m n k ks h a b = rank_first f m n (k ∷ ks) h ∙ sym (rank_after f n m (k ∷ ks) (better_not (f m) (f n) m n h) ∙ ap (λ (l : List ℕ). m ∷ l) (rank_first f n k ks b))
 
 -- it does not matter which of two codes is put in first
 pub rank_swap : (f : ℕ → ℤ) (m n : ℕ) (ks : List ℕ) → (m ≡ n → ⊥) → insert_code f m (insert_code f n ks) ≡ insert_code f n (insert_code f m ks)
 rank_swap f m n [] ne = elim (cases_Bool (before f m n)) [
-  | inl t ↦ rank_first f m n [] t ∙ sym (rank_after f n m [] (ahead_not (f m) (f n) m n t))
-  | inr u ↦ rank_after f m n [] u ∙ sym (rank_first f n m [] (ahead_other (f m) (f n) m n ne u))
+  | inl t ↦ rank_first f m n [] t ∙ sym (rank_after f n m [] (better_not (f m) (f n) m n t))
+  | inr u ↦ rank_after f m n [] u ∙ sym (rank_first f n m [] (better_other (f m) (f n) m n ne u))
 ]
 rank_swap f m n (k ∷ ks) ne = elim (cases_Bool (before f m k)) [
   | inl a ↦ elim (cases_Bool (before f n k)) [
     | inl b ↦ ap (insert_code f m) (rank_first f n k ks b) ∙ elim (cases_Bool (before f m n)) [
       | inl t ↦ rank_two f m n k ks t a b
-      | inr u ↦ sym (rank_two f n m k ks (ahead_other (f m) (f n) m n ne u) b a)
+      | inr u ↦ sym (rank_two f n m k ks (better_other (f m) (f n) m n ne u) b a)
     ] ∙ sym (ap (insert_code f n) (rank_first f m k ks a))
-    | inr b ↦ (let later : before f n m ≡ false = false_from_ne_true _ (λ t. both_ways _ b (ahead_on (f n) (f m) (f k) n m k t a)) in
+    | inr b ↦ (let later : before f n m ≡ false = false_from_ne_true _ (λ t. both_ways _ b (better_on (f n) (f m) (f k) n m k t a)) in
         ap (insert_code f m) (rank_after f n k ks b) ∙ rank_first f m k (insert_code f n ks) a
         ∙ sym (ap (insert_code f n) (rank_first f m k ks a) ∙ rank_after f n m (k ∷ ks) later ∙ ap (λ (l : List ℕ). m ∷ l) (rank_after f n k ks b)))
   ]
   | inr a ↦ elim (cases_Bool (before f n k)) [
-    | inl b ↦ (let later : before f m n ≡ false = false_from_ne_true _ (λ t. both_ways _ a (ahead_on (f m) (f n) (f k) m n k t b)) in
+    | inl b ↦ (let later : before f m n ≡ false = false_from_ne_true _ (λ t. both_ways _ a (better_on (f m) (f n) (f k) m n k t b)) in
         ap (insert_code f m) (rank_first f n k ks b) ∙ rank_after f m n (k ∷ ks) later ∙ ap (λ (l : List ℕ). n ∷ l) (rank_after f m k ks a)
         ∙ sym (ap (insert_code f n) (rank_after f m k ks a) ∙ rank_first f n k (insert_code f m ks) b))
     | inr b ↦ ap (insert_code f m) (rank_after f n k ks b) ∙ rank_after f m k (insert_code f n ks) a ∙ ap (λ (l : List ℕ). k ∷ l) (rank_swap f m n ks ne)
@@ -150,7 +150,7 @@ in_ranked f n (m ∷ ms) = ap (is_in n) (ranked-cons f m ms) ∙ in_rank f n m (
 -- each code stands before those after it
 abbrev pub IsRankedList : (ℕ → ℤ) → List ℕ → Type 0
 IsRankedList f [] = Unit {0}
-IsRankedList f (m ∷ ms) = ((n : ℕ) → is_in n ms ≡ true → is_ahead (f m) m (f n) n ≡ true) × IsRankedList f ms
+IsRankedList f (m ∷ ms) = ((n : ℕ) → is_in n ms ≡ true → is_better (f m) m (f n) n ≡ true) × IsRankedList f ms
 
 -- no code is there twice
 abbrev pub AreDistinct : List ℕ → Type 0
@@ -163,10 +163,10 @@ to_equal f m n k e h = ap (before f m) e ∙ h
 rank_keeps : (f : ℕ → ℤ) (m : ℕ) (ks : List ℕ) → IsRankedList f ks → is_in m ks ≡ false → IsRankedList f (insert_code f m ks)
 rank_keeps f m [] r i = (λ n h. absurd (both_ways false refl h), tt)
 rank_keeps f m (k ∷ ks) r i = cond_both (before f m k) (m ∷ k ∷ ks) (k ∷ insert_code f m ks) (IsRankedList f)
-    (λ t. (λ n h. elim (or_cases (n == k) (is_in n ks) h) [ inl e ↦ to_equal f m n k (eqb-true n k e) t | inr l ↦ ahead_on (f m) (f k) (f n) m k n t (r.0 n l) ], r))
+    (λ t. (λ n h. elim (or_cases (n == k) (is_in n ks) h) [ inl e ↦ to_equal f m n k (eqb-true n k e) t | inr l ↦ better_on (f m) (f k) (f n) m k n t (r.0 n l) ], r))
     (λ u. (
       λ n h. elim (or_cases (n == m) (is_in n ks) (sym (in_rank f n m ks) ∙ h)) [
-        | inl e ↦ to_equal f k n m (eqb-true n m e) (ahead_other (f m) (f k) m k (not_head m k ks i) u)
+        | inl e ↦ to_equal f k n m (eqb-true n m e) (better_other (f m) (f k) m k (not_head m k ks i) u)
         | inr l ↦ r.0 n l
       ],
       rank_keeps f m ks r.1 (or_parts (m == k) (is_in m ks) i).1,
@@ -187,7 +187,7 @@ same_head f x y xs ys r s h = elim (cases_eq x y) [
   | inl e ↦ e
   | inr ne ↦ (let a : is_in x ys ≡ true = in_rest x y ys ne (sym (h x) ∙ first_in x xs) in
       let b : is_in y xs ≡ true = in_rest y x xs (λ e. ne (sym e)) (h y ∙ first_in y ys) in
-      absurd (both_ways _ (ahead_not (f x) (f y) x y (r.0 y b)) (s.0 x a)))
+      absurd (both_ways _ (better_not (f x) (f y) x y (r.0 y b)) (s.0 x a)))
 ]
 
 not_later : (f : ℕ → ℤ) (x n : ℕ) (xs : List ℕ) → IsRankedList f (x ∷ xs) → n ≡ x → is_in n xs ≡ false
@@ -235,18 +235,18 @@ at_place_in (k ∷ ks) zero l h = let e : k ≡ l = cc in or_left (l == k) (is_i
 at_place_in (k ∷ ks) (suc i) l h = or_right (l == k) (is_in l ks) (at_place_in ks i l h)
 
 -- a code that the one at a place stands before changes nothing up to there
-pub rank_past : (f : ℕ → ℤ) (m : ℕ) (ks : List ℕ) (i l : ℕ) → IsRankedList f ks → slice_get ks i ≡ Some l → is_ahead (f m) m (f l) l ≡ false → take (suc i) (insert_code f m ks) ≡ take (suc i) ks
+pub rank_past : (f : ℕ → ℤ) (m : ℕ) (ks : List ℕ) (i l : ℕ) → IsRankedList f ks → slice_get ks i ≡ Some l → is_better (f m) m (f l) l ≡ false → take (suc i) (insert_code f m ks) ≡ take (suc i) ks
 rank_past f m [] i l r h u = absurd (cc)
 rank_past f m (k ∷ ks) zero l r h u =
     let e : k ≡ l = cc in
     ap (take 1) (rank_after f m k ks (ap (before f m) e ∙ u))
 rank_past f m (k ∷ ks) (suc i) l r h u =
-    let later : before f m k ≡ false = false_from_ne_true _ (λ t. both_ways _ u (ahead_on (f m) (f k) (f l) m k l t (r.0 l (at_place_in ks i l h)))) in
+    let later : before f m k ≡ false = false_from_ne_true _ (λ t. both_ways _ u (better_on (f m) (f k) (f l) m k l t (r.0 l (at_place_in ks i l h)))) in
     ap (take (suc (suc i))) (rank_after f m k ks later) ∙ ap (λ (x : List ℕ). k ∷ x) (rank_past f m ks i l r.1 h u)
 
 -- a move of greater code that is worth no more stands behind
-pub not_before : (f : ℕ → ℤ) (m l : ℕ) → l < m → f m ≤ℤ f l → is_ahead (f m) m (f l) l ≡ false
-not_before f m l b w = false_from_ne_true _ (λ t. elim (ahead_cases (f m) (f l) m l t) [
+pub not_before : (f : ℕ → ℤ) (m l : ℕ) → l < m → f m ≤ℤ f l → is_better (f m) m (f l) l ≡ false
+not_before f m l b w = false_from_ne_true _ (λ t. elim (better_cases (f m) (f l) m l t) [
   | inl x ↦ omega (arith, ints)
   | inr x ↦ (let q : m < l = x.1 in omega arith)
 ])
@@ -264,14 +264,14 @@ put_rank f m v (x ∷ xs) (k ∷ ks) e h =
     let rest : map coded xs ≡ map (with_worth f) ks = cc in
     let c : code_of x.0 ≡ k = ap (λ (p : ℕ × ℤ). p.0) q in
     let w : x.1 ≡ f k = ap (λ (p : ℕ × ℤ). p.1) q in
-    let same : is_ahead v (code_of m) x.1 (code_of x.0) ≡ before f (code_of m) k =
-    ap (λ (z : ℤ). is_ahead z (code_of m) x.1 (code_of x.0)) e ∙ ap (λ (z : ℤ). is_ahead (f (code_of m)) (code_of m) z (code_of x.0)) w ∙ ap (λ (n : ℕ). is_ahead (f (code_of m)) (code_of m) (f k) n) c in
+    let same : is_better v (code_of m) x.1 (code_of x.0) ≡ before f (code_of m) k =
+    ap (λ (z : ℤ). is_better z (code_of m) x.1 (code_of x.0)) e ∙ ap (λ (z : ℤ). is_better (f (code_of m)) (code_of m) z (code_of x.0)) w ∙ ap (λ (n : ℕ). is_better (f (code_of m)) (code_of m) (f k) n) c in
     let first : List (Move × ℤ) = (m, v) ∷ x ∷ xs in
     let later : List (Move × ℤ) = x ∷ insert_pair m v xs in
     elim (cases_Bool (before f (code_of m) k)) [
-      | inl t ↦ ap (map coded) (cond-true (is_ahead v (code_of m) x.1 (code_of x.0)) first later (same ∙ t)) ∙ ap (λ (z : ℤ). pair (code_of m) z ∷ map coded (x ∷ xs)) e
+      | inl t ↦ ap (map coded) (cond-true (is_better v (code_of m) x.1 (code_of x.0)) first later (same ∙ t)) ∙ ap (λ (z : ℤ). pair (code_of m) z ∷ map coded (x ∷ xs)) e
           ∙ ap (λ (l : List (ℕ × ℤ)). pair (code_of m) (f (code_of m)) ∷ l) h ∙ sym (ap (map (with_worth f)) (rank_first f (code_of m) k ks t))
-      | inr u ↦ ap (map coded) (cond-false (is_ahead v (code_of m) x.1 (code_of x.0)) first later (same ∙ u)) ∙ ap (λ (l : List (ℕ × ℤ)). coded x ∷ l) (put_rank f m v xs ks e rest)
+      | inr u ↦ ap (map coded) (cond-false (is_better v (code_of m) x.1 (code_of x.0)) first later (same ∙ u)) ∙ ap (λ (l : List (ℕ × ℤ)). coded x ∷ l) (put_rank f m v xs ks e rest)
           ∙ ap (λ (p : ℕ × ℤ). p ∷ map (with_worth f) (insert_code f (code_of m) ks)) q ∙ sym (ap (map (with_worth f)) (rank_after f (code_of m) k ks u))
     ]
 
@@ -285,10 +285,10 @@ top_offered f codes n m v xs h i e =
 pub top_empty : (f : ℕ → ℤ) (n : ℕ) → map coded [] ≡ map (with_worth f) (take n (ranked f []))
 top_empty f n = sym (ap (λ (l : List ℕ). map (with_worth f) (take n l)) (ranked-nil f) ∙ ap (map (with_worth f)) (take_all n [] (omega arith)))
 
-behind : (m : Move) (v : ℤ) (x y : Move × ℤ) (rest : List (Move × ℤ)) → is_ahead x.1 (code_of x.0) v (code_of m) ≡ true → is_ahead x.1 (code_of x.0) y.1 (code_of y.0) ≡ true → are_ranked (insert_pair m v (y ∷ rest)) ≡ true → are_ranked (x ∷ insert_pair m v (y ∷ rest)) ≡ true
+behind : (m : Move) (v : ℤ) (x y : Move × ℤ) (rest : List (Move × ℤ)) → is_better x.1 (code_of x.0) v (code_of m) ≡ true → is_better x.1 (code_of x.0) y.1 (code_of y.0) ≡ true → are_ranked (insert_pair m v (y ∷ rest)) ≡ true → are_ranked (x ∷ insert_pair m v (y ∷ rest)) ≡ true
 behind m v x y rest a b o =
     let first : List (Move × ℤ) = (m, v) ∷ y ∷ rest in
-    cond_both (is_ahead v (code_of m) y.1 (code_of y.0)) first (y ∷ insert_pair m v rest) (λ (l : List (Move × ℤ)). are_ranked l ≡ true → are_ranked (x ∷ l) ≡ true)
+    cond_both (is_better v (code_of m) y.1 (code_of y.0)) first (y ∷ insert_pair m v rest) (λ (l : List (Move × ℤ)). are_ranked l ≡ true → are_ranked (x ∷ l) ≡ true)
     (λ _ k. and_from _ _ a k)
     (λ _ k. and_from _ _ b k)
     o
@@ -298,16 +298,16 @@ pub put_ranked : (m : Move) (v : ℤ) (xs : List (Move × ℤ)) → are_ranked x
 put_ranked m v [] r i = refl
 put_ranked m v (x ∷ []) r i =
     let first : List (Move × ℤ) = (m, v) ∷ x ∷ [] in
-    cond_both (is_ahead v (code_of m) x.1 (code_of x.0)) first (x ∷ insert_pair m v []) (λ (l : List (Move × ℤ)). are_ranked l ≡ true)
+    cond_both (is_better v (code_of m) x.1 (code_of x.0)) first (x ∷ insert_pair m v []) (λ (l : List (Move × ℤ)). are_ranked l ≡ true)
     (λ t. and_from _ _ t refl)
-    (λ u. and_from _ _ (ahead_other v x.1 (code_of m) (code_of x.0) (not_head (code_of m) (code_of x.0) [] i) u) refl)
+    (λ u. and_from _ _ (better_other v x.1 (code_of m) (code_of x.0) (not_head (code_of m) (code_of x.0) [] i) u) refl)
 put_ranked m v (x ∷ y ∷ rest) r i =
     let first : List (Move × ℤ) = (m, v) ∷ x ∷ y ∷ rest in
-    let parts : (is_ahead x.1 (code_of x.0) y.1 (code_of y.0) ≡ true) × (are_ranked (y ∷ rest) ≡ true) = and_parts _ _ r in
+    let parts : (is_better x.1 (code_of x.0) y.1 (code_of y.0) ≡ true) × (are_ranked (y ∷ rest) ≡ true) = and_parts _ _ r in
     let others : is_in (code_of m) (codes_in (y ∷ rest)) ≡ false = (or_parts (code_of m == code_of x.0) (is_in (code_of m) (codes_in (y ∷ rest))) i).1 in
-    cond_both (is_ahead v (code_of m) x.1 (code_of x.0)) first (x ∷ insert_pair m v (y ∷ rest)) (λ (l : List (Move × ℤ)). are_ranked l ≡ true)
+    cond_both (is_better v (code_of m) x.1 (code_of x.0)) first (x ∷ insert_pair m v (y ∷ rest)) (λ (l : List (Move × ℤ)). are_ranked l ≡ true)
     (λ t. and_from _ _ t r)
-    (λ u. behind m v x y rest (ahead_other v x.1 (code_of m) (code_of x.0) (not_head (code_of m) (code_of x.0) (codes_in (y ∷ rest)) i) u) parts.0 (put_ranked m v (y ∷ rest) parts.1 others))
+    (λ u. behind m v x y rest (better_other v x.1 (code_of m) (code_of x.0) (not_head (code_of m) (code_of x.0) (codes_in (y ∷ rest)) i) u) parts.0 (put_ranked m v (y ∷ rest) parts.1 others))
 
 pub take_ranked : (n : ℕ) (xs : List (Move × ℤ)) → are_ranked xs ≡ true → are_ranked (take n xs) ≡ true
 take_ranked zero xs r = refl
@@ -315,28 +315,28 @@ take_ranked (suc n) [] r = refl
 take_ranked (suc zero) (x ∷ rest) r = refl
 take_ranked (suc (suc n)) (x ∷ []) r = refl
 take_ranked (suc (suc n)) (x ∷ y ∷ rest) r =
-    let parts : (is_ahead x.1 (code_of x.0) y.1 (code_of y.0) ≡ true) × (are_ranked (y ∷ rest) ≡ true) = and_parts _ _ r in
+    let parts : (is_better x.1 (code_of x.0) y.1 (code_of y.0) ≡ true) × (are_ranked (y ∷ rest) ≡ true) = and_parts _ _ r in
     and_from _ _ parts.0 (take_ranked (suc n) (y ∷ rest) parts.1)
 
 -- past one that stands before the move
-pub place_next : (m : Move) (v : ℤ) (xs : List (Move × ℤ)) (i : ℕ) (x : Move × ℤ) → i < length xs → x ≡ get_or xs i x → is_ahead v (code_of m) x.1 (code_of x.0) ≡ false
+pub place_next : (m : Move) (v : ℤ) (xs : List (Move × ℤ)) (i : ℕ) (x : Move × ℤ) → i < length xs → x ≡ get_or xs i x → is_better v (code_of m) x.1 (code_of x.0) ≡ false
     → insert_pair m v xs ≡ take i xs ++ insert_pair m v (drop i xs) → insert_pair m v xs ≡ take (i + 1) xs ++ insert_pair m v (drop (i + 1) xs)
 place_next m v xs i x lt at u h =
     let first : List (Move × ℤ) = (m, v) ∷ x ∷ drop (i + 1) xs in
     let here : drop i xs ≡ x ∷ drop (i + 1) xs = drop_more xs i x lt ∙ ap (λ (y : Move × ℤ). y ∷ drop (i + 1) xs) (sym at) in
     let upto : take (i + 1) xs ≡ take i xs ++ x ∷ [] = take_more xs i x lt ∙ ap (λ (y : Move × ℤ). take i xs ++ y ∷ []) (sym at) in
     h ∙ ap (λ (l : List (Move × ℤ)). take i xs ++ insert_pair m v l) here
-    ∙ ap (λ (l : List (Move × ℤ)). take i xs ++ l) (cond-false (is_ahead v (code_of m) x.1 (code_of x.0)) first (x ∷ insert_pair m v (drop (i + 1) xs)) u)
+    ∙ ap (λ (l : List (Move × ℤ)). take i xs ++ l) (cond-false (is_better v (code_of m) x.1 (code_of x.0)) first (x ∷ insert_pair m v (drop (i + 1) xs)) u)
     ∙ sym (append_assoc (take i xs) (x ∷ []) (insert_pair m v (drop (i + 1) xs))) ∙ ap (λ (l : List (Move × ℤ)). l ++ insert_pair m v (drop (i + 1) xs)) (sym upto)
 
 -- before the first one that the move stands before
-pub place_here : (m : Move) (v : ℤ) (xs : List (Move × ℤ)) (i : ℕ) (x : Move × ℤ) → i < length xs → x ≡ get_or xs i x → is_ahead v (code_of m) x.1 (code_of x.0) ≡ true
+pub place_here : (m : Move) (v : ℤ) (xs : List (Move × ℤ)) (i : ℕ) (x : Move × ℤ) → i < length xs → x ≡ get_or xs i x → is_better v (code_of m) x.1 (code_of x.0) ≡ true
     → insert_pair m v xs ≡ take i xs ++ insert_pair m v (drop i xs) → insert xs i (m, v) ≡ insert_pair m v xs
 place_here m v xs i x lt at t h =
     let new : Move × ℤ = (m, v) in
     let here : drop i xs ≡ x ∷ drop (i + 1) xs = drop_more xs i x lt ∙ ap (λ (y : Move × ℤ). y ∷ drop (i + 1) xs) (sym at) in
     sym (h ∙ ap (λ (l : List (Move × ℤ)). take i xs ++ insert_pair m v l) here
-    ∙ ap (λ (l : List (Move × ℤ)). take i xs ++ l) (cond-true (is_ahead v (code_of m) x.1 (code_of x.0)) (new ∷ x ∷ drop (i + 1) xs) (x ∷ insert_pair m v (drop (i + 1) xs)) t)
+    ∙ ap (λ (l : List (Move × ℤ)). take i xs ++ l) (cond-true (is_better v (code_of m) x.1 (code_of x.0)) (new ∷ x ∷ drop (i + 1) xs) (x ∷ insert_pair m v (drop (i + 1) xs)) t)
     ∙ ap (λ (l : List (Move × ℤ)). take i xs ++ new ∷ l) (sym here))
 
 -- behind all
@@ -353,7 +353,7 @@ rising_distinct (m ∷ ms) r = (false_from_ne_true _ (λ t. (let l : m < m = r.0
 at_most : (f : ℕ → ℤ) (h : ℕ) (rest : List ℕ) → IsRankedList f (h ∷ rest) → (n : ℕ) → is_in n (h ∷ rest) ≡ true → f n ≤ℤ f h
 at_most f h rest o n i = elim (or_cases (n == h) (is_in n rest) i) [
   | inl e ↦ (let q : f n ≡ f h = ap f (eqb-true n h e) in omega (arith, ints))
-  | inr l ↦ elim (ahead_cases (f h) (f n) h n (o.0 n l)) [
+  | inr l ↦ elim (better_cases (f h) (f n) h n (o.0 n l)) [
     | inl x ↦ omega (arith, ints)
     | inr x ↦ (let q : f h ≡ f n = x.0 in omega (arith, ints))
   ]
@@ -362,7 +362,7 @@ at_most f h rest o n i = elim (or_cases (n == h) (is_in n rest) i) [
 lesser : (f : ℕ → ℤ) (h : ℕ) (rest : List ℕ) → IsRankedList f (h ∷ rest) → (n : ℕ) → is_in n (h ∷ rest) ≡ true → n < h → f n <ℤ f h
 lesser f h rest o n i b = elim (or_cases (n == h) (is_in n rest) i) [
   | inl e ↦ (let q : n ≡ h = eqb-true n h e in absurd (omega arith))
-  | inr l ↦ elim (ahead_cases (f h) (f n) h n (o.0 n l)) [
+  | inr l ↦ elim (better_cases (f h) (f n) h n (o.0 n l)) [
     | inl x ↦ x
     | inr x ↦ (let q : h < n = x.1 in absurd (omega arith))
   ]

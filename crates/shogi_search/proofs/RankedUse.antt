@@ -20,7 +20,7 @@ use Rattle.shogi_search.proofs.Valid.{after_valid}
 use Rattle.shogi_search.specs.declared.found.Found.{Found}
 use Rattle.shogi_search.specs.Progress.{IsFoundBelow}
 use Rattle.shogi_search.specs.Minimax.{value, worth, negated}
-use Rattle.shogi_search.specs.Ranked.{ranked, insert_code, is_ahead, codes_in, coded, with_worth, Ranking, IsTop, value_in, value_to_pass, beta_above, child_beta}
+use Rattle.shogi_search.specs.Ranked.{ranked, insert_code, is_better, codes_in, coded, with_worth, Ranking, IsTop, value_in, value_to_pass, beta_above, child_beta}
 use Rattle.shogi_search.specs.declared.bounds.TheConstants.{SEARCH_DEPTH_MAX, INFINITY}
 
 codes_of_coded : (xs : List (Move × ℤ)) → map (λ (q : ℕ × ℤ). q.0) (map coded xs) ≡ codes_in xs
@@ -147,7 +147,7 @@ top_past : (f : ℕ → ℤ) (codes : List ℕ) (r : Ranking) (w : ℤ) (m : ℕ
 top_past f codes r w m t e distinct less i low =
     let l : IsOnLastLine f codes r w = last_line f codes r w t e in
     let at : f l.code ≡ w = l.worth_is in
-    let behind : is_ahead (f m) m (f l.code) l.code ≡ false = not_before f m l.code (less l.code l.offered) (omega (arith, ints)) in
+    let behind : is_better (f m) m (f l.code) l.code ≡ false = not_before f m l.code (less l.code l.offered) (omega (arith, ints)) in
     let same : take (suc (r.lines - 1)) (insert_code f m (ranked f codes)) ≡ take (suc (r.lines - 1)) (ranked f codes) = rank_past f m (ranked f codes) (r.lines - 1) l.code (ranked_list f codes distinct) l.code_is behind in
     let full : r.lines - 1 < r.lines = l.full in
     let n : suc (r.lines - 1) ≡ r.lines = omega arith in

@@ -35,8 +35,8 @@ greatest_or otherwise worth_of (code ∷ codes) = greatest worth_of code codes
 
 -- the first value where no move is legal, the second one otherwise
 abbrev pub if_no_move_else : ℤ → ℤ → List ℕ → ℤ
-if_no_move_else lost standing [] = lost
-if_no_move_else lost standing (code ∷ codes) = standing
+if_no_move_else lost static_value [] = lost
+if_no_move_else lost static_value (code ∷ codes) = static_value
 
 -- the value of a position at a depth, for the side to move
 unfoldable pub value : Shogi → Eval → ℕ → ℤ
@@ -52,7 +52,7 @@ unfoldable pub best_code : Shogi → Eval → ℕ → Option ℕ
 best_code p e zero = None
 best_code p e (suc d) = find (λ code. int_eq (worth p e d code) (value p e (suc d))) (legal_codes p)
 
--- the move of a code, if there is one
+-- the move of a code; none where there is no code
 abbrev pub move_of_some : Option ℕ → Option Move
 move_of_some None = None
 move_of_some (Some code) = move_of code
@@ -61,7 +61,7 @@ move_of_some (Some code) = move_of code
 unfoldable pub best : Shogi → Eval → ℕ → Option Move
 best p e d = move_of_some (best_code p e d)
 
--- a move and what follows it
+-- a move, and then the pv of the position after it, as `rest` gives it; nothing where there is no move
 abbrev pub then_pv : (Shogi → List Move) → Shogi → Option Move → List Move
 then_pv rest p None = []
 then_pv rest p (Some m) = m ∷ rest (after p m)
@@ -80,7 +80,7 @@ tree_size p (suc d) = 1 + sum_by (λ code. tree_size (after_code p code) d) (leg
 abbrev pub sum_of_tree_sizes : Shogi → ℕ → List ℕ → ℕ
 sum_of_tree_sizes p d codes = sum_by (λ code. tree_size (after_code p code) d) codes
 
--- the search steps for the pv after a move, where there is one
+-- the search steps for the pv after a move, as `rest` gives them; none where there is no move
 abbrev pub then_pv_cost : (Shogi → ℕ) → Shogi → Option Move → ℕ
 then_pv_cost rest p None = 0
 then_pv_cost rest p (Some m) = rest (after p m)
@@ -89,11 +89,6 @@ then_pv_cost rest p (Some m) = rest (after p m)
 unfoldable pub pv_cost : Shogi → Eval → ℕ → ℕ
 pv_cost p e zero = 0
 pv_cost p e (suc d) = 2 * tree_size p (suc d) + then_pv_cost (λ q. pv_cost q e d) p (best p e (suc d))
-
--- the same, summed over each depth from 1 to this one
-unfoldable pub deepening_cost : Shogi → Eval → ℕ → ℕ
-deepening_cost p e zero = 0
-deepening_cost p e (suc d) = deepening_cost p e d + pv_cost p e (suc d)
 
 -- what an entry says of the position at the depth holds
 abbrev pub IsTrueEntry : Shogi → Eval → ℕ → Entry → Type 0

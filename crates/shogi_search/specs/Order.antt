@@ -33,7 +33,7 @@ todo p (Quiets hash_move s) = picks_from p hash_move false s.code
 todo p (Drops hash_move s) = picks_from p hash_move false s.code
 todo p Done = []
 
--- the same once the sweep that is under way has ended
+-- the codes of the moves still to be visited once the sweep that is under way has ended
 abbrev pub todo_after : Shogi → MovePicker → List ℕ
 todo_after p (HashMove f) = todo p (HashMove f)
 todo_after p (Start hash_move) = todo p (Start hash_move)

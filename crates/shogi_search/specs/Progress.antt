@@ -22,11 +22,11 @@ pub record Progress : Type 0 where
 abbrev pub left_of : Progress → ℕ
 left_of search = search.left
 
--- before the first slice
+-- a search before its first slice, for values below a bound
 abbrev pub untouched_below : Shogi → Eval → ℕ → ℤ → Progress
 untouched_below p e d beta = record { root = p; eval = e; depth = d; beta = beta; begun = false; left = 2 * tree_size p d; steps = 0; found = None }
 
--- the same, where every value is below the bound
+-- a search before its first slice, where every value is below the bound
 abbrev pub untouched : Shogi → Eval → ℕ → Progress
 untouched p e d = untouched_below p e d INFINITY
 

@@ -10,15 +10,15 @@ use Rattle.shogi_eval.specs.declared.eval.Eval.{Eval}
 use Rattle.shogi_search.specs.Minimax.{worth, negated}
 use Rattle.shogi_search.specs.declared.bounds.TheConstants.{INFINITY}
 
--- whether a move of worth v and this code stands before one of worth w and the other code
-abbrev pub is_ahead : ℤ → ℕ → ℤ → ℕ → Bool
-is_ahead v code w other = int_lt w v || (int_eq v w && nat_lt code other)
+-- whether a move of worth v and this code is better than one of worth w and the other code: it is worth more, or as much with the lesser code
+abbrev pub is_better : ℤ → ℕ → ℤ → ℕ → Bool
+is_better v code w other = int_lt w v || (int_eq v w && nat_lt code other)
 
 -- a code before the first of the list that it stands before, or last
 abbrev pub insert_code : (ℕ → ℤ) → ℕ → List ℕ → List ℕ
 insert_code worth_of code [] = code ∷ []
 insert_code worth_of code (next ∷ more) =
-    cond (is_ahead (worth_of code) code (worth_of next) next) (code ∷ next ∷ more) (next ∷ insert_code worth_of code more)
+    cond (is_better (worth_of code) code (worth_of next) next) (code ∷ next ∷ more) (next ∷ insert_code worth_of code more)
 
 -- the codes of a list, each put in its place
 unfoldable pub ranked : (ℕ → ℤ) → List ℕ → List ℕ
@@ -37,7 +37,7 @@ pub record Ranking : Type 0 where
 -- a move with its value before the first pair that it stands before, or last
 abbrev pub insert_pair : Move → ℤ → List (Move × ℤ) → List (Move × ℤ)
 insert_pair m v [] = (m, v) ∷ []
-insert_pair m v (x ∷ xs) = cond (is_ahead v (code_of m) x.1 (code_of x.0)) ((m, v) ∷ x ∷ xs) (x ∷ insert_pair m v xs)
+insert_pair m v (x ∷ xs) = cond (is_better v (code_of m) x.1 (code_of x.0)) ((m, v) ∷ x ∷ xs) (x ∷ insert_pair m v xs)
 
 -- the codes of the moves
 abbrev pub codes_in : List (Move × ℤ) → List ℕ
@@ -47,7 +47,7 @@ codes_in pairs = map (λ x. code_of x.0) pairs
 abbrev pub are_ranked : List (Move × ℤ) → Bool
 are_ranked [] = true
 are_ranked (x ∷ []) = true
-are_ranked (x ∷ y ∷ rest) = is_ahead x.1 (code_of x.0) y.1 (code_of y.0) && are_ranked (y ∷ rest)
+are_ranked (x ∷ y ∷ rest) = is_better x.1 (code_of x.0) y.1 (code_of y.0) && are_ranked (y ∷ rest)
 
 -- a pair with the code in place of the move
 abbrev pub coded : Move × ℤ → ℕ × ℤ

@@ -15,7 +15,7 @@ left_in (Some f) started whole rest = 0
 left_in None false whole rest = whole
 left_in None true whole rest = rest
 
--- as its caller sees it
+-- a search as its caller sees it
 abbrev pub progress_of : Inside → Progress
 progress_of s = record {
   root = s.stack.root;

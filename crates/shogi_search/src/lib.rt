@@ -16,7 +16,7 @@ pub use bounds::{INFINITY, MATE, SEARCH_DEPTH_MAX};
 pub use found::Found;
 pub use full_search::{search, search_below};
 pub use memo::{Entry, Memo, NoMemo};
-pub use ranks::{PV_LINES_MAX, Ranks};
+pub use ranks::{MULTI_PV_MAX, Ranks};
 pub use sliced_search::Search;
 
 #[cfg(test)]

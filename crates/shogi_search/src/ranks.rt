@@ -3,10 +3,10 @@
 ghost use Rattle.std.specs.Prelude.{◌≡◌, ℕ, ℤ, ◌≤◌, ◌≤ℤ◌, ◌<ℤ◌, List, [], ◌∷◌, ◌++◌, length, take, insert, true, false};
 ghost use Rattle.shogi_core.specs.Codes.{code_of};
 ghost use Rattle.shogi_moves.specs.Rising.{is_in};
-ghost use Rattle.shogi_search.specs.Ranked.{is_ahead, insert_pair, codes_in, are_ranked, IsTop, value_to_pass, child_beta};
+ghost use Rattle.shogi_search.specs.Ranked.{is_better, insert_pair, codes_in, are_ranked, IsTop, value_to_pass, child_beta};
 ghost use Rattle.shogi_search.specs.Minimax.{negated};
 ghost use Rattle.shogi_search.specs.declared.bounds.TheConstants.{INFINITY};
-ghost use Rattle.shogi_search.specs.declared.ranks.TheConstants.{PV_LINES_MAX};
+ghost use Rattle.shogi_search.specs.declared.ranks.TheConstants.{MULTI_PV_MAX};
 
 use crate::bounds::INFINITY;
 use arrayvec::ArrayVec;
@@ -14,7 +14,7 @@ use shogi_core::Move;
 use std::marker::Model;
 
 /// The greatest number of lines.
-pub const PV_LINES_MAX: usize = 8;
+pub const MULTI_PV_MAX: usize = 8;
 
 /// A pair more than there are lines: a new one is put in before the last one goes.
 const ROOM: usize = 9;
@@ -30,18 +30,18 @@ pub struct Ranks {
 impl Model for Ranks {
     ghost use Rattle.std.specs.Prelude.{◌≡◌, ◌≤◌, length, true};
     ghost use Rattle.shogi_search.specs.Ranked.{Ranking, are_ranked};
-    ghost use Rattle.shogi_search.specs.declared.ranks.TheConstants.{PV_LINES_MAX};
+    ghost use Rattle.shogi_search.specs.declared.ranks.TheConstants.{MULTI_PV_MAX};
 
     ghost Value = { Ranking };
 
     ghost view = { λ r. record { lines = r.lines; pairs = r.pairs.items } };
 
-    ghost invariant = { λ r. (1 ≤ r.lines) × (r.lines ≤ PV_LINES_MAX) × (length r.pairs.items ≤ r.lines) × (are_ranked r.pairs.items ≡ true) };
+    ghost invariant = { λ r. (1 ≤ r.lines) × (r.lines ≤ MULTI_PV_MAX) × (length r.pairs.items ≤ r.lines) × (are_ranked r.pairs.items ≡ true) };
 }
 
 /// Whether a move with its value stands before another one.
-fn is_ahead(m: &Move, value: i32, other: &(Move, i32)) -> bool
-    ensures { result ≡ is_ahead value (code_of m.now) other.now.1 (code_of other.now.0) }
+fn is_better(m: &Move, value: i32, other: &(Move, i32)) -> bool
+    ensures { result ≡ is_better value (code_of m.now) other.now.1 (code_of other.now.0) }
 {
     value > other.1 || (value == other.1 && m.code() < other.0.code())
 }
@@ -50,7 +50,7 @@ impl Ranks {
     /// No move yet, for a number of lines from 1 to 8.
     pub fn new(lines: usize) -> Ranks
         requires least { 1 ≤ lines }
-        requires most { lines ≤ PV_LINES_MAX }
+        requires most { lines ≤ MULTI_PV_MAX }
         ensures empty { result ≡ record { lines = lines; pairs = [] } }
         ensures top { (f : ℕ → ℤ) → IsTop f [] result }
     {
@@ -67,7 +67,7 @@ impl Ranks {
     {
         let pairs = self.pairs.as_slice();
         for (place, pair) in pairs.iter().enumerate() {
-            if is_ahead(m, value, pair) {
+            if is_better(m, value, pair) {
                 return place;
             }
         }
@@ -116,7 +116,7 @@ impl Ranks {
         ensures value { result.now ≡ self.now.pairs }
         ensures ordered { are_ranked self.now.pairs ≡ true }
         ensures bound { length self.now.pairs ≤ self.now.lines }
-        ensures lines { self.now.lines ≤ PV_LINES_MAX }
+        ensures lines { self.now.lines ≤ MULTI_PV_MAX }
     {
         self.pairs.as_slice()
     }

@@ -8,9 +8,9 @@ use Rattle.shogi_eval.specs.declared.eval.Eval.{Eval}
 use Rattle.shogi_sfen.specs.Words.{words, after_word}
 use Rattle.shogi_sfen.specs.Numbers.{is_number, number_written}
 use Rattle.usi_lines.specs.declared.command.Hold.{Hold}
-use Rattle.usi_lines.specs.declared.options.TheConstants.{DEPTH_MIN, DEPTH_MAX, PV_LINES_MIN, PV_LINES_MAX}
+use Rattle.usi_lines.specs.declared.options.TheConstants.{DEPTH_MIN, DEPTH_MAX, MULTI_PV_MIN, MULTI_PV_MAX}
 use Rattle.usi_lines.specs.Commands.{Command, Usi, IsReady, NewGame, BadPosition, GoMate, Stop, PonderHit, GameOver, Quit, Startpos, Sfen, Other, SetDepth, SetEval, SetLines, Go}
-use Rattle.usi_lines.specs.Options.{IsDepth, IsLineCount, IsInRange, clamped_read, depth_read, eval_read, lines_read, command_for, option_of}
+use Rattle.usi_lines.specs.Options.{IsDepth, IsMultiPv, IsInRange, clamped_read, depth_read, eval_read, multi_pv_read, command_for, option_of}
 use Rattle.usi_lines.specs.CommandLines.{depth_in_first, depth_of, position_of, hold_of, has_word, named_by, by_words, command_of}
 
 pub command_of-none : (line : List ℕ) → words line ≡ [] → Other ≡ command_of line
@@ -33,11 +33,11 @@ depth_clamped n = record { least = omega arith; most = omega arith }
 depth_read_fits : (word : List ℕ) → IfSome (depth_read word) IsDepth
 depth_read_fits word = clamped_read_fits DEPTH_MIN DEPTH_MAX word IsDepth depth_clamped
 
-lines_clamped : (n : ℕ) → IsLineCount (max PV_LINES_MIN (min PV_LINES_MAX n))
+lines_clamped : (n : ℕ) → IsMultiPv (max MULTI_PV_MIN (min MULTI_PV_MAX n))
 lines_clamped n = record { least = omega arith; most = omega arith }
 
-lines_read_fits : (word : List ℕ) → IfSome (lines_read word) IsLineCount
-lines_read_fits word = clamped_read_fits PV_LINES_MIN PV_LINES_MAX word IsLineCount lines_clamped
+multi_pv_read_fits : (word : List ℕ) → IfSome (multi_pv_read word) IsMultiPv
+multi_pv_read_fits word = clamped_read_fits MULTI_PV_MIN MULTI_PV_MAX word IsMultiPv lines_clamped
 
 depth_in_first_fits : (ws : List (List ℕ)) → IfSome (depth_in_first ws) IsDepth
 depth_in_first_fits [] = tt
@@ -59,7 +59,7 @@ eval_set_fits : (o : Option Eval) → Fits (option_map_or SetEval o Other)
 eval_set_fits None = record { in_range = tt }
 eval_set_fits (Some eval) = record { in_range = tt }
 
-lines_set_fits : (o : Option ℕ) → IfSome o IsLineCount → Fits (option_map_or SetLines o Other)
+lines_set_fits : (o : Option ℕ) → IfSome o IsMultiPv → Fits (option_map_or SetLines o Other)
 lines_set_fits None h = record { in_range = tt }
 lines_set_fits (Some lines) h = record { in_range = h }
 
@@ -78,7 +78,7 @@ command_for_fits : (name value : List ℕ) → Fits (command_for name value)
 command_for_fits name value =
     either (bytes_eq name (codes "Depth")) _ _ (depth_set_fits (depth_read value) (depth_read_fits value)) (
     either (bytes_eq name (codes "Eval")) _ _ (eval_set_fits (eval_read value)) (
-    either (bytes_eq name (codes "MultiPV")) _ _ (lines_set_fits (lines_read value) (lines_read_fits value)) (
+    either (bytes_eq name (codes "MultiPV")) _ _ (lines_set_fits (multi_pv_read value) (multi_pv_read_fits value)) (
     plain Other tt)))
 
 option_fits : (ws : List (List ℕ)) → Fits (option_of ws)

@@ -5,7 +5,7 @@ use Rattle.std.specs.Str.{bytes_eq}
 use Rattle.shogi_eval.specs.declared.eval.Eval.{Eval}
 use Rattle.shogi_eval.specs.declared.eval.Eval.TheVariants.{Plain, Hand}
 use Rattle.shogi_sfen.specs.Numbers.{is_number, number_written}
-use Rattle.usi_lines.specs.declared.options.TheConstants.{DEPTH_MIN, DEPTH_MAX, PV_LINES_MIN, PV_LINES_MAX}
+use Rattle.usi_lines.specs.declared.options.TheConstants.{DEPTH_MIN, DEPTH_MAX, MULTI_PV_MIN, MULTI_PV_MAX}
 use Rattle.usi_lines.specs.Commands.{Command, SetDepth, SetEval, SetLines, Go, Other}
 
 -- the range of a depth
@@ -14,9 +14,9 @@ pub record IsDepth (depth : ℕ) : Type 0 where
   pub most : depth ≤ DEPTH_MAX
 
 -- the range of a number of best lines
-pub record IsLineCount (lines : ℕ) : Type 0 where
-  pub least : PV_LINES_MIN ≤ lines
-  pub most : lines ≤ PV_LINES_MAX
+pub record IsMultiPv (lines : ℕ) : Type 0 where
+  pub least : MULTI_PV_MIN ≤ lines
+  pub most : lines ≤ MULTI_PV_MAX
 
 -- a number, clamped to a range, where the word is one
 abbrev pub clamped_read : ℕ → ℕ → List ℕ → Option ℕ
@@ -27,8 +27,8 @@ abbrev pub depth_read : List ℕ → Option ℕ
 depth_read word = clamped_read DEPTH_MIN DEPTH_MAX word
 
 -- a number of best lines, clamped to its range, where the word is a number
-abbrev pub lines_read : List ℕ → Option ℕ
-lines_read word = clamped_read PV_LINES_MIN PV_LINES_MAX word
+abbrev pub multi_pv_read : List ℕ → Option ℕ
+multi_pv_read word = clamped_read MULTI_PV_MIN MULTI_PV_MAX word
 
 -- an evaluation, where the word is its name, letter for letter
 abbrev pub eval_read : List ℕ → Option Eval
@@ -41,7 +41,7 @@ abbrev pub command_for : List ℕ → List ℕ → Command
 command_for name value =
     cond (bytes_eq name (codes "Depth")) (option_map_or SetDepth (depth_read value) Other)
     (cond (bytes_eq name (codes "Eval")) (option_map_or SetEval (eval_read value) Other)
-    (cond (bytes_eq name (codes "MultiPV")) (option_map_or SetLines (lines_read value) Other)
+    (cond (bytes_eq name (codes "MultiPV")) (option_map_or SetLines (multi_pv_read value) Other)
     Other))
 
 -- exactly the words `name NAME value VALUE`
@@ -53,6 +53,6 @@ option_of _ = Other
 -- each number in a command lies in its range: a row for each option that is a number
 abbrev pub IsInRange : Command → Type 0
 IsInRange (SetDepth depth) = IsDepth depth
-IsInRange (SetLines lines) = IsLineCount lines
+IsInRange (SetLines lines) = IsMultiPv lines
 IsInRange (Go (Some depth) hold) = IsDepth depth
 IsInRange _ = Unit {0}

@@ -15,5 +15,5 @@ pub use buffer::{LineBuffer, LineFault};
 pub use command::{Command, Hold};
 pub use first::{FirstLine, first_line};
 pub use line::{LINE_FEED, LINE_MAX, Line};
-pub use options::{DEPTH_MAX, DEPTH_MIN, PV_LINES_MAX, PV_LINES_MIN};
+pub use options::{DEPTH_MAX, DEPTH_MIN, MULTI_PV_MAX, MULTI_PV_MIN};
 pub use read::read_command;

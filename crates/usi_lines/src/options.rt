@@ -2,7 +2,7 @@
 
 ghost use Rattle.std.specs.Prelude.{◌≡◌};
 ghost use Rattle.shogi_sfen.specs.Words.{words};
-ghost use Rattle.usi_lines.specs.Options.{clamped_read, depth_read, eval_read, lines_read, command_for, option_of};
+ghost use Rattle.usi_lines.specs.Options.{clamped_read, depth_read, eval_read, multi_pv_read, command_for, option_of};
 ghost use Rattle.usi_lines.specs.Seen.{meaning_of};
 
 use crate::command::Command;
@@ -17,10 +17,10 @@ pub const DEPTH_MIN: u8 = 1;
 pub const DEPTH_MAX: u8 = 16;
 
 /// The least number of best lines of a `go` (own choice, as is the greatest).
-pub const PV_LINES_MIN: u8 = 1;
+pub const MULTI_PV_MIN: u8 = 1;
 
 /// The greatest number of best lines of a `go`.
-pub const PV_LINES_MAX: u8 = 8;
+pub const MULTI_PV_MAX: u8 = 8;
 
 /// A number, clamped to a range, where the word is one.
 fn read_clamped(word: &[u8], least: u8, most: u8) -> Option<u8>
@@ -38,10 +38,10 @@ pub fn read_depth(word: &[u8]) -> Option<u8>
 }
 
 /// A number of best lines, clamped to its range, where the word is a number.
-fn read_lines(word: &[u8]) -> Option<u8>
-    ensures { result ≡ lines_read word.now }
+fn read_multi_pv(word: &[u8]) -> Option<u8>
+    ensures { result ≡ multi_pv_read word.now }
 {
-    read_clamped(word, PV_LINES_MIN, PV_LINES_MAX)
+    read_clamped(word, MULTI_PV_MIN, MULTI_PV_MAX)
 }
 
 /// An evaluation, where the word is its name.
@@ -73,7 +73,7 @@ fn command_for<'a>(name: &[u8], value: &[u8]) -> Command<'a>
             None => Command::Other,
         }
     } else if is(name, b"MultiPV") {
-        match read_lines(value) {
+        match read_multi_pv(value) {
             Some(lines) => Command::SetLines(lines),
             None => Command::Other,
         }

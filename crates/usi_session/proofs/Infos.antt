@@ -8,32 +8,32 @@ use Rattle.shogi_moves.specs.LegalMoves.{legal_codes}
 use Rattle.shogi_search.specs.Minimax.{best, pv}
 use Rattle.shogi_search.proofs.Lines.{pv-none}
 use Rattle.shogi_search.proofs.Best.{none_iff}
-use Rattle.usi_session.specs.GoCommand.{info_lines, depth_lines, go_infos, go_infos_where}
+use Rattle.usi_session.specs.GoInfos.{info_lines, depth_lines, go_infos, go_infos_where}
 
-pub info_lines-start : (p : Shogi) (eval : Eval) (pv_lines : ℕ) → info_lines p eval pv_lines 0 ≡ []
+pub info_lines-start : (p : Shogi) (eval : Eval) (multi_pv : ℕ) → info_lines p eval multi_pv 0 ≡ []
 unfolding info_lines
-info_lines-start p eval pv_lines = refl
+info_lines-start p eval multi_pv = refl
 
 -- one depth more
-pub info_lines-more : (p : Shogi) (eval : Eval) (pv_lines done : ℕ) → info_lines p eval pv_lines (done + 1) ≡ info_lines p eval pv_lines done ++ depth_lines p eval pv_lines (done + 1)
+pub info_lines-more : (p : Shogi) (eval : Eval) (multi_pv done : ℕ) → info_lines p eval multi_pv (done + 1) ≡ info_lines p eval multi_pv done ++ depth_lines p eval multi_pv (done + 1)
 unfolding info_lines
-info_lines-more p eval pv_lines done = rw add-one refl
+info_lines-more p eval multi_pv done = rw add-one refl
 
 -- a list with a first element is not empty
 pub not_empty : (xs rest : List ℕ) (x : ℕ) → xs ≡ x ∷ rest → xs ≢ []
 not_empty xs rest x e = λ h. cc
 
 -- where no move is legal nothing is said
-pub go_infos-none : (p : Shogi) (eval : Eval) (pv_lines depth : ℕ) → legal_codes p ≡ [] → go_infos p eval pv_lines depth ≡ []
-go_infos-none p eval pv_lines depth e = ap (go_infos_where p eval pv_lines depth) e
+pub go_infos-none : (p : Shogi) (eval : Eval) (multi_pv depth : ℕ) → legal_codes p ≡ [] → go_infos p eval multi_pv depth ≡ []
+go_infos-none p eval multi_pv depth e = ap (go_infos_where p eval multi_pv depth) e
 
-go_infos_where-some : (p : Shogi) (eval : Eval) (pv_lines depth : ℕ) (codes : List ℕ) → codes ≢ [] → go_infos_where p eval pv_lines depth codes ≡ info_lines p eval pv_lines depth
-go_infos_where-some p eval pv_lines depth [] h = absurd (h refl)
-go_infos_where-some p eval pv_lines depth (code ∷ codes) h = refl
+go_infos_where-some : (p : Shogi) (eval : Eval) (multi_pv depth : ℕ) (codes : List ℕ) → codes ≢ [] → go_infos_where p eval multi_pv depth codes ≡ info_lines p eval multi_pv depth
+go_infos_where-some p eval multi_pv depth [] h = absurd (h refl)
+go_infos_where-some p eval multi_pv depth (code ∷ codes) h = refl
 
 -- where a move is legal each depth is said
-pub go_infos-some : (p : Shogi) (eval : Eval) (pv_lines depth : ℕ) → legal_codes p ≢ [] → go_infos p eval pv_lines depth ≡ info_lines p eval pv_lines depth
-go_infos-some p eval pv_lines depth h = go_infos_where-some p eval pv_lines depth (legal_codes p) h
+pub go_infos-some : (p : Shogi) (eval : Eval) (multi_pv depth : ℕ) → legal_codes p ≢ [] → go_infos p eval multi_pv depth ≡ info_lines p eval multi_pv depth
+go_infos-some p eval multi_pv depth h = go_infos_where-some p eval multi_pv depth (legal_codes p) h
 
 none_is : (o : Option Move) → is_some o ≡ false → o ≡ None
 none_is None e = refl

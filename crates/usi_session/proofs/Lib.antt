@@ -1,6 +1,6 @@
 pub mod Appends
 pub mod PositionLaws
-pub mod HandLaws
+pub mod RunningGoLaws
 pub mod Walk
 pub mod Listed
 pub mod GoOn

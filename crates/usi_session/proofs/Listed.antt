@@ -25,8 +25,8 @@ use Rattle.shogi_search.proofs.MinimaxLaws.{best-code, best_code-above}
 use Rattle.shogi_search.proofs.RankedLaws.{best_ranked, in_ranked, first_in}
 use Rattle.usi_session.specs.declared.question.Question.{Question}
 use Rattle.usi_session.specs.Costs.{pvs_cost}
-use Rattle.usi_session.specs.GoCommand.{listed, pv_by}
-use Rattle.usi_session.specs.InHand.{listed_at}
+use Rattle.usi_session.specs.GoInfos.{listed, pv_by}
+use Rattle.usi_session.specs.RunningGo.{listed_at}
 use Rattle.usi_session.specs.Walked.{Walked, IsFirst, IsRanked, IsRankedTo, IsLine}
 
 -- the front of a list ends with this one
@@ -99,27 +99,27 @@ some_in xs c i e = both_ways _ (sym i ∙ ap (is_in c) e) refl
 pub first_some : (p : Shogi) (m : Move) → IsFirst p m → legal_codes p ≢ []
 first_some p m e n = let q : code_of m ∷ legal_above p (Some m) ≡ [] = sym e ∙ n in cc
 
--- where there is a child some move is legal
-pub child_some : (asked : Question) (told : ℕ) (m : Move) (r : Ranking) → IsRankedTo asked told m r → legal_codes asked.position ≢ []
-child_some asked told m r h =
-    some_in (legal_codes asked.position) (code_of m)
-    (legal_above_in asked.position h.passed (code_of m) (ap (is_in (code_of m)) h.next ∙ first_in (code_of m) (legal_above asked.position (Some m))))
+-- where there is a root move some move is legal
+pub root_move_some : (question : Question) (depths_done : ℕ) (m : Move) (r : Ranking) → IsRankedTo question depths_done m r → legal_codes question.position ≢ []
+root_move_some question depths_done m r h =
+    some_in (legal_codes question.position) (code_of m)
+    (legal_above_in question.position h.passed (code_of m) (ap (is_in (code_of m)) h.next ∙ first_in (code_of m) (legal_above question.position (Some m))))
 
 -- the pairs are those of the listed moves
-top_listed : (asked : Question) (told : ℕ) (r : Ranking) → IsRanked asked told r → map coded r.pairs ≡ map (with_worth (worth asked.position asked.eval told)) (listed_at asked told)
-top_listed asked told r h =
-    let n : told + 1 - 1 ≡ told = omega arith in
-    h.top ∙ ap (λ (k : ℕ). map (with_worth (worth asked.position asked.eval told)) (take k (ranked (worth asked.position asked.eval told) (legal_codes asked.position)))) h.most
-    ∙ ap (λ (k : ℕ). map (with_worth (worth asked.position asked.eval told)) (take asked.pv_lines (ranked (worth asked.position asked.eval k) (legal_codes asked.position)))) (sym n)
+top_listed : (question : Question) (depths_done : ℕ) (r : Ranking) → IsRanked question depths_done r → map coded r.pairs ≡ map (with_worth (worth question.position question.eval depths_done)) (listed_at question depths_done)
+top_listed question depths_done r h =
+    let n : depths_done + 1 - 1 ≡ depths_done = omega arith in
+    h.top ∙ ap (λ (k : ℕ). map (with_worth (worth question.position question.eval depths_done)) (take k (ranked (worth question.position question.eval depths_done) (legal_codes question.position)))) h.most
+    ∙ ap (λ (k : ℕ). map (with_worth (worth question.position question.eval depths_done)) (take question.multi_pv (ranked (worth question.position question.eval k) (legal_codes question.position)))) (sym n)
 
-pub ranked_length : (asked : Question) (told : ℕ) (r : Ranking) → IsRanked asked told r → length r.pairs ≡ length (listed_at asked told)
-ranked_length asked told r h =
-    sym (length-map r.pairs coded) ∙ ap length (top_listed asked told r h) ∙ length-map (listed_at asked told) (with_worth (worth asked.position asked.eval told))
+pub ranked_length : (question : Question) (depths_done : ℕ) (r : Ranking) → IsRanked question depths_done r → length r.pairs ≡ length (listed_at question depths_done)
+ranked_length question depths_done r h =
+    sym (length-map r.pairs coded) ∙ ap length (top_listed question depths_done r h) ∙ length-map (listed_at question depths_done) (with_worth (worth question.position question.eval depths_done))
 
 -- of a pair
-pub record IsPair (asked : Question) (told shown : ℕ) (m : Move) (v : ℤ) : Type 0 where
-  pub listed_as : slice_get (listed_at asked told) shown ≡ Some (code_of m)
-  pub value_is : v ≡ worth asked.position asked.eval told (code_of m)
+pub record IsPair (question : Question) (depths_done lines_done : ℕ) (m : Move) (v : ℤ) : Type 0 where
+  pub listed_as : slice_get (listed_at question depths_done) lines_done ≡ Some (code_of m)
+  pub value_is : v ≡ worth question.position question.eval depths_done (code_of m)
 
 pair_at : (f : ℕ → ℤ) (x : Move × ℤ) (o : Option ℕ) → Some (coded x) ≡ option_map (with_worth f) o → (o ≡ Some (code_of x.0)) × (x.1 ≡ f (code_of x.0))
 pair_at f x None e = absurd (cc)
@@ -129,47 +129,47 @@ pair_at f x (Some c) e =
     let w : x.1 ≡ f c = ap (λ (y : ℕ × ℤ). y.1) q in
     (ap Some (sym k), w ∙ ap f (sym k))
 
-pub ranked_pair : (asked : Question) (told shown : ℕ) (r : Ranking) (x : Move × ℤ) → IsRanked asked told r → slice_get r.pairs shown ≡ Some x → IsPair asked told shown x.0 x.1
-ranked_pair asked told shown r x h e =
-    let at : Some (coded x) ≡ option_map (with_worth (worth asked.position asked.eval told)) (slice_get (listed_at asked told) shown) =
-    sym (ap (option_map coded) e) ∙ sym (slice_get-map coded r.pairs shown) ∙ ap (λ (l : List (ℕ × ℤ)). slice_get l shown) (top_listed asked told r h) ∙ slice_get-map (with_worth (worth asked.position asked.eval told)) (listed_at asked told) shown in
-    let both : (slice_get (listed_at asked told) shown ≡ Some (code_of x.0)) × (x.1 ≡ worth asked.position asked.eval told (code_of x.0)) = pair_at (worth asked.position asked.eval told) x (slice_get (listed_at asked told) shown) at in
+pub ranked_pair : (question : Question) (depths_done lines_done : ℕ) (r : Ranking) (x : Move × ℤ) → IsRanked question depths_done r → slice_get r.pairs lines_done ≡ Some x → IsPair question depths_done lines_done x.0 x.1
+ranked_pair question depths_done lines_done r x h e =
+    let at : Some (coded x) ≡ option_map (with_worth (worth question.position question.eval depths_done)) (slice_get (listed_at question depths_done) lines_done) =
+    sym (ap (option_map coded) e) ∙ sym (slice_get-map coded r.pairs lines_done) ∙ ap (λ (l : List (ℕ × ℤ)). slice_get l lines_done) (top_listed question depths_done r h) ∙ slice_get-map (with_worth (worth question.position question.eval depths_done)) (listed_at question depths_done) lines_done in
+    let both : (slice_get (listed_at question depths_done) lines_done ≡ Some (code_of x.0)) × (x.1 ≡ worth question.position question.eval depths_done (code_of x.0)) = pair_at (worth question.position question.eval depths_done) x (slice_get (listed_at question depths_done) lines_done) at in
     record { listed_as = both.0; value_is = both.1 }
 
 -- the pv after a listed move
-pub pv_by_move : (p next : Shogi) (eval : Eval) (told : ℕ) (m : Move) → move_of (code_of m) ≡ Some m → next ≡ after p m → m ∷ pv next eval told ≡ pv_by p eval (told + 1) (code_of m)
-pv_by_move p next eval told m b a =
-    let n : told + 1 - 1 ≡ told = omega arith in
-    ap (λ (q : Shogi). m ∷ pv q eval told) a
+pub pv_by_move : (p next : Shogi) (eval : Eval) (depths_done : ℕ) (m : Move) → move_of (code_of m) ≡ Some m → next ≡ after p m → m ∷ pv next eval depths_done ≡ pv_by p eval (depths_done + 1) (code_of m)
+pv_by_move p next eval depths_done m b a =
+    let n : depths_done + 1 - 1 ≡ depths_done = omega arith in
+    ap (λ (q : Shogi). m ∷ pv q eval depths_done) a
     ∙ ap (λ (k : ℕ). m ∷ pv (after p m) eval k) (sym n)
-    ∙ ap (then_pv (λ q. pv q eval (told + 1 - 1)) p) (sym b)
+    ∙ ap (then_pv (λ q. pv q eval (depths_done + 1 - 1)) p) (sym b)
 
 -- the walk of the first line has the value and the pv of the position
-pub line_first : (asked : Question) (told : ℕ) (w : Walked) → IsLine asked told 0 w → 1 ≤ asked.pv_lines → legal_codes asked.position ≢ []
-    → (w.value ≡ value asked.position asked.eval (told + 1)) × (w.pv ≡ pv asked.position asked.eval (told + 1))
-line_first asked told w l h ne =
-    let f : IsFirstLine asked.position asked.eval (told + 1) = first_line asked.position asked.eval (told + 1) (omega arith) ne in
-    let s : Some l.code ≡ Some f.code = sym l.listed_as ∙ first_listed asked.position asked.eval asked.pv_lines (told + 1) f h in
+pub line_first : (question : Question) (depths_done : ℕ) (w : Walked) → IsLine question depths_done 0 w → 1 ≤ question.multi_pv → legal_codes question.position ≢ []
+    → (w.value ≡ value question.position question.eval (depths_done + 1)) × (w.pv ≡ pv question.position question.eval (depths_done + 1))
+line_first question depths_done w l h ne =
+    let f : IsFirstLine question.position question.eval (depths_done + 1) = first_line question.position question.eval (depths_done + 1) (omega arith) ne in
+    let s : Some l.code ≡ Some f.code = sym l.listed_as ∙ first_listed question.position question.eval question.multi_pv (depths_done + 1) f h in
     let c : l.code ≡ f.code = cc in
-    let n : told + 1 - 1 ≡ told = omega arith in (
-      l.value_is ∙ ap (worth asked.position asked.eval told) c ∙ sym (f.value_is ∙ ap (λ (k : ℕ). worth asked.position asked.eval k f.code) n),
-      l.pv_is ∙ ap (pv_by asked.position asked.eval (told + 1)) c ∙ sym f.pv_is,
+    let n : depths_done + 1 - 1 ≡ depths_done = omega arith in (
+      l.value_is ∙ ap (worth question.position question.eval depths_done) c ∙ sym (f.value_is ∙ ap (λ (k : ℕ). worth question.position question.eval k f.code) n),
+      l.pv_is ∙ ap (pv_by question.position question.eval (depths_done + 1)) c ∙ sym f.pv_is,
     )
 
--- the line in hand is one of those listed
-pub line_within : (asked : Question) (told shown : ℕ) (w : Walked) → IsLine asked told shown w → shown < length (listed_at asked told)
-line_within asked told shown w l = slice_get_within (listed_at asked told) shown l.code l.listed_as
+-- the current line is one of those listed
+pub line_within : (question : Question) (depths_done lines_done : ℕ) (w : Walked) → IsLine question depths_done lines_done w → lines_done < length (listed_at question depths_done)
+line_within question depths_done lines_done w l = slice_get_within (listed_at question depths_done) lines_done l.code l.listed_as
 
 take_below : (xs : List ℕ) (n : ℕ) → length (take n xs) ≤ n
 take_below xs zero = omega arith
 take_below [] (suc n) = omega arith
 take_below (x ∷ xs) (suc n) = omega (arith, take_below xs n)
 
-pub line_below : (asked : Question) (told shown : ℕ) (w : Walked) → IsLine asked told shown w → shown < asked.pv_lines
-line_below asked told shown w l = omega (arith, line_within asked told shown w l, take_below (ranked_codes asked.position asked.eval (told + 1)) asked.pv_lines)
+pub line_below : (question : Question) (depths_done lines_done : ℕ) (w : Walked) → IsLine question depths_done lines_done w → lines_done < question.multi_pv
+line_below question depths_done lines_done w l = omega (arith, line_within question depths_done lines_done w l, take_below (ranked_codes question.position question.eval (depths_done + 1)) question.multi_pv)
 
 -- some move is listed
-pub some_listed : (asked : Question) (told : ℕ) → 1 ≤ asked.pv_lines → legal_codes asked.position ≢ [] → 0 < length (listed_at asked told)
-some_listed asked told h ne =
-    let f : IsFirstLine asked.position asked.eval (told + 1) = first_line asked.position asked.eval (told + 1) (omega arith) ne in
-    slice_get_within (listed_at asked told) 0 f.code (first_listed asked.position asked.eval asked.pv_lines (told + 1) f h)
+pub some_listed : (question : Question) (depths_done : ℕ) → 1 ≤ question.multi_pv → legal_codes question.position ≢ [] → 0 < length (listed_at question depths_done)
+some_listed question depths_done h ne =
+    let f : IsFirstLine question.position question.eval (depths_done + 1) = first_line question.position question.eval (depths_done + 1) (omega arith) ne in
+    slice_get_within (listed_at question depths_done) 0 f.code (first_listed question.position question.eval question.multi_pv (depths_done + 1) f h)

@@ -3,9 +3,9 @@ use Rattle.std.proofs.Common.{◌≡◌, ℕ, List, [], ◌∷◌, ◌++◌, ref
 use Rattle.std.specs.Prelude.{◌&&◌, ◌||◌, not, nat_lt, length, cond, is_some}
 use Rattle.usi_lines.specs.Lines.{Line, ahead, lines}
 use Rattle.usi_session.specs.declared.state.State.{State}
-use Rattle.usi_session.specs.InHand.{InHand, rest_of_go_if, infos_left}
+use Rattle.usi_session.specs.RunningGo.{RunningGo, rest_of_go_if, infos_to_come}
 use Rattle.usi_session.specs.Answer.{bestmove_at}
-use Rattle.usi_session.proofs.HandLaws.{write_or_hold-over}
+use Rattle.usi_session.proofs.RunningGoLaws.{write_or_hold-over}
 use Rattle.usi_session.specs.Due.{SessionView, due, state_due, owed, owed_after, has_line, is_pending, wants_input, new_session}
 use Rattle.usi_session.specs.Replies.{replies_from, state_from, is_over_after, answer_unless}
 use Rattle.usi_session.specs.declared.limits.TheConstants.{QUEUE_FULL}
@@ -25,15 +25,15 @@ unfolding replies_from
 replies_from-over s [] over = refl
 replies_from-over s (line ∷ rest) over = over_line s.is_over s line rest over (replies_from-over s rest over)
 
-owed-over : (s : State) (in_hand : Option InHand) (ahead : List Line) → s.is_over ≡ true → owed s in_hand ahead ≡ []
-owed-over s in_hand ahead over = ap (λ (b : Bool). cond b [] (owed_after (rest_of_go_if s in_hand) ahead)) over
+owed-over : (s : State) (running_go : Option RunningGo) (ahead : List Line) → s.is_over ≡ true → owed s running_go ahead ≡ []
+owed-over s running_go ahead over = ap (λ (b : Bool). cond b [] (owed_after (rest_of_go_if s running_go) ahead)) over
 
 -- a session that is over owes what is queued
 pub due-over : (s : SessionView) (x : List ℕ) → s.state.is_over ≡ true → due s x ≡ s.queued
-due-over s x over = ap (λ xs. s.queued ++ xs) (owed-over s.state s.in_hand (ahead s.input x) over) ∙ append-nil s.queued
+due-over s x over = ap (λ xs. s.queued ++ xs) (owed-over s.state s.running_go (ahead s.input x) over) ∙ append-nil s.queued
 
-nothing_owed : (over : Bool) (s : State) (in_hand : Option InHand) (xs : List Line) → (not over && (is_some in_hand || has_line xs)) ≡ false → cond over [] (owed_after (rest_of_go_if s in_hand) xs) ≡ []
-nothing_owed true s in_hand xs e = refl
+nothing_owed : (over : Bool) (s : State) (running_go : Option RunningGo) (xs : List Line) → (not over && (is_some running_go || has_line xs)) ≡ false → cond over [] (owed_after (rest_of_go_if s running_go) xs) ≡ []
+nothing_owed true s running_go xs e = refl
 nothing_owed false s None [] e = replies_from-none s
 nothing_owed false s None (line ∷ rest) e = absurd (cc)
 nothing_owed false s (Some go) xs e = absurd (cc)
@@ -41,7 +41,7 @@ nothing_owed false s (Some go) xs e = absurd (cc)
 -- a session with nothing pending owes what is queued
 pub due-settled : (s : SessionView) → is_pending s ≡ false → due s [] ≡ s.queued
 due-settled s settled =
-    ap (λ xs. s.queued ++ xs) (nothing_owed s.state.is_over s.state s.in_hand (ahead s.input []) settled) ∙ append-nil s.queued
+    ap (λ xs. s.queued ++ xs) (nothing_owed s.state.is_over s.state s.running_go (ahead s.input []) settled) ∙ append-nil s.queued
 
 -- no line, no change
 state_from-none : (s : State) → state_from s [] ≡ s
@@ -58,25 +58,25 @@ unfolding state_from
 state_from-over s [] over = refl
 state_from-over s (line ∷ rest) over = ap (λ (t : State). state_from t rest) (over_stays s.is_over s line over) ∙ state_from-over s rest over
 
-rest_of_go-over : (s : State) (in_hand : Option InHand) → (rest_of_go_if s in_hand).state.is_over ≡ s.is_over
+rest_of_go-over : (s : State) (running_go : Option RunningGo) → (rest_of_go_if s running_go).state.is_over ≡ s.is_over
 rest_of_go-over s None = refl
-rest_of_go-over s (Some go) = write_or_hold-over s (infos_left go.question go.told go.shown) (bestmove_at go.question.position go.question.eval go.question.depth go.question.hold) go.question.hold
+rest_of_go-over s (Some go) = write_or_hold-over s (infos_to_come go.question go.depths_done go.lines_done) (bestmove_at go.question.position go.question.eval go.question.depth go.question.hold) go.question.hold
 
 -- a session that is over will be over
 pub state_due-over : (s : SessionView) (x : List ℕ) → s.state.is_over ≡ true → (state_due s x).is_over ≡ true
 state_due-over s x over =
-    let ended : (rest_of_go_if s.state s.in_hand).state.is_over ≡ true = rest_of_go-over s.state s.in_hand ∙ over in
-    ap (λ (t : State). t.is_over) (state_from-over (rest_of_go_if s.state s.in_hand).state (ahead s.input x) ended) ∙ ended
+    let ended : (rest_of_go_if s.state s.running_go).state.is_over ≡ true = rest_of_go-over s.state s.running_go ∙ over in
+    ap (λ (t : State). t.is_over) (state_from-over (rest_of_go_if s.state s.running_go).state (ahead s.input x) ended) ∙ ended
 
-idle_state : (over : Bool) (s : State) (in_hand : Option InHand) (xs : List Line) → over ≡ false → (not over && (is_some in_hand || has_line xs)) ≡ false → state_from (rest_of_go_if s in_hand).state xs ≡ s
-idle_state true s in_hand xs alive e = absurd (cc)
+idle_state : (over : Bool) (s : State) (running_go : Option RunningGo) (xs : List Line) → over ≡ false → (not over && (is_some running_go || has_line xs)) ≡ false → state_from (rest_of_go_if s running_go).state xs ≡ s
+idle_state true s running_go xs alive e = absurd (cc)
 idle_state false s None [] alive e = state_from-none s
 idle_state false s None (line ∷ rest) alive e = absurd (cc)
 idle_state false s (Some go) xs alive e = absurd (cc)
 
 -- alive, with nothing pending, its state is the one after all that it was sent
 pub state_due-settled : (s : SessionView) → s.state.is_over ≡ false → is_pending s ≡ false → state_due s [] ≡ s.state
-state_due-settled s alive settled = idle_state s.state.is_over s.state s.in_hand (ahead s.input []) alive settled
+state_due-settled s alive settled = idle_state s.state.is_over s.state s.running_go (ahead s.input []) alive settled
 
 both_false : (over : Bool) → (not over && false) ≡ false
 both_false true = refl
@@ -89,7 +89,7 @@ settled_of true true short e = absurd (cc)
 
 -- a session that wants input owes what is queued
 pub due-wanting : (s : SessionView) → wants_input s ≡ true → due s [] ≡ s.queued
-due-wanting s wants = due-settled s (settled_of s.state.is_over (is_some s.in_hand || has_line (ahead s.input [])) (nat_lt (length s.queued) QUEUE_FULL) wants)
+due-wanting s wants = due-settled s (settled_of s.state.is_over (is_some s.running_go || has_line (ahead s.input [])) (nat_lt (length s.queued) QUEUE_FULL) wants)
 
 wants_from : (over line short : Bool) → over ≡ false → (not over && line) ≡ false → short ≡ true → (not over && not line && short) ≡ true
 wants_from false false true a b c = refl
@@ -100,7 +100,7 @@ wants_from true line short a b c = absurd (cc)
 -- alive and settled, with nothing queued, it wants input
 pub wants_after : (s : SessionView) → s.state.is_over ≡ false → is_pending s ≡ false → s.queued ≡ [] → wants_input s ≡ true
 wants_after s alive settled empty =
-    wants_from s.state.is_over (is_some s.in_hand || has_line (ahead s.input [])) (nat_lt (length s.queued) QUEUE_FULL) alive settled (ap (λ q. nat_lt (length q) QUEUE_FULL) empty)
+    wants_from s.state.is_over (is_some s.running_go || has_line (ahead s.input [])) (nat_lt (length s.queued) QUEUE_FULL) alive settled (ap (λ q. nat_lt (length q) QUEUE_FULL) empty)
 
 -- a new session wants input
 pub new_wants : wants_input new_session ≡ true
@@ -114,8 +114,8 @@ alive_of true settled short e = absurd (cc)
 -- a session that wants input is not over, and all that it was sent is answered
 pub state_due-wanting : (s : SessionView) → wants_input s ≡ true → (state_due s []).is_over ≡ false
 state_due-wanting s wants =
-    let alive : s.state.is_over ≡ false = alive_of s.state.is_over (is_some s.in_hand || has_line (ahead s.input [])) (nat_lt (length s.queued) QUEUE_FULL) wants in
-    let settled : is_pending s ≡ false = settled_of s.state.is_over (is_some s.in_hand || has_line (ahead s.input [])) (nat_lt (length s.queued) QUEUE_FULL) wants in
+    let alive : s.state.is_over ≡ false = alive_of s.state.is_over (is_some s.running_go || has_line (ahead s.input [])) (nat_lt (length s.queued) QUEUE_FULL) wants in
+    let settled : is_pending s ≡ false = settled_of s.state.is_over (is_some s.running_go || has_line (ahead s.input [])) (nat_lt (length s.queued) QUEUE_FULL) wants in
     ap (λ (t : State). t.is_over) (state_due-settled s alive settled) ∙ alive
 
 -- no session is over before it was sent anything

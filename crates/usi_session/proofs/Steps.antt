@@ -5,11 +5,11 @@ use Rattle.usi_lines.specs.Lines.{ahead}
 use Rattle.usi_session.specs.declared.question.Question.{Question}
 use Rattle.usi_session.specs.declared.state.HeldBestmove.{HeldBestmove}
 use Rattle.usi_session.specs.Answer.{bestmove_at, write_or_hold}
-use Rattle.usi_session.proofs.HandLaws.{infos_after-last, write_or_hold-bytes, write_or_hold-state}
+use Rattle.usi_session.proofs.RunningGoLaws.{infos_after_line-last, write_or_hold-bytes, write_or_hold-state}
 use Rattle.usi_lines.specs.Lines.{Line}
 use Rattle.usi_session.specs.declared.state.State.{State}
 use Rattle.usi_session.specs.Replies.{replies_from, state_from, answer_to, answer_unless}
-use Rattle.usi_session.specs.InHand.{InHand, rest_of_go, rest_of_go_if, with_rest, load_of, load_of_if, infos_left, infos_after, is_last, tells_of_if, most_tells}
+use Rattle.usi_session.specs.RunningGo.{RunningGo, rest_of_go, rest_of_go_if, with_rest, load_of, load_of_if, infos_to_come, infos_after_line, is_last, tells_of_if, most_tells}
 use Rattle.usi_session.specs.Costs.{costs_from, cost_to}
 use Rattle.usi_session.specs.Due.{SessionView, owed, owed_after, load_ahead, is_pending, has_line}
 use Rattle.usi_session.proofs.Settled.{replies_from-over}
@@ -29,106 +29,106 @@ state_from-alive : (s : State) (line : Line) (rest : List Line) → s.is_over �
 unfolding state_from
 state_from-alive s line rest alive = ap (λ (over : Bool). state_from (answer_unless over s line).state rest) alive
 
-owed_either : (over : Bool) (s : State) (in_hand : Option InHand) (ahead : List Line) → s.is_over ≡ over → (over ≡ true → in_hand ≡ None) → cond over [] (owed_after (rest_of_go_if s in_hand) ahead) ≡ owed_after (rest_of_go_if s in_hand) ahead
-owed_either false s in_hand ahead e h = refl
-owed_either true s in_hand ahead e h = rw (h refl) (sym (replies_from-over s ahead e))
+owed_either : (over : Bool) (s : State) (running_go : Option RunningGo) (ahead : List Line) → s.is_over ≡ over → (over ≡ true → running_go ≡ None) → cond over [] (owed_after (rest_of_go_if s running_go) ahead) ≡ owed_after (rest_of_go_if s running_go) ahead
+owed_either false s running_go ahead e h = refl
+owed_either true s running_go ahead e h = rw (h refl) (sym (replies_from-over s ahead e))
 
--- nothing is in hand of a session that is over
-pub owed_on : (s : State) (in_hand : Option InHand) (ahead : List Line) → (s.is_over ≡ true → in_hand ≡ None) → owed s in_hand ahead ≡ owed_after (rest_of_go_if s in_hand) ahead
-owed_on s in_hand ahead h = owed_either s.is_over s in_hand ahead refl h
+-- nothing is running in a session that is over
+pub owed_on : (s : State) (running_go : Option RunningGo) (ahead : List Line) → (s.is_over ≡ true → running_go ≡ None) → owed s running_go ahead ≡ owed_after (rest_of_go_if s running_go) ahead
+owed_on s running_go ahead h = owed_either s.is_over s running_go ahead refl h
 
-pub owed-alive : (s : State) (in_hand : Option InHand) (ahead : List Line) → s.is_over ≡ false → owed s in_hand ahead ≡ owed_after (rest_of_go_if s in_hand) ahead
-owed-alive s in_hand ahead alive = ap (λ (over : Bool). cond over [] (owed_after (rest_of_go_if s in_hand) ahead)) alive
+pub owed-alive : (s : State) (running_go : Option RunningGo) (ahead : List Line) → s.is_over ≡ false → owed s running_go ahead ≡ owed_after (rest_of_go_if s running_go) ahead
+owed-alive s running_go ahead alive = ap (λ (over : Bool). cond over [] (owed_after (rest_of_go_if s running_go) ahead)) alive
 
-with_rest-parts : (bytes : List ℕ) (s : State) (in_hand : Option InHand) → with_rest bytes s in_hand ≡ bytes ++ (rest_of_go_if s in_hand).bytes
+with_rest-parts : (bytes : List ℕ) (s : State) (running_go : Option RunningGo) → with_rest bytes s running_go ≡ bytes ++ (rest_of_go_if s running_go).bytes
 with_rest-parts bytes s None = sym (append-nil bytes)
 with_rest-parts bytes s (Some go) = refl
 
--- the answer was queued, and the state is the one after it; or its `go` is in hand
-pub due_on : (s next : State) (queued more reply : List ℕ) (idle in_hand : Option InHand) (line : Line) (all rest : List Line) → s.is_over ≡ false → idle ≡ None → all ≡ line ∷ rest → more ≡ queued ++ reply → with_rest reply next in_hand ≡ (answer_to s line).bytes → (rest_of_go_if next in_hand).state ≡ (answer_to s line).state → (next.is_over ≡ true → in_hand ≡ None)
-    → more ++ owed next in_hand rest ≡ queued ++ owed s idle all
-due_on s next queued more reply idle in_hand line all rest alive i e f g h over =
-    let given : reply ++ (rest_of_go_if next in_hand).bytes ≡ (answer_to s line).bytes = sym (with_rest-parts reply next in_hand) ∙ g in
+-- the answer was queued, and the state is the one after it; or its `go` is running
+pub due_on : (s next : State) (queued more reply : List ℕ) (idle running_go : Option RunningGo) (line : Line) (all rest : List Line) → s.is_over ≡ false → idle ≡ None → all ≡ line ∷ rest → more ≡ queued ++ reply → with_rest reply next running_go ≡ (answer_to s line).bytes → (rest_of_go_if next running_go).state ≡ (answer_to s line).state → (next.is_over ≡ true → running_go ≡ None)
+    → more ++ owed next running_go rest ≡ queued ++ owed s idle all
+due_on s next queued more reply idle running_go line all rest alive i e f g h over =
+    let given : reply ++ (rest_of_go_if next running_go).bytes ≡ (answer_to s line).bytes = sym (with_rest-parts reply next running_go) ∙ g in
     let after : owed s idle all ≡ (answer_to s line).bytes ++ replies_from (answer_to s line).state rest =
-    ap (λ (o : Option InHand). owed s o all) i ∙ (owed-alive s None all alive ∙ (ap (replies_from s) e ∙ replies_from-alive s line rest alive)) in
-    ap (λ xs. more ++ xs) (owed_on next in_hand rest over)
-    ∙ (ap (λ xs. xs ++ owed_after (rest_of_go_if next in_hand) rest) f
-    ∙ (append_assoc queued reply (owed_after (rest_of_go_if next in_hand) rest)
-    ∙ ap (λ xs. queued ++ xs) (sym (append_assoc reply (rest_of_go_if next in_hand).bytes (replies_from (rest_of_go_if next in_hand).state rest))
-    ∙ (ap (λ xs. xs ++ replies_from (rest_of_go_if next in_hand).state rest) given
+    ap (λ (o : Option RunningGo). owed s o all) i ∙ (owed-alive s None all alive ∙ (ap (replies_from s) e ∙ replies_from-alive s line rest alive)) in
+    ap (λ xs. more ++ xs) (owed_on next running_go rest over)
+    ∙ (ap (λ xs. xs ++ owed_after (rest_of_go_if next running_go) rest) f
+    ∙ (append_assoc queued reply (owed_after (rest_of_go_if next running_go) rest)
+    ∙ ap (λ xs. queued ++ xs) (sym (append_assoc reply (rest_of_go_if next running_go).bytes (replies_from (rest_of_go_if next running_go).state rest))
+    ∙ (ap (λ xs. xs ++ replies_from (rest_of_go_if next running_go).state rest) given
     ∙ (ap (λ (t : State). (answer_to s line).bytes ++ replies_from t rest) h ∙ sym after)))))
 
 -- the `go` of a line costs what the line did
-pub load_on : (s next : State) (idle in_hand : Option InHand) (line : Line) (all rest : List Line) → s.is_over ≡ false → idle ≡ None → all ≡ line ∷ rest → (rest_of_go_if next in_hand).state ≡ (answer_to s line).state → load_of_if in_hand ≤ cost_to s line → load_ahead next in_hand rest ≤ load_ahead s idle all
-load_on s next idle in_hand line all rest alive i e h less =
+pub load_on : (s next : State) (idle running_go : Option RunningGo) (line : Line) (all rest : List Line) → s.is_over ≡ false → idle ≡ None → all ≡ line ∷ rest → (rest_of_go_if next running_go).state ≡ (answer_to s line).state → load_of_if running_go ≤ cost_to s line → load_ahead next running_go rest ≤ load_ahead s idle all
+load_on s next idle running_go line all rest alive i e h less =
     let whole : costs_from s all ≡ cost_to s line + costs_from (answer_to s line).state rest = ap (costs_from s) e ∙ costs_from-alive s line rest alive in
-    let same : costs_from (rest_of_go_if next in_hand).state rest ≡ costs_from (answer_to s line).state rest = ap (λ (t : State). costs_from t rest) h in
+    let same : costs_from (rest_of_go_if next running_go).state rest ≡ costs_from (answer_to s line).state rest = ap (λ (t : State). costs_from t rest) h in
     rw i (omega arith)
 
 -- the state after all lines is that after the `go` of a line and the lines behind it
-pub state_on : (s next : State) (idle in_hand : Option InHand) (line : Line) (all rest : List Line) → s.is_over ≡ false → idle ≡ None → all ≡ line ∷ rest → (rest_of_go_if next in_hand).state ≡ (answer_to s line).state → state_from (rest_of_go_if next in_hand).state rest ≡ state_from (rest_of_go_if s idle).state all
-state_on s next idle in_hand line all rest alive i e h =
-    ap (λ (t : State). state_from t rest) h ∙ (sym (state_from-alive s line rest alive) ∙ (ap (state_from s) (sym e) ∙ ap (λ (o : Option InHand). state_from (rest_of_go_if s o).state all) (sym i)))
+pub state_on : (s next : State) (idle running_go : Option RunningGo) (line : Line) (all rest : List Line) → s.is_over ≡ false → idle ≡ None → all ≡ line ∷ rest → (rest_of_go_if next running_go).state ≡ (answer_to s line).state → state_from (rest_of_go_if next running_go).state rest ≡ state_from (rest_of_go_if s idle).state all
+state_on s next idle running_go line all rest alive i e h =
+    ap (λ (t : State). state_from t rest) h ∙ (sym (state_from-alive s line rest alive) ∙ (ap (state_from s) (sym e) ∙ ap (λ (o : Option RunningGo). state_from (rest_of_go_if s o).state all) (sym i)))
 
--- the bestmove of a `go` in hand
-abbrev bestmove_of : InHand → HeldBestmove
+-- the bestmove of a running `go`
+abbrev bestmove_of : RunningGo → HeldBestmove
 bestmove_of go = bestmove_at go.question.position go.question.eval go.question.depth go.question.hold
 
-rest-bytes : (s : State) (go : InHand) → (rest_of_go s go).bytes ≡ infos_left go.question go.told go.shown ++ (write_or_hold s [] (bestmove_of go) go.question.hold).bytes
-rest-bytes s go = write_or_hold-bytes s (infos_left go.question go.told go.shown) (bestmove_of go) go.question.hold
+rest-bytes : (s : State) (go : RunningGo) → (rest_of_go s go).bytes ≡ infos_to_come go.question go.depths_done go.lines_done ++ (write_or_hold s [] (bestmove_of go) go.question.hold).bytes
+rest-bytes s go = write_or_hold-bytes s (infos_to_come go.question go.depths_done go.lines_done) (bestmove_of go) go.question.hold
 
-rest-state : (s : State) (go : InHand) → (rest_of_go s go).state ≡ (write_or_hold s [] (bestmove_of go) go.question.hold).state
-rest-state s go = write_or_hold-state s (infos_left go.question go.told go.shown) (bestmove_of go) go.question.hold
+rest-state : (s : State) (go : RunningGo) → (rest_of_go s go).state ≡ (write_or_hold s [] (bestmove_of go) go.question.hold).state
+rest-state s go = write_or_hold-state s (infos_to_come go.question go.depths_done go.lines_done) (bestmove_of go) go.question.hold
 
 -- a `go` that has told a line more leads to the same state
-rest_told-state : (s : State) (go more : InHand) → more.question ≡ go.question → (rest_of_go s more).state ≡ (rest_of_go s go).state
+rest_told-state : (s : State) (go more : RunningGo) → more.question ≡ go.question → (rest_of_go s more).state ≡ (rest_of_go s go).state
 rest_told-state s go more q =
-    rest-state s more ∙ (ap (λ (asked : Question). (write_or_hold s [] (bestmove_at asked.position asked.eval asked.depth asked.hold) asked.hold).state) q ∙ sym (rest-state s go))
+    rest-state s more ∙ (ap (λ (question : Question). (write_or_hold s [] (bestmove_at question.position question.eval question.depth question.hold) question.hold).state) q ∙ sym (rest-state s go))
 
-pub state_told : (s : State) (go more : InHand) (in_hand : Option InHand) (ahead : List Line) → in_hand ≡ Some go → more.question ≡ go.question → state_from (rest_of_go s more).state ahead ≡ state_from (rest_of_go_if s in_hand).state ahead
-state_told s go more in_hand ahead i q =
-    ap (λ (t : State). state_from t ahead) (rest_told-state s go more q) ∙ ap (λ (o : Option InHand). state_from (rest_of_go_if s o).state ahead) (sym i)
+pub state_told : (s : State) (go more : RunningGo) (running_go : Option RunningGo) (ahead : List Line) → running_go ≡ Some go → more.question ≡ go.question → state_from (rest_of_go s more).state ahead ≡ state_from (rest_of_go_if s running_go).state ahead
+state_told s go more running_go ahead i q =
+    ap (λ (t : State). state_from t ahead) (rest_told-state s go more q) ∙ ap (λ (o : Option RunningGo). state_from (rest_of_go_if s o).state ahead) (sym i)
 
 -- and costs no more, with the lines ahead
-pub load_told : (s : State) (go more : InHand) (in_hand : Option InHand) (ahead : List Line) → in_hand ≡ Some go → more.question ≡ go.question → load_of more ≤ load_of go → load_ahead s (Some more) ahead ≤ load_ahead s in_hand ahead
-load_told s go more in_hand ahead i q less =
+pub load_told : (s : State) (go more : RunningGo) (running_go : Option RunningGo) (ahead : List Line) → running_go ≡ Some go → more.question ≡ go.question → load_of more ≤ load_of go → load_ahead s (Some more) ahead ≤ load_ahead s running_go ahead
+load_told s go more running_go ahead i q less =
     let same : costs_from (rest_of_go s more).state ahead ≡ costs_from (rest_of_go s go).state ahead = ap (λ (t : State). costs_from t ahead) (rest_told-state s go more q) in
     rw i (omega arith)
 
 -- the line was told
-pub due_told : (s : State) (queued more infos : List ℕ) (go next : InHand) (in_hand : Option InHand) (ahead : List Line) → s.is_over ≡ false → in_hand ≡ Some go → next.question ≡ go.question → infos_left next.question next.told next.shown ≡ infos_after go.question go.told go.shown
-    → infos ++ infos_after go.question go.told go.shown ≡ infos_left go.question go.told go.shown → more ≡ queued ++ infos → more ++ owed s (Some next) ahead ≡ queued ++ owed s in_hand ahead
-due_told s queued more infos go next in_hand ahead alive i q f g m =
-    let last : (write_or_hold s [] (bestmove_of next) next.question.hold).bytes ≡ (write_or_hold s [] (bestmove_of go) go.question.hold).bytes = ap (λ (asked : Question). (write_or_hold s [] (bestmove_at asked.position asked.eval asked.depth asked.hold) asked.hold).bytes) q in
-    let bytes : infos ++ (rest_of_go s next).bytes ≡ (rest_of_go s go).bytes = ap (λ xs. infos ++ xs) (rest-bytes s next) ∙ (sym (append_assoc infos (infos_left next.question next.told next.shown) (write_or_hold s [] (bestmove_of next) next.question.hold).bytes)
-    ∙ (ap (λ xs. (infos ++ xs) ++ (write_or_hold s [] (bestmove_of next) next.question.hold).bytes) f ∙ (ap (λ xs. xs ++ (write_or_hold s [] (bestmove_of next) next.question.hold).bytes) g ∙ (ap (λ xs. infos_left go.question go.told go.shown ++ xs) last ∙ sym (rest-bytes s go))))) in
-    let before : owed s in_hand ahead ≡ (rest_of_go s go).bytes ++ replies_from (rest_of_go s go).state ahead = ap (λ (o : Option InHand). owed s o ahead) i ∙ owed-alive s (Some go) ahead alive in
+pub due_told : (s : State) (queued more infos : List ℕ) (go next : RunningGo) (running_go : Option RunningGo) (ahead : List Line) → s.is_over ≡ false → running_go ≡ Some go → next.question ≡ go.question → infos_to_come next.question next.depths_done next.lines_done ≡ infos_after_line go.question go.depths_done go.lines_done
+    → infos ++ infos_after_line go.question go.depths_done go.lines_done ≡ infos_to_come go.question go.depths_done go.lines_done → more ≡ queued ++ infos → more ++ owed s (Some next) ahead ≡ queued ++ owed s running_go ahead
+due_told s queued more infos go next running_go ahead alive i q f g m =
+    let last : (write_or_hold s [] (bestmove_of next) next.question.hold).bytes ≡ (write_or_hold s [] (bestmove_of go) go.question.hold).bytes = ap (λ (question : Question). (write_or_hold s [] (bestmove_at question.position question.eval question.depth question.hold) question.hold).bytes) q in
+    let bytes : infos ++ (rest_of_go s next).bytes ≡ (rest_of_go s go).bytes = ap (λ xs. infos ++ xs) (rest-bytes s next) ∙ (sym (append_assoc infos (infos_to_come next.question next.depths_done next.lines_done) (write_or_hold s [] (bestmove_of next) next.question.hold).bytes)
+    ∙ (ap (λ xs. (infos ++ xs) ++ (write_or_hold s [] (bestmove_of next) next.question.hold).bytes) f ∙ (ap (λ xs. xs ++ (write_or_hold s [] (bestmove_of next) next.question.hold).bytes) g ∙ (ap (λ xs. infos_to_come go.question go.depths_done go.lines_done ++ xs) last ∙ sym (rest-bytes s go))))) in
+    let before : owed s running_go ahead ≡ (rest_of_go s go).bytes ++ replies_from (rest_of_go s go).state ahead = ap (λ (o : Option RunningGo). owed s o ahead) i ∙ owed-alive s (Some go) ahead alive in
     let after : owed s (Some next) ahead ≡ (rest_of_go s next).bytes ++ replies_from (rest_of_go s go).state ahead = owed-alive s (Some next) ahead alive ∙ ap (λ (t : State). (rest_of_go s next).bytes ++ replies_from t ahead) (rest_told-state s go next q) in
     ap (λ xs. xs ++ owed s (Some next) ahead) m ∙ (append_assoc queued infos (owed s (Some next) ahead)
     ∙ ap (λ xs. queued ++ xs) (ap (λ xs. infos ++ xs) after ∙ (sym (append_assoc infos (rest_of_go s next).bytes (replies_from (rest_of_go s go).state ahead)) ∙ (ap (λ xs. xs ++ replies_from (rest_of_go s go).state ahead) bytes ∙ sym before))))
 
 -- its end leads to the same state
-ends-state : (s next : State) (go : InHand) (held : HeldBestmove) → held ≡ bestmove_of go → next ≡ (write_or_hold s [] held held.until).state → (rest_of_go s go).state ≡ next
+ends-state : (s next : State) (go : RunningGo) (held : HeldBestmove) → held ≡ bestmove_of go → next ≡ (write_or_hold s [] held held.until).state → (rest_of_go s go).state ≡ next
 ends-state s next go held e h = rest-state s go ∙ (ap (λ (k : HeldBestmove). (write_or_hold s [] k k.until).state) (sym e) ∙ sym h)
 
-pub state_ends : (s next : State) (go : InHand) (in_hand : Option InHand) (held : HeldBestmove) (ahead : List Line) → in_hand ≡ Some go → held ≡ bestmove_at go.question.position go.question.eval go.question.depth go.question.hold → next ≡ (write_or_hold s [] held held.until).state → state_from next ahead ≡ state_from (rest_of_go_if s in_hand).state ahead
-state_ends s next go in_hand held ahead i e h =
-    ap (λ (t : State). state_from t ahead) (sym (ends-state s next go held e h)) ∙ ap (λ (o : Option InHand). state_from (rest_of_go_if s o).state ahead) (sym i)
+pub state_ends : (s next : State) (go : RunningGo) (running_go : Option RunningGo) (held : HeldBestmove) (ahead : List Line) → running_go ≡ Some go → held ≡ bestmove_at go.question.position go.question.eval go.question.depth go.question.hold → next ≡ (write_or_hold s [] held held.until).state → state_from next ahead ≡ state_from (rest_of_go_if s running_go).state ahead
+state_ends s next go running_go held ahead i e h =
+    ap (λ (t : State). state_from t ahead) (sym (ends-state s next go held e h)) ∙ ap (λ (o : Option RunningGo). state_from (rest_of_go_if s o).state ahead) (sym i)
 
 -- and costs no more
-pub load_ends : (s next : State) (go : InHand) (in_hand : Option InHand) (held : HeldBestmove) (ahead : List Line) → in_hand ≡ Some go → held ≡ bestmove_at go.question.position go.question.eval go.question.depth go.question.hold → next ≡ (write_or_hold s [] held held.until).state → load_ahead next None ahead ≤ load_ahead s in_hand ahead
-load_ends s next go in_hand held ahead i e h =
+pub load_ends : (s next : State) (go : RunningGo) (running_go : Option RunningGo) (held : HeldBestmove) (ahead : List Line) → running_go ≡ Some go → held ≡ bestmove_at go.question.position go.question.eval go.question.depth go.question.hold → next ≡ (write_or_hold s [] held held.until).state → load_ahead next None ahead ≤ load_ahead s running_go ahead
+load_ends s next go running_go held ahead i e h =
     let same : costs_from (rest_of_go s go).state ahead ≡ costs_from next ahead = ap (λ (t : State). costs_from t ahead) (ends-state s next go held e h) in
     rw i (omega arith)
 
 -- the last line was told, and the bestmove written or held
-pub due_ends : (s next : State) (queued more infos reply : List ℕ) (go : InHand) (in_hand : Option InHand) (held : HeldBestmove) (ahead : List Line) → s.is_over ≡ false → in_hand ≡ Some go → is_last go ≡ true → held ≡ bestmove_at go.question.position go.question.eval go.question.depth go.question.hold
-    → infos ++ infos_after go.question go.told go.shown ≡ infos_left go.question go.told go.shown → reply ≡ infos ++ (write_or_hold s [] held held.until).bytes → next ≡ (write_or_hold s [] held held.until).state → more ≡ queued ++ reply → more ++ owed next None ahead ≡ queued ++ owed s in_hand ahead
-due_ends s next queued more infos reply go in_hand held ahead alive i last e f g h m =
-    let lines : infos ≡ infos_left go.question go.told go.shown = sym (append-nil infos) ∙ (ap (λ xs. infos ++ xs) (sym (infos_after-last go last)) ∙ f) in
+pub due_ends : (s next : State) (queued more infos reply : List ℕ) (go : RunningGo) (running_go : Option RunningGo) (held : HeldBestmove) (ahead : List Line) → s.is_over ≡ false → running_go ≡ Some go → is_last go ≡ true → held ≡ bestmove_at go.question.position go.question.eval go.question.depth go.question.hold
+    → infos ++ infos_after_line go.question go.depths_done go.lines_done ≡ infos_to_come go.question go.depths_done go.lines_done → reply ≡ infos ++ (write_or_hold s [] held held.until).bytes → next ≡ (write_or_hold s [] held held.until).state → more ≡ queued ++ reply → more ++ owed next None ahead ≡ queued ++ owed s running_go ahead
+due_ends s next queued more infos reply go running_go held ahead alive i last e f g h m =
+    let lines : infos ≡ infos_to_come go.question go.depths_done go.lines_done = sym (append-nil infos) ∙ (ap (λ xs. infos ++ xs) (sym (infos_after_line-last go last)) ∙ f) in
     let bytes : (rest_of_go s go).bytes ≡ reply = rest-bytes s go ∙ (ap (λ xs. xs ++ (write_or_hold s [] (bestmove_of go) go.question.hold).bytes) (sym lines) ∙ (ap (λ (k : HeldBestmove). infos ++ (write_or_hold s [] k k.until).bytes) (sym e) ∙ sym g)) in
     let state : (rest_of_go s go).state ≡ next = ends-state s next go held e h in
-    let before : owed s in_hand ahead ≡ (rest_of_go s go).bytes ++ replies_from (rest_of_go s go).state ahead = ap (λ (o : Option InHand). owed s o ahead) i ∙ owed-alive s (Some go) ahead alive in
+    let before : owed s running_go ahead ≡ (rest_of_go s go).bytes ++ replies_from (rest_of_go s go).state ahead = ap (λ (o : Option RunningGo). owed s o ahead) i ∙ owed-alive s (Some go) ahead alive in
     let after : owed next None ahead ≡ replies_from next ahead = owed_on next None ahead (λ _. refl) in
     ap (λ xs. more ++ xs) after ∙ (ap (λ xs. xs ++ replies_from next ahead) m ∙ (append_assoc queued reply (replies_from next ahead)
     ∙ ap (λ xs. queued ++ xs) (ap (λ xs. xs ++ replies_from next ahead) (sym bytes) ∙ (ap (λ (t : State). (rest_of_go s go).bytes ++ replies_from t ahead) (sym state) ∙ sym before))))
@@ -139,11 +139,11 @@ alive_of true some e = absurd (cc)
 
 -- what is pending is alive
 pub pending_alive : (s : SessionView) → is_pending s ≡ true → s.state.is_over ≡ false
-pending_alive s e = alive_of s.state.is_over (is_some s.in_hand || has_line (ahead s.input [])) e
+pending_alive s e = alive_of s.state.is_over (is_some s.running_go || has_line (ahead s.input [])) e
 
 -- a line less is ahead, and its `go` has fewer lines to tell than it stood for
-pub turns_on : (s next : State) (idle in_hand : Option InHand) (line : Line) (all rest : List Line) → s.is_over ≡ false → idle ≡ None → all ≡ line ∷ rest → (rest_of_go_if next in_hand).state ≡ (answer_to s line).state → load_of_if in_hand ≤ cost_to s line → tells_of_if in_hand ≤ most_tells
-    → load_ahead next in_hand rest + ((most_tells + 1) * length rest + tells_of_if in_hand) < load_ahead s idle all + ((most_tells + 1) * length all + tells_of_if idle)
-turns_on s next idle in_hand line all rest alive i e h less least =
+pub turns_on : (s next : State) (idle running_go : Option RunningGo) (line : Line) (all rest : List Line) → s.is_over ≡ false → idle ≡ None → all ≡ line ∷ rest → (rest_of_go_if next running_go).state ≡ (answer_to s line).state → load_of_if running_go ≤ cost_to s line → tells_of_if running_go ≤ most_tells
+    → load_ahead next running_go rest + ((most_tells + 1) * length rest + tells_of_if running_go) < load_ahead s idle all + ((most_tells + 1) * length all + tells_of_if idle)
+turns_on s next idle running_go line all rest alive i e h less least =
     let n : length all ≡ length (line ∷ rest) = ap length e in
-    omega (arith, load_on s next idle in_hand line all rest alive i e h less)
+    omega (arith, load_on s next idle running_go line all rest alive i e h less)

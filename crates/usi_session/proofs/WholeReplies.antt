@@ -19,10 +19,10 @@ use Rattle.usi_session.specs.declared.state.State.{State}
 use Rattle.usi_session.specs.Options.{option_lines}
 use Rattle.usi_session.specs.Texts.{usi_reply, score_text, moves_text, valued_pv_text, info_text, numbered_info_text, info_line, bestmove_line, bad_position_line, illegal_move_line}
 use Rattle.usi_session.specs.PositionCommand.{position_of_startpos, position_of_sfen}
-use Rattle.usi_session.specs.GoCommand.{listed, pv_by, numbered_line, numbered_lines, depth_lines, info_lines, go_infos, go_infos_where}
+use Rattle.usi_session.specs.GoInfos.{listed, pv_by, numbered_line, numbered_lines, depth_lines, info_lines, go_infos, go_infos_where}
 use Rattle.usi_session.specs.Answer.{answer, answer_position, write_or_hold, answer_stop, answer_ponderhit_held, answer_ponderhit, held_line, bestmove_at}
 use Rattle.usi_session.specs.Replies.{answer_to}
-use Rattle.usi_session.specs.InHand.{InHand, with_rest}
+use Rattle.usi_session.specs.RunningGo.{RunningGo, with_rest}
 use Rattle.usi_session.specs.WholeLines.{last_byte, AreWholeLines, GrowsByLines}
 use Rattle.usi_lines.specs.declared.line.TheConstants.{LINE_FEED}
 
@@ -88,17 +88,17 @@ either-whole : (b : Bool) (xs ys : List ℕ) → AreWholeLines xs → AreWholeLi
 either-whole true xs ys e f = e
 either-whole false xs ys e f = f
 
-depth_lines-whole : (p : Shogi) (eval : Eval) (pv_lines depth : ℕ) → AreWholeLines (depth_lines p eval pv_lines depth)
-depth_lines-whole p eval pv_lines depth = either-whole (pv_lines == 1) (info_line p eval depth) (numbered_lines p eval depth 1 (listed p eval pv_lines depth)) (info_whole depth (value p eval depth) (pv p eval depth)) (numbered_lines-whole p eval depth 1 (listed p eval pv_lines depth))
+depth_lines-whole : (p : Shogi) (eval : Eval) (multi_pv depth : ℕ) → AreWholeLines (depth_lines p eval multi_pv depth)
+depth_lines-whole p eval multi_pv depth = either-whole (multi_pv == 1) (info_line p eval depth) (numbered_lines p eval depth 1 (listed p eval multi_pv depth)) (info_whole depth (value p eval depth) (pv p eval depth)) (numbered_lines-whole p eval depth 1 (listed p eval multi_pv depth))
 
-info_lines-whole : (p : Shogi) (eval : Eval) (pv_lines depth : ℕ) → AreWholeLines (info_lines p eval pv_lines depth)
+info_lines-whole : (p : Shogi) (eval : Eval) (multi_pv depth : ℕ) → AreWholeLines (info_lines p eval multi_pv depth)
 unfolding info_lines
-info_lines-whole p eval pv_lines zero = refl
-info_lines-whole p eval pv_lines (suc depth) = lines_then (info_lines p eval pv_lines depth) (depth_lines p eval pv_lines (suc depth)) (info_lines-whole p eval pv_lines depth) (depth_lines-whole p eval pv_lines (suc depth))
+info_lines-whole p eval multi_pv zero = refl
+info_lines-whole p eval multi_pv (suc depth) = lines_then (info_lines p eval multi_pv depth) (depth_lines p eval multi_pv (suc depth)) (info_lines-whole p eval multi_pv depth) (depth_lines-whole p eval multi_pv (suc depth))
 
-go_infos_where-whole : (p : Shogi) (eval : Eval) (pv_lines depth : ℕ) (moves : List ℕ) → AreWholeLines (go_infos_where p eval pv_lines depth moves)
-go_infos_where-whole p eval pv_lines depth [] = refl
-go_infos_where-whole p eval pv_lines depth (m ∷ rest) = info_lines-whole p eval pv_lines depth
+go_infos_where-whole : (p : Shogi) (eval : Eval) (multi_pv depth : ℕ) (moves : List ℕ) → AreWholeLines (go_infos_where p eval multi_pv depth moves)
+go_infos_where-whole p eval multi_pv depth [] = refl
+go_infos_where-whole p eval multi_pv depth (m ∷ rest) = info_lines-whole p eval multi_pv depth
 
 write_or_hold-whole : (s : State) (infos : List ℕ) (held : HeldBestmove) (hold : Hold) → AreWholeLines infos → AreWholeLines (write_or_hold s infos held hold).bytes
 write_or_hold-whole s infos held Nothing e = lines_then infos (held_line held) e (bestmove_whole held.best held.ponder)
@@ -128,12 +128,12 @@ answer-whole s Usi = usi_ends.ends LINE_FEED
 answer-whole s IsReady = refl
 answer-whole s (SetDepth depth) = refl
 answer-whole s (SetEval eval) = refl
-answer-whole s (SetLines pv_lines) = refl
+answer-whole s (SetLines multi_pv) = refl
 answer-whole s NewGame = refl
 answer-whole s (Startpos rest) = answer_position-whole s (position_of_startpos rest)
 answer-whole s (Sfen rest) = answer_position-whole s (position_of_sfen rest)
 answer-whole s BadPosition = (bad_position_line-ends 0).ends LINE_FEED
-answer-whole s (Go depth hold) = write_or_hold-whole s (go_infos s.position s.options.eval s.options.pv_lines (unwrap_or depth s.options.depth)) (bestmove_at s.position s.options.eval (unwrap_or depth s.options.depth) hold) hold (go_infos_where-whole s.position s.options.eval s.options.pv_lines (unwrap_or depth s.options.depth) (legal_codes s.position))
+answer-whole s (Go depth hold) = write_or_hold-whole s (go_infos s.position s.options.eval s.options.multi_pv (unwrap_or depth s.options.depth)) (bestmove_at s.position s.options.eval (unwrap_or depth s.options.depth) hold) hold (go_infos_where-whole s.position s.options.eval s.options.multi_pv (unwrap_or depth s.options.depth) (legal_codes s.position))
 answer-whole s GoMate = refl
 answer-whole s Stop = answer_stop-whole s s.held
 answer-whole s PonderHit = answer_ponderhit-whole s s.held
@@ -145,19 +145,19 @@ answer_to-whole : (s : State) (line : Line) → AreWholeLines (answer_to s line)
 answer_to-whole s (Text text) = answer-whole s (command_of text)
 answer_to-whole s TooLong = refl
 
--- a line is answered at once, or nothing is said yet of the `go` that is taken in hand
-pub reply_whole : (s next : State) (reply : List ℕ) (in_hand : Option InHand) (line : Line) → with_rest reply next in_hand ≡ (answer_to s line).bytes → OnSome in_hand (reply ≡ []) → AreWholeLines reply
+-- a line is answered at once, or nothing is said yet of the `go` that starts
+pub reply_whole : (s next : State) (reply : List ℕ) (running_go : Option RunningGo) (line : Line) → with_rest reply next running_go ≡ (answer_to s line).bytes → OnSome running_go (reply ≡ []) → AreWholeLines reply
 reply_whole s next reply None line e quiet = ap (last_byte LINE_FEED) e ∙ answer_to-whole s line
 reply_whole s next reply (Some go) line e quiet = ap (last_byte LINE_FEED) quiet
 
 -- a line is told
-pub told_whole : (told : List ℕ) → GrowsByLines [] told → AreWholeLines told
-told_whole told g = ap (last_byte LINE_FEED) g.after_is ∙ g.whole
+pub told_whole : (depths_done : List ℕ) → GrowsByLines [] depths_done → AreWholeLines depths_done
+told_whole depths_done g = ap (last_byte LINE_FEED) g.after_is ∙ g.whole
 
 -- the last line is told, and the bestmove written or held
-pub end_whole : (s : State) (told reply : List ℕ) (held : HeldBestmove) → GrowsByLines [] told → reply ≡ told ++ (write_or_hold s [] held held.until).bytes → AreWholeLines reply
-end_whole s told reply held g f =
-    ap (last_byte LINE_FEED) f ∙ lines_then told (write_or_hold s [] held held.until).bytes (told_whole told g) (write_or_hold-whole s [] held held.until refl)
+pub end_whole : (s : State) (depths_done reply : List ℕ) (held : HeldBestmove) → GrowsByLines [] depths_done → reply ≡ depths_done ++ (write_or_hold s [] held held.until).bytes → AreWholeLines reply
+end_whole s depths_done reply held g f =
+    ap (last_byte LINE_FEED) f ∙ lines_then depths_done (write_or_hold s [] held held.until).bytes (told_whole depths_done g) (write_or_hold-whole s [] held held.until refl)
 
 -- nothing came
 pub grows_by_none : (queued : List ℕ) → GrowsByLines queued queued

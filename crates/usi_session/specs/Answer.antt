@@ -13,7 +13,7 @@ use Rattle.usi_session.specs.declared.state.HeldBestmove.{HeldBestmove}
 use Rattle.usi_session.specs.declared.state.State.{State}
 use Rattle.usi_session.specs.Options.{default_options}
 use Rattle.usi_session.specs.PositionCommand.{position_of_startpos, position_of_sfen}
-use Rattle.usi_session.specs.GoCommand.{move_to_play, move_to_ponder, go_infos}
+use Rattle.usi_session.specs.GoInfos.{move_to_play, move_to_ponder, go_infos}
 use Rattle.usi_session.specs.Texts.{usi_reply, ready_reply, mate_not_implemented_reply, bad_position_line, illegal_move_line, bestmove_line}
 
 -- A bestmove is held until nothing, until `stop`, or until `ponderhit` (`UntilHit`). `Other` is a line that is no command, and `rest` what follows the first words of a `position` line.
@@ -57,7 +57,7 @@ write_or_hold state infos held UntilHit = answer_with (record state { held = Som
 
 -- `go` at a depth, by the evaluation and with the lines of the session: it is answered whole, also under `go infinite`, and what was held is dropped
 abbrev pub answer_go : State → ℕ → Hold → Answer
-answer_go state depth hold = write_or_hold state (go_infos state.position state.options.eval state.options.pv_lines depth) (bestmove_at state.position state.options.eval depth hold) hold
+answer_go state depth hold = write_or_hold state (go_infos state.position state.options.eval state.options.multi_pv depth) (bestmove_at state.position state.options.eval depth hold) hold
 
 -- `stop`: the held bestmove is written, and nothing is held any more; it cuts no search short
 abbrev pub answer_stop : State → Option HeldBestmove → Answer
@@ -81,7 +81,7 @@ answer state Usi = answer_with state usi_reply
 answer state IsReady = answer_with state ready_reply
 answer state (SetDepth depth) = answer_with (record state { options = record state.options { depth = depth } }) []
 answer state (SetEval eval) = answer_with (record state { options = record state.options { eval = eval } }) []
-answer state (SetLines pv_lines) = answer_with (record state { options = record state.options { pv_lines = pv_lines } }) []
+answer state (SetLines multi_pv) = answer_with (record state { options = record state.options { multi_pv = multi_pv } }) []
 answer state NewGame = answer_with (record state { position = start; held = None }) []
 answer state (Startpos rest) = answer_position state (position_of_startpos rest)
 answer state (Sfen rest) = answer_position state (position_of_sfen rest)

@@ -9,7 +9,7 @@ use Rattle.usi_lines.specs.Commands.{Command, Go}
 use Rattle.usi_lines.specs.CommandLines.{command_of}
 use Rattle.usi_lines.specs.Lines.{Line, Text, TooLong}
 use Rattle.usi_session.specs.declared.state.State.{State}
-use Rattle.usi_session.specs.GoCommand.{listed}
+use Rattle.usi_session.specs.GoInfos.{listed}
 use Rattle.usi_session.specs.Replies.{answer_line}
 
 -- the most search steps along the pvs of these moves, each with so many plies after the move
@@ -18,18 +18,18 @@ pvs_cost position eval plies codes = sum_by (λ code. pv_cost (after_code positi
 
 -- the most search steps of a depth: those along its pv, or with several lines those of the search after each legal move, and those along each pv listed
 abbrev pub depth_cost : Shogi → Eval → ℕ → ℕ → ℕ
-depth_cost position eval pv_lines depth =
-    cond (pv_lines == 1) (pv_cost position eval depth)
-    (2 * sum_of_tree_sizes position (depth - 1) (legal_codes position) + pvs_cost position eval (depth - 1) (listed position eval pv_lines depth))
+depth_cost position eval multi_pv depth =
+    cond (multi_pv == 1) (pv_cost position eval depth)
+    (2 * sum_of_tree_sizes position (depth - 1) (legal_codes position) + pvs_cost position eval (depth - 1) (listed position eval multi_pv depth))
 
--- the same, summed over each depth from 1 to this one
-unfoldable pub depths_cost : Shogi → Eval → ℕ → ℕ → ℕ
-depths_cost position eval pv_lines zero = 0
-depths_cost position eval pv_lines (suc depth) = depths_cost position eval pv_lines depth + depth_cost position eval pv_lines (suc depth)
+-- the most search steps of all depths from 1 to this one
+unfoldable pub cost_to_depth : Shogi → Eval → ℕ → ℕ → ℕ
+cost_to_depth position eval multi_pv zero = 0
+cost_to_depth position eval multi_pv (suc depth) = cost_to_depth position eval multi_pv depth + depth_cost position eval multi_pv (suc depth)
 
 -- a `go` costs at most the searches of its depths from the position where it stands; no other command costs a step
 abbrev pub cost_of_command : State → Command → ℕ
-cost_of_command state (Go depth hold) = depths_cost state.position state.options.eval state.options.pv_lines (unwrap_or depth state.options.depth)
+cost_of_command state (Go depth hold) = cost_to_depth state.position state.options.eval state.options.multi_pv (unwrap_or depth state.options.depth)
 cost_of_command state _ = 0
 
 -- what a line may cost in a session that is not over

@@ -3,69 +3,69 @@ use Rattle.std.specs.Prelude.{◌≡◌, ℕ, ◌+◌, ◌*◌, List, [], ◌∷
 use Rattle.usi_lines.specs.Lines.{Buffer, Line, ahead}
 use Rattle.usi_session.specs.declared.state.State.{State}
 use Rattle.usi_session.specs.Answer.{Answer, initial_state}
-use Rattle.usi_session.specs.InHand.{InHand, rest_of_go_if, load_of_if, is_searching, tells_of_if, most_tells}
+use Rattle.usi_session.specs.RunningGo.{RunningGo, rest_of_go_if, load_of_if, is_searching, tells_of_if, most_tells}
 use Rattle.usi_session.specs.Replies.{replies_from, state_from}
 use Rattle.usi_session.specs.Costs.{costs_from}
 use Rattle.usi_session.specs.declared.limits.TheConstants.{QUEUE_FULL}
 
--- the state after the lines that were answered, the `go` in hand, the replies not yet taken, and what was fed and not yet answered
+-- the state after the lines that were answered, the running `go`, the replies not yet taken, and what was fed and not yet answered
 pub record SessionView : Type 0 where
   pub state : State
-  pub in_hand : Option InHand
+  pub running_go : Option RunningGo
   pub queued : List ℕ
   pub input : Buffer
 
--- what the `go` in hand still says, and then the replies to the lines from the state after it
+-- what the running `go` still says, and then the replies to the lines from the state after it
 abbrev pub owed_after : Answer → List Line → List ℕ
 owed_after answer ahead = answer.bytes ++ replies_from answer.state ahead
 
 -- nothing, where the session is over
-abbrev pub owed : State → Option InHand → List Line → List ℕ
-owed state in_hand ahead = cond state.is_over [] (owed_after (rest_of_go_if state in_hand) ahead)
+abbrev pub owed : State → Option RunningGo → List Line → List ℕ
+owed state running_go ahead = cond state.is_over [] (owed_after (rest_of_go_if state running_go) ahead)
 
--- what is owed once these further bytes were fed: the queued bytes, the rest of the `go` in hand, and the replies to the lines ahead
+-- what is owed once these further bytes were fed: the queued bytes, the rest of the running `go`, and the replies to the lines ahead
 abbrev pub due : SessionView → List ℕ → List ℕ
-due session further = session.queued ++ owed session.state session.in_hand (ahead session.input further)
+due session further = session.queued ++ owed session.state session.running_go (ahead session.input further)
 
 -- the state once these further bytes were fed and all was answered
 abbrev pub state_due : SessionView → List ℕ → State
-state_due session further = state_from (rest_of_go_if session.state session.in_hand).state (ahead session.input further)
+state_due session further = state_from (rest_of_go_if session.state session.running_go).state (ahead session.input further)
 
--- the steps that may still be made: for the `go` in hand, and for each `go` in these lines
-abbrev pub load_ahead : State → Option InHand → List Line → ℕ
-load_ahead state in_hand ahead = load_of_if in_hand + costs_from (rest_of_go_if state in_hand).state ahead
+-- the steps that may still be made: for the running `go`, and for each `go` in these lines
+abbrev pub load_ahead : State → Option RunningGo → List Line → ℕ
+load_ahead state running_go ahead = load_of_if running_go + costs_from (rest_of_go_if state running_go).state ahead
 
--- the load of a session: the steps that may still be made for the `go` in hand and for the unread lines
+-- the load of a session: the steps that may still be made for the running `go` and for the unread lines
 abbrev pub load : SessionView → ℕ
-load session = load_ahead session.state session.in_hand (ahead session.input [])
+load session = load_ahead session.state session.running_go (ahead session.input [])
 
 -- a line is there
 abbrev pub has_line : List Line → Bool
 has_line [] = false
 has_line (line ∷ rest) = true
 
--- alive, with a `go` in hand or an unread line
+-- alive, with a running `go` or an unread line
 abbrev pub is_pending : SessionView → Bool
-is_pending session = not session.state.is_over && (is_some session.in_hand || has_line (ahead session.input []))
+is_pending session = not session.state.is_over && (is_some session.running_go || has_line (ahead session.input []))
 
--- a `go` is in hand, and a search of it is not at its end
-abbrev pub IsSearching : Option InHand → Type 0
-IsSearching None = ⊥
-IsSearching (Some go) = (is_searching go ≡ true) × (0 < go.left)
+-- a `go` is running, and a search of it is not at its end
+abbrev pub IsMidSearch : Option RunningGo → Type 0
+IsMidSearch None = ⊥
+IsMidSearch (Some go) = (is_searching go ≡ true) × (0 < go.steps_left)
 
--- the pv of the line in hand is whole
-abbrev pub IsWhole : Option InHand → Type 0
-IsWhole None = ⊥
-IsWhole (Some go) = is_searching go ≡ false
+-- the pv of the current line is whole
+abbrev pub IsPvWhole : Option RunningGo → Type 0
+IsPvWhole None = ⊥
+IsPvWhole (Some go) = is_searching go ≡ false
 
 -- more than the turns that may still be taken: each makes a step less left, tells a line, or answers one
 abbrev pub turns : SessionView → ℕ
-turns session = load session + ((most_tells + 1) * length (ahead session.input []) + tells_of_if session.in_hand)
+turns session = load session + ((most_tells + 1) * length (ahead session.input []) + tells_of_if session.running_go)
 
 -- alive, nothing pending, and fewer than 65,536 bytes queued
 abbrev pub wants_input : SessionView → Bool
-wants_input session = not session.state.is_over && not (is_some session.in_hand || has_line (ahead session.input [])) && nat_lt (length session.queued) QUEUE_FULL
+wants_input session = not session.state.is_over && not (is_some session.running_go || has_line (ahead session.input [])) && nat_lt (length session.queued) QUEUE_FULL
 
 -- nothing read, nothing queued
 abbrev pub new_session : SessionView
-new_session = record { state = initial_state; in_hand = None; queued = []; input = record { unread = []; closed = false } }
+new_session = record { state = initial_state; running_go = None; queued = []; input = record { unread = []; closed = false } }

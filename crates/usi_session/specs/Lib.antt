@@ -1,11 +1,11 @@
 pub mod Options
 pub mod Texts
 pub mod PositionCommand
-pub mod GoCommand
+pub mod GoInfos
 pub mod Answer
 pub mod Replies
 pub mod Costs
-pub mod InHand
+pub mod RunningGo
 pub mod Walked
 pub mod Due
 pub mod WholeLines

@@ -1,19 +1,19 @@
 -- The options of a session: what they are set to, and how they are offered (USI, option and setoption; names, ranges and defaults are an own choice).
 use Rattle.std.specs.Prelude.{ℕ, List, ◌++◌, codes, decimal}
 use Rattle.shogi_eval.specs.declared.eval.Eval.TheVariants.{Plain}
-use Rattle.usi_lines.specs.declared.options.TheConstants.{DEPTH_MIN, DEPTH_MAX, PV_LINES_MIN, PV_LINES_MAX}
-use Rattle.usi_lines.specs.Options.{IsDepth, IsLineCount}
-use Rattle.usi_session.specs.declared.options.TheConstants.{DEPTH_DEFAULT, PV_LINES_DEFAULT}
+use Rattle.usi_lines.specs.declared.options.TheConstants.{DEPTH_MIN, DEPTH_MAX, MULTI_PV_MIN, MULTI_PV_MAX}
+use Rattle.usi_lines.specs.Options.{IsDepth, IsMultiPv}
+use Rattle.usi_session.specs.declared.options.TheConstants.{DEPTH_DEFAULT, MULTI_PV_DEFAULT}
 use Rattle.usi_session.specs.declared.options.Options.{Options}
 
 -- each option at its default
 abbrev pub default_options : Options
-default_options = record { depth = DEPTH_DEFAULT; eval = Plain; pv_lines = PV_LINES_DEFAULT }
+default_options = record { depth = DEPTH_DEFAULT; eval = Plain; multi_pv = MULTI_PV_DEFAULT }
 
 -- each option that is a number lies in its range
 pub record AreInRange (options : Options) : Type 0 where
   pub depth_fits : IsDepth options.depth
-  pub pv_lines_fit : IsLineCount options.pv_lines
+  pub multi_pv_fits : IsMultiPv options.multi_pv
 
 -- the name of an option that is a number
 abbrev pub spin_name : List ℕ → List ℕ
@@ -35,4 +35,4 @@ eval_line = codes "option name Eval type combo default Plain var Plain var Hand\
 abbrev pub option_lines : List ℕ
 option_lines =
     spin_line (codes "Depth") DEPTH_DEFAULT DEPTH_MIN DEPTH_MAX
-    ++ (eval_line ++ spin_line (codes "MultiPV") PV_LINES_DEFAULT PV_LINES_MIN PV_LINES_MAX)
+    ++ (eval_line ++ spin_line (codes "MultiPV") MULTI_PV_DEFAULT MULTI_PV_MIN MULTI_PV_MAX)

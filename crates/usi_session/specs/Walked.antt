@@ -1,4 +1,4 @@
--- A walk along a pv, ply by ply, and what a `go` in hand knows of the depth that it is at (own choice).
+-- A walk along a pv, ply by ply, and what a running `go` knows of the depth that it is at (own choice).
 use Rattle.std.specs.Prelude.{ℕ, ℤ, List, ◌∷◌, Option, None, Some, ◌≡◌, ◌≢◌, ◌+◌, ◌-◌, ◌<◌, ◌++◌, ◌==◌, cond, slice_get, unwrap_or}
 use Rattle.shogi_core.specs.Codes.{code_of}
 use Rattle.shogi_core.specs.Position.{Shogi}
@@ -11,12 +11,12 @@ use Rattle.shogi_search.specs.Progress.{Progress, untouched}
 use Rattle.shogi_search.specs.Ranked.{Ranking, IsTop, child_beta}
 use Rattle.shogi_search.specs.declared.bounds.TheConstants.{INFINITY}
 use Rattle.shogi_search.proofs.RankedUse.{IsGoneThrough}
-use Rattle.usi_lines.specs.Options.{IsDepth, IsLineCount}
+use Rattle.usi_lines.specs.Options.{IsDepth, IsMultiPv}
 use Rattle.usi_session.specs.declared.question.Question.{Question}
 use Rattle.usi_session.specs.declared.state.HeldBestmove.{HeldBestmove}
 use Rattle.usi_session.specs.Answer.{bestmove_at}
-use Rattle.usi_session.specs.GoCommand.{pv_by}
-use Rattle.usi_session.specs.InHand.{InHand, listed_at}
+use Rattle.usi_session.specs.GoInfos.{pv_by}
+use Rattle.usi_session.specs.RunningGo.{RunningGo, listed_at}
 
 -- the evaluation, the position after the moves so far, the plies that are left, and the whole pv with its value
 pub record Walked : Type 0 where
@@ -39,31 +39,31 @@ abbrev pub walk_by : Move → Shogi → Eval → ℕ → ℤ → Walked
 walk_by played next eval plies worth = record { eval = eval; at = next; plies = plies; pv = played ∷ pv next eval plies; value = worth }
 
 -- the depth and the number of lines lie in their ranges
-pub record IsAsked (asked : Question) : Type 0 where
-  pub depth_fits : IsDepth asked.depth
-  pub pv_lines_fit : IsLineCount asked.pv_lines
+pub record IsQuestionInRange (question : Question) : Type 0 where
+  pub depth_fits : IsDepth question.depth
+  pub multi_pv_fits : IsMultiPv question.multi_pv
 
 -- the first legal move
 abbrev pub IsFirst : Shogi → Move → Type 0
 IsFirst position first = legal_above position None ≡ code_of first ∷ legal_above position (Some first)
 
--- where a depth begins: with one line at the root, with several at its first child
-abbrev pub first_child : Question → Move → Option Move
-first_child asked first = cond (asked.pv_lines == 1) None (Some first)
+-- where a depth begins: with one line at the root, with several after the first root move
+abbrev pub first_root_move : Question → Move → Option Move
+first_root_move question first = cond (question.multi_pv == 1) None (Some first)
 
--- and the search that it begins with
+-- the search that a depth begins with
 abbrev pub first_search : Question → Move → ℕ → Progress
-first_search asked first told =
-    cond (asked.pv_lines == 1) (untouched asked.position asked.eval (told + 1)) (untouched (after asked.position first) asked.eval told)
+first_search question first depths_done =
+    cond (question.multi_pv == 1) (untouched question.position question.eval (depths_done + 1)) (untouched (after question.position first) question.eval depths_done)
 
 -- the steps of the searches along a walk after the one where it stands
 abbrev pub cost_after : Walked → ℕ
 cost_after walk = then_pv_cost (λ next. pv_cost next walk.eval (walk.plies - 1)) walk.at (best walk.at walk.eval walk.plies)
 
--- what callers see of a `go` in hand
-abbrev pub in_hand_of : Question → ℕ → ℕ → Option Move → Walked → Progress → InHand
-in_hand_of asked told shown child walk search =
-    record { question = asked; told = told; shown = shown; child = child; at = walk.at; plies = walk.plies; left = search.left }
+-- what callers see of a running `go`
+abbrev pub running_go_of : Question → ℕ → ℕ → Option Move → Walked → Progress → RunningGo
+running_go_of question depths_done lines_done root_move walk search =
+    record { question = question; depths_done = depths_done; lines_done = lines_done; root_move = root_move; walk_position = walk.at; walk_plies = walk.plies; steps_left = search.left }
 
 -- a search that is not at its end, for values below a bound
 pub record IsUnder (search : Progress) (position : Shogi) (eval : Eval) (depth : ℕ) (beta : ℤ) : Type 0 where
@@ -74,47 +74,47 @@ pub record IsUnder (search : Progress) (position : Shogi) (eval : Eval) (depth :
   pub left : 0 < search.left
 
 -- all legal moves before this one were ranked
-pub record IsRankedTo (asked : Question) (told : ℕ) (child : Move) (ranks : Ranking) : Type 0 where
+pub record IsRankedTo (question : Question) (depths_done : ℕ) (root_move : Move) (ranks : Ranking) : Type 0 where
   pub passed : Option Move
-  pub next : legal_above asked.position passed ≡ code_of child ∷ legal_above asked.position (Some child)
-  pub gone : IsGoneThrough asked.position (worth asked.position asked.eval told) passed ranks
-  pub most : ranks.lines ≡ asked.pv_lines
+  pub next : legal_above question.position passed ≡ code_of root_move ∷ legal_above question.position (Some root_move)
+  pub gone : IsGoneThrough question.position (worth question.position question.eval depths_done) passed ranks
+  pub most : ranks.lines ≡ question.multi_pv
 
 -- all legal moves were ranked
-pub record IsRanked (asked : Question) (told : ℕ) (ranks : Ranking) : Type 0 where
-  pub top : IsTop (worth asked.position asked.eval told) (legal_codes asked.position) ranks
-  pub most : ranks.lines ≡ asked.pv_lines
+pub record IsRanked (question : Question) (depths_done : ℕ) (ranks : Ranking) : Type 0 where
+  pub top : IsTop (worth question.position question.eval depths_done) (legal_codes question.position) ranks
+  pub most : ranks.lines ≡ question.multi_pv
 
 -- the walk is along the pv of the line of this number, from 0
-pub record IsLine (asked : Question) (told shown : ℕ) (walk : Walked) : Type 0 where
+pub record IsLine (question : Question) (depths_done lines_done : ℕ) (walk : Walked) : Type 0 where
   pub code : ℕ
-  pub listed_as : slice_get (listed_at asked told) shown ≡ Some code
-  pub pv_is : walk.pv ≡ pv_by asked.position asked.eval (told + 1) code
-  pub value_is : walk.value ≡ worth asked.position asked.eval told code
-  pub eval_is : walk.eval ≡ asked.eval
+  pub listed_as : slice_get (listed_at question depths_done) lines_done ≡ Some code
+  pub pv_is : walk.pv ≡ pv_by question.position question.eval (depths_done + 1) code
+  pub value_is : walk.value ≡ worth question.position question.eval depths_done code
+  pub eval_is : walk.eval ≡ question.eval
 
--- the pv of the line in hand is walked
-pub record IsWalking (asked : Question) (told shown : ℕ) (ranks : Ranking) (walk : Walked) (kept : HeldBestmove) (search : Progress) : Type 0 where
-  pub line : IsLine asked told shown walk
-  pub ranked : asked.pv_lines ≢ 1 → IsRanked asked told ranks
-  pub kept_is : 0 < shown → kept ≡ bestmove_at asked.position asked.eval (told + 1) asked.hold
-  pub searched : 0 < walk.plies → IsUnder search walk.at asked.eval walk.plies INFINITY
+-- the pv of the current line is walked
+pub record IsWalking (question : Question) (depths_done lines_done : ℕ) (ranks : Ranking) (walk : Walked) (kept : HeldBestmove) (search : Progress) : Type 0 where
+  pub line : IsLine question depths_done lines_done walk
+  pub ranked : question.multi_pv ≢ 1 → IsRanked question depths_done ranks
+  pub kept_is : 0 < lines_done → kept ≡ bestmove_at question.position question.eval (depths_done + 1) question.hold
+  pub searched : 0 < walk.plies → IsUnder search walk.at question.eval walk.plies INFINITY
 
--- the child after a move is searched for what the move is worth, below the bound that its place in the list needs
-pub record IsRanking (asked : Question) (told shown : ℕ) (child : Move) (ranks : Ranking) (search : Progress) : Type 0 where
-  pub several : asked.pv_lines ≢ 1
-  pub none_shown : shown ≡ 0
-  pub ranked : IsRankedTo asked told child ranks
-  pub searched : IsUnder search (after asked.position child) asked.eval told (child_beta ranks)
+-- the position after a root move is searched for what the move is worth, below the bound that its place in the list needs
+pub record IsRanking (question : Question) (depths_done lines_done : ℕ) (root_move : Move) (ranks : Ranking) (search : Progress) : Type 0 where
+  pub several : question.multi_pv ≢ 1
+  pub none_done : lines_done ≡ 0
+  pub ranked : IsRankedTo question depths_done root_move ranks
+  pub searched : IsUnder search (after question.position root_move) question.eval depths_done (child_beta ranks)
 
--- of the one or the other
+-- what is known at a depth: while a root move is searched, or while a pv is walked
 abbrev pub IsAtDepth : Question → ℕ → ℕ → Option Move → Ranking → Walked → HeldBestmove → Progress → Type 0
-IsAtDepth asked told shown (Some child) ranks walk kept search = IsRanking asked told shown child ranks search
-IsAtDepth asked told shown None ranks walk kept search = IsWalking asked told shown ranks walk kept search
+IsAtDepth question depths_done lines_done (Some root_move) ranks walk kept search = IsRanking question depths_done lines_done root_move ranks search
+IsAtDepth question depths_done lines_done None ranks walk kept search = IsWalking question depths_done lines_done ranks walk kept search
 
--- what holds of a `go` in hand
-pub record IsInHand (asked : Question) (first : Move) (told shown : ℕ) (child : Option Move) (ranks : Ranking) (walk : Walked) (kept : HeldBestmove) (search : Progress) : Type 0 where
-  pub range : IsAsked asked
-  pub first_is : IsFirst asked.position first
-  pub left : told < asked.depth
-  pub at_depth : IsAtDepth asked told shown child ranks walk kept search
+-- what holds of a running `go`
+pub record IsRunningGo (question : Question) (first : Move) (depths_done lines_done : ℕ) (root_move : Option Move) (ranks : Ranking) (walk : Walked) (kept : HeldBestmove) (search : Progress) : Type 0 where
+  pub range : IsQuestionInRange question
+  pub first_is : IsFirst question.position first
+  pub left : depths_done < question.depth
+  pub at_depth : IsAtDepth question depths_done lines_done root_move ranks walk kept search

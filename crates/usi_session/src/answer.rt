@@ -7,9 +7,9 @@ ghost use Rattle.usi_lines.specs.declared.options.TheConstants.{DEPTH_MIN, DEPTH
 ghost use Rattle.usi_lines.specs.Options.{IsInRange};
 ghost use Rattle.usi_session.specs.Options.{AreInRange};
 ghost use Rattle.usi_session.specs.Answer.{answer, answer_position, answer_go, write_or_hold, answer_stop, answer_ponderhit};
-ghost use Rattle.usi_session.specs.Costs.{cost_of_command, cost_to, depths_cost};
+ghost use Rattle.usi_session.specs.Costs.{cost_of_command, cost_to, cost_to_depth};
 ghost use Rattle.usi_session.specs.Replies.{answer_to};
-ghost use Rattle.usi_session.specs.InHand.{rest_of_go_if, with_rest, load_of_if, tells_of_if, most_tells};
+ghost use Rattle.usi_session.specs.RunningGo.{rest_of_go_if, with_rest, load_of_if, tells_of_if, most_tells};
 
 use crate::go_command::GoCommand;
 use crate::position_command::{Refusal, position_of_sfen, position_of_startpos};
@@ -61,7 +61,7 @@ pub fn write_or_hold<A: Allocator>(
     Ok(())
 }
 
-/// Takes a `go` in hand; where no move is legal it is answered at once.
+/// Starts a `go`; where no move is legal it is answered at once.
 fn answer_go<A: Allocator + Copy>(
     alloc: A,
     out: &mut Vec<u8, A>,
@@ -72,11 +72,11 @@ fn answer_go<A: Allocator + Copy>(
     requires options { AreInRange state.old.options }
     requires least { DEPTH_MIN ≤ depth }
     requires most { depth ≤ DEPTH_MAX }
-    ensures bytes { IfOk result (λ in_hand. with_rest out.new.items state.new in_hand ≡ out.old.items ++ (answer_go state.old depth hold).bytes) }
-    ensures state { IfOk result (λ in_hand. (rest_of_go_if state.new in_hand).state ≡ (answer_go state.old depth hold).state) }
-    ensures load { IfOk result (λ in_hand. load_of_if in_hand ≤ depths_cost state.old.position state.old.options.eval state.old.options.pv_lines depth) }
-    ensures tells { IfOk result (λ in_hand. tells_of_if in_hand ≤ most_tells) }
-    ensures quiet { IfOk result (λ in_hand. OnSome in_hand (out.new.items ≡ out.old.items)) }
+    ensures bytes { IfOk result (λ running_go. with_rest out.new.items state.new running_go ≡ out.old.items ++ (answer_go state.old depth hold).bytes) }
+    ensures state { IfOk result (λ running_go. (rest_of_go_if state.new running_go).state ≡ (answer_go state.old depth hold).state) }
+    ensures load { IfOk result (λ running_go. load_of_if running_go ≤ cost_to_depth state.old.position state.old.options.eval state.old.options.multi_pv depth) }
+    ensures tells { IfOk result (λ running_go. tells_of_if running_go ≤ most_tells) }
+    ensures quiet { IfOk result (λ running_go. OnSome running_go (out.new.items ≡ out.old.items)) }
     ensures options { OnOk result (state.new.options ≡ state.old.options) }
     ensures alive { OnOk result (state.new.is_over ≡ state.old.is_over) }
 {
@@ -92,12 +92,12 @@ fn answer_go<A: Allocator + Copy>(
     let question = Question {
         position: state.position,
         eval: state.options.eval,
-        pv_lines: state.options.pv_lines,
+        multi_pv: state.options.multi_pv,
         depth,
         hold,
     };
-    let in_hand = GoCommand::start(alloc, question, first)?;
-    Ok(Some(in_hand))
+    let running_go = GoCommand::start(alloc, question, first)?;
+    Ok(Some(running_go))
 }
 
 /// Writes the held bestmove, if there is one, and holds nothing any more.
@@ -127,7 +127,7 @@ fn answer_ponderhit<A: Allocator>(out: &mut Vec<u8, A>, state: &mut State) -> Re
     }
 }
 
-/// Answers a command, or takes a `go` in hand.
+/// Answers a command, or starts a `go`.
 pub fn answer<A: Allocator + Copy>(
     alloc: A,
     out: &mut Vec<u8, A>,
@@ -136,12 +136,12 @@ pub fn answer<A: Allocator + Copy>(
 ) -> Result<Option<GoCommand<A>>, AllocError>
     requires options { AreInRange state.old.options }
     requires range { IsInRange (meaning_of command) }
-    ensures bytes { IfOk result (λ in_hand. with_rest out.new.items state.new in_hand ≡ out.old.items ++ (answer state.old (meaning_of command.entry)).bytes) }
-    ensures state { IfOk result (λ in_hand. (rest_of_go_if state.new in_hand).state ≡ (answer state.old (meaning_of command.entry)).state) }
-    ensures load { IfOk result (λ in_hand. load_of_if in_hand ≤ cost_of_command state.old (meaning_of command.entry)) }
-    ensures tells { IfOk result (λ in_hand. tells_of_if in_hand ≤ most_tells) }
-    ensures quiet { IfOk result (λ in_hand. OnSome in_hand (out.new.items ≡ out.old.items)) }
-    ensures over { IfOk result (λ in_hand. state.old.is_over ≡ false → state.new.is_over ≡ true → in_hand ≡ None) }
+    ensures bytes { IfOk result (λ running_go. with_rest out.new.items state.new running_go ≡ out.old.items ++ (answer state.old (meaning_of command.entry)).bytes) }
+    ensures state { IfOk result (λ running_go. (rest_of_go_if state.new running_go).state ≡ (answer state.old (meaning_of command.entry)).state) }
+    ensures load { IfOk result (λ running_go. load_of_if running_go ≤ cost_of_command state.old (meaning_of command.entry)) }
+    ensures tells { IfOk result (λ running_go. tells_of_if running_go ≤ most_tells) }
+    ensures quiet { IfOk result (λ running_go. OnSome running_go (out.new.items ≡ out.old.items)) }
+    ensures over { IfOk result (λ running_go. state.old.is_over ≡ false → state.new.is_over ≡ true → running_go ≡ None) }
     ensures options { OnOk result (AreInRange state.new.options) }
 {
     match command {
@@ -149,7 +149,7 @@ pub fn answer<A: Allocator + Copy>(
         Command::IsReady => out.extend_from_slice(b"readyok\n")?,
         Command::SetDepth(depth) => state.options.depth = depth,
         Command::SetEval(eval) => state.options.eval = eval,
-        Command::SetLines(pv_lines) => state.options.pv_lines = pv_lines,
+        Command::SetLines(multi_pv) => state.options.multi_pv = multi_pv,
         Command::NewGame => {
             state.position = Position::start();
             state.held = None;
@@ -177,7 +177,7 @@ pub fn answer<A: Allocator + Copy>(
     Ok(None)
 }
 
-/// Answers a line, or takes its `go` in hand; one that is too long ends the session.
+/// Answers a line, or starts its `go`; one that is too long ends the session.
 pub fn answer_line<A: Allocator + Copy>(
     alloc: A,
     out: &mut Vec<u8, A>,
@@ -185,12 +185,12 @@ pub fn answer_line<A: Allocator + Copy>(
     line: Line<'_>,
 ) -> Result<Option<GoCommand<A>>, AllocError>
     requires options { AreInRange state.old.options }
-    ensures bytes { IfOk result (λ in_hand. with_rest out.new.items state.new in_hand ≡ out.old.items ++ (answer_to state.old (line_of line.entry)).bytes) }
-    ensures state { IfOk result (λ in_hand. (rest_of_go_if state.new in_hand).state ≡ (answer_to state.old (line_of line.entry)).state) }
-    ensures load { IfOk result (λ in_hand. load_of_if in_hand ≤ cost_to state.old (line_of line.entry)) }
-    ensures tells { IfOk result (λ in_hand. tells_of_if in_hand ≤ most_tells) }
-    ensures quiet { IfOk result (λ in_hand. OnSome in_hand (out.new.items ≡ out.old.items)) }
-    ensures over { IfOk result (λ in_hand. state.old.is_over ≡ false → state.new.is_over ≡ true → in_hand ≡ None) }
+    ensures bytes { IfOk result (λ running_go. with_rest out.new.items state.new running_go ≡ out.old.items ++ (answer_to state.old (line_of line.entry)).bytes) }
+    ensures state { IfOk result (λ running_go. (rest_of_go_if state.new running_go).state ≡ (answer_to state.old (line_of line.entry)).state) }
+    ensures load { IfOk result (λ running_go. load_of_if running_go ≤ cost_to state.old (line_of line.entry)) }
+    ensures tells { IfOk result (λ running_go. tells_of_if running_go ≤ most_tells) }
+    ensures quiet { IfOk result (λ running_go. OnSome running_go (out.new.items ≡ out.old.items)) }
+    ensures over { IfOk result (λ running_go. state.old.is_over ≡ false → state.new.is_over ≡ true → running_go ≡ None) }
     ensures options { OnOk result (AreInRange state.new.options) }
 {
     match line {

@@ -7,13 +7,13 @@ use crate::text::write_parts;
 use itoa::Buffer;
 use shogi_eval::Eval;
 use std::alloc::{AllocError, Allocator};
-use usi_lines::{DEPTH_MAX, DEPTH_MIN, PV_LINES_MAX, PV_LINES_MIN};
+use usi_lines::{DEPTH_MAX, DEPTH_MIN, MULTI_PV_MAX, MULTI_PV_MIN};
 
 /// The depth of a session whose `Depth` was never set (own choice).
 pub const DEPTH_DEFAULT: u8 = 3;
 
 /// The number of best lines of a session whose `MultiPV` was never set (USI, option).
-pub const PV_LINES_DEFAULT: u8 = 1;
+pub const MULTI_PV_DEFAULT: u8 = 1;
 
 /// What the options are set to.
 #[derive(Clone, Copy, Debug)]
@@ -23,7 +23,7 @@ pub struct Options {
     /// `Eval`: by which evaluation a `go` searches.
     pub eval: Eval,
     /// `MultiPV`: how many best lines a `go` shows at most, in its range.
-    pub pv_lines: u8,
+    pub multi_pv: u8,
 }
 
 impl Options {
@@ -34,7 +34,7 @@ impl Options {
         Options {
             depth: DEPTH_DEFAULT,
             eval: Eval::Plain,
-            pv_lines: PV_LINES_DEFAULT,
+            multi_pv: MULTI_PV_DEFAULT,
         }
     }
 }
@@ -104,9 +104,9 @@ pub fn write_options<A: Allocator>(out: &mut Vec<u8, A>) -> Result<(), AllocErro
     write_spin(
         out,
         b"MultiPV",
-        PV_LINES_DEFAULT,
-        PV_LINES_MIN,
-        PV_LINES_MAX,
+        MULTI_PV_DEFAULT,
+        MULTI_PV_MIN,
+        MULTI_PV_MAX,
     )?;
     Ok(())
 }

@@ -10,7 +10,7 @@ use usi_lines::Hold;
 pub struct Question {
     pub position: Position,
     pub eval: Eval,
-    pub pv_lines: u8,
+    pub multi_pv: u8,
     pub depth: u8,
     pub hold: Hold,
 }

@@ -1,7 +1,7 @@
 //! One USI session.
 
 ghost use Rattle.std.specs.Prelude.{◌≡◌, ◌≤◌, ◌++◌, ℕ, List, [], true, false, OnOk, OnErr, IfOk, OnSome, IfSome, IfNone, None, length, take, drop, ◌<◌, ◌+◌};
-ghost use Rattle.usi_session.specs.Due.{SessionView, due, state_due, load, turns, is_pending, wants_input, new_session, IsSearching, IsWhole};
+ghost use Rattle.usi_session.specs.Due.{SessionView, due, state_due, load, turns, is_pending, wants_input, new_session, IsMidSearch, IsPvWhole};
 ghost use Rattle.usi_session.specs.Replies.{replies, state_from};
 ghost use Rattle.usi_session.specs.Answer.{initial_state};
 ghost use Rattle.usi_session.specs.WholeLines.{GrowsByLines};
@@ -41,7 +41,7 @@ pub struct Session<A: Allocator + Copy> {
     input: LineBuffer<A>,
     queue: Queue<A>,
     state: State,
-    in_hand: Option<GoCommand<A>>,
+    running_go: Option<GoCommand<A>>,
 }
 
 impl<A: Allocator + Copy> Model for Session<A> {
@@ -50,7 +50,7 @@ impl<A: Allocator + Copy> Model for Session<A> {
 
     ghost Value = { SessionView };
 
-    ghost view = { λ s. record { state = s.state; in_hand = s.in_hand; queued = s.queue; input = s.input } };
+    ghost view = { λ s. record { state = s.state; running_go = s.running_go; queued = s.queue; input = s.input } };
 
     ghost invariant = { λ s. AreInRange s.state.options };
 }
@@ -73,7 +73,7 @@ impl<A: Allocator + Copy> Session<A> {
                 held: None,
                 is_over: false,
             },
-            in_hand: None,
+            running_go: None,
         }
     }
 
@@ -85,7 +85,7 @@ impl<A: Allocator + Copy> Session<A> {
         ensures after { OnOk result ((x : List ℕ) → state_due self.new x ≡ state_due self.old (chunk.now ++ x)) }
         ensures queued { self.new.queued ≡ self.old.queued }
         ensures state { self.new.state ≡ self.old.state }
-        ensures in_hand { self.new.in_hand ≡ self.old.in_hand }
+        ensures running_go { self.new.running_go ≡ self.old.running_go }
         ensures err { OnErr result (self.new ≡ self.old) }
     {
         match self.input.feed(chunk) {
@@ -94,9 +94,9 @@ impl<A: Allocator + Copy> Session<A> {
         }
     }
 
-    /// Answers the first unread line, or takes its `go` in hand. Where memory is refused nothing changed.
+    /// Answers the first unread line, or starts its `go`. Where memory is refused nothing changed.
     fn answer_next(&mut self) -> Result<(), SessionFault>
-        requires idle { self.old.in_hand ≡ None }
+        requires idle { self.old.running_go ≡ None }
         requires pending { is_pending self.old ≡ true }
         ensures due { (x : List ℕ) → due self.new x ≡ due self.old x }
         ensures after { (x : List ℕ) → state_due self.new x ≡ state_due self.old x }
@@ -110,18 +110,18 @@ impl<A: Allocator + Copy> Session<A> {
         };
         let mut state = self.state;
         let mut reply = Vec::new(self.alloc);
-        let in_hand = answer_line(self.alloc, &mut reply, &mut state, line)?;
+        let running_go = answer_line(self.alloc, &mut reply, &mut state, line)?;
         self.queue.push(reply.as_slice())?;
         self.state = state;
-        self.in_hand = in_hand;
+        self.running_go = running_go;
         self.input.drop_line();
         Ok(())
     }
 
-    /// Tells the line in hand, once its pv is whole, and takes the next line in hand or ends the `go`.
+    /// Tells the current line, once its pv is whole, and goes on with the next line or ends the `go`.
     /// Where memory is refused nothing changed.
     fn tell_next(&mut self) -> Result<(), SessionFault>
-        requires whole { IsWhole self.old.in_hand }
+        requires whole { IsPvWhole self.old.running_go }
         requires pending { is_pending self.old ≡ true }
         ensures due { (x : List ℕ) → due self.new x ≡ due self.old x }
         ensures after { (x : List ℕ) → state_due self.new x ≡ state_due self.old x }
@@ -130,46 +130,46 @@ impl<A: Allocator + Copy> Session<A> {
         ensures grown { GrowsByLines self.old.queued self.new.queued }
         ensures err { OnErr result (self.new ≡ self.old) }
     {
-        let Some(in_hand) = &mut self.in_hand else {
+        let Some(running_go) = &mut self.running_go else {
             return Ok(());
         };
         let mut reply = Vec::new(self.alloc);
-        in_hand.tell(&mut reply)?;
-        if !in_hand.is_last() {
+        running_go.tell(&mut reply)?;
+        if !running_go.is_last() {
             self.queue.push(reply.as_slice())?;
-            in_hand.next();
+            running_go.next();
             return Ok(());
         }
         let mut state = self.state;
-        write_or_hold(&mut reply, &mut state, in_hand.bestmove())?;
+        write_or_hold(&mut reply, &mut state, running_go.bestmove())?;
         self.queue.push(reply.as_slice())?;
         self.state = state;
-        self.in_hand = None;
+        self.running_go = None;
         Ok(())
     }
 
-    /// Makes steps of the search in hand, or what needs none: tells a line of the `go` in hand, or answers
+    /// Makes steps of the current search, or what needs none: tells a line of the running `go`, or answers
     /// an unread one. Tells how many steps were made, or nothing where the budget was used up within a
     /// search.
     fn turn<M: Memo>(&mut self, memo: &mut M, budget: u64) -> Result<Option<u64>, SessionFault>
         requires pending { is_pending self.old ≡ true }
         ensures due { (x : List ℕ) → due self.new x ≡ due self.old x }
         ensures after { (x : List ℕ) → state_due self.new x ≡ state_due self.old x }
-        ensures spent { IfOk result (λ made. IfNone made ((budget + load self.new ≤ load self.old) × IsSearching self.new.in_hand)) }
+        ensures spent { IfOk result (λ made. IfNone made ((budget + load self.new ≤ load self.old) × IsMidSearch self.new.running_go)) }
         ensures most { IfOk result (λ made. IfSome made (λ n. n ≤ budget)) }
         ensures made { IfOk result (λ made. IfSome made (λ n. n + load self.new ≤ load self.old)) }
         ensures fewer { IfOk result (λ made. OnSome made (turns self.new < turns self.old)) }
         ensures grown { GrowsByLines self.old.queued self.new.queued }
         ensures err { OnErr result (self.new ≡ self.old) }
     {
-        match &mut self.in_hand {
+        match &mut self.running_go {
             None => {
                 self.answer_next()?;
                 Ok(Some(0))
             }
-            Some(in_hand) => {
-                if in_hand.is_searching() {
-                    return Ok(in_hand.advance(memo, budget));
+            Some(running_go) => {
+                if running_go.is_searching() {
+                    return Ok(running_go.advance(memo, budget));
                 }
                 self.tell_next()?;
                 Ok(Some(0))
@@ -178,7 +178,7 @@ impl<A: Allocator + Copy> Session<A> {
     }
 
     /// Answers the pending lines in order, with at most so many steps of search, and gives the number
-    /// of steps made. Where something is still pending the budget is used up, and a search is in hand.
+    /// of steps made. Where something is still pending the budget is used up, and a search is running.
     /// On `OutOfMemory` what is owed stays as it was, and a later call goes on; the memo may have
     /// changed. Either way the queue has only grown, by whole lines.
     pub fn work<M: Memo>(&mut self, memo: &mut M, budget: u64) -> Result<u64, SessionFault>
@@ -186,7 +186,7 @@ impl<A: Allocator + Copy> Session<A> {
         ensures after { (x : List ℕ) → state_due self.new x ≡ state_due self.old x }
         ensures most { IfOk result (λ n. n ≤ budget) }
         ensures made { IfOk result (λ n. n + load self.new ≤ load self.old) }
-        ensures spent { IfOk result (λ n. is_pending self.new ≡ true → (n ≡ budget) × IsSearching self.new.in_hand) }
+        ensures spent { IfOk result (λ n. is_pending self.new ≡ true → (n ≡ budget) × IsMidSearch self.new.running_go) }
         ensures enough { load self.old ≤ budget → OnOk result (is_pending self.new ≡ false) }
         ensures grown { GrowsByLines self.old.queued self.new.queued }
         ensures err { OnErr result (load self.new ≤ load self.old) }
@@ -201,11 +201,11 @@ impl<A: Allocator + Copy> Session<A> {
         Ok(budget - left)
     }
 
-    /// Whether it is alive and has a `go` in hand or an unread line. A held `bestmove` is not pending.
+    /// Whether it is alive and has a running `go` or an unread line. A held `bestmove` is not pending.
     pub fn pending(&self) -> bool
         ensures { result ≡ is_pending self.now }
     {
-        !self.state.is_over && (self.in_hand.is_some() || self.input.has_line())
+        !self.state.is_over && (self.running_go.is_some() || self.input.has_line())
     }
 
     /// Whether it may be fed: alive, nothing pending, and fewer than `QUEUE_FULL` bytes queued.
@@ -213,7 +213,7 @@ impl<A: Allocator + Copy> Session<A> {
         ensures { result ≡ wants_input self.now }
     {
         !self.state.is_over
-            && !(self.in_hand.is_some() || self.input.has_line())
+            && !(self.running_go.is_some() || self.input.has_line())
             && self.queue.as_slice().len() < QUEUE_FULL
     }
 
@@ -229,7 +229,7 @@ impl<A: Allocator + Copy> Session<A> {
         requires { n ≤ length self.old.queued }
         ensures queued { self.new.queued ≡ drop n self.old.queued }
         ensures state { self.new.state ≡ self.old.state }
-        ensures in_hand { self.new.in_hand ≡ self.old.in_hand }
+        ensures running_go { self.new.running_go ≡ self.old.running_go }
         ensures input { self.new.input ≡ self.old.input }
         ensures due { (x : List ℕ) → due self.old x ≡ take n self.old.queued ++ due self.new x }
     {

@@ -7,10 +7,10 @@ ghost use Rattle.shogi_moves.specs.Rising.{is_in};
 ghost use Rattle.shogi_search.specs.Minimax.{worth};
 ghost use Rattle.shogi_search.specs.Ranked.{codes_in, IsTop};
 ghost use Rattle.shogi_search.specs.declared.bounds.TheConstants.{SEARCH_DEPTH_MAX};
-ghost use Rattle.shogi_search.specs.declared.ranks.TheConstants.{PV_LINES_MAX};
+ghost use Rattle.shogi_search.specs.declared.ranks.TheConstants.{MULTI_PV_MAX};
 
 use crate::tests::position;
-use crate::{NoMemo, PV_LINES_MAX, Ranks, search_below};
+use crate::{MULTI_PV_MAX, NoMemo, Ranks, search_below};
 use shogi_core::{Color, Kind, Move, Position, Role};
 use shogi_eval::Eval;
 use shogi_moves::{apply, next_legal};
@@ -47,7 +47,7 @@ fn assert_list(rt: &impl Abort, ranks: &Ranks, wanted: &[(u16, i32)]) {
 // The list after the moves of these codes are offered with these values.
 fn assert_offered(rt: &impl Abort, lines: usize, offers: &[(u16, i32)], wanted: &[(u16, i32)])
     requires least { 1 ≤ lines }
-    requires most { lines ≤ PV_LINES_MAX }
+    requires most { lines ≤ MULTI_PV_MAX }
 {
     let mut ranks = Ranks::new(lines);
     assert_list(rt, &ranks, &[]);
@@ -101,13 +101,13 @@ fn eight_of_nine(rt: HostRuntime) {
         (9, 30000),
     ];
     assert_offered(&rt, 8, &offers, &wanted);
-    assert_offered(&rt, PV_LINES_MAX, &offers, &wanted);
+    assert_offered(&rt, MULTI_PV_MAX, &offers, &wanted);
 }
 
 // The value on the last line after each offer: none until every line has a move, and then these.
 fn assert_thresholds(rt: &impl Abort, lines: usize, offers: &[(u16, i32)], wanted: &[i32])
     requires least { 1 ≤ lines }
-    requires most { lines ≤ PV_LINES_MAX }
+    requires most { lines ≤ MULTI_PV_MAX }
 {
     let mut ranks = Ranks::new(lines);
     assert_eq!(rt; ranks.threshold(), None);
@@ -159,7 +159,7 @@ fn best_lines(p: &Position, e: Eval, depth: u8, lines: usize) -> Ranks
     requires shallow { depth ≤ SEARCH_DEPTH_MAX }
     requires deep { 0 < depth }
     requires least { 1 ≤ lines }
-    requires most { lines ≤ PV_LINES_MAX }
+    requires most { lines ≤ MULTI_PV_MAX }
     ensures { IsTop (worth p.now e (depth - 1)) (legal_codes p.now) result }
 {
     p.validity();
@@ -181,7 +181,7 @@ fn assert_lines(rt: &impl Abort, p: &Position, depth: u8, lines: usize, wanted: 
     requires shallow { depth ≤ SEARCH_DEPTH_MAX }
     requires deep { 0 < depth }
     requires least { 1 ≤ lines }
-    requires most { lines ≤ PV_LINES_MAX }
+    requires most { lines ≤ MULTI_PV_MAX }
 {
     assert_list(rt, &best_lines(p, Eval::Plain, depth, lines), wanted);
 }

@@ -8,17 +8,17 @@ use Rattle.usi_session.proofs.GoOn.{child_window, child_legal}
 use Rattle.usi_session.proofs.go_command.child_search.Goals as goal
 
 pub child_beta-requires-clause-least : goal.child_beta-requires-clause-least
-child_beta-requires-clause-least c = (child_window c.args.question.now c.args.told c.args.child c.args.ranks.now c.validity-2.ensures c.requires.asked c.requires.more c.requires.ranked).0
+child_beta-requires-clause-least c = (child_window c.args.question.now c.args.depths_done c.args.root_move c.args.ranks.now c.validity-2.ensures c.requires.question c.requires.more c.requires.ranked).0
 
 pub child_beta-requires-clause-most : goal.child_beta-requires-clause-most
-child_beta-requires-clause-most c = (child_window c.args.question.now c.args.told c.args.child c.args.ranks.now c.validity-2.ensures c.requires.asked c.requires.more c.requires.ranked).1
+child_beta-requires-clause-most c = (child_window c.args.question.now c.args.depths_done c.args.root_move c.args.ranks.now c.validity-2.ensures c.requires.question c.requires.more c.requires.ranked).1
 
 pub apply-next-requires : goal.apply-next-requires
-apply-next-requires c = child_legal c.args.question.now c.args.told c.args.child c.args.ranks.now c.validity.ensures.back c.requires.ranked
+apply-next-requires c = child_legal c.args.question.now c.args.depths_done c.args.root_move c.args.ranks.now c.validity.ensures.back c.requires.ranked
 
 pub start_below-requires-clause-open : goal.start_below-requires-clause-open
 start_below-requires-clause-open c =
-    let w = child_window c.args.question.now c.args.told c.args.child c.args.ranks.now c.validity-2.ensures c.requires.asked c.requires.more c.requires.ranked in
+    let w = child_window c.args.question.now c.args.depths_done c.args.root_move c.args.ranks.now c.validity-2.ensures c.requires.question c.requires.more c.requires.ranked in
     let low : negated INFINITY <ℤ child_beta c.args.ranks.now = w.0 in
     let high : child_beta c.args.ranks.now ≤ℤ INFINITY = w.1 in
     let f : FitsSigned w32 c.child_beta.result = search rules in
@@ -26,7 +26,7 @@ start_below-requires-clause-open c =
 
 pub start_below-requires-clause-most : goal.start_below-requires-clause-most
 start_below-requires-clause-most c =
-    let w = child_window c.args.question.now c.args.told c.args.child c.args.ranks.now c.validity-2.ensures c.requires.asked c.requires.more c.requires.ranked in
+    let w = child_window c.args.question.now c.args.depths_done c.args.root_move c.args.ranks.now c.validity-2.ensures c.requires.question c.requires.more c.requires.ranked in
     let low : negated INFINITY <ℤ child_beta c.args.ranks.now = w.0 in
     let high : child_beta c.args.ranks.now ≤ℤ INFINITY = w.1 in
     let f : FitsSigned w32 c.child_beta.result = search rules in

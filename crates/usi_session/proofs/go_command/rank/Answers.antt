@@ -11,10 +11,10 @@ use Rattle.usi_session.proofs.GoOn.{child_window}
 use Rattle.usi_session.proofs.go_command.rank.Goals as goal
 
 pub child_beta-requires-clause-least : goal.child_beta-requires-clause-least
-child_beta-requires-clause-least c = (child_window c.args.question.now c.args.told c.args.child c.args.ranks.now c.validity-2.ensures c.requires.asked c.requires.more c.requires.ranked).0
+child_beta-requires-clause-least c = (child_window c.args.question.now c.args.depths_done c.args.root_move c.args.ranks.now c.validity-2.ensures c.requires.question c.requires.more c.requires.ranked).0
 
 pub child_beta-requires-clause-most : goal.child_beta-requires-clause-most
-child_beta-requires-clause-most c = (child_window c.args.question.now c.args.told c.args.child c.args.ranks.now c.validity-2.ensures c.requires.asked c.requires.more c.requires.ranked).1
+child_beta-requires-clause-most c = (child_window c.args.question.now c.args.depths_done c.args.root_move c.args.ranks.now c.validity-2.ensures c.requires.question c.requires.more c.requires.ranked).1
 
 pub offer-requires : goal.offer-requires
 offer-requires c = gone_fresh _ _ _ _ _ _ c.requires.ranked.gone c.requires.ranked.next
@@ -22,16 +22,16 @@ offer-requires c = gone_fresh _ _ _ _ _ _ c.requires.ranked.gone c.requires.rank
 pub returns-then-found-child_beta-clause-gone : goal.returns-then-found-child_beta-clause-gone
 returns-then-found-child_beta-clause-gone c =
     let q = c.args.question.now in
-    let f = worth q.position q.eval c.args.told in
-    let at : after q.position c.args.child ≡ _ = sym (after_code_of q.position c.args.child c.validity.ensures.back) in
+    let f = worth q.position q.eval c.args.depths_done in
+    let at : after q.position c.args.root_move ≡ _ = sym (after_code_of q.position c.args.root_move c.validity.ensures.back) in
     let low : c.args.found.now.value <ℤ child_beta c.args.ranks.now = search rules in
-    let v : c.args.found.now.value ≡ value (after q.position c.args.child) q.eval c.args.told = c.requires.below.value_is low in
-    let w : f (code_of c.args.child) ≡ pos 0 -ℤ c.args.found.now.value = worth_from q.position q.eval c.args.told (code_of c.args.child) (after q.position c.args.child) _ v at in
-    gone_on q.position f c.requires.ranked.passed c.args.ranks.now c.offer.new.self c.args.child c.requires.ranked.gone c.requires.ranked.next (λ codes t i. c.offer.ensures.top f codes t i (omega (arith, ints)))
+    let v : c.args.found.now.value ≡ value (after q.position c.args.root_move) q.eval c.args.depths_done = c.requires.below.value_is low in
+    let w : f (code_of c.args.root_move) ≡ pos 0 -ℤ c.args.found.now.value = worth_from q.position q.eval c.args.depths_done (code_of c.args.root_move) (after q.position c.args.root_move) _ v at in
+    gone_on q.position f c.requires.ranked.passed c.args.ranks.now c.offer.new.self c.args.root_move c.requires.ranked.gone c.requires.ranked.next (λ codes t i. c.offer.ensures.top f codes t i (omega (arith, ints)))
 
 pub returns-else-found-child_beta-clause-gone : goal.returns-else-found-child_beta-clause-gone
 returns-else-found-child_beta-clause-gone c =
     let q = c.args.question.now in
-    let at : after q.position c.args.child ≡ _ = sym (after_code_of q.position c.args.child c.validity.ensures.back) in
+    let at : after q.position c.args.root_move ≡ _ = sym (after_code_of q.position c.args.root_move c.validity.ensures.back) in
     let high : child_beta c.args.ranks.now ≤ℤ c.args.found.now.value = search rules in
-    gone_unlisted q.position q.eval c.args.told c.requires.ranked.passed c.args.ranks.now c.args.child (after q.position c.args.child) (child_beta c.args.ranks.now) c.args.found.now c.requires.ranked.gone c.requires.ranked.next at c.requires.below refl high
+    gone_unlisted q.position q.eval c.args.depths_done c.requires.ranked.passed c.args.ranks.now c.args.root_move (after q.position c.args.root_move) (child_beta c.args.ranks.now) c.args.found.now c.requires.ranked.gone c.requires.ranked.next at c.requires.below refl high

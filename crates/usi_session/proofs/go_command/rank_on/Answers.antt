@@ -5,34 +5,34 @@ use Rattle.shogi_search.specs.declared.bounds.TheConstants.{INFINITY}
 use Rattle.shogi_moves.specs.After.{after}
 use Rattle.shogi_moves.proofs.LegalLaws.{after_code_of}
 use Rattle.usi_session.specs.Walked.{IsUnder, IsRanked}
-use Rattle.usi_session.proofs.Listed.{child_some, some_listed}
+use Rattle.usi_session.proofs.Listed.{root_move_some, some_listed}
 use Rattle.usi_session.proofs.GoOn.{ranked_on, ranked_all, under_start, next_child_cost}
 use Rattle.usi_session.proofs.go_command.rank_on.Goals as goal
 
 pub child_search-requires-clause-ranked : goal.child_search-requires-clause-ranked
-child_search-requires-clause-ranked c = ranked_on c.args.question.now c.args.told c.args.child c.in-Some.m c.args.ranks.now c.rank.new.ranks c.requires.ranked c.rank.ensures.gone c.in-Some.ensures.next c.rank.ensures.lines
+child_search-requires-clause-ranked c = ranked_on c.args.question.now c.args.depths_done c.args.root_move c.in-Some.m c.args.ranks.now c.rank.new.ranks c.requires.ranked c.rank.ensures.gone c.in-Some.ensures.next c.rank.ensures.lines
 
 pub returns-in-Some-clause-at_depth : goal.returns-in-Some-clause-at_depth
 returns-in-Some-clause-at_depth c =
     let q = c.args.question.now in
     λ kept. record {
       several = c.requires.several;
-      none_shown = refl;
-      ranked = ranked_on q c.args.told c.args.child c.in-Some.m c.args.ranks.now c.rank.new.ranks c.requires.ranked c.rank.ensures.gone c.in-Some.ensures.next c.rank.ensures.lines;
-      searched = under_start c.child_search.result (after q.position c.in-Some.m) q.eval c.args.told (child_beta c.rank.new.ranks) c.child_search.ensures;
+      none_done = refl;
+      ranked = ranked_on q c.args.depths_done c.args.root_move c.in-Some.m c.args.ranks.now c.rank.new.ranks c.requires.ranked c.rank.ensures.gone c.in-Some.ensures.next c.rank.ensures.lines;
+      searched = under_start c.child_search.result (after q.position c.in-Some.m) q.eval c.args.depths_done (child_beta c.rank.new.ranks) c.child_search.ensures;
     }
 
 pub line_of-requires-clause-ranked : goal.line_of-requires-clause-ranked
 line_of-requires-clause-ranked c =
-    ranked_all c.args.question.now c.args.told c.args.child c.args.ranks.now c.rank.new.ranks c.requires.ranked c.rank.ensures.gone c.in_default.ensures.next c.rank.ensures.lines
+    ranked_all c.args.question.now c.args.depths_done c.args.root_move c.args.ranks.now c.rank.new.ranks c.requires.ranked c.rank.ensures.gone c.in_default.ensures.next c.rank.ensures.lines
 
-pub line_of-requires-clause-shown : goal.line_of-requires-clause-shown
-line_of-requires-clause-shown c = some_listed c.args.question.now c.args.told c.requires.asked.pv_lines_fit.least (child_some c.args.question.now c.args.told c.args.child c.args.ranks.now c.requires.ranked)
+pub line_of-requires-clause-lines_done : goal.line_of-requires-clause-lines_done
+line_of-requires-clause-lines_done c = some_listed c.args.question.now c.args.depths_done c.requires.question.multi_pv_fits.least (root_move_some c.args.question.now c.args.depths_done c.args.root_move c.args.ranks.now c.requires.ranked)
 
 pub returns-clause-at_depth : goal.returns-clause-at_depth
 returns-clause-at_depth c =
     let q = c.args.question.now in
-    let all : IsRanked q c.args.told c.rank.new.ranks = ranked_all q c.args.told c.args.child c.args.ranks.now c.rank.new.ranks c.requires.ranked c.rank.ensures.gone c.in_default.ensures.next c.rank.ensures.lines in
+    let all : IsRanked q c.args.depths_done c.rank.new.ranks = ranked_all q c.args.depths_done c.args.root_move c.args.ranks.now c.rank.new.ranks c.requires.ranked c.rank.ensures.gone c.in_default.ensures.next c.rank.ensures.lines in
     λ kept. record {
       line = c.line_of.ensures.line;
       ranked = λ ne. all;
@@ -43,4 +43,4 @@ returns-clause-at_depth c =
 pub returns-in-Some-clause-cost : goal.returns-in-Some-clause-cost
 returns-in-Some-clause-cost c =
     let q = c.args.question.now in
-    next_child_cost q c.args.told c.args.child c.in-Some.m c.args.walk.now c.args.walk.now c.child_search.result c.args.search.now (child_beta c.rank.new.ranks) c.child_search.ensures (sym (after_code_of q.position c.in-Some.m c.validity.ensures.back)) c.in-Some.ensures.next
+    next_child_cost q c.args.depths_done c.args.root_move c.in-Some.m c.args.walk.now c.args.walk.now c.child_search.result c.args.search.now (child_beta c.rank.new.ranks) c.child_search.ensures (sym (after_code_of q.position c.in-Some.m c.validity.ensures.back)) c.in-Some.ensures.next

@@ -12,12 +12,12 @@ of_equal m v w xs ys i j at e l h =
     subst (λ (n : ℕ). insert ys n (m, w) ≡ insert_pair m w ys) at (subst (λ (zs : List (Move × ℤ)). insert zs i (m, w) ≡ insert_pair m w zs) l (subst (λ (z : ℤ). insert xs i (m, z) ≡ insert_pair m z xs) e h))
 
 pub loop-place-preserved : goal.loop-place-preserved
-loop-place-preserved c = place_next _ _ _ _ c.index-pairs-place.result c.loop-place-test.true c.index-pairs-place.is (sym c.is_ahead.ensures ∙ c.if-is_ahead.false) c.loop-place.invariant
+loop-place-preserved c = place_next _ _ _ _ c.index-pairs-place.result c.loop-place-test.true c.index-pairs-place.is (sym c.is_better.ensures ∙ c.if-is_better.false) c.loop-place.invariant
 
-pub returns-then-is_ahead-clause-place : goal.returns-then-is_ahead-clause-place
-returns-then-is_ahead-clause-place c =
+pub returns-then-is_better-clause-place : goal.returns-then-is_better-clause-place
+returns-then-is_better-clause-place c =
     of_equal c.args.m.now _ c.args.value _ c.args.self.now.pairs c.loop-place.place _ refl (to_z-of_z w32 c.args.value c.ranges.value) (c.as_slice-pairs.ensures.value ∙ ap (λ (r : Ranking). r.pairs) c.self.view_is)
-    (place_here _ _ _ _ c.index-pairs-place.result c.loop-place-test.true c.index-pairs-place.is (sym c.is_ahead.ensures ∙ c.if-is_ahead.true) c.loop-place.invariant)
+    (place_here _ _ _ _ c.index-pairs-place.result c.loop-place-test.true c.index-pairs-place.is (sym c.is_better.ensures ∙ c.if-is_better.true) c.loop-place.invariant)
 
 pub returns-clause-place : goal.returns-clause-place
 returns-clause-place c =

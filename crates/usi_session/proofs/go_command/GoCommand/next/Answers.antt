@@ -1,6 +1,6 @@
 use Rattle.std.proofs.Common.{◌+◌, ◌∙◌, sym}
 use Rattle.std.proofs.lemmas.Bool.{and_from, both_ways, cond-true, eq-eqb}
-use Rattle.usi_session.specs.InHand.{ends_depth, infos_left, lines_later}
+use Rattle.usi_session.specs.RunningGo.{ends_depth, infos_to_come, deeper_infos}
 use Rattle.usi_session.proofs.go_command.GoCommand.next.Goals as goal
 
 pub next_depth-requires-clause-more : goal.next_depth-requires-clause-more
@@ -9,4 +9,4 @@ next_depth-requires-clause-more g c = λ e. both_ways _ c.requires.more (and_fro
 pub returns-then-ends_depth-clause-rest : goal.returns-then-ends_depth-clause-rest
 returns-then-ends_depth-clause-rest g c =
     let s = c.args.self.now in
-    c.next_depth.ensures.rest ∙ sym (cond-true (ends_depth s.question s.told s.shown) (lines_later s.question s.told) (infos_left s.question s.told (s.shown + 1)) (sym c.ends_depth.ensures ∙ c.if-ends_depth.true))
+    c.next_depth.ensures.rest ∙ sym (cond-true (ends_depth s.question s.depths_done s.lines_done) (deeper_infos s.question s.depths_done) (infos_to_come s.question s.depths_done (s.lines_done + 1)) (sym c.ends_depth.ensures ∙ c.if-ends_depth.true))

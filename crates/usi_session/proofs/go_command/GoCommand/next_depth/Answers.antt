@@ -1,6 +1,6 @@
 use Rattle.std.proofs.Common.{◌≡◌, ◌+◌, ◌<◌, ap, ◌∙◌, arith}
 use Rattle.shogi_search.specs.Ranked.{Ranking, child_beta}
-use Rattle.usi_session.specs.InHand.{InHand, is_searching}
+use Rattle.usi_session.specs.RunningGo.{RunningGo, is_searching}
 use Rattle.usi_session.proofs.Listed.{line_below}
 use Rattle.usi_session.proofs.Tells.{told_depth}
 use Rattle.usi_session.proofs.GoOn.{begun, next_depth_cost, whole_line, IsWholeLine}
@@ -9,34 +9,34 @@ use Rattle.usi_session.proofs.go_command.GoCommand.next_depth.Goals as goal
 pub invariant_of-self : goal.invariant_of-self
 invariant_of-self g c =
     let s = c.self.inside in
-    let t : s.told ≡ c.args.self.now.told = ap (λ (x : InHand). x.told) c.self.view_is in
-    let d : s.question.depth ≡ c.args.self.now.question.depth = ap (λ (x : InHand). x.question.depth) c.self.view_is in
+    let t : s.depths_done ≡ c.args.self.now.depths_done = ap (λ (x : RunningGo). x.depths_done) c.self.view_is in
+    let d : s.question.depth ≡ c.args.self.now.question.depth = ap (λ (x : RunningGo). x.question.depth) c.self.view_is in
     record {
       range = c.self.invariant.range;
       first_is = c.self.invariant.first_is;
       left = omega (arith, t, d, c.self.invariant.left, c.requires.more);
-      at_depth = rw (c.first_child-child.ensures, c.new-walk.ensures, c.first_search.ensures) (begun s.question s.first (s.told + 1) c.new-ranks.result s.bestmove c.self.invariant.range c.self.invariant.first_is (ap (λ (r : Ranking). r.lines) c.new-ranks.ensures.empty) (c.new-ranks.ensures.top _) (ap child_beta c.new-ranks.ensures.empty));
+      at_depth = rw (c.first_root_move-root_move.ensures, c.new-walk.ensures, c.first_search.ensures) (begun s.question s.first (s.depths_done + 1) c.new-ranks.result s.bestmove c.self.invariant.range c.self.invariant.first_is (ap (λ (r : Ranking). r.lines) c.new-ranks.ensures.empty) (c.new-ranks.ensures.top _) (ap child_beta c.new-ranks.ensures.empty));
     }
 
 pub returns-clause-load : goal.returns-clause-load
 returns-clause-load g c =
     let s = c.self.inside in
-    let t : s.told ≡ c.args.self.now.told = ap (λ (x : InHand). x.told) c.self.view_is in
-    let d : s.question.depth ≡ c.args.self.now.question.depth = ap (λ (x : InHand). x.question.depth) c.self.view_is in
-    rw (c.first_child-child.ensures, c.new-walk.ensures, c.first_search.ensures, ← c.self.view_is) (next_depth_cost s.question s.first s.told s.shown s.child s.walk s.search.value (omega (arith, t, d, c.self.invariant.left, c.requires.more)) c.self.invariant.first_is c.validity.ensures.back)
+    let t : s.depths_done ≡ c.args.self.now.depths_done = ap (λ (x : RunningGo). x.depths_done) c.self.view_is in
+    let d : s.question.depth ≡ c.args.self.now.question.depth = ap (λ (x : RunningGo). x.question.depth) c.self.view_is in
+    rw (c.first_root_move-root_move.ensures, c.new-walk.ensures, c.first_search.ensures, ← c.self.view_is) (next_depth_cost s.question s.first s.depths_done s.lines_done s.root_move s.walk s.search.value (omega (arith, t, d, c.self.invariant.left, c.requires.more)) c.self.invariant.first_is c.validity.ensures.back)
 
 pub returns-clause-fewer : goal.returns-clause-fewer
 returns-clause-fewer g c =
     let s = c.self.inside in
-    let w : IsWholeLine s.question s.told s.shown s.child s.ranks s.walk s.bestmove = whole_line s.question s.told s.shown s.child s.ranks s.walk s.bestmove s.search.value c.self.invariant.at_depth (ap is_searching c.self.view_is ∙ c.requires.whole) in
-    let l : s.shown < s.question.pv_lines = line_below s.question s.told s.shown s.walk w.line in
-    let m = c.self.invariant.range.pv_lines_fit.most in
+    let w : IsWholeLine s.question s.depths_done s.lines_done s.root_move s.ranks s.walk s.bestmove = whole_line s.question s.depths_done s.lines_done s.root_move s.ranks s.walk s.bestmove s.search.value c.self.invariant.at_depth (ap is_searching c.self.view_is ∙ c.requires.whole) in
+    let l : s.lines_done < s.question.multi_pv = line_below s.question s.depths_done s.lines_done s.walk w.line in
+    let m = c.self.invariant.range.multi_pv_fits.most in
     let h = c.self.invariant.left in
     rw (← c.self.view_is) (omega arith)
 
 pub returns-clause-rest : goal.returns-clause-rest
 returns-clause-rest g c =
     let s = c.self.inside in
-    let t : s.told ≡ c.args.self.now.told = ap (λ (x : InHand). x.told) c.self.view_is in
-    let d : s.question.depth ≡ c.args.self.now.question.depth = ap (λ (x : InHand). x.question.depth) c.self.view_is in
-    rw (← c.self.view_is) (told_depth s.question s.told (omega (arith, t, d, c.self.invariant.left, c.requires.more)))
+    let t : s.depths_done ≡ c.args.self.now.depths_done = ap (λ (x : RunningGo). x.depths_done) c.self.view_is in
+    let d : s.question.depth ≡ c.args.self.now.question.depth = ap (λ (x : RunningGo). x.question.depth) c.self.view_is in
+    rw (← c.self.view_is) (told_depth s.question s.depths_done (omega (arith, t, d, c.self.invariant.left, c.requires.more)))

@@ -10,22 +10,22 @@ pub returns-clause-due : goal.returns-clause-due
 returns-clause-due g c = λ x.
     let s = c.self.inside in
     let alive : s.state.is_over ≡ false = ap (λ (t : SessionView). t.state.is_over) c.self.view_is ∙ pending_alive c.args.self.now c.requires.pending in
-    rw (← c.self.view_is) (due_on s.state c.answer_line.new.state s.queue c.push.new.self c.answer_line.new.out.items s.in_hand c.in_ok-in_hand.in_hand (line_of c.in-Some.line) (ahead s.input x) (ahead c.drop_line.new.self x)
-    alive (ap (λ (t : SessionView). t.in_hand) c.self.view_is ∙ c.requires.idle) (c.in-Some.ensures.first x ∙ ap (λ xs. line_of c.in-Some.line ∷ xs) (sym (c.drop_line.ensures.rest x))) (search rules) (search rules) (search rules) (search rules))
+    rw (← c.self.view_is) (due_on s.state c.answer_line.new.state s.queue c.push.new.self c.answer_line.new.out.items s.running_go c.in_ok-running_go.running_go (line_of c.in-Some.line) (ahead s.input x) (ahead c.drop_line.new.self x)
+    alive (ap (λ (t : SessionView). t.running_go) c.self.view_is ∙ c.requires.idle) (c.in-Some.ensures.first x ∙ ap (λ xs. line_of c.in-Some.line ∷ xs) (sym (c.drop_line.ensures.rest x))) (search rules) (search rules) (search rules) (search rules))
 
 pub returns-clause-load : goal.returns-clause-load
 returns-clause-load g c =
     let s = c.self.inside in
     let alive : s.state.is_over ≡ false = ap (λ (t : SessionView). t.state.is_over) c.self.view_is ∙ pending_alive c.args.self.now c.requires.pending in
-    rw (← c.self.view_is) (load_on s.state c.answer_line.new.state s.in_hand c.in_ok-in_hand.in_hand (line_of c.in-Some.line) (ahead s.input []) (ahead c.drop_line.new.self [])
-    alive (ap (λ (t : SessionView). t.in_hand) c.self.view_is ∙ c.requires.idle) (c.in-Some.ensures.first [] ∙ ap (λ xs. line_of c.in-Some.line ∷ xs) (sym (c.drop_line.ensures.rest []))) (search rules) (search rules))
+    rw (← c.self.view_is) (load_on s.state c.answer_line.new.state s.running_go c.in_ok-running_go.running_go (line_of c.in-Some.line) (ahead s.input []) (ahead c.drop_line.new.self [])
+    alive (ap (λ (t : SessionView). t.running_go) c.self.view_is ∙ c.requires.idle) (c.in-Some.ensures.first [] ∙ ap (λ xs. line_of c.in-Some.line ∷ xs) (sym (c.drop_line.ensures.rest []))) (search rules) (search rules))
 
 pub returns-clause-after : goal.returns-clause-after
 returns-clause-after g c = λ x.
     let s = c.self.inside in
     let alive : s.state.is_over ≡ false = ap (λ (t : SessionView). t.state.is_over) c.self.view_is ∙ pending_alive c.args.self.now c.requires.pending in
-    rw (← c.self.view_is) (state_on s.state c.answer_line.new.state s.in_hand c.in_ok-in_hand.in_hand (line_of c.in-Some.line) (ahead s.input x) (ahead c.drop_line.new.self x)
-    alive (ap (λ (t : SessionView). t.in_hand) c.self.view_is ∙ c.requires.idle) (c.in-Some.ensures.first x ∙ ap (λ xs. line_of c.in-Some.line ∷ xs) (sym (c.drop_line.ensures.rest x))) (search rules))
+    rw (← c.self.view_is) (state_on s.state c.answer_line.new.state s.running_go c.in_ok-running_go.running_go (line_of c.in-Some.line) (ahead s.input x) (ahead c.drop_line.new.self x)
+    alive (ap (λ (t : SessionView). t.running_go) c.self.view_is ∙ c.requires.idle) (c.in-Some.ensures.first x ∙ ap (λ xs. line_of c.in-Some.line ∷ xs) (sym (c.drop_line.ensures.rest x))) (search rules))
 
 pub returns-clause-grown : goal.returns-clause-grown
 returns-clause-grown g c =
@@ -33,15 +33,15 @@ returns-clause-grown g c =
     rw (← c.self.view_is) (record {
       lines = c.answer_line.new.out.items;
       after_is = search rules;
-      whole = reply_whole s.state c.answer_line.new.state c.answer_line.new.out.items c.in_ok-in_hand.in_hand (line_of c.in-Some.line) (search rules) (search rules);
+      whole = reply_whole s.state c.answer_line.new.state c.answer_line.new.out.items c.in_ok-running_go.running_go (line_of c.in-Some.line) (search rules) (search rules);
     })
 
 pub returns-clause-fewer : goal.returns-clause-fewer
 returns-clause-fewer g c =
     let s = c.self.inside in
     let alive : s.state.is_over ≡ false = ap (λ (t : SessionView). t.state.is_over) c.self.view_is ∙ pending_alive c.args.self.now c.requires.pending in
-    rw (← c.self.view_is) (turns_on s.state c.answer_line.new.state s.in_hand c.in_ok-in_hand.in_hand (line_of c.in-Some.line) (ahead s.input []) (ahead c.drop_line.new.self [])
-    alive (ap (λ (t : SessionView). t.in_hand) c.self.view_is ∙ c.requires.idle) (c.in-Some.ensures.first [] ∙ ap (λ xs. line_of c.in-Some.line ∷ xs) (sym (c.drop_line.ensures.rest []))) (search rules) (search rules) (search rules))
+    rw (← c.self.view_is) (turns_on s.state c.answer_line.new.state s.running_go c.in_ok-running_go.running_go (line_of c.in-Some.line) (ahead s.input []) (ahead c.drop_line.new.self [])
+    alive (ap (λ (t : SessionView). t.running_go) c.self.view_is ∙ c.requires.idle) (c.in-Some.ensures.first [] ∙ ap (λ xs. line_of c.in-Some.line ∷ xs) (sym (c.drop_line.ensures.rest []))) (search rules) (search rules) (search rules))
 
 -- nothing was queued
 pub returns-in_err-push-clause-grown : goal.returns-in_err-push-clause-grown

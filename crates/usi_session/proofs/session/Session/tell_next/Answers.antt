@@ -9,13 +9,13 @@ pub returns-then-not-is_last-clause-due : goal.returns-then-not-is_last-clause-d
 returns-then-not-is_last-clause-due g c = λ x.
     let s = c.self.inside in
     let alive : s.state.is_over ≡ false = ap (λ (t : SessionView). t.state.is_over) c.self.view_is ∙ pending_alive c.args.self.now c.requires.pending in
-    rw (← c.self.view_is) (due_told s.state s.queue c.push.new.self c.tell.new.out.items c.in-Some.in_hand c.next.new.self s.in_hand (ahead s.input x)
+    rw (← c.self.view_is) (due_told s.state s.queue c.push.new.self c.tell.new.out.items c.in-Some.running_go c.next.new.self s.running_go (ahead s.input x)
     alive c.in-Some.is (search rules) (search rules) (search rules) (search rules))
 
 pub returns-then-not-is_last-clause-load : goal.returns-then-not-is_last-clause-load
 returns-then-not-is_last-clause-load g c =
     let s = c.self.inside in
-    rw (← c.self.view_is) (load_told s.state c.in-Some.in_hand c.next.new.self s.in_hand (ahead s.input []) c.in-Some.is (search rules) (search rules))
+    rw (← c.self.view_is) (load_told s.state c.in-Some.running_go c.next.new.self s.running_go (ahead s.input []) c.in-Some.is (search rules) (search rules))
 
 pub returns-then-not-is_last-clause-grown : goal.returns-then-not-is_last-clause-grown
 returns-then-not-is_last-clause-grown g c =
@@ -25,7 +25,7 @@ pub returns-clause-due : goal.returns-clause-due
 returns-clause-due g c = λ x.
     let s = c.self.inside in
     let alive : s.state.is_over ≡ false = ap (λ (t : SessionView). t.state.is_over) c.self.view_is ∙ pending_alive c.args.self.now c.requires.pending in
-    rw (← c.self.view_is) (due_ends s.state c.write_or_hold.new.state s.queue c.push-2.new.self c.tell.new.out.items c.write_or_hold.new.out.items c.in-Some.in_hand s.in_hand c.bestmove.result (ahead s.input x)
+    rw (← c.self.view_is) (due_ends s.state c.write_or_hold.new.state s.queue c.push-2.new.self c.tell.new.out.items c.write_or_hold.new.out.items c.in-Some.running_go s.running_go c.bestmove.result (ahead s.input x)
     alive c.in-Some.is (search rules) (search rules) (search rules) (search rules) (search rules) (search rules))
 
 pub returns-clause-grown : goal.returns-clause-grown

@@ -13,13 +13,13 @@ use Rattle.usi_session.specs.Texts.{info_line, numbered_info_text}
 abbrev pub move_to_play : List Move → Option Move
 move_to_play moves = slice_get moves 0
 
--- the reply to it
+-- the reply to the move to play
 abbrev pub move_to_ponder : List Move → Option Move
 move_to_ponder moves = slice_get moves 1
 
 -- the codes of the best moves at a depth of at least 1: as many as there are lines, or all that are legal
 abbrev pub listed : Shogi → Eval → ℕ → ℕ → List ℕ
-listed position eval pv_lines depth = take pv_lines (ranked_codes position eval depth)
+listed position eval multi_pv depth = take multi_pv (ranked_codes position eval depth)
 
 -- the move of a code, and the pv after it
 abbrev pub pv_by : Shogi → Eval → ℕ → ℕ → List Move
@@ -30,7 +30,7 @@ abbrev pub numbered_line : Shogi → Eval → ℕ → ℕ → ℕ → List ℕ
 numbered_line position eval depth number code =
     numbered_info_text depth number (worth position eval (depth - 1) code) (pv_by position eval depth code)
 
--- the same of each of these moves, numbered from a number on
+-- what is said of each of these moves at a depth, numbered from a number on
 unfoldable pub numbered_lines : Shogi → Eval → ℕ → ℕ → List ℕ → List ℕ
 numbered_lines position eval depth number [] = []
 numbered_lines position eval depth number (code ∷ rest) =
@@ -38,20 +38,20 @@ numbered_lines position eval depth number (code ∷ rest) =
 
 -- what is said of a position at a depth: its value and its pv, or with several lines each of the best moves
 abbrev pub depth_lines : Shogi → Eval → ℕ → ℕ → List ℕ
-depth_lines position eval pv_lines depth =
-    cond (pv_lines == 1) (info_line position eval depth) (numbered_lines position eval depth 1 (listed position eval pv_lines depth))
+depth_lines position eval multi_pv depth =
+    cond (multi_pv == 1) (info_line position eval depth) (numbered_lines position eval depth 1 (listed position eval multi_pv depth))
 
 -- what is said of a position at each depth from 1 to the given one
 unfoldable pub info_lines : Shogi → Eval → ℕ → ℕ → List ℕ
-info_lines position eval pv_lines zero = []
-info_lines position eval pv_lines (suc depth) =
-    info_lines position eval pv_lines depth ++ depth_lines position eval pv_lines (suc depth)
+info_lines position eval multi_pv zero = []
+info_lines position eval multi_pv (suc depth) =
+    info_lines position eval multi_pv depth ++ depth_lines position eval multi_pv (suc depth)
 
 -- the info lines, and none where no move is legal
 abbrev pub go_infos_where : Shogi → Eval → ℕ → ℕ → List ℕ → List ℕ
-go_infos_where position eval pv_lines depth [] = []
-go_infos_where position eval pv_lines depth (code ∷ codes) = info_lines position eval pv_lines depth
+go_infos_where position eval multi_pv depth [] = []
+go_infos_where position eval multi_pv depth (code ∷ codes) = info_lines position eval multi_pv depth
 
 -- what is said of a position before the bestmove
 abbrev pub go_infos : Shogi → Eval → ℕ → ℕ → List ℕ
-go_infos position eval pv_lines depth = go_infos_where position eval pv_lines depth (legal_codes position)
+go_infos position eval multi_pv depth = go_infos_where position eval multi_pv depth (legal_codes position)
