@@ -11,7 +11,7 @@ use Rattle.shogi_core.specs.declared.offset.Offset.{Offset}
 
 -- `some_below n f` and `all_below n f`: f is true of some number, and of each number, less than n
 
--- a board: for each square its cell, which is what stands there, by the square's index, which goes file by file: 1a is 0, 1b is 1, 2a is 9
+-- cells: what stands on each of some squares. Those of a board stand by the square's index, which goes file by file: 1a is 0, 1b is 1, 2a is 9
 abbrev pub Cells : Type 0
 Cells = List (Option Piece)
 

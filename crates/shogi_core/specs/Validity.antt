@@ -25,7 +25,7 @@ has_too_many cells hands = list_any (λ kind. nat_lt (set_size kind) (count_of k
 abbrev pub has_two_kings : Cells → Bool
 has_two_kings cells = nat_lt 1 (count_by (is_king Black) cells) || nat_lt 1 (count_by (is_king White) cells)
 
--- the nine squares of a file, counted from 0
+-- the nine cells of a file; files are counted from 0
 abbrev pub on_file : ℕ → Cells → Cells
 on_file file cells = take 9 (drop (9 * file) cells)
 

@@ -36,7 +36,7 @@ abbrev pub in_promotion_zone : Color → ℕ → Bool
 in_promotion_zone Black square = nat_lt (square % 9) 3
 in_promotion_zone White square = nat_lt 5 (square % 9)
 
--- a piece may promote by a move that begins or ends in the zone
+-- a piece that can promote may do so by a move that begins or ends in the zone
 abbrev pub may_promote : Option Piece → ℕ → ℕ → Bool
 may_promote None from to = false
 may_promote (Some piece) from to = is_promotable piece.role && (in_promotion_zone piece.color from || in_promotion_zone piece.color to)

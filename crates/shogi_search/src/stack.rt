@@ -183,28 +183,37 @@ impl Stack {
         self.top.begin(hash_move, ahead);
     }
 
-    /// The same; where a leaf is certain to have a legal move, its value is told without making it.
-    fn descend<M: Memo>(&mut self, current: &Move, memo: &mut M)
+    /// The same; where a leaf is certain to have a legal move, its value is told without making it, and
+    /// taken in at once where there is room for that step too. Gives the number of steps, one or two.
+    fn descend<M: Memo>(&mut self, current: &Move, memo: &mut M, room: u64) -> u64
         requires stack { IsStack self.old }
         requires asked { self.old.top.waiting ≡ Waiting.Asked current.now }
+        requires room { 0 < room }
         ensures stack { IsStack self.new }
         ensures free { IsFree self.new.top.waiting }
-        ensures left { left_of_stack self.new < left_of_stack self.old + 2 * tree_size (after_code self.old.top.node.position (code_of current.now)) (self.old.top.depth - 1) }
+        ensures some { 0 < result }
+        ensures most { result ≤ room }
+        ensures left { left_of_stack self.new + result ≤ left_of_stack self.old + 2 * tree_size (after_code self.old.top.node.position (code_of current.now)) (self.old.top.depth - 1) }
         ensures same { (self.new.root ≡ self.old.root) × (self.new.depth ≡ self.old.depth) }
         ensures eval { self.new.eval ≡ self.old.eval }
         ensures beta { self.new.beta ≡ self.old.beta }
     {
         if looks_ahead(self.top.depth, memo) {
             if let Some(value) = self.top.certain_leaf(current) {
+                if room > 1 {
+                    self.top.take(current, &Entry::Exact(value, None));
+                    return 2;
+                }
                 self.top.hear(current, value);
-                return;
+                return 1;
             }
         }
         if self.top.depth == 1 {
-            self.make_leaf(current, memo)
+            self.make_leaf(current, memo);
         } else {
-            self.enter_child(current, memo)
+            self.enter_child(current, memo);
         }
+        1
     }
 
     /// Leaves the node on top, and gives what is known of the root where that was it.
@@ -237,13 +246,18 @@ impl Stack {
         Some(answer)
     }
 
-    /// Makes one step, and gives what is known of the root where that was left.
-    fn step<M: Memo>(&mut self, memo: &mut M) -> Option<Entry>
+    /// Makes one step, or the two of a leaf, and counts them; gives what is known of the root where that
+    /// was left.
+    fn step<M: Memo>(&mut self, memo: &mut M, budget: u64, made: &mut u64) -> Option<Entry>
         requires stack { IsStack self.old }
         requires free { IsFree self.old.top.waiting }
+        requires room { made.old < budget }
         ensures stack { IfNone result (IsStack self.new) }
         ensures free { IfNone result (IsFree self.new.top.waiting) }
-        ensures left { IfNone result (left_of_stack self.new < left_of_stack self.old) }
+        ensures rises { made.old < made.new }
+        ensures most { made.new ≤ budget }
+        ensures one { IfSome result (λ _. made.new ≡ made.old + 1) }
+        ensures left { IfNone result (left_of_stack self.new + made.new ≤ left_of_stack self.old + made.old) }
         ensures truth { IfSome result (IsTrueEntry self.old.root self.old.eval self.old.depth) }
         ensures cutoff { IfSome result (IsCutoff (negated INFINITY) self.old.beta) }
         ensures same { (self.new.root ≡ self.old.root) × (self.new.depth ≡ self.old.depth) }
@@ -253,17 +267,24 @@ impl Stack {
         match self.top.waiting {
             Waiting::Next => match self.top.ask() {
                 Some(current) => {
-                    self.descend(&current, memo);
+                    *made += self.descend(&current, memo, budget - *made);
                     None
                 }
-                None => self.leave(memo),
+                None => {
+                    *made += 1;
+                    self.leave(memo)
+                }
             },
             Waiting::Asked(_) => unreachable!(),
             Waiting::Leaf(current, value) => {
+                *made += 1;
                 self.top.take(&current, &Entry::Exact(value, None));
                 None
             }
-            Waiting::Cut(_) => self.leave(memo),
+            Waiting::Cut(_) => {
+                *made += 1;
+                self.leave(memo)
+            }
         }
     }
 
@@ -284,13 +305,14 @@ impl Stack {
         ensures eval { self.new.eval ≡ self.old.eval }
         ensures beta { self.new.beta ≡ self.old.beta }
     {
-        let _so_far = *steps;
-        for made in 0..budget {
-            *steps = steps.saturating_add(1);
-            if let Some(entry) = self.step(memo) {
+        let mut made = 0;
+        'steps: while made < budget {
+            if let Some(entry) = self.step(memo, budget, &mut made) {
+                *steps = steps.saturating_add(made);
                 return Some(entry);
             }
         }
+        *steps = steps.saturating_add(made);
         None
     }
 }

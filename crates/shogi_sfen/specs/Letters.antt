@@ -10,7 +10,7 @@ use Rattle.shogi_core.specs.declared.piece.Piece.{Piece}
 use Rattle.shogi_core.specs.Pieces.{kind_number, all_kinds, kind_of}
 use Rattle.shogi_sfen.specs.declared.byte.TheConstants.{KING, LOWER_CASE, TO_LOWER_CASE, PLUS}
 
--- the letter of a kind, for both sides
+-- the upper-case letter of a kind
 abbrev pub letter_of : Kind → ℕ
 letter_of kind = slice_index (codes "PLNSGBR") (kind_number kind)
 

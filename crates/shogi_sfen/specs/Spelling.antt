@@ -16,7 +16,7 @@ use Rattle.shogi_sfen.specs.Letters.{letter_of, cased_for}
 use Rattle.shogi_sfen.specs.Items.{RunFits, item_cells, item_text}
 use Rattle.shogi_sfen.specs.Written.{rank_cells, side_text, or_hyphen}
 
--- a rank's text is that of items, as `3` or `+P`, whose cells are the rank's nine; empty squares may be cut into runs in any way
+-- a rank's text is that of items, as `3` or `+P`, whose cells are the rank's nine, from file 9 to file 1; empty squares may be cut into runs in any way
 pub record SpellsRank (text : List ℕ) (cells : Cells) : Type 0 where
   pub items : List RankItem
   pub each : AllByRecursion RunFits items
@@ -24,7 +24,7 @@ pub record SpellsRank (text : List ℕ) (cells : Cells) : Type 0 where
   pub nine : length cells ≡ RANK_SQUARES
   pub spelled : flat_map item_text items ≡ text
 
--- a board's text is that of its nine ranks, from a to i and each from file 9 to file 1, with a slash between each two
+-- a board's text is the texts of its nine ranks (`ranks`), from a to i and each from file 9 to file 1, with a slash between each two
 pub record SpellsBoard (text : List ℕ) (cells : Cells) : Type 0 where
   pub cells_fit : length cells ≡ BOARD_SQUARES
   pub ranks : List (List ℕ)
@@ -68,7 +68,7 @@ pub record SpellsHands (text : List ℕ) (hands : HandCounts) : Type 0 where
   pub sums : (color : Color) (kind : Kind) → count_in_hand hands color kind ≡ sum_by (count_given color kind) items
   pub spelled : or_hyphen (flat_map hand_item_text items) ≡ text
 
--- the first three words are a text of the position's board, one of its side to move, and one of its hands
+-- of the words of a text, which blanks part, the first three are a text of the position's board, one of its side to move, and one of its hands; what follows is not looked at
 pub record Spells (words : List (List ℕ)) (position : Shogi) : Type 0 where
   pub board : IsSomeAnd (slice_get words 0) (λ text. SpellsBoard text position.cells)
   pub side : IsSomeAnd (slice_get words 1) (λ text. text ≡ side_text position.side)

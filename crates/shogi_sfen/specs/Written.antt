@@ -20,7 +20,7 @@ cells_text run [] = run_text run
 cells_text run (None ∷ cells) = cells_text (run + 1) cells
 cells_text run (Some piece ∷ cells) = run_text run ++ (piece_text piece ++ cells_text 0 cells)
 
--- the nine squares of a rank, counted from 0, from file 9 to file 1
+-- the nine cells of a rank, from file 9 to file 1; ranks are counted from 0
 abbrev pub rank_cells : Cells → ℕ → Cells
 rank_cells cells rank = map (λ i. piece_at cells ((8 - i) * 9 + rank)) (range_with_len 0 9)
 

@@ -16,7 +16,7 @@ use Rattle.usi_session.specs.PositionCommand.{position_of_startpos, position_of_
 use Rattle.usi_session.specs.GoInfos.{move_to_play, move_to_ponder, go_infos}
 use Rattle.usi_session.specs.Texts.{usi_reply, ready_reply, mate_not_implemented_reply, bad_position_line, illegal_move_line, bestmove_line}
 
--- A bestmove is held until nothing, until `stop`, or until `ponderhit` (`UntilHit`). `Other` is a line that is no command, and `rest` what follows the first words of a `position` line.
+-- What a bestmove is held until: `Nothing`, where it is written at once; `UntilStop`; `UntilHit`, which is until `ponderhit` or `stop`. `BadPosition` is a `position` line whose second word is neither `startpos` nor `sfen`, and `rest` what follows the first two words of the others. `Other` is a line that is no command, or a `setoption` that sets nothing.
 
 -- what is written, and the state after it
 pub record Answer : Type 0 where
@@ -41,7 +41,7 @@ answer_position state (Ok position) = answer_with (record state { position = pos
 answer_position state (Err (refusals.BadPosition fault)) = answer_with state (bad_position_line fault)
 answer_position state (Err (refusals.IllegalMove number)) = answer_with state (illegal_move_line number)
 
--- the bestmove at a depth, and what it is held until
+-- the bestmove at a depth, and what it is to be held until; also one that is written at once
 abbrev pub bestmove_at : Shogi → Eval → ℕ → Hold → HeldBestmove
 bestmove_at position eval depth until = record { best = move_to_play (pv position eval depth); ponder = move_to_ponder (pv position eval depth); until = until }
 
@@ -49,13 +49,13 @@ bestmove_at position eval depth until = record { best = move_to_play (pv positio
 abbrev pub held_line : HeldBestmove → List ℕ
 held_line held = bestmove_line held.best held.ponder
 
--- the info lines are written, and then the bestmove, at once where `Nothing` holds it; else it is held. One that was held before is dropped
+-- the info lines are written, and then the bestmove, at once under `Nothing`; else it is held. One that was held before is dropped
 abbrev pub write_or_hold : State → List ℕ → HeldBestmove → Hold → Answer
 write_or_hold state infos held Nothing = answer_with (without_bestmove state) (infos ++ held_line held)
 write_or_hold state infos held UntilStop = answer_with (record state { held = Some held }) infos
 write_or_hold state infos held UntilHit = answer_with (record state { held = Some held }) infos
 
--- `go` at a depth, by the evaluation and with the lines of the session: it is answered whole, also under `go infinite`, and what was held is dropped
+-- `go` at a depth, by the evaluation and with as many lines as the options say: the whole depth is searched, also under `go infinite`, and what was held is dropped
 abbrev pub answer_go : State → ℕ → Hold → Answer
 answer_go state depth hold = write_or_hold state (go_infos state.position state.options.eval state.options.multi_pv depth) (bestmove_at state.position state.options.eval depth hold) hold
 
@@ -64,7 +64,7 @@ abbrev pub answer_stop : State → Option HeldBestmove → Answer
 answer_stop state None = answer_with state []
 answer_stop state (Some held) = answer_with (without_bestmove state) (held_line held)
 
--- `ponderhit` where a bestmove is held: written if it is held until `ponderhit`
+-- `ponderhit` where a bestmove is held: written if it is held until `ponderhit`. Under `Nothing` none is ever held
 abbrev pub answer_ponderhit_held : State → HeldBestmove → Hold → Answer
 answer_ponderhit_held state held UntilHit = answer_with (without_bestmove state) (held_line held)
 answer_ponderhit_held state held UntilStop = answer_with state []

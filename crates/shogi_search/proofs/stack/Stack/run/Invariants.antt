@@ -3,13 +3,17 @@ use Rattle.shogi_search.specs.Visits.{IsFree}
 use Rattle.shogi_search.specs.Stack.{IsStack, left_of_stack}
 use Rattle.shogi_search.proofs.stack.Stack.run.Given as goal
 
-abbrev pub invariant-loop-made : goal.invariant-loop-made
-invariant-loop-made g l = record {
+abbrev pub invariant-steps : goal.invariant-steps
+invariant-steps g l = record {
   stack : IsStack l.self;
   free : IsFree l.self.top.waiting;
   eval : l.self.eval ≡ l.fn.self.eval;
   beta : l.self.beta ≡ l.fn.self.beta;
   same : (l.self.root ≡ l.fn.self.root) × (l.self.depth ≡ l.fn.self.depth);
   left : left_of_stack l.self + l.made ≤ left_of_stack l.fn.self;
-  counted : l.steps ≡ min (l.fn.steps + l.made) (2 ^ 64 - 1);
+  within : l.made ≤ l.budget;
+  counted : l.steps ≡ l.fn.steps;
 }
+
+abbrev pub decreases-steps : goal.decreases-steps
+decreases-steps g l = l.budget - l.made
