@@ -1,5 +1,5 @@
 -- After most moves the other side has a legal move.
-use Rattle.std.proofs.Common.{◌≡◌, ◌≢◌, ℕ, ◌-◌, ◌*◌, ◌%◌, ◌^◌, ◌<◌, ◌⊎◌, Bool, true, false, not, Option, Some, None, [], refl, sym, ap, subst, ◌∙◌, arith, inl, inr, set, length, length-set, bit_and, bit_or}
+use Rattle.std.proofs.Common.{◌≡◌, ◌≢◌, ℕ, ◌-◌, ◌*◌, ◌%◌, ◌^◌, ◌<◌, ◌⊎◌, Bool, true, false, not, Option, Some, None, [], refl, sym, ap, subst, ◌∙◌, arith, inl, inr, set, length, length-set, get_or-set_same, bit_and, bit_or}
 use Rattle.std.specs.Prelude.{◌==◌, ◌&&◌, is_none}
 use Rattle.std.specs.Int.{trailing_zeros, w128}
 use Rattle.std.proofs.lemmas.Bool.{cases_eq, false_from_ne_true, both_ways, and_parts, and_from, or_left, or_right, not-true, not_from_false, ne_eqb, eq-eqb}
@@ -10,10 +10,13 @@ use Rattle.shogi_core.specs.declared.piece.Piece.{Piece}
 use Rattle.shogi_core.specs.Attack.{in_check}
 use Rattle.shogi_core.specs.Below.{some_below}
 use Rattle.shogi_core.specs.Bits.{has_bit}
-use Rattle.shogi_core.specs.Cell.{is_piece_of, is_king, is_immobile}
+use Rattle.shogi_core.specs.Cell.{is_piece_of, is_king, is_immobile, is_sliding_role}
 use Rattle.shogi_core.specs.Codes.{code_of}
 use Rattle.shogi_core.specs.Lines.{are_lined, is_jump, is_line_to_king, is_lined_with_king, is_seen}
-use Rattle.shogi_core.specs.Movement.{Cells, piece_at, reaches, cell_reaches, has_step, has_slide}
+use Rattle.shogi_core.specs.Movement.{Cells, piece_at, reaches, cell_reaches, has_step, has_slide, slides, slides_of, for_side}
+use Rattle.shogi_core.specs.declared.piece.Role.{Role}
+use Rattle.shogi_core.specs.declared.piece.Role.TheVariants.{King, Pawn, Lance, Knight, Silver, Gold, Bishop, Rook, PromotedPawn, PromotedLance, PromotedKnight, PromotedSilver, Horse, Dragon}
+use Rattle.std.specs.List.{list_any}
 use Rattle.shogi_core.specs.Pieces.{opponent_of}
 use Rattle.shogi_core.specs.Position.{Shogi, HandCounts}
 use Rattle.shogi_core.specs.Validity.{IsValid}
@@ -24,11 +27,11 @@ use Rattle.shogi_core.proofs.Exposed.{some_below_which, line_to_king_was}
 use Rattle.shogi_core.proofs.Faults.{faultless_from}
 use Rattle.shogi_core.proofs.LineBits.{lowest_set, and_fits, has_bit-not}
 use Rattle.shogi_core.proofs.Replies.{no_check}
-use Rattle.shogi_core.proofs.SeenLaws.{lined_back}
+use Rattle.shogi_core.proofs.SeenLaws.{lined_back, cell_seen}
 use Rattle.shogi_moves.specs.After.{after, cells_after, piece_moved, dropped}
 use Rattle.shogi_moves.specs.Legal.{is_legal, is_pseudo_legal_board_move}
 use Rattle.shogi_moves.specs.LegalMoves.{legal_codes}
-use Rattle.shogi_moves.specs.Replies.{cell_steps, is_open_step, is_spare, Sees, IsReplies}
+use Rattle.shogi_moves.specs.Replies.{cell_steps, is_open_step, is_spare, Sees, IsReplies, IsHarmless}
 use Rattle.shogi_moves.proofs.DropChecks as drops
 use Rattle.shogi_moves.proofs.EndLaws.{legal_board, still}
 use Rattle.shogi_moves.proofs.ExistenceLaws.{some_legal}
@@ -65,6 +68,33 @@ unlined cells side sight n s h out = some_below_no 81 (is_line_to_king cells sid
 unseen : (cells : Cells) (side : Color) (sight n : ℕ) → Sees cells side 0 sight → n < 81 → has_bit sight n ≡ false → (k : ℕ) → k < 81 → is_king side (piece_at cells k) ≡ true → is_seen cells k n ≡ false
 unseen cells side sight n s h out k l king = false_from_ne_true (is_seen cells k n) (λ e. both_ways (has_bit sight n) out (s.squares k n l h king (has_bit-none k) e))
 
+-- off the sight of the kings nothing does
+pub harmless_far : (cells : Cells) (side : Color) (sight : ℕ) (cell : Option Piece) (to : ℕ) → Sees cells side 0 sight → to < 81 → has_bit sight to ≡ false → IsHarmless cells side cell to
+harmless_far cells side sight cell to s h out k l king = false_from_ne_true (cell_reaches cells cell to k) (λ r. both_ways (is_seen cells k to) (unseen cells side sight to s h out k l king) (cell_seen cells cell to k h r))
+
+no_slides : (role : Role) → is_sliding_role role ≡ false → slides_of role ≡ []
+no_slides King e = refl
+no_slides Pawn e = refl
+no_slides Lance e = absurd (cc)
+no_slides Knight e = refl
+no_slides Silver e = refl
+no_slides Gold e = refl
+no_slides Bishop e = absurd (cc)
+no_slides Rook e = absurd (cc)
+no_slides PromotedPawn e = refl
+no_slides PromotedLance e = refl
+no_slides PromotedKnight e = refl
+no_slides PromotedSilver e = refl
+no_slides Horse e = absurd (cc)
+no_slides Dragon e = absurd (cc)
+
+-- nor does a piece that does not slide and has no step to a king
+pub harmless_step : (cells : Cells) (side : Color) (piece : Piece) (to steps kings : ℕ) → is_sliding_role piece.role ≡ false → ((n : ℕ) → n < 81 → has_bit steps n ≡ has_step piece to n) → ((n : ℕ) → n < 81 → has_bit kings n ≡ is_king side (piece_at cells n)) → bit_and steps kings ≡ 0 → IsHarmless cells side (Some piece) to
+harmless_step cells side piece to steps kings still s b none k l king =
+    let slide : has_slide cells piece to k ≡ false = ap (list_any (λ offset. slides cells (for_side piece.color offset) to k)) (no_slides piece.role still) in
+    let step : has_step piece to k ≡ false = false_from_ne_true (has_step piece to k) (λ e. both_ways (has_bit (bit_and steps kings) k) (ap (λ m. has_bit m k) none ∙ has_bit-none k) (has_bit-and steps kings k ∙ and_from _ _ (s k l ∙ e) (b k l ∙ king))) in
+    rw (step, slide) refl
+
 -- ---- a spare piece has a legal move
 
 steps_reach : (cells : Cells) (cell : Option Piece) (a t : ℕ) → cell_steps cell a t ≡ true → cell_reaches cells cell a t ≡ true
@@ -79,7 +109,7 @@ module _ (old new : Cells) (hands : HandCounts) (color : Color) (Left : ℕ → 
       → ((a : ℕ) → is_piece_of (opponent_of color) (piece_at new a) ≡ true → (piece_at old a ≡ piece_at new a) ⊎ (a ≡ to))
       → ((k : ℕ) → is_king color (piece_at new k) ≡ true → piece_at old k ≡ piece_at new k)
       → ((x : ℕ) → Left x → is_lined_with_king old color x ≡ false)
-      → ((k : ℕ) → k < 81 → is_king color (piece_at old k) ≡ true → is_seen old k to ≡ false)
+      → ((k : ℕ) → k < 81 → is_king color (piece_at old k) ≡ true → cell_reaches old (piece_at new to) to k ≡ false)
       → in_check old color ≡ false
       → ((a : ℕ) → is_piece_of color (piece_at old a) ≡ true → a ≢ to → piece_at new a ≡ piece_at old a)
       → ((t : ℕ) → is_piece_of color (piece_at old t) ≡ false → is_piece_of color (piece_at new t) ≡ false)
@@ -113,7 +143,7 @@ crowned : (color : Color) (cell : Option Piece) → is_piece_of color cell ≡ f
 crowned color None e = refl
 crowned color (Some piece) e = rw e refl
 
-pub replied_board : (p : Shogi) (from to : ℕ) (promote : Bool) (sight spare a : ℕ) → IsValid p → IsReplies p sight spare → from < 81 → to < 81 → is_piece_of p.side (piece_at p.cells from) ≡ true → has_bit sight from ≡ false → has_bit sight to ≡ false
+pub replied_board : (p : Shogi) (from to : ℕ) (promote : Bool) (sight spare a : ℕ) → IsValid p → IsReplies p sight spare → from < 81 → to < 81 → is_piece_of p.side (piece_at p.cells from) ≡ true → has_bit sight from ≡ false → IsHarmless p.cells (opponent_of p.side) (piece_moved promote (piece_at p.cells from)) to
     → a < 81 → has_bit spare a ≡ true → a ≢ to → legal_codes (after p (Board from to promote)) ≢ []
 replied_board p from to promote sight spare a v r hf ht own out off ha some other =
     replied p.cells (cells_after p.cells p.side (Board from to promote)) (after p (Board from to promote)).hands (opponent_of p.side) (λ x. x ≡ from)
@@ -131,7 +161,7 @@ replied_board p from to promote sight spare a v r hf ht own out off ha some othe
       | inr rest ↦ elim rest [ inl here ↦ absurd (let clash : false ≡ true = ap (is_king (opponent_of p.side)) (sym here.1) ∙ e in cc) | inr same ↦ sym same ]
     ])
     (λ x left. subst (λ (y : ℕ). is_lined_with_king p.cells (opponent_of p.side) y ≡ false) (sym left) (unlined p.cells (opponent_of p.side) sight from r.sees hf out))
-    (unseen p.cells (opponent_of p.side) sight to r.sees ht off)
+    (λ k l e. ap (λ cell. cell_reaches p.cells cell to k) (get_or-set_same (set p.cells from None) to w None (omega (arith, length-set p.cells from None, v.cells_fit))) ∙ off k l e)
     (faultless_from p v.no_fault).shut
     (λ x e ne. elim (see x) [
       | inl there ↦ absurd (ne there.0)
@@ -155,7 +185,7 @@ replied_board p from to promote sight spare a v r hf ht own out off ha some othe
     see : (x : ℕ) → ((x ≡ to) × (piece_at (set (set p.cells from None) to (piece_moved promote (piece_at p.cells from))) x ≡ piece_moved promote (piece_at p.cells from))) ⊎ (((x ≡ from) × (piece_at (set (set p.cells from None) to (piece_moved promote (piece_at p.cells from))) x ≡ None)) ⊎ (piece_at (set (set p.cells from None) to (piece_moved promote (piece_at p.cells from))) x ≡ piece_at p.cells x))
     see x = look p.cells p.side from to (piece_moved promote (piece_at p.cells from)) v.cells_fit hf ht x
 
-pub replied_drop : (p : Shogi) (kind : Kind) (to sight spare a : ℕ) → IsValid p → IsReplies p sight spare → to < 81 → has_bit sight to ≡ false
+pub replied_drop : (p : Shogi) (kind : Kind) (to sight spare a : ℕ) → IsValid p → IsReplies p sight spare → to < 81 → IsHarmless p.cells (opponent_of p.side) (dropped p.side kind) to
     → a < 81 → has_bit spare a ≡ true → a ≢ to → legal_codes (after p (Drop kind to)) ≢ []
 replied_drop p kind to sight spare a v r ht off ha some other =
     replied p.cells (cells_after p.cells p.side (Drop kind to)) (after p (Drop kind to)).hands (opponent_of p.side) (λ x. ⊥)
@@ -170,7 +200,7 @@ replied_drop p kind to sight spare a v r ht off ha some other =
       | inr same ↦ sym same
     ])
     (λ x left. absurd left)
-    (unseen p.cells (opponent_of p.side) sight to r.sees ht off)
+    (λ k l e. ap (λ cell. cell_reaches p.cells cell to k) (get_or-set_same p.cells to (dropped p.side kind) None (omega (arith, v.cells_fit))) ∙ off k l e)
     (faultless_from p v.no_fault).shut
     (λ x e ne. elim (see x) [ inl there ↦ absurd (ne there.0) | inr same ↦ same ])
     (λ t e. elim (see t) [
@@ -277,14 +307,14 @@ legal_own p from to promote e =
     let two = and_parts _ _ three.0 in
     (and_parts _ _ two.0).0
 
-pub certain_board : (p : Shogi) (from to start end : ℕ) (promote : Bool) (sight spare : ℕ) → IsValid p → IsReplies p sight spare → from < 81 → to < 81 → start ≡ from → end ≡ to → is_legal p (Board from to promote) ≡ true → has_bit sight start ≡ false → has_bit sight end ≡ false
+pub certain_board : (p : Shogi) (from to start end : ℕ) (promote : Bool) (sight spare : ℕ) → IsValid p → IsReplies p sight spare → from < 81 → to < 81 → start ≡ from → end ≡ to → is_legal p (Board from to promote) ≡ true → has_bit sight start ≡ false → IsHarmless p.cells (opponent_of p.side) (piece_moved promote (piece_at p.cells from)) to
     → bit_and spare (2 ^ 128 - 1 - 1 * 2 ^ end % 2 ^ 128) ≢ 0 → legal_codes (after p (Board from to promote)) ≢ []
 certain_board p from to start end promote sight spare v r hf ht s e legal out off some =
     let a = another spare end r.fits (omega arith) some in
-    replied_board p from to promote sight spare a.0 v r hf ht (legal_own p from to promote legal) (subst (λ (y : ℕ). has_bit sight y ≡ false) s out) (subst (λ (y : ℕ). has_bit sight y ≡ false) e off) a.1 a.2 (λ same. a.3 (same ∙ sym e))
+    replied_board p from to promote sight spare a.0 v r hf ht (legal_own p from to promote legal) (subst (λ (y : ℕ). has_bit sight y ≡ false) s out) off a.1 a.2 (λ same. a.3 (same ∙ sym e))
 
-pub certain_drop : (p : Shogi) (kind : Kind) (to end sight spare : ℕ) → IsValid p → IsReplies p sight spare → to < 81 → end ≡ to → has_bit sight end ≡ false
+pub certain_drop : (p : Shogi) (kind : Kind) (to end sight spare : ℕ) → IsValid p → IsReplies p sight spare → to < 81 → end ≡ to → IsHarmless p.cells (opponent_of p.side) (dropped p.side kind) to
     → bit_and spare (2 ^ 128 - 1 - 1 * 2 ^ end % 2 ^ 128) ≢ 0 → legal_codes (after p (Drop kind to)) ≢ []
 certain_drop p kind to end sight spare v r ht e off some =
     let a = another spare end r.fits (omega arith) some in
-    replied_drop p kind to sight spare a.0 v r ht (subst (λ (y : ℕ). has_bit sight y ≡ false) e off) a.1 a.2 (λ same. a.3 (same ∙ sym e))
+    replied_drop p kind to sight spare a.0 v r ht off a.1 a.2 (λ same. a.3 (same ∙ sym e))

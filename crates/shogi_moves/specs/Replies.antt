@@ -6,7 +6,7 @@ use Rattle.shogi_core.specs.Below.{some_below}
 use Rattle.shogi_core.specs.Bits.{has_bit}
 use Rattle.shogi_core.specs.Cell.{is_piece_of, is_king, is_immobile}
 use Rattle.shogi_core.specs.Lines.{is_seen, is_lined_with_king}
-use Rattle.shogi_core.specs.Movement.{Cells, piece_at, has_step}
+use Rattle.shogi_core.specs.Movement.{Cells, piece_at, cell_reaches, has_step}
 use Rattle.shogi_core.specs.Pieces.{opponent_of}
 use Rattle.shogi_core.specs.Position.{Shogi}
 
@@ -27,6 +27,10 @@ is_spare cells side a = is_piece_of side (piece_at cells a) && not (is_king side
 pub record Sees (cells : Cells) (side : Color) (left sight : ℕ) : Type 0 where
   pub kings : (n : ℕ) → n < 81 → is_king side (piece_at cells n) ≡ true → has_bit sight n ≡ true
   pub squares : (k n : ℕ) → k < 81 → n < 81 → is_king side (piece_at cells k) ≡ true → has_bit left k ≡ false → is_seen cells k n ≡ true → has_bit sight n ≡ true
+
+-- what would stand on the square attacks no king of the side
+abbrev pub IsHarmless : Cells → Color → Option Piece → ℕ → Type 0
+IsHarmless cells side cell to = (k : ℕ) → k < 81 → is_king side (piece_at cells k) ≡ true → cell_reaches cells cell to k ≡ false
 
 -- such a mask for the side that is not to move, and some of its spare pieces
 pub record IsReplies (p : Shogi) (sight spare : ℕ) : Type 0 where

@@ -1,17 +1,18 @@
 //! Whether the other side surely has a legal move after a move, without making it.
 
-ghost use Rattle.std.specs.Prelude.{◌≡◌, ◌≢◌, ◌<◌, ◌^◌, ℕ, [], true};
+ghost use Rattle.std.specs.Prelude.{◌≡◌, ◌≢◌, ◌<◌, ◌^◌, ℕ, [], true, false};
 ghost use Rattle.shogi_core.specs.Below.{some_below};
 ghost use Rattle.shogi_core.specs.Bits.{has_bit};
 ghost use Rattle.shogi_core.specs.Pieces.{opponent_of};
 ghost use Rattle.shogi_moves.specs.After.{after};
 ghost use Rattle.shogi_moves.specs.Legal.{is_legal};
 ghost use Rattle.shogi_moves.specs.LegalMoves.{legal_codes};
-ghost use Rattle.shogi_moves.specs.Replies.{is_open_step, is_spare, Sees, IsReplies};
+ghost use Rattle.shogi_moves.specs.Replies.{is_open_step, is_spare, Sees, IsReplies, IsHarmless};
 
+use crate::after::{dropped, piece_moved};
 use crate::zones::dead_squares;
 use shogi_core::bits::{ALL_SQUARES, cleared, has, lowest, without_lowest};
-use shogi_core::{Color, Move, Position, Square, step_squares};
+use shogi_core::{Color, Move, Piece, Position, Square, step_squares};
 
 /// What is kept of a position to tell that after most of its moves the other side is in no check
 /// and has a legal move: what its king sees, and pieces of it that have an open step.
@@ -73,7 +74,33 @@ fn spare_pieces(p: &Position, side: Color, sight: u128) -> u128
     kept & !left
 }
 
+/// Whether what would stand on the square may attack a king of the side: it slides, or has a step or
+/// a jump to a king.
+fn may_check(p: &Position, side: Color, cell: Option<Piece>, to: Square) -> bool
+    ensures { result ≡ false → IsHarmless p.now.cells side cell to }
+{
+    match cell {
+        None => false,
+        Some(piece) => {
+            to.validity();
+            piece.role.is_sliding() || step_squares(piece, to.index()) & p.kings(side) != 0
+        }
+    }
+}
+
 impl Replies {
+    /// Whether what comes to stand on the square surely gives no check to the other side.
+    fn is_harmless(&self, p: &Position, cell: Option<Piece>, to: Square) -> bool
+        requires kept { IsReplies p.now self.now.sight self.now.spare }
+        ensures { result ≡ true → IsHarmless p.now.cells (opponent_of p.now.side) cell to }
+    {
+        to.validity();
+        if has(self.sight, to.index()) {
+            return !may_check(p, p.side().opponent(), cell, to);
+        }
+        true
+    }
+
     /// What is kept of the position.
     pub fn of(p: &Position) -> Replies
         ensures { IsReplies p.now result.sight result.spare }
@@ -105,20 +132,20 @@ impl Replies {
     {
         p.validity();
         match m {
-            Move::Board { from, to, .. } => {
+            Move::Board { from, to, promote } => {
                 let start = from.index();
                 let end = to.index();
                 if has(self.sight, start) {
                     return false;
                 }
-                if has(self.sight, end) {
+                if !self.is_harmless(p, piece_moved(p.at(*from), *promote), *to) {
                     return false;
                 }
                 self.spare & !(1 << end) != 0
             }
-            Move::Drop { to, .. } => {
+            Move::Drop { kind, to } => {
                 let end = to.index();
-                if has(self.sight, end) {
+                if !self.is_harmless(p, dropped(p.side(), *kind), *to) {
                     return false;
                 }
                 self.spare & !(1 << end) != 0
