@@ -1,9 +1,9 @@
 //! The squares that a piece reaches, as a mask.
 
-ghost use Rattle.std.specs.Prelude.{◌≡◌, ◌<◌, ◌^◌, ◌||◌, ℕ};
+ghost use Rattle.std.specs.Prelude.{◌≡◌, ◌<◌, ◌^◌, ◌||◌, ℕ, Some};
 ghost use Rattle.std.specs.List.{list_any};
 ghost use Rattle.shogi_core.specs.Bits.{has_bit};
-ghost use Rattle.shogi_core.specs.Movement.{reaches, has_slide, slides, straight, diagonal, forward, for_side};
+ghost use Rattle.shogi_core.specs.Movement.{reaches, cell_reaches, has_slide, slides, straight, diagonal, forward, for_side};
 
 use crate::bits::has;
 use crate::board::Board;
@@ -84,6 +84,16 @@ fn piece_slides(board: &Board, piece: Piece, from: usize) -> u128
 }
 
 impl Board {
+    /// The squares that the piece would reach if it stood on the square, where now stands whatever does.
+    #[tactic(auto, using(crate::proofs::TargetLaws::no_bits))]
+    pub fn targets_of(&self, piece: Piece, from: Square) -> u128
+        ensures bits { (n : ℕ) → n < 81 → has_bit result n ≡ cell_reaches self.now (Some piece) from n }
+        ensures fits { result < 2 ^ 81 }
+    {
+        let index = from.index();
+        step_squares(piece, index) | piece_slides(self, piece, index)
+    }
+
     /// The squares that the piece on the square reaches, bit n that of index n; none where it is
     /// empty.
     #[tactic(auto, using(crate::proofs::TargetLaws::no_bits), unfolding(crate::specs::Movement::reaches))]
@@ -91,10 +101,10 @@ impl Board {
         ensures bits { (n : ℕ) → n < 81 → has_bit result n ≡ reaches self.now from n }
         ensures fits { result < 2 ^ 81 }
     {
-        let index = from.index();
+        from.validity();
         match self.at(from) {
             None => 0,
-            Some(piece) => step_squares(piece, index) | piece_slides(self, piece, index),
+            Some(piece) => self.targets_of(piece, from),
         }
     }
 

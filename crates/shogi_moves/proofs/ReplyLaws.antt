@@ -10,13 +10,10 @@ use Rattle.shogi_core.specs.declared.piece.Piece.{Piece}
 use Rattle.shogi_core.specs.Attack.{in_check}
 use Rattle.shogi_core.specs.Below.{some_below}
 use Rattle.shogi_core.specs.Bits.{has_bit}
-use Rattle.shogi_core.specs.Cell.{is_piece_of, is_king, is_immobile, is_sliding_role}
+use Rattle.shogi_core.specs.Cell.{is_piece_of, is_king, is_immobile}
 use Rattle.shogi_core.specs.Codes.{code_of}
 use Rattle.shogi_core.specs.Lines.{are_lined, is_jump, is_line_to_king, is_lined_with_king, is_seen}
-use Rattle.shogi_core.specs.Movement.{Cells, piece_at, reaches, cell_reaches, has_step, has_slide, slides, slides_of, for_side}
-use Rattle.shogi_core.specs.declared.piece.Role.{Role}
-use Rattle.shogi_core.specs.declared.piece.Role.TheVariants.{King, Pawn, Lance, Knight, Silver, Gold, Bishop, Rook, PromotedPawn, PromotedLance, PromotedKnight, PromotedSilver, Horse, Dragon}
-use Rattle.std.specs.List.{list_any}
+use Rattle.shogi_core.specs.Movement.{Cells, piece_at, reaches, cell_reaches, has_step, has_slide}
 use Rattle.shogi_core.specs.Pieces.{opponent_of}
 use Rattle.shogi_core.specs.Position.{Shogi, HandCounts}
 use Rattle.shogi_core.specs.Validity.{IsValid}
@@ -72,28 +69,10 @@ unseen cells side sight n s h out k l king = false_from_ne_true (is_seen cells k
 pub harmless_far : (cells : Cells) (side : Color) (sight : ℕ) (cell : Option Piece) (to : ℕ) → Sees cells side 0 sight → to < 81 → has_bit sight to ≡ false → IsHarmless cells side cell to
 harmless_far cells side sight cell to s h out k l king = false_from_ne_true (cell_reaches cells cell to k) (λ r. both_ways (is_seen cells k to) (unseen cells side sight to s h out k l king) (cell_seen cells cell to k h r))
 
-no_slides : (role : Role) → is_sliding_role role ≡ false → slides_of role ≡ []
-no_slides King e = refl
-no_slides Pawn e = refl
-no_slides Lance e = absurd (cc)
-no_slides Knight e = refl
-no_slides Silver e = refl
-no_slides Gold e = refl
-no_slides Bishop e = absurd (cc)
-no_slides Rook e = absurd (cc)
-no_slides PromotedPawn e = refl
-no_slides PromotedLance e = refl
-no_slides PromotedKnight e = refl
-no_slides PromotedSilver e = refl
-no_slides Horse e = absurd (cc)
-no_slides Dragon e = absurd (cc)
-
--- nor does a piece that does not slide and has no step to a king
-pub harmless_step : (cells : Cells) (side : Color) (piece : Piece) (to steps kings : ℕ) → is_sliding_role piece.role ≡ false → ((n : ℕ) → n < 81 → has_bit steps n ≡ has_step piece to n) → ((n : ℕ) → n < 81 → has_bit kings n ≡ is_king side (piece_at cells n)) → bit_and steps kings ≡ 0 → IsHarmless cells side (Some piece) to
-harmless_step cells side piece to steps kings still s b none k l king =
-    let slide : has_slide cells piece to k ≡ false = ap (list_any (λ offset. slides cells (for_side piece.color offset) to k)) (no_slides piece.role still) in
-    let step : has_step piece to k ≡ false = false_from_ne_true (has_step piece to k) (λ e. both_ways (has_bit (bit_and steps kings) k) (ap (λ m. has_bit m k) none ∙ has_bit-none k) (has_bit-and steps kings k ∙ and_from _ _ (s k l ∙ e) (b k l ∙ king))) in
-    rw (step, slide) refl
+-- nor does a piece that reaches none of them
+pub harmless_here : (cells : Cells) (side : Color) (piece : Piece) (to squares kings : ℕ) → ((n : ℕ) → n < 81 → has_bit squares n ≡ cell_reaches cells (Some piece) to n) → ((n : ℕ) → n < 81 → has_bit kings n ≡ is_king side (piece_at cells n)) → bit_and squares kings ≡ 0 → IsHarmless cells side (Some piece) to
+harmless_here cells side piece to squares kings s b none k l king =
+    false_from_ne_true (cell_reaches cells (Some piece) to k) (λ e. both_ways (has_bit (bit_and squares kings) k) (ap (λ m. has_bit m k) none ∙ has_bit-none k) (has_bit-and squares kings k ∙ and_from _ _ (s k l ∙ e) (b k l ∙ king)))
 
 -- ---- a spare piece has a legal move
 

@@ -74,17 +74,13 @@ fn spare_pieces(p: &Position, side: Color, sight: u128) -> u128
     kept & !left
 }
 
-/// Whether what would stand on the square may attack a king of the side: it slides, or has a step or
-/// a jump to a king.
-fn may_check(p: &Position, side: Color, cell: Option<Piece>, to: Square) -> bool
+/// Whether what would stand on the square attacks a king of the side.
+fn attacks_king(p: &Position, side: Color, cell: Option<Piece>, to: Square) -> bool
     ensures { result ≡ false → IsHarmless p.now.cells side cell to }
 {
     match cell {
         None => false,
-        Some(piece) => {
-            to.validity();
-            piece.role.is_sliding() || step_squares(piece, to.index()) & p.kings(side) != 0
-        }
+        Some(piece) => p.as_board().targets_of(piece, to) & p.kings(side) != 0,
     }
 }
 
@@ -96,7 +92,7 @@ impl Replies {
     {
         to.validity();
         if has(self.sight, to.index()) {
-            return !may_check(p, p.side().opponent(), cell, to);
+            return !attacks_king(p, p.side().opponent(), cell, to);
         }
         true
     }

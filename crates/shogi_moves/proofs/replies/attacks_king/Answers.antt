@@ -1,0 +1,11 @@
+use Rattle.std.proofs.Common.{◌≡◌, ◌<◌, ℕ, Some, sym, subst, rules}
+use Rattle.std.proofs.lemmas.Bool.{eqb-true, not-false}
+use Rattle.shogi_core.specs.Bits.{has_bit}
+use Rattle.shogi_core.specs.Movement.{cell_reaches}
+use Rattle.shogi_moves.specs.Replies.{IsHarmless}
+use Rattle.shogi_moves.proofs.ReplyLaws.{harmless_here}
+use Rattle.shogi_moves.proofs.replies.attacks_king.Goals as goal
+
+pub returns-in-Some : goal.returns-in-Some
+returns-in-Some c = λ e. subst (λ cell. IsHarmless c.args.p.now.cells c.args.side cell c.args.to) (sym c.in-Some.is)
+    (harmless_here c.args.p.now.cells c.args.side c.in-Some.piece c.args.to c.targets_of.result c.kings.result (rw c.as_board.ensures at c.targets_of.ensures.bits) c.kings.ensures.bits (eqb-true _ 0 (not-false _ e)))
