@@ -68,7 +68,7 @@ pub record SpellsHands (text : List ℕ) (hands : HandCounts) : Type 0 where
   pub sums : (color : Color) (kind : Kind) → count_in_hand hands color kind ≡ sum_by (count_given color kind) items
   pub spelled : or_hyphen (flat_map hand_item_text items) ≡ text
 
--- of the words of a text, which blanks part, the first three are a text of the position's board, one of its side to move, and one of its hands; what follows is not looked at
+-- of the words of a text (`words` of Words: what stands between spaces and tabs), the first three are a text of the position's board, one of its side to move, and one of its hands; what follows is not looked at
 pub record Spells (words : List (List ℕ)) (position : Shogi) : Type 0 where
   pub board : IsSomeAnd (slice_get words 0) (λ text. SpellsBoard text position.cells)
   pub side : IsSomeAnd (slice_get words 1) (λ text. text ≡ side_text position.side)

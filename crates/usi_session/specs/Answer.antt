@@ -16,7 +16,7 @@ use Rattle.usi_session.specs.PositionCommand.{position_of_startpos, position_of_
 use Rattle.usi_session.specs.GoInfos.{move_to_play, move_to_ponder, go_infos}
 use Rattle.usi_session.specs.Texts.{usi_reply, ready_reply, mate_not_implemented_reply, bad_position_line, illegal_move_line, bestmove_line}
 
--- What a bestmove is held until: `Nothing`, where it is written at once; `UntilStop`; `UntilHit`, which is until `ponderhit` or `stop`. `BadPosition` is a `position` line whose second word is neither `startpos` nor `sfen`, and `rest` what follows the first two words of the others. `Other` is a line that is no command, or a `setoption` that sets nothing.
+-- What a bestmove is held until: `Nothing`, where it is written at once; `UntilStop`; `UntilHit`, which is until `ponderhit` or `stop`. The command `BadPosition` is a `position` line whose second word is missing, or is neither `startpos` nor `sfen` (the refusal of that name is one of the others, which names no position), and `rest` what follows the first two words of the others. `Other` is a line that is no command, or a `setoption` that sets nothing.
 
 -- what is written, and the state after it
 pub record Answer : Type 0 where
@@ -55,7 +55,7 @@ write_or_hold state infos held Nothing = answer_with (without_bestmove state) (i
 write_or_hold state infos held UntilStop = answer_with (record state { held = Some held }) infos
 write_or_hold state infos held UntilHit = answer_with (record state { held = Some held }) infos
 
--- `go` at a depth, by the evaluation and with as many lines as the options say: the whole depth is searched, also under `go infinite`, and what was held is dropped
+-- `go` at a depth, by the evaluation and with at most as many lines as the options say: the whole depth is searched, also under `go infinite`, and what was held is dropped
 abbrev pub answer_go : State → ℕ → Hold → Answer
 answer_go state depth hold = write_or_hold state (go_infos state.position state.options.eval state.options.multi_pv depth) (bestmove_at state.position state.options.eval depth hold) hold
 
