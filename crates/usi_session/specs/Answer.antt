@@ -16,7 +16,7 @@ use Rattle.usi_session.specs.PositionCommand.{position_of_startpos, position_of_
 use Rattle.usi_session.specs.GoInfos.{move_to_play, move_to_ponder, go_infos}
 use Rattle.usi_session.specs.Texts.{usi_reply, ready_reply, mate_not_implemented_reply, bad_position_line, illegal_move_line, bestmove_line}
 
--- What a bestmove is held until: `Nothing`, where it is written at once; `UntilStop`; `UntilHit`, which is until `ponderhit` or `stop`. The command `BadPosition` is a `position` line whose second word is missing, or is neither `startpos` nor `sfen` (the refusal of that name is one of the others, which names no position), and `rest` what follows the first two words of the others. `Other` is a line that is no command, or a `setoption` that sets nothing.
+-- What a bestmove is held until: `Nothing`, where it is written at once; `UntilStop`; `UntilHit`, which is until `ponderhit` or `stop`. The command `BadPosition` is a `position` line whose second word is missing, or is neither `startpos` nor `sfen`. The refusal `BadPosition` is for a line that begins with `position startpos` or `position sfen` and names no position; `rest` is what follows those two words. `Other` is a line that is no command, or a `setoption` that sets nothing.
 
 -- what is written, and the state after it
 pub record Answer : Type 0 where
