@@ -163,4 +163,20 @@ next_some m n fits some =
     div_small : (a b : ℕ) → a / b ≤ a
     div_small a b = omega arith
 
+-- ---- halves of 64 bits
+
+pub half_low : (m n : ℕ) → n < 64 → has_bit (m % 2 ^ 64) (n % 64) ≡ has_bit m n
+unfolding has_bit
+half_low m n h =
+    let at : n % 64 ≡ n = omega arith in
+    let whole : m / 2 ^ 64 * 2 ^ 64 + m % 2 ^ 64 ≡ m = omega arith in
+    ap (λ i. bit_at (m % 2 ^ 64) i == 1) at ∙ ap (λ x. x == 1) (sym (bit_at_cat_low (m / 2 ^ 64) 64 (m % 2 ^ 64) n h) ∙ ap (λ k. bit_at k n) whole)
+
+pub half_high : (m n : ℕ) → 64 ≤ n → n < 128 → has_bit (m / 2 ^ 64) (n % 64) ≡ has_bit m n
+half_high m n low high =
+    let at : 64 + n % 64 ≡ n = omega arith in
+    has_bit-shr m 64 (n % 64) ∙ ap (has_bit m) at
+
+pub ruleset halves = (half_low, half_high)
+
 pub ruleset bit_tests = (has_bit_test, has_bit-with, has_bit-without, next_none, next_some)

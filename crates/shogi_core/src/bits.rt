@@ -1,11 +1,27 @@
 //! Sets of squares as the bits of a number: bit n is the square of index n.
 
-ghost use Rattle.std.specs.Prelude.{◌≡◌, ◌≢◌, ◌<◌, ◌≤◌, ◌^◌, ◌==◌, ◌&&◌, ◌||◌, not, true, false, ℕ};
+ghost use Rattle.std.specs.Prelude.{◌≡◌, ◌≢◌, ◌<◌, ◌≤◌, ◌^◌, ◌%◌, ◌==◌, ◌&&◌, ◌||◌, not, true, false, ℕ};
 ghost use Rattle.shogi_core.specs.Below.{some_below};
 ghost use Rattle.shogi_core.specs.Bits.{has_bit};
 
 /// Every square of the board.
 pub const ALL_SQUARES: u128 = 2417851639229258349412351;
+
+// What divides the lower 64 bits from those above.
+const HALF: u128 = 18446744073709551616;
+
+/// The half of the mask in which bit n stands: its lower 64 bits, or those above.
+#[tactic(auto, using(crate::proofs::BitLaws::halves))]
+fn half_of(mask: u128, n: usize) -> u64
+    requires { n < 128 }
+    ensures { has_bit result (n % 64) ≡ has_bit mask n }
+{
+    if n < 64 {
+        (mask % HALF) as u64
+    } else {
+        (mask / HALF) as u64
+    }
+}
 
 /// Whether bit n is set.
 #[tactic(auto, using(crate::proofs::BitLaws::bit_tests))]
@@ -13,7 +29,7 @@ pub fn has(mask: u128, n: usize) -> bool
     requires { n < 128 }
     ensures { result ≡ has_bit mask n }
 {
-    (mask >> n) & 1 == 1
+    (half_of(mask, n) >> (n % 64)) & 1 == 1
 }
 
 /// With bit n set.

@@ -8,8 +8,25 @@ ghost use Rattle.shogi_moves.specs.LegalMoves.{legal_from, legal_codes};
 use crate::ends::{drop_ends, legal_ends};
 use crate::guard::{Guard, full_guard, rough_guard};
 use crate::sweep::next_kind;
-use shogi_core::bits::next_of;
+use shogi_core::bits::{lowest, next_of, without_lowest};
 use shogi_core::{Kind, Position, Square};
+
+/// Whether a king of the side to move has a legal move.
+fn has_king_move(p: &Position, guard: &Guard) -> bool
+    requires { Guards p.now guard.now.checked guard.now.exposed }
+    ensures { result ≡ true → legal_codes p.now ≢ [] }
+{
+    let mut left = p.kings(p.side());
+    while left != 0 {
+        let king = lowest(left);
+        let ends = legal_ends(p, guard, Square::of_index(king));
+        if ends.plain | ends.promoting != 0 {
+            return true;
+        }
+        left = without_lowest(left, king);
+    }
+    false
+}
 
 /// Whether a piece on the board has a legal move.
 fn has_board_move(p: &Position, guard: &Guard) -> bool
@@ -55,12 +72,15 @@ fn has_pawn_drop(p: &Position, guard: &Guard) -> bool
 }
 
 /// Whether some move is legal. Drops are looked for first where no check is to be answered: their
-/// ends need no look at the pieces on the board.
+/// ends need no look at the pieces on the board. Then the king, which most often has a way out.
 pub fn has_legal(p: &Position) -> bool
     ensures { IsTrue result ↔ (legal_codes p.now ≢ []) }
 {
     let rough = rough_guard(p);
     if !rough.checked && has_piece_drop(p, &rough) {
+        return true;
+    }
+    if has_king_move(p, &rough) {
         return true;
     }
     let guard = full_guard(p, rough.checked);

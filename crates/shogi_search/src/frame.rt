@@ -202,6 +202,7 @@ impl Frame {
     }
 
     /// Asks for the answer of the next move, where there is one.
+    #[inline(always)]
     pub fn ask(&mut self) -> Option<Move>
         requires next { self.old.waiting ≡ Waiting.Next }
         ensures todo { MatchOption result ((todo self.old.node.position self.old.picker ≡ []) × (todo self.old.node.position self.new.picker ≡ [])) (λ m. todo self.old.node.position self.old.picker ≡ code_of m ∷ todo self.old.node.position self.new.picker) }
@@ -238,6 +239,7 @@ impl Frame {
     }
 
     /// Takes in what is known of the current move.
+    #[inline(always)]
     pub fn take(&mut self, current: &Move, entry: &Entry)
         requires current { IsCurrent self.old.waiting current.now }
         requires truth { IsTrueEntry (after_code self.old.node.position (code_of current.now)) self.old.node.eval (self.old.depth - 1) entry.now }
@@ -308,6 +310,7 @@ impl Frame {
 
     /// The value at depth 0 of the position to which the current move leads, where it is certain
     /// without making the move that a move is legal there.
+    #[inline(always)]
     pub fn certain_leaf(&self, current: &Move) -> Option<i32>
         requires current { IsCurrent self.now.waiting current.now }
         ensures value { IfSome result (λ v. value (after_code self.now.node.position (code_of current.now)) self.now.node.eval 0 ≡ v) }

@@ -150,6 +150,7 @@ impl MovePicker {
     }
 
     /// The first move after the sweep that is under way.
+    #[inline(never)]
     fn go_on(&mut self, p: &Position) -> Option<Move>
         requires kept { IsKept p.now self.old }
         ensures next { MatchOption result ((todo_after p.now self.old ≡ []) × (todo p.now self.new ≡ [])) (λ m. todo_after p.now self.old ≡ code_of m ∷ todo p.now self.new) }
@@ -172,6 +173,7 @@ impl MovePicker {
     }
 
     /// The next move to visit.
+    #[inline(always)]
     pub fn next(&mut self, p: &Position) -> Option<Move>
         requires kept { IsKept p.now self.old }
         ensures next { MatchOption result ((todo p.now self.old ≡ []) × (todo p.now self.new ≡ [])) (λ m. todo p.now self.old ≡ code_of m ∷ todo p.now self.new) }
