@@ -62,6 +62,7 @@ fn drop_gain(e: Eval, kind: Kind) -> i32
 }
 
 /// The material after a legal move, from the side that is to move then.
+#[inline(always)]
 pub fn score_after(p: &Position, e: Eval, score: i32, m: &Move) -> i32
     requires legal { is_legal p.now m.now ≡ true }
     requires score { score ≡ material_of p.now e }

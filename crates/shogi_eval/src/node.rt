@@ -116,6 +116,7 @@ impl Node {
     }
 
     /// The material after a legal move, from the side that is to move then; nothing is played.
+    #[inline(always)]
     pub fn score_after(&self, m: &Move) -> i32
         requires { is_legal self.now.position m.now ≡ true }
         ensures { result ≡ material_of (after self.now.position m.now) self.now.eval }

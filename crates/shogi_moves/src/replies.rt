@@ -75,6 +75,7 @@ fn spare_pieces(p: &Position, side: Color, sight: u128) -> u128
 }
 
 /// Whether what would stand on the square attacks a king of the side.
+#[inline(never)]
 fn attacks_king(p: &Position, side: Color, cell: Option<Piece>, to: Square) -> bool
     ensures { result ≡ false → IsHarmless p.now.cells side cell to }
 {
@@ -86,6 +87,7 @@ fn attacks_king(p: &Position, side: Color, cell: Option<Piece>, to: Square) -> b
 
 impl Replies {
     /// Whether what comes to stand on the square surely gives no check to the other side.
+    #[inline(always)]
     fn is_harmless(&self, p: &Position, cell: Option<Piece>, to: Square) -> bool
         requires kept { IsReplies p.now self.now.sight self.now.spare }
         ensures { result ≡ true → IsHarmless p.now.cells (opponent_of p.now.side) cell to }
@@ -121,6 +123,7 @@ impl Replies {
     }
 
     /// Whether it is certain that the other side has a legal move after the legal move.
+    #[inline(always)]
     pub fn is_certain(&self, p: &Position, m: &Move) -> bool
         requires kept { IsReplies p.now self.now.sight self.now.spare }
         requires legal { is_legal p.now m.now ≡ true }

@@ -1,6 +1,6 @@
 //! Ways through the legal moves of a sort, which keep the ends of the present piece.
 
-ghost use Rattle.std.specs.Prelude.{◌≡◌, ◌≢◌, ◌<◌, ◌≤◌, ◌+◌, ◌*◌, ◌^◌, ◌∷◌, [], ℕ, true, false, IfSome, MatchOption, bit_or};
+ghost use Rattle.std.specs.Prelude.{◌≡◌, ◌≢◌, ◌<◌, ◌≤◌, ◌+◌, ◌*◌, ◌^◌, ◌∷◌, [], ℕ, true, false, IfSome, IsNone, MatchOption, bit_or};
 ghost use Rattle.shogi_core.specs.declared.moves.TheConstants.{FIRST_DROP};
 ghost use Rattle.shogi_core.specs.declared.moves.Move.TheVariants as moves;
 ghost use Rattle.shogi_core.specs.Bits.{has_bit};
@@ -10,12 +10,16 @@ ghost use Rattle.shogi_core.specs.Movement.{piece_at};
 ghost use Rattle.shogi_core.specs.Pieces.{kind_number};
 ghost use Rattle.shogi_moves.specs.Captures.{is_wanted, HasNoneWanted};
 ghost use Rattle.shogi_moves.specs.Guards.{Guards};
+ghost use Rattle.shogi_moves.specs.After.{after};
 ghost use Rattle.shogi_moves.specs.Legal.{is_legal};
+ghost use Rattle.shogi_moves.specs.LegalMoves.{legal_codes};
+ghost use Rattle.shogi_moves.specs.Replies.{IsReplies};
 ghost use Rattle.shogi_moves.specs.Sweeps.{wanted_from, IsBoardSweep, IsDropSweep};
 
 use crate::ends::{Ends, board_ends, drop_ends};
 use crate::guard::{Guard, guard_of};
 use crate::next::code_above;
+use crate::replies::Replies;
 use shogi_core::bits::{has, lowest, next_of, without_lowest};
 use shogi_core::{FIRST_DROP, Kind, Move, Position, SQUARE_CODES, Square, is_piece_of};
 
@@ -148,6 +152,30 @@ impl BoardSweep {
         }
         Some(self.take(p, capture))
     }
+
+    /// The next of the moves, where it is one of the present piece after which the other side surely has
+    /// a legal move. Otherwise `None`, and the next one is still to come.
+    #[inline(always)]
+    pub fn next_certain(&mut self, p: &Position, capture: bool, replies: &Replies) -> Option<Move>
+        requires kept { IsBoardSweep p.now capture self.old }
+        requires replies { IsReplies p.now replies.now.sight replies.now.spare }
+        ensures kept { IsBoardSweep p.now capture self.new }
+        ensures none { IsNone result → self.new ≡ self.old }
+        ensures next { IfSome result (λ m. wanted_from p.now capture self.old.code ≡ code_of m ∷ wanted_from p.now capture self.new.code) }
+        ensures legal { IfSome result (λ m. is_legal p.now m ≡ true) }
+        ensures certain { IfSome result (λ m. legal_codes (after p.now m) ≢ []) }
+    {
+        if self.ends.plain | self.ends.promoting == 0 {
+            return None;
+        }
+        let mut ahead = *self;
+        let m = ahead.take(p, capture);
+        if replies.is_certain(p, &m) {
+            *self = ahead;
+            return Some(m);
+        }
+        None
+    }
 }
 
 /// The kind after this one in the order of kinds.
@@ -234,5 +262,28 @@ impl DropSweep {
             }
         }
         Some(self.take(p))
+    }
+    /// The next of the drops, where it is one of the present kind after which the other side surely has a
+    /// legal move. Otherwise `None`, and the next one is still to come.
+    #[inline(always)]
+    pub fn next_certain(&mut self, p: &Position, replies: &Replies) -> Option<Move>
+        requires kept { IsDropSweep p.now self.old }
+        requires replies { IsReplies p.now replies.now.sight replies.now.spare }
+        ensures kept { IsDropSweep p.now self.new }
+        ensures none { IsNone result → self.new ≡ self.old }
+        ensures next { IfSome result (λ m. wanted_from p.now false self.old.code ≡ code_of m ∷ wanted_from p.now false self.new.code) }
+        ensures legal { IfSome result (λ m. is_legal p.now m ≡ true) }
+        ensures certain { IfSome result (λ m. legal_codes (after p.now m) ≢ []) }
+    {
+        if self.ends == 0 {
+            return None;
+        }
+        let mut ahead = *self;
+        let m = ahead.take(p);
+        if replies.is_certain(p, &m) {
+            *self = ahead;
+            return Some(m);
+        }
+        None
     }
 }

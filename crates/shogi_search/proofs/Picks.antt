@@ -1,15 +1,17 @@
 -- The visits of a node's moves are its moves, in another order.
-use Rattle.std.proofs.Common.{◌≡◌, ◌≤◌, ◌+◌, ℕ, List, [], ◌∷◌, ◌++◌, ◌⊎◌, Bool, true, false, ◌==◌, filter, Option, not, refl, ap, ◌∙◌, sym, arith, subst, inl, inr}
-use Rattle.std.specs.Prelude.{cond, ◌&&◌}
+use Rattle.std.proofs.Common.{◌≡◌, ◌≤◌, ◌+◌, ℕ, List, [], ◌∷◌, ◌++◌, ◌⊎◌, Bool, true, false, ◌==◌, filter, Option, None, Some, not, refl, ap, ◌∙◌, sym, arith, subst, inl, inr}
+use Rattle.std.specs.Prelude.{cond, ◌&&◌, IfSome}
 use Rattle.std.specs.List.{sum_by}
 use Rattle.std.proofs.lemmas.List.Sums.{sum_by-cons}
 use Rattle.std.proofs.lemmas.Bool.{cond_both, cases_Bool, or_cases, eqb-true, or_left, or_right, cond-true, cond-false}
 use Rattle.shogi_core.specs.declared.moves.TheConstants.{FIRST_DROP}
 use Rattle.shogi_core.specs.declared.moves.Move.{Move}
+use Rattle.shogi_core.specs.Codes.{code_of}
 use Rattle.shogi_core.specs.Position.{Shogi}
 use Rattle.shogi_moves.specs.Captures.{is_of_sort}
 use Rattle.shogi_moves.specs.LegalMoves.{legal_from}
 use Rattle.shogi_moves.specs.Rising.{is_in}
+use Rattle.shogi_moves.specs.Sweeps.{wanted_from}
 use Rattle.shogi_moves.proofs.SweepLaws.{no_captures}
 use Rattle.shogi_search.specs.Order.{is_hash_move, picks, picks_from}
 
@@ -53,6 +55,15 @@ pub captures_end : (p : Shogi) (hash_move : Option Move) (code : ℕ) (ys : List
 captures_end p hash_move code ys e = ap (λ (xs : List ℕ). xs ++ ys) (e ∙ no_drop_taken p hash_move)
 
 pub ruleset no_capture_left = (captures_end)
+
+-- where no move is remembered, what is found of a sort is the next pick
+pub pick-next : (p : Shogi) (hash_move : Option Move) (capture : Bool) (first code : ℕ) (found : Option Move) → hash_move ≡ None → IfSome found (λ m. wanted_from p capture first ≡ code_of m ∷ wanted_from p capture code) → IfSome found (λ m. picks_from p hash_move capture first ≡ code_of m ∷ picks_from p hash_move capture code)
+pick-next p hash_move capture first code None e found = found
+pick-next p hash_move capture first code (Some m) e found = pick-found p hash_move capture (code_of m) (legal_from p first) (legal_from p code) found (ap (λ f. is_hash_move f (code_of m)) e)
+
+pub pick-next_capture : (p : Shogi) (hash_move : Option Move) (first code : ℕ) (ys : List ℕ) (found : Option Move) → hash_move ≡ None → IfSome found (λ m. wanted_from p true first ≡ code_of m ∷ wanted_from p true code) → IfSome found (λ m. (picks_from p hash_move true first ++ ys) ≡ code_of m ∷ (picks_from p hash_move true code ++ ys))
+pick-next_capture p hash_move first code ys None e found = found
+pick-next_capture p hash_move first code ys (Some m) e found = ap (λ (xs : List ℕ). xs ++ ys) (pick-next p hash_move true first code (Some m) e found)
 
 pub ruleset picked = (pick-found, pick-passed, pick-none, pick-same)
 

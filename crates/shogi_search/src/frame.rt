@@ -5,7 +5,7 @@ ghost use Rattle.std.specs.Option.{ForSome};
 ghost use Rattle.std.proofs.Props.{props};
 ghost use Rattle.shogi_core.specs.Codes.{code_of};
 ghost use Rattle.shogi_core.specs.Validity.{IsValid};
-ghost use Rattle.shogi_moves.specs.After.{after_code};
+ghost use Rattle.shogi_moves.specs.After.{after, after_code};
 ghost use Rattle.shogi_moves.specs.LegalMoves.{legal_codes};
 ghost use Rattle.shogi_moves.specs.Replies.{IsReplies};
 ghost use Rattle.shogi_moves.specs.Rising.{is_in};
@@ -89,7 +89,7 @@ fn replies_of(node: &Node, ahead: bool) -> Replies
 }
 
 impl Frame {
-    ghost use Rattle.shogi_search.specs.Stack.{IsSame, left_of_waiting};
+    ghost use Rattle.shogi_search.specs.Stack.{IsSame, left_of_waiting, left_of_frame};
 
     /// The frame becomes that of a node that is entered, with the hash move to visit first; `ahead`
     /// asks for what tells of leaves without making them.
@@ -308,6 +308,17 @@ impl Frame {
         self.waiting = Waiting::Next;
     }
 
+    /// The value at depth 0 of the position to which the current move leads, where a move is legal there.
+    #[inline(always)]
+    fn leaf_after(&self, current: &Move) -> i32
+        requires current { IsCurrent self.now.waiting current.now }
+        requires some { legal_codes (after self.now.node.position current.now) ≢ [] }
+        ensures { value (after_code self.now.node.position (code_of current.now)) self.now.node.eval 0 ≡ result }
+    {
+        current.validity();
+        self.node.score_after(current)
+    }
+
     /// The value at depth 0 of the position to which the current move leads, where it is certain
     /// without making the move that a move is legal there.
     #[inline(always)]
@@ -317,9 +328,58 @@ impl Frame {
     {
         current.validity();
         if self.replies.is_certain(self.node.as_position(), current) {
-            return Some(self.node.score_after(current));
+            return Some(self.leaf_after(current));
         }
         None
+    }
+
+    /// Whether the next move is to be begun with.
+    fn is_next(&self) -> bool
+        ensures { IsTrue result ↔ (self.now.waiting ≡ Waiting.Next) }
+    {
+        matches!(self.waiting, Waiting::Next)
+    }
+
+    /// Takes in the leaf after the next move, where it is certain without making it that a move is legal
+    /// there, and tells whether it did.
+    #[inline(always)]
+    fn pass_leaf(&mut self) -> bool
+        requires next { self.old.waiting ≡ Waiting.Next }
+        requires last { self.old.depth ≡ 1 }
+        ensures free { IsFree self.new.waiting }
+        ensures taken { left_of_waiting self.new.waiting ≡ 0 }
+        ensures none { result ≡ false → self.new ≡ self.old }
+        ensures left { result ≡ true → left_of_frame self.new + 2 ≤ left_of_frame self.old }
+        ensures same { IsSame self.old self.new }
+    {
+        let next = self
+            .picker
+            .next_certain(self.node.as_position(), &self.replies);
+        let Some(current) = next else {
+            return false;
+        };
+        self.waiting = Waiting::Asked(current);
+        let value = self.leaf_after(&current);
+        self.take(&current, &Entry::Exact(value, None));
+        true
+    }
+
+    /// Takes in the leaves after the next moves, two steps each, while there is room and it is certain
+    /// without making them that a move is legal there. Gives the number of steps.
+    pub fn pass_leaves(&mut self, room: u64) -> u64
+        requires free { IsFree self.old.waiting }
+        requires taken { left_of_waiting self.old.waiting ≡ 0 }
+        requires last { self.old.depth ≡ 1 }
+        ensures free { IsFree self.new.waiting }
+        ensures most { result ≤ room }
+        ensures left { left_of_frame self.new + result ≤ left_of_frame self.old }
+        ensures same { IsSame self.old self.new }
+    {
+        let mut made = 0;
+        'leaves: while room - made > 1 && self.is_next() && self.pass_leaf() {
+            made += 2;
+        }
+        made
     }
 
     /// Keeps the value of the leaf to which the current move leads.

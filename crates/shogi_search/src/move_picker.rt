@@ -1,14 +1,18 @@
 //! The move picker: in which order a node's moves are visited.
 
-ghost use Rattle.std.specs.Prelude.{◌≡◌, ◌<◌, ◌++◌, [], ◌∷◌, MatchOption, Some, None, true, false};
+ghost use Rattle.std.specs.Prelude.{◌≡◌, ◌≢◌, ◌<◌, ◌++◌, [], ◌∷◌, MatchOption, Some, None, IfSome, IsNone, true, false};
 ghost use Rattle.shogi_core.specs.declared.moves.TheConstants.{FIRST_DROP};
 ghost use Rattle.shogi_core.specs.Codes.{code_of};
+ghost use Rattle.shogi_moves.specs.After.{after};
 ghost use Rattle.shogi_moves.specs.Guards.{Guards};
+ghost use Rattle.shogi_moves.specs.Legal.{is_legal};
+ghost use Rattle.shogi_moves.specs.LegalMoves.{legal_codes};
+ghost use Rattle.shogi_moves.specs.Replies.{IsReplies};
 ghost use Rattle.shogi_moves.specs.Sweeps.{IsBoardSweep, IsDropSweep};
 ghost use Rattle.shogi_search.specs.Order.{is_hash_move, picks_from, todo, todo_after, IsKept};
 
 use shogi_core::{Move, Position};
-use shogi_moves::{BoardSweep, DropSweep, Guard, guard_of};
+use shogi_moves::{BoardSweep, DropSweep, Guard, Replies, guard_of};
 
 /// How far the visits of a node's moves have come: the hash move, and what is still to come of the
 /// captures, of the quiet board moves and of the drops.
@@ -145,6 +149,26 @@ impl MovePicker {
             MovePicker::Captures(hash_move, sweep) => next_board(p, hash_move, true, sweep),
             MovePicker::Quiets(hash_move, sweep) => next_board(p, hash_move, false, sweep),
             MovePicker::Drops(hash_move, sweep) => next_drop(p, hash_move, sweep),
+            _ => None,
+        }
+    }
+
+    /// The next move to visit, where it is one of the sweep that is under way after which the other side
+    /// surely has a legal move. Otherwise `None`, and the next one is still to be visited.
+    #[inline(always)]
+    pub fn next_certain(&mut self, p: &Position, replies: &Replies) -> Option<Move>
+        requires kept { IsKept p.now self.old }
+        requires replies { IsReplies p.now replies.now.sight replies.now.spare }
+        ensures kept { IsKept p.now self.new }
+        ensures none { IsNone result → self.new ≡ self.old }
+        ensures next { IfSome result (λ m. todo p.now self.old ≡ code_of m ∷ todo p.now self.new) }
+        ensures legal { IfSome result (λ m. is_legal p.now m ≡ true) }
+        ensures certain { IfSome result (λ m. legal_codes (after p.now m) ≢ []) }
+    {
+        match self {
+            MovePicker::Captures(None, sweep) => sweep.next_certain(p, true, replies),
+            MovePicker::Quiets(None, sweep) => sweep.next_certain(p, false, replies),
+            MovePicker::Drops(None, sweep) => sweep.next_certain(p, replies),
             _ => None,
         }
     }

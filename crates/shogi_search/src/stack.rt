@@ -184,7 +184,8 @@ impl Stack {
     }
 
     /// The same; where a leaf is certain to have a legal move, its value is told without making it, and
-    /// taken in at once where there is room for that step too. Gives the number of steps, one or two.
+    /// taken in at once where there is room for that step too, with the certain leaves that follow it.
+    /// Gives the number of steps.
     fn descend<M: Memo>(&mut self, current: &Move, memo: &mut M, room: u64) -> u64
         requires stack { IsStack self.old }
         requires asked { self.old.top.waiting ≡ Waiting.Asked current.now }
@@ -202,7 +203,7 @@ impl Stack {
             if let Some(value) = self.top.certain_leaf(current) {
                 if room > 1 {
                     self.top.take(current, &Entry::Exact(value, None));
-                    return 2;
+                    return 2 + self.top.pass_leaves(room - 2);
                 }
                 self.top.hear(current, value);
                 return 1;

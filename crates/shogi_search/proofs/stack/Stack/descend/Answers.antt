@@ -16,7 +16,7 @@ pub returns-then-room-gt1-clause-stack : goal.returns-then-room-gt1-clause-stack
 returns-then-room-gt1-clause-stack g c = record {
   shallow = c.requires.stack.shallow;
   height_fits = c.requires.stack.height_fits;
-  chain = chain_same _ _ _ _ _ _ _ _ c.requires.stack.chain c.take.ensures.same;
+  chain = chain_same _ _ _ _ _ _ _ _ (chain_same _ _ _ _ _ _ c.args.self.now.top c.take.new.self c.requires.stack.chain c.take.ensures.same) c.pass_leaves.ensures.same;
 }
 
 pub returns-then-room-gt1-clause-left : goal.returns-then-room-gt1-clause-left
