@@ -1,11 +1,14 @@
 -- After most moves the other side has a legal move.
-use Rattle.std.proofs.Common.{◌≡◌, ◌≢◌, ℕ, ◌-◌, ◌*◌, ◌%◌, ◌^◌, ◌<◌, ◌⊎◌, Bool, true, false, not, Option, Some, None, [], refl, sym, ap, subst, ◌∙◌, arith, inl, inr, set, length, length-set, get_or-set_same, bit_and, bit_or}
-use Rattle.std.specs.Prelude.{◌==◌, ◌&&◌, is_none}
+use Rattle.std.proofs.Common.{◌≡◌, ◌≢◌, ℕ, ◌+◌, ◌-◌, ◌*◌, ◌%◌, ◌^◌, ◌<◌, ◌⊎◌, Bool, true, false, not, Option, Some, None, [], refl, sym, ap, subst, ◌∙◌, arith, inl, inr, set, length, length-set, get_or-set_same, get_or-set_other, bit_and, bit_or}
+use Rattle.std.specs.Prelude.{◌==◌, ◌&&◌, ◌||◌, nat_lt, is_none}
 use Rattle.std.specs.Int.{trailing_zeros, w128}
-use Rattle.std.proofs.lemmas.Bool.{cases_eq, false_from_ne_true, both_ways, and_parts, and_from, or_left, or_right, not-true, not_from_false, ne_eqb, eq-eqb}
+use Rattle.std.proofs.lemmas.Bool.{cases_eq, false_from_ne_true, both_ways, and_parts, and_from, or_left, or_right, or_cases, not-true, not_from_false, ne_eqb, eq-eqb}
+use Rattle.shogi_core.specs.declared.moves.Move.{Move}
 use Rattle.shogi_core.specs.declared.moves.Move.TheVariants.{Board, Drop}
 use Rattle.shogi_core.specs.declared.piece.Color.{Color}
+use Rattle.shogi_core.specs.declared.piece.Color.TheVariants.{Black, White}
 use Rattle.shogi_core.specs.declared.piece.Kind.{Kind}
+use Rattle.shogi_core.specs.declared.piece.Kind.TheVariants as kinds
 use Rattle.shogi_core.specs.declared.piece.Piece.{Piece}
 use Rattle.shogi_core.specs.Attack.{in_check}
 use Rattle.shogi_core.specs.Below.{some_below}
@@ -14,25 +17,25 @@ use Rattle.shogi_core.specs.Cell.{is_piece_of, is_king, is_immobile}
 use Rattle.shogi_core.specs.Codes.{code_of}
 use Rattle.shogi_core.specs.Lines.{are_lined, is_jump, is_line_to_king, is_lined_with_king, is_seen}
 use Rattle.shogi_core.specs.Movement.{Cells, piece_at, reaches, cell_reaches, has_step, has_slide}
-use Rattle.shogi_core.specs.Pieces.{opponent_of}
-use Rattle.shogi_core.specs.Position.{Shogi, HandCounts}
+use Rattle.shogi_core.specs.Pieces.{opponent_of, kind_of, kind_number}
+use Rattle.shogi_core.specs.Position.{Shogi, HandCounts, count_in_hand, place_of}
 use Rattle.shogi_core.specs.Validity.{IsValid}
 use Rattle.shogi_core.proofs.Below.{some_below_no, some_below_at}
 use Rattle.shogi_core.proofs.BitLaws.{has_bit-and, has_bit-or, has_bit-none, has_bit-without}
 use Rattle.shogi_core.proofs.CodesBack.{move_of-board}
 use Rattle.shogi_core.proofs.Exposed.{some_below_which, line_to_king_was}
-use Rattle.shogi_core.proofs.Faults.{faultless_from}
+use Rattle.shogi_core.proofs.Faults.{faultless_from, number_below}
 use Rattle.shogi_core.proofs.LineBits.{lowest_set, and_fits, has_bit-not}
 use Rattle.shogi_core.proofs.Replies.{no_check}
 use Rattle.shogi_core.proofs.SeenLaws.{lined_back, cell_seen}
-use Rattle.shogi_moves.specs.After.{after, cells_after, piece_moved, dropped}
-use Rattle.shogi_moves.specs.Legal.{is_legal, is_pseudo_legal_board_move}
+use Rattle.shogi_moves.specs.After.{after, cells_after, piece_moved, dropped, with_captured, with_one_more}
+use Rattle.shogi_moves.specs.Legal.{is_legal, is_safe, is_pseudo_legal_board_move, is_pseudo_legal_drop, is_pawn_kind, is_mated_by_drop}
 use Rattle.shogi_moves.specs.LegalMoves.{legal_codes}
-use Rattle.shogi_moves.specs.Replies.{cell_steps, is_open_step, is_spare, Sees, IsReplies, IsHarmless}
+use Rattle.shogi_moves.specs.Replies.{cell_steps, is_free_kind, holds_free, is_open_step, is_spare, is_way, Sees, IsReplies, IsHarmless}
 use Rattle.shogi_moves.proofs.DropChecks as drops
-use Rattle.shogi_moves.proofs.EndLaws.{legal_board, still}
+use Rattle.shogi_moves.proofs.EndLaws.{legal_board, legal_drop, drop_wanted, still}
 use Rattle.shogi_moves.proofs.ExistenceLaws.{some_legal}
-use Rattle.shogi_moves.proofs.GuardLaws.{look, other_side, own_some, is_piece_of-piece_moved, dropped_of, quiet_board}
+use Rattle.shogi_moves.proofs.GuardLaws.{look, other_side, own_some, is_piece_of-piece_moved, dropped_of, quiet_board, quiet_drop}
 use Rattle.shogi_moves.proofs.LegalLaws.{is_legal_code_of}
 
 -- ---- what a king sees
@@ -74,6 +77,72 @@ pub harmless_here : (cells : Cells) (side : Color) (piece : Piece) (to squares k
 harmless_here cells side piece to squares kings s b none k l king =
     false_from_ne_true (cell_reaches cells (Some piece) to k) (λ e. both_ways (has_bit (bit_and squares kings) k) (ap (λ m. has_bit m k) none ∙ has_bit-none k) (has_bit-and squares kings k ∙ and_from _ _ (s k l ∙ e) (b k l ∙ king)))
 
+-- ---- a piece that may be dropped on any empty square
+
+held_kind : (hands : HandCounts) (side : Color) → holds_free hands side ≡ true → (kind : Kind) × (is_free_kind kind ≡ true) × (nat_lt 0 (count_in_hand hands side kind) ≡ true)
+held_kind hands side e = elim (or_cases (nat_lt 0 (count_in_hand hands side kinds.Silver) || nat_lt 0 (count_in_hand hands side kinds.Gold) || nat_lt 0 (count_in_hand hands side kinds.Bishop)) (nat_lt 0 (count_in_hand hands side kinds.Rook)) e) [
+  | inl three ↦ elim (or_cases (nat_lt 0 (count_in_hand hands side kinds.Silver) || nat_lt 0 (count_in_hand hands side kinds.Gold)) (nat_lt 0 (count_in_hand hands side kinds.Bishop)) three) [
+    | inl two ↦ elim (or_cases (nat_lt 0 (count_in_hand hands side kinds.Silver)) (nat_lt 0 (count_in_hand hands side kinds.Gold)) two) [
+      | inl one ↦ (kinds.Silver, refl, one)
+      | inr one ↦ (kinds.Gold, refl, one)
+    ]
+    | inr one ↦ (kinds.Bishop, refl, one)
+  ]
+  | inr one ↦ (kinds.Rook, refl, one)
+]
+
+free_plain : (kind : Kind) → is_free_kind kind ≡ true → is_pawn_kind kind ≡ false
+free_plain kinds.Pawn e = absurd (cc)
+free_plain kinds.Lance e = absurd (cc)
+free_plain kinds.Knight e = absurd (cc)
+free_plain _ e = refl
+
+free_lands : (color : Color) (kind : Kind) (a : ℕ) → is_free_kind kind ≡ true → is_immobile a (dropped color kind) ≡ false
+free_lands color kinds.Pawn a e = absurd (cc)
+free_lands color kinds.Lance a e = absurd (cc)
+free_lands color kinds.Knight a e = absurd (cc)
+free_lands Black _ a e = refl
+free_lands White _ a e = refl
+
+free_drop : (cells : Cells) (hands : HandCounts) (color : Color) (kind : Kind) (a : ℕ) → length cells ≡ 81 → a < 81 → is_free_kind kind ≡ true → nat_lt 0 (count_in_hand hands color kind) ≡ true → is_none (piece_at cells a) ≡ true → in_check cells color ≡ false → legal_codes (record { cells = cells; hands = hands; side = color }) ≢ []
+unfolding is_safe
+free_drop cells hands color kind a len ha kin held empty shut =
+    let q : Shogi = record { cells = cells; hands = hands; side = color } in
+    let plain : is_pawn_kind kind ≡ false = free_plain kind kin in
+    let lands : is_immobile a (dropped color kind) ≡ false = free_lands color kind a kin in
+    let allowed : is_pseudo_legal_drop cells hands color kind a ≡ true = rw (held, empty, lands, plain) refl in
+    let safe : is_safe (record { cells = cells; hands = hands; side = color }) (Drop kind a) ≡ true = and_from _ _ allowed (ap not (quiet_drop cells color kind a len ha shut)) in
+    some_legal q (code_of (Drop kind a)) (sym (drop_wanted q kind a ha) ∙ (legal_drop q kind a ha ∙ and_from _ _ safe (ap (λ b. not (b && is_mated_by_drop (after q (Drop kind a)))) plain)))
+
+-- a move changes nothing in the other side's hand
+other_place : (side : Color) (kind other : Kind) → place_of (opponent_of side) other ≢ place_of side kind
+other_place Black kind other e = let low : kind_number kind < 7 = number_below kind in absurd (omega (arith, low, e))
+other_place White kind other e = let low : kind_number other < 7 = number_below other in absurd (omega (arith, low, e))
+
+other_hand : (hands : HandCounts) (side : Color) (kind other : Kind) (n : ℕ) → count_in_hand (set hands (place_of side kind) n) (opponent_of side) other ≡ count_in_hand hands (opponent_of side) other
+other_hand hands side kind other n = get_or-set_other hands (place_of side kind) (place_of (opponent_of side) other) n 0 (other_place side kind other)
+
+other_captured : (hands : HandCounts) (side : Color) (cell : Option Piece) (other : Kind) → count_in_hand (with_captured hands side cell) (opponent_of side) other ≡ count_in_hand hands (opponent_of side) other
+other_captured hands side None other = refl
+other_captured hands side (Some piece) other = go (kind_of piece.role)
+  where
+    go : (kind : Option Kind) → count_in_hand (with_one_more hands side kind) (opponent_of side) other ≡ count_in_hand hands (opponent_of side) other
+    go None = refl
+    go (Some kind) = other_hand hands side kind other (count_in_hand hands side kind + 1)
+
+other_counts : (p : Shogi) (m : Move) (other : Kind) → count_in_hand (after p m).hands (opponent_of p.side) other ≡ count_in_hand p.hands (opponent_of p.side) other
+other_counts p (Board from to promote) other = other_captured p.hands p.side (piece_at p.cells to) other
+other_counts p (Drop kind to) other = other_hand p.hands p.side kind other (count_in_hand p.hands p.side kind - 1)
+
+still_holds : (p : Shogi) (m : Move) → holds_free p.hands (opponent_of p.side) ≡ true → holds_free (after p m).hands (opponent_of p.side) ≡ true
+still_holds p m e = rw (other_counts p m kinds.Silver, other_counts p m kinds.Gold, other_counts p m kinds.Bishop, other_counts p m kinds.Rook) e
+
+way_after : (p : Shogi) (m : Move) (a : ℕ) → is_way p (opponent_of p.side) a ≡ true → (is_spare p.cells (opponent_of p.side) a ≡ true) ⊎ ((is_none (piece_at p.cells a) ≡ true) × (holds_free (after p m).hands (opponent_of p.side) ≡ true))
+way_after p m a e = elim (or_cases (is_spare p.cells (opponent_of p.side) a) (is_none (piece_at p.cells a) && holds_free p.hands (opponent_of p.side)) e) [
+  | inl spare ↦ inl spare
+  | inr held ↦ (let parts = and_parts (is_none (piece_at p.cells a)) (holds_free p.hands (opponent_of p.side)) held in inr (parts.0, still_holds p m parts.1))
+]
+
 -- ---- a spare piece has a legal move
 
 steps_reach : (cells : Cells) (cell : Option Piece) (a t : ℕ) → cell_steps cell a t ≡ true → cell_reaches cells cell a t ≡ true
@@ -84,7 +153,7 @@ right_step : (new : Cells) (color : Color) (a t : ℕ) → is_piece_of color (pi
 right_step new color a t own free reach alive = rw (own, free, reach, still t (piece_at new a), alive) refl
 
 module _ (old new : Cells) (hands : HandCounts) (color : Color) (Left : ℕ → Type 0) (opened : (x : ℕ) → is_none (piece_at new x) ≡ true → (is_none (piece_at old x) ≡ true) ⊎ Left x) where
-  replied : (to : ℕ) → length new ≡ 81 → to < 81
+  replied_step : (to : ℕ) → length new ≡ 81 → to < 81
       → ((a : ℕ) → is_piece_of (opponent_of color) (piece_at new a) ≡ true → (piece_at old a ≡ piece_at new a) ⊎ (a ≡ to))
       → ((k : ℕ) → is_king color (piece_at new k) ≡ true → piece_at old k ≡ piece_at new k)
       → ((x : ℕ) → Left x → is_lined_with_king old color x ≡ false)
@@ -94,7 +163,7 @@ module _ (old new : Cells) (hands : HandCounts) (color : Color) (Left : ℕ → 
       → ((t : ℕ) → is_piece_of color (piece_at old t) ≡ false → is_piece_of color (piece_at new t) ≡ false)
       → (a : ℕ) → a < 81 → a ≢ to → is_spare old color a ≡ true → legal_codes (record { cells = new; hands = hands; side = color }) ≢ []
   unfolding is_spare reaches
-  replied to len ht kept kings free far safe stays clear a ha other e =
+  replied_step to len ht kept kings free far safe stays clear a ha other e =
       let q : Shogi = record { cells = new; hands = hands; side = color } in
       let four = and_parts (is_piece_of color (piece_at old a) && not (is_king color (piece_at old a)) && not (is_lined_with_king old color a)) (some_below 81 (is_open_step old color a)) e in
       let three = and_parts (is_piece_of color (piece_at old a) && not (is_king color (piece_at old a))) (not (is_lined_with_king old color a)) four.0 in
@@ -115,6 +184,24 @@ module _ (old new : Cells) (hands : HandCounts) (color : Color) (Left : ℕ → 
       (is_legal_code_of q (code_of (Board a which.0 false)) (Board a which.0 false) (move_of-board a which.0 false ha which.1)
       ∙ (legal_board q a which.0 false
       ∙ and_from _ _ (right_step new color a which.0 own open_end reach alive) (ap not (quiet_board new color a which.0 false len ha which.1 own plain off shut))))
+
+  replied : (to : ℕ) → length new ≡ 81 → to < 81
+      → ((a : ℕ) → is_piece_of (opponent_of color) (piece_at new a) ≡ true → (piece_at old a ≡ piece_at new a) ⊎ (a ≡ to))
+      → ((k : ℕ) → is_king color (piece_at new k) ≡ true → piece_at old k ≡ piece_at new k)
+      → ((x : ℕ) → Left x → is_lined_with_king old color x ≡ false)
+      → ((k : ℕ) → k < 81 → is_king color (piece_at old k) ≡ true → cell_reaches old (piece_at new to) to k ≡ false)
+      → in_check old color ≡ false
+      → ((a : ℕ) → is_piece_of color (piece_at old a) ≡ true → a ≢ to → piece_at new a ≡ piece_at old a)
+      → ((t : ℕ) → is_piece_of color (piece_at old t) ≡ false → is_piece_of color (piece_at new t) ≡ false)
+      → ((x : ℕ) → is_none (piece_at old x) ≡ true → x ≢ to → is_none (piece_at new x) ≡ true)
+      → (a : ℕ) → a < 81 → a ≢ to → (is_spare old color a ≡ true) ⊎ ((is_none (piece_at old a) ≡ true) × (holds_free hands color ≡ true)) → legal_codes (record { cells = new; hands = hands; side = color }) ≢ []
+  replied to len ht kept kings free far safe stays clear empty a ha other way = elim way [
+    | inl e ↦ replied_step to len ht kept kings free far safe stays clear a ha other e
+    | inr e ↦ (
+        let shut : in_check new color ≡ false = no_check old new Left opened color to ht kept kings free far safe in
+        let held = held_kind hands color e.1 in
+        free_drop new hands color held.0 a len ha held.1 held.2 (empty a e.0 other) shut)
+  ]
 
 -- ---- after a board move, and after a drop
 
@@ -153,7 +240,11 @@ replied_board p from to promote sight spare a v r hf ht own out off ha some othe
       | inl there ↦ ap (is_piece_of (opponent_of p.side)) there.1 ∙ other_side p.side w mine
       | inr rest ↦ elim rest [ inl here ↦ ap (is_piece_of (opponent_of p.side)) here.1 | inr same ↦ ap (is_piece_of (opponent_of p.side)) same ∙ e ]
     ])
-    a ha other (r.spares a ha some)
+    (λ x e ne. elim (see x) [
+      | inl there ↦ absurd (ne there.0)
+      | inr rest ↦ elim rest [ inl here ↦ ap is_none here.1 | inr same ↦ ap is_none same ∙ e ]
+    ])
+    a ha other (way_after p (Board from to promote) a (r.spares a ha some))
   where
     w : Option Piece
     w = piece_moved promote (piece_at p.cells from)
@@ -186,7 +277,8 @@ replied_drop p kind to sight spare a v r ht off ha some other =
       | inl there ↦ ap (is_piece_of (opponent_of p.side)) there.1 ∙ other_side p.side (dropped p.side kind) (dropped_of p.side kind)
       | inr same ↦ ap (is_piece_of (opponent_of p.side)) same ∙ e
     ])
-    a ha other (r.spares a ha some)
+    (λ x e ne. elim (see x) [ inl there ↦ absurd (ne there.0) | inr same ↦ ap is_none same ∙ e ])
+    a ha other (way_after p (Drop kind to) a (r.spares a ha some))
   where
     see : (x : ℕ) → ((x ≡ to) × (piece_at (cells_after p.cells p.side (Drop kind to)) x ≡ dropped p.side kind)) ⊎ (piece_at (cells_after p.cells p.side (Drop kind to)) x ≡ piece_at p.cells x)
     see x = drops.look p.cells p.side kind to v.cells_fit ht x

@@ -1,6 +1,8 @@
 -- What is kept of a position to tell that after most of its moves the other side is in no check and has a legal move.
-use Rattle.std.specs.Prelude.{ℕ, ◌≡◌, ◌<◌, ◌^◌, ◌&&◌, Bool, true, false, not, Option, Some, None}
+use Rattle.std.specs.Prelude.{ℕ, ◌≡◌, ◌<◌, ◌^◌, ◌&&◌, ◌||◌, Bool, true, false, not, nat_lt, Option, Some, None, is_none}
 use Rattle.shogi_core.specs.declared.piece.Color.{Color}
+use Rattle.shogi_core.specs.declared.piece.Kind.{Kind}
+use Rattle.shogi_core.specs.declared.piece.Kind.TheVariants.{Silver, Gold, Bishop, Rook}
 use Rattle.shogi_core.specs.declared.piece.Piece.{Piece}
 use Rattle.shogi_core.specs.Below.{some_below}
 use Rattle.shogi_core.specs.Bits.{has_bit}
@@ -8,7 +10,7 @@ use Rattle.shogi_core.specs.Cell.{is_piece_of, is_king, is_immobile}
 use Rattle.shogi_core.specs.Lines.{is_seen, is_lined_with_king}
 use Rattle.shogi_core.specs.Movement.{Cells, piece_at, cell_reaches, has_step}
 use Rattle.shogi_core.specs.Pieces.{opponent_of}
-use Rattle.shogi_core.specs.Position.{Shogi}
+use Rattle.shogi_core.specs.Position.{Shogi, HandCounts, count_in_hand}
 
 -- a step or a jump of what stands on a leads to t
 abbrev pub cell_steps : Option Piece → ℕ → ℕ → Bool
@@ -23,6 +25,22 @@ is_open_step cells side a t = cell_steps (piece_at cells a) a t && not (is_piece
 unfoldable pub is_spare : Cells → Color → ℕ → Bool
 is_spare cells side a = is_piece_of side (piece_at cells a) && not (is_king side (piece_at cells a)) && not (is_lined_with_king cells side a) && some_below 81 (is_open_step cells side a)
 
+-- a kind that goes on from every square, and is no pawn
+abbrev pub is_free_kind : Kind → Bool
+is_free_kind Silver = true
+is_free_kind Gold = true
+is_free_kind Bishop = true
+is_free_kind Rook = true
+is_free_kind _ = false
+
+-- the side holds a piece of such a kind, which it may drop on each empty square where it is in no check
+abbrev pub holds_free : HandCounts → Color → Bool
+holds_free hands side = nat_lt 0 (count_in_hand hands side Silver) || nat_lt 0 (count_in_hand hands side Gold) || nat_lt 0 (count_in_hand hands side Bishop) || nat_lt 0 (count_in_hand hands side Rook)
+
+-- a spare piece stands there, or nothing, and such a piece is held
+abbrev pub is_way : Shogi → Color → ℕ → Bool
+is_way p side a = is_spare p.cells side a || is_none (piece_at p.cells a) && holds_free p.hands side
+
 -- a mask with the kings of a side and all squares that those see which are not left
 pub record Sees (cells : Cells) (side : Color) (left sight : ℕ) : Type 0 where
   pub kings : (n : ℕ) → n < 81 → is_king side (piece_at cells n) ≡ true → has_bit sight n ≡ true
@@ -32,8 +50,8 @@ pub record Sees (cells : Cells) (side : Color) (left sight : ℕ) : Type 0 where
 abbrev pub IsHarmless : Cells → Color → Option Piece → ℕ → Type 0
 IsHarmless cells side cell to = (k : ℕ) → k < 81 → is_king side (piece_at cells k) ≡ true → cell_reaches cells cell to k ≡ false
 
--- such a mask for the side that is not to move, and some of its spare pieces
+-- such a mask for the side that is not to move, and some of the squares that give it a move
 pub record IsReplies (p : Shogi) (sight spare : ℕ) : Type 0 where
   pub sees : Sees p.cells (opponent_of p.side) 0 sight
-  pub spares : (a : ℕ) → a < 81 → has_bit spare a ≡ true → is_spare p.cells (opponent_of p.side) a ≡ true
+  pub spares : (a : ℕ) → a < 81 → has_bit spare a ≡ true → is_way p (opponent_of p.side) a ≡ true
   pub fits : spare < 2 ^ 81

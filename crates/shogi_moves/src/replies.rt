@@ -7,15 +7,16 @@ ghost use Rattle.shogi_core.specs.Pieces.{opponent_of};
 ghost use Rattle.shogi_moves.specs.After.{after};
 ghost use Rattle.shogi_moves.specs.Legal.{is_legal};
 ghost use Rattle.shogi_moves.specs.LegalMoves.{legal_codes};
-ghost use Rattle.shogi_moves.specs.Replies.{is_open_step, is_spare, Sees, IsReplies, IsHarmless};
+ghost use Rattle.shogi_moves.specs.Replies.{holds_free, is_open_step, is_spare, Sees, IsReplies, IsHarmless};
 
 use crate::after::{dropped, piece_moved};
 use crate::zones::dead_squares;
 use shogi_core::bits::{ALL_SQUARES, cleared, has, lowest, without_lowest};
-use shogi_core::{Color, Move, Piece, Position, Square, step_squares};
+use shogi_core::{Color, Kind, Move, Piece, Position, Square, step_squares};
 
 /// What is kept of a position to tell that after most of its moves the other side is in no check
-/// and has a legal move: what its king sees, and pieces of it that have an open step.
+/// and has a legal move: what its king sees, and pieces of it that have an open step, or the empty
+/// squares where it holds a piece that may be dropped on each of them.
 #[derive(Clone, Copy, Debug)]
 pub struct Replies {
     pub sight: u128,
@@ -85,6 +86,17 @@ fn attacks_king(p: &Position, side: Color, cell: Option<Piece>, to: Square) -> b
     }
 }
 
+/// Whether the side holds a piece that it may drop on each empty square where it is in no check: one
+/// that is no pawn and goes on from everywhere.
+fn holds_free(p: &Position, side: Color) -> bool
+    ensures { result ≡ holds_free p.now.hands side }
+{
+    p.hand(side, Kind::Silver) > 0
+        || p.hand(side, Kind::Gold) > 0
+        || p.hand(side, Kind::Bishop) > 0
+        || p.hand(side, Kind::Rook) > 0
+}
+
 impl Replies {
     /// Whether what comes to stand on the square surely gives no check to the other side.
     #[inline(always)]
@@ -105,6 +117,12 @@ impl Replies {
     {
         let opponent = p.side().opponent();
         let sight = sight_squares(p, opponent);
+        if holds_free(p, opponent) {
+            return Replies {
+                sight,
+                spare: p.free(),
+            };
+        }
         Replies {
             sight,
             spare: spare_pieces(p, opponent, sight),
