@@ -1,27 +1,37 @@
 -- Some move is legal, or none.
-use Rattle.std.proofs.Common.{◌≡◌, ◌≢◌, ℕ, ◌+◌, ◌-◌, ◌*◌, ◌/◌, ◌%◌, ◌^◌, ◌<◌, ◌≤◌, Bool, true, false, [], sym, ap, ◌∙◌, arith, inl, inr, bit_or}
+use Rattle.std.proofs.Common.{◌≡◌, ◌≢◌, ℕ, ◌+◌, ◌-◌, ◌*◌, ◌/◌, ◌%◌, ◌^◌, ◌<◌, ◌≤◌, Bool, true, false, [], Option, Some, None, refl, sym, ap, ◌∙◌, arith, inl, inr, bit_and, bit_or}
 use Rattle.std.specs.Prelude.{zero, suc}
 use Rattle.std.specs.Int.{trailing_zeros, w128}
-use Rattle.std.proofs.lemmas.Bool.{or_cases, both_ways}
+use Rattle.std.proofs.lemmas.Bool.{or_cases, and_from, and_parts, both_ways, not-true}
 use Rattle.shogi_core.specs.declared.moves.TheConstants.{MOVE_CODE_COUNT, FIRST_DROP, SQUARE_CODES}
 use Rattle.shogi_core.specs.declared.bits.TheConstants.{ALL_SQUARES}
 use Rattle.shogi_core.specs.declared.moves.Move.TheVariants.{Board, Drop}
+use Rattle.shogi_core.specs.declared.piece.Color.{Color}
+use Rattle.shogi_core.specs.declared.piece.Color.TheVariants.{Black, White}
 use Rattle.shogi_core.specs.declared.piece.Kind.{Kind}
+use Rattle.shogi_core.specs.declared.piece.Piece.{Piece}
+use Rattle.shogi_core.specs.declared.piece.Role.{Role}
+use Rattle.shogi_core.specs.declared.piece.Role.TheVariants as roles
 use Rattle.shogi_core.specs.Attack.{in_check}
 use Rattle.shogi_core.specs.Bits.{has_bit}
+use Rattle.shogi_core.specs.Pieces.{is_same_color, kind_number}
+use Rattle.shogi_core.specs.Cell.{is_piece_of, is_king, is_king_role, is_immobile, is_immobile_role}
 use Rattle.shogi_core.specs.Codes.{code_of}
-use Rattle.shogi_core.specs.Pieces.{kind_number}
+use Rattle.shogi_core.specs.Movement.{piece_at, reaches}
 use Rattle.shogi_core.specs.Position.{Shogi}
-use Rattle.shogi_core.proofs.BitLaws.{has_bit-or, has_bit-none}
+use Rattle.shogi_core.proofs.BitLaws.{has_bit-and, has_bit-or, has_bit-none}
+use Rattle.shogi_core.proofs.CodesBack.{move_of-board}
 use Rattle.shogi_core.proofs.Faults.{number_below}
-use Rattle.shogi_core.proofs.LineBits.{lowest_set}
+use Rattle.shogi_core.proofs.LineBits.{lowest_set, has_bit-not}
 use Rattle.shogi_moves.specs.Captures.{is_wanted}
+use Rattle.shogi_moves.specs.Ends.{is_unchecked}
 use Rattle.shogi_moves.specs.Guards.{Guards}
-use Rattle.shogi_moves.specs.Legal.{is_legal_code}
+use Rattle.shogi_moves.specs.Legal.{is_legal_code, is_pseudo_legal_board_move}
 use Rattle.shogi_moves.specs.LegalMoves.{legal_from, legal_codes}
 use Rattle.shogi_moves.specs.Rising.{is_in}
-use Rattle.shogi_moves.proofs.EndLaws.{drop_wanted}
-use Rattle.shogi_moves.proofs.LegalLaws.{in_legal, legal_from_skips}
+use Rattle.shogi_moves.proofs.EndLaws.{drop_wanted, legal_board, still}
+use Rattle.shogi_moves.proofs.KingLaws.{king_own}
+use Rattle.shogi_moves.proofs.LegalLaws.{in_legal, is_legal_code_of, legal_from_skips}
 use Rattle.shogi_moves.proofs.SweepLaws.{either, at_code}
 use Rattle.shogi_moves.proofs.ZoneLaws.{all_squares, more_fits}
 
@@ -91,3 +101,28 @@ pub kind_with : (p : Shogi) (kind : Kind) (ends : ℕ) → ends < 2 ^ 81 → ((n
 kind_with p kind ends fits bits some =
     let low = lowest_set ends some fits in
     some_legal p (code_of (Drop kind (trailing_zeros w128 ends))) (sym (drop_wanted p kind (trailing_zeros w128 ends) low.0) ∙ (sym (bits (trailing_zeros w128 ends) low.0) ∙ low.1))
+
+-- a king moves on from everywhere
+king_lives : (side : Color) (cell : Option Piece) (t : ℕ) → is_king side cell ≡ true → is_immobile t cell ≡ false
+king_lives side None t e = refl
+king_lives side (Some piece) t e = go piece.color piece.role (and_parts (is_same_color side piece.color) (is_king_role piece.role) e).1
+  where
+    go : (color : Color) (role : Role) → is_king_role role ≡ true → is_immobile_role color role (t % 9) ≡ false
+    go Black roles.King h = refl
+    go White roles.King h = refl
+    go color _ h = absurd (cc)
+
+-- a king that is not attacked on the square to which it goes has a legal move
+pub king_move : (p : Shogi) (from to : ℕ) → from < 81 → to < 81 → is_king p.side (piece_at p.cells from) ≡ true → (reaches p.cells from to ≡ true) × (is_piece_of p.side (piece_at p.cells to) ≡ false) → is_unchecked p (Board from to false) ≡ true → legal_codes p ≢ []
+king_move p from to hf ht king way safe =
+    let own : is_piece_of p.side (piece_at p.cells from) ≡ true = king_own p.side (piece_at p.cells from) king in
+    let alive : is_immobile to (piece_at p.cells from) ≡ false = king_lives p.side (piece_at p.cells from) to king in
+    let allowed : is_pseudo_legal_board_move p.cells p.side from to false ≡ true = rw (own, way.1, way.0, still to (piece_at p.cells from), alive) refl in
+    some_legal p (code_of (Board from to false)) (is_legal_code_of p (code_of (Board from to false)) (Board from to false) (move_of-board from to false hf ht) ∙ (legal_board p from to false ∙ and_from _ _ allowed safe))
+
+-- where it may go: squares that it reaches, and on which no piece of its own stands
+pub king_ways : (p : Shogi) (from targets own : ℕ) → own < 2 ^ 81 → ((n : ℕ) → n < 81 → has_bit targets n ≡ reaches p.cells from n) → ((n : ℕ) → n < 81 → has_bit own n ≡ is_piece_of p.side (piece_at p.cells n))
+    → (n : ℕ) → n < 81 → has_bit (bit_and targets (2 ^ 128 - 1 - own)) n ≡ true → (reaches p.cells from n ≡ true) × (is_piece_of p.side (piece_at p.cells n) ≡ false)
+king_ways p from targets own fits t o n h e =
+    let parts : (has_bit targets n ≡ true) × (has_bit (2 ^ 128 - 1 - own) n ≡ true) = and_parts _ _ (sym (has_bit-and targets (2 ^ 128 - 1 - own) n) ∙ e) in
+    (sym (t n h) ∙ parts.0, sym (o n h) ∙ not-true _ (sym (has_bit-not own n (omega arith) (omega arith)) ∙ parts.1))

@@ -67,7 +67,7 @@ module _ (cells : Cells) (side : Color) (from to : ℕ) (v : Option Piece) (len 
   king_lost king e = some_below_at 81 (is_open_king (set (set cells from None) to v) side) to ht (and_from _ _ (ap (is_king side) filled_at ∙ king) (still_attacked e))
 
 -- a king is a piece of its side
-king_own : (side : Color) (cell : Option Piece) → is_king side cell ≡ true → is_piece_of side cell ≡ true
+pub king_own : (side : Color) (cell : Option Piece) → is_king side cell ≡ true → is_piece_of side cell ≡ true
 king_own side None e = e
 king_own side (Some piece) e = search rules
 

@@ -82,7 +82,7 @@ fn is_free(p: &Position, from: Square) -> bool
 
 /// Whether the only king of the side to move may go from the one square to the other: nothing attacks
 /// that square once the king is lifted off its own.
-fn is_king_safe(p: &Position, lifted: &Board, from: Square, to: Square) -> bool
+pub fn is_king_safe(p: &Position, lifted: &Board, from: Square, to: Square) -> bool
     requires king { is_king p.now.side (piece_at p.now.cells from) ≡ true }
     requires lifted { lifted.now ≡ slice_set p.now.cells from None }
     requires lone { (x : ℕ) → x < 81 → x ≢ from → is_king p.now.side (piece_at p.now.cells x) ≡ false }

@@ -1,31 +1,59 @@
 //! Whether some move is legal.
 
-ghost use Rattle.std.specs.Prelude.{◌≡◌, ◌+◌, ◌≢◌, ◌↔◌, true, false, [], IsTrue};
+ghost use Rattle.std.specs.Prelude.{◌≡◌, ◌+◌, ◌<◌, ◌^◌, ◌≢◌, ◌↔◌, ℕ, true, false, [], IsTrue};
 ghost use Rattle.shogi_core.specs.declared.moves.TheConstants.{FIRST_DROP};
+ghost use Rattle.shogi_core.specs.Bits.{has_bit};
+ghost use Rattle.shogi_core.specs.Cell.{is_king, is_piece_of};
+ghost use Rattle.shogi_core.specs.Movement.{piece_at, reaches};
 ghost use Rattle.shogi_moves.specs.Guards.{Guards};
 ghost use Rattle.shogi_moves.specs.LegalMoves.{legal_from, legal_codes};
 
-use crate::ends::{drop_ends, legal_ends};
+use crate::ends::{drop_ends, is_king_safe, legal_ends};
 use crate::guard::{Guard, full_guard, rough_guard};
 use crate::sweep::next_kind;
-use shogi_core::bits::{lowest, next_of, without_lowest};
+use shogi_core::bits::{cleared, lowest, next_of, without_lowest};
 use shogi_core::{Kind, Position, Square};
 
-/// Whether a king of the side to move has a legal move.
-fn has_king_move(p: &Position, guard: &Guard) -> bool
-    requires { Guards p.now guard.now.checked guard.now.exposed }
+/// Whether the only king of the side to move may go to one of the squares, which it reaches and where
+/// no piece of its own stands.
+#[tactic(auto, using(crate::proofs::ExistenceLaws::king_move))]
+fn king_escapes(p: &Position, from: Square, ends: u128) -> bool
+    requires king { is_king p.now.side (piece_at p.now.cells from) ≡ true }
+    requires lone { (x : ℕ) → x < 81 → x ≢ from → is_king p.now.side (piece_at p.now.cells x) ≡ false }
+    requires ends { (n : ℕ) → n < 81 → has_bit ends n ≡ true → (reaches p.now.cells from n ≡ true) × (is_piece_of p.now.side (piece_at p.now.cells n) ≡ false) }
+    requires fits { ends < 2 ^ 81 }
     ensures { result ≡ true → legal_codes p.now ≢ [] }
 {
-    let mut left = p.kings(p.side());
+    from.validity();
+    let mut lifted = *p.as_board();
+    lifted.set(from, None);
+    let mut left = ends;
     while left != 0 {
-        let king = lowest(left);
-        let ends = legal_ends(p, guard, Square::of_index(king));
-        if ends.plain | ends.promoting != 0 {
+        let to = lowest(left);
+        if is_king_safe(p, &lifted, from, Square::of_index(to)) {
             return true;
         }
-        left = without_lowest(left, king);
+        left = without_lowest(left, to);
     }
     false
+}
+
+/// Whether the king of the side to move has a legal move, where it has just one king.
+fn has_king_move(p: &Position) -> bool
+    ensures { result ≡ true → legal_codes p.now ≢ [] }
+{
+    p.validity();
+    let kings = p.kings(p.side());
+    if kings == 0 {
+        return false;
+    }
+    let king = lowest(kings);
+    if cleared(kings, king) != 0 {
+        return false;
+    }
+    let from = Square::of_index(king);
+    let own = p.own(p.side());
+    king_escapes(p, from, p.targets(from) & !own)
 }
 
 /// Whether a piece on the board has a legal move.
@@ -80,7 +108,7 @@ pub fn has_legal(p: &Position) -> bool
     if !rough.checked && has_piece_drop(p, &rough) {
         return true;
     }
-    if has_king_move(p, &rough) {
+    if has_king_move(p) {
         return true;
     }
     let guard = full_guard(p, rough.checked);

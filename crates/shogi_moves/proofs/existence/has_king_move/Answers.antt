@@ -1,7 +1,12 @@
-use Rattle.std.proofs.Common.{◌≡◌}
-use Rattle.shogi_moves.proofs.ExistenceLaws.{piece_with}
+use Rattle.std.proofs.Common.{◌≡◌, arith}
+use Rattle.shogi_moves.proofs.EndLaws.{lone_king}
+use Rattle.shogi_moves.proofs.ExistenceLaws.{king_ways}
 use Rattle.shogi_moves.proofs.existence.has_king_move.Goals as goal
 
-pub returns-then-ends-ne0 : goal.returns-then-ends-ne0
-returns-then-ends-ne0 c = λ _. piece_with c.args.p.now c.lowest-king.result c.legal_ends-ends.result.plain c.legal_ends-ends.result.promoting c.legal_ends-ends.ensures.plain_fits c.legal_ends-ends.ensures.promoting_fits
-    (rw c.of_index.ensures at c.legal_ends-ends.ensures.plain) (rw c.of_index.ensures at c.legal_ends-ends.ensures.promoting) c.if-ends-ne0.true
+pub king_escapes-requires-clause-lone : goal.king_escapes-requires-clause-lone
+king_escapes-requires-clause-lone c =
+    let none : c.cleared.result ≡ 0 = omega (arith, c.if-cleared-ne0.false) in
+    rw c.of_index-from.ensures (lone_king c.args.p.now c.kings-kings.result c.cleared.result c.lowest-king.result (rw c.side.ensures at c.kings-kings.ensures.bits) c.cleared.ensures.bits none)
+
+pub king_escapes-requires-clause-ends : goal.king_escapes-requires-clause-ends
+king_escapes-requires-clause-ends c = king_ways c.args.p.now c.of_index-from.result c.targets.result c.own-own.result c.own-own.ensures.fits c.targets.ensures.bits (rw c.side-2.ensures at c.own-own.ensures.bits)

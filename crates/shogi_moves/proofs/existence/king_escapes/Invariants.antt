@@ -1,12 +1,10 @@
 use Rattle.std.proofs.Common.{◌≡◌, ◌<◌, ◌^◌, ℕ, true}
 use Rattle.shogi_core.specs.Bits.{has_bit}
-use Rattle.shogi_core.specs.Cell.{is_king}
-use Rattle.shogi_core.specs.Movement.{piece_at}
-use Rattle.shogi_moves.proofs.existence.has_king_move.Given as goal
+use Rattle.shogi_moves.proofs.existence.king_escapes.Given as goal
 
 abbrev pub invariant-loop-left : goal.invariant-loop-left
 invariant-loop-left l = record {
-  kings : (n : ℕ) → n < 81 → has_bit l.left n ≡ true → is_king l.p.side (piece_at l.p.cells n) ≡ true;
+  within : (n : ℕ) → n < 81 → has_bit l.left n ≡ true → has_bit l.ends n ≡ true;
   fits : l.left < 2 ^ 81;
 }
 
