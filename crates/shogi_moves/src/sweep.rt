@@ -13,10 +13,10 @@ ghost use Rattle.shogi_moves.specs.Guards.{Guards};
 ghost use Rattle.shogi_moves.specs.Legal.{is_legal};
 ghost use Rattle.shogi_moves.specs.Sweeps.{wanted_from, IsBoardSweep, IsDropSweep};
 
-use crate::ends::{Ends, board_ends, drop_ends};
+use crate::ends::{Ends, board_ends, drop_ends, ends_among, ends_of_sort};
 use crate::guard::{Guard, guard_of};
 use crate::next::code_above;
-use shogi_core::bits::{has, lowest, next_of, without_lowest};
+use shogi_core::bits::{has, lowest, up_to_lowest, with, without_lowest};
 use shogi_core::{FIRST_DROP, Kind, Move, Position, SQUARE_CODES, Square, is_piece_of};
 
 /// What is still to come of the board moves of a sort, in the order of codes: the legal ends of
@@ -56,6 +56,17 @@ fn ends_on(p: &Position, guard: &Guard, capture: bool, from: Square) -> Ends
             promoting: 0,
         }
     }
+}
+
+/// Those bits of the mask that are above bit n.
+fn bits_above(mask: u128, n: usize) -> u128
+    requires n { n < 81 }
+    requires fits { mask < 2 ^ 81 }
+    ensures fits { result < 2 ^ 81 }
+    ensures above { (i : ℕ) → i < 81 → n < i → has_bit result i ≡ has_bit mask i }
+    ensures below { (i : ℕ) → i < 81 → i ≤ n → has_bit result i ≡ false }
+{
+    mask & !up_to_lowest(with(0, n))
 }
 
 impl BoardSweep {
@@ -117,18 +128,23 @@ impl BoardSweep {
         ensures some { result ≡ true → (bit_or self.new.ends.plain self.new.ends.promoting ≢ 0) × (wanted_from p.now capture self.old.code ≡ wanted_from p.now capture self.new.code) }
         ensures end { result ≡ false → wanted_from p.now capture self.old.code ≡ wanted_from p.now capture FIRST_DROP }
     {
-        let (own, guard) = (p.own(p.side()), self.guard);
-        let mut square = next_of(own, self.from.index() + 1);
-        'squares: while square < 81 {
+        p.validity();
+        let (sort, guard) = (ends_of_sort(p, capture), self.guard);
+        let mut left = bits_above(p.own(p.side()), self.from.index());
+        'squares: while left != 0 {
+            let square = lowest(left);
             let from = Square::of_index(square);
-            let ends = board_ends(p, &guard, capture, from);
-            if ends.plain | ends.promoting != 0 {
-                self.from = from;
-                self.ends = ends;
-                self.code = square as u16 * SQUARE_CODES;
-                return true;
+            let among = p.targets(from) & sort;
+            if among != 0 {
+                let ends = ends_among(p, &guard, capture, from, among);
+                if ends.plain | ends.promoting != 0 {
+                    self.from = from;
+                    self.ends = ends;
+                    self.code = square as u16 * SQUARE_CODES;
+                    return true;
+                }
             }
-            square = next_of(own, square + 1);
+            left = without_lowest(left, square);
         }
         false
     }
