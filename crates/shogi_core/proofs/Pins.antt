@@ -1,23 +1,22 @@
 -- A piece whose leaving would give check stands alone between a king and a sniper.
-use Rattle.std.proofs.Common.{◌≡◌, ◌≢◌, ◌⊎◌, ℕ, ◌+◌, ◌<◌, ◌^◌, Bool, true, false, not, refl, sym, ap, subst, ◌∙◌, arith, inl, inr, Option, Some, None, bit_and, bit_or, set, length, get_or-set_same, get_or-set_other, []}
+use Rattle.std.proofs.Common.{◌≡◌, ◌⊎◌, ℕ, ◌+◌, ◌<◌, ◌^◌, Bool, true, false, not, refl, sym, ap, subst, ◌∙◌, arith, inl, inr, Option, Some, None, bit_and, bit_or, set, length, get_or-set_same, get_or-set_other, []}
 use Rattle.std.specs.Prelude.{◌==◌, ◌&&◌, is_none}
-use Rattle.std.specs.List.{list_any, list_all}
 use Rattle.std.proofs.lemmas.Nat.{or_lt}
 use Rattle.std.proofs.lemmas.List.{get_or_past}
 use Rattle.std.proofs.lemmas.Bool.{cases_lt, cases_eq, false_from_ne_true, both_ways, and_parts, and_from, or_cases, or_left, or_right, not_from_false, ne_eqb}
 use Rattle.shogi_core.specs.declared.offset.Offset.{Offset}
 use Rattle.shogi_core.specs.declared.piece.Color.{Color}
 use Rattle.shogi_core.specs.declared.piece.Piece.{Piece}
-use Rattle.shogi_core.specs.Attack.{is_attacked_from, is_attacked, is_open_king, in_check, is_sniper, is_pinned_by, cell_slides_back}
-use Rattle.shogi_core.specs.Below.{some_below, all_below}
+use Rattle.shogi_core.specs.Attack.{is_attacked_from, is_attacked, is_open_king, in_check, is_sniper, is_pinned_by}
+use Rattle.shogi_core.specs.Below.{some_below}
 use Rattle.shogi_core.specs.Bits.{has_bit}
 use Rattle.shogi_core.specs.Cell.{is_piece_of, is_king, is_slider}
-use Rattle.shogi_core.specs.Lines.{back, around, are_aligned, are_lined, is_same_offset}
-use Rattle.shogi_core.specs.Movement.{Cells, away, leads, is_step_empty, is_empty, slides_across, slides, for_side, slides_of, has_slide, has_step, cell_reaches, reaches, piece_at}
+use Rattle.shogi_core.specs.Lines.{back, around, are_lined, is_same_offset}
+use Rattle.shogi_core.specs.Movement.{Cells, away, is_step_empty, is_empty, slides_across, slides, for_side, slides_of, has_slide, has_step, cell_reaches, reaches, piece_at}
 use Rattle.shogi_core.specs.Pieces.{opponent_of}
 use Rattle.shogi_core.specs.Rays.{direction_at, ray_of, is_on_ray}
 use Rattle.shogi_core.proofs.Back.{back_twice, leads_is}
-use Rattle.shogi_core.proofs.Below.{all_below_at, some_below_at, some_below_no, some_below_not}
+use Rattle.shogi_core.proofs.Below.{all_below_at, some_below_at, some_below_no}
 use Rattle.shogi_core.proofs.BitLaws.{has_bit-and, has_bit-or, has_bit-none}
 use Rattle.shogi_core.proofs.Exposed.{one_of, some_below_which, slides_was}
 use Rattle.shogi_core.proofs.LineBits.{and_fits, has_bit-ray}

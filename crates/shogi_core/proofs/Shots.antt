@@ -1,6 +1,6 @@
 -- A square is attacked by a step or a jump, or by a slide against one of the eight directions.
-use Rattle.std.proofs.Common.{◌≡◌, ◌⊎◌, ℕ, ◌%◌, ◌<◌, ◌^◌, Bool, true, false, not, refl, sym, ap, ◌∙◌, arith, inl, inr, Option, Some, None, bit_and, List, [], ◌∷◌}
-use Rattle.std.specs.Prelude.{◌==◌, ◌&&◌, zero, suc}
+use Rattle.std.proofs.Common.{◌≡◌, ◌⊎◌, ℕ, ◌%◌, ◌<◌, Bool, true, false, refl, sym, ap, ◌∙◌, arith, inl, inr, Option, Some, None, bit_and, List, [], ◌∷◌}
+use Rattle.std.specs.Prelude.{◌==◌, zero, suc}
 use Rattle.std.specs.List.{list_any, list_all}
 use Rattle.std.proofs.lemmas.Bool.{false_from_ne_true, both_ways, and_parts, and_from, or_cases, or_left, or_right}
 use Rattle.shogi_core.specs.declared.offset.Offset.{Offset}

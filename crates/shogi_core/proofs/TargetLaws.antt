@@ -1,5 +1,5 @@
 -- Masks of what a piece reaches.
-use Rattle.std.proofs.Common.{◌≡◌, ◌<◌, ◌^◌, ℕ, Bool, true, false, refl, sym, ap, ◌∙◌, bit_or, []}
+use Rattle.std.proofs.Common.{◌≡◌, ◌<◌, ◌^◌, ℕ, Bool, true, false, refl, sym, ap, ◌∙◌, bit_or}
 use Rattle.std.specs.Prelude.{◌||◌}
 use Rattle.std.specs.List.{list_any}
 use Rattle.std.proofs.lemmas.Nat.{or_lt}
@@ -7,16 +7,12 @@ use Rattle.shogi_core.specs.declared.offset.Offset.{Offset}
 use Rattle.shogi_core.specs.declared.piece.Color.{Color}
 use Rattle.shogi_core.specs.declared.piece.Color.TheVariants.{Black, White}
 use Rattle.shogi_core.specs.Bits.{has_bit}
-use Rattle.shogi_core.specs.Lines.{are_aligned, are_lined}
-use Rattle.shogi_core.specs.Rays.{ray_of}
 use Rattle.shogi_core.specs.Movement.{Cells, up, down, left, right, up_left, up_right, down_left, down_right, slides, has_slide, for_side, straight, diagonal}
 use Rattle.shogi_core.proofs.BitLaws.{has_bit-or, has_bit-none}
-use Rattle.shogi_core.proofs.LineBits.{ray_line}
 use Rattle.shogi_core.proofs.SeenLaws.{slides_role}
 use Rattle.shogi_core.specs.Cell.{is_sliding_role}
 use Rattle.shogi_core.specs.declared.piece.Piece.{Piece}
 use Rattle.std.proofs.lemmas.Bool.{both_ways, false_from_ne_true}
-use Rattle.std.proofs.lemmas.List.Folds.{list_any-append}
 
 four : (a b c d : Bool) → (((a || b) || c) || d) ≡ (a || (b || (c || (d || false))))
 four true b c d = refl
@@ -74,23 +70,6 @@ pub ruleset four_ways = (straight_bits, diagonal_bits, or_fits)
 pub ruleset one_way = (any_forward)
 
 pub ruleset no_bits = (has_bit-none, has_bit-or, or_fits)
-
--- ---- lines whatever stands between
-
-module _ (a b m n o p q r s t : ℕ) (low : b < 81)
-    (em : m ≡ ray_of up a) (en : n ≡ ray_of down a) (eo : o ≡ ray_of left a) (ep : p ≡ ray_of right a)
-    (eq : q ≡ ray_of up_left a) (er : r ≡ ray_of up_right a) (es : s ≡ ray_of down_left a) (et : t ≡ ray_of down_right a) where
-  pub aligned_bits : has_bit (bit_or (bit_or (bit_or (bit_or m n) o) p) (bit_or (bit_or (bit_or q r) s) t)) b ≡ are_aligned a b
-  unfolding are_lined
-  aligned_bits =
-      has_bit-or (bit_or (bit_or (bit_or m n) o) p) (bit_or (bit_or (bit_or q r) s) t) b
-      ∙ (rw (
-        straight_bits [] Black a b m n o p (ray_line a b m up low em) (ray_line a b n down low en) (ray_line a b o left low eo) (ray_line a b p right low ep),
-        diagonal_bits [] Black a b q r s t (ray_line a b q up_left low eq) (ray_line a b r up_right low er) (ray_line a b s down_left low es) (ray_line a b t down_right low et),
-      )
-      (sym (list_any-append (λ o. slides [] o a b) straight diagonal)))
-
-pub ruleset aligned = (aligned_bits, or_fits)
 
 -- ---- a piece that does not slide
 

@@ -1,6 +1,6 @@
 //! Attacks and checks, seen from the square that is attacked.
 
-ghost use Rattle.std.specs.Prelude.{◌≡◌, ◌<◌, ◌^◌, ℕ, true, false, None, slice_set};
+ghost use Rattle.std.specs.Prelude.{◌≡◌, ◌<◌, ◌^◌, ℕ, true, false, None, IfSome, IsNone, slice_set};
 ghost use Rattle.shogi_core.specs.Attack.{is_attacked, is_open_king, in_check, is_sniper, is_sniping, cell_steps, cell_slides_back, is_step_from, is_shot_along, is_pinned_by};
 ghost use Rattle.shogi_core.specs.Below.{some_below};
 ghost use Rattle.shogi_core.specs.Bits.{has_bit};
@@ -106,15 +106,12 @@ fn slides_back(cell: Option<Piece>, direction: usize) -> bool
 
 /// Whether one of the snipers of the square slides to it against the direction.
 #[tactic(auto, using(crate::proofs::Shots::shooting))]
-fn is_shot_along(board: &Board, by: Color, square: usize, direction: usize, snipers: u128) -> bool
+fn is_shot_on(board: &Board, by: Color, square: usize, direction: usize, snipers: u128) -> bool
     requires direction { direction < 8 }
     requires square { square < 81 }
     requires snipers { (b : ℕ) → b < 81 → has_bit snipers b ≡ is_sniper board.now by square b }
     ensures { result ≡ is_shot_along board.now by square direction }
 {
-    if ray(direction, square) & snipers == 0 {
-        return false;
-    }
     let mut left = slide_squares(board, direction, square) & snipers;
     while left != 0 {
         let from = lowest(left);
@@ -124,6 +121,31 @@ fn is_shot_along(board: &Board, by: Color, square: usize, direction: usize, snip
         left = without_lowest(left, from);
     }
     false
+}
+
+/// The same, as a call of its own: in most directions there is no sniper.
+#[inline(never)]
+fn is_shot_apart(board: &Board, by: Color, square: usize, direction: usize, snipers: u128) -> bool
+    requires direction { direction < 8 }
+    requires square { square < 81 }
+    requires snipers { (b : ℕ) → b < 81 → has_bit snipers b ≡ is_sniper board.now by square b }
+    ensures { result ≡ is_shot_along board.now by square direction }
+{
+    is_shot_on(board, by, square, direction, snipers)
+}
+
+/// The same, told at once where there is no sniper in the direction.
+#[tactic(auto, using(crate::proofs::Shots::shooting))]
+fn is_shot_along(board: &Board, by: Color, square: usize, direction: usize, snipers: u128) -> bool
+    requires direction { direction < 8 }
+    requires square { square < 81 }
+    requires snipers { (b : ℕ) → b < 81 → has_bit snipers b ≡ is_sniper board.now by square b }
+    ensures { result ≡ is_shot_along board.now by square direction }
+{
+    if ray(direction, square) & snipers == 0 {
+        return false;
+    }
+    is_shot_apart(board, by, square, direction, snipers)
 }
 
 /// Whether one of the snipers of the square slides to it.
@@ -143,16 +165,13 @@ fn is_shot(board: &Board, by: Color, square: usize, snipers: u128) -> bool
 /// The square of the piece of the side, if there is one, that stands alone in the direction between
 /// the square and one of its snipers.
 #[tactic(auto, using(crate::proofs::Pins::pinning))]
-fn pinned_along(board: &Board, side: Color, square: usize, direction: usize, snipers: u128) -> u128
+fn pinned_on(board: &Board, side: Color, square: usize, direction: usize, snipers: u128) -> u128
     requires direction { direction < 8 }
     requires square { square < 81 }
     requires snipers { (b : ℕ) → b < 81 → has_bit snipers b ≡ is_sniper board.now (opponent_of side) square b }
     ensures fits { result < 2 ^ 81 }
     ensures all { (n a : ℕ) → n < 81 → a < 81 → is_pinned_by board.now side square (direction_at direction) n a ≡ true → has_bit result n ≡ true }
 {
-    if ray(direction, square) & snipers == 0 {
-        return 0;
-    }
     let blockers = slide_squares(board, direction, square) & board.own(side);
     if blockers == 0 {
         return 0;
@@ -163,30 +182,88 @@ fn pinned_along(board: &Board, side: Color, square: usize, direction: usize, sni
     blockers
 }
 
-/// The squares of pieces of the side that stand alone between the square and one of its snipers.
-fn pinned_to(board: &Board, side: Color, square: usize, snipers: u128) -> u128
+/// The same, or `None` where one of the snipers slides to the square against the direction.
+#[inline(never)]
+fn pinned_apart(
+    board: &Board,
+    side: Color,
+    square: usize,
+    direction: usize,
+    snipers: u128,
+) -> Option<u128>
+    requires direction { direction < 8 }
     requires square { square < 81 }
     requires snipers { (b : ℕ) → b < 81 → has_bit snipers b ≡ is_sniper board.now (opponent_of side) square b }
-    ensures fits { result < 2 ^ 81 }
-    ensures all { (d n a : ℕ) → d < 8 → n < 81 → a < 81 → is_pinned_by board.now side square (direction_at d) n a ≡ true → has_bit result n ≡ true }
+    ensures shot { IsNone result → is_shot_along board.now (opponent_of side) square direction ≡ true }
+    ensures open { IfSome result (λ m. is_shot_along board.now (opponent_of side) square direction ≡ false) }
+    ensures fits { IfSome result (λ m. m < 2 ^ 81) }
+    ensures all { IfSome result (λ m. (n a : ℕ) → n < 81 → a < 81 → is_pinned_by board.now side square (direction_at direction) n a ≡ true → has_bit m n ≡ true) }
+{
+    if is_shot_on(board, side.opponent(), square, direction, snipers) {
+        return None;
+    }
+    Some(pinned_on(board, side, square, direction, snipers))
+}
+
+/// The same, told at once where there is no sniper in the direction.
+#[tactic(auto, using(crate::proofs::Shots::shooting))]
+fn pinned_along(
+    board: &Board,
+    side: Color,
+    square: usize,
+    direction: usize,
+    snipers: u128,
+) -> Option<u128>
+    requires direction { direction < 8 }
+    requires square { square < 81 }
+    requires snipers { (b : ℕ) → b < 81 → has_bit snipers b ≡ is_sniper board.now (opponent_of side) square b }
+    ensures shot { IsNone result → is_shot_along board.now (opponent_of side) square direction ≡ true }
+    ensures open { IfSome result (λ m. is_shot_along board.now (opponent_of side) square direction ≡ false) }
+    ensures fits { IfSome result (λ m. m < 2 ^ 81) }
+    ensures all { IfSome result (λ m. (n a : ℕ) → n < 81 → a < 81 → is_pinned_by board.now side square (direction_at direction) n a ≡ true → has_bit m n ≡ true) }
+{
+    if ray(direction, square) & snipers == 0 {
+        return Some(0);
+    }
+    pinned_apart(board, side, square, direction, snipers)
+}
+
+/// The squares of pieces of the side that stand alone between the square and one of its snipers, or
+/// `None` where one of those slides to the square.
+fn pinned_to(board: &Board, side: Color, square: usize, snipers: u128) -> Option<u128>
+    requires square { square < 81 }
+    requires snipers { (b : ℕ) → b < 81 → has_bit snipers b ≡ is_sniper board.now (opponent_of side) square b }
+    ensures shot { IsNone result → some_below 8 (is_shot_along board.now (opponent_of side) square) ≡ true }
+    ensures open { IfSome result (λ m. some_below 8 (is_shot_along board.now (opponent_of side) square) ≡ false) }
+    ensures fits { IfSome result (λ m. m < 2 ^ 81) }
+    ensures all { IfSome result (λ m. (d n a : ℕ) → d < 8 → n < 81 → a < 81 → is_pinned_by board.now side square (direction_at d) n a ≡ true → has_bit m n ≡ true) }
 {
     let mut pinned = 0;
     for direction in 0..8 {
-        pinned |= pinned_along(board, side, square, direction, snipers);
+        match pinned_along(board, side, square, direction, snipers) {
+            None => return None,
+            Some(more) => pinned |= more,
+        }
     }
-    pinned
+    Some(pinned)
 }
 
-/// The same of the snipers of the square.
-#[tactic(auto, using(crate::proofs::Pins::unpinned))]
-fn pinned_pieces(board: &Board, side: Color, square: usize) -> u128
+/// The same of the snipers of the square, or `None` where the square is attacked.
+#[tactic(auto, using(crate::proofs::Shots::attacking, crate::proofs::Pins::unpinned))]
+fn pinned_pieces(board: &Board, side: Color, square: usize) -> Option<u128>
     requires square { square < 81 }
-    ensures fits { result < 2 ^ 81 }
-    ensures all { (d n a : ℕ) → d < 8 → n < 81 → a < 81 → is_pinned_by board.now side square (direction_at d) n a ≡ true → has_bit result n ≡ true }
+    ensures attacked { IsNone result → is_attacked board.now (opponent_of side) square ≡ true }
+    ensures safe { IfSome result (λ m. is_attacked board.now (opponent_of side) square ≡ false) }
+    ensures fits { IfSome result (λ m. m < 2 ^ 81) }
+    ensures all { IfSome result (λ m. (d n a : ℕ) → d < 8 → n < 81 → a < 81 → is_pinned_by board.now side square (direction_at d) n a ≡ true → has_bit m n ≡ true) }
 {
-    let snipers = sniper_squares(board, side.opponent(), square);
+    let by = side.opponent();
+    if is_stepped_on(board, by, square) {
+        return None;
+    }
+    let snipers = sniper_squares(board, by, square);
     if snipers == 0 {
-        return 0;
+        return Some(0);
     }
     pinned_to(board, side, square, snipers)
 }
@@ -260,20 +337,25 @@ impl Board {
         found
     }
 
-    /// The squares of pieces of the side that may be pinned: where there is no check, there is none
-    /// either once a piece of the side on any other square is lifted off.
-    #[tactic(auto, using(crate::proofs::Pins::pins))]
-    pub fn pinned(&self, side: Color) -> u128
-        ensures fits { result < 2 ^ 81 }
-        ensures free { in_check self.now side ≡ false → (n : ℕ) → n < 81 → has_bit result n ≡ false → is_piece_of side (piece_at self.now n) ≡ true → in_check (slice_set self.now n None) side ≡ false }
+    /// The squares of pieces of the side that may be pinned: once a piece of the side on any other
+    /// square is lifted off, there is still no check. `None` where there is one already.
+    #[tactic(auto, using(crate::proofs::SeenLaws::open_kings, crate::proofs::Pins::pins))]
+    pub fn pinned(&self, side: Color) -> Option<u128>
+        ensures checked { IsNone result → in_check self.now side ≡ true }
+        ensures unchecked { IfSome result (λ m. in_check self.now side ≡ false) }
+        ensures fits { IfSome result (λ m. m < 2 ^ 81) }
+        ensures free { IfSome result (λ m. (n : ℕ) → n < 81 → has_bit m n ≡ false → is_piece_of side (piece_at self.now n) ≡ true → in_check (slice_set self.now n None) side ≡ false) }
     {
         let mut left = self.kings(side);
         let mut found = 0;
         while left != 0 {
             let king = lowest(left);
-            found |= pinned_pieces(self, side, king);
+            match pinned_pieces(self, side, king) {
+                None => return None,
+                Some(more) => found |= more,
+            }
             left = without_lowest(left, king);
         }
-        found
+        Some(found)
     }
 }

@@ -130,13 +130,13 @@ filled cells side to v len ht own plain safe =
 
 -- the kings, and pieces without which there might be one
 pub guards_calm : (p : Shogi) (kings pinned : ℕ) → in_check p.cells p.side ≡ false → kings < 2 ^ 81 → pinned < 2 ^ 81 → ((n : ℕ) → n < 81 → has_bit kings n ≡ is_king p.side (piece_at p.cells n))
-    → (in_check p.cells p.side ≡ false → (n : ℕ) → n < 81 → has_bit pinned n ≡ false → is_piece_of p.side (piece_at p.cells n) ≡ true → in_check (set p.cells n None) p.side ≡ false)
+    → ((n : ℕ) → n < 81 → has_bit pinned n ≡ false → is_piece_of p.side (piece_at p.cells n) ≡ true → in_check (set p.cells n None) p.side ≡ false)
     → Guards p false (bit_or kings pinned)
 guards_calm p kings pinned safe low fits k free = record {
   check = sym safe;
   kings = λ n h out. sym (k n h) ∙ (apart n out).0;
   lines = λ c. absurd (cc);
-  free = λ c n h out own. free safe n h (apart n out).1 own;
+  free = λ c n h out own. free n h (apart n out).1 own;
   fits = or_lt 81 kings pinned low fits;
 }
   where

@@ -15,6 +15,7 @@ pub mod RunLaws
 pub mod ZoneLaws
 pub mod EndLaws
 pub mod SweepLaws
+pub mod TouchLaws
 pub mod TallyLaws
 pub mod DropChecks
 pub mod ExistenceLaws

@@ -1,26 +1,28 @@
 -- Ways through the legal moves of a sort.
-use Rattle.std.proofs.Common.{◌≡◌, ◌≢◌, ℕ, ◌+◌, ◌-◌, ◌*◌, ◌/◌, ◌%◌, ◌^◌, ◌<◌, ◌≤◌, ◌⊎◌, Bool, true, false, not, Some, [], ◌∷◌, refl, sym, ap, ◌∙◌, arith, inl, inr, subst, bit_or}
-use Rattle.std.specs.Prelude.{◌&&◌, ◌==◌}
-use Rattle.std.proofs.lemmas.Bool.{cases_eq, ne_eqb, eq-eqb, and_parts, both_ways, or_left, or_right, or_parts, or_cases, false_from_ne_true}
+use Rattle.std.proofs.Common.{◌≡◌, ◌≢◌, ℕ, ◌+◌, ◌-◌, ◌*◌, ◌/◌, ◌%◌, ◌^◌, ◌<◌, ◌≤◌, ◌⊎◌, Bool, true, false, not, Some, [], bit_and, ◌∷◌, refl, sym, ap, ◌∙◌, arith, inl, inr, subst, bit_or}
+use Rattle.std.specs.Prelude.{◌&&◌, ◌||◌, ◌==◌}
+use Rattle.std.proofs.lemmas.Bool.{cases_eq, ne_eqb, eq-eqb, and_parts, both_ways, and_from, cases_lt, or_left, or_right, or_parts, or_cases, false_from_ne_true, true_from_ne_false}
 use Rattle.shogi_core.specs.declared.moves.TheConstants.{MOVE_CODE_COUNT, FIRST_DROP, SQUARE_CODES}
 use Rattle.shogi_core.specs.declared.moves.Move.{Move}
 use Rattle.shogi_core.specs.declared.moves.Move.TheVariants.{Board, Drop}
 use Rattle.shogi_core.specs.declared.piece.Kind.{Kind}
+use Rattle.shogi_core.specs.Below.{some_below}
 use Rattle.shogi_core.specs.Bits.{has_bit}
 use Rattle.shogi_core.specs.Cell.{is_piece_of}
 use Rattle.shogi_core.specs.Codes.{move_of, code_of}
 use Rattle.shogi_core.specs.Movement.{piece_at}
 use Rattle.shogi_core.specs.Pieces.{kind_number}
 use Rattle.shogi_core.specs.Position.{Shogi}
-use Rattle.shogi_core.proofs.BitLaws.{has_bit-or, has_bit-none}
+use Rattle.shogi_core.proofs.BitLaws.{has_bit-or, has_bit-and, has_bit-none}
+use Rattle.shogi_core.proofs.Below.{some_below_at, some_below_no}
+use Rattle.shogi_core.proofs.LineBits.{has_bit-not, and_fits}
 use Rattle.shogi_core.proofs.CodesBack.{move_of-board, move_of-drop}
 use Rattle.shogi_core.proofs.Faults.{number_below}
 use Rattle.shogi_moves.specs.Captures.{captures, is_asked, is_wanted, HasNoneWanted}
 use Rattle.shogi_moves.specs.Legal.{is_legal}
-use Rattle.shogi_moves.specs.Sweeps.{wanted_from, Keeps, KeepsBoard, KeepsDrop}
+use Rattle.shogi_moves.specs.Sweeps.{wanted_from, Keeps, KeepsBoard, KeepsDrop, HasWantedOn}
 use Rattle.shogi_moves.proofs.CaptureLaws.{none_safe, none_square, none_drop, none_join, wanted_jumps, wanted_found, wanted_end}
 use Rattle.shogi_moves.proofs.EndLaws.{wanted_move}
-use Rattle.shogi_moves.proofs.RunLaws.{run_squares}
 use Rattle.shogi_moves.proofs.ZoneLaws.{more_fits}
 
 -- ---- no piece of the side stands on the square
@@ -189,23 +191,70 @@ module _ (p : Shogi) (capture : Bool) (from code plain promoting to : ℕ) (k : 
 
 -- ---- from one piece to the next
 
--- no piece of the side stands on the squares between
-pub none_between : (p : Shogi) (capture : Bool) (own from next : ℕ) → next ≤ 81 → ((n : ℕ) → n < 81 → has_bit own n ≡ is_piece_of p.side (piece_at p.cells n)) → ((n : ℕ) → from ≤ n → n < next → has_bit own n ≡ false) → HasNoneWanted p capture (from * SQUARE_CODES) (next * SQUARE_CODES)
-none_between p capture own from next h bits none = none_safe p capture (from * SQUARE_CODES) (next * SQUARE_CODES) (run_squares p own from next (from * SQUARE_CODES) (omega arith) h bits none)
+-- the one bit that is set in a mask of one
+one_set : (m n i : ℕ) → ((j : ℕ) → has_bit m j ≡ (has_bit 0 j || (j == n))) → i ≡ n → has_bit m i ≡ true
+one_set m n i bits same = bits i ∙ or_right (has_bit 0 i) (i == n) (eq-eqb i n same)
+
+one_clear : (m n i : ℕ) → ((j : ℕ) → has_bit m j ≡ (has_bit 0 j || (j == n))) → i ≢ n → has_bit m i ≡ false
+one_clear m n i bits other = bits i ∙ (rw (has_bit-none i, ne_eqb i n other) refl)
+
+pub bits_above-above : (mask one low n i : ℕ) → ((j : ℕ) → has_bit one j ≡ (has_bit 0 j || (j == n))) → ((j : ℕ) → j < 81 → has_bit low j ≡ not (some_below j (has_bit one))) → low < 2 ^ 128 → i < 81 → n < i
+    → has_bit (bit_and mask (2 ^ 128 - 1 - low)) i ≡ has_bit mask i
+bits_above-above mask one low n i ones lows fits h up =
+    has_bit-and mask (2 ^ 128 - 1 - low) i ∙ (rw (has_bit-not low i fits (omega arith), lows i h, some_below_at i (has_bit one) n up (one_set one n n ones refl)) (kept (has_bit mask i)))
+  where
+    kept : (a : Bool) → (a && not (not true)) ≡ a
+    kept true = refl
+    kept false = refl
+
+pub bits_above-below : (mask one low n i : ℕ) → ((j : ℕ) → has_bit one j ≡ (has_bit 0 j || (j == n))) → ((j : ℕ) → j < 81 → has_bit low j ≡ not (some_below j (has_bit one))) → low < 2 ^ 128 → i < 81 → i ≤ n
+    → has_bit (bit_and mask (2 ^ 128 - 1 - low)) i ≡ false
+bits_above-below mask one low n i ones lows fits h down =
+    has_bit-and mask (2 ^ 128 - 1 - low) i ∙ (rw (has_bit-not low i fits (omega arith), lows i h, some_below_no i (has_bit one) (λ j l. one_clear one n j ones (omega arith))) (gone (has_bit mask i)))
+  where
+    gone : (a : Bool) → (a && not (not false)) ≡ false
+    gone true = refl
+    gone false = refl
+
+-- the present piece has no move left, nor has one off the mask
+pub on_first : (p : Shogi) (capture : Bool) (movers left from code plain promoting : ℕ) → from < 81 → KeepsBoard p capture from code plain promoting → bit_or plain promoting ≡ 0
+    → ((n : ℕ) → n < 81 → has_bit movers n ≡ false → HasNoneWanted p capture (n * SQUARE_CODES) (n * SQUARE_CODES + SQUARE_CODES)) → ((n : ℕ) → n < 81 → from < n → has_bit left n ≡ has_bit movers n) → HasWantedOn p capture code left
+on_first p capture movers left from code plain promoting hf k none off above = record {
+  on = λ c low high wanted. elim (cases_lt from (c / SQUARE_CODES)) [
+    | inl up ↦ (let h : c / SQUARE_CODES < 81 = omega arith in
+        above (c / SQUARE_CODES) h up ∙ true_from_ne_false (has_bit movers (c / SQUARE_CODES)) (λ e.
+        both_ways (is_wanted p capture c) ((off (c / SQUARE_CODES) h e).none c (omega arith) (omega arith)) wanted))
+    | inr down ↦ absurd (both_ways (is_wanted p capture c) ((none_left p capture from code plain promoting k none).none c low (omega arith)) wanted)
+  ];
+}
+
+pub mine_first : (p : Shogi) (movers left from : ℕ) → ((n : ℕ) → n < 81 → has_bit movers n ≡ true → is_piece_of p.side (piece_at p.cells n) ≡ true) → ((n : ℕ) → n < 81 → from < n → has_bit left n ≡ has_bit movers n) → ((n : ℕ) → n < 81 → n ≤ from → has_bit left n ≡ false)
+    → (n : ℕ) → n < 81 → has_bit left n ≡ true → (from < n) × (is_piece_of p.side (piece_at p.cells n) ≡ true)
+mine_first p movers left from own above below n h set = elim (cases_lt from n) [
+  | inl up ↦ (up, own n h (sym (above n h up) ∙ set))
+  | inr down ↦ absurd (both_ways (has_bit left n) (below n h down) set)
+]
 
 -- one more piece that has none
-pub none_more : (p : Shogi) (capture : Bool) (own code from next plain promoting : ℕ) → HasNoneWanted p capture code (from * SQUARE_CODES) → KeepsBoard p capture from (from * SQUARE_CODES) plain promoting → bit_or plain promoting ≡ 0
-    → next ≤ 81 → ((n : ℕ) → n < 81 → has_bit own n ≡ is_piece_of p.side (piece_at p.cells n)) → ((n : ℕ) → from + 1 ≤ n → n < next → has_bit own n ≡ false) → HasNoneWanted p capture code (next * SQUARE_CODES)
-none_more p capture own code from next plain promoting before k none h bits free =
-    none_join p capture code (from * SQUARE_CODES) (next * SQUARE_CODES) before
-    (none_join p capture (from * SQUARE_CODES) (from * SQUARE_CODES + SQUARE_CODES) (next * SQUARE_CODES) (none_left p capture from (from * SQUARE_CODES) plain promoting k none)
-    (subst (λ (x : ℕ). HasNoneWanted p capture x (next * SQUARE_CODES)) (omega arith) (none_between p capture own (from + 1) next h bits free)))
+pub on_less : (p : Shogi) (capture : Bool) (left less from code plain promoting : ℕ) → HasWantedOn p capture code left → KeepsBoard p capture from (from * SQUARE_CODES) plain promoting → bit_or plain promoting ≡ 0
+    → ((i : ℕ) → has_bit less i ≡ (has_bit left i && not (i == from))) → HasWantedOn p capture code less
+on_less p capture left less from code plain promoting w k none bits = record {
+  on = λ c low high wanted. elim (cases_eq (c / SQUARE_CODES) from) [
+    | inl same ↦ absurd (both_ways (is_wanted p capture c) ((none_left p capture from (from * SQUARE_CODES) plain promoting k none).none c (omega arith) (omega arith)) wanted)
+    | inr other ↦ bits (c / SQUARE_CODES) ∙ and_from (has_bit left (c / SQUARE_CODES)) (not (c / SQUARE_CODES == from)) (w.on c low high wanted) (ap not (ne_eqb (c / SQUARE_CODES) from other))
+  ];
+}
 
-pub none_first : (p : Shogi) (capture : Bool) (own code from next plain promoting : ℕ) → KeepsBoard p capture from code plain promoting → bit_or plain promoting ≡ 0
-    → next ≤ 81 → ((n : ℕ) → n < 81 → has_bit own n ≡ is_piece_of p.side (piece_at p.cells n)) → ((n : ℕ) → from + 1 ≤ n → n < next → has_bit own n ≡ false) → HasNoneWanted p capture code (next * SQUARE_CODES)
-none_first p capture own code from next plain promoting k none h bits free =
-    none_join p capture code (from * SQUARE_CODES + SQUARE_CODES) (next * SQUARE_CODES) (none_left p capture from code plain promoting k none)
-    (subst (λ (x : ℕ). HasNoneWanted p capture x (next * SQUARE_CODES)) (omega arith) (none_between p capture own (from + 1) next h bits free))
+-- up to the next piece, and to the end of the board
+pub on_none : (p : Shogi) (capture : Bool) (left next code : ℕ) → HasWantedOn p capture code left → next < 81 → ((n : ℕ) → has_bit left n ≡ true → next ≤ n) → HasNoneWanted p capture code (next * SQUARE_CODES)
+on_none p capture left next code w h least = record {
+  none = λ c low high. false_from_ne_true (is_wanted p capture c) (λ wanted. (let le : next ≤ c / SQUARE_CODES = least (c / SQUARE_CODES) (w.on c low (omega arith) wanted) in omega arith));
+}
+
+pub on_end : (p : Shogi) (capture : Bool) (left code : ℕ) → HasWantedOn p capture code left → left ≡ 0 → HasNoneWanted p capture code FIRST_DROP
+on_end p capture left code w none = record {
+  none = λ c low high. false_from_ne_true (is_wanted p capture c) (λ wanted. both_ways (has_bit left (c / SQUARE_CODES)) (ap (λ m. has_bit m (c / SQUARE_CODES)) none ∙ has_bit-none (c / SQUARE_CODES)) (w.on c low high wanted));
+}
 
 -- ---- drops
 
@@ -267,4 +316,4 @@ module _ (p : Shogi) (kind : Kind) (code ends to : ℕ) (k : KeepsDrop p kind co
 pub no_captures : (p : Shogi) → wanted_from p true FIRST_DROP ≡ []
 no_captures p = wanted_jumps p true FIRST_DROP MOVE_CODE_COUNT (omega arith) (omega arith) (none_drop p true FIRST_DROP MOVE_CODE_COUNT (omega arith) (omega arith) refl) ∙ wanted_end p true MOVE_CODE_COUNT (omega arith)
 
-pub ruleset sweeping = (keeps_square, more_fits, wanted_jumps)
+pub ruleset sweeping = (keeps_square, more_fits, wanted_jumps, and_fits)

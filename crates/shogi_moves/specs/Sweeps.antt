@@ -1,5 +1,5 @@
 -- What is kept on the way through the moves of a sort: the ends still to come of the present piece.
-use Rattle.std.specs.Prelude.{ℕ, ◌≡◌, ◌≤◌, ◌<◌, ◌+◌, ◌*◌, ◌^◌, Bool, true, false, List, filter}
+use Rattle.std.specs.Prelude.{ℕ, ◌≡◌, ◌≤◌, ◌<◌, ◌+◌, ◌*◌, ◌/◌, ◌^◌, Bool, true, false, List, filter}
 use Rattle.shogi_core.specs.declared.moves.TheConstants.{FIRST_DROP, SQUARE_CODES}
 use Rattle.shogi_core.specs.declared.moves.Move.TheVariants.{Board, Drop}
 use Rattle.shogi_core.specs.declared.piece.Kind.{Kind}
@@ -35,6 +35,10 @@ pub record KeepsDrop (p : Shogi) (kind : Kind) (code ends : ℕ) : Type 0 where
   pub low : FIRST_DROP + kind_number kind * 81 ≤ code
   pub high : code ≤ FIRST_DROP + 81 + kind_number kind * 81
   pub drops : Keeps (is_wanted p false) (λ n. code_of (Drop kind n)) code ends
+
+-- the moves of the sort from a code on are of pieces on squares of the mask, or drops
+pub record HasWantedOn (p : Shogi) (capture : Bool) (code mask : ℕ) : Type 0 where
+  pub on : (c : ℕ) → code ≤ c → c < FIRST_DROP → is_wanted p capture c ≡ true → has_bit mask (c / SQUARE_CODES) ≡ true
 
 -- the ends still to come of the present piece or kind of a sweep, with what is known of the position
 pub record IsBoardSweep (p : Shogi) (capture : Bool) (s : BoardSweep) : Type 0 where

@@ -28,7 +28,7 @@ pub struct Ends {
 }
 
 /// Where captures end, or the other moves.
-fn ends_of_sort(p: &Position, capture: bool) -> u128
+pub fn ends_of_sort(p: &Position, capture: bool) -> u128
     ensures bits { (n : ℕ) → n < 81 → has_bit result n ≡ is_end capture p.now.side (piece_at p.now.cells n) }
     ensures fits { result < 2 ^ 81 }
 {
@@ -152,7 +152,7 @@ fn safe_ends(p: &Position, guard: &Guard, from: Square, ends: u128) -> u128
 /// reaches; only the clauses need to know which sort that is.
 #[inline(never)]
 #[tactic(auto, using(crate::proofs::EndLaws::ending))]
-fn ends_among(p: &Position, guard: &Guard, capture: bool, from: Square, among: u128) -> Ends
+pub fn ends_among(p: &Position, guard: &Guard, capture: bool, from: Square, among: u128) -> Ends
     requires guard { Guards p.now guard.now.checked guard.now.exposed }
     requires own { is_piece_of p.now.side (piece_at p.now.cells from) ≡ true }
     requires among { (n : ℕ) → n < 81 → has_bit among n ≡ (reaches p.now.cells from n && is_end capture p.now.side (piece_at p.now.cells n)) }

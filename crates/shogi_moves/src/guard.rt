@@ -1,9 +1,11 @@
 //! What is kept of a position, so that most of its moves need no look at checks.
 
-ghost use Rattle.std.specs.Prelude.{◌≡◌, ◌<◌, ◌^◌, ◌&&◌, ℕ, not, true, false};
+ghost use Rattle.std.specs.Prelude.{◌≡◌, ◌<◌, ◌^◌, ◌&&◌, ℕ, not, true, false, None, slice_set};
 ghost use Rattle.shogi_core.specs.Attack.{in_check};
 ghost use Rattle.shogi_core.specs.Lines.{are_lined};
 ghost use Rattle.shogi_core.specs.Bits.{has_bit};
+ghost use Rattle.shogi_core.specs.Cell.{is_piece_of};
+ghost use Rattle.shogi_core.specs.Movement.{piece_at};
 ghost use Rattle.shogi_moves.specs.Guards.{Guards, Exposes};
 
 use shogi_core::bits::{ALL_SQUARES, has, lowest, without_lowest};
@@ -49,14 +51,15 @@ pub fn full_guard(p: &Position, checked: bool) -> Guard
 /// What is kept where there is no check: of the pieces of the side to move, the king and those that
 /// may be pinned.
 #[tactic(auto, using(crate::proofs::GuardLaws::calming))]
-fn calm_guard(p: &Position) -> Guard
-    requires { in_check p.now.cells p.now.side ≡ false }
+fn calm_guard(p: &Position, pinned: u128) -> Guard
+    requires safe { in_check p.now.cells p.now.side ≡ false }
+    requires fits { pinned < 2 ^ 81 }
+    requires free { (n : ℕ) → n < 81 → has_bit pinned n ≡ false → is_piece_of p.now.side (piece_at p.now.cells n) ≡ true → in_check (slice_set p.now.cells n None) p.now.side ≡ false }
     ensures { Guards p.now result.checked result.exposed }
 {
-    let side = p.side();
     Guard {
         checked: false,
-        exposed: p.kings(side) | p.as_board().pinned(side),
+        exposed: p.kings(p.side()) | pinned,
     }
 }
 
@@ -64,10 +67,9 @@ fn calm_guard(p: &Position) -> Guard
 pub fn guard_of(p: &Position) -> Guard
     ensures { Guards p.now result.checked result.exposed }
 {
-    if p.in_check(p.side()) {
-        full_guard(p, true)
-    } else {
-        calm_guard(p)
+    match p.as_board().pinned(p.side()) {
+        None => full_guard(p, true),
+        Some(pinned) => calm_guard(p, pinned),
     }
 }
 

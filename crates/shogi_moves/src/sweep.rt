@@ -1,14 +1,16 @@
 //! Ways through the legal moves of a sort, which keep the ends of the present piece.
 
 ghost use Rattle.std.specs.Prelude.{◌≡◌, ◌≢◌, ◌<◌, ◌≤◌, ◌+◌, ◌*◌, ◌^◌, ◌∷◌, [], ℕ, true, false, IfSome, IsNone, MatchOption, bit_or};
-ghost use Rattle.shogi_core.specs.declared.moves.TheConstants.{FIRST_DROP};
+ghost use Rattle.shogi_core.specs.declared.moves.TheConstants.{FIRST_DROP, SQUARE_CODES};
 ghost use Rattle.shogi_core.specs.declared.moves.Move.TheVariants as moves;
 ghost use Rattle.shogi_core.specs.Bits.{has_bit};
 ghost use Rattle.shogi_core.specs.Cell.{is_piece_of};
 ghost use Rattle.shogi_core.specs.Codes.{code_of};
+ghost use Rattle.shogi_core.specs.Lines.{is_near};
 ghost use Rattle.shogi_core.specs.Movement.{piece_at};
 ghost use Rattle.shogi_core.specs.Pieces.{kind_number};
 ghost use Rattle.shogi_moves.specs.Captures.{is_wanted, HasNoneWanted};
+ghost use Rattle.shogi_moves.specs.Ends.{is_end};
 ghost use Rattle.shogi_moves.specs.Guards.{Guards};
 ghost use Rattle.shogi_moves.specs.After.{after};
 ghost use Rattle.shogi_moves.specs.Legal.{is_legal};
@@ -16,11 +18,11 @@ ghost use Rattle.shogi_moves.specs.LegalMoves.{legal_codes};
 ghost use Rattle.shogi_moves.specs.Replies.{IsReplies};
 ghost use Rattle.shogi_moves.specs.Sweeps.{wanted_from, IsBoardSweep, IsDropSweep};
 
-use crate::ends::{Ends, board_ends, drop_ends};
+use crate::ends::{Ends, board_ends, drop_ends, ends_among, ends_of_sort};
 use crate::guard::{Guard, guard_of};
 use crate::next::code_above;
 use crate::replies::Replies;
-use shogi_core::bits::{has, lowest, next_of, without_lowest};
+use shogi_core::bits::{has, lowest, up_to_lowest, with, without_lowest};
 use shogi_core::{FIRST_DROP, Kind, Move, Position, SQUARE_CODES, Square, is_piece_of};
 
 /// What is still to come of the board moves of a sort, in the order of codes: the legal ends of
@@ -59,6 +61,46 @@ fn ends_on(p: &Position, guard: &Guard, capture: bool, from: Square) -> Ends
             plain: 0,
             promoting: 0,
         }
+    }
+}
+
+/// Those bits of the mask that are above bit n.
+fn bits_above(mask: u128, n: usize) -> u128
+    requires n { n < 81 }
+    requires fits { mask < 2 ^ 81 }
+    ensures fits { result < 2 ^ 81 }
+    ensures above { (i : ℕ) → i < 81 → n < i → has_bit result i ≡ has_bit mask i }
+    ensures below { (i : ℕ) → i < 81 → i ≤ n → has_bit result i ≡ false }
+{
+    mask & !up_to_lowest(with(0, n))
+}
+
+/// The squares from which a step or a jump may lead to one of the mask, and some others: those next
+/// to it on its file, and on the next files up to two ranks off, as if the files made one line.
+fn nearby(mask: u128) -> u128
+    requires fits { mask < 2 ^ 81 }
+    ensures { (a b : ℕ) → a < 81 → b < 81 → has_bit mask b ≡ true → is_near b a ≡ true → has_bit result a ≡ true }
+{
+    let two = mask | mask << 1;
+    let five = two | two << 2 | mask << 4;
+    mask << 1 | mask >> 1 | five << 7 | five >> 11
+}
+
+/// The pieces of the side to move that may have a move of the sort, by their squares: to capture, one
+/// that does not slide must be near what it takes.
+fn movers(p: &Position, capture: bool, sort: u128) -> u128
+    requires sort { (n : ℕ) → n < 81 → has_bit sort n ≡ is_end capture p.now.side (piece_at p.now.cells n) }
+    requires fits { sort < 2 ^ 81 }
+    ensures fits { result < 2 ^ 81 }
+    ensures own { (n : ℕ) → n < 81 → has_bit result n ≡ true → is_piece_of p.now.side (piece_at p.now.cells n) ≡ true }
+    ensures all { (n : ℕ) → n < 81 → has_bit result n ≡ false → HasNoneWanted p.now capture (n * SQUARE_CODES) (n * SQUARE_CODES + SQUARE_CODES) }
+{
+    p.validity();
+    let own = p.own(p.side());
+    if capture {
+        own & (p.as_board().sliders() | nearby(sort))
+    } else {
+        own
     }
 }
 
@@ -121,18 +163,23 @@ impl BoardSweep {
         ensures some { result ≡ true → (bit_or self.new.ends.plain self.new.ends.promoting ≢ 0) × (wanted_from p.now capture self.old.code ≡ wanted_from p.now capture self.new.code) }
         ensures end { result ≡ false → wanted_from p.now capture self.old.code ≡ wanted_from p.now capture FIRST_DROP }
     {
-        let (own, guard) = (p.own(p.side()), self.guard);
-        let mut square = next_of(own, self.from.index() + 1);
-        'squares: while square < 81 {
+        p.validity();
+        let (sort, guard) = (ends_of_sort(p, capture), self.guard);
+        let mut left = bits_above(movers(p, capture, sort), self.from.index());
+        'squares: while left != 0 {
+            let square = lowest(left);
             let from = Square::of_index(square);
-            let ends = board_ends(p, &guard, capture, from);
-            if ends.plain | ends.promoting != 0 {
-                self.from = from;
-                self.ends = ends;
-                self.code = square as u16 * SQUARE_CODES;
-                return true;
+            let among = p.targets(from) & sort;
+            if among != 0 {
+                let ends = ends_among(p, &guard, capture, from, among);
+                if ends.plain | ends.promoting != 0 {
+                    self.from = from;
+                    self.ends = ends;
+                    self.code = square as u16 * SQUARE_CODES;
+                    return true;
+                }
             }
-            square = next_of(own, square + 1);
+            left = without_lowest(left, square);
         }
         false
     }

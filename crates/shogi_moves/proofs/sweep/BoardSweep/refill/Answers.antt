@@ -1,40 +1,59 @@
-use Rattle.std.proofs.Common.{◌≡◌, ◌*◌, arith, refl}
+use Rattle.std.proofs.Common.{◌≡◌, ◌<◌, ◌*◌, ◌∙◌, true, false, refl, sym, arith}
+use Rattle.std.proofs.lemmas.Bool.{and_parts}
 use Rattle.shogi_core.specs.declared.moves.TheConstants.{FIRST_DROP, SQUARE_CODES}
+use Rattle.shogi_core.specs.Bits.{has_bit}
+use Rattle.shogi_core.specs.Cell.{is_piece_of}
+use Rattle.shogi_core.specs.Movement.{piece_at}
 use Rattle.shogi_moves.specs.Sweeps.{KeepsBoard}
 use Rattle.shogi_moves.proofs.CaptureLaws.{wanted_jumps}
-use Rattle.shogi_moves.proofs.SweepLaws.{none_first, none_more, keeps_square}
+use Rattle.shogi_moves.proofs.EndLaws.{among_bits, nowhere}
+use Rattle.shogi_moves.proofs.SweepLaws.{keeps_square, on_first, mine_first, on_less, on_none, on_end}
 use Rattle.shogi_moves.proofs.sweep.BoardSweep.refill.Goals as goal
+use Rattle.shogi_moves.proofs.sweep.BoardSweep.refill.Goals.{then-among-ne0+else-ends-ne0, else-among-ne0}
 
 pub squares-init : goal.squares-init
 squares-init c = record {
   kept = c.requires.kept;
   same = refl;
-  none = none_first c.args.p.now c.args.capture c.own-own.result c.args.self.now.code c.args.self.now.from c.next_of-square.result c.args.self.now.ends.plain c.args.self.now.ends.promoting c.requires.kept.ends c.requires.none (omega arith)
-      (rw c.side.ensures at c.own-own.ensures.bits) (rw c.index.ensures.index at c.next_of-square.ensures.none);
-  within = omega arith;
-  mine = c.next_of-square.ensures.set;
-  past = omega (arith, c.requires.kept.ends.high);
+  wanted = on_first c.args.p.now c.args.capture c.movers.result c.bits_above-left.result c.args.self.now.from c.args.self.now.code c.args.self.now.ends.plain c.args.self.now.ends.promoting (omega (arith, c.index.ensures.range, c.index.ensures.index)) c.requires.kept.ends c.requires.none
+      c.movers.ensures.all (rw c.index.ensures.index at c.bits_above-left.ensures.above);
+  fits = c.bits_above-left.ensures.fits;
+  mine = mine_first c.args.p.now c.movers.result c.bits_above-left.result c.args.self.now.from c.movers.ensures.own (rw c.index.ensures.index at c.bits_above-left.ensures.above) (rw c.index.ensures.index at c.bits_above-left.ensures.below);
 }
 
+pub ends_among-ends-requires-clause-among : goal.ends_among-ends-requires-clause-among
+ends_among-ends-requires-clause-among c = λ n h. among_bits c.targets.result c.ends_of_sort-sort.result n _ _ (c.targets.ensures.bits n h) (c.ends_of_sort-sort.ensures.bits n h)
+
 pub returns-then-ends-ne0-clause-some : goal.returns-then-ends-ne0-clause-some
-returns-then-ends-ne0-clause-some c = λ _. (c.if-ends-ne0.true, wanted_jumps c.args.p.now c.args.capture c.args.self.now.code (c.squares.square * SQUARE_CODES) (omega (arith, c.squares.invariant.past)) (omega arith) c.squares.invariant.none)
+returns-then-ends-ne0-clause-some c = λ _. (
+  c.if-ends-ne0.true,
+  let up : c.args.self.now.from < c.lowest-square.result = (c.squares.invariant.mine c.lowest-square.result c.lowest-square.ensures.range c.lowest-square.ensures.set).0 in
+      wanted_jumps c.args.p.now c.args.capture c.args.self.now.code (c.lowest-square.result * SQUARE_CODES) (omega (arith, up, c.requires.kept.ends.high)) (omega arith)
+      (on_none c.args.p.now c.args.capture c.squares.left c.lowest-square.result c.args.self.now.code c.squares.invariant.wanted c.lowest-square.ensures.range c.lowest-square.ensures.least),
+)
 
 pub squares-preserved : goal.squares-preserved
-squares-preserved c =
-    let here : KeepsBoard c.args.p.now c.args.capture c.squares.square (c.squares.square * SQUARE_CODES) c.board_ends-ends.result.plain c.board_ends-ends.result.promoting =
-    keeps_square c.args.p.now c.args.capture c.squares.square c.board_ends-ends.result.plain c.board_ends-ends.result.promoting c.board_ends-ends.ensures.plain_fits c.board_ends-ends.ensures.promoting_fits
-    (rw c.of_index-from.ensures at c.board_ends-ends.ensures.plain) (rw c.of_index-from.ensures at c.board_ends-ends.ensures.promoting) in
-    record {
-      kept = c.squares.invariant.kept;
-      same = c.squares.invariant.same;
-      none = none_more c.args.p.now c.args.capture c.own-own.result c.args.self.now.code c.squares.square c.next_of-square-in-squares.result c.board_ends-ends.result.plain c.board_ends-ends.result.promoting c.squares.invariant.none here (omega arith) (omega arith)
-          (rw c.side.ensures at c.own-own.ensures.bits) c.next_of-square-in-squares.ensures.none;
-      within = omega arith;
-      mine = c.next_of-square-in-squares.ensures.set;
-      past = omega (arith, c.squares.invariant.past);
-    }
+squares-preserved c = record {
+  kept = c.squares.invariant.kept;
+  same = c.squares.invariant.same;
+  wanted = elim c.if-among-ne0.branch [
+    | then-among-ne0+else-ends-ne0 w ↦ (
+        let here : KeepsBoard c.args.p.now c.args.capture c.lowest-square.result (c.lowest-square.result * SQUARE_CODES) w.ends_among-ends.result.plain w.ends_among-ends.result.promoting =
+        keeps_square c.args.p.now c.args.capture c.lowest-square.result w.ends_among-ends.result.plain w.ends_among-ends.result.promoting w.ends_among-ends.ensures.plain_fits w.ends_among-ends.ensures.promoting_fits
+        (rw c.of_index-from.ensures at w.ends_among-ends.ensures.plain) (rw c.of_index-from.ensures at w.ends_among-ends.ensures.promoting) in
+        on_less c.args.p.now c.args.capture c.squares.left c.without_lowest-left.result c.lowest-square.result c.args.self.now.code _ _ c.squares.invariant.wanted here (omega (arith, w.if-ends-ne0.false)) c.without_lowest-left.ensures.bits)
+    | else-among-ne0 w ↦ (
+        let own : is_piece_of c.args.p.now.side (piece_at c.args.p.now.cells c.lowest-square.result) ≡ true = (c.squares.invariant.mine c.lowest-square.result c.lowest-square.ensures.range c.lowest-square.ensures.set).1 in
+        let here : KeepsBoard c.args.p.now c.args.capture c.lowest-square.result (c.lowest-square.result * SQUARE_CODES) 0 0 =
+        keeps_square c.args.p.now c.args.capture c.lowest-square.result 0 0 (omega arith) (omega arith)
+        (λ n h. nowhere c.args.p.now c.args.capture false c.lowest-square.result n c.targets.result c.ends_of_sort-sort.result c.validity.ensures.cells_fit c.lowest-square.ensures.range h own ((rw c.of_index-from.ensures at c.targets.ensures.bits) n h) (c.ends_of_sort-sort.ensures.bits n h) (omega (arith, w.if-among-ne0.false)))
+        (λ n h. nowhere c.args.p.now c.args.capture true c.lowest-square.result n c.targets.result c.ends_of_sort-sort.result c.validity.ensures.cells_fit c.lowest-square.ensures.range h own ((rw c.of_index-from.ensures at c.targets.ensures.bits) n h) (c.ends_of_sort-sort.ensures.bits n h) (omega (arith, w.if-among-ne0.false))) in
+        on_less c.args.p.now c.args.capture c.squares.left c.without_lowest-left.result c.lowest-square.result c.args.self.now.code 0 0 c.squares.invariant.wanted here refl c.without_lowest-left.ensures.bits)
+  ];
+  fits = omega (arith, c.without_lowest-left.ensures.less, c.squares.invariant.fits);
+  mine = λ n h set. c.squares.invariant.mine n h ((and_parts (has_bit c.squares.left n) _ (sym (c.without_lowest-left.ensures.bits n) ∙ set)).0);
+}
 
 pub returns-clause-end : goal.returns-clause-end
-returns-clause-end c = λ _. (
-    let last : c.squares.square * SQUARE_CODES ≡ FIRST_DROP = omega arith in
-    wanted_jumps c.args.p.now c.args.capture c.args.self.now.code FIRST_DROP (omega (arith, c.squares.invariant.past)) (omega arith) (rw last at c.squares.invariant.none))
+returns-clause-end c = λ _. wanted_jumps c.args.p.now c.args.capture c.args.self.now.code FIRST_DROP (omega (arith, c.requires.kept.ends.high, c.index.ensures.range, c.index.ensures.index)) (omega arith)
+    (on_end c.args.p.now c.args.capture c.squares.left c.args.self.now.code c.squares.invariant.wanted (omega (arith, c.squares-test.false)))

@@ -5,7 +5,7 @@ use Rattle.shogi_core.specs.Cell.{is_piece_of}
 use Rattle.shogi_core.specs.Movement.{piece_at, slides}
 use Rattle.shogi_core.specs.Rays.{direction_at}
 use Rattle.shogi_core.proofs.SeenLaws.{Covers}
-use Rattle.shogi_core.proofs.attack.is_shot_along.Given as goal
+use Rattle.shogi_core.proofs.attack.is_shot_on.Given as goal
 
 abbrev pub invariant-loop-left : goal.invariant-loop-left
 invariant-loop-left l = record {

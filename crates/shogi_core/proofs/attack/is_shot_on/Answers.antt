@@ -6,7 +6,7 @@ use Rattle.shogi_core.proofs.Below.{some_below_found}
 use Rattle.shogi_core.proofs.LineBits.{and_fits}
 use Rattle.shogi_core.proofs.SeenLaws.{covers_none}
 use Rattle.shogi_core.proofs.Shots.{shots_first, shots_open}
-use Rattle.shogi_core.proofs.attack.is_shot_along.Goals as goal
+use Rattle.shogi_core.proofs.attack.is_shot_on.Goals as goal
 
 pub loop-left-init : goal.loop-left-init
 loop-left-init c = record {
