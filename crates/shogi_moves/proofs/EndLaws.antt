@@ -366,26 +366,70 @@ alive from n (Some piece) = go piece.role (in_promotion_zone piece.color from ||
         live White Pawn = refl
         live White _ = refl
 
+-- the ends without and with promotion
+pub plain_apart : (ends dead n : ℕ) (cell : Option Piece) → dead < 2 ^ 81 → n < 81 → has_bit dead n ≡ is_immobile n cell → has_bit (bit_and ends (2 ^ 128 - 1 - dead)) n ≡ (has_bit ends n && not (is_immobile n cell))
+plain_apart ends dead n cell fits h d = has_bit-and ends (2 ^ 128 - 1 - dead) n ∙ (rw (has_bit-not dead n (omega arith) (omega arith), d) refl)
+
+pub promoting_apart : (ends promoting n : ℕ) (b : Bool) → has_bit promoting n ≡ b → has_bit (bit_and ends promoting) n ≡ (has_bit ends n && b)
+promoting_apart ends promoting n b d = has_bit-and ends promoting n ∙ (rw d refl)
+
+and_true : (b : Bool) → b ≡ (b && true)
+and_true true = refl
+and_true false = refl
+
+and_false : (b : Bool) → false ≡ (b && false)
+and_false true = refl
+and_false false = refl
+
+-- what never promotes goes on from everywhere
+unpromotable : (color : Color) (role : Role) (rank : ℕ) → is_promotable role ≡ false → is_immobile_role color role rank ≡ false
+unpromotable Black Pawn rank e = absurd (cc)
+unpromotable Black Lance rank e = absurd (cc)
+unpromotable Black Knight rank e = absurd (cc)
+unpromotable White Pawn rank e = absurd (cc)
+unpromotable White Lance rank e = absurd (cc)
+unpromotable White Knight rank e = absurd (cc)
+unpromotable Black _ rank e = refl
+unpromotable White _ rank e = refl
+
+pub plain_alone : (ends n : ℕ) (cell : Option Piece) (piece : Piece) → cell ≡ Some piece → is_promotable piece.role ≡ false → has_bit ends n ≡ (has_bit ends n && not (is_immobile n cell))
+plain_alone ends n cell piece stands e =
+    let goes : is_immobile n cell ≡ false = ap (is_immobile n) stands ∙ unpromotable piece.color piece.role (n % 9) e in
+    and_true (has_bit ends n) ∙ (rw goes refl)
+
+pub plain_none : (ends n : ℕ) (cell : Option Piece) → cell ≡ None → has_bit ends n ≡ (has_bit ends n && not (is_immobile n cell))
+plain_none ends n cell stands = let goes : is_immobile n cell ≡ false = ap (is_immobile n) stands in and_true (has_bit ends n) ∙ (rw goes refl)
+
+pub promoting_none : (ends from n : ℕ) (cell : Option Piece) → cell ≡ None → has_bit 0 n ≡ (has_bit ends n && may_promote cell from n)
+promoting_none ends from n cell stands = let never : may_promote cell from n ≡ false = ap (λ (x : Option Piece). may_promote x from n) stands in has_bit-none n ∙ (and_false (has_bit ends n) ∙ (rw never refl))
+
+pub promoting_never : (ends from n : ℕ) (cell : Option Piece) (piece : Piece) → cell ≡ Some piece → is_promotable piece.role ≡ false → has_bit 0 n ≡ (has_bit ends n && may_promote cell from n)
+promoting_never ends from n cell piece stands e =
+    let never : may_promote cell from n ≡ false = ap (λ (x : Option Piece). may_promote x from n) stands ∙ ap (λ b. b && (in_promotion_zone piece.color from || in_promotion_zone piece.color n)) e in
+    has_bit-none n ∙ (and_false (has_bit ends n) ∙ (rw never refl))
+
+pub ruleset promoting = (and_fits, plain_apart, promoting_apart, plain_alone, plain_none, promoting_none, promoting_never)
+
 -- the squares of a sort that a piece reaches
 pub among_bits : (targets sort n : ℕ) (r e : Bool) → has_bit targets n ≡ r → has_bit sort n ≡ e → has_bit (bit_and targets sort) n ≡ (r && e)
 among_bits targets sort n r e t s = has_bit-and targets sort n ∙ (rw (t, s) refl)
 
-pub plain_ends : (p : Shogi) (capture : Bool) (from n among ends dead : ℕ) → length p.cells ≡ 81 → from < 81 → n < 81 → is_piece_of p.side (piece_at p.cells from) ≡ true
+pub plain_ends : (p : Shogi) (capture : Bool) (from n among ends plain : ℕ) → length p.cells ≡ 81 → from < 81 → n < 81 → is_piece_of p.side (piece_at p.cells from) ≡ true
     → has_bit among n ≡ (reaches p.cells from n && is_end capture p.side (piece_at p.cells n))
-    → has_bit ends n ≡ (has_bit among n && is_unchecked p (Board from n false)) → dead < 2 ^ 81 → has_bit dead n ≡ is_immobile n (piece_at p.cells from)
-    → has_bit (bit_and ends (2 ^ 128 - 1 - dead)) n ≡ is_wanted p capture (code_of (Board from n false))
-plain_ends p capture from n among ends dead len hf hn own a e fits d =
-    has_bit-and ends (2 ^ 128 - 1 - dead) n
-    ∙ (rw (e, a, has_bit-not dead n (omega arith) (omega arith), d)
+    → has_bit ends n ≡ (has_bit among n && is_unchecked p (Board from n false)) → has_bit plain n ≡ (has_bit ends n && not (is_immobile n (piece_at p.cells from)))
+    → has_bit plain n ≡ is_wanted p capture (code_of (Board from n false))
+plain_ends p capture from n among ends plain len hf hn own a e d =
+    d
+    ∙ (rw (e, a)
     (sym (wanted_board p capture false from n len hf hn own ∙ (rw (still n (piece_at p.cells from)) refl))))
 
 pub promoting_ends : (p : Shogi) (capture : Bool) (from n among ends promoting : ℕ) → length p.cells ≡ 81 → from < 81 → n < 81 → is_piece_of p.side (piece_at p.cells from) ≡ true
     → has_bit among n ≡ (reaches p.cells from n && is_end capture p.side (piece_at p.cells n))
-    → has_bit ends n ≡ (has_bit among n && is_unchecked p (Board from n false)) → has_bit promoting n ≡ may_promote (piece_at p.cells from) from n
-    → has_bit (bit_and ends promoting) n ≡ is_wanted p capture (code_of (Board from n true))
+    → has_bit ends n ≡ (has_bit among n && is_unchecked p (Board from n false)) → has_bit promoting n ≡ (has_bit ends n && may_promote (piece_at p.cells from) from n)
+    → has_bit promoting n ≡ is_wanted p capture (code_of (Board from n true))
 promoting_ends p capture from n among ends promoting len hf hn own a e m =
-    has_bit-and ends promoting n
-    ∙ (rw (e, a, m)
+    m
+    ∙ (rw (e, a)
     (sym (wanted_board p capture true from n len hf hn own ∙ (rw (alive from n (piece_at p.cells from)) refl))))
 
 -- a piece that goes nowhere
@@ -418,22 +462,22 @@ legal_board_code p promote from to len hf ht own =
     ∙ (rw (legal_board p from to promote, unchecked_either p from to promote len ht own, own)
     (mix_all (not (is_piece_of p.side (piece_at p.cells to))) (reaches p.cells from to) (not promote || may_promote (piece_at p.cells from) from to) (not (is_immobile to (piece_moved promote (piece_at p.cells from)))) (is_unchecked p (Board from to false))))
 
-pub plain_legal : (p : Shogi) (from n targets own ends dead : ℕ) → length p.cells ≡ 81 → from < 81 → n < 81 → is_piece_of p.side (piece_at p.cells from) ≡ true
+pub plain_legal : (p : Shogi) (from n targets own ends plain : ℕ) → length p.cells ≡ 81 → from < 81 → n < 81 → is_piece_of p.side (piece_at p.cells from) ≡ true
     → has_bit targets n ≡ reaches p.cells from n → own < 2 ^ 81 → has_bit own n ≡ is_piece_of p.side (piece_at p.cells n)
-    → has_bit ends n ≡ (has_bit (bit_and targets (2 ^ 128 - 1 - own)) n && is_unchecked p (Board from n false)) → dead < 2 ^ 81 → has_bit dead n ≡ is_immobile n (piece_at p.cells from)
-    → has_bit (bit_and ends (2 ^ 128 - 1 - dead)) n ≡ is_legal_code p (code_of (Board from n false))
-plain_legal p from n targets own ends dead len hf hn mine t of o e fits d =
-    has_bit-and ends (2 ^ 128 - 1 - dead) n
-    ∙ (rw (e, has_bit-and targets (2 ^ 128 - 1 - own) n, has_bit-not own n (omega arith) (omega arith), t, o, has_bit-not dead n (omega arith) (omega arith), d)
+    → has_bit ends n ≡ (has_bit (bit_and targets (2 ^ 128 - 1 - own)) n && is_unchecked p (Board from n false)) → has_bit plain n ≡ (has_bit ends n && not (is_immobile n (piece_at p.cells from)))
+    → has_bit plain n ≡ is_legal_code p (code_of (Board from n false))
+plain_legal p from n targets own ends plain len hf hn mine t of o e d =
+    d
+    ∙ (rw (e, has_bit-and targets (2 ^ 128 - 1 - own) n, has_bit-not own n (omega arith) (omega arith), t, o)
     (sym (legal_board_code p false from n len hf hn mine ∙ (rw (still n (piece_at p.cells from)) refl))))
 
 pub promoting_legal : (p : Shogi) (from n targets own ends promoting : ℕ) → length p.cells ≡ 81 → from < 81 → n < 81 → is_piece_of p.side (piece_at p.cells from) ≡ true
     → has_bit targets n ≡ reaches p.cells from n → own < 2 ^ 81 → has_bit own n ≡ is_piece_of p.side (piece_at p.cells n)
-    → has_bit ends n ≡ (has_bit (bit_and targets (2 ^ 128 - 1 - own)) n && is_unchecked p (Board from n false)) → has_bit promoting n ≡ may_promote (piece_at p.cells from) from n
-    → has_bit (bit_and ends promoting) n ≡ is_legal_code p (code_of (Board from n true))
+    → has_bit ends n ≡ (has_bit (bit_and targets (2 ^ 128 - 1 - own)) n && is_unchecked p (Board from n false)) → has_bit promoting n ≡ (has_bit ends n && may_promote (piece_at p.cells from) from n)
+    → has_bit promoting n ≡ is_legal_code p (code_of (Board from n true))
 promoting_legal p from n targets own ends promoting len hf hn mine t of o e m =
-    has_bit-and ends promoting n
-    ∙ (rw (e, has_bit-and targets (2 ^ 128 - 1 - own) n, has_bit-not own n (omega arith) (omega arith), t, o, m)
+    m
+    ∙ (rw (e, has_bit-and targets (2 ^ 128 - 1 - own) n, has_bit-not own n (omega arith) (omega arith), t, o)
     (sym (legal_board_code p true from n len hf hn mine ∙ (rw (alive from n (piece_at p.cells from)) refl))))
 
 pub nowhere_legal : (p : Shogi) (promote : Bool) (from n targets own : ℕ) → length p.cells ≡ 81 → from < 81 → n < 81 → is_piece_of p.side (piece_at p.cells from) ≡ true

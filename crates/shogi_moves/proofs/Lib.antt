@@ -13,6 +13,7 @@ pub mod GuardLaws
 pub mod KingLaws
 pub mod RunLaws
 pub mod ZoneLaws
+pub mod PawnFiles
 pub mod EndLaws
 pub mod SweepLaws
 pub mod TouchLaws

@@ -3,10 +3,10 @@
 ghost use Rattle.std.specs.Prelude.{◌≡◌, ◌≢◌, ◌<◌, ◌^◌, ◌&&◌, ℕ, not, true, false, None, slice_set};
 ghost use Rattle.shogi_core.specs.declared.moves.Move.TheVariants as moves;
 ghost use Rattle.shogi_core.specs.declared.piece.Kind.TheVariants as kinds;
-ghost use Rattle.shogi_moves.specs.Legal.{is_legal_code, is_pseudo_legal_drop, is_safe, is_pawn_drop_mate};
+ghost use Rattle.shogi_moves.specs.Legal.{is_legal_code, is_pseudo_legal_drop, is_safe, is_pawn_drop_mate, may_promote};
 ghost use Rattle.shogi_core.specs.Attack.{in_check};
 ghost use Rattle.shogi_core.specs.Bits.{has_bit};
-ghost use Rattle.shogi_core.specs.Cell.{is_piece_of, is_king};
+ghost use Rattle.shogi_core.specs.Cell.{is_piece_of, is_king, is_immobile};
 ghost use Rattle.shogi_core.specs.Codes.{code_of};
 ghost use Rattle.shogi_core.specs.Movement.{piece_at, reaches};
 ghost use Rattle.shogi_moves.specs.Captures.{is_wanted};
@@ -15,7 +15,7 @@ ghost use Rattle.shogi_moves.specs.Guards.{Guards};
 
 use crate::after::{dropped, is_checked_after};
 use crate::guard::{Guard, is_calm};
-use crate::legal::{is_pawn_drop_mate, is_pawn_kind};
+use crate::legal::{is_pawn_drop_mate, is_pawn_kind, is_promotable};
 use crate::zones::{dead_squares, pawn_files, promoting_squares};
 use shogi_core::bits::{cleared, has, lowest, without_lowest};
 use shogi_core::{Board, Kind, Move, Piece, Position, Role, Square, step_squares};
@@ -148,6 +148,35 @@ fn safe_ends(p: &Position, guard: &Guard, from: Square, ends: u128) -> u128
     tried_ends(p, from, ends)
 }
 
+/// The ends of a piece without and with promotion, by the rules on promotion. Many pieces never promote,
+/// and are told at once.
+#[inline(always)]
+#[tactic(auto, using(crate::proofs::EndLaws::promoting))]
+fn with_promotions(cell: Option<Piece>, from: Square, ends: u128) -> Ends
+    requires { ends < 2 ^ 81 }
+    ensures plain { (n : ℕ) → n < 81 → has_bit result.plain n ≡ (has_bit ends n && not (is_immobile n cell)) }
+    ensures promoting { (n : ℕ) → n < 81 → has_bit result.promoting n ≡ (has_bit ends n && may_promote cell from n) }
+    ensures plain_fits { result.plain < 2 ^ 81 }
+    ensures promoting_fits { result.promoting < 2 ^ 81 }
+{
+    let Some(piece) = cell else {
+        return Ends {
+            plain: ends,
+            promoting: 0,
+        };
+    };
+    if !is_promotable(piece.role) {
+        return Ends {
+            plain: ends,
+            promoting: 0,
+        };
+    }
+    Ends {
+        plain: ends & !dead_squares(cell),
+        promoting: ends & promoting_squares(cell, from),
+    }
+}
+
 /// The legal ends of one of the pieces of the side to move among the squares of a sort that it
 /// reaches; only the clauses need to know which sort that is.
 #[inline(never)]
@@ -166,11 +195,7 @@ pub fn ends_among(p: &Position, guard: &Guard, capture: bool, from: Square, amon
     p.validity();
     from.validity();
     let ends = safe_ends(p, guard, from, among);
-    let piece = p.at(from);
-    Ends {
-        plain: ends & !dead_squares(piece),
-        promoting: ends & promoting_squares(piece, from),
-    }
+    with_promotions(p.at(from), from, ends)
 }
 
 /// The legal ends of one of the pieces of the side to move, for captures or for the other moves. Most
@@ -218,11 +243,7 @@ pub fn legal_ends(p: &Position, guard: &Guard, from: Square) -> Ends
         };
     }
     let ends = safe_ends(p, guard, from, among);
-    let piece = p.at(from);
-    Ends {
-        plain: ends & !dead_squares(piece),
-        promoting: ends & promoting_squares(piece, from),
-    }
+    with_promotions(p.at(from), from, ends)
 }
 
 /// Where one of the held pieces may be dropped by the rules on drops, apart from checks.

@@ -117,16 +117,12 @@ impl Replies {
     {
         let opponent = p.side().opponent();
         let sight = sight_squares(p, opponent);
-        if holds_free(p, opponent) {
-            return Replies {
-                sight,
-                spare: p.free(),
-            };
-        }
-        Replies {
-            sight,
-            spare: spare_pieces(p, opponent, sight),
-        }
+        let spare = if holds_free(p, opponent) {
+            p.free()
+        } else {
+            spare_pieces(p, opponent, sight)
+        };
+        Replies { sight, spare }
     }
 
     /// Nothing is known: each square is held to be seen.

@@ -212,7 +212,8 @@ impl BoardSweep {
         ensures legal { IfSome result (λ m. is_legal p.now m ≡ true) }
         ensures certain { IfSome result (λ m. legal_codes (after p.now m) ≢ []) }
     {
-        if self.ends.plain | self.ends.promoting == 0 {
+        let Ends { plain, promoting } = self.ends;
+        if plain | promoting == 0 {
             return None;
         }
         let mut ahead = *self;
@@ -322,7 +323,8 @@ impl DropSweep {
         ensures legal { IfSome result (λ m. is_legal p.now m ≡ true) }
         ensures certain { IfSome result (λ m. legal_codes (after p.now m) ≢ []) }
     {
-        if self.ends == 0 {
+        let ends = self.ends;
+        if ends == 0 {
             return None;
         }
         let mut ahead = *self;

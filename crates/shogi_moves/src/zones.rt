@@ -2,13 +2,13 @@
 
 ghost use Rattle.std.specs.Prelude.{◌≡◌, ◌<◌, ◌^◌, ◌/◌, ◌==◌, ◌&&◌, ℕ, nat_lt};
 ghost use Rattle.shogi_core.specs.Bits.{has_bit};
-ghost use Rattle.shogi_core.specs.Cell.{is_immobile};
+ghost use Rattle.shogi_core.specs.Cell.{is_immobile, is_pawn};
 ghost use Rattle.shogi_core.specs.Validity.{pawns_on_file};
 ghost use Rattle.shogi_moves.specs.Legal.{in_promotion_zone, may_promote};
 
 use crate::legal::{in_promotion_zone, is_promotable};
-use shogi_core::bits::ALL_SQUARES;
-use shogi_core::{Board, Color, Piece, Position, Role, Square};
+use shogi_core::bits::{ALL_SQUARES, lowest, without_lowest};
+use shogi_core::{Color, Piece, Position, Role, Square};
 
 // Ranks from rank 1 and up to rank 9.
 const FIRST_RANK: u128 = 4731607904558235517441;
@@ -80,30 +80,31 @@ const FILES: [u128; 9] = [
     2413129272746388704198656,
 ];
 
-/// The squares of the file, if an unpromoted pawn of the side stands on it.
-#[tactic(auto, using(crate::proofs::ZoneLaws::file_bits))]
-fn pawn_file(board: &Board, side: Color, file: usize) -> u128
-    requires { file < 9 }
-    ensures bits { (n : ℕ) → n < 81 → has_bit result n ≡ (n / 9 == file && nat_lt 0 (pawns_on_file side file board.now)) }
-    ensures fits { result < 2 ^ 81 }
+/// Whether it is an unpromoted pawn of the side.
+fn is_pawn(cell: Option<Piece>, side: Color) -> bool
+    ensures { result ≡ is_pawn side cell }
 {
-    if board.pawns_on_file(side, file) > 0 {
-        FILES[file]
-    } else {
-        0
+    match cell {
+        None => false,
+        Some(piece) => side.is_same(piece.color) && matches!(piece.role, Role::Pawn),
     }
 }
 
 /// The squares of the files on which an unpromoted pawn of the side stands.
-#[tactic(auto, using(crate::proofs::ZoneLaws::file_loop))]
+#[tactic(auto, using(crate::proofs::PawnFiles::pawn_files))]
 pub fn pawn_files(p: &Position, side: Color) -> u128
     ensures bits { (n : ℕ) → n < 81 → has_bit result n ≡ nat_lt 0 (pawns_on_file side (n / 9) p.now.cells) }
     ensures fits { result < 2 ^ 81 }
 {
-    let board = p.as_board();
+    p.validity();
+    let mut left = p.own(side);
     let mut mask = 0;
-    for file in 0..9 {
-        mask |= pawn_file(&board, side, file);
+    while left != 0 {
+        let square = lowest(left);
+        if is_pawn(p.at(Square::of_index(square)), side) {
+            mask |= FILES[square / 9];
+        }
+        left = without_lowest(left, square);
     }
     mask
 }
