@@ -16,7 +16,6 @@ pub mod ZoneLaws
 pub mod PawnFiles
 pub mod EndLaws
 pub mod SweepLaws
-pub mod TouchLaws
 pub mod TallyLaws
 pub mod DropChecks
 pub mod ExistenceLaws

@@ -216,22 +216,22 @@ bits_above-below mask one low n i ones lows fits h down =
     gone true = refl
     gone false = refl
 
--- the present piece has no move left, nor has one off the mask
-pub on_first : (p : Shogi) (capture : Bool) (movers left from code plain promoting : ℕ) → from < 81 → KeepsBoard p capture from code plain promoting → bit_or plain promoting ≡ 0
-    → ((n : ℕ) → n < 81 → has_bit movers n ≡ false → HasNoneWanted p capture (n * SQUARE_CODES) (n * SQUARE_CODES + SQUARE_CODES)) → ((n : ℕ) → n < 81 → from < n → has_bit left n ≡ has_bit movers n) → HasWantedOn p capture code left
-on_first p capture movers left from code plain promoting hf k none off above = record {
+-- the present piece has no move left
+pub on_first : (p : Shogi) (capture : Bool) (own left from code plain promoting : ℕ) → from < 81 → KeepsBoard p capture from code plain promoting → bit_or plain promoting ≡ 0
+    → ((n : ℕ) → n < 81 → has_bit own n ≡ is_piece_of p.side (piece_at p.cells n)) → ((n : ℕ) → n < 81 → from < n → has_bit left n ≡ has_bit own n) → HasWantedOn p capture code left
+on_first p capture own left from code plain promoting hf k none bits above = record {
   on = λ c low high wanted. elim (cases_lt from (c / SQUARE_CODES)) [
     | inl up ↦ (let h : c / SQUARE_CODES < 81 = omega arith in
-        above (c / SQUARE_CODES) h up ∙ true_from_ne_false (has_bit movers (c / SQUARE_CODES)) (λ e.
-        both_ways (is_wanted p capture c) ((off (c / SQUARE_CODES) h e).none c (omega arith) (omega arith)) wanted))
+        above (c / SQUARE_CODES) h up ∙ (bits (c / SQUARE_CODES) h ∙ true_from_ne_false (is_piece_of p.side (piece_at p.cells (c / SQUARE_CODES))) (λ e.
+        both_ways (is_wanted p capture c) ((none_square p capture (c / SQUARE_CODES) (c / SQUARE_CODES * SQUARE_CODES) (c / SQUARE_CODES * SQUARE_CODES + SQUARE_CODES) h (omega arith) (omega arith) e).none c (omega arith) (omega arith)) wanted)))
     | inr down ↦ absurd (both_ways (is_wanted p capture c) ((none_left p capture from code plain promoting k none).none c low (omega arith)) wanted)
   ];
 }
 
-pub mine_first : (p : Shogi) (movers left from : ℕ) → ((n : ℕ) → n < 81 → has_bit movers n ≡ true → is_piece_of p.side (piece_at p.cells n) ≡ true) → ((n : ℕ) → n < 81 → from < n → has_bit left n ≡ has_bit movers n) → ((n : ℕ) → n < 81 → n ≤ from → has_bit left n ≡ false)
+pub mine_first : (p : Shogi) (own left from : ℕ) → ((n : ℕ) → n < 81 → has_bit own n ≡ is_piece_of p.side (piece_at p.cells n)) → ((n : ℕ) → n < 81 → from < n → has_bit left n ≡ has_bit own n) → ((n : ℕ) → n < 81 → n ≤ from → has_bit left n ≡ false)
     → (n : ℕ) → n < 81 → has_bit left n ≡ true → (from < n) × (is_piece_of p.side (piece_at p.cells n) ≡ true)
-mine_first p movers left from own above below n h set = elim (cases_lt from n) [
-  | inl up ↦ (up, own n h (sym (above n h up) ∙ set))
+mine_first p own left from bits above below n h set = elim (cases_lt from n) [
+  | inl up ↦ (up, sym (bits n h) ∙ (sym (above n h up) ∙ set))
   | inr down ↦ absurd (both_ways (has_bit left n) (below n h down) set)
 ]
 

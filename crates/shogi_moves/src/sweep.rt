@@ -1,16 +1,14 @@
 //! Ways through the legal moves of a sort, which keep the ends of the present piece.
 
 ghost use Rattle.std.specs.Prelude.{◌≡◌, ◌≢◌, ◌<◌, ◌≤◌, ◌+◌, ◌*◌, ◌^◌, ◌∷◌, [], ℕ, true, false, IfSome, IsNone, MatchOption, bit_or};
-ghost use Rattle.shogi_core.specs.declared.moves.TheConstants.{FIRST_DROP, SQUARE_CODES};
+ghost use Rattle.shogi_core.specs.declared.moves.TheConstants.{FIRST_DROP};
 ghost use Rattle.shogi_core.specs.declared.moves.Move.TheVariants as moves;
 ghost use Rattle.shogi_core.specs.Bits.{has_bit};
 ghost use Rattle.shogi_core.specs.Cell.{is_piece_of};
 ghost use Rattle.shogi_core.specs.Codes.{code_of};
-ghost use Rattle.shogi_core.specs.Lines.{is_near};
 ghost use Rattle.shogi_core.specs.Movement.{piece_at};
 ghost use Rattle.shogi_core.specs.Pieces.{kind_number};
 ghost use Rattle.shogi_moves.specs.Captures.{is_wanted, HasNoneWanted};
-ghost use Rattle.shogi_moves.specs.Ends.{is_end};
 ghost use Rattle.shogi_moves.specs.Guards.{Guards};
 ghost use Rattle.shogi_moves.specs.After.{after};
 ghost use Rattle.shogi_moves.specs.Legal.{is_legal};
@@ -75,35 +73,6 @@ fn bits_above(mask: u128, n: usize) -> u128
     mask & !up_to_lowest(with(0, n))
 }
 
-/// The squares from which a step or a jump may lead to one of the mask, and some others: those next
-/// to it on its file, and on the next files up to two ranks off, as if the files made one line.
-fn nearby(mask: u128) -> u128
-    requires fits { mask < 2 ^ 81 }
-    ensures { (a b : ℕ) → a < 81 → b < 81 → has_bit mask b ≡ true → is_near b a ≡ true → has_bit result a ≡ true }
-{
-    let two = mask | mask << 1;
-    let five = two | two << 2 | mask << 4;
-    mask << 1 | mask >> 1 | five << 7 | five >> 11
-}
-
-/// The pieces of the side to move that may have a move of the sort, by their squares: to capture, one
-/// that does not slide must be near what it takes.
-fn movers(p: &Position, capture: bool, sort: u128) -> u128
-    requires sort { (n : ℕ) → n < 81 → has_bit sort n ≡ is_end capture p.now.side (piece_at p.now.cells n) }
-    requires fits { sort < 2 ^ 81 }
-    ensures fits { result < 2 ^ 81 }
-    ensures own { (n : ℕ) → n < 81 → has_bit result n ≡ true → is_piece_of p.now.side (piece_at p.now.cells n) ≡ true }
-    ensures all { (n : ℕ) → n < 81 → has_bit result n ≡ false → HasNoneWanted p.now capture (n * SQUARE_CODES) (n * SQUARE_CODES + SQUARE_CODES) }
-{
-    p.validity();
-    let own = p.own(p.side());
-    if capture {
-        own & (p.as_board().sliders() | nearby(sort))
-    } else {
-        own
-    }
-}
-
 impl BoardSweep {
     /// Through all board moves of the sort.
     #[tactic(auto, using(crate::proofs::SweepLaws::sweeping))]
@@ -165,7 +134,7 @@ impl BoardSweep {
     {
         p.validity();
         let (sort, guard) = (ends_of_sort(p, capture), self.guard);
-        let mut left = bits_above(movers(p, capture, sort), self.from.index());
+        let mut left = bits_above(p.own(p.side()), self.from.index());
         'squares: while left != 0 {
             let square = lowest(left);
             let from = Square::of_index(square);

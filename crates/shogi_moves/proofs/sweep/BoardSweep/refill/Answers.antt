@@ -15,10 +15,10 @@ pub squares-init : goal.squares-init
 squares-init c = record {
   kept = c.requires.kept;
   same = refl;
-  wanted = on_first c.args.p.now c.args.capture c.movers.result c.bits_above-left.result c.args.self.now.from c.args.self.now.code c.args.self.now.ends.plain c.args.self.now.ends.promoting (omega (arith, c.index.ensures.range, c.index.ensures.index)) c.requires.kept.ends c.requires.none
-      c.movers.ensures.all (rw c.index.ensures.index at c.bits_above-left.ensures.above);
+  wanted = on_first c.args.p.now c.args.capture c.own.result c.bits_above-left.result c.args.self.now.from c.args.self.now.code c.args.self.now.ends.plain c.args.self.now.ends.promoting (omega (arith, c.index.ensures.range, c.index.ensures.index)) c.requires.kept.ends c.requires.none
+      (rw c.side.ensures at c.own.ensures.bits) (rw c.index.ensures.index at c.bits_above-left.ensures.above);
   fits = c.bits_above-left.ensures.fits;
-  mine = mine_first c.args.p.now c.movers.result c.bits_above-left.result c.args.self.now.from c.movers.ensures.own (rw c.index.ensures.index at c.bits_above-left.ensures.above) (rw c.index.ensures.index at c.bits_above-left.ensures.below);
+  mine = mine_first c.args.p.now c.own.result c.bits_above-left.result c.args.self.now.from (rw c.side.ensures at c.own.ensures.bits) (rw c.index.ensures.index at c.bits_above-left.ensures.above) (rw c.index.ensures.index at c.bits_above-left.ensures.below);
 }
 
 pub ends_among-ends-requires-clause-among : goal.ends_among-ends-requires-clause-among
