@@ -137,9 +137,10 @@ fn king_ends(p: &Position, checked: bool, from: Square, ends: u128) -> u128
     seen_king_ends(p, &lifted, from, ends)
 }
 
-/// Those of the ends that leave the king unattacked.
+/// Those of the ends that leave the king unattacked, for a piece that may leave it attacked.
+#[inline(never)]
 #[tactic(auto, using(crate::proofs::EndLaws::calm_ends))]
-fn safe_ends(p: &Position, guard: &Guard, from: Square, ends: u128) -> u128
+fn risky_ends(p: &Position, guard: &Guard, from: Square, ends: u128) -> u128
     requires guard { Guards p.now guard.now.checked guard.now.exposed }
     requires own { is_piece_of p.now.side (piece_at p.now.cells from) ≡ true }
     requires fits { ends < 2 ^ 81 }
@@ -148,9 +149,6 @@ fn safe_ends(p: &Position, guard: &Guard, from: Square, ends: u128) -> u128
 {
     p.validity();
     from.validity();
-    if is_calm(guard, from) {
-        return ends;
-    }
     let kings = p.kings(p.side());
     if has(kings, from.index()) {
         if cleared(kings, from.index()) == 0 {
@@ -166,6 +164,23 @@ fn safe_ends(p: &Position, guard: &Guard, from: Square, ends: u128) -> u128
         return ends;
     }
     tried_ends(p, from, ends)
+}
+
+/// Those of the ends that leave the king unattacked. Most pieces may end anywhere, and are told at once.
+#[tactic(auto, using(crate::proofs::EndLaws::calm_ends))]
+fn safe_ends(p: &Position, guard: &Guard, from: Square, ends: u128) -> u128
+    requires guard { Guards p.now guard.now.checked guard.now.exposed }
+    requires own { is_piece_of p.now.side (piece_at p.now.cells from) ≡ true }
+    requires fits { ends < 2 ^ 81 }
+    ensures bits { (n : ℕ) → n < 81 → has_bit result n ≡ (has_bit ends n && is_unchecked p.now (moves.Board from n false)) }
+    ensures fits { result < 2 ^ 81 }
+{
+    p.validity();
+    from.validity();
+    if is_calm(guard, from) {
+        return ends;
+    }
+    risky_ends(p, guard, from, ends)
 }
 
 /// The legal ends of one of the pieces of the side to move among the squares of a sort that it
