@@ -108,13 +108,13 @@ pub record PinsTo (cells : Cells) (side : Color) (square count found : ℕ) : Ty
 pub pins_to_none : (cells : Cells) (side : Color) (square : ℕ) → PinsTo cells side square 0 0
 pins_to_none cells side square = record { fits = omega arith; all = λ d n a none l h e. absurd (omega arith) }
 
-pub pins_to_more : (cells : Cells) (side : Color) (square count found more : ℕ) → PinsTo cells side square count found → more < 2 ^ 81
-    → ((n a : ℕ) → n < 81 → a < 81 → is_pinned_by cells side square (direction_at count) n a ≡ true → has_bit more n ≡ true) → PinsTo cells side square (count + 1) (bit_or found more)
-pins_to_more cells side square count found more p fits next = record {
-  fits = or_lt 81 found more p.fits fits;
-  all = λ d n a low l h e. has_bit-or found more n ∙ elim (cases_eq d count) [
-    | inl same ↦ or_right (has_bit found n) (has_bit more n) (next n a l h (subst (λ (k : ℕ). is_pinned_by cells side square (direction_at k) n a ≡ true) same e))
-    | inr other ↦ or_left _ _ (p.all d n a (omega arith) l h e)
+pub pins_to_more : (cells : Cells) (side : Color) (square count found more : ℕ) → PinsTo cells side square count found → more < 2 ^ 81 → ((n : ℕ) → has_bit found n ≡ true → has_bit more n ≡ true)
+    → ((n a : ℕ) → n < 81 → a < 81 → is_pinned_by cells side square (direction_at count) n a ≡ true → has_bit more n ≡ true) → PinsTo cells side square (count + 1) more
+pins_to_more cells side square count found more p fits kept next = record {
+  fits = fits;
+  all = λ d n a low l h e. elim (cases_eq d count) [
+    | inl same ↦ next n a l h (subst (λ (k : ℕ). is_pinned_by cells side square (direction_at k) n a ≡ true) same e)
+    | inr other ↦ kept n (p.all d n a (omega arith) l h e)
   ];
 }
 

@@ -182,50 +182,57 @@ fn pinned_on(board: &Board, side: Color, square: usize, direction: usize, sniper
     blockers
 }
 
-/// The same, or `None` where one of the snipers slides to the square against the direction.
+/// Whether one of the snipers of the square slides to it against the direction; where none does, the
+/// mask gets the piece of the side, if there is one, that stands alone before one of them.
+#[tactic(auto, using(crate::proofs::Pins::pinning))]
 #[inline(never)]
-fn pinned_apart(
+fn shot_or_pin(
     board: &Board,
     side: Color,
     square: usize,
     direction: usize,
     snipers: u128,
-) -> Option<u128>
+    pinned: &mut u128,
+) -> bool
     requires direction { direction < 8 }
     requires square { square < 81 }
     requires snipers { (b : ℕ) → b < 81 → has_bit snipers b ≡ is_sniper board.now (opponent_of side) square b }
-    ensures shot { IsNone result → is_shot_along board.now (opponent_of side) square direction ≡ true }
-    ensures open { IfSome result (λ m. is_shot_along board.now (opponent_of side) square direction ≡ false) }
-    ensures fits { IfSome result (λ m. m < 2 ^ 81) }
-    ensures all { IfSome result (λ m. (n a : ℕ) → n < 81 → a < 81 → is_pinned_by board.now side square (direction_at direction) n a ≡ true → has_bit m n ≡ true) }
+    requires fits { pinned.old < 2 ^ 81 }
+    ensures shot { result ≡ is_shot_along board.now (opponent_of side) square direction }
+    ensures fits { pinned.new < 2 ^ 81 }
+    ensures kept { (n : ℕ) → has_bit pinned.old n ≡ true → has_bit pinned.new n ≡ true }
+    ensures all { result ≡ false → (n a : ℕ) → n < 81 → a < 81 → is_pinned_by board.now side square (direction_at direction) n a ≡ true → has_bit pinned.new n ≡ true }
 {
     if is_shot_on(board, side.opponent(), square, direction, snipers) {
-        return None;
+        return true;
     }
-    Some(pinned_on(board, side, square, direction, snipers))
+    *pinned |= pinned_on(board, side, square, direction, snipers);
+    false
 }
 
 /// The same, told at once where there is no sniper in the direction.
 #[tactic(auto, using(crate::proofs::Shots::shooting))]
-fn pinned_along(
+fn shot_or_pin_along(
     board: &Board,
     side: Color,
     square: usize,
     direction: usize,
     snipers: u128,
-) -> Option<u128>
+    pinned: &mut u128,
+) -> bool
     requires direction { direction < 8 }
     requires square { square < 81 }
     requires snipers { (b : ℕ) → b < 81 → has_bit snipers b ≡ is_sniper board.now (opponent_of side) square b }
-    ensures shot { IsNone result → is_shot_along board.now (opponent_of side) square direction ≡ true }
-    ensures open { IfSome result (λ m. is_shot_along board.now (opponent_of side) square direction ≡ false) }
-    ensures fits { IfSome result (λ m. m < 2 ^ 81) }
-    ensures all { IfSome result (λ m. (n a : ℕ) → n < 81 → a < 81 → is_pinned_by board.now side square (direction_at direction) n a ≡ true → has_bit m n ≡ true) }
+    requires fits { pinned.old < 2 ^ 81 }
+    ensures shot { result ≡ is_shot_along board.now (opponent_of side) square direction }
+    ensures fits { pinned.new < 2 ^ 81 }
+    ensures kept { (n : ℕ) → has_bit pinned.old n ≡ true → has_bit pinned.new n ≡ true }
+    ensures all { result ≡ false → (n a : ℕ) → n < 81 → a < 81 → is_pinned_by board.now side square (direction_at direction) n a ≡ true → has_bit pinned.new n ≡ true }
 {
     if ray(direction, square) & snipers == 0 {
-        return Some(0);
+        return false;
     }
-    pinned_apart(board, side, square, direction, snipers)
+    shot_or_pin(board, side, square, direction, snipers, pinned)
 }
 
 /// The squares of pieces of the side that stand alone between the square and one of its snipers, or
@@ -240,9 +247,8 @@ fn pinned_to(board: &Board, side: Color, square: usize, snipers: u128) -> Option
 {
     let mut pinned = 0;
     for direction in 0..8 {
-        match pinned_along(board, side, square, direction, snipers) {
-            None => return None,
-            Some(more) => pinned |= more,
+        if shot_or_pin_along(board, side, square, direction, snipers, &mut pinned) {
+            return None;
         }
     }
     Some(pinned)

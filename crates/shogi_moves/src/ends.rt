@@ -4,11 +4,12 @@ ghost use Rattle.std.specs.Prelude.{◌≡◌, ◌≢◌, ◌<◌, ◌^◌, ◌&
 ghost use Rattle.shogi_core.specs.declared.moves.Move.TheVariants as moves;
 ghost use Rattle.shogi_core.specs.declared.piece.Kind.TheVariants as kinds;
 ghost use Rattle.shogi_moves.specs.Legal.{is_legal_code, is_pseudo_legal_drop, is_safe, is_pawn_drop_mate, may_promote};
-ghost use Rattle.shogi_core.specs.Attack.{in_check};
+ghost use Rattle.shogi_core.specs.Attack.{in_check, is_attacked};
 ghost use Rattle.shogi_core.specs.Bits.{has_bit};
 ghost use Rattle.shogi_core.specs.Cell.{is_piece_of, is_king, is_immobile};
 ghost use Rattle.shogi_core.specs.Codes.{code_of};
 ghost use Rattle.shogi_core.specs.Movement.{piece_at, reaches};
+ghost use Rattle.shogi_core.specs.Pieces.{opponent_of};
 ghost use Rattle.shogi_moves.specs.Captures.{is_wanted};
 ghost use Rattle.shogi_moves.specs.Ends.{is_end, is_unchecked};
 ghost use Rattle.shogi_moves.specs.Guards.{Guards};
@@ -81,35 +82,34 @@ fn is_free(p: &Position, from: Square) -> bool
 }
 
 /// Whether the only king of the side to move may go from the one square to the other: nothing attacks
-/// that square once the king is lifted off its own.
-pub fn is_king_safe(p: &Position, lifted: &Board, from: Square, to: Square) -> bool
+/// that square, as seen on a board where the king stands in no piece's way.
+pub fn is_king_safe(p: &Position, seen: &Board, from: Square, to: Square) -> bool
     requires king { is_king p.now.side (piece_at p.now.cells from) ≡ true }
-    requires lifted { lifted.now ≡ slice_set p.now.cells from None }
+    requires seen { is_attacked seen.now (opponent_of p.now.side) to ≡ is_attacked (slice_set p.now.cells from None) (opponent_of p.now.side) to }
     requires lone { (x : ℕ) → x < 81 → x ≢ from → is_king p.now.side (piece_at p.now.cells x) ≡ false }
     ensures { result ≡ is_unchecked p.now (moves.Board from to false) }
 {
     p.validity();
     from.validity();
     to.validity();
-    !lifted.is_attacked(p.side().opponent(), to)
+    !seen.is_attacked(p.side().opponent(), to)
 }
 
-/// Those of the ends on which the only king of the side to move is unattacked.
+/// Those of the ends on which the only king of the side to move is unattacked, as seen on that board.
 #[tactic(auto, using(crate::proofs::EndLaws::sifting))]
-fn king_ends(p: &Position, from: Square, ends: u128) -> u128
+fn seen_king_ends(p: &Position, seen: &Board, from: Square, ends: u128) -> u128
     requires king { is_king p.now.side (piece_at p.now.cells from) ≡ true }
+    requires seen { (n : ℕ) → n < 81 → is_attacked seen.now (opponent_of p.now.side) n ≡ is_attacked (slice_set p.now.cells from None) (opponent_of p.now.side) n }
     requires lone { (x : ℕ) → x < 81 → x ≢ from → is_king p.now.side (piece_at p.now.cells x) ≡ false }
     requires fits { ends < 2 ^ 81 }
     ensures bits { (n : ℕ) → n < 81 → has_bit result n ≡ (has_bit ends n && is_unchecked p.now (moves.Board from n false)) }
     ensures fits { result < 2 ^ 81 }
 {
-    let mut lifted = *p.as_board();
-    lifted.set(from, None);
     let mut left = ends;
     let mut kept = ends;
     while left != 0 {
         let to = lowest(left);
-        if !is_king_safe(p, &lifted, from, Square::of_index(to)) {
+        if !is_king_safe(p, seen, from, Square::of_index(to)) {
             kept = cleared(kept, to);
         }
         left = without_lowest(left, to);
@@ -117,7 +117,56 @@ fn king_ends(p: &Position, from: Square, ends: u128) -> u128
     kept
 }
 
-/// Those of the ends that leave the king unattacked.
+/// Those of the ends on which the only king of the side to move is unattacked. Out of check, it stands
+/// in no piece's way; in check, the board is seen with the king lifted off its square.
+fn king_ends(p: &Position, checked: bool, from: Square, ends: u128) -> u128
+    requires king { is_king p.now.side (piece_at p.now.cells from) ≡ true }
+    requires checked { checked ≡ in_check p.now.cells p.now.side }
+    requires lone { (x : ℕ) → x < 81 → x ≢ from → is_king p.now.side (piece_at p.now.cells x) ≡ false }
+    requires fits { ends < 2 ^ 81 }
+    ensures bits { (n : ℕ) → n < 81 → has_bit result n ≡ (has_bit ends n && is_unchecked p.now (moves.Board from n false)) }
+    ensures fits { result < 2 ^ 81 }
+{
+    p.validity();
+    from.validity();
+    if !checked {
+        return seen_king_ends(p, p.as_board(), from, ends);
+    }
+    let mut lifted = *p.as_board();
+    lifted.set(from, None);
+    seen_king_ends(p, &lifted, from, ends)
+}
+
+/// Those of the ends that leave the king unattacked, for a piece that may leave it attacked.
+#[inline(never)]
+#[tactic(auto, using(crate::proofs::EndLaws::calm_ends))]
+fn risky_ends(p: &Position, guard: &Guard, from: Square, ends: u128) -> u128
+    requires guard { Guards p.now guard.now.checked guard.now.exposed }
+    requires own { is_piece_of p.now.side (piece_at p.now.cells from) ≡ true }
+    requires fits { ends < 2 ^ 81 }
+    ensures bits { (n : ℕ) → n < 81 → has_bit result n ≡ (has_bit ends n && is_unchecked p.now (moves.Board from n false)) }
+    ensures fits { result < 2 ^ 81 }
+{
+    p.validity();
+    from.validity();
+    let kings = p.kings(p.side());
+    if has(kings, from.index()) {
+        if cleared(kings, from.index()) == 0 {
+            return king_ends(p, guard.checked, from, ends);
+        }
+        return tried_ends(p, from, ends);
+    }
+    if guard.checked {
+        let theirs = p.own(p.side().opponent());
+        return tried_ends(p, from, ends & (guard.exposed | theirs));
+    }
+    if is_free(p, from) {
+        return ends;
+    }
+    tried_ends(p, from, ends)
+}
+
+/// Those of the ends that leave the king unattacked. Most pieces may end anywhere, and are told at once.
 #[tactic(auto, using(crate::proofs::EndLaws::calm_ends))]
 fn safe_ends(p: &Position, guard: &Guard, from: Square, ends: u128) -> u128
     requires guard { Guards p.now guard.now.checked guard.now.exposed }
@@ -131,21 +180,7 @@ fn safe_ends(p: &Position, guard: &Guard, from: Square, ends: u128) -> u128
     if is_calm(guard, from) {
         return ends;
     }
-    let kings = p.kings(p.side());
-    if has(kings, from.index()) {
-        if cleared(kings, from.index()) == 0 {
-            return king_ends(p, from, ends);
-        }
-        return tried_ends(p, from, ends);
-    }
-    if guard.checked {
-        let theirs = p.own(p.side().opponent());
-        return tried_ends(p, from, ends & (guard.exposed | theirs));
-    }
-    if is_free(p, from) {
-        return ends;
-    }
-    tried_ends(p, from, ends)
+    risky_ends(p, guard, from, ends)
 }
 
 /// The ends of a piece without and with promotion, by the rules on promotion. Many pieces never promote,

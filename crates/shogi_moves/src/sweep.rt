@@ -133,14 +133,14 @@ impl BoardSweep {
         ensures end { result ≡ false → wanted_from p.now capture self.old.code ≡ wanted_from p.now capture FIRST_DROP }
     {
         p.validity();
-        let (sort, guard) = (ends_of_sort(p, capture), self.guard);
+        let sort = ends_of_sort(p, capture);
         let mut left = bits_above(p.own(p.side()), self.from.index());
         'squares: while left != 0 {
             let square = lowest(left);
             let from = Square::of_index(square);
             let among = p.targets(from) & sort;
             if among != 0 {
-                let ends = ends_among(p, &guard, capture, from, among);
+                let ends = ends_among(p, &self.guard, capture, from, among);
                 if ends.plain | ends.promoting != 0 {
                     self.from = from;
                     self.ends = ends;

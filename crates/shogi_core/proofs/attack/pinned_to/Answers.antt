@@ -14,12 +14,12 @@ loop-direction-init c = record {
 
 pub loop-direction-preserved : goal.loop-direction-preserved
 loop-direction-preserved c = record {
-  pins = pins_to_more c.args.board.now c.args.side c.args.square c.loop-direction.direction c.loop-direction.pinned c.in-Some.more c.loop-direction.invariant.pins c.in-Some.ensures.fits c.in-Some.ensures.all;
-  clear = some_below_more c.loop-direction.direction (is_shot_along c.args.board.now (opponent_of c.args.side) c.args.square) ∙ or_from _ _ c.loop-direction.invariant.clear c.in-Some.ensures.open;
+  pins = pins_to_more c.args.board.now c.args.side c.args.square c.loop-direction.direction c.loop-direction.pinned c.shot_or_pin_along.new.pinned c.loop-direction.invariant.pins c.if-shot_or_pin_along.ensures.fits c.if-shot_or_pin_along.ensures.kept (c.if-shot_or_pin_along.ensures.all refl);
+  clear = some_below_more c.loop-direction.direction (is_shot_along c.args.board.now (opponent_of c.args.side) c.args.square) ∙ or_from _ _ c.loop-direction.invariant.clear (sym c.if-shot_or_pin_along.ensures.shot);
 }
 
-pub returns-in-None-clause-shot : goal.returns-in-None-clause-shot
-returns-in-None-clause-shot c = λ _. sym (some_below_found 8 (is_shot_along c.args.board.now (opponent_of c.args.side) c.args.square) c.loop-direction.direction c.loop-direction-test.true (c.in-None.ensures.shot refl))
+pub returns-then-shot_or_pin_along-clause-shot : goal.returns-then-shot_or_pin_along-clause-shot
+returns-then-shot_or_pin_along-clause-shot c = λ _. sym (some_below_found 8 (is_shot_along c.args.board.now (opponent_of c.args.side) c.args.square) c.loop-direction.direction c.loop-direction-test.true (sym c.if-shot_or_pin_along.ensures.shot))
 
 pub returns-clause-open : goal.returns-clause-open
 returns-clause-open c = (let last : c.loop-direction.direction ≡ 8 = omega (arith, c.loop-direction-test.false) in rw last at c.loop-direction.invariant.clear)

@@ -1,10 +1,9 @@
-use Rattle.std.proofs.Common.{◌≡◌, false, arith}
-use Rattle.shogi_core.specs.declared.moves.Move.TheVariants.{Board}
-use Rattle.shogi_moves.specs.Ends.{is_unchecked}
-use Rattle.shogi_moves.proofs.EndLaws.{sift_done}
+use Rattle.std.proofs.Common.{◌≡◌, false, arith, rules}
+use Rattle.shogi_core.specs.Attack.{in_check}
+use Rattle.shogi_moves.proofs.KingLaws.{in_no_way}
 use Rattle.shogi_moves.proofs.ends.king_ends.Goals as goal
 
-pub returns-clause-bits : goal.returns-clause-bits
-returns-clause-bits c = λ n h. (
-    let none : c.loop-left.left ≡ 0 = omega arith in
-    sift_done c.args.ends c.loop-left.kept (λ n. is_unchecked c.args.p.now (Board c.args.from n false)) (rw none at c.loop-left.invariant.sifts) n h)
+pub seen_king_ends-requires-clause-seen : goal.seen_king_ends-requires-clause-seen
+seen_king_ends-requires-clause-seen c = λ n h. (
+    let safe : in_check c.args.p.now.cells c.args.p.now.side ≡ false = search rules in
+    rw c.as_board.ensures (in_no_way c.args.p.now.cells c.args.p.now.side c.args.from c.validity.ensures.cells_fit (omega arith) c.requires.king safe n h))

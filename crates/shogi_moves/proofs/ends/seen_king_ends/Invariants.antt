@@ -1,7 +1,7 @@
 use Rattle.std.proofs.Common.{◌<◌, ◌^◌, false}
 use Rattle.shogi_core.specs.declared.moves.Move.TheVariants.{Board}
 use Rattle.shogi_moves.specs.Ends.{is_unchecked, Sifts}
-use Rattle.shogi_moves.proofs.ends.king_ends.Given as goal
+use Rattle.shogi_moves.proofs.ends.seen_king_ends.Given as goal
 
 abbrev pub invariant-loop-left : goal.invariant-loop-left
 invariant-loop-left l = record {

@@ -3,7 +3,7 @@ use Rattle.shogi_core.specs.declared.moves.Move.TheVariants.{Board}
 use Rattle.shogi_core.specs.Bits.{has_bit}
 use Rattle.shogi_moves.specs.Ends.{is_unchecked}
 use Rattle.shogi_moves.proofs.EndLaws.{lone_king, narrowed, no_answer}
-use Rattle.shogi_moves.proofs.ends.safe_ends.Goals as goal
+use Rattle.shogi_moves.proofs.ends.risky_ends.Goals as goal
 
 pub king_ends-requires-clause-lone : goal.king_ends-requires-clause-lone
 king_ends-requires-clause-lone c = lone_king c.args.p.now c.kings-kings.result c.cleared.result c.args.from (rw c.side.ensures at c.kings-kings.ensures.bits) (rw c.index-then-has.ensures.index at c.cleared.ensures.bits) c.if-cleared-eq0.true
