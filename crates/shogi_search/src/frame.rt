@@ -349,7 +349,7 @@ impl Frame {
         ensures free { IsFree self.new.waiting }
         ensures taken { left_of_waiting self.new.waiting ≡ 0 }
         ensures none { result ≡ false → self.new ≡ self.old }
-        ensures left { result ≡ true → left_of_frame self.new + 2 ≤ left_of_frame self.old }
+        ensures left { result ≡ true → left_of_frame self.new + 2 ≡ left_of_frame self.old }
         ensures same { IsSame self.old self.new }
     {
         let next = self
@@ -372,7 +372,7 @@ impl Frame {
         requires last { self.old.depth ≡ 1 }
         ensures free { IsFree self.new.waiting }
         ensures most { result ≤ room }
-        ensures left { left_of_frame self.new + result ≤ left_of_frame self.old }
+        ensures left { left_of_frame self.new + result ≡ left_of_frame self.old }
         ensures same { IsSame self.old self.new }
     {
         let mut made = 0;

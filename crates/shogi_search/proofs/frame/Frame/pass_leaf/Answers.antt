@@ -12,4 +12,4 @@ take-requires-clause-truth c =
     (omega (arith, ints, leaf.0), leaf.1)
 
 pub returns-clause-left : goal.returns-clause-left
-returns-clause-left c = λ _. left_passed c.args.self.now c.take.new.self c.in-Some.current c.next_certain-next.new.self c.take.ensures.same (rw c.as_position.ensures at c.in-Some.ensures.next) c.take.ensures.picker c.take.ensures.taken
+returns-clause-left c = λ _. left_passed c.args.self.now c.take.new.self c.in-Some.current c.next_certain-next.new.self c.requires.last c.requires.next c.take.ensures.same (rw c.as_position.ensures at c.in-Some.ensures.next) c.take.ensures.picker c.take.ensures.taken

@@ -8,7 +8,7 @@ invariant-leaves l = record {
   free : IsFree l.self.waiting;
   taken : left_of_waiting l.self.waiting ≡ 0;
   most : l.made ≤ l.room;
-  left : left_of_frame l.self + l.made ≤ left_of_frame l.fn.self;
+  left : left_of_frame l.self + l.made ≡ left_of_frame l.fn.self;
   same : IsSame l.fn.self l.self;
 }
 
