@@ -7,7 +7,8 @@ use std::hash::{BuildHasherDefault, FoldHasher};
 use std::process::Abort;
 use std::test::Fail;
 use test_support::FailingAllocator;
-use test_support::rows::{DEEP, INFO_AND_BEST_ONE, joined};
+use test_support::rows::{INFO_AND_BEST_ONE, joined};
+use test_support::tables::deep;
 
 type Memory = FailingAllocator<Global>;
 
@@ -110,12 +111,12 @@ fn assert_both_answered(
     alloc: Global,
     served: &mut Served<'_>,
 ) -> Result<(), Fail> {
-    let [deep, ..] = DEEP;
-    let three = joined(alloc, deep.answer)?;
+    let [row, ..] = deep();
+    let three = joined(alloc, row.answer)?;
     let first = served.open(rt, 0)?;
     let second = served.open(rt, 1)?;
     served.feed(rt, first, b"setoption name Depth value 1\ngo\n");
-    served.feed(rt, second, deep.sent.as_bytes());
+    served.feed(rt, second, row.sent.as_bytes());
     for _ in 0..ROUNDS {
         if !served.host.pending(first) && !served.host.pending(second) {
             break;

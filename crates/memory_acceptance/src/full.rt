@@ -9,7 +9,8 @@ use std::hash::{BuildHasherDefault, FoldHasher};
 use std::process::Abort;
 use std::test::Fail;
 use test_support::FailingAllocator;
-use test_support::rows::{DEEP, joined};
+use test_support::rows::joined;
+use test_support::tables::deep;
 use usi_session::Session;
 
 type Memory = FailingAllocator<Global>;
@@ -67,7 +68,7 @@ fn assert_answers(
     alloc: Global,
     table: &mut FailingTable<'_>,
 ) -> Result<(), Fail> {
-    let [row, ..] = DEEP;
+    let [row, ..] = deep();
     let answer = joined(alloc, row.answer)?;
     let mut session = Session::new(alloc);
     assert!(rt; session.wants_input() && row.sent.len() <= 4096);

@@ -8,7 +8,8 @@ use std::alloc::{AllocError, Global};
 use std::hash::{BuildHasherDefault, FoldHasher};
 use std::process::Abort;
 use std::test::Fail;
-use test_support::rows::{CUT, INFO_AND_BEST_ONE, Row, SLICED, joined};
+use test_support::rows::{INFO_AND_BEST_ONE, Row, joined};
+use test_support::tables::{cut, sliced};
 use usi_session::Session;
 
 // Room for the current search, which is the largest block, and for what is read and queued.
@@ -82,8 +83,8 @@ fn assert_goes_on(
 // nothing.
 #[test]
 fn a_session_goes_on_after_a_refusal(rt: HostRuntime) -> Result<(), Fail> {
-    let [_, deeper, _] = SLICED;
-    for (row, budget, step) in [(CUT, u64::MAX, 512usize), (deeper, 1, 128)] {
+    let [_, deeper, _] = sliced();
+    for (row, budget, step) in [(cut(), u64::MAX, 512usize), (deeper, 1, 128)] {
         let (mut fed, mut worked, mut never) = (false, false, false);
         for blocks in 0..HEAP / step {
             let heap = LocalHeap::new(rt.alloc(), HEAP)?;

@@ -8,8 +8,8 @@ use std::hash::{BuildHasherDefault, FoldHasher};
 use std::process::Abort;
 use std::test::Fail;
 use test_support::FailingAllocator;
-use test_support::pv_lines::{MORE_LINES_THAN_MOVES, THREE_OF_A_MATE, TWO_PLIES};
 use test_support::rows::{Row, joined};
+use test_support::tables::{more_lines_than_moves, three_of_a_mate, two_plies};
 use usi_session::Session;
 use usi_stdio::{StdioFault, stdio};
 
@@ -87,7 +87,7 @@ fn session_refusals(
 
 #[test]
 fn each_request_of_a_session_is_refused_in_turn(rt: HostRuntime) -> Result<(), Fail> {
-    for row in [MORE_LINES_THAN_MOVES, THREE_OF_A_MATE, TWO_PLIES] {
+    for row in [more_lines_than_moves(), three_of_a_mate(), two_plies()] {
         for budget in [50, u64::MAX] {
             for stays_gone in [false, true] {
                 let met = session_refusals(&rt, rt.alloc(), &row, budget, stays_gone)?;
@@ -127,7 +127,8 @@ fn assert_streams(
 
 #[test]
 fn each_request_of_the_streams_is_refused_in_turn(rt: HostRuntime) -> Result<(), Fail> {
-    for (row, entries) in [(TWO_PLIES, 1), (TWO_PLIES, 4096), (THREE_OF_A_MATE, 4096)] {
+    let (short, mate) = (two_plies(), three_of_a_mate());
+    for (row, entries) in [(short, 1), (short, 4096), (mate, 4096)] {
         let (mut ended_early, mut last) = (0u64, 0u64);
         for n in 1..REQUESTS {
             let memory = memory_of(rt.alloc(), n, false);
@@ -172,7 +173,7 @@ fn assert_host(rt: &impl Abort, alloc: Global, memory: &Memory) -> Result<(), Fa
         assert!(rt; memory.refused() > 0);
         return Ok(());
     };
-    let rows = [MORE_LINES_THAN_MOVES, THREE_OF_A_MATE];
+    let rows = [more_lines_than_moves(), three_of_a_mate()];
     let first = opened(send(&mut host, memory, Event::Open))?;
     let second = opened(send(&mut host, memory, Event::Open))?;
     let ids = [first, second];

@@ -7,7 +7,8 @@ use std::test::Fail;
 use test_support::FailingAllocator;
 use test_support::fakes::FailingReader;
 use test_support::rows::joined;
-use test_support::scripts::{QUICK, Script, TWO_SESSIONS};
+use test_support::scripts::Script;
+use test_support::tables::{quick_scripts, two_sessions};
 use usi_replay::{ReplayFault, replay};
 
 // More requests than a run makes.
@@ -52,10 +53,11 @@ fn assert_refusals(
 
 #[test]
 fn refused_memory_of_a_script(rt: HostRuntime) -> Result<(), Fail> {
-    let [_, _, _, plain, ..] = QUICK;
-    assert_refusals(&rt, rt.alloc(), &plain, 4, 64)?;
-    assert_refusals(&rt, rt.alloc(), &TWO_SESSIONS, 1, 640)?;
-    assert_refusals(&rt, rt.alloc(), &TWO_SESSIONS, 4096, 4096)
+    let quick = quick_scripts();
+    assert_refusals(&rt, rt.alloc(), &quick[3], 4, 64)?;
+    let searches = two_sessions();
+    assert_refusals(&rt, rt.alloc(), &searches, 1, 640)?;
+    assert_refusals(&rt, rt.alloc(), &searches, 4096, 4096)
 }
 
 // Plays the script over this memory: out of memory with nothing written, or all of the output.
@@ -116,8 +118,9 @@ fn refusals(
 
 #[test]
 fn each_request_of_a_script_is_refused_in_turn(rt: HostRuntime) -> Result<(), Fail> {
-    let few = refusals(&rt, rt.alloc(), &TWO_SESSIONS, 1, false)?;
-    let many = refusals(&rt, rt.alloc(), &TWO_SESSIONS, 4096, false)?;
+    let script = two_sessions();
+    let few = refusals(&rt, rt.alloc(), &script, 1, false)?;
+    let many = refusals(&rt, rt.alloc(), &script, 4096, false)?;
     assert!(rt; few > 0 && many > few, "{few} {many}");
     println!(rt; "replay, one: {few} requests with a table of 1 entry, {many} of 4,096")?;
     Ok(())
@@ -125,8 +128,9 @@ fn each_request_of_a_script_is_refused_in_turn(rt: HostRuntime) -> Result<(), Fa
 
 #[test]
 fn memory_of_a_script_stays_gone(rt: HostRuntime) -> Result<(), Fail> {
-    let few = refusals(&rt, rt.alloc(), &TWO_SESSIONS, 1, true)?;
-    let many = refusals(&rt, rt.alloc(), &TWO_SESSIONS, 4096, true)?;
+    let script = two_sessions();
+    let few = refusals(&rt, rt.alloc(), &script, 1, true)?;
+    let many = refusals(&rt, rt.alloc(), &script, 4096, true)?;
     assert!(rt; few > 0 && many > few, "{few} {many}");
     println!(rt;
         "replay, all from one on: {few} requests with a table of 1 entry, {many} of 4,096"

@@ -3,7 +3,8 @@
 use std::alloc::Global;
 use std::process::Abort;
 use std::test::Fail;
-use test_support::rows::{LONG, Row, joined};
+use test_support::rows::{Row, joined};
+use test_support::tables::long;
 use usi_replay::replay;
 
 fn assert_written(rt: &impl Abort, written: &[u8], answer: &str) -> Result<(), Fail> {
@@ -30,7 +31,7 @@ fn assert_replay(rt: &impl Abort, alloc: Global, row: &Row) -> Result<(), Fail> 
 
 #[test]
 fn long_answers(rt: HostRuntime) -> Result<(), Fail> {
-    for row in LONG {
+    for row in long() {
         assert_replay(&rt, rt.alloc(), &row)?;
     }
     Ok(())

@@ -3,8 +3,10 @@
 use std::alloc::Global;
 use std::process::Abort;
 use std::test::Fail;
-use test_support::pv_lines::{DEEP, MORE_LINES_THAN_MOVES, QUICK, THREE_OF_A_MATE, TWO_PLIES};
 use test_support::rows::{Row, joined};
+use test_support::tables::{
+    deep_with_lines, more_lines_than_moves, quick_with_lines, three_of_a_mate, two_plies,
+};
 use usi_replay::replay;
 
 /// The names of sessions.
@@ -55,9 +57,10 @@ fn assert_replayed(
 
 #[test]
 fn sessions_with_lines_of_their_own(rt: HostRuntime) -> Result<(), Fail> {
-    let [two, by_hand, one] = DEEP;
-    let deep = [two, one, by_hand, MORE_LINES_THAN_MOVES];
-    let short = [TWO_PLIES, THREE_OF_A_MATE, MORE_LINES_THAN_MOVES, TWO_PLIES];
+    let [two, by_hand, one] = deep_with_lines();
+    let deep = [two, one, by_hand, more_lines_than_moves()];
+    let plies = two_plies();
+    let short = [plies, three_of_a_mate(), more_lines_than_moves(), plies];
     for entries in [1, 4096] {
         for slice in [1, 7, 1000, 1_000_000_000] {
             assert_replayed(&rt, rt.alloc(), &short, entries, slice)?;
@@ -69,8 +72,8 @@ fn sessions_with_lines_of_their_own(rt: HostRuntime) -> Result<(), Fail> {
 
 #[test]
 fn rows_as_scripts(rt: HostRuntime) -> Result<(), Fail> {
-    for row in QUICK {
-        assert_replayed(&rt, rt.alloc(), &[row], 64, 100)?;
+    for row in quick_with_lines() {
+        assert_replayed(&rt, rt.alloc(), &[*row], 64, 100)?;
     }
     Ok(())
 }

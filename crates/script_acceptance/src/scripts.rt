@@ -5,7 +5,8 @@ use std::process::Abort;
 use std::test::Fail;
 use test_support::fakes::{FailingReader, FailingWriter};
 use test_support::rows::joined;
-use test_support::scripts::{QUICK, SEARCHES, Script, TWO_SESSIONS};
+use test_support::scripts::Script;
+use test_support::tables::{self, searches, two_sessions};
 use usi_replay::{ReplayFault, replay};
 
 // Bad scripts, each with the number of its first bad line.
@@ -101,7 +102,7 @@ fn assert_bad(rt: &impl Abort, alloc: Global, script: &[u8], line: u64) {
 
 #[test]
 fn neither_entries_nor_slices_change_an_output(rt: HostRuntime) -> Result<(), Fail> {
-    for script in SEARCHES {
+    for script in searches() {
         for entries in [1, 4096] {
             for slice in [1, 7, 1000, 1_000_000_000] {
                 assert_script(&rt, rt.alloc(), &script, entries, slice)?;
@@ -113,9 +114,9 @@ fn neither_entries_nor_slices_change_an_output(rt: HostRuntime) -> Result<(), Fa
 
 #[test]
 fn quick_scripts(rt: HostRuntime) -> Result<(), Fail> {
-    for script in QUICK {
+    for script in tables::quick_scripts() {
         for slice in [1, 1_000_000_000] {
-            assert_script(&rt, rt.alloc(), &script, 4096, slice)?;
+            assert_script(&rt, rt.alloc(), script, 4096, slice)?;
         }
     }
     Ok(())
@@ -190,10 +191,11 @@ fn a_thousand_sessions(rt: HostRuntime) -> Result<(), Fail> {
 // Each read failing in turn, the one that tells the end too: nothing was written.
 #[test]
 fn each_read_of_a_script_fails_in_turn(rt: HostRuntime) -> Result<(), Fail> {
-    let output = joined(rt.alloc(), TWO_SESSIONS.output)?;
+    let script = two_sessions();
+    let output = joined(rt.alloc(), script.output)?;
     let (mut failed, mut passed) = (false, false);
     for reads in 0..14usize {
-        let mut reader = FailingReader::new(TWO_SESSIONS.text.as_bytes(), 5, reads);
+        let mut reader = FailingReader::new(script.text.as_bytes(), 5, reads);
         let mut writer = Vec::new(rt.alloc());
         match replay(rt.alloc(), &mut reader, &mut writer, 2, 1, 1000) {
             Ok(()) => {
@@ -213,7 +215,7 @@ fn each_read_of_a_script_fails_in_turn(rt: HostRuntime) -> Result<(), Fail> {
 
 // How a writer ends a replay: all was written, or a front and a fault.
 fn assert_front(rt: &impl Abort, alloc: Global, mut writer: FailingWriter) -> Result<bool, Fail> {
-    let [_, _, script, _] = SEARCHES;
+    let [_, _, script, _] = searches();
     let mut reader = script.text.as_bytes();
     let output = joined(alloc, script.output)?;
     let ended = replay(alloc, &mut reader, &mut writer, 1, 4096, 1000);

@@ -1,5 +1,6 @@
 //! Outside values: codes and indices by hand, the opening position, faults and moves of pieces of the rule book.
 
+use crate::bits::has;
 use crate::board::Board;
 use crate::hands::Hands;
 use crate::moves::Move;
@@ -324,6 +325,114 @@ fn moves_at_the_edge_and_blocked(rt: HostRuntime) -> Result<(), Fail> {
     assert!(rt;
         !pawn.reaches(square(4, 4)?, square(4, 3)?),
         "an empty square"
+    );
+    Ok(())
+}
+
+/// Whether a piece that stands nowhere would reach exactly these squares of the board from the square.
+fn would_reach_only(
+    board: &Board,
+    (color, role, file, rank): Placed,
+    targets: &[(u8, u8)],
+) -> Result<bool, Fail> {
+    let mask = board.targets_of(Piece { color, role }, square(file, rank)?);
+    for index in 0..81 {
+        let to = Square::of_index(index);
+        if has(mask, index) != targets.contains(&(to.file(), to.rank())) {
+            return Ok(false);
+        }
+    }
+    Ok(true)
+}
+
+// A gold stands where the pieces are thought to stand, or a silver, and neither moves nor blocks for them;
+// the first piece on the way is reached, whosever it is, and nothing behind it.
+#[test]
+fn moves_from_where_another_stands(rt: HostRuntime) -> Result<(), Fail> {
+    let board = board(&[
+        (Color::White, Role::Gold, 5, 5),
+        (Color::Black, Role::Pawn, 5, 3),
+        (Color::White, Role::Pawn, 3, 5),
+        (Color::White, Role::Knight, 4, 4),
+        (Color::Black, Role::Silver, 7, 7),
+    ])?;
+    let dragon = [
+        (5, 4),
+        (5, 3),
+        (5, 6),
+        (5, 7),
+        (5, 8),
+        (5, 9),
+        (4, 5),
+        (3, 5),
+        (6, 5),
+        (7, 5),
+        (8, 5),
+        (9, 5),
+        (4, 4),
+        (6, 4),
+        (4, 6),
+        (6, 6),
+    ];
+    let bishop = [
+        (4, 4),
+        (6, 4),
+        (7, 3),
+        (8, 2),
+        (9, 1),
+        (6, 6),
+        (7, 7),
+        (4, 6),
+        (3, 7),
+        (2, 8),
+        (1, 9),
+    ];
+    let horse = [
+        (6, 6),
+        (5, 5),
+        (8, 6),
+        (9, 5),
+        (8, 8),
+        (9, 9),
+        (6, 8),
+        (5, 9),
+        (7, 6),
+        (7, 8),
+        (6, 7),
+        (8, 7),
+    ];
+    let white_lance = [(5, 6), (5, 7), (5, 8), (5, 9)];
+    let white_silver = [(5, 6), (4, 4), (6, 4), (4, 6), (6, 6)];
+    for (placed, targets) in [
+        ((Color::Black, Role::Dragon, 5, 5), &dragon[..]),
+        ((Color::White, Role::Bishop, 5, 5), &bishop),
+        ((Color::Black, Role::Lance, 5, 5), &[(5, 4), (5, 3)]),
+        ((Color::White, Role::Lance, 5, 5), &white_lance),
+        ((Color::Black, Role::Knight, 5, 5), &[(4, 3), (6, 3)]),
+        ((Color::White, Role::Knight, 5, 5), &[(4, 7), (6, 7)]),
+        ((Color::White, Role::Silver, 5, 5), &white_silver),
+        ((Color::Black, Role::Pawn, 5, 5), &[(5, 4)]),
+        ((Color::White, Role::Horse, 7, 7), &horse),
+    ] {
+        assert!(rt; would_reach_only(&board, placed, targets)?, "{placed:?}");
+    }
+    Ok(())
+}
+
+#[test]
+fn moves_from_an_empty_square(rt: HostRuntime) -> Result<(), Fail> {
+    let board = board(&[(Color::White, Role::Pawn, 1, 8)])?;
+    let lance = (Color::Black, Role::Lance, 1, 9);
+    let gold = (Color::Black, Role::Gold, 1, 9);
+    let pawn = (Color::White, Role::Pawn, 1, 9);
+    assert!(rt; would_reach_only(&board, lance, &[(1, 8)])?, "lance");
+    assert!(rt;
+        would_reach_only(&board, gold, &[(1, 8), (2, 8), (2, 9)])?,
+        "gold"
+    );
+    assert!(rt;
+        would_reach_only(&board, pawn, &[])?,
+        "a pawn on its last rank"
     );
     Ok(())
 }

@@ -158,6 +158,57 @@ fn captures_and_promotions(rt: HostRuntime) -> Result<(), Fail> {
     Ok(())
 }
 
+// White's bishop, on 3c or as a horse on 7g, Black's dragon if it is there, Black's gold on 1i and the kings.
+fn board_of_a_bishop(
+    (file, rank, role): (u8, u8, Role),
+    dragon: Option<(u8, u8)>,
+) -> Result<[Option<Piece>; 81], Fail> {
+    let mut cells: [Option<Piece>; 81] = [None; 81];
+    for (file, rank, color, role) in [
+        (5, 9, Color::Black, Role::King),
+        (5, 1, Color::White, Role::King),
+        (1, 9, Color::Black, Role::Gold),
+        (file, rank, Color::White, role),
+    ] {
+        let square = Square::new(file, rank).ok_or("a square")?;
+        cells[square.index()] = Some(Piece { color, role });
+    }
+    if let Some((file, rank)) = dragon {
+        let square = Square::new(file, rank).ok_or("a square")?;
+        cells[square.index()] = Some(Piece {
+            color: Color::Black,
+            role: Role::Dragon,
+        });
+    }
+    Ok(cells)
+}
+
+// White's bishop on 3c takes a dragon on 7g and promotes: White holds a rook, and Black's pawn in hand, gold
+// and king stay.
+#[test]
+fn a_node_goes_on_to_the_next(rt: HostRuntime) -> Result<(), Fail> {
+    let pawn = Hands::none().with(Color::Black, Kind::Pawn, 1);
+    let before = board_of_a_bishop((3, 3, Role::Bishop), Some((7, 7)))?;
+    let before = Position::new(before, pawn, Color::White)?;
+    let both = pawn.with(Color::White, Kind::Rook, 1);
+    let after = board_of_a_bishop((7, 7, Role::Horse), None)?;
+    let after = Position::new(after, both, Color::Black)?;
+    let m = Move::Board {
+        from: Square::new(3, 3).ok_or("a square")?,
+        to: Square::new(7, 7).ok_or("a square")?,
+        promote: true,
+    };
+    assert!(rt; is_legal(&before, m), "a legal move");
+    for (e, first, last) in [(Eval::Plain, -1200, -1400), (Eval::Hand, -1210, -1490)] {
+        let mut node = Node::of(before, e);
+        assert_eq!(rt; node.score(), first);
+        node.advance(m);
+        assert_eq!(rt; node.position(), after);
+        assert_eq!(rt; (node.score(), node.eval()), (last, e));
+    }
+    Ok(())
+}
+
 // Two golds are held, and one of them is dropped on 4d.
 #[test]
 fn drops(rt: HostRuntime) -> Result<(), Fail> {
