@@ -334,7 +334,7 @@ impl Frame {
     }
 
     /// Whether the next move is to be begun with.
-    fn is_next(&self) -> bool
+    pub fn is_next(&self) -> bool
         ensures { IsTrue result ↔ (self.now.waiting ≡ Waiting.Next) }
     {
         matches!(self.waiting, Waiting::Next)

@@ -265,18 +265,16 @@ impl Stack {
         ensures eval { self.new.eval ≡ self.old.eval }
         ensures beta { self.new.beta ≡ self.old.beta }
     {
+        if self.top.is_next() {
+            let Some(current) = self.top.ask() else {
+                *made += 1;
+                return self.leave(memo);
+            };
+            *made += self.descend(&current, memo, budget - *made);
+            return None;
+        }
         match self.top.waiting {
-            Waiting::Next => match self.top.ask() {
-                Some(current) => {
-                    *made += self.descend(&current, memo, budget - *made);
-                    None
-                }
-                None => {
-                    *made += 1;
-                    self.leave(memo)
-                }
-            },
-            Waiting::Asked(_) => unreachable!(),
+            Waiting::Next | Waiting::Asked(_) => unreachable!(),
             Waiting::Leaf(current, value) => {
                 *made += 1;
                 self.top.take(&current, &Entry::Exact(value, None));
