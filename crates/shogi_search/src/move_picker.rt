@@ -145,12 +145,16 @@ impl MovePicker {
         ensures next { MatchOption result (todo p.now self.old ≡ todo_after p.now self.new) (λ m. todo p.now self.old ≡ code_of m ∷ todo p.now self.new) }
         ensures kept { IsKept p.now self.new }
     {
-        match self {
-            MovePicker::Captures(hash_move, sweep) => next_board(p, hash_move, true, sweep),
-            MovePicker::Quiets(hash_move, sweep) => next_board(p, hash_move, false, sweep),
-            MovePicker::Drops(hash_move, sweep) => next_drop(p, hash_move, sweep),
-            _ => None,
+        if let MovePicker::Drops(hash_move, sweep) = self {
+            return next_drop(p, hash_move, sweep);
         }
+        if let MovePicker::Captures(hash_move, sweep) = self {
+            return next_board(p, hash_move, true, sweep);
+        }
+        if let MovePicker::Quiets(hash_move, sweep) = self {
+            return next_board(p, hash_move, false, sweep);
+        }
+        None
     }
 
     /// The next move to visit, where it is one of the sweep that is under way after which the other side
