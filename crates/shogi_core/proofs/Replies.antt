@@ -1,5 +1,5 @@
 -- A move that gives no check.
-use Rattle.std.proofs.Common.{◌≡◌, ℕ, ◌<◌, ◌⊎◌, true, false, sym, ap, subst, ◌∙◌, inl, inr}
+use Rattle.std.proofs.Common.{◌≡◌, ℕ, ◌<◌, ◌⊎◌, true, false, ap, subst, ◌∙◌, inl, inr}
 use Rattle.std.specs.Prelude.{is_none}
 use Rattle.std.proofs.lemmas.Bool.{false_from_ne_true, both_ways, and_from}
 use Rattle.shogi_core.specs.declared.piece.Color.{Color}

@@ -1,15 +1,13 @@
 -- Squares by rank, as masks.
-use Rattle.std.proofs.Common.{◌≡◌, ℕ, ◌<◌, ◌+◌, ◌*◌, ◌^◌, Bool, true, false, refl, ◌∙◌, arith, get_or, bit_or, inl, inr}
+use Rattle.std.proofs.Common.{◌≡◌, ℕ, ◌<◌, ◌+◌, ◌*◌, ◌^◌, Bool, true, false, refl, ◌∙◌, arith, get_or, bit_or}
 use Rattle.std.specs.Prelude.{◌%◌, ◌/◌, ◌==◌, ◌&&◌, ◌||◌, nat_lt}
-use Rattle.std.proofs.lemmas.Bool.{agree_below_at, ltb-true, lt-ltb, le-ltb, cases_lt, cases_eq, eq-eqb, ne_eqb}
+use Rattle.std.proofs.lemmas.Bool.{agree_below_at, ltb-true}
 use Rattle.std.proofs.lemmas.Nat.{or_lt}
 use Rattle.shogi_core.specs.declared.bits.TheConstants.{ALL_SQUARES}
 use Rattle.shogi_core.specs.Bits.{has_bit}
 use Rattle.shogi_core.specs.declared.piece.Color.{Color}
 use Rattle.shogi_core.specs.declared.piece.Role.{Role}
-use Rattle.shogi_core.proofs.BitLaws.{has_bit-none, has_bit-or}
-use Rattle.shogi_core.specs.Movement.{Cells}
-use Rattle.shogi_core.specs.Validity.{pawns_on_file}
+use Rattle.shogi_core.proofs.BitLaws.{has_bit-none}
 use Rattle.shogi_moves.specs.declared.zones.TheConstants.{FILES, FIRST_RANK, FIRST_TWO_RANKS, FIRST_THREE_RANKS, LAST_RANK, LAST_TWO_RANKS, LAST_THREE_RANKS}
 use Rattle.shogi_moves.specs.Legal.{in_promotion_zone, is_promotable}
 

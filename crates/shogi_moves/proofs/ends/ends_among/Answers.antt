@@ -1,6 +1,5 @@
-use Rattle.std.proofs.Common.{arith, ◌-◌, ◌^◌}
+use Rattle.std.proofs.Common.{arith}
 use Rattle.shogi_moves.proofs.EndLaws.{plain_ends, promoting_ends}
-use Rattle.shogi_core.proofs.LineBits.{and_fits}
 use Rattle.shogi_moves.proofs.ends.ends_among.Goals as goal
 
 pub returns-clause-plain : goal.returns-clause-plain

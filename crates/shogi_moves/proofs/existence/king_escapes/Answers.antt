@@ -1,4 +1,4 @@
-use Rattle.std.proofs.Common.{◌≡◌, ◌∙◌, sym, arith}
+use Rattle.std.proofs.Common.{◌∙◌, sym, arith}
 use Rattle.shogi_moves.proofs.ExistenceLaws.{king_move}
 use Rattle.shogi_moves.proofs.existence.king_escapes.Goals as goal
 

@@ -1,7 +1,5 @@
-use Rattle.std.proofs.Common.{◌≡◌, ◌<◌, ℕ, Some, sym, subst, rules}
+use Rattle.std.proofs.Common.{sym, subst}
 use Rattle.std.proofs.lemmas.Bool.{eqb-true, not-false}
-use Rattle.shogi_core.specs.Bits.{has_bit}
-use Rattle.shogi_core.specs.Movement.{cell_reaches}
 use Rattle.shogi_moves.specs.Replies.{IsHarmless}
 use Rattle.shogi_moves.proofs.ReplyLaws.{harmless_here}
 use Rattle.shogi_moves.proofs.replies.attacks_king.Goals as goal

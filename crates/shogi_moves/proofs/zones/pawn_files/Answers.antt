@@ -1,4 +1,4 @@
-use Rattle.std.proofs.Common.{◌≡◌, ◌∙◌, ◌/◌, sym, arith, true, false}
+use Rattle.std.proofs.Common.{◌≡◌, ◌∙◌, ◌/◌, sym, arith}
 use Rattle.shogi_core.specs.Cell.{is_pawn}
 use Rattle.shogi_core.specs.Movement.{piece_at}
 use Rattle.shogi_moves.proofs.PawnFiles.{pawns_more, pawns_passed}

@@ -1,4 +1,3 @@
-use Rattle.std.proofs.Common.{◌≡◌}
 use Rattle.shogi_moves.proofs.LegalLaws.{listed_to_legal}
 use Rattle.shogi_search.proofs.Nodes.{waits}
 use Rattle.shogi_search.proofs.frame.Frame.certain_leaf.Goals as goal

@@ -1,4 +1,4 @@
-use Rattle.std.proofs.Common.{◌≡◌, false}
+use Rattle.std.proofs.Common.{false}
 use Rattle.shogi_search.specs.Order.{picks_from}
 use Rattle.shogi_search.proofs.Picks.{pick-next, pick-next_capture}
 use Rattle.shogi_search.proofs.move_picker.MovePicker.next_certain.Goals as goal
