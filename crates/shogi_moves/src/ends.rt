@@ -214,7 +214,7 @@ fn with_promotions(cell: Option<Piece>, from: Square, ends: u128) -> Ends
 
 /// The legal ends of one of the pieces of the side to move among the squares of a sort that it
 /// reaches; only the clauses need to know which sort that is.
-#[inline(never)]
+#[inline(always)]
 #[tactic(auto, using(crate::proofs::EndLaws::ending))]
 pub fn ends_among(p: &Position, guard: &Guard, capture: bool, from: Square, among: u128) -> Ends
     requires guard { Guards p.now guard.now.checked guard.now.exposed }

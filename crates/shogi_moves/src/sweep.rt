@@ -91,6 +91,7 @@ impl BoardSweep {
     }
 
     /// The next of the ends of the present piece.
+    #[inline(always)]
     #[tactic(auto, using(crate::proofs::SweepLaws::sweeping))]
     fn take(&mut self, p: &Position, capture: bool) -> Move
         requires kept { IsBoardSweep p.now capture self.old }
@@ -124,6 +125,7 @@ impl BoardSweep {
     }
 
     /// Goes on to the next piece that has a move of the sort, if there is one.
+    #[inline(never)]
     #[tactic(auto, using(crate::proofs::SweepLaws::sweeping))]
     fn refill(&mut self, p: &Position, capture: bool) -> bool
         requires kept { IsBoardSweep p.now capture self.old }
@@ -154,6 +156,7 @@ impl BoardSweep {
     }
 
     /// The next of the moves, or `None` where no board move of the sort is left.
+    #[inline(always)]
     #[tactic(auto, using(crate::proofs::SweepLaws::sweeping))]
     pub fn next(&mut self, p: &Position, capture: bool) -> Option<Move>
         requires kept { IsBoardSweep p.now capture self.old }
@@ -227,6 +230,7 @@ impl DropSweep {
     }
 
     /// The next of the ends of the present kind.
+    #[inline(always)]
     fn take(&mut self, p: &Position) -> Move
         requires kept { IsDropSweep p.now self.old }
         requires some { self.old.ends ≢ 0 }
@@ -244,6 +248,7 @@ impl DropSweep {
     }
 
     /// Goes on to the next kind that has a legal drop, if there is one.
+    #[inline(never)]
     fn refill(&mut self, p: &Position) -> bool
         requires kept { IsDropSweep p.now self.old }
         requires none { self.old.ends ≡ 0 }
@@ -267,6 +272,7 @@ impl DropSweep {
     }
 
     /// The next of the drops, or `None` where none is left.
+    #[inline(always)]
     pub fn next(&mut self, p: &Position) -> Option<Move>
         requires kept { IsDropSweep p.now self.old }
         ensures kept { IsDropSweep p.now self.new }

@@ -37,6 +37,7 @@ fn is_hash_move(hash_move: &Option<Move>, m: &Move) -> bool
 }
 
 /// The next pick of a sweep over the board.
+#[inline(always)]
 #[tactic(auto, using(crate::proofs::Picks::picked))]
 fn next_board(
     p: &Position,
@@ -57,6 +58,7 @@ fn next_board(
 }
 
 /// The next pick of a sweep over the drops.
+#[inline(always)]
 #[tactic(auto, using(crate::proofs::Picks::picked))]
 fn next_drop(p: &Position, hash_move: &Option<Move>, sweep: &mut DropSweep) -> Option<Move>
     requires kept { IsDropSweep p.now sweep.old }
@@ -139,6 +141,7 @@ impl MovePicker {
     }
 
     /// The next move of the sweep that is under way, which moves on where it stands.
+    #[inline(always)]
     #[tactic(auto, using(crate::proofs::Picks::no_capture_left))]
     fn sweep_on(&mut self, p: &Position) -> Option<Move>
         requires kept { IsKept p.now self.old }

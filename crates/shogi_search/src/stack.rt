@@ -218,7 +218,7 @@ impl Stack {
     }
 
     /// Leaves the node on top, and gives what is known of the root where that was it.
-    #[inline(never)]
+    #[inline(always)]
     fn leave<M: Memo>(&mut self, memo: &mut M) -> Option<Entry>
         requires stack { IsStack self.old }
         requires over { IsOver self.old.top.waiting (todo self.old.top.node.position self.old.top.picker) }
