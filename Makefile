@@ -37,7 +37,7 @@ test:
 # host on a socket. Writes docs/BENCHMARKS.md with its plots.
 bench:
 	bench/run.sh
-	bench/go.sh
+	bench/go.py
 	bench/curves.py
 	bench/multipv.py
 	bench/serve.py

@@ -1,6 +1,6 @@
 #!/usr/bin/env python3
 """Measures a whole `go` of the built program with 1, 2, 4 and 8 lines, for three positions. Writes its part
-of docs/BENCHMARKS.md. The program has to be built: bench/go.sh does that."""
+of docs/BENCHMARKS.md. The program has to be built: bench/go.py does that."""
 
 import os
 import subprocess

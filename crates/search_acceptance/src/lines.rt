@@ -170,13 +170,28 @@ fn assert_steps(
     Ok(())
 }
 
-// The opening position at depth 4, and a middle game at depth 3.
-#[test]
-fn steps_of_several_lines(rt: HostRuntime) -> Result<(), Fail> {
-    let sfen = "l6nl/5+P1gk/2np1S3/p1p4Pp/3P2Sp1/1PPb2P1P/P5GS1/R8/LN4bKL w RGgsn5p";
+// The same for lists of 1, 2, 4 and 8 lines.
+fn assert_steps_of_lines(
+    rt: &impl Abort,
+    alloc: Global,
+    p: &Position,
+    depth: u8,
+) -> Result<(), Fail>
+    requires { depth ≤ SEARCH_DEPTH_MAX }
+{
     for lines in [1usize, 2, 4, 8] {
-        assert_steps(&rt, rt.alloc(), &Position::start(), 3, lines)?;
-        assert_steps(&rt, rt.alloc(), &position(sfen)?, 2, lines)?;
+        assert_steps(rt, alloc, p, depth, lines)?;
     }
     Ok(())
+}
+
+#[test]
+fn steps_of_several_lines_from_the_opening(rt: HostRuntime) -> Result<(), Fail> {
+    assert_steps_of_lines(&rt, rt.alloc(), &Position::start(), 3)
+}
+
+#[test]
+fn steps_of_several_lines_in_a_middle_game(rt: HostRuntime) -> Result<(), Fail> {
+    let sfen = "l6nl/5+P1gk/2np1S3/p1p4Pp/3P2Sp1/1PPb2P1P/P5GS1/R8/LN4bKL w RGgsn5p";
+    assert_steps_of_lines(&rt, rt.alloc(), &position(sfen)?, 2)
 }

@@ -1,12 +1,10 @@
 -- A key is had again from its words.
-use Rattle.std.proofs.Common.{◌≡◌, ◌∙◌, ◌≤◌, ◌<◌, ◌+◌, ◌-◌, ◌*◌, ◌/◌, ◌%◌, ◌^◌, ℕ, List, [], ◌∷◌, ◌++◌, Option, Some, None, refl, sym, ap, ap₂, arith, get_or, length, map, drop, slice_index}
+use Rattle.std.proofs.Common.{◌≡◌, ◌∙◌, ◌≤◌, ◌<◌, ◌+◌, ◌-◌, ◌*◌, ◌/◌, ◌%◌, ℕ, List, [], ◌∷◌, ◌++◌, Option, Some, None, refl, sym, ap, ap₂, arith, length, map, drop, slice_index}
 use Rattle.std.specs.Bool.{Decides}
 use Rattle.std.specs.Cmp.Lexicographic.{pointwise}
 use Rattle.std.specs.List.{range_with_len, slice_range}
 use Rattle.std.specs.Prelude.{nat_eq}
-use Rattle.std.proofs.Math.Seq.{drop-length}
-use Rattle.std.proofs.Math.Nat.{pow-le-pow_right, pow-suc}
-use Rattle.std.proofs.lemmas.List.{drop_more, ext_get_or, length-drop, length-map, length-take-le, take_all}
+use Rattle.std.proofs.lemmas.List.{ext_get_or, length-drop, length-map, length-take-le, take_all}
 use Rattle.std.proofs.lemmas.Bool.Decides.{Decides-eqb, same_from_decides}
 use Rattle.std.proofs.lemmas.List.Folds.{drop_split}
 use Rattle.std.proofs.lemmas.List.FromFn.{get_or-map-range_with_len, length-map-range_with_len}
@@ -23,29 +21,14 @@ use Rattle.shogi_core.specs.Pieces.{set_size}
 use Rattle.shogi_core.specs.Position.{HandCounts, Shogi, count_in_hand}
 use Rattle.shogi_core.specs.Same.{role_number}
 use Rattle.shogi_core.specs.Validity.{IsValid}
+use Rattle.shogi_core.specs.Words.{board_words, cell_number, cells_word, number_in_base_32, piece_number}
 use Rattle.shogi_core.proofs.Faults.{faultless_from}
+use Rattle.shogi_core.proofs.WordLaws.{AreDigits, cells_are_digits}
 use Rattle.shogi_eval.specs.declared.eval.Eval.{Eval}
 use Rattle.shogi_eval.specs.declared.eval.Eval.TheVariants.{Plain, Hand}
 use Rattle.shared_table.specs.Keys.{eval_number, is_same_key, key_of}
 use Rattle.shared_table.specs.KeyLaws.{key_same}
-use Rattle.shared_table.specs.Packed.{AreWords, cell_of_number, cell_number, cells_in, cells_word, counts_of, depth_in, digits_in_base_32, eval_of_number, eval_in, key_in, number_in_base_32, piece_number, position_in, side_of_number, side_number, words_of}
-
--- each is a digit
-abbrev pub AreDigits : List ℕ → Type 0
-AreDigits [] = Unit {0}
-AreDigits (d ∷ ds) = (d < 32) × AreDigits ds
-
-role_fits : (r : Role) → role_number r < 14
-role_fits role.King = omega arith
-role_fits _ = omega arith
-
-pub cell_fits : (cell : Option Piece) → cell_number cell < 32
-cell_fits None = omega arith
-cell_fits (Some piece) = go piece.color
-  where
-    go : (color : Color) → piece_number color piece.role < 32
-    go Black = omega (arith, role_fits piece.role)
-    go White = omega (arith, role_fits piece.role)
+use Rattle.shared_table.specs.Packed.{AreWords, cell_of_number, cells_in, counts_of, depth_in, digits_in_base_32, eval_of_number, eval_in, key_in, position_in, side_of_number, side_number, words_of}
 
 black_back : (r : Role) → cell_of_number (role_number r + 1) ≡ Some (record { color = Black; role = r })
 black_back role.King = refl
@@ -72,44 +55,6 @@ digits_back (d ∷ ds) fits =
     let low : (d + 32 * number_in_base_32 ds) % 32 ≡ d = omega (arith, fits.0) in
     let high : (d + 32 * number_in_base_32 ds) / 32 ≡ number_in_base_32 ds = omega (arith, fits.0) in
     rw (low, high) (ap (λ (rest : List ℕ). d ∷ rest) (digits_back ds fits.1))
-
--- so many digits are a number below the power
-number_fits : (ds : List ℕ) → AreDigits ds → number_in_base_32 ds < 32 ^ length ds
-unfolding number_in_base_32
-number_fits [] fits = omega arith
-number_fits (d ∷ ds) fits =
-    let rest = number_fits ds fits.1 in
-    rw (pow-suc 32 (length ds)) (omega (arith, rest, fits.0))
-
-cells_are_digits : (cells : Cells) → AreDigits (map cell_number cells)
-cells_are_digits [] = tt
-cells_are_digits (cell ∷ cells) = (cell_fits cell, cells_are_digits cells)
-
--- there is room for one more square
-pub word_fits : (cells : Cells) → length cells < 12 → number_in_base_32 (map cell_number cells) < 2 ^ 55
-word_fits cells few =
-    let fits = number_fits (map cell_number cells) (cells_are_digits cells) in
-    let below : number_in_base_32 (map cell_number cells) < 32 ^ length cells = rw (length-map cells cell_number) at fits in
-    let most : 32 ^ length cells ≤ 32 ^ 11 = pow-le-pow_right {n = 32} (omega arith) {i = length cells} {j = 11} (omega arith) in
-    omega (arith, below, most)
-
--- before the first square there is none
-pub word_start : (cells : Cells) → 0 ≡ number_in_base_32 (map cell_number (drop (length cells) cells))
-unfolding number_in_base_32
-word_start cells = rw (drop-length cells) refl
-
--- one more square in front
-pub word_step : (cells : Cells) (at word number : ℕ) → at < length cells → word ≡ number_in_base_32 (map cell_number (drop (at + 1) cells))
-    → number ≡ cell_number (get_or cells at None) → 32 * word + number ≡ number_in_base_32 (map cell_number (drop at cells))
-unfolding number_in_base_32
-word_step cells at word number below rest is = rw (drop_more cells at None below, rest, is) (omega arith)
-
--- there is room for it
-pub word_room : (cells : Cells) (at word number : ℕ) → 0 < at → at ≤ length cells → length cells ≤ 12 → number < 32
-    → word ≡ number_in_base_32 (map cell_number (drop at cells)) → 32 * word + number < 2 ^ 64
-word_room cells at word number some below few digit is =
-    let fits = word_fits (drop at cells) (omega (arith, length-drop at cells)) in
-    omega (arith, fits, is)
 
 all_back : (cells : Cells) → map cell_of_number (map cell_number cells) ≡ cells
 all_back [] = refl
@@ -272,11 +217,10 @@ pub words_test : (a b : List ℕ) → AreWords a → AreWords b → pointwise na
 words_test a b v w = same_from_decides _ _ (words_tell a b v w) (key_same (key_in a) (key_in b))
 
 -- the words, one by one
-pub words_made : (p : Shogi) (eval : Eval) (depth : ℕ) (cells : Cells) (hands : HandCounts) (side : Color) → cells ≡ p.cells → hands ≡ p.hands → side ≡ p.side
-    → (a b c d e f g h i j : ℕ) → a ≡ cells_word cells 0 12 → b ≡ cells_word cells 12 24 → c ≡ cells_word cells 24 36 → d ≡ cells_word cells 36 48
-    → e ≡ cells_word cells 48 60 → f ≡ cells_word cells 60 72 → g ≡ cells_word cells 72 81 → h ≡ number_in_base_32 (counts_of hands Black)
-    → i ≡ number_in_base_32 (counts_of hands White) → j ≡ side_number side + 2 * (eval_number eval + 2 * depth)
-    → a ∷ b ∷ c ∷ d ∷ e ∷ f ∷ g ∷ h ∷ i ∷ j ∷ [] ≡ words_of (key_of p eval depth)
+pub words_made : (p : Shogi) (eval : Eval) (depth : ℕ) (board : List ℕ) (hands : HandCounts) (side : Color) → board ≡ board_words p.cells → hands ≡ p.hands → side ≡ p.side
+    → (a b c : ℕ) → a ≡ number_in_base_32 (counts_of hands Black) → b ≡ number_in_base_32 (counts_of hands White)
+    → c ≡ side_number side + 2 * (eval_number eval + 2 * depth)
+    → slice_index board 0 ∷ slice_index board 1 ∷ slice_index board 2 ∷ slice_index board 3 ∷ slice_index board 4 ∷ slice_index board 5 ∷ slice_index board 6
+    ∷ a ∷ b ∷ c ∷ [] ≡ words_of (key_of p eval depth)
 unfolding words_of
-words_made p eval depth cells hands side same_cells same_hands same_side a b c d e f g h i j ea eb ec ed ee ef eg eh ei ej =
-    rw (ea, eb, ec, ed, ee, ef, eg, eh, ei, ej, same_cells, same_hands, same_side) refl
+words_made p eval depth board hands side same_board same_hands same_side a b c ea eb ec = rw (ea, eb, ec, same_board, same_hands, same_side) refl

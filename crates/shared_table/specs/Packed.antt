@@ -1,38 +1,18 @@
 -- The words of a key (own choice): ten numbers that say what stands on the squares, what is held, whose turn it is, the evaluation and the depth.
-use Rattle.std.specs.Prelude.{ℕ, ◌+◌, ◌*◌, ◌^◌, ◌/◌, ◌%◌, ◌<◌, ◌≡◌, zero, suc, List, [], ◌∷◌, ◌++◌, map, slice_index, slice_index_or, slice_range, Option, Some, None}
+use Rattle.std.specs.Prelude.{ℕ, ◌+◌, ◌*◌, ◌^◌, ◌/◌, ◌%◌, ◌<◌, ◌≡◌, zero, suc, List, [], ◌∷◌, ◌++◌, map, slice_index, slice_index_or, Option, None}
 use Rattle.std.specs.Hash as fed
 use Rattle.shogi_core.specs.declared.piece.Color.{Color}
 use Rattle.shogi_core.specs.declared.piece.Color.TheVariants.{Black, White}
 use Rattle.shogi_core.specs.declared.piece.Piece.{Piece}
-use Rattle.shogi_core.specs.declared.piece.Role.{Role}
 use Rattle.shogi_core.specs.Movement.{Cells}
 use Rattle.shogi_core.specs.Pieces.{all_kinds}
 use Rattle.shogi_core.specs.Position.{Shogi, HandCounts, count_in_hand}
-use Rattle.shogi_core.specs.Same.{role_number}
 use Rattle.shogi_core.specs.Validity.{IsValid}
+use Rattle.shogi_core.specs.Words.{board_words, number_in_base_32}
 use Rattle.shogi_eval.specs.declared.eval.Eval.{Eval}
 use Rattle.shogi_eval.specs.declared.eval.Eval.TheVariants.{Plain, Hand}
 use Rattle.shared_table.specs.declared.packing.TheConstants.{CELLS}
 use Rattle.shared_table.specs.Keys.{Key, eval_number}
-
--- from 1 a piece of Black, and from 15 one of White
-abbrev pub piece_number : Color → Role → ℕ
-piece_number Black role = role_number role + 1
-piece_number White role = role_number role + 15
-
--- a number for what stands on a square: 0 where it is empty
-abbrev pub cell_number : Option Piece → ℕ
-cell_number None = 0
-cell_number (Some piece) = piece_number piece.color piece.role
-
--- the number of these digits in base 32, the first the lowest. What stands on a square is a number from 0 to 28, and a count in hand one from 0 to 18, so each is a digit; twelve digits of five bits fit in a word of 64 bits
-unfoldable pub number_in_base_32 : List ℕ → ℕ
-number_in_base_32 [] = 0
-number_in_base_32 (digit ∷ digits) = digit + 32 * number_in_base_32 digits
-
--- the word of the squares from the one up to the other, which it does not count
-abbrev pub cells_word : Cells → ℕ → ℕ → ℕ
-cells_word cells from to = number_in_base_32 (map cell_number (slice_range cells from to))
 
 -- how many of each kind a side holds
 abbrev pub counts_of : HandCounts → Color → List ℕ
@@ -43,17 +23,11 @@ abbrev pub side_number : Color → ℕ
 side_number Black = 0
 side_number White = 1
 
--- the words: twelve squares in each of the first six, and nine in the seventh; Black's counts and White's; the side to move with the evaluation and the depth
+-- the words: the seven of the board; Black's counts and White's, each from 0 to 18 and so a digit; the side to move with the evaluation and the depth
 unfoldable pub words_of : Key → List ℕ
 words_of key =
-    cells_word key.position.cells 0 12
-    ∷ cells_word key.position.cells 12 24
-    ∷ cells_word key.position.cells 24 36
-    ∷ cells_word key.position.cells 36 48
-    ∷ cells_word key.position.cells 48 60
-    ∷ cells_word key.position.cells 60 72
-    ∷ cells_word key.position.cells 72 81
-    ∷ number_in_base_32 (counts_of key.position.hands Black)
+    board_words key.position.cells
+    ++ number_in_base_32 (counts_of key.position.hands Black)
     ∷ number_in_base_32 (counts_of key.position.hands White)
     ∷ (side_number key.position.side + 2 * (eval_number key.eval + 2 * key.depth))
     ∷ []

@@ -4,7 +4,7 @@ ghost use Rattle.std.specs.Prelude.{◌≡◌, ◌↔◌, IsTrue};
 ghost use Rattle.shared_table.specs.Keys.{key_of};
 ghost use Rattle.shared_table.specs.Packed.{key_in, words_of};
 
-use crate::packing::{cells_word, hand_word, last_word, pair, place_cells, side_of, with_counts};
+use crate::packing::{hand_word, last_word, pair, place_cells, side_of, with_counts};
 use shogi_core::{Board, Color, Hands, Position};
 use shogi_eval::Eval;
 use std::hash::{Hash, Hasher};
@@ -41,17 +41,17 @@ impl TableKey {
         ensures { result ≡ key_of position.now eval depth }
     {
         position.validity();
-        let cells = position.as_board().cells();
+        let board = position.as_board().words();
         let hands = position.hands();
         TableKey {
             words: [
-                cells_word(&cells[0..12]),
-                cells_word(&cells[12..24]),
-                cells_word(&cells[24..36]),
-                cells_word(&cells[36..48]),
-                cells_word(&cells[48..60]),
-                cells_word(&cells[60..72]),
-                cells_word(&cells[72..81]),
+                board[0],
+                board[1],
+                board[2],
+                board[3],
+                board[4],
+                board[5],
+                board[6],
                 hand_word(hands, Color::Black),
                 hand_word(hands, Color::White),
                 last_word(position.side(), eval, depth),

@@ -1,10 +1,11 @@
 //! The words of a key: how a position is packed, and had again.
 
-ghost use Rattle.std.specs.Prelude.{◌≡◌, ◌≤◌, ◌<◌, ◌+◌, ◌-◌, ◌*◌, ◌%◌, ◌^◌, ◌++◌, length, map, take};
+ghost use Rattle.std.specs.Prelude.{◌≡◌, ◌≤◌, ◌<◌, ◌+◌, ◌-◌, ◌*◌, ◌%◌, ◌^◌, ◌++◌, length, take};
 ghost use Rattle.shogi_core.specs.Position.{place_of};
+ghost use Rattle.shogi_core.specs.Words.{number_in_base_32};
 ghost use Rattle.shogi_core.specs.declared.piece.Kind.TheVariants.{Pawn};
 ghost use Rattle.shared_table.specs.Keys.{eval_number};
-ghost use Rattle.shared_table.specs.Packed.{cell_of_number, cell_number, cells_in, counts_of, digits_in_base_32, number_in_base_32, side_of_number, side_number};
+ghost use Rattle.shared_table.specs.Packed.{cell_of_number, cells_in, counts_of, digits_in_base_32, side_of_number, side_number};
 
 use shogi_core::{Color, Hands, KINDS, Kind, Piece, Role};
 use shogi_eval::Eval;
@@ -133,52 +134,8 @@ pub fn pair(low: u64, high: u64) -> u128
     low as u128 + 0x1_0000_0000_0000_0000 * high as u128
 }
 
-/// A number for what stands on a square, below 32.
-pub fn cell_number(cell: Option<Piece>) -> u64
-    ensures number { result ≡ cell_number cell }
-    ensures range { result < 32 }
-{
-    let Some(piece) = cell else {
-        return 0;
-    };
-    let role = match piece.role {
-        Role::King => 0,
-        Role::Pawn => 1,
-        Role::Lance => 2,
-        Role::Knight => 3,
-        Role::Silver => 4,
-        Role::Gold => 5,
-        Role::Bishop => 6,
-        Role::Rook => 7,
-        Role::PromotedPawn => 8,
-        Role::PromotedLance => 9,
-        Role::PromotedKnight => 10,
-        Role::PromotedSilver => 11,
-        Role::Horse => 12,
-        Role::Dragon => 13,
-    };
-    match piece.color {
-        Color::Black => role + 1,
-        Color::White => role + 15,
-    }
-}
-
-/// The word of at most twelve squares.
-pub fn cells_word(cells: &[Option<Piece>]) -> u64
-    requires { length cells.now ≤ 12 }
-    ensures { result ≡ number_in_base_32 (map cell_number cells.now) }
-{
-    let mut word = 0;
-    let mut at = cells.len();
-    while at > 0 {
-        at -= 1;
-        word = 32 * word + cell_number(cells[at]);
-    }
-    word
-}
-
 /// The word of what a side holds.
-#[tactic(auto, unfolding(crate::specs::Packed::number_in_base_32))]
+#[tactic(auto, unfolding(shogi_core::specs::Words::number_in_base_32))]
 pub fn hand_word(hands: Hands, color: Color) -> u64
     ensures { result ≡ number_in_base_32 (counts_of hands color) }
 {

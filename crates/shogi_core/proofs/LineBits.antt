@@ -6,7 +6,7 @@ use Rattle.std.specs.Int.Count.{count_leading_zeros}
 use Rattle.std.proofs.lemmas.Int.{ints}
 use Rattle.std.proofs.lemmas.Nat.{leading_top, and_le_l, and_le_r, or_lt}
 use Rattle.std.proofs.lemmas.Nat.Bits.{bit_at-trailing_zeros, bit_at_not, bit_at_ones}
-use Rattle.std.proofs.lemmas.Bool.{cases_Bool, cases_lt, true_from_ne_false, false_from_ne_true, both_ways, and_parts, and_from, or_cases, or_left, or_right, not-true, eq-eqb, eqb-true, ne_eqb}
+use Rattle.std.proofs.lemmas.Bool.{cases_Bool, cases_lt, true_from_ne_false, false_from_ne_true, both_ways, and_parts, and_from, or_cases, or_left, or_right, not-true, not_from_false, eq-eqb, eqb-true, ne_eqb}
 use native.Mathlib.Nat.{pow-suc}
 use Rattle.shogi_core.specs.declared.offset.Offset.{Offset}
 use Rattle.shogi_core.specs.declared.piece.Color.{Color}
@@ -19,9 +19,9 @@ use Rattle.shogi_core.specs.Pieces.{is_same_color}
 use Rattle.shogi_core.specs.Movement.{Cells, away, slides_across, slides, piece_at}
 use Rattle.shogi_core.proofs.BitLaws.{next_none, next_some, has_bit-or, has_bit-and, has_bit-none, has_bit-above, has_bit-one, has_bit-mask, mask_fits}
 use Rattle.shogi_core.specs.Rays.{is_on_ray, ray_of, direction_at}
-use Rattle.shogi_core.proofs.Back.{away_is, leads_is}
+use Rattle.shogi_core.proofs.Back.{away_is, away_on, leads_is}
 use Rattle.shogi_core.proofs.Exposed.{some_below_which}
-use Rattle.shogi_core.proofs.RayLaws.{rises, falls, nearer_down, slides_free, slides_to_first, slides_rising}
+use Rattle.shogi_core.proofs.RayLaws.{rises, falls, nearer, nearer_down, slides_free, slides_to_first, slides_rising}
 use Rattle.shogi_core.proofs.RayTable.{rays_right}
 use Rattle.shogi_core.specs.declared.rays.TheConstants.{RAYS}
 
@@ -126,13 +126,13 @@ direction_falls (suc (suc (suc (suc (suc (suc (suc (suc d)))))))) g h = absurd (
 
 module _ (cells : Cells) (o : Offset) (a occ : ℕ) (occupied : (n : ℕ) → n < 81 → has_bit occ n ≡ not (is_none (piece_at cells n))) where
   -- a piece on the line has its bit
-  bit_there : (x : ℕ) → is_on_ray o a x ≡ true → is_none (piece_at cells x) ≡ false → has_bit (bit_and (ray_of o a) occ) x ≡ true
+  pub bit_there : (x : ℕ) → is_on_ray o a x ≡ true → is_none (piece_at cells x) ≡ false → has_bit (bit_and (ray_of o a) occ) x ≡ true
   bit_there x on taken =
       let low : x < 81 = on_board o a x on in
       has_bit-and (ray_of o a) occ x ∙ and_from _ _ (has_bit-ray o a x low ∙ on) (occupied x low ∙ ap not taken)
 
   -- a bit is that of a piece on the line
-  there_bit : (x : ℕ) → x < 81 → has_bit (bit_and (ray_of o a) occ) x ≡ true → (is_on_ray o a x ≡ true) × (is_none (piece_at cells x) ≡ false)
+  pub there_bit : (x : ℕ) → x < 81 → has_bit (bit_and (ray_of o a) occ) x ≡ true → (is_on_ray o a x ≡ true) × (is_none (piece_at cells x) ≡ false)
   there_bit x low e =
       let parts : (has_bit (ray_of o a) x ≡ true) × (has_bit occ x ≡ true) = and_parts _ _ (sym (has_bit-and (ray_of o a) occ x) ∙ e) in
       (sym (has_bit-ray o a x low) ∙ parts.0, not-true _ (sym (occupied x low) ∙ parts.1))
@@ -167,6 +167,29 @@ module _ (cells : Cells) (o : Offset) (a occ : ℕ) (occupied : (n : ℕ) → n 
 
     falling_line : falls o → ((n : ℕ) → has_bit (bit_and (ray_of o a) occ) n ≡ true → n ≤ f) → (b : ℕ) → b < 81 → has_bit (bit_and (ray_of o a) (2 ^ 128 - 1 - ray_of o f)) b ≡ slides cells o a b
     falling_line down greatest = cut_line (λ m n x ef ex e. nearer_down o a f x m n down ef ex (greatest x e)) (λ i j x ei ej. nearer_down o a x x i j down ei ej (omega arith))
+
+    -- the slide ends on the nearest
+    reached : (nearest : (m n x : ℕ) → away m o a ≡ Some f → away n o a ≡ Some x → has_bit (bit_and (ray_of o a) occ) x ≡ true → m ≤ n)
+        → ((i j x : ℕ) → away i o a ≡ Some x → away j o a ≡ Some x → i ≤ j)
+        → slides cells o a f ≡ true
+    reached nearest apart =
+        let here : (is_on_ray o a f ≡ true) × (is_none (piece_at cells f) ≡ false) = there_bit f low set in
+        let which = some_below_which 8 (slides_across [] o a f) here.0 in
+        let at : away (which.0 + 1) o a ≡ Some f = leads_is _ f ((and_parts _ _ which.2).0) in
+        sym (slides_to_first cells o a f which.0 which.1 which.2 here.1
+        (λ m x l there on taken. (let le : which.0 + 1 ≤ m + 1 = nearest (which.0 + 1) (m + 1) x at there (bit_there x on taken) in omega arith))
+        apart f)
+        ∙ and_from (is_on_ray o a f) (not (is_on_ray o f f)) here.0 (not_from_false _ (false_from_ne_true (is_on_ray o f f) (λ e. (
+        let j = some_below_which 8 (slides_across [] o f f) e in
+        let again : away (which.0 + 1 + (j.0 + 1)) o a ≡ Some f = sym (away_on (which.0 + 1) (j.0 + 1) o a f at) ∙ leads_is _ f ((and_parts _ _ j.2).0) in
+        let le : which.0 + 1 + (j.0 + 1) ≤ which.0 + 1 = apart (which.0 + 1 + (j.0 + 1)) (which.0 + 1) f again at in
+        omega arith))))
+
+    pub lowest_reached : rises o → ((n : ℕ) → has_bit (bit_and (ray_of o a) occ) n ≡ true → f ≤ n) → slides cells o a f ≡ true
+    lowest_reached up least = reached (λ m n x ef ex e. nearer o a f x m n up ef ex (least x e)) (λ i j x ei ej. nearer o a x x i j up ei ej (omega arith))
+
+    pub highest_reached : falls o → ((n : ℕ) → has_bit (bit_and (ray_of o a) occ) n ≡ true → n ≤ f) → slides cells o a f ≡ true
+    highest_reached down greatest = reached (λ m n x ef ex e. nearer_down o a f x m n down ef ex (greatest x e)) (λ i j x ei ej. nearer_down o a x x i j down ei ej (omega arith))
 
   -- the highest bit of the line's and of bit 0, from where the line leads no further
   pub falling_bits : falls o → ray_of o 0 ≡ 0 → (f : ℕ) → f < 81 → has_bit (bit_or (bit_and (ray_of o a) occ) 1) f ≡ true → ((n : ℕ) → has_bit (bit_or (bit_and (ray_of o a) occ) 1) n ≡ true → n ≤ f)

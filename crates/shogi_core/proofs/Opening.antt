@@ -1,6 +1,6 @@
 -- The opening position has no fault.
 use Rattle.std.proofs.Common.{◌≡◌, refl, None, false}
-use Rattle.shogi_core.specs.declared.start.TheConstants.{START_BLACK, START_WHITE, START_KINGS, START_SLIDERS}
+use Rattle.shogi_core.specs.declared.start.TheConstants.{START_BLACK, START_WHITE, START_KINGS, START_SLIDERS, START_WORDS}
 use Rattle.shogi_core.specs.declared.piece.Color.TheVariants.{Black, White}
 use Rattle.shogi_core.specs.Below.{some_below, all_below}
 use Rattle.shogi_core.specs.Movement.{reaches, away}
@@ -9,6 +9,7 @@ use Rattle.shogi_core.specs.Validity.{fault_of, has_two_pawns, has_dead_piece}
 use Rattle.shogi_core.specs.Bits.{mask_below}
 use Rattle.shogi_core.specs.Masks.{places_of, own_of, kings_of, sliders_of}
 use Rattle.shogi_core.specs.Start.{start, start_cells}
+use Rattle.shogi_core.specs.Words.{board_words, number_in_base_32}
 
 pub start_pawns : has_two_pawns start_cells ≡ false
 unfolding some_below
@@ -42,3 +43,8 @@ start_kings = refl
 pub start_sliders : START_SLIDERS ≡ sliders_of start_cells
 unfolding places_of mask_below
 start_sliders = refl
+
+-- its words
+pub start_words : START_WORDS ≡ board_words start_cells
+unfolding number_in_base_32
+start_words = refl

@@ -1,56 +1,31 @@
 -- A piece whose leaving would give check stands alone between a king and a sniper.
 use Rattle.std.proofs.Common.{◌≡◌, ◌⊎◌, ℕ, ◌+◌, ◌<◌, ◌^◌, Bool, true, false, not, refl, sym, ap, subst, ◌∙◌, arith, inl, inr, Option, Some, None, bit_and, bit_or, set, length, get_or-set_same, get_or-set_other, []}
-use Rattle.std.specs.Prelude.{◌==◌, ◌&&◌, is_none}
+use Rattle.std.specs.Prelude.{◌==◌, ◌&&◌, ◌||◌, is_none}
 use Rattle.std.proofs.lemmas.Nat.{or_lt}
+use Rattle.std.proofs.Math.Pow.{pow-lt}
 use Rattle.std.proofs.lemmas.List.{get_or_past}
-use Rattle.std.proofs.lemmas.Bool.{cases_lt, cases_eq, false_from_ne_true, both_ways, and_parts, and_from, or_cases, or_left, or_right, not_from_false, ne_eqb}
+use Rattle.std.proofs.lemmas.Bool.{cases_lt, cases_eq, false_from_ne_true, both_ways, and_parts, and_from, or_cases, or_left, or_right, not_from_false, eq-eqb, ne_eqb}
 use Rattle.shogi_core.specs.declared.offset.Offset.{Offset}
 use Rattle.shogi_core.specs.declared.piece.Color.{Color}
+use Rattle.shogi_core.specs.declared.piece.Color.TheVariants.{Black, White}
 use Rattle.shogi_core.specs.declared.piece.Piece.{Piece}
 use Rattle.shogi_core.specs.Attack.{is_attacked_from, is_attacked, is_open_king, in_check, is_sniper, is_pinned_by}
 use Rattle.shogi_core.specs.Below.{some_below}
 use Rattle.shogi_core.specs.Bits.{has_bit}
 use Rattle.shogi_core.specs.Cell.{is_piece_of, is_king, is_slider}
 use Rattle.shogi_core.specs.Lines.{back, around, are_lined, is_same_offset}
-use Rattle.shogi_core.specs.Movement.{Cells, away, is_step_empty, is_empty, slides_across, slides, for_side, slides_of, has_slide, has_step, cell_reaches, reaches, piece_at}
-use Rattle.shogi_core.specs.Pieces.{opponent_of}
+use Rattle.shogi_core.specs.Movement.{Cells, slides, for_side, slides_of, has_slide, has_step, cell_reaches, reaches, piece_at}
+use Rattle.shogi_core.specs.Pieces.{is_same_color, opponent_of}
 use Rattle.shogi_core.specs.Rays.{direction_at, ray_of, is_on_ray}
-use Rattle.shogi_core.proofs.Back.{back_twice, leads_is}
-use Rattle.shogi_core.proofs.Below.{all_below_at, some_below_at, some_below_no}
-use Rattle.shogi_core.proofs.BitLaws.{has_bit-and, has_bit-or, has_bit-none}
+use Rattle.shogi_core.proofs.Back.{back_twice}
+use Rattle.shogi_core.proofs.Below.{some_below_at, some_below_no}
+use Rattle.shogi_core.proofs.BitLaws.{same_mask, has_bit-and, has_bit-or, has_bit-one, has_bit-none}
 use Rattle.shogi_core.proofs.Exposed.{one_of, some_below_which, slides_was}
-use Rattle.shogi_core.proofs.LineBits.{and_fits, has_bit-ray}
+use Rattle.shogi_core.proofs.LineBits.{has_bit-ray}
+use Rattle.shogi_core.proofs.Nearest.{one_piece}
 use Rattle.shogi_core.proofs.RayLaws.{slides_bare}
 use Rattle.shogi_core.proofs.SeenLaws.{slides_back, slides_back_around, slides_role}
-use Rattle.shogi_core.proofs.Shots.{direction_around, shot_by, slide_by}
-
--- ---- the first piece on a line
-
-some_of : (color : Color) (cell : Option Piece) → is_piece_of color cell ≡ true → is_none cell ≡ false
-some_of color None e = absurd (cc)
-some_of color (Some piece) e = refl
-
--- a piece nearer than the end of a slide is not passed
-not_nearer : (cells : Cells) (o : Offset) (s a b i j : ℕ) → i < j → slides_across cells o s a i ≡ true → slides_across cells o s b j ≡ true → is_none (piece_at cells a) ≡ false → false ≡ true
-not_nearer cells o s a b i j l e f taken =
-    let here : away (i + 1) o s ≡ Some a = leads_is _ a ((and_parts _ _ e).0) in
-    sym taken ∙ (sym (ap (is_empty cells) here) ∙ all_below_at j (is_step_empty cells o s) i ((and_parts _ _ f).1) l)
-
-some_same : (s : Option ℕ) (a b : ℕ) → s ≡ Some a → s ≡ Some b → a ≡ b
-some_same s a b e f = let both : Some a ≡ Some b = sym e ∙ f in cc
-
--- a slide ends at one piece
-pub one_end : (cells : Cells) (color : Color) (o : Offset) (s a b : ℕ) → slides cells o s a ≡ true → slides cells o s b ≡ true → is_piece_of color (piece_at cells a) ≡ true → is_piece_of color (piece_at cells b) ≡ true → a ≡ b
-one_end cells color o s a b e f p q =
-    let i = some_below_which 8 (slides_across cells o s a) e in
-    let j = some_below_which 8 (slides_across cells o s b) f in
-    elim (cases_eq i.0 j.0) [
-      | inl same ↦ some_same (away (i.0 + 1) o s) a b (leads_is _ a ((and_parts _ _ i.2).0)) (ap (λ (k : ℕ). away (k + 1) o s) same ∙ leads_is _ b ((and_parts _ _ j.2).0))
-      | inr other ↦ elim (cases_lt i.0 j.0) [
-        | inl near ↦ absurd (let clash : false ≡ true = not_nearer cells o s a b i.0 j.0 near i.2 j.2 (some_of color (piece_at cells a) p) in cc)
-        | inr far ↦ absurd (let clash : false ≡ true = not_nearer cells o s b a j.0 i.0 (omega arith) j.2 i.2 (some_of color (piece_at cells b) q) in cc)
-      ]
-    ]
+use Rattle.shogi_core.proofs.Shots.{direction_around, some_of, shot_by, slide_by}
 
 -- ---- the masks of one direction
 
@@ -61,6 +36,9 @@ module _ (cells : Cells) (side : Color) (square d n a : ℕ) (pin : is_pinned_by
   pub pin_sniper : is_sniper cells (opponent_of side) square a ≡ true
   pin_sniper = (and_parts _ _ ((and_parts _ _ ((and_parts _ _ ((and_parts _ _ pin).0)).0)).0)).1
 
+  pub pin_there : is_none (piece_at cells a) ≡ false
+  pin_there = some_of (opponent_of side) (piece_at cells a) ((and_parts _ _ ((and_parts _ _ pin_sniper).0)).0)
+
   pub pin_ray : is_on_ray (direction_at d) square a ≡ true
   pin_ray = (and_parts _ _ ((and_parts _ _ ((and_parts _ _ pin).0)).0)).1
 
@@ -70,6 +48,17 @@ module _ (cells : Cells) (side : Color) (square d n a : ℕ) (pin : is_pinned_by
   pub pin_far : slides cells (direction_at d) n a ≡ true
   pin_far = (and_parts _ _ pin).1
 
+-- a piece of the one side is none of the other's
+not_both : (side : Color) (cell : Option Piece) → is_piece_of (opponent_of side) cell ≡ true → is_piece_of side cell ≡ false
+not_both side None e = refl
+not_both side (Some piece) e = go side piece.color e
+  where
+    go : (side color : Color) → is_same_color (opponent_of side) color ≡ true → is_same_color side color ≡ false
+    go Black Black e = absurd (cc)
+    go Black White e = refl
+    go White Black e = refl
+    go White White e = absurd (cc)
+
 no_bit : (m n : ℕ) → m ≡ 0 → has_bit m n ≡ true → false ≡ true
 no_bit m n none e = sym (has_bit-none n) ∙ (ap (λ (k : ℕ). has_bit k n) (sym none) ∙ e)
 
@@ -78,25 +67,45 @@ module _ (cells : Cells) (side : Color) (square d snipers : ℕ) (shots : (b : �
   no_sniper_there line n a there none l h pin = absurd (let clash : false ≡ true = no_bit (bit_and line snipers) a none
       (has_bit-and line snipers a ∙ and_from _ _ (ap (λ (m : ℕ). has_bit m a) there ∙ (has_bit-ray (direction_at d) square a h ∙ pin_ray cells side square d n a pin)) (shots a h ∙ pin_sniper cells side square d n a pin)) in cc)
 
-  module _ (line own : ℕ) (lines : (b : ℕ) → b < 81 → has_bit line b ≡ slides cells (direction_at d) square b) (owns : (b : ℕ) → b < 81 → has_bit own b ≡ is_piece_of side (piece_at cells b)) where
-    pub blocker : (n a : ℕ) → n < 81 → a < 81 → is_pinned_by cells side square (direction_at d) n a ≡ true → has_bit (bit_and line own) n ≡ true
-    blocker n a l h pin = has_bit-and line own n ∙ and_from _ _ (lines n l ∙ pin_near cells side square d n a pin) (owns n l ∙ pin_own cells side square d n a pin)
+  module _ (f : ℕ) (inside : f < 81) (line : slides cells (direction_at d) square f ≡ true) (piece : is_none (piece_at cells f) ≡ false) where
+    -- what is pinned is the first piece
+    pub pinned_first : (n a : ℕ) → is_pinned_by cells side square (direction_at d) n a ≡ true → n ≡ f
+    pinned_first n a pin = one_piece cells (direction_at d) square n f (pin_near cells side square d n a pin) line (some_of side (piece_at cells n) (pin_own cells side square d n a pin)) piece
 
-    pub no_blocker : bit_and line own ≡ 0 → (n a : ℕ) → n < 81 → a < 81 → is_pinned_by cells side square (direction_at d) n a ≡ true → has_bit 0 n ≡ true
-    no_blocker none n a l h pin = absurd (let clash : false ≡ true = no_bit (bit_and line own) n none (blocker n a l h pin) in cc)
+    -- the first piece is one of the other side's
+    pub others_not_pinned : is_piece_of side (piece_at cells f) ≡ false → (found n a : ℕ) → is_pinned_by cells side square (direction_at d) n a ≡ true → has_bit found n ≡ true
+    others_not_pinned other found n a pin = absurd (both_ways (is_piece_of side (piece_at cells f)) other
+        (ap (λ (k : ℕ). is_piece_of side (piece_at cells k)) (sym (pinned_first n a pin)) ∙ pin_own cells side square d n a pin))
 
-    pub no_sniper_behind : (first beyond : ℕ) → first < 81 → has_bit (bit_and line own) first ≡ true → ((b : ℕ) → b < 81 → has_bit beyond b ≡ slides cells (direction_at d) first b) → bit_and beyond snipers ≡ 0
-        → (n a : ℕ) → n < 81 → a < 81 → is_pinned_by cells side square (direction_at d) n a ≡ true → has_bit 0 n ≡ true
-    no_sniper_behind first beyond low set rest none n a l h pin =
-        let parts : (has_bit line first ≡ true) × (has_bit own first ≡ true) = and_parts _ _ (sym (has_bit-and line own first) ∙ set) in
-        let same : n ≡ first = one_end cells side (direction_at d) square n first (pin_near cells side square d n a pin) (sym (lines first low) ∙ parts.0) (pin_own cells side square d n a pin) (sym (owns first low) ∙ parts.1) in
-        absurd (let clash : false ≡ true = no_bit (bit_and beyond snipers) a none
-        (has_bit-and beyond snipers a ∙ and_from _ _ (rest a h ∙ subst (λ (k : ℕ). slides cells (direction_at d) k a ≡ true) same (pin_far cells side square d n a pin)) (shots a h ∙ pin_sniper cells side square d n a pin)) in cc)
+    pub snipers_not_pinned : has_bit snipers f ≡ true → (found n a : ℕ) → is_pinned_by cells side square (direction_at d) n a ≡ true → has_bit found n ≡ true
+    snipers_not_pinned set found n a pin =
+        let sniper : is_sniper cells (opponent_of side) square f ≡ true = sym (shots f inside) ∙ set in
+        others_not_pinned (not_both side (piece_at cells f) ((and_parts _ _ ((and_parts _ _ sniper).0)).0)) found n a pin
 
-pub pins_fit : (a b : ℕ) → a < 2 ^ 81 → b < 2 ^ 81 → bit_or a b < 2 ^ 81
-pins_fit a b h l = or_lt 81 a b h l
+    pin_beyond : (n a : ℕ) → is_pinned_by cells side square (direction_at d) n a ≡ true → slides cells (direction_at d) f a ≡ true
+    pin_beyond n a pin = ap (λ (k : ℕ). slides cells (direction_at d) k a) (sym (pinned_first n a pin)) ∙ pin_far cells side square d n a pin
 
-pub ruleset pinning = (and_fits)
+    -- no piece beyond the first
+    pub none_beyond : ((n : ℕ) → slides cells (direction_at d) f n ≡ true → is_none (piece_at cells n) ≡ true) → (found n a : ℕ) → is_pinned_by cells side square (direction_at d) n a ≡ true → has_bit found n ≡ true
+    none_beyond free found n a pin = absurd (both_ways (is_none (piece_at cells a)) (pin_there cells side square d n a pin) (free a (pin_beyond n a pin)))
+
+    -- the second piece is no sniper
+    pub no_sniper_next : (s : ℕ) → slides cells (direction_at d) f s ≡ true → is_none (piece_at cells s) ≡ false → has_bit snipers s ≡ false
+        → (found n a : ℕ) → a < 81 → is_pinned_by cells side square (direction_at d) n a ≡ true → has_bit found n ≡ true
+    no_sniper_next s further there clear found n a h pin =
+        let same : a ≡ s = one_piece cells (direction_at d) f a s (pin_beyond n a pin) further (pin_there cells side square d n a pin) there in
+        absurd (both_ways (has_bit snipers s) clear (ap (has_bit snipers) (sym same) ∙ (shots a h ∙ pin_sniper cells side square d n a pin)))
+
+    -- the mask gets the first piece
+    pub first_marked : (old new : ℕ) → ((i : ℕ) → has_bit new i ≡ (has_bit old i || i == f)) → (n a : ℕ) → is_pinned_by cells side square (direction_at d) n a ≡ true → has_bit new n ≡ true
+    first_marked old new bits n a pin = bits n ∙ or_right (has_bit old n) (n == f) (eq-eqb n f (pinned_first n a pin))
+
+pub marked_fits : (old new f : ℕ) → old < 2 ^ 81 → f < 81 → new < 2 ^ 128 → ((i : ℕ) → has_bit new i ≡ (has_bit old i || i == f)) → new < 2 ^ 81
+marked_fits old new f fits inside wide bits =
+    let power : 2 ^ f < 2 ^ 81 = pow-lt inside in
+    let whole : bit_or old (2 ^ f) < 2 ^ 81 = or_lt 81 old (2 ^ f) fits power in
+    let same : new ≡ bit_or old (2 ^ f) = same_mask 128 new (bit_or old (2 ^ f)) wide (omega arith) (λ i l. bits i ∙ sym (has_bit-or old (2 ^ f) i ∙ ap (λ x. has_bit old i || x) (has_bit-one f i))) in
+    omega arith
 
 -- ---- all directions
 

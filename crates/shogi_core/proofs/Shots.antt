@@ -1,8 +1,8 @@
 -- A square is attacked by a step or a jump, or by a slide against one of the eight directions.
 use Rattle.std.proofs.Common.{◌≡◌, ◌⊎◌, ℕ, ◌%◌, ◌<◌, Bool, true, false, refl, sym, ap, ◌∙◌, arith, inl, inr, Option, Some, None, bit_and, List, [], ◌∷◌}
-use Rattle.std.specs.Prelude.{◌==◌, zero, suc}
+use Rattle.std.specs.Prelude.{◌==◌, zero, suc, is_none}
 use Rattle.std.specs.List.{list_any, list_all}
-use Rattle.std.proofs.lemmas.Bool.{false_from_ne_true, both_ways, and_parts, and_from, or_cases, or_left, or_right}
+use Rattle.std.proofs.lemmas.Bool.{cases_Bool, false_from_ne_true, both_ways, and_parts, and_from, or_cases, or_left, or_right}
 use Rattle.shogi_core.specs.declared.offset.Offset.{Offset}
 use Rattle.shogi_core.specs.declared.piece.Color.{Color}
 use Rattle.shogi_core.specs.declared.piece.Color.TheVariants.{Black, White}
@@ -19,6 +19,7 @@ use Rattle.shogi_core.proofs.Below.{some_below_at, some_below_no, some_below_fou
 use Rattle.shogi_core.proofs.BitLaws.{has_bit-and, has_bit-none}
 use Rattle.shogi_core.proofs.Exposed.{same_way, same_way_is, one_of, list_any_kept, some_below_which}
 use Rattle.shogi_core.proofs.LineBits.{and_fits, has_bit-ray}
+use Rattle.shogi_core.proofs.Nearest.{one_piece}
 use Rattle.shogi_core.proofs.RayLaws.{slides_bare}
 use Rattle.shogi_core.proofs.SeenLaws.{Covers, covers_less, covers_none, slides_back, slides_back_around, slides_role, step_near, lined_aligned}
 
@@ -132,6 +133,11 @@ pub back_straight : (color : Color) (d : ℕ) → d < 8 → (d % 2 == 0) ≡ lis
 back_straight color d h = back_straight_at color d h
 
 pub ruleset backing = (back_forward_black, back_forward_white, back_diagonal, back_straight)
+
+-- where a piece of a side stands, one stands
+pub some_of : (color : Color) (cell : Option Piece) → is_piece_of color cell ≡ true → is_none cell ≡ false
+some_of color None e = absurd (cc)
+some_of color (Some piece) e = refl
 
 -- ---- a slide is one against a direction
 
@@ -250,6 +256,35 @@ module _ (cells : Cells) (color : Color) (square : ℕ) (low : square < 81) wher
         let sniper : is_sniper cells color square n ≡ true = sym (shots n l) ∙ parts.1 in
         let inner = and_parts _ _ ((and_parts _ _ sniper).0) in
         (inner.0, sym (lines n l) ∙ parts.0)
+
+    -- no piece in the direction
+    pub none_shoots : (d : ℕ) → ((n : ℕ) → slides cells (direction_at d) square n ≡ true → is_none (piece_at cells n) ≡ true) → false ≡ is_shot_along cells color square d
+    unfolding is_shot_along
+    none_shoots d free = sym (some_below_no 81 (is_shot_from cells color square (direction_at d)) (λ a l. false_from_ne_true (is_shot_from cells color square (direction_at d) a) (λ e. (
+        let outer = and_parts _ _ e in
+        both_ways (is_none (piece_at cells a)) (some_of color (piece_at cells a) ((and_parts _ _ outer.0).0)) (free a outer.1)))))
+
+    module _ (d f : ℕ) (range : d < 8) (inside : f < 81) (line : slides cells (direction_at d) square f ≡ true) (piece : is_none (piece_at cells f) ≡ false) where
+      -- no other piece in the direction than the first shoots
+      first_alone : (a : ℕ) → is_shot_from cells color square (direction_at d) a ≡ true → a ≡ f
+      first_alone a e =
+          let outer = and_parts _ _ e in
+          one_piece cells (direction_at d) square a f outer.1 line (some_of color (piece_at cells a) ((and_parts _ _ outer.0).0)) piece
+
+      pub first_shoots : has_bit snipers f ≡ true → cell_slides_back (direction_at d) (piece_at cells f) ≡ is_shot_along cells color square d
+      unfolding is_shot_along
+      first_shoots set = elim (cases_Bool (cell_slides_back (direction_at d) (piece_at cells f))) [
+        | inl against ↦ (
+            let sniper : is_sniper cells color square f ≡ true = sym (shots f inside) ∙ set in
+            let own : is_piece_of color (piece_at cells f) ≡ true = (and_parts _ _ ((and_parts _ _ sniper).0)).0 in
+            against ∙ some_below_found 81 (is_shot_from cells color square (direction_at d)) f inside (and_from _ _ (and_from _ _ own against) line))
+        | inr away ↦ away ∙ sym (some_below_no 81 (is_shot_from cells color square (direction_at d)) (λ a l. false_from_ne_true (is_shot_from cells color square (direction_at d) a) (λ e. (
+            let inner = and_parts _ _ ((and_parts _ _ e).0) in
+            both_ways (cell_slides_back (direction_at d) (piece_at cells f)) away (ap (λ (k : ℕ). cell_slides_back (direction_at d) (piece_at cells k)) (sym (first_alone a e)) ∙ inner.1)))))
+      ]
+
+      pub first_harmless : has_bit snipers f ≡ false → false ≡ is_shot_along cells color square d
+      first_harmless clear = sym (no_shot_from d range (λ a l e. ap (has_bit snipers) (first_alone a e) ∙ clear))
 
 -- ---- steps
 

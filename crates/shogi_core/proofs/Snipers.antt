@@ -1,6 +1,6 @@
 -- A piece is pinned only where it stands on an open line with one of the other side that slides.
-use Rattle.std.proofs.Common.{◌≡◌, ◌⊎◌, ℕ, ◌<◌, ◌^◌, true, false, not, sym, ap, subst, ◌∙◌, arith, inl, inr, Option, Some, None, bit_or, List, [], ◌∷◌}
-use Rattle.std.specs.Prelude.{◌==◌, ◌&&◌, is_none}
+use Rattle.std.proofs.Common.{◌≡◌, ◌⊎◌, ℕ, ◌<◌, ◌^◌, true, false, not, sym, ap, subst, ◌∙◌, arith, inl, inr, refl, Option, Some, None, bit_or, List, [], ◌∷◌}
+use Rattle.std.specs.Prelude.{◌==◌, ◌&&◌, ◌||◌, is_none}
 use Rattle.std.specs.List.{list_any, list_all}
 use Rattle.std.proofs.lemmas.Nat.{or_lt}
 use Rattle.std.proofs.lemmas.Bool.{cases_eq, false_from_ne_true, both_ways, and_parts, and_from, or_cases, or_left, or_right, not_from_false, ne_eqb}
@@ -10,7 +10,7 @@ use Rattle.shogi_core.specs.declared.piece.Piece.{Piece}
 use Rattle.shogi_core.specs.Attack.{is_attacked_from, is_attacked, is_open_king, in_check, is_sniper, is_sniper_of_king, is_sniping}
 use Rattle.shogi_core.specs.Below.{some_below}
 use Rattle.shogi_core.specs.Bits.{has_bit}
-use Rattle.shogi_core.specs.Cell.{is_piece_of, is_king, is_slider}
+use Rattle.shogi_core.specs.Cell.{is_piece_of, is_king, is_slider, is_sliding_role}
 use Rattle.shogi_core.specs.Lines.{back, around, are_aligned, are_lined}
 use Rattle.shogi_core.specs.Movement.{Cells, slides, for_side, slides_of, has_slide, has_step, cell_reaches, reaches, piece_at}
 use Rattle.shogi_core.specs.Pieces.{opponent_of}
@@ -96,22 +96,34 @@ module _ (old new : Cells) (n : ℕ) (opened : (x : ℕ) → is_none (piece_at n
         ]
       ]
 
-  -- that gives no check where the square is on an open line with no sniper
-  pub left_calm : (color : Color)
-      → ((x : ℕ) → x < 81 → is_piece_of (opponent_of color) (piece_at new x) ≡ true → piece_at new x ≡ piece_at old x)
-      → ((x : ℕ) → x < 81 → is_king color (piece_at new x) ≡ true → piece_at new x ≡ piece_at old x)
+  -- that gives no check where the square is on an open line with no sniper, and what comes to stand on another one gives none
+  pub left_calm : (color : Color) (to : ℕ)
+      → ((x : ℕ) → is_piece_of (opponent_of color) (piece_at new x) ≡ true → (piece_at old x ≡ piece_at new x) ⊎ (x ≡ to))
+      → ((k : ℕ) → is_king color (piece_at new k) ≡ true → piece_at old k ≡ piece_at new k)
+      → ((k : ℕ) → k < 81 → is_king color (piece_at old k) ≡ true → cell_reaches new (piece_at new to) to k ≡ false)
       → in_check old color ≡ false → ((a : ℕ) → a < 81 → is_sniping old color a ≡ true → are_lined old n a ≡ false) → in_check new color ≡ false
-  unfolding in_check is_sniping
-  left_calm color theirs crown safe calm = some_below_no 81 (is_open_king new color) (λ k h. false_from_ne_true (is_open_king new color k) (λ e. (
+  unfolding in_check is_sniping reaches
+  left_calm color to theirs crown far safe calm = some_below_no 81 (is_open_king new color) (λ k h. false_from_ne_true (is_open_king new color k) (λ e. (
       let parts : (is_king color (piece_at new k) ≡ true) × (is_attacked new (opponent_of color) k ≡ true) = and_parts _ _ e in
-      let king : is_king color (piece_at old k) ≡ true = ap (is_king color) (sym (crown k h parts.0)) ∙ parts.0 in
+      let king : is_king color (piece_at old k) ≡ true = ap (is_king color) (crown k parts.0) ∙ parts.0 in
       let who = some_below_which 81 (is_attacked_from new (opponent_of color) k) parts.1 in
       let hit : (is_piece_of (opponent_of color) (piece_at new who.0) ≡ true) × (reaches new who.0 k ≡ true) = and_parts _ _ who.2 in
-      let same : piece_at new who.0 ≡ piece_at old who.0 = theirs who.0 who.1 hit.0 in
-      let foe : is_piece_of (opponent_of color) (piece_at old who.0) ≡ true = ap (is_piece_of (opponent_of color)) (sym same) ∙ hit.0 in
-      elim (reaches_kept who.0 k who.1 h same hit.1) [
-        | inl stays ↦ both_ways (some_below 81 (is_open_king old color)) safe
-            (some_below_at 81 (is_open_king old color) k h (and_from _ _ king (some_below_at 81 (is_attacked_from old (opponent_of color) k) who.0 who.1 (and_from _ _ foe stays))))
-        | inr far ↦ both_ways (are_lined old n who.0)
-            (calm who.0 who.1 (some_below_at 81 (is_sniper_of_king old color who.0) k h (and_from _ _ king (and_from _ _ (and_from _ _ foe far.0) far.1)))) far.2
+      elim (theirs who.0 hit.0) [
+        | inr there ↦ both_ways (cell_reaches new (piece_at new to) to k) (far k h king) (subst (λ (y : ℕ). cell_reaches new (piece_at new y) y k ≡ true) there hit.1)
+        | inl same ↦ (
+            let foe : is_piece_of (opponent_of color) (piece_at old who.0) ≡ true = ap (is_piece_of (opponent_of color)) same ∙ hit.0 in
+            elim (reaches_kept who.0 k who.1 h (sym same) hit.1) [
+              | inl stays ↦ both_ways (some_below 81 (is_open_king old color)) safe
+                  (some_below_at 81 (is_open_king old color) k h (and_from _ _ king (some_below_at 81 (is_attacked_from old (opponent_of color) k) who.0 who.1 (and_from _ _ foe stays))))
+              | inr open_line ↦ both_ways (are_lined old n who.0)
+                  (calm who.0 who.1 (some_below_at 81 (is_sniper_of_king old color who.0) k h (and_from _ _ king (and_from _ _ (and_from _ _ foe open_line.0) open_line.1)))) open_line.2
+            ])
       ])))
+
+-- what does not slide reaches the same squares whatever stands elsewhere
+pub stands_still : (old new : Cells) (cell : Option Piece) (a b : ℕ) → is_slider cell ≡ false → cell_reaches old cell a b ≡ false → cell_reaches new cell a b ≡ false
+stands_still old new None a b still off = refl
+stands_still old new (Some piece) a b still off = false_from_ne_true (has_step piece a b || has_slide new piece a b) (λ e. elim (or_cases (has_step piece a b) (has_slide new piece a b) e) [
+  | inl step ↦ both_ways (has_step piece a b || has_slide old piece a b) off (or_left _ _ step)
+  | inr slide ↦ both_ways (is_sliding_role piece.role) still (slides_role piece.role (λ o. slides new (for_side piece.color o) a b) slide)
+])

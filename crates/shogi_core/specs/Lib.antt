@@ -12,6 +12,7 @@ pub mod Start
 pub mod Codes
 pub mod Bits
 pub mod Masks
+pub mod Words
 pub mod Lines
 pub mod Rays
 pub mod Steps

@@ -1,16 +1,16 @@
 //! Attacks and checks, seen from the square that is attacked.
 
-ghost use Rattle.std.specs.Prelude.{◌≡◌, ◌<◌, ◌^◌, ℕ, true, false, None, IfSome, IsNone, slice_set};
+ghost use Rattle.std.specs.Prelude.{◌≡◌, ◌≢◌, ◌<◌, ◌≤◌, ◌^◌, ℕ, true, false, None, IfSome, IsNone, is_none, slice_set};
 ghost use Rattle.shogi_core.specs.Attack.{is_attacked, is_open_king, in_check, is_sniper, is_sniping, cell_steps, cell_slides_back, is_step_from, is_shot_along, is_pinned_by};
 ghost use Rattle.shogi_core.specs.Below.{some_below};
 ghost use Rattle.shogi_core.specs.Bits.{has_bit};
 ghost use Rattle.shogi_core.specs.Cell.{is_king, is_piece_of};
 ghost use Rattle.shogi_core.specs.Lines.{are_aligned, are_lined, is_near, is_seen};
 ghost use Rattle.shogi_core.specs.Pieces.{opponent_of};
-ghost use Rattle.shogi_core.specs.Movement.{piece_at};
+ghost use Rattle.shogi_core.specs.Movement.{piece_at, slides};
 ghost use Rattle.shogi_core.specs.Rays.{direction_at};
 
-use crate::bits::{has, lowest, without_lowest};
+use crate::bits::{has, highest, lowest, with, without_lowest};
 use crate::board::Board;
 use crate::cell::is_king;
 use crate::lines::{DOWN, UP, aligned_squares, slide_squares};
@@ -162,29 +162,41 @@ fn is_shot(board: &Board, by: Color, square: usize, snipers: u128) -> bool
     false
 }
 
-/// The square of the piece of the side, if there is one, that stands alone in the direction between
-/// the square and one of its snipers.
-#[tactic(auto, using(crate::proofs::Pins::pinning))]
-fn pinned_on(board: &Board, side: Color, square: usize, direction: usize, snipers: u128) -> u128
-    requires direction { direction < 8 }
-    requires square { square < 81 }
-    requires snipers { (b : ℕ) → b < 81 → has_bit snipers b ≡ is_sniper board.now (opponent_of side) square b }
-    ensures fits { result < 2 ^ 81 }
-    ensures all { (n a : ℕ) → n < 81 → a < 81 → is_pinned_by board.now side square (direction_at direction) n a ≡ true → has_bit result n ≡ true }
+/// The nearest of some squares of a line in the direction, as seen from where it begins.
+fn nearest(places: u128, direction: usize) -> usize
+    requires some { places ≢ 0 }
+    requires fits { places < 2 ^ 81 }
+    ensures range { result < 81 }
+    ensures set { has_bit places result ≡ true }
+    ensures rising { direction < 4 → (n : ℕ) → has_bit places n ≡ true → result ≤ n }
+    ensures falling { 4 ≤ direction → (n : ℕ) → has_bit places n ≡ true → n ≤ result }
 {
-    let blockers = slide_squares(board, direction, square) & board.own(side);
-    if blockers == 0 {
-        return 0;
+    if direction < 4 {
+        lowest(places)
+    } else {
+        highest(places)
     }
-    if slide_squares(board, direction, lowest(blockers)) & snipers == 0 {
-        return 0;
+}
+
+/// The square of the first piece in the direction, if there is one.
+#[tactic(auto, using(crate::proofs::Nearest::first_pieces))]
+fn first_piece(board: &Board, direction: usize, from: usize) -> Option<usize>
+    requires direction { direction < 8 }
+    requires from { from < 81 }
+    ensures none { IsNone result → (n : ℕ) → slides board.now (direction_at direction) from n ≡ true → is_none (piece_at board.now n) ≡ true }
+    ensures range { IfSome result (λ n. n < 81) }
+    ensures reached { IfSome result (λ n. slides board.now (direction_at direction) from n ≡ true) }
+    ensures piece { IfSome result (λ n. is_none (piece_at board.now n) ≡ false) }
+{
+    let pieces = ray(direction, from) & board.occupied();
+    if pieces == 0 {
+        return None;
     }
-    blockers
+    Some(nearest(pieces, direction))
 }
 
 /// Whether one of the snipers of the square slides to it against the direction; where none does, the
 /// mask gets the piece of the side, if there is one, that stands alone before one of them.
-#[tactic(auto, using(crate::proofs::Pins::pinning))]
 #[inline(never)]
 fn shot_or_pin(
     board: &Board,
@@ -203,10 +215,21 @@ fn shot_or_pin(
     ensures kept { (n : ℕ) → has_bit pinned.old n ≡ true → has_bit pinned.new n ≡ true }
     ensures all { result ≡ false → (n a : ℕ) → n < 81 → a < 81 → is_pinned_by board.now side square (direction_at direction) n a ≡ true → has_bit pinned.new n ≡ true }
 {
-    if is_shot_on(board, side.opponent(), square, direction, snipers) {
-        return true;
+    let Some(first) = first_piece(board, direction, square) else {
+        return false
+    };
+    if has(snipers, first) {
+        return slides_back(board.at(Square::of_index(first)), direction);
     }
-    *pinned |= pinned_on(board, side, square, direction, snipers);
+    if !has(board.own(side), first) {
+        return false;
+    }
+    let Some(second) = first_piece(board, direction, first) else {
+        return false
+    };
+    if has(snipers, second) {
+        *pinned = with(*pinned, first);
+    }
     false
 }
 

@@ -6,12 +6,14 @@ ghost use Rattle.shogi_core.specs.Cell.{is_piece_of, is_king, is_slider};
 ghost use Rattle.shogi_core.specs.Masks.{own_of, kings_of, sliders_of, is_any_king};
 ghost use Rattle.shogi_core.specs.Movement.{piece_at};
 ghost use Rattle.shogi_core.specs.Start.{start_cells};
+ghost use Rattle.shogi_core.specs.Words.{board_words};
 
 use crate::bits::{ALL_SQUARES, with, without};
 use crate::cell::{is_piece_of, is_slider};
 use crate::piece::{Color, Piece};
 use crate::square::Square;
-use crate::start::{START, START_BLACK, START_KINGS, START_SLIDERS, START_WHITE};
+use crate::start::{START, START_BLACK, START_KINGS, START_SLIDERS, START_WHITE, START_WORDS};
+use crate::words::{board_words, cell_number, with_digit};
 use std::marker::Model;
 
 /// A board, seen as its 81 cells by index. It need not be part of a valid position.
@@ -27,6 +29,8 @@ pub struct Board {
     kings: u128,
     #[derive_where(skip(EqHashOrd))]
     sliders: u128,
+    #[derive_where(skip(EqHashOrd))]
+    words: [u64; 7],
 }
 
 impl Model for Board {
@@ -34,17 +38,18 @@ impl Model for Board {
     ghost use Rattle.shogi_core.specs.declared.piece.Piece.{Piece};
     ghost use Rattle.shogi_core.specs.declared.piece.Color.TheVariants.{Black, White};
     ghost use Rattle.shogi_core.specs.Masks.{own_of, kings_of, sliders_of};
+    ghost use Rattle.shogi_core.specs.Words.{board_words};
     ghost use Rattle.std.proofs.Common.{ap, sym, ◌∙◌};
 
     ghost Value = { List (Option Piece) };
 
     ghost view = { λ b. b.cells };
 
-    ghost invariant = { λ b. (length b.cells ≡ 81) × (b.black ≡ own_of b.cells Black) × (b.white ≡ own_of b.cells White) × (b.kings ≡ kings_of b.cells) × (b.sliders ≡ sliders_of b.cells) };
+    ghost invariant = { λ b. (length b.cells ≡ 81) × (b.black ≡ own_of b.cells Black) × (b.white ≡ own_of b.cells White) × (b.kings ≡ kings_of b.cells) × (b.sliders ≡ sliders_of b.cells) × (b.words ≡ board_words b.cells) };
 
-    ghost inverse = { λ cells. record { cells = cells; black = own_of cells Black; white = own_of cells White; kings = kings_of cells; sliders = sliders_of cells } };
+    ghost inverse = { λ cells. record { cells = cells; black = own_of cells Black; white = own_of cells White; kings = kings_of cells; sliders = sliders_of cells; words = board_words cells } };
 
-    ghost inverse_ok = { λ b h. ap (λ black. record { cells = b.cells; black = black; white = own_of b.cells White; kings = kings_of b.cells; sliders = sliders_of b.cells }) (sym h.1) ∙ (ap (λ white. record { cells = b.cells; black = b.black; white = white; kings = kings_of b.cells; sliders = sliders_of b.cells }) (sym h.2) ∙ (ap (λ kings. record { cells = b.cells; black = b.black; white = b.white; kings = kings; sliders = sliders_of b.cells }) (sym h.3) ∙ ap (λ sliders. record { cells = b.cells; black = b.black; white = b.white; kings = b.kings; sliders = sliders }) (sym h.4))) };
+    ghost inverse_ok = { λ b h. ap (λ black. record { cells = b.cells; black = black; white = own_of b.cells White; kings = kings_of b.cells; sliders = sliders_of b.cells; words = board_words b.cells }) (sym h.1) ∙ (ap (λ white. record { cells = b.cells; black = b.black; white = white; kings = kings_of b.cells; sliders = sliders_of b.cells; words = board_words b.cells }) (sym h.2) ∙ (ap (λ kings. record { cells = b.cells; black = b.black; white = b.white; kings = kings; sliders = sliders_of b.cells; words = board_words b.cells }) (sym h.3) ∙ (ap (λ sliders. record { cells = b.cells; black = b.black; white = b.white; kings = b.kings; sliders = sliders; words = board_words b.cells }) (sym h.4) ∙ ap (λ words. record { cells = b.cells; black = b.black; white = b.white; kings = b.kings; sliders = b.sliders; words = words }) (sym h.5)))) };
 }
 
 /// The squares on which pieces of the side stand.
@@ -123,10 +128,11 @@ impl Board {
             white: own_squares(&cells, Color::White),
             kings: king_squares(&cells),
             sliders: slider_squares(&cells),
+            words: board_words(&cells),
         }
     }
 
-    /// The board of the opening position, whose masks are known.
+    /// The board of the opening position, whose masks and words are known.
     pub fn start() -> Board
         ensures { result ≡ start_cells }
     {
@@ -136,6 +142,7 @@ impl Board {
             white: START_WHITE,
             kings: START_KINGS,
             sliders: START_SLIDERS,
+            words: START_WORDS,
         }
     }
 
@@ -194,6 +201,14 @@ impl Board {
         self.sliders
     }
 
+    /// What stands on all squares, packed: each word is the number in base 32 whose digits are those
+    /// of twelve squares, and of nine in the last.
+    pub fn words(&self) -> &[u64; 7]
+        ensures { result.now ≡ board_words self.now }
+    {
+        &self.words
+    }
+
     /// What stands on the square.
     pub fn at(&self, square: Square) -> Option<Piece>
         ensures { result ≡ piece_at self.now square }
@@ -207,11 +222,18 @@ impl Board {
         ensures { self.new ≡ slice_set self.old square piece }
     {
         let index = square.index();
+        let before = self.cells[index];
         self.cells[index] = piece;
         self.black = marked(self.black, index, is_piece_of(piece, Color::Black));
         self.white = marked(self.white, index, is_piece_of(piece, Color::White));
         self.kings = marked(self.kings, index, is_any_king(piece));
         self.sliders = marked(self.sliders, index, is_slider(piece));
+        self.words[index / 12] = with_digit(
+            self.words[index / 12],
+            index % 12,
+            cell_number(before),
+            cell_number(piece),
+        );
     }
 
     /// The board with this on the square, and all else as it was.

@@ -19,10 +19,12 @@ mod targets;
 #[cfg(test)]
 mod tests;
 mod validity;
+mod words;
 
 pub use board::Board;
 pub use cell::{is_immobile, is_piece_of};
 pub use hands::Hands;
+pub use lines::aligned_squares;
 pub use moves::{FIRST_DROP, MOVE_CODE_COUNT, Move, SQUARE_CODES};
 pub use offset::Offset;
 pub use piece::{Color, KINDS, Kind, Piece, Role};

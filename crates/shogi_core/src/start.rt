@@ -8,7 +8,8 @@ use crate::hands::Hands;
 use crate::piece::{Color, Piece, Role};
 use crate::position::Position;
 
-// The squares of the sides, of the kings and of the pieces that slide in the opening position.
+// The squares of the sides, of the kings and of the pieces that slide in the opening position, and
+// the words of its board.
 pub const START_BLACK: u128 = 1515295121079352776950080;
 
 pub const START_WHITE: u128 = 23676486266864887139845;
@@ -16,6 +17,16 @@ pub const START_WHITE: u128 = 23676486266864887139845;
 pub const START_KINGS: u128 = 17660905521152;
 
 pub const START_SLIDERS: u128 = 1214847224462289940841729;
+
+pub const START_WORDS: [u64; 7] = [
+    600741269727100945,
+    17612729810944,
+    216243151395492866,
+    577165541404327951,
+    17612788531200,
+    152066856728466434,
+    3300682383377,
+];
 
 pub const START: [Option<Piece>; 81] = [
     Some(Piece {

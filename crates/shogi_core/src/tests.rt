@@ -3,6 +3,7 @@
 use crate::bits::has;
 use crate::board::Board;
 use crate::hands::Hands;
+use crate::lines::aligned_squares;
 use crate::moves::Move;
 use crate::piece::{Color, Kind, Piece, Role};
 use crate::position::Position;
@@ -38,6 +39,22 @@ fn squares_by_file_and_rank(rt: HostRuntime) -> Result<(), Fail> {
     }
     for (file, rank) in [(0, 1), (1, 0), (10, 1), (1, 10)] {
         assert!(rt; Square::new(file, rank).is_none(), "{file} {rank}");
+    }
+    Ok(())
+}
+
+/// Squares on one file, on one rank, or as many files as ranks apart.
+#[test]
+fn squares_on_lines(rt: HostRuntime) -> Result<(), Fail> {
+    for from in 0..81 {
+        let lines = aligned_squares(from);
+        for to in 0..81 {
+            let (a, b) = (Square::of_index(from), Square::of_index(to));
+            let files = a.file().abs_diff(b.file());
+            let ranks = a.rank().abs_diff(b.rank());
+            let aligned = from != to && (files == 0 || ranks == 0 || files == ranks);
+            assert_eq!(rt; has(lines, to), aligned, "{from} {to}");
+        }
     }
     Ok(())
 }
@@ -433,6 +450,125 @@ fn moves_from_an_empty_square(rt: HostRuntime) -> Result<(), Fail> {
     assert!(rt;
         would_reach_only(&board, pawn, &[])?,
         "a pawn on its last rank"
+    );
+    Ok(())
+}
+
+// Each square is a digit in base 32, counted file by file: 1a and 2d are the lowest digits of the
+// first two words, and 9i is the ninth of the last. A piece is its role's place in the list of roles,
+// counted from 1 for Black and from 15 for White.
+#[test]
+fn words_of_boards(rt: HostRuntime) -> Result<(), Fail> {
+    assert_eq!(rt; *board(&[])?.words(), [0; 7]);
+    let placed = board(&[
+        (Color::Black, Role::King, 1, 2),
+        (Color::Black, Role::Gold, 2, 3),
+        (Color::White, Role::Dragon, 2, 4),
+        (Color::White, Role::Rook, 9, 9),
+    ])?;
+    // A king on 1b: 1 * 32. A gold on 2c: 6 * 32^11 = 6 * 36,028,797,018,963,968.
+    // A dragon on 2d: 28. A rook on 9i: 22 * 32^8 = 22 * 1,099,511,627,776.
+    let words = [216172782113783840, 28, 0, 0, 0, 0, 24189255811072];
+    assert_eq!(rt; *placed.words(), words);
+    assert_eq!(rt; *Board::of(*placed.cells()).words(), words);
+    let pawn = Piece {
+        color: Color::White,
+        role: Role::Pawn,
+    };
+    let changed = placed
+        .put(square(1, 2)?, None)
+        .put(square(2, 4)?, Some(pawn));
+    assert_eq!(rt;
+        *changed.words(),
+        [216172782113783808, 16, 0, 0, 0, 0, 24189255811072]
+    );
+    Ok(())
+}
+
+/// Whether the pieces of the side that may be pinned are exactly those on these squares; never, where it is in check.
+fn pins_only(side: Color, pieces: &[Placed], pinned: &[(u8, u8)]) -> Result<bool, Fail> {
+    let Some(mask) = board(pieces)?.pinned(side) else {
+        return Ok(false);
+    };
+    for index in 0..81 {
+        let at = Square::of_index(index);
+        if has(mask, index) != pinned.contains(&(at.file(), at.rank())) {
+            return Ok(false);
+        }
+    }
+    Ok(true)
+}
+
+#[test]
+fn a_piece_before_a_slider_is_pinned(rt: HostRuntime) -> Result<(), Fail> {
+    let king = (Color::Black, Role::King, 5, 5);
+    for (role, (file, rank), between) in [
+        (Role::Lance, (5, 1), (5, 3)),
+        (Role::Rook, (5, 9), (5, 6)),
+        (Role::Dragon, (9, 5), (7, 5)),
+        (Role::Dragon, (1, 5), (2, 5)),
+        (Role::Bishop, (9, 9), (8, 8)),
+        (Role::Bishop, (9, 1), (6, 4)),
+        (Role::Horse, (2, 2), (4, 4)),
+        (Role::Horse, (1, 9), (2, 8)),
+    ] {
+        let slider = (Color::White, role, file, rank);
+        let gold = (Color::Black, Role::Gold, between.0, between.1);
+        assert!(rt;
+            pins_only(Color::Black, &[king, slider, gold], &[between])?,
+            "{slider:?}"
+        );
+        let checked = board(&[king, slider])?;
+        assert!(rt; checked.pinned(Color::Black).is_none(), "{slider:?}");
+    }
+    let white = [
+        (Color::White, Role::King, 5, 1),
+        (Color::White, Role::Pawn, 5, 4),
+        (Color::Black, Role::Lance, 5, 9),
+    ];
+    assert!(rt; pins_only(Color::White, &white, &[(5, 4)])?, "a white pawn");
+    Ok(())
+}
+
+#[test]
+fn nothing_else_is_pinned(rt: HostRuntime) -> Result<(), Fail> {
+    let king = (Color::Black, Role::King, 5, 5);
+    let rook = (Color::White, Role::Rook, 5, 1);
+    let lance = (Color::White, Role::Lance, 5, 7);
+    let pawn = (Color::Black, Role::Pawn, 5, 3);
+    let gold = (Color::Black, Role::Gold, 5, 4);
+    let silver = (Color::White, Role::Silver, 5, 2);
+    let dragon = (Color::White, Role::Dragon, 5, 9);
+    assert!(rt;
+        pins_only(Color::Black, &[king, lance], &[])?,
+        "a lance behind"
+    );
+    assert!(rt;
+        pins_only(Color::Black, &[king, lance, dragon], &[])?,
+        "a lance between"
+    );
+    assert!(rt;
+        pins_only(Color::Black, &[king, rook, pawn, gold], &[])?,
+        "two pieces between"
+    );
+    assert!(rt;
+        pins_only(Color::Black, &[king, rook, silver], &[])?,
+        "a piece of the other side between"
+    );
+    assert!(rt;
+        pins_only(Color::Black, &[king, rook, silver, gold], &[])?,
+        "a piece of either side between"
+    );
+    assert!(rt;
+        pins_only(Color::Black, &[king, gold, pawn], &[])?,
+        "no slider"
+    );
+    let away = (Color::Black, Role::Gold, 5, 1);
+    let near = (Color::White, Role::Rook, 5, 3);
+    let two = [king, near, gold, away];
+    assert!(rt;
+        pins_only(Color::Black, &two, &[(5, 4)])?,
+        "a piece behind the slider"
     );
     Ok(())
 }

@@ -1,5 +1,5 @@
 -- After most moves the other side has a legal move.
-use Rattle.std.proofs.Common.{◌≡◌, ◌≢◌, ℕ, ◌+◌, ◌-◌, ◌*◌, ◌%◌, ◌^◌, ◌<◌, ◌⊎◌, Bool, true, false, not, Option, Some, None, [], refl, sym, ap, subst, ◌∙◌, arith, inl, inr, set, length, length-set, get_or-set_same, get_or-set_other, bit_and, bit_or}
+use Rattle.std.proofs.Common.{◌≡◌, ◌≢◌, ℕ, ◌+◌, ◌-◌, ◌*◌, ◌%◌, ◌^◌, ◌<◌, ◌⊎◌, Bool, true, false, not, Option, Some, None, [], refl, sym, ap, subst, ◌∙◌, arith, inl, inr, set, length, length-set, get_or-set_same, get_or-set_other, bit_and, bit_or, cond}
 use Rattle.std.specs.Prelude.{◌==◌, ◌&&◌, ◌||◌, nat_lt, is_none}
 use Rattle.std.specs.Int.{trailing_zeros, w128}
 use Rattle.std.proofs.lemmas.Bool.{cases_eq, false_from_ne_true, both_ways, and_parts, and_from, or_left, or_right, or_cases, not-true, not_from_false, ne_eqb, eq-eqb}
@@ -10,28 +10,31 @@ use Rattle.shogi_core.specs.declared.piece.Color.TheVariants.{Black, White}
 use Rattle.shogi_core.specs.declared.piece.Kind.{Kind}
 use Rattle.shogi_core.specs.declared.piece.Kind.TheVariants as kinds
 use Rattle.shogi_core.specs.declared.piece.Piece.{Piece}
-use Rattle.shogi_core.specs.Attack.{in_check}
+use Rattle.shogi_core.specs.declared.piece.Role.{Role}
+use Rattle.shogi_core.specs.declared.piece.Role.TheVariants.{King, Pawn, Lance, Knight, Silver, Gold, Bishop, Rook, PromotedPawn, PromotedLance, PromotedKnight, PromotedSilver, Horse, Dragon}
+use Rattle.shogi_core.specs.Attack.{in_check, is_sniping}
 use Rattle.shogi_core.specs.Below.{some_below}
 use Rattle.shogi_core.specs.Bits.{has_bit}
-use Rattle.shogi_core.specs.Cell.{is_piece_of, is_king, is_immobile}
+use Rattle.shogi_core.specs.Cell.{is_piece_of, is_king, is_immobile, is_slider, is_sliding_role}
 use Rattle.shogi_core.specs.Codes.{code_of}
-use Rattle.shogi_core.specs.Lines.{are_lined, is_jump, is_line_to_king, is_lined_with_king, is_seen}
+use Rattle.shogi_core.specs.Lines.{are_aligned, are_lined, is_jump, is_line_to_king, is_lined_with_king, is_seen}
 use Rattle.shogi_core.specs.Movement.{Cells, piece_at, reaches, cell_reaches, has_step, has_slide}
-use Rattle.shogi_core.specs.Pieces.{opponent_of, kind_of, kind_number}
+use Rattle.shogi_core.specs.Pieces.{opponent_of, kind_of, kind_number, promoted}
 use Rattle.shogi_core.specs.Position.{Shogi, HandCounts, count_in_hand, place_of}
 use Rattle.shogi_core.specs.Validity.{IsValid}
-use Rattle.shogi_core.proofs.Below.{some_below_no, some_below_at}
+use Rattle.shogi_core.proofs.Below.{some_below_no, some_below_not, some_below_at}
 use Rattle.shogi_core.proofs.BitLaws.{has_bit-and, has_bit-or, has_bit-none, has_bit-without}
 use Rattle.shogi_core.proofs.CodesBack.{move_of-board}
-use Rattle.shogi_core.proofs.Exposed.{some_below_which, line_to_king_was}
+use Rattle.shogi_core.proofs.Exposed.{some_below_which}
 use Rattle.shogi_core.proofs.Faults.{faultless_from, number_below}
 use Rattle.shogi_core.proofs.LineBits.{lowest_set, and_fits, has_bit-not}
 use Rattle.shogi_core.proofs.Replies.{no_check}
-use Rattle.shogi_core.proofs.SeenLaws.{lined_back, cell_seen}
+use Rattle.shogi_core.proofs.SeenLaws.{lined_back, lined_aligned, cell_seen}
+use Rattle.shogi_core.proofs.Snipers.{left_calm, stands_still}
 use Rattle.shogi_moves.specs.After.{after, cells_after, piece_moved, dropped, with_captured, with_one_more}
 use Rattle.shogi_moves.specs.Legal.{is_legal, is_safe, is_pseudo_legal_board_move, is_pseudo_legal_drop, is_pawn_kind, is_mated_by_drop}
 use Rattle.shogi_moves.specs.LegalMoves.{legal_codes}
-use Rattle.shogi_moves.specs.Replies.{cell_steps, is_free_kind, holds_free, is_open_step, is_spare, is_way, Sees, IsReplies, IsHarmless}
+use Rattle.shogi_moves.specs.Replies.{cell_steps, is_free_kind, holds_free, is_line_of_king, is_aligned_with_king, is_open_step, is_spare, is_way, Sees, Aligns, IsReplies, IsHarmless, StaysCovered, UncoversNothing}
 use Rattle.shogi_moves.proofs.DropChecks as drops
 use Rattle.shogi_moves.proofs.EndLaws.{legal_board, legal_drop, drop_wanted, still}
 use Rattle.shogi_moves.proofs.ExistenceLaws.{some_legal}
@@ -57,6 +60,70 @@ sees_more cells side left next sight king squares h bits seen = record {
 }
 
 pub ruleset seeing = (sees_first)
+
+-- ---- the lines of a king
+
+pub aligns_first : (cells : Cells) (side : Color) (m : ℕ) → ((n : ℕ) → n < 81 → has_bit m n ≡ is_king side (piece_at cells n)) → Aligns cells side m m
+aligns_first cells side m bits = record {
+  kings = λ n h e. bits n h ∙ e;
+  squares = λ k n h l e out seen. absurd (both_ways (has_bit m k) out (bits k h ∙ e));
+}
+
+pub aligns_more : (cells : Cells) (side : Color) (left next lines king squares : ℕ) → Aligns cells side left lines → ((i : ℕ) → has_bit next i ≡ (has_bit left i && not (i == king)))
+    → ((n : ℕ) → n < 81 → has_bit squares n ≡ are_aligned king n) → Aligns cells side next (bit_or lines squares)
+aligns_more cells side left next lines king squares h bits on_line = record {
+  kings = λ n l e. has_bit-or lines squares n ∙ or_left _ _ (h.kings n l e);
+  squares = λ k n l r e out on. has_bit-or lines squares n ∙ elim (cases_eq k king) [
+    | inl same ↦ or_right (has_bit lines n) (has_bit squares n) (on_line n r ∙ subst (λ (j : ℕ). are_aligned j n ≡ true) same on)
+    | inr other ↦ or_left _ _ (h.squares k n l r e (false_from_ne_true (has_bit left k) (λ set. both_ways (has_bit next k) out (bits k ∙ and_from _ _ set (not_from_false _ (ne_eqb k king other))))) on)
+  ];
+}
+
+pub ruleset aligning = (aligns_first)
+
+-- a square on no line with a king
+unaligned : (cells : Cells) (side : Color) (lines n : ℕ) → Aligns cells side 0 lines → n < 81 → has_bit lines n ≡ false → is_aligned_with_king cells side n ≡ false
+unfolding is_aligned_with_king
+unaligned cells side lines n s h out = some_below_no 81 (is_line_of_king cells side n) (λ k l. false_from_ne_true (is_line_of_king cells side n k) (λ e. (
+    let parts : (is_king side (piece_at cells k) ≡ true) × (are_aligned k n ≡ true) = and_parts _ _ e in
+    both_ways (has_bit lines n) out (s.squares k n l h parts.0 (has_bit-none k) parts.1))))
+
+-- is on no open line with it, wherever the other pieces stand
+stays_unlined : (old new : Cells) (color : Color) (a : ℕ) → a < 81 → ((k : ℕ) → is_king color (piece_at new k) ≡ true → piece_at old k ≡ piece_at new k) → is_aligned_with_king old color a ≡ false → is_lined_with_king new color a ≡ false
+unfolding is_lined_with_king is_aligned_with_king
+stays_unlined old new color a h kings off = some_below_no 81 (is_line_to_king new color a) (λ k l. false_from_ne_true (is_line_to_king new color a k) (λ e. (
+    let parts : (is_king color (piece_at new k) ≡ true) × (are_lined new a k ≡ true) = and_parts _ _ e in
+    both_ways (is_line_of_king old color a k) (some_below_not 81 (is_line_of_king old color a) k off l)
+    (and_from _ _ (ap (is_king color) (kings k parts.0) ∙ parts.0) (lined_back [] a k h (lined_aligned new a k parts.1))))))
+
+-- ---- snipers on open lines with a square
+
+pub covered : (cells : Cells) (side : Color) (n lines snipers : ℕ) → ((a : ℕ) → a < 81 → has_bit lines a ≡ are_lined cells n a) → ((a : ℕ) → a < 81 → has_bit snipers a ≡ is_sniping cells side a) → bit_and lines snipers ≡ 0 → StaysCovered cells side n
+covered cells side n lines snipers l s none a h sniping = false_from_ne_true (are_lined cells n a) (λ lined. both_ways (has_bit (bit_and lines snipers) a) (ap (λ m. has_bit m a) none ∙ has_bit-none a) (has_bit-and lines snipers a ∙ and_from _ _ (l a h ∙ lined) (s a h ∙ sniping)))
+
+pub covered_by_none : (cells : Cells) (side : Color) (n snipers : ℕ) → ((a : ℕ) → a < 81 → has_bit snipers a ≡ is_sniping cells side a) → snipers ≡ 0 → StaysCovered cells side n
+covered_by_none cells side n snipers s none a h sniping = absurd (both_ways (has_bit snipers a) (ap (λ m. has_bit m a) none ∙ has_bit-none a) (s a h ∙ sniping))
+
+still_moved : (promote : Bool) (cell : Option Piece) → is_slider cell ≡ false → is_slider (piece_moved promote cell) ≡ false
+still_moved promote None e = refl
+still_moved promote (Some piece) e = go promote piece.role e
+  where
+    go : (promote : Bool) (role : Role) → is_sliding_role role ≡ false → is_sliding_role (cond promote (promoted role) role) ≡ false
+    go false role e = e
+    go true King e = refl
+    go true Pawn e = refl
+    go true Lance e = refl
+    go true Knight e = refl
+    go true Silver e = refl
+    go true Gold e = refl
+    go true Bishop e = absurd (cc)
+    go true Rook e = absurd (cc)
+    go true PromotedPawn e = refl
+    go true PromotedLance e = refl
+    go true PromotedKnight e = refl
+    go true PromotedSilver e = refl
+    go true Horse e = absurd (cc)
+    go true Dragon e = absurd (cc)
 
 -- off the sight of the kings: on no open line with one
 unlined : (cells : Cells) (side : Color) (sight n : ℕ) → Sees cells side 0 sight → n < 81 → has_bit sight n ≡ false → is_lined_with_king cells side n ≡ false
@@ -152,21 +219,18 @@ steps_reach cells (Some piece) a t e = or_left (has_step piece a t) (has_slide c
 right_step : (new : Cells) (color : Color) (a t : ℕ) → is_piece_of color (piece_at new a) ≡ true → is_piece_of color (piece_at new t) ≡ false → reaches new a t ≡ true → is_immobile t (piece_at new a) ≡ false → is_pseudo_legal_board_move new color a t false ≡ true
 right_step new color a t own free reach alive = rw (own, free, reach, still t (piece_at new a), alive) refl
 
-module _ (old new : Cells) (hands : HandCounts) (color : Color) (Left : ℕ → Type 0) (opened : (x : ℕ) → is_none (piece_at new x) ≡ true → (is_none (piece_at old x) ≡ true) ⊎ Left x) where
-  replied_step : (to : ℕ) → length new ≡ 81 → to < 81
-      → ((a : ℕ) → is_piece_of (opponent_of color) (piece_at new a) ≡ true → (piece_at old a ≡ piece_at new a) ⊎ (a ≡ to))
+module _ (old new : Cells) (hands : HandCounts) (color : Color) where
+  replied_step : (to : ℕ) → length new ≡ 81
       → ((k : ℕ) → is_king color (piece_at new k) ≡ true → piece_at old k ≡ piece_at new k)
-      → ((x : ℕ) → Left x → is_lined_with_king old color x ≡ false)
-      → ((k : ℕ) → k < 81 → is_king color (piece_at old k) ≡ true → cell_reaches old (piece_at new to) to k ≡ false)
-      → in_check old color ≡ false
+      → in_check new color ≡ false
       → ((a : ℕ) → is_piece_of color (piece_at old a) ≡ true → a ≢ to → piece_at new a ≡ piece_at old a)
       → ((t : ℕ) → is_piece_of color (piece_at old t) ≡ false → is_piece_of color (piece_at new t) ≡ false)
       → (a : ℕ) → a < 81 → a ≢ to → is_spare old color a ≡ true → legal_codes (record { cells = new; hands = hands; side = color }) ≢ []
   unfolding is_spare reaches
-  replied_step to len ht kept kings free far safe stays clear a ha other e =
+  replied_step to len kings shut stays clear a ha other e =
       let q : Shogi = record { cells = new; hands = hands; side = color } in
-      let four = and_parts (is_piece_of color (piece_at old a) && not (is_king color (piece_at old a)) && not (is_lined_with_king old color a)) (some_below 81 (is_open_step old color a)) e in
-      let three = and_parts (is_piece_of color (piece_at old a) && not (is_king color (piece_at old a))) (not (is_lined_with_king old color a)) four.0 in
+      let four = and_parts (is_piece_of color (piece_at old a) && not (is_king color (piece_at old a)) && not (is_aligned_with_king old color a)) (some_below 81 (is_open_step old color a)) e in
+      let three = and_parts (is_piece_of color (piece_at old a) && not (is_king color (piece_at old a))) (not (is_aligned_with_king old color a)) four.0 in
       let two : (is_piece_of color (piece_at old a) ≡ true) × (not (is_king color (piece_at old a)) ≡ true) = and_parts (is_piece_of color (piece_at old a)) (not (is_king color (piece_at old a))) three.0 in
       let which = some_below_which 81 (is_open_step old color a) four.1 in
       let t = which.0 in
@@ -178,27 +242,22 @@ module _ (old new : Cells) (hands : HandCounts) (color : Color) (Left : ℕ → 
       let reach : reaches new a which.0 ≡ true = ap (λ cell. cell_reaches new cell a which.0) same ∙ steps_reach new (piece_at old a) a which.0 walk.0 in
       let alive : is_immobile which.0 (piece_at new a) ≡ false = ap (is_immobile which.0) same ∙ not-true _ step.1 in
       let plain : is_king color (piece_at new a) ≡ false = ap (is_king color) same ∙ not-true _ two.1 in
-      let off : is_lined_with_king new color a ≡ false = line_to_king_was old new Left opened color a kings free (not-true _ three.1) in
-      let shut : in_check new color ≡ false = no_check old new Left opened color to ht kept kings free far safe in
+      let off : is_lined_with_king new color a ≡ false = stays_unlined old new color a ha kings (not-true _ three.1) in
       some_legal q (code_of (Board a which.0 false))
       (is_legal_code_of q (code_of (Board a which.0 false)) (Board a which.0 false) (move_of-board a which.0 false ha which.1)
       ∙ (legal_board q a which.0 false
       ∙ and_from _ _ (right_step new color a which.0 own open_end reach alive) (ap not (quiet_board new color a which.0 false len ha which.1 own plain off shut))))
 
-  replied : (to : ℕ) → length new ≡ 81 → to < 81
-      → ((a : ℕ) → is_piece_of (opponent_of color) (piece_at new a) ≡ true → (piece_at old a ≡ piece_at new a) ⊎ (a ≡ to))
+  replied : (to : ℕ) → length new ≡ 81
       → ((k : ℕ) → is_king color (piece_at new k) ≡ true → piece_at old k ≡ piece_at new k)
-      → ((x : ℕ) → Left x → is_lined_with_king old color x ≡ false)
-      → ((k : ℕ) → k < 81 → is_king color (piece_at old k) ≡ true → cell_reaches old (piece_at new to) to k ≡ false)
-      → in_check old color ≡ false
+      → in_check new color ≡ false
       → ((a : ℕ) → is_piece_of color (piece_at old a) ≡ true → a ≢ to → piece_at new a ≡ piece_at old a)
       → ((t : ℕ) → is_piece_of color (piece_at old t) ≡ false → is_piece_of color (piece_at new t) ≡ false)
       → ((x : ℕ) → is_none (piece_at old x) ≡ true → x ≢ to → is_none (piece_at new x) ≡ true)
       → (a : ℕ) → a < 81 → a ≢ to → (is_spare old color a ≡ true) ⊎ ((is_none (piece_at old a) ≡ true) × (holds_free hands color ≡ true)) → legal_codes (record { cells = new; hands = hands; side = color }) ≢ []
-  replied to len ht kept kings free far safe stays clear empty a ha other way = elim way [
-    | inl e ↦ replied_step to len ht kept kings free far safe stays clear a ha other e
+  replied to len kings shut stays clear empty a ha other way = elim way [
+    | inl e ↦ replied_step to len kings shut stays clear a ha other e
     | inr e ↦ (
-        let shut : in_check new color ≡ false = no_check old new Left opened color to ht kept kings free far safe in
         let held = held_kind hands color e.1 in
         free_drop new hands color held.0 a len ha held.1 held.2 (empty a e.0 other) shut)
   ]
@@ -209,26 +268,13 @@ crowned : (color : Color) (cell : Option Piece) → is_piece_of color cell ≡ f
 crowned color None e = refl
 crowned color (Some piece) e = rw e refl
 
-pub replied_board : (p : Shogi) (from to : ℕ) (promote : Bool) (sight spare a : ℕ) → IsValid p → IsReplies p sight spare → from < 81 → to < 81 → is_piece_of p.side (piece_at p.cells from) ≡ true → has_bit sight from ≡ false → IsHarmless p.cells (opponent_of p.side) (piece_moved promote (piece_at p.cells from)) to
+pub replied_board : (p : Shogi) (from to : ℕ) (promote : Bool) (sight spare a : ℕ) → IsValid p → IsReplies p sight spare → from < 81 → to < 81 → is_piece_of p.side (piece_at p.cells from) ≡ true → UncoversNothing p.cells (opponent_of p.side) sight from → IsHarmless p.cells (opponent_of p.side) (piece_moved promote (piece_at p.cells from)) to
     → a < 81 → has_bit spare a ≡ true → a ≢ to → legal_codes (after p (Board from to promote)) ≢ []
 replied_board p from to promote sight spare a v r hf ht own out off ha some other =
-    replied p.cells (cells_after p.cells p.side (Board from to promote)) (after p (Board from to promote)).hands (opponent_of p.side) (λ x. x ≡ from)
-    (λ x e. elim (see x) [
-      | inl there ↦ absurd (both_ways (is_none w) (own_some p.side w mine) (ap is_none (sym there.1) ∙ e))
-      | inr rest ↦ elim rest [ inl here ↦ inr here.0 | inr same ↦ inl (ap is_none (sym same) ∙ e) ]
-    ])
-    to (length-set (set p.cells from None) to w ∙ (length-set p.cells from None ∙ v.cells_fit)) ht
-    (λ x e. elim (see x) [
-      | inl there ↦ inr there.0
-      | inr rest ↦ elim rest [ inl here ↦ absurd (let clash : false ≡ true = ap (is_piece_of (opponent_of (opponent_of p.side))) (sym here.1) ∙ e in cc) | inr same ↦ inl (sym same) ]
-    ])
-    (λ k e. elim (see k) [
-      | inl there ↦ absurd (both_ways (is_king (opponent_of p.side) w) (crowned (opponent_of p.side) w (other_side p.side w mine)) (ap (is_king (opponent_of p.side)) (sym there.1) ∙ e))
-      | inr rest ↦ elim rest [ inl here ↦ absurd (let clash : false ≡ true = ap (is_king (opponent_of p.side)) (sym here.1) ∙ e in cc) | inr same ↦ sym same ]
-    ])
-    (λ x left. subst (λ (y : ℕ). is_lined_with_king p.cells (opponent_of p.side) y ≡ false) (sym left) (unlined p.cells (opponent_of p.side) sight from r.sees hf out))
-    (λ k l e. ap (λ cell. cell_reaches p.cells cell to k) (get_or-set_same (set p.cells from None) to w None (omega (arith, length-set p.cells from None, v.cells_fit))) ∙ off k l e)
-    (faultless_from p v.no_fault).shut
+    replied p.cells (cells_after p.cells p.side (Board from to promote)) (after p (Board from to promote)).hands (opponent_of p.side)
+    to (length-set (set p.cells from None) to w ∙ (length-set p.cells from None ∙ v.cells_fit))
+    crown
+    (shut out)
     (λ x e ne. elim (see x) [
       | inl there ↦ absurd (ne there.0)
       | inr rest ↦ elim rest [
@@ -255,23 +301,56 @@ replied_board p from to promote sight spare a v r hf ht own out off ha some othe
     see : (x : ℕ) → ((x ≡ to) × (piece_at (set (set p.cells from None) to (piece_moved promote (piece_at p.cells from))) x ≡ piece_moved promote (piece_at p.cells from))) ⊎ (((x ≡ from) × (piece_at (set (set p.cells from None) to (piece_moved promote (piece_at p.cells from))) x ≡ None)) ⊎ (piece_at (set (set p.cells from None) to (piece_moved promote (piece_at p.cells from))) x ≡ piece_at p.cells x))
     see x = look p.cells p.side from to (piece_moved promote (piece_at p.cells from)) v.cells_fit hf ht x
 
+    lands : piece_at (set (set p.cells from None) to (piece_moved promote (piece_at p.cells from))) to ≡ piece_moved promote (piece_at p.cells from)
+    lands = get_or-set_same (set p.cells from None) to w None (omega (arith, length-set p.cells from None, v.cells_fit))
+
+    opened : (x : ℕ) → is_none (piece_at (set (set p.cells from None) to (piece_moved promote (piece_at p.cells from))) x) ≡ true → (is_none (piece_at p.cells x) ≡ true) ⊎ (x ≡ from)
+    opened x e = elim (see x) [
+      | inl there ↦ absurd (both_ways (is_none w) (own_some p.side w mine) (ap is_none (sym there.1) ∙ e))
+      | inr rest ↦ elim rest [ inl here ↦ inr here.0 | inr same ↦ inl (ap is_none (sym same) ∙ e) ]
+    ]
+
+    theirs : (x : ℕ) → is_piece_of (opponent_of (opponent_of p.side)) (piece_at (set (set p.cells from None) to (piece_moved promote (piece_at p.cells from))) x) ≡ true → (piece_at p.cells x ≡ piece_at (set (set p.cells from None) to (piece_moved promote (piece_at p.cells from))) x) ⊎ (x ≡ to)
+    theirs x e = elim (see x) [
+      | inl there ↦ inr there.0
+      | inr rest ↦ elim rest [ inl here ↦ absurd (let clash : false ≡ true = ap (is_piece_of (opponent_of (opponent_of p.side))) (sym here.1) ∙ e in cc) | inr same ↦ inl (sym same) ]
+    ]
+
+    crown : (k : ℕ) → is_king (opponent_of p.side) (piece_at (set (set p.cells from None) to (piece_moved promote (piece_at p.cells from))) k) ≡ true → piece_at p.cells k ≡ piece_at (set (set p.cells from None) to (piece_moved promote (piece_at p.cells from))) k
+    crown k e = elim (see k) [
+      | inl there ↦ absurd (both_ways (is_king (opponent_of p.side) w) (crowned (opponent_of p.side) w (other_side p.side w mine)) (ap (is_king (opponent_of p.side)) (sym there.1) ∙ e))
+      | inr rest ↦ elim rest [ inl here ↦ absurd (let clash : false ≡ true = ap (is_king (opponent_of p.side)) (sym here.1) ∙ e in cc) | inr same ↦ sym same ]
+    ]
+
+    shut : UncoversNothing p.cells (opponent_of p.side) sight from → in_check (set (set p.cells from None) to (piece_moved promote (piece_at p.cells from))) (opponent_of p.side) ≡ false
+    shut (inl unseen_from) =
+        no_check p.cells (set (set p.cells from None) to (piece_moved promote (piece_at p.cells from))) (λ x. x ≡ from) opened (opponent_of p.side) to ht theirs crown
+        (λ x left. subst (λ (y : ℕ). is_lined_with_king p.cells (opponent_of p.side) y ≡ false) (sym left) (unlined p.cells (opponent_of p.side) sight from r.sees hf unseen_from))
+        (λ k l e. ap (λ cell. cell_reaches p.cells cell to k) lands ∙ off k l e)
+        (faultless_from p v.no_fault).shut
+    shut (inr still) =
+        left_calm p.cells (set (set p.cells from None) to (piece_moved promote (piece_at p.cells from))) from opened (opponent_of p.side) to theirs crown
+        (λ k l e. ap (λ cell. cell_reaches (set (set p.cells from None) to (piece_moved promote (piece_at p.cells from))) cell to k) lands
+        ∙ stands_still p.cells (set (set p.cells from None) to (piece_moved promote (piece_at p.cells from))) w to k (still_moved promote (piece_at p.cells from) still.0) (off k l e))
+        (faultless_from p v.no_fault).shut still.1
+
 pub replied_drop : (p : Shogi) (kind : Kind) (to sight spare a : ℕ) → IsValid p → IsReplies p sight spare → to < 81 → IsHarmless p.cells (opponent_of p.side) (dropped p.side kind) to
     → a < 81 → has_bit spare a ≡ true → a ≢ to → legal_codes (after p (Drop kind to)) ≢ []
 replied_drop p kind to sight spare a v r ht off ha some other =
-    replied p.cells (cells_after p.cells p.side (Drop kind to)) (after p (Drop kind to)).hands (opponent_of p.side) (λ x. ⊥)
+    replied p.cells (cells_after p.cells p.side (Drop kind to)) (after p (Drop kind to)).hands (opponent_of p.side)
+    to (length-set p.cells to (dropped p.side kind) ∙ v.cells_fit)
+    crown
+    (no_check p.cells (set p.cells to (dropped p.side kind)) (λ x. ⊥)
     (λ x e. elim (see x) [
       | inl there ↦ absurd (let clash : false ≡ true = ap is_none (sym there.1) ∙ e in cc)
       | inr same ↦ inl (ap is_none (sym same) ∙ e)
     ])
-    to (length-set p.cells to (dropped p.side kind) ∙ v.cells_fit) ht
+    (opponent_of p.side) to ht
     (λ x e. elim (see x) [ inl there ↦ inr there.0 | inr same ↦ inl (sym same) ])
-    (λ k e. elim (see k) [
-      | inl there ↦ absurd (both_ways (is_king (opponent_of p.side) (dropped p.side kind)) (drops.no_king p.side kind) (ap (is_king (opponent_of p.side)) (sym there.1) ∙ e))
-      | inr same ↦ sym same
-    ])
+    crown
     (λ x left. absurd left)
     (λ k l e. ap (λ cell. cell_reaches p.cells cell to k) (get_or-set_same p.cells to (dropped p.side kind) None (omega (arith, v.cells_fit))) ∙ off k l e)
-    (faultless_from p v.no_fault).shut
+    (faultless_from p v.no_fault).shut)
     (λ x e ne. elim (see x) [ inl there ↦ absurd (ne there.0) | inr same ↦ same ])
     (λ t e. elim (see t) [
       | inl there ↦ ap (is_piece_of (opponent_of p.side)) there.1 ∙ other_side p.side (dropped p.side kind) (dropped_of p.side kind)
@@ -283,35 +362,41 @@ replied_drop p kind to sight spare a v r ht off ha some other =
     see : (x : ℕ) → ((x ≡ to) × (piece_at (cells_after p.cells p.side (Drop kind to)) x ≡ dropped p.side kind)) ⊎ (piece_at (cells_after p.cells p.side (Drop kind to)) x ≡ piece_at p.cells x)
     see x = drops.look p.cells p.side kind to v.cells_fit ht x
 
+    crown : (k : ℕ) → is_king (opponent_of p.side) (piece_at (set p.cells to (dropped p.side kind)) k) ≡ true → piece_at p.cells k ≡ piece_at (set p.cells to (dropped p.side kind)) k
+    crown k e = elim (see k) [
+      | inl there ↦ absurd (both_ways (is_king (opponent_of p.side) (dropped p.side kind)) (drops.no_king p.side kind) (ap (is_king (opponent_of p.side)) (sym there.1) ∙ e))
+      | inr same ↦ sym same
+    ]
+
 -- ---- spare pieces are found one by one
 
--- what is left and what is kept are pieces of the side off the sight of its kings; what is kept and not left is spare
-pub record IsSifted (cells : Cells) (side : Color) (sight left kept : ℕ) : Type 0 where
-  pub own : (a : ℕ) → a < 81 → has_bit left a ≡ true → (is_piece_of side (piece_at cells a) ≡ true) × (has_bit sight a ≡ false)
+-- what is left and what is kept are pieces of the side off the lines of its kings; what is kept and not left is spare
+pub record IsSifted (cells : Cells) (side : Color) (lines left kept : ℕ) : Type 0 where
+  pub own : (a : ℕ) → a < 81 → has_bit left a ≡ true → (is_piece_of side (piece_at cells a) ≡ true) × (has_bit lines a ≡ false)
   pub within : (a : ℕ) → has_bit left a ≡ true → has_bit kept a ≡ true
   pub spare : (a : ℕ) → a < 81 → has_bit kept a ≡ true → (has_bit left a ≡ true) ⊎ (is_spare cells side a ≡ true)
 
-pub sifted_first : (cells : Cells) (side : Color) (sight own : ℕ) → sight < 2 ^ 128 → ((n : ℕ) → n < 81 → has_bit own n ≡ is_piece_of side (piece_at cells n)) → IsSifted cells side sight (bit_and own (2 ^ 128 - 1 - sight)) (bit_and own (2 ^ 128 - 1 - sight))
-sifted_first cells side sight own fits bits = record {
+pub sifted_first : (cells : Cells) (side : Color) (lines own : ℕ) → lines < 2 ^ 128 → ((n : ℕ) → n < 81 → has_bit own n ≡ is_piece_of side (piece_at cells n)) → IsSifted cells side lines (bit_and own (2 ^ 128 - 1 - lines)) (bit_and own (2 ^ 128 - 1 - lines))
+sifted_first cells side lines own fits bits = record {
   own = λ a h e. (
-      let parts : (has_bit own a ≡ true) × (has_bit (2 ^ 128 - 1 - sight) a ≡ true) = and_parts _ _ (sym (has_bit-and own (2 ^ 128 - 1 - sight) a) ∙ e) in
-      (sym (bits a h) ∙ parts.0, not-true _ (sym (has_bit-not sight a fits (omega arith)) ∙ parts.1)));
+      let parts : (has_bit own a ≡ true) × (has_bit (2 ^ 128 - 1 - lines) a ≡ true) = and_parts _ _ (sym (has_bit-and own (2 ^ 128 - 1 - lines) a) ∙ e) in
+      (sym (bits a h) ∙ parts.0, not-true _ (sym (has_bit-not lines a fits (omega arith)) ∙ parts.1)));
   within = λ a e. e;
   spare = λ a h e. inl e;
 }
 
-spare_if : (cells : Cells) (side : Color) (sight a : ℕ) → Sees cells side 0 sight → a < 81 → is_piece_of side (piece_at cells a) ≡ true → has_bit sight a ≡ false → some_below 81 (is_open_step cells side a) ≡ true → is_spare cells side a ≡ true
+spare_if : (cells : Cells) (side : Color) (lines a : ℕ) → Aligns cells side 0 lines → a < 81 → is_piece_of side (piece_at cells a) ≡ true → has_bit lines a ≡ false → some_below 81 (is_open_step cells side a) ≡ true → is_spare cells side a ≡ true
 unfolding is_spare
-spare_if cells side sight a s h own off step =
-    rw (own, unlined cells side sight a s h off, false_from_ne_true (is_king side (piece_at cells a)) (λ king. both_ways (has_bit sight a) off (s.kings a h king)), step) refl
+spare_if cells side lines a s h own off step =
+    rw (own, unaligned cells side lines a s h off, false_from_ne_true (is_king side (piece_at cells a)) (λ king. both_ways (has_bit lines a) off (s.kings a h king)), step) refl
 
-pub sifted_found : (cells : Cells) (side : Color) (sight left kept next from : ℕ) → Sees cells side 0 sight → IsSifted cells side sight left kept → from < 81 → has_bit left from ≡ true → some_below 81 (is_open_step cells side from) ≡ true
-    → ((i : ℕ) → has_bit next i ≡ (has_bit left i && not (i == from))) → IsSifted cells side sight next kept
-sifted_found cells side sight left kept next from s f hf here step bits = record {
+pub sifted_found : (cells : Cells) (side : Color) (lines left kept next from : ℕ) → Aligns cells side 0 lines → IsSifted cells side lines left kept → from < 81 → has_bit left from ≡ true → some_below 81 (is_open_step cells side from) ≡ true
+    → ((i : ℕ) → has_bit next i ≡ (has_bit left i && not (i == from))) → IsSifted cells side lines next kept
+sifted_found cells side lines left kept next from s f hf here step bits = record {
   own = λ a h e. f.own a h ((and_parts (has_bit left a) (not (a == from)) (sym (bits a) ∙ e)).0);
   within = λ a e. f.within a ((and_parts (has_bit left a) (not (a == from)) (sym (bits a) ∙ e)).0);
   spare = λ a h e. elim (cases_eq a from) [
-    | inl same ↦ inr (let own = f.own from hf here in subst (λ (y : ℕ). is_spare cells side y ≡ true) (sym same) (spare_if cells side sight from s hf own.0 own.1 step))
+    | inl same ↦ inr (let own = f.own from hf here in subst (λ (y : ℕ). is_spare cells side y ≡ true) (sym same) (spare_if cells side lines from s hf own.0 own.1 step))
     | inr other ↦ elim (f.spare a h e) [
       | inl still ↦ inl (bits a ∙ and_from _ _ still (not_from_false _ (ne_eqb a from other)))
       | inr spare ↦ inr spare
@@ -319,8 +404,8 @@ sifted_found cells side sight left kept next from s f hf here step bits = record
   ];
 }
 
-pub sifted_dropped : (cells : Cells) (side : Color) (sight left kept next less from : ℕ) → IsSifted cells side sight left kept → ((i : ℕ) → has_bit next i ≡ (has_bit left i && not (i == from))) → ((i : ℕ) → has_bit less i ≡ (has_bit kept i && not (i == from))) → IsSifted cells side sight next less
-sifted_dropped cells side sight left kept next less from f bits gone = record {
+pub sifted_dropped : (cells : Cells) (side : Color) (lines left kept next less from : ℕ) → IsSifted cells side lines left kept → ((i : ℕ) → has_bit next i ≡ (has_bit left i && not (i == from))) → ((i : ℕ) → has_bit less i ≡ (has_bit kept i && not (i == from))) → IsSifted cells side lines next less
+sifted_dropped cells side lines left kept next less from f bits gone = record {
   own = λ a h e. f.own a h ((and_parts (has_bit left a) (not (a == from)) (sym (bits a) ∙ e)).0);
   within = λ a e. (let parts = and_parts (has_bit left a) (not (a == from)) (sym (bits a) ∙ e) in gone a ∙ and_from _ _ (f.within a parts.0) parts.1);
   spare = λ a h e. (
@@ -331,8 +416,8 @@ sifted_dropped cells side sight left kept next less from f bits gone = record {
       ]);
 }
 
-pub sifted_done : (cells : Cells) (side : Color) (sight left kept : ℕ) → left < 2 ^ 128 → IsSifted cells side sight left kept → (a : ℕ) → a < 81 → has_bit (bit_and kept (2 ^ 128 - 1 - left)) a ≡ true → is_spare cells side a ≡ true
-sifted_done cells side sight left kept fits f a h e =
+pub sifted_done : (cells : Cells) (side : Color) (lines left kept : ℕ) → left < 2 ^ 128 → IsSifted cells side lines left kept → (a : ℕ) → a < 81 → has_bit (bit_and kept (2 ^ 128 - 1 - left)) a ≡ true → is_spare cells side a ≡ true
+sifted_done cells side lines left kept fits f a h e =
     let parts : (has_bit kept a ≡ true) × (has_bit (2 ^ 128 - 1 - left) a ≡ true) = and_parts _ _ (sym (has_bit-and kept (2 ^ 128 - 1 - left) a) ∙ e) in
     elim (f.spare a h parts.0) [
       | inl still ↦ absurd (both_ways (has_bit left a) (not-true _ (sym (has_bit-not left a fits (omega arith)) ∙ parts.1)) still)
@@ -378,11 +463,11 @@ legal_own p from to promote e =
     let two = and_parts _ _ three.0 in
     (and_parts _ _ two.0).0
 
-pub certain_board : (p : Shogi) (from to start end : ℕ) (promote : Bool) (sight spare : ℕ) → IsValid p → IsReplies p sight spare → from < 81 → to < 81 → start ≡ from → end ≡ to → is_legal p (Board from to promote) ≡ true → has_bit sight start ≡ false → IsHarmless p.cells (opponent_of p.side) (piece_moved promote (piece_at p.cells from)) to
+pub certain_board : (p : Shogi) (from to end : ℕ) (promote : Bool) (sight spare : ℕ) → IsValid p → IsReplies p sight spare → from < 81 → to < 81 → end ≡ to → is_legal p (Board from to promote) ≡ true → UncoversNothing p.cells (opponent_of p.side) sight from → IsHarmless p.cells (opponent_of p.side) (piece_moved promote (piece_at p.cells from)) to
     → bit_and spare (2 ^ 128 - 1 - 1 * 2 ^ end % 2 ^ 128) ≢ 0 → legal_codes (after p (Board from to promote)) ≢ []
-certain_board p from to start end promote sight spare v r hf ht s e legal out off some =
+certain_board p from to end promote sight spare v r hf ht e legal out off some =
     let a = another spare end r.fits (omega arith) some in
-    replied_board p from to promote sight spare a.0 v r hf ht (legal_own p from to promote legal) (subst (λ (y : ℕ). has_bit sight y ≡ false) s out) off a.1 a.2 (λ same. a.3 (same ∙ sym e))
+    replied_board p from to promote sight spare a.0 v r hf ht (legal_own p from to promote legal) out off a.1 a.2 (λ same. a.3 (same ∙ sym e))
 
 pub certain_drop : (p : Shogi) (kind : Kind) (to end sight spare : ℕ) → IsValid p → IsReplies p sight spare → to < 81 → end ≡ to → IsHarmless p.cells (opponent_of p.side) (dropped p.side kind) to
     → bit_and spare (2 ^ 128 - 1 - 1 * 2 ^ end % 2 ^ 128) ≢ 0 → legal_codes (after p (Drop kind to)) ≢ []

@@ -1,13 +1,14 @@
 -- What is kept of a position to tell that after most of its moves the other side is in no check and has a legal move.
-use Rattle.std.specs.Prelude.{ℕ, ◌≡◌, ◌<◌, ◌^◌, ◌&&◌, ◌||◌, Bool, true, false, not, nat_lt, Option, Some, None, is_none}
+use Rattle.std.specs.Prelude.{ℕ, ◌≡◌, ◌<◌, ◌^◌, ◌⊎◌, ◌&&◌, ◌||◌, Bool, true, false, not, nat_lt, Option, Some, None, is_none}
 use Rattle.shogi_core.specs.declared.piece.Color.{Color}
 use Rattle.shogi_core.specs.declared.piece.Kind.{Kind}
 use Rattle.shogi_core.specs.declared.piece.Kind.TheVariants.{Silver, Gold, Bishop, Rook}
 use Rattle.shogi_core.specs.declared.piece.Piece.{Piece}
+use Rattle.shogi_core.specs.Attack.{is_sniping}
 use Rattle.shogi_core.specs.Below.{some_below}
 use Rattle.shogi_core.specs.Bits.{has_bit}
-use Rattle.shogi_core.specs.Cell.{is_piece_of, is_king, is_immobile}
-use Rattle.shogi_core.specs.Lines.{is_seen, is_lined_with_king}
+use Rattle.shogi_core.specs.Cell.{is_piece_of, is_king, is_immobile, is_slider}
+use Rattle.shogi_core.specs.Lines.{are_aligned, are_lined, is_seen}
 use Rattle.shogi_core.specs.Movement.{Cells, piece_at, cell_reaches, has_step}
 use Rattle.shogi_core.specs.Pieces.{opponent_of}
 use Rattle.shogi_core.specs.Position.{Shogi, HandCounts, count_in_hand}
@@ -21,9 +22,17 @@ cell_steps (Some piece) a t = has_step piece a t
 abbrev pub is_open_step : Cells → Color → ℕ → ℕ → Bool
 is_open_step cells side a t = cell_steps (piece_at cells a) a t && not (is_piece_of side (piece_at cells t)) && not (is_immobile t (piece_at cells a))
 
--- a piece of the side with such a step, which is no king and on no open line with one
+-- the square lies on a line with a king of the side, whatever stands between
+abbrev pub is_line_of_king : Cells → Color → ℕ → ℕ → Bool
+is_line_of_king cells side a king = is_king side (piece_at cells king) && are_aligned king a
+
+-- the square lies on a line with some king of the side
+unfoldable pub is_aligned_with_king : Cells → Color → ℕ → Bool
+is_aligned_with_king cells side a = some_below 81 (is_line_of_king cells side a)
+
+-- a piece of the side with such a step, which is no king and on no line with one
 unfoldable pub is_spare : Cells → Color → ℕ → Bool
-is_spare cells side a = is_piece_of side (piece_at cells a) && not (is_king side (piece_at cells a)) && not (is_lined_with_king cells side a) && some_below 81 (is_open_step cells side a)
+is_spare cells side a = is_piece_of side (piece_at cells a) && not (is_king side (piece_at cells a)) && not (is_aligned_with_king cells side a) && some_below 81 (is_open_step cells side a)
 
 -- a kind that goes on from every square, and is no pawn
 abbrev pub is_free_kind : Kind → Bool
@@ -45,6 +54,19 @@ is_way p side a = is_spare p.cells side a || is_none (piece_at p.cells a) && hol
 pub record Sees (cells : Cells) (side : Color) (left sight : ℕ) : Type 0 where
   pub kings : (n : ℕ) → n < 81 → is_king side (piece_at cells n) ≡ true → has_bit sight n ≡ true
   pub squares : (k n : ℕ) → k < 81 → n < 81 → is_king side (piece_at cells k) ≡ true → has_bit left k ≡ false → is_seen cells k n ≡ true → has_bit sight n ≡ true
+
+-- a mask with the kings of a side and all squares on lines with those which are not left
+pub record Aligns (cells : Cells) (side : Color) (left lines : ℕ) : Type 0 where
+  pub kings : (n : ℕ) → n < 81 → is_king side (piece_at cells n) ≡ true → has_bit lines n ≡ true
+  pub squares : (k n : ℕ) → k < 81 → n < 81 → is_king side (piece_at cells k) ≡ true → has_bit left k ≡ false → are_aligned k n ≡ true → has_bit lines n ≡ true
+
+-- no piece of the other side that slides and is on a line with a king of the side is on an open line with the square
+abbrev pub StaysCovered : Cells → Color → ℕ → Type 0
+StaysCovered cells side n = (a : ℕ) → a < 81 → is_sniping cells side a ≡ true → are_lined cells n a ≡ false
+
+-- what stands on the square is off the sight of the side's kings, or does not slide and covers no king from one that does
+abbrev pub UncoversNothing : Cells → Color → ℕ → ℕ → Type 0
+UncoversNothing cells side sight n = (has_bit sight n ≡ false) ⊎ ((is_slider (piece_at cells n) ≡ false) × StaysCovered cells side n)
 
 -- what would stand on the square attacks no king of the side
 abbrev pub IsHarmless : Cells → Color → Option Piece → ℕ → Type 0

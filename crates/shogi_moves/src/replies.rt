@@ -3,16 +3,18 @@
 ghost use Rattle.std.specs.Prelude.{◌≡◌, ◌≢◌, ◌<◌, ◌^◌, ℕ, [], true, false};
 ghost use Rattle.shogi_core.specs.Below.{some_below};
 ghost use Rattle.shogi_core.specs.Bits.{has_bit};
+ghost use Rattle.shogi_core.specs.Cell.{is_slider};
+ghost use Rattle.shogi_core.specs.Movement.{piece_at};
 ghost use Rattle.shogi_core.specs.Pieces.{opponent_of};
 ghost use Rattle.shogi_moves.specs.After.{after};
 ghost use Rattle.shogi_moves.specs.Legal.{is_legal};
 ghost use Rattle.shogi_moves.specs.LegalMoves.{legal_codes};
-ghost use Rattle.shogi_moves.specs.Replies.{holds_free, is_open_step, is_spare, Sees, IsReplies, IsHarmless};
+ghost use Rattle.shogi_moves.specs.Replies.{holds_free, is_open_step, is_spare, Sees, Aligns, IsReplies, IsHarmless, StaysCovered, UncoversNothing};
 
 use crate::after::{dropped, piece_moved};
 use crate::zones::dead_squares;
 use shogi_core::bits::{ALL_SQUARES, cleared, has, lowest, without_lowest};
-use shogi_core::{Color, Kind, Move, Piece, Position, Square, step_squares};
+use shogi_core::{Color, Kind, Move, Piece, Position, Square, aligned_squares, step_squares};
 
 /// What is kept of a position to tell that after most of its moves the other side is in no check
 /// and has a legal move: what its king sees, and pieces of it that have an open step, or the empty
@@ -38,6 +40,35 @@ fn sight_squares(p: &Position, side: Color) -> u128
     sight
 }
 
+/// The squares of kings of the side, and of lines with them, whatever stands between.
+#[tactic(auto, using(crate::proofs::ReplyLaws::aligning))]
+fn line_squares(p: &Position, side: Color) -> u128
+    ensures { Aligns p.now.cells side 0 result }
+{
+    let mut left = p.kings(side);
+    let mut lines = left;
+    while left != 0 {
+        let king = lowest(left);
+        lines |= aligned_squares(king);
+        left = without_lowest(left, king);
+    }
+    lines
+}
+
+/// Whether what stands on the square slides, or may stand in the way of a piece that slides to a king
+/// of the side: such a piece is on a line with the king and on an open line with the square.
+fn may_uncover(p: &Position, side: Color, from: Square) -> bool
+    ensures still { result ≡ false → is_slider (piece_at p.now.cells from) ≡ false }
+    ensures covered { result ≡ false → StaysCovered p.now.cells side from }
+{
+    from.validity();
+    if has(p.as_board().sliders(), from.index()) {
+        return true;
+    }
+    let snipers = p.as_board().snipers(side);
+    snipers != 0 && p.lined(from) & snipers != 0
+}
+
 /// Whether what stands on the square has a step to where none of the side's own stands, and from
 /// where it can move again without promotion.
 fn has_open_step(p: &Position, side: Color, from: Square) -> bool
@@ -53,14 +84,14 @@ fn has_open_step(p: &Position, side: Color, from: Square) -> bool
     }
 }
 
-/// Two pieces of the side that see no king of their own and have an open step, or fewer where
-/// there are no more.
-fn spare_pieces(p: &Position, side: Color, sight: u128) -> u128
-    requires { Sees p.now.cells side 0 sight }
+/// Two pieces of the side that are on no line with a king of their own and have an open step, or
+/// fewer where there are no more.
+fn spare_pieces(p: &Position, side: Color, lines: u128) -> u128
+    requires { Aligns p.now.cells side 0 lines }
     ensures spares { (a : ℕ) → a < 81 → has_bit result a ≡ true → is_spare p.now.cells side a ≡ true }
     ensures fits { result < 2 ^ 81 }
 {
-    let mut left = p.own(side) & !sight;
+    let mut left = p.own(side) & !lines;
     let mut kept = left;
     let mut found = 0u8;
     while left != 0 && found < 2 {
@@ -111,6 +142,18 @@ impl Replies {
         true
     }
 
+    /// Whether a move of what stands on the square surely uncovers no check of the other side.
+    #[inline(always)]
+    fn uncovers_nothing(&self, p: &Position, from: Square) -> bool
+        ensures { result ≡ true → UncoversNothing p.now.cells (opponent_of p.now.side) self.now.sight from }
+    {
+        from.validity();
+        if has(self.sight, from.index()) {
+            return !may_uncover(p, p.side().opponent(), from);
+        }
+        true
+    }
+
     /// What is kept of the position.
     pub fn of(p: &Position) -> Replies
         ensures { IsReplies p.now result.sight result.spare }
@@ -120,7 +163,7 @@ impl Replies {
         let spare = if holds_free(p, opponent) {
             p.free()
         } else {
-            spare_pieces(p, opponent, sight)
+            spare_pieces(p, opponent, line_squares(p, opponent))
         };
         Replies { sight, spare }
     }
@@ -146,12 +189,12 @@ impl Replies {
         p.validity();
         match m {
             Move::Board { from, to, promote } => {
-                let start = from.index();
+                from.validity();
                 let end = to.index();
-                if has(self.sight, start) {
+                if !self.is_harmless(p, piece_moved(p.at(*from), *promote), *to) {
                     return false;
                 }
-                if !self.is_harmless(p, piece_moved(p.at(*from), *promote), *to) {
+                if !self.uncovers_nothing(p, *from) {
                     return false;
                 }
                 self.spare & !(1 << end) != 0

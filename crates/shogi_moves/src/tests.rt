@@ -1,7 +1,8 @@
 //! Positions and counts that are known from elsewhere.
 
 use crate::{
-    has_legal, in_check, is_attacked, is_legal, next_capture, next_legal, next_quiet, perft, play,
+    Replies, has_legal, in_check, is_attacked, is_legal, next_capture, next_legal, next_quiet,
+    perft, play,
 };
 use shogi_core::Color::{Black, White};
 use shogi_core::{Color, Hands, Kind, Move, Piece, Position, Role, Square};
@@ -276,5 +277,35 @@ fn captures(rt: HostRuntime) -> Result<(), Fail> {
     assert!(rt; next_capture(&start, None).is_none());
     let quiet = next_quiet(&start, None).ok_or("a move")?;
     assert_eq!(rt; quiet, read(b"1g1f "));
+    Ok(())
+}
+
+/// Whether it is told without making the move that it leaves a reply.
+fn leaves_reply(board: &[u8], text: &[u8; 5]) -> Result<bool, Fail> {
+    let p = position(board, b"", Black)?;
+    let m = read(text);
+    if !is_legal(&p, m) {
+        return Err("a legal move".into());
+    }
+    Ok(Replies::of(&p).is_certain(&p, &m))
+}
+
+/// A silver leaves the file of the king of the other side, with nothing behind it that slides, with a
+/// rook that then gives check, or with a bishop elsewhere.
+#[test]
+fn moves_off_a_line_of_a_king(rt: HostRuntime) -> Result<(), Fail> {
+    for (board, certain) in [
+        (&b"4k4/9/7p1/9/4S4/9/9/9/K3G4"[..], true),
+        (b"4k4/9/7p1/9/4S4/9/9/9/K3R4", false),
+        (b"4k4/9/2p4p1/9/B1P1S4/9/9/9/K8", true),
+        (b"4k4/9/7p1/9/4S4/9/9/4P4/K3R4", true),
+        (b"4k4/4p4/7p1/9/4S4/9/9/9/K3R4", true),
+    ] {
+        assert_eq!(rt; leaves_reply(board, b"5e4d ")?, certain, "{board:?}");
+    }
+    let other = b"4k4/9/7p1/9/4S4/9/9/9/K3R4";
+    assert!(rt; leaves_reply(other, b"9i8h ")?, "the king elsewhere");
+    let lance = b"4k4/9/7p1/9/9/9/9/4S4/K3L4";
+    assert!(rt; !leaves_reply(lance, b"5h4g ")?, "a lance behind");
     Ok(())
 }

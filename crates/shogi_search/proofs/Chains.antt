@@ -1,7 +1,6 @@
 -- The stack grows and shrinks at its top.
-use Rattle.std.proofs.Common.{Bool, true, false, ◌≡◌, ◌<◌, ◌+◌, ◌-◌, ◌*◌, ℕ, ℤ, List, [], ◌∷◌, ◌++◌, length, take, ◌≤◌, refl, ap, ◌∙◌, sym, arith, subst}
+use Rattle.std.proofs.Common.{◌≡◌, ◌<◌, ◌+◌, ◌-◌, ◌*◌, ℕ, ℤ, List, [], ◌∷◌, ◌++◌, length, ◌≤◌, refl, ap, ◌∙◌, sym, arith, subst}
 use Rattle.std.specs.Prelude.{sum_by}
-use Rattle.std.proofs.lemmas.List.{length-take-le}
 use Rattle.std.proofs.lemmas.List.Sums.{sum_by-append}
 use Rattle.shogi_core.specs.declared.moves.Move.{Move}
 use Rattle.shogi_core.specs.Codes.{code_of}
@@ -13,39 +12,17 @@ use Rattle.shogi_search.specs.declared.frame.Frame.{Frame}
 use Rattle.shogi_search.specs.declared.frame.Waiting.{Waiting}
 use Rattle.shogi_search.specs.declared.frame.Waiting.TheVariants.{Next, Asked, Leaf, Cut}
 use Rattle.shogi_search.specs.declared.move_picker.MovePicker.{MovePicker}
-use Rattle.shogi_search.specs.declared.stack.Stack.{Stack}
 use Rattle.shogi_search.specs.Minimax.{negated, sum_of_tree_sizes, tree_size}
 use Rattle.shogi_search.specs.Order.{todo}
 use Rattle.shogi_search.specs.Window.{threshold, code_at}
-use Rattle.shogi_search.specs.Stack.{IsAt, IsSame, IsChain, IsStack, WhereAsked, parents_of, left_of_frame, left_of_waiting}
-use Rattle.shogi_search.specs.Visits.{IsFree}
+use Rattle.shogi_search.specs.Stack.{IsAt, IsSame, IsChain, WhereAsked, left_of_frame, left_of_waiting}
 use Rattle.shogi_search.proofs.MinimaxLaws.{sum_of_tree_sizes-next, tree_size-leaf}
-use Rattle.shogi_search.specs.declared.bounds.TheConstants.{SEARCH_DEPTH_MAX, INFINITY}
 
 -- a node is the child that another one has asked for by this move
 pub record IsChild (f q : Frame) (m : Move) : Type 0 where
   pub deep : 0 < f.depth
   pub asks : f.waiting ≡ Asked m
   pub at_child : IsAt (after_code f.node.position (code_of m)) f.node.eval (f.depth - 1) (negated f.beta) (negated (threshold f.best_value (code_at f.best_move) (code_of m))) q
-
--- the child of a node, made where a copy of that node stands
-pub child_of : (f g q : Frame) (m : Move) → g ≡ f → 0 < f.depth → f.waiting ≡ Asked m → q.node.position ≡ after_code g.node.position (code_of m) → q.node.eval ≡ g.node.eval → q.depth ≡ g.depth - 1 → q.alpha ≡ negated f.beta → q.beta ≡ negated (threshold f.best_value (code_at f.best_move) (code_of m)) → IsChild f q m
-child_of f g q m copy deep asks position eval depth alpha_is beta_is = record {
-  deep = deep;
-  asks = asks;
-  at_child = record {
-    position = position ∙ ap (λ (x : Frame). after_code x.node.position (code_of m)) copy;
-    eval = eval ∙ ap (λ (x : Frame). x.node.eval) copy;
-    depth = depth ∙ ap (λ (x : Frame). x.depth - 1) copy;
-    alpha_is = alpha_is;
-    beta_is = beta_is;
-  };
-}
-
--- what holds of a stack after a step back, and where there was none, holds
-pub either_way : (s t : Stack) (back : Bool) → (back ≡ true → IsFree s.top.waiting) → (back ≡ false → s ≡ t) → t.top.waiting ≡ Next → IsFree s.top.waiting
-either_way s t true free none next = free refl
-either_way s t false free none next = subst IsFree (sym (ap (λ (x : Stack). x.top.waiting) (none refl) ∙ next)) tt
 
 -- where a move is asked for, what holds of it may be exchanged for what follows from it
 where_map : (w : Waiting) (P Q : Move → Type 0) → ((m : Move) → P m → Q m) → WhereAsked w P → WhereAsked w Q
@@ -137,21 +114,6 @@ chain_height p eval d alpha beta (h ∷ fs) f c =
     let ih : length fs + f.depth ≡ d - 1 = chain_height (after_code p (code_of a.current)) eval (d - 1) (negated beta) (negated (threshold h.best_value (code_at h.best_move) (code_of a.current))) fs f a.has in
     let deep : 0 < d = c.1.0 in
     omega arith
-
--- a chain from the root makes a stack
-pub stack_at : (s : Stack) (p : Shogi) (eval : Eval) (d : ℕ) (beta : ℤ) → s.root ≡ p → s.eval ≡ eval → s.depth ≡ d → s.beta ≡ beta → d ≤ SEARCH_DEPTH_MAX → s.height ≤ SEARCH_DEPTH_MAX → IsChain p eval d (negated INFINITY) beta (parents_of s) s.top → IsStack s
-stack_at s p eval d beta e k h b shallow fits c = record {
-  shallow = subst (λ (x : ℕ). x ≤ SEARCH_DEPTH_MAX) (sym h) shallow;
-  height_fits = fits;
-  chain = subst (λ (x : Shogi). IsChain x s.eval s.depth (negated INFINITY) s.beta (parents_of s) s.top) (sym e)
-      (subst (λ (x : Eval). IsChain p x s.depth (negated INFINITY) s.beta (parents_of s) s.top) (sym k)
-      (subst (λ (x : ℕ). IsChain p eval x (negated INFINITY) s.beta (parents_of s) s.top) (sym h) (subst (λ (x : ℤ). IsChain p eval d (negated INFINITY) x (parents_of s) s.top) (sym b) c)));
-}
-
--- so there is room above a node that waits for a child
-pub room : (p : Shogi) (eval : Eval) (d : ℕ) (alpha beta : ℤ) (height : ℕ) (all : List Frame) (f : Frame) → d ≤ SEARCH_DEPTH_MAX → height ≤ SEARCH_DEPTH_MAX → length all ≡ 16 → 0 < f.depth → IsChain p eval d alpha beta (take height all) f → height < 16
-room p eval d alpha beta height all f shallow fits full deep c =
-    omega (arith, chain_height p eval d alpha beta (take height all) f c, length-take-le height all (omega arith))
 
 -- a frame asks for one move
 pub same_asked : (f q : Frame) (m n : Move) → IsChild f q m → f.waiting ≡ Asked n → IsChild f q n

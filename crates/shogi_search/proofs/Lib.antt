@@ -12,5 +12,6 @@ pub mod Entries
 pub mod Searches
 pub mod Nodes
 pub mod Chains
+pub mod Places
 pub mod RankedLaws
 pub mod RankedUse

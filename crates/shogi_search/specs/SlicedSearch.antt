@@ -6,7 +6,7 @@ use Rattle.shogi_search.specs.declared.sliced_search.Search.TheInside.{Inside}
 use Rattle.shogi_search.specs.Minimax.{tree_size, negated}
 use Rattle.shogi_search.specs.Progress.{Progress, IsFoundBelow}
 use Rattle.shogi_search.specs.Visits.{IsFree}
-use Rattle.shogi_search.specs.Stack.{IsStack, left_of_stack}
+use Rattle.shogi_search.specs.Stack.{IsStack, OnTop, left_of_stack}
 use Rattle.shogi_search.specs.declared.bounds.TheConstants.{SEARCH_DEPTH_MAX, INFINITY}
 
 -- nothing once it has found, all before the root is entered, and else what is left of the stack
@@ -40,5 +40,5 @@ pub record IsSearch (s : Inside) : Type 0 where
   pub most : s.stack.beta ≤ℤ INFINITY
   pub known : ForSome s.found (IsKnown s)
   pub chain : s.found ≡ None → s.started ≡ true → IsStack s.stack
-  pub free : s.found ≡ None → s.started ≡ true → IsFree s.stack.top.waiting
+  pub free : s.found ≡ None → s.started ≡ true → OnTop s.stack (λ top. IsFree top.waiting)
   pub counted : s.steps + left_in s.found s.started (2 * tree_size s.stack.root s.stack.depth) (left_of_stack s.stack) ≤ 2 * tree_size s.stack.root s.stack.depth

@@ -1,5 +1,5 @@
 -- The stack of a search in slices: the nodes that wait for a child, from the root on, and the node on top.
-use Rattle.std.specs.Prelude.{◌≡◌, ◌≤◌, ℕ, ◌+◌, ◌*◌, ◌-◌, ◌<◌, ℤ, List, [], ◌∷◌, sum_by, take}
+use Rattle.std.specs.Prelude.{◌≡◌, ◌≤◌, ℕ, ◌+◌, ◌*◌, ◌-◌, ◌<◌, ◌<ℤ◌, ℤ, List, [], ◌∷◌, sum_by, take, slice_get, IsSomeAnd}
 use Rattle.shogi_core.specs.declared.moves.Move.{Move}
 use Rattle.shogi_core.specs.Codes.{code_of}
 use Rattle.shogi_core.specs.Position.{Shogi}
@@ -9,7 +9,7 @@ use Rattle.shogi_search.specs.declared.frame.Frame.{Frame}
 use Rattle.shogi_search.specs.declared.frame.Waiting.{Waiting}
 use Rattle.shogi_search.specs.declared.frame.Waiting.TheVariants.{Next, Asked, Leaf, Cut}
 use Rattle.shogi_search.specs.declared.stack.Stack.{Stack}
-use Rattle.shogi_search.specs.Minimax.{negated, sum_of_tree_sizes}
+use Rattle.shogi_search.specs.Minimax.{negated, sum_of_tree_sizes, tree_size}
 use Rattle.shogi_search.specs.Order.{todo}
 use Rattle.shogi_search.specs.Window.{threshold, code_at}
 use Rattle.shogi_search.specs.declared.bounds.TheConstants.{SEARCH_DEPTH_MAX, INFINITY}
@@ -40,13 +40,21 @@ IsChain p e d alpha beta (f ∷ fs) top = IsAt p e d alpha beta f × ((0 < d) ×
 
 -- the nodes that wait for a child, from the root on
 abbrev pub parents_of : Stack → List Frame
-parents_of s = take s.height s.parents
+parents_of s = take s.height s.frames
+
+-- those and the node on top
+abbrev pub frames_of : Stack → List Frame
+frames_of s = take (s.height + 1) s.frames
+
+-- what holds of the node on top
+abbrev pub OnTop : Stack → (Frame → Type 0) → Type 0
+OnTop s fact = IsSomeAnd (slice_get s.frames s.height) fact
 
 -- a chain from the root, under the window that ends at its bound
 pub record IsStack (s : Stack) : Type 0 where
   pub shallow : s.depth ≤ SEARCH_DEPTH_MAX
   pub height_fits : s.height ≤ SEARCH_DEPTH_MAX
-  pub chain : IsChain s.root s.eval s.depth (negated INFINITY) s.beta (parents_of s) s.top
+  pub chain : OnTop s (IsChain s.root s.eval s.depth (negated INFINITY) s.beta (parents_of s))
 
 -- a leaf whose value is still to be taken in
 abbrev pub left_of_waiting : Waiting → ℕ
@@ -61,4 +69,11 @@ left_of_frame frame = 1 + left_of_waiting frame.waiting + 2 * sum_of_tree_sizes 
 
 -- what is left of the whole stack
 abbrev pub left_of_stack : Stack → ℕ
-left_of_stack s = sum_by left_of_frame (parents_of s) + left_of_frame s.top
+left_of_stack s = sum_by left_of_frame (frames_of s)
+
+-- one frame is made for the child after a move of another, and none of its moves is gone through
+pub record IsNext (f q : Frame) (m : Move) : Type 0 where
+  pub at_child : IsAt (after_code f.node.position (code_of m)) f.node.eval (f.depth - 1) (negated f.beta) (negated (threshold f.best_value (code_at f.best_move) (code_of m))) q
+  pub next : q.waiting ≡ Next
+  pub opens : q.alpha <ℤ q.beta
+  pub counted : left_of_frame q < 2 * tree_size (after_code f.node.position (code_of m)) (f.depth - 1)

@@ -47,6 +47,8 @@ pub struct Frame {
     pub beta: i32,
     pub best_value: i32,
     pub best_move: Option<Move>,
+    /// Set once a move was gone through and not good enough, so that some move is legal.
+    pub has_move: bool,
     pub picker: MovePicker,
     pub waiting: Waiting,
     pub replies: Replies,
@@ -56,6 +58,7 @@ pub struct Frame {
     ghost open: { best_value <ℤ beta },
     ghost most: { beta ≤ℤ INFINITY },
     ghost known: { IsKnownWhile node.position node.eval depth alpha beta best_value (code_at best_move) (todo node.position picker) waiting } by { IsKnownWhile-prop node.position node.eval depth alpha beta best_value (code_at best_move) (todo node.position picker) waiting },
+    ghost moves: { has_move ≡ true → legal_codes node.position ≢ [] } by { Prim.hlevel props },
     ghost kept: { IsKept node.position picker } by { IsKept-prop node.position picker },
     ghost replied: { IsReplies node.position replies.sight replies.spare } by { Prim.hlevel props },
 }
@@ -123,34 +126,37 @@ impl Frame {
         self.beta = beta;
         self.best_value = alpha;
         self.best_move = None;
+        self.has_move = false;
         self.picker = MovePicker::new(depth, hash_move);
         self.waiting = Waiting::Next;
         self.replies = replies_of(node, ahead);
     }
 
-    /// The frame becomes that of the child after the current move, under this window and with all of
-    /// the child's moves to visit; nothing tells of leaves without making them.
-    pub fn play_on(&mut self, current: &Move, alpha: i32, beta: i32)
-        requires current { IsCurrent self.old.waiting current.now }
-        requires least { negated INFINITY ≤ℤ alpha }
-        requires open { alpha <ℤ beta }
-        requires most { beta ≤ℤ INFINITY }
-        ensures position { self.new.node.position ≡ after_code self.old.node.position (code_of current.now) }
-        ensures eval { self.new.node.eval ≡ self.old.node.eval }
-        ensures depth { self.new.depth ≡ self.old.depth - 1 }
-        ensures alpha { self.new.alpha ≡ alpha }
-        ensures beta { self.new.beta ≡ beta }
+    /// The frame becomes that of the child after the current move of another one, under the window that
+    /// this one leaves it and with all of the child's moves to visit; nothing tells of leaves without
+    /// making them.
+    pub fn follow(&mut self, parent: &Frame, current: &Move)
+        requires current { IsCurrent parent.now.waiting current.now }
+        ensures position { self.new.node.position ≡ after_code parent.now.node.position (code_of current.now) }
+        ensures eval { self.new.node.eval ≡ parent.now.node.eval }
+        ensures depth { self.new.depth ≡ parent.now.depth - 1 }
+        ensures alpha { self.new.alpha ≡ negated parent.now.beta }
+        ensures beta { self.new.beta ≡ negated (threshold parent.now.best_value (code_at parent.now.best_move) (code_of current.now)) }
+        ensures open { self.new.alpha <ℤ self.new.beta }
         ensures counted { 1 + 2 * sum_of_tree_sizes self.new.node.position (self.new.depth - 1) (todo self.new.node.position self.new.picker) < 2 * tree_size self.new.node.position self.new.depth }
         ensures waiting { self.new.waiting ≡ Waiting.Next }
     {
+        let (alpha, beta) = parent.window(current);
         current.validity();
+        self.node = parent.node;
         self.node.advance(*current);
         self.node.as_position().validity();
-        self.depth -= 1;
+        self.depth = parent.depth - 1;
         self.alpha = alpha;
         self.beta = beta;
         self.best_value = alpha;
         self.best_move = None;
+        self.has_move = false;
         self.picker = MovePicker::new(self.depth, None);
         self.waiting = Waiting::Next;
         self.replies = Replies::unknown(self.node.as_position());
@@ -168,9 +174,17 @@ impl Frame {
     {
         self.best_value = self.alpha;
         self.best_move = None;
+        self.has_move = false;
         self.picker = MovePicker::new(self.depth, hash_move);
         self.waiting = Waiting::Next;
         self.replies = replies_of(&self.node, ahead);
+    }
+
+    /// Whether some move is legal, which the position is asked only where it is not known yet.
+    fn can_move(&self) -> bool
+        ensures { IsTrue result ↔ (legal_codes self.now.node.position ≢ []) }
+    {
+        self.has_move || can_move(&self.node)
     }
 
     /// What is known of the node once it is cut off or all its moves are gone through.
@@ -192,7 +206,7 @@ impl Frame {
                 Entry::Exact(self.best_value, best)
             }
             None => {
-                if can_move(&self.node) {
+                if self.can_move() {
                     Entry::AtMost(self.best_value)
                 } else {
                     Entry::Exact(-MATE - self.depth as i32, None)
@@ -227,6 +241,19 @@ impl Frame {
         ensures open { result <ℤ self.now.beta }
     {
         threshold(self.best_value, &self.best_move, current)
+    }
+
+    /// The window of the child after the current move.
+    pub fn window(&self, current: &Move) -> (i32, i32)
+        requires current { IsCurrent self.now.waiting current.now }
+        ensures alpha { result.0 ≡ negated self.now.beta }
+        ensures beta { result.1 ≡ negated (threshold self.now.best_value (code_at self.now.best_move) (code_of current.now)) }
+        ensures least { negated INFINITY ≤ℤ result.0 }
+        ensures open { result.0 <ℤ result.1 }
+        ensures most { result.1 ≤ℤ INFINITY }
+    {
+        let threshold = self.threshold(current);
+        (-self.beta, -threshold)
     }
 
     /// Whether this worth makes the current move the best one.
@@ -289,6 +316,7 @@ impl Frame {
         ensures same { IsSame self.old self.new }
     {
         let _ = current;
+        self.has_move = true;
         self.waiting = Waiting::Next;
     }
 
@@ -407,6 +435,7 @@ impl Default for Frame {
             beta: 1,
             best_value: -1,
             best_move: None,
+            has_move: false,
             picker: MovePicker::Done,
             waiting: Waiting::Next,
             replies: Replies::unknown(node.as_position()),

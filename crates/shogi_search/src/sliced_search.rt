@@ -82,16 +82,14 @@ impl Search {
         requires most { beta ≤ℤ INFINITY }
         ensures { result ≡ untouched_below p.now e d beta }
     {
-        let top = Frame::default();
         Search {
             stack: Stack {
                 root: *p,
                 eval: e,
                 depth: d,
                 beta,
-                parents: [top; 16],
+                frames: [Frame::default(); 17],
                 height: 0,
-                top,
             },
             started: false,
             steps: 0,
@@ -123,9 +121,8 @@ impl Search {
         let ahead = looks_ahead(depth, memo);
         let node = Node::of(*root, e);
         self.stack.height = 0;
-        self.stack
-            .top
-            .enter(&node, depth, -INFINITY, self.stack.beta, hash_move, ahead);
+        let beta = self.stack.beta;
+        self.stack.frames[0].enter(&node, depth, -INFINITY, beta, hash_move, ahead);
         self.started = true;
         self.steps = self.steps.saturating_add(1);
     }

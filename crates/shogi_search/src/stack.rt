@@ -1,6 +1,6 @@
 //! The stack of a search that goes on in slices.
 
-ghost use Rattle.std.specs.Prelude.{◌≡◌, ◌≤◌, ◌<◌, ◌+◌, ◌*◌, ◌-◌, ◌^◌, ◌++◌, true, false, [], ◌∷◌, None, Some, IfSome, IfNone, OnSome, min, IsTrue, ◌↔◌};
+ghost use Rattle.std.specs.Prelude.{◌≡◌, ◌≤◌, ◌<◌, ◌+◌, ◌*◌, ◌-◌, ◌^◌, ◌++◌, true, false, [], ◌∷◌, None, Some, IfSome, IfNone, OnSome, min, IsTrue, ◌↔◌, length, take, slice_get, IsSomeAnd};
 ghost use Rattle.std.specs.Option.{ForSome};
 ghost use Rattle.shogi_core.specs.Codes.{code_of};
 ghost use Rattle.shogi_moves.specs.After.{after_code};
@@ -10,6 +10,7 @@ ghost use Rattle.shogi_search.specs.Minimax.{value, tree_size, IsTrueEntry, nega
 ghost use Rattle.shogi_search.specs.Entries.{IsCutoff, move_in};
 ghost use Rattle.shogi_search.specs.Order.{todo};
 ghost use Rattle.shogi_search.specs.Visits.{IsCurrent, IsFree, IsOver};
+ghost use Rattle.shogi_search.specs.Stack.{IsStack, IsSame, IsNext, OnTop, frames_of, parents_of, left_of_frame, left_of_stack};
 ghost use Rattle.shogi_search.specs.declared.bounds.TheConstants.{SEARCH_DEPTH_MAX, INFINITY};
 
 use crate::frame::{Frame, Waiting, leaf};
@@ -18,16 +19,16 @@ use shogi_core::{Move, Position};
 use shogi_eval::{Eval, Node};
 
 /// The root of a search, its evaluation, its depth and the end of its window, and the nodes that are
-/// entered and not yet left: those that wait for a child, from the root on, and the one on top.
+/// entered and not yet left, from the root on: the one on top stands at the height, and those below it
+/// wait for a child.
 #[derive(Clone, Copy)]
 pub struct Stack {
     pub root: Position,
     pub eval: Eval,
     pub depth: u8,
     pub beta: i32,
-    pub parents: [Frame; 16],
+    pub frames: [Frame; 17],
     pub height: usize,
-    pub top: Frame,
 }
 
 /// Whether an entry says enough for a window.
@@ -64,48 +65,91 @@ pub fn looks_ahead<M: Memo>(depth: u8, memo: &M) -> bool
     depth == 1 && !memo.keeps(0)
 }
 
-impl Stack {
-    ghost use Rattle.shogi_search.specs.Stack.{IsStack, parents_of, left_of_stack, left_of_frame};
-
-    /// The node on top waits for a child, whose place is then above it.
-    fn push(&mut self)
-        requires { self.old.height < 16 }
-        ensures parents { parents_of self.new ≡ parents_of self.old ++ self.old.top ∷ [] }
-        ensures height { self.new.height ≤ SEARCH_DEPTH_MAX }
-        ensures top { self.new.top ≡ self.old.top }
-        ensures same { (self.new.root ≡ self.old.root) × (self.new.depth ≡ self.old.depth) }
-        ensures eval { self.new.eval ≡ self.old.eval }
-        ensures beta { self.new.beta ≡ self.old.beta }
-    {
-        self.parents[self.height] = self.top;
-        self.height += 1;
-    }
-
-    /// The node below is on top again, where there is one.
-    fn pop(&mut self) -> bool
-        requires { self.old.height ≤ SEARCH_DEPTH_MAX }
-        ensures parents { result ≡ true → parents_of self.old ≡ parents_of self.new ++ self.new.top ∷ [] }
-        ensures height { self.new.height ≤ SEARCH_DEPTH_MAX }
-        ensures none { result ≡ false → (parents_of self.old ≡ []) × (self.new ≡ self.old) }
-        ensures same { (self.new.root ≡ self.old.root) × (self.new.depth ≡ self.old.depth) }
-        ensures eval { self.new.eval ≡ self.old.eval }
-        ensures beta { self.new.beta ≡ self.old.beta }
-    {
-        if self.height == 0 {
-            return false;
+/// Goes on with the current move of a node of depth 1, and makes its child, a leaf: by the memo's
+/// answer, or by the leaf's value, which the next step takes in.
+#[inline(never)]
+fn make_leaf<M: Memo>(top: &mut Frame, current: &Move, memo: &mut M)
+    requires asked { top.old.waiting ≡ Waiting.Asked current.now }
+    requires last { top.old.depth ≡ 1 }
+    ensures free { IsFree top.new.waiting }
+    ensures left { left_of_frame top.new < left_of_frame top.old + 2 * tree_size (after_code top.old.node.position (code_of current.now)) 0 }
+    ensures same { IsSame top.old top.new }
+{
+    let (alpha, beta) = top.window(current);
+    let mut node = top.node;
+    current.validity();
+    node.advance(*current);
+    if let Some(entry) = memo.probe(node.as_position(), node.eval(), 0) {
+        if is_cutoff(&entry, alpha, beta) {
+            top.take(current, &entry);
+            return;
         }
-        self.height -= 1;
-        self.top = self.parents[self.height];
-        true
+    }
+    top.hear(current, leaf(&node));
+}
+
+/// The same; where a leaf is certain to have a legal move, its value is told without making it, and
+/// taken in at once where there is room for that step too, with the certain leaves that follow it.
+/// Gives the number of steps.
+fn visit_leaf<M: Memo>(top: &mut Frame, current: &Move, memo: &mut M, room: u64) -> u64
+    requires asked { top.old.waiting ≡ Waiting.Asked current.now }
+    requires last { top.old.depth ≡ 1 }
+    requires room { 0 < room }
+    ensures free { IsFree top.new.waiting }
+    ensures some { 0 < result }
+    ensures most { result ≤ room }
+    ensures left { left_of_frame top.new + result ≤ left_of_frame top.old + 2 * tree_size (after_code top.old.node.position (code_of current.now)) 0 }
+    ensures same { IsSame top.old top.new }
+{
+    if looks_ahead(top.depth, memo) {
+        if let Some(value) = top.certain_leaf(current) {
+            if room > 1 {
+                top.take(current, &Entry::Exact(value, None));
+                return 2 + top.pass_leaves(room - 2);
+            }
+            top.hear(current, value);
+            return 1;
+        }
+    }
+    make_leaf(top, current, memo);
+    1
+}
+
+/// Makes the child after the current move of the frame at a place, in the place above it.
+fn make_child(frames: &mut [Frame], place: usize, current: &Move)
+    requires room { place + 1 < length frames.old }
+    requires asked { IsSomeAnd (slice_get frames.old place) (λ parent. parent.waiting ≡ Waiting.Asked current.now) }
+    ensures below { take (place + 1) frames.new ≡ take (place + 1) frames.old }
+    ensures child { IsSomeAnd (slice_get frames.old place) (λ parent. IsSomeAnd (slice_get frames.new (place + 1)) (λ child. IsNext parent child current.now)) }
+{
+    let (below, above) = frames.split_at_mut(place + 1);
+    above[0].follow(&below[place], current);
+}
+
+impl Stack {
+    /// Makes the child after the current move of the node on top, in the place above it.
+    fn push(&mut self, current: &Move)
+        requires stack { IsStack self.old }
+        requires asked { OnTop self.old (λ top. top.waiting ≡ Waiting.Asked current.now) }
+        ensures stack { IsStack self.new }
+        ensures parents { parents_of self.new ≡ frames_of self.old }
+        ensures child { OnTop self.old (λ parent. OnTop self.new (λ child. IsNext parent child current.now)) }
+        ensures left { OnTop self.old (λ top. left_of_stack self.new < left_of_stack self.old + 2 * tree_size (after_code top.node.position (code_of current.now)) (top.depth - 1)) }
+        ensures same { (self.new.root ≡ self.old.root) × (self.new.depth ≡ self.old.depth) }
+        ensures eval { self.new.eval ≡ self.old.eval }
+        ensures beta { self.new.beta ≡ self.old.beta }
+    {
+        make_child(&mut self.frames, self.height, current);
+        self.height += 1;
     }
 
     /// The node below the top takes in what is known of the node on top, where there is one.
     fn go_back(&mut self, entry: &Entry) -> bool
         requires stack { IsStack self.old }
-        requires truth { IsTrueEntry self.old.top.node.position self.old.top.node.eval self.old.top.depth entry.now }
-        requires cutoff { IsCutoff self.old.top.alpha self.old.top.beta entry.now }
+        requires truth { OnTop self.old (λ top. IsTrueEntry top.node.position top.node.eval top.depth entry.now) }
+        requires cutoff { OnTop self.old (λ top. IsCutoff top.alpha top.beta entry.now) }
         ensures stack { IsStack self.new }
-        ensures free { result ≡ true → IsFree self.new.top.waiting }
+        ensures free { result ≡ true → OnTop self.new (λ top. IsFree top.waiting) }
         ensures left { result ≡ true → left_of_stack self.new < left_of_stack self.old }
         ensures truth { result ≡ false → IsTrueEntry self.old.root self.old.eval self.old.depth entry.now }
         ensures cutoff { result ≡ false → IsCutoff (negated INFINITY) self.old.beta entry.now }
@@ -115,105 +159,65 @@ impl Stack {
         ensures eval { self.new.eval ≡ self.old.eval }
         ensures beta { self.new.beta ≡ self.old.beta }
     {
-        if self.pop() {
-            let Waiting::Asked(current) = self.top.waiting else {
-                unreachable!();
-            };
-            self.top.take(&current, entry);
-            return true;
+        if self.height == 0 {
+            return false;
         }
-        false
+        self.height -= 1;
+        let below = &mut self.frames[self.height];
+        let Waiting::Asked(current) = below.waiting else {
+            unreachable!();
+        };
+        below.take(&current, entry);
+        true
     }
 
-    /// Goes on with the current move of a node of depth 1, and makes its child, a leaf: by the memo's
-    /// answer, or by the leaf's value, which the next step takes in.
-    #[inline(never)]
-    fn make_leaf<M: Memo>(&mut self, current: &Move, memo: &mut M)
-        requires stack { IsStack self.old }
-        requires asked { self.old.top.waiting ≡ Waiting.Asked current.now }
-        requires last { self.old.top.depth ≡ 1 }
-        ensures stack { IsStack self.new }
-        ensures free { IsFree self.new.top.waiting }
-        ensures left { left_of_stack self.new < left_of_stack self.old + 2 * tree_size (after_code self.old.top.node.position (code_of current.now)) 0 }
-        ensures same { (self.new.root ≡ self.old.root) × (self.new.depth ≡ self.old.depth) }
-        ensures eval { self.new.eval ≡ self.old.eval }
-        ensures beta { self.new.beta ≡ self.old.beta }
-    {
-        let threshold = self.top.threshold(current);
-        let mut node = self.top.node;
-        current.validity();
-        node.advance(*current);
-        if let Some(entry) = memo.probe(node.as_position(), node.eval(), 0) {
-            if is_cutoff(&entry, -self.top.beta, -threshold) {
-                self.top.take(current, &entry);
-                return;
-            }
-        }
-        self.top.hear(current, leaf(&node));
-    }
-
-    /// Goes on with the current move of the node on top, and makes its child where a copy of that
-    /// node stands: by the memo's answer, or into the child.
+    /// Goes on with the current move of the node on top, and makes its child: by the memo's answer, or
+    /// into the child.
     #[inline(never)]
     fn enter_child<M: Memo>(&mut self, current: &Move, memo: &mut M)
         requires stack { IsStack self.old }
-        requires asked { self.old.top.waiting ≡ Waiting.Asked current.now }
+        requires asked { OnTop self.old (λ top. top.waiting ≡ Waiting.Asked current.now) }
         ensures stack { IsStack self.new }
-        ensures free { IsFree self.new.top.waiting }
-        ensures left { left_of_stack self.new < left_of_stack self.old + 2 * tree_size (after_code self.old.top.node.position (code_of current.now)) (self.old.top.depth - 1) }
+        ensures free { OnTop self.new (λ top. IsFree top.waiting) }
+        ensures left { OnTop self.old (λ top. left_of_stack self.new < left_of_stack self.old + 2 * tree_size (after_code top.node.position (code_of current.now)) (top.depth - 1)) }
         ensures same { (self.new.root ≡ self.old.root) × (self.new.depth ≡ self.old.depth) }
         ensures eval { self.new.eval ≡ self.old.eval }
         ensures beta { self.new.beta ≡ self.old.beta }
     {
-        let threshold = self.top.threshold(current);
-        let (alpha, beta) = (-self.top.beta, -threshold);
-        self.push();
-        self.top.play_on(current, alpha, beta);
-        let depth = self.top.depth;
-        let answer = memo.probe(self.top.node.as_position(), self.top.node.eval(), depth);
-        if let Some(entry) = answer {
-            if is_cutoff(&entry, alpha, beta) {
+        self.push(current);
+        let child = &self.frames[self.height];
+        let (position, eval, depth) = (child.node.as_position(), child.node.eval(), child.depth);
+        if let Some(entry) = memo.probe(position, eval, depth) {
+            if is_cutoff(&entry, child.alpha, child.beta) {
                 let _ = self.go_back(&entry);
                 return;
             }
         }
-        let (position, eval) = (self.top.node.as_position(), self.top.node.eval());
         let hash_move = hash_move_of(position, eval, depth, memo);
         let ahead = looks_ahead(depth, memo);
-        self.top.begin(hash_move, ahead);
+        self.frames[self.height].begin(hash_move, ahead);
     }
 
-    /// The same; where a leaf is certain to have a legal move, its value is told without making it, and
-    /// taken in at once where there is room for that step too, with the certain leaves that follow it.
-    /// Gives the number of steps.
+    /// The same for a node of any depth, where a child that is a leaf is told by its value. Gives the
+    /// number of steps.
     fn descend<M: Memo>(&mut self, current: &Move, memo: &mut M, room: u64) -> u64
         requires stack { IsStack self.old }
-        requires asked { self.old.top.waiting ≡ Waiting.Asked current.now }
+        requires asked { OnTop self.old (λ top. top.waiting ≡ Waiting.Asked current.now) }
         requires room { 0 < room }
         ensures stack { IsStack self.new }
-        ensures free { IsFree self.new.top.waiting }
+        ensures free { OnTop self.new (λ top. IsFree top.waiting) }
         ensures some { 0 < result }
         ensures most { result ≤ room }
-        ensures left { left_of_stack self.new + result ≤ left_of_stack self.old + 2 * tree_size (after_code self.old.top.node.position (code_of current.now)) (self.old.top.depth - 1) }
+        ensures left { OnTop self.old (λ top. left_of_stack self.new + result ≤ left_of_stack self.old + 2 * tree_size (after_code top.node.position (code_of current.now)) (top.depth - 1)) }
         ensures same { (self.new.root ≡ self.old.root) × (self.new.depth ≡ self.old.depth) }
         ensures eval { self.new.eval ≡ self.old.eval }
         ensures beta { self.new.beta ≡ self.old.beta }
     {
-        if looks_ahead(self.top.depth, memo) {
-            if let Some(value) = self.top.certain_leaf(current) {
-                if room > 1 {
-                    self.top.take(current, &Entry::Exact(value, None));
-                    return 2 + self.top.pass_leaves(room - 2);
-                }
-                self.top.hear(current, value);
-                return 1;
-            }
+        let top = &mut self.frames[self.height];
+        if top.depth == 1 {
+            return visit_leaf(top, current, memo, room);
         }
-        if self.top.depth == 1 {
-            self.make_leaf(current, memo);
-        } else {
-            self.enter_child(current, memo);
-        }
+        self.enter_child(current, memo);
         1
     }
 
@@ -221,9 +225,9 @@ impl Stack {
     #[inline(always)]
     fn leave<M: Memo>(&mut self, memo: &mut M) -> Option<Entry>
         requires stack { IsStack self.old }
-        requires over { IsOver self.old.top.waiting (todo self.old.top.node.position self.old.top.picker) }
+        requires over { OnTop self.old (λ top. IsOver top.waiting (todo top.node.position top.picker)) }
         ensures stack { IfNone result (IsStack self.new) }
-        ensures free { IfNone result (IsFree self.new.top.waiting) }
+        ensures free { IfNone result (OnTop self.new (λ top. IsFree top.waiting)) }
         ensures left { IfNone result (left_of_stack self.new < left_of_stack self.old) }
         ensures truth { IfSome result (IsTrueEntry self.old.root self.old.eval self.old.depth) }
         ensures cutoff { IfSome result (IsCutoff (negated INFINITY) self.old.beta) }
@@ -231,15 +235,11 @@ impl Stack {
         ensures eval { self.new.eval ≡ self.old.eval }
         ensures beta { self.new.beta ≡ self.old.beta }
     {
-        let entry = self.top.close();
+        let top = &self.frames[self.height];
+        let entry = top.close();
         let (noted, answer) = (entry, entry);
-        if self.top.depth > 0 {
-            memo.note(
-                self.top.node.as_position(),
-                self.top.node.eval(),
-                self.top.depth,
-                noted,
-            );
+        if top.depth > 0 {
+            memo.note(top.node.as_position(), top.node.eval(), top.depth, noted);
         }
         if self.go_back(&entry) {
             return None;
@@ -251,10 +251,10 @@ impl Stack {
     /// was left.
     fn step<M: Memo>(&mut self, memo: &mut M, budget: u64, made: &mut u64) -> Option<Entry>
         requires stack { IsStack self.old }
-        requires free { IsFree self.old.top.waiting }
+        requires free { OnTop self.old (λ top. IsFree top.waiting) }
         requires room { made.old < budget }
         ensures stack { IfNone result (IsStack self.new) }
-        ensures free { IfNone result (IsFree self.new.top.waiting) }
+        ensures free { IfNone result (OnTop self.new (λ top. IsFree top.waiting)) }
         ensures rises { made.old < made.new }
         ensures most { made.new ≤ budget }
         ensures one { IfSome result (λ _. made.new ≡ made.old + 1) }
@@ -265,19 +265,20 @@ impl Stack {
         ensures eval { self.new.eval ≡ self.old.eval }
         ensures beta { self.new.beta ≡ self.old.beta }
     {
-        if self.top.is_next() {
-            let Some(current) = self.top.ask() else {
+        let top = &mut self.frames[self.height];
+        if top.is_next() {
+            let Some(current) = top.ask() else {
                 *made += 1;
                 return self.leave(memo);
             };
             *made += self.descend(&current, memo, budget - *made);
             return None;
         }
-        match self.top.waiting {
+        match top.waiting {
             Waiting::Next | Waiting::Asked(_) => unreachable!(),
             Waiting::Leaf(current, value) => {
                 *made += 1;
-                self.top.take(&current, &Entry::Exact(value, None));
+                top.take(&current, &Entry::Exact(value, None));
                 None
             }
             Waiting::Cut(_) => {
@@ -290,9 +291,9 @@ impl Stack {
     /// Makes so many steps, or fewer where the root was left, and counts them.
     pub fn run<M: Memo>(&mut self, memo: &mut M, budget: u64, steps: &mut u64) -> Option<Entry>
         requires stack { IsStack self.old }
-        requires free { IsFree self.old.top.waiting }
+        requires free { OnTop self.old (λ top. IsFree top.waiting) }
         ensures stack { IfNone result (IsStack self.new) }
-        ensures free { IfNone result (IsFree self.new.top.waiting) }
+        ensures free { IfNone result (OnTop self.new (λ top. IsFree top.waiting)) }
         ensures left { IfNone result (left_of_stack self.new + budget ≤ left_of_stack self.old) }
         ensures all { IfNone result (steps.new ≡ min (steps.old + budget) (2 ^ 64 - 1)) }
         ensures rises { steps.old ≤ steps.new }

@@ -6,9 +6,9 @@ use Rattle.shogi_moves.proofs.replies.spare_pieces.Goals as goal
 
 pub loop-left-init : goal.loop-left-init
 loop-left-init c = record {
-  sifted = sifted_first c.args.p.now.cells c.args.side c.args.sight c.own.result (omega arith) c.own.ensures.bits;
-  left = and_fits c.own.result (2 ^ 128 - 1 - c.args.sight) c.own.ensures.fits;
-  fits = and_fits c.own.result (2 ^ 128 - 1 - c.args.sight) c.own.ensures.fits;
+  sifted = sifted_first c.args.p.now.cells c.args.side c.args.lines c.own.result (omega arith) c.own.ensures.bits;
+  left = and_fits c.own.result (2 ^ 128 - 1 - c.args.lines) c.own.ensures.fits;
+  fits = and_fits c.own.result (2 ^ 128 - 1 - c.args.lines) c.own.ensures.fits;
   few = omega arith;
 }
 
@@ -16,7 +16,7 @@ pub loop-left-preserved : goal.loop-left-preserved
 loop-left-preserved c = elim c.if-has_open_step.branch [
   | then-has_open_step w ↦ (rw (w.kept-is, w.found-is)
       (record {
-        sifted = sifted_found c.args.p.now.cells c.args.side c.args.sight c.loop-left.left c.loop-left.kept c.without_lowest-left.result c.lowest-from.result c.requires c.loop-left.invariant.sifted c.lowest-from.ensures.range c.lowest-from.ensures.set
+        sifted = sifted_found c.args.p.now.cells c.args.side c.args.lines c.loop-left.left c.loop-left.kept c.without_lowest-left.result c.lowest-from.result c.requires c.loop-left.invariant.sifted c.lowest-from.ensures.range c.lowest-from.ensures.set
             (rw c.of_index.ensures at c.has_open_step.ensures w.if-has_open_step.true) c.without_lowest-left.ensures.bits;
         left = omega (arith, c.without_lowest-left.ensures.less, c.loop-left.invariant.left);
         fits = c.loop-left.invariant.fits;
@@ -24,7 +24,7 @@ loop-left-preserved c = elim c.if-has_open_step.branch [
       }))
   | else-has_open_step w ↦ (rw (w.kept-is, w.found-is)
       (record {
-        sifted = sifted_dropped c.args.p.now.cells c.args.side c.args.sight c.loop-left.left c.loop-left.kept c.without_lowest-left.result w.cleared-kept.result c.lowest-from.result c.loop-left.invariant.sifted c.without_lowest-left.ensures.bits w.cleared-kept.ensures.bits;
+        sifted = sifted_dropped c.args.p.now.cells c.args.side c.args.lines c.loop-left.left c.loop-left.kept c.without_lowest-left.result w.cleared-kept.result c.lowest-from.result c.loop-left.invariant.sifted c.without_lowest-left.ensures.bits w.cleared-kept.ensures.bits;
         left = omega (arith, c.without_lowest-left.ensures.less, c.loop-left.invariant.left);
         fits = omega (arith, w.cleared-kept.ensures.less, c.loop-left.invariant.fits);
         few = c.loop-left.invariant.few;
@@ -32,4 +32,4 @@ loop-left-preserved c = elim c.if-has_open_step.branch [
 ]
 
 pub returns-clause-spares : goal.returns-clause-spares
-returns-clause-spares c = sifted_done c.args.p.now.cells c.args.side c.args.sight c.loop-left.left c.loop-left.kept (omega (arith, c.loop-left.invariant.left)) c.loop-left.invariant.sifted
+returns-clause-spares c = sifted_done c.args.p.now.cells c.args.side c.args.lines c.loop-left.left c.loop-left.kept (omega (arith, c.loop-left.invariant.left)) c.loop-left.invariant.sifted

@@ -1,15 +1,16 @@
-use Rattle.std.proofs.Common.{◌≡◌, ◌∙◌, ap, arith, [], ◌∷◌}
+use Rattle.std.proofs.Common.{◌≡◌, ◌∙◌, ap, arith, [], ◌∷◌, slice_index}
+use Rattle.shogi_core.specs.Words.{board_words}
 use Rattle.shared_table.specs.Keys.{key_of}
 use Rattle.shared_table.specs.Packed.{key_in, words_of}
 use Rattle.shared_table.proofs.PackedLaws.{key_back, words_are, words_made}
 use Rattle.shared_table.proofs.key.TableKey.of.Goals as goal
 
 -- the words are those of the position and the depth
-words_are_those : (c : goal.After-last_word) → c.cells_word.result ∷ c.cells_word-2.result ∷ c.cells_word-3.result ∷ c.cells_word-4.result ∷ c.cells_word-5.result
-    ∷ c.cells_word-6.result ∷ c.cells_word-7.result ∷ c.hand_word.result ∷ c.hand_word-2.result ∷ c.last_word.result ∷ []
+words_are_those : (c : goal.After-last_word) → slice_index c.words-board.result.now 0 ∷ slice_index c.words-board.result.now 1 ∷ slice_index c.words-board.result.now 2
+    ∷ slice_index c.words-board.result.now 3 ∷ slice_index c.words-board.result.now 4 ∷ slice_index c.words-board.result.now 5 ∷ slice_index c.words-board.result.now 6
+    ∷ c.hand_word.result ∷ c.hand_word-2.result ∷ c.last_word.result ∷ []
     ≡ words_of (key_of c.args.position.now c.args.eval c.args.depth)
-words_are_those c = words_made c.args.position.now c.args.eval c.args.depth _ _ _ (c.cells-cells.ensures ∙ c.as_board.ensures) c.hands-hands.ensures c.side.ensures _ _ _ _ _ _ _ _ _ _
-    c.cells_word.ensures c.cells_word-2.ensures c.cells_word-3.ensures c.cells_word-4.ensures c.cells_word-5.ensures c.cells_word-6.ensures c.cells_word-7.ensures
+words_are_those c = words_made c.args.position.now c.args.eval c.args.depth _ _ _ (c.words-board.ensures ∙ ap board_words c.as_board.ensures) c.hands-hands.ensures c.side.ensures _ _ _
     c.hand_word.ensures c.hand_word-2.ensures c.last_word.ensures
 
 pub invariant_of-result : goal.invariant_of-result

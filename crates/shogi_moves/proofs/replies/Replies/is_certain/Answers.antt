@@ -9,10 +9,10 @@ use Rattle.shogi_moves.specs.LegalMoves.{legal_codes}
 use Rattle.shogi_moves.proofs.ReplyLaws.{certain_board, certain_drop}
 use Rattle.shogi_moves.proofs.replies.Replies.is_certain.Goals as goal
 
-pub returns-else-not-is_harmless : goal.returns-else-not-is_harmless
-returns-else-not-is_harmless c = λ e. subst (λ (m : Move). legal_codes (after c.args.p.now m) ≢ []) (sym c.in-Board.is)
-    (certain_board c.args.p.now c.in-Board.from c.in-Board.to c.index-start.result c.index-end.result c.in-Board.promote c.args.self.now.sight c.args.self.now.spare c.validity.ensures c.requires.kept (omega arith) (omega arith) c.index-start.ensures.index c.index-end.ensures.index
-    (subst (λ (m : Move). is_legal c.args.p.now m ≡ true) c.in-Board.is c.requires.legal) (sym c.has.ensures ∙ c.if-has.false) (rw (← c.at.ensures, ← c.piece_moved.ensures) (c.is_harmless.ensures c.if-not-is_harmless.false)) (λ none. both_ways _ (not-true _ e) (eq-eqb _ 0 none)))
+pub returns-else-not-uncovers_nothing : goal.returns-else-not-uncovers_nothing
+returns-else-not-uncovers_nothing c = λ e. subst (λ (m : Move). legal_codes (after c.args.p.now m) ≢ []) (sym c.in-Board.is)
+    (certain_board c.args.p.now c.in-Board.from c.in-Board.to c.index-end.result c.in-Board.promote c.args.self.now.sight c.args.self.now.spare c.validity.ensures c.requires.kept (omega arith) (omega arith) c.index-end.ensures.index
+    (subst (λ (m : Move). is_legal c.args.p.now m ≡ true) c.in-Board.is c.requires.legal) (c.uncovers_nothing.ensures c.if-not-uncovers_nothing.false) (rw (← c.at.ensures, ← c.piece_moved.ensures) (c.is_harmless.ensures c.if-not-is_harmless.false)) (λ none. both_ways _ (not-true _ e) (eq-eqb _ 0 none)))
 
 pub returns-else-not-is_harmless-2 : goal.returns-else-not-is_harmless-2
 returns-else-not-is_harmless-2 c = λ e. subst (λ (m : Move). legal_codes (after c.args.p.now m) ≢ []) (sym c.in-Drop.is)

@@ -1,34 +1,50 @@
-use Rattle.std.proofs.Common.{arith}
+use Rattle.std.proofs.Common.{arith, rules, get_or, ◌≡◌, ◌<◌, length}
 use Rattle.std.proofs.lemmas.Int.{ints}
 use Rattle.shogi_core.specs.Codes.{code_of}
 use Rattle.shogi_moves.specs.After.{after_code}
-use Rattle.shogi_search.proofs.Chains.{chain_same}
+use Rattle.shogi_search.specs.Order.{todo}
+use Rattle.shogi_search.specs.Visits.{IsFree, IsOver}
+use Rattle.shogi_search.specs.declared.frame.Frame.{Frame}
+use Rattle.shogi_search.specs.declared.frame.Waiting.TheVariants.{Asked}
 use Rattle.shogi_search.proofs.Nodes.{leaf_known, leaf_true}
+use Rattle.shogi_search.proofs.Places.{read_top, on_top, on_with, changed, over_next, over_cut, left_descended}
 use Rattle.shogi_search.proofs.stack.Stack.step.Goals as goal
 
 pub descend-requires-clause-stack : goal.descend-requires-clause-stack
-descend-requires-clause-stack g c = record {
-  shallow = c.requires.stack.shallow;
-  height_fits = c.requires.stack.height_fits;
-  chain = chain_same _ _ _ _ _ _ _ _ c.requires.stack.chain c.ask.ensures.same;
-}
+descend-requires-clause-stack g c = changed c.args.self.now _ c.ask.new.self (read_top c.args.self.now c.index-self-self.result (omega (arith, c.requires.stack.height_fits))) c.requires.stack c.ask.ensures.same
+
+pub descend-requires-clause-asked : goal.descend-requires-clause-asked
+descend-requires-clause-asked g c = on_with c.args.self.now c.args.self.now.height c.ask.new.self (λ (top : Frame). top.waiting ≡ Asked c.in-Some.current) (omega (arith, c.requires.stack.height_fits)) c.in-Some.ensures.waiting
 
 pub leave-requires-clause-stack : goal.leave-requires-clause-stack
-leave-requires-clause-stack g c = record {
-  shallow = c.requires.stack.shallow;
-  height_fits = c.requires.stack.height_fits;
-  chain = chain_same _ _ _ _ _ _ _ _ c.requires.stack.chain c.ask.ensures.same;
-}
+leave-requires-clause-stack g c = changed c.args.self.now _ c.ask.new.self (read_top c.args.self.now c.index-self-self.result (omega (arith, c.requires.stack.height_fits))) c.requires.stack c.ask.ensures.same
+
+pub leave-requires-clause-over : goal.leave-requires-clause-over
+leave-requires-clause-over g c = on_with c.args.self.now c.args.self.now.height c.ask.new.self (λ (top : Frame). IsOver top.waiting (todo top.node.position top.picker)) (omega (arith, c.requires.stack.height_fits)) (over_next (get_or c.args.self.now.frames c.args.self.now.height c.index-self-self.result) c.ask.new.self c.ask.ensures.same c.in_default.ensures.waiting c.in_default.ensures.todo.1)
+
+pub returns-then-is_next-clause-left : goal.returns-then-is_next-clause-left
+returns-then-is_next-clause-left g c =
+    let fits : c.args.self.now.height < length c.args.self.now.frames = omega (arith, c.requires.stack.height_fits) in
+    omega (arith, left_descended c.args.self.now c.descend.new.self c.in-Some.current (get_or c.args.self.now.frames c.args.self.now.height c.index-self-self.result) c.ask.new.self c.descend.result (read_top c.args.self.now c.index-self-self.result fits) c.ask.ensures.same c.in-Some.ensures.waiting c.in-Some.ensures.todo c.descend.ensures.left)
 
 pub take-requires-clause-truth : goal.take-requires-clause-truth
 take-requires-clause-truth g c =
-    let known : _ = leaf_known _ _ _ _ _ _ _ _ _ c.in-Leaf.current c.in-Leaf.value c.in-Leaf.is c.args.self.now.top.known in
-    let leaf : _ = leaf_true (after_code c.args.self.now.top.node.position (code_of c.in-Leaf.current)) c.args.self.now.top.node.eval _ _ known.0 known.1 in
+    let known : _ = leaf_known _ _ _ _ _ _ _ _ _ c.in-Leaf.current c.in-Leaf.value c.in-Leaf.is (get_or c.args.self.now.frames c.args.self.now.height c.index-self-self.result).known in
+    let leaf : _ = leaf_true (after_code (get_or c.args.self.now.frames c.args.self.now.height c.index-self-self.result).node.position (code_of c.in-Leaf.current)) (get_or c.args.self.now.frames c.args.self.now.height c.index-self-self.result).node.eval _ _ known.0 known.1 in
     (omega (arith, ints, leaf.0), leaf.1)
 
+pub leave-requires-in-Cut-clause-over : goal.leave-requires-in-Cut-clause-over
+leave-requires-in-Cut-clause-over g c =
+    let f : Frame = get_or c.args.self.now.frames c.args.self.now.height c.index-self-self.result in
+    on_with c.args.self.now c.args.self.now.height f (λ (top : Frame). IsOver top.waiting (todo top.node.position top.picker)) (omega (arith, c.requires.stack.height_fits)) (over_cut f c.in-Cut.field-0 c.in-Cut.is)
+
+pub unreachable-requires : goal.unreachable-requires
+unreachable-requires g c =
+    let free : IsFree (get_or c.args.self.now.frames c.args.self.now.height c.index-self-self.result).waiting = on_top c.args.self.now _ (λ (top : Frame). IsFree top.waiting) (read_top c.args.self.now c.index-self-self.result (omega (arith, c.requires.stack.height_fits))) c.requires.free in
+    search rules
+
 pub returns-in-Leaf-clause-stack : goal.returns-in-Leaf-clause-stack
-returns-in-Leaf-clause-stack g c = record {
-  shallow = c.requires.stack.shallow;
-  height_fits = c.requires.stack.height_fits;
-  chain = chain_same _ _ _ _ _ _ _ _ c.requires.stack.chain c.take.ensures.same;
-}
+returns-in-Leaf-clause-stack g c = changed c.args.self.now _ c.take.new.self (read_top c.args.self.now c.index-self-self.result (omega (arith, c.requires.stack.height_fits))) c.requires.stack c.take.ensures.same
+
+pub returns-in-Leaf-clause-free : goal.returns-in-Leaf-clause-free
+returns-in-Leaf-clause-free g c = on_with c.args.self.now c.args.self.now.height c.take.new.self (λ (top : Frame). IsFree top.waiting) (omega (arith, c.requires.stack.height_fits)) c.take.ensures.free

@@ -1,7 +1,7 @@
 use Rattle.std.proofs.Common.{◌≡◌, ◌+◌, ◌-◌, ◌*◌, ◌<◌, ◌^◌, arith, drop, map, subst, ℕ}
-use Rattle.shared_table.specs.Packed.{cell_number, number_in_base_32}
-use Rattle.shared_table.proofs.PackedLaws.{word_room, word_start, word_step}
-use Rattle.shared_table.proofs.packing.cells_word.Goals as goal
+use Rattle.shogi_core.specs.Words.{cell_number, number_in_base_32}
+use Rattle.shogi_core.proofs.WordLaws.{word_room, word_start, word_step}
+use Rattle.shogi_core.proofs.words.cells_word.Goals as goal
 
 pub loop-at-init : goal.loop-at-init
 loop-at-init c = record { word = word_start c.args.cells.now; at = omega arith }

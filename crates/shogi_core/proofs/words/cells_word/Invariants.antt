@@ -1,6 +1,6 @@
 use Rattle.std.proofs.Common.{◌≡◌, ◌≤◌, length, map, drop}
-use Rattle.shared_table.specs.Packed.{cell_number, number_in_base_32}
-use Rattle.shared_table.proofs.packing.cells_word.Given as goal
+use Rattle.shogi_core.specs.Words.{cell_number, number_in_base_32}
+use Rattle.shogi_core.proofs.words.cells_word.Given as goal
 
 -- the word of the squares from here on
 abbrev pub invariant-loop-at : goal.invariant-loop-at

@@ -1,0 +1,271 @@
+-- The node on top of a stack, among its frames.
+use Rattle.std.proofs.Common.{◌≡◌, ◌<◌, ◌≤◌, ◌+◌, ◌-◌, ◌*◌, ◌<ℤ◌, ℤ, ℕ, zero, suc, List, [], ◌∷◌, ◌++◌, length, take, set, get_or, Option, Some, None, refl, sym, ap, ◌∙◌, arith, subst}
+use Rattle.std.specs.Prelude.{sum_by, slice_get, IsSomeAnd}
+use Rattle.std.proofs.lemmas.List.{take-set, length-take-le}
+use Rattle.std.proofs.lemmas.Option.{slice_get_read, slice_get_within, slice_get-get_or, get_or_from_slice_get}
+use Rattle.std.proofs.Math.Seq.{take-suc}
+use Rattle.shogi_core.specs.declared.moves.Move.{Move}
+use Rattle.shogi_core.specs.Codes.{code_of}
+use Rattle.shogi_moves.specs.After.{after_code}
+use Rattle.shogi_search.specs.declared.frame.Frame.{Frame}
+use Rattle.shogi_search.specs.declared.frame.Waiting.{Waiting}
+use Rattle.shogi_search.specs.declared.frame.Waiting.TheVariants.{Asked, Next, Cut}
+use Rattle.shogi_search.specs.declared.memo.Entry.{Entry}
+use Rattle.shogi_search.specs.declared.stack.Stack.{Stack}
+use Rattle.shogi_search.specs.Minimax.{negated, IsTrueEntry, tree_size, sum_of_tree_sizes}
+use Rattle.shogi_search.specs.Entries.{IsCutoff}
+use Rattle.shogi_search.specs.Window.{threshold, code_at}
+use Rattle.shogi_search.specs.Stack.{IsAt, IsSame, IsChain, IsStack, OnTop, frames_of, parents_of, left_of_frame, left_of_stack, left_of_waiting, IsNext}
+use Rattle.shogi_core.specs.Position.{Shogi}
+use Rattle.shogi_eval.specs.Evaluated.{Evaluated}
+use Rattle.shogi_search.specs.Order.{todo}
+use Rattle.shogi_search.specs.Visits.{IsOver, IsFree}
+use Rattle.shogi_search.proofs.Nodes.{asked, waits}
+use Rattle.shogi_search.proofs.Entries.{same_window, same_truth}
+use Rattle.shogi_search.proofs.Chains.{IsChild, IsPopped, popped, chain_same, chain_height, same_asked, left_above, left_same, left_next, pushed}
+use Rattle.shogi_search.specs.declared.bounds.TheConstants.{SEARCH_DEPTH_MAX, INFINITY}
+
+-- this frame is on top of the stack
+abbrev pub IsTop : Stack → Frame → Type 0
+IsTop s f = slice_get s.frames s.height ≡ Some f
+
+-- what is read at the height is on top
+pub top_read : (s : Stack) (f : Frame) → s.height < length s.frames → f ≡ get_or s.frames s.height f → IsTop s f
+top_read s f h e = slice_get_read s.frames (length s.frames) s.height f refl h e
+
+-- what holds of the node on top holds of that frame, and back
+pub on_top : (s : Stack) (f : Frame) (fact : Frame → Type 0) → IsTop s f → OnTop s fact → fact f
+on_top s f fact e h = subst (λ (o : Option Frame). IsSomeAnd o fact) e h
+
+pub of_top : (s : Stack) (f : Frame) (fact : Frame → Type 0) → IsTop s f → fact f → OnTop s fact
+of_top s f fact e h = subst (λ (o : Option Frame). IsSomeAnd o fact) (sym e) h
+
+-- some frame is on top, where something holds of it
+pub record HasTop (s : Stack) (fact : Frame → Type 0) : Type 0 where
+  pub top : Frame
+  pub is : IsTop s top
+  pub has : fact top
+
+has_some : (o : Option Frame) (fact : Frame → Type 0) → IsSomeAnd o fact → (f : Frame) × ((o ≡ Some f) × fact f)
+has_some None fact h = absurd h
+has_some (Some f) fact h = (f, (refl, h))
+
+pub has_top : (s : Stack) (fact : Frame → Type 0) → OnTop s fact → HasTop s fact
+has_top s fact h = let k : _ = has_some (slice_get s.frames s.height) fact h in record { top = k.0; is = k.1.0; has = k.1.1 }
+
+-- what holds of the node on top may be exchanged for what follows from it
+pub top_map : (s : Stack) (fact other : Frame → Type 0) → ((f : Frame) → IsTop s f → fact f → other f) → OnTop s fact → OnTop s other
+top_map s fact other g h = let t : HasTop s fact = has_top s fact h in of_top s t.top other t.is (g t.top t.is t.has)
+
+take_next : (xs : List Frame) (i : ℕ) (f : Frame) → slice_get xs i ≡ Some f → take (i + 1) xs ≡ take i xs ++ f ∷ []
+take_next xs i f e =
+    let one : i + 1 ≡ suc i = omega arith in
+    ap (λ (n : ℕ). take n xs) one ∙ (take-suc xs i f (slice_get_within xs i f e) ∙ ap (λ (x : Frame). take i xs ++ x ∷ []) (get_or_from_slice_get xs i f f e))
+
+-- the frames are those that wait for a child, and the one on top
+pub frames_are : (s : Stack) (f : Frame) → IsTop s f → frames_of s ≡ parents_of s ++ f ∷ []
+frames_are s f e = take_next s.frames s.height f e
+
+set_there : (xs : List Frame) (i : ℕ) (f : Frame) → i < length xs → slice_get (set xs i f) i ≡ Some f
+set_there [] i f h = absurd (omega arith)
+set_there (x ∷ xs) zero f h = refl
+set_there (x ∷ xs) (suc i) f h = set_there xs i f (omega arith)
+
+-- a stack whose top is this frame, at this place among its frames
+abbrev pub with_frame : Stack → ℕ → Frame → Stack
+with_frame s i f = record { root = s.root; eval = s.eval; depth = s.depth; beta = s.beta; frames = set s.frames i f; height = i }
+
+pub top_with : (s : Stack) (i : ℕ) (f : Frame) → i < length s.frames → IsTop (with_frame s i f) f
+top_with s i f h = set_there s.frames i f h
+
+pub on_with : (s : Stack) (i : ℕ) (f : Frame) (fact : Frame → Type 0) → i < length s.frames → fact f → OnTop (with_frame s i f) fact
+on_with s i f fact h k = of_top (with_frame s i f) f fact (top_with s i f h) k
+
+pub left_with : (s : Stack) (i : ℕ) (f : Frame) → i < length s.frames → left_of_stack (with_frame s i f) ≡ sum_by left_of_frame (take i s.frames) + left_of_frame f
+left_with s i f h = left_above (frames_of (with_frame s i f)) (take i s.frames) f (frames_are (with_frame s i f) f (top_with s i f h) ∙ ap (λ (fs : List Frame). fs ++ f ∷ []) (take-set s.frames i f))
+
+pub stack_with : (s : Stack) (i : ℕ) (f : Frame) → i < length s.frames → i ≤ SEARCH_DEPTH_MAX → s.depth ≤ SEARCH_DEPTH_MAX → IsChain s.root s.eval s.depth (negated INFINITY) s.beta (take i s.frames) f → IsStack (with_frame s i f)
+stack_with s i f h fits shallow c = record {
+  shallow = shallow;
+  height_fits = fits;
+  chain = on_with s i f (IsChain s.root s.eval s.depth (negated INFINITY) s.beta (parents_of (with_frame s i f))) h
+      (subst (λ (fs : List Frame). IsChain s.root s.eval s.depth (negated INFINITY) s.beta fs f) (sym (take-set s.frames i f)) c);
+}
+
+-- the node on top, as it is read at the height
+pub read_top : (s : Stack) (d : Frame) → s.height < length s.frames → IsTop s (get_or s.frames s.height d)
+read_top s d h = slice_get-get_or s.frames s.height d h
+
+pub left_read : (s : Stack) (f : Frame) → IsTop s f → left_of_stack s ≡ sum_by left_of_frame (parents_of s) + left_of_frame f
+left_read s f e = left_above (frames_of s) (parents_of s) f (frames_are s f e)
+
+-- the node on top is changed in its place
+pub changed : (s : Stack) (f g : Frame) → IsTop s f → IsStack s → IsSame f g → IsStack (with_frame s s.height g)
+changed s f g e k same = stack_with s s.height g (slice_get_within s.frames s.height f e) k.height_fits k.shallow (chain_same _ _ _ _ _ _ f g (on_top s f _ e k.chain) same)
+
+pub left_changed : (s : Stack) (f g : Frame) → IsTop s f → left_of_stack (with_frame s s.height g) + left_of_frame f ≡ left_of_stack s + left_of_frame g
+left_changed s f g e = omega (arith, left_with s s.height g (slice_get_within s.frames s.height f e), left_read s f e)
+
+-- there is room above a node that waits for a child
+pub room : (s : Stack) (f : Frame) → IsTop s f → IsStack s → 0 < f.depth → s.height < 16
+room s f e k deep =
+    let c : IsChain s.root s.eval s.depth (negated INFINITY) s.beta (parents_of s) f = on_top s f _ e k.chain in
+    let fits : s.height < length s.frames = slice_get_within s.frames s.height f e in
+    omega (arith, chain_height s.root s.eval s.depth (negated INFINITY) s.beta (parents_of s) f c, length-take-le s.height s.frames (omega arith), k.shallow)
+
+parents_are : (s : Stack) (f : Frame) → 0 < s.height → slice_get s.frames (s.height - 1) ≡ Some f → parents_of s ≡ take (s.height - 1) s.frames ++ f ∷ []
+parents_are s f h e = let k : s.height ≡ s.height - 1 + 1 = omega arith in ap (λ (n : ℕ). take n s.frames) k ∙ take_next s.frames (s.height - 1) f e
+
+-- the node below the top, as it is read there
+pub record IsBelow (s : Stack) (f : Frame) : Type 0 where
+  pub top : Frame
+  pub is : IsTop s top
+  pub parents : parents_of s ≡ take (s.height - 1) s.frames ++ f ∷ []
+  pub popped : IsPopped s.root s.eval s.depth (negated INFINITY) s.beta (take (s.height - 1) s.frames) f top
+
+pub below : (s : Stack) (d : Frame) → IsStack s → 0 < s.height → s.height < length s.frames → IsBelow s (get_or s.frames (s.height - 1) d)
+below s d k h fits =
+    let t : HasTop s (IsChain s.root s.eval s.depth (negated INFINITY) s.beta (parents_of s)) = has_top s _ k.chain in
+    let f : Frame = get_or s.frames (s.height - 1) d in
+    let e : parents_of s ≡ take (s.height - 1) s.frames ++ f ∷ [] = parents_are s f h (slice_get-get_or s.frames (s.height - 1) d (omega arith)) in
+    record { top = t.top; is = t.is; parents = e; popped = popped _ _ _ _ _ (parents_of s) (take (s.height - 1) s.frames) f t.top e t.has }
+
+pub asked_below : (s : Stack) (d : Frame) → IsStack s → 0 < s.height → s.height < length s.frames → ((m : Move) → (get_or s.frames (s.height - 1) d).waiting ≡ Asked m → ⊥) → ⊥
+asked_below s d k h fits none = let r : IsBelow s (get_or s.frames (s.height - 1) d) = below s d k h fits in none r.popped.by r.popped.child.asks
+
+-- what is known of the node on top is known of the child that the one below it has asked for
+pub truth_below : (s : Stack) (d : Frame) (m : Move) (entry : Entry) → IsStack s → 0 < s.height → s.height < length s.frames → (get_or s.frames (s.height - 1) d).waiting ≡ Asked m → OnTop s (λ top. IsTrueEntry top.node.position top.node.eval top.depth entry) → IsTrueEntry (after_code (get_or s.frames (s.height - 1) d).node.position (code_of m)) (get_or s.frames (s.height - 1) d).node.eval ((get_or s.frames (s.height - 1) d).depth - 1) entry
+truth_below s d m entry k h fits asks truth =
+    let r : IsBelow s (get_or s.frames (s.height - 1) d) = below s d k h fits in
+    let q : IsChild (get_or s.frames (s.height - 1) d) r.top m = same_asked _ _ _ _ r.popped.child asks in
+    same_truth _ _ _ _ _ _ _ q.at_child.position q.at_child.eval q.at_child.depth (on_top s r.top (λ (top : Frame). IsTrueEntry top.node.position top.node.eval top.depth entry) r.is truth)
+
+pub cutoff_below : (s : Stack) (d : Frame) (m : Move) (entry : Entry) → IsStack s → 0 < s.height → s.height < length s.frames → (get_or s.frames (s.height - 1) d).waiting ≡ Asked m → OnTop s (λ top. IsCutoff top.alpha top.beta entry) → IsCutoff (negated (get_or s.frames (s.height - 1) d).beta) (negated (threshold (get_or s.frames (s.height - 1) d).best_value (code_at (get_or s.frames (s.height - 1) d).best_move) (code_of m))) entry
+cutoff_below s d m entry k h fits asks cutoff =
+    let r : IsBelow s (get_or s.frames (s.height - 1) d) = below s d k h fits in
+    let q : IsChild (get_or s.frames (s.height - 1) d) r.top m = same_asked _ _ _ _ r.popped.child asks in
+    same_window _ _ _ _ _ q.at_child.alpha_is q.at_child.beta_is (on_top s r.top (λ (top : Frame). IsCutoff top.alpha top.beta entry) r.is cutoff)
+
+-- the node below takes in what is known, and is on top
+pub gone_back : (s : Stack) (d g : Frame) → IsStack s → 0 < s.height → s.height < length s.frames → IsSame (get_or s.frames (s.height - 1) d) g → IsStack (with_frame s (s.height - 1) g)
+gone_back s d g k h fits same =
+    let r : IsBelow s (get_or s.frames (s.height - 1) d) = below s d k h fits in
+    let low : s.height ≤ SEARCH_DEPTH_MAX = k.height_fits in
+    stack_with s (s.height - 1) g (omega arith) (omega arith) k.shallow (chain_same _ _ _ _ _ _ (get_or s.frames (s.height - 1) d) g r.popped.chain same)
+
+pub left_gone_back : (s : Stack) (d g : Frame) → IsStack s → 0 < s.height → s.height < length s.frames → IsSame (get_or s.frames (s.height - 1) d) g → g.picker ≡ (get_or s.frames (s.height - 1) d).picker → left_of_waiting g.waiting ≡ 0 → left_of_stack (with_frame s (s.height - 1) g) < left_of_stack s
+left_gone_back s d g k h fits same picker taken =
+    let l : left_of_frame g ≤ left_of_frame (get_or s.frames (s.height - 1) d) = left_same (get_or s.frames (s.height - 1) d) g same picker taken in
+    let r : IsBelow s (get_or s.frames (s.height - 1) d) = below s d k h fits in
+    omega (arith, left_with s (s.height - 1) g (omega arith), left_read s r.top r.is, left_above (parents_of s) (take (s.height - 1) s.frames) (get_or s.frames (s.height - 1) d) r.parents)
+
+-- without a node below it, the top is the root
+pub root_truth : (s : Stack) (entry : Entry) → IsStack s → s.height ≡ 0 → OnTop s (λ top. IsTrueEntry top.node.position top.node.eval top.depth entry) → IsTrueEntry s.root s.eval s.depth entry
+root_truth s entry k z truth =
+    let t : HasTop s (IsChain s.root s.eval s.depth (negated INFINITY) s.beta (parents_of s)) = has_top s _ k.chain in
+    let a : IsAt s.root s.eval s.depth (negated INFINITY) s.beta t.top = subst (λ (n : ℕ). IsChain s.root s.eval s.depth (negated INFINITY) s.beta (take n s.frames) t.top) z t.has in
+    same_truth _ _ _ _ _ _ _ a.position a.eval a.depth (on_top s t.top (λ (top : Frame). IsTrueEntry top.node.position top.node.eval top.depth entry) t.is truth)
+
+pub root_cutoff : (s : Stack) (entry : Entry) → IsStack s → s.height ≡ 0 → OnTop s (λ top. IsCutoff top.alpha top.beta entry) → IsCutoff (negated INFINITY) s.beta entry
+root_cutoff s entry k z cutoff =
+    let t : HasTop s (IsChain s.root s.eval s.depth (negated INFINITY) s.beta (parents_of s)) = has_top s _ k.chain in
+    let a : IsAt s.root s.eval s.depth (negated INFINITY) s.beta t.top = subst (λ (n : ℕ). IsChain s.root s.eval s.depth (negated INFINITY) s.beta (take n s.frames) t.top) z t.has in
+    same_window _ _ _ _ _ a.alpha_is a.beta_is (on_top s t.top (λ (top : Frame). IsCutoff top.alpha top.beta entry) t.is cutoff)
+
+-- something is left of a stack
+pub left_positive : (s : Stack) → IsStack s → 0 < left_of_stack s
+left_positive s k =
+    let t : HasTop s (IsChain s.root s.eval s.depth (negated INFINITY) s.beta (parents_of s)) = has_top s _ k.chain in
+    omega (arith, left_read s t.top t.is)
+
+deep_of : (f : Frame) (m : Move) → f.waiting ≡ Asked m → 0 < f.depth
+deep_of f m e = let w : _ = waits _ _ _ _ _ _ _ _ _ _ (asked f.waiting m e) f.known in w.deep
+
+pub room_asked : (s : Stack) (m : Move) → IsStack s → OnTop s (λ top. top.waiting ≡ Asked m) → s.height < 16
+room_asked s m k h = let t : HasTop s (λ top. top.waiting ≡ Asked m) = has_top s _ h in room s t.top t.is k (deep_of t.top m t.has)
+
+-- a stack with one frame more
+abbrev pub grown : Stack → List Frame → Stack
+grown s fs = record { root = s.root; eval = s.eval; depth = s.depth; beta = s.beta; frames = fs; height = s.height + 1 }
+
+-- the child is made above the top
+record IsGrown (s t : Stack) (m : Move) : Type 0 where
+  parent : Frame
+  is_parent : IsTop s parent
+  child : Frame
+  is_child : IsTop t child
+  next : IsNext parent child m
+
+grows : (s t : Stack) (m : Move) → OnTop s (λ parent. OnTop t (λ child. IsNext parent child m)) → IsGrown s t m
+grows s t m h =
+    let p : HasTop s (λ parent. OnTop t (λ child. IsNext parent child m)) = has_top s _ h in
+    let q : HasTop t (λ child. IsNext p.top child m) = has_top t _ p.has in
+    record { parent = p.top; is_parent = p.is; child = q.top; is_child = q.is; next = q.has }
+
+pub stack_grown : (s : Stack) (fs : List Frame) (m : Move) → IsStack s → OnTop s (λ top. top.waiting ≡ Asked m) → take (s.height + 1) fs ≡ take (s.height + 1) s.frames → OnTop s (λ parent. IsSomeAnd (slice_get fs (s.height + 1)) (λ child. IsNext parent child m)) → IsStack (grown s fs)
+stack_grown s fs m k h same made =
+    let g : IsGrown s (grown s fs) m = grows s (grown s fs) m made in
+    let asks : g.parent.waiting ≡ Asked m = on_top s g.parent (λ (top : Frame). top.waiting ≡ Asked m) g.is_parent h in
+    record {
+      shallow = k.shallow;
+      height_fits = omega (arith, room_asked s m k h);
+      chain = of_top (grown s fs) g.child (IsChain s.root s.eval s.depth (negated INFINITY) s.beta (parents_of (grown s fs))) g.is_child
+          (pushed _ _ _ _ _ (parents_of (grown s fs)) (parents_of s) g.parent g.child m (same ∙ frames_are s g.parent g.is_parent) (on_top s g.parent _ g.is_parent k.chain) (record { deep = deep_of g.parent m asks; asks = asks; at_child = g.next.at_child }));
+    }
+
+pub left_grown : (s : Stack) (fs : List Frame) (m : Move) → take (s.height + 1) fs ≡ take (s.height + 1) s.frames → OnTop s (λ parent. IsSomeAnd (slice_get fs (s.height + 1)) (λ child. IsNext parent child m)) → OnTop s (λ top. left_of_stack (grown s fs) < left_of_stack s + 2 * tree_size (after_code top.node.position (code_of m)) (top.depth - 1))
+left_grown s fs m same made =
+    let g : IsGrown s (grown s fs) m = grows s (grown s fs) m made in
+    of_top s g.parent (λ (top : Frame). left_of_stack (grown s fs) < left_of_stack s + 2 * tree_size (after_code top.node.position (code_of m)) (top.depth - 1)) g.is_parent
+    (let below : sum_by left_of_frame (parents_of (grown s fs)) ≡ left_of_stack s = ap (sum_by left_of_frame) same in
+    omega (arith, below, left_read (grown s fs) g.child g.is_child, g.next.counted))
+
+-- the child begins with its moves
+pub opens_grown : (s t : Stack) (m : Move) (f : Frame) → IsTop t f → OnTop s (λ parent. OnTop t (λ child. IsNext parent child m)) → f.alpha <ℤ f.beta
+opens_grown s t m f is made =
+    let p : HasTop s (λ parent. OnTop t (λ child. IsNext parent child m)) = has_top s _ made in
+    let n : IsNext p.top f m = on_top t f (λ (child : Frame). IsNext p.top child m) is p.has in
+    n.opens
+
+pub left_begun : (s t : Stack) (m : Move) (f g : Frame) → IsTop t f → IsSame f g → parents_of t ≡ frames_of s → OnTop s (λ parent. OnTop t (λ child. IsNext parent child m)) → g.waiting ≡ Next → 1 + 2 * sum_of_tree_sizes g.node.position (g.depth - 1) (todo g.node.position g.picker) < 2 * tree_size g.node.position g.depth → OnTop s (λ top. left_of_stack (with_frame t t.height g) < left_of_stack s + 2 * tree_size (after_code top.node.position (code_of m)) (top.depth - 1))
+left_begun s t m f g is same parents made next counted =
+    let p : HasTop s (λ parent. OnTop t (λ child. IsNext parent child m)) = has_top s _ made in
+    let n : IsNext p.top f m = on_top t f (λ (child : Frame). IsNext p.top child m) is p.has in
+    of_top s p.top (λ (top : Frame). left_of_stack (with_frame t t.height g) < left_of_stack s + 2 * tree_size (after_code top.node.position (code_of m)) (top.depth - 1)) p.is
+    (let below : sum_by left_of_frame (parents_of t) ≡ left_of_stack s = ap (sum_by left_of_frame) parents in
+    let none : left_of_waiting g.waiting ≡ 0 = ap left_of_waiting next in
+    let size : tree_size g.node.position g.depth ≡ tree_size (after_code p.top.node.position (code_of m)) (p.top.depth - 1) = ap (λ (x : Evaluated). tree_size x.position g.depth) same.0 ∙ (ap (tree_size f.node.position) (same.1.0 ∙ n.at_child.depth) ∙ ap (λ (x : Shogi). tree_size x (p.top.depth - 1)) n.at_child.position) in
+    omega (arith, below, left_with t t.height g (slice_get_within t.frames t.height f is), none, size, counted))
+
+-- leaves are visited from the node on top
+pub left_visited : (s : Stack) (m : Move) (f g : Frame) (n : ℕ) → IsTop s f → f.depth ≡ 1 → left_of_frame g + n ≤ left_of_frame f + 2 * tree_size (after_code f.node.position (code_of m)) 0 → OnTop s (λ top. left_of_stack (with_frame s s.height g) + n ≤ left_of_stack s + 2 * tree_size (after_code top.node.position (code_of m)) (top.depth - 1))
+left_visited s m f g n is last l =
+    of_top s f (λ (top : Frame). left_of_stack (with_frame s s.height g) + n ≤ left_of_stack s + 2 * tree_size (after_code top.node.position (code_of m)) (top.depth - 1)) is
+    (let low : f.depth - 1 ≡ 0 = omega (arith, last) in
+    let size : tree_size (after_code f.node.position (code_of m)) (f.depth - 1) ≡ tree_size (after_code f.node.position (code_of m)) 0 = ap (tree_size (after_code f.node.position (code_of m))) low in
+    omega (arith, left_changed s f g is, l, size))
+
+-- a move is asked for, and gone on with
+pub left_descended : (s t : Stack) (m : Move) (f g : Frame) (n : ℕ) → IsTop s f → IsSame f g → g.waiting ≡ Asked m → todo f.node.position f.picker ≡ code_of m ∷ todo f.node.position g.picker → OnTop (with_frame s s.height g) (λ top. left_of_stack t + n ≤ left_of_stack (with_frame s s.height g) + 2 * tree_size (after_code top.node.position (code_of m)) (top.depth - 1)) → left_of_stack t + n ≤ left_of_stack s
+left_descended s t m f g n is same asks moves l =
+    let k : left_of_stack t + n ≤ left_of_stack (with_frame s s.height g) + 2 * tree_size (after_code g.node.position (code_of m)) (g.depth - 1) = on_top (with_frame s s.height g) g (λ (top : Frame). left_of_stack t + n ≤ left_of_stack (with_frame s s.height g) + 2 * tree_size (after_code top.node.position (code_of m)) (top.depth - 1)) (top_with s s.height g (slice_get_within s.frames s.height f is)) l in
+    omega (arith, k, left_changed s f g is, left_next f g (after_code g.node.position (code_of m)) m same.0 same.1.0 asks refl moves)
+
+-- no move is left to ask for
+pub over_next : (f g : Frame) → IsSame f g → g.waiting ≡ Next → todo f.node.position g.picker ≡ [] → IsOver g.waiting (todo g.node.position g.picker)
+over_next f g same next none = subst (λ (w : Waiting). IsOver w (todo g.node.position g.picker)) (sym next) (ap (λ (x : Evaluated). todo x.position g.picker) same.0 ∙ none)
+
+pub over_cut : (f : Frame) (v : ℤ) → f.waiting ≡ Cut v → IsOver f.waiting (todo f.node.position f.picker)
+over_cut f v cut = subst (λ (w : Waiting). IsOver w (todo f.node.position f.picker)) (sym cut) tt
+
+pub free_next : (w : Waiting) → w ≡ Next → IsFree w
+free_next w e = subst IsFree (sym e) tt
+
+-- the root is entered, and none of its moves is gone through
+pub left_root : (s : Stack) (f : Frame) (n : Evaluated) (p : Shogi) (d : ℕ) → 0 < length s.frames → f.waiting ≡ Next → f.node ≡ n → f.depth ≡ d → n.position ≡ p → 1 + 2 * sum_of_tree_sizes n.position (d - 1) (todo n.position f.picker) < 2 * tree_size n.position d → left_of_stack (with_frame s 0 f) < 2 * tree_size p d
+left_root s f n p d h next node depth position counted =
+    let none : left_of_waiting f.waiting ≡ 0 = ap left_of_waiting next in
+    let moves : sum_of_tree_sizes f.node.position (f.depth - 1) (todo f.node.position f.picker) ≡ sum_of_tree_sizes n.position (d - 1) (todo n.position f.picker) = ap (λ (x : Evaluated). sum_of_tree_sizes x.position (f.depth - 1) (todo x.position f.picker)) node ∙ ap (λ (x : ℕ). sum_of_tree_sizes n.position (x - 1) (todo n.position f.picker)) depth in
+    let size : tree_size n.position d ≡ tree_size p d = ap (λ (x : Shogi). tree_size x d) position in
+    let below : sum_by left_of_frame (take 0 s.frames) ≡ 0 = refl in
+    omega (arith, none, moves, size, below, counted, left_with s 0 f h)

@@ -1,0 +1,23 @@
+use Rattle.std.proofs.Common.{rules, arith, ◌<◌, ◌*◌}
+use Rattle.shogi_search.specs.declared.frame.Frame.{Frame}
+use Rattle.shogi_search.specs.Minimax.{negated, tree_size}
+use Rattle.shogi_search.specs.Stack.{IsAt, left_of_stack}
+use Rattle.shogi_search.specs.Visits.{IsFree}
+use Rattle.shogi_search.proofs.Places.{stack_with, on_with, with_frame, left_root, free_next}
+use Rattle.shogi_search.proofs.sliced_search.Search.enter.Goals as goal
+use Rattle.shogi_search.specs.declared.bounds.TheConstants.{INFINITY}
+
+pub invariant_of-self : goal.invariant_of-self
+invariant_of-self g c =
+    let s = c.self.inside.stack in
+    let root : IsAt s.root s.eval s.depth (negated INFINITY) s.beta c.enter.new.self = record { position = search rules; eval = search rules; depth = search rules; alpha_is = search rules; beta_is = search rules } in
+    let left : left_of_stack (with_frame s 0 c.enter.new.self) < 2 * tree_size s.root s.depth = left_root s c.enter.new.self _ s.root s.depth (omega arith) c.enter.ensures.waiting c.enter.ensures.node c.enter.ensures.depth (search rules) c.enter.ensures.counted in
+    record {
+      shallow = search rules;
+      above = search rules;
+      most = search rules;
+      known = search rules;
+      chain = λ _ _. stack_with s 0 c.enter.new.self (omega arith) (omega arith) c.self.invariant.shallow root;
+      free = λ _ _. on_with s 0 c.enter.new.self (λ (top : Frame). IsFree top.waiting) (omega arith) (free_next _ c.enter.ensures.waiting);
+      counted = search rules;
+    }
