@@ -50,7 +50,7 @@ fn promotion_gain(cell: Option<Piece>, promote: bool) -> u32
 }
 
 /// What a drop gains: the piece leaves the hand and stands on the board.
-fn drop_gain(e: Eval, kind: Kind) -> i32
+pub fn drop_gain(e: Eval, kind: Kind) -> i32
     ensures value { result ≡ drop_gain e kind }
     ensures least { (pos 0 -ℤ pos PIECE_VALUE_MAX) ≤ℤ result }
     ensures most { result ≤ℤ pos PIECE_VALUE_MAX }

@@ -1,6 +1,7 @@
 //! A position on the way of a search.
 
-ghost use Rattle.std.specs.Prelude.{◌≡◌, ◌≤ℤ◌, true, ◌-ℤ◌, pos};
+ghost use Rattle.std.specs.Prelude.{◌≡◌, ◌<◌, ◌≤ℤ◌, true, ◌-ℤ◌, pos, ℕ};
+ghost use Rattle.shogi_core.specs.declared.moves.Move.TheVariants as moves;
 ghost use Rattle.shogi_eval.specs.declared.points.TheConstants.{POINTS_MAX};
 ghost use Rattle.shogi_core.specs.Codes.{code_of};
 ghost use Rattle.shogi_core.specs.Start.{start};
@@ -10,9 +11,9 @@ ghost use Rattle.shogi_moves.specs.Legal.{is_legal};
 ghost use Rattle.shogi_eval.specs.Material.{material_of};
 
 use crate::eval::Eval;
-use crate::gain::score_after;
+use crate::gain::{drop_gain, score_after};
 use crate::points::material;
-use shogi_core::{Move, Position};
+use shogi_core::{Kind, Move, Position};
 use shogi_moves::advance;
 use std::marker::Model;
 
@@ -122,6 +123,16 @@ impl Node {
         ensures { result ≡ material_of (after self.now.position m.now) self.now.eval }
     {
         score_after(&self.position, self.eval, self.score, m)
+    }
+
+    /// The material after a legal drop of the kind, on any square, from the side that is to move then.
+    #[inline(always)]
+    pub fn score_after_drop(&self, kind: Kind) -> i32
+        ensures { (to : ℕ) → to < 81 → is_legal self.now.position (moves.Drop kind to) ≡ true → material_of (after self.now.position (moves.Drop kind to)) self.now.eval ≡ result }
+    {
+        let p = self.as_position();
+        p.validity();
+        0 - (self.score() + drop_gain(self.eval(), kind))
     }
 
     /// The material of the position, from the side to move (see `material`).

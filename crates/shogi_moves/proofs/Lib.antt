@@ -16,6 +16,7 @@ pub mod ZoneLaws
 pub mod PawnFiles
 pub mod EndLaws
 pub mod SweepLaws
+pub mod Passes
 pub mod TallyLaws
 pub mod DropChecks
 pub mod ExistenceLaws

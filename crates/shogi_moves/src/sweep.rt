@@ -14,7 +14,7 @@ ghost use Rattle.shogi_moves.specs.After.{after};
 ghost use Rattle.shogi_moves.specs.Legal.{is_legal};
 ghost use Rattle.shogi_moves.specs.LegalMoves.{legal_codes};
 ghost use Rattle.shogi_moves.specs.Replies.{IsReplies};
-ghost use Rattle.shogi_moves.specs.Sweeps.{wanted_from, IsBoardSweep, IsDropSweep};
+ghost use Rattle.shogi_moves.specs.Sweeps.{wanted_from, IsBoardSweep, IsDropSweep, IsPlainMove, IsCertainQuiet, IsDropOf, IsCertainDrop, IsPassed};
 
 use crate::ends::{Ends, board_ends, drop_ends, ends_among, ends_of_sort};
 use crate::guard::{Guard, guard_of};
@@ -99,6 +99,8 @@ impl BoardSweep {
         ensures kept { IsBoardSweep p.now capture self.new }
         ensures next { wanted_from p.now capture self.old.code ≡ code_of result ∷ wanted_from p.now capture self.new.code }
         ensures legal { is_legal p.now result ≡ true }
+        ensures plain { self.old.ends.promoting ≡ 0 → IsPlainMove self.old.code result }
+        ensures code { self.new.code ≡ code_of result + 1 }
     {
         let (from, plain, promoting) = (self.from, self.ends.plain, self.ends.promoting);
         from.validity();
@@ -133,6 +135,8 @@ impl BoardSweep {
         ensures kept { IsBoardSweep p.now capture self.new }
         ensures some { result ≡ true → (bit_or self.new.ends.plain self.new.ends.promoting ≢ 0) × (wanted_from p.now capture self.old.code ≡ wanted_from p.now capture self.new.code) }
         ensures end { result ≡ false → wanted_from p.now capture self.old.code ≡ wanted_from p.now capture FIRST_DROP }
+        ensures rises { self.old.code ≤ self.new.code }
+        ensures stays { result ≡ false → self.new.code ≡ self.old.code }
     {
         p.validity();
         let sort = ends_of_sort(p, capture);
@@ -183,6 +187,8 @@ impl BoardSweep {
         ensures next { IfSome result (λ m. wanted_from p.now capture self.old.code ≡ code_of m ∷ wanted_from p.now capture self.new.code) }
         ensures legal { IfSome result (λ m. is_legal p.now m ≡ true) }
         ensures certain { IfSome result (λ m. legal_codes (after p.now m) ≢ []) }
+        ensures plain { self.old.ends.promoting ≡ 0 → IfSome result (IsPlainMove self.old.code) }
+        ensures code { IfSome result (λ m. self.new.code ≡ code_of m + 1) }
     {
         let Ends { plain, promoting } = self.ends;
         if plain | promoting == 0 {
@@ -195,6 +201,41 @@ impl BoardSweep {
             return Some(m);
         }
         None
+    }
+
+    /// Goes on to the next piece where the present one has no end left, and tells whether the present one
+    /// has ends and none of them by promotion.
+    #[inline(always)]
+    fn is_at_plain(&mut self, p: &Position) -> bool
+        requires kept { IsBoardSweep p.now false self.old }
+        ensures kept { IsBoardSweep p.now false self.new }
+        ensures same { wanted_from p.now false self.old.code ≡ wanted_from p.now false self.new.code }
+        ensures rises { self.old.code ≤ self.new.code }
+        ensures plain { result ≡ true → self.new.ends.promoting ≡ 0 }
+    {
+        if self.ends.plain | self.ends.promoting == 0 && !self.refill(p, false) {
+            return false;
+        }
+        self.ends.promoting == 0
+    }
+
+    /// Passes the next of the moves that take nothing, as long as they do not promote and the other side
+    /// surely has a legal move after them, at most so many. Gives their number.
+    pub fn pass_quiets(&mut self, p: &Position, replies: &Replies, most: u64) -> u64
+        requires kept { IsBoardSweep p.now false self.old }
+        requires replies { IsReplies p.now replies.now.sight replies.now.spare }
+        ensures kept { IsBoardSweep p.now false self.new }
+        ensures most { result ≤ most }
+        ensures passed { IsPassed (IsCertainQuiet p.now self.old.code) result (wanted_from p.now false self.old.code) (wanted_from p.now false self.new.code) }
+    {
+        let mut passed = 0;
+        'quiets: while passed < most
+            && self.is_at_plain(p)
+            && self.next_certain(p, false, replies).is_some()
+        {
+            passed += 1;
+        }
+        passed
     }
 }
 
@@ -237,6 +278,9 @@ impl DropSweep {
         ensures kept { IsDropSweep p.now self.new }
         ensures next { wanted_from p.now false self.old.code ≡ code_of result ∷ wanted_from p.now false self.new.code }
         ensures legal { is_legal p.now result ≡ true }
+        ensures drop { IsDropOf self.old.kind self.old.code result }
+        ensures kind { self.new.kind ≡ self.old.kind }
+        ensures code { self.new.code ≡ code_of result + 1 }
     {
         let (kind, ends) = (self.kind, self.ends);
         let to = lowest(ends);
@@ -297,6 +341,9 @@ impl DropSweep {
         ensures next { IfSome result (λ m. wanted_from p.now false self.old.code ≡ code_of m ∷ wanted_from p.now false self.new.code) }
         ensures legal { IfSome result (λ m. is_legal p.now m ≡ true) }
         ensures certain { IfSome result (λ m. legal_codes (after p.now m) ≢ []) }
+        ensures drop { IfSome result (IsDropOf self.old.kind self.old.code) }
+        ensures kind { self.new.kind ≡ self.old.kind }
+        ensures code { IfSome result (λ m. self.new.code ≡ code_of m + 1) }
     {
         let ends = self.ends;
         if ends == 0 {
@@ -309,5 +356,21 @@ impl DropSweep {
             return Some(m);
         }
         None
+    }
+
+    /// Passes the next of the drops, as long as they are of the present kind and the other side surely has
+    /// a legal move after them, at most so many. Gives their number.
+    pub fn pass_certain(&mut self, p: &Position, replies: &Replies, most: u64) -> u64
+        requires kept { IsDropSweep p.now self.old }
+        requires replies { IsReplies p.now replies.now.sight replies.now.spare }
+        ensures kept { IsDropSweep p.now self.new }
+        ensures most { result ≤ most }
+        ensures passed { IsPassed (IsCertainDrop p.now self.old.kind self.old.code) result (wanted_from p.now false self.old.code) (wanted_from p.now false self.new.code) }
+    {
+        let mut passed = 0;
+        'drops: while passed < most && self.next_certain(p, replies).is_some() {
+            passed += 1;
+        }
+        passed
     }
 }

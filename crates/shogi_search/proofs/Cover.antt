@@ -18,7 +18,7 @@ IsCovered-start f all alpha = record {
   reached = refl;
 }
 
-threshold-best_value : (best_value : ℤ) (b : Option ℕ) (n : ℕ) → threshold best_value b n ≤ℤ best_value
+pub threshold-best_value : (best_value : ℤ) (b : Option ℕ) (n : ℕ) → threshold best_value b n ≤ℤ best_value
 threshold-best_value best_value None n = omega (arith, ints)
 threshold-best_value best_value (Some b) n = grind (arith, ints, nat_tests)
 

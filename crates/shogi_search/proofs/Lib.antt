@@ -11,6 +11,7 @@ pub mod OrderLaws
 pub mod Entries
 pub mod Searches
 pub mod Nodes
+pub mod Passed
 pub mod Chains
 pub mod Places
 pub mod RankedLaws

@@ -1,8 +1,9 @@
 -- The order in which a node's moves are visited: a remembered move, then captures, then the rest, each by rising code (own choice).
-use Rattle.std.specs.Prelude.{ℕ, Bool, true, false, ◌&&◌, not, ◌==◌, Option, Some, None, List, [], ◌∷◌, ◌++◌, filter}
+use Rattle.std.specs.Prelude.{ℕ, ◌≡◌, Bool, true, false, ◌&&◌, not, ◌==◌, Option, Some, None, List, [], ◌∷◌, ◌++◌, filter}
 use denote.Struct.Props as logic
 use Rattle.shogi_core.specs.declared.moves.TheConstants.{FIRST_DROP}
 use Rattle.shogi_core.specs.declared.moves.Move.{Move}
+use Rattle.shogi_core.specs.declared.piece.Kind.{Kind}
 use Rattle.shogi_core.specs.Codes.{code_of}
 use Rattle.shogi_core.specs.Position.{Shogi}
 use Rattle.shogi_moves.specs.Captures.{is_of_sort}
@@ -41,6 +42,26 @@ todo_after p (Captures hash_move s) = picks_from p hash_move false 0
 todo_after p (Quiets hash_move s) = picks_from p hash_move false FIRST_DROP
 todo_after p (Drops hash_move s) = []
 todo_after p Done = []
+
+-- the moves that take nothing are under way, from a code on, and no remembered move is left out of them
+abbrev pub IsAtQuiets : MovePicker → ℕ → Type 0
+IsAtQuiets (HashMove f) code = ⊥
+IsAtQuiets (Start hash_move) code = ⊥
+IsAtQuiets (Captures hash_move s) code = ⊥
+IsAtQuiets (Quiets None s) code = s.code ≡ code
+IsAtQuiets (Quiets (Some f) s) code = ⊥
+IsAtQuiets (Drops hash_move s) code = ⊥
+IsAtQuiets Done code = ⊥
+
+-- the drops of a kind are under way, from a code on, and no remembered move is left out of them
+abbrev pub IsAtDrops : MovePicker → Kind → ℕ → Type 0
+IsAtDrops (HashMove f) kind code = ⊥
+IsAtDrops (Start hash_move) kind code = ⊥
+IsAtDrops (Captures hash_move s) kind code = ⊥
+IsAtDrops (Quiets hash_move s) kind code = ⊥
+IsAtDrops (Drops None s) kind code = (s.kind ≡ kind) × (s.code ≡ code)
+IsAtDrops (Drops (Some f) s) kind code = ⊥
+IsAtDrops Done kind code = ⊥
 
 -- what the picker holds beside the codes is true of the position
 abbrev pub IsKept : Shogi → MovePicker → Type 0

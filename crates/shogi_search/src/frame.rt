@@ -20,7 +20,7 @@ ghost use Rattle.shogi_search.specs.declared.bounds.TheConstants.{SEARCH_DEPTH_M
 use crate::bounds::MATE;
 use crate::memo::Entry;
 use crate::move_picker::MovePicker;
-use crate::window::threshold;
+use crate::window::{threshold, threshold_at};
 use shogi_core::Move;
 use shogi_eval::{Eval, Node};
 use shogi_moves::{Replies, has_legal};
@@ -392,6 +392,56 @@ impl Frame {
         true
     }
 
+    /// Passes the leaves after the next moves that take nothing and do not promote, two steps each, while
+    /// there is room and it is certain without making them that a move is legal there, where no such move
+    /// is worth enough. Gives the number of steps.
+    fn pass_quiets(&mut self, room: u64) -> u64
+        requires next { self.old.waiting ≡ Waiting.Next }
+        requires last { self.old.depth ≡ 1 }
+        ensures next { self.new.waiting ≡ Waiting.Next }
+        ensures most { result ≤ room }
+        ensures left { left_of_frame self.new + result ≡ left_of_frame self.old }
+        ensures same { IsSame self.old self.new }
+    {
+        let Some(code) = self.picker.quiets() else {
+            return 0;
+        };
+        let threshold = threshold_at(self.best_value, &self.best_move, code);
+        if self.node.score() > threshold {
+            return 0;
+        }
+        let passed = self
+            .picker
+            .pass_quiets(self.node.as_position(), &self.replies, room / 2);
+        self.has_move |= passed > 0;
+        2 * passed
+    }
+
+    /// Passes the leaves after the next drops of the kind that is under way, two steps each, while there is
+    /// room and it is certain without making them that a move is legal there, where no drop of that kind
+    /// is worth enough. Gives the number of steps.
+    fn pass_drops(&mut self, room: u64) -> u64
+        requires next { self.old.waiting ≡ Waiting.Next }
+        requires last { self.old.depth ≡ 1 }
+        ensures next { self.new.waiting ≡ Waiting.Next }
+        ensures most { result ≤ room }
+        ensures left { left_of_frame self.new + result ≡ left_of_frame self.old }
+        ensures same { IsSame self.old self.new }
+    {
+        let Some((kind, code)) = self.picker.drops() else {
+            return 0;
+        };
+        let threshold = threshold_at(self.best_value, &self.best_move, code);
+        if self.node.score_after_drop(kind) < -threshold {
+            return 0;
+        }
+        let passed = self
+            .picker
+            .pass_drops(self.node.as_position(), &self.replies, room / 2);
+        self.has_move |= passed > 0;
+        2 * passed
+    }
+
     /// Takes in the leaves after the next moves, two steps each, while there is room and it is certain
     /// without making them that a move is legal there. Gives the number of steps.
     pub fn pass_leaves(&mut self, room: u64) -> u64
@@ -406,6 +456,10 @@ impl Frame {
         let mut made = 0;
         'leaves: while room - made > 1 && self.is_next() && self.pass_leaf() {
             made += 2;
+            if self.is_next() {
+                made += self.pass_quiets(room - made);
+                made += self.pass_drops(room - made);
+            }
         }
         made
     }

@@ -1,17 +1,18 @@
 //! The move picker: in which order a node's moves are visited.
 
-ghost use Rattle.std.specs.Prelude.{◌≡◌, ◌≢◌, ◌<◌, ◌++◌, [], ◌∷◌, MatchOption, Some, None, IfSome, IsNone, true, false};
+ghost use Rattle.std.specs.Prelude.{◌≡◌, ◌≢◌, ◌<◌, ◌≤◌, ◌++◌, ℕ, [], ◌∷◌, MatchOption, Some, None, IfSome, IsNone, true, false};
 ghost use Rattle.shogi_core.specs.declared.moves.TheConstants.{FIRST_DROP};
+ghost use Rattle.shogi_core.specs.declared.piece.Kind.{Kind};
 ghost use Rattle.shogi_core.specs.Codes.{code_of};
 ghost use Rattle.shogi_moves.specs.After.{after};
 ghost use Rattle.shogi_moves.specs.Guards.{Guards};
 ghost use Rattle.shogi_moves.specs.Legal.{is_legal};
 ghost use Rattle.shogi_moves.specs.LegalMoves.{legal_codes};
 ghost use Rattle.shogi_moves.specs.Replies.{IsReplies};
-ghost use Rattle.shogi_moves.specs.Sweeps.{IsBoardSweep, IsDropSweep};
-ghost use Rattle.shogi_search.specs.Order.{is_hash_move, picks_from, todo, todo_after, IsKept};
+ghost use Rattle.shogi_moves.specs.Sweeps.{IsBoardSweep, IsDropSweep, IsPassed, IsCertainQuiet, IsCertainDrop};
+ghost use Rattle.shogi_search.specs.Order.{is_hash_move, picks_from, todo, todo_after, IsKept, IsAtQuiets, IsAtDrops};
 
-use shogi_core::{Move, Position};
+use shogi_core::{Kind, Move, Position};
 use shogi_moves::{BoardSweep, DropSweep, Guard, Replies, guard_of};
 
 /// How far the visits of a node's moves have come: the hash move, and what is still to come of the
@@ -178,6 +179,56 @@ impl MovePicker {
             MovePicker::Drops(None, sweep) => sweep.next_certain(p, replies),
             _ => None,
         }
+    }
+
+    /// The code to go on from where the moves that take nothing are under way, and none of them is left out.
+    pub fn quiets(&self) -> Option<u16>
+        ensures { IfSome result (IsAtQuiets self.now) }
+    {
+        match self {
+            MovePicker::Quiets(None, sweep) => Some(sweep.code),
+            _ => None,
+        }
+    }
+
+    /// Passes the next moves to visit, as long as they take nothing, do not promote, and the other side
+    /// surely has a legal move after them, at most so many. Gives their number.
+    pub fn pass_quiets(&mut self, p: &Position, replies: &Replies, most: u64) -> u64
+        requires kept { IsKept p.now self.old }
+        requires replies { IsReplies p.now replies.now.sight replies.now.spare }
+        ensures kept { IsKept p.now self.new }
+        ensures most { result ≤ most }
+        ensures passed { (code : ℕ) → IsAtQuiets self.old code → IsPassed (IsCertainQuiet p.now code) result (todo p.now self.old) (todo p.now self.new) }
+    {
+        if let MovePicker::Quiets(None, sweep) = self {
+            return sweep.pass_quiets(p, replies, most);
+        }
+        0
+    }
+
+    /// The kind whose drops are under way, where none of them is left out, and the code to go on from.
+    pub fn drops(&self) -> Option<(Kind, u16)>
+        ensures { IfSome result (λ drops. IsAtDrops self.now drops.0 drops.1) }
+    {
+        match self {
+            MovePicker::Drops(None, sweep) => Some((sweep.kind, sweep.code)),
+            _ => None,
+        }
+    }
+
+    /// Passes the next moves to visit, as long as they are drops of the kind that is under way and the
+    /// other side surely has a legal move after them, at most so many. Gives their number.
+    pub fn pass_drops(&mut self, p: &Position, replies: &Replies, most: u64) -> u64
+        requires kept { IsKept p.now self.old }
+        requires replies { IsReplies p.now replies.now.sight replies.now.spare }
+        ensures kept { IsKept p.now self.new }
+        ensures most { result ≤ most }
+        ensures passed { (kind : Kind) → (code : ℕ) → IsAtDrops self.old kind code → IsPassed (IsCertainDrop p.now kind code) result (todo p.now self.old) (todo p.now self.new) }
+    {
+        if let MovePicker::Drops(None, sweep) = self {
+            return sweep.pass_certain(p, replies, most);
+        }
+        0
     }
 
     /// The first move after the sweep that is under way.

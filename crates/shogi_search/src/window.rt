@@ -8,15 +8,23 @@ ghost use Rattle.shogi_search.specs.Minimax.{negated};
 
 use shogi_core::Move;
 
+/// The best so far, and one less for a code that is less than the best move's.
+pub fn threshold_at(best_value: i32, best_move: &Option<Move>, code: u16) -> i32
+    requires { negated INFINITY ≤ℤ best_value }
+    ensures { result ≡ threshold best_value (code_at best_move.now) code }
+{
+    match best_move {
+        Some(best) if code < best.code() => best_value - 1,
+        _ => best_value,
+    }
+}
+
 /// The best so far, and one less for a move of lesser code than the best move.
 pub fn threshold(best_value: i32, best_move: &Option<Move>, m: &Move) -> i32
     requires { negated INFINITY ≤ℤ best_value }
     ensures { result ≡ threshold best_value (code_at best_move.now) (code_of m.now) }
 {
-    match best_move {
-        Some(best) if m.code() < best.code() => best_value - 1,
-        _ => best_value,
-    }
+    threshold_at(best_value, best_move, m.code())
 }
 
 /// Whether a move of this worth becomes the best one.
