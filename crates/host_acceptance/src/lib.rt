@@ -11,3 +11,7 @@ mod long;
 mod multipv;
 #[cfg(test)]
 mod schedules;
+#[cfg(test)]
+mod slots;
+#[cfg(test)]
+mod turns;

@@ -7,8 +7,6 @@ mod host;
 mod laws;
 mod round;
 mod serve;
-#[cfg(test)]
-mod tests;
 
 pub use bytes::Bytes;
 pub use event::{Event, HostFault, Outcome};

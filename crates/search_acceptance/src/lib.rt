@@ -23,7 +23,13 @@ mod plain;
 #[cfg(test)]
 mod positions;
 #[cfg(test)]
+mod ranks;
+#[cfg(test)]
 mod recorder;
+#[cfg(test)]
+mod small;
+#[cfg(test)]
+mod table_rows;
 #[cfg(test)]
 mod tables;
 #[cfg(test)]

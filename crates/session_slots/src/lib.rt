@@ -5,8 +5,6 @@ mod id;
 mod limits;
 mod slot;
 mod slots;
-#[cfg(test)]
-mod tests;
 
 pub use id::SessionId;
 pub use limits::SESSIONS_MAX;

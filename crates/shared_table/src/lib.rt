@@ -7,6 +7,3 @@ mod table;
 
 pub use key::TableKey;
 pub use table::{CAPACITY_MAX, SharedTable, TableFault};
-
-#[cfg(test)]
-mod tests;

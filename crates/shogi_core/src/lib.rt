@@ -16,8 +16,6 @@ mod square;
 mod start;
 mod steps;
 mod targets;
-#[cfg(test)]
-mod tests;
 mod validity;
 mod words;
 

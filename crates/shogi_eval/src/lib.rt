@@ -9,6 +9,3 @@ mod points;
 pub use eval::Eval;
 pub use node::Node;
 pub use points::{POINTS_MAX, material};
-
-#[cfg(test)]
-mod tests;

@@ -4,21 +4,15 @@
 mod after;
 mod attack;
 mod capture;
-#[cfg(test)]
-mod comparison;
 mod count;
 mod ends;
 mod existence;
 mod guard;
 mod legal;
 mod next;
-#[cfg(test)]
-mod plain;
 mod replies;
 mod safe;
 mod sweep;
-#[cfg(test)]
-mod tests;
 mod walk;
 mod zones;
 

@@ -18,6 +18,3 @@ pub use full_search::{search, search_below};
 pub use memo::{Entry, Memo, NoMemo};
 pub use ranks::{MULTI_PV_MAX, Ranks};
 pub use sliced_search::Search;
-
-#[cfg(test)]
-mod tests;

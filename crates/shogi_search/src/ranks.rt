@@ -121,6 +121,3 @@ impl Ranks {
         self.pairs.as_slice()
     }
 }
-
-#[cfg(test)]
-mod tests;

@@ -10,8 +10,6 @@ mod number;
 mod position;
 mod position_text;
 mod split;
-#[cfg(test)]
-mod tests;
 mod word;
 
 pub use move_text::{read_move, write_move};

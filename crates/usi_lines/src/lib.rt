@@ -7,8 +7,6 @@ mod first;
 mod line;
 mod options;
 mod read;
-#[cfg(test)]
-mod tests;
 mod words;
 
 pub use buffer::{LineBuffer, LineFault};

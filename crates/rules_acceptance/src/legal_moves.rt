@@ -1,0 +1,311 @@
+//! Positions and counts that are known from elsewhere.
+
+use shogi_core::Color::{Black, White};
+use shogi_core::{Color, Hands, Kind, Move, Piece, Position, Role, Square};
+use shogi_moves::{
+    Replies, has_legal, in_check, is_attacked, is_legal, next_capture, next_legal, next_quiet,
+    perft, play,
+};
+use std::test::Fail;
+
+/// The kind of a letter as in SFEN.
+fn kind(letter: u8) -> Option<Kind> {
+    match letter.to_ascii_uppercase() {
+        b'P' => Some(Kind::Pawn),
+        b'L' => Some(Kind::Lance),
+        b'N' => Some(Kind::Knight),
+        b'S' => Some(Kind::Silver),
+        b'G' => Some(Kind::Gold),
+        b'B' => Some(Kind::Bishop),
+        b'R' => Some(Kind::Rook),
+        _ => None,
+    }
+}
+
+fn color(letter: u8) -> Color {
+    if letter.is_ascii_uppercase() {
+        Black
+    } else {
+        White
+    }
+}
+
+fn piece(letter: u8, promoted: bool) -> Piece {
+    let role = match kind(letter) {
+        Some(kind) => Role::from(kind),
+        None => Role::King,
+    };
+    Piece {
+        color: color(letter),
+        role: if promoted { role.promoted() } else { role },
+    }
+}
+
+/// The cells of a board as in SFEN.
+fn board(text: &[u8]) -> [Option<Piece>; 81] {
+    let mut cells = [None; 81];
+    let mut column: usize = 0;
+    let mut rank: usize = 0;
+    let mut promoted = false;
+    for letter in text {
+        match *letter {
+            b'/' => {
+                column = 0;
+                rank = rank.saturating_add(1);
+            }
+            b'+' => promoted = true,
+            b'1'..=b'9' => column = column.saturating_add((*letter - b'0') as usize),
+            _ => {
+                if column < 9 && rank < 9 {
+                    cells[(8 - column) * 9 + rank] = Some(piece(*letter, promoted));
+                }
+                column = column.saturating_add(1);
+                promoted = false;
+            }
+        }
+    }
+    cells
+}
+
+/// The position of a board as in SFEN, with a letter for each piece held.
+pub fn position(text: &[u8], held: &[u8], side: Color) -> Result<Position, &'static str> {
+    let mut hands = Hands::none();
+    for letter in held {
+        if let Some(kind) = kind(*letter) {
+            let side = color(*letter);
+            hands = hands.with(side, kind, hands.count(side, kind).saturating_add(1));
+        }
+    }
+    match Position::new(board(text), hands, side) {
+        Ok(position) => Ok(position),
+        Err(_) => Err("a valid position"),
+    }
+}
+
+/// The square of a digit and a letter as in USI.
+fn square(file: u8, rank: u8) -> Square {
+    let number = Square::new(file.saturating_sub(b'0'), rank.saturating_sub(b'a' - 1));
+    number.unwrap_or(Square::of_index(0))
+}
+
+/// The move of a text as in USI, with a space behind a shorter one.
+pub fn read(text: &[u8; 5]) -> Move {
+    let to = square(text[2], text[3]);
+    match kind(text[0]) {
+        Some(kind) => Move::Drop { kind, to },
+        None => Move::Board {
+            from: square(text[0], text[1]),
+            to,
+            promote: text[4] == b'+',
+        },
+    }
+}
+
+/// The first of the moves that is judged otherwise than said.
+fn misjudged(p: &Position, moves: &[(&[u8; 5], bool)]) -> Option<[u8; 5]> {
+    for (text, legal) in moves {
+        if is_legal(p, read(text)) != *legal {
+            return Some(**text);
+        }
+    }
+    None
+}
+
+/// Published numbers of sequences of moves.
+#[test]
+fn counts(rt: HostRuntime) -> Result<(), Fail> {
+    let start = Position::start();
+    let most = position(
+        b"R8/2K1S1SSk/4B4/9/9/9/9/9/1L1L1L3",
+        b"RBGSNLPgggnnnppppppppppppppppp",
+        Black,
+    )?;
+    let middle = position(
+        b"l6nl/5+P1gk/2np1S3/p1p4Pp/3P2Sp1/1PPb2P1P/P5GS1/R8/LN4bKL",
+        b"RGgsnppppp",
+        White,
+    )?;
+    for (p, depth, count) in [
+        (start, 0, 1),
+        (start, 1, 30),
+        (start, 2, 900),
+        (start, 3, 25470),
+        (most, 1, 593),
+        (middle, 1, 207),
+        (middle, 2, 28684),
+    ] {
+        assert_eq!(rt; perft(&p, depth), Some(count), "at depth {depth}");
+    }
+    Ok(())
+}
+
+/// JSA playing rules: pieces, promotion, drops and prohibited moves.
+#[test]
+fn moves(rt: HostRuntime) -> Result<(), Fail> {
+    let shut = position(b"7nk/9/7G1/9/9/9/9/9/9", b"PL", Black)?;
+    let wrong = misjudged(
+        &shut,
+        &[(b"P*1b ", false), (b"L*1b ", true), (b"P*1c ", true)],
+    );
+    assert_eq!(rt; wrong, None, "mate by the drop of a pawn");
+    let open = position(b"8k/9/7G1/9/9/9/9/9/9", b"P", Black)?;
+    let wrong = misjudged(&open, &[(b"P*1b ", true)]);
+    assert_eq!(rt; wrong, None, "check by the drop of a pawn");
+    let pawn = position(b"4k4/9/9/9/4P4/9/9/9/4K4", b"PN", Black)?;
+    let wrong = misjudged(
+        &pawn,
+        &[
+            (b"P*5d ", false),
+            (b"P*4d ", true),
+            (b"P*4a ", false),
+            (b"P*4b ", true),
+            (b"N*4b ", false),
+            (b"N*4c ", true),
+            (b"G*4d ", false),
+            (b"P*5a ", false),
+            (b"5e5d ", true),
+            (b"5e5d+", false),
+            (b"5e5c ", false),
+            (b"4d4c ", false),
+            (b"5a5b ", false),
+            (b"5i5h+", false),
+        ],
+    );
+    assert_eq!(rt; wrong, None, "a pawn on the file");
+    let promoted = position(b"4k4/9/9/9/4+P4/9/9/9/4K4", b"P", Black)?;
+    let wrong = misjudged(
+        &promoted,
+        &[(b"P*5d ", true), (b"5e4e ", true), (b"5e5d+", false)],
+    );
+    assert_eq!(rt; wrong, None, "a promoted pawn on the file");
+    let zone = position(b"k8/7LP/2S2N3/9/9/9/9/9/4K4", b"", Black)?;
+    let wrong = misjudged(
+        &zone,
+        &[
+            (b"1b1a ", false),
+            (b"1b1a+", true),
+            (b"2b2a ", false),
+            (b"2b2a+", true),
+            (b"4c3a ", false),
+            (b"4c3a+", true),
+            (b"7c7b ", true),
+            (b"7c7b+", true),
+            (b"7c6d+", true),
+        ],
+    );
+    assert_eq!(rt; wrong, None, "promotion");
+    Ok(())
+}
+
+/// JSA playing rules, check.
+#[test]
+fn checks(rt: HostRuntime) -> Result<(), Fail> {
+    let pinned = position(b"4r3k/9/9/9/9/9/9/4G4/4K4", b"", Black)?;
+    let single = position(b"4r3k/9/9/9/9/9/9/9/4K4", b"P", Black)?;
+    let double = position(b"4r3k/9/9/9/8b/9/9/9/4KG3", b"P", Black)?;
+    let kingless = position(b"4r3k/9/9/9/9/9/9/9/4G4", b"", Black)?;
+    let stuck = position(b"8k/6G2/7G1/9/9/9/9/9/9", b"", White)?;
+    for (p, check, legal) in [
+        (pinned, false, true),
+        (single, true, true),
+        (double, true, true),
+        (kingless, false, true),
+        (stuck, false, false),
+    ] {
+        assert_eq!(rt; (in_check(&p), has_legal(&p)), (check, legal));
+    }
+    let wrong = misjudged(
+        &pinned,
+        &[(b"5h4h ", false), (b"5h5g ", true), (b"5i4i ", true)],
+    );
+    assert_eq!(rt; wrong, None, "a pinned piece");
+    let wrong = misjudged(
+        &single,
+        &[
+            (b"P*5e ", true),
+            (b"P*4e ", false),
+            (b"5i5h ", false),
+            (b"5i4i ", true),
+        ],
+    );
+    assert_eq!(rt; wrong, None, "a check");
+    let wrong = misjudged(
+        &double,
+        &[
+            (b"P*5e ", false),
+            (b"4i4h ", false),
+            (b"5i6i ", true),
+            (b"5i4h ", false),
+        ],
+    );
+    assert_eq!(rt; wrong, None, "a double check");
+    let king = square(b'5', b'i');
+    let beside = square(b'4', b'i');
+    assert!(rt; is_attacked(&single, king, White) && !is_attacked(&single, beside, White));
+    assert!(rt; !is_attacked(&single, king, Black));
+    Ok(())
+}
+
+/// The first moves by code, and a captured promoted pawn.
+#[test]
+fn steps(rt: HostRuntime) -> Result<(), Fail> {
+    let start = Position::start();
+    let first = next_legal(&start, None).ok_or("a move")?;
+    assert_eq!(rt; first, read(b"1g1f "));
+    let second = next_legal(&start, Some(first)).ok_or("a second move")?;
+    assert_eq!(rt; second, read(b"1i1h "));
+    let p = position(b"4k4/9/9/4+p4/4P4/9/9/9/4K4", b"", Black)?;
+    let after = play(&p, read(b"5e5d ")).ok_or("a legal capture")?;
+    assert_eq!(rt; (after.hand(Black, Kind::Pawn), after.side()), (1, White));
+    assert!(rt;
+        play(&p, read(b"5e5c ")).is_none(),
+        "a pawn goes one square"
+    );
+    Ok(())
+}
+
+/// The only capture of a position, and an opening without one.
+#[test]
+fn captures(rt: HostRuntime) -> Result<(), Fail> {
+    let p = position(b"4k4/9/9/4+p4/4P4/9/9/9/4K4", b"P", Black)?;
+    let taking = next_capture(&p, None).ok_or("a capture")?;
+    assert_eq!(rt; taking, read(b"5e5d "));
+    assert!(rt; next_capture(&p, Some(taking)).is_none());
+    let other = next_quiet(&p, None).ok_or("another move")?;
+    assert_eq!(rt; other, read(b"5i4h "));
+    let start = Position::start();
+    assert!(rt; next_capture(&start, None).is_none());
+    let quiet = next_quiet(&start, None).ok_or("a move")?;
+    assert_eq!(rt; quiet, read(b"1g1f "));
+    Ok(())
+}
+
+/// Whether it is told without making the move that it leaves a reply.
+fn leaves_reply(board: &[u8], text: &[u8; 5]) -> Result<bool, Fail> {
+    let p = position(board, b"", Black)?;
+    let m = read(text);
+    if !is_legal(&p, m) {
+        return Err("a legal move".into());
+    }
+    Ok(Replies::of(&p).is_certain(&p, &m))
+}
+
+/// A silver leaves the file of the king of the other side, with nothing behind it that slides, with a
+/// rook that then gives check, or with a bishop elsewhere.
+#[test]
+fn moves_off_a_line_of_a_king(rt: HostRuntime) -> Result<(), Fail> {
+    for (board, certain) in [
+        (&b"4k4/9/7p1/9/4S4/9/9/9/K3G4"[..], true),
+        (b"4k4/9/7p1/9/4S4/9/9/9/K3R4", false),
+        (b"4k4/9/2p4p1/9/B1P1S4/9/9/9/K8", true),
+        (b"4k4/9/7p1/9/4S4/9/9/4P4/K3R4", true),
+        (b"4k4/4p4/7p1/9/4S4/9/9/9/K3R4", true),
+    ] {
+        assert_eq!(rt; leaves_reply(board, b"5e4d ")?, certain, "{board:?}");
+    }
+    let other = b"4k4/9/7p1/9/4S4/9/9/9/K3R4";
+    assert!(rt; leaves_reply(other, b"9i8h ")?, "the king elsewhere");
+    let lance = b"4k4/9/7p1/9/9/9/9/4S4/K3L4";
+    assert!(rt; !leaves_reply(lance, b"5h4g ")?, "a lance behind");
+    Ok(())
+}

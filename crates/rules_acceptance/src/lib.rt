@@ -1,0 +1,17 @@
+//! Tests of the pieces and positions, of SFEN, of the rules and of the values: what is known from elsewhere.
+#![tactic(auto)]
+
+#[cfg(test)]
+mod comparison;
+#[cfg(test)]
+mod evaluation;
+#[cfg(test)]
+mod legal_moves;
+#[cfg(test)]
+mod passes;
+#[cfg(test)]
+mod pieces;
+#[cfg(test)]
+mod plain;
+#[cfg(test)]
+mod sfen;

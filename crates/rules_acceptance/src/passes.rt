@@ -1,0 +1,42 @@
+//! Moves of one sort that are passed in a row.
+
+use crate::legal_moves::{position, read};
+use shogi_core::Color::Black;
+use shogi_core::Position;
+use shogi_moves::{BoardSweep, DropSweep, Replies, guard_of};
+use std::test::Fail;
+
+/// Each of the 30 moves of the opening position takes nothing, promotes nothing and is answered.
+#[test]
+fn quiet_moves_of_the_opening_position(rt: HostRuntime) -> Result<(), Fail> {
+    let p = Position::start();
+    let replies = Replies::of(&p);
+    let mut sweep = BoardSweep::new(&p, guard_of(&p), false);
+    assert_eq!(rt; sweep.pass_quiets(&p, &replies, 7), 7);
+    assert_eq!(rt; sweep.pass_quiets(&p, &replies, 100), 23);
+    assert!(rt; sweep.next(&p, false).is_none());
+    Ok(())
+}
+
+/// The pawn on 6e has one move, and no line of the king goes there. The next to move is the pawn on 7d,
+/// which may promote.
+#[test]
+fn quiet_moves_up_to_a_promotion(rt: HostRuntime) -> Result<(), Fail> {
+    let p = position(b"8k/9/9/2P6/3P3p1/9/9/K8/9", b"", Black)?;
+    let replies = Replies::of(&p);
+    let mut sweep = BoardSweep::new(&p, guard_of(&p), false);
+    assert_eq!(rt; sweep.pass_quiets(&p, &replies, 100), 1);
+    assert!(rt; sweep.next(&p, false) == Some(read(b"7d7c ")));
+    Ok(())
+}
+
+/// No line of the king on 5a goes to 1b, 1c and 1d, the first squares where a pawn can be dropped.
+#[test]
+fn drops_of_a_pawn(rt: HostRuntime) -> Result<(), Fail> {
+    let p = position(b"4k4/9/9/9/7p1/9/9/9/K8", b"P", Black)?;
+    let replies = Replies::of(&p);
+    let mut sweep = DropSweep::new(&p, guard_of(&p));
+    assert_eq!(rt; sweep.pass_certain(&p, &replies, 2), 2);
+    assert!(rt; sweep.next(&p) == Some(read(b"P*1d ")));
+    Ok(())
+}

@@ -1,0 +1,146 @@
+//! Worked texts and what they say, from the formats' own examples.
+
+use shogi_core::{Color, Kind, Position};
+use shogi_sfen::{
+    SfenFault, read_move, read_number, read_position, words, write_move, write_position,
+};
+use std::test::Fail;
+
+/// The opening position.
+const START: &str = "lnsgkgsnl/1r5b1/ppppppppp/9/9/9/PPPPPPPPP/1B5R1/LNSGKGSNL b -";
+
+/// A position with White to move, and a number after it.
+const MIDDLE_GAME: &str =
+    "8l/1l+R2P3/p2pBG1pp/kps1p4/Nn1P2G2/P1P1P2PP/1PS6/1KSG3+r1/LN2+p3L w Sbgn3p 124";
+
+/// The position of a text.
+fn position(text: &str) -> Result<Position, SfenFault> {
+    let (position, _) = read_position(text.as_bytes())?;
+    Ok(position)
+}
+
+#[test]
+fn moves_of_texts(rt: HostRuntime) -> Result<(), Fail> {
+    for (text, code) in [
+        ("1a1b", 2),
+        ("1g1f", 982),
+        ("7g7f", (60 * 81 + 59) * 2),
+        ("8h2b+", (70 * 81 + 10) * 2 + 1),
+        ("G*5b", 13_483),
+        ("1a1a", 0),
+        ("5e5e+", (40 * 81 + 40) * 2 + 1),
+        ("R*9i", 13_688),
+    ] {
+        let m = read_move(text.as_bytes()).ok_or("a move text")?;
+        let again = m;
+        assert_eq!(rt; again.code(), code);
+        assert_eq!(rt; write_move(m).as_slice(), text.as_bytes());
+    }
+    Ok(())
+}
+
+#[test]
+fn texts_of_no_move(rt: HostRuntime) {
+    for text in [
+        "7g7", "7g7f++", "p*5e", "K*5e", "0a1a", "7g7f=", "7g7j", "G*5j", "",
+    ] {
+        assert!(rt; read_move(text.as_bytes()).is_none());
+    }
+}
+
+#[test]
+fn words_and_the_rest(rt: HostRuntime) -> Result<(), Fail> {
+    let mut rest = words(b" \tgo  depth\t3 ");
+    assert_eq!(rt; rest.next().ok_or("a word")?, b"go".as_slice());
+    assert_eq!(rt; rest.rest(), b"  depth\t3 ".as_slice());
+    assert_eq!(rt; rest.next().ok_or("a word")?, b"depth".as_slice());
+    assert_eq!(rt; rest.next().ok_or("a word")?, b"3".as_slice());
+    assert!(rt; rest.next().is_none());
+    assert_eq!(rt; rest.rest(), b" ".as_slice());
+    Ok(())
+}
+
+#[test]
+fn numbers_of_any_length(rt: HostRuntime) {
+    assert_eq!(rt; read_number(b"007", 16), Some(7));
+    assert_eq!(rt; read_number(b"18446744073709551617", 16), Some(16));
+    assert_eq!(rt; read_number(b"", 16), None);
+    assert_eq!(rt; read_number(b"1x", 16), None);
+}
+
+#[test]
+fn ends_of_positions(rt: HostRuntime) -> Result<(), Fail> {
+    for (text, index) in [
+        ("9/9/9/9/9/9/9/9/9 b - 12 moves", 24),
+        ("9/9/9/9/9/9/9/9/9 b - moves", 21),
+        (" 9/9/9/9/54/9/9/9/9 b\tPP1G2P", 28),
+        (MIDDLE_GAME, 78),
+    ] {
+        let (_, end) = read_position(text.as_bytes())?;
+        assert_eq!(rt; end, index);
+    }
+    Ok(())
+}
+
+#[test]
+fn positions_of_texts(rt: HostRuntime) -> Result<(), Fail> {
+    assert!(rt; position(START)? == Position::start());
+    let held = position("9/9/9/9/54/9/9/9/9 b PP1G2P2p")?;
+    assert_eq!(rt; held.hand(Color::Black, Kind::Pawn), 4);
+    assert_eq!(rt; held.hand(Color::White, Kind::Pawn), 2);
+    assert_eq!(rt; held.hand(Color::Black, Kind::Gold), 1);
+    Ok(())
+}
+
+#[test]
+fn texts_of_positions(rt: HostRuntime) -> Result<(), Fail> {
+    for (text, written) in [
+        (START, START),
+        (
+            MIDDLE_GAME,
+            "8l/1l+R2P3/p2pBG1pp/kps1p4/Nn1P2G2/P1P1P2PP/1PS6/1KSG3+r1/LN2+p3L w Sbgn3p",
+        ),
+        ("9/9/9/9/54/9/9/9/9 b PP1G2P", "9/9/9/9/9/9/9/9/9 b G4P"),
+        ("9/9/9/9/9/9/9/9/9 w - 12 moves", "9/9/9/9/9/9/9/9/9 w -"),
+        ("9/9/9/9/9/9/9/9/9 b 2b18Pr", "9/9/9/9/9/9/9/9/9 b 18Pr2b"),
+    ] {
+        assert_eq!(rt;
+            write_position(&position(text)?).as_slice(),
+            written.as_bytes()
+        );
+    }
+    Ok(())
+}
+
+#[test]
+fn faults_of_texts(rt: HostRuntime) {
+    for (text, number) in [
+        ("", 1),
+        ("9/9/9/9/9/9/9/9/91 x 0P", 1),
+        ("9/9/9/9/9/9/9/9 b -", 1),
+        ("9/9/9/9/9/9/9/9/9/9 b -", 1),
+        ("9/9/9/9//9/9/9/9 b -", 1),
+        ("+K8/9/9/9/9/9/9/9/9 b -", 1),
+        ("+G8/9/9/9/9/9/9/9/9 b -", 1),
+        ("8+/9/9/9/9/9/9/9/9 b -", 1),
+        ("9/9/9/9/9/9/9/9/9", 2),
+        ("9/9/9/9/9/9/9/9/9 b-", 2),
+        ("9/9/9/9/9/9/9/9/9 W 0P", 2),
+        ("9/9/9/9/9/9/9/9/9 b", 3),
+        ("9/9/9/9/9/9/9/9/9 b 0P", 3),
+        ("9/9/9/9/9/9/9/9/9 b 256P2", 3),
+        ("9/9/9/9/9/9/9/9/9 b K", 3),
+        ("9/9/9/9/9/9/9/9/9 b 19P", 4),
+        ("9/9/9/9/9/9/9/9/9 b 256P", 4),
+        ("9/9/9/9/9/9/9/9/9 b 18446744073709551617L", 4),
+        ("4k4/9/9/9/9/9/9/9/3KK4 b -", 5),
+        ("4k4/9/9/4P4/9/4P4/9/9/4K4 b -", 6),
+        ("4k4/9/9/9/9/9/9/9/4p3K b -", 7),
+        ("4k4/4P4/9/9/9/9/9/9/9 b -", 8),
+    ] {
+        match position(text) {
+            Ok(_) => assert_eq!(rt; 0, number),
+            Err(fault) => assert_eq!(rt; fault.number(), number),
+        }
+    }
+}

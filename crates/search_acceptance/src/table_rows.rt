@@ -1,0 +1,257 @@
+ghost use Rattle.std.specs.Prelude.{◌≤◌};
+ghost use Rattle.shogi_search.specs.declared.bounds.TheConstants.{SEARCH_DEPTH_MAX};
+
+use linked_list_allocator::LocalHeap;
+use lru::DefaultHasher;
+use shared_table::{SharedTable, TableFault, TableKey};
+use shogi_core::{Color, Hands, KINDS, Kind, Move, Piece, Position, Role};
+use shogi_eval::Eval;
+use shogi_search::{Entry, Memo, NoMemo, search};
+use std::alloc::{Allocator, Global};
+use std::hash::BuildHasher;
+use std::test::Fail;
+
+// Notes what a search at the depth finds.
+fn note_search<M: Memo>(table: &mut M, p: &Position, depth: u8)
+    requires { depth ≤ SEARCH_DEPTH_MAX }
+{
+    let found = search(p, Eval::Plain, depth, &mut NoMemo);
+    table.note(p, Eval::Plain, depth, Entry::Exact(found.value, found.best));
+}
+
+// The depths of the entries, from the most recently used, as decimal digits.
+fn depths<S: BuildHasher, A: Allocator>(table: &SharedTable<S, A>) -> u64 {
+    let mut digits: u64 = 0;
+    for (key, _) in table.entries() {
+        digits = digits.saturating_mul(10).saturating_add(key.depth() as u64);
+    }
+    digits
+}
+
+#[test]
+fn the_least_recently_used_drops_out(rt: HostRuntime) -> Result<(), Fail> {
+    let p = Position::start();
+    let mut table = SharedTable::new(rt.alloc(), 2, DefaultHasher::new())?;
+    assert_eq!(rt; table.probe(&p, Eval::Plain, 0), None);
+    note_search(&mut table, &p, 0);
+    note_search(&mut table, &p, 1);
+    assert_eq!(rt; depths(&table), 10);
+    assert_eq!(rt;
+        table.probe(&p, Eval::Plain, 0),
+        Some(Entry::Exact(0, None))
+    );
+    assert_eq!(rt; depths(&table), 1);
+    note_search(&mut table, &p, 2);
+    assert_eq!(rt; depths(&table), 20);
+    assert_eq!(rt; table.len(), 2);
+    assert_eq!(rt; table.peek(&p, Eval::Plain, 1), None);
+    assert_eq!(rt; table.peek(&p, Eval::Plain, 0), Some(Entry::Exact(0, None)));
+    assert_eq!(rt;
+        table.peek(&p, Eval::Plain, 2),
+        Some(Entry::Exact(0, Move::of_code(982)))
+    );
+    assert_eq!(rt; depths(&table), 20);
+    note_search(&mut table, &p, 1);
+    assert_eq!(rt; depths(&table), 12);
+    assert_eq!(rt; table.probe(&p, Eval::Plain, 0), None);
+    note_search(&mut table, &p, 2);
+    assert_eq!(rt; depths(&table), 21);
+    Ok(())
+}
+
+// All promoted pieces, at the ends of the words, with all else in hand: White to move.
+fn promoted() -> Result<Position, Fail> {
+    let pieces = [
+        (0, Color::Black, Role::PromotedPawn),
+        (11, Color::Black, Role::PromotedLance),
+        (12, Color::Black, Role::PromotedKnight),
+        (23, Color::Black, Role::PromotedSilver),
+        (24, Color::Black, Role::Horse),
+        (35, Color::Black, Role::Dragon),
+        (47, Color::White, Role::PromotedPawn),
+        (59, Color::White, Role::PromotedLance),
+        (60, Color::White, Role::PromotedKnight),
+        (71, Color::White, Role::PromotedSilver),
+        (72, Color::White, Role::Horse),
+        (80, Color::White, Role::Dragon),
+    ];
+    let mut cells = [None; 81];
+    for &(index, color, role) in &pieces {
+        let square: usize = index;
+        if square < 81 {
+            cells[square] = Some(Piece { color, role });
+        }
+    }
+    let held = [
+        (Color::Black, Kind::Pawn, 9),
+        (Color::Black, Kind::Lance, 1),
+        (Color::Black, Kind::Silver, 2),
+        (Color::Black, Kind::Gold, 3),
+        (Color::White, Kind::Pawn, 7),
+        (Color::White, Kind::Lance, 1),
+        (Color::White, Kind::Knight, 2),
+        (Color::White, Kind::Gold, 1),
+    ];
+    let mut hands = Hands::none();
+    for &(color, kind, count) in &held {
+        hands = hands.with(color, kind, count);
+    }
+    Ok(Position::new(cells, hands, Color::White)?)
+}
+
+// The words by a script that knows only the rule: digits in base 32, the first the lowest.
+#[test]
+fn words_of_keys(rt: HostRuntime) -> Result<(), Fail> {
+    let start = TableKey::of(&Position::start(), Eval::Plain, 3);
+    assert_eq!(rt;
+        start.words(),
+        [
+            600741269727100945,
+            17612729810944,
+            216243151395492866,
+            577165541404327951,
+            17612788531200,
+            152066856728466434,
+            3300682383377,
+            0,
+            0,
+            12
+        ]
+    );
+    let late = TableKey::of(&promoted()?, Eval::Hand, 16);
+    assert_eq!(rt;
+        late.words(),
+        [
+            360287970189639689,
+            432345564227567627,
+            504403158265495565,
+            828662331436171264,
+            864691128455135232,
+            936748722493063193,
+            30786325577755,
+            3211305,
+            1050663,
+            67
+        ]
+    );
+    Ok(())
+}
+
+// What a key was made of is had again.
+#[test]
+fn keys_are_had_again(rt: HostRuntime) -> Result<(), Fail> {
+    for p in [Position::start(), promoted()?] {
+        for eval in [Eval::Plain, Eval::Hand] {
+            let key = TableKey::of(&p, eval, 200);
+            assert!(rt; key.position() == p);
+            assert_eq!(rt; (key.eval(), key.depth()), (eval, 200));
+        }
+    }
+    Ok(())
+}
+
+// A key, and those that differ from it in one square, in one count, in the side, in the evaluation or in
+// the depth.
+#[test]
+fn keys_that_differ(rt: HostRuntime) -> Result<(), Fail> {
+    let p = promoted()?;
+    let key = TableKey::of(&p, Eval::Plain, 3);
+    assert!(rt; key.is_same(&TableKey::of(&p, Eval::Plain, 3)));
+    assert!(rt; !key.is_same(&TableKey::of(&p, Eval::Plain, 4)));
+    assert!(rt; !key.is_same(&TableKey::of(&p, Eval::Hand, 3)));
+    let cells = *p.board().cells();
+    for index in 0..81usize {
+        let mut others = cells;
+        others[index] = match cells[index] {
+            Some(_) => None,
+            None => Some(Piece {
+                color: Color::White,
+                role: Role::King,
+            }),
+        };
+        let other = Position::new(others, p.hands(), Color::White)?;
+        assert!(rt;
+            !key.is_same(&TableKey::of(&other, Eval::Plain, 3)),
+            "square {index}"
+        );
+    }
+    for color in [Color::Black, Color::White] {
+        for kind in KINDS {
+            let count = p.hand(color, kind);
+            let fewer = if count > 0 { count - 1 } else { 1 };
+            let cells = if count > 0 { cells } else { [None; 81] };
+            let (had, has) = (
+                Position::new(cells, p.hands(), Color::White)?,
+                Position::new(cells, p.hands().with(color, kind, fewer), Color::White)?,
+            );
+            let same = TableKey::of(&had, Eval::Plain, 3).is_same(&TableKey::of(
+                &has,
+                Eval::Plain,
+                3,
+            ));
+            assert!(rt; !same, "{color:?} {kind:?}");
+        }
+    }
+    let turned = Position::new(cells, p.hands(), Color::Black)?;
+    assert!(rt; !key.is_same(&TableKey::of(&turned, Eval::Plain, 3)));
+    Ok(())
+}
+
+// A full table takes at most 200 bytes an entry, the room in the map included.
+#[test]
+fn bytes_of_a_full_table(rt: HostRuntime) -> Result<(), Fail> {
+    let heap = LocalHeap::new(rt.alloc(), 4096 * 256)?;
+    let mut table = SharedTable::new(&heap, 4096, DefaultHasher::new())?;
+    let hands = Hands::none();
+    'fill: for black in 0..81usize {
+        for white in 0..81usize {
+            let mut cells = [None; 81];
+            cells[black] = Some(Piece {
+                color: Color::Black,
+                role: Role::Gold,
+            });
+            cells[white] = Some(Piece {
+                color: Color::White,
+                role: Role::Silver,
+            });
+            note_search(&mut table, &Position::new(cells, hands, Color::Black)?, 0);
+            if table.len() == 4096 {
+                break 'fill;
+            }
+        }
+    }
+    assert_eq!(rt; table.len(), 4096);
+    assert!(rt; heap.used() <= 4096 * 200, "{}", heap.used());
+    Ok(())
+}
+
+// A note that finds no memory stores nothing, and one of a key that is there needs none.
+#[test]
+fn refused_memory(rt: HostRuntime) -> Result<(), Fail> {
+    let p = Position::start();
+    let (mut unmade, mut dropped, mut kept) = (false, false, false);
+    for blocks in 0..80usize {
+        let heap = LocalHeap::new(rt.alloc(), blocks * 32)?;
+        match SharedTable::new(&heap, 2, DefaultHasher::new()) {
+            Err(fault) => {
+                assert_eq!(rt; fault, TableFault::OutOfMemory);
+                unmade = true;
+            }
+            Ok(mut table) => {
+                note_search(&mut table, &p, 0);
+                note_search(&mut table, &p, 1);
+                if depths(&table) == 10 && table.len() == 2 {
+                    kept = true;
+                } else {
+                    dropped = true;
+                }
+                note_search(&mut table, &p, 0);
+                if table.len() > 0 {
+                    assert_eq!(rt; table.peek(&p, Eval::Plain, 0), Some(Entry::Exact(0, None)));
+                }
+            }
+        }
+    }
+    assert!(rt; unmade && dropped && kept, "{unmade} {dropped} {kept}");
+    Ok(())
+}
