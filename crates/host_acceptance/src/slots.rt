@@ -1,3 +1,5 @@
+//! Slots of sessions.
+
 use session_slots::{SessionId, SlotFault, Slots};
 use std::test::Fail;
 

@@ -1,3 +1,5 @@
+//! Two sessions of a host by turns.
+
 use host_core::{Event, Host, Outcome};
 use std::hash::{BuildHasherDefault, FoldHasher};
 use std::test::Fail;

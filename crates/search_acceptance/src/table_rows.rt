@@ -1,3 +1,5 @@
+//! A shared table: what it stores, forgets and finds, and its size.
+
 ghost use Rattle.std.specs.Prelude.{◌≤◌};
 ghost use Rattle.shogi_search.specs.declared.bounds.TheConstants.{SEARCH_DEPTH_MAX};
 
