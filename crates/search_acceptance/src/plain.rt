@@ -2,7 +2,7 @@
 
 use shogi_core::{Move, Position};
 use shogi_eval::{Eval, material};
-use shogi_moves::{Walk, apply, has_legal};
+use shogi_moves::{Replies, Walk, apply, has_legal};
 use shogi_search::{Found, INFINITY, MATE};
 use std::alloc::{AllocError, Global};
 
@@ -131,12 +131,14 @@ impl Notes {
     }
 }
 
-/// A legal move, where it leads, and when it is visited: 0 the hash move, 1 a capture, 2 a quiet move.
+/// A legal move, where it leads, when it is visited (0 the hash move, 1 a capture, 2 a quiet move), and
+/// whether the other side surely has a legal move after it.
 #[derive(Clone, Copy, Debug)]
 pub struct Branch {
     pub code: u16,
     pub position: Position,
     pub turn: u8,
+    is_answered: bool,
 }
 
 /// When a move is visited.
@@ -158,12 +160,14 @@ pub fn branches_of(
 ) -> Result<Vec<Branch>, AllocError> {
     let mut branches = Vec::new(alloc);
     let mut walk = Walk::new(p);
+    let replies = Replies::of(p);
     'moves: while let Some(m) = walk.next() {
         let tried = m;
         branches.push(Branch {
             code: m.code(),
             position: apply(p, tried),
             turn: turn_of(p, &m, hash_move),
+            is_answered: replies.is_certain(p, &m),
         })?;
     }
     Ok(branches)
@@ -180,6 +184,21 @@ fn threshold(best_value: i32, best: Option<u16>, code: u16) -> i32 {
         Some(b) if code < b => best_value.saturating_sub(1),
         _ => best_value,
     }
+}
+
+/// What a move that surely is answered is worth at most, two plies before the end: with its answer the
+/// other side keeps its material, but for a tenth of a rook where a piece in hand counts for more.
+fn most_worth(branch: &Branch, e: Eval) -> i32 {
+    let lost = match e {
+        Eval::Plain => 0,
+        Eval::Hand => 100,
+    };
+    i32::saturating_sub(lost, material(&branch.position, e))
+}
+
+/// Whether a move is left out: two plies before the end, where it surely is not worth enough.
+fn is_left_out(branch: &Branch, e: Eval, depth: u8, threshold: i32) -> bool {
+    depth == 2 && branch.is_answered && most_worth(branch, e) <= threshold
 }
 
 /// Whether what is known says enough for a window.
@@ -216,8 +235,8 @@ fn visit(
     let (mut best_value, mut best) = (alpha, None);
     for turn in 0..3u8 {
         for branch in branches.as_slice() {
-            if branch.turn == turn {
-                let threshold = threshold(best_value, best, branch.code);
+            let threshold = threshold(best_value, best, branch.code);
+            if branch.turn == turn && !is_left_out(branch, e, depth, threshold) {
                 let (under, over) = (beta.saturating_neg(), threshold.saturating_neg());
                 let entry = match notes.answer(&branch.position, e, below, under, over)? {
                     Some(entry) => entry,
@@ -302,6 +321,7 @@ pub fn minimax(p: &Position, e: Eval, depth: u8) -> Found {
         return found;
     }
     let mut walk = Walk::new(p);
+    let replies = Replies::of(p);
     'moves: while let Some(m) = walk.next() {
         let tried = m;
         let below = minimax(&apply(p, tried), e, depth - 1);

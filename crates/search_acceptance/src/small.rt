@@ -180,7 +180,7 @@ fn horse_and_silver(rt: HostRuntime) -> Result<(), Fail> {
 fn steps_from_the_opening(rt: HostRuntime) {
     let start = Position::start();
     assert_eq!(rt; search(&start, Eval::Plain, 1, &mut NoMemo).steps, 62);
-    assert_eq!(rt; search(&start, Eval::Plain, 2, &mut NoMemo).steps, 180);
+    assert_eq!(rt; search(&start, Eval::Plain, 2, &mut NoMemo).steps, 64);
     let third = search(&start, Eval::Plain, 3, &mut NoMemo).steps;
     assert!(rt; third <= 26401, "{third} steps");
     assert!(rt; third <= 2500, "{third} steps");

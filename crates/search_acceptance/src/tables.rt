@@ -77,13 +77,9 @@ fn two_entries(rt: HostRuntime) -> Result<(), Fail> {
     Ok(())
 }
 
-// With each child known, the root is entered, each child is answered, and the root is left.
-fn assert_known_children(
-    rt: &impl Abort,
-    alloc: Global,
-    root: &Position,
-    depth: u8,
-) -> Result<(), Fail>
+/// The steps of a search of the root where each child is known: it is entered, those of its children
+/// that are not left out are answered, and it is left.
+fn steps_over_children(alloc: Global, root: &Position, depth: u8) -> Result<u64, Fail>
     requires { depth ≤ 15 }
 {
     let mut table = table_of(alloc, 100000)?;
@@ -91,22 +87,28 @@ fn assert_known_children(
     for p in after.as_slice() {
         search(p, Eval::Plain, depth, &mut table);
     }
-    let found = search(root, Eval::Plain, depth + 1, &mut table);
-    let steps = (after.len() as u64).saturating_add(2);
-    assert_eq!(rt; found.steps, steps, "children at depth {depth}");
-    Ok(())
+    Ok(search(root, Eval::Plain, depth + 1, &mut table).steps)
 }
 
+// No move of the opening position takes a piece, and each surely has a reply: so at depth 2 the first
+// child is answered, and the others are left out. With two pawns, each before its king, none surely has.
 #[test]
 fn children_searched_before(rt: HostRuntime) -> Result<(), Fail> {
-    let start = Position::start();
-    assert_eq!(rt; children(rt.alloc(), &start)?.len(), 30);
-    for depth in 0..4u8 {
-        assert_known_children(&rt, rt.alloc(), &start, depth)?;
-    }
-    let pawns = position(TWO_PAWNS)?;
-    for depth in 0..8u8 {
-        assert_known_children(&rt, rt.alloc(), &pawns, depth)?;
+    let roots = [
+        (Position::start(), 30, 1, 4u8),
+        (position(TWO_PAWNS)?, 5, 5, 8),
+    ];
+    for (root, count, answered_at_two, depths) in &roots {
+        assert_eq!(rt; children(rt.alloc(), root)?.len(), *count);
+        for depth in 0..*depths {
+            let answered: usize = if depth == 1 { *answered_at_two } else { *count };
+            let steps = steps_over_children(rt.alloc(), root, depth)?;
+            assert_eq!(rt;
+                steps,
+                (answered as u64).saturating_add(2),
+                "children at depth {depth}"
+            );
+        }
     }
     Ok(())
 }
@@ -138,10 +140,11 @@ fn left_of(alloc: Global, root: &Position, depth: u8) -> Result<(usize, usize), 
 fn children_left_in_the_table(rt: HostRuntime) -> Result<(), Fail> {
     let start = Position::start();
     assert_eq!(rt; left_of(rt.alloc(), &start, 2)?, (30, 2));
-    for depth in [1, 3] {
+    // Two plies before the end the first child is searched, and the others are left out.
+    for (depth, entries) in [(1u8, 1usize), (3, 30)] {
         assert_eq!(rt;
             left_of(rt.alloc(), &start, depth)?.0,
-            30,
+            entries,
             "at depth {depth}"
         );
     }

@@ -11,8 +11,10 @@ pub mod OrderLaws
 pub mod Entries
 pub mod Searches
 pub mod Nodes
+pub mod Ahead
 pub mod Passed
 pub mod Chains
 pub mod Places
+pub mod Known
 pub mod RankedLaws
 pub mod RankedUse

@@ -22,7 +22,7 @@ use Rattle.shogi_search.specs.Order.{todo}
 use Rattle.shogi_search.specs.Visits.{IsOver, IsFree}
 use Rattle.shogi_search.proofs.Nodes.{asked, waits}
 use Rattle.shogi_search.proofs.Entries.{same_window, same_truth}
-use Rattle.shogi_search.proofs.Chains.{IsChild, IsPopped, popped, chain_same, chain_height, same_asked, left_above, left_same, left_next, pushed}
+use Rattle.shogi_search.proofs.Chains.{IsChild, IsPopped, popped, chain_same, chain_height, same_asked, left_above, left_same, pushed}
 use Rattle.shogi_search.specs.declared.bounds.TheConstants.{SEARCH_DEPTH_MAX, INFINITY}
 
 -- this frame is on top of the stack
@@ -246,14 +246,14 @@ left_visited s m f g n is last l =
     omega (arith, left_changed s f g is, l, size))
 
 -- a move is asked for, and gone on with
-pub left_descended : (s t : Stack) (m : Move) (f g : Frame) (n : ℕ) → IsTop s f → IsSame f g → g.waiting ≡ Asked m → todo f.node.position f.picker ≡ code_of m ∷ todo f.node.position g.picker → OnTop (with_frame s s.height g) (λ top. left_of_stack t + n ≤ left_of_stack (with_frame s s.height g) + 2 * tree_size (after_code top.node.position (code_of m)) (top.depth - 1)) → left_of_stack t + n ≤ left_of_stack s
-left_descended s t m f g n is same asks moves l =
+pub left_descended : (s t : Stack) (m : Move) (f g : Frame) (n : ℕ) → IsTop s f → 2 * tree_size (after_code g.node.position (code_of m)) (g.depth - 1) + left_of_frame g ≤ left_of_frame f → OnTop (with_frame s s.height g) (λ top. left_of_stack t + n ≤ left_of_stack (with_frame s s.height g) + 2 * tree_size (after_code top.node.position (code_of m)) (top.depth - 1)) → left_of_stack t + n ≤ left_of_stack s
+left_descended s t m f g n is less l =
     let k : left_of_stack t + n ≤ left_of_stack (with_frame s s.height g) + 2 * tree_size (after_code g.node.position (code_of m)) (g.depth - 1) = on_top (with_frame s s.height g) g (λ (top : Frame). left_of_stack t + n ≤ left_of_stack (with_frame s s.height g) + 2 * tree_size (after_code top.node.position (code_of m)) (top.depth - 1)) (top_with s s.height g (slice_get_within s.frames s.height f is)) l in
-    omega (arith, k, left_changed s f g is, left_next f g (after_code g.node.position (code_of m)) m same.0 same.1.0 asks refl moves)
+    omega (arith, k, left_changed s f g is, less)
 
 -- no move is left to ask for
-pub over_next : (f g : Frame) → IsSame f g → g.waiting ≡ Next → todo f.node.position g.picker ≡ [] → IsOver g.waiting (todo g.node.position g.picker)
-over_next f g same next none = subst (λ (w : Waiting). IsOver w (todo g.node.position g.picker)) (sym next) (ap (λ (x : Evaluated). todo x.position g.picker) same.0 ∙ none)
+pub over_next : (g : Frame) → g.waiting ≡ Next → todo g.node.position g.picker ≡ [] → IsOver g.waiting (todo g.node.position g.picker)
+over_next g next none = subst (λ (w : Waiting). IsOver w (todo g.node.position g.picker)) (sym next) none
 
 pub over_cut : (f : Frame) (v : ℤ) → f.waiting ≡ Cut v → IsOver f.waiting (todo f.node.position f.picker)
 over_cut f v cut = subst (λ (w : Waiting). IsOver w (todo f.node.position f.picker)) (sym cut) tt

@@ -4,6 +4,7 @@ pub mod Window
 pub mod Order
 pub mod Visits
 pub mod Stack
+pub mod Entered
 pub mod Progress
 pub mod SlicedSearch
 pub mod Ranked

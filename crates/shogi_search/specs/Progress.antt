@@ -1,19 +1,21 @@
 -- A search that goes on in slices, as its caller sees it (own choice).
-use Rattle.std.specs.Prelude.{◌≡◌, ℕ, ℤ, ◌*◌, ◌≤ℤ◌, ◌<ℤ◌, Bool, false, Option, None, Some}
+use Rattle.std.specs.Prelude.{◌≡◌, ℕ, ℤ, ◌*◌, ◌≤ℤ◌, ◌<ℤ◌, Bool, false, List, [], Option, None, Some}
 use Rattle.std.specs.Option.{ForSome}
 use Rattle.shogi_core.specs.Position.{Shogi}
 use Rattle.shogi_eval.specs.declared.eval.Eval.{Eval}
 use Rattle.shogi_search.specs.declared.found.Found.{Found}
 use Rattle.shogi_search.specs.Minimax.{value, best, tree_size, negated}
+use Rattle.shogi_search.specs.Entered.{Entered}
 use Rattle.shogi_search.specs.declared.bounds.TheConstants.{INFINITY}
 
--- where it began, under which evaluation, how deep it looks, the bound below which values are found, whether its root is entered, what is left of it, its steps so far, and what it found
+-- where it began, under which evaluation, how deep it looks, the bound below which values are found, whether its root is entered, the nodes that are entered and not left, what is left of it, its steps so far, and what it found
 pub record Progress : Type 0 where
   pub root : Shogi
   pub eval : Eval
   pub depth : ℕ
   pub beta : ℤ
   pub begun : Bool
+  pub entered : List Entered
   pub left : ℕ
   pub steps : ℕ
   pub found : Option Found
@@ -24,7 +26,7 @@ left_of search = search.left
 
 -- a search before its first slice, for values below a bound
 abbrev pub untouched_below : Shogi → Eval → ℕ → ℤ → Progress
-untouched_below p e d beta = record { root = p; eval = e; depth = d; beta = beta; begun = false; left = 2 * tree_size p d; steps = 0; found = None }
+untouched_below p e d beta = record { root = p; eval = e; depth = d; beta = beta; begun = false; entered = []; left = 2 * tree_size p d; steps = 0; found = None }
 
 -- a search before its first slice, where every value is below the bound
 abbrev pub untouched : Shogi → Eval → ℕ → Progress

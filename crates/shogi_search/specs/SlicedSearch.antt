@@ -1,12 +1,19 @@
 -- What holds of a search between its slices, whatever memos they were given.
-use Rattle.std.specs.Prelude.{◌≡◌, ℕ, ◌+◌, ◌*◌, ◌≤◌, ◌<ℤ◌, ◌≤ℤ◌, Bool, true, false, Option, None, Some}
+use Rattle.std.specs.Prelude.{◌≡◌, ℕ, ℤ, ◌+◌, ◌*◌, ◌≤◌, ◌<ℤ◌, ◌≤ℤ◌, Bool, true, false, List, [], ◌∷◌, map, Option, None, Some}
 use Rattle.std.specs.Option.{ForSome}
+use Rattle.shogi_core.specs.Codes.{code_of}
+use Rattle.shogi_search.specs.declared.frame.Frame.{Frame}
+use Rattle.shogi_search.specs.declared.frame.Waiting.{Waiting}
+use Rattle.shogi_search.specs.declared.frame.Waiting.TheVariants.{Next, Asked, Leaf, Cut}
 use Rattle.shogi_search.specs.declared.found.Found.{Found}
 use Rattle.shogi_search.specs.declared.sliced_search.Search.TheInside.{Inside}
 use Rattle.shogi_search.specs.Minimax.{tree_size, negated}
+use Rattle.shogi_search.specs.Entered.{Entered}
+use Rattle.shogi_search.specs.Order.{todo}
 use Rattle.shogi_search.specs.Progress.{Progress, IsFoundBelow}
 use Rattle.shogi_search.specs.Visits.{IsFree}
-use Rattle.shogi_search.specs.Stack.{IsStack, OnTop, left_of_stack}
+use Rattle.shogi_search.specs.Stack.{IsStack, OnTop, frames_of, left_of_stack}
+use Rattle.shogi_search.specs.Window.{code_at}
 use Rattle.shogi_search.specs.declared.bounds.TheConstants.{SEARCH_DEPTH_MAX, INFINITY}
 
 -- nothing once it has found, all before the root is entered, and else what is left of the stack
@@ -14,6 +21,46 @@ abbrev pub left_in : Option Found → Bool → ℕ → ℕ → ℕ
 left_in (Some f) started whole rest = 0
 left_in None false whole rest = whole
 left_in None true whole rest = rest
+
+-- the move whose child is being searched or was just valued
+abbrev pub current_in : Waiting → Option ℕ
+current_in Next = None
+current_in (Asked m) = Some (code_of m)
+current_in (Leaf m v) = Some (code_of m)
+current_in (Cut v) = None
+
+-- what the node is worth at least, where a child has cut it off
+abbrev pub cutoff_in : Waiting → Option ℤ
+cutoff_in Next = None
+cutoff_in (Asked m) = None
+cutoff_in (Leaf m v) = None
+cutoff_in (Cut v) = Some v
+
+-- the current move, and then those to be visited
+abbrev pub and_current : Option ℕ → List ℕ → List ℕ
+and_current None codes = codes
+and_current (Some code) codes = code ∷ codes
+
+-- a node of the stack as a caller sees it
+abbrev pub entered_of : Frame → Entered
+entered_of f = record {
+  position = f.node.position;
+  eval = f.node.eval;
+  depth = f.depth;
+  alpha = f.alpha;
+  beta = f.beta;
+  best_value = f.best_value;
+  best_code = code_at f.best_move;
+  unsearched = and_current (current_in f.waiting) (todo f.node.position f.picker);
+  current = current_in f.waiting;
+  cutoff = cutoff_in f.waiting;
+}
+
+-- the nodes of the stack once the root is entered, and none once it has found
+abbrev pub entered_in : Option Found → Bool → List Entered → List Entered
+entered_in (Some f) started nodes = []
+entered_in None false nodes = []
+entered_in None true nodes = nodes
 
 -- a search as its caller sees it
 abbrev pub progress_of : Inside → Progress
@@ -23,6 +70,7 @@ progress_of s = record {
   depth = s.stack.depth;
   beta = s.stack.beta;
   begun = s.started;
+  entered = entered_in s.found s.started (map entered_of (frames_of s.stack));
   left = left_in s.found s.started (2 * tree_size s.stack.root s.stack.depth) (left_of_stack s.stack);
   steps = s.steps;
   found = s.found;

@@ -1,6 +1,6 @@
 //! A node of the tree while the search goes through its moves.
 
-ghost use Rattle.std.specs.Prelude.{◌≡◌, ◌≤◌, ◌<◌, ◌-◌, ◌+◌, ◌*◌, ◌≤ℤ◌, ◌<ℤ◌, ℕ, pos, [], ◌∷◌, Some, None, true, false, IsTrue, IfSome, ◌↔◌, ◌≢◌, MatchOption};
+ghost use Rattle.std.specs.Prelude.{◌≡◌, ◌≤◌, ◌<◌, ◌-◌, ◌+◌, ◌*◌, ◌≤ℤ◌, ◌<ℤ◌, ℕ, pos, [], ◌∷◌, Some, None, true, false, IsTrue, IfSome, ◌↔◌, ◌≢◌, MatchOption, IfNone};
 ghost use Rattle.std.specs.Option.{ForSome};
 ghost use Rattle.std.proofs.Props.{props};
 ghost use Rattle.shogi_core.specs.Codes.{code_of};
@@ -9,6 +9,8 @@ ghost use Rattle.shogi_moves.specs.After.{after, after_code};
 ghost use Rattle.shogi_moves.specs.LegalMoves.{legal_codes};
 ghost use Rattle.shogi_moves.specs.Replies.{IsReplies};
 ghost use Rattle.shogi_moves.specs.Rising.{is_in};
+ghost use Rattle.shogi_core.specs.declared.piece.Kind.{Kind};
+ghost use Rattle.shogi_eval.specs.Material.{drop_gain};
 ghost use Rattle.shogi_eval.specs.declared.points.TheConstants.{POINTS_MAX};
 ghost use Rattle.shogi_search.specs.Minimax.{value, tree_size, worth, negated, sum_of_tree_sizes, IsTrueEntry};
 ghost use Rattle.shogi_search.specs.Entries.{IsCutoff};
@@ -52,6 +54,8 @@ pub struct Frame {
     pub picker: MovePicker,
     pub waiting: Waiting,
     pub replies: Replies,
+    /// Set once the replies tell of the position.
+    pub has_replies: bool,
     ghost valid: { IsValid node.position },
     ghost shallow: { depth ≤ SEARCH_DEPTH_MAX },
     ghost least: { negated INFINITY ≤ℤ alpha },
@@ -88,6 +92,18 @@ fn replies_of(node: &Node, ahead: bool) -> Replies
         Replies::of(node.as_position())
     } else {
         Replies::unknown(node.as_position())
+    }
+}
+
+/// The most that a drop loses of the material of its side.
+fn loss_of_drops(e: Eval) -> i32
+    ensures loss { (kind : Kind) → negated result ≤ℤ drop_gain e kind }
+    ensures least { pos 0 ≤ℤ result }
+    ensures most { result ≤ℤ pos 100 }
+{
+    match e {
+        Eval::Plain => 0,
+        Eval::Hand => 100,
     }
 }
 
@@ -130,6 +146,7 @@ impl Frame {
         self.picker = MovePicker::new(depth, hash_move);
         self.waiting = Waiting::Next;
         self.replies = replies_of(node, ahead);
+        self.has_replies = ahead;
     }
 
     /// The frame becomes that of the child after the current move of another one, under the window that
@@ -160,6 +177,7 @@ impl Frame {
         self.picker = MovePicker::new(self.depth, None);
         self.waiting = Waiting::Next;
         self.replies = Replies::unknown(self.node.as_position());
+        self.has_replies = false;
     }
 
     /// Begins with the node's moves, the hash move first; `ahead` asks for what tells of leaves
@@ -178,6 +196,7 @@ impl Frame {
         self.picker = MovePicker::new(self.depth, hash_move);
         self.waiting = Waiting::Next;
         self.replies = replies_of(&self.node, ahead);
+        self.has_replies = ahead;
     }
 
     /// Whether some move is legal, which the position is asked only where it is not known yet.
@@ -217,10 +236,11 @@ impl Frame {
 
     /// Asks for the answer of the next move, where there is one.
     #[inline(always)]
-    pub fn ask(&mut self) -> Option<Move>
+    fn ask_next(&mut self) -> Option<Move>
         requires next { self.old.waiting ≡ Waiting.Next }
-        ensures todo { MatchOption result ((todo self.old.node.position self.old.picker ≡ []) × (todo self.old.node.position self.new.picker ≡ [])) (λ m. todo self.old.node.position self.old.picker ≡ code_of m ∷ todo self.old.node.position self.new.picker) }
+        ensures over { IfNone result (todo self.new.node.position self.new.picker ≡ []) }
         ensures waiting { MatchOption result (self.new.waiting ≡ Waiting.Next) (λ m. self.new.waiting ≡ Waiting.Asked m) }
+        ensures left { MatchOption result (left_of_frame self.new ≤ left_of_frame self.old) (λ m. 2 * tree_size (after_code self.new.node.position (code_of m)) (self.new.depth - 1) + left_of_frame self.new ≤ left_of_frame self.old) }
         ensures same { IsSame self.old self.new }
     {
         match self.picker.next(self.node.as_position()) {
@@ -231,6 +251,39 @@ impl Frame {
             }
             None => None,
         }
+    }
+
+    /// The same at depth 2, where the moves that surely are not worth enough are passed.
+    fn ask_worthy(&mut self) -> Option<Move>
+        requires next { self.old.waiting ≡ Waiting.Next }
+        requires last { self.old.depth ≡ 2 }
+        ensures over { IfNone result (todo self.new.node.position self.new.picker ≡ []) }
+        ensures waiting { MatchOption result (self.new.waiting ≡ Waiting.Next) (λ m. self.new.waiting ≡ Waiting.Asked m) }
+        ensures left { MatchOption result (left_of_frame self.new ≤ left_of_frame self.old) (λ m. 2 * tree_size (after_code self.new.node.position (code_of m)) (self.new.depth - 1) + left_of_frame self.new ≤ left_of_frame self.old) }
+        ensures same { IsSame self.old self.new }
+    {
+        'moves: while let Some(current) = self.ask_next() {
+            if !self.pass(&current) {
+                return Some(current);
+            }
+        }
+        None
+    }
+
+    /// Asks for the answer of the next move, where there is one. At depth 2 the moves that surely are not
+    /// worth enough are passed.
+    #[inline(always)]
+    pub fn ask(&mut self) -> Option<Move>
+        requires next { self.old.waiting ≡ Waiting.Next }
+        ensures over { IfNone result (todo self.new.node.position self.new.picker ≡ []) }
+        ensures waiting { MatchOption result (self.new.waiting ≡ Waiting.Next) (λ m. self.new.waiting ≡ Waiting.Asked m) }
+        ensures left { MatchOption result (left_of_frame self.new ≤ left_of_frame self.old) (λ m. 2 * tree_size (after_code self.new.node.position (code_of m)) (self.new.depth - 1) + left_of_frame self.new ≤ left_of_frame self.old) }
+        ensures same { IsSame self.old self.new }
+    {
+        if self.depth == 2 {
+            return self.ask_worthy();
+        }
+        self.ask_next()
     }
 
     /// What the current move has to be worth more than.
@@ -311,6 +364,7 @@ impl Frame {
         requires current { IsCurrent self.old.waiting current.now }
         requires below { worth self.old.node.position self.old.node.eval (self.old.depth - 1) (code_of current.now) ≤ℤ threshold self.old.best_value (code_at self.old.best_move) (code_of current.now) }
         ensures free { IsFree self.new.waiting }
+        ensures next { self.new.waiting ≡ Waiting.Next }
         ensures taken { left_of_waiting self.new.waiting ≡ 0 }
         ensures picker { self.new.picker ≡ self.old.picker }
         ensures same { IsSame self.old self.new }
@@ -318,6 +372,54 @@ impl Frame {
         let _ = current;
         self.has_move = true;
         self.waiting = Waiting::Next;
+    }
+
+    /// Notes what tells of the other side's moves after the node's, where it is not noted yet.
+    fn look_ahead(&mut self)
+        ensures waiting { self.new.waiting ≡ self.old.waiting }
+        ensures best { (self.new.best_value ≡ self.old.best_value) × (self.new.best_move ≡ self.old.best_move) }
+        ensures picker { self.new.picker ≡ self.old.picker }
+        ensures same { IsSame self.old self.new }
+    {
+        if !self.has_replies {
+            self.replies = Replies::of(self.node.as_position());
+            self.has_replies = true;
+        }
+    }
+
+    /// What the current move of a node of depth 2 is worth at most, where the other side has a legal move
+    /// after it: that move, whichever it is, leaves it its material, or what a drop loses less.
+    #[inline(always)]
+    fn most_after(&self, current: &Move) -> i32
+        requires current { IsCurrent self.now.waiting current.now }
+        requires last { self.now.depth ≡ 2 }
+        ensures most { legal_codes (after self.now.node.position current.now) ≢ [] → worth self.now.node.position self.now.node.eval (self.now.depth - 1) (code_of current.now) ≤ℤ result }
+    {
+        current.validity();
+        loss_of_drops(self.node.eval()) - self.node.score_after(current)
+    }
+
+    /// Passes the current move of a node of depth 2, where it is certain without making it that it is not
+    /// worth enough, and tells whether it did.
+    #[inline(always)]
+    fn pass(&mut self, current: &Move) -> bool
+        requires asked { self.old.waiting ≡ Waiting.Asked current.now }
+        requires last { self.old.depth ≡ 2 }
+        ensures next { result ≡ true → self.new.waiting ≡ Waiting.Next }
+        ensures asked { result ≡ false → self.new.waiting ≡ self.old.waiting }
+        ensures picker { self.new.picker ≡ self.old.picker }
+        ensures same { IsSame self.old self.new }
+    {
+        if self.most_after(current) > self.threshold(current) {
+            return false;
+        }
+        self.look_ahead();
+        current.validity();
+        if !self.replies.is_certain(self.node.as_position(), current) {
+            return false;
+        }
+        self.skip(current);
+        true
     }
 
     /// Passes the current move, which is the best so far.
@@ -493,6 +595,7 @@ impl Default for Frame {
             picker: MovePicker::Done,
             waiting: Waiting::Next,
             replies: Replies::unknown(node.as_position()),
+            has_replies: false,
         }
     }
 }

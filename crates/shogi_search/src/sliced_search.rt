@@ -1,9 +1,11 @@
 //! A search that goes on in slices.
 
 ghost use Rattle.std.specs.Prelude.{◌≡◌, ◌≤◌, ◌<◌, ◌+◌, ◌*◌, ◌-◌, ◌^◌, ◌≤ℤ◌, ◌<ℤ◌, true, false, Some, None, IfSome, IfNone, OnSome, IsSome, ◌↔◌, min};
+ghost use Rattle.std.specs.List.{All};
 ghost use Rattle.std.specs.Option.{ForSome};
 ghost use Rattle.shogi_moves.specs.Legal.{is_legal};
 ghost use Rattle.shogi_search.specs.Minimax.{value, best, tree_size, IsTrueEntry, negated};
+ghost use Rattle.shogi_search.specs.Entered.{IsKnownNode, IsPath};
 ghost use Rattle.shogi_search.specs.Entries.{IsExactly, IsEnough, IsCutoff};
 ghost use Rattle.shogi_search.specs.Progress.{untouched, untouched_below, left_of, IsFoundBelow};
 ghost use Rattle.shogi_search.specs.declared.bounds.TheConstants.{SEARCH_DEPTH_MAX, INFINITY};
@@ -95,6 +97,16 @@ impl Search {
             steps: 0,
             found: None,
         }
+    }
+
+    /// Tells what is known of a search that has entered its root and not ended: which nodes it has entered
+    /// and not left, each the child of the one before, and what they are worth so far. Of any search it
+    /// tells that each such node is worth its greatest searched move so far, or enough to be cut off.
+    pub fn validity(&self)
+        ensures path { self.now.begun ≡ true → self.now.found ≡ None → IsPath self.now.root self.now.eval self.now.depth (negated INFINITY) self.now.beta self.now.entered }
+        ensures known { All IsKnownNode self.now.entered }
+    {
+        let _ = &self.started;
     }
 
     /// The steps so far; the count stays at the greatest number once it is there.

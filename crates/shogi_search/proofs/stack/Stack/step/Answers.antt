@@ -20,12 +20,12 @@ pub leave-requires-clause-stack : goal.leave-requires-clause-stack
 leave-requires-clause-stack g c = changed c.args.self.now _ c.ask.new.self (read_top c.args.self.now c.index-self-self.result (omega (arith, c.requires.stack.height_fits))) c.requires.stack c.ask.ensures.same
 
 pub leave-requires-clause-over : goal.leave-requires-clause-over
-leave-requires-clause-over g c = on_with c.args.self.now c.args.self.now.height c.ask.new.self (λ (top : Frame). IsOver top.waiting (todo top.node.position top.picker)) (omega (arith, c.requires.stack.height_fits)) (over_next (get_or c.args.self.now.frames c.args.self.now.height c.index-self-self.result) c.ask.new.self c.ask.ensures.same c.in_default.ensures.waiting c.in_default.ensures.todo.1)
+leave-requires-clause-over g c = on_with c.args.self.now c.args.self.now.height c.ask.new.self (λ (top : Frame). IsOver top.waiting (todo top.node.position top.picker)) (omega (arith, c.requires.stack.height_fits)) (over_next c.ask.new.self c.in_default.ensures.waiting c.in_default.ensures.over)
 
 pub returns-then-is_next-clause-left : goal.returns-then-is_next-clause-left
 returns-then-is_next-clause-left g c =
     let fits : c.args.self.now.height < length c.args.self.now.frames = omega (arith, c.requires.stack.height_fits) in
-    omega (arith, left_descended c.args.self.now c.descend.new.self c.in-Some.current (get_or c.args.self.now.frames c.args.self.now.height c.index-self-self.result) c.ask.new.self c.descend.result (read_top c.args.self.now c.index-self-self.result fits) c.ask.ensures.same c.in-Some.ensures.waiting c.in-Some.ensures.todo c.descend.ensures.left)
+    omega (arith, left_descended c.args.self.now c.descend.new.self c.in-Some.current (get_or c.args.self.now.frames c.args.self.now.height c.index-self-self.result) c.ask.new.self c.descend.result (read_top c.args.self.now c.index-self-self.result fits) c.in-Some.ensures.left c.descend.ensures.left)
 
 pub take-requires-clause-truth : goal.take-requires-clause-truth
 take-requires-clause-truth g c =
