@@ -1,6 +1,7 @@
 -- What one session answers to an event of its own: its own calls, with their refusals in order (own choice).
 use Rattle.std.specs.Prelude.{◌≡◌, ℕ, ◌+◌, ◌≤◌, ◌<◌, List, ◌++◌, length, take, drop, true, false}
-use Rattle.usi_session.specs.Due.{SessionView, due, load, is_pending, wants_input, IsMidSearch}
+use Rattle.usi_session.specs.WholeLines.{GrowsByLines}
+use Rattle.usi_session.specs.Due.{SessionView, due, state_due, load, is_pending, wants_input, IsMidSearch}
 use Rattle.host_core.specs.declared.event.HostFault.TheVariants.{OutOfMemory, NotReady}
 use Rattle.host_core.specs.Events.{Outcome, Done, Worked, Gave, Refused}
 use Rattle.usi_session.specs.declared.limits.TheConstants.{CHUNK_MAX}
@@ -9,27 +10,32 @@ use Rattle.usi_session.specs.declared.limits.TheConstants.{CHUNK_MAX}
 abbrev pub CanFeed : SessionView → List ℕ → Type 0
 CanFeed t chunk = (wants_input t ≡ true) × (length chunk ≤ CHUNK_MAX)
 
--- the bytes were stored: it owes what it owed for them and for what follows
+-- the bytes were stored: it owes what it owed for them and for what follows, and comes to the state that it came to
 pub record Fed (old : SessionView) (chunk : List ℕ) (new : SessionView) : Type 0 where
   pub could : CanFeed old chunk
   pub owed : (x : List ℕ) → due new x ≡ due old (chunk ++ x)
+  pub after : (x : List ℕ) → state_due new x ≡ state_due old (chunk ++ x)
   pub queued_is : new.queued ≡ old.queued
   pub state_is : new.state ≡ old.state
   pub running_go_is : new.running_go ≡ old.running_go
 
--- it went on by so many steps, and owes what it owed; where something is still pending, the budget is spent within a search
+-- it went on by so many steps, owes what it owed and comes to the state that it came to, and its queue has only grown, by whole lines; where something is still pending, the budget is spent within a search
 pub record WorkedOn (old : SessionView) (budget steps : ℕ) (new : SessionView) : Type 0 where
   pub owed : (x : List ℕ) → due new x ≡ due old x
+  pub after : (x : List ℕ) → state_due new x ≡ state_due old x
+  pub grown : GrowsByLines old.queued new.queued
   pub most : steps ≤ budget
   pub made : steps + load new ≤ load old
   pub spent : is_pending new ≡ true → (steps ≡ budget) × IsMidSearch new.running_go
   pub enough : load old ≤ budget → is_pending new ≡ false
   pub idle : is_pending old ≡ false → (steps ≡ 0) × (new ≡ old)
 
--- memory was refused on the way: it owes what it owed, and may have gone on
+-- memory was refused on the way: it owes what it owed, and may have gone on; its queue has only grown, by whole lines
 pub record Stopped (old new : SessionView) : Type 0 where
   pub was_pending : is_pending old ≡ true
   pub owed : (x : List ℕ) → due new x ≡ due old x
+  pub after : (x : List ℕ) → state_due new x ≡ state_due old x
+  pub grown : GrowsByLines old.queued new.queued
   pub made : load new ≤ load old
 
 -- the first bytes of its queue were taken

@@ -25,6 +25,7 @@ pub fn feed<A: Allocator + Copy>(session: &mut Session<A>, chunk: &[u8]) -> Outc
 }
 
 /// Goes on by at most so many steps. A session with nothing pending is left as it is.
+#[tactic(auto, using(usi_session::proofs::WholeReplies::grows_by_none))]
 pub fn work<A: Allocator + Copy, M: Memo>(
     session: &mut Session<A>,
     memo: &mut M,

@@ -1,5 +1,5 @@
 -- New connections.
-use Rattle.std.proofs.Common.{◌≡◌, ◌⊎◌, ℕ, zero, suc, ◌+◌, ◌<◌, ◌≤◌, Bool, true, false, List, [], ◌∷◌, ◌++◌, Option, Some, None, Result, Ok, Err, map, drop, refl, sym, ap, ◌∙◌, subst, arith, take-append-drop, inl, inr}
+use Rattle.std.proofs.Common.{◌≡◌, ◌≢◌, ◌⊎◌, ℕ, zero, suc, ◌+◌, ◌<◌, ◌≤◌, Bool, true, false, List, [], ◌∷◌, ◌++◌, Option, Some, None, Result, Ok, Err, map, drop, refl, sym, ap, ◌∙◌, subst, arith, take-append-drop, inl, inr, length, append-nil, length-append}
 use Rattle.std.specs.Prelude.{insert, ◌||◌}
 use Rattle.std.proofs.lemmas.Bool.{cases_eq, or_cases}
 use Rattle.std.proofs.lemmas.List.{map-append}
@@ -17,10 +17,14 @@ use Rattle.socket_loop.specs.declared.connection.Link.{Link}
 use Rattle.socket_loop.specs.declared.connection.Connection.{Connection}
 use Rattle.socket_loop.specs.declared.wire.WireFault.{WireFault}
 use Rattle.socket_loop.specs.Told.{Told, KeepsPeer, KeepsAll, Writes, Shuts, bytes_written, GivesNumber}
-use Rattle.socket_loop.specs.Links.{Ties, IsTied, IsAmong, links_of}
+use Rattle.socket_loop.specs.Links.{Ties, IsTied, IsAmong, IsApart, links_of}
 use Rattle.socket_loop.specs.Parts.{AllMove, AreAll, IsAdmission, IsClosing, closes}
-use Rattle.socket_loop.specs.Turns.{Fits, Accepted, IsOneOf, IsTurnedAway, IsAway, IsNew, Accepts, Admits, openings, told_to}
+use Rattle.socket_loop.specs.Turns.{Fits, Accepted, HasSession, IsOneOf, IsTurnedAway, IsAway, IsNew, Accepts, Admits, openings, told_to}
 use Rattle.socket_loop.proofs.Peers.{kept_same, kept_then, all_kept, moves_then, away_moves, stays_raised, rises_then, stays_rise, told_failure, raised_rises, Consumes-none, Appends-none, Keeps-Appends}
+use Rattle.socket_loop.specs.Asked.{Call, Accept, Asks}
+use Rattle.socket_loop.specs.Calls.{AcceptsAll, AcceptsSome, AdmitsOne, AsksAccepts, AsksAll, GivesNobody}
+use Rattle.socket_loop.proofs.Calls.{asks_accept, asks_full, asks_no_accept, asks_stop}
+use Rattle.socket_loop.proofs.Left.{once_insert}
 use Rattle.socket_loop.proofs.Runs.{run-one, run-two, run-append, own-append, taken-append, openings-append, closes_neither, closes_either, all_append, next_rises, step_rises, opened_left, opened_right}
 
 -- ---- turned away
@@ -81,31 +85,47 @@ accepts_none ls from to a b h rises k = record {
   all = all_kept a b k;
   closed_below = λ id e. absurd (cc);
   spared = λ fit l m. refl;
+  spared_old = λ id lt. refl;
+  accounted = λ fit new one. absurd one;
   stay = λ l m. m;
   are = λ l m. inl m;
   fits = fits_more ls from to h h rises (omega arith);
+  once = λ fit o. o;
 }
 
 pub accepts_start : (ls : List Link) (from : ℕ) (a : Told) (h : HostState) → Accepts ls from a h ls from a h
 accepts_start ls from a h = accepts_none ls from from a a h (omega arith) (kept_same a)
 
+away_one : (a b c : Told) (from number to : ℕ) (o : Outcome) → KeepsAll a b → from ≤ number → number < to → IsAway to (told_to o) b c number → IsTurnedAway from to (record { number = number; outcome = o } ∷ []) a c number
+away_one a b c from number to o k least most w = record {
+  least = least;
+  most = most;
+  outcome = o;
+  answered = inl refl;
+  unread = Keeps-trans _ _ _ (k number).unread w.unread;
+  bytes = w.bytes;
+  front = w.front;
+  appended = Keeps-Appends _ _ _ _ (k number).written w.appended;
+  shut = stays_raised _ _ _ (k number).shut (w.shut most);
+  failed = rises_then _ _ _ (stays_rise _ _ (k number).failed) w.failed;
+}
+
 away_each : (a b c : Told) (from number to n : ℕ) (o : Outcome) → KeepsAll a b → from ≤ number → number < to → IsAway to (told_to o) b c number → KeepsPeer a c n ⊎ IsTurnedAway from to (record { number = number; outcome = o } ∷ []) a c n
 away_each a b c from number to n o k least most w =
     elim (cases_eq n number) [
-      | inl same ↦ inr (rw same (record {
-        least = least;
-        most = most;
-        outcome = o;
-        answered = inl refl;
-        unread = Keeps-trans _ _ _ (k number).unread w.unread;
-        bytes = w.bytes;
-        front = w.front;
-        appended = Keeps-Appends _ _ _ _ (k number).written w.appended;
-        shut = stays_raised _ _ _ (k number).shut (w.shut most);
-        failed = rises_then _ _ _ (stays_rise _ _ (k number).failed) w.failed;
-      }))
+      | inl same ↦ inr (rw same (away_one a b c from number to o k least most w))
       | inr apart ↦ inl (kept_then a b c n (k n) (w.others n apart))
     ]
+
+-- each of these has another number
+pub apart_each : (ls : List Link) (n : ℕ) → ((l : Link) → IsAmong ls l → l.number ≢ n) → IsApart ls n
+apart_each [] n f = tt
+apart_each (x ∷ xs) n f = (f x (inl refl), apart_each xs n (λ l m. f l (inr m)))
+
+pub each_apart : (ls : List Link) (n : ℕ) (l : Link) → IsApart ls n → IsAmong ls l → l.number ≢ n
+each_apart [] n l p m = absurd m
+each_apart (x ∷ xs) n l p (inl e) = λ same. p.0 (ap (λ (k : Link). k.number) (sym e) ∙ same)
+each_apart (x ∷ xs) n l p (inr m) = each_apart xs n l p.1 m
 
 closes_one : (a b : SessionId) → (is_same_id a b || false) ≡ true → a ≡ b
 closes_one a b e = elim (or_cases (is_same_id a b) false e) [ inl same ↦ same_id a b same | inr other ↦ absurd (cc) ]
@@ -118,33 +138,42 @@ closes_apart : (a b : SessionId) → (a ≡ b → ⊥) → (is_same_id a b || fa
 closes_apart a b f = closes_apart_at a b (is_same_id a b) refl f
 
 -- a new connection was turned away
-admits_none : (ls : List Link) (a b : Told) (h i : HostState) (number to : ℕ) (o : Outcome) (steps : List Step) → AreAll IsAdmission steps → IsRun h steps i → ((id : SessionId) → own id steps ≡ []) → ((id : SessionId) → taken id steps ≡ []) → openings steps ≡ o ∷ [] → ((id : SessionId) → closes id steps ≡ true → id.generation < i.slots.next) → ((id : SessionId) → id.generation < h.slots.next → closes id steps ≡ false) → IsAway to (told_to o) a b number → Admits ls a h number to ls b i
+admits_none : (ls : List Link) (a b : Told) (h i : HostState) (number to : ℕ) (o : Outcome) (steps : List Step) → AreAll IsAdmission steps → IsRun h steps i → ((id : SessionId) → own id steps ≡ []) → ((id : SessionId) → taken id steps ≡ []) → openings steps ≡ o ∷ [] → ((id : SessionId) → closes id steps ≡ true → id.generation < i.slots.next) → ((id : SessionId) → id.generation < h.slots.next → closes id steps ≡ false) → IsAway to (told_to o) a b number → Admits ls a h number o to ls b i
 admits_none ls a b h i number to o steps kinds r no_own no_taken answers below old_stay w = λ from old kept least most.
     record {
-      steps = steps;
-      kinds = kinds;
-      chain = r;
-      no_own = no_own;
-      no_taken = no_taken;
-      rises = omega arith;
-      accepted = record { number = number; outcome = o } ∷ [];
-      answers = answers;
-      kept = λ n l. kept_then old a b n (kept n) (w.others n (λ e. (let f : n ≡ number = e in absurd (omega arith))));
-      each = λ n. away_each old a b from number to n o kept least most w;
-      all = moves_then old a b (all_kept old a kept) (away_move a b to number (told_to o) w);
-      closed_below = below;
-      spared = λ fit l m. old_stay l.id (fit l m).opened;
-      stay = λ l m. m;
-      are = λ l m. inl m;
-      fits = fits_more ls from to h i (omega arith) (next_rises h i steps r);
+      items_are = refl;
+      accepts = record {
+        steps = steps;
+        kinds = kinds;
+        chain = r;
+        no_own = no_own;
+        no_taken = no_taken;
+        rises = omega arith;
+        accepted = record { number = number; outcome = o } ∷ [];
+        answers = answers;
+        kept = λ n l. kept_then old a b n (kept n) (w.others n (λ e. (let f : n ≡ number = e in absurd (omega arith))));
+        each = λ n. away_each old a b from number to n o kept least most w;
+        all = moves_then old a b (all_kept old a kept) (away_move a b to number (told_to o) w);
+        closed_below = below;
+        spared = λ fit l m. old_stay l.id (fit l m).opened;
+        spared_old = old_stay;
+        accounted = λ fit new one. inr (elim one [
+          | inl is ↦ rw is (away_one old a b from number to o kept least most w, apart_each ls number (λ l m e. (let u : l.number < from = (fit l m).number in let v : l.number ≡ number = e in absurd (omega arith))))
+          | inr none ↦ absurd none
+        ]);
+        stay = λ l m. m;
+        are = λ l m. inl m;
+        fits = fits_more ls from to h i (omega arith) (next_rises h i steps r);
+        once = λ fit o_. o_;
+      };
     }
 
 -- its session was not opened
-pub admits_away : (ls : List Link) (a b : Told) (h i : HostState) (number to : ℕ) (o : Outcome) → IsAway to (told_to o) a b number → IsStep h (record { event = Open; outcome = o }) i → Admits ls a h number to ls b i
+pub admits_away : (ls : List Link) (a b : Told) (h i : HostState) (number to : ℕ) (o : Outcome) → IsAway to (told_to o) a b number → IsStep h (record { event = Open; outcome = o }) i → Admits ls a h number o to ls b i
 admits_away ls a b h i number to o w s = admits_none ls a b h i number to o (record { event = Open; outcome = o } ∷ []) (tt, tt) (run-one h i _ s) (λ x. refl) (λ x. refl) refl (λ x e. absurd (cc)) (λ x lt. refl) w
 
 -- there was no memory to hold it
-pub admits_closed : (ls : List Link) (a b : Told) (h m i : HostState) (number to : ℕ) (id : SessionId) → Shuts to a b number → IsStep h (record { event = Open; outcome = Opened id }) m → IsClosing m id i → Admits ls a h number to ls b i
+pub admits_closed : (ls : List Link) (a b : Told) (h m i : HostState) (number to : ℕ) (id : SessionId) → Shuts to a b number → IsStep h (record { event = Open; outcome = Opened id }) m → IsClosing m id i → Admits ls a h number (Opened id) to ls b i
 admits_closed ls a b h m i number to id s opening close =
     admits_none ls a b h i number to (Opened id) (record { event = Open; outcome = Opened id } ∷ record { event = Close id; outcome = close.outcome } ∷ []) (tt, (tt, tt)) (run-two h m i _ _ opening close.step) (λ x. refl) (λ x. refl) refl
     (λ x e. (
@@ -175,6 +204,12 @@ insert_among (x ∷ xs) zero c l m = inr m
 insert_among (x ∷ xs) (suc i) c l (inl e) = inl e
 insert_among (x ∷ xs) (suc i) c l (inr m) = inr (insert_among xs i c l m)
 
+insert_in : (held : List Connection) (place : ℕ) (c : Connection) → IsAmong (links_of (insert held place c)) c.link
+insert_in [] zero c = inl refl
+insert_in [] (suc i) c = inl refl
+insert_in (x ∷ xs) zero c = inl refl
+insert_in (x ∷ xs) (suc i) c = inr (insert_in xs i c)
+
 tied_insert : (held : List Connection) (place : ℕ) (c : Connection) (l : Link) → Ties c.link l → IsTied (links_of held) l → IsTied (links_of (insert held place c)) l
 tied_insert [] zero c l t u = (t, tt)
 tied_insert [] (suc i) c l t u = (t, tt)
@@ -182,20 +217,20 @@ tied_insert (x ∷ xs) zero c l t u = (t, u)
 tied_insert (x ∷ xs) (suc i) c l t u = (u.0, tied_insert xs i c l t u.1)
 
 -- a link that none of these has
-fresh_tied : (ls : List Link) (k : Link) → ((l : Link) → IsAmong ls l → Ties l k) → IsTied ls k
+pub fresh_tied : (ls : List Link) (k : Link) → ((l : Link) → IsAmong ls l → Ties l k) → IsTied ls k
 fresh_tied [] k f = tt
 fresh_tied (x ∷ xs) k f = (f x (inl refl), fresh_tied xs k (λ l m. f l (inr m)))
 
 same_ties : (k l : Link) → l ≡ k → Ties k l
 same_ties k l e = record { by_number = λ _. ap (λ (x : Link). x.id) (sym e); by_id = λ _. ap (λ (x : Link). x.number) (sym e) }
 
-apart_ties : (k l : Link) → k.number < l.number → k.id.generation < l.id.generation → Ties k l
+pub apart_ties : (k l : Link) → k.number < l.number → k.id.generation < l.id.generation → Ties k l
 apart_ties k l n g = record {
   by_number = λ e. (let f : k.number ≡ l.number = e in absurd (omega arith));
   by_id = λ e. (let f : k.id.generation ≡ l.id.generation = ap (λ (x : SessionId). x.generation) e in absurd (omega arith));
 }
 
-ties_apart : (k l : Link) → k.number < l.number → k.id.generation < l.id.generation → Ties l k
+pub ties_apart : (k l : Link) → k.number < l.number → k.id.generation < l.id.generation → Ties l k
 ties_apart k l n g = record {
   by_number = λ e. (let f : l.number ≡ k.number = e in absurd (omega arith));
   by_id = λ e. (let f : l.id.generation ≡ k.id.generation = ap (λ (x : SessionId). x.generation) e in absurd (omega arith));
@@ -225,26 +260,39 @@ fits_new held place c from to h i least most g n f = λ l m.
 opened_true : (id : SessionId) → is_opened id (record { event = Open; outcome = Opened id } ∷ []) ≡ true
 opened_true id = ap (λ (b : Bool). b || false) (is_same_id-refl id)
 
-pub admits_new : (held : List Connection) (place : ℕ) (c : Connection) (a : Told) (h i : HostState) (to : ℕ) → IsStep h (record { event = Open; outcome = Opened c.link.id }) i → Admits (links_of held) a h c.link.number to (links_of (insert held place c)) a i
+pub admits_new : (held : List Connection) (place : ℕ) (c : Connection) (a : Told) (h i : HostState) (to : ℕ) → IsStep h (record { event = Open; outcome = Opened c.link.id }) i → Admits (links_of held) a h c.link.number (Opened c.link.id) to (links_of (insert held place c)) a i
 admits_new held place c a h i to s = λ from old kept least most.
     let o : Opens h.slots i.slots c.link.id = s.stepped.opens in
     record {
-      steps = record { event = Open; outcome = Opened c.link.id } ∷ [];
-      kinds = (tt, tt);
-      chain = run-one h i _ s;
-      no_own = λ id. refl;
-      no_taken = λ id. refl;
-      rises = omega arith;
-      accepted = record { number = c.link.number; outcome = Opened c.link.id } ∷ [];
-      answers = refl;
-      kept = λ n l. kept n;
-      each = λ n. inl (kept n);
-      all = all_kept old a kept;
-      closed_below = λ id e. absurd (cc);
-      spared = λ fit l m. refl;
-      stay = λ l m. insert_among held place c l m;
-      are = λ l m. elim (among_insert held place c l m) [ inl same ↦ inr (rw same (record { least = least; most = most; answered = inl refl; opened = opened_true c.link.id; fresh = (let g : c.link.id.generation ≡ h.slots.next = o.generation_is in omega arith); kept = kept c.link.number })) | inr was ↦ inl was ];
-      fits = fits_new held place c from to h i least most o.generation_is o.next_is;
+      items_are = refl;
+      accepts = record {
+        steps = record { event = Open; outcome = Opened c.link.id } ∷ [];
+        kinds = (tt, tt);
+        chain = run-one h i _ s;
+        no_own = λ id. refl;
+        no_taken = λ id. refl;
+        rises = omega arith;
+        accepted = record { number = c.link.number; outcome = Opened c.link.id } ∷ [];
+        answers = refl;
+        kept = λ n l. kept n;
+        each = λ n. inl (kept n);
+        all = all_kept old a kept;
+        closed_below = λ id e. absurd (cc);
+        spared = λ fit l m. refl;
+        spared_old = λ id lt. refl;
+        accounted = λ fit new one. inl (elim one [
+          | inl is ↦ rw is (c.link, (insert_in held place c, (refl, refl)))
+          | inr none ↦ absurd none
+        ]);
+        stay = λ l m. insert_among held place c l m;
+        are = λ l m. elim (among_insert held place c l m) [ inl same ↦ inr (rw same (record { least = least; most = most; answered = inl refl; opened = opened_true c.link.id; fresh = (let g : c.link.id.generation ≡ h.slots.next = o.generation_is in omega arith); kept = kept c.link.number })) | inr was ↦ inl was ];
+        fits = fits_new held place c from to h i least most o.generation_is o.next_is;
+        once = λ fit once. once_insert held place c (λ l m e. (
+            let u : l.id.generation < h.slots.next = (fit l m).opened in
+            let v : c.link.id.generation ≡ h.slots.next = o.generation_is in
+            let w : l.id.generation ≡ c.link.id.generation = ap (λ (x : SessionId). x.generation) e in
+            absurd (omega arith))) once;
+      };
     }
 
 -- ---- one after the other
@@ -257,6 +305,11 @@ one_left (f ∷ x) y e (inr p) = inr (one_left x y e p)
 one_right : (x y : List Accepted) (e : Accepted) → IsOneOf y e → IsOneOf (x ++ y) e
 one_right [] y e p = p
 one_right (f ∷ x) y e p = inr (one_right x y e p)
+
+one_either : (x y : List Accepted) (e : Accepted) → IsOneOf (x ++ y) e → IsOneOf x e ⊎ IsOneOf y e
+one_either [] y e p = inr p
+one_either (f ∷ x) y e (inl p) = inl (inl p)
+one_either (f ∷ x) y e (inr p) = elim (one_either x y e p) [ inl first ↦ inl (inr first) | inr second ↦ inr second ]
 
 -- turned away, and nothing after that
 turned_then : (f m t : ℕ) (x y : List Accepted) (a b c : Told) (n : ℕ) → m ≤ t → IsTurnedAway f m x a b n → KeepsPeer b c n → IsTurnedAway f t (x ++ y) a c n
@@ -339,17 +392,37 @@ accepts_then ls ms ns f m t a b c h i j p q =
         | inr second ↦ q.closed_below id second
       ];
       spared = λ fit l among. closes_neither l.id p.steps q.steps (spared_first p q fit l among (q.are l among)) (q.spared (p.fits fit) l among);
+      spared_old = λ id lt. closes_neither id p.steps q.steps (p.spared_old id lt) (q.spared_old id (omega arith));
+      accounted = λ fit new one. elim (one_either p.accepted q.accepted new one) [
+        | inl first ↦ first_accounted p q new (p.accounted fit new first)
+        | inr second ↦ second_accounted p q new u (q.accounted (p.fits fit) new second)
+      ];
       stay = λ l among. q.stay l (p.stay l among);
       are = λ l among. elim (q.are l among) [
         | inl mid ↦ are_then ls h.slots.next f m t p.accepted q.accepted a b c p.steps q.steps l v (p.are l mid) (q.kept l.number)
         | inr new ↦ inr (then_new h.slots.next i.slots.next f m t p.accepted q.accepted a b c p.steps q.steps l w u (p.each l.number) new)
       ];
       fits = λ fit. q.fits (p.fits fit);
+      once = λ fit o. q.once (p.fits fit) (p.once fit o);
     }
   where
     no_close : (id : SessionId) (steps : List Step) (x : Bool) → closes id steps ≡ x → (closes id steps ≡ true → ⊥) → closes id steps ≡ false
     no_close id steps true e f = absurd (f e)
     no_close id steps false e f = e
+
+    still_apart : (p_ : Accepts ls f a h ms m b i) (q_ : Accepts ms m b i ns t c j) (n : ℕ) (l : Link) → n < m → IsApart ms n → IsAmong ms l ⊎ IsNew m t q_.accepted i.slots.next b c q_.steps l → l.number ≢ n
+    still_apart p_ q_ n l lt apart (inl mid) = each_apart ms n l apart mid
+    still_apart p_ q_ n l lt apart (inr new) = λ e. (let y : m ≤ l.number = new.least in let z : l.number ≡ n = e in absurd (omega arith))
+
+    first_accounted : (p_ : Accepts ls f a h ms m b i) (q_ : Accepts ms m b i ns t c j) (new : Accepted) → HasSession ms new ⊎ (IsTurnedAway f m p_.accepted a b new.number × IsApart ms new.number)
+        → HasSession ns new ⊎ (IsTurnedAway f t (p_.accepted ++ q_.accepted) a c new.number × IsApart ns new.number)
+    first_accounted p_ q_ new (inl s) = inl (s.0, (q_.stay s.0 s.1.0, s.1.1))
+    first_accounted p_ q_ new (inr s) = inr (turned_then f m t p_.accepted q_.accepted a b c new.number q_.rises s.0 (q_.kept new.number s.0.most), apart_each ns new.number (λ l among. still_apart p_ q_ new.number l s.0.most s.1 (q_.are l among)))
+
+    second_accounted : (p_ : Accepts ls f a h ms m b i) (q_ : Accepts ms m b i ns t c j) (new : Accepted) → f ≤ m → HasSession ns new ⊎ (IsTurnedAway m t q_.accepted b c new.number × IsApart ns new.number)
+        → HasSession ns new ⊎ (IsTurnedAway f t (p_.accepted ++ q_.accepted) a c new.number × IsApart ns new.number)
+    second_accounted p_ q_ new lt (inl s) = inl s
+    second_accounted p_ q_ new lt (inr s) = inr (then_away f m t p_.accepted q_.accepted a b c new.number lt (kept_before f m p_.accepted a b new.number s.0.least (p_.each new.number)) s.0, s.1)
 
     spared_first : (p_ : Accepts ls f a h ms m b i) (q_ : Accepts ms m b i ns t c j) → Fits ls f h → (l : Link) → IsAmong ns l → IsAmong ms l ⊎ IsNew m t q_.accepted i.slots.next b c q_.steps l → closes l.id p_.steps ≡ false
     spared_first p_ q_ fit l among (inl mid) = p_.spared fit l mid
@@ -363,8 +436,44 @@ pub accepts_stop : (ls ms : List Link) (f m : ℕ) (t : ℕ) (a b c : Told) (h i
 accepts_stop ls ms f m t a b c h i p u k = accepts_then ls ms ms f m t a b c h i i p (accepts_none ms m t b c i u k)
 
 -- a connection was accepted, and admitted
-pub accepts_more : (ls ms ns : List Link) (f m number t : ℕ) (a b c d : Told) (h i j : HostState) → Accepts ls f a h ms m b i → m ≤ number → number < t → KeepsAll b c → Admits ms c i number t ns d j → Accepts ls f a h ns t d j
-accepts_more ls ms ns f m number t a b c d h i j p u v k q = accepts_then ls ms ns f m t a b d h i j p (q m b k u v)
+pub accepts_more : (ls ms ns : List Link) (f m number t : ℕ) (o : Outcome) (a b c d : Told) (h i j : HostState) → Accepts ls f a h ms m b i → m ≤ number → number < t → KeepsAll b c → Admits ms c i number o t ns d j → Accepts ls f a h ns t d j
+accepts_more ls ms ns f m number t o a b c d h i j p u v k q = accepts_then ls ms ns f m t a b d h i j p (q m b k u v).accepts
+
+-- ---- with the calls
+
+length_one : (xs : List Accepted) (x : Accepted) → length (xs ++ (x ∷ [])) ≡ length xs + 1
+length_one xs x = length-append xs (x ∷ [])
+
+pub some_start : (moved : Bool) (ls : List Link) (from : ℕ) (a : Told) (h : HostState) (calls : Option (List Call)) → AcceptsSome 0 moved ls from a h ls from a h calls calls
+unfolding accepts_start accepts_none
+some_start moved ls from a h calls = record { accepts = accepts_start ls from a h; none = λ e. refl; counted = refl; asked = asks_no_accept calls }
+
+-- no connection waits, or the wire fails
+pub some_stop : (n : ℕ) (moved : Bool) (ls ms : List Link) (f m : ℕ) (t : ℕ) (a b c : Told) (h i : HostState) (old mid new : Option (List Call)) (answer : Result (Option ℕ) WireFault) → n < 16 → AcceptsSome n moved ls f a h ms m b i old mid → m ≤ t → KeepsAll b c → Asks mid new (Accept answer ∷ []) → GivesNobody answer → AcceptsAll moved ls f a h ms t c i old new
+unfolding accepts_stop accepts_then accepts_none
+some_stop n moved ls ms f m t a b c h i old mid new answer lt p u k q g =
+    let count : length p.accepts.accepted < 16 = (let e : length p.accepts.accepted ≡ n = p.counted in omega arith) in
+    record {
+      accepts = accepts_stop ls ms f m t a b c h i p.accepts u k;
+      none = λ e. ap (λ (xs : List Accepted). xs ++ []) (p.none e);
+      asked = subst (λ (xs : List Accepted). AsksAll xs old new) (sym (append-nil p.accepts.accepted)) (asks_stop p.accepts.accepted old mid new answer count p.asked q g);
+    }
+
+-- as many were accepted as may be
+pub some_full : (n : ℕ) (moved : Bool) (ls ms : List Link) (f m : ℕ) (a b : Told) (h i : HostState) (old new : Option (List Call)) → n ≡ 16 → AcceptsSome n moved ls f a h ms m b i old new → AcceptsAll moved ls f a h ms m b i old new
+some_full n moved ls ms f m a b h i old new e p = record { accepts = p.accepts; none = p.none; asked = asks_full p.accepts.accepted old new (p.counted ∙ e) p.asked }
+
+pub some_more : (n : ℕ) (moved : Bool) (ls ms ns : List Link) (f m number t : ℕ) (a b c d : Told) (h i j : HostState) (old mid asked new : Option (List Call)) → AcceptsSome n moved ls f a h ms m b i old mid → m ≤ number → number < t → KeepsAll b c → Asks mid asked (Accept (Ok (Some number)) ∷ []) → AdmitsOne ms c i number t ns d j asked new → AcceptsSome (n + 1) true ls f a h ns t d j old new
+unfolding accepts_more accepts_then
+some_more n moved ls ms ns f m number t a b c d h i j old mid asked new p u v k q r =
+    let item : Accepted = record { number = number; outcome = r.outcome } in
+    let items : p.accepts.accepted ++ (r.admits m b k u v).accepts.accepted ≡ p.accepts.accepted ++ (item ∷ []) = ap (λ (xs : List Accepted). p.accepts.accepted ++ xs) (r.admits m b k u v).items_are in
+    record {
+      accepts = accepts_more ls ms ns f m number t r.outcome a b c d h i j p.accepts u v k r.admits;
+      none = λ e. absurd (cc);
+      counted = ap length items ∙ (length_one p.accepts.accepted item ∙ ap (λ (x : ℕ). x + 1) p.counted);
+      asked = subst (λ (xs : List Accepted). AsksAccepts xs old new) (sym items) (asks_accept p.accepts.accepted item old mid asked new p.asked q r.asked);
+    }
 
 pub number_rises : (old new : ℕ) (r : Result (Option ℕ) WireFault) → GivesNumber old new r → old ≤ new
 number_rises old new (Ok (Some n)) p = (let u : old ≤ n = p.0 in let v : n < new = p.1 in omega arith)

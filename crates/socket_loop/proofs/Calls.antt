@@ -1,19 +1,25 @@
 -- The calls of a turn, one after the other.
-use Rattle.std.proofs.Common.{◌≡◌, ℕ, zero, suc, ◌+◌, ◌<◌, Bool, true, false, cond, List, [], ◌∷◌, ◌++◌, length, take, get_or, set, Option, Some, None, Result, Ok, refl, sym, ap, ◌∙◌, arith, append_assoc, append-nil, inl, inr}
+use Rattle.std.proofs.Common.{◌≡◌, ◌⊎◌, ℕ, zero, suc, ◌+◌, ◌<◌, Bool, true, false, cond, List, [], ◌∷◌, ◌++◌, length, take, get_or, set, Option, Some, None, Result, Ok, refl, sym, ap, ◌∙◌, arith, append_assoc, append-nil, inl, inr}
 use Rattle.std.proofs.lemmas.List.{length-map}
 use Rattle.std.proofs.Math.Seq.{take-append_seam}
 use Rattle.std.specs.Prelude.{not, ◌&&◌}
 use Rattle.session_slots.specs.declared.id.SessionId.{SessionId}
 use Rattle.host_core.specs.Steps.{HostState}
-use Rattle.host_core.specs.Events.{Event, Outcome, Close}
+use Rattle.host_core.specs.Events.{Event, Outcome, Refused, Close}
 use Rattle.host_core.specs.Runs.{IsStep}
 use Rattle.host_core.proofs.Chains.{run-start}
 use Rattle.socket_loop.specs.declared.wire.WireFault.{WireFault}
 use Rattle.socket_loop.specs.declared.connection.Connection.{Connection}
-use Rattle.socket_loop.specs.Asked.{Call, Accept, Shut, Asks}
+use Rattle.socket_loop.specs.Asked.{Call, Accept, Read, Write, Shut, Asks, IsCalled}
 use Rattle.socket_loop.specs.Links.{links_of}
 use Rattle.socket_loop.specs.Parts.{IsClosing}
-use Rattle.socket_loop.specs.Calls.{IsOf, Visits, AreVisitedTo, AsksTo, AsksEach, IsAdmitted, AreAccepted, AsksAdmission, AsksAccepts, AsksAll, GivesNobody, shuts_of}
+use Rattle.socket_loop.specs.Calls.{IsOf, IsVisit, Visits, is_to_read, is_to_write, is_to_shut, reads_of, writes_of, ends_of, AreVisitedTo, AsksTo, AsksEach, IsAdmitted, AreAccepted, AsksAdmission, AsksAccepts, AsksAll, GivesNobody, shuts_of}
+use Rattle.host_core.specs.declared.event.HostFault.{HostFault}
+use Rattle.host_core.specs.declared.event.HostFault.TheVariants.{Full, OutOfMemory, UnknownSession, NotReady}
+use Rattle.socket_loop.specs.Turns.{Accepted, KeepsMade}
+use Rattle.session_slots.specs.Slots.{find}
+use Rattle.host_core.specs.ById.{queued_of}
+use Rattle.socket_loop.proofs.Stirs.{made_same}
 use Rattle.socket_loop.proofs.Runs.{run-one, run-two}
 
 -- ---- what was asked
@@ -61,28 +67,83 @@ visits_closing kind id a b k c = visits_step kind id a b (Close id) c.outcome k 
 pub visits_two : (kind : Event → Type 0) (id : SessionId) (a b c : HostState) (event : Event) (o : Outcome) → kind event → kind (Close id) → IsOf id event → IsStep a (record { event = event; outcome = o }) b → IsClosing b id c → Visits kind id a c
 visits_two kind id a b c event o k l e s t = record { steps = record { event = event; outcome = o } ∷ record { event = Close id; outcome = t.outcome } ∷ []; kinds = (k, (l, tt)); of_it = (e, (refl, tt)); run = run-two a b c _ _ s t.step }
 
+-- ---- what a visit leaves
+
+-- no call, and no change
+visit_same : (x y : Connection) → y ≡ x → IsVisit [] x y
+visit_same x y e = rw e (record { link = refl; made = made_same x; shut = (λ was. inl was, λ o. elim o [ inl was ↦ was | inr none ↦ absurd none ]); ended = λ was. inl was })
+
+shut_called : (first : Call) (x y : Connection) (was : Bool) → x.is_shut ≡ was → y.is_shut ≡ true → (x.is_shut ≡ true) ⊎ IsCalled (first ∷ shuts_of x y) (Shut x.link.number)
+shut_called first x y true e f = inl e
+shut_called first x y false e f = inr (inr (rw (shuts_one x y e f) (inl refl)))
+
+called_shut : (x y : Connection) (now : Bool) → y.is_shut ≡ now → IsCalled (shuts_of x y) (Shut x.link.number) → y.is_shut ≡ true
+called_shut x y true e m = e
+called_shut x y false e m = (let none : IsCalled [] (Shut x.link.number) = rw e at m in absurd none)
+
+-- a call that is no shut, and then perhaps a shut
+visit_first : (first : Call) (x y : Connection) → (Shut x.link.number ≡ first → ⊥) → y.link ≡ x.link → KeepsMade x y → (y.has_ended ≡ true → (x.has_ended ≡ true) ⊎ IsCalled (first ∷ shuts_of x y) (Read x.link.number 4096)) → IsVisit (first ∷ shuts_of x y) x y
+visit_first first x y other link made ended = record {
+  link = link;
+  made = made;
+  shut = (
+    λ now. shut_called first x y x.is_shut refl now,
+    λ o. elim o [
+      | inl was ↦ made.shut was
+      | inr called ↦ elim called [ inl same ↦ absurd (other same) | inr later ↦ called_shut x y y.is_shut refl later ]
+    ],
+  );
+  ended = ended;
+}
+
+reads_by : (host : HostState) (x y : Connection) (due : Bool) → is_to_read host x ≡ due → y.link ≡ x.link → KeepsMade x y → (is_to_read host x ≡ false → y ≡ x) → IsVisit (reads_of host x y) x y
+reads_by host x y true e link made still = rw e (visit_first (Read x.link.number 4096) x y (λ f. absurd (cc)) link made (λ now. inr (inl refl)))
+reads_by host x y false e link made still = rw e (visit_same x y (still e))
+
+pub visit_reads : (host : HostState) (x y : Connection) → y.link ≡ x.link → KeepsMade x y → (is_to_read host x ≡ false → y ≡ x) → IsVisit (reads_of host x y) x y
+visit_reads host x y link made still = reads_by host x y (is_to_read host x) refl link made still
+
+writes_by : (host : HostState) (x y : Connection) (due : Bool) → is_to_write host x ≡ due → y.link ≡ x.link → KeepsMade x y → y.has_ended ≡ x.has_ended → (is_to_write host x ≡ false → y ≡ x) → IsVisit (writes_of host x y) x y
+writes_by host x y true e link made ended still = rw e (visit_first (Write x.link.number (queued_of (find host.slots x.link.id))) x y (λ f. absurd (cc)) link made (λ now. inl (sym ended ∙ now)))
+writes_by host x y false e link made ended still = rw e (visit_same x y (still e))
+
+pub visit_writes : (host : HostState) (x y : Connection) → y.link ≡ x.link → KeepsMade x y → y.has_ended ≡ x.has_ended → (is_to_write host x ≡ false → y ≡ x) → IsVisit (writes_of host x y) x y
+visit_writes host x y link made ended still = writes_by host x y (is_to_write host x) refl link made ended still
+
+ends_by : (host : HostState) (x y : Connection) (due : Bool) → is_to_shut host x ≡ due → y.link ≡ x.link → KeepsMade x y → y.has_ended ≡ x.has_ended → (is_to_shut host x ≡ true → y.is_shut ≡ true) → (is_to_shut host x ≡ false → y ≡ x) → IsVisit (ends_of host x y) x y
+ends_by host x y true e link made ended shuts still = rw e (record {
+  link = link;
+  made = made;
+  shut = (λ now. inr (inl refl), λ o. shuts e);
+  ended = λ now. inl (sym ended ∙ now);
+})
+ends_by host x y false e link made ended shuts still = rw e (visit_same x y (still e))
+
+pub visit_ends : (host : HostState) (x y : Connection) → y.link ≡ x.link → KeepsMade x y → y.has_ended ≡ x.has_ended → (is_to_shut host x ≡ true → y.is_shut ≡ true) → (is_to_shut host x ≡ false → y ≡ x) → IsVisit (ends_of host x y) x y
+visit_ends host x y link made ended shuts still = ends_by host x y (is_to_shut host x) refl link made ended shuts still
+
 -- ---- one connection after the other
 
 pub asks_start : (due : HostState → Connection → Connection → List Call) (kind : Event → Type 0) (h : HostState) (xs : List Connection) (a : Option (List Call)) → AsksTo 0 due kind h xs xs a a h
 asks_start due kind h xs a = record { calls = []; visited = (refl, (refl, refl)); asked = asks_none a }
 
-visited_next : (n : ℕ) (due : HostState → Connection → Connection → List Call) (kind : Event → Type 0) (h i j : HostState) (xs ys : List Connection) (calls : List Call) (y d : Connection) → n < length ys → AreVisitedTo n due kind h xs ys calls i → Visits kind (get_or ys n d).link.id i j
+visited_next : (n : ℕ) (due : HostState → Connection → Connection → List Call) (kind : Event → Type 0) (h i j : HostState) (xs ys : List Connection) (calls : List Call) (y d : Connection) → n < length ys → AreVisitedTo n due kind h xs ys calls i → IsVisit (due i (get_or ys n d) y) (get_or ys n d) y → Visits kind (get_or ys n d).link.id i j
     → AreVisitedTo (suc n) due kind h xs (set ys n y) (calls ++ due i (get_or ys n d) y) j
-visited_next zero due kind h i j xs [] calls y d lt p v = absurd (omega (arith, lt))
-visited_next zero due kind h i j xs (z ∷ zs) calls y d lt p v =
-    rw (sym p.0, p.1.0, sym p.1.1) (j, ([], (sym (append-nil (due i z y)), (v, (refl, (refl, refl))))))
-visited_next (suc n) due kind h i j [] ys calls y d lt p v = absurd p
-visited_next (suc n) due kind h i j (x ∷ xs) [] calls y d lt p v = absurd p
-visited_next (suc n) due kind h i j (x ∷ xs) (z ∷ zs) calls y d lt p v =
-    (p.0, (p.1.0 ++ due i (get_or zs n d) y, (ap (λ (l : List Call). l ++ due i (get_or zs n d) y) p.1.1.0 ∙ append_assoc (due h x z) p.1.0 (due i (get_or zs n d) y), (p.1.1.1.0, visited_next n due kind p.0 i j xs zs p.1.0 y d (omega (arith, lt)) p.1.1.1.1 v))))
+visited_next zero due kind h i j xs [] calls y d lt p w v = absurd (omega (arith, lt))
+visited_next zero due kind h i j xs (z ∷ zs) calls y d lt p w v =
+    rw (sym p.0, p.1.0, sym p.1.1) (j, ([], (sym (append-nil (due i z y)), (w, (v, (refl, (refl, refl)))))))
+visited_next (suc n) due kind h i j [] ys calls y d lt p w v = absurd p
+visited_next (suc n) due kind h i j (x ∷ xs) [] calls y d lt p w v = absurd p
+visited_next (suc n) due kind h i j (x ∷ xs) (z ∷ zs) calls y d lt p w v =
+    (p.0, (p.1.0 ++ due i (get_or zs n d) y, (ap (λ (l : List Call). l ++ due i (get_or zs n d) y) p.1.1.0 ∙ append_assoc (due h x z) p.1.0 (due i (get_or zs n d) y), (p.1.1.1.0, (p.1.1.1.1.0, visited_next n due kind p.0 i j xs zs p.1.0 y d (omega (arith, lt)) p.1.1.1.1.1 w v)))))
 
-pub asks_next : (n : ℕ) (due : HostState → Connection → Connection → List Call) (kind : Event → Type 0) (h i j : HostState) (xs ys : List Connection) (y d : Connection) (a b c : Option (List Call)) → n < length ys → AsksTo n due kind h xs ys a b i → Visits kind (get_or ys n d).link.id i j → Asks b c (due i (get_or ys n d) y)
+pub asks_next : (n : ℕ) (due : HostState → Connection → Connection → List Call) (kind : Event → Type 0) (h i j : HostState) (xs ys : List Connection) (y d : Connection) (a b c : Option (List Call)) → n < length ys → AsksTo n due kind h xs ys a b i → IsVisit (due i (get_or ys n d) y) (get_or ys n d) y → Visits kind (get_or ys n d).link.id i j → Asks b c (due i (get_or ys n d) y)
     → AsksTo (n + 1) due kind h xs (set ys n y) a c j
-asks_next n due kind h i j xs ys y d a b c lt p v q =
+asks_next n due kind h i j xs ys y d a b c lt p w v q =
     let one : n + 1 ≡ suc n = omega arith in
     rw one (record {
       calls = p.calls ++ due i (get_or ys n d) y;
-      visited = visited_next n due kind h i j xs ys p.calls y d lt p.visited v;
+      visited = visited_next n due kind h i j xs ys p.calls y d lt p.visited w v;
       asked = asks_then a b c p.calls (due i (get_or ys n d) y) p.asked q;
     })
 
@@ -94,30 +155,27 @@ asks_end n m due kind h i xs ys rest a b e f same p =
 
 -- ---- new connections
 
-accepted_next : (n : ℕ) (calls : List Call) (number : ℕ) (more : List Call) → AreAccepted n calls → IsAdmitted number more → AreAccepted (suc n) (calls ++ (Accept (Ok (Some number)) ∷ more))
-accepted_next zero calls number more p m = rw p (number, (more, ([], (ap (λ (l : List Call). Accept (Ok (Some number)) ∷ l) (sym (append-nil more)), (m, refl)))))
-accepted_next (suc n) calls number more p m =
-    let first = p.1.0 in
-    let rest = p.1.1.0 in
-    let is : calls ≡ Accept (Ok (Some p.0)) ∷ (first ++ rest) = p.1.1.1.0 in
-    (p.0, (first, (rest ++ (Accept (Ok (Some number)) ∷ more), (rw is (ap (λ (l : List Call). Accept (Ok (Some p.0)) ∷ l) (append_assoc first rest (Accept (Ok (Some number)) ∷ more))), (p.1.1.1.1.0, accepted_next n rest number more p.1.1.1.1.1 m)))))
+accepted_next : (items : List Accepted) (calls : List Call) (item : Accepted) (more : List Call) → AreAccepted items calls → IsAdmitted item.number item.outcome more → AreAccepted (items ++ (item ∷ [])) (calls ++ (Accept (Ok (Some item.number)) ∷ more))
+accepted_next [] calls item more p m = rw p (more, ([], (ap (λ (l : List Call). Accept (Ok (Some item.number)) ∷ l) (sym (append-nil more)), (m, refl))))
+accepted_next (x ∷ items) calls item more p m =
+    let first = p.0 in
+    let rest = p.1.0 in
+    let is : calls ≡ Accept (Ok (Some x.number)) ∷ (first ++ rest) = p.1.1.0 in
+    (first, (rest ++ (Accept (Ok (Some item.number)) ∷ more), (rw is (ap (λ (l : List Call). Accept (Ok (Some x.number)) ∷ l) (append_assoc first rest (Accept (Ok (Some item.number)) ∷ more))), (p.1.1.1.0, accepted_next items rest item more p.1.1.1.1 m))))
 
-pub asks_no_accept : (a : Option (List Call)) → AsksAccepts 0 a a
+pub asks_no_accept : (a : Option (List Call)) → AsksAccepts [] a a
 asks_no_accept a = record { calls = []; accepted = refl; asked = asks_none a }
 
-pub asks_accept : (n : ℕ) (a b c d : Option (List Call)) (number : ℕ) → AsksAccepts n a b → Asks b c (Accept (Ok (Some number)) ∷ []) → AsksAdmission number c d → AsksAccepts (n + 1) a d
-asks_accept n a b c d number p q r =
-    let one : n + 1 ≡ suc n = omega arith in
-    rw one (record {
-      calls = p.calls ++ (Accept (Ok (Some number)) ∷ r.calls);
-      accepted = accepted_next n p.calls number r.calls p.accepted r.admitted;
-      asked = asks_then a b d p.calls (Accept (Ok (Some number)) ∷ r.calls) p.asked (asks_then b c d (Accept (Ok (Some number)) ∷ []) r.calls q r.asked);
-    })
+pub asks_accept : (items : List Accepted) (item : Accepted) (a b c d : Option (List Call)) → AsksAccepts items a b → Asks b c (Accept (Ok (Some item.number)) ∷ []) → AsksAdmission item.number item.outcome c d → AsksAccepts (items ++ (item ∷ [])) a d
+asks_accept items item a b c d p q r = record {
+  calls = p.calls ++ (Accept (Ok (Some item.number)) ∷ r.calls);
+  accepted = accepted_next items p.calls item r.calls p.accepted r.admitted;
+  asked = asks_then a b d p.calls (Accept (Ok (Some item.number)) ∷ r.calls) p.asked (asks_then b c d (Accept (Ok (Some item.number)) ∷ []) r.calls q r.asked);
+}
 
 -- an accept gave nobody
-pub asks_stop : (n : ℕ) (a b c : Option (List Call)) (answer : Result (Option ℕ) WireFault) → n < 16 → AsksAccepts n a b → Asks b c (Accept answer ∷ []) → GivesNobody answer → AsksAll a c
-asks_stop n a b c answer lt p q g = record {
-  count = n;
+pub asks_stop : (items : List Accepted) (a b c : Option (List Call)) (answer : Result (Option ℕ) WireFault) → length items < 16 → AsksAccepts items a b → Asks b c (Accept answer ∷ []) → GivesNobody answer → AsksAll items a c
+asks_stop items a b c answer lt p q g = record {
   first = p.calls;
   last = Accept answer ∷ [];
   accepted = p.accepted;
@@ -125,5 +183,12 @@ asks_stop n a b c answer lt p q g = record {
   asked = asks_then a b c p.calls (Accept answer ∷ []) p.asked q;
 }
 
-pub asks_full : (n : ℕ) (a b : Option (List Call)) → n ≡ 16 → AsksAccepts n a b → AsksAll a b
-asks_full n a b e p = record { count = n; first = p.calls; last = []; accepted = p.accepted; ends = inl (e, refl); asked = rw (append-nil p.calls) p.asked }
+pub asks_full : (items : List Accepted) (a b : Option (List Call)) → length items ≡ 16 → AsksAccepts items a b → AsksAll items a b
+asks_full items a b e p = record { first = p.calls; last = []; accepted = p.accepted; ends = inl (e, refl); asked = rw (append-nil p.calls) p.asked }
+
+-- memory was refused for a session
+pub refused_admitted : (number : ℕ) (fault : HostFault) → (fault ≡ Full → ⊥) → IsAdmitted number (Refused fault) (Shut number ∷ [])
+refused_admitted number Full f = absurd (f refl)
+refused_admitted number OutOfMemory f = refl
+refused_admitted number UnknownSession f = refl
+refused_admitted number NotReady f = refl

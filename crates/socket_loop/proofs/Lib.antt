@@ -11,3 +11,7 @@ pub mod Pending
 pub mod Turning
 pub mod Calls
 pub mod Rising
+pub mod Lives
+pub mod Endings
+pub mod Left
+pub mod Loads

@@ -1,12 +1,12 @@
 -- Connections whose reads have ended, and connections that were shut.
 use Rattle.std.proofs.Common.{◌≡◌, ◌⊎◌, ℕ, zero, suc, ◌<◌, Bool, true, false, List, [], ◌∷◌, length, get_or, set, refl, sym, ap, ◌∙◌, arith, inl, inr}
 use Rattle.std.specs.Prelude.{filter, insert, not}
-use Rattle.std.proofs.lemmas.Bool.{both_ways}
+use Rattle.std.proofs.lemmas.Bool.{both_ways, cond_both}
 use Rattle.socket_loop.specs.declared.connection.Link.{Link}
 use Rattle.socket_loop.specs.declared.connection.Connection.{Connection}
 use Rattle.socket_loop.specs.Told.{Told, IsRaised}
-use Rattle.socket_loop.specs.Links.{IsAmong, IsMarked, links_of, reads_ended, was_shut}
-use Rattle.socket_loop.specs.Parts.{AllMove, IsEmptied, KeepsAllMarks, AddsNoMark}
+use Rattle.socket_loop.specs.Links.{IsAmong, IsHeld, IsMarked, links_of, reads_ended, was_shut}
+use Rattle.socket_loop.specs.Parts.{AllMove, IsEmptied, KeepsAllMarks, AddsNoMark, Grows}
 use Rattle.socket_loop.proofs.Peers.{emptied_move, move_emptied, raised_rises, rises_raised}
 
 marked_set : (mark : Connection → Bool) (items : List Connection) (i : ℕ) (y : Connection) (n : ℕ) → IsMarked mark (set items i y) n → ((y.link.number ≡ n) × (mark y ≡ true)) ⊎ IsMarked mark items n
@@ -97,3 +97,40 @@ ended_visit held items i d y lt same e so_far n m = elim (marked_set reads_ended
       so_far n (rw number at (marked_at reads_ended items i d lt (sym e ∙ new.1)))
   | inr old ↦ so_far n old
 ]
+
+pub marked_filter : (mark p : Connection → Bool) (xs : List Connection) (n : ℕ) → IsMarked mark (filter p xs) n → IsMarked mark xs n
+marked_filter mark p [] n m = m
+marked_filter mark p (x ∷ xs) n m =
+    cond_both (p x) (x ∷ filter p xs) (filter p xs) (λ (zs : List Connection). IsMarked mark zs n → IsMarked mark (x ∷ xs) n)
+    (λ yes o. elim o [ inl here ↦ inl here | inr rest ↦ inr (marked_filter mark p xs n rest) ])
+    (λ no o. inr (marked_filter mark p xs n o)) m
+
+-- ---- what is held
+
+held_insert : (held : List Connection) (place : ℕ) (c x : Connection) → IsHeld (insert held place c) x → (x ≡ c) ⊎ IsHeld held x
+held_insert [] zero c x m = m
+held_insert [] (suc i) c x m = m
+held_insert (y ∷ ys) zero c x m = m
+held_insert (y ∷ ys) (suc i) c x (inl e) = inr (inl e)
+held_insert (y ∷ ys) (suc i) c x (inr m) = elim (held_insert ys i c x m) [ inl e ↦ inl e | inr n ↦ inr (inr n) ]
+
+insert_held : (held : List Connection) (place : ℕ) (c x : Connection) → IsHeld held x → IsHeld (insert held place c) x
+insert_held [] i c x m = absurd m
+insert_held (y ∷ ys) zero c x m = inr m
+insert_held (y ∷ ys) (suc i) c x (inl e) = inl e
+insert_held (y ∷ ys) (suc i) c x (inr m) = inr (insert_held ys i c x m)
+
+pub grows_same : (held : List Connection) → Grows held held
+grows_same held = record { kept = λ x m. m; unmarked = λ x m. inl m }
+
+pub grows_then : (xs ys zs : List Connection) → Grows xs ys → Grows ys zs → Grows xs zs
+grows_then xs ys zs p q = record {
+  kept = λ x m. q.kept x (p.kept x m);
+  unmarked = λ x m. elim (q.unmarked x m) [ inl mid ↦ p.unmarked x mid | inr new ↦ inr new ];
+}
+
+pub grows_insert : (held : List Connection) (place : ℕ) (c : Connection) → c.has_ended ≡ false → c.is_shut ≡ false → Grows held (insert held place c)
+grows_insert held place c e f = record {
+  kept = λ x m. insert_held held place c x m;
+  unmarked = λ x m. elim (held_insert held place c x m) [ inl same ↦ inr (rw same (e, f)) | inr old ↦ inl old ];
+}

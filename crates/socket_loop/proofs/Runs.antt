@@ -1,17 +1,17 @@
 -- Runs of a host, one after the other.
 use Rattle.std.proofs.Common.{◌≡◌, ◌⊎◌, ℕ, ◌<◌, ◌≤◌, Bool, true, false, List, [], ◌∷◌, ◌++◌, Option, Some, None, refl, sym, ap, ◌∙◌, arith, append_assoc, inl, inr}
 use Rattle.std.specs.Prelude.{◌||◌}
-use Rattle.std.proofs.lemmas.Bool.{or_left, or_right, or_cases}
+use Rattle.std.proofs.lemmas.Bool.{or_left, or_right, or_cases, or_from}
 use Rattle.session_slots.specs.declared.id.SessionId.{SessionId}
 use Rattle.session_slots.specs.Slots.{find}
 use Rattle.usi_session.specs.Due.{SessionView}
 use Rattle.host_core.specs.Steps.{HostState, Stepped, IsClosed}
-use Rattle.host_core.specs.Events.{Event, Outcome, Close}
+use Rattle.host_core.specs.Events.{Event, Outcome, Open, Feed, Work, Take, Close}
 use Rattle.host_core.specs.Made.{Step, own, taken, own_by, taken_by, opens, is_opened}
 use Rattle.host_core.specs.Runs.{IsStep, IsRun}
 use Rattle.host_core.specs.Rounds.{works}
 use Rattle.host_core.proofs.Sees.{rises}
-use Rattle.socket_loop.specs.Parts.{IsGone, AreAll, closes, closes_by, starves, starves_by}
+use Rattle.socket_loop.specs.Parts.{IsGone, AreAll, IsAdmission, LeavesAlone, closes, closes_by, starves, starves_by}
 use Rattle.socket_loop.specs.Turns.{openings, openings_by}
 
 pub run-one : (old new : HostState) (step : Step) → IsStep old step new → IsRun old (step ∷ []) new
@@ -89,6 +89,41 @@ starves_left id (s ∷ rest) b e = either_left (starves_by id s.event s.outcome)
 pub starves_right : (id : SessionId) (a b : List Step) → starves id b ≡ true → starves id (a ++ b) ≡ true
 starves_right id [] b e = e
 starves_right id (s ∷ rest) b e = or_right (starves_by id s.event s.outcome) (starves id (rest ++ b)) (starves_right id rest b e)
+
+pub starves_either : (id : SessionId) (a b : List Step) → starves id (a ++ b) ≡ true → (starves id a ≡ true) ⊎ (starves id b ≡ true)
+starves_either id [] b e = inr e
+starves_either id (s ∷ rest) b e = elim (or_cases (starves_by id s.event s.outcome) (starves id (rest ++ b)) e) [
+  | inl now ↦ inl (or_left (starves_by id s.event s.outcome) (starves id rest) now)
+  | inr later ↦ elim (starves_either id rest b later) [ inl first ↦ inl (or_right (starves_by id s.event s.outcome) (starves id rest) first) | inr second ↦ inr second ]
+]
+
+pub starves_neither : (id : SessionId) (a b : List Step) → starves id a ≡ false → starves id b ≡ false → starves id (a ++ b) ≡ false
+starves_neither id [] b e f = f
+starves_neither id (s ∷ rest) b e f = closes_more (starves_by id s.event s.outcome) (starves id rest) (starves id (rest ++ b)) (λ g. starves_neither id rest b g f) e
+
+pub starves-works : (id : SessionId) (budget : ℕ) (ids : List SessionId) (os : List Outcome) → starves id (works budget ids os) ≡ false
+starves-works id budget [] os = refl
+starves-works id budget (i ∷ ids) [] = refl
+starves-works id budget (i ∷ ids) (o ∷ os) = starves-works id budget ids os
+
+starves_admission : (id : SessionId) (event : Event) (o : Outcome) → IsAdmission event → starves_by id event o ≡ false
+starves_admission id Open o k = refl
+starves_admission id (Feed other chunk) o k = absurd k
+starves_admission id (Work other n) o k = absurd k
+starves_admission id (Take other n) o k = absurd k
+starves_admission id (Close other) o k = refl
+
+-- no opening or closing starves
+pub starves-admissions : (id : SessionId) (steps : List Step) → AreAll IsAdmission steps → starves id steps ≡ false
+starves-admissions id [] k = refl
+starves-admissions id (s ∷ rest) k = or_from (starves_by id s.event s.outcome) (starves id rest) (starves_admission id s.event s.outcome k.0) (starves-admissions id rest k.1)
+
+pub alone_then : (id : SessionId) (a b : List Step) → LeavesAlone id a → LeavesAlone id b → LeavesAlone id (a ++ b)
+alone_then id a b p q = record {
+  stored = own-append id a b ∙ rw (p.stored, q.stored) refl;
+  passed = taken-append id a b ∙ rw (p.passed, q.passed) refl;
+  kept = closes_neither id a b p.kept q.kept;
+}
 
 pub opened_left : (id : SessionId) (a b : List Step) → is_opened id a ≡ true → is_opened id (a ++ b) ≡ true
 opened_left id [] b e = absurd (cc)

@@ -8,7 +8,7 @@ use Rattle.host_core.specs.Steps.{HostState}
 use Rattle.socket_loop.specs.declared.connection.Connection.{Connection}
 use Rattle.socket_loop.specs.declared.wire.Got.TheVariants.{Bytes}
 use Rattle.socket_loop.specs.Told.{Told, KeepsAll, Reads, Writes}
-use Rattle.socket_loop.specs.Links.{links_of}
+use Rattle.socket_loop.specs.Links.{links_of, IsAmong}
 use Rattle.socket_loop.specs.Parts.{AllMove}
 use Rattle.socket_loop.proofs.Peers.{all_kept}
 use Rattle.socket_loop.specs.Turns.{IsShorter, IsLonger, Transfers, KeepsMade, EndsOrShuts, AllKeepMade, OneEndsOrShuts, Stirs, HasMoved, IsQuiet, any_pending}
@@ -137,51 +137,56 @@ one_set (x ∷ xs) (suc i) d y lt p = inr (one_set xs i d y (omega arith) p)
 -- ---- one part after the other
 
 pub stirs_then : (a b c : Told) (xs ys zs : List Connection) → Stirs a xs b ys → AllMove b c → AllKeepMade ys zs → Stirs a xs c zs
-stirs_then a b c xs ys zs (inl p) m k = inl (p.0, transfers_then a b c p.0 p.1 m)
+stirs_then a b c xs ys zs (inl p) m k = inl (p.0, (p.1.0, transfers_then a b c p.0.number p.1.1 m))
 stirs_then a b c xs ys zs (inr p) m k = inr (one_then xs ys zs p k)
 
-pub then_stirs : (a b c : Told) (xs ys zs : List Connection) → AllMove a b → AllKeepMade xs ys → Stirs b ys c zs → Stirs a xs c zs
-then_stirs a b c xs ys zs m k (inl p) = inl (p.0, then_transfers a b c p.0 m p.1)
-then_stirs a b c xs ys zs m k (inr p) = inr (then_one xs ys zs k p)
+pub then_stirs : (a b c : Told) (xs ys zs : List Connection) → links_of ys ≡ links_of xs → AllMove a b → AllKeepMade xs ys → Stirs b ys c zs → Stirs a xs c zs
+then_stirs a b c xs ys zs same m k (inl p) = inl (p.0, (rw same at p.1.0, then_transfers a b c p.0.number m p.1.1))
+then_stirs a b c xs ys zs same m k (inr p) = inr (then_one xs ys zs k p)
+
+pub among_at : (items : List Connection) (i : ℕ) (d : Connection) → i < length items → IsAmong (links_of items) (get_or items i d).link
+among_at [] i d lt = absurd (omega arith)
+among_at (x ∷ xs) zero d lt = inl refl
+among_at (x ∷ xs) (suc i) d lt = inr (among_at xs i d (omega arith))
 
 -- one connection was visited
-pub stirs_next : (moved has : Bool) (a b c : Told) (xs items : List Connection) (i : ℕ) (d y : Connection) → i < length items → AllMove a b → AllMove b c → AllKeepMade xs items → KeepsMade (get_or items i d) y → (moved ≡ true → Stirs a xs b items)
+pub stirs_next : (moved has : Bool) (a b c : Told) (xs items : List Connection) (i : ℕ) (d y : Connection) → i < length items → links_of items ≡ links_of xs → AllMove a b → AllMove b c → AllKeepMade xs items → KeepsMade (get_or items i d) y → (moved ≡ true → Stirs a xs b items)
     → (has ≡ true → Transfers b c (get_or items i d).link.number ⊎ EndsOrShuts (get_or items i d) y) → (moved || has) ≡ true → Stirs a xs c (set items i y)
-stirs_next moved has a b c xs items i d y lt j k made here p q e = elim (or_cases moved has e) [
+stirs_next moved has a b c xs items i d y lt same j k made here p q e = elim (or_cases moved has e) [
   | inl before ↦ stirs_then a b c xs items (set items i y) (p before) k (all_made_set items i d y here)
-  | inr now ↦ then_stirs a b c xs items (set items i y) j made (visit (q now))
+  | inr now ↦ then_stirs a b c xs items (set items i y) same j made (visit (q now))
 ]
   where
     visit : Transfers b c (get_or items i d).link.number ⊎ EndsOrShuts (get_or items i d) y → Stirs b items c (set items i y)
-    visit (inl t) = inl ((get_or items i d).link.number, t)
+    visit (inl t) = inl ((get_or items i d).link, (among_at items i d lt, t))
     visit (inr r) = inr (one_set items i d y lt r)
 
 -- the parts after the accepting
-pub parts_stir : (q r s : Bool) (b c d e : Told) (ys zs ws vs : List Connection) → AllMove b c → AllMove c d → AllMove d e → AllKeepMade ys zs → AllKeepMade zs ws → AllKeepMade ws vs → (q ≡ true → Stirs b ys c zs) → (r ≡ true → Stirs c zs d ws) → (s ≡ true → Stirs d ws e vs) → ((q || r) || s) ≡ true → Stirs b ys e vs
-parts_stir q r s b c d e ys zs ws vs j k l m n o f g h any = elim (or_cases (q || r) s any) [
+pub parts_stir : (q r s : Bool) (b c d e : Told) (ys zs ws vs : List Connection) → links_of zs ≡ links_of ys → links_of ws ≡ links_of zs → AllMove b c → AllMove c d → AllMove d e → AllKeepMade ys zs → AllKeepMade zs ws → AllKeepMade ws vs → (q ≡ true → Stirs b ys c zs) → (r ≡ true → Stirs c zs d ws) → (s ≡ true → Stirs d ws e vs) → ((q || r) || s) ≡ true → Stirs b ys e vs
+parts_stir q r s b c d e ys zs ws vs one two j k l m n o f g h any = elim (or_cases (q || r) s any) [
   | inl first ↦ stirs_then b d e ys ws vs (elim (or_cases q r first) [
     | inl read ↦ stirs_then b c d ys zs ws (f read) k n
-    | inr written ↦ then_stirs b c d ys zs ws j m (g written)
+    | inr written ↦ then_stirs b c d ys zs ws one j m (g written)
   ]) l o
-  | inr last ↦ then_stirs b c e ys zs vs j m (then_stirs c d e zs ws vs k n (h last))
+  | inr last ↦ then_stirs b c e ys zs vs one j m (then_stirs c d e zs ws vs two k n (h last))
 ]
 
-moved_parts : (p q r s : Bool) (from to : ℕ) (a b c d e : Told) (held ys zs ws vs now : List Connection) (host : HostState) → (p ≡ true → from < to) → IsQuiet p a held b ys → AllMove b c → AllMove c d → AllMove d e → AllKeepMade ys zs → AllKeepMade zs ws → AllKeepMade ws vs
+moved_parts : (p q r s : Bool) (from to : ℕ) (a b c d e : Told) (held ys zs ws vs now : List Connection) (host : HostState) → (p ≡ true → from < to) → IsQuiet p a held b ys → links_of zs ≡ links_of ys → links_of ws ≡ links_of zs → AllMove b c → AllMove c d → AllMove d e → AllKeepMade ys zs → AllKeepMade zs ws → AllKeepMade ws vs
     → (q ≡ true → Stirs b ys c zs) → (r ≡ true → Stirs c zs d ws) → (s ≡ true → Stirs d ws e vs) → links_of vs ≡ links_of ys → now ≡ filter (λ x. not x.is_shut) vs → (((p || q) || r) || s) ≡ true → HasMoved from a held to e now host
-moved_parts true q r s from to a b c d e held ys zs ws vs now host accepted quiet j k l m n o f g h links left any = inl (accepted refl)
-moved_parts false q r s from to a b c d e held ys zs ws vs now host accepted quiet j k l m n o f g h links left any =
+moved_parts true q r s from to a b c d e held ys zs ws vs now host accepted quiet one two j k l m n o f g h links left any = inl (accepted refl)
+moved_parts false q r s from to a b c d e held ys zs ws vs now host accepted quiet one two j k l m n o f g h links left any =
     let nothing : KeepsAll a b × (ys ≡ held) = quiet refl in
     inr (inl (record {
       last = vs;
       links = links ∙ ap links_of nothing.1;
       left = left;
-      stirs = then_stirs a b e held ys vs (all_kept a b nothing.0) (rw nothing.1 (all_made_same held)) (parts_stir q r s b c d e ys zs ws vs j k l m n o f g h any);
+      stirs = then_stirs a b e held ys vs (ap links_of nothing.1) (all_kept a b nothing.0) (rw nothing.1 (all_made_same held)) (parts_stir q r s b c d e ys zs ws vs one two j k l m n o f g h any);
     }))
 
 -- a turn that moved
-pub moved_turn : (p q r s t : Bool) (from to : ℕ) (a b c d e : Told) (held ys zs ws vs now : List Connection) (host : HostState) → (p ≡ true → from < to) → IsQuiet p a held b ys → AllMove b c → AllMove c d → AllMove d e → AllKeepMade ys zs → AllKeepMade zs ws → AllKeepMade ws vs
+pub moved_turn : (p q r s t : Bool) (from to : ℕ) (a b c d e : Told) (held ys zs ws vs now : List Connection) (host : HostState) → (p ≡ true → from < to) → IsQuiet p a held b ys → links_of zs ≡ links_of ys → links_of ws ≡ links_of zs → AllMove b c → AllMove c d → AllMove d e → AllKeepMade ys zs → AllKeepMade zs ws → AllKeepMade ws vs
     → (q ≡ true → Stirs b ys c zs) → (r ≡ true → Stirs c zs d ws) → (s ≡ true → Stirs d ws e vs) → links_of vs ≡ links_of ys → now ≡ filter (λ x. not x.is_shut) vs → t ≡ any_pending host (links_of now) → ((((p || q) || r) || s) || t) ≡ true → HasMoved from a held to e now host
-moved_turn p q r s t from to a b c d e held ys zs ws vs now host accepted quiet j k l m n o f g h links left pending any = elim (or_cases (((p || q) || r) || s) t any) [
-  | inl parts ↦ moved_parts p q r s from to a b c d e held ys zs ws vs now host accepted quiet j k l m n o f g h links left parts
+moved_turn p q r s t from to a b c d e held ys zs ws vs now host accepted quiet one two j k l m n o f g h links left pending any = elim (or_cases (((p || q) || r) || s) t any) [
+  | inl parts ↦ moved_parts p q r s from to a b c d e held ys zs ws vs now host accepted quiet one two j k l m n o f g h links left parts
   | inr last ↦ inr (inr (sym pending ∙ last))
 ]

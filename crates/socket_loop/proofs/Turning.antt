@@ -1,6 +1,6 @@
 -- A whole turn.
-use Rattle.std.proofs.Common.{◌≡◌, ◌⊎◌, ℕ, ◌<◌, ◌≤◌, Bool, true, List, [], ◌∷◌, ◌++◌, Option, Some, None, refl, sym, arith, inl, inr}
-use Rattle.std.specs.Prelude.{filter, not, IsSome}
+use Rattle.std.proofs.Common.{◌≡◌, ◌⊎◌, ℕ, ◌<◌, ◌≤◌, Bool, true, false, List, [], ◌∷◌, ◌++◌, Option, Some, None, refl, sym, arith, inl, inr}
+use Rattle.std.specs.Prelude.{filter, not, ◌||◌, IsSome}
 use Rattle.std.proofs.lemmas.Bool.{cond_both}
 use Rattle.std.proofs.KnownBytes.{Appends-kept, Keeps-trans}
 use Rattle.session_slots.specs.declared.id.SessionId.{SessionId}
@@ -17,17 +17,19 @@ use Rattle.host_core.proofs.OneSession.{kept, opened_ends}
 use Rattle.socket_loop.specs.declared.connection.Link.{Link}
 use Rattle.socket_loop.specs.declared.connection.Connection.{Connection}
 use Rattle.socket_loop.specs.Told.{Told, KeepsPeer, IsRaised}
-use Rattle.socket_loop.specs.Links.{IsTied, IsAmong, IsMarked, links_of, reads_ended, was_shut}
-use Rattle.socket_loop.specs.Parts.{IsGone, Carried, Carries, Serves, IsInput, IsOutput, IsEnd, IsEmptied, AllMove, KeepsAllMarks, AddsNoMark}
-use Rattle.socket_loop.specs.Turns.{FitsOne, Fits, Accepted, IsTurnedAway, IsNew, Accepts, IsTurn, Served, GoesOnServing, ServesNew}
+use Rattle.socket_loop.specs.Links.{IsTied, IsAmong, IsApart, IsMarked, IsRising, links_of, reads_ended, was_shut}
+use Rattle.socket_loop.specs.Parts.{IsGone, closes, Carried, Carries, Serves, IsInput, IsOutput, IsEnd, IsEmptied, AllMove, KeepsAllMarks, AddsNoMark, Grows}
+use Rattle.socket_loop.specs.Asked.{Call}
+use Rattle.socket_loop.specs.Calls.{AcceptsAll, AsksAll, AsksEach, AsksTurn, reads_of, writes_of, ends_of}
+use Rattle.socket_loop.specs.Turns.{FitsOne, Fits, Accepted, HasSession, Joins, IsTurnedAway, IsNew, Accepts, IsTurn, Served, GoesOnServing, ServesNew}
 use Rattle.socket_loop.proofs.Peers.{kept_then, moves_then, emptied_move, raised_rises, rises_then, stays_rise, known_move}
-use Rattle.socket_loop.proofs.Runs.{run-append, next_rises, opened_left}
+use Rattle.socket_loop.proofs.Runs.{run-append, next_rises, opened_left, starves-admissions, alone_then}
 use Rattle.socket_loop.proofs.Parts.{carried_nothing, carried_then, carries_then, carries_round}
-use Rattle.socket_loop.proofs.Marks.{marks_none, marks_then, let_go}
+use Rattle.socket_loop.proofs.Marks.{marks_none, marks_then, marked_filter, let_go}
+use Rattle.socket_loop.proofs.Quiet.{either_false}
 
-each_kept : (f t : ℕ) (x : List Accepted) (a b c : Told) (n : ℕ) → KeepsPeer a b n ⊎ IsTurnedAway f t x a b n → KeepsPeer b c n → KeepsPeer a c n ⊎ IsTurnedAway f t x a c n
-each_kept f t x a b c n (inl k) q = inl (kept_then a b c n k q)
-each_kept f t x a b c n (inr w) q = inr (record {
+away_kept : (f t : ℕ) (x : List Accepted) (a b c : Told) (n : ℕ) → IsTurnedAway f t x a b n → KeepsPeer b c n → IsTurnedAway f t x a c n
+away_kept f t x a b c n w q = record {
   least = w.least;
   most = w.most;
   outcome = w.outcome;
@@ -38,15 +40,20 @@ each_kept f t x a b c n (inr w) q = inr (record {
   appended = Appends-kept _ _ _ _ w.appended q.written;
   shut = raised_rises _ _ _ w.shut (stays_rise _ _ q.shut);
   failed = rises_then _ _ _ w.failed (stays_rise _ _ q.failed);
-})
+}
+
+each_kept : (f t : ℕ) (x : List Accepted) (a b c : Told) (n : ℕ) → KeepsPeer a b n ⊎ IsTurnedAway f t x a b n → KeepsPeer b c n → KeepsPeer a c n ⊎ IsTurnedAway f t x a c n
+each_kept f t x a b c n (inl k) q = inl (kept_then a b c n k q)
+each_kept f t x a b c n (inr w) q = inr (away_kept f t x a b c n w q)
 
 met_keeps : (ls : List Link) (f t : ℕ) (x : List Accepted) (g : ℕ) (a b : Told) (h : HostState) (s : List Step) (l : Link) → Fits ls f h → ((n : ℕ) → n < f → KeepsPeer a b n) → IsAmong ls l ⊎ IsNew f t x g a b s l → KeepsPeer a b l.number
 met_keeps ls f t x g a b h s l fit k (inl old) = k l.number (fit l old).number
 met_keeps ls f t x g a b h s l fit k (inr new) = new.kept
 
-met_are : (ls : List Link) (f t : ℕ) (x : List Accepted) (g : ℕ) (a b : Told) (s r : List Step) (l : Link) → IsAmong ls l ⊎ IsNew f t x g a b s l → IsAmong ls l ⊎ (is_opened l.id (s ++ r) ≡ true)
-met_are ls f t x g a b s r l (inl old) = inl old
-met_are ls f t x g a b s r l (inr new) = inr (opened_left l.id s r new.opened)
+-- a connection that was accepted joins
+met_are : (ls : List Link) (f t : ℕ) (x : List Accepted) (g last : ℕ) (a b : Told) (s : List Step) (l : Link) → l.id.generation < last → closes l.id s ≡ false → IsAmong ls l ⊎ IsNew f t x g a b s l → IsAmong ls l ⊎ Joins f t x g last s l
+met_are ls f t x g last a b s l lt unclosed (inl old) = inl old
+met_are ls f t x g last a b s l lt unclosed (inr new) = inr (record { least = new.least; most = new.most; answered = new.answered; opened = new.opened; unclosed = unclosed; fresh = new.fresh; below = lt })
 
 -- a connection that is held no more was shut, or was marked as shut before
 went : (t : ℕ) (a e : Told) (held last : List Connection) (l : Link) → KeepsAllMarks t a held e last → IsAmong (links_of (filter (λ x. not x.is_shut) last)) l ⊎ IsMarked was_shut last l.number
@@ -61,16 +68,37 @@ among_filtered p (y ∷ ys) x n =
     (λ yes o. elim o [ inl same_ ↦ inl same_ | inr rest ↦ inr (among_filtered p ys x rest) ])
     (λ no o. inr (among_filtered p ys x o)) n
 
+-- ---- one connection
+
+some_none : (found : Option SessionView) (lost : List ℕ) → found ≡ None → IsSome found → lost ≡ []
+some_none None lost e some = absurd (cc)
+some_none (Some t) lost e some = absurd (cc)
+
+pub not_lost : (host : HostState) (id : SessionId) (lost : List ℕ) {P : Type 0} → (lost ≡ []) ⊎ (IsGone host id × P) → IsSome (find host.slots id) → lost ≡ []
+not_lost host id lost (inl e) some = e
+not_lost host id lost (inr g) some = some_none (find host.slots id) lost g.0.none some
+
+served : (owes : List ℕ → List ℕ) (marks : List Connection) (bound : ℕ) (a b : Told) (h m : HostState) (steps : List Step) (l : Link) → Carried marks bound a h steps b m l → EndsFrom owes (own l.id steps) (taken l.id steps) (find m.slots l.id) → Served owes a b l.number (find m.slots l.id)
+served owes marks bound a b h m steps l c ends =
+    record { read = own l.id steps; lost = c.lost; written = taken l.id steps; consumed = c.consumed; appended = c.appended; ends = ends; whole = λ some. not_lost m l.id c.lost c.whole some }
+
+starts_one : (ls : List Link) (f t : ℕ) (x : List Accepted) (g : ℕ) (marks : List Connection) (a b : Told) (h m : HostState) (first steps : List Step) (l : Link) → IsRun h steps m → Carried marks t a h steps b m l → ((is_opened l.id first ≡ true) → is_opened l.id steps ≡ true) → IsAmong ls l ⊎ Joins f t x g m.slots.next first l → IsAmong ls l ⊎ Served replies a b l.number (find m.slots l.id)
+starts_one ls f t x g marks a b h m first steps l r c up (inl old) = inl old
+starts_one ls f t x g marks a b h m first steps l r c up (inr new) = inr (served replies marks t a b h m steps l c (opened_ends h m l.id steps (up new.opened) r))
+
+-- ---- all parts
+
 -- accept, read, work, write, shut
-pub turned : (slice : ℕ) (held accepted_ read_ written_ last : List Connection) (f t : ℕ) (a b c d e : Told) (h i j k l m : HostState) (worked refused : ℕ) → Fits (links_of held) f h
-    → Accepts (links_of held) f a h (links_of accepted_) t b i → ((n : ℕ) → AddsNoMark held accepted_ n)
+pub turned : (slice : ℕ) (p q r s w : Bool) (held accepted_ read_ written_ last : List Connection) (f t : ℕ) (a b c d e : Told) (h i j k l m : HostState) (worked refused : ℕ) (calls asked_calls : Option (List Call)) → Fits (links_of held) f h
+    → AcceptsAll p (links_of held) f a h (links_of accepted_) t b i calls asked_calls → ((n : ℕ) → AddsNoMark held accepted_ n)
     → Serves IsInput written_ t (links_of accepted_) b i c j → KeepsAllMarks t b accepted_ c read_
     → IsRound j slice (pending_ids j) worked refused k
     → Serves IsOutput written_ t (links_of accepted_) c k d l → KeepsAllMarks t c read_ d written_
-    → Serves IsEnd written_ t (links_of accepted_) d l e m → KeepsAllMarks t d written_ e last
-    → links_of last ≡ links_of accepted_ → IsTurn slice held f a h (filter (λ x. not x.is_shut) last) t e m
-turned slice held accepted_ read_ written_ last f t a b c d e h i j k l m worked refused fit accepts adds reads reads_mark round writes writes_mark shuts shuts_mark same =
+    → Serves IsEnd written_ t (links_of accepted_) d l e m → KeepsAllMarks t d written_ e last → ((n : ℕ) → IsMarked reads_ended last n → IsMarked reads_ended written_ n)
+    → links_of last ≡ links_of accepted_ → IsTurn slice ((((p || q) || r) || s) || w) held f a h (filter (λ x. not x.is_shut) last) t e m
+turned slice p q r s w held accepted_ read_ written_ last f t a b c d e h i j k l m worked refused calls asked_calls fit some adds reads reads_mark round writes writes_mark shuts shuts_mark stay_ended same =
     let ms : List Link = links_of accepted_ in
+    let accepts : Accepts (links_of held) f a h ms t b i = some.accepts in
     let first : List Step = accepts.steps ++ reads.steps in
     let second : List Step = writes.steps ++ shuts.steps in
     let middle : List Step = works slice (pending_ids j) round.outcomes in
@@ -81,6 +109,17 @@ turned slice held accepted_ read_ written_ last f t a b c d e h i j k l m worked
     let marks_c : KeepsAllMarks t a held c read_ = marks_then t a b c held accepted_ read_ accepts.all reads.carries.all (marks_none t a b held accepted_ adds) reads_mark in
     let marks_d : KeepsAllMarks t a held d written_ = marks_then t a c d held read_ written_ to_c writes.carries.all marks_c writes_mark in
     let marks_e : KeepsAllMarks t a held e last = marks_then t a d e held written_ last to_d shuts.carries.all marks_d shuts_mark in
+    let steps_ : List Step = first ++ (middle ++ second) in
+    let to_end : IsRun h steps_ m = run-append h j m first (middle ++ second) (run-append h i j accepts.steps reads.steps accepts.chain reads.carries.chain) late.chain in
+    let are_ : (x : Link) → IsAmong ms x → IsAmong (links_of held) x ⊎ Joins f t accepts.accepted h.slots.next m.slots.next accepts.steps x =
+    (λ x among. met_are (links_of held) f t accepts.accepted h.slots.next m.slots.next a b accepts.steps x (last_below x (accepts.fits fit x among).opened) (accepts.spared fit x among) (accepts.are x among)) in
+    let carried_ : (x : Link) → IsAmong ms x → Carried written_ t a h steps_ e m x =
+    (λ x among.
+    let tied : IsTied ms x = (accepts.fits fit x among).tied in
+    let one : Carried written_ t a h accepts.steps b i x =
+    carried_nothing written_ t a b h i accepts.steps x (accepts.no_own x.id) (accepts.no_taken x.id) (accepts.spared fit x among) (starves-admissions x.id accepts.steps accepts.kinds) (met_keeps (links_of held) f t accepts.accepted h.slots.next a b h accepts.steps x fit accepts.kept (accepts.are x among)) in
+    let two : Carried written_ t a h first c j x = carried_then written_ t a b c h i j x accepts.steps reads.steps accepts.all reads.carries.all accepts.chain reads.carries.chain one (reads.carries.carried x tied) in
+    carried_then written_ t a c e h j m x first (middle ++ second) to_c late.all (run-append h i j accepts.steps reads.steps accepts.chain reads.carries.chain) late.chain two (late.carried x tied)) in
     record {
       met = ms;
       admissions = accepts.steps;
@@ -100,59 +139,96 @@ turned slice held accepted_ read_ written_ last f t a b c d e h i j k l m worked
       from_round = run-append k l m writes.steps shuts.steps writes.carries.chain shuts.carries.chain;
       steps = first ++ (middle ++ second);
       steps_are = refl;
-      chain = run-append h j m first (middle ++ second) (run-append h i j accepts.steps reads.steps accepts.chain reads.carries.chain) late.chain;
+      chain = to_end;
       accepted = accepts.accepted;
       answers = accepts.answers;
+      still = λ none. some.none (either_false p q (either_false (p || q) r (either_false ((p || q) || r) s (either_false (((p || q) || r) || s) w none).first).first).first).first;
       marks = written_;
       marked = λ n mark. over_marks n ((marks_d n).ended mark);
+      ended = λ n mark. stay_ended n (marked_filter reads_ended (λ y. not y.is_shut) last n mark);
+      rises = accepts.rises;
+      tied = λ x among. (accepts.fits fit x among).tied;
       stay = λ x among. accepts.stay x among;
-      are = λ x among. over x (met_are (links_of held) f t accepts.accepted h.slots.next a b accepts.steps reads.steps x (accepts.are x among));
+      are = are_;
+      starts = λ x among. starts_one (links_of held) f t accepts.accepted h.slots.next written_ a e h m accepts.steps steps_ x to_end (carried_ x among) (λ o. opened_left x.id first (middle ++ second) (opened_left x.id accepts.steps reads.steps o)) (are_ x among);
+      accounted = λ x one. over_accounted x (λ n apart. kept_then b c e n (reads.carries.others n apart) (late.others n apart)) (accepts.accounted fit x one);
       left = λ x among. rw same at (among_filtered (λ y. not y.is_shut) last x among);
       gone = λ x among. went t a e held last x marks_e (let_go last x (rw (sym same) at among));
-      carried = λ x among.
-          let tied : IsTied ms x = (accepts.fits fit x among).tied in
-          let one : Carried written_ t a h accepts.steps b i x =
-          carried_nothing written_ t a b h i accepts.steps x (accepts.no_own x.id) (accepts.no_taken x.id) (accepts.spared fit x among) (met_keeps (links_of held) f t accepts.accepted h.slots.next a b h accepts.steps x fit accepts.kept (accepts.are x among)) in
-          let two : Carried written_ t a h first c j x = carried_then written_ t a b c h i j x accepts.steps reads.steps accepts.all reads.carries.all accepts.chain reads.carries.chain one (reads.carries.carried x tied) in
-          carried_then written_ t a c e h j m x first (middle ++ second) to_c late.all (run-append h i j accepts.steps reads.steps accepts.chain reads.carries.chain) late.chain two (late.carried x tied);
+      carried = carried_;
       others = λ n apart. each_kept f t accepts.accepted a b e n (accepts.each n) (kept_then b c e n (reads.carries.others n apart) (late.others n apart));
+      foreign = λ id lt strange. alone_then id first (middle ++ second) (alone_then id accepts.steps reads.steps (record { stored = accepts.no_own id; passed = accepts.no_taken id; kept = accepts.spared_old id lt }) (reads.carries.foreign id strange)) (late.foreign id strange);
       all = moves_then a c e to_c late.all;
     }
   where
-    over : (x : Link) → IsAmong (links_of held) x ⊎ (is_opened x.id (accepts.steps ++ reads.steps) ≡ true) → IsAmong (links_of held) x ⊎ (is_opened x.id ((accepts.steps ++ reads.steps) ++ (works slice (pending_ids j) round.outcomes ++ (writes.steps ++ shuts.steps))) ≡ true)
-    over x (inl old) = inl old
-    over x (inr new) = inr (opened_left x.id (accepts.steps ++ reads.steps) (works slice (pending_ids j) round.outcomes ++ (writes.steps ++ shuts.steps)) new)
+    last_below : (x : Link) → x.id.generation < i.slots.next → x.id.generation < m.slots.next
+    last_below x lt =
+        let u : i.slots.next ≤ j.slots.next = next_rises i j reads.steps reads.carries.chain in
+        let v : j.slots.next ≤ k.slots.next = next_rises j k (works slice (pending_ids j) round.outcomes) round.run in
+        let y : k.slots.next ≤ l.slots.next = next_rises k l writes.steps writes.carries.chain in
+        let z : l.slots.next ≤ m.slots.next = next_rises l m shuts.steps shuts.carries.chain in
+        omega arith
+
+    over_accounted : (x : Accepted) → ((n : ℕ) → IsApart (links_of accepted_) n → KeepsPeer b e n) → HasSession (links_of accepted_) x ⊎ (IsTurnedAway f t some.accepts.accepted a b x.number × IsApart (links_of accepted_) x.number)
+        → HasSession (links_of accepted_) x ⊎ IsTurnedAway f t some.accepts.accepted a e x.number
+    over_accounted x keep (inl met) = inl met
+    over_accounted x keep (inr away) = inr (away_kept f t some.accepts.accepted a b e x.number away.0 (keep x.number away.1))
 
     over_marks : (n : ℕ) → IsMarked reads_ended held n ⊎ IsEmptied (a.unread n) (d.unread n) → IsMarked reads_ended held n ⊎ IsEmptied (a.unread n) (e.unread n)
     over_marks n (inl was) = inl was
     over_marks n (inr empty) = inr (emptied_move a d e n empty shuts.carries.all)
 
--- ---- one connection
+-- a turn with what it met, and the states between its parts
+pub record TurnWith (slice : ℕ) (moved : Bool) (held : List Connection) (f : ℕ) (a : Told) (h : HostState) (now : List Connection) (t : ℕ) (e : Told) (m : HostState) (admissions : List Step) (met : List Link) (start end : HostState) (marks : List Connection) (accepted : List Accepted) : Type 0 where
+  pub turn : IsTurn slice moved held f a h now t e m
+  pub admissions_are : turn.admissions ≡ admissions
+  pub met_are : turn.met ≡ met
+  pub start_is : turn.start ≡ start
+  pub end_is : turn.end ≡ end
+  pub marks_are : turn.marks ≡ marks
+  pub accepted_are : turn.accepted ≡ accepted
 
-some_none : (found : Option SessionView) (lost : List ℕ) → found ≡ None → IsSome found → lost ≡ []
-some_none None lost e some = absurd (cc)
-some_none (Some t) lost e some = absurd (cc)
+pub turn_with : (slice : ℕ) (p q r s w : Bool) (held accepted_ read_ written_ last : List Connection) (f t : ℕ) (a b c d e : Told) (h i j k l m : HostState) (worked refused : ℕ) (calls asked_calls : Option (List Call)) → Fits (links_of held) f h
+    → (x : AcceptsAll p (links_of held) f a h (links_of accepted_) t b i calls asked_calls) → ((n : ℕ) → AddsNoMark held accepted_ n)
+    → Serves IsInput written_ t (links_of accepted_) b i c j → KeepsAllMarks t b accepted_ c read_
+    → IsRound j slice (pending_ids j) worked refused k
+    → Serves IsOutput written_ t (links_of accepted_) c k d l → KeepsAllMarks t c read_ d written_
+    → Serves IsEnd written_ t (links_of accepted_) d l e m → KeepsAllMarks t d written_ e last → ((n : ℕ) → IsMarked reads_ended last n → IsMarked reads_ended written_ n)
+    → links_of last ≡ links_of accepted_ → TurnWith slice ((((p || q) || r) || s) || w) held f a h (filter (λ x. not x.is_shut) last) t e m x.accepts.steps (links_of accepted_) j k written_ x.accepts.accepted
+unfolding turned
+turn_with slice p q r s w held accepted_ read_ written_ last f t a b c d e h i j k l m worked refused calls asked_calls fit some adds reads reads_mark round writes writes_mark shuts shuts_mark stay_ended same =
+    record { turn = turned slice p q r s w held accepted_ read_ written_ last f t a b c d e h i j k l m worked refused calls asked_calls fit some adds reads reads_mark round writes writes_mark shuts shuts_mark stay_ended same; admissions_are = refl; met_are = refl; start_is = refl; end_is = refl; marks_are = refl; accepted_are = refl }
 
-not_lost : (host : HostState) (id : SessionId) (lost : List ℕ) → (lost ≡ []) ⊎ IsGone host id → IsSome (find host.slots id) → lost ≡ []
-not_lost host id lost (inl e) some = e
-not_lost host id lost (inr g) some = some_none (find host.slots id) lost g.none some
+-- the calls of a turn
+pub asks_turn : (slice : ℕ) (moved : Bool) (held now met read written last : List Connection) (f t : ℕ) (a e : Told) (h i j k l m : HostState) (admissions : List Step) (items : List Accepted) (old accepted asked_reads asked_writes new : Option (List Call)) → TurnWith slice moved held f a h now t e m admissions (links_of met) j k written items
+    → AsksAll items old accepted → IsRun h admissions i → Grows held met → (IsRising (links_of held) → IsRising (links_of met)) → AsksEach reads_of IsInput i met read accepted asked_reads j → AsksEach writes_of IsOutput k read written asked_reads asked_writes l → AsksEach ends_of IsEnd l written last asked_writes new m
+    → now ≡ filter (λ x. not x.is_shut) last → AsksTurn slice moved held f a old h now t e new m
+asks_turn slice moved held now met read written last f t a e h i j k l m admissions items old accepted asked_reads asked_writes new w accepts run grows rising reads writes ends left = record {
+  turn = w.turn;
+  accepted = accepted;
+  accepts = rw w.accepted_are accepts;
+  middle = i;
+  to_middle = rw w.admissions_are run;
+  met = met;
+  met_are = sym w.met_are;
+  grows = grows;
+  rising = rising;
+  read = read;
+  asked_reads = asked_reads;
+  reads = rw w.start_is reads;
+  asked_writes = asked_writes;
+  passed = l;
+  writes = rw (w.end_is, w.marks_are) writes;
+  last = last;
+  ends = rw w.marks_are ends;
+  left = left;
+}
 
-served : (owes : List ℕ → List ℕ) (marks : List Connection) (bound : ℕ) (a b : Told) (h m : HostState) (steps : List Step) (l : Link) → Carried marks bound a h steps b m l → EndsFrom owes (own l.id steps) (taken l.id steps) (find m.slots l.id) → Served owes a b l.number (find m.slots l.id)
-served owes marks bound a b h m steps l c ends =
-    record { read = own l.id steps; lost = c.lost; written = taken l.id steps; consumed = c.consumed; appended = c.appended; ends = ends; whole = λ some. not_lost m l.id c.lost c.whole some }
-
-pub goes_on : (slice : ℕ) (held now : List Connection) (f t : ℕ) (a b : Told) (h m : HostState) → IsTurn slice held f a h now t b m → GoesOnServing (links_of held) a h b m
-goes_on slice held now f t a b h m turn = λ l s among found.
+pub goes_on : (slice : ℕ) (moved : Bool) (held now : List Connection) (f t : ℕ) (a b : Told) (h m : HostState) → IsTurn slice moved held f a h now t b m → GoesOnServing (links_of held) a h b m
+goes_on slice moved held now f t a b h m turn = λ l s among found.
     served (due s) turn.marks t a b h m turn.steps l (turn.carried l (turn.stay l among)) (kept h m l.id turn.steps s found turn.chain).ends
 
-starts_one : (ls : List Link) (marks : List Connection) (t : ℕ) (a b : Told) (h m : HostState) (steps : List Step) (l : Link) → IsRun h steps m → Carried marks t a h steps b m l → IsAmong ls l ⊎ (is_opened l.id steps ≡ true) → IsAmong ls l ⊎ Served replies a b l.number (find m.slots l.id)
-starts_one ls marks t a b h m steps l r c (inl old) = inl old
-starts_one ls marks t a b h m steps l r c (inr new) = inr (served replies marks t a b h m steps l c (opened_ends h m l.id steps new r))
-
-pub starts : (slice : ℕ) (held now : List Connection) (f t : ℕ) (a b : Told) (h m : HostState) → IsTurn slice held f a h now t b m → ServesNew (links_of held) a (links_of now) b m
-starts slice held now f t a b h m turn = λ l among.
-    let met : IsAmong turn.met l = turn.left l among in
-    starts_one (links_of held) turn.marks t a b h m turn.steps l turn.chain (turn.carried l met) (turn.are l met)
+pub starts : (slice : ℕ) (moved : Bool) (held now : List Connection) (f t : ℕ) (a b : Told) (h m : HostState) → IsTurn slice moved held f a h now t b m → ServesNew (links_of held) a (links_of now) b m
+starts slice moved held now f t a b h m turn = λ l among. turn.starts l (turn.left l among)
 
 -- ---- what is let go
 
@@ -175,5 +251,5 @@ turn_fits held met last f t a b h i m fit accepts rises same = fits_left (λ x. 
 pub serves_rises : (kind : Event → Type 0) (marks : List Connection) (bound : ℕ) (ls : List Link) (a b : Told) (h i : HostState) → Serves kind marks bound ls a h b i → h.slots.next ≤ i.slots.next
 serves_rises kind marks bound ls a b h i s = next_rises h i s.steps s.carries.chain
 
-pub turn_knows : (slice : ℕ) (held now : List Connection) (f t : ℕ) (a b : Told) (h m : HostState) → IsTurn slice held f a h now t b m → (n : ℕ) → IsSome (a.written n) → IsSome (b.written n)
-turn_knows slice held now f t a b h m turn = known_move a b turn.all
+pub turn_knows : (slice : ℕ) (moved : Bool) (held now : List Connection) (f t : ℕ) (a b : Told) (h m : HostState) → IsTurn slice moved held f a h now t b m → (n : ℕ) → IsSome (a.written n) → IsSome (b.written n)
+turn_knows slice moved held now f t a b h m turn = known_move a b turn.all

@@ -26,7 +26,7 @@ use Rattle.socket_loop.specs.declared.wire.Got.TheVariants.{Bytes}
 use Rattle.socket_loop.specs.declared.wire.WireFault.{WireFault}
 use Rattle.socket_loop.specs.Told.{Told, KeepsPeer, Stays, IsRaised, Reads, Writes, Shuts}
 use Rattle.socket_loop.specs.Links.{Ties, IsMarked, reads_ended}
-use Rattle.socket_loop.specs.Parts.{GaveBytes, IsGone, IsClosing, AreAll, IsInput, IsOutput, IsEnd, closes, Cause, Carried, Serves, is_done, is_finished_with}
+use Rattle.socket_loop.specs.Parts.{GaveBytes, IsGone, IsClosing, AreAll, IsInput, IsOutput, IsEnd, closes, starves, Cause, Carried, Serves, is_done, is_finished_with}
 use Rattle.socket_loop.proofs.Peers.{kept_same, kept_then, moves_then, writes_move, shuts_move, gave_move, stays_rise, raised_rise, stays_raised, raised_rises, stays-refl, rises-refl, Consumes-none, Keeps-nothing, Appends-none}
 use Rattle.socket_loop.proofs.Runs.{run-one, run-two, step_rises}
 use Rattle.socket_loop.proofs.Parts.{carried_nothing}
@@ -75,42 +75,45 @@ write_fault a b number e buf w = record { consumed = Consumes-none _ _ w.unread;
 pub gave_nothing : (a : Told) (number : ℕ) → GaveBytes a a number []
 gave_nothing a number = record { consumed = Consumes-nil _; written = Keeps-refl _; shut = stays-refl _; failed = rises-refl _; others = λ x apart. kept_same a x }
 
-carried_fed : (m : List Connection) (bound : ℕ) (h : Link) (a b : Told) (before after : HostState) (chunk : List ℕ) (l : Link) → Ties h l → GaveBytes a b h.number chunk → Carried m bound a before (record { event = Feed h.id chunk; outcome = Done } ∷ []) b after l
-carried_fed m bound h a b before after chunk l t g =
+carried_fed : (m : List Connection) (bound : ℕ) (h : Link) (a b : Told) (before after : HostState) (chunk : List ℕ) (l : Link) → Ties h l → GaveBytes a b h.number chunk → Stays (a.has_failed h.number) (b.has_failed h.number) → Carried m bound a before (record { event = Feed h.id chunk; outcome = Done } ∷ []) b after l
+carried_fed m bound h a b before after chunk l t g none =
     elim (cases_eq h.number l.number) [
       | inl same ↦
           let at : cond (is_same_id h.id l.id) chunk [] ≡ chunk = at_id h.id l.id chunk (t.by_number same) in
           let u : Consumes (a.unread l.number) (b.unread l.number) chunk = rw same at g.consumed in
           let w : Keeps (a.written l.number) (b.written l.number) = rw same at g.written in
           let f : Stays (a.is_shut l.number) (b.is_shut l.number) = rw same at g.shut in
+          let n : Stays (a.has_failed l.number) (b.has_failed l.number) = rw same at none in
           record {
             lost = [];
             consumed = rw at (subst (Consumes (a.unread l.number) (b.unread l.number)) (sym (append-nil (chunk ++ []) ∙ append-nil chunk)) u);
             appended = Appends-none _ _ w;
             whole = inl refl;
-            ends = inl (record { shut = f; closed = refl });
+            fed = λ e. absurd (cc);
+            ends = inl (record { shut = f; closed = refl; failed = n; fed = refl });
           }
       | inr apart ↦
           let off : cond (is_same_id h.id l.id) chunk [] ≡ [] = off_id h.id l.id chunk (λ e. apart (t.by_id e)) in
-          carried_nothing m bound a b before after (record { event = Feed h.id chunk; outcome = Done } ∷ []) l (rw off refl) refl refl (gave_others a b h chunk l.number g apart)
+          carried_nothing m bound a b before after (record { event = Feed h.id chunk; outcome = Done } ∷ []) l (rw off refl) refl refl refl (gave_others a b h chunk l.number g apart)
     ]
 
 -- what was read was stored
-pub serves_fed : (m : List Connection) (bound : ℕ) (h : Link) (a b : Told) (before after : HostState) (chunk : List ℕ) (o : Outcome) → is_done o ≡ true → GaveBytes a b h.number chunk → IsStep before (record { event = Feed h.id chunk; outcome = o }) after → Serves IsInput m bound (h ∷ []) a before b after
-serves_fed m bound h a b before after chunk Done e g s = record {
+pub serves_fed : (m : List Connection) (bound : ℕ) (h : Link) (a b : Told) (before after : HostState) (chunk : List ℕ) (o : Outcome) → is_done o ≡ true → GaveBytes a b h.number chunk → Stays (a.has_failed h.number) (b.has_failed h.number) → IsStep before (record { event = Feed h.id chunk; outcome = o }) after → Serves IsInput m bound (h ∷ []) a before b after
+serves_fed m bound h a b before after chunk Done e g none s = record {
   steps = record { event = Feed h.id chunk; outcome = Done } ∷ [];
   kinds = (tt, tt);
   carries = record {
     chain = run-one before after _ s;
-    carried = λ l tied. carried_fed m bound h a b before after chunk l tied.0 g;
+    carried = λ l tied. carried_fed m bound h a b before after chunk l tied.0 g none;
     others = λ x apart. gave_others a b h chunk x g apart.0;
+    foreign = λ id strange. record { stored = rw (off_id h.id id chunk strange.0) refl; passed = refl; kept = refl };
     all = gave_move a b h.number chunk g;
   };
 }
-serves_fed m bound h a b before after chunk (Opened id) e g s = absurd (cc)
-serves_fed m bound h a b before after chunk (Worked n) e g s = absurd (cc)
-serves_fed m bound h a b before after chunk (Gave bytes) e g s = absurd (cc)
-serves_fed m bound h a b before after chunk (Refused fault) e g s = absurd (cc)
+serves_fed m bound h a b before after chunk (Opened id) e g none s = absurd (cc)
+serves_fed m bound h a b before after chunk (Worked n) e g none s = absurd (cc)
+serves_fed m bound h a b before after chunk (Gave bytes) e g none s = absurd (cc)
+serves_fed m bound h a b before after chunk (Refused fault) e g none s = absurd (cc)
 
 -- ---- shutting
 
@@ -123,9 +126,10 @@ record Closing (id : SessionId) (steps : List Step) : Type 0 where
   pub no_taken : (other : SessionId) → taken other steps ≡ []
   pub this : (other : SessionId) → id ≡ other → closes other steps ≡ true
   pub no_other : (other : SessionId) → (id ≡ other → ⊥) → closes other steps ≡ false
+  pub no_hunger : (other : SessionId) → (id ≡ other → ⊥) → starves other steps ≡ false
 
-shut_ends : (m : List Connection) (bound : ℕ) (h : Link) (a b c : Told) (before after : HostState) (steps : List Step) (chunk : List ℕ) (l : Link) → Ties h l → GaveBytes a b h.number chunk → Shuts bound b c h.number → Closing h.id steps → (chunk ≡ []) ⊎ IsGone after h.id → Cause m a before steps c h → Carried m bound a before steps c after l
-shut_ends m bound h a b c before after steps chunk l t g s closing whole why =
+shut_ends : (m : List Connection) (bound : ℕ) (h : Link) (a b c : Told) (before after : HostState) (steps : List Step) (chunk : List ℕ) (l : Link) → Ties h l → GaveBytes a b h.number chunk → Shuts bound b c h.number → Closing h.id steps → (chunk ≡ []) ⊎ (IsGone after h.id × (starves h.id steps ≡ true)) → (starves h.id steps ≡ true → chunk ≢ []) → Cause m a before steps c after h → Carried m bound a before steps c after l
+shut_ends m bound h a b c before after steps chunk l t g s closing whole fed why =
     elim (cases_eq h.number l.number) [
       | inl same ↦
           let id : h.id ≡ l.id = t.by_number same in
@@ -139,27 +143,29 @@ shut_ends m bound h a b c before after steps chunk l t g s closing whole why =
             consumed = rw none u;
             appended = rw no_taken (Appends-none _ _ w);
             whole = (rw id at whole);
-            ends = inr (record { shut = f; closed = closing.this l.id id; cause = subst (λ (x : Link). Cause m a before steps c x) (same_link h l same id) why });
+            fed = (rw id at fed);
+            ends = inr (record { shut = f; closed = closing.this l.id id; cause = subst (λ (x : Link). Cause m a before steps c after x) (same_link h l same id) why });
           }
       | inr apart ↦
           let kept : KeepsPeer a c l.number = kept_then a b c l.number (gave_others a b h chunk l.number g apart) (s.others l.number (λ e. apart (sym e))) in
-          carried_nothing m bound a c before after steps l (closing.no_own l.id) (closing.no_taken l.id) (closing.no_other l.id (λ e. apart (t.by_id e))) kept
+          carried_nothing m bound a c before after steps l (closing.no_own l.id) (closing.no_taken l.id) (closing.no_other l.id (λ e. apart (t.by_id e))) (closing.no_hunger l.id (λ e. apart (t.by_id e))) kept
     ]
 
-serves_closing : (kind : Event → Type 0) (m : List Connection) (bound : ℕ) (h : Link) (a b c : Told) (before after : HostState) (steps : List Step) (chunk : List ℕ) → AreAll kind steps → IsRun before steps after → GaveBytes a b h.number chunk → Shuts bound b c h.number → Closing h.id steps → (chunk ≡ []) ⊎ IsGone after h.id → Cause m a before steps c h → Serves kind m bound (h ∷ []) a before c after
-serves_closing kind m bound h a b c before after steps chunk kinds chain g s closing whole why = record {
+serves_closing : (kind : Event → Type 0) (m : List Connection) (bound : ℕ) (h : Link) (a b c : Told) (before after : HostState) (steps : List Step) (chunk : List ℕ) → AreAll kind steps → IsRun before steps after → GaveBytes a b h.number chunk → Shuts bound b c h.number → Closing h.id steps → (chunk ≡ []) ⊎ (IsGone after h.id × (starves h.id steps ≡ true)) → (starves h.id steps ≡ true → chunk ≢ []) → Cause m a before steps c after h → Serves kind m bound (h ∷ []) a before c after
+serves_closing kind m bound h a b c before after steps chunk kinds chain g s closing whole fed why = record {
   steps = steps;
   kinds = kinds;
   carries = record {
     chain = chain;
-    carried = λ l tied. shut_ends m bound h a b c before after steps chunk l tied.0 g s closing whole why;
+    carried = λ l tied. shut_ends m bound h a b c before after steps chunk l tied.0 g s closing whole fed why;
     others = λ x apart. kept_then a b c x (gave_others a b h chunk x g apart.0) (s.others x (λ e. apart.0 (sym e)));
+    foreign = λ id strange. record { stored = closing.no_own id; passed = closing.no_taken id; kept = closing.no_other id strange.0 };
     all = moves_then a b c (gave_move a b h.number chunk g) (shuts_move bound b c h.number s);
   };
 }
 
 closing_alone : (h : Link) (o : Outcome) → Closing h.id (record { event = Close h.id; outcome = o } ∷ [])
-closing_alone h o = record { no_own = λ x. refl; no_taken = λ x. refl; this = λ x e. closes_this h x e; no_other = λ x f. closes_other h x f }
+closing_alone h o = record { no_own = λ x. refl; no_taken = λ x. refl; this = λ x e. closes_this h x e; no_other = λ x f. closes_other h x f; no_hunger = λ x f. refl }
 
 failed_through : (a b c : Told) (bound : ℕ) (number : ℕ) → IsRaised (a.has_failed number) (b.has_failed number) → Shuts bound b c number → IsRaised (a.has_failed number) (c.has_failed number)
 failed_through a b c bound number e s = raised_rises _ _ _ e (stays_rise _ _ s.failed)
@@ -167,13 +173,13 @@ failed_through a b c bound number e s = raised_rises _ _ _ e (stays_rise _ _ s.f
 -- a read or a write failed, and the connection was shut
 pub serves_fault : (kind : Event → Type 0) (m : List Connection) (bound : ℕ) (h : Link) (a b c : Told) (before after : HostState) → kind (Close h.id) → GaveBytes a b h.number [] → IsRaised (a.has_failed h.number) (b.has_failed h.number) → Shuts bound b c h.number → IsClosing before h.id after → Serves kind m bound (h ∷ []) a before c after
 serves_fault kind m bound h a b c before after can g e s close =
-    serves_closing kind m bound h a b c before after (record { event = Close h.id; outcome = close.outcome } ∷ []) [] (can, tt) (run-one before after _ close.step) g s (closing_alone h close.outcome) (inl refl) (inl (failed_through a b c bound h.number e s))
+    serves_closing kind m bound h a b c before after (record { event = Close h.id; outcome = close.outcome } ∷ []) [] (can, tt) (run-one before after _ close.step) g s (closing_alone h close.outcome) (inl refl) (λ e. absurd (cc)) (inl (failed_through a b c bound h.number e s))
 
 -- it was finished with, and the connection was shut
 pub serves_finished : (m : List Connection) (bound : ℕ) (h : Link) (a c : Told) (before after : HostState) (has_ended : Bool) → (has_ended ≡ true → IsMarked reads_ended m h.number) → is_finished_with has_ended (find before.slots h.id) ≡ true → Shuts bound a c h.number → IsClosing before h.id after → Serves IsEnd m bound (h ∷ []) a before c after
 serves_finished m bound h a c before after has_ended marked finished s close =
-    serves_closing IsEnd m bound h a a c before after (record { event = Close h.id; outcome = close.outcome } ∷ []) [] (tt, tt) (run-one before after _ close.step) (gave_nothing a h.number) s (closing_alone h close.outcome) (inl refl)
-    (inr (inr (record { earlier = []; later = record { event = Close h.id; outcome = close.outcome } ∷ []; steps_are = refl; moment = before; run = run-start before; has_ended = has_ended; marked = marked; finished = finished })))
+    serves_closing IsEnd m bound h a a c before after (record { event = Close h.id; outcome = close.outcome } ∷ []) [] (tt, tt) (run-one before after _ close.step) (gave_nothing a h.number) s (closing_alone h close.outcome) (inl refl) (λ e. absurd (cc))
+    (inr (inr (record { earlier = []; outcome = close.outcome; later = []; steps_are = refl; moment = before; run = run-start before; onward = run-one before after _ close.step; first = refl; has_ended = has_ended; marked = marked; finished = finished })))
 
 -- a feed of a session that wants input is refused for memory alone
 pub refused_for_memory : (before after : HostState) (id : SessionId) (chunk : List ℕ) (o : Outcome) (found : Option SessionView) → find before.slots id ≡ found → wants_input_of found ≡ true → length chunk ≤ CHUNK_MAX → OnSession (Feeds chunk) before id found o after → is_done o ≡ false → o ≡ Refused OutOfMemory
@@ -188,17 +194,20 @@ refused_for_memory before after id chunk (Refused OutOfMemory) (Some t) e w few 
 refused_for_memory before after id chunk (Refused NotReady) (Some t) e w few p d = absurd (p.went.0 (w, few))
 
 -- what was read was refused for memory, and the connection was shut
-pub serves_starved : (m : List Connection) (bound : ℕ) (h : Link) (a b c : Told) (before mid after : HostState) (chunk : List ℕ) (o : Outcome) → wants_input_of (find before.slots h.id) ≡ true → length chunk ≤ CHUNK_MAX → is_done o ≡ false → GaveBytes a b h.number chunk → Shuts bound b c h.number → IsStep before (record { event = Feed h.id chunk; outcome = o }) mid → IsClosing mid h.id after → IsGone after h.id → Serves IsInput m bound (h ∷ []) a before c after
-serves_starved m bound h a b c before mid after chunk o wants few d g s step close out =
+pub serves_starved : (m : List Connection) (bound : ℕ) (h : Link) (a b c : Told) (before mid after : HostState) (chunk : List ℕ) (o : Outcome) → wants_input_of (find before.slots h.id) ≡ true → length chunk ≤ CHUNK_MAX → 1 ≤ length chunk → is_done o ≡ false → GaveBytes a b h.number chunk → Shuts bound b c h.number → IsStep before (record { event = Feed h.id chunk; outcome = o }) mid → IsClosing mid h.id after → IsGone after h.id → Serves IsInput m bound (h ∷ []) a before c after
+serves_starved m bound h a b c before mid after chunk o wants few some d g s step close out =
     let is : o ≡ Refused OutOfMemory = refused_for_memory before mid h.id chunk o (find before.slots h.id) refl wants few step.stepped.0 d in
     starved (rw is at step)
   where
+    not_none : (bytes : List ℕ) → 1 ≤ length bytes → bytes ≡ [] → ⊥
+    not_none bytes lt e = (let n : length bytes ≡ 0 = ap length e in absurd (omega arith))
+
     closing : Closing h.id (record { event = Feed h.id chunk; outcome = Refused OutOfMemory } ∷ record { event = Close h.id; outcome = close.outcome } ∷ [])
-    closing = record { no_own = λ x. refl; no_taken = λ x. refl; this = λ x e. closes_this h x e; no_other = λ x f. closes_other h x f }
+    closing = record { no_own = λ x. refl; no_taken = λ x. refl; this = λ x e. closes_this h x e; no_other = λ x f. closes_other h x f; no_hunger = λ x f. closes_other h x f }
 
     starved : IsStep before (record { event = Feed h.id chunk; outcome = Refused OutOfMemory }) mid → Serves IsInput m bound (h ∷ []) a before c after
     starved first =
-        serves_closing IsInput m bound h a b c before after (record { event = Feed h.id chunk; outcome = Refused OutOfMemory } ∷ record { event = Close h.id; outcome = close.outcome } ∷ []) chunk (tt, (tt, tt)) (run-two before mid after _ _ first close.step) g s closing (inr out)
+        serves_closing IsInput m bound h a b c before after (record { event = Feed h.id chunk; outcome = Refused OutOfMemory } ∷ record { event = Close h.id; outcome = close.outcome } ∷ []) chunk (tt, (tt, tt)) (run-two before mid after _ _ first close.step) g s closing (inr (out, or_left (is_same_id h.id h.id) (false || false) (is_same_id-refl h.id))) (λ e none. not_none chunk some none)
         (inr (inl (or_left (is_same_id h.id h.id) (false || false) (is_same_id-refl h.id))))
 
 wants_some : (f : Option SessionView) → wants_input_of f ≡ true → IsSome f
@@ -236,16 +245,18 @@ carried_passed m bound h a b before after n bytes l t w =
           let u : Appends (a.written l.number) (b.written l.number) (take n bytes) = rw same at w.appended in
           let k : Keeps (a.unread l.number) (b.unread l.number) = rw same at w.unread in
           let f : Stays (a.is_shut l.number) (b.is_shut l.number) = rw same at w.shut in
+          let none : Stays (a.has_failed l.number) (b.has_failed l.number) = rw same at w.failed in
           record {
             lost = [];
             consumed = Consumes-none _ _ k;
             appended = rw at (subst (Appends (a.written l.number) (b.written l.number)) (sym (append-nil (take n bytes))) u);
             whole = inl refl;
-            ends = inl (record { shut = f; closed = refl });
+            fed = λ e. absurd (cc);
+            ends = inl (record { shut = f; closed = refl; failed = none; fed = refl });
           }
       | inr apart ↦
           let off : cond (is_same_id h.id l.id) (take n bytes) [] ≡ [] = off_id h.id l.id (take n bytes) (λ e. apart (t.by_id e)) in
-          carried_nothing m bound a b before after (record { event = Take h.id n; outcome = Gave (take n bytes) } ∷ []) l refl (rw off refl) refl (w.others l.number (λ e. apart (sym e)))
+          carried_nothing m bound a b before after (record { event = Take h.id n; outcome = Gave (take n bytes) } ∷ []) l refl (rw off refl) refl refl (w.others l.number (λ e. apart (sym e)))
     ]
 
 -- a passing that was asked for no more than is queued is done
@@ -272,6 +283,7 @@ serves_passed m bound h a b before after n bytes r queue few w below p none =
         chain = run-one before after _ (record { below = below; stepped = s });
         carried = λ l tied. carried_passed m bound h a b before after n bytes.now l tied.0 w;
         others = λ x apart. w.others x (λ e. apart.0 (sym e));
+        foreign = λ id strange. record { stored = refl; passed = rw (off_id h.id id (take n bytes.now) strange.0) refl; kept = refl };
         all = writes_move a b h.number (Ok n) bytes.now w;
       };
     }

@@ -1,22 +1,23 @@
 -- The calls of a turn, in order (own choice).
-use Rattle.std.specs.Prelude.{◌≡◌, ◌⊎◌, ℕ, suc, zero, ◌<◌, List, [], ◌∷◌, ◌++◌, length, nat_lt, Bool, not, cond, ◌&&◌, Option, None, Some, Result, Ok, Err, filter}
+use Rattle.std.specs.Prelude.{◌≡◌, ◌⊎◌, ◌↔◌, true, false, ℕ, suc, zero, ◌<◌, List, [], ◌∷◌, ◌++◌, length, nat_lt, Bool, not, cond, ◌&&◌, Option, None, Some, Result, Ok, Err, filter}
 use Rattle.session_slots.specs.declared.id.SessionId.{SessionId}
 use Rattle.session_slots.specs.Slots.{find}
+use Rattle.host_core.specs.declared.event.HostFault.TheVariants.{Full}
 use Rattle.host_core.specs.Steps.{HostState}
 use Rattle.host_core.specs.ById.{wants_input_of, queued_of}
-use Rattle.host_core.specs.Events.{Event, Open, Feed, Work, Take, Close}
+use Rattle.host_core.specs.Events.{Event, Outcome, Opened, Refused, Open, Feed, Work, Take, Close}
 use Rattle.host_core.specs.Made.{Step}
+use Rattle.socket_loop.specs.Told.{Told}
 use Rattle.host_core.specs.Runs.{IsRun}
-use Rattle.host_core.specs.Rounds.{IsRound, pending_ids}
 use Rattle.socket_loop.specs.declared.wire.WireFault.{WireFault}
 use Rattle.socket_loop.specs.declared.connection.Link.{Link}
 use Rattle.socket_loop.specs.declared.connection.Connection.{Connection}
 use Rattle.socket_loop.specs.declared.turn.TheConstants.{ACCEPTS}
 use Rattle.usi_session.specs.declared.limits.TheConstants.{CHUNK_MAX}
-use Rattle.socket_loop.specs.Asked.{Call, Accept, Read, Write, Shut, Asks}
-use Rattle.socket_loop.specs.Links.{links_of, IsAmong, IsRising}
-use Rattle.socket_loop.specs.Parts.{AreAll, AddsNoMark, IsAdmission, IsInput, IsOutput, IsEnd, is_finished_with}
-use Rattle.socket_loop.specs.Turns.{host_full}
+use Rattle.socket_loop.specs.Asked.{Call, Accept, Read, Write, Shut, Asks, IsCalled}
+use Rattle.socket_loop.specs.Links.{links_of, IsRising}
+use Rattle.socket_loop.specs.Parts.{AreAll, Grows, IsInput, IsOutput, IsEnd, is_finished_with}
+use Rattle.socket_loop.specs.Turns.{host_full, Accepted, Accepts, Admits, IsTurn, KeepsMade}
 
 -- ---- one connection
 
@@ -63,6 +64,13 @@ pub record Visits (kind : Event → Type 0) (id : SessionId) (old new : HostStat
   pub of_it : AreAll (IsOf id) steps
   pub run : IsRun old steps new
 
+-- a connection was visited with these calls: it is shut exactly where it was before or its shut was asked for, and its reads have ended only where they had before or a read was asked for
+pub record IsVisit (calls : List Call) (old new : Connection) : Type 0 where
+  pub link : new.link ≡ old.link
+  pub made : KeepsMade old new
+  pub shut : new.is_shut ≡ true ↔ (old.is_shut ≡ true) ⊎ IsCalled calls (Shut old.link.number)
+  pub ended : new.has_ended ≡ true → (old.has_ended ≡ true) ⊎ IsCalled calls (Read old.link.number CHUNK_MAX)
+
 -- ---- one connection after the other
 
 -- the first connections were visited, each with the calls that are due by the host's state then; the others are as they were
@@ -71,7 +79,7 @@ AreVisitedTo zero due kind before xs ys calls after = (ys ≡ xs) × ((calls ≡
 AreVisitedTo (suc n) due kind before [] ys calls after = ⊥
 AreVisitedTo (suc n) due kind before (x ∷ xs) [] calls after = ⊥
 AreVisitedTo (suc n) due kind before (x ∷ xs) (y ∷ ys) calls after =
-    (mid : HostState) × ((rest : List Call) × ((calls ≡ due before x y ++ rest) × (Visits kind x.link.id before mid × AreVisitedTo n due kind mid xs ys rest after)))
+    (mid : HostState) × ((rest : List Call) × ((calls ≡ due before x y ++ rest) × (IsVisit (due before x y) x y × (Visits kind x.link.id before mid × AreVisitedTo n due kind mid xs ys rest after))))
 
 -- so many connections were visited, and a wire was asked for the calls of these visits
 pub record AsksTo (n : ℕ) (due : HostState → Connection → Connection → List Call) (kind : Event → Type 0) (before : HostState) (xs ys : List Connection) (old new : Option (List Call)) (after : HostState) : Type 0 where
@@ -85,14 +93,16 @@ AsksEach due kind before xs ys old new after = AsksTo (length xs) due kind befor
 
 -- ---- new connections
 
--- a connection that was accepted was kept, or shut without a word, or told in one write that the host is full, and shut
-abbrev pub IsAdmitted : ℕ → List Call → Type 0
-IsAdmitted number calls = (calls ≡ []) ⊎ ((calls ≡ Shut number ∷ []) ⊎ (calls ≡ Write number host_full ∷ Shut number ∷ []))
+-- the calls after a connection was accepted, by how the host answered its `Open`: none where it is held, and else a shut, or, where the host is full, one write that tells so, and a shut
+abbrev pub IsAdmitted : ℕ → Outcome → List Call → Type 0
+IsAdmitted number (Opened id) calls = (calls ≡ []) ⊎ (calls ≡ Shut number ∷ [])
+IsAdmitted number (Refused Full) calls = calls ≡ Write number host_full ∷ Shut number ∷ []
+IsAdmitted number _ calls = calls ≡ Shut number ∷ []
 
--- so many connections were accepted, one after the other
-abbrev pub AreAccepted : ℕ → List Call → Type 0
-AreAccepted zero calls = calls ≡ []
-AreAccepted (suc n) calls = (number : ℕ) × ((more : List Call) × ((rest : List Call) × ((calls ≡ Accept (Ok (Some number)) ∷ (more ++ rest)) × (IsAdmitted number more × AreAccepted n rest))))
+-- these connections were accepted, one after the other
+abbrev pub AreAccepted : List Accepted → List Call → Type 0
+AreAccepted [] calls = calls ≡ []
+AreAccepted (first ∷ items) calls = (more : List Call) × ((rest : List Call) × ((calls ≡ Accept (Ok (Some first.number)) ∷ (more ++ rest)) × (IsAdmitted first.number first.outcome more × AreAccepted items rest)))
 
 -- an accept gave nobody
 abbrev pub GivesNobody : Result (Option ℕ) WireFault → Type 0
@@ -101,52 +111,63 @@ GivesNobody (Ok None) = Unit {0}
 GivesNobody (Err fault) = Unit {0}
 
 -- one connection was admitted
-pub record AsksAdmission (number : ℕ) (old new : Option (List Call)) : Type 0 where
+pub record AsksAdmission (number : ℕ) (outcome : Outcome) (old new : Option (List Call)) : Type 0 where
   pub calls : List Call
-  pub admitted : IsAdmitted number calls
+  pub admitted : IsAdmitted number outcome calls
   pub asked : Asks old new calls
 
--- so many were accepted
-pub record AsksAccepts (n : ℕ) (old new : Option (List Call)) : Type 0 where
+-- a connection was admitted, with its calls
+pub record AdmitsOne (links : List Link) (told : Told) (before : HostState) (number to : ℕ) (met : List Link) (new : Told) (after : HostState) (old_calls new_calls : Option (List Call)) : Type 0 where
+  pub outcome : Outcome
+  pub admits : Admits links told before number outcome to met new after
+  pub asked : AsksAdmission number outcome old_calls new_calls
+
+-- these were accepted
+pub record AsksAccepts (items : List Accepted) (old new : Option (List Call)) : Type 0 where
   pub calls : List Call
-  pub accepted : AreAccepted n calls
+  pub accepted : AreAccepted items calls
   pub asked : Asks old new calls
 
 -- connections were accepted until one accept gave nobody, or ACCEPTS of them were
-pub record AsksAll (old new : Option (List Call)) : Type 0 where
-  pub count : ℕ
+pub record AsksAll (items : List Accepted) (old new : Option (List Call)) : Type 0 where
   pub first : List Call
   pub last : List Call
-  pub accepted : AreAccepted count first
-  pub ends : ((count ≡ ACCEPTS) × (last ≡ [])) ⊎ ((count < ACCEPTS) × ((answer : Result (Option ℕ) WireFault) × (GivesNobody answer × (last ≡ Accept answer ∷ []))))
+  pub accepted : AreAccepted items first
+  pub ends : ((length items ≡ ACCEPTS) × (last ≡ [])) ⊎ ((length items < ACCEPTS) × ((answer : Result (Option ℕ) WireFault) × (GivesNobody answer × (last ≡ Accept answer ∷ []))))
   pub asked : Asks old new (first ++ last)
+
+-- so many connections were accepted, with their calls
+pub record AcceptsSome (count : ℕ) (moved : Bool) (links : List Link) (from : ℕ) (old : Told) (before : HostState) (met : List Link) (to : ℕ) (new : Told) (after : HostState) (old_calls new_calls : Option (List Call)) : Type 0 where
+  pub accepts : Accepts links from old before met to new after
+  pub none : moved ≡ false → accepts.accepted ≡ []
+  pub counted : length accepts.accepted ≡ count
+  pub asked : AsksAccepts accepts.accepted old_calls new_calls
+
+-- connections were accepted, with all calls
+pub record AcceptsAll (moved : Bool) (links : List Link) (from : ℕ) (old : Told) (before : HostState) (met : List Link) (to : ℕ) (new : Told) (after : HostState) (old_calls new_calls : Option (List Call)) : Type 0 where
+  pub accepts : Accepts links from old before met to new after
+  pub none : moved ≡ false → accepts.accepted ≡ []
+  pub asked : AsksAll accepts.accepted old_calls new_calls
 
 -- ---- a turn
 
--- accepts, then a read for each connection that is to be read, a round, a write for each that is to be written, and a shut for each that is finished with
-pub record AsksTurn (slice : ℕ) (held : List Connection) (old : Option (List Call)) (before : HostState) (now : List Connection) (new : Option (List Call)) (after : HostState) : Type 0 where
+-- a turn, and its calls: accepts, then a read for each connection that is to be read, a round, a write for each that is to be written, and a shut for each that is finished with
+pub record AsksTurn (slice : ℕ) (moved : Bool) (held : List Connection) (from : ℕ) (told : Told) (old : Option (List Call)) (before : HostState) (now : List Connection) (to : ℕ) (tells : Told) (new : Option (List Call)) (after : HostState) : Type 0 where
+  pub turn : IsTurn slice moved held from told before now to tells after
   pub accepted : Option (List Call)
-  pub accepts : AsksAll old accepted
-  pub admissions : List Step
-  pub admissions_are : AreAll IsAdmission admissions
+  pub accepts : AsksAll turn.accepted old accepted
   pub middle : HostState
-  pub to_middle : IsRun before admissions middle
+  pub to_middle : IsRun before turn.admissions middle
   pub met : List Connection
-  pub stay : (link : Link) → IsAmong (links_of held) link → IsAmong (links_of met) link
-  pub marks : (number : ℕ) → AddsNoMark held met number
+  pub met_are : links_of met ≡ turn.met
+  pub grows : Grows held met
   pub rising : IsRising (links_of held) → IsRising (links_of met)
   pub read : List Connection
   pub asked_reads : Option (List Call)
-  pub fed : HostState
-  pub reads : AsksEach reads_of IsInput middle met read accepted asked_reads fed
-  pub worked : ℕ
-  pub refused : ℕ
-  pub rounded : HostState
-  pub round : IsRound fed slice (pending_ids fed) worked refused rounded
-  pub written : List Connection
+  pub reads : AsksEach reads_of IsInput middle met read accepted asked_reads turn.start
   pub asked_writes : Option (List Call)
   pub passed : HostState
-  pub writes : AsksEach writes_of IsOutput rounded read written asked_reads asked_writes passed
+  pub writes : AsksEach writes_of IsOutput turn.end read turn.marks asked_reads asked_writes passed
   pub last : List Connection
-  pub ends : AsksEach ends_of IsEnd passed written last asked_writes new after
+  pub ends : AsksEach ends_of IsEnd passed turn.marks last asked_writes new after
   pub left : now ≡ filter (λ connection. not connection.is_shut) last

@@ -1,5 +1,6 @@
 -- Connections and their sessions (own choice).
 use Rattle.std.specs.Prelude.{◌≡◌, ◌≢◌, ◌≤◌, ◌⊎◌, ⊤, ℕ, suc, List, [], ◌∷◌, Bool, true, cond, nat_lt, map}
+use Rattle.session_slots.specs.declared.id.SessionId.{SessionId}
 use Rattle.socket_loop.specs.declared.connection.Link.{Link}
 use Rattle.socket_loop.specs.declared.connection.Connection.{Connection}
 
@@ -18,10 +19,25 @@ abbrev pub IsApart : List Link → ℕ → Type 0
 IsApart [] number = ⊤
 IsApart (first ∷ rest) number = (first.number ≢ number) × IsApart rest number
 
+-- none of these has the id
+abbrev pub IsStrange : List Link → SessionId → Type 0
+IsStrange [] id = ⊤
+IsStrange (first ∷ rest) id = (first.id ≢ id) × IsStrange rest id
+
+-- each of these has an id of its own
+abbrev pub AreOnce : List Link → Type 0
+AreOnce [] = ⊤
+AreOnce (first ∷ rest) = IsStrange rest first.id × AreOnce rest
+
 -- the link is one of these
 abbrev pub IsAmong : List Link → Link → Type 0
 IsAmong [] link = ⊥
 IsAmong (first ∷ rest) link = (link ≡ first) ⊎ IsAmong rest link
+
+-- the connection is one of these
+abbrev pub IsHeld : List Connection → Connection → Type 0
+IsHeld [] connection = ⊥
+IsHeld (first ∷ rest) connection = (connection ≡ first) ⊎ IsHeld rest connection
 
 abbrev pub links_of : List Connection → List Link
 links_of held = map (λ connection. connection.link) held

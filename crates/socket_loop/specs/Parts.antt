@@ -1,5 +1,5 @@
 -- Parts of a turn: what they do to the host and to the connections of a wire (own choice).
-use Rattle.std.specs.Prelude.{◌≡◌, ◌<◌, ◌⊎◌, ⊤, ℕ, List, [], ◌∷◌, ◌++◌, Option, None, Some, Bool, true, false, ◌&&◌, ◌||◌, not, ◌==◌, length}
+use Rattle.std.specs.Prelude.{◌≡◌, ◌<◌, ◌≢◌, ◌⊎◌, ⊤, ℕ, List, [], ◌∷◌, ◌++◌, Option, None, Some, Bool, true, false, ◌&&◌, ◌||◌, not, ◌==◌, length}
 use Rattle.std.specs.Io.KnownBytes.{Keeps, Appends, Consumes}
 use Rattle.session_slots.specs.declared.id.SessionId.{SessionId}
 use Rattle.session_slots.specs.Slots.{find}
@@ -12,7 +12,7 @@ use Rattle.host_core.specs.Runs.{IsStep, IsRun}
 use Rattle.socket_loop.specs.declared.connection.Link.{Link}
 use Rattle.socket_loop.specs.declared.connection.Connection.{Connection}
 use Rattle.socket_loop.specs.Told.{Told, KeepsPeer, KeepsOthers, Stays, IsRaised, OnlyRises}
-use Rattle.socket_loop.specs.Links.{IsTied, IsApart, IsMarked, reads_ended, was_shut}
+use Rattle.socket_loop.specs.Links.{IsTied, IsApart, IsStrange, IsHeld, IsMarked, reads_ended, was_shut}
 
 -- ---- steps of a host
 
@@ -92,6 +92,21 @@ abbrev pub starves : SessionId → List Step → Bool
 starves id [] = false
 starves id (step ∷ rest) = starves_by id step.event step.outcome || starves id rest
 
+abbrev pub refuses_by : SessionId → Event → Outcome → Bool
+refuses_by id (Work other budget) (Refused fault) = is_same_id other id
+refuses_by id _ _ = false
+
+-- a `Work` of a session is refused in the steps
+abbrev pub refuses : SessionId → List Step → Bool
+refuses id [] = false
+refuses id (step ∷ rest) = refuses_by id step.event step.outcome || refuses id rest
+
+-- nothing is stored for a session, nothing is taken from it, and it is not closed
+pub record LeavesAlone (id : SessionId) (steps : List Step) : Type 0 where
+  pub stored : own id steps ≡ []
+  pub passed : taken id steps ≡ []
+  pub kept : closes id steps ≡ false
+
 -- ---- one connection
 
 -- bytes of any connection leave at the front and are written at the end, and its flags only rise
@@ -119,40 +134,46 @@ abbrev pub is_finished_with : Bool → Option SessionView → Bool
 is_finished_with has_ended None = true
 is_finished_with has_ended (Some t) = (has_ended || t.state.is_over) && (length t.queued == 0) && not (is_pending t)
 
--- at some moment of the steps a connection was finished with; these are the connections whose reads may have ended
-pub record Finished (marks : List Connection) (before : HostState) (steps : List Step) (link : Link) : Type 0 where
+-- a connection was finished with at the moment of the steps at which its session was closed; these are the connections whose reads may have ended
+pub record Finished (marks : List Connection) (before : HostState) (steps : List Step) (after : HostState) (link : Link) : Type 0 where
   pub earlier : List Step
+  pub outcome : Outcome
   pub later : List Step
-  pub steps_are : steps ≡ earlier ++ later
+  pub steps_are : steps ≡ earlier ++ (record { event = Close link.id; outcome = outcome } ∷ later)
   pub moment : HostState
   pub run : IsRun before earlier moment
+  pub onward : IsRun moment (record { event = Close link.id; outcome = outcome } ∷ later) after
+  pub first : closes link.id earlier ≡ false
   pub has_ended : Bool
   pub marked : has_ended ≡ true → IsMarked reads_ended marks link.number
   pub finished : is_finished_with has_ended (find moment.slots link.id) ≡ true
 
 -- why a connection is shut: a read or a write of it failed, a `Feed` of its session was refused for memory, or it was finished with
-abbrev pub Cause : List Connection → Told → HostState → List Step → Told → Link → Type 0
-Cause marks old before steps new link =
-    IsRaised (old.has_failed link.number) (new.has_failed link.number) ⊎ ((starves link.id steps ≡ true) ⊎ Finished marks before steps link)
+abbrev pub Cause : List Connection → Told → HostState → List Step → Told → HostState → Link → Type 0
+Cause marks old before steps new after link =
+    IsRaised (old.has_failed link.number) (new.has_failed link.number) ⊎ ((starves link.id steps ≡ true) ⊎ Finished marks before steps after link)
 
--- a connection is not shut, and its session is not closed
+-- a connection is not shut, and its session is not closed; no call of it failed, and no `Feed` of its session was refused for memory
 pub record IsSpared (old : Told) (steps : List Step) (new : Told) (link : Link) : Type 0 where
   pub shut : Stays (old.is_shut link.number) (new.is_shut link.number)
   pub closed : closes link.id steps ≡ false
+  pub failed : Stays (old.has_failed link.number) (new.has_failed link.number)
+  pub fed : starves link.id steps ≡ false
 
 -- a connection is shut and its session is closed, for a cause of its own
-pub record IsShutDown (marks : List Connection) (bound : ℕ) (old : Told) (before : HostState) (steps : List Step) (new : Told) (link : Link) : Type 0 where
+pub record IsShutDown (marks : List Connection) (bound : ℕ) (old : Told) (before : HostState) (steps : List Step) (new : Told) (after : HostState) (link : Link) : Type 0 where
   pub shut : link.number < bound → IsRaised (old.is_shut link.number) (new.is_shut link.number)
   pub closed : closes link.id steps ≡ true
-  pub cause : Cause marks old before steps new link
+  pub cause : Cause marks old before steps new after link
 
--- a connection gave the bytes that were stored for its session and took those that were taken from it; it lost bytes only where its session is gone; it is shut only for a cause of its own
+-- a connection gave the bytes that were stored for its session and took those that were taken from it; it lost bytes exactly where a `Feed` was refused for memory, and its session is gone then; it is shut only for a cause of its own
 pub record Carried (marks : List Connection) (bound : ℕ) (old : Told) (before : HostState) (steps : List Step) (new : Told) (after : HostState) (link : Link) : Type 0 where
   pub lost : List ℕ
   pub consumed : Consumes (old.unread link.number) (new.unread link.number) (own link.id steps ++ lost)
   pub appended : Appends (old.written link.number) (new.written link.number) (taken link.id steps)
-  pub whole : (lost ≡ []) ⊎ IsGone after link.id
-  pub ends : IsSpared old steps new link ⊎ IsShutDown marks bound old before steps new link
+  pub whole : (lost ≡ []) ⊎ (IsGone after link.id × (starves link.id steps ≡ true))
+  pub fed : starves link.id steps ≡ true → lost ≢ []
+  pub ends : IsSpared old steps new link ⊎ IsShutDown marks bound old before steps new after link
 
 -- ---- many connections
 
@@ -161,6 +182,7 @@ pub record Carries (marks : List Connection) (bound : ℕ) (links : List Link) (
   pub chain : IsRun before steps after
   pub carried : (link : Link) → IsTied links link → Carried marks bound old before steps new after link
   pub others : (number : ℕ) → IsApart links number → KeepsPeer old new number
+  pub foreign : (id : SessionId) → IsStrange links id → LeavesAlone id steps
   pub all : AllMove old new
 
 -- some steps of this kind, with these connections
@@ -183,6 +205,11 @@ pub record KeepsMarks (bound : ℕ) (old : Told) (held : List Connection) (new :
 
 abbrev pub KeepsAllMarks : ℕ → Told → List Connection → Told → List Connection → Type 0
 KeepsAllMarks bound old held new now = (number : ℕ) → KeepsMarks bound old held new now number
+
+-- each connection is held as it was, and each further one is unmarked
+pub record Grows (held now : List Connection) : Type 0 where
+  pub kept : (connection : Connection) → IsHeld held connection → IsHeld now connection
+  pub unmarked : (connection : Connection) → IsHeld now connection → IsHeld held connection ⊎ ((connection.has_ended ≡ false) × (connection.is_shut ≡ false))
 
 -- no further connection is marked
 pub record AddsNoMark (held now : List Connection) (number : ℕ) : Type 0 where

@@ -112,9 +112,9 @@ pub record Shuts (bound : ℕ) (old new : Told) (number : ℕ) : Type 0 where
 abbrev pub HasRisen : ℕ → ℕ → Type 0
 HasRisen before now = (before < now) ⊎ (before ≡ 2 ^ 64 - 1)
 
--- `Device` is answered only where the count of faults rose, or stood at its greatest
+-- a count of faults never falls, and `Device` is answered only where it rose, or stood at its greatest
 abbrev pub HasCause : {T : Type 0} → ℕ → ℕ → Result T WireFault → Type 0
-HasCause before now result = IsErrOf result Device → HasRisen before now
+HasCause before now result = (before ≤ now) × (IsErrOf result Device → HasRisen before now)
 
 -- a number that was given lies above those from before
 abbrev pub GivesNumber : ℕ → ℕ → Result (Option ℕ) WireFault → Type 0

@@ -17,8 +17,8 @@ use Rattle.host_core.specs.Headline.{EndsFrom, IsFrontOf}
 use Rattle.socket_loop.specs.declared.connection.Link.{Link}
 use Rattle.socket_loop.specs.declared.connection.Connection.{Connection}
 use Rattle.socket_loop.specs.Told.{Told, KeepsPeer, KeepsOthers, KeepsAll, IsRaised, OnlyRises}
-use Rattle.socket_loop.specs.Links.{IsTied, IsAmong, IsApart, IsMarked, links_of, reads_ended, was_shut}
-use Rattle.socket_loop.specs.Parts.{AllMove, AreAll, IsAdmission, IsInput, IsOutput, IsEnd, Carried, IsEmptied, closes}
+use Rattle.socket_loop.specs.Links.{AreOnce, IsTied, IsAmong, IsApart, IsStrange, IsMarked, links_of, reads_ended, was_shut}
+use Rattle.socket_loop.specs.Parts.{AllMove, AreAll, IsAdmission, IsInput, IsOutput, IsEnd, Carried, IsEmptied, LeavesAlone, closes, is_finished_with}
 
 -- the budget of each round, and the connections
 pub record LoopState : Type 0 where
@@ -101,6 +101,10 @@ pub record IsNew (from to : ℕ) (accepted : List Accepted) (next : ℕ) (old ne
   pub fresh : next ≤ link.id.generation
   pub kept : KeepsPeer old new link.number
 
+-- a connection that was accepted has a session, which was opened for it
+abbrev pub HasSession : List Link → Accepted → Type 0
+HasSession met new = (link : Link) × (IsAmong met link × ((link.number ≡ new.number) × (new.outcome ≡ Opened link.id)))
+
 -- new connections were accepted: each number keeps what is told of it, or was turned away
 pub record Accepts (links : List Link) (from : ℕ) (old : Told) (before : HostState) (met : List Link) (to : ℕ) (new : Told) (after : HostState) : Type 0 where
   pub steps : List Step
@@ -116,9 +120,12 @@ pub record Accepts (links : List Link) (from : ℕ) (old : Told) (before : HostS
   pub all : AllMove old new
   pub closed_below : (id : SessionId) → closes id steps ≡ true → id.generation < after.slots.next
   pub spared : Fits links from before → (link : Link) → IsAmong met link → closes link.id steps ≡ false
+  pub spared_old : (id : SessionId) → id.generation < before.slots.next → closes id steps ≡ false
+  pub accounted : Fits links from before → (new_one : Accepted) → IsOneOf accepted new_one → HasSession met new_one ⊎ (IsTurnedAway from to accepted old new new_one.number × IsApart met new_one.number)
   pub stay : (link : Link) → IsAmong links link → IsAmong met link
   pub are : (link : Link) → IsAmong met link → IsAmong links link ⊎ IsNew from to accepted before.slots.next old new steps link
   pub fits : Fits links from before → Fits met to after
+  pub once : Fits links from before → AreOnce links → AreOnce met
 
 -- a session was opened, or not
 abbrev pub opening_of : Result SessionId HostFault → Outcome
@@ -128,15 +135,48 @@ opening_of (Err fault) = Refused fault
 abbrev pub IsOpening : HostState → Result SessionId HostFault → HostState → Type 0
 IsOpening old result new = IsStep old (record { event = Open; outcome = opening_of result }) new
 
+-- these connections were accepted
+pub record AcceptsThese (items : List Accepted) (links : List Link) (from : ℕ) (old : Told) (before : HostState) (met : List Link) (to : ℕ) (new : Told) (after : HostState) : Type 0 where
+  pub accepts : Accepts links from old before met to new after
+  pub items_are : accepts.accepted ≡ items
+
 -- of a new connection, from any state of the wire that told the same
-abbrev pub Admits : List Link → Told → HostState → ℕ → ℕ → List Link → Told → HostState → Type 0
-Admits links told before number to met new after =
-    (from : ℕ) (old : Told) → KeepsAll old told → from ≤ number → number < to → Accepts links from old before met to new after
+abbrev pub Admits : List Link → Told → HostState → ℕ → Outcome → ℕ → List Link → Told → HostState → Type 0
+Admits links told before number outcome to met new after =
+    (from : ℕ) (old : Told) → KeepsAll old told → from ≤ number → number < to → AcceptsThese (record { number = number; outcome = outcome } ∷ []) links from old before met to new after
 
 -- ---- a turn
 
--- accept, read, work, write and shut, in this order, and with one round
-pub record IsTurn (slice : ℕ) (held : List Connection) (from : ℕ) (old : Told) (before : HostState) (now : List Connection) (to : ℕ) (new : Told) (after : HostState) : Type 0 where
+-- what was read from a connection, and written to it: all that its session owes to what was read, but for what it owes still; or, where it is closed, a front of it
+pub record Served (owes : List ℕ → List ℕ) (old new : Told) (number : ℕ) (now : Option SessionView) : Type 0 where
+  pub read : List ℕ
+  pub lost : List ℕ
+  pub written : List ℕ
+  pub consumed : Consumes (old.unread number) (new.unread number) (read ++ lost)
+  pub appended : Appends (old.written number) (new.written number) written
+  pub ends : EndsFrom owes read written now
+  pub whole : IsSome now → lost ≡ []
+
+-- each connection that was held before, with its session open
+abbrev pub GoesOnServing : List Link → Told → HostState → Told → HostState → Type 0
+GoesOnServing links old before new after = (link : Link) (s : SessionView) → IsAmong links link → find before.slots link.id ≡ Some s → Served (due s) old new link.number (find after.slots link.id)
+
+-- each of these connections that is not one of those before
+abbrev pub ServesNew : List Link → Told → List Link → Told → HostState → Type 0
+ServesNew links old now new after = (link : Link) → IsAmong now link → IsAmong links link ⊎ Served replies old new link.number (find after.slots link.id)
+
+-- a connection was accepted in the turn, with a session of this generation or a later one, and below that one, which the admissions opened and left open
+pub record Joins (from to : ℕ) (accepted : List Accepted) (next last : ℕ) (admissions : List Step) (link : Link) : Type 0 where
+  pub least : from ≤ link.number
+  pub most : link.number < to
+  pub answered : IsOneOf accepted (record { number = link.number; outcome = Opened link.id })
+  pub opened : is_opened link.id admissions ≡ true
+  pub unclosed : closes link.id admissions ≡ false
+  pub fresh : next ≤ link.id.generation
+  pub below : link.id.generation < last
+
+-- accept, read, work, write and shut, in this order, and with one round; where nothing moved nobody was accepted
+pub record IsTurn (slice : ℕ) (moved : Bool) (held : List Connection) (from : ℕ) (old : Told) (before : HostState) (now : List Connection) (to : ℕ) (new : Told) (after : HostState) : Type 0 where
   pub met : List Link
   pub admissions : List Step
   pub inputs : List Step
@@ -158,33 +198,32 @@ pub record IsTurn (slice : ℕ) (held : List Connection) (from : ℕ) (old : Tol
   pub chain : IsRun before steps after
   pub accepted : List Accepted
   pub answers : openings admissions ≡ map (λ item. item.outcome) accepted
+  pub still : moved ≡ false → accepted ≡ []
   pub marks : List Connection
   pub marked : (number : ℕ) → IsMarked reads_ended marks number → IsMarked reads_ended held number ⊎ IsEmptied (old.unread number) (new.unread number)
+  pub ended : (number : ℕ) → IsMarked reads_ended now number → IsMarked reads_ended marks number
+  pub rises : from ≤ to
+  pub tied : (link : Link) → IsAmong met link → IsTied met link
   pub stay : (link : Link) → IsAmong (links_of held) link → IsAmong met link
-  pub are : (link : Link) → IsAmong met link → IsAmong (links_of held) link ⊎ (is_opened link.id steps ≡ true)
+  pub are : (link : Link) → IsAmong met link → IsAmong (links_of held) link ⊎ Joins from to accepted before.slots.next after.slots.next admissions link
+  pub starts : ServesNew (links_of held) old met new after
+  pub accounted : (new_one : Accepted) → IsOneOf accepted new_one → HasSession met new_one ⊎ IsTurnedAway from to accepted old new new_one.number
   pub left : (link : Link) → IsAmong (links_of now) link → IsAmong met link
   pub gone : (link : Link) → IsAmong met link → IsAmong (links_of now) link ⊎ (IsMarked was_shut held link.number ⊎ (link.number < to → IsRaised (old.is_shut link.number) (new.is_shut link.number)))
   pub carried : (link : Link) → IsAmong met link → Carried marks to old before steps new after link
   pub others : (number : ℕ) → IsApart met number → KeepsPeer old new number ⊎ IsTurnedAway from to accepted old new number
+  pub foreign : (id : SessionId) → id.generation < before.slots.next → IsStrange met id → LeavesAlone id steps
   pub all : AllMove old new
 
--- what was read from a connection, and written to it: all that its session owes to what was read, but for what it owes still; or, where it is closed, a front of it
-pub record Served (owes : List ℕ → List ℕ) (old new : Told) (number : ℕ) (now : Option SessionView) : Type 0 where
-  pub read : List ℕ
-  pub lost : List ℕ
-  pub written : List ℕ
-  pub consumed : Consumes (old.unread number) (new.unread number) (read ++ lost)
-  pub appended : Appends (old.written number) (new.written number) written
-  pub ends : EndsFrom owes read written now
-  pub whole : IsSome now → lost ≡ []
+-- each of these connections was shut, or is not finished with
+abbrev pub AreLeft : HostState → List Connection → Type 0
+AreLeft host [] = ⊤
+AreLeft host (first ∷ rest) = ((first.is_shut ≡ true) ⊎ (is_finished_with first.has_ended (find host.slots first.link.id) ≡ false)) × AreLeft host rest
 
--- each connection that was held before, with its session open
-abbrev pub GoesOnServing : List Link → Told → HostState → Told → HostState → Type 0
-GoesOnServing links old before new after = (link : Link) (s : SessionView) → IsAmong links link → find before.slots link.id ≡ Some s → Served (due s) old new link.number (find after.slots link.id)
-
--- each connection that is held after, and was not before
-abbrev pub ServesNew : List Link → Told → List Link → Told → HostState → Type 0
-ServesNew links old now new after = (link : Link) → IsAmong now link → IsAmong links link ⊎ Served replies old new link.number (find after.slots link.id)
+-- none of these connections is finished with: each session is open, and something of it is pending or queued, or it is not over and the reads have not ended
+abbrev pub NoneFinished : HostState → List Connection → Type 0
+NoneFinished host [] = ⊤
+NoneFinished host (first ∷ rest) = (is_finished_with first.has_ended (find host.slots first.link.id) ≡ false) × NoneFinished host rest
 
 -- where nothing moved, all that is told stays, and the connections are as they were
 abbrev pub IsQuiet : {X : Type 0} → Bool → Told → X → Told → X → Type 0
@@ -228,11 +267,11 @@ OneEndsOrShuts [] ys = ⊥
 OneEndsOrShuts (x ∷ xs) [] = ⊥
 OneEndsOrShuts (x ∷ xs) (y ∷ ys) = EndsOrShuts x y ⊎ OneEndsOrShuts xs ys
 
--- a connection gave or took at least one byte, or ended, or was shut
+-- one of these connections gave or took at least one byte, or ended, or was shut
 abbrev pub Stirs : Told → List Connection → Told → List Connection → Type 0
-Stirs old held new now = ((number : ℕ) × Transfers old new number) ⊎ OneEndsOrShuts held now
+Stirs old held new now = ((link : Link) × (IsAmong (links_of held) link × Transfers old new link.number)) ⊎ OneEndsOrShuts held now
 
--- a connection gave or took at least one byte, or ended, or was shut, where those that were shut are held no more
+-- one of these connections gave or took at least one byte, or ended, or was shut, where those that were shut are held no more
 pub record StirsHeld (old : Told) (held : List Connection) (new : Told) (now : List Connection) : Type 0 where
   pub last : List Connection
   pub links : links_of last ≡ links_of held

@@ -130,7 +130,8 @@ impl<A: Allocator + Copy> MemoryWire<A> {
 
     // Counts a call of accept, read or write, which may fail.
     fn count_call(&mut self, fails: bool)
-        ensures { self.new ≡ cond fails (failed (called self.old)) (called self.old) }
+        ensures after { self.new ≡ cond fails (failed (called self.old)) (called self.old) }
+        ensures rises { self.old.failed ≤ self.new.failed }
     {
         self.fails_in = self.fails_in.saturating_sub(1);
         if fails {
@@ -153,6 +154,7 @@ impl<A: Allocator + Copy> MemoryWire<A> {
         ensures test { result ≡ fails_for self.old number }
         ensures after { self.new ≡ cond result (after_failing self.old number) (called self.old) }
         ensures known { result ≡ false → number < length self.new.peers }
+        ensures rises { self.old.failed ≤ self.new.failed }
         ensures cause { result ≡ true → HasRisen self.old.failed self.new.failed }
     {
         let fails = self.fails_in == 1 || !self.is_open(number);

@@ -1,12 +1,13 @@
 //! A loop that serves the sessions of a host to the connections of a wire.
 
 ghost use Rattle.std.specs.Prelude.{true, false, Ok, ◌≡◌, ◌≤◌, ◌<◌, ℕ, List, [], ◌∷◌, length, not, filter};
+ghost use Rattle.host_core.specs.Events.{Opened};
 ghost use Rattle.host_core.specs.Steps.{HostState};
-ghost use Rattle.socket_loop.specs.Links.{links_of, place_for, IsRising};
-ghost use Rattle.socket_loop.specs.Parts.{Serves, IsInput, IsOutput, IsEnd, KeepsAllMarks, AddsNoMark};
-ghost use Rattle.socket_loop.specs.Turns.{any_pending, host_full, Accepts, Admits, AllKeepMade, Fits, GoesOnServing, HasMoved, IsAway, IsOpening, IsQuiet, IsTurn, ServesNew, StaysKnown, Stirs};
+ghost use Rattle.socket_loop.specs.Links.{links_of, place_for, reads_ended, AreOnce, IsMarked, IsRising};
+ghost use Rattle.socket_loop.specs.Parts.{Serves, Grows, IsInput, IsOutput, IsEnd, KeepsAllMarks, AddsNoMark};
+ghost use Rattle.socket_loop.specs.Turns.{any_pending, host_full, Admits, AllKeepMade, AreLeft, NoneFinished, Fits, GoesOnServing, HasMoved, IsAway, IsOpening, IsQuiet, IsTurn, ServesNew, StaysKnown, Stirs};
 ghost use Rattle.socket_loop.specs.Asked.{Write, Shut, Asks};
-ghost use Rattle.socket_loop.specs.Calls.{AsksAdmission, AsksAll, AsksEach, AsksTurn, reads_of, writes_of, ends_of};
+ghost use Rattle.socket_loop.specs.Calls.{AcceptsAll, AdmitsOne, AsksAdmission, AsksEach, AsksTurn, reads_of, writes_of, ends_of};
 ghost use Rattle.socket_loop.specs.declared.connection.Connection.{Connection};
 ghost use Rattle.socket_loop.specs.declared.turn.TheConstants.{ACCEPTS};
 
@@ -83,6 +84,7 @@ fn turn_away<W: Wire>(wire: &mut W, number: u64)
     ensures asked { Asks (W.asked wire.old) (W.asked wire.new) (Write number host_full ∷ Shut number ∷ []) }
     ensures away { IsAway (W.bound wire.old) host_full (W.told wire.old) (W.told wire.new) number }
     ensures bound { W.bound wire.new ≡ W.bound wire.old }
+    ensures faults { W.failed wire.old ≤ W.failed wire.new }
 {
     let _written = wire.write(number, b"info string host full\n");
     wire.shut(number);
@@ -102,10 +104,12 @@ impl<A: Allocator + Copy> Loop<A> {
 
     /// Holds a new connection with its session; where memory is refused, both end.
     fn hold<W: Wire, S: BuildHasher>(&mut self, host: &mut Host<S, A>, wire: &mut W, link: Link)
-        ensures asked { AsksAdmission link.number (W.asked wire.old) (W.asked wire.new) }
-        ensures admits { (before : HostState) → IsOpening before (Ok link.id) host.old → Admits (links_of self.old.held) (W.told wire.old) before link.number (W.bound wire.old) (links_of self.new.held) (W.told wire.new) host.new }
+        ensures asked { AsksAdmission link.number (Opened link.id) (W.asked wire.old) (W.asked wire.new) }
+        ensures admits { (before : HostState) → IsOpening before (Ok link.id) host.old → Admits (links_of self.old.held) (W.told wire.old) before link.number (Opened link.id) (W.bound wire.old) (links_of self.new.held) (W.told wire.new) host.new }
         ensures marks { (number : ℕ) → AddsNoMark self.old.held self.new.held number }
+        ensures grows { Grows self.old.held self.new.held }
         ensures bound { W.bound wire.new ≡ W.bound wire.old }
+        ensures faults { W.failed wire.old ≤ W.failed wire.new }
         ensures rising { IsRising (links_of self.old.held) → IsRising (links_of self.new.held) }
         ensures slice { self.new.slice ≡ self.old.slice }
     {
@@ -124,10 +128,11 @@ impl<A: Allocator + Copy> Loop<A> {
     /// Opens a session for a new connection. Where the host is full it is told so and shut; where there
     /// is no memory for a session it is shut without a word.
     fn admit<W: Wire, S: BuildHasher>(&mut self, host: &mut Host<S, A>, wire: &mut W, number: u64)
-        ensures asked { AsksAdmission number (W.asked wire.old) (W.asked wire.new) }
-        ensures admits { Admits (links_of self.old.held) (W.told wire.old) host.old number (W.bound wire.old) (links_of self.new.held) (W.told wire.new) host.new }
+        ensures admits { AdmitsOne (links_of self.old.held) (W.told wire.old) host.old number (W.bound wire.old) (links_of self.new.held) (W.told wire.new) host.new (W.asked wire.old) (W.asked wire.new) }
         ensures marks { (number : ℕ) → AddsNoMark self.old.held self.new.held number }
+        ensures grows { Grows self.old.held self.new.held }
         ensures bound { W.bound wire.new ≡ W.bound wire.old }
+        ensures faults { W.failed wire.old ≤ W.failed wire.new }
         ensures rising { IsRising (links_of self.old.held) → IsRising (links_of self.new.held) }
         ensures slice { self.new.slice ≡ self.old.slice }
     {
@@ -140,11 +145,12 @@ impl<A: Allocator + Copy> Loop<A> {
 
     /// Accepts new connections, at most `ACCEPTS`. True where one was accepted.
     fn accept_all<W: Wire, S: BuildHasher>(&mut self, host: &mut Host<S, A>, wire: &mut W) -> bool
-        ensures asked { AsksAll (W.asked wire.old) (W.asked wire.new) }
         ensures quiet { IsQuiet result (W.told wire.old) self.old.held (W.told wire.new) self.new.held }
-        ensures accepts { Accepts (links_of self.old.held) (W.bound wire.old) (W.told wire.old) host.old (links_of self.new.held) (W.bound wire.new) (W.told wire.new) host.new }
+        ensures accepts { AcceptsAll result (links_of self.old.held) (W.bound wire.old) (W.told wire.old) host.old (links_of self.new.held) (W.bound wire.new) (W.told wire.new) host.new (W.asked wire.old) (W.asked wire.new) }
         ensures marks { (number : ℕ) → AddsNoMark self.old.held self.new.held number }
+        ensures grows { Grows self.old.held self.new.held }
         ensures accepted { result ≡ true → W.bound wire.old < W.bound wire.new }
+        ensures faults { W.failed wire.old ≤ W.failed wire.new }
         ensures rising { IsRising (links_of self.old.held) → IsRising (links_of self.new.held) }
         ensures slice { self.new.slice ≡ self.old.slice }
     {
@@ -169,6 +175,7 @@ impl<A: Allocator + Copy> Loop<A> {
         ensures made { AllKeepMade self.old.held self.new.held }
         ensures links { links_of self.new.held ≡ links_of self.old.held }
         ensures bound { W.bound wire.new ≡ W.bound wire.old }
+        ensures faults { W.failed wire.old ≤ W.failed wire.new }
         ensures slice { self.new.slice ≡ self.old.slice }
     {
         let mut moved = false;
@@ -189,6 +196,7 @@ impl<A: Allocator + Copy> Loop<A> {
         ensures made { AllKeepMade self.old.held self.new.held }
         ensures links { links_of self.new.held ≡ links_of self.old.held }
         ensures bound { W.bound wire.new ≡ W.bound wire.old }
+        ensures faults { W.failed wire.old ≤ W.failed wire.new }
         ensures slice { self.new.slice ≡ self.old.slice }
     {
         let mut moved = false;
@@ -204,11 +212,14 @@ impl<A: Allocator + Copy> Loop<A> {
         ensures asked { AsksEach ends_of IsEnd host.old self.old.held self.new.held (W.asked wire.old) (W.asked wire.new) host.new }
         ensures quiet { IsQuiet result (W.told wire.old) self.old.held (W.told wire.new) self.new.held }
         ensures serves { Serves IsEnd self.old.held (W.bound wire.old) (links_of self.old.held) (W.told wire.old) host.old (W.told wire.new) host.new }
+        ensures ended { (number : ℕ) → IsMarked reads_ended self.new.held number → IsMarked reads_ended self.old.held number }
+        ensures left { AreOnce (links_of self.old.held) → AreLeft host.new self.new.held }
         ensures marks { KeepsAllMarks (W.bound wire.old) (W.told wire.old) self.old.held (W.told wire.new) self.new.held }
         ensures stirs { result ≡ true → Stirs (W.told wire.old) self.old.held (W.told wire.new) self.new.held }
         ensures made { AllKeepMade self.old.held self.new.held }
         ensures links { links_of self.new.held ≡ links_of self.old.held }
         ensures bound { W.bound wire.new ≡ W.bound wire.old }
+        ensures faults { W.failed wire.old ≤ W.failed wire.new }
         ensures slice { self.new.slice ≡ self.old.slice }
     {
         let mut moved = false;
@@ -241,12 +252,15 @@ impl<A: Allocator + Copy> Loop<A> {
     /// The five parts of a turn.
     fn take_turn<W: Wire, S: BuildHasher>(&mut self, host: &mut Host<S, A>, wire: &mut W) -> Turn
         requires fits { Fits (links_of self.old.held) (W.bound wire.old) host.old }
-        ensures asked { AsksTurn self.old.slice self.old.held (W.asked wire.old) host.old self.new.held (W.asked wire.new) host.new }
+        ensures asked { AsksTurn self.old.slice result.moved self.old.held (W.bound wire.old) (W.told wire.old) (W.asked wire.old) host.old self.new.held (W.bound wire.new) (W.told wire.new) (W.asked wire.new) host.new }
         ensures moved { result.moved ≡ true → HasMoved (W.bound wire.old) (W.told wire.old) self.old.held (W.bound wire.new) (W.told wire.new) self.new.held host.new }
         ensures pending { result.moved ≡ false → any_pending host.new (links_of self.new.held) ≡ false }
         ensures quiet { IsQuiet result.moved (W.told wire.old) (filter (λ c. not c.is_shut) self.old.held) (W.told wire.new) self.new.held }
-        ensures turned { IsTurn self.old.slice self.old.held (W.bound wire.old) (W.told wire.old) host.old self.new.held (W.bound wire.new) (W.told wire.new) host.new }
+        ensures turned { IsTurn self.old.slice result.moved self.old.held (W.bound wire.old) (W.told wire.old) host.old self.new.held (W.bound wire.new) (W.told wire.new) host.new }
         ensures fits { Fits (links_of self.new.held) (W.bound wire.new) host.new }
+        ensures faults { W.failed wire.old ≤ W.failed wire.new }
+        ensures once { AreOnce (links_of self.old.held) → AreOnce (links_of self.new.held) }
+        ensures finished { AreOnce (links_of self.old.held) → NoneFinished host.new self.new.held }
         ensures rising { IsRising (links_of self.old.held) → IsRising (links_of self.new.held) }
         ensures slice { self.new.slice ≡ self.old.slice }
     {
@@ -272,15 +286,18 @@ impl<A: Allocator + Copy> Loop<A> {
     /// it failed, a feed of its session was refused for memory, or it was finished with.
     pub fn turn<W: Wire, S: BuildHasher>(&mut self, host: &mut Host<S, A>, wire: &mut W) -> Turn
         requires fits { Fits (links_of self.old.held) (W.bound wire.old) host.old }
-        ensures asked { AsksTurn self.old.slice self.old.held (W.asked wire.old) host.old self.new.held (W.asked wire.new) host.new }
+        ensures asked { AsksTurn self.old.slice result.moved self.old.held (W.bound wire.old) (W.told wire.old) (W.asked wire.old) host.old self.new.held (W.bound wire.new) (W.told wire.new) (W.asked wire.new) host.new }
         ensures moved { result.moved ≡ true → HasMoved (W.bound wire.old) (W.told wire.old) self.old.held (W.bound wire.new) (W.told wire.new) self.new.held host.new }
         ensures pending { result.moved ≡ false → any_pending host.new (links_of self.new.held) ≡ false }
         ensures quiet { IsQuiet result.moved (W.told wire.old) (filter (λ c. not c.is_shut) self.old.held) (W.told wire.new) self.new.held }
-        ensures turned { IsTurn self.old.slice self.old.held (W.bound wire.old) (W.told wire.old) host.old self.new.held (W.bound wire.new) (W.told wire.new) host.new }
+        ensures turned { IsTurn self.old.slice result.moved self.old.held (W.bound wire.old) (W.told wire.old) host.old self.new.held (W.bound wire.new) (W.told wire.new) host.new }
         ensures goes_on { GoesOnServing (links_of self.old.held) (W.told wire.old) host.old (W.told wire.new) host.new }
         ensures starts { ServesNew (links_of self.old.held) (W.told wire.old) (links_of self.new.held) (W.told wire.new) host.new }
         ensures known { StaysKnown (W.told wire.old) (W.told wire.new) }
         ensures fits { Fits (links_of self.new.held) (W.bound wire.new) host.new }
+        ensures faults { W.failed wire.old ≤ W.failed wire.new }
+        ensures once { AreOnce (links_of self.old.held) → AreOnce (links_of self.new.held) }
+        ensures finished { AreOnce (links_of self.old.held) → NoneFinished host.new self.new.held }
         ensures rising { IsRising (links_of self.old.held) → IsRising (links_of self.new.held) }
         ensures slice { self.new.slice ≡ self.old.slice }
     {

@@ -8,9 +8,9 @@ ghost use Rattle.session_slots.specs.Slots.{find};
 ghost use Rattle.usi_session.specs.declared.limits.TheConstants.{CHUNK_MAX};
 ghost use Rattle.socket_loop.specs.Links.{IsMarked, reads_ended};
 ghost use Rattle.socket_loop.specs.Parts.{Serves, GaveBytes, IsClosing, IsEmptied, IsEnd, IsGone, IsInput, IsOutput, is_done, is_finished_with};
-ghost use Rattle.socket_loop.specs.Told.{IsRaised, Shuts, Told};
+ghost use Rattle.socket_loop.specs.Told.{IsRaised, Shuts, Stays, Told};
 ghost use Rattle.socket_loop.specs.Asked.{Shut, Asks};
-ghost use Rattle.socket_loop.specs.Calls.{Visits, shuts_of, reads_of, writes_of, ends_of, is_to_read};
+ghost use Rattle.socket_loop.specs.Calls.{Visits, shuts_of, reads_of, writes_of, ends_of, is_to_read, is_to_write};
 ghost use Rattle.socket_loop.specs.Turns.{EndsOrShuts, IsQuiet, KeepsMade, Transfers};
 ghost use Rattle.socket_loop.specs.declared.connection.Connection.{Connection};
 
@@ -35,6 +35,7 @@ pub fn shut_down<W: Wire, S: BuildHasher, A: Allocator + Copy>(
     ensures ended { connection.new.has_ended ≡ connection.old.has_ended }
     ensures shut { connection.new.is_shut ≡ true }
     ensures bound { W.bound wire.new ≡ W.bound wire.old }
+    ensures faults { W.failed wire.old ≤ W.failed wire.new }
     ensures next { host.old.slots.next ≤ host.new.slots.next }
 {
     let link = connection.link;
@@ -59,15 +60,17 @@ fn feed_from<W: Wire, S: BuildHasher, A: Allocator + Copy>(
 )
     requires wants { wants_input_of (find host.old.slots connection.old.link.id) ≡ true }
     requires few { length chunk.now ≤ CHUNK_MAX }
+    requires some { 1 ≤ length chunk.now }
     ensures asked { connection.old.is_shut ≡ false → Asks (W.asked wire.old) (W.asked wire.new) (shuts_of connection.old connection.new) }
     ensures visits { Visits IsInput connection.old.link.id host.old host.new }
-    ensures serves { (marks : List Connection) (before : Told) → GaveBytes before (W.told wire.old) connection.old.link.number chunk.now → Serves IsInput marks (W.bound wire.old) (connection.old.link ∷ []) before host.old (W.told wire.new) host.new }
+    ensures serves { (marks : List Connection) (before : Told) → GaveBytes before (W.told wire.old) connection.old.link.number chunk.now → Stays (before.has_failed connection.old.link.number) ((W.told wire.old).has_failed connection.old.link.number) → Serves IsInput marks (W.bound wire.old) (connection.old.link ∷ []) before host.old (W.told wire.new) host.new }
     ensures shut { connection.new.is_shut ≡ true → (connection.old.is_shut ≡ true) ⊎ (connection.old.link.number < W.bound wire.old → IsRaised ((W.told wire.old).is_shut connection.old.link.number) ((W.told wire.new).is_shut connection.old.link.number)) }
     ensures unread { Keeps ((W.told wire.old).unread connection.old.link.number) ((W.told wire.new).unread connection.old.link.number) }
     ensures made { KeepsMade connection.old connection.new }
     ensures ended { connection.new.has_ended ≡ connection.old.has_ended }
     ensures link { connection.new.link ≡ connection.old.link }
     ensures bound { W.bound wire.new ≡ W.bound wire.old }
+    ensures faults { W.failed wire.old ≤ W.failed wire.new }
     ensures next { host.old.slots.next ≤ host.new.slots.next }
 {
     let outcome = host.step(Event::Feed(connection.link.id, chunk));
@@ -99,6 +102,7 @@ pub fn read_from<W: Wire, S: BuildHasher, A: Allocator + Copy>(
 ) -> bool
     ensures asked { Asks (W.asked wire.old) (W.asked wire.new) (reads_of host.old connection.old connection.new) }
     ensures visits { Visits IsInput connection.old.link.id host.old host.new }
+    ensures still { is_to_read host.old connection.old ≡ false → result ≡ false }
     ensures quiet { IsQuiet result (W.told wire.old) connection.old (W.told wire.new) connection.new }
     ensures stirs { result ≡ true → Transfers (W.told wire.old) (W.told wire.new) connection.old.link.number ⊎ EndsOrShuts connection.old connection.new }
     ensures made { KeepsMade connection.old connection.new }
@@ -107,6 +111,7 @@ pub fn read_from<W: Wire, S: BuildHasher, A: Allocator + Copy>(
     ensures shut { connection.new.is_shut ≡ true → (connection.old.is_shut ≡ true) ⊎ (connection.old.link.number < W.bound wire.old → IsRaised ((W.told wire.old).is_shut connection.old.link.number) ((W.told wire.new).is_shut connection.old.link.number)) }
     ensures link { connection.new.link ≡ connection.old.link }
     ensures bound { W.bound wire.new ≡ W.bound wire.old }
+    ensures faults { W.failed wire.old ≤ W.failed wire.new }
     ensures next { host.old.slots.next ≤ host.new.slots.next }
 {
     let link = connection.link;
@@ -142,6 +147,7 @@ pub fn write_to<W: Wire, S: BuildHasher, A: Allocator + Copy>(
 ) -> bool
     ensures asked { Asks (W.asked wire.old) (W.asked wire.new) (writes_of host.old connection.old connection.new) }
     ensures visits { Visits IsOutput connection.old.link.id host.old host.new }
+    ensures still { is_to_write host.old connection.old ≡ false → result ≡ false }
     ensures quiet { IsQuiet result (W.told wire.old) connection.old (W.told wire.new) connection.new }
     ensures stirs { result ≡ true → Transfers (W.told wire.old) (W.told wire.new) connection.old.link.number ⊎ EndsOrShuts connection.old connection.new }
     ensures made { KeepsMade connection.old connection.new }
@@ -150,6 +156,7 @@ pub fn write_to<W: Wire, S: BuildHasher, A: Allocator + Copy>(
     ensures shut { connection.new.is_shut ≡ true → (connection.old.is_shut ≡ true) ⊎ (connection.old.link.number < W.bound wire.old → IsRaised ((W.told wire.old).is_shut connection.old.link.number) ((W.told wire.new).is_shut connection.old.link.number)) }
     ensures link { connection.new.link ≡ connection.old.link }
     ensures bound { W.bound wire.new ≡ W.bound wire.old }
+    ensures faults { W.failed wire.old ≤ W.failed wire.new }
     ensures next { host.old.slots.next ≤ host.new.slots.next }
 {
     let link = connection.link;
@@ -202,12 +209,15 @@ pub fn close_if_finished<W: Wire, S: BuildHasher, A: Allocator + Copy>(
     ensures stirs { result ≡ true → Transfers (W.told wire.old) (W.told wire.new) connection.old.link.number ⊎ EndsOrShuts connection.old connection.new }
     ensures made { KeepsMade connection.old connection.new }
     ensures finished { result ≡ (not connection.old.is_shut && is_finished_with connection.old.has_ended (find host.old.slots connection.old.link.id)) }
+    ensures shuts { result ≡ true → connection.new.is_shut ≡ true }
     ensures unchanged { result ≡ false → host.new ≡ host.old }
+    ensures left { (connection.new.is_shut ≡ true) ⊎ (is_finished_with connection.new.has_ended (find host.new.slots connection.new.link.id) ≡ false) }
     ensures serves { (marks : List Connection) → (connection.old.has_ended ≡ true → IsMarked reads_ended marks connection.old.link.number) → Serves IsEnd marks (W.bound wire.old) (connection.old.link ∷ []) (W.told wire.old) host.old (W.told wire.new) host.new }
     ensures ended { connection.new.has_ended ≡ connection.old.has_ended }
     ensures shut { connection.new.is_shut ≡ true → (connection.old.is_shut ≡ true) ⊎ (connection.old.link.number < W.bound wire.old → IsRaised ((W.told wire.old).is_shut connection.old.link.number) ((W.told wire.new).is_shut connection.old.link.number)) }
     ensures link { connection.new.link ≡ connection.old.link }
     ensures bound { W.bound wire.new ≡ W.bound wire.old }
+    ensures faults { W.failed wire.old ≤ W.failed wire.new }
     ensures next { host.old.slots.next ≤ host.new.slots.next }
 {
     if connection.is_shut || !is_finished(connection, host) {

@@ -1,7 +1,7 @@
 //! Connections under numbers, which are asked at each call and never waited for.
 
 ghost use Rattle.std.specs.Prelude.{◌≡◌, ◌≤◌, ℕ, List, [], ◌∷◌, length, Option, None};
-ghost use Rattle.socket_loop.specs.Asked.{Call, Accept, Read, Write, Shut, Asks};
+ghost use Rattle.socket_loop.specs.Asked.{Call, Accept, Read, Write, Shut, Wait, Asks};
 ghost use Rattle.socket_loop.specs.Told.{GivesNumber, Told, nothing_told, KeepsAll, Reads, Writes, Shuts, HasCause};
 ghost use Rattle.socket_loop.specs.declared.wire.WireFault.TheVariants.{OutOfMemory};
 
@@ -81,12 +81,13 @@ pub trait Wire {
     fn shut(&mut self, number: u64)
         ensures bound { bound self.new ≡ bound self.old }
         ensures asked { Asks (asked self.old) (asked self.new) (Shut number ∷ []) }
-        ensures shut { Shuts (bound self.old) (told self.old) (told self.new) number };
+        ensures shut { Shuts (bound self.old) (told self.old) (told self.new) number }
+        ensures faults { failed self.old ≤ failed self.new };
 
     /// Returns once something may be ready; at once where `idle` is false.
     fn wait(&mut self, idle: bool) -> Result<(), WireFault>
         ensures bound { bound self.new ≡ bound self.old }
-        ensures asked { Asks (asked self.old) (asked self.new) [] }
+        ensures asked { Asks (asked self.old) (asked self.new) (Wait idle ∷ []) }
         ensures kept { KeepsAll (told self.old) (told self.new) }
         ensures cause { HasCause (failed self.old) (failed self.new) result };
 

@@ -1,6 +1,8 @@
 -- One turn after others.
 use Rattle.std.proofs.Common.{◌≡◌, ◌<◌, ◌+◌, ℕ, suc, Result, Ok, Err, IfErr, refl, arith}
-use Rattle.usi_serve.specs.Serving.{AreTurns, IsTurnAndWait, Scene, StopsWithin}
+use Rattle.socket_loop.specs.declared.wire.WireFault.{WireFault}
+use Rattle.socket_loop.specs.Told.{HasCause}
+use Rattle.usi_serve.specs.Serving.{AreTurns, IsTurnTo, IsTurnAndWait, IsWait, Scene, Stops}
 
 pub turns_none : (slice : ℕ) (scene : Scene) → AreTurns slice 0 scene scene
 turns_none slice scene = refl
@@ -9,8 +11,8 @@ pub turns_more : (slice n : ℕ) (before between after : Scene) → AreTurns sli
     → IsTurnAndWait slice between after → AreTurns slice (n + 1) before after
 turns_more slice n before between after so_far next = let one_more : n + 1 ≡ suc n = omega arith in rw one_more (between, so_far, next)
 
-pub stops_within : {T E : Type 0} (r : Result T E) (slice n most : ℕ) (before between after : Scene) → n < most
-    → AreTurns slice n before between → IsTurnAndWait slice between after → IfErr r (λ fault. StopsWithin slice most before after)
-stops_within (Ok value) slice n most before between after less so_far next = tt
-stops_within (Err fault) slice n most before between after less so_far next =
-    (n + 1, omega arith, omega arith, turns_more slice n before between after so_far next)
+pub stops : (wait result : Result (Unit {0}) WireFault) (slice n most : ℕ) (before between last after : Scene) → result ≡ wait → n < most
+    → AreTurns slice n before between → (turn : IsTurnTo slice between last) → IsWait turn.moved last after → HasCause last.failed after.failed wait → IfErr result (λ fault. Stops slice most before after fault)
+stops wait (Ok value) slice n most before between last after same less so_far turn waited cause = tt
+stops wait (Err fault) slice n most before between last after same less so_far turn waited cause =
+    record { count = n; few = less; between = between; turns = so_far; last = last; turn = turn; wait = waited; cause = rw (← same) at cause }

@@ -1,1 +1,3 @@
 pub mod Serving
+pub mod Life
+pub mod Patience

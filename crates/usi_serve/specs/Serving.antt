@@ -1,32 +1,67 @@
 -- A loop that takes turns and waits after each of them (own choice).
-use Rattle.std.specs.Prelude.{◌≡◌, ◌≤◌, ℕ, zero, suc, List}
+use Rattle.std.specs.Prelude.{◌≡◌, ◌≤◌, ◌<◌, ℕ, zero, suc, List, [], ◌∷◌, Bool, true, false, Option, Err, filter, not}
 use Rattle.host_core.specs.Steps.{HostState}
 use Rattle.socket_loop.specs.declared.connection.Connection.{Connection}
-use Rattle.socket_loop.specs.Links.{links_of}
-use Rattle.socket_loop.specs.Told.{Told, KeepsAll}
-use Rattle.socket_loop.specs.Turns.{GoesOnServing, IsTurn, ServesNew, StaysKnown}
+use Rattle.socket_loop.specs.declared.wire.WireFault.{WireFault}
+use Rattle.socket_loop.specs.Asked.{Call, Wait, Asks}
+use Rattle.socket_loop.specs.Calls.{AsksTurn}
+use Rattle.socket_loop.specs.Links.{links_of, AreOnce, IsRising}
+use Rattle.socket_loop.specs.Told.{Told, HasCause, KeepsAll}
+use Rattle.socket_loop.specs.Turns.{any_pending, Fits, GoesOnServing, HasMoved, IsQuiet, IsTurn, NoneFinished, ServesNew, StaysKnown}
 
--- the connections of a loop, what its wire gave and tells, and its host
+-- the connections of a loop, what its wire gave, tells, was asked for and counts, and its host
 pub record Scene : Type 0 where
   pub held : List Connection
   pub bound : ℕ
   pub told : Told
+  pub asked : Option (List Call)
+  pub failed : ℕ
   pub host : HostState
 
--- a turn, and then a wait, in which all that is told stays
+-- a turn: all that is promised of one
+pub record IsTurnTo (slice : ℕ) (before after : Scene) : Type 0 where
+  pub moved : Bool
+  pub turned : IsTurn slice moved before.held before.bound before.told before.host after.held after.bound after.told after.host
+  pub asked : AsksTurn slice moved before.held before.bound before.told before.asked before.host after.held after.bound after.told after.asked after.host
+  pub moves : moved ≡ true → HasMoved before.bound before.told before.held after.bound after.told after.held after.host
+  pub pending : moved ≡ false → any_pending after.host (links_of after.held) ≡ false
+  pub quiet : IsQuiet moved before.told (filter (λ connection. not connection.is_shut) before.held) after.told after.held
+  pub goes_on : GoesOnServing (links_of before.held) before.told before.host after.told after.host
+  pub starts : ServesNew (links_of before.held) before.told (links_of after.held) after.told after.host
+  pub known : StaysKnown before.told after.told
+  pub fits : Fits (links_of after.held) after.bound after.host
+  pub faults : before.failed ≤ after.failed
+  pub rising : IsRising (links_of before.held) → IsRising (links_of after.held)
+  pub once : AreOnce (links_of before.held) → AreOnce (links_of after.held)
+  pub finished : AreOnce (links_of before.held) → NoneFinished after.host after.held
+
+-- a wait after a turn: the connections, the host and all that is told stay, and the one call that is asked for is a wait, which lasts until something may be ready exactly where the turn did not move
+pub record IsWait (moved : Bool) (before after : Scene) : Type 0 where
+  pub held : after.held ≡ before.held
+  pub bound : after.bound ≡ before.bound
+  pub told : KeepsAll before.told after.told
+  pub asked : Asks before.asked after.asked (Wait (not moved) ∷ [])
+  pub faults : before.failed ≤ after.failed
+  pub host : after.host ≡ before.host
+
+-- a turn, and then a wait
 pub record IsTurnAndWait (slice : ℕ) (before after : Scene) : Type 0 where
-  pub told : Told
-  pub turned : IsTurn slice before.held before.bound before.told before.host after.held after.bound told after.host
-  pub goes_on : GoesOnServing (links_of before.held) before.told before.host told after.host
-  pub starts : ServesNew (links_of before.held) before.told (links_of after.held) told after.host
-  pub known : StaysKnown before.told told
-  pub waited : KeepsAll told after.told
+  pub middle : Scene
+  pub turn : IsTurnTo slice before middle
+  pub wait : IsWait turn.moved middle after
 
 -- so many turns, each with a wait after it
 abbrev pub AreTurns : ℕ → ℕ → Scene → Scene → Type 0
 AreTurns slice zero before after = after ≡ before
 AreTurns slice (suc n) before after = (between : Scene) × AreTurns slice n before between × IsTurnAndWait slice between after
 
--- at least one turn and at most so many, each with a wait after it
-abbrev pub StopsWithin : ℕ → ℕ → Scene → Scene → Type 0
-StopsWithin slice most before after = (n : ℕ) × (1 ≤ n) × (n ≤ most) × AreTurns slice n before after
+-- fewer turns than so many, each with a wait after it, and then one more, with a wait that failed
+pub record Stops (slice most : ℕ) (before after : Scene) (fault : WireFault) : Type 0 where
+  pub count : ℕ
+  pub few : count < most
+  pub between : Scene
+  pub turns : AreTurns slice count before between
+  pub last : Scene
+  pub turn : IsTurnTo slice between last
+  pub wait : IsWait turn.moved last after
+  pub cause : HasCause {T = Unit {0}} last.failed after.failed (Err fault)

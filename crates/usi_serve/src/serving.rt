@@ -1,10 +1,11 @@
 //! Turn after turn.
 
-ghost use Rattle.std.specs.Prelude.{◌≡◌, ℕ, IfErr, IfOk};
+ghost use Rattle.std.specs.Prelude.{◌≡◌, IfErr, IfOk};
 ghost use Rattle.socket_loop.specs.Links.{links_of};
-ghost use Rattle.socket_loop.specs.Told.{HasCause};
 ghost use Rattle.socket_loop.specs.Turns.{Fits};
-ghost use Rattle.usi_serve.specs.Serving.{AreTurns, StopsWithin};
+ghost use Rattle.usi_serve.specs.Life.{Lives};
+ghost use Rattle.usi_serve.specs.Patience.{AnswersInTime};
+ghost use Rattle.usi_serve.specs.Serving.{AreTurns, Stops};
 
 use host_core::Host;
 use socket_loop::{Loop, Wire, WireFault};
@@ -22,12 +23,17 @@ pub fn serve<W: Wire, S: BuildHasher, A: Allocator + Copy>(
 ) -> Result<(), WireFault>
     requires fits { Fits (links_of connections.old.held) (W.bound wire.old) host.old }
     ensures done { IfOk result (λ _. AreTurns connections.old.slice turns
-        (record { held = connections.old.held; bound = W.bound wire.old; told = W.told wire.old; host = host.old })
-        (record { held = connections.new.held; bound = W.bound wire.new; told = W.told wire.new; host = host.new })) }
-    ensures stopped { IfErr result (λ _. StopsWithin connections.old.slice turns
-        (record { held = connections.old.held; bound = W.bound wire.old; told = W.told wire.old; host = host.old })
-        (record { held = connections.new.held; bound = W.bound wire.new; told = W.told wire.new; host = host.new })) }
-    ensures cause { (before : ℕ) × HasCause before (W.failed wire.new) result }
+        (record { held = connections.old.held; bound = W.bound wire.old; told = W.told wire.old; asked = W.asked wire.old; failed = W.failed wire.old; host = host.old })
+        (record { held = connections.new.held; bound = W.bound wire.new; told = W.told wire.new; asked = W.asked wire.new; failed = W.failed wire.new; host = host.new })) }
+    ensures stopped { IfErr result (λ fault. Stops connections.old.slice turns
+        (record { held = connections.old.held; bound = W.bound wire.old; told = W.told wire.old; asked = W.asked wire.old; failed = W.failed wire.old; host = host.old })
+        (record { held = connections.new.held; bound = W.bound wire.new; told = W.told wire.new; asked = W.asked wire.new; failed = W.failed wire.new; host = host.new }) fault) }
+    ensures in_time { IfOk result (λ _. AnswersInTime connections.old.slice turns
+        (record { held = connections.old.held; bound = W.bound wire.old; told = W.told wire.old; asked = W.asked wire.old; failed = W.failed wire.old; host = host.old })
+        (record { held = connections.new.held; bound = W.bound wire.new; told = W.told wire.new; asked = W.asked wire.new; failed = W.failed wire.new; host = host.new })) }
+    ensures whole { Lives
+        (record { held = connections.old.held; bound = W.bound wire.old; told = W.told wire.old; asked = W.asked wire.old; failed = W.failed wire.old; host = host.old })
+        (record { held = connections.new.held; bound = W.bound wire.new; told = W.told wire.new; asked = W.asked wire.new; failed = W.failed wire.new; host = host.new }) }
     ensures fits { Fits (links_of connections.new.held) (W.bound wire.new) host.new }
     ensures slice { connections.new.slice ≡ connections.old.slice }
 {

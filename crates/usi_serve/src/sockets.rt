@@ -1,6 +1,6 @@
 //! A wire over a Unix socket.
 
-ghost use Rattle.std.specs.Prelude.{◌≡◌, ◌<◌, ◌-◌, ◌^◌, IfOk, OnOk, [], Err};
+ghost use Rattle.std.specs.Prelude.{◌≡◌, ◌<◌, ◌≤◌, ◌-◌, ◌^◌, IfOk, OnOk, [], Err};
 ghost use Rattle.socket_loop.specs.Told.{GivesNumber, HasCause, HasRisen};
 ghost use Rattle.socket_loop.specs.declared.wire.WireFault.TheVariants.{Device};
 
@@ -150,6 +150,7 @@ impl<A: Allocator + Copy> MioWire<A> {
     /// Counts a call that failed.
     fn fault(&mut self) -> WireFault
         ensures device { result ≡ Device }
+        ensures rises { self.old.failed ≤ self.new.failed }
         ensures risen { HasRisen self.old.failed self.new.failed }
         ensures next { self.new.next ≡ self.old.next }
     {

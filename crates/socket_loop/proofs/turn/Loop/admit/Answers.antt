@@ -1,27 +1,40 @@
-use Rattle.std.proofs.Common.{rules, refl, inl, inr, [], ◌∷◌}
+use Rattle.std.proofs.Common.{rules, arith, refl, [], ◌∷◌}
 use Rattle.host_core.specs.declared.event.HostFault.TheVariants.{Full}
-use Rattle.host_core.specs.Events.{Refused}
+use Rattle.host_core.specs.Events.{Opened, Refused}
 use Rattle.socket_loop.proofs.Accepting.{admits_away, away_mute}
-use Rattle.socket_loop.proofs.Marks.{adds_same}
+use Rattle.socket_loop.proofs.Marks.{adds_same, grows_same}
 use Rattle.socket_loop.specs.Asked.{Write, Shut}
 use Rattle.socket_loop.specs.Turns.{host_full}
+use Rattle.socket_loop.proofs.Calls.{refused_admitted}
 use Rattle.socket_loop.proofs.turn.Loop.admit.Goals as goal
 
+pub returns-in-Ok-clause-admits : goal.returns-in-Ok-clause-admits
+returns-in-Ok-clause-admits g c = record { outcome = Opened c.in-Ok.id; admits = c.hold.ensures.admits _ c.in-Ok.ensures; asked = c.hold.ensures.asked }
+
 pub returns-in-Err-Full-clause-admits : goal.returns-in-Err-Full-clause-admits
-returns-in-Err-Full-clause-admits g c = admits_away _ _ _ _ _ c.args.number _ (Refused Full) c.turn_away.ensures.away (rw c.in-Err-Full.field-0-is at (rw c.in-Err-Full.is at c.open_in.ensures))
+returns-in-Err-Full-clause-admits g c = record {
+  outcome = Refused Full;
+  admits = admits_away _ _ _ _ _ c.args.number _ (Refused Full) c.turn_away.ensures.away (rw c.in-Err-Full.field-0-is at (rw c.in-Err-Full.is at c.open_in.ensures));
+  asked = record { calls = Write c.args.number host_full ∷ Shut c.args.number ∷ []; admitted = refl; asked = c.turn_away.ensures.asked };
+}
+
+pub returns-in-Err-Full-clause-grows : goal.returns-in-Err-Full-clause-grows
+returns-in-Err-Full-clause-grows g c = grows_same _
 
 pub returns-in-Err-Full-clause-marks : goal.returns-in-Err-Full-clause-marks
 returns-in-Err-Full-clause-marks g c = adds_same _
 
 pub returns-in-Err : goal.returns-in-Err
 returns-in-Err g c = record {
-  asked = record { calls = Shut c.args.number ∷ []; admitted = inr (inl refl); asked = c.shut.ensures.asked };
-  admits = admits_away _ _ _ _ _ c.args.number _ _ (away_mute _ _ _ c.args.number _ c.shut.ensures.shut) c.open_in.ensures;
+  admits = record {
+    outcome = Refused c.in-Err.field-0;
+    admits = admits_away _ _ _ _ _ c.args.number _ _ (away_mute _ _ _ c.args.number _ c.shut.ensures.shut) (rw c.in-Err.is at c.open_in.ensures);
+    asked = record { calls = Shut c.args.number ∷ []; admitted = refused_admitted c.args.number c.in-Err.field-0 (search rules); asked = c.shut.ensures.asked };
+  };
   marks = adds_same _;
+  grows = grows_same _;
   rising = λ r. r;
   bound = search rules;
+  faults = omega arith;
   slice = search rules;
 }
-
-pub returns-in-Err-Full-clause-asked : goal.returns-in-Err-Full-clause-asked
-returns-in-Err-Full-clause-asked g c = record { calls = Write c.args.number host_full ∷ Shut c.args.number ∷ []; admitted = inr (inr refl); asked = c.turn_away.ensures.asked }

@@ -3,7 +3,7 @@ use Rattle.std.specs.Prelude.{insert}
 use Rattle.socket_loop.specs.Links.{links_of, place_for}
 use Rattle.socket_loop.specs.declared.connection.Connection.{Connection}
 use Rattle.socket_loop.proofs.Accepting.{admits_new, admits_closed}
-use Rattle.socket_loop.proofs.Marks.{adds_insert, adds_same}
+use Rattle.socket_loop.proofs.Marks.{adds_insert, adds_same, grows_insert, grows_same}
 use Rattle.socket_loop.proofs.Rising.{rising_insert}
 use Rattle.socket_loop.proofs.turn.Loop.hold.Goals as goal
 
@@ -18,6 +18,17 @@ returns-then-is_ok-clause-marks g c =
     let new : Connection = record { link = c.args.link; has_ended = false; is_shut = false } in
     let items : c.insert.new.self.items ≡ insert c.args.self.now.held c.place_of-place.result new = search rules in
     rw items (adds_insert c.args.self.now.held c.place_of-place.result new refl refl)
+
+pub returns-then-is_ok-clause-grows : goal.returns-then-is_ok-clause-grows
+returns-then-is_ok-clause-grows g c =
+    let new : Connection = record { link = c.args.link; has_ended = false; is_shut = false } in
+    let items : c.insert.new.self.items ≡ insert c.args.self.now.held c.place_of-place.result new = search rules in
+    rw items (grows_insert c.args.self.now.held c.place_of-place.result new refl refl)
+
+pub returns-clause-grows : goal.returns-clause-grows
+returns-clause-grows g c =
+    let items : c.insert.new.self.items ≡ c.args.self.now.held = search rules in
+    rw items (grows_same c.args.self.now.held)
 
 pub returns-clause-admits : goal.returns-clause-admits
 returns-clause-admits g c = λ before opened.

@@ -1,4 +1,4 @@
-use Rattle.std.proofs.Common.{rules, ◌≡◌, ◌∙◌, []}
+use Rattle.std.proofs.Common.{rules, arith, ◌≡◌, ◌∙◌, []}
 use Rattle.socket_loop.specs.Parts.{IsInput}
 use Rattle.socket_loop.proofs.Peers.{kept_same}
 use Rattle.socket_loop.proofs.Parts.{serves_same, serves_next, links_set}
@@ -6,13 +6,13 @@ use Rattle.socket_loop.proofs.Marks.{marks_same, marks_then, marks_visit}
 use Rattle.socket_loop.proofs.Stirs.{all_made_same, all_made_then, all_made_set, stirs_next}
 use Rattle.socket_loop.proofs.Quiet.{quiet_next, either_false}
 use Rattle.socket_loop.specs.Calls.{reads_of}
-use Rattle.socket_loop.proofs.Calls.{asks_start, asks_next, asks_end}
+use Rattle.socket_loop.proofs.Calls.{asks_start, asks_next, asks_end, visit_reads}
 use Rattle.socket_loop.proofs.turn.Loop.read_all.Goals as goal
 
 pub loop-connection-init : goal.loop-connection-init
 loop-connection-init g c =
     let same : c.deref_mut-connection-items.result.now ≡ c.args.self.now.held = search rules in
-    record { so_far = λ marks. serves_same _ _ _ _ _ _; marks = rw same (marks_same _ _ _); made = rw same (all_made_same _); stirs = λ e. absurd (cc); links = search rules; quiet = λ q. (kept_same _, search rules); asked = rw same (asks_start reads_of IsInput _ _ _); bound = search rules }
+    record { so_far = λ marks. serves_same _ _ _ _ _ _; marks = rw same (marks_same _ _ _); made = rw same (all_made_same _); stirs = λ e. absurd (cc); links = search rules; quiet = λ q. (kept_same _, search rules); asked = rw same (asks_start reads_of IsInput _ _ _); bound = search rules; faults = omega arith }
 
 pub loop-connection-preserved : goal.loop-connection-preserved
 loop-connection-preserved g c = record {
@@ -20,11 +20,12 @@ loop-connection-preserved g c = record {
   marks = marks_then _ _ _ _ _ c.loop-connection.connection-items _ (c.loop-connection.invariant.so_far []).carries.all (c.read_from-has_moved.ensures.serves []).carries.all c.loop-connection.invariant.marks
       (marks_visit _ _ _ c.loop-connection.connection-items c.loop-connection.connection-index _ _ (search rules) c.read_from-has_moved.ensures.link c.read_from-has_moved.ensures.ended (rw c.loop-connection.invariant.bound at c.read_from-has_moved.ensures.shut));
   made = all_made_then _ c.loop-connection.connection-items _ c.loop-connection.invariant.made (all_made_set c.loop-connection.connection-items c.loop-connection.connection-index _ _ c.read_from-has_moved.ensures.made);
-  stirs = stirs_next c.loop-connection.moved _ _ _ _ _ c.loop-connection.connection-items c.loop-connection.connection-index _ _ (search rules) (c.loop-connection.invariant.so_far []).carries.all (c.read_from-has_moved.ensures.serves []).carries.all c.loop-connection.invariant.made c.read_from-has_moved.ensures.made c.loop-connection.invariant.stirs c.read_from-has_moved.ensures.stirs;
+  stirs = stirs_next c.loop-connection.moved _ _ _ _ _ c.loop-connection.connection-items c.loop-connection.connection-index _ _ (search rules) c.loop-connection.invariant.links (c.loop-connection.invariant.so_far []).carries.all (c.read_from-has_moved.ensures.serves []).carries.all c.loop-connection.invariant.made c.read_from-has_moved.ensures.made c.loop-connection.invariant.stirs c.read_from-has_moved.ensures.stirs;
   links = links_set c.loop-connection.connection-items c.loop-connection.connection-index _ _ c.read_from-has_moved.ensures.link ∙ c.loop-connection.invariant.links;
   quiet = quiet_next c.loop-connection.moved _ _ _ _ _ c.loop-connection.connection-items c.loop-connection.connection-index _ _ _ (either_false c.loop-connection.moved _) c.loop-connection.invariant.quiet c.read_from-has_moved.ensures.quiet;
-  asked = asks_next c.loop-connection.connection-index reads_of IsInput _ _ _ c.args.self.now.held c.loop-connection.connection-items c.read_from-has_moved.new.connection _ _ _ _ (search rules) c.loop-connection.invariant.asked c.read_from-has_moved.ensures.visits c.read_from-has_moved.ensures.asked;
+  asked = asks_next c.loop-connection.connection-index reads_of IsInput _ _ _ c.args.self.now.held c.loop-connection.connection-items c.read_from-has_moved.new.connection _ _ _ _ (search rules) c.loop-connection.invariant.asked (visit_reads c.loop-connection.host _ _ c.read_from-has_moved.ensures.link c.read_from-has_moved.ensures.made (λ e. (c.read_from-has_moved.ensures.quiet (c.read_from-has_moved.ensures.still e)).1)) c.read_from-has_moved.ensures.visits c.read_from-has_moved.ensures.asked;
   bound = search rules;
+  faults = omega arith;
 }
 
 pub returns-clause-asked : goal.returns-clause-asked

@@ -1,10 +1,11 @@
 use Rattle.std.proofs.Common.{rules, ◌≡◌, ◌≤◌, ◌∙◌, arith, []}
-use Rattle.socket_loop.specs.Links.{links_of, IsRising}
-use Rattle.socket_loop.proofs.Turning.{turned, turn_fits, serves_rises}
+use Rattle.socket_loop.specs.Links.{links_of, AreOnce, IsRising}
+use Rattle.socket_loop.proofs.Turning.{turned, turn_with, asks_turn, turn_fits, serves_rises}
 use Rattle.socket_loop.proofs.Quiet.{quiet_turn}
 use Rattle.socket_loop.proofs.Runs.{next_rises}
 use Rattle.socket_loop.proofs.Stirs.{moved_turn}
 use Rattle.socket_loop.proofs.Rising.{rising_filter}
+use Rattle.socket_loop.proofs.Left.{none_finished, once_filter}
 use Rattle.socket_loop.proofs.turn.Loop.take_turn.Goals as goal
 
 pub returns-clause-turned : goal.returns-clause-turned
@@ -14,7 +15,7 @@ returns-clause-turned g c =
     let bound_read = c.read_all-has_read.ensures.bound in
     let bound_written = c.write_all-has_written.ensures.bound ∙ bound_read in
     rw (c.close_all-has_shut.ensures.bound ∙ bound_written, c.let_go.ensures.held) (
-    turned c.args.self.now.slice c.args.self.now.held c.accept_all-has_accepted.new.self.held c.read_all-has_read.new.self.held c.write_all-has_written.new.self.held c.close_all-has_shut.new.self.held _ _ _ _ _ _ _ _ _ _ _ _ _ c.round-round.result.worked c.round-round.result.refused c.requires.fits
+    turned c.args.self.now.slice c.accept_all-has_accepted.result c.read_all-has_read.result c.write_all-has_written.result c.close_all-has_shut.result _ c.args.self.now.held c.accept_all-has_accepted.new.self.held c.read_all-has_read.new.self.held c.write_all-has_written.new.self.held c.close_all-has_shut.new.self.held _ _ _ _ _ _ _ _ _ _ _ _ _ c.round-round.result.worked c.round-round.result.refused _ _ c.requires.fits
     c.accept_all-has_accepted.ensures.accepts
     c.accept_all-has_accepted.ensures.marks
     (c.read_all-has_read.ensures.serves c.write_all-has_written.new.self.held)
@@ -24,6 +25,7 @@ returns-clause-turned g c =
     (rw bound_read at c.write_all-has_written.ensures.marks)
     (rw (bound_written, c.write_all-has_written.ensures.links, c.read_all-has_read.ensures.links) at c.close_all-has_shut.ensures.serves)
     (rw bound_written at c.close_all-has_shut.ensures.marks)
+    c.close_all-has_shut.ensures.ended
     same)
 
 pub returns-clause-fits : goal.returns-clause-fits
@@ -36,7 +38,7 @@ returns-clause-fits g c =
     let x : c.write_all-has_written.new.host.slots.next ≤ c.close_all-has_shut.new.host.slots.next = serves_rises _ _ _ _ _ _ _ _ c.close_all-has_shut.ensures.serves in
     rw (bound, c.let_go.ensures.held) (
     turn_fits c.args.self.now.held c.accept_all-has_accepted.new.self.held c.close_all-has_shut.new.self.held _ _ _ _ _ _ _ c.requires.fits
-    c.accept_all-has_accepted.ensures.accepts
+    c.accept_all-has_accepted.ensures.accepts.accepts
     (omega arith)
     same)
 
@@ -52,7 +54,7 @@ returns-clause-moved g c =
     let bound = c.close_all-has_shut.ensures.bound ∙ (c.write_all-has_written.ensures.bound ∙ c.read_all-has_read.ensures.bound) in
     rw bound (
     moved_turn c.accept_all-has_accepted.result c.read_all-has_read.result c.write_all-has_written.result c.close_all-has_shut.result c.is_pending-is_pending.result _ _ _ _ _ _ _ c.args.self.now.held c.accept_all-has_accepted.new.self.held c.read_all-has_read.new.self.held c.write_all-has_written.new.self.held c.close_all-has_shut.new.self.held _ c.close_all-has_shut.new.host
-    c.accept_all-has_accepted.ensures.accepted c.accept_all-has_accepted.ensures.quiet
+    c.accept_all-has_accepted.ensures.accepted c.accept_all-has_accepted.ensures.quiet c.read_all-has_read.ensures.links c.write_all-has_written.ensures.links
     (c.read_all-has_read.ensures.serves []).carries.all (c.write_all-has_written.ensures.serves []).carries.all c.close_all-has_shut.ensures.serves.carries.all
     c.read_all-has_read.ensures.made c.write_all-has_written.ensures.made c.close_all-has_shut.ensures.made
     c.read_all-has_read.ensures.stirs c.write_all-has_written.ensures.stirs c.close_all-has_shut.ensures.stirs
@@ -60,34 +62,33 @@ returns-clause-moved g c =
 
 pub returns-clause-asked : goal.returns-clause-asked
 returns-clause-asked g c =
+    let same : links_of c.close_all-has_shut.new.self.held ≡ links_of c.accept_all-has_accepted.new.self.held = c.close_all-has_shut.ensures.links ∙ (c.write_all-has_written.ensures.links ∙ c.read_all-has_read.ensures.links) in
     let slice : c.self.inside.slice ≡ c.args.self.now.slice = search rules in
-    record {
-      accepted = g.W.Wire.asked c.accept_all-has_accepted.new.wire;
-      accepts = c.accept_all-has_accepted.ensures.asked;
-      admissions = c.accept_all-has_accepted.ensures.accepts.steps;
-      admissions_are = c.accept_all-has_accepted.ensures.accepts.kinds;
-      middle = c.accept_all-has_accepted.new.host;
-      to_middle = c.accept_all-has_accepted.ensures.accepts.chain;
-      met = c.accept_all-has_accepted.new.self.held;
-      stay = c.accept_all-has_accepted.ensures.accepts.stay;
-      marks = c.accept_all-has_accepted.ensures.marks;
-      rising = c.accept_all-has_accepted.ensures.rising;
-      read = c.read_all-has_read.new.self.held;
-      asked_reads = g.W.Wire.asked c.read_all-has_read.new.wire;
-      fed = c.read_all-has_read.new.host;
-      reads = c.read_all-has_read.ensures.asked;
-      worked = c.round-round.result.worked;
-      refused = c.round-round.result.refused;
-      rounded = c.round-round.new.self;
-      round = rw slice at c.round-round.ensures;
-      written = c.write_all-has_written.new.self.held;
-      asked_writes = g.W.Wire.asked c.write_all-has_written.new.wire;
-      passed = c.write_all-has_written.new.host;
-      writes = c.write_all-has_written.ensures.asked;
-      last = c.close_all-has_shut.new.self.held;
-      ends = c.close_all-has_shut.ensures.asked;
-      left = c.let_go.ensures.held;
-    }
+    let bound_read = c.read_all-has_read.ensures.bound in
+    let bound_written = c.write_all-has_written.ensures.bound ∙ bound_read in
+    rw (c.close_all-has_shut.ensures.bound ∙ bound_written) (
+    asks_turn c.args.self.now.slice _ c.args.self.now.held _ c.accept_all-has_accepted.new.self.held c.read_all-has_read.new.self.held c.write_all-has_written.new.self.held c.close_all-has_shut.new.self.held _ _ _ _ _ c.accept_all-has_accepted.new.host c.read_all-has_read.new.host c.round-round.new.self c.write_all-has_written.new.host c.close_all-has_shut.new.host _ _ _ (g.W.Wire.asked c.accept_all-has_accepted.new.wire) (g.W.Wire.asked c.read_all-has_read.new.wire) (g.W.Wire.asked c.write_all-has_written.new.wire) _
+    (rw c.let_go.ensures.held (
+    turn_with c.args.self.now.slice c.accept_all-has_accepted.result c.read_all-has_read.result c.write_all-has_written.result c.close_all-has_shut.result _ c.args.self.now.held c.accept_all-has_accepted.new.self.held c.read_all-has_read.new.self.held c.write_all-has_written.new.self.held c.close_all-has_shut.new.self.held _ _ _ _ _ _ _ _ _ _ _ _ _ c.round-round.result.worked c.round-round.result.refused _ _ c.requires.fits
+    c.accept_all-has_accepted.ensures.accepts
+    c.accept_all-has_accepted.ensures.marks
+    (c.read_all-has_read.ensures.serves c.write_all-has_written.new.self.held)
+    c.read_all-has_read.ensures.marks
+    (rw slice at c.round-round.ensures)
+    (rw (bound_read, c.read_all-has_read.ensures.links) at (c.write_all-has_written.ensures.serves c.write_all-has_written.new.self.held))
+    (rw bound_read at c.write_all-has_written.ensures.marks)
+    (rw (bound_written, c.write_all-has_written.ensures.links, c.read_all-has_read.ensures.links) at c.close_all-has_shut.ensures.serves)
+    (rw bound_written at c.close_all-has_shut.ensures.marks)
+    c.close_all-has_shut.ensures.ended
+    same))
+    c.accept_all-has_accepted.ensures.accepts.asked
+    c.accept_all-has_accepted.ensures.accepts.accepts.chain
+    c.accept_all-has_accepted.ensures.grows
+    c.accept_all-has_accepted.ensures.rising
+    c.read_all-has_read.ensures.asked
+    c.write_all-has_written.ensures.asked
+    c.close_all-has_shut.ensures.asked
+    c.let_go.ensures.held)
 
 pub returns-clause-rising : goal.returns-clause-rising
 returns-clause-rising g c = λ r.
@@ -95,3 +96,17 @@ returns-clause-rising g c = λ r.
     let met : IsRising (links_of c.accept_all-has_accepted.new.self.held) = c.accept_all-has_accepted.ensures.rising r in
     let last : IsRising (links_of c.close_all-has_shut.new.self.held) = rw same met in
     rw c.let_go.ensures.held (rising_filter _ c.close_all-has_shut.new.self.held last)
+
+pub returns-clause-once : goal.returns-clause-once
+returns-clause-once g c = λ o.
+    let same : links_of c.close_all-has_shut.new.self.held ≡ links_of c.accept_all-has_accepted.new.self.held = c.close_all-has_shut.ensures.links ∙ (c.write_all-has_written.ensures.links ∙ c.read_all-has_read.ensures.links) in
+    let met : AreOnce (links_of c.accept_all-has_accepted.new.self.held) = c.accept_all-has_accepted.ensures.accepts.accepts.once c.requires.fits o in
+    let last : AreOnce (links_of c.close_all-has_shut.new.self.held) = rw same met in
+    rw c.let_go.ensures.held (once_filter _ c.close_all-has_shut.new.self.held last)
+
+pub returns-clause-finished : goal.returns-clause-finished
+returns-clause-finished g c = λ o.
+    let same : links_of c.write_all-has_written.new.self.held ≡ links_of c.accept_all-has_accepted.new.self.held = c.write_all-has_written.ensures.links ∙ c.read_all-has_read.ensures.links in
+    let met : AreOnce (links_of c.accept_all-has_accepted.new.self.held) = c.accept_all-has_accepted.ensures.accepts.accepts.once c.requires.fits o in
+    let written : AreOnce (links_of c.write_all-has_written.new.self.held) = rw same met in
+    rw c.let_go.ensures.held (none_finished c.close_all-has_shut.new.host c.close_all-has_shut.new.self.held (c.close_all-has_shut.ensures.left written))

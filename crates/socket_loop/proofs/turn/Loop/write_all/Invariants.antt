@@ -1,4 +1,4 @@
-use Rattle.std.proofs.Common.{◌≡◌, true, List}
+use Rattle.std.proofs.Common.{◌≡◌, ◌≤◌, true, List}
 use Rattle.socket_loop.specs.declared.connection.Connection.{Connection}
 use Rattle.socket_loop.specs.Links.{links_of}
 use Rattle.socket_loop.specs.Parts.{Serves, IsOutput, KeepsAllMarks}
@@ -17,4 +17,5 @@ invariant-loop-connection g l = record {
   quiet : IsQuiet l.moved (g.W.Wire.told l.fn.wire) l.fn.self.held (g.W.Wire.told l.wire) l.connection-items;
   asked : AsksTo l.connection-index writes_of IsOutput l.fn.host l.fn.self.held l.connection-items (g.W.Wire.asked l.fn.wire) (g.W.Wire.asked l.wire) l.host;
   bound : g.W.Wire.bound l.wire ≡ g.W.Wire.bound l.fn.wire;
+  faults : g.W.Wire.failed l.fn.wire ≤ g.W.Wire.failed l.wire;
 }

@@ -1,0 +1,127 @@
+-- What was read from one connection and written to it, part after part.
+use Rattle.std.proofs.Common.{◌≡◌, ◌⊎◌, ℕ, ◌<◌, List, [], ◌∷◌, ◌++◌, Option, Some, None, refl, sym, ap, ◌∙◌, subst, append_assoc, append-nil, inl, inr}
+use Rattle.std.specs.Prelude.{IsSome}
+use Rattle.std.specs.Io.KnownBytes.{Keeps, Appends, Consumes}
+use Rattle.std.proofs.KnownBytes.{Appends-trans, Appends-kept, Consumes-trans, Consumes-kept}
+use Rattle.session_slots.specs.declared.id.SessionId.{SessionId}
+use Rattle.session_slots.specs.Slots.{find}
+use Rattle.usi_session.specs.Due.{SessionView, due}
+use Rattle.usi_session.proofs.Settled.{due-settled}
+use Rattle.host_core.specs.Steps.{HostState}
+use Rattle.host_core.specs.Made.{Step, own, taken}
+use Rattle.host_core.specs.Runs.{IsRun}
+use Rattle.host_core.specs.ById.{queued_of}
+use Rattle.host_core.specs.Headline.{EndsFrom, IsFrontOf, IsSettled}
+use Rattle.host_core.proofs.OneSession.{kept, gone, IsGone as IsOut}
+use Rattle.socket_loop.specs.declared.connection.Link.{Link}
+use Rattle.socket_loop.specs.declared.connection.Connection.{Connection}
+use Rattle.socket_loop.specs.Told.{Told, KeepsPeer}
+use Rattle.socket_loop.specs.Links.{Ties, IsTied, IsAmong, IsStrange}
+use Rattle.socket_loop.specs.Parts.{Carried, LeavesAlone}
+use Rattle.socket_loop.specs.Turns.{Served}
+use Rattle.socket_loop.proofs.Peers.{Consumes-none, Appends-none, Keeps-Appends}
+use Rattle.socket_loop.proofs.Parts.{lost_order}
+use Rattle.socket_loop.proofs.Turning.{not_lost}
+
+-- one part more
+pub ends_more : (owes more : List ℕ → List ℕ) (own_ taken_ rest_own rest_taken : List ℕ) (now : Option SessionView) → ((x : List ℕ) → taken_ ++ more x ≡ owes (own_ ++ x)) → EndsFrom more rest_own rest_taken now → EndsFrom owes (own_ ++ rest_own) (taken_ ++ rest_taken) now
+ends_more owes more own_ taken_ rest_own rest_taken None h (rest, e) =
+    (rest, append_assoc taken_ rest_taken rest ∙ (ap (λ xs. taken_ ++ xs) e ∙ h rest_own))
+ends_more owes more own_ taken_ rest_own rest_taken (Some t) h e = λ x.
+    append_assoc taken_ rest_taken (due t x) ∙ (ap (λ xs. taken_ ++ xs) (e x) ∙ (h (rest_own ++ x) ∙ ap owes (sym (append_assoc own_ rest_own x))))
+
+ends_gone : (owes : List ℕ → List ℕ) (read written more_read more_written : List ℕ) (now : Option SessionView) → more_read ≡ [] → more_written ≡ [] → now ≡ None → EndsFrom owes read written None → EndsFrom owes (read ++ more_read) (written ++ more_written) now
+ends_gone owes read written more_read more_written now e f g p = rw (e, f, g, append-nil read, append-nil written) p
+
+none_some : (found : Option SessionView) (lost : List ℕ) → found ≡ None → IsSome found → lost ≡ []
+none_some None lost e some = absurd (cc)
+none_some (Some t) lost e some = absurd (cc)
+
+pub then_order : (h m : HostState) (id : SessionId) (steps : List Step) (lost : List ℕ) (old : Option SessionView) → find h.slots id ≡ old → id.generation < h.slots.next → IsRun h steps m → (IsSome old → lost ≡ []) → (lost ≡ []) ⊎ (own id steps ≡ [])
+then_order h m id steps lost None e lt r whole = inr (gone h m id steps e lt r).no_own
+then_order h m id steps lost (Some t) e lt r whole = inl (whole refl)
+
+pub then_ends : (owes : List ℕ → List ℕ) (h m : HostState) (id : SessionId) (steps : List Step) (read written : List ℕ) (old : Option SessionView) → find h.slots id ≡ old → id.generation < h.slots.next → IsRun h steps m → EndsFrom owes read written old → EndsFrom owes (read ++ own id steps) (written ++ taken id steps) (find m.slots id)
+then_ends owes h m id steps read written None e lt r p =
+    let g : IsOut id steps m = gone h m id steps e lt r in
+    ends_gone owes read written (own id steps) (taken id steps) (find m.slots id) g.no_own g.no_taken g.none p
+then_ends owes h m id steps read written (Some t) e lt r p = ends_more owes (due t) read written (own id steps) (taken id steps) (find m.slots id) p (kept h m id steps t e r).ends
+
+pub then_whole : (h m : HostState) (id : SessionId) (steps : List Step) (lost more : List ℕ) (old : Option SessionView) → find h.slots id ≡ old → id.generation < h.slots.next → IsRun h steps m → (IsSome old → lost ≡ []) → (IsSome (find m.slots id) → more ≡ []) → IsSome (find m.slots id) → lost ++ more ≡ []
+then_whole h m id steps lost more None e lt r p q some = none_some (find m.slots id) (lost ++ more) (gone h m id steps e lt r).none some
+then_whole h m id steps lost more (Some t) e lt r p q some = rw (p refl, q some) refl
+
+-- a connection was served, and then its session stored and gave bytes
+abbrev pub served_then : (owes : List ℕ → List ℕ) (a b c : Told) (h m : HostState) (n : ℕ) (id : SessionId) (steps : List Step) (lost : List ℕ) → id.generation < h.slots.next → IsRun h steps m → Served owes a b n (find h.slots id)
+    → Consumes (b.unread n) (c.unread n) (own id steps ++ lost) → Appends (b.written n) (c.written n) (taken id steps) → (IsSome (find m.slots id) → lost ≡ []) → Served owes a c n (find m.slots id)
+served_then owes a b c h m n id steps lost lt r s u w whole = record {
+  read = s.read ++ own id steps;
+  lost = s.lost ++ lost;
+  written = s.written ++ taken id steps;
+  consumed = subst (Consumes (a.unread n) (c.unread n)) (lost_order s.read s.lost (own id steps) lost (then_order h m id steps s.lost (find h.slots id) refl lt r s.whole)) (Consumes-trans _ _ _ (s.read ++ s.lost) (own id steps ++ lost) s.consumed u);
+  appended = Appends-trans _ _ _ s.written (taken id steps) s.appended w;
+  ends = then_ends owes h m id steps s.read s.written (find h.slots id) refl lt r s.ends;
+  whole = then_whole h m id steps s.lost lost (find h.slots id) refl lt r s.whole whole;
+}
+
+-- it was met
+abbrev pub served_on : (owes : List ℕ → List ℕ) (marks : List Connection) (bound : ℕ) (a b c : Told) (h m : HostState) (steps : List Step) (l : Link) → l.id.generation < h.slots.next → IsRun h steps m → Served owes a b l.number (find h.slots l.id) → Carried marks bound b h steps c m l → Served owes a c l.number (find m.slots l.id)
+served_on owes marks bound a b c h m steps l lt r s k =
+    served_then owes a b c h m l.number l.id steps k.lost lt r s k.consumed k.appended (λ some. not_lost m l.id k.lost k.whole some)
+
+-- it was not met
+abbrev pub served_aside : (owes : List ℕ → List ℕ) (a b c : Told) (h m : HostState) (n : ℕ) (id : SessionId) (steps : List Step) → id.generation < h.slots.next → IsRun h steps m → Served owes a b n (find h.slots id) → LeavesAlone id steps → KeepsPeer b c n → Served owes a c n (find m.slots id)
+served_aside owes a b c h m n id steps lt r s alone k =
+    served_then owes a b c h m n id steps [] lt r s (rw alone.stored (Consumes-none _ _ k.unread)) (rw alone.passed (Appends-none _ _ k.written)) (λ some. refl)
+
+pub Keeps-Consumes : (a b c : Option (List ℕ)) (bs : List ℕ) → Keeps a b → Consumes b c bs → Consumes a c bs
+Keeps-Consumes None b c bs p q = tt
+Keeps-Consumes (Some x) None c bs p q = absurd p
+Keeps-Consumes (Some x) (Some y) None bs p q = absurd q
+Keeps-Consumes (Some x) (Some y) (Some z) bs p q = sym p ∙ q
+
+-- nothing happened before
+abbrev pub served_before : (owes : List ℕ → List ℕ) (a b c : Told) (n : ℕ) (now : Option SessionView) → KeepsPeer a b n → Served owes b c n now → Served owes a c n now
+served_before owes a b c n now k s = record {
+  read = s.read;
+  lost = s.lost;
+  written = s.written;
+  consumed = Keeps-Consumes _ _ _ (s.read ++ s.lost) k.unread s.consumed;
+  appended = Keeps-Appends _ _ _ s.written k.written s.appended;
+  ends = s.ends;
+  whole = s.whole;
+}
+
+-- nothing happened after
+abbrev pub served_kept : (owes : List ℕ → List ℕ) (a b c : Told) (n : ℕ) (now : Option SessionView) → Served owes a b n now → KeepsPeer b c n → Served owes a c n now
+served_kept owes a b c n now s k = record {
+  read = s.read;
+  lost = s.lost;
+  written = s.written;
+  consumed = Consumes-kept _ _ _ (s.read ++ s.lost) s.consumed k.unread;
+  appended = Appends-kept _ _ _ s.written s.appended k.written;
+  ends = s.ends;
+  whole = s.whole;
+}
+
+-- ---- a front, and all
+
+pub front_written : (owes : List ℕ → List ℕ) (read written : List ℕ) (now : Option SessionView) → EndsFrom owes read written now → IsFrontOf written (owes read)
+front_written owes read written None h = h
+front_written owes read written (Some t) h = (due t [], h [] ∙ ap owes (append-nil read))
+
+pub all_written : (owes : List ℕ → List ℕ) (read written : List ℕ) (now : Option SessionView) → EndsFrom owes read written now → IsSettled now → queued_of now ≡ [] → written ≡ owes read
+all_written owes read written None h settled none = absurd settled
+all_written owes read written (Some t) h settled none =
+    sym (append-nil written) ∙ (ap (λ xs. written ++ xs) (sym (due-settled t settled ∙ none)) ∙ (h [] ∙ ap owes (append-nil read)))
+
+-- ---- links
+
+pub tied_of : (ls : List Link) (k l : Link) → IsTied ls k → IsAmong ls l → Ties l k
+tied_of [] k l t m = absurd m
+tied_of (x ∷ xs) k l t (inl e) = rw e t.0
+tied_of (x ∷ xs) k l t (inr m) = tied_of xs k l t.1 m
+
+pub strange_each : (ls : List Link) (id : SessionId) → ((l : Link) → IsAmong ls l → l.id ≡ id → ⊥) → IsStrange ls id
+strange_each [] id f = tt
+strange_each (x ∷ xs) id f = (f x (inl refl), strange_each xs id (λ l m. f l (inr m)))

@@ -1,0 +1,362 @@
+-- What a turn does to a session that is pending.
+use Rattle.std.proofs.Common.{◌≡◌, ◌⊎◌, ℕ, zero, suc, ◌+◌, ◌<◌, ◌≤◌, Bool, true, false, cond, List, [], ◌∷◌, ◌++◌, length, Option, Some, None, refl, sym, ap, ◌∙◌, arith, inl, inr}
+use Rattle.std.specs.Prelude.{slice_index_or, is_some, nat_lt, ◌||◌, ◌&&◌, ◌==◌, not}
+use Rattle.std.proofs.lemmas.Bool.{eqb-true, or_cases, or_left, or_right, both_ways}
+use Rattle.session_slots.specs.declared.id.SessionId.{SessionId}
+use Rattle.session_slots.specs.Slots as slots
+use Rattle.session_slots.specs.Slots.{find}
+use Rattle.session_slots.proofs.Finds.{find-with_session, find-with_session-other}
+use Rattle.usi_lines.specs.Lines.{ahead}
+use Rattle.usi_session.specs.declared.limits.TheConstants.{QUEUE_FULL}
+use Rattle.usi_session.specs.Due.{SessionView, has_line, is_pending, load}
+use Rattle.host_core.specs.declared.event.HostFault.TheVariants.{Full, OutOfMemory, UnknownSession, NotReady}
+use Rattle.host_core.specs.Events.{Event, Open, Feed, Work, Take, Close, Outcome, Opened, Done, Worked, Gave, Refused}
+use Rattle.host_core.specs.Sessions.{Feeds, Works, Takes, WorkedOn}
+use Rattle.host_core.specs.Steps.{HostState, OnSession, IsOpened, IsClosed, Stepped}
+use Rattle.host_core.specs.Made.{Step, is_same_id}
+use Rattle.host_core.specs.Runs.{IsRun}
+use Rattle.host_core.specs.Rounds.{IsRound, works, pending_from, pending_ids}
+use Rattle.host_core.specs.ById.{pending_of}
+use Rattle.host_core.proofs.Ids.{same_id, other_id, is_same_id-refl}
+use Rattle.host_core.proofs.OneSession.{gone}
+use Rattle.socket_loop.specs.declared.connection.Connection.{Connection}
+use Rattle.socket_loop.specs.Told.{Told}
+use Rattle.socket_loop.specs.Parts.{AreAll, IsAdmission, IsInput, IsOutput, IsEnd, refuses, refuses_by}
+use Rattle.socket_loop.specs.Turns.{IsTurn}
+use Rattle.socket_loop.proofs.Runs.{step_rises, next_rises, all_append}
+
+-- ---- steps that are no work
+
+abbrev is_work : Event → Bool
+is_work Open = false
+is_work (Feed id chunk) = false
+is_work (Work id budget) = true
+is_work (Take id n) = false
+is_work (Close id) = false
+
+abbrev is_feed : Event → Bool
+is_feed Open = false
+is_feed (Feed id chunk) = true
+is_feed (Work id budget) = false
+is_feed (Take id n) = false
+is_feed (Close id) = false
+
+-- it is closed, or as pending as before, with the same load
+abbrev KeepsLoad : SessionView → Option SessionView → Type 0
+KeepsLoad s None = Unit {0}
+KeepsLoad s (Some t) = (is_pending t ≡ is_pending s) × (load t ≡ load s)
+
+keeps_some : (s t : SessionView) (found_ : Option SessionView) → found_ ≡ Some t → (is_pending t ≡ is_pending s) × (load t ≡ load s) → KeepsLoad s found_
+keeps_some s t found_ e p = rw e p
+
+keeps_none : (s : SessionView) (found_ : Option SessionView) → found_ ≡ None → KeepsLoad s found_
+keeps_none s found_ e = rw e tt
+
+keeps_same : (s : SessionView) (found_ : Option SessionView) → found_ ≡ Some s → KeepsLoad s found_
+keeps_same s found_ e = keeps_some s s found_ e (refl, refl)
+
+keeps_then : (s t : SessionView) (found_ : Option SessionView) → (is_pending t ≡ is_pending s) × (load t ≡ load s) → KeepsLoad t found_ → KeepsLoad s found_
+keeps_then s t None p q = tt
+keeps_then s t (Some u) p q = (q.0 ∙ p.0, q.1 ∙ p.1)
+
+wants_or : (over there room : Bool) → (not over && not there && room) ≡ true → (not over && there) ≡ true → ⊥
+wants_or true there room e f = absurd (cc)
+wants_or false true room e f = absurd (cc)
+wants_or false false room e f = absurd (cc)
+
+feeds_load : (chunk : List ℕ) (s : SessionView) (o : Outcome) (t : SessionView) → is_pending s ≡ true → Feeds chunk s o t → (is_pending t ≡ is_pending s) × (load t ≡ load s)
+feeds_load chunk s Done t p f = absurd (wants_or s.state.is_over (is_some s.running_go || has_line (ahead s.input [])) (nat_lt (length s.queued) QUEUE_FULL) f.could.0 p)
+feeds_load chunk s (Opened id) t p f = absurd f
+feeds_load chunk s (Worked n) t p f = absurd f
+feeds_load chunk s (Gave bytes) t p f = absurd f
+feeds_load chunk s (Refused Full) t p f = absurd f
+feeds_load chunk s (Refused UnknownSession) t p f = absurd f
+feeds_load chunk s (Refused OutOfMemory) t p f = rw f.1 (refl, refl)
+feeds_load chunk s (Refused NotReady) t p f = rw f.1 (refl, refl)
+
+takes_load : (n : ℕ) (s : SessionView) (o : Outcome) (t : SessionView) → Takes n s o t → (is_pending t ≡ is_pending s) × (load t ≡ load s)
+takes_load n s Done t f = absurd f
+takes_load n s (Opened id) t f = absurd f
+takes_load n s (Worked m) t f = absurd f
+takes_load n s (Gave bytes) t f = rw (f.state_is, f.running_go_is, f.input_is) (refl, refl)
+takes_load n s (Refused Full) t f = absurd f
+takes_load n s (Refused UnknownSession) t f = absurd f
+takes_load n s (Refused OutOfMemory) t f = rw f.1 (refl, refl)
+takes_load n s (Refused NotReady) t f = rw f.1 (refl, refl)
+
+on_load : (goes : SessionView → Outcome → SessionView → Type 0) (old new : HostState) (at id : SessionId) (o : Outcome) (s : SessionView) (found_ : Option SessionView) (same : Bool) → is_same_id at id ≡ same → find old.slots id ≡ Some s → find old.slots at ≡ found_ → OnSession goes old at found_ o new
+    → ((t : SessionView) → goes s o t → (is_pending t ≡ is_pending s) × (load t ≡ load s)) → KeepsLoad s (find new.slots id)
+on_load goes old new at id o s None same e f h u g = keeps_same s (find new.slots id) (ap (λ (x : HostState). find x.slots id) u.same ∙ f)
+on_load goes old new at id o s (Some t) true e f h c g =
+    let is : at ≡ id = same_id at id e in
+    let both : Some t ≡ Some s = sym h ∙ (ap (find old.slots) is ∙ f) in
+    let one : t ≡ s = cc in
+    let went : goes s o c.after = rw one at c.went in
+    keeps_some s c.after (find new.slots id) (ap (find new.slots) (sym is) ∙ (ap (λ q. find q at) c.slots_are ∙ find-with_session old.slots at t c.after h)) (g c.after went)
+on_load goes old new at id o s (Some t) false e f h c g =
+    keeps_same s (find new.slots id) (ap (λ q. find q id) c.slots_are ∙ (find-with_session-other old.slots at id t c.after h (other_id at id e) ∙ f))
+
+open_load : (old new : HostState) (id : SessionId) (o : Outcome) (s : SessionView) → find old.slots id ≡ Some s → IsOpened old o new → KeepsLoad s (find new.slots id)
+open_load old new id (Opened at) s f p = by (is_same_id at id) refl
+  where
+    by : (b : Bool) → is_same_id at id ≡ b → KeepsLoad s (find new.slots id)
+    by true e = (let n : Some s ≡ None = sym f ∙ (ap (find old.slots) (sym (same_id at id e)) ∙ p.opens.was) in absurd (cc))
+    by false e = keeps_same s (find new.slots id) (p.opens.others id (other_id at id e) ∙ f)
+open_load old new id Done s f p = absurd p
+open_load old new id (Worked n) s f p = absurd p
+open_load old new id (Gave bytes) s f p = absurd p
+open_load old new id (Refused Full) s f p = keeps_same s (find new.slots id) (ap (λ (h : HostState). find h.slots id) p.1 ∙ f)
+open_load old new id (Refused OutOfMemory) s f p = keeps_same s (find new.slots id) (ap (λ (h : HostState). find h.slots id) p.1 ∙ f)
+open_load old new id (Refused UnknownSession) s f p = absurd p
+open_load old new id (Refused NotReady) s f p = absurd p
+
+close_load : (old new : HostState) (at id : SessionId) (o : Outcome) (s : SessionView) (found_ : Option SessionView) (same : Bool) → is_same_id at id ≡ same → find old.slots id ≡ Some s → IsClosed old at found_ o new → KeepsLoad s (find new.slots id)
+close_load old new at id o s None same e f u = keeps_same s (find new.slots id) (ap (λ (h : HostState). find h.slots id) u.same ∙ f)
+close_load old new at id o s (Some t) true e f c = keeps_none s (find new.slots id) (ap (find new.slots) (sym (same_id at id e)) ∙ c.none)
+close_load old new at id o s (Some t) false e f c = keeps_same s (find new.slots id) (c.others id (other_id at id e) ∙ f)
+
+load_step : (old new : HostState) (id : SessionId) (event : Event) (o : Outcome) (s : SessionView) → Stepped old event o new → find old.slots id ≡ Some s → is_work event ≡ false → (is_feed event ≡ true → is_pending s ≡ true) → KeepsLoad s (find new.slots id)
+load_step old new id Open o s p f w g = open_load old new id o s f p
+load_step old new id (Feed at chunk) o s p f w g = on_load (Feeds chunk) old new at id o s (find old.slots at) (is_same_id at id) refl f refl p.0 (λ t went. feeds_load chunk s o t (g refl) went)
+load_step old new id (Work at budget) o s p f w g = absurd (cc)
+load_step old new id (Take at n) o s p f w g = on_load (Takes n) old new at id o s (find old.slots at) (is_same_id at id) refl f refl p.0 (λ t went. takes_load n s o t went)
+load_step old new id (Close at) o s p f w g = close_load old new at id o s (find old.slots at) (is_same_id at id) refl f p
+
+-- steps of these kinds, one after the other
+mutual_load : (kind : Event → Type 0) (mid i : HostState) (id : SessionId) (rest : List Step) (s : SessionView) (found_ : Option SessionView) → find mid.slots id ≡ found_ → id.generation < mid.slots.next → IsRun mid rest i → KeepsLoad s found_
+    → ((t : SessionView) → find mid.slots id ≡ Some t → is_pending t ≡ is_pending s → KeepsLoad t (find i.slots id)) → KeepsLoad s (find i.slots id)
+mutual_load kind mid i id rest s None e lt r p more = keeps_none s (find i.slots id) (gone mid i id rest e lt r).none
+mutual_load kind mid i id rest s (Some t) e lt r p more = keeps_then s t (find i.slots id) p (more t e p.0)
+
+load_run : (kind : Event → Type 0) (h i : HostState) (id : SessionId) (steps : List Step) (s : SessionView) → ((e : Event) → kind e → is_work e ≡ false) → ((e : Event) → kind e → is_feed e ≡ true → is_pending s ≡ true) → AreAll kind steps → id.generation < h.slots.next → find h.slots id ≡ Some s → IsRun h steps i → KeepsLoad s (find i.slots id)
+unfolding IsRun
+load_run kind h i id [] s w g all lt f r = keeps_same s (find i.slots id) (ap (λ (x : HostState). find x.slots id) r ∙ f)
+load_run kind h i id (step ∷ rest) s w g all lt f r =
+    let u : h.slots.next ≤ r.0.slots.next = step_rises h r.0 step.event step.outcome r.1.stepped in
+    let first : KeepsLoad s (find r.0.slots id) = load_step h r.0 id step.event step.outcome s r.1.stepped f (w step.event all.0) (g step.event all.0) in
+    mutual_load kind r.0 i id rest s (find r.0.slots id) refl (omega arith) r.2 first
+    (λ t e same. load_run kind r.0 i id rest t w (λ e_ k feed. same ∙ g e_ k feed) all.1 (omega arith) e r.2)
+
+-- ---- the round
+
+-- closed, or with nothing pending, or with so many steps less to make
+abbrev pub Nearer : ℕ → SessionView → Option SessionView → Type 0
+Nearer budget s None = Unit {0}
+Nearer budget s (Some t) = (is_pending t ≡ false) ⊎ (budget + load t ≤ load s)
+
+-- no load more, and nothing pending if nothing was
+abbrev NoMore : SessionView → Option SessionView → Type 0
+NoMore s None = Unit {0}
+NoMore s (Some t) = (load t ≤ load s) × (is_pending s ≡ false → is_pending t ≡ false)
+
+no_more_some : (s t : SessionView) (found_ : Option SessionView) → found_ ≡ Some t → (load t ≤ load s) × (is_pending s ≡ false → is_pending t ≡ false) → NoMore s found_
+no_more_some s t found_ e p = rw e p
+
+no_more_then : (s t : SessionView) (found_ : Option SessionView) → (load t ≤ load s) × (is_pending s ≡ false → is_pending t ≡ false) → NoMore t found_ → NoMore s found_
+no_more_then s t None p q = tt
+no_more_then s t (Some u) p q = (let a : load t ≤ load s = p.0 in let b : load u ≤ load t = q.0 in omega arith, λ e. q.1 (p.1 e))
+
+-- what the work of a session does: it is refused, or made
+record WorksOnce (budget : ℕ) (s : SessionView) (new : HostState) (id : SessionId) : Type 0 where
+  pub after : SessionView
+  pub steps : ℕ
+  pub worked : WorkedOn s budget steps after
+  pub finds : find new.slots id ≡ Some after
+
+once_worked : (budget : ℕ) (old new : HostState) (at id : SessionId) (o : Outcome) (s : SessionView) (found_ : Option SessionView) → at ≡ id → find old.slots id ≡ Some s → find old.slots at ≡ found_ → OnSession (Works budget) old at found_ o new → (refuses_by id (Work at budget) o ≡ true) ⊎ WorksOnce budget s new id
+once_worked budget old new at id o s None is f h u = (let n : Some s ≡ None = sym f ∙ (ap (find old.slots) (sym is) ∙ h) in absurd (cc))
+once_worked budget old new at id (Worked n) s (Some t) is f h c =
+    let both : Some t ≡ Some s = sym h ∙ (ap (find old.slots) is ∙ f) in
+    let one : t ≡ s = cc in
+    inr (record { after = c.after; steps = n; worked = rw one at c.went; finds = ap (find new.slots) (sym is) ∙ (ap (λ q. find q at) c.slots_are ∙ find-with_session old.slots at t c.after h) })
+once_worked budget old new at id (Refused fault) s (Some t) is f h c = inl (rw is (is_same_id-refl id))
+once_worked budget old new at id Done s (Some t) is f h c = absurd c.went
+once_worked budget old new at id (Opened x) s (Some t) is f h c = absurd c.went
+once_worked budget old new at id (Gave bytes) s (Some t) is f h c = absurd c.went
+
+other_worked : (budget : ℕ) (old new : HostState) (at id : SessionId) (o : Outcome) (found_ : Option SessionView) → is_same_id at id ≡ false → find old.slots at ≡ found_ → OnSession (Works budget) old at found_ o new → find new.slots id ≡ find old.slots id
+other_worked budget old new at id o None e h u = ap (λ (x : HostState). find x.slots id) u.same
+other_worked budget old new at id o (Some t) e h c = ap (λ q. find q id) c.slots_are ∙ find-with_session-other old.slots at id t c.after h (other_id at id e)
+
+worked_no_more : (budget n : ℕ) (s t : SessionView) → WorkedOn s budget n t → (load t ≤ load s) × (is_pending s ≡ false → is_pending t ≡ false)
+worked_no_more budget n s t w = (let m : n + load t ≤ load s = w.made in omega arith, λ e. rw ((w.idle e).1) e)
+
+later_by : (budget : ℕ) (at : SessionId) (ids : List SessionId) (o : Outcome) (os : List Outcome) (h mid i : HostState) (id : SessionId) (s : SessionView) (same : Bool) → is_same_id at id ≡ same → find h.slots id ≡ Some s → Stepped h (Work at budget) o mid
+    → ((t : SessionView) → find mid.slots id ≡ Some t → (refuses id (works budget ids os) ≡ true) ⊎ NoMore t (find i.slots id)) → (refuses id (works budget (at ∷ ids) (o ∷ os)) ≡ true) ⊎ NoMore s (find i.slots id)
+later_by budget at ids o os h mid i id s true e f p more = elim (once_worked budget h mid at id o s (find h.slots at) (same_id at id e) f refl p) [
+  | inl refused ↦ inl (or_left (refuses_by id (Work at budget) o) (refuses id (works budget ids os)) refused)
+  | inr w ↦ elim (more w.after w.finds) [
+    | inl refused ↦ inl (or_right (refuses_by id (Work at budget) o) (refuses id (works budget ids os)) refused)
+    | inr q ↦ inr (no_more_then s w.after (find i.slots id) (worked_no_more budget w.steps s w.after w.worked) q)
+  ]
+]
+later_by budget at ids o os h mid i id s false e f p more = elim (more s (other_worked budget h mid at id o (find h.slots at) e refl p ∙ f)) [
+  | inl refused ↦ inl (or_right (refuses_by id (Work at budget) o) (refuses id (works budget ids os)) refused)
+  | inr q ↦ inr q
+]
+
+later_works : (budget : ℕ) (ids : List SessionId) (os : List Outcome) (h i : HostState) (id : SessionId) (s : SessionView) → find h.slots id ≡ Some s → IsRun h (works budget ids os) i → (refuses id (works budget ids os) ≡ true) ⊎ NoMore s (find i.slots id)
+unfolding IsRun
+later_works budget [] os h i id s f r = inr (no_more_some s s (find i.slots id) (ap (λ (x : HostState). find x.slots id) r ∙ f) (omega arith, λ e. e))
+later_works budget (at ∷ ids) [] h i id s f r = inr (no_more_some s s (find i.slots id) (ap (λ (x : HostState). find x.slots id) r ∙ f) (omega arith, λ e. e))
+later_works budget (at ∷ ids) (o ∷ os) h i id s f r =
+    later_by budget at ids o os h r.0 i id s (is_same_id at id) refl f r.1.stepped (λ t e. later_works budget ids os r.0 i id t e r.2)
+
+nearer_by : (budget n : ℕ) (s t : SessionView) (pending : Bool) (found_ : Option SessionView) → is_pending t ≡ pending → WorkedOn s budget n t → NoMore t found_ → Nearer budget s found_
+nearer_by budget n s t pending None e w q = tt
+nearer_by budget n s t true (Some u) e w q =
+    let m : n + load t ≤ load s = w.made in
+    let all : n ≡ budget = (w.spent e).0 in
+    let less : load u ≤ load t = q.0 in
+    inr (omega arith)
+nearer_by budget n s t false (Some u) e w q = inl (q.1 e)
+
+abbrev pub is_in : SessionId → List SessionId → Bool
+is_in id [] = false
+is_in id (at ∷ ids) = is_same_id at id || is_in id ids
+
+works_near_by : (budget : ℕ) (at : SessionId) (ids : List SessionId) (o : Outcome) (os : List Outcome) (h mid i : HostState) (id : SessionId) (s : SessionView) (same : Bool) → is_same_id at id ≡ same → (is_same_id at id || is_in id ids) ≡ true → find h.slots id ≡ Some s → Stepped h (Work at budget) o mid → IsRun mid (works budget ids os) i
+    → (is_in id ids ≡ true → find mid.slots id ≡ Some s → (refuses id (works budget ids os) ≡ true) ⊎ Nearer budget s (find i.slots id)) → (refuses id (works budget (at ∷ ids) (o ∷ os)) ≡ true) ⊎ Nearer budget s (find i.slots id)
+works_near_by budget at ids o os h mid i id s true e there f p r more = elim (once_worked budget h mid at id o s (find h.slots at) (same_id at id e) f refl p) [
+  | inl refused ↦ inl (or_left (refuses_by id (Work at budget) o) (refuses id (works budget ids os)) refused)
+  | inr w ↦ elim (later_works budget ids os mid i id w.after w.finds r) [
+    | inl refused ↦ inl (or_right (refuses_by id (Work at budget) o) (refuses id (works budget ids os)) refused)
+    | inr q ↦ inr (nearer_by budget w.steps s w.after (is_pending w.after) (find i.slots id) refl w.worked q)
+  ]
+]
+works_near_by budget at ids o os h mid i id s false e there f p r more =
+    let rest : is_in id ids ≡ true = ap (λ (b : Bool). b || is_in id ids) (sym e) ∙ there in
+    elim (more rest (other_worked budget h mid at id o (find h.slots at) e refl p ∙ f)) [
+      | inl refused ↦ inl (or_right (refuses_by id (Work at budget) o) (refuses id (works budget ids os)) refused)
+      | inr q ↦ inr q
+    ]
+
+works_near : (budget : ℕ) (ids : List SessionId) (os : List Outcome) (h i : HostState) (id : SessionId) (s : SessionView) → length ids ≡ length os → is_in id ids ≡ true → find h.slots id ≡ Some s → IsRun h (works budget ids os) i → (refuses id (works budget ids os) ≡ true) ⊎ Nearer budget s (find i.slots id)
+unfolding IsRun
+works_near budget [] os h i id s len there f r = absurd (cc)
+works_near budget (at ∷ ids) [] h i id s len there f r = absurd (omega arith)
+works_near budget (at ∷ ids) (o ∷ os) h i id s len there f r =
+    works_near_by budget at ids o os h r.0 i id s (is_same_id at id) refl there f r.1.stepped r.2 (λ rest e. works_near budget ids os r.0 i id s (omega arith) rest e r.2)
+
+-- a pending session is among those of a round
+in_more : (b : Bool) (id first : SessionId) (rest : List SessionId) → is_in id rest ≡ true → is_in id (cond b (first ∷ rest) rest) ≡ true
+in_more true id first rest e = or_right (is_same_id first id) (is_in id rest) e
+in_more false id first rest e = e
+
+in_from : (slot : ℕ) (slots_ : List (Option slots.OpenSession)) (i n : ℕ) (o : slots.OpenSession) → slice_index_or slots_ i None ≡ Some o → is_pending o.session ≡ true → n ≡ slot + i → is_in (record { slot = n; generation = o.generation }) (pending_from slot slots_) ≡ true
+in_from slot [] zero n o e p f = absurd (cc)
+in_from slot [] (suc i) n o e p f = absurd (cc)
+in_from slot (None ∷ rest) zero n o e p f = absurd (cc)
+in_from slot (Some q ∷ rest) zero n o e p f =
+    let same : q ≡ o = cc in
+    let here : n ≡ slot = omega arith in
+    rw (same, here) (ap (λ (b : Bool). is_in (record { slot = slot; generation = o.generation }) (cond b (record { slot = slot; generation = o.generation } ∷ pending_from (slot + 1) rest) (pending_from (slot + 1) rest))) p
+    ∙ ap (λ (b : Bool). b || is_in (record { slot = slot; generation = o.generation }) (pending_from (slot + 1) rest)) (is_same_id-refl (record { slot = slot; generation = o.generation })))
+in_from slot (None ∷ rest) (suc i) n o e p f = in_from (slot + 1) rest i n o e p (omega arith)
+in_from slot (Some q ∷ rest) (suc i) n o e p f = in_more (is_pending q.session) _ _ (pending_from (slot + 1) rest) (in_from (slot + 1) rest i n o e p (omega arith))
+
+session_of : (generation : ℕ) (slot : Option slots.OpenSession) → pending_of (slots.of_generation generation slot) ≡ true → (o : slots.OpenSession) × (slot ≡ Some o) × (o.generation ≡ generation) × (is_pending o.session ≡ true)
+session_of generation None p = absurd (cc)
+session_of generation (Some o) p = session_by (o.generation == generation) refl where
+  session_by : (b : Bool) → (o.generation == generation) ≡ b → (q : slots.OpenSession) × (Some o ≡ Some q) × (q.generation ≡ generation) × (is_pending q.session ≡ true)
+  session_by true e = (o, refl, eqb-true o.generation generation e, sym (ap (λ (b : Bool). pending_of (cond b (Some o.session) None)) e) ∙ p)
+  session_by false e = (let q : pending_of None ≡ true = sym (ap (λ (b : Bool). pending_of (cond b (Some o.session) None)) e) ∙ p in absurd (cc))
+
+pending_in : (h : HostState) (id : SessionId) → pending_of (find h.slots id) ≡ true → is_in id (pending_ids h) ≡ true
+pending_in h id p =
+    let a = session_of id.generation (slice_index_or h.slots.slots id.slot None) p in
+    let i = in_from 0 h.slots.slots id.slot id.slot a.0 a.1 a.3 (omega arith) in
+    ap (λ (g : ℕ). is_in (record { slot = id.slot; generation = g }) (pending_ids h)) (sym a.2) ∙ i
+
+-- ---- a turn
+
+abbrev IsNoWork : Event → Type 0
+IsNoWork e = is_work e ≡ false
+
+abbrev IsQuietEvent : Event → Type 0
+IsQuietEvent e = (is_work e ≡ false) × (is_feed e ≡ false)
+
+all_are : (kind other : Event → Type 0) (steps : List Step) → ((e : Event) → kind e → other e) → AreAll kind steps → AreAll other steps
+all_are kind other [] f k = tt
+all_are kind other (s ∷ rest) f k = (f s.event k.0, all_are kind other rest f k.1)
+
+admission_quiet : (e : Event) → IsAdmission e → IsNoWork e
+admission_quiet Open k = refl
+admission_quiet (Feed id chunk) k = absurd k
+admission_quiet (Work id n) k = absurd k
+admission_quiet (Take id n) k = absurd k
+admission_quiet (Close id) k = refl
+
+input_quiet : (e : Event) → IsInput e → IsNoWork e
+input_quiet Open k = absurd k
+input_quiet (Feed id chunk) k = refl
+input_quiet (Work id n) k = absurd k
+input_quiet (Take id n) k = absurd k
+input_quiet (Close id) k = refl
+
+output_quiet : (e : Event) → IsOutput e → IsQuietEvent e
+output_quiet Open k = absurd k
+output_quiet (Feed id chunk) k = absurd k
+output_quiet (Work id n) k = absurd k
+output_quiet (Take id n) k = (refl, refl)
+output_quiet (Close id) k = (refl, refl)
+
+end_quiet : (e : Event) → IsEnd e → IsQuietEvent e
+end_quiet Open k = absurd k
+end_quiet (Feed id chunk) k = absurd k
+end_quiet (Work id n) k = absurd k
+end_quiet (Take id n) k = absurd k
+end_quiet (Close id) k = (refl, refl)
+
+refuses_left : (id : SessionId) (a b : List Step) → refuses id a ≡ true → refuses id (a ++ b) ≡ true
+refuses_left id [] b e = absurd (cc)
+refuses_left id (s ∷ rest) b e = elim (or_cases (refuses_by id s.event s.outcome) (refuses id rest) e) [
+  | inl now ↦ or_left (refuses_by id s.event s.outcome) (refuses id (rest ++ b)) now
+  | inr later ↦ or_right (refuses_by id s.event s.outcome) (refuses id (rest ++ b)) (refuses_left id rest b later)
+]
+
+refuses_right : (id : SessionId) (a b : List Step) → refuses id b ≡ true → refuses id (a ++ b) ≡ true
+refuses_right id [] b e = e
+refuses_right id (s ∷ rest) b e = or_right (refuses_by id s.event s.outcome) (refuses id (rest ++ b)) (refuses_right id rest b e)
+
+nearer_kept : (budget : ℕ) (s t u : SessionView) (found_ : Option SessionView) → load t ≡ load s → (is_pending u ≡ false) ⊎ (budget + load u ≤ load t) → KeepsLoad u found_ → Nearer budget s found_
+nearer_kept budget s t u None e p k = tt
+nearer_kept budget s t u (Some v) e (inl none) k = inl (k.0 ∙ none)
+nearer_kept budget s t u (Some v) e (inr less) k = (let a : load v ≡ load u = k.1 in inr (omega arith))
+
+nearer_none : (budget : ℕ) (s : SessionView) (found_ : Option SessionView) → found_ ≡ None → Nearer budget s found_
+nearer_none budget s found_ e = rw e tt
+
+-- after the round
+near_late : (budget : ℕ) (end after : HostState) (id : SessionId) (late : List Step) (s t : SessionView) (found_ : Option SessionView) → load t ≡ load s → id.generation < end.slots.next → AreAll IsQuietEvent late → IsRun end late after → find end.slots id ≡ found_ → Nearer budget t found_ → Nearer budget s (find after.slots id)
+near_late budget end after id late s t None e lt all r f n = nearer_none budget s (find after.slots id) (gone end after id late f lt r).none
+near_late budget end after id late s t (Some u) e lt all r f n =
+    nearer_kept budget s t u (find after.slots id) e n (load_run IsQuietEvent end after id late u (λ e_ k. k.0) (λ e_ k feed. absurd (both_ways (is_feed e_) k.1 feed)) all lt f r)
+
+near_round : (slice : ℕ) (start end after : HostState) (id : SessionId) (late : List Step) (s : SessionView) (worked refused : ℕ) (r : IsRound start slice (pending_ids start) worked refused end) (found_ : Option SessionView) → is_pending s ≡ true → id.generation < start.slots.next → AreAll IsQuietEvent late → IsRun end late after → find start.slots id ≡ found_ → KeepsLoad s found_
+    → (refuses id (works slice (pending_ids start) r.outcomes) ≡ true) ⊎ Nearer slice s (find after.slots id)
+near_round slice start end after id late s worked refused r None p lt all q f k =
+    let u : start.slots.next ≤ end.slots.next = next_rises start end (works slice (pending_ids start) r.outcomes) r.run in
+    inr (nearer_none slice s (find after.slots id) (gone end after id late (gone start end id (works slice (pending_ids start) r.outcomes) f lt r.run).none (omega arith) q).none)
+near_round slice start end after id late s worked refused r (Some t) p lt all q f k =
+    let u : start.slots.next ≤ end.slots.next = next_rises start end (works slice (pending_ids start) r.outcomes) r.run in
+    let waits : pending_of (find start.slots id) ≡ true = ap pending_of f ∙ (k.0 ∙ p) in
+    elim (works_near slice (pending_ids start) r.outcomes start end id t r.each (pending_in start id waits) f r.run) [
+      | inl refused_ ↦ inl refused_
+      | inr near ↦ inr (near_late slice end after id late s t (find end.slots id) k.1 (omega arith) all q refl near)
+    ]
+
+-- a session that is pending before a turn: a work of it is refused; or after the turn it is closed, has nothing pending, or a whole slice less to do
+pub near_turn : (slice : ℕ) (moved : Bool) (held now : List Connection) (f t : ℕ) (a b : Told) (h m : HostState) (turn : IsTurn slice moved held f a h now t b m) (id : SessionId) (s : SessionView) → id.generation < h.slots.next → find h.slots id ≡ Some s → is_pending s ≡ true → (refuses id turn.steps ≡ true) ⊎ Nearer slice s (find m.slots id)
+near_turn slice moved held now f t a b h m turn id s lt e p =
+    let early : List Step = turn.admissions ++ turn.inputs in
+    let late : List Step = turn.outputs ++ turn.ends in
+    let middle : List Step = works slice (pending_ids turn.start) turn.round.outcomes in
+    let u : h.slots.next ≤ turn.start.slots.next = next_rises h turn.start early turn.to_round in
+    let before : AreAll IsNoWork early = all_append IsNoWork turn.admissions turn.inputs (all_are IsAdmission IsNoWork turn.admissions admission_quiet turn.admissions_are) (all_are IsInput IsNoWork turn.inputs input_quiet turn.inputs_are) in
+    let after : AreAll IsQuietEvent late = all_append IsQuietEvent turn.outputs turn.ends (all_are IsOutput IsQuietEvent turn.outputs output_quiet turn.outputs_are) (all_are IsEnd IsQuietEvent turn.ends end_quiet turn.ends_are) in
+    let k : KeepsLoad s (find turn.start.slots id) = load_run IsNoWork h turn.start id early s (λ e_ q. q) (λ e_ q feed. p) before lt e turn.to_round in
+    elim (near_round slice turn.start turn.end m id late s turn.worked turn.refused turn.round (find turn.start.slots id) p (omega arith) after turn.from_round refl k) [
+      | inl refused ↦ inl (rw turn.steps_are (refuses_right id early (middle ++ late) (refuses_left id middle late refused)))
+      | inr near ↦ inr near
+    ]

@@ -1,0 +1,463 @@
+-- The whole life of a connection, turn after turn.
+use Rattle.std.proofs.Common.{◌≡◌, ◌≢◌, ◌⊎◌, ℕ, zero, suc, ◌<◌, ◌≤◌, Bool, true, List, [], ◌∷◌, ◌++◌, append_assoc, append-nil, Option, Some, None, refl, sym, ap, ◌∙◌, subst, arith, inl, inr}
+use Rattle.std.proofs.lemmas.Bool.{cases_eq}
+use Rattle.std.proofs.KnownBytes.{Appends-kept, Consumes-kept, Keeps-trans, Appends-nil, Consumes-nil}
+use Rattle.session_slots.specs.declared.id.SessionId.{SessionId}
+use Rattle.session_slots.specs.Slots.{find}
+use Rattle.usi_session.specs.Due.{SessionView}
+use Rattle.usi_session.specs.Replies.{replies}
+use Rattle.host_core.specs.declared.event.HostFault.TheVariants.{Full, OutOfMemory, UnknownSession, NotReady}
+use Rattle.host_core.specs.Events.{Close, Outcome, Opened, Done, Worked, Gave, Refused}
+use Rattle.host_core.specs.Headline.{EndsFrom, IsFrontOf}
+use Rattle.socket_loop.specs.declared.connection.Link.{Link}
+use Rattle.socket_loop.specs.declared.wire.WireFault.{WireFault}
+use Rattle.socket_loop.specs.Told.{KeepsPeer}
+use Rattle.socket_loop.specs.Links.{Ties, IsAmong, IsApart, IsMarked, links_of, reads_ended}
+use Rattle.socket_loop.specs.Turns.{FitsOne, Fits, IsTurn, IsTurnedAway, Joins, Served, host_full, told_to}
+use Rattle.socket_loop.proofs.Accepting.{apart_each, each_apart, fresh_tied, ties_apart}
+use Rattle.socket_loop.proofs.Lives.{served_on, served_aside, then_ends, Keeps-Consumes, front_written, all_written, tied_of, strange_each}
+use Rattle.socket_loop.proofs.Peers.{kept_same, kept_then, all_kept, moves_then, emptied_move, move_emptied, rises_raised, Keeps-Appends, stays_raised, raised_rises, stays_rise}
+use Rattle.socket_loop.proofs.Runs.{next_rises, opened_left}
+use Rattle.socket_loop.proofs.Parts.{some_lost}
+use Rattle.socket_loop.proofs.Turning.{not_lost}
+use Rattle.socket_loop.proofs.Endings.{some_of, not_none, found, Found, stays_open, opened_stays, opened_before, ending, Ending}
+use Rattle.socket_loop.specs.Parts.{AllMove, Carried, Cause, Finished, IsSpared, IsShutDown, LeavesAlone}
+use Rattle.host_core.specs.Made.{Step, own, taken, is_opened}
+use Rattle.host_core.specs.Rounds.{works, pending_ids}
+use Rattle.host_core.proofs.Ids.{is_same_id-refl}
+use Rattle.host_core.proofs.OneSession.{gone, opened_ends, IsGone as IsOut}
+use Rattle.usi_serve.specs.Serving.{AreTurns, IsTurnAndWait, IsWait, Scene, Stops}
+use Rattle.usi_serve.specs.Life.{owing, ReadsEnded, HasEnded, IsAnswered, IsServed, Life, Lives}
+
+-- ---- numbers
+
+-- one of these has the number, or none
+record Numbered (ls : List Link) (n : ℕ) : Type 0 where
+  pub link : Link
+  pub among : IsAmong ls link
+  pub same : link.number ≡ n
+
+find_number : (ls : List Link) (n : ℕ) → IsApart ls n ⊎ Numbered ls n
+find_number [] n = inl tt
+find_number (x ∷ xs) n = elim (cases_eq x.number n) [
+  | inl same ↦ inr (record { link = x; among = inl refl; same = same })
+  | inr differs ↦ elim (find_number xs n) [
+    | inl apart ↦ inl (differs, apart)
+    | inr there ↦ inr (record { link = there.link; among = inr there.among; same = there.same })
+  ]
+]
+
+-- ---- what is answered
+
+answered : (owes : List ℕ → List ℕ) (a b : Scene) (l : Link) → (s : Served owes a.told b.told l.number (find b.host.slots l.id)) → (find b.host.slots l.id ≡ None → HasEnded owes a b l.number s.read s.lost s.written) → FitsOne (links_of b.held) b.bound b.host l → IsAnswered owes a b l
+answered owes a b l s e f = record {
+  served = s;
+  front = front_written owes s.read s.written (find b.host.slots l.id) s.ends;
+  all = all_written owes s.read s.written (find b.host.slots l.id) s.ends;
+  ended = e;
+  fits = f;
+}
+
+nil_or : (xs : List ℕ) → (xs ≡ []) ⊎ (xs ≢ [])
+nil_or [] = inl refl
+nil_or (x ∷ xs) = inr (λ e. absurd (cc))
+
+ends_start : (found : Option SessionView) → EndsFrom (owing found) [] [] found
+ends_start None = ([], refl)
+ends_start (Some t) = λ x. refl
+
+owing_none : (found_ : Option SessionView) (x : List ℕ) → found_ ≡ None → owing found_ x ≡ []
+owing_none None x e = refl
+owing_none (Some t) x e = absurd (cc)
+
+life_start_held : (s : Scene) (l : Link) → IsAmong (links_of s.held) l → FitsOne (links_of s.held) s.bound s.host l → IsServed s s l
+life_start_held s l among f = inl (
+  among,
+  answered (owing (find s.host.slots l.id)) s s l
+      (record {
+        read = [];
+        lost = [];
+        written = [];
+        consumed = Consumes-nil _;
+        appended = Appends-nil _;
+        ends = ends_start (find s.host.slots l.id);
+        whole = λ some. refl;
+      })
+      (λ none. inr (inr (record { none_lost = refl; all = sym (owing_none (find s.host.slots l.id) [] none); why = inr (λ x. owing_none (find s.host.slots l.id) x none) })))
+      f,
+)
+
+-- a connection that is served has a life
+life_of : (a b : Scene) (n : ℕ) (l : Link) → l.number ≡ n → IsServed a b l → Life a b n
+life_of a b n l same s = subst (λ (x : ℕ). Life a b x) same (inr (inr (l.id, s)))
+
+pub lives_start : (s : Scene) → Fits (links_of s.held) s.bound s.host → Lives s s
+lives_start s fit = record {
+  rises = omega arith;
+  all = all_kept s.told s.told (kept_same s.told);
+  marked = λ n m. inl m;
+  each = λ n. elim (find_number (links_of s.held) n) [
+    | inl apart ↦ inl (record { kept = kept_same s.told n; unheld = apart })
+    | inr there ↦ life_of s s n there.link there.same (life_start_held s there.link there.among (fit there.link there.among))
+  ];
+  held = λ l among. life_start_held s l among (fit l among);
+}
+
+-- ---- a turn
+
+front_none : (bytes : List ℕ) → IsFrontOf bytes [] → IsFrontOf bytes host_full
+front_none [] f = (host_full, refl)
+front_none (x ∷ bytes) f = (let e : x ∷ (bytes ++ f.0) ≡ [] = f.1 in absurd (cc))
+
+front_full : (o : Outcome) (bytes : List ℕ) → IsFrontOf bytes (told_to o) → IsFrontOf bytes host_full
+front_full (Refused Full) bytes f = f
+front_full (Refused OutOfMemory) bytes f = front_none bytes f
+front_full (Refused UnknownSession) bytes f = front_none bytes f
+front_full (Refused NotReady) bytes f = front_none bytes f
+front_full (Opened id) bytes f = front_none bytes f
+front_full Done bytes f = front_none bytes f
+front_full (Worked n) bytes f = front_none bytes f
+front_full (Gave xs) bytes f = front_none bytes f
+
+-- the links that are left are among those that were met
+still_apart : (met now : List Link) (n : ℕ) → ((l : Link) → IsAmong now l → IsAmong met l) → IsApart met n → IsApart now n
+still_apart met now n left p = apart_each now n (λ l m. each_apart met n l p (left l m))
+
+abbrev IsTurned : ℕ → Bool → Scene → Scene → Type 0
+IsTurned slice moved b c = IsTurn slice moved b.held b.bound b.told b.host c.held c.bound c.told c.host
+
+next_turned : (slice : ℕ) (moved : Bool) (b c : Scene) → IsTurned slice moved b c → b.host.slots.next ≤ c.host.slots.next
+next_turned slice moved b c t = next_rises b.host c.host t.steps t.chain
+
+-- a link that was known is known still
+ties_met : (slice : ℕ) (moved : Bool) (b c : Scene) (t : IsTurned slice moved b c) (k l : Link) → FitsOne (links_of b.held) b.bound b.host l → IsAmong (links_of b.held) k ⊎ Joins b.bound c.bound t.accepted b.host.slots.next c.host.slots.next t.admissions k → Ties k l
+ties_met slice moved b c t k l f (inl old) = tied_of (links_of b.held) l k f.tied old
+ties_met slice moved b c t k l f (inr new) =
+    let u : l.number < b.bound = f.number in
+    let v : l.id.generation < b.host.slots.next = f.opened in
+    let x : b.bound ≤ k.number = new.least in
+    let y : b.host.slots.next ≤ k.id.generation = new.fresh in
+    ties_apart l k (omega arith) (omega arith)
+
+fits_kept : (slice : ℕ) (moved : Bool) (b c : Scene) (t : IsTurned slice moved b c) (l : Link) → FitsOne (links_of b.held) b.bound b.host l → FitsOne (links_of c.held) c.bound c.host l
+fits_kept slice moved b c t l f =
+    let u : l.number < b.bound = f.number in
+    let v : l.id.generation < b.host.slots.next = f.opened in
+    let x : b.bound ≤ c.bound = t.rises in
+    let y : b.host.slots.next ≤ c.host.slots.next = next_turned slice moved b c t in
+    record {
+      tied = fresh_tied (links_of c.held) l (λ k m. ties_met slice moved b c t k l f (t.are k (t.left k m)));
+      number = omega arith;
+      opened = omega arith;
+    }
+
+fits_new : (slice : ℕ) (moved : Bool) (b c : Scene) (t : IsTurned slice moved b c) (l : Link) → IsAmong t.met l → Joins b.bound c.bound t.accepted b.host.slots.next c.host.slots.next t.admissions l → FitsOne (links_of c.held) c.bound c.host l
+fits_new slice moved b c t l among new = record {
+  tied = fresh_tied (links_of c.held) l (λ k m. tied_of t.met l k (t.tied l among) (t.left k m));
+  number = new.most;
+  opened = new.below;
+}
+
+-- ---- a connection that was not met
+
+strange_met : (slice : ℕ) (moved : Bool) (b c : Scene) (t : IsTurned slice moved b c) (k l : Link) → FitsOne (links_of b.held) b.bound b.host l → IsApart t.met l.number → IsAmong t.met k → IsAmong (links_of b.held) k ⊎ Joins b.bound c.bound t.accepted b.host.slots.next c.host.slots.next t.admissions k → k.id ≡ l.id → ⊥
+strange_met slice moved b c t k l f p among (inl old) e = each_apart t.met l.number k p among ((tied_of (links_of b.held) l k f.tied old).by_id e)
+strange_met slice moved b c t k l f p among (inr new) e =
+    let v : l.id.generation < b.host.slots.next = f.opened in
+    let y : b.host.slots.next ≤ k.id.generation = new.fresh in
+    let z : k.id.generation ≡ l.id.generation = ap (λ (x : SessionId). x.generation) e in
+    absurd (omega arith)
+
+reads_on : (a b c : Scene) (n : ℕ) → AllMove b.told c.told → ReadsEnded a b n → ReadsEnded a c n
+reads_on a b c n move (inl was) = inl was
+reads_on a b c n move (inr empty) = inr (emptied_move a.told b.told c.told n empty move)
+
+why_on : (owes : List ℕ → List ℕ) (a b c : Scene) (n : ℕ) (read written more_read more_written : List ℕ) → AllMove b.told c.told → more_read ≡ [] → more_written ≡ [] → ReadsEnded a b n ⊎ ((x : List ℕ) → owes (read ++ x) ≡ written) → ReadsEnded a c n ⊎ ((x : List ℕ) → owes ((read ++ more_read) ++ x) ≡ written ++ more_written)
+why_on owes a b c n read written more_read more_written move e f (inl was) = inl (reads_on a b c n move was)
+why_on owes a b c n read written more_read more_written move e f (inr w) = inr (rw (e, f, append-nil read, append-nil written) w)
+
+-- it had ended before
+ended_before : (owes : List ℕ → List ℕ) (a b c : Scene) (n : ℕ) (read lost written more_read more_lost more_written : List ℕ) → AllMove b.told c.told → more_read ≡ [] → more_written ≡ [] → lost ++ more_lost ≡ [] → HasEnded owes a b n read lost written → HasEnded owes a c n (read ++ more_read) (lost ++ more_lost) (written ++ more_written)
+ended_before owes a b c n read lost written more_read more_lost more_written move e f g (inl failed) = inl (raised_rises _ _ _ failed (move n).failed)
+ended_before owes a b c n read lost written more_read more_lost more_written move e f g (inr (inl some)) = absurd (some (some_lost lost more_lost g))
+ended_before owes a b c n read lost written more_read more_lost more_written move e f g (inr (inr k)) =
+    inr (inr (record { none_lost = g; all = rw (e, f, append-nil read, append-nil written) k.all; why = why_on owes a b c n read written more_read more_written move e f k.why }))
+
+-- bytes were lost, or it ended without
+ended_or : (owes : List ℕ → List ℕ) (a c : Scene) (n : ℕ) (read lost written : List ℕ) → (lost ≡ [] → HasEnded owes a c n read lost written) → HasEnded owes a c n read lost written
+ended_or owes a c n read lost written f = elim (nil_or lost) [ inl none ↦ f none | inr some ↦ inr (inl some) ]
+
+ended_aside : (slice : ℕ) (moved : Bool) (a b c : Scene) (t : IsTurned slice moved b c) (owes : List ℕ → List ℕ) (l : Link) (x : IsAnswered owes a b l) (found_ : Option SessionView) → find b.host.slots l.id ≡ found_ → LeavesAlone l.id t.steps → x.served.lost ++ [] ≡ [] → find c.host.slots l.id ≡ None
+    → HasEnded owes a c l.number (x.served.read ++ own l.id t.steps) (x.served.lost ++ []) (x.served.written ++ taken l.id t.steps)
+ended_aside slice moved a b c t owes l x None e alone g none = ended_before owes a b c l.number x.served.read x.served.lost x.served.written (own l.id t.steps) [] (taken l.id t.steps) t.all alone.stored alone.passed g (x.ended e)
+ended_aside slice moved a b c t owes l x (Some s) e alone g none =
+    absurd (not_none (find c.host.slots l.id) (stays_open b.host c.host l.id t.steps t.chain alone.kept (some_of (find b.host.slots l.id) s e)) none)
+
+answered_aside : (slice : ℕ) (moved : Bool) (a b c : Scene) (t : IsTurned slice moved b c) (owes : List ℕ → List ℕ) (l : Link) → IsApart t.met l.number → KeepsPeer b.told c.told l.number → IsAnswered owes a b l → IsAnswered owes a c l
+answered_aside slice moved a b c t owes l p k x =
+    let alone : LeavesAlone l.id t.steps = t.foreign l.id x.fits.opened (strange_each t.met l.id (λ j m. strange_met slice moved b c t j l x.fits p m (t.are j m))) in
+    answered owes a c l
+    (served_aside owes a.told b.told c.told b.host c.host l.number l.id t.steps x.fits.opened t.chain x.served alone k)
+    (λ none. ended_or owes a c l.number _ _ _ (λ g. ended_aside slice moved a b c t owes l x (find b.host.slots l.id) refl alone g none))
+    (fits_kept slice moved b c t l x.fits)
+
+served_apart : (slice : ℕ) (moved : Bool) (a b c : Scene) (t : IsTurned slice moved b c) (l : Link) → IsApart t.met l.number → KeepsPeer b.told c.told l.number → IsServed a b l → IsServed a c l
+served_apart slice moved a b c t l p k (inl s) = inl (s.0, answered_aside slice moved a b c t (owing (find a.host.slots l.id)) l p k s.1)
+served_apart slice moved a b c t l p k (inr s) = inr (s.0, answered_aside slice moved a b c t replies l p k s.1)
+
+served_fits : (a b : Scene) (l : Link) → IsServed a b l → FitsOne (links_of b.held) b.bound b.host l
+served_fits a b l (inl s) = s.1.fits
+served_fits a b l (inr s) = s.1.fits
+
+life_apart : (slice : ℕ) (moved : Bool) (a b c : Scene) (t : IsTurned slice moved b c) (n : ℕ) → a.bound ≤ b.bound → IsApart t.met n → KeepsPeer b.told c.told n ⊎ IsTurnedAway b.bound c.bound t.accepted b.told c.told n → Life a b n → Life a c n
+life_apart slice moved a b c t n le p (inl k) (inl u) = inl (record { kept = kept_then a.told b.told c.told n u.kept k; unheld = still_apart t.met (links_of c.held) n t.left p })
+life_apart slice moved a b c t n le p (inr w) (inl u) =
+    let v : b.bound ≤ n = w.least in
+    inr (inl (record {
+      least = omega arith;
+      most = w.most;
+      unread = Keeps-trans _ _ _ u.kept.unread w.unread;
+      bytes = w.bytes;
+      front = front_full w.outcome w.bytes w.front;
+      appended = Keeps-Appends _ _ _ w.bytes u.kept.written w.appended;
+      shut = stays_raised _ _ _ u.kept.shut w.shut;
+      unheld = still_apart t.met (links_of c.held) n t.left p;
+    }))
+life_apart slice moved a b c t n le p (inl k) (inr (inl w)) =
+    let v : n < b.bound = w.most in
+    let x : b.bound ≤ c.bound = t.rises in
+    inr (inl (record {
+      least = w.least;
+      most = omega arith;
+      unread = Keeps-trans _ _ _ w.unread k.unread;
+      bytes = w.bytes;
+      front = w.front;
+      appended = Appends-kept _ _ _ w.bytes w.appended k.written;
+      shut = raised_rises _ _ _ w.shut (stays_rise _ _ k.shut);
+      unheld = still_apart t.met (links_of c.held) n t.left p;
+    }))
+life_apart slice moved a b c t n le p (inr away) (inr (inl w)) =
+    let u : n < b.bound = w.most in
+    let v : b.bound ≤ n = away.least in
+    absurd (omega arith)
+life_apart slice moved a b c t n le p (inl k) (inr (inr s)) = inr (inr (s.0, served_apart slice moved a b c t (record { number = n; id = s.0 }) p k s.1))
+life_apart slice moved a b c t n le p (inr away) (inr (inr s)) =
+    let u : n < b.bound = (served_fits a b (record { number = n; id = s.0 }) s.1).number in
+    let v : b.bound ≤ n = away.least in
+    absurd (omega arith)
+
+-- ---- a connection that was met
+
+-- the reads of a connection that was met have ended
+reads_met : (slice : ℕ) (moved : Bool) (a b c : Scene) (t : IsTurned slice moved b c) (n : ℕ) → Lives a b → IsMarked reads_ended t.marks n → ReadsEnded a c n
+reads_met slice moved a b c t n lives m = elim (t.marked n m) [
+  | inl was ↦ reads_on a b c n t.all (lives.marked n was)
+  | inr empty ↦ inr (move_emptied a.told b.told c.told n lives.all empty)
+]
+
+ending_why : (owes : List ℕ → List ℕ) (slice : ℕ) (moved : Bool) (a b c : Scene) (t : IsTurned slice moved b c) (n : ℕ) (has_ended : Bool) (read written : List ℕ) → Lives a b → (has_ended ≡ true → IsMarked reads_ended t.marks n) → (has_ended ≡ true) ⊎ ((x : List ℕ) → owes (read ++ x) ≡ written) → ReadsEnded a c n ⊎ ((x : List ℕ) → owes (read ++ x) ≡ written)
+ending_why owes slice moved a b c t n has_ended read written lives f (inl e) = inl (reads_met slice moved a b c t n lives (f e))
+ending_why owes slice moved a b c t n has_ended read written lives f (inr w) = inr w
+
+ended_cause : (slice : ℕ) (moved : Bool) (a b c : Scene) (t : IsTurned slice moved b c) (owes : List ℕ → List ℕ) (l : Link) (x : IsAnswered owes a b l) (s : SessionView) (k : Carried t.marks c.bound b.told b.host t.steps c.told c.host l) → Lives a b → find b.host.slots l.id ≡ Some s → x.served.lost ++ k.lost ≡ [] → Cause t.marks b.told b.host t.steps c.told c.host l
+    → HasEnded owes a c l.number (x.served.read ++ own l.id t.steps) (x.served.lost ++ k.lost) (x.served.written ++ taken l.id t.steps)
+ended_cause slice moved a b c t owes l x s k lives e g (inl failed) = inl (rises_raised _ _ _ (lives.all l.number).failed failed)
+ended_cause slice moved a b c t owes l x s k lives e g (inr (inl starved)) =
+    let first : x.served.lost ≡ [] = some_lost x.served.lost k.lost g in
+    absurd (k.fed starved (rw first at g))
+ended_cause slice moved a b c t owes l x s k lives e g (inr (inr f)) =
+    let there : Found (find f.moment.slots l.id) = found (find f.moment.slots l.id) (stays_open b.host f.moment l.id f.earlier f.run f.first (some_of (find b.host.slots l.id) s e)) in
+    let ends : EndsFrom owes (x.served.read ++ own l.id f.earlier) (x.served.written ++ taken l.id f.earlier) (Some there.session) =
+    rw there.is at (then_ends owes b.host f.moment l.id f.earlier x.served.read x.served.written (find b.host.slots l.id) refl x.fits.opened f.run x.served.ends) in
+    let end : Ending owes l.id x.served.read x.served.written t.steps f.has_ended = ending owes t.marks b.host c.host t.steps l x.served.read x.served.written f there.session there.is ends in
+    inr (inr (record { none_lost = g; all = end.all; why = ending_why owes slice moved a b c t l.number f.has_ended (x.served.read ++ own l.id t.steps) (x.served.written ++ taken l.id t.steps) lives f.marked end.why }))
+
+ended_ends : (slice : ℕ) (moved : Bool) (a b c : Scene) (t : IsTurned slice moved b c) (owes : List ℕ → List ℕ) (l : Link) (x : IsAnswered owes a b l) (s : SessionView) (k : Carried t.marks c.bound b.told b.host t.steps c.told c.host l) → Lives a b → find b.host.slots l.id ≡ Some s → x.served.lost ++ k.lost ≡ [] → find c.host.slots l.id ≡ None → IsSpared b.told t.steps c.told l ⊎ IsShutDown t.marks c.bound b.told b.host t.steps c.told c.host l
+    → HasEnded owes a c l.number (x.served.read ++ own l.id t.steps) (x.served.lost ++ k.lost) (x.served.written ++ taken l.id t.steps)
+ended_ends slice moved a b c t owes l x s k lives e g none (inl spared) =
+    absurd (not_none (find c.host.slots l.id) (stays_open b.host c.host l.id t.steps t.chain spared.closed (some_of (find b.host.slots l.id) s e)) none)
+ended_ends slice moved a b c t owes l x s k lives e g none (inr d) = ended_cause slice moved a b c t owes l x s k lives e g d.cause
+
+ended_on : (slice : ℕ) (moved : Bool) (a b c : Scene) (t : IsTurned slice moved b c) (owes : List ℕ → List ℕ) (l : Link) (x : IsAnswered owes a b l) (k : Carried t.marks c.bound b.told b.host t.steps c.told c.host l) (found_ : Option SessionView) → Lives a b → find b.host.slots l.id ≡ found_ → x.served.lost ++ k.lost ≡ [] → find c.host.slots l.id ≡ None
+    → HasEnded owes a c l.number (x.served.read ++ own l.id t.steps) (x.served.lost ++ k.lost) (x.served.written ++ taken l.id t.steps)
+ended_on slice moved a b c t owes l x k None lives e g none =
+    let out : IsOut l.id t.steps c.host = gone b.host c.host l.id t.steps e x.fits.opened t.chain in
+    ended_before owes a b c l.number x.served.read x.served.lost x.served.written (own l.id t.steps) k.lost (taken l.id t.steps) t.all out.no_own out.no_taken g (x.ended e)
+ended_on slice moved a b c t owes l x k (Some s) lives e g none = ended_ends slice moved a b c t owes l x s k lives e g none k.ends
+
+answered_on : (slice : ℕ) (moved : Bool) (a b c : Scene) (t : IsTurned slice moved b c) (owes : List ℕ → List ℕ) (l : Link) → Lives a b → IsAmong t.met l → IsAnswered owes a b l → IsAnswered owes a c l
+answered_on slice moved a b c t owes l lives among x =
+    let k : Carried t.marks c.bound b.told b.host t.steps c.told c.host l = t.carried l among in
+    answered owes a c l
+    (served_on owes t.marks c.bound a.told b.told c.told b.host c.host t.steps l x.fits.opened t.chain x.served k)
+    (λ none. ended_or owes a c l.number _ _ _ (λ g. ended_on slice moved a b c t owes l x k (find b.host.slots l.id) lives refl g none))
+    (fits_kept slice moved b c t l x.fits)
+
+served_met : (slice : ℕ) (moved : Bool) (a b c : Scene) (t : IsTurned slice moved b c) (l : Link) → Lives a b → IsAmong t.met l → IsServed a b l → IsServed a c l
+served_met slice moved a b c t l lives among (inl s) = inl (s.0, answered_on slice moved a b c t (owing (find a.host.slots l.id)) l lives among s.1)
+served_met slice moved a b c t l lives among (inr s) = inr (s.0, answered_on slice moved a b c t replies l lives among s.1)
+
+-- the connection of a held link was served under that link
+held_life : (a b : Scene) (l : Link) → IsAmong (links_of b.held) l → Life a b l.number → IsServed a b l
+held_life a b l old (inl u) = absurd (each_apart (links_of b.held) l.number l u.unheld old refl)
+held_life a b l old (inr (inl w)) = absurd (each_apart (links_of b.held) l.number l w.unheld old refl)
+held_life a b l old (inr (inr s)) =
+    let other : Link = record { number = l.number; id = s.0 } in
+    let same : l.id ≡ s.0 = (tied_of (links_of b.held) other l (served_fits a b other s.1).tied old).by_number refl in
+    subst (λ (x : SessionId). IsServed a b (record { number = l.number; id = x })) (sym same) s.1
+
+-- ---- a connection that was accepted
+
+opened_all : (slice : ℕ) (moved : Bool) (b c : Scene) (t : IsTurned slice moved b c) (l : Link) → Joins b.bound c.bound t.accepted b.host.slots.next c.host.slots.next t.admissions l → is_opened l.id t.steps ≡ true
+opened_all slice moved b c t l new =
+    let rest : List Step = works slice (pending_ids t.start) t.round.outcomes ++ (t.outputs ++ t.ends) in
+    rw t.steps_are (opened_left l.id (t.admissions ++ t.inputs) rest (opened_left l.id t.admissions t.inputs new.opened))
+
+-- it was opened before it was closed
+opened_earlier : (slice : ℕ) (moved : Bool) (b c : Scene) (t : IsTurned slice moved b c) (l : Link) → Joins b.bound c.bound t.accepted b.host.slots.next c.host.slots.next t.admissions l → (f : Finished t.marks b.host t.steps c.host l) → is_opened l.id f.earlier ≡ true
+opened_earlier slice moved b c t l new f =
+    let rest : List Step = works slice (pending_ids t.start) t.round.outcomes ++ (t.outputs ++ t.ends) in
+    let last : Step = record { event = Close l.id; outcome = f.outcome } in
+    let same : t.admissions ++ (t.inputs ++ rest) ≡ f.earlier ++ (last ∷ f.later) = sym (append_assoc t.admissions t.inputs rest) ∙ (sym t.steps_are ∙ f.steps_are) in
+    opened_before l.id t.admissions (t.inputs ++ rest) f.earlier f.later last same new.unclosed (is_same_id-refl l.id) new.opened
+
+new_cause : (slice : ℕ) (moved : Bool) (a b c : Scene) (t : IsTurned slice moved b c) (l : Link) (k : Carried t.marks c.bound b.told b.host t.steps c.told c.host l) → Lives a b → Joins b.bound c.bound t.accepted b.host.slots.next c.host.slots.next t.admissions l → k.lost ≡ [] → Cause t.marks b.told b.host t.steps c.told c.host l
+    → HasEnded replies a c l.number (own l.id t.steps) k.lost (taken l.id t.steps)
+new_cause slice moved a b c t l k lives new g (inl failed) = inl (rises_raised _ _ _ (lives.all l.number).failed failed)
+new_cause slice moved a b c t l k lives new g (inr (inl starved)) = absurd (k.fed starved g)
+new_cause slice moved a b c t l k lives new g (inr (inr f)) =
+    let early : is_opened l.id f.earlier ≡ true = opened_earlier slice moved b c t l new f in
+    let there : Found (find f.moment.slots l.id) = found (find f.moment.slots l.id) (opened_stays b.host f.moment l.id f.earlier f.run f.first early) in
+    let ends : EndsFrom replies (own l.id f.earlier) (taken l.id f.earlier) (Some there.session) = rw there.is at (opened_ends b.host f.moment l.id f.earlier early f.run) in
+    let end : Ending replies l.id [] [] t.steps f.has_ended = ending replies t.marks b.host c.host t.steps l [] [] f there.session there.is ends in
+    inr (inr (record { none_lost = g; all = end.all; why = ending_why replies slice moved a b c t l.number f.has_ended (own l.id t.steps) (taken l.id t.steps) lives f.marked end.why }))
+
+new_ends : (slice : ℕ) (moved : Bool) (a b c : Scene) (t : IsTurned slice moved b c) (l : Link) (k : Carried t.marks c.bound b.told b.host t.steps c.told c.host l) → Lives a b → Joins b.bound c.bound t.accepted b.host.slots.next c.host.slots.next t.admissions l → k.lost ≡ [] → find c.host.slots l.id ≡ None → IsSpared b.told t.steps c.told l ⊎ IsShutDown t.marks c.bound b.told b.host t.steps c.told c.host l
+    → HasEnded replies a c l.number (own l.id t.steps) k.lost (taken l.id t.steps)
+new_ends slice moved a b c t l k lives new g none (inl spared) =
+    absurd (not_none (find c.host.slots l.id) (opened_stays b.host c.host l.id t.steps t.chain spared.closed (opened_all slice moved b c t l new)) none)
+new_ends slice moved a b c t l k lives new g none (inr d) = new_cause slice moved a b c t l k lives new g d.cause
+
+new_answered : (slice : ℕ) (moved : Bool) (a b c : Scene) (t : IsTurned slice moved b c) (l : Link) → Lives a b → IsAmong t.met l → Joins b.bound c.bound t.accepted b.host.slots.next c.host.slots.next t.admissions l → KeepsPeer a.told b.told l.number → IsAnswered replies a c l
+new_answered slice moved a b c t l lives among new kept_ =
+    let k : Carried t.marks c.bound b.told b.host t.steps c.told c.host l = t.carried l among in
+    answered replies a c l
+    (record {
+      read = own l.id t.steps;
+      lost = k.lost;
+      written = taken l.id t.steps;
+      consumed = Keeps-Consumes _ _ _ (own l.id t.steps ++ k.lost) kept_.unread k.consumed;
+      appended = Keeps-Appends _ _ _ (taken l.id t.steps) kept_.written k.appended;
+      ends = opened_ends b.host c.host l.id t.steps (opened_all slice moved b c t l new) t.chain;
+      whole = λ some. not_lost c.host l.id k.lost k.whole some;
+    })
+    (λ none. ended_or replies a c l.number _ _ _ (λ g. new_ends slice moved a b c t l k lives new g none k.ends))
+    (fits_new slice moved b c t l among new)
+
+new_life : (slice : ℕ) (moved : Bool) (a b c : Scene) (t : IsTurned slice moved b c) (l : Link) → Lives a b → IsAmong t.met l → Joins b.bound c.bound t.accepted b.host.slots.next c.host.slots.next t.admissions l → Life a b l.number → IsServed a c l
+new_life slice moved a b c t l lives among new (inl u) =
+    let le : a.bound ≤ b.bound = lives.rises in
+    let v : b.bound ≤ l.number = new.least in
+    inr (omega arith, new_answered slice moved a b c t l lives among new u.kept)
+new_life slice moved a b c t l lives among new (inr (inl w)) =
+    let u : l.number < b.bound = w.most in
+    let v : b.bound ≤ l.number = new.least in
+    absurd (omega arith)
+new_life slice moved a b c t l lives among new (inr (inr x)) =
+    let u : l.number < b.bound = (served_fits a b (record { number = l.number; id = x.0 }) x.1).number in
+    let v : b.bound ≤ l.number = new.least in
+    absurd (omega arith)
+
+life_met : (slice : ℕ) (moved : Bool) (a b c : Scene) (t : IsTurned slice moved b c) (l : Link) → Lives a b → IsAmong t.met l → IsAmong (links_of b.held) l ⊎ Joins b.bound c.bound t.accepted b.host.slots.next c.host.slots.next t.admissions l → Life a b l.number → IsServed a c l
+life_met slice moved a b c t l lives among (inl old) life = served_met slice moved a b c t l lives among (held_life a b l old life)
+life_met slice moved a b c t l lives among (inr new) life = new_life slice moved a b c t l lives among new life
+
+pub lives_turn : (slice : ℕ) (moved : Bool) (a b c : Scene) → Lives a b → IsTurn slice moved b.held b.bound b.told b.host c.held c.bound c.told c.host → Lives a c
+lives_turn slice moved a b c lives t =
+    let u : a.bound ≤ b.bound = lives.rises in
+    let v : b.bound ≤ c.bound = t.rises in
+    record {
+      rises = omega arith;
+      all = moves_then a.told b.told c.told lives.all t.all;
+      marked = λ n m. reads_met slice moved a b c t n lives (t.ended n m);
+      each = λ n. elim (find_number t.met n) [
+        | inl apart ↦ life_apart slice moved a b c t n u apart (t.others n apart) (lives.each n)
+        | inr there ↦ life_of a c n there.link there.same (life_met slice moved a b c t there.link lives there.among (t.are there.link there.among) (lives.each there.link.number))
+      ];
+      held = λ l among. life_met slice moved a b c t l lives (t.left l among) (t.are l (t.left l among)) (lives.each l.number);
+    }
+
+-- ---- a wait
+
+ended_wait : (owes : List ℕ → List ℕ) (a b c : Scene) (n : ℕ) (read lost written : List ℕ) → AllMove b.told c.told → HasEnded owes a b n read lost written → HasEnded owes a c n read lost written
+ended_wait owes a b c n read lost written move (inl failed) = inl (raised_rises _ _ _ failed (move n).failed)
+ended_wait owes a b c n read lost written move (inr (inl some)) = inr (inl some)
+ended_wait owes a b c n read lost written move (inr (inr k)) =
+    inr (inr (record { none_lost = k.none_lost; all = k.all; why = elim k.why [ inl was ↦ inl (reads_on a b c n move was) | inr w ↦ inr w ] }))
+
+answered_wait : {moved : Bool} (a b c : Scene) (owes : List ℕ → List ℕ) (l : Link) → IsWait moved b c → IsAnswered owes a b l → IsAnswered owes a c l
+answered_wait a b c owes l w x =
+    let s : Served owes a.told b.told l.number (find b.host.slots l.id) = x.served in
+    let k : KeepsPeer b.told c.told l.number = w.told l.number in
+    answered owes a c l
+    (record {
+      read = s.read;
+      lost = s.lost;
+      written = s.written;
+      consumed = Consumes-kept _ _ _ (s.read ++ s.lost) s.consumed k.unread;
+      appended = Appends-kept _ _ _ s.written s.appended k.written;
+      ends = rw w.host s.ends;
+      whole = rw w.host s.whole;
+    })
+    (λ none. ended_wait owes a b c l.number s.read s.lost s.written (all_kept b.told c.told w.told) (x.ended (rw w.host at none)))
+    (rw (w.held, w.bound, w.host) x.fits)
+
+served_wait : {moved : Bool} (a b c : Scene) (l : Link) → IsWait moved b c → IsServed a b l → IsServed a c l
+served_wait a b c l w (inl s) = inl (s.0, answered_wait a b c (owing (find a.host.slots l.id)) l w s.1)
+served_wait a b c l w (inr s) = inr (s.0, answered_wait a b c replies l w s.1)
+
+life_wait : {moved : Bool} (a b c : Scene) (n : ℕ) → IsWait moved b c → Life a b n → Life a c n
+life_wait a b c n w (inl u) = inl (record { kept = kept_then a.told b.told c.told n u.kept (w.told n); unheld = rw w.held u.unheld })
+life_wait a b c n w (inr (inl x)) =
+    let k : KeepsPeer b.told c.told n = w.told n in
+    inr (inl (record {
+      least = x.least;
+      most = rw w.bound x.most;
+      unread = Keeps-trans _ _ _ x.unread k.unread;
+      bytes = x.bytes;
+      front = x.front;
+      appended = Appends-kept _ _ _ x.bytes x.appended k.written;
+      shut = raised_rises _ _ _ x.shut (stays_rise _ _ k.shut);
+      unheld = rw w.held x.unheld;
+    }))
+life_wait a b c n w (inr (inr s)) = inr (inr (s.0, served_wait a b c (record { number = n; id = s.0 }) w s.1))
+
+pub lives_wait : {moved : Bool} (a b c : Scene) → Lives a b → IsWait moved b c → Lives a c
+lives_wait a b c lives w = record {
+  rises = rw w.bound lives.rises;
+  all = moves_then a.told b.told c.told lives.all (all_kept b.told c.told w.told);
+  marked = λ n m. reads_on a b c n (all_kept b.told c.told w.told) (lives.marked n (rw w.held at m));
+  each = λ n. life_wait a b c n w (lives.each n);
+  held = λ l among. served_wait a b c l w (lives.held l (rw w.held at among));
+}
+
+-- ---- any number of turns
+
+pub record LivesOn (before after : Scene) : Type 0 where
+  pub lives : Lives before after
+  pub fits : Fits (links_of after.held) after.bound after.host
+
+pub lives_turns : (slice n : ℕ) (a b : Scene) → Fits (links_of a.held) a.bound a.host → AreTurns slice n a b → LivesOn a b
+lives_turns slice zero a b fit e = rw e (record { lives = lives_start a fit; fits = fit })
+lives_turns slice (suc n) a b fit p =
+    let so_far : LivesOn a p.0 = lives_turns slice n a p.0 fit p.1 in
+    let next : IsTurnAndWait slice p.0 b = p.2 in
+    record {
+      lives = lives_wait a next.middle b (lives_turn slice next.turn.moved a p.0 next.middle so_far.lives next.turn.turned) next.wait;
+      fits = rw (next.wait.held, next.wait.bound, next.wait.host) next.turn.fits;
+    }
+
+pub lives_stopped : (slice most : ℕ) (a b : Scene) (fault : WireFault) → Fits (links_of a.held) a.bound a.host → Stops slice most a b fault → Lives a b
+lives_stopped slice most a b fault fit s =
+    let so_far : LivesOn a s.between = lives_turns slice s.count a s.between fit s.turns in
+    lives_wait a s.last b (lives_turn slice s.turn.moved a s.between s.last so_far.lives s.turn.turned) s.wait
