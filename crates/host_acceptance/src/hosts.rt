@@ -6,7 +6,7 @@ use session_slots::SessionId;
 use std::alloc::Global;
 use std::test::Fail;
 use test_support::rows::{INFO_AND_BEST_ONE, INFO_THREE, joined};
-use test_support::tables::deep;
+use test_support::tables::opening;
 
 // From the opening position `go depth 1` enters and leaves 31 positions, and its answer has 46 bytes.
 // What the first session searched, the second finds in the table.
@@ -36,7 +36,7 @@ fn two_slots_and_three_sessions(rt: HostRuntime) -> Result<(), Fail> {
     let unknown = Told::Refused(HostFault::UnknownSession);
     assert!(rt; fed.as_slice() == [unknown, Told::Done].as_slice());
     assert!(rt; host.steps_of(c, u64::MAX).is_some() && !host.pending(c));
-    let [row, ..] = deep();
+    let row = opening();
     let answer = joined(rt.alloc(), row.answer)?;
     assert!(rt; host.output(c) == Some(answer.as_bytes()));
     Ok(())
@@ -92,7 +92,7 @@ fn a_new_session_in_an_old_slot(rt: HostRuntime) -> Result<(), Fail> {
     assert!(rt; host.output(second) == Some(b"".as_slice()) && host.output(first).is_none());
     assert!(rt; host.is_done(Event::Feed(second, b"stop\ngo\n")));
     assert!(rt; host.steps_of(second, u64::MAX).is_some());
-    let [row, ..] = deep();
+    let row = opening();
     let answer = joined(rt.alloc(), row.answer)?;
     assert!(rt; host.output(second) == Some(answer.as_bytes()));
     Ok(())

@@ -1,4 +1,4 @@
-//! Tests of hosts of many sessions.
+//! Tests of hosts of many sessions, and of scripts.
 #![tactic(auto)]
 
 #[cfg(test)]
@@ -6,11 +6,7 @@ mod host;
 #[cfg(test)]
 mod hosts;
 #[cfg(test)]
-mod long;
-#[cfg(test)]
-mod multipv;
-#[cfg(test)]
-mod schedules;
+mod scripts;
 #[cfg(test)]
 mod slots;
 #[cfg(test)]

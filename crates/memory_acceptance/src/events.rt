@@ -8,7 +8,7 @@ use std::process::Abort;
 use std::test::Fail;
 use test_support::FailingAllocator;
 use test_support::rows::{INFO_AND_BEST_ONE, joined};
-use test_support::tables::deep;
+use test_support::tables::opening;
 
 type Memory = FailingAllocator<Global>;
 
@@ -111,7 +111,7 @@ fn assert_both_answered(
     alloc: Global,
     served: &mut Served<'_>,
 ) -> Result<(), Fail> {
-    let [row, ..] = deep();
+    let row = opening();
     let three = joined(alloc, row.answer)?;
     let first = served.open(rt, 0)?;
     let second = served.open(rt, 1)?;

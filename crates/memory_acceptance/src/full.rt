@@ -10,7 +10,7 @@ use std::process::Abort;
 use std::test::Fail;
 use test_support::FailingAllocator;
 use test_support::rows::joined;
-use test_support::tables::deep;
+use test_support::tables::opening;
 use usi_session::Session;
 
 type Memory = FailingAllocator<Global>;
@@ -68,7 +68,7 @@ fn assert_answers(
     alloc: Global,
     table: &mut FailingTable<'_>,
 ) -> Result<(), Fail> {
-    let [row, ..] = deep();
+    let row = opening();
     let answer = joined(alloc, row.answer)?;
     let mut session = Session::new(alloc);
     assert!(rt; session.wants_input() && row.sent.len() <= 4096);

@@ -8,7 +8,7 @@ use test_support::FailingAllocator;
 use test_support::fakes::FailingReader;
 use test_support::rows::joined;
 use test_support::scripts::Script;
-use test_support::tables::{quick_scripts, two_sessions};
+use test_support::tables::{two_ready, two_sessions};
 use usi_replay::{ReplayFault, replay};
 
 // More requests than a run makes.
@@ -53,8 +53,7 @@ fn assert_refusals(
 
 #[test]
 fn refused_memory_of_a_script(rt: HostRuntime) -> Result<(), Fail> {
-    let quick = quick_scripts();
-    assert_refusals(&rt, rt.alloc(), &quick[3], 4, 64)?;
+    assert_refusals(&rt, rt.alloc(), &two_ready(), 4, 64)?;
     let searches = two_sessions();
     assert_refusals(&rt, rt.alloc(), &searches, 1, 640)?;
     assert_refusals(&rt, rt.alloc(), &searches, 4096, 4096)

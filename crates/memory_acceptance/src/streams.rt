@@ -7,7 +7,7 @@ use std::test::Fail;
 use test_support::FailingAllocator;
 use test_support::fakes::FailingReader;
 use test_support::rows::{Row, joined};
-use test_support::tables::deep;
+use test_support::tables::opening;
 use usi_stdio::{StdioFault, stdio};
 
 // More requests than a run makes.
@@ -118,7 +118,7 @@ fn refusals(
 // costs what it would have kept.
 #[test]
 fn each_request_of_the_streams_is_refused_in_turn(rt: HostRuntime) -> Result<(), Fail> {
-    let [row, ..] = deep();
+    let row = opening();
     let few = refusals(&rt, rt.alloc(), &row, 1, false)?;
     let many = refusals(&rt, rt.alloc(), &row, 4096, false)?;
     assert!(rt; few > 0 && many > few, "{few} {many}");
@@ -128,7 +128,7 @@ fn each_request_of_the_streams_is_refused_in_turn(rt: HostRuntime) -> Result<(),
 
 #[test]
 fn memory_of_the_streams_stays_gone(rt: HostRuntime) -> Result<(), Fail> {
-    let [row, ..] = deep();
+    let row = opening();
     let few = refusals(&rt, rt.alloc(), &row, 1, true)?;
     let many = refusals(&rt, rt.alloc(), &row, 4096, true)?;
     assert!(rt; few > 0 && many > few, "{few} {many}");

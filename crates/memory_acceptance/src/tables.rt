@@ -8,7 +8,7 @@ use std::process::Abort;
 use std::test::Fail;
 use test_support::FailingAllocator;
 use test_support::rows::joined;
-use test_support::tables::deep;
+use test_support::tables::opening;
 use usi_session::Session;
 
 // More requests than a table makes.
@@ -37,7 +37,7 @@ fn said_over(
 // The search is as good: a note that finds no memory is not kept, and is no fault of the search.
 #[test]
 fn a_table_whose_growth_is_refused(rt: HostRuntime) -> Result<(), Fail> {
-    let [row, ..] = deep();
+    let row = opening();
     let answer = joined(rt.alloc(), row.answer)?;
     let mut said_with_refusals = 0u64;
     for n in 1..REQUESTS {

@@ -101,16 +101,6 @@ pub fn read(text: &[u8; 5]) -> Move {
     }
 }
 
-/// The first of the moves that is judged otherwise than said.
-fn misjudged(p: &Position, moves: &[(&[u8; 5], bool)]) -> Option<[u8; 5]> {
-    for (text, legal) in moves {
-        if is_legal(p, read(text)) != *legal {
-            return Some(**text);
-        }
-    }
-    None
-}
-
 /// Published numbers of sequences of moves.
 #[test]
 fn counts(rt: HostRuntime) -> Result<(), Fail> {
@@ -139,64 +129,6 @@ fn counts(rt: HostRuntime) -> Result<(), Fail> {
     Ok(())
 }
 
-/// JSA playing rules: pieces, promotion, drops and prohibited moves.
-#[test]
-fn moves(rt: HostRuntime) -> Result<(), Fail> {
-    let shut = position(b"7nk/9/7G1/9/9/9/9/9/9", b"PL", Black)?;
-    let wrong = misjudged(
-        &shut,
-        &[(b"P*1b ", false), (b"L*1b ", true), (b"P*1c ", true)],
-    );
-    assert_eq!(rt; wrong, None, "mate by the drop of a pawn");
-    let open = position(b"8k/9/7G1/9/9/9/9/9/9", b"P", Black)?;
-    let wrong = misjudged(&open, &[(b"P*1b ", true)]);
-    assert_eq!(rt; wrong, None, "check by the drop of a pawn");
-    let pawn = position(b"4k4/9/9/9/4P4/9/9/9/4K4", b"PN", Black)?;
-    let wrong = misjudged(
-        &pawn,
-        &[
-            (b"P*5d ", false),
-            (b"P*4d ", true),
-            (b"P*4a ", false),
-            (b"P*4b ", true),
-            (b"N*4b ", false),
-            (b"N*4c ", true),
-            (b"G*4d ", false),
-            (b"P*5a ", false),
-            (b"5e5d ", true),
-            (b"5e5d+", false),
-            (b"5e5c ", false),
-            (b"4d4c ", false),
-            (b"5a5b ", false),
-            (b"5i5h+", false),
-        ],
-    );
-    assert_eq!(rt; wrong, None, "a pawn on the file");
-    let promoted = position(b"4k4/9/9/9/4+P4/9/9/9/4K4", b"P", Black)?;
-    let wrong = misjudged(
-        &promoted,
-        &[(b"P*5d ", true), (b"5e4e ", true), (b"5e5d+", false)],
-    );
-    assert_eq!(rt; wrong, None, "a promoted pawn on the file");
-    let zone = position(b"k8/7LP/2S2N3/9/9/9/9/9/4K4", b"", Black)?;
-    let wrong = misjudged(
-        &zone,
-        &[
-            (b"1b1a ", false),
-            (b"1b1a+", true),
-            (b"2b2a ", false),
-            (b"2b2a+", true),
-            (b"4c3a ", false),
-            (b"4c3a+", true),
-            (b"7c7b ", true),
-            (b"7c7b+", true),
-            (b"7c6d+", true),
-        ],
-    );
-    assert_eq!(rt; wrong, None, "promotion");
-    Ok(())
-}
-
 /// JSA playing rules, check.
 #[test]
 fn checks(rt: HostRuntime) -> Result<(), Fail> {
@@ -214,31 +146,6 @@ fn checks(rt: HostRuntime) -> Result<(), Fail> {
     ] {
         assert_eq!(rt; (in_check(&p), has_legal(&p)), (check, legal));
     }
-    let wrong = misjudged(
-        &pinned,
-        &[(b"5h4h ", false), (b"5h5g ", true), (b"5i4i ", true)],
-    );
-    assert_eq!(rt; wrong, None, "a pinned piece");
-    let wrong = misjudged(
-        &single,
-        &[
-            (b"P*5e ", true),
-            (b"P*4e ", false),
-            (b"5i5h ", false),
-            (b"5i4i ", true),
-        ],
-    );
-    assert_eq!(rt; wrong, None, "a check");
-    let wrong = misjudged(
-        &double,
-        &[
-            (b"P*5e ", false),
-            (b"4i4h ", false),
-            (b"5i6i ", true),
-            (b"5i4h ", false),
-        ],
-    );
-    assert_eq!(rt; wrong, None, "a double check");
     let king = square(b'5', b'i');
     let beside = square(b'4', b'i');
     assert!(rt; is_attacked(&single, king, White) && !is_attacked(&single, beside, White));

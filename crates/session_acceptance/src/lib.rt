@@ -4,8 +4,6 @@
 #[cfg(test)]
 mod lines;
 #[cfg(test)]
-mod long;
-#[cfg(test)]
 mod multipv;
 #[cfg(test)]
 mod plain;

@@ -1,26 +1,20 @@
-//! A `go` with several lines: rows through a session and through the program's streams.
+//! A `go` with several lines: what is held, and searches that are cut.
 
 use crate::session::TestSession;
 use shared_table::{SharedTable, TableFault};
-use shogi_search::{Memo, NoMemo};
+use shogi_search::NoMemo;
 use std::alloc::Global;
 use std::hash::{BuildHasherDefault, FoldHasher};
 use std::process::Abort;
 use std::test::Fail;
-use test_support::pv_lines::{
-    DEEP, MORE_LINES_THAN_MOVES, QUICK, THREE_OF_A_MATE, TWO_AT_ONE, TWO_PLIES,
-};
+use test_support::pv_lines::TWO_AT_ONE;
 use test_support::rows::{Row, joined};
-use usi_stdio::stdio;
+use test_support::tables::{more_lines_than_moves, three_of_a_mate, two_plies};
 
 // The most slices that a test works.
 const SLICES: u64 = 200_000;
 
 type TestTable = SharedTable<BuildHasherDefault<FoldHasher>, Global>;
-
-fn large_table(alloc: Global) -> Result<TestTable, TableFault> {
-    SharedTable::new(alloc, 4096, BuildHasherDefault::<FoldHasher>::new())
-}
 
 fn small_table(alloc: Global) -> Result<TestTable, TableFault> {
     SharedTable::new(alloc, 1, BuildHasherDefault::<FoldHasher>::new())
@@ -31,125 +25,6 @@ fn fed(alloc: Global, sent: &str) -> Result<TestSession, Fail> {
     let mut session = TestSession::new(alloc);
     session.feed(sent.as_bytes())?;
     Ok(session)
-}
-
-// Works slice by slice until nothing is pending, and gives the sum of the steps made.
-fn work_off<M: Memo>(
-    rt: &impl Abort,
-    session: &mut TestSession,
-    memo: &mut M,
-    budget: u64,
-) -> Result<u64, Fail> {
-    let mut steps: u64 = 0;
-    for _ in 0..SLICES {
-        if !session.pending() {
-            return Ok(steps);
-        }
-        let made = session.work(memo, budget)?;
-        assert!(rt; made <= budget);
-        if session.pending() {
-            assert_eq!(rt; made, budget, "still pending");
-        }
-        steps = steps.saturating_add(made);
-    }
-    Err(Fail::from("it never ends"))
-}
-
-// The session says what the row says, in slices of this budget. Gives the sum of the steps made.
-fn assert_worked<M: Memo>(
-    rt: &impl Abort,
-    alloc: Global,
-    memo: &mut M,
-    row: &Row,
-    budget: u64,
-) -> Result<u64, Fail> {
-    let mut session = fed(alloc, row.sent)?;
-    let steps = work_off(rt, &mut session, memo, budget)?;
-    let answer = joined(alloc, row.answer)?;
-    let sent = row.sent;
-    assert_eq!(rt;
-        std::str::from_utf8(session.output())?,
-        answer.as_str(),
-        "after {sent:?} with a budget of {budget}"
-    );
-    Ok(steps)
-}
-
-#[test]
-fn every_budget_gives_the_same_lines_and_steps(rt: HostRuntime) -> Result<(), Fail> {
-    for row in QUICK {
-        let whole = assert_worked(&rt, rt.alloc(), &mut NoMemo, &row, u64::MAX)?;
-        for budget in [1, 2, 7, 61, 1000] {
-            let steps = assert_worked(&rt, rt.alloc(), &mut NoMemo, &row, budget)?;
-            let sent = row.sent;
-            assert_eq!(rt; steps, whole, "after {sent:?} with a budget of {budget}");
-        }
-    }
-    Ok(())
-}
-
-// Each session finds what those before it left, whatever its lines and its budget.
-#[test]
-fn rows_over_one_table(rt: HostRuntime) -> Result<(), Fail> {
-    let (mut small, mut large) = (small_table(rt.alloc())?, large_table(rt.alloc())?);
-    for budget in [u64::MAX, 1000, 1] {
-        for row in QUICK {
-            assert_worked(&rt, rt.alloc(), &mut small, &row, budget)?;
-            assert_worked(&rt, rt.alloc(), &mut large, &row, budget)?;
-        }
-        for row in DEEP {
-            assert_worked(&rt, rt.alloc(), &mut large, &row, budget)?;
-        }
-    }
-    Ok(())
-}
-
-#[test]
-fn rows_through_the_streams(rt: HostRuntime) -> Result<(), Fail> {
-    for row in QUICK.into_iter().chain(DEEP) {
-        for entries in [1usize, 4096] {
-            assert!(rt; entries >= 1 && entries <= 1_000_000);
-            let mut reader = row.sent.as_bytes();
-            let mut writer = Vec::new(rt.alloc());
-            stdio(rt.alloc(), &mut reader, &mut writer, entries)?;
-            let answer = joined(rt.alloc(), row.answer)?;
-            let sent = row.sent;
-            assert_eq!(rt;
-                std::str::from_utf8(writer.as_slice())?,
-                answer.as_str(),
-                "after {sent:?} with {entries} entries"
-            );
-        }
-    }
-    Ok(())
-}
-
-// The bytes are fed in two chunks, the second after the first was answered.
-fn assert_cut(rt: &impl Abort, alloc: Global, row: &Row, cut: usize) -> Result<(), Fail> {
-    let sent = row.sent.as_bytes();
-    let (first, second) = sent.split_at_checked(cut).ok_or("a place within")?;
-    let mut session = TestSession::new(alloc);
-    session.feed(first)?;
-    session.work(&mut NoMemo, u64::MAX)?;
-    session.feed(second)?;
-    session.work(&mut NoMemo, u64::MAX)?;
-    let answer = joined(alloc, row.answer)?;
-    assert_eq!(rt;
-        std::str::from_utf8(session.output())?,
-        answer.as_str(),
-        "cut at {cut}"
-    );
-    Ok(())
-}
-
-#[test]
-fn rows_cut_at_each_place(rt: HostRuntime) -> Result<(), Fail> {
-    for row in [TWO_PLIES, MORE_LINES_THAN_MOVES] {
-        for cut in 1..row.sent.len() {
-            assert_cut(&rt, rt.alloc(), &row, cut)?;
-        }
-    }
-    Ok(())
 }
 
 // The lines are there before the line that the bestmove is held until.
@@ -215,49 +90,9 @@ fn assert_cut_anywhere(
 
 #[test]
 fn searches_cut_anywhere(rt: HostRuntime) -> Result<(), Fail> {
-    assert_cut_anywhere(&rt, rt.alloc(), &MORE_LINES_THAN_MOVES, 3)?;
-    assert_cut_anywhere(&rt, rt.alloc(), &THREE_OF_A_MATE, 31)?;
-    assert_cut_anywhere(&rt, rt.alloc(), &TWO_PLIES, 61)
-}
-
-// Two sessions with lines of their own take turns, step by step, over one table.
-fn assert_turns<M: Memo>(
-    rt: &impl Abort,
-    alloc: Global,
-    table: &mut M,
-    one: &Row,
-    other: &Row,
-) -> Result<(), Fail> {
-    let mut first = fed(alloc, one.sent)?;
-    let mut second = fed(alloc, other.sent)?;
-    for _ in 0..SLICES {
-        if !first.pending() && !second.pending() {
-            break;
-        }
-        first.work(table, 1)?;
-        second.work(table, 1)?;
-    }
-    for (session, row) in [(first, one), (second, other)] {
-        let answer = joined(alloc, row.answer)?;
-        assert!(rt; !session.pending());
-        assert_eq!(rt; std::str::from_utf8(session.output())?, answer.as_str());
-    }
-    Ok(())
-}
-
-#[test]
-fn two_sessions_by_turns(rt: HostRuntime) -> Result<(), Fail> {
-    let [deep, by_hand, one_line] = DEEP;
-    for (one, other) in [
-        (TWO_PLIES, one_line),
-        (one_line, deep),
-        (deep, by_hand),
-        (MORE_LINES_THAN_MOVES, THREE_OF_A_MATE),
-    ] {
-        assert_turns(&rt, rt.alloc(), &mut small_table(rt.alloc())?, &one, &other)?;
-        assert_turns(&rt, rt.alloc(), &mut large_table(rt.alloc())?, &one, &other)?;
-    }
-    Ok(())
+    assert_cut_anywhere(&rt, rt.alloc(), &more_lines_than_moves(), 3)?;
+    assert_cut_anywhere(&rt, rt.alloc(), &three_of_a_mate(), 31)?;
+    assert_cut_anywhere(&rt, rt.alloc(), &two_plies(), 61)
 }
 
 // Each of the 30 positions after a move is entered and left: 60 steps at depth 1. At depth 2 each has 31
@@ -266,7 +101,7 @@ fn two_sessions_by_turns(rt: HostRuntime) -> Result<(), Fail> {
 fn a_budget_of_the_load_is_enough(rt: HostRuntime) -> Result<(), Fail> {
     for (sent, load) in [
         ("setoption name MultiPV value 2\ngo depth 1\n", 60u64),
-        (TWO_PLIES.sent, 60 + 60 * 31 + 2 * 62),
+        (two_plies().sent, 60 + 60 * 31 + 2 * 62),
     ] {
         let mut session = fed(rt.alloc(), sent)?;
         assert!(rt; session.work(&mut NoMemo, load)? <= load);
@@ -279,7 +114,7 @@ fn a_budget_of_the_load_is_enough(rt: HostRuntime) -> Result<(), Fail> {
 // With no budget nothing is said of a position with several legal moves.
 #[test]
 fn a_budget_of_nothing(rt: HostRuntime) -> Result<(), Fail> {
-    let mut session = fed(rt.alloc(), TWO_PLIES.sent)?;
+    let mut session = fed(rt.alloc(), two_plies().sent)?;
     for _ in 0..3 {
         assert_eq!(rt; session.work(&mut NoMemo, 0)?, 0);
         assert!(rt; session.pending() && session.output().is_empty());

@@ -1,14 +1,10 @@
-//! Rows through a session, in one chunk and in several.
+//! Long lines and full queues of a session.
 
-use crate::rows::{assert_answer, cut, cut_ready, deep, quick};
 use crate::session::TestSession;
-use shared_table::SharedTable;
 use shogi_search::{Memo, NoMemo};
 use std::alloc::Global;
-use std::hash::{BuildHasherDefault, FoldHasher};
 use std::process::Abort;
 use std::test::Fail;
-use test_support::rows::{Row, joined};
 use usi_lines::{Command, Hold, read_command};
 
 // Takes what was answered.
@@ -38,36 +34,6 @@ fn talk<M: Memo>(
     take_all(rt, session, said)
 }
 
-// What a fresh session says to two chunks, the second fed after the first was answered.
-fn said<M: Memo>(
-    rt: &impl Abort,
-    alloc: Global,
-    memo: &mut M,
-    first: &[u8],
-    second: &[u8],
-) -> Result<Vec<u8>, Fail> {
-    let mut session = TestSession::new(alloc);
-    let mut said = Vec::new(alloc);
-    talk(rt, &mut session, memo, first, &mut said)?;
-    talk(rt, &mut session, memo, second, &mut said)?;
-    Ok(said)
-}
-
-// Cuts the row at each inner place.
-fn assert_cut<M: Memo>(rt: &impl Abort, alloc: Global, memo: &mut M, row: Row) -> Result<(), Fail> {
-    let sent = row.sent.as_bytes();
-    let answer = joined(alloc, row.answer)?;
-    for cut in 1..sent.len() {
-        let got = said(rt, alloc, memo, &sent[..cut], &sent[cut..])?;
-        assert_eq!(rt;
-            std::str::from_utf8(got.as_slice())?,
-            answer.as_str(),
-            "cut at {cut}"
-        );
-    }
-    Ok(())
-}
-
 // What a fresh session says to the bytes, in chunks of at most 4,096.
 fn said_to_all(rt: &impl Abort, alloc: Global, bytes: &[u8]) -> Result<Vec<u8>, Fail> {
     let mut session = TestSession::new(alloc);
@@ -76,38 +42,6 @@ fn said_to_all(rt: &impl Abort, alloc: Global, bytes: &[u8]) -> Result<Vec<u8>, 
         talk(rt, &mut session, &mut NoMemo, chunk, &mut said)?;
     }
     Ok(said)
-}
-
-#[test]
-fn rows_without_a_memory(rt: HostRuntime) -> Result<(), Fail> {
-    for row in quick() {
-        let got = said(&rt, rt.alloc(), &mut NoMemo, row.sent.as_bytes(), b"")?;
-        assert_answer(&rt, rt.alloc(), row, got.as_slice())?;
-    }
-    Ok(())
-}
-
-// One table serves all the sessions, and the streams that are cut after them.
-#[test]
-fn rows_over_one_table(rt: HostRuntime) -> Result<(), Fail> {
-    let hasher = BuildHasherDefault::<FoldHasher>::new();
-    let mut table = SharedTable::new(rt.alloc(), 4096, hasher)?;
-    for row in deep() {
-        let got = said(&rt, rt.alloc(), &mut table, row.sent.as_bytes(), b"")?;
-        assert_answer(&rt, rt.alloc(), &row, got.as_slice())?;
-    }
-    assert_cut(&rt, rt.alloc(), &mut table, cut())?;
-    assert_cut(&rt, rt.alloc(), &mut table, cut_ready())
-}
-
-#[test]
-fn rows_cut_at_each_place(rt: HostRuntime) -> Result<(), Fail> {
-    for row in quick() {
-        if row.sent.len() < 40 {
-            assert_cut(&rt, rt.alloc(), &mut NoMemo, *row)?;
-        }
-    }
-    Ok(())
 }
 
 #[test]

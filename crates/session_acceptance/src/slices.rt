@@ -1,6 +1,6 @@
 //! Sessions that are worked in slices, and lines that are written as they are found.
 
-use crate::rows::{assert_answer, cut, deep, quick, sliced};
+use crate::rows::assert_answer;
 use crate::session::TestSession;
 use shared_table::SharedTable;
 use shogi_search::{Memo, NoMemo};
@@ -10,6 +10,7 @@ use std::process::Abort;
 use std::test::Fail;
 use test_support::fakes::{FailingWriter, NotingWriter};
 use test_support::rows::{INFO_ONE, Row, joined};
+use test_support::tables::{cut, opening, opening_by_hand, sliced};
 use usi_stdio::{StdioFault, stdio};
 
 // The most slices that a test works.
@@ -131,19 +132,6 @@ fn a_budget_of_nothing(rt: HostRuntime) -> Result<(), Fail> {
     Ok(())
 }
 
-#[test]
-fn rows_with_a_budget_of_one(rt: HostRuntime) -> Result<(), Fail> {
-    for row in quick() {
-        assert_worked(&rt, rt.alloc(), &mut NoMemo, row, 1)?;
-    }
-    let hasher = BuildHasherDefault::<FoldHasher>::new();
-    let mut table = SharedTable::new(rt.alloc(), 4096, hasher)?;
-    for row in deep() {
-        assert_worked(&rt, rt.alloc(), &mut table, &row, 1)?;
-    }
-    Ok(())
-}
-
 // Takes what is queued, which is a front of the answer, and tells how many bytes it has.
 fn taken_front(
     rt: &impl Abort,
@@ -240,22 +228,12 @@ fn assert_turns<M: Memo>(
     assert_done(rt, alloc, &second, &other)
 }
 
-#[test]
-fn two_sessions_by_turns(rt: HostRuntime) -> Result<(), Fail> {
-    let hasher = BuildHasherDefault::<FoldHasher>::new();
-    let mut table = SharedTable::new(rt.alloc(), 1, hasher)?;
-    let [one, two, three] = sliced();
-    assert_turns(&rt, rt.alloc(), &mut table, three, two)?;
-    assert_worked(&rt, rt.alloc(), &mut table, &one, 1)?;
-    Ok(())
-}
-
 // To depth 3, one session by `Plain` and one by `Hand`: what the one searched is no answer to the other.
 #[test]
 fn two_evaluations_over_one_table(rt: HostRuntime) -> Result<(), Fail> {
     let hasher = BuildHasherDefault::<FoldHasher>::new();
     let mut table = SharedTable::new(rt.alloc(), 4096, hasher)?;
-    let [plain, .., by_hand, _] = deep();
+    let (plain, by_hand) = (opening(), opening_by_hand());
     for row in [plain, by_hand] {
         let steps = assert_worked(&rt, rt.alloc(), &mut table, &row, 1000)?;
         assert!(rt; steps > 0);

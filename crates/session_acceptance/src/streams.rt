@@ -1,49 +1,13 @@
-//! Rows through the program's streams, and streams that fail.
+//! Streams that fail, and when they are read and written.
 
-use crate::rows::{assert_answer, deep, faults, mates, moves, quick, stored};
+use crate::rows::assert_answer;
 use std::alloc::Global;
 use std::process::Abort;
 use std::test::Fail;
 use test_support::fakes::{FailingReader, FailingWriter, Watch, WatchedWriter, WatchingReader};
 use test_support::rows::{Row, joined};
+use test_support::tables::stored;
 use usi_stdio::{StdioFault, stdio};
-
-fn assert_row(rt: &impl Abort, alloc: Global, row: &Row, entries: usize) -> Result<(), Fail> {
-    assert!(rt; entries >= 1 && entries <= 1000000);
-    let mut reader = row.sent.as_bytes();
-    let mut writer = Vec::new(alloc);
-    stdio(alloc, &mut reader, &mut writer, entries)?;
-    assert_answer(rt, alloc, row, writer.as_slice())
-}
-
-#[test]
-fn rows_of_quick_lines(rt: HostRuntime) -> Result<(), Fail> {
-    for row in quick() {
-        assert_row(&rt, rt.alloc(), row, 4096)?;
-    }
-    Ok(())
-}
-
-#[test]
-fn rows_of_deep_searches(rt: HostRuntime) -> Result<(), Fail> {
-    for row in deep() {
-        for entries in [1, 2, 4096] {
-            assert_row(&rt, rt.alloc(), &row, entries)?;
-        }
-    }
-    Ok(())
-}
-
-#[test]
-fn rows_of_positions(rt: HostRuntime) -> Result<(), Fail> {
-    for row in mates() {
-        assert_row(&rt, rt.alloc(), row, 4096)?;
-    }
-    for row in moves() {
-        assert_row(&rt, rt.alloc(), row, 4096)?;
-    }
-    Ok(())
-}
 
 // What the streams write for the bytes.
 fn assert_written(rt: &impl Abort, alloc: Global, sent: &[u8], answer: &str) -> Result<(), Fail> {
@@ -51,19 +15,6 @@ fn assert_written(rt: &impl Abort, alloc: Global, sent: &[u8], answer: &str) -> 
     let mut writer = Vec::new(alloc);
     stdio(alloc, &mut reader, &mut writer, 4096)?;
     assert_eq!(rt; std::str::from_utf8(writer.as_slice())?, answer);
-    Ok(())
-}
-
-// A refused position is told by its number, and leaves the opening position.
-#[test]
-fn rows_of_refused_positions(rt: HostRuntime) -> Result<(), Fail> {
-    for (sfen, fault) in faults() {
-        let sent = format!(in rt.alloc(); "position sfen {sfen}\ngo depth 1\n")?;
-        let answer = format!(in rt.alloc();
-            "info string bad position {fault}\ninfo depth 1 score cp 0 pv 1g1f\nbestmove 1g1f\n"
-        )?;
-        assert_written(&rt, rt.alloc(), sent.as_bytes(), answer.as_str())?;
-    }
     Ok(())
 }
 

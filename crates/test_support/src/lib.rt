@@ -3,7 +3,6 @@
 
 mod allocator;
 pub mod fakes;
-pub mod positions;
 pub mod pv_lines;
 mod requests;
 pub mod rows;

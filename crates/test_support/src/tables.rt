@@ -1,35 +1,27 @@
-//! The tables of rows and scripts, each by a call: what names a table itself is proved with every row of it.
+//! Rows and scripts, each by a call: what names one itself is proved with its text.
 
-use crate::pv_lines::{self, MORE_LINES_THAN_MOVES, THREE_OF_A_MATE, TWO_PLIES};
-use crate::rows::{self, CUT, Row};
-use crate::scripts::{self, Script, TWO_SESSIONS};
+use crate::pv_lines::{MORE_LINES_THAN_MOVES, THREE_OF_A_MATE, TWO_PLIES};
+use crate::rows::{self, CUT, OPENING, OPENING_BY_HAND, Row, STORED};
+use crate::scripts::{REFUSED_AND_AGAIN, Script, TWO_READY, TWO_SESSIONS};
 
-pub fn quick() -> &'static [Row; 45] {
-    &rows::QUICK
+pub fn opening() -> Row {
+    OPENING
 }
 
-pub fn deep() -> [Row; 8] {
-    rows::DEEP
+pub fn opening_by_hand() -> Row {
+    OPENING_BY_HAND
 }
 
 pub fn sliced() -> [Row; 3] {
     rows::SLICED
 }
 
-pub fn long() -> [Row; 2] {
-    rows::LONG
-}
-
 pub fn cut() -> Row {
     CUT
 }
 
-pub fn quick_with_lines() -> &'static [Row; 26] {
-    &pv_lines::QUICK
-}
-
-pub fn deep_with_lines() -> [Row; 3] {
-    pv_lines::DEEP
+pub fn stored() -> Row {
+    STORED
 }
 
 pub fn two_plies() -> Row {
@@ -48,10 +40,10 @@ pub fn two_sessions() -> Script {
     TWO_SESSIONS
 }
 
-pub fn searches() -> [Script; 4] {
-    scripts::SEARCHES
+pub fn refused_and_again() -> Script {
+    REFUSED_AND_AGAIN
 }
 
-pub fn quick_scripts() -> &'static [Script; 15] {
-    &scripts::QUICK
+pub fn two_ready() -> Script {
+    TWO_READY
 }

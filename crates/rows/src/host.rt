@@ -1,0 +1,303 @@
+//! Rows as the sessions of one host: all at once in rounds, and in random order, as clients that come and go.
+
+ghost use Rattle.std.specs.Prelude.{◌<◌};
+
+use crate::found::Found;
+use crate::row::Row;
+use host_core::{Event, Host, Outcome};
+use session_slots::SessionId;
+use std::alloc::{AllocError, Global};
+use std::hash::{BuildHasherDefault, FoldHasher};
+use std::marker::Model;
+
+/// The most rounds of one run.
+const ROUNDS: u64 = 1_000_000;
+
+/// The events of one run in random order.
+const EVENTS: u64 = 4000;
+
+/// A host. What its contracts say stays within.
+#[derive(Drop)]
+struct Server {
+    host: Host<BuildHasherDefault<FoldHasher>, Global>,
+}
+
+impl Model for Server {
+    ghost Value = { Unit };
+
+    ghost view = { λ _. tt };
+}
+
+impl Server {
+    /// A host of 1 to 1,024 slots and 1 to 1,000,000 entries.
+    fn new(alloc: Global, slots: usize, entries: usize) -> Result<Server, AllocError> {
+        let hasher = BuildHasherDefault::<FoldHasher>::new();
+        match Host::new(
+            alloc,
+            slots.clamp(1, 1024),
+            entries.clamp(1, 1_000_000),
+            hasher,
+        ) {
+            Ok(host) => Ok(Server { host }),
+            Err(_) => Err(AllocError),
+        }
+    }
+
+    fn open(&mut self) -> Option<SessionId> {
+        match self.host.step(Event::Open) {
+            Outcome::Opened(id) => Some(id),
+            _ => None,
+        }
+    }
+
+    /// Stores the bytes, and tells whether they were stored.
+    fn feed(&mut self, id: SessionId, chunk: &[u8]) -> bool {
+        matches!(self.host.step(Event::Feed(id, chunk)), Outcome::Done)
+    }
+
+    /// Works one slice, and tells whether it made at most its budget, and all of it where something is left.
+    fn work(&mut self, id: SessionId, budget: u64) -> bool {
+        match self.host.step(Event::Work(id, budget)) {
+            Outcome::Worked(steps) => {
+                steps <= budget && (steps == budget || !self.host.pending(id))
+            }
+            _ => false,
+        }
+    }
+
+    /// One slice for each session with something pending. Gives how many had one.
+    fn round(&mut self, budget: u64) -> u64 {
+        let round = self.host.round(budget);
+        round.worked.saturating_add(round.refused) as u64
+    }
+
+    /// Takes so many of the queued bytes, and all of them where there are fewer.
+    fn take(&mut self, id: SessionId, most: usize, taken: &mut Vec<u8>) -> Result<(), AllocError> {
+        let queued = self.host.output(id).unwrap_or(b"").len();
+        if let Outcome::Gave(bytes) = self.host.step(Event::Take(id, queued.min(most))) {
+            taken.extend_from_slice(bytes.as_slice())?;
+        }
+        Ok(())
+    }
+
+    fn close(&mut self, id: SessionId) -> bool {
+        matches!(self.host.step(Event::Close(id)), Outcome::Done)
+    }
+
+    fn is_over(&self, id: SessionId) -> bool {
+        self.host.is_over(id)
+    }
+
+    fn pending(&self, id: SessionId) -> bool {
+        self.host.pending(id)
+    }
+}
+
+/// All rows at once, each in a session of its own, in rounds of this budget over so many entries.
+fn run_rounds(
+    alloc: Global,
+    rows: &[Row],
+    entries: usize,
+    budget: u64,
+    found: &mut Found,
+) -> Result<(), AllocError> {
+    let mut server = Server::new(alloc, rows.len(), entries)?;
+    let mut ids = Vec::new(alloc);
+    for row in rows {
+        let Some(id) = server.open() else {
+            return found.holds(row, "in a host", "no session is open\n", false);
+        };
+        let fed = server.feed(id, row.sent.as_bytes());
+        found.holds(row, "in a host", "the bytes are refused\n", fed)?;
+        ids.push(id)?;
+    }
+    for _ in 0..ROUNDS {
+        if server.round(budget) == 0 {
+            break;
+        }
+    }
+    for (row, id) in rows.iter().zip(ids.as_slice()) {
+        let mut taken = Vec::new(alloc);
+        server.take(*id, usize::MAX, &mut taken)?;
+        found.said(row, "in a host", taken.as_slice())?;
+    }
+    Ok(())
+}
+
+/// The rows one after another in one slot: a new session is at its start.
+fn run_slot(alloc: Global, rows: &[Row], found: &mut Found) -> Result<(), AllocError> {
+    let mut server = Server::new(alloc, 1, 4096)?;
+    for row in rows {
+        let Some(id) = server.open() else {
+            return found.holds(row, "in one slot", "no session is open\n", false);
+        };
+        let done = server.feed(id, row.sent.as_bytes()) && server.work(id, u64::MAX);
+        found.holds(row, "in one slot", "it is refused\n", done)?;
+        let mut taken = Vec::new(alloc);
+        server.take(id, usize::MAX, &mut taken)?;
+        found.said(row, "in one slot", taken.as_slice())?;
+        found.holds(row, "in one slot", "it stays open\n", server.close(id))?;
+    }
+    Ok(())
+}
+
+/// Numbers that follow from a seed (a linear congruence modulo 2^64).
+#[derive(Drop)]
+struct Random {
+    state: u64,
+}
+
+impl Random {
+    /// A number below `n`.
+    fn below(&mut self, n: u64) -> u64
+        requires { 0 < n }
+        ensures { result < n }
+    {
+        self.state = self
+            .state
+            .wrapping_mul(6364136223846793005)
+            .wrapping_add(1442695040888963407);
+        (self.state >> 33) % n
+    }
+}
+
+/// A client: the row that it sends, how much of it was stored, and what was taken for it.
+#[derive(Drop)]
+struct Client<'a> {
+    id: SessionId,
+    row: &'a Row,
+    stored: usize,
+    taken: Vec<u8>,
+}
+
+/// Stores some bytes, works a little, takes some bytes, or has a round.
+fn act(
+    server: &mut Server,
+    client: &mut Client<'_>,
+    random: &mut Random,
+    found: &mut Found,
+) -> Result<(), AllocError> {
+    let (id, how) = (client.id, "in random order");
+    match random.below(8) {
+        0..=2 => {
+            let sent = client.row.sent.as_bytes();
+            let rest = sent.get(client.stored..).unwrap_or(b"");
+            let chunk = rest.get(..random.below(12) as usize).unwrap_or(rest);
+            if server.feed(id, chunk) {
+                client.stored = client.stored.saturating_add(chunk.len());
+            }
+            Ok(())
+        }
+        3..=5 => {
+            let worked = server.work(id, random.below(400));
+            found.holds(client.row, how, "a slice made other steps\n", worked)
+        }
+        6 => server.take(id, random.below(40) as usize, &mut client.taken),
+        _ => {
+            let worked = server.round(random.below(100));
+            found.holds(client.row, how, "a round was of too many\n", worked <= 8)
+        }
+    }
+}
+
+/// Whether the client has its whole answer: all was stored, or its session is over, and nothing is pending.
+/// Then the rest is taken, and what was taken is the answer.
+fn is_served(
+    server: &mut Server,
+    client: &mut Client<'_>,
+    found: &mut Found,
+) -> Result<bool, AllocError> {
+    let ended = client.stored >= client.row.sent.len() || server.is_over(client.id);
+    if !ended || server.pending(client.id) {
+        return Ok(false);
+    }
+    server.take(client.id, usize::MAX, &mut client.taken)?;
+    found.said(client.row, "in random order", client.taken.as_slice())?;
+    Ok(true)
+}
+
+/// A client with a row by chance, in a session that is opened for it.
+fn next_client<'a>(
+    alloc: Global,
+    server: &mut Server,
+    rows: &'a [Row],
+    random: &mut Random,
+) -> Option<Client<'a>> {
+    if rows.is_empty() {
+        return None;
+    }
+    let place = random.below(rows.len() as u64) as usize;
+    Some(Client {
+        id: server.open()?,
+        row: rows.get(place)?,
+        stored: 0,
+        taken: Vec::new(alloc),
+    })
+}
+
+/// So many events for so many clients over so many entries, as the seed draws them. Some clients leave in
+/// the middle of their answer, of which they have a front.
+fn run_random(
+    alloc: Global,
+    rows: &[Row],
+    seed: u64,
+    clients: usize,
+    entries: usize,
+    found: &mut Found,
+) -> Result<(), AllocError> {
+    let mut random = Random { state: seed };
+    let mut server = Server::new(alloc, clients, entries)?;
+    let (mut present, mut served) = (Vec::new(alloc), 0u64);
+    for _ in 0..EVENTS {
+        if present.len() < clients {
+            let Some(client) = next_client(alloc, &mut server, rows, &mut random) else {
+                return Ok(());
+            };
+            present.push(client)?;
+        }
+        let place = random.below(1000) as usize % present.len().max(1);
+        let Some(client) = present.get_mut(place) else {
+            return Ok(());
+        };
+        act(&mut server, client, &mut random, found)?;
+        let answer = client.row.answer.as_bytes();
+        let is_front = answer.starts_with(client.taken.as_slice());
+        found.holds(
+            client.row,
+            "in random order",
+            "no front of the answer\n",
+            is_front,
+        )?;
+        let done = is_served(&mut server, client, found)?;
+        if done {
+            served = served.saturating_add(1);
+        }
+        if done || random.below(100) == 0 {
+            let closed = server.close(client.id);
+            found.holds(client.row, "in random order", "it stays open\n", closed)?;
+            drop(present.swap_remove(place));
+        }
+    }
+    match rows.first() {
+        Some(row) => found.holds(row, "in random order", "few were served\n", served >= 20),
+        None => Ok(()),
+    }
+}
+
+pub fn run(alloc: Global, rows: &[Row], found: &mut Found) -> Result<(), AllocError> {
+    for (entries, budget) in [(1, 1), (4096, 1), (4096, 97), (64, 1000)] {
+        run_rounds(alloc, rows, entries, budget, found)?;
+    }
+    run_slot(alloc, rows, found)?;
+    for (seed, clients, entries) in [
+        (1u64, 2usize, 1usize),
+        (2, 3, 4096),
+        (3, 4, 2),
+        (4, 5, 64),
+        (5, 8, 100_000),
+        (6, 8, 1),
+    ] {
+        run_random(alloc, rows, seed, clients, entries, found)?;
+    }
+    Ok(())
+}
