@@ -6,7 +6,12 @@ BIN = $(DESTDIR)$(PREFIX)/bin
 MAN = $(DESTDIR)$(PREFIX)/share/man/man1
 COMPLETIONS = $(DESTDIR)$(PREFIX)/share/bash-completion/completions
 
-.PHONY: run build install uninstall test bench clean help
+.PHONY: try run build install uninstall check dist test bench clean help
+.DEFAULT_GOAL = help
+
+# Runs the program on the lines of standard input, or of the terminal, without a proof.
+try:
+	@check/try.sh
 
 # Starts the program on standard input and output, and builds first what is not built yet.
 run: build
@@ -17,8 +22,10 @@ run: build
 build:
 	@check/build.py
 
-# Puts the built program, its man page and its completion for bash below PREFIX.
-install: build
+# Puts the built program, its man page and its completion for bash below PREFIX. It builds nothing, so that
+# it leaves no files of root among the sources.
+install:
+	@test -x $(PROGRAM) || { echo 'Nothing is built yet: call make build first.' >&2; exit 1; }
 	install -d "$(BIN)" "$(MAN)" "$(COMPLETIONS)"
 	install -m 755 $(PROGRAM) "$(BIN)/usi_host"
 	install -m 644 share/usi_host.1 "$(MAN)/usi_host.1"
@@ -28,7 +35,17 @@ install: build
 uninstall:
 	rm -f "$(BIN)/usi_host" "$(MAN)/usi_host.1" "$(COMPLETIONS)/usi_host"
 
-# Proves every crate from nothing, tries each edit that must fail, runs each test and program, and then
+# Runs the scripts that try the built program as its users run it.
+check: build
+	check/program.py
+	check/serve.py
+	check/examples.py
+
+# Makes a tarball of the program and what goes with it, which is used without the toolchain.
+dist: build
+	check/dist.sh
+
+# Proves every crate, tries each edit that must fail, runs each test and program, and then
 # the built program as its users run it.
 test:
 	@check/gate.sh
@@ -44,13 +61,16 @@ bench:
 
 # Takes away what was built and the proofs that were kept.
 clean:
-	rm -rf crates/*/out
+	rm -rf crates/*/out dist
 
 help:
+	@echo 'make try        tries the program on standard input, unproved, in about a minute'
 	@echo 'make run        starts the program on standard input and output; builds it first'
 	@echo 'make build      proves and builds what is not built yet'
-	@echo 'make install    builds, and puts usi_host, its man page and completion below PREFIX (/usr/local)'
+	@echo 'make install    puts the built usi_host, its man page and completion below PREFIX (/usr/local)'
 	@echo 'make uninstall  takes it away again from PREFIX'
-	@echo 'make test       the gate: every proof from nothing, each edit, test and program'
+	@echo 'make check      tries the built program as its users run it'
+	@echo 'make dist       a tarball of the program for machines without the toolchain'
+	@echo 'make test       the gate: every proof, each edit, test and program'
 	@echo 'make bench      how fast it is'
 	@echo 'make clean      takes away what was built and the proofs that were kept'

@@ -1,10 +1,12 @@
 #!/usr/bin/env bash
-# The gate. First what the READMEs show, and `rt ci`: every proof from nothing, each edit that must be
-# refused, each test, each program. Then the program is built and run as its users run it. The last line
-# counts all of it.
+# The gate. First what the READMEs show, and `rt ci`: every proof, each edit that must be refused, each
+# test, each program; what an earlier run passed on this machine is kept there by checksums. Then the
+# program is built and run as its users run it. At the end, or where it is cut off, it tells what it cost.
+# The last line counts all of it.
 set -uo pipefail
 cd "$(dirname "$0")/.."
 log=$(mktemp)
+check/costs.py $$ & costs=$!
 trap 'rm -f "$log"' EXIT
 
 status=0
@@ -14,11 +16,14 @@ if [ $status -eq 0 ]; then
     if make --no-print-directory build; then
         check/program.py | tee -a "$log" || status=1
         check/serve.py | tee -a "$log" || status=1
+        check/examples.py | tee -a "$log" || status=1
     else
         echo '0 passed, 1 failed' | tee -a "$log"
         status=1
     fi
 fi
+kill $costs
+wait $costs
 awk '/^[0-9]+ passed, [0-9]+ failed$/ { passed += $1; failed += $3 }
      END { print passed + 0 " passed, " failed + 0 " failed" }' "$log"
 exit $status

@@ -1,11 +1,12 @@
 #!/usr/bin/env python3
 """Looks whether the README of each library crate shows its use as it stands in `crates/examples`, where
 it is proved and run: everything from the first `use` of a file on. With `--write` it puts it there. Then
-looks whether each link of a page leads to a file and a heading that are there. Its last line is
-`N passed, M failed`."""
+looks whether README.md names the toolchain as `rt version` does, and whether each link of a page leads to
+a file and a heading that are there. Its last line is `N passed, M failed`."""
 
 import os
 import re
+import subprocess
 import sys
 
 TOP = os.path.dirname(os.path.dirname(os.path.abspath(__file__)))
@@ -69,6 +70,13 @@ def main():
         else:
             failed += 1
             print(f"crates/{crate}/README.md does not show its use as crates/examples has it")
+    toolchain = subprocess.run(["rt", "version"], capture_output=True, text=True, check=True).stdout.strip()
+    named = re.findall(r"`(rattle-kit[^`]*)`", read(os.path.join(TOP, "README.md")))
+    if named == [toolchain]:
+        passed += 1
+    else:
+        failed += 1
+        print(f"README.md names the toolchain {named}, and rt version prints {toolchain}")
     for page in pages():
         dead = [link for link in LINK.findall(ANY_BLOCK.sub("", read(page))) if leads_nowhere(page, link)]
         if dead:
