@@ -66,7 +66,7 @@ fn the_opening_position_at_depth_three(rt: HostRuntime) -> Result<(), Fail> {
         (found.value, found.best.map(|m| m.code())),
         (200, Some(9838))
     );
-    assert!(rt; search_in_slices(&start, Eval::Plain, 3, 1).is_none());
+    assert!(rt; search_in_slices(&start, Eval::Plain, 6, 1).is_none());
     let mut table = SharedTable::new(rt.alloc(), 100, BuildHasherDefault::<FoldHasher>::new())?;
     let (first, second) = search_twice(&start, Eval::Plain, 3, &mut table);
     assert_eq!(rt; (first.value, second.value), (200, 200));

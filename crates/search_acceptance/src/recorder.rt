@@ -18,13 +18,25 @@ pub struct Call {
 #[derive(Drop)]
 pub struct Recorder<M: Memo> {
     memo: M,
+    asks_all: bool,
     calls: Vec<Call>,
 }
 
 impl<M: Memo> Recorder<M> {
+    /// One that is asked at every depth.
     pub fn new(alloc: Global, memo: M) -> Recorder<M> {
         Recorder {
             memo,
+            asks_all: true,
+            calls: Vec::new(alloc),
+        }
+    }
+
+    /// One that is asked only at the depths that the other memory keeps anything at.
+    pub fn sparing(alloc: Global, memo: M) -> Recorder<M> {
+        Recorder {
+            memo,
+            asks_all: false,
             calls: Vec::new(alloc),
         }
     }
@@ -37,6 +49,10 @@ impl<M: Memo> Recorder<M> {
 
 impl<M: Memo> Memo for Recorder<M> {
     ghost answers = { λ recorder p e d. M.answers recorder.memo p e d };
+
+    fn keeps(&self, d: u8) -> bool {
+        self.asks_all || self.memo.keeps(d)
+    }
 
     fn probe(&mut self, p: &Position, e: Eval, d: u8) -> Option<Entry> {
         let _ = self.calls.push(Call {

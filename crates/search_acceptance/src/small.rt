@@ -175,12 +175,13 @@ fn horse_and_silver(rt: HostRuntime) -> Result<(), Fail> {
     Ok(())
 }
 
-// Counts of steps that another program made over no memo, in the same order of visits.
+// At depth 1 the first leaf is valued and no other is better; at depth 2 so it is below the first move.
+// Another program that passes no move made 2,500 steps at depth 3.
 #[test]
 fn steps_from_the_opening(rt: HostRuntime) {
     let start = Position::start();
-    assert_eq!(rt; search(&start, Eval::Plain, 1, &mut NoMemo).steps, 62);
-    assert_eq!(rt; search(&start, Eval::Plain, 2, &mut NoMemo).steps, 64);
+    assert_eq!(rt; search(&start, Eval::Plain, 1, &mut NoMemo).steps, 4);
+    assert_eq!(rt; search(&start, Eval::Plain, 2, &mut NoMemo).steps, 6);
     let third = search(&start, Eval::Plain, 3, &mut NoMemo).steps;
     assert!(rt; third <= 26401, "{third} steps");
     assert!(rt; third <= 2500, "{third} steps");

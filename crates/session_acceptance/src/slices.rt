@@ -10,7 +10,7 @@ use std::process::Abort;
 use std::test::Fail;
 use test_support::fakes::{FailingWriter, NotingWriter};
 use test_support::rows::{INFO_ONE, Row, joined};
-use test_support::tables::{cut, opening, opening_by_hand, sliced};
+use test_support::tables::{opening, opening_by_hand, sliced};
 use usi_stdio::{StdioFault, stdio};
 
 // The most slices that a test works.
@@ -97,21 +97,23 @@ fn every_budget_gives_the_same_bytes_and_steps(rt: HostRuntime) -> Result<(), Fa
     assert_every_budget(&rt, rt.alloc(), &three, 57_142)
 }
 
+// The opening position is entered, its first move is valued in two steps, no other is better, and it is
+// left.
 #[test]
-fn depth_one_takes_62_steps(rt: HostRuntime) -> Result<(), Fail> {
+fn depth_one_takes_four_steps(rt: HostRuntime) -> Result<(), Fail> {
     let [row, ..] = sliced();
-    for budget in [1, 61, 62, 63, u64::MAX] {
+    for budget in [1, 3, 4, 5, u64::MAX] {
         let steps = assert_worked(&rt, rt.alloc(), &mut NoMemo, &row, budget)?;
-        assert_eq!(rt; steps, 62, "with a budget of {budget}");
+        assert_eq!(rt; steps, 4, "with a budget of {budget}");
     }
     Ok(())
 }
 
-// A load of 62: a budget of 61 leaves the last step to be made, and 62 leaves nothing.
+// A search of 4 steps: a budget of 3 leaves the last step to be made, and 4 leaves nothing.
 #[test]
-fn a_budget_of_the_load_is_enough(rt: HostRuntime) -> Result<(), Fail> {
+fn a_budget_of_the_search_is_enough(rt: HostRuntime) -> Result<(), Fail> {
     let mut session = fed(rt.alloc(), "go depth 1\nisready\n")?;
-    assert_eq!(rt; session.work(&mut NoMemo, 61)?, 61);
+    assert_eq!(rt; session.work(&mut NoMemo, 3)?, 3);
     assert!(rt; session.pending() && session.output().is_empty());
     assert_eq!(rt; session.work(&mut NoMemo, 1)?, 1);
     assert!(rt; !session.pending());
@@ -260,25 +262,34 @@ fn a_second_session_finds_what_the_first_one_searched(rt: HostRuntime) -> Result
     Ok(())
 }
 
-// The first two depths take fewer than 1,000 steps together, and the third takes more: the first slice
-// is written before the search at depth 3 has made its last step.
+// The first two depths take fewer than 1,000 steps together, and all five take more: the first slice is
+// written before the search at depth 5 has made its last step.
 #[test]
 fn lines_are_flushed_as_they_are_found(rt: HostRuntime) -> Result<(), Fail> {
-    let row = cut();
-    let mut reader = row.sent.as_bytes();
+    let mut reader = b"go depth 5\n".as_slice();
     let mut writer = NotingWriter::new(rt.alloc());
     stdio(rt.alloc(), &mut reader, &mut writer, 4096)?;
-    let answer = joined(rt.alloc(), row.answer)?;
-    assert_eq!(rt; std::str::from_utf8(writer.written())?, answer.as_str());
+    let answer = writer.written();
+    assert!(rt; std::str::from_utf8(answer)?.contains("info depth 5 score cp 200 pv 9g9f"));
     let flushed = writer.flushed();
     let first = flushed.first().copied().unwrap_or(0);
-    let begun = answer.as_bytes().get(..first).unwrap_or(b"");
+    let begun = answer.get(..first).unwrap_or(b"");
     assert!(rt; begun.starts_with(INFO_ONE.as_bytes()), "{first} bytes");
     assert!(rt;
-        !std::str::from_utf8(begun)?.contains("depth 3"),
+        !std::str::from_utf8(begun)?.contains("depth 5"),
         "{first} bytes"
     );
     assert_eq!(rt; flushed.last().copied(), Some(answer.len()));
+    Ok(())
+}
+
+// Lines that come in one read are answered one by one: what is written is 8 bytes, 46 and 8.
+#[test]
+fn each_line_is_flushed_before_the_next(rt: HostRuntime) -> Result<(), Fail> {
+    let mut reader = b"isready\nposition startpos\ngo depth 1\nisready\n".as_slice();
+    let mut writer = NotingWriter::new(rt.alloc());
+    stdio(rt.alloc(), &mut reader, &mut writer, 1)?;
+    assert!(rt; writer.flushed() == [8, 54, 62].as_slice());
     Ok(())
 }
 

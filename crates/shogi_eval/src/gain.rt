@@ -21,8 +21,8 @@ fn value_of_captured(e: Eval, kind: Option<Kind>) -> u32
     }
 }
 
-/// What a capture gains: the piece is lost to its side and comes to hand.
-fn taken_gain(e: Eval, cell: Option<Piece>) -> u32
+/// What a capture gains, in points: the piece is lost to its side and comes to hand.
+pub fn taken_gain(e: Eval, cell: Option<Piece>) -> u32
     ensures value { result ≡ taken_gain e cell }
     ensures range { result ≤ 2 * PIECE_VALUE_MAX }
 {
@@ -49,7 +49,7 @@ fn promotion_gain(cell: Option<Piece>, promote: bool) -> u32
     }
 }
 
-/// What a drop gains: the piece leaves the hand and stands on the board.
+/// What a drop gains, in points: the piece leaves the hand and stands on the board.
 pub fn drop_gain(e: Eval, kind: Kind) -> i32
     ensures value { result ≡ drop_gain e kind }
     ensures least { (pos 0 -ℤ pos PIECE_VALUE_MAX) ≤ℤ result }

@@ -21,3 +21,4 @@ pub mod TallyLaws
 pub mod DropChecks
 pub mod ExistenceLaws
 pub mod ReplyLaws
+pub mod ThreatLaws

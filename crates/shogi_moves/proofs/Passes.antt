@@ -1,102 +1,253 @@
 -- Moves that are passed in a row.
-use Rattle.std.proofs.Common.{◌≡◌, ◌≢◌, ℕ, zero, suc, ◌+◌, ◌≤◌, List, [], ◌∷◌, Bool, true, false, Option, Some, None, inl, inr, refl, sym, ap, ◌∙◌, arith, subst}
-use Rattle.std.specs.Prelude.{IfSome, is_some, ◌==◌, filter}
-use Rattle.std.proofs.lemmas.Bool.{cond_both, or_cases, or_left, or_right, and_from, eq-eqb, eqb-true}
-use Rattle.shogi_core.specs.declared.moves.Move.{Move}
+use Rattle.std.proofs.Common.{◌≡◌, ◌≢◌, ℕ, zero, suc, ◌+◌, ◌-◌, ◌*◌, ◌/◌, ◌%◌, ◌^◌, ◌<◌, ◌≤◌, List, [], ◌∷◌, Bool, true, false, bit_and, bit_or, length, inl, inr, sym, ap, ◌∙◌, arith, subst, not, Some}
+use Rattle.std.specs.Prelude.{◌&&◌, ◌==◌}
+use Rattle.std.proofs.lemmas.Bool.{cases_Bool, both_ways, and_parts, and_from, cases_eq, cases_lt, cases_eq, eq-eqb, ne_eqb, or_parts, not-false, true_from_ne_false, false_from_ne_true}
+use Rattle.shogi_core.specs.declared.moves.TheConstants.{MOVE_CODE_COUNT, FIRST_DROP, SQUARE_CODES}
 use Rattle.shogi_core.specs.declared.moves.Move.TheVariants.{Board, Drop}
 use Rattle.shogi_core.specs.declared.piece.Kind.{Kind}
+use Rattle.shogi_core.specs.Bits.{has_bit}
+use Rattle.shogi_core.specs.Cell.{is_piece_of}
 use Rattle.shogi_core.specs.Codes.{move_of, code_of}
+use Rattle.shogi_core.specs.Movement.{piece_at, reaches}
 use Rattle.shogi_core.specs.Pieces.{kind_number}
 use Rattle.shogi_core.specs.Position.{Shogi}
+use Rattle.shogi_core.proofs.BitLaws.{has_bit-and, has_bit-or, has_bit-none}
+use Rattle.shogi_core.proofs.LineBits.{has_bit-not}
 use Rattle.shogi_core.proofs.CodesBack.{move_of-board, move_of-drop}
-use Rattle.shogi_moves.specs.After.{after}
-use Rattle.shogi_moves.specs.Legal.{is_legal}
+use Rattle.shogi_core.proofs.Faults.{number_below}
+use Rattle.shogi_moves.specs.After.{after, after_code}
+use Rattle.shogi_moves.specs.Ends.{is_end}
+use Rattle.shogi_moves.specs.Legal.{is_legal, is_legal_code, may_promote}
 use Rattle.shogi_moves.specs.LegalMoves.{legal_codes}
-use Rattle.shogi_moves.specs.Captures.{is_of_sort, is_wanted}
-use Rattle.shogi_moves.specs.LegalMoves.{legal_from}
-use Rattle.shogi_moves.specs.Rising.{is_in}
-use Rattle.shogi_moves.specs.Sweeps.{wanted_from, IsPlainMove, IsCertainQuiet, IsDropOf, IsCertainDrop, IsPassed}
-use Rattle.shogi_moves.proofs.LegalLaws.{is_legal_code_of, after_code_of, legal_in}
+use Rattle.shogi_moves.specs.Captures.{is_wanted}
+use Rattle.shogi_moves.specs.Replies.{IsAnswered}
+use Rattle.shogi_moves.specs.Sweeps.{wanted_from, Keeps, KeepsBoard, KeepsDrop, HasWantedOn, IsCertainQuiet, IsCertainDrop, IsPassed}
+use Rattle.shogi_moves.proofs.CaptureLaws.{skip_one, wanted_found}
+use Rattle.shogi_moves.proofs.EndLaws.{wanted_board}
+use Rattle.shogi_moves.proofs.LegalLaws.{is_legal_code_of, after_code_of}
+use Rattle.shogi_moves.proofs.SweepLaws.{at_code}
 
--- one more is passed
-pub passed_more : (fact : ℕ → Type 0) (n : ℕ) (codes left : List ℕ) (code : ℕ) (rest : List ℕ) → IsPassed fact n codes left → left ≡ code ∷ rest → fact code → IsPassed fact (suc n) codes rest
-passed_more fact zero codes left code rest p e f = subst (λ (xs : List ℕ). IsPassed fact (suc zero) xs rest) (sym (p ∙ e)) (f, refl)
-passed_more fact (suc n) [] left code rest p e f = absurd p
-passed_more fact (suc n) (c ∷ codes) left code rest p e f = (p.0, passed_more fact n codes left code rest p.1 e f)
+-- none is passed
+pub passed_none : (fact : ℕ → Type 0) (codes left : List ℕ) → codes ≡ left → IsPassed fact codes left
+passed_none fact [] left e = e
+passed_none fact (c ∷ codes) left e = inl e
 
-pub certain_drop : (p : Shogi) (kind : Kind) (first from : ℕ) (m : Move) → first ≤ from → IsDropOf kind from m → is_legal p m ≡ true → legal_codes (after p m) ≢ [] → IsCertainDrop p kind first (code_of m)
-certain_drop p kind first from (Board f t b) up d l r = absurd d
-certain_drop p kind first from (Drop other to) up d l r =
-    let back : move_of (code_of (Drop other to)) ≡ Some (Drop other to) = move_of-drop other to d.1.0 in
-    let number : kind_number other ≡ kind_number kind = ap kind_number d.0 in
+-- first some are passed, then others
+pub passed_on : (fact : ℕ → Type 0) (codes middle left : List ℕ) → IsPassed fact codes middle → IsPassed fact middle left → IsPassed fact codes left
+passed_on fact [] middle left h k = subst (λ (xs : List ℕ). IsPassed fact xs left) (sym h) k
+passed_on fact (c ∷ codes) middle left h k = elim h [
+  | inl same ↦ subst (λ (xs : List ℕ). IsPassed fact xs left) (sym same) k
+  | inr more ↦ inr (more.0, passed_on fact codes middle left more.1 k)
+]
+
+-- one more is passed before them
+passed_first : (fact : ℕ → Type 0) (codes : List ℕ) (c : ℕ) (rest left : List ℕ) → codes ≡ c ∷ rest → fact c → IsPassed fact rest left → IsPassed fact codes left
+passed_first fact codes c rest left e f h = subst (λ (xs : List ℕ). IsPassed fact xs left) (sym e) (inr (f, h))
+
+-- all moves of the sort from a code up to another are passed
+pub passed_range : (p : Shogi) (capture : Bool) (fact : ℕ → Type 0) (n code : ℕ) → code + n ≤ MOVE_CODE_COUNT → ((c : ℕ) → code ≤ c → c < code + n → is_wanted p capture c ≡ true → fact c) → IsPassed fact (wanted_from p capture code) (wanted_from p capture (code + n))
+passed_range p capture fact zero code fits all = passed_none fact _ _ (ap (wanted_from p capture) (omega arith))
+passed_range p capture fact (suc n) code fits all =
+    let rest : IsPassed fact (wanted_from p capture (code + 1)) (wanted_from p capture (code + 1 + n)) = passed_range p capture fact n (code + 1) (omega arith) (λ c above below. all c (omega arith) (omega arith)) in
+    let left : IsPassed fact (wanted_from p capture (code + 1)) (wanted_from p capture (code + suc n)) = subst (λ (x : ℕ). IsPassed fact (wanted_from p capture (code + 1)) (wanted_from p capture x)) (omega arith) rest in
+    elim (cases_Bool (is_wanted p capture code)) [
+      | inl here ↦ passed_first fact (wanted_from p capture code) code (wanted_from p capture (code + 1)) _ (wanted_found p capture code (omega arith) here) (all code (omega arith) (omega arith) here) left
+      | inr other ↦ subst (λ (xs : List ℕ). IsPassed fact xs (wanted_from p capture (code + suc n))) (sym (skip_one p capture code (omega arith) other)) left
+    ]
+
+pub passed_to : (p : Shogi) (capture : Bool) (fact : ℕ → Type 0) (code next : ℕ) → code ≤ next → next ≤ MOVE_CODE_COUNT → ((c : ℕ) → code ≤ c → c < next → is_wanted p capture c ≡ true → fact c) → IsPassed fact (wanted_from p capture code) (wanted_from p capture next)
+passed_to p capture fact code next up fits all =
+    let there : code + (next - code) ≡ next = omega arith in
+    subst (λ (x : ℕ). IsPassed fact (wanted_from p capture code) (wanted_from p capture x)) there (passed_range p capture fact (next - code) code (omega arith) (λ c above below. all c above (omega arith)))
+
+-- ---- the ends of a piece
+
+-- a wanted move of the piece is one of its ends
+end_of : (p : Shogi) (from code plain c : ℕ) → KeepsBoard p false from code plain 0 → code ≤ c → c < from * SQUARE_CODES + SQUARE_CODES → is_wanted p false c ≡ true → (c ≡ code_of (Board from (c / 2 % 81) false)) × (has_bit plain (c / 2 % 81) ≡ true)
+end_of p from code plain c k up below wanted =
+    let low : from * SQUARE_CODES ≤ code = k.low in
+    elim (at_code from c (omega arith) below) [
+      | inl at ↦ (at, true_from_ne_false (has_bit plain (c / 2 % 81)) (λ out. both_ways (is_wanted p false c) (ap (is_wanted p false) at ∙ k.plains.clear (c / 2 % 81) (omega arith) out (omega arith)) wanted))
+      | inr at ↦ absurd (both_ways (is_wanted p false c) (ap (is_wanted p false) at ∙ k.promotings.clear (c / 2 % 81) (omega arith) (has_bit-none (c / 2 % 81)) (omega arith)) wanted)
+    ]
+
+-- a wanted move on the board without promotion that is answered
+certain_quiet : (p : Shogi) (first c from n : ℕ) → from < 81 → n < 81 → first ≤ c → c ≡ code_of (Board from n false) → is_wanted p false c ≡ true → IsAnswered p (Board from n false) → IsCertainQuiet p first c
+certain_quiet p first c from n hf hn above at wanted answered =
+    let back : move_of (code_of (Board from n false)) ≡ Some (Board from n false) = move_of-board from n false hf hn in
+    let legal : is_legal p (Board from n false) ≡ true = sym (is_legal_code_of p c (Board from n false) (ap move_of at ∙ back)) ∙ (and_parts _ _ wanted).0 in
+    let made : after_code p c ≡ after p (Board from n false) = ap (after_code p) at ∙ after_code_of p (Board from n false) back in
     record {
-      above = omega (arith, d.1.1);
-      low = omega (arith, number);
-      high = omega (arith, number, d.1.0);
-      legal = is_legal_code_of p (code_of (Drop other to)) (Drop other to) back ∙ l;
-      replied = subst (λ (q : Shogi). legal_codes q ≢ []) (sym (after_code_of p (Drop other to) back)) r;
+      above = above;
+      on_board = omega (arith, at);
+      plain = omega (arith, at);
+      quiet = wanted;
+      replied = subst (λ (q : Shogi). legal_codes q ≢ []) (sym made) (answered legal);
     }
 
-one_more : (n : ℕ) → suc n ≡ n + 1
-one_more n = omega arith
+-- those below another code are passed, where each of them is answered
+pub ends_passed : (p : Shogi) (from code next plain first : ℕ) → from < 81 → KeepsBoard p false from code plain 0 → first ≤ code → code ≤ next → next ≤ from * SQUARE_CODES + SQUARE_CODES
+    → ((n : ℕ) → n < 81 → has_bit plain n ≡ true → code_of (Board from n false) < next → IsAnswered p (Board from n false)) → IsPassed (IsCertainQuiet p first) (wanted_from p false code) (wanted_from p false next)
+ends_passed p from code next plain first hf k low up high answered =
+    passed_to p false (IsCertainQuiet p first) code next up (omega arith) (λ c above below wanted.
+    let at : (c ≡ code_of (Board from (c / 2 % 81) false)) × (has_bit plain (c / 2 % 81) ≡ true) = end_of p from code plain c k above (omega arith) wanted in
+    certain_quiet p first c from (c / 2 % 81) hf (omega arith) (omega arith) at.0 wanted (answered (c / 2 % 81) (omega arith) at.1 (omega (arith, at.0))))
 
--- the drop that was found is passed
-pub record IsPassedOn (p : Shogi) (kind : Kind) (first code next n : ℕ) : Type 0 where
-  pub up : first ≤ next
-  pub passed : IsPassed (IsCertainDrop p kind first) n (wanted_from p false first) (wanted_from p false next)
+-- what is not uncertain is certain
+pub not_uncertain : (ends certain n : ℕ) → certain < 2 ^ 128 → n < 81 → has_bit (bit_and ends (2 ^ 128 - 1 - certain)) n ≡ false → has_bit ends n ≡ true → has_bit certain n ≡ true
+not_uncertain ends certain n fits h out set = true_from_ne_false (has_bit certain n) (λ out_of.
+    both_ways (has_bit (bit_and ends (2 ^ 128 - 1 - certain)) n) out (has_bit-and ends (2 ^ 128 - 1 - certain) n ∙ and_from _ _ set (has_bit-not certain n fits (omega arith) ∙ ap not out_of)))
 
-pub drop_passed : (p : Shogi) (kind other : Kind) (first code next n : ℕ) (found : Option Move) → is_some found ≡ true → other ≡ kind → first ≤ code → IsPassed (IsCertainDrop p kind first) n (wanted_from p false first) (wanted_from p false code)
-    → IfSome found (λ m. wanted_from p false code ≡ code_of m ∷ wanted_from p false next) → IfSome found (λ m. is_legal p m ≡ true) → IfSome found (λ m. legal_codes (after p m) ≢ []) → IfSome found (IsDropOf other code) → IfSome found (λ m. next ≡ code_of m + 1)
-    → IsPassedOn p kind first code next (n + 1)
-drop_passed p kind other first code next n None some same up before e l r d c = absurd (cc)
-drop_passed p kind other first code next n (Some m) some same up before e l r d c =
-    let k : IsCertainDrop p kind first (code_of m) = certain_drop p kind first code m up (subst (λ (x : Kind). IsDropOf x code m) same d) l r in
-    record { up = omega (arith, k.above, c); passed = subst (λ (k : ℕ). IsPassed (IsCertainDrop p kind first) k (wanted_from p false first) (wanted_from p false next)) (one_more n) (passed_more (IsCertainDrop p kind first) n (wanted_from p false first) (wanted_from p false code) (code_of m) (wanted_from p false next) before e k) }
+pub none_uncertain : (ends certain n : ℕ) → certain < 2 ^ 128 → n < 81 → bit_and ends (2 ^ 128 - 1 - certain) ≡ 0 → has_bit ends n ≡ true → has_bit certain n ≡ true
+none_uncertain ends certain n fits h none set = not_uncertain ends certain n fits h (ap (λ m. has_bit m n) none ∙ has_bit-none n) set
 
--- what a test keeps passes it
-passes : (test : ℕ → Bool) (c : ℕ) (codes : List ℕ) → is_in c (filter test codes) ≡ true → (test c ≡ true) × (is_in c codes ≡ true)
-passes test c [] h = absurd (cc)
-passes test c (m ∷ codes) h =
-    cond_both (test m) (m ∷ filter test codes) (filter test codes) (λ (left : List ℕ). is_in c left ≡ true → (test c ≡ true) × (is_in c (m ∷ codes) ≡ true))
-    (λ yes i. elim (or_cases (c == m) (is_in c (filter test codes)) i) [
-      | inl e ↦ (subst (λ (x : ℕ). test x ≡ true) (sym (eqb-true c m e)) yes, or_left (c == m) (is_in c codes) e)
-      | inr e ↦ (let k = passes test c codes e in (k.0, or_right (c == m) (is_in c codes) k.1))
+-- the first that is uncertain is an end
+pub uncertain_end : (ends certain to : ℕ) → has_bit (bit_and ends (2 ^ 128 - 1 - certain)) to ≡ true → has_bit ends to ≡ true
+uncertain_end ends certain to set = (and_parts (has_bit ends to) _ (sym (has_bit-and ends (2 ^ 128 - 1 - certain) to) ∙ set)).0
+
+-- and those below it are certain
+pub below_uncertain : (ends certain to n : ℕ) → certain < 2 ^ 128 → n < 81 → n < to → ((i : ℕ) → has_bit (bit_and ends (2 ^ 128 - 1 - certain)) i ≡ true → to ≤ i) → has_bit ends n ≡ true → has_bit certain n ≡ true
+below_uncertain ends certain to n fits h down least set = not_uncertain ends certain n fits h (false_from_ne_true (has_bit (bit_and ends (2 ^ 128 - 1 - certain)) n) (λ there. (let le : to ≤ n = least n there in omega arith))) set
+
+-- ---- what is kept of a mask whose first bits are passed
+
+keeps_from : (test : ℕ → Bool) (place : ℕ → ℕ) (code mask from to : ℕ) → Keeps test place code mask → from < 2 ^ 81 → code ≤ place to → ((n : ℕ) → n < to → place n < place to) → ((n : ℕ) → to ≤ n → place to ≤ place n) → ((i : ℕ) → i < 81 → to ≤ i → has_bit from i ≡ has_bit mask i) → ((i : ℕ) → i < to → has_bit from i ≡ false) → Keeps test place (place to) from
+keeps_from test place code mask from to k fits up falls rises same none = record {
+  fits = fits;
+  set = λ n h e. elim (cases_lt n to) [
+    | inl down ↦ absurd (both_ways (has_bit from n) (none n down) e)
+    | inr on ↦ (rises n on, (k.set n h (sym (same n h on) ∙ e)).1)
+  ];
+  clear = λ n h e l. elim (cases_lt n to) [
+    | inl down ↦ absurd (let less : place n < place to = falls n down in omega arith)
+    | inr on ↦ k.clear n h (sym (same n h on) ∙ e) (omega (arith, rises n on))
+  ];
+}
+
+keeps_nothing : (test : ℕ → Bool) (place : ℕ → ℕ) (code : ℕ) → ((n : ℕ) → n < 81 → place n < code) → Keeps test place code 0
+keeps_nothing test place code over = record {
+  fits = omega arith;
+  set = λ n h e. absurd (both_ways (has_bit 0 n) (has_bit-none n) e);
+  clear = λ n h e l. absurd (let less : place n < code = over n h in omega arith);
+}
+
+pub ends_kept : (p : Shogi) (from code plain less to : ℕ) → KeepsBoard p false from code plain 0 → to < 81 → has_bit plain to ≡ true → less < 2 ^ 81 → ((i : ℕ) → i < 81 → to ≤ i → has_bit less i ≡ has_bit plain i) → ((i : ℕ) → i < to → has_bit less i ≡ false) → KeepsBoard p false from (code_of (Board from to false)) less 0
+ends_kept p from code plain less to k ht set fits same none =
+    let up : code ≤ code_of (Board from to false) = (k.plains.set to ht set).0 in
+    record {
+      low = omega arith;
+      high = omega arith;
+      plains = keeps_from (is_wanted p false) (λ n. code_of (Board from n false)) code plain less to k.plains fits up (λ n h. omega arith) (λ n h. omega arith) same none;
+      promotings = record {
+        fits = omega arith;
+        set = λ n h e. absurd (both_ways (has_bit 0 n) (has_bit-none n) e);
+        clear = λ n h e l. k.promotings.clear n h e (omega arith);
+      };
+    }
+
+pub no_ends_kept : (p : Shogi) (from : ℕ) → KeepsBoard p false from (from * SQUARE_CODES + SQUARE_CODES) 0 0
+no_ends_kept p from = record {
+  low = omega arith;
+  high = omega arith;
+  plains = keeps_nothing (is_wanted p false) (λ n. code_of (Board from n false)) (from * SQUARE_CODES + SQUARE_CODES) (λ n h. omega arith);
+  promotings = keeps_nothing (is_wanted p false) (λ n. code_of (Board from n true)) (from * SQUARE_CODES + SQUARE_CODES) (λ n h. omega arith);
+}
+
+pub no_ends_of : (p : Shogi) (from plain promoting : ℕ) → plain ≡ 0 → promoting ≡ 0 → KeepsBoard p false from (from * SQUARE_CODES + SQUARE_CODES) plain promoting
+no_ends_of p from plain promoting x y = rw (x, y) (no_ends_kept p from)
+
+-- ---- all moves of a piece
+
+-- a wanted move ends on an empty square that the piece reaches, and by promotion only where it may promote
+plain_among : (p : Shogi) (from n among : ℕ) → length p.cells ≡ 81 → from < 81 → n < 81 → is_piece_of p.side (piece_at p.cells from) ≡ true → has_bit among n ≡ (reaches p.cells from n && is_end false p.side (piece_at p.cells n)) → is_wanted p false (code_of (Board from n false)) ≡ true → has_bit among n ≡ true
+plain_among p from n among len hf hn own bits wanted = bits ∙ (and_parts _ _ (and_parts _ _ (sym (wanted_board p false false from n len hf hn own) ∙ wanted)).0).0
+
+promoting_among : (p : Shogi) (from n among : ℕ) → length p.cells ≡ 81 → from < 81 → n < 81 → is_piece_of p.side (piece_at p.cells from) ≡ true → has_bit among n ≡ (reaches p.cells from n && is_end false p.side (piece_at p.cells n)) → is_wanted p false (code_of (Board from n true)) ≡ true
+    → (has_bit among n ≡ true) × (may_promote (piece_at p.cells from) from n ≡ true)
+promoting_among p from n among len hf hn own bits wanted =
+    let parts = and_parts _ _ (sym (wanted_board p false true from n len hf hn own) ∙ wanted) in
+    (bits ∙ (and_parts _ _ parts.0).0, (and_parts _ _ parts.1).0)
+
+right_false : (a b : Bool) → a ≡ true → (a && b) ≡ false → b ≡ false
+right_false true b e h = h
+right_false false b e h = absurd (cc)
+
+-- of such a square it is certain, and the piece does not promote
+plainly_certain : (among promoting certain n : ℕ) → certain < 2 ^ 128 → n < 81 → bit_and among (bit_or promoting (2 ^ 128 - 1 - certain)) ≡ 0 → has_bit among n ≡ true → (has_bit promoting n ≡ false) × (has_bit certain n ≡ true)
+plainly_certain among promoting certain n fits h none set =
+    let off : has_bit (bit_or promoting (2 ^ 128 - 1 - certain)) n ≡ false = right_false (has_bit among n) _ set (sym (has_bit-and among (bit_or promoting (2 ^ 128 - 1 - certain)) n) ∙ (ap (λ m. has_bit m n) none ∙ has_bit-none n)) in
+    let parts : (has_bit promoting n ≡ false) × (has_bit (2 ^ 128 - 1 - certain) n ≡ false) = or_parts (has_bit promoting n) (has_bit (2 ^ 128 - 1 - certain) n) (sym (has_bit-or promoting (2 ^ 128 - 1 - certain) n) ∙ off) in
+    (parts.0, not-false (has_bit certain n) (sym (has_bit-not certain n fits (omega arith)) ∙ parts.1))
+
+-- the moves of the first of the pieces that are left are passed, where each of them is answered and none promotes
+pub piece_passed : (p : Shogi) (first code left from among promoting certain : ℕ) → length p.cells ≡ 81 → from < 81 → is_piece_of p.side (piece_at p.cells from) ≡ true → HasWantedOn p false code left → ((n : ℕ) → has_bit left n ≡ true → from ≤ n)
+    → ((n : ℕ) → n < 81 → has_bit among n ≡ (reaches p.cells from n && is_end false p.side (piece_at p.cells n))) → ((n : ℕ) → n < 81 → has_bit promoting n ≡ may_promote (piece_at p.cells from) from n) → certain < 2 ^ 128 → ((n : ℕ) → n < 81 → has_bit certain n ≡ true → IsAnswered p (Board from n false))
+    → bit_and among (bit_or promoting (2 ^ 128 - 1 - certain)) ≡ 0 → first ≤ code → code ≤ from * SQUARE_CODES + SQUARE_CODES → IsPassed (IsCertainQuiet p first) (wanted_from p false code) (wanted_from p false (from * SQUARE_CODES + SQUARE_CODES))
+piece_passed p first code left from among promoting certain len hf own on least among_bits promoting_bits fits answered none low up =
+    passed_to p false (IsCertainQuiet p first) code (from * SQUARE_CODES + SQUARE_CODES) up (omega arith) (λ c above below wanted.
+    let here : from ≤ c / SQUARE_CODES = least (c / SQUARE_CODES) (on.on c above (omega arith) wanted) in
+    let hn : c / 2 % 81 < 81 = omega arith in
+    elim (at_code from c (omega arith) below) [
+      | inl at ↦ (
+          let there : has_bit among (c / 2 % 81) ≡ true = plain_among p from (c / 2 % 81) among len hf hn own (among_bits (c / 2 % 81) hn) (ap (is_wanted p false) (sym at) ∙ wanted) in
+          certain_quiet p first c from (c / 2 % 81) hf hn (omega arith) at wanted (answered (c / 2 % 81) hn (plainly_certain among promoting certain (c / 2 % 81) fits hn none there).1))
+      | inr at ↦ absurd (
+          let there : (has_bit among (c / 2 % 81) ≡ true) × (may_promote (piece_at p.cells from) from (c / 2 % 81) ≡ true) = promoting_among p from (c / 2 % 81) among len hf hn own (among_bits (c / 2 % 81) hn) (ap (is_wanted p false) (sym at) ∙ wanted) in
+          both_ways (has_bit promoting (c / 2 % 81)) (plainly_certain among promoting certain (c / 2 % 81) fits hn none there.0).0 (promoting_bits (c / 2 % 81) hn ∙ there.1))
     ])
-    (λ no i. let k = passes test c codes i in (k.0, or_right (c == m) (is_in c codes) k.1))
-    h
 
--- the first of a sort is a legal move of the sort
-first_wanted : (p : Shogi) (capture : Bool) (first c : ℕ) (rest : List ℕ) → wanted_from p capture first ≡ c ∷ rest → is_wanted p capture c ≡ true
-first_wanted p capture first c rest e =
-    let here : is_in c (wanted_from p capture first) ≡ true = ap (is_in c) e ∙ or_left (c == c) (is_in c rest) (eq-eqb c c refl) in
-    let k : (is_of_sort p capture c ≡ true) × (is_in c (legal_from p first) ≡ true) = passes (is_of_sort p capture) c (legal_from p first) here in
-    and_from _ _ (legal_in p first c k.1) k.0
+-- and those of the others are left
+pub others_left : (p : Shogi) (code left less from : ℕ) → HasWantedOn p false code left → code ≤ from * SQUARE_CODES + SQUARE_CODES → ((i : ℕ) → has_bit less i ≡ (has_bit left i && not (i == from))) → HasWantedOn p false (from * SQUARE_CODES + SQUARE_CODES) less
+others_left p code left less from w up bits = record {
+  on = λ c low high wanted. bits (c / SQUARE_CODES) ∙ and_from (has_bit left (c / SQUARE_CODES)) (not (c / SQUARE_CODES == from)) (w.on c (omega arith) high wanted) (ap not (ne_eqb (c / SQUARE_CODES) from (omega arith)));
+}
 
-pub certain_quiet : (p : Shogi) (first from : ℕ) (m : Move) → first ≤ from → IsPlainMove from m → is_wanted p false (code_of m) ≡ true → legal_codes (after p m) ≢ [] → IsCertainQuiet p first (code_of m)
-certain_quiet p first from (Drop kind to) up d w r = absurd d
-certain_quiet p first from (Board f t b) up d w r =
-    let plain : code_of (Board f t b) ≡ code_of (Board f t false) = ap (λ (x : Bool). code_of (Board f t x)) d.0 in
-    let back : move_of (code_of (Board f t b)) ≡ Some (Board f t b) = move_of-board f t b d.1.0 d.1.1.0 in
+-- pieces above the first of them
+pub above_first : (left less from n : ℕ) → ((i : ℕ) → has_bit left i ≡ true → from ≤ i) → ((i : ℕ) → has_bit less i ≡ (has_bit left i && not (i == from))) → has_bit less n ≡ true → (from < n) × (has_bit left n ≡ true)
+above_first left less from n least bits set =
+    let parts : (has_bit left n ≡ true) × (not (n == from) ≡ true) = and_parts _ _ (sym (bits n) ∙ set) in
+    elim (cases_eq n from) [
+      | inl same ↦ absurd (both_ways (not (n == from)) (ap not (eq-eqb n from same)) parts.1)
+      | inr other ↦ (let le : from ≤ n = least n parts.0 in omega arith, parts.0)
+    ]
+
+-- ---- the drops of a kind
+
+drop_of : (p : Shogi) (kind : Kind) (code ends c : ℕ) → KeepsDrop p kind code ends → code ≤ c → c < FIRST_DROP + 81 + kind_number kind * 81 → is_wanted p false c ≡ true → (c ≡ code_of (Drop kind (c - FIRST_DROP - kind_number kind * 81))) × (has_bit ends (c - FIRST_DROP - kind_number kind * 81) ≡ true)
+drop_of p kind code ends c k up below wanted =
+    let low : FIRST_DROP + kind_number kind * 81 ≤ code = k.low in
+    let at : c ≡ code_of (Drop kind (c - FIRST_DROP - kind_number kind * 81)) = omega arith in
+    (at, true_from_ne_false (has_bit ends (c - FIRST_DROP - kind_number kind * 81)) (λ out. both_ways (is_wanted p false c) (ap (is_wanted p false) at ∙ k.drops.clear (c - FIRST_DROP - kind_number kind * 81) (omega arith) out (omega arith)) wanted))
+
+pub drops_passed : (p : Shogi) (kind : Kind) (code next ends : ℕ) → KeepsDrop p kind code ends → code ≤ next → next ≤ FIRST_DROP + 81 + kind_number kind * 81
+    → ((n : ℕ) → n < 81 → has_bit ends n ≡ true → code_of (Drop kind n) < next → IsAnswered p (Drop kind n)) → IsPassed (IsCertainDrop p kind code) (wanted_from p false code) (wanted_from p false next)
+drops_passed p kind code next ends k up high answered =
+    let seven : kind_number kind < 7 = number_below kind in
+    let low : FIRST_DROP + kind_number kind * 81 ≤ code = k.low in
+    passed_to p false (IsCertainDrop p kind code) code next up (omega arith) (λ c above below wanted.
+    let ht : c - FIRST_DROP - kind_number kind * 81 < 81 = omega arith in
+    let at : (c ≡ code_of (Drop kind (c - FIRST_DROP - kind_number kind * 81))) × (has_bit ends (c - FIRST_DROP - kind_number kind * 81) ≡ true) = drop_of p kind code ends c k above (omega arith) wanted in
+    let back : move_of c ≡ Some (Drop kind (c - FIRST_DROP - kind_number kind * 81)) = ap move_of at.0 ∙ move_of-drop kind (c - FIRST_DROP - kind_number kind * 81) ht in
+    let legal : is_legal_code p c ≡ true = (and_parts _ _ wanted).0 in
+    let made : after_code p c ≡ after p (Drop kind (c - FIRST_DROP - kind_number kind * 81)) = ap (after_code p) at.0 ∙ after_code_of p (Drop kind (c - FIRST_DROP - kind_number kind * 81)) (move_of-drop kind (c - FIRST_DROP - kind_number kind * 81) ht) in
     record {
-      above = omega (arith, up, d.1.1.1);
-      on_board = omega (arith, plain, d.1.0, d.1.1.0);
-      plain = omega (arith, plain);
-      quiet = w;
-      replied = subst (λ (q : Shogi). legal_codes q ≢ []) (sym (after_code_of p (Board f t b) back)) r;
-    }
+      above = above;
+      low = omega arith;
+      high = omega arith;
+      legal = legal;
+      replied = subst (λ (q : Shogi). legal_codes q ≢ []) (sym made) (answered (c - FIRST_DROP - kind_number kind * 81) ht at.1 (omega (arith, at.0)) (sym (is_legal_code_of p c (Drop kind (c - FIRST_DROP - kind_number kind * 81)) back) ∙ legal));
+    })
 
--- the quiet move that was found is passed
-pub record IsQuietPassed (p : Shogi) (first next n : ℕ) : Type 0 where
-  pub up : first ≤ next
-  pub passed : IsPassed (IsCertainQuiet p first) n (wanted_from p false first) (wanted_from p false next)
+pub drops_kept : (p : Shogi) (kind : Kind) (code ends less to : ℕ) → KeepsDrop p kind code ends → to < 81 → has_bit ends to ≡ true → less < 2 ^ 81 → ((i : ℕ) → i < 81 → to ≤ i → has_bit less i ≡ has_bit ends i) → ((i : ℕ) → i < to → has_bit less i ≡ false) → KeepsDrop p kind (code_of (Drop kind to)) less
+drops_kept p kind code ends less to k ht set fits same none = record {
+  low = omega arith;
+  high = omega arith;
+  drops = keeps_from (is_wanted p false) (λ n. code_of (Drop kind n)) code ends less to k.drops fits (k.drops.set to ht set).0 (λ n h. omega arith) (λ n h. omega arith) same none;
+}
 
-pub quiet_passed : (p : Shogi) (first before code next n : ℕ) (found : Option Move) → is_some found ≡ true → first ≤ before → before ≤ code → wanted_from p false before ≡ wanted_from p false code
-    → IsPassed (IsCertainQuiet p first) n (wanted_from p false first) (wanted_from p false before) → IfSome found (λ m. wanted_from p false code ≡ code_of m ∷ wanted_from p false next) → IfSome found (λ m. legal_codes (after p m) ≢ [])
-    → IfSome found (IsPlainMove code) → IfSome found (λ m. next ≡ code_of m + 1) → IsQuietPassed p first next (n + 1)
-quiet_passed p first before code next n None some up on same h e r d c = absurd (cc)
-quiet_passed p first before code next n (Some m) some up on same h e r d c =
-    let k : IsCertainQuiet p first (code_of m) = certain_quiet p first code m (omega arith) d (first_wanted p false code (code_of m) (wanted_from p false next) e) r in
-    record {
-      up = omega (arith, k.above, c);
-      passed = subst (λ (x : ℕ). IsPassed (IsCertainQuiet p first) x (wanted_from p false first) (wanted_from p false next)) (one_more n) (passed_more (IsCertainQuiet p first) n (wanted_from p false first) (wanted_from p false before) (code_of m) (wanted_from p false next) h (same ∙ e) k);
-    }
+pub no_drops_kept : (p : Shogi) (kind : Kind) → KeepsDrop p kind (FIRST_DROP + 81 + kind_number kind * 81) 0
+no_drops_kept p kind = record {
+  low = omega arith;
+  high = omega arith;
+  drops = keeps_nothing (is_wanted p false) (λ n. code_of (Drop kind n)) (FIRST_DROP + 81 + kind_number kind * 81) (λ n h. omega arith);
+}

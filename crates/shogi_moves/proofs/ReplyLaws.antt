@@ -34,7 +34,7 @@ use Rattle.shogi_core.proofs.Snipers.{left_calm, stands_still}
 use Rattle.shogi_moves.specs.After.{after, cells_after, piece_moved, dropped, with_captured, with_one_more}
 use Rattle.shogi_moves.specs.Legal.{is_legal, is_safe, is_pseudo_legal_board_move, is_pseudo_legal_drop, is_pawn_kind, is_mated_by_drop}
 use Rattle.shogi_moves.specs.LegalMoves.{legal_codes}
-use Rattle.shogi_moves.specs.Replies.{cell_steps, is_free_kind, holds_free, is_line_of_king, is_aligned_with_king, is_open_step, is_spare, is_way, Sees, Aligns, IsReplies, IsHarmless, StaysCovered, UncoversNothing}
+use Rattle.shogi_moves.specs.Replies.{cell_steps, is_free_kind, holds_free, is_line_of_king, is_aligned_with_king, is_open_step, is_spare, is_way, Sees, Aligns, IsReplies, IsHarmless, StaysCovered, UncoversNothing, IsOpen, IsAnswered}
 use Rattle.shogi_moves.proofs.DropChecks as drops
 use Rattle.shogi_moves.proofs.EndLaws.{legal_board, legal_drop, drop_wanted, still}
 use Rattle.shogi_moves.proofs.ExistenceLaws.{some_legal}
@@ -82,14 +82,14 @@ aligns_more cells side left next lines king squares h bits on_line = record {
 pub ruleset aligning = (aligns_first)
 
 -- a square on no line with a king
-unaligned : (cells : Cells) (side : Color) (lines n : ℕ) → Aligns cells side 0 lines → n < 81 → has_bit lines n ≡ false → is_aligned_with_king cells side n ≡ false
+pub unaligned : (cells : Cells) (side : Color) (lines n : ℕ) → Aligns cells side 0 lines → n < 81 → has_bit lines n ≡ false → is_aligned_with_king cells side n ≡ false
 unfolding is_aligned_with_king
 unaligned cells side lines n s h out = some_below_no 81 (is_line_of_king cells side n) (λ k l. false_from_ne_true (is_line_of_king cells side n k) (λ e. (
     let parts : (is_king side (piece_at cells k) ≡ true) × (are_aligned k n ≡ true) = and_parts _ _ e in
     both_ways (has_bit lines n) out (s.squares k n l h parts.0 (has_bit-none k) parts.1))))
 
 -- is on no open line with it, wherever the other pieces stand
-stays_unlined : (old new : Cells) (color : Color) (a : ℕ) → a < 81 → ((k : ℕ) → is_king color (piece_at new k) ≡ true → piece_at old k ≡ piece_at new k) → is_aligned_with_king old color a ≡ false → is_lined_with_king new color a ≡ false
+pub stays_unlined : (old new : Cells) (color : Color) (a : ℕ) → a < 81 → ((k : ℕ) → is_king color (piece_at new k) ≡ true → piece_at old k ≡ piece_at new k) → is_aligned_with_king old color a ≡ false → is_lined_with_king new color a ≡ false
 unfolding is_lined_with_king is_aligned_with_king
 stays_unlined old new color a h kings off = some_below_no 81 (is_line_to_king new color a) (λ k l. false_from_ne_true (is_line_to_king new color a k) (λ e. (
     let parts : (is_king color (piece_at new k) ≡ true) × (are_lined new a k ≡ true) = and_parts _ _ e in
@@ -197,7 +197,7 @@ other_captured hands side (Some piece) other = go (kind_of piece.role)
     go None = refl
     go (Some kind) = other_hand hands side kind other (count_in_hand hands side kind + 1)
 
-other_counts : (p : Shogi) (m : Move) (other : Kind) → count_in_hand (after p m).hands (opponent_of p.side) other ≡ count_in_hand p.hands (opponent_of p.side) other
+pub other_counts : (p : Shogi) (m : Move) (other : Kind) → count_in_hand (after p m).hands (opponent_of p.side) other ≡ count_in_hand p.hands (opponent_of p.side) other
 other_counts p (Board from to promote) other = other_captured p.hands p.side (piece_at p.cells to) other
 other_counts p (Drop kind to) other = other_hand p.hands p.side kind other (count_in_hand p.hands p.side kind - 1)
 
@@ -216,18 +216,22 @@ steps_reach : (cells : Cells) (cell : Option Piece) (a t : ℕ) → cell_steps c
 steps_reach cells None a t e = absurd (cc)
 steps_reach cells (Some piece) a t e = or_left (has_step piece a t) (has_slide cells piece a t) e
 
-right_step : (new : Cells) (color : Color) (a t : ℕ) → is_piece_of color (piece_at new a) ≡ true → is_piece_of color (piece_at new t) ≡ false → reaches new a t ≡ true → is_immobile t (piece_at new a) ≡ false → is_pseudo_legal_board_move new color a t false ≡ true
+pub right_step : (new : Cells) (color : Color) (a t : ℕ) → is_piece_of color (piece_at new a) ≡ true → is_piece_of color (piece_at new t) ≡ false → reaches new a t ≡ true → is_immobile t (piece_at new a) ≡ false → is_pseudo_legal_board_move new color a t false ≡ true
 right_step new color a t own free reach alive = rw (own, free, reach, still t (piece_at new a), alive) refl
 
+-- what a move that ends on a square leaves to the other side: its pieces and its kings stand, it is in no check, and each empty square but that one is still empty
+pub record LeavesStanding (old new : Cells) (color : Color) (to : ℕ) : Type 0 where
+  pub len : length new ≡ 81
+  pub kings : (k : ℕ) → is_king color (piece_at new k) ≡ true → piece_at old k ≡ piece_at new k
+  pub shut : in_check new color ≡ false
+  pub stays : (a : ℕ) → is_piece_of color (piece_at old a) ≡ true → a ≢ to → piece_at new a ≡ piece_at old a
+  pub clear : (t : ℕ) → is_piece_of color (piece_at old t) ≡ false → is_piece_of color (piece_at new t) ≡ false
+  pub empty : (x : ℕ) → is_none (piece_at old x) ≡ true → x ≢ to → is_none (piece_at new x) ≡ true
+
 module _ (old new : Cells) (hands : HandCounts) (color : Color) where
-  replied_step : (to : ℕ) → length new ≡ 81
-      → ((k : ℕ) → is_king color (piece_at new k) ≡ true → piece_at old k ≡ piece_at new k)
-      → in_check new color ≡ false
-      → ((a : ℕ) → is_piece_of color (piece_at old a) ≡ true → a ≢ to → piece_at new a ≡ piece_at old a)
-      → ((t : ℕ) → is_piece_of color (piece_at old t) ≡ false → is_piece_of color (piece_at new t) ≡ false)
-      → (a : ℕ) → a < 81 → a ≢ to → is_spare old color a ≡ true → legal_codes (record { cells = new; hands = hands; side = color }) ≢ []
+  replied_step : (to : ℕ) → LeavesStanding old new color to → (a : ℕ) → a < 81 → a ≢ to → is_spare old color a ≡ true → legal_codes (record { cells = new; hands = hands; side = color }) ≢ []
   unfolding is_spare reaches
-  replied_step to len kings shut stays clear a ha other e =
+  replied_step to k a ha other e =
       let q : Shogi = record { cells = new; hands = hands; side = color } in
       let four = and_parts (is_piece_of color (piece_at old a) && not (is_king color (piece_at old a)) && not (is_aligned_with_king old color a)) (some_below 81 (is_open_step old color a)) e in
       let three = and_parts (is_piece_of color (piece_at old a) && not (is_king color (piece_at old a))) (not (is_aligned_with_king old color a)) four.0 in
@@ -236,30 +240,24 @@ module _ (old new : Cells) (hands : HandCounts) (color : Color) where
       let t = which.0 in
       let step = and_parts (cell_steps (piece_at old a) a which.0 && not (is_piece_of color (piece_at old which.0))) (not (is_immobile which.0 (piece_at old a))) which.2 in
       let walk : (cell_steps (piece_at old a) a which.0 ≡ true) × (not (is_piece_of color (piece_at old which.0)) ≡ true) = and_parts (cell_steps (piece_at old a) a which.0) (not (is_piece_of color (piece_at old which.0))) step.0 in
-      let same : piece_at new a ≡ piece_at old a = stays a two.0 other in
+      let same : piece_at new a ≡ piece_at old a = k.stays a two.0 other in
       let own : is_piece_of color (piece_at new a) ≡ true = ap (is_piece_of color) same ∙ two.0 in
-      let open_end : is_piece_of color (piece_at new which.0) ≡ false = clear which.0 (not-true _ walk.1) in
+      let open_end : is_piece_of color (piece_at new which.0) ≡ false = k.clear which.0 (not-true _ walk.1) in
       let reach : reaches new a which.0 ≡ true = ap (λ cell. cell_reaches new cell a which.0) same ∙ steps_reach new (piece_at old a) a which.0 walk.0 in
       let alive : is_immobile which.0 (piece_at new a) ≡ false = ap (is_immobile which.0) same ∙ not-true _ step.1 in
       let plain : is_king color (piece_at new a) ≡ false = ap (is_king color) same ∙ not-true _ two.1 in
-      let off : is_lined_with_king new color a ≡ false = stays_unlined old new color a ha kings (not-true _ three.1) in
+      let off : is_lined_with_king new color a ≡ false = stays_unlined old new color a ha k.kings (not-true _ three.1) in
       some_legal q (code_of (Board a which.0 false))
       (is_legal_code_of q (code_of (Board a which.0 false)) (Board a which.0 false) (move_of-board a which.0 false ha which.1)
       ∙ (legal_board q a which.0 false
-      ∙ and_from _ _ (right_step new color a which.0 own open_end reach alive) (ap not (quiet_board new color a which.0 false len ha which.1 own plain off shut))))
+      ∙ and_from _ _ (right_step new color a which.0 own open_end reach alive) (ap not (quiet_board new color a which.0 false k.len ha which.1 own plain off k.shut))))
 
-  replied : (to : ℕ) → length new ≡ 81
-      → ((k : ℕ) → is_king color (piece_at new k) ≡ true → piece_at old k ≡ piece_at new k)
-      → in_check new color ≡ false
-      → ((a : ℕ) → is_piece_of color (piece_at old a) ≡ true → a ≢ to → piece_at new a ≡ piece_at old a)
-      → ((t : ℕ) → is_piece_of color (piece_at old t) ≡ false → is_piece_of color (piece_at new t) ≡ false)
-      → ((x : ℕ) → is_none (piece_at old x) ≡ true → x ≢ to → is_none (piece_at new x) ≡ true)
-      → (a : ℕ) → a < 81 → a ≢ to → (is_spare old color a ≡ true) ⊎ ((is_none (piece_at old a) ≡ true) × (holds_free hands color ≡ true)) → legal_codes (record { cells = new; hands = hands; side = color }) ≢ []
-  replied to len kings shut stays clear empty a ha other way = elim way [
-    | inl e ↦ replied_step to len kings shut stays clear a ha other e
+  replied : (to : ℕ) → LeavesStanding old new color to → (a : ℕ) → a < 81 → a ≢ to → (is_spare old color a ≡ true) ⊎ ((is_none (piece_at old a) ≡ true) × (holds_free hands color ≡ true)) → legal_codes (record { cells = new; hands = hands; side = color }) ≢ []
+  replied to k a ha other way = elim way [
+    | inl e ↦ replied_step to k a ha other e
     | inr e ↦ (
         let held = held_kind hands color e.1 in
-        free_drop new hands color held.0 a len ha held.1 held.2 (empty a e.0 other) shut)
+        free_drop new hands color held.0 a k.len ha held.1 held.2 (k.empty a e.0 other) k.shut)
   ]
 
 -- ---- after a board move, and after a drop
@@ -268,29 +266,28 @@ crowned : (color : Color) (cell : Option Piece) → is_piece_of color cell ≡ f
 crowned color None e = refl
 crowned color (Some piece) e = rw e refl
 
-pub replied_board : (p : Shogi) (from to : ℕ) (promote : Bool) (sight spare a : ℕ) → IsValid p → IsReplies p sight spare → from < 81 → to < 81 → is_piece_of p.side (piece_at p.cells from) ≡ true → UncoversNothing p.cells (opponent_of p.side) sight from → IsHarmless p.cells (opponent_of p.side) (piece_moved promote (piece_at p.cells from)) to
-    → a < 81 → has_bit spare a ≡ true → a ≢ to → legal_codes (after p (Board from to promote)) ≢ []
-replied_board p from to promote sight spare a v r hf ht own out off ha some other =
-    replied p.cells (cells_after p.cells p.side (Board from to promote)) (after p (Board from to promote)).hands (opponent_of p.side)
-    to (length-set (set p.cells from None) to w ∙ (length-set p.cells from None ∙ v.cells_fit))
-    crown
-    (shut out)
-    (λ x e ne. elim (see x) [
-      | inl there ↦ absurd (ne there.0)
-      | inr rest ↦ elim rest [
-        | inl here ↦ absurd (both_ways (is_piece_of (opponent_of p.side) (piece_at p.cells from)) (other_side p.side (piece_at p.cells from) own) (subst (λ (y : ℕ). is_piece_of (opponent_of p.side) (piece_at p.cells y) ≡ true) here.0 e))
-        | inr same ↦ same
-      ]
-    ])
-    (λ t e. elim (see t) [
-      | inl there ↦ ap (is_piece_of (opponent_of p.side)) there.1 ∙ other_side p.side w mine
-      | inr rest ↦ elim rest [ inl here ↦ ap (is_piece_of (opponent_of p.side)) here.1 | inr same ↦ ap (is_piece_of (opponent_of p.side)) same ∙ e ]
-    ])
-    (λ x e ne. elim (see x) [
-      | inl there ↦ absurd (ne there.0)
-      | inr rest ↦ elim rest [ inl here ↦ ap is_none here.1 | inr same ↦ ap is_none same ∙ e ]
-    ])
-    a ha other (way_after p (Board from to promote) a (r.spares a ha some))
+pub left_board : (p : Shogi) (from to : ℕ) (promote : Bool) (sight spare : ℕ) → IsValid p → IsReplies p sight spare → from < 81 → to < 81 → is_piece_of p.side (piece_at p.cells from) ≡ true → UncoversNothing p.cells (opponent_of p.side) sight from → IsHarmless p.cells (opponent_of p.side) (piece_moved promote (piece_at p.cells from)) to
+    → LeavesStanding p.cells (cells_after p.cells p.side (Board from to promote)) (opponent_of p.side) to
+left_board p from to promote sight spare v r hf ht own out off = record {
+  len = length-set (set p.cells from None) to w ∙ (length-set p.cells from None ∙ v.cells_fit);
+  kings = crown;
+  shut = shut out;
+  stays = λ x e ne. elim (see x) [
+    | inl there ↦ absurd (ne there.0)
+    | inr rest ↦ elim rest [
+      | inl here ↦ absurd (both_ways (is_piece_of (opponent_of p.side) (piece_at p.cells from)) (other_side p.side (piece_at p.cells from) own) (subst (λ (y : ℕ). is_piece_of (opponent_of p.side) (piece_at p.cells y) ≡ true) here.0 e))
+      | inr same ↦ same
+    ]
+  ];
+  clear = λ t e. elim (see t) [
+    | inl there ↦ ap (is_piece_of (opponent_of p.side)) there.1 ∙ other_side p.side w mine
+    | inr rest ↦ elim rest [ inl here ↦ ap (is_piece_of (opponent_of p.side)) here.1 | inr same ↦ ap (is_piece_of (opponent_of p.side)) same ∙ e ]
+  ];
+  empty = λ x e ne. elim (see x) [
+    | inl there ↦ absurd (ne there.0)
+    | inr rest ↦ elim rest [ inl here ↦ ap is_none here.1 | inr same ↦ ap is_none same ∙ e ]
+  ];
+}
   where
     w : Option Piece
     w = piece_moved promote (piece_at p.cells from)
@@ -334,30 +331,34 @@ replied_board p from to promote sight spare a v r hf ht own out off ha some othe
         ∙ stands_still p.cells (set (set p.cells from None) to (piece_moved promote (piece_at p.cells from))) w to k (still_moved promote (piece_at p.cells from) still.0) (off k l e))
         (faultless_from p v.no_fault).shut still.1
 
-pub replied_drop : (p : Shogi) (kind : Kind) (to sight spare a : ℕ) → IsValid p → IsReplies p sight spare → to < 81 → IsHarmless p.cells (opponent_of p.side) (dropped p.side kind) to
-    → a < 81 → has_bit spare a ≡ true → a ≢ to → legal_codes (after p (Drop kind to)) ≢ []
-replied_drop p kind to sight spare a v r ht off ha some other =
-    replied p.cells (cells_after p.cells p.side (Drop kind to)) (after p (Drop kind to)).hands (opponent_of p.side)
-    to (length-set p.cells to (dropped p.side kind) ∙ v.cells_fit)
-    crown
-    (no_check p.cells (set p.cells to (dropped p.side kind)) (λ x. ⊥)
-    (λ x e. elim (see x) [
-      | inl there ↦ absurd (let clash : false ≡ true = ap is_none (sym there.1) ∙ e in cc)
-      | inr same ↦ inl (ap is_none (sym same) ∙ e)
-    ])
-    (opponent_of p.side) to ht
-    (λ x e. elim (see x) [ inl there ↦ inr there.0 | inr same ↦ inl (sym same) ])
-    crown
-    (λ x left. absurd left)
-    (λ k l e. ap (λ cell. cell_reaches p.cells cell to k) (get_or-set_same p.cells to (dropped p.side kind) None (omega (arith, v.cells_fit))) ∙ off k l e)
-    (faultless_from p v.no_fault).shut)
-    (λ x e ne. elim (see x) [ inl there ↦ absurd (ne there.0) | inr same ↦ same ])
-    (λ t e. elim (see t) [
-      | inl there ↦ ap (is_piece_of (opponent_of p.side)) there.1 ∙ other_side p.side (dropped p.side kind) (dropped_of p.side kind)
-      | inr same ↦ ap (is_piece_of (opponent_of p.side)) same ∙ e
-    ])
-    (λ x e ne. elim (see x) [ inl there ↦ absurd (ne there.0) | inr same ↦ ap is_none same ∙ e ])
-    a ha other (way_after p (Drop kind to) a (r.spares a ha some))
+pub replied_board : (p : Shogi) (from to : ℕ) (promote : Bool) (sight spare a : ℕ) → IsValid p → IsReplies p sight spare → from < 81 → to < 81 → is_piece_of p.side (piece_at p.cells from) ≡ true → UncoversNothing p.cells (opponent_of p.side) sight from → IsHarmless p.cells (opponent_of p.side) (piece_moved promote (piece_at p.cells from)) to
+    → a < 81 → has_bit spare a ≡ true → a ≢ to → legal_codes (after p (Board from to promote)) ≢ []
+replied_board p from to promote sight spare a v r hf ht own out off ha some other =
+    replied p.cells (cells_after p.cells p.side (Board from to promote)) (after p (Board from to promote)).hands (opponent_of p.side)
+    to (left_board p from to promote sight spare v r hf ht own out off) a ha other (way_after p (Board from to promote) a (r.spares a ha some))
+
+pub left_drop : (p : Shogi) (kind : Kind) (to : ℕ) (sight spare : ℕ) → IsValid p → IsReplies p sight spare → to < 81 → IsHarmless p.cells (opponent_of p.side) (dropped p.side kind) to → LeavesStanding p.cells (cells_after p.cells p.side (Drop kind to)) (opponent_of p.side) to
+left_drop p kind to sight spare v r ht off = record {
+  len = length-set p.cells to (dropped p.side kind) ∙ v.cells_fit;
+  kings = crown;
+  shut = no_check p.cells (set p.cells to (dropped p.side kind)) (λ x. ⊥)
+      (λ x e. elim (see x) [
+        | inl there ↦ absurd (let clash : false ≡ true = ap is_none (sym there.1) ∙ e in cc)
+        | inr same ↦ inl (ap is_none (sym same) ∙ e)
+      ])
+      (opponent_of p.side) to ht
+      (λ x e. elim (see x) [ inl there ↦ inr there.0 | inr same ↦ inl (sym same) ])
+      crown
+      (λ x left. absurd left)
+      (λ k l e. ap (λ cell. cell_reaches p.cells cell to k) (get_or-set_same p.cells to (dropped p.side kind) None (omega (arith, v.cells_fit))) ∙ off k l e)
+      (faultless_from p v.no_fault).shut;
+  stays = λ x e ne. elim (see x) [ inl there ↦ absurd (ne there.0) | inr same ↦ same ];
+  clear = λ t e. elim (see t) [
+    | inl there ↦ ap (is_piece_of (opponent_of p.side)) there.1 ∙ other_side p.side (dropped p.side kind) (dropped_of p.side kind)
+    | inr same ↦ ap (is_piece_of (opponent_of p.side)) same ∙ e
+  ];
+  empty = λ x e ne. elim (see x) [ inl there ↦ absurd (ne there.0) | inr same ↦ ap is_none same ∙ e ];
+}
   where
     see : (x : ℕ) → ((x ≡ to) × (piece_at (cells_after p.cells p.side (Drop kind to)) x ≡ dropped p.side kind)) ⊎ (piece_at (cells_after p.cells p.side (Drop kind to)) x ≡ piece_at p.cells x)
     see x = drops.look p.cells p.side kind to v.cells_fit ht x
@@ -367,6 +368,12 @@ replied_drop p kind to sight spare a v r ht off ha some other =
       | inl there ↦ absurd (both_ways (is_king (opponent_of p.side) (dropped p.side kind)) (drops.no_king p.side kind) (ap (is_king (opponent_of p.side)) (sym there.1) ∙ e))
       | inr same ↦ sym same
     ]
+
+pub replied_drop : (p : Shogi) (kind : Kind) (to sight spare a : ℕ) → IsValid p → IsReplies p sight spare → to < 81 → IsHarmless p.cells (opponent_of p.side) (dropped p.side kind) to
+    → a < 81 → has_bit spare a ≡ true → a ≢ to → legal_codes (after p (Drop kind to)) ≢ []
+replied_drop p kind to sight spare a v r ht off ha some other =
+    replied p.cells (cells_after p.cells p.side (Drop kind to)) (after p (Drop kind to)).hands (opponent_of p.side)
+    to (left_drop p kind to sight spare v r ht off) a ha other (way_after p (Drop kind to) a (r.spares a ha some))
 
 -- ---- spare pieces are found one by one
 
@@ -455,7 +462,7 @@ another spare to fits h some =
     (trailing_zeros w128 (bit_and spare (2 ^ 128 - 1 - 1 * 2 ^ to % 2 ^ 128)), low.0, parts.0, λ same. both_ways _ (ap not (eq-eqb _ to same)) parts.1)
 
 -- the legal board move is one of one's own piece
-legal_own : (p : Shogi) (from to : ℕ) (promote : Bool) → is_legal p (Board from to promote) ≡ true → is_piece_of p.side (piece_at p.cells from) ≡ true
+pub legal_own : (p : Shogi) (from to : ℕ) (promote : Bool) → is_legal p (Board from to promote) ≡ true → is_piece_of p.side (piece_at p.cells from) ≡ true
 legal_own p from to promote e =
     let parts = and_parts _ _ (sym (legal_board p from to promote) ∙ e) in
     let four = and_parts _ _ parts.0 in
@@ -474,3 +481,30 @@ pub certain_drop : (p : Shogi) (kind : Kind) (to end sight spare : ℕ) → IsVa
 certain_drop p kind to end sight spare v r ht e off some =
     let a = another spare end r.fits (omega arith) some in
     replied_drop p kind to sight spare a.0 v r ht off a.1 a.2 (λ same. a.3 (same ∙ sym e))
+
+-- ---- squares in a row
+
+-- of two squares that give a move one is another
+pub one_of_two : (spare one rest n : ℕ) → spare < 2 ^ 81 → one < 81 → has_bit spare one ≡ true → ((i : ℕ) → has_bit rest i ≡ (has_bit spare i && not (i == one))) → rest ≢ 0 → rest < spare → (a : ℕ) × (a < 81) × (has_bit spare a ≡ true) × (a ≢ n)
+one_of_two spare one rest n fits h set bits some less = elim (cases_eq n one) [
+  | inl same ↦ (
+      let low = lowest_set rest some (omega arith) in
+      let parts : (has_bit spare (trailing_zeros w128 rest) ≡ true) × (not (trailing_zeros w128 rest == one) ≡ true) = and_parts _ _ (sym (bits (trailing_zeros w128 rest)) ∙ low.1) in
+      (trailing_zeros w128 rest, low.0, parts.0, λ e. both_ways _ (ap not (eq-eqb _ one (e ∙ same))) parts.1))
+  | inr other ↦ (one, h, set, λ e. other (sym e))
+]
+
+pub other_than : (spare one n : ℕ) → one < 81 → has_bit spare one ≡ true → not (n == one) ≡ true → (a : ℕ) × (a < 81) × (has_bit spare a ≡ true) × (a ≢ n)
+other_than spare one n h set other = (one, h, set, λ e. both_ways _ (ap not (eq-eqb n one (sym e))) other)
+
+pub unseen_bit : (sight n : ℕ) → sight < 2 ^ 128 → n < 81 → has_bit (2 ^ 128 - 1 - sight) n ≡ true → has_bit sight n ≡ false
+unseen_bit sight n fits h e = false_from_ne_true (has_bit sight n) (λ seen. both_ways (has_bit (2 ^ 128 - 1 - sight) n) (has_bit-not sight n fits (omega arith) ∙ ap not seen) e)
+
+-- what moves to an open square, or is dropped there, is answered
+pub open_board : (p : Shogi) (from n sight spare : ℕ) → IsValid p → IsReplies p sight spare → from < 81 → n < 81 → UncoversNothing p.cells (opponent_of p.side) sight from → IsOpen sight spare n → IsAnswered p (Board from n false)
+open_board p from n sight spare v r hf hn out o = λ legal.
+    replied_board p from n false sight spare o.way.0 v r hf hn (legal_own p from n false legal) out (harmless_far p.cells (opponent_of p.side) sight (piece_moved false (piece_at p.cells from)) n r.sees hn o.unseen) o.way.1 o.way.2 o.way.3
+
+pub open_drop : (p : Shogi) (kind : Kind) (n sight spare : ℕ) → IsValid p → IsReplies p sight spare → n < 81 → IsOpen sight spare n → IsAnswered p (Drop kind n)
+open_drop p kind n sight spare v r hn o = λ legal.
+    replied_drop p kind n sight spare o.way.0 v r hn (harmless_far p.cells (opponent_of p.side) sight (dropped p.side kind) n r.sees hn o.unseen) o.way.1 o.way.2 o.way.3

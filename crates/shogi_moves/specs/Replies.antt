@@ -1,5 +1,6 @@
 -- What is kept of a position to tell that after most of its moves the other side is in no check and has a legal move.
-use Rattle.std.specs.Prelude.{ℕ, ◌≡◌, ◌<◌, ◌^◌, ◌⊎◌, ◌&&◌, ◌||◌, Bool, true, false, not, nat_lt, Option, Some, None, is_none}
+use Rattle.std.specs.Prelude.{ℕ, ◌≡◌, ◌≢◌, ◌<◌, ◌^◌, ◌⊎◌, ◌&&◌, ◌||◌, Bool, true, false, not, nat_lt, Option, Some, None, is_none, []}
+use Rattle.shogi_core.specs.declared.moves.Move.{Move}
 use Rattle.shogi_core.specs.declared.piece.Color.{Color}
 use Rattle.shogi_core.specs.declared.piece.Kind.{Kind}
 use Rattle.shogi_core.specs.declared.piece.Kind.TheVariants.{Silver, Gold, Bishop, Rook}
@@ -12,6 +13,9 @@ use Rattle.shogi_core.specs.Lines.{are_aligned, are_lined, is_seen}
 use Rattle.shogi_core.specs.Movement.{Cells, piece_at, cell_reaches, has_step}
 use Rattle.shogi_core.specs.Pieces.{opponent_of}
 use Rattle.shogi_core.specs.Position.{Shogi, HandCounts, count_in_hand}
+use Rattle.shogi_moves.specs.After.{after}
+use Rattle.shogi_moves.specs.Legal.{is_legal}
+use Rattle.shogi_moves.specs.LegalMoves.{legal_codes}
 
 -- a step or a jump of what stands on a leads to t
 abbrev pub cell_steps : Option Piece → ℕ → ℕ → Bool
@@ -77,3 +81,12 @@ pub record IsReplies (p : Shogi) (sight spare : ℕ) : Type 0 where
   pub sees : Sees p.cells (opponent_of p.side) 0 sight
   pub spares : (a : ℕ) → a < 81 → has_bit spare a ≡ true → is_way p (opponent_of p.side) a ≡ true
   pub fits : spare < 2 ^ 81
+
+-- no king of the side sees the square, and another one gives the side a move
+pub record IsOpen (sight spare n : ℕ) : Type 0 where
+  pub unseen : has_bit sight n ≡ false
+  pub way : (a : ℕ) × (a < 81) × (has_bit spare a ≡ true) × (a ≢ n)
+
+-- if the move is legal, the other side has a legal move after it
+abbrev pub IsAnswered : Shogi → Move → Type 0
+IsAnswered p m = is_legal p m ≡ true → legal_codes (after p m) ≢ []

@@ -1,7 +1,6 @@
 -- What is kept on the way through the moves of a sort: the ends still to come of the present piece.
-use Rattle.std.specs.Prelude.{ℕ, zero, suc, ◌≡◌, ◌≢◌, ◌≤◌, ◌<◌, ◌+◌, ◌*◌, ◌/◌, ◌%◌, ◌^◌, Bool, true, false, List, [], ◌∷◌, filter}
+use Rattle.std.specs.Prelude.{ℕ, ◌≡◌, ◌≢◌, ◌≤◌, ◌<◌, ◌+◌, ◌*◌, ◌/◌, ◌%◌, ◌^◌, ◌⊎◌, Bool, true, false, List, [], ◌∷◌, filter}
 use Rattle.shogi_core.specs.declared.moves.TheConstants.{FIRST_DROP, SQUARE_CODES}
-use Rattle.shogi_core.specs.declared.moves.Move.{Move}
 use Rattle.shogi_core.specs.declared.moves.Move.TheVariants.{Board, Drop}
 use Rattle.shogi_core.specs.declared.piece.Kind.{Kind}
 use Rattle.shogi_core.specs.Bits.{has_bit}
@@ -52,11 +51,6 @@ pub record IsDropSweep (p : Shogi) (s : DropSweep) : Type 0 where
   pub guard : Guards p s.guard.checked s.guard.exposed
   pub ends : KeepsDrop p s.kind s.code s.ends
 
--- the move is on the board and does not promote, from a code on
-abbrev pub IsPlainMove : ℕ → Move → Type 0
-IsPlainMove first (Board from to promote) = (promote ≡ false) × ((from < 81) × ((to < 81) × (first ≤ code_of (Board from to promote))))
-IsPlainMove first (Drop kind to) = ⊥
-
 -- the code is that of a legal move on the board, from a code on, that takes nothing and does not promote, after which the other side has a legal move
 pub record IsCertainQuiet (p : Shogi) (first code : ℕ) : Type 0 where
   pub above : first ≤ code
@@ -64,11 +58,6 @@ pub record IsCertainQuiet (p : Shogi) (first code : ℕ) : Type 0 where
   pub plain : code % 2 ≡ 0
   pub quiet : is_wanted p false code ≡ true
   pub replied : legal_codes (after_code p code) ≢ []
-
--- the move is a drop of the kind, from a code on
-abbrev pub IsDropOf : Kind → ℕ → Move → Type 0
-IsDropOf kind first (Board from to promote) = ⊥
-IsDropOf kind first (Drop other to) = (other ≡ kind) × ((to < 81) × (first ≤ code_of (Drop other to)))
 
 -- the code is that of a legal drop of the kind, from a code on, after which the other side has a legal move
 pub record IsCertainDrop (p : Shogi) (kind : Kind) (first code : ℕ) : Type 0 where
@@ -78,8 +67,12 @@ pub record IsCertainDrop (p : Shogi) (kind : Kind) (first code : ℕ) : Type 0 w
   pub legal : is_legal_code p code ≡ true
   pub replied : legal_codes (after_code p code) ≢ []
 
--- so many codes of a list are passed, of each of which a fact holds, and these are left
-abbrev pub IsPassed : (ℕ → Type 0) → ℕ → List ℕ → List ℕ → Type 0
-IsPassed fact zero codes left = codes ≡ left
-IsPassed fact (suc n) [] left = ⊥
-IsPassed fact (suc n) (code ∷ codes) left = fact code × IsPassed fact n codes left
+-- the first codes of a list are passed, of each of which a fact holds, and these are left
+abbrev pub IsPassed : (ℕ → Type 0) → List ℕ → List ℕ → Type 0
+IsPassed fact [] left = [] ≡ left
+IsPassed fact (code ∷ codes) left = (code ∷ codes ≡ left) ⊎ (fact code × IsPassed fact codes left)
+
+-- the certain quiet moves below another code are passed
+pub record IsPassedTo (p : Shogi) (code next : ℕ) : Type 0 where
+  pub up : code ≤ next
+  pub passed : (first : ℕ) → first ≤ code → IsPassed (IsCertainQuiet p first) (wanted_from p false code) (wanted_from p false next)

@@ -13,6 +13,7 @@ mod next;
 mod replies;
 mod safe;
 mod sweep;
+mod threats;
 mod walk;
 mod zones;
 
@@ -26,4 +27,5 @@ pub use legal::{is_legal, play};
 pub use next::next_legal;
 pub use replies::Replies;
 pub use sweep::{BoardSweep, DropSweep};
+pub use threats::{threatened_by, unpinnable_pieces};
 pub use walk::Walk;

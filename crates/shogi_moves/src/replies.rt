@@ -1,6 +1,8 @@
 //! Whether the other side surely has a legal move after a move, without making it.
 
 ghost use Rattle.std.specs.Prelude.{◌≡◌, ◌≢◌, ◌<◌, ◌^◌, ℕ, [], true, false};
+ghost use Rattle.shogi_core.specs.declared.moves.Move.TheVariants as moves;
+ghost use Rattle.shogi_core.specs.declared.piece.Kind.{Kind};
 ghost use Rattle.shogi_core.specs.Below.{some_below};
 ghost use Rattle.shogi_core.specs.Bits.{has_bit};
 ghost use Rattle.shogi_core.specs.Cell.{is_slider};
@@ -9,11 +11,12 @@ ghost use Rattle.shogi_core.specs.Pieces.{opponent_of};
 ghost use Rattle.shogi_moves.specs.After.{after};
 ghost use Rattle.shogi_moves.specs.Legal.{is_legal};
 ghost use Rattle.shogi_moves.specs.LegalMoves.{legal_codes};
-ghost use Rattle.shogi_moves.specs.Replies.{holds_free, is_open_step, is_spare, Sees, Aligns, IsReplies, IsHarmless, StaysCovered, UncoversNothing};
+ghost use Rattle.shogi_moves.specs.Replies.{holds_free, is_open_step, is_spare, Sees, Aligns, IsReplies, IsHarmless, IsOpen, StaysCovered, UncoversNothing, IsAnswered};
+ghost use Rattle.shogi_moves.specs.Threats.{IsThreat, LeavesThreat, MayTake};
 
 use crate::after::{dropped, piece_moved};
 use crate::zones::dead_squares;
-use shogi_core::bits::{ALL_SQUARES, cleared, has, lowest, without_lowest};
+use shogi_core::bits::{ALL_SQUARES, cleared, has, lowest, without, without_lowest};
 use shogi_core::{Color, Kind, Move, Piece, Position, Square, aligned_squares, step_squares};
 
 /// What is kept of a position to tell that after most of its moves the other side is in no check
@@ -42,7 +45,7 @@ fn sight_squares(p: &Position, side: Color) -> u128
 
 /// The squares of kings of the side, and of lines with them, whatever stands between.
 #[tactic(auto, using(crate::proofs::ReplyLaws::aligning))]
-fn line_squares(p: &Position, side: Color) -> u128
+pub fn line_squares(p: &Position, side: Color) -> u128
     ensures { Aligns p.now.cells side 0 result }
 {
     let mut left = p.kings(side);
@@ -179,12 +182,14 @@ impl Replies {
         }
     }
 
-    /// Whether it is certain that the other side has a legal move after the legal move.
+    /// Whether it is certain that after the legal move the other side is in no check and has a legal move.
+    /// Then it may carry out each of its threats that the move leaves.
     #[inline(always)]
     pub fn is_certain(&self, p: &Position, m: &Move) -> bool
         requires kept { IsReplies p.now self.now.sight self.now.spare }
         requires legal { is_legal p.now m.now ≡ true }
-        ensures { result ≡ true → legal_codes (after p.now m.now) ≢ [] }
+        ensures replied { result ≡ true → legal_codes (after p.now m.now) ≢ [] }
+        ensures threats { result ≡ true → (a t : ℕ) → IsThreat p.now a t → LeavesThreat p.now a t m.now → MayTake (after p.now m.now) a t (piece_at p.now.cells t) }
     {
         p.validity();
         match m {
@@ -207,5 +212,48 @@ impl Replies {
                 self.spare & !(1 << end) != 0
             }
         }
+    }
+
+    /// The squares where what comes to stand surely gives no check, and which leave the other side a
+    /// square that gives it a move.
+    fn open_squares(&self) -> u128
+        requires { self.now.spare < 2 ^ 81 }
+        ensures { (n : ℕ) → n < 81 → has_bit result n ≡ true → IsOpen self.now.sight self.now.spare n }
+    {
+        if self.spare == 0 {
+            return 0;
+        }
+        let one = lowest(self.spare);
+        if without_lowest(self.spare, one) != 0 {
+            return !self.sight;
+        }
+        without(!self.sight, one)
+    }
+
+    /// Those of the squares to which what stands on a square may move without promotion so that the other
+    /// side surely has a legal move after it.
+    pub fn certain_ends(&self, p: &Position, from: Square, ends: u128) -> u128
+        requires kept { IsReplies p.now self.now.sight self.now.spare }
+        ensures among { (n : ℕ) → has_bit result n ≡ true → has_bit ends n ≡ true }
+        ensures certain { (n : ℕ) → n < 81 → has_bit result n ≡ true → IsAnswered p.now (moves.Board from n false) }
+    {
+        p.validity();
+        from.validity();
+        let open = ends & self.open_squares();
+        if open == 0 || !self.uncovers_nothing(p, from) {
+            return 0;
+        }
+        open
+    }
+
+    /// Those of the squares on which a piece may be dropped so that the other side surely has a legal move
+    /// after it.
+    pub fn certain_drops(&self, p: &Position, ends: u128) -> u128
+        requires kept { IsReplies p.now self.now.sight self.now.spare }
+        ensures among { (n : ℕ) → has_bit result n ≡ true → has_bit ends n ≡ true }
+        ensures certain { (k : Kind) (n : ℕ) → n < 81 → has_bit result n ≡ true → IsAnswered p.now (moves.Drop k n) }
+    {
+        p.validity();
+        ends & self.open_squares()
     }
 }

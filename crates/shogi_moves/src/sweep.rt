@@ -1,6 +1,6 @@
 //! Ways through the legal moves of a sort, which keep the ends of the present piece.
 
-ghost use Rattle.std.specs.Prelude.{◌≡◌, ◌≢◌, ◌<◌, ◌≤◌, ◌+◌, ◌*◌, ◌^◌, ◌∷◌, [], ℕ, true, false, IfSome, IsNone, MatchOption, bit_or};
+ghost use Rattle.std.specs.Prelude.{◌≡◌, ◌≢◌, ◌<◌, ◌≤◌, ◌+◌, ◌*◌, ◌^◌, ◌∷◌, [], ℕ, true, false, IfSome, MatchOption, bit_or};
 ghost use Rattle.shogi_core.specs.declared.moves.TheConstants.{FIRST_DROP};
 ghost use Rattle.shogi_core.specs.declared.moves.Move.TheVariants as moves;
 ghost use Rattle.shogi_core.specs.Bits.{has_bit};
@@ -10,16 +10,15 @@ ghost use Rattle.shogi_core.specs.Movement.{piece_at};
 ghost use Rattle.shogi_core.specs.Pieces.{kind_number};
 ghost use Rattle.shogi_moves.specs.Captures.{is_wanted, HasNoneWanted};
 ghost use Rattle.shogi_moves.specs.Guards.{Guards};
-ghost use Rattle.shogi_moves.specs.After.{after};
 ghost use Rattle.shogi_moves.specs.Legal.{is_legal};
-ghost use Rattle.shogi_moves.specs.LegalMoves.{legal_codes};
 ghost use Rattle.shogi_moves.specs.Replies.{IsReplies};
-ghost use Rattle.shogi_moves.specs.Sweeps.{wanted_from, IsBoardSweep, IsDropSweep, IsPlainMove, IsCertainQuiet, IsDropOf, IsCertainDrop, IsPassed};
+ghost use Rattle.shogi_moves.specs.Sweeps.{wanted_from, IsBoardSweep, IsDropSweep, IsCertainQuiet, IsCertainDrop, IsPassed, IsPassedTo};
 
 use crate::ends::{Ends, board_ends, drop_ends, ends_among, ends_of_sort};
 use crate::guard::{Guard, guard_of};
 use crate::next::code_above;
 use crate::replies::Replies;
+use crate::zones::promoting_squares;
 use shogi_core::bits::{has, lowest, up_to_lowest, with, without_lowest};
 use shogi_core::{FIRST_DROP, Kind, Move, Position, SQUARE_CODES, Square, is_piece_of};
 
@@ -73,6 +72,21 @@ fn bits_above(mask: u128, n: usize) -> u128
     mask & !up_to_lowest(with(0, n))
 }
 
+/// Those bits of the mask that are not below bit n.
+fn bits_from(mask: u128, n: usize) -> u128
+    requires n { n < 81 }
+    requires fits { mask < 2 ^ 81 }
+    ensures fits { result < 2 ^ 81 }
+    ensures from { (i : ℕ) → i < 81 → n ≤ i → has_bit result i ≡ has_bit mask i }
+    ensures below { (i : ℕ) → i < n → has_bit result i ≡ false }
+{
+    if n == 0 {
+        mask
+    } else {
+        bits_above(mask, n - 1)
+    }
+}
+
 impl BoardSweep {
     /// Through all board moves of the sort.
     #[tactic(auto, using(crate::proofs::SweepLaws::sweeping))]
@@ -99,8 +113,6 @@ impl BoardSweep {
         ensures kept { IsBoardSweep p.now capture self.new }
         ensures next { wanted_from p.now capture self.old.code ≡ code_of result ∷ wanted_from p.now capture self.new.code }
         ensures legal { is_legal p.now result ≡ true }
-        ensures plain { self.old.ends.promoting ≡ 0 → IsPlainMove self.old.code result }
-        ensures code { self.new.code ≡ code_of result + 1 }
     {
         let (from, plain, promoting) = (self.from, self.ends.plain, self.ends.promoting);
         from.validity();
@@ -135,8 +147,6 @@ impl BoardSweep {
         ensures kept { IsBoardSweep p.now capture self.new }
         ensures some { result ≡ true → (bit_or self.new.ends.plain self.new.ends.promoting ≢ 0) × (wanted_from p.now capture self.old.code ≡ wanted_from p.now capture self.new.code) }
         ensures end { result ≡ false → wanted_from p.now capture self.old.code ≡ wanted_from p.now capture FIRST_DROP }
-        ensures rises { self.old.code ≤ self.new.code }
-        ensures stays { result ≡ false → self.new.code ≡ self.old.code }
     {
         p.validity();
         let sort = ends_of_sort(p, capture);
@@ -176,66 +186,72 @@ impl BoardSweep {
         Some(self.take(p, capture))
     }
 
-    /// The next of the moves, where it is one of the present piece after which the other side surely has
-    /// a legal move. Otherwise `None`, and the next one is still to come.
-    #[inline(always)]
-    pub fn next_certain(&mut self, p: &Position, capture: bool, replies: &Replies) -> Option<Move>
-        requires kept { IsBoardSweep p.now capture self.old }
-        requires replies { IsReplies p.now replies.now.sight replies.now.spare }
-        ensures kept { IsBoardSweep p.now capture self.new }
-        ensures none { IsNone result → self.new ≡ self.old }
-        ensures next { IfSome result (λ m. wanted_from p.now capture self.old.code ≡ code_of m ∷ wanted_from p.now capture self.new.code) }
-        ensures legal { IfSome result (λ m. is_legal p.now m ≡ true) }
-        ensures certain { IfSome result (λ m. legal_codes (after p.now m) ≢ []) }
-        ensures plain { self.old.ends.promoting ≡ 0 → IfSome result (IsPlainMove self.old.code) }
-        ensures code { IfSome result (λ m. self.new.code ≡ code_of m + 1) }
-    {
-        let Ends { plain, promoting } = self.ends;
-        if plain | promoting == 0 {
-            return None;
-        }
-        let mut ahead = *self;
-        let m = ahead.take(p, capture);
-        if replies.is_certain(p, &m) {
-            *self = ahead;
-            return Some(m);
-        }
-        None
-    }
-
-    /// Goes on to the next piece where the present one has no end left, and tells whether the present one
-    /// has ends and none of them by promotion.
-    #[inline(always)]
-    fn is_at_plain(&mut self, p: &Position) -> bool
+    /// Passes the ends of the present piece, none of which is by promotion, up to the first after which it
+    /// is not certain that the other side has a legal move.
+    fn pass_ends(&mut self, p: &Position, replies: &Replies)
         requires kept { IsBoardSweep p.now false self.old }
-        ensures kept { IsBoardSweep p.now false self.new }
-        ensures same { wanted_from p.now false self.old.code ≡ wanted_from p.now false self.new.code }
-        ensures rises { self.old.code ≤ self.new.code }
-        ensures plain { result ≡ true → self.new.ends.promoting ≡ 0 }
-    {
-        if self.ends.plain | self.ends.promoting == 0 && !self.refill(p, false) {
-            return false;
-        }
-        self.ends.promoting == 0
-    }
-
-    /// Passes the next of the moves that take nothing, as long as they do not promote and the other side
-    /// surely has a legal move after them, at most so many. Gives their number.
-    pub fn pass_quiets(&mut self, p: &Position, replies: &Replies, most: u64) -> u64
-        requires kept { IsBoardSweep p.now false self.old }
+        requires plain { self.old.ends.promoting ≡ 0 }
         requires replies { IsReplies p.now replies.now.sight replies.now.spare }
         ensures kept { IsBoardSweep p.now false self.new }
-        ensures most { result ≤ most }
-        ensures passed { IsPassed (IsCertainQuiet p.now self.old.code) result (wanted_from p.now false self.old.code) (wanted_from p.now false self.new.code) }
+        ensures plain { self.new.ends.promoting ≡ 0 }
+        ensures passed { IsPassedTo p.now self.old.code self.new.code }
     {
-        let mut passed = 0;
-        'quiets: while passed < most
-            && self.is_at_plain(p)
-            && self.next_certain(p, false, replies).is_some()
-        {
-            passed += 1;
+        let (from, plain) = (self.from, self.ends.plain);
+        from.validity();
+        let first = from.index() as u16 * SQUARE_CODES;
+        let uncertain = plain & !replies.certain_ends(p, from, plain);
+        if uncertain == 0 {
+            self.ends.plain = 0;
+            self.code = first + SQUARE_CODES;
+            return;
         }
-        passed
+        let to = lowest(uncertain);
+        self.ends.plain = bits_from(plain, to);
+        self.code = first + 2 * to as u16;
+    }
+
+    /// Passes all moves of the next pieces, as long as a piece can promote by none of them and it is certain
+    /// of each square that it reaches that the other side has a legal move after it. Which of the moves are
+    /// legal need not be known.
+    fn pass_pieces(&mut self, p: &Position, replies: &Replies)
+        requires kept { IsBoardSweep p.now false self.old }
+        requires none { (self.old.ends.plain ≡ 0) × (self.old.ends.promoting ≡ 0) }
+        requires replies { IsReplies p.now replies.now.sight replies.now.spare }
+        ensures kept { IsBoardSweep p.now false self.new }
+        ensures passed { IsPassedTo p.now self.old.code self.new.code }
+    {
+        p.validity();
+        let free = ends_of_sort(p, false);
+        let mut left = bits_above(p.own(p.side()), self.from.index());
+        'squares: while left != 0 {
+            let square = lowest(left);
+            let from = Square::of_index(square);
+            let among = p.targets(from) & free;
+            let promoting = promoting_squares(p.at(from), from);
+            if among & (promoting | !replies.certain_ends(p, from, among)) != 0 {
+                return;
+            }
+            self.from = from;
+            self.code = square as u16 * SQUARE_CODES + SQUARE_CODES;
+            left = without_lowest(left, square);
+        }
+    }
+
+    /// Passes the next of the moves that take nothing, as long as they do not promote and it is certain
+    /// by a look at squares alone that the other side has a legal move after them.
+    pub fn pass_quiets(&mut self, p: &Position, replies: &Replies)
+        requires kept { IsBoardSweep p.now false self.old }
+        requires replies { IsReplies p.now replies.now.sight replies.now.spare }
+        ensures kept { IsBoardSweep p.now false self.new }
+        ensures passed { IsPassed (IsCertainQuiet p.now self.old.code) (wanted_from p.now false self.old.code) (wanted_from p.now false self.new.code) }
+    {
+        if self.ends.promoting != 0 {
+            return;
+        }
+        self.pass_ends(p, replies);
+        if self.ends.plain == 0 {
+            self.pass_pieces(p, replies);
+        }
     }
 }
 
@@ -278,9 +294,6 @@ impl DropSweep {
         ensures kept { IsDropSweep p.now self.new }
         ensures next { wanted_from p.now false self.old.code ≡ code_of result ∷ wanted_from p.now false self.new.code }
         ensures legal { is_legal p.now result ≡ true }
-        ensures drop { IsDropOf self.old.kind self.old.code result }
-        ensures kind { self.new.kind ≡ self.old.kind }
-        ensures code { self.new.code ≡ code_of result + 1 }
     {
         let (kind, ends) = (self.kind, self.ends);
         let to = lowest(ends);
@@ -330,47 +343,25 @@ impl DropSweep {
         }
         Some(self.take(p))
     }
-    /// The next of the drops, where it is one of the present kind after which the other side surely has a
-    /// legal move. Otherwise `None`, and the next one is still to come.
-    #[inline(always)]
-    pub fn next_certain(&mut self, p: &Position, replies: &Replies) -> Option<Move>
+
+    /// Passes the drops of the present kind, up to the first after which it is not certain by a look at
+    /// squares alone that the other side has a legal move.
+    pub fn pass_certain(&mut self, p: &Position, replies: &Replies)
         requires kept { IsDropSweep p.now self.old }
         requires replies { IsReplies p.now replies.now.sight replies.now.spare }
         ensures kept { IsDropSweep p.now self.new }
-        ensures none { IsNone result → self.new ≡ self.old }
-        ensures next { IfSome result (λ m. wanted_from p.now false self.old.code ≡ code_of m ∷ wanted_from p.now false self.new.code) }
-        ensures legal { IfSome result (λ m. is_legal p.now m ≡ true) }
-        ensures certain { IfSome result (λ m. legal_codes (after p.now m) ≢ []) }
-        ensures drop { IfSome result (IsDropOf self.old.kind self.old.code) }
-        ensures kind { self.new.kind ≡ self.old.kind }
-        ensures code { IfSome result (λ m. self.new.code ≡ code_of m + 1) }
+        ensures passed { IsPassed (IsCertainDrop p.now self.old.kind self.old.code) (wanted_from p.now false self.old.code) (wanted_from p.now false self.new.code) }
     {
         let ends = self.ends;
-        if ends == 0 {
-            return None;
+        let first = FIRST_DROP + self.kind.number() as u16 * 81;
+        let uncertain = ends & !replies.certain_drops(p, ends);
+        if uncertain == 0 {
+            self.ends = 0;
+            self.code = first + 81;
+            return;
         }
-        let mut ahead = *self;
-        let m = ahead.take(p);
-        if replies.is_certain(p, &m) {
-            *self = ahead;
-            return Some(m);
-        }
-        None
-    }
-
-    /// Passes the next of the drops, as long as they are of the present kind and the other side surely has
-    /// a legal move after them, at most so many. Gives their number.
-    pub fn pass_certain(&mut self, p: &Position, replies: &Replies, most: u64) -> u64
-        requires kept { IsDropSweep p.now self.old }
-        requires replies { IsReplies p.now replies.now.sight replies.now.spare }
-        ensures kept { IsDropSweep p.now self.new }
-        ensures most { result ≤ most }
-        ensures passed { IsPassed (IsCertainDrop p.now self.old.kind self.old.code) result (wanted_from p.now false self.old.code) (wanted_from p.now false self.new.code) }
-    {
-        let mut passed = 0;
-        'drops: while passed < most && self.next_certain(p, replies).is_some() {
-            passed += 1;
-        }
-        passed
+        let to = lowest(uncertain);
+        self.ends = bits_from(ends, to);
+        self.code = first + to as u16;
     }
 }

@@ -16,7 +16,7 @@ use Rattle.shogi_search.specs.Minimax.{negated, sum_of_tree_sizes, tree_size}
 use Rattle.shogi_search.specs.Order.{todo}
 use Rattle.shogi_search.specs.Window.{threshold, code_at}
 use Rattle.shogi_search.specs.Stack.{IsAt, IsSame, IsChain, WhereAsked, left_of_frame, left_of_waiting}
-use Rattle.shogi_search.proofs.MinimaxLaws.{sum_of_tree_sizes-next, tree_size-leaf}
+use Rattle.shogi_search.proofs.MinimaxLaws.{sum_of_tree_sizes-next}
 
 -- a node is the child that another one has asked for by this move
 pub record IsChild (f q : Frame) (m : Move) : Type 0 where
@@ -140,16 +140,6 @@ moves_same f g s k =
 -- without a leaf to be taken in, no more is left than with one
 pub left_same : (f g : Frame) → IsSame f g → g.picker ≡ f.picker → left_of_waiting g.waiting ≡ 0 → left_of_frame g ≤ left_of_frame f
 left_same f g s k v = omega (arith, moves_same f g s k, v)
-
--- a leaf that is taken in at once, with its two steps
-pub left_passed : (f g : Frame) (m : Move) (k : MovePicker) → f.depth ≡ 1 → f.waiting ≡ Next → IsSame f g → todo f.node.position f.picker ≡ code_of m ∷ todo f.node.position k → g.picker ≡ k → left_of_waiting g.waiting ≡ 0 → left_of_frame g + 2 ≡ left_of_frame f
-left_passed f g m k last next s n on none =
-    let all : sum_of_tree_sizes f.node.position (f.depth - 1) (todo f.node.position f.picker) ≡ tree_size (after_code f.node.position (code_of m)) (f.depth - 1) + sum_of_tree_sizes f.node.position (f.depth - 1) (todo f.node.position k) = sum_of_tree_sizes-next f.node.position (f.depth - 1) (code_of m) (after_code f.node.position (code_of m)) _ _ refl n in
-    let rest : sum_of_tree_sizes g.node.position (g.depth - 1) (todo g.node.position g.picker) ≡ sum_of_tree_sizes f.node.position (f.depth - 1) (todo f.node.position k) = ap (λ (x : Evaluated). sum_of_tree_sizes x.position (g.depth - 1) (todo x.position g.picker)) s.0 ∙ ap (λ (x : ℕ). sum_of_tree_sizes f.node.position (x - 1) (todo f.node.position g.picker)) s.1.0 ∙ ap (λ (x : MovePicker). sum_of_tree_sizes f.node.position (f.depth - 1) (todo f.node.position x)) on in
-    let low : f.depth - 1 ≡ 0 = omega (arith, last) in
-    let one : tree_size (after_code f.node.position (code_of m)) (f.depth - 1) ≡ 1 = ap (tree_size (after_code f.node.position (code_of m))) low ∙ tree_size-leaf (after_code f.node.position (code_of m)) in
-    let before : left_of_waiting f.waiting ≡ 0 = ap left_of_waiting next in
-    omega (arith, all, rest, none, one, before)
 
 -- a leaf that is valued and not taken in yet
 pub left_heard : (f g : Frame) → IsSame f g → g.picker ≡ f.picker → left_of_frame g ≤ left_of_frame f + 1

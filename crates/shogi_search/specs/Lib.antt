@@ -3,8 +3,10 @@ pub mod Entries
 pub mod Window
 pub mod Order
 pub mod Visits
+pub mod Losses
 pub mod Stack
 pub mod Entered
 pub mod Progress
 pub mod SlicedSearch
+pub mod Threats
 pub mod Ranked

@@ -4,16 +4,21 @@ ghost use Rattle.std.specs.Prelude.{◌≡◌, ◌≤◌, ◌<◌, ◌-◌, ◌+
 ghost use Rattle.std.specs.Option.{ForSome};
 ghost use Rattle.std.proofs.Props.{props};
 ghost use Rattle.shogi_core.specs.Codes.{code_of};
+ghost use Rattle.shogi_core.specs.Movement.{piece_at};
+ghost use Rattle.shogi_core.specs.Pieces.{opponent_of};
+ghost use Rattle.shogi_core.specs.Position.{count_in_hand};
 ghost use Rattle.shogi_core.specs.Validity.{IsValid};
 ghost use Rattle.shogi_moves.specs.After.{after, after_code};
 ghost use Rattle.shogi_moves.specs.LegalMoves.{legal_codes};
 ghost use Rattle.shogi_moves.specs.Replies.{IsReplies};
 ghost use Rattle.shogi_moves.specs.Rising.{is_in};
-ghost use Rattle.shogi_core.specs.declared.piece.Kind.{Kind};
+ghost use Rattle.shogi_moves.specs.Threats.{MayTake};
 ghost use Rattle.shogi_eval.specs.Material.{drop_gain};
 ghost use Rattle.shogi_eval.specs.declared.points.TheConstants.{POINTS_MAX};
 ghost use Rattle.shogi_search.specs.Minimax.{value, tree_size, worth, negated, sum_of_tree_sizes, IsTrueEntry};
 ghost use Rattle.shogi_search.specs.Entries.{IsCutoff};
+ghost use Rattle.shogi_search.specs.Losses.{LosesAtMost};
+ghost use Rattle.shogi_search.specs.Threats.{IsThreatIn};
 ghost use Rattle.shogi_search.specs.Order.{todo, IsKept, IsKept-prop};
 ghost use Rattle.shogi_search.specs.Visits.{IsKnownWhile, IsKnownWhile-prop, IsCurrent, IsFree, IsOver};
 ghost use Rattle.shogi_search.specs.Window.{threshold, code_at};
@@ -22,9 +27,10 @@ ghost use Rattle.shogi_search.specs.declared.bounds.TheConstants.{SEARCH_DEPTH_M
 use crate::bounds::MATE;
 use crate::memo::Entry;
 use crate::move_picker::MovePicker;
+use crate::threat::{Threat, greatest_threat};
 use crate::window::{threshold, threshold_at};
-use shogi_core::Move;
-use shogi_eval::{Eval, Node};
+use shogi_core::{Color, Kind, Move, Position};
+use shogi_eval::{Eval, Node, drop_gain};
 use shogi_moves::{Replies, has_legal};
 
 /// What a node waits for.
@@ -56,6 +62,10 @@ pub struct Frame {
     pub replies: Replies,
     /// Set once the replies tell of the position.
     pub has_replies: bool,
+    /// A capture that the other side may make after most moves, if one was found.
+    pub threat: Option<Threat>,
+    /// Set once it was looked for.
+    pub has_threat: bool,
     ghost valid: { IsValid node.position },
     ghost shallow: { depth ≤ SEARCH_DEPTH_MAX },
     ghost least: { negated INFINITY ≤ℤ alpha },
@@ -65,6 +75,7 @@ pub struct Frame {
     ghost moves: { has_move ≡ true → legal_codes node.position ≢ [] } by { Prim.hlevel props },
     ghost kept: { IsKept node.position picker } by { IsKept-prop node.position picker },
     ghost replied: { IsReplies node.position replies.sight replies.spare } by { Prim.hlevel props },
+    ghost threatened: { ForSome threat (IsThreatIn node.position node.eval) } by { Prim.hlevel props },
 }
 
 /// Whether some move is legal.
@@ -95,15 +106,45 @@ fn replies_of(node: &Node, ahead: bool) -> Replies
     }
 }
 
-/// The most that a drop loses of the material of its side.
-fn loss_of_drops(e: Eval) -> i32
-    ensures loss { (kind : Kind) → negated result ≤ℤ drop_gain e kind }
+/// The greater of the loss and what a drop of the kind loses under `Hand`, where the side holds one.
+#[inline(always)]
+fn with_loss_of_kind(p: &Position, side: Color, kind: Kind, loss: u32) -> u32
+    requires most { loss ≤ 100 }
+    ensures kept { loss ≤ result }
+    ensures loss { 0 < count_in_hand p.now.hands side kind → negated (pos result) ≤ℤ drop_gain Eval.Hand kind }
+    ensures most { result ≤ 100 }
+{
+    if p.hand(side, kind) == 0 {
+        return loss;
+    }
+    let other = (0 - drop_gain(Eval::Hand, kind)) as u32;
+    if other > loss { other } else { loss }
+}
+
+/// The most that a drop of the side loses under `Hand`: what one of the dearest kind that it holds loses.
+fn loss_of_hand(p: &Position, side: Color) -> u32
+    ensures loss { LosesAtMost p.now.hands side Eval.Hand (pos result) }
+    ensures most { result ≤ 100 }
+{
+    let loss = with_loss_of_kind(p, side, Kind::Pawn, 0);
+    let loss = with_loss_of_kind(p, side, Kind::Lance, loss);
+    let loss = with_loss_of_kind(p, side, Kind::Knight, loss);
+    let loss = with_loss_of_kind(p, side, Kind::Silver, loss);
+    let loss = with_loss_of_kind(p, side, Kind::Gold, loss);
+    let loss = with_loss_of_kind(p, side, Kind::Bishop, loss);
+    with_loss_of_kind(p, side, Kind::Rook, loss)
+}
+
+/// The most that a drop of the side loses of its material.
+#[inline(always)]
+fn loss_of_drops(p: &Position, side: Color, e: Eval) -> i32
+    ensures loss { LosesAtMost p.now.hands side e result }
     ensures least { pos 0 ≤ℤ result }
     ensures most { result ≤ℤ pos 100 }
 {
     match e {
         Eval::Plain => 0,
-        Eval::Hand => 100,
+        Eval::Hand => loss_of_hand(p, side) as i32,
     }
 }
 
@@ -147,6 +188,8 @@ impl Frame {
         self.waiting = Waiting::Next;
         self.replies = replies_of(node, ahead);
         self.has_replies = ahead;
+        self.threat = None;
+        self.has_threat = false;
     }
 
     /// The frame becomes that of the child after the current move of another one, under the window that
@@ -178,6 +221,8 @@ impl Frame {
         self.waiting = Waiting::Next;
         self.replies = Replies::unknown(self.node.as_position());
         self.has_replies = false;
+        self.threat = None;
+        self.has_threat = false;
     }
 
     /// Begins with the node's moves, the hash move first; `ahead` asks for what tells of leaves
@@ -197,6 +242,8 @@ impl Frame {
         self.waiting = Waiting::Next;
         self.replies = replies_of(&self.node, ahead);
         self.has_replies = ahead;
+        self.threat = None;
+        self.has_threat = false;
     }
 
     /// Whether some move is legal, which the position is asked only where it is not known yet.
@@ -253,10 +300,11 @@ impl Frame {
         }
     }
 
-    /// The same at depth 2, where the moves that surely are not worth enough are passed.
+    /// The same at depth 1 or 2, where the moves that surely are not worth enough are passed.
     fn ask_worthy(&mut self) -> Option<Move>
         requires next { self.old.waiting ≡ Waiting.Next }
-        requires last { self.old.depth ≡ 2 }
+        requires deep { 0 < self.old.depth }
+        requires near { self.old.depth ≤ 2 }
         ensures over { IfNone result (todo self.new.node.position self.new.picker ≡ []) }
         ensures waiting { MatchOption result (self.new.waiting ≡ Waiting.Next) (λ m. self.new.waiting ≡ Waiting.Asked m) }
         ensures left { MatchOption result (left_of_frame self.new ≤ left_of_frame self.old) (λ m. 2 * tree_size (after_code self.new.node.position (code_of m)) (self.new.depth - 1) + left_of_frame self.new ≤ left_of_frame self.old) }
@@ -266,12 +314,14 @@ impl Frame {
             if !self.pass(&current) {
                 return Some(current);
             }
+            self.pass_quiets();
+            self.pass_drops();
         }
         None
     }
 
-    /// Asks for the answer of the next move, where there is one. At depth 2 the moves that surely are not
-    /// worth enough are passed.
+    /// Asks for the answer of the next move, where there is one. At depth 2, and at depth 1 where leaves
+    /// are told without making them, the moves that surely are not worth enough are passed.
     #[inline(always)]
     pub fn ask(&mut self) -> Option<Move>
         requires next { self.old.waiting ≡ Waiting.Next }
@@ -280,7 +330,7 @@ impl Frame {
         ensures left { MatchOption result (left_of_frame self.new ≤ left_of_frame self.old) (λ m. 2 * tree_size (after_code self.new.node.position (code_of m)) (self.new.depth - 1) + left_of_frame self.new ≤ left_of_frame self.old) }
         ensures same { IsSame self.old self.new }
     {
-        if self.depth == 2 {
+        if self.depth == 2 || self.depth == 1 && self.has_replies {
             return self.ask_worthy();
         }
         self.ask_next()
@@ -387,22 +437,64 @@ impl Frame {
         }
     }
 
-    /// What the current move of a node of depth 2 is worth at most, where the other side has a legal move
-    /// after it: that move, whichever it is, leaves it its material, or what a drop loses less.
+    /// The most that a reply takes from the material of its side: nothing where leaves follow the moves, and
+    /// else what a drop of the other side may lose.
+    #[inline(always)]
+    fn loss_after(&self) -> i32
+        ensures loss { self.now.depth ≡ 2 → LosesAtMost self.now.node.position.hands (opponent_of self.now.node.position.side) self.now.node.eval result }
+        ensures least { pos 0 ≤ℤ result }
+        ensures most { result ≤ℤ pos 100 }
+    {
+        if self.depth == 1 {
+            return 0;
+        }
+        let p = self.node.as_position();
+        loss_of_drops(p, p.side().opponent(), self.node.eval())
+    }
+
+    /// What the current move of a node of depth 1 or 2 is worth at most, where the other side has a legal
+    /// move after it: that move, whichever it is, leaves it its material, or what a drop of it loses less.
     #[inline(always)]
     fn most_after(&self, current: &Move) -> i32
         requires current { IsCurrent self.now.waiting current.now }
-        requires last { self.now.depth ≡ 2 }
+        requires deep { 0 < self.now.depth }
+        requires near { self.now.depth ≤ 2 }
         ensures most { legal_codes (after self.now.node.position current.now) ≢ [] → worth self.now.node.position self.now.node.eval (self.now.depth - 1) (code_of current.now) ≤ℤ result }
     {
         current.validity();
-        loss_of_drops(self.node.eval()) - self.node.score_after(current)
+        self.loss_after() - self.node.score_after(current)
+    }
+
+    /// Looks for a threat of the other side, once a move was gone through and not good enough or where the
+    /// material alone is not enough; before that none may be wanted.
+    fn look_for_threat(&mut self)
+        ensures waiting { self.new.waiting ≡ self.old.waiting }
+        ensures best { (self.new.best_value ≡ self.old.best_value) × (self.new.best_move ≡ self.old.best_move) }
+        ensures picker { self.new.picker ≡ self.old.picker }
+        ensures same { IsSame self.old self.new }
+    {
+        if !self.has_threat && (self.has_move || self.node.score() < self.beta) {
+            self.threat = greatest_threat(self.node.as_position(), self.node.eval());
+            self.has_threat = true;
+        }
+    }
+
+    /// What the current move of a node of depth 2 is worth at most, where the other side may carry out
+    /// the threat after it.
+    #[inline(always)]
+    fn most_under_threat(&self, current: &Move, threat: &Threat) -> i32
+        requires current { IsCurrent self.now.waiting current.now }
+        requires last { self.now.depth ≡ 2 }
+        requires threat { IsThreatIn self.now.node.position self.now.node.eval threat.now }
+        ensures most { MayTake (after self.now.node.position current.now) threat.now.from threat.now.target (piece_at self.now.node.position.cells threat.now.target) → worth self.now.node.position self.now.node.eval (self.now.depth - 1) (code_of current.now) ≤ℤ result }
+    {
+        current.validity();
+        0 - self.node.score_after(current) - threat.gain as i32
     }
 
     /// Passes the current move of a node of depth 2, where it is certain without making it that it is not
-    /// worth enough, and tells whether it did.
-    #[inline(always)]
-    fn pass(&mut self, current: &Move) -> bool
+    /// worth enough since a threat stands after it, and tells whether it did.
+    fn pass_under_threat(&mut self, current: &Move) -> bool
         requires asked { self.old.waiting ≡ Waiting.Asked current.now }
         requires last { self.old.depth ≡ 2 }
         ensures next { result ≡ true → self.new.waiting ≡ Waiting.Next }
@@ -410,8 +502,43 @@ impl Frame {
         ensures picker { self.new.picker ≡ self.old.picker }
         ensures same { IsSame self.old self.new }
     {
-        if self.most_after(current) > self.threshold(current) {
+        self.look_for_threat();
+        let Some(threat) = self.threat else {
             return false;
+        };
+        if self.most_under_threat(current, &threat) > self.threshold(current) {
+            return false;
+        }
+        if !threat.stands_after(self.node.as_position(), self.node.eval(), current) {
+            return false;
+        }
+        self.look_ahead();
+        current.validity();
+        let certain = self.replies.is_certain(self.node.as_position(), current);
+        if !certain {
+            return false;
+        }
+        self.skip(current);
+        true
+    }
+
+    /// Passes the current move of a node of depth 1 or 2, where it is certain without making it that it is
+    /// not worth enough, and returns whether it did.
+    #[inline(always)]
+    fn pass(&mut self, current: &Move) -> bool
+        requires asked { self.old.waiting ≡ Waiting.Asked current.now }
+        requires deep { 0 < self.old.depth }
+        requires near { self.old.depth ≤ 2 }
+        ensures next { result ≡ true → self.new.waiting ≡ Waiting.Next }
+        ensures asked { result ≡ false → self.new.waiting ≡ self.old.waiting }
+        ensures picker { self.new.picker ≡ self.old.picker }
+        ensures same { IsSame self.old self.new }
+    {
+        if self.most_after(current) > self.threshold(current) {
+            if self.depth == 1 {
+                return false;
+            }
+            return self.pass_under_threat(current);
         }
         self.look_ahead();
         current.validity();
@@ -420,6 +547,48 @@ impl Frame {
         }
         self.skip(current);
         true
+    }
+
+    /// Passes the next moves of a node of depth 1 or 2 that take nothing and do not promote, while it is
+    /// certain without making them that the other side has a legal move, where no such move is worth
+    /// enough.
+    fn pass_quiets(&mut self)
+        requires next { self.old.waiting ≡ Waiting.Next }
+        requires deep { 0 < self.old.depth }
+        requires near { self.old.depth ≤ 2 }
+        ensures next { self.new.waiting ≡ Waiting.Next }
+        ensures left { left_of_frame self.new ≤ left_of_frame self.old }
+        ensures same { IsSame self.old self.new }
+    {
+        let Some(code) = self.picker.quiets() else {
+            return;
+        };
+        let threshold = threshold_at(self.best_value, &self.best_move, code);
+        if self.node.score() + self.loss_after() > threshold {
+            return;
+        }
+        self.picker
+            .pass_quiets(self.node.as_position(), &self.replies);
+    }
+
+    /// The same of the drops of the kind that is under way.
+    fn pass_drops(&mut self)
+        requires next { self.old.waiting ≡ Waiting.Next }
+        requires deep { 0 < self.old.depth }
+        requires near { self.old.depth ≤ 2 }
+        ensures next { self.new.waiting ≡ Waiting.Next }
+        ensures left { left_of_frame self.new ≤ left_of_frame self.old }
+        ensures same { IsSame self.old self.new }
+    {
+        let Some((kind, code)) = self.picker.drops() else {
+            return;
+        };
+        let threshold = threshold_at(self.best_value, &self.best_move, code);
+        if self.node.score_after_drop(kind) < self.loss_after() - threshold {
+            return;
+        }
+        self.picker
+            .pass_drops(self.node.as_position(), &self.replies);
     }
 
     /// Passes the current move, which is the best so far.
@@ -470,102 +639,6 @@ impl Frame {
         matches!(self.waiting, Waiting::Next)
     }
 
-    /// Takes in the leaf after the next move, where it is certain without making it that a move is legal
-    /// there, and tells whether it did.
-    #[inline(always)]
-    fn pass_leaf(&mut self) -> bool
-        requires next { self.old.waiting ≡ Waiting.Next }
-        requires last { self.old.depth ≡ 1 }
-        ensures free { IsFree self.new.waiting }
-        ensures taken { left_of_waiting self.new.waiting ≡ 0 }
-        ensures none { result ≡ false → self.new ≡ self.old }
-        ensures left { result ≡ true → left_of_frame self.new + 2 ≡ left_of_frame self.old }
-        ensures same { IsSame self.old self.new }
-    {
-        let next = self
-            .picker
-            .next_certain(self.node.as_position(), &self.replies);
-        let Some(current) = next else {
-            return false;
-        };
-        self.waiting = Waiting::Asked(current);
-        let value = self.leaf_after(&current);
-        self.take(&current, &Entry::Exact(value, None));
-        true
-    }
-
-    /// Passes the leaves after the next moves that take nothing and do not promote, two steps each, while
-    /// there is room and it is certain without making them that a move is legal there, where no such move
-    /// is worth enough. Gives the number of steps.
-    fn pass_quiets(&mut self, room: u64) -> u64
-        requires next { self.old.waiting ≡ Waiting.Next }
-        requires last { self.old.depth ≡ 1 }
-        ensures next { self.new.waiting ≡ Waiting.Next }
-        ensures most { result ≤ room }
-        ensures left { left_of_frame self.new + result ≡ left_of_frame self.old }
-        ensures same { IsSame self.old self.new }
-    {
-        let Some(code) = self.picker.quiets() else {
-            return 0;
-        };
-        let threshold = threshold_at(self.best_value, &self.best_move, code);
-        if self.node.score() > threshold {
-            return 0;
-        }
-        let passed = self
-            .picker
-            .pass_quiets(self.node.as_position(), &self.replies, room / 2);
-        self.has_move |= passed > 0;
-        2 * passed
-    }
-
-    /// Passes the leaves after the next drops of the kind that is under way, two steps each, while there is
-    /// room and it is certain without making them that a move is legal there, where no drop of that kind
-    /// is worth enough. Gives the number of steps.
-    fn pass_drops(&mut self, room: u64) -> u64
-        requires next { self.old.waiting ≡ Waiting.Next }
-        requires last { self.old.depth ≡ 1 }
-        ensures next { self.new.waiting ≡ Waiting.Next }
-        ensures most { result ≤ room }
-        ensures left { left_of_frame self.new + result ≡ left_of_frame self.old }
-        ensures same { IsSame self.old self.new }
-    {
-        let Some((kind, code)) = self.picker.drops() else {
-            return 0;
-        };
-        let threshold = threshold_at(self.best_value, &self.best_move, code);
-        if self.node.score_after_drop(kind) < -threshold {
-            return 0;
-        }
-        let passed = self
-            .picker
-            .pass_drops(self.node.as_position(), &self.replies, room / 2);
-        self.has_move |= passed > 0;
-        2 * passed
-    }
-
-    /// Takes in the leaves after the next moves, two steps each, while there is room and it is certain
-    /// without making them that a move is legal there. Gives the number of steps.
-    pub fn pass_leaves(&mut self, room: u64) -> u64
-        requires free { IsFree self.old.waiting }
-        requires taken { left_of_waiting self.old.waiting ≡ 0 }
-        requires last { self.old.depth ≡ 1 }
-        ensures free { IsFree self.new.waiting }
-        ensures most { result ≤ room }
-        ensures left { left_of_frame self.new + result ≡ left_of_frame self.old }
-        ensures same { IsSame self.old self.new }
-    {
-        let mut made = 0;
-        'leaves: while room - made > 1 && self.is_next() && self.pass_leaf() {
-            made += 2;
-            if self.is_next() {
-                made += self.pass_quiets(room - made);
-                made += self.pass_drops(room - made);
-            }
-        }
-        made
-    }
-
     /// Keeps the value of the leaf to which the current move leads.
     pub fn hear(&mut self, current: &Move, found: i32)
         requires current { IsCurrent self.old.waiting current.now }
@@ -596,6 +669,8 @@ impl Default for Frame {
             waiting: Waiting::Next,
             replies: Replies::unknown(node.as_position()),
             has_replies: false,
+            threat: None,
+            has_threat: false,
         }
     }
 }

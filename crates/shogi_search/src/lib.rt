@@ -10,6 +10,7 @@ mod move_picker;
 mod ranks;
 mod sliced_search;
 mod stack;
+mod threat;
 mod window;
 
 pub use bounds::{INFINITY, MATE, SEARCH_DEPTH_MAX};

@@ -1,13 +1,10 @@
 //! The move picker: in which order a node's moves are visited.
 
-ghost use Rattle.std.specs.Prelude.{◌≡◌, ◌≢◌, ◌<◌, ◌≤◌, ◌++◌, ℕ, [], ◌∷◌, MatchOption, Some, None, IfSome, IsNone, true, false};
+ghost use Rattle.std.specs.Prelude.{◌≡◌, ◌≢◌, ◌<◌, ◌≤◌, ◌++◌, ℕ, [], ◌∷◌, MatchOption, Some, None, IfSome, true, false};
 ghost use Rattle.shogi_core.specs.declared.moves.TheConstants.{FIRST_DROP};
 ghost use Rattle.shogi_core.specs.declared.piece.Kind.{Kind};
 ghost use Rattle.shogi_core.specs.Codes.{code_of};
-ghost use Rattle.shogi_moves.specs.After.{after};
 ghost use Rattle.shogi_moves.specs.Guards.{Guards};
-ghost use Rattle.shogi_moves.specs.Legal.{is_legal};
-ghost use Rattle.shogi_moves.specs.LegalMoves.{legal_codes};
 ghost use Rattle.shogi_moves.specs.Replies.{IsReplies};
 ghost use Rattle.shogi_moves.specs.Sweeps.{IsBoardSweep, IsDropSweep, IsPassed, IsCertainQuiet, IsCertainDrop};
 ghost use Rattle.shogi_search.specs.Order.{is_hash_move, picks_from, todo, todo_after, IsKept, IsAtQuiets, IsAtDrops};
@@ -161,26 +158,6 @@ impl MovePicker {
         None
     }
 
-    /// The next move to visit, where it is one of the sweep that is under way after which the other side
-    /// surely has a legal move. Otherwise `None`, and the next one is still to be visited.
-    #[inline(always)]
-    pub fn next_certain(&mut self, p: &Position, replies: &Replies) -> Option<Move>
-        requires kept { IsKept p.now self.old }
-        requires replies { IsReplies p.now replies.now.sight replies.now.spare }
-        ensures kept { IsKept p.now self.new }
-        ensures none { IsNone result → self.new ≡ self.old }
-        ensures next { IfSome result (λ m. todo p.now self.old ≡ code_of m ∷ todo p.now self.new) }
-        ensures legal { IfSome result (λ m. is_legal p.now m ≡ true) }
-        ensures certain { IfSome result (λ m. legal_codes (after p.now m) ≢ []) }
-    {
-        match self {
-            MovePicker::Captures(None, sweep) => sweep.next_certain(p, true, replies),
-            MovePicker::Quiets(None, sweep) => sweep.next_certain(p, false, replies),
-            MovePicker::Drops(None, sweep) => sweep.next_certain(p, replies),
-            _ => None,
-        }
-    }
-
     /// The code to go on from where the moves that take nothing are under way, and none of them is left out.
     pub fn quiets(&self) -> Option<u16>
         ensures { IfSome result (IsAtQuiets self.now) }
@@ -192,18 +169,16 @@ impl MovePicker {
     }
 
     /// Passes the next moves to visit, as long as they take nothing, do not promote, and the other side
-    /// surely has a legal move after them, at most so many. Gives their number.
-    pub fn pass_quiets(&mut self, p: &Position, replies: &Replies, most: u64) -> u64
+    /// surely has a legal move after them.
+    pub fn pass_quiets(&mut self, p: &Position, replies: &Replies)
         requires kept { IsKept p.now self.old }
         requires replies { IsReplies p.now replies.now.sight replies.now.spare }
         ensures kept { IsKept p.now self.new }
-        ensures most { result ≤ most }
-        ensures passed { (code : ℕ) → IsAtQuiets self.old code → IsPassed (IsCertainQuiet p.now code) result (todo p.now self.old) (todo p.now self.new) }
+        ensures passed { (code : ℕ) → IsAtQuiets self.old code → IsPassed (IsCertainQuiet p.now code) (todo p.now self.old) (todo p.now self.new) }
     {
         if let MovePicker::Quiets(None, sweep) = self {
-            return sweep.pass_quiets(p, replies, most);
+            sweep.pass_quiets(p, replies);
         }
-        0
     }
 
     /// The kind whose drops are under way, where none of them is left out, and the code to go on from.
@@ -217,18 +192,16 @@ impl MovePicker {
     }
 
     /// Passes the next moves to visit, as long as they are drops of the kind that is under way and the
-    /// other side surely has a legal move after them, at most so many. Gives their number.
-    pub fn pass_drops(&mut self, p: &Position, replies: &Replies, most: u64) -> u64
+    /// other side surely has a legal move after them.
+    pub fn pass_drops(&mut self, p: &Position, replies: &Replies)
         requires kept { IsKept p.now self.old }
         requires replies { IsReplies p.now replies.now.sight replies.now.spare }
         ensures kept { IsKept p.now self.new }
-        ensures most { result ≤ most }
-        ensures passed { (kind : Kind) → (code : ℕ) → IsAtDrops self.old kind code → IsPassed (IsCertainDrop p.now kind code) result (todo p.now self.old) (todo p.now self.new) }
+        ensures passed { (kind : Kind) → (code : ℕ) → IsAtDrops self.old kind code → IsPassed (IsCertainDrop p.now kind code) (todo p.now self.old) (todo p.now self.new) }
     {
         if let MovePicker::Drops(None, sweep) = self {
-            return sweep.pass_certain(p, replies, most);
+            sweep.pass_certain(p, replies);
         }
-        0
     }
 
     /// The first move after the sweep that is under way.

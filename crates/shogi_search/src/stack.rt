@@ -89,8 +89,7 @@ fn make_leaf<M: Memo>(top: &mut Frame, current: &Move, memo: &mut M)
 }
 
 /// The same; where a leaf is certain to have a legal move, its value is told without making it, and
-/// taken in at once where there is room for that step too, with the certain leaves that follow it.
-/// Gives the number of steps.
+/// taken in at once where there is room for that step too. Gives the number of steps.
 fn visit_leaf<M: Memo>(top: &mut Frame, current: &Move, memo: &mut M, room: u64) -> u64
     requires asked { top.old.waiting ≡ Waiting.Asked current.now }
     requires last { top.old.depth ≡ 1 }
@@ -105,7 +104,7 @@ fn visit_leaf<M: Memo>(top: &mut Frame, current: &Move, memo: &mut M, room: u64)
         if let Some(value) = top.certain_leaf(current) {
             if room > 1 {
                 top.take(current, &Entry::Exact(value, None));
-                return 2 + top.pass_leaves(room - 2);
+                return 2;
             }
             top.hear(current, value);
             return 1;

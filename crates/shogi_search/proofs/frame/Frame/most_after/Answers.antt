@@ -1,14 +1,13 @@
-use Rattle.std.proofs.Common.{◌≡◌, ◌≤ℤ◌, ◌-ℤ◌, ◌-◌, ℕ, arith, ap, subst}
+use Rattle.std.proofs.Common.{◌≤ℤ◌, ◌-ℤ◌, ◌-◌, arith, subst}
 use Rattle.std.proofs.lemmas.Int.{ints}
 use Rattle.shogi_core.specs.Codes.{code_of}
 use Rattle.shogi_core.specs.Validity.{IsValid}
 use Rattle.shogi_moves.specs.After.{after}
 use Rattle.shogi_moves.proofs.LegalLaws.{after_code_of, listed_to_legal}
-use Rattle.shogi_eval.specs.declared.eval.Eval.{Eval}
 use Rattle.shogi_eval.proofs.Bounds.{material_bounds}
 use Rattle.shogi_eval.specs.Material.{material_of}
 use Rattle.shogi_search.specs.Minimax.{worth, negated}
-use Rattle.shogi_search.proofs.Ahead.{worth_most, LosesAtMost}
+use Rattle.shogi_search.proofs.Ahead.{worth_ahead}
 use Rattle.shogi_search.proofs.Nodes.{waits}
 use Rattle.shogi_search.proofs.Valid.{after_valid}
 use Rattle.shogi_search.proofs.frame.Frame.most_after.Goals as goal
@@ -31,9 +30,6 @@ returns c = record {
       let w : _ = waits _ _ _ _ _ _ _ _ _ _ c.requires.current c.args.self.now.known in
       let valid : IsValid (after c.args.self.now.node.position c.args.current.now) = subst IsValid (after_code_of c.args.self.now.node.position c.args.current.now c.validity.ensures.back) (after_valid c.args.self.now.node.position (code_of c.args.current.now) c.args.self.now.valid w.is_listed) in
       let b : _ = material_bounds (after c.args.self.now.node.position c.args.current.now) c.args.self.now.node.eval valid in
-      let one : c.args.self.now.depth - 1 ≡ 1 = omega (arith, c.requires.last) in
-      let same : worth c.args.self.now.node.position c.args.self.now.node.eval (c.args.self.now.depth - 1) (code_of c.args.current.now) ≡ worth c.args.self.now.node.position c.args.self.now.node.eval 1 (code_of c.args.current.now) = ap (λ (d : ℕ). worth c.args.self.now.node.position c.args.self.now.node.eval d (code_of c.args.current.now)) one in
-      let loses : LosesAtMost c.args.self.now.node.eval c.loss_of_drops.result = subst (λ (e : Eval). LosesAtMost e c.loss_of_drops.result) c.eval.ensures c.loss_of_drops.ensures.loss in
-      let most : worth c.args.self.now.node.position c.args.self.now.node.eval 1 (code_of c.args.current.now) ≤ℤ negated (material_of (after c.args.self.now.node.position c.args.current.now) c.args.self.now.node.eval -ℤ c.loss_of_drops.result) = worth_most c.args.self.now.node.position c.args.self.now.node.eval c.loss_of_drops.result c.args.current.now c.args.self.now.valid c.validity.ensures.back w.is_listed c.loss_of_drops.ensures.least loses some in
-      omega (arith, ints, most, same, b.0, b.1, c.score_after.ensures);
+      let most : worth c.args.self.now.node.position c.args.self.now.node.eval (c.args.self.now.depth - 1) (code_of c.args.current.now) ≤ℤ negated (material_of (after c.args.self.now.node.position c.args.current.now) c.args.self.now.node.eval -ℤ c.loss_after.result) = worth_ahead c.args.self.now.node.position c.args.self.now.node.eval c.args.self.now.depth c.loss_after.result c.args.current.now c.args.self.now.valid c.validity.ensures.back (listed_to_legal _ _ c.validity.ensures.back w.is_listed) c.requires.deep c.requires.near c.loss_after.ensures.least c.loss_after.ensures.loss some in
+      omega (arith, ints, most, b.0, b.1, c.score_after.ensures);
 }

@@ -1,32 +1,27 @@
-use Rattle.std.proofs.Common.{◌≡◌, ◌≤ℤ◌, arith, rules, FitsSigned, w32}
+use Rattle.std.proofs.Common.{◌≡◌, ◌≤ℤ◌, ◌+ℤ◌, arith, rules, FitsSigned, w32}
 use Rattle.std.proofs.lemmas.Int.{ints, to_z-of_z}
 use Rattle.shogi_moves.specs.Sweeps.{IsCertainQuiet, IsPassed}
 use Rattle.shogi_eval.specs.Material.{material_of}
 use Rattle.shogi_search.specs.Order.{todo}
 use Rattle.shogi_search.specs.Window.{threshold, code_at}
-use Rattle.shogi_search.proofs.Passed.{known_next, next_known, quiets_covered, left_dropped, quiets_some, known_or_passed, threshold_within}
+use Rattle.shogi_search.proofs.Passed.{known_next, next_known, quiets_covered, left_passed, threshold_within}
 use Rattle.shogi_search.proofs.frame.Frame.pass_quiets.Goals as goal
 
 pub threshold_at-threshold-requires : goal.threshold_at-threshold-requires
 threshold_at-threshold-requires c =
-    let w : _ = threshold_within _ _ _ _ _ _ _ _ c.in-Some.code c.args.self.now.valid c.args.self.now.shallow c.requires.last c.args.self.now.least c.args.self.now.open c.args.self.now.most (known_next _ _ _ _ _ _ _ _ _ c.requires.next c.args.self.now.known) in
+    let w : _ = threshold_within _ _ _ _ _ _ _ _ c.in-Some.code c.args.self.now.valid c.args.self.now.shallow c.requires.deep c.args.self.now.least c.args.self.now.open c.args.self.now.most (known_next _ _ _ _ _ _ _ _ _ c.requires.next c.args.self.now.known) in
     omega (arith, ints, w.0.least)
 
-pub invariant_of-self-2-clause-known : goal.invariant_of-self-2-clause-known
-invariant_of-self-2-clause-known c =
-    let w : _ = threshold_within _ _ _ _ _ _ _ _ c.in-Some.code c.args.self.now.valid c.args.self.now.shallow c.requires.last c.args.self.now.least c.args.self.now.open c.args.self.now.most (known_next _ _ _ _ _ _ _ _ _ c.requires.next c.args.self.now.known) in
-    let passed : IsPassed (IsCertainQuiet c.args.self.now.node.position c.in-Some.code) c.pass_quiets-passed.result (todo c.args.self.now.node.position c.args.self.now.picker) (todo c.args.self.now.node.position c.pass_quiets-passed.new.self) = rw c.as_position.ensures at (c.pass_quiets-passed.ensures.passed c.in-Some.code c.in-Some.ensures) in
+pub invariant_of-self-4-clause-known : goal.invariant_of-self-4-clause-known
+invariant_of-self-4-clause-known c =
+    let w : _ = threshold_within _ _ _ _ _ _ _ _ c.in-Some.code c.args.self.now.valid c.args.self.now.shallow c.requires.deep c.args.self.now.least c.args.self.now.open c.args.self.now.most (known_next _ _ _ _ _ _ _ _ _ c.requires.next c.args.self.now.known) in
+    let passed : IsPassed (IsCertainQuiet c.args.self.now.node.position c.in-Some.code) (todo c.args.self.now.node.position c.args.self.now.picker) (todo c.args.self.now.node.position c.pass_quiets.new.self) = rw c.as_position.ensures at (c.pass_quiets.ensures.passed c.in-Some.code c.in-Some.ensures) in
     let f : FitsSigned w32 c.args.self.now.best_value = search rules in
     let e : c.threshold_at-threshold.result ≡ threshold c.args.self.now.best_value (code_at c.args.self.now.best_move) c.in-Some.code = simp to_z-of_z at c.threshold_at-threshold.ensures in
-    let low : material_of c.args.self.now.node.position c.args.self.now.node.eval ≤ℤ threshold c.args.self.now.best_value (code_at c.args.self.now.best_move) c.in-Some.code = omega (arith, ints, w.1.least, w.1.most, e, c.score.ensures.value, c.if-score-threshold.false) in
-    next_known _ _ _ _ _ _ _ _ _ c.requires.next (quiets_covered _ _ _ c.in-Some.code c.pass_quiets-passed.result _ _ _ _ _ c.args.self.now.valid c.requires.last low passed (known_next _ _ _ _ _ _ _ _ _ c.requires.next c.args.self.now.known))
-
-pub invariant_of-self-2-clause-moves : goal.invariant_of-self-2-clause-moves
-invariant_of-self-2-clause-moves c =
-    let passed : IsPassed (IsCertainQuiet c.args.self.now.node.position c.in-Some.code) c.pass_quiets-passed.result (todo c.args.self.now.node.position c.args.self.now.picker) (todo c.args.self.now.node.position c.pass_quiets-passed.new.self) = rw c.as_position.ensures at (c.pass_quiets-passed.ensures.passed c.in-Some.code c.in-Some.ensures) in
-    known_or_passed c.args.self.now.has_move c.pass_quiets-passed.result _ c.args.self.now.moves (quiets_some c.args.self.now.node.position c.in-Some.code c.pass_quiets-passed.result _ _ passed)
+    let low : (material_of c.args.self.now.node.position c.args.self.now.node.eval +ℤ c.loss_after.result) ≤ℤ threshold c.args.self.now.best_value (code_at c.args.self.now.best_move) c.in-Some.code = omega (arith, ints, w.1.least, w.1.most, e, c.score.ensures.value, c.if-score-loss_after.false) in
+    next_known _ _ _ _ _ _ _ _ _ c.requires.next (quiets_covered _ _ _ c.in-Some.code _ _ _ _ c.loss_after.result _ c.args.self.now.valid c.requires.deep c.requires.near c.loss_after.ensures.least c.loss_after.ensures.loss low passed (known_next _ _ _ _ _ _ _ _ _ c.requires.next c.args.self.now.known))
 
 pub returns-clause-left : goal.returns-clause-left
 returns-clause-left c =
-    let passed : IsPassed (IsCertainQuiet c.args.self.now.node.position c.in-Some.code) c.pass_quiets-passed.result (todo c.args.self.now.node.position c.args.self.now.picker) (todo c.args.self.now.node.position c.pass_quiets-passed.new.self) = rw c.as_position.ensures at (c.pass_quiets-passed.ensures.passed c.in-Some.code c.in-Some.ensures) in
-    left_dropped c.args.self.now c.pass_quiets-passed.new.self (IsCertainQuiet c.args.self.now.node.position c.in-Some.code) c.pass_quiets-passed.result c.requires.last passed
+    let passed : IsPassed (IsCertainQuiet c.args.self.now.node.position c.in-Some.code) (todo c.args.self.now.node.position c.args.self.now.picker) (todo c.args.self.now.node.position c.pass_quiets.new.self) = rw c.as_position.ensures at (c.pass_quiets.ensures.passed c.in-Some.code c.in-Some.ensures) in
+    left_passed c.args.self.now c.pass_quiets.new.self (IsCertainQuiet c.args.self.now.node.position c.in-Some.code) passed

@@ -1,0 +1,38 @@
+use Rattle.std.proofs.Common.{◌≤◌, ◌+◌, ◌*◌, false, refl, arith, bit_and}
+use Rattle.shogi_core.specs.declared.moves.TheConstants.{SQUARE_CODES}
+use Rattle.shogi_moves.proofs.EndLaws.{among_bits}
+use Rattle.shogi_moves.proofs.Passes.{passed_none, passed_on, piece_passed, others_left, above_first, no_ends_of}
+use Rattle.shogi_moves.proofs.SweepLaws.{on_first, mine_first}
+use Rattle.shogi_moves.proofs.sweep.BoardSweep.pass_pieces.Goals as goal
+
+pub squares-init : goal.squares-init
+squares-init c = record {
+  kept = c.requires.kept;
+  none = c.requires.none;
+  passed = record { up = omega arith; passed = λ first low. passed_none _ _ _ refl };
+  wanted = on_first c.args.p.now false c.own.result c.bits_above-left.result c.args.self.now.from c.args.self.now.code c.args.self.now.ends.plain c.args.self.now.ends.promoting (omega (arith, c.index.ensures.range, c.index.ensures.index)) c.requires.kept.ends (rw (c.requires.none.0, c.requires.none.1) refl)
+      (rw c.side.ensures at c.own.ensures.bits) (rw c.index.ensures.index at c.bits_above-left.ensures.above);
+  fits = c.bits_above-left.ensures.fits;
+  mine = mine_first c.args.p.now c.own.result c.bits_above-left.result c.args.self.now.from (rw c.side.ensures at c.own.ensures.bits) (rw c.index.ensures.index at c.bits_above-left.ensures.above) (rw c.index.ensures.index at c.bits_above-left.ensures.below);
+}
+
+pub squares-preserved : goal.squares-preserved
+squares-preserved c =
+    let own : _ = c.squares.invariant.mine c.lowest-square.result c.lowest-square.ensures.range c.lowest-square.ensures.set in
+    let up : c.squares.self.code ≤ c.lowest-square.result * SQUARE_CODES + SQUARE_CODES = omega (arith, own.0, c.squares.invariant.kept.ends.high) in
+    record {
+      kept = rw c.of_index-from.ensures (record { guard = c.squares.invariant.kept.guard; ends = no_ends_of c.args.p.now c.lowest-square.result c.squares.self.ends.plain c.squares.self.ends.promoting c.squares.invariant.none.0 c.squares.invariant.none.1 });
+      none = c.squares.invariant.none;
+      passed = record {
+        up = omega (arith, c.squares.invariant.passed.up, up);
+        passed = λ first low. passed_on _ _ _ _ (c.squares.invariant.passed.passed first low)
+            (piece_passed c.args.p.now first c.squares.self.code c.squares.left c.lowest-square.result (bit_and c.targets.result c.ends_of_sort-free.result) c.promoting_squares-promoting.result c.certain_ends.result c.validity.ensures.cells_fit c.lowest-square.ensures.range own.1 c.squares.invariant.wanted c.lowest-square.ensures.least
+            (λ n h. among_bits c.targets.result c.ends_of_sort-free.result n _ _ ((rw c.of_index-from.ensures at c.targets.ensures.bits) n h) (c.ends_of_sort-free.ensures.bits n h))
+            (rw (c.at.ensures, c.of_index-from.ensures) at c.promoting_squares-promoting.ensures.bits) (omega arith) (rw c.of_index-from.ensures at c.certain_ends.ensures.certain) (omega (arith, c.if-among-promoting-ne0.false)) (omega (arith, low, c.squares.invariant.passed.up)) up);
+      };
+      wanted = others_left c.args.p.now c.squares.self.code c.squares.left c.without_lowest-left.result c.lowest-square.result c.squares.invariant.wanted up c.without_lowest-left.ensures.bits;
+      fits = omega (arith, c.without_lowest-left.ensures.less, c.squares.invariant.fits);
+      mine = λ n h set.
+          let above : _ = above_first c.squares.left c.without_lowest-left.result c.lowest-square.result n c.lowest-square.ensures.least c.without_lowest-left.ensures.bits set in
+          (omega (arith, above.0, c.of_index-from.ensures), (c.squares.invariant.mine n h above.1).1);
+    }

@@ -1,0 +1,16 @@
+use Rattle.std.proofs.Common.{◌≡◌, ◌<◌, ◌^◌, ℕ, true}
+use Rattle.std.specs.Option.{ForSome}
+use Rattle.shogi_core.specs.Bits.{has_bit}
+use Rattle.shogi_moves.specs.Threats.{IsThreat}
+use Rattle.shogi_search.specs.Threats.{IsThreatIn}
+use Rattle.shogi_search.proofs.threat.greatest_from.Given as goal
+
+abbrev pub invariant-targets : goal.invariant-targets
+invariant-targets l = record {
+  threats : (t : ℕ) → t < 81 → has_bit l.left t ≡ true → IsThreat l.p l.from t;
+  best : ForSome l.best (IsThreatIn l.p l.e);
+  left : l.left < 2 ^ 81;
+}
+
+abbrev pub decreases-targets : goal.decreases-targets
+decreases-targets l = l.left

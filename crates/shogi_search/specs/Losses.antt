@@ -1,0 +1,12 @@
+-- What a drop takes from the material of its side.
+use Rattle.std.specs.Prelude.{ℤ, ◌<◌, ◌≤ℤ◌}
+use Rattle.shogi_core.specs.declared.piece.Color.{Color}
+use Rattle.shogi_core.specs.declared.piece.Kind.{Kind}
+use Rattle.shogi_core.specs.Position.{HandCounts, count_in_hand}
+use Rattle.shogi_eval.specs.declared.eval.Eval.{Eval}
+use Rattle.shogi_eval.specs.Material.{drop_gain}
+use Rattle.shogi_search.specs.Minimax.{negated}
+
+-- no drop of a kind that the side holds takes more than this
+abbrev pub LosesAtMost : HandCounts → Color → Eval → ℤ → Type 0
+LosesAtMost hands side e loss = (kind : Kind) → 0 < count_in_hand hands side kind → negated loss ≤ℤ drop_gain e kind
