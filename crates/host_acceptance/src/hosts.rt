@@ -16,7 +16,7 @@ fn two_slots_and_three_sessions(rt: HostRuntime) -> Result<(), Fail> {
     let a = host.opened()?;
     let go = b"go depth 1\n".as_slice();
     let all = host.all_told(&[Event::Feed(a, go), Event::Work(a, 62)])?;
-    assert!(rt; all.as_slice() == [Told::Done, Told::Worked(62)].as_slice());
+    assert!(rt; all.as_slice() == [Told::Done, Told::Worked(4)].as_slice());
     assert!(rt; !host.pending(a) && host.wants_input(a));
 
     let b = host.opened()?;
@@ -67,10 +67,10 @@ fn one_step_less_than_the_search(rt: HostRuntime) -> Result<(), Fail> {
     assert_eq!(rt; host.refusal(Event::Open), Some(HostFault::Full));
     assert!(rt; host.is_done(Event::Feed(id, b"go infinite depth 1\n")));
     assert!(rt; host.pending(id) && !host.wants_input(id));
-    assert_eq!(rt; host.steps_of(id, 61), Some(61));
+    assert_eq!(rt; host.steps_of(id, 3), Some(3));
     assert!(rt; host.pending(id));
     assert!(rt; host.output(id) == Some(b"".as_slice()));
-    assert_eq!(rt; host.steps_of(id, 61), Some(1));
+    assert_eq!(rt; host.steps_of(id, 3), Some(1));
     assert!(rt; !host.pending(id));
     assert_eq!(rt; host.output(id).map(|bytes| bytes.len()), Some(32));
     Ok(())
@@ -197,7 +197,7 @@ fn a_search_is_shared(rt: HostRuntime) -> Result<(), Fail> {
     let mut host = TestHost::new(rt.alloc(), 2, 100_000)?;
     let first = host.opened()?;
     assert!(rt; host.is_done(Event::Feed(first, b"go depth 4\n")));
-    assert!(rt; host.steps_of(first, u64::MAX) > Some(62));
+    assert!(rt; host.steps_of(first, u64::MAX) > Some(4));
 
     let second = host.opened()?;
     assert!(rt; host.is_done(Event::Feed(second, b"go depth 4\n")));

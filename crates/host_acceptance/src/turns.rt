@@ -4,7 +4,8 @@ use host_core::{Event, Host, Outcome};
 use std::hash::{BuildHasherDefault, FoldHasher};
 use std::test::Fail;
 
-// From the opening position a search at depth 1 makes 62 steps: 31 positions are entered and left.
+// From the opening position a search at depth 1 makes 4 steps: the position is entered, its first move is
+// valued in two, and it is left.
 #[test]
 fn two_sessions_by_turns(rt: HostRuntime) -> Result<(), Fail> {
     let hasher = BuildHasherDefault::<FoldHasher>::new();
@@ -20,7 +21,7 @@ fn two_sessions_by_turns(rt: HostRuntime) -> Result<(), Fail> {
     let fed = host.run(&[
         Event::Feed(a, b"go depth 1\n"),
         Event::Feed(b, b"isready\nquit\n"),
-        Event::Work(a, 61),
+        Event::Work(a, 3),
         Event::Work(b, 0),
     ])?;
     assert_eq!(rt; fed.len(), 4);

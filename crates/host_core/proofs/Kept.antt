@@ -36,7 +36,7 @@ open_other old new id (Refused NotReady) n p = absurd p
 pub keeps_others : (old new : HostState) (event : Event) (o : Outcome) → Stepped old event o new → (id : SessionId) → names id event o ≡ false → find new.slots id ≡ find old.slots id
 keeps_others old new Open o p id n = open_other old new id o n p
 keeps_others old new (Feed at chunk) o p id n = on_other (Feeds chunk) old new at id o (find old.slots at) refl n p.0
-keeps_others old new (Work at budget) o p id n = on_other (Works budget) old new at id o (find old.slots at) refl n p
+keeps_others old new (Work at budget) o p id n = on_other (Works budget) old new at id o (find old.slots at) refl n p.0
 keeps_others old new (Take at m) o p id n = on_other (Takes m) old new at id o (find old.slots at) refl n p.0
 keeps_others old new (Close at) o p id n = close_other old new at id o (find old.slots at) n p
 

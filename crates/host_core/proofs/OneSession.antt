@@ -82,7 +82,7 @@ mutual_step old mid new id step rest s (Some t) e h v r more =
       no_open = or_from (opens id step.event step.outcome) (is_opened id rest) v.0 g.no_open;
     }
 
-is_some_of : (o : Option SessionView) (s : SessionView) → o ≡ Some s → IsSome o
+pub is_some_of : (o : Option SessionView) (s : SessionView) → o ≡ Some s → IsSome o
 is_some_of o s e = rw e refl
 
 -- a session that was open before

@@ -123,7 +123,7 @@ pub round_more : (old : HostState) (budget : ℕ) (id : SessionId) (worked refus
 round_more old budget id worked refused now next o w r t pending below stepped f g =
     let a : IsRound old budget t.ids worked refused now = t.so_far in
     let e : pending_from id.slot (drop id.slot now.slots.slots) ≡ id ∷ pending_from (id.slot + 1) (drop (id.slot + 1) now.slots.slots) = first_pending now id (find now.slots id) refl pending in
-    let one : cond (has_worked o) 1 0 + cond (was_refused o) 1 0 ≡ 1 = counted_on budget now next id o (find now.slots id) stepped in
+    let one : cond (has_worked o) 1 0 + cond (was_refused o) 1 0 ≡ 1 = counted_on budget now next id o (find now.slots id) stepped.0 in
     record {
       ids = t.ids ++ id ∷ [];
       so_far = record {
@@ -136,7 +136,7 @@ round_more old budget id worked refused now next o w r t pending below stepped f
       };
       rest =
           append_assoc t.ids (id ∷ []) (pending_from (id.slot + 1) (drop (id.slot + 1) next.slots.slots))
-          ∙ (ap (λ xs. t.ids ++ id ∷ pending_from (id.slot + 1) xs) (works_later budget now next id o (find now.slots id) stepped) ∙ (ap (λ xs. t.ids ++ xs) (sym e) ∙ t.rest));
+          ∙ (ap (λ xs. t.ids ++ id ∷ pending_from (id.slot + 1) xs) (works_later budget now next id o (find now.slots id) stepped.0) ∙ (ap (λ xs. t.ids ++ xs) (sym e) ∙ t.rest));
     }
 
 -- behind the last open session

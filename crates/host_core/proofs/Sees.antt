@@ -3,7 +3,7 @@ use Rattle.std.proofs.Common.{◌≡◌, ℕ, ◌+◌, ◌≤◌, Bool, true, fa
 use Rattle.session_slots.specs.declared.id.SessionId.{SessionId}
 use Rattle.session_slots.specs.Slots.{OpenSessions, find, Opens}
 use Rattle.session_slots.proofs.Finds.{find-with_session, find-with_session-other}
-use Rattle.usi_session.specs.Due.{SessionView, due, new_session}
+use Rattle.usi_session.specs.Due.{SessionView, due, state_due, new_session}
 use Rattle.host_core.specs.declared.event.HostFault.TheVariants.{Full, OutOfMemory, UnknownSession, NotReady}
 use Rattle.host_core.specs.Events.{Event, Open, Feed, Work, Take, Close, Outcome, Opened, Done, Worked, Gave, Refused}
 use Rattle.host_core.specs.Sessions.{Feeds, Works, Takes}
@@ -15,38 +15,38 @@ use Rattle.host_core.proofs.Ids.{same_id, other_id}
 abbrev pub Sees : List ℕ → List ℕ → Bool → Option SessionView → Option SessionView → Type 0
 Sees own taken opened None None = (own ≡ []) × (taken ≡ []) × (opened ≡ false)
 Sees own taken opened None (Some t) = (own ≡ []) × (taken ≡ []) × (opened ≡ true) × (t ≡ new_session)
-Sees own taken opened (Some s) (Some t) = (opened ≡ false) × ((x : List ℕ) → taken ++ due t x ≡ due s (own ++ x))
+Sees own taken opened (Some s) (Some t) = (opened ≡ false) × ((x : List ℕ) → taken ++ due t x ≡ due s (own ++ x)) × ((x : List ℕ) → state_due t x ≡ state_due s (own ++ x))
 Sees own taken opened (Some s) None = (own ≡ []) × (taken ≡ []) × (opened ≡ false)
 
 -- nothing of it happened
 sees_same : (old new : Option SessionView) → new ≡ old → Sees [] [] false old new
 sees_same None new e = rw e (refl, refl, refl)
-sees_same (Some s) new e = rw e (refl, λ x. refl)
+sees_same (Some s) new e = rw e (refl, λ x. refl, λ x. refl)
 
 -- the session of an id changed: that one has it, and no other
-changed_at : (b : Bool) (goes : SessionView → Outcome → SessionView → Type 0) (old new : HostState) (at id : SessionId) (s : SessionView) (o : Outcome) (own taken : List ℕ) → is_same_id at id ≡ b → find old.slots at ≡ Some s → (c : Changed goes old at s o new) → ((x : List ℕ) → taken ++ due c.after x ≡ due s (own ++ x))
+changed_at : (b : Bool) (goes : SessionView → Outcome → SessionView → Type 0) (old new : HostState) (at id : SessionId) (s : SessionView) (o : Outcome) (own taken : List ℕ) → is_same_id at id ≡ b → find old.slots at ≡ Some s → (c : Changed goes old at s o new) → ((x : List ℕ) → taken ++ due c.after x ≡ due s (own ++ x)) → ((x : List ℕ) → state_due c.after x ≡ state_due s (own ++ x))
     → Sees (cond b own []) (cond b taken []) false (find old.slots id) (find new.slots id)
-changed_at true goes old new at id s o own taken e f c h =
+changed_at true goes old new at id s o own taken e f c h k =
     let same : at ≡ id = same_id at id e in
     let before : find old.slots id ≡ Some s = ap (find old.slots) (sym same) ∙ f in
     let after : find new.slots id ≡ Some c.after = ap (find new.slots) (sym same) ∙ (ap (λ q. find q at) c.slots_are ∙ find-with_session old.slots at s c.after f) in
-    rw (before, after) (refl, h)
-changed_at false goes old new at id s o own taken e f c h =
+    rw (before, after) (refl, h, k)
+changed_at false goes old new at id s o own taken e f c h k =
     sees_same (find old.slots id) (find new.slots id) (ap (λ q. find q id) c.slots_are ∙ find-with_session-other old.slots at id s c.after f (other_id at id e))
 
-changed : (goes : SessionView → Outcome → SessionView → Type 0) (old new : HostState) (at id : SessionId) (s : SessionView) (o : Outcome) (own taken : List ℕ) → find old.slots at ≡ Some s → (c : Changed goes old at s o new) → ((x : List ℕ) → taken ++ due c.after x ≡ due s (own ++ x))
+changed : (goes : SessionView → Outcome → SessionView → Type 0) (old new : HostState) (at id : SessionId) (s : SessionView) (o : Outcome) (own taken : List ℕ) → find old.slots at ≡ Some s → (c : Changed goes old at s o new) → ((x : List ℕ) → taken ++ due c.after x ≡ due s (own ++ x)) → ((x : List ℕ) → state_due c.after x ≡ state_due s (own ++ x))
     → Sees (cond (is_same_id at id) own []) (cond (is_same_id at id) taken []) false (find old.slots id) (find new.slots id)
-changed goes old new at id s o own taken f c h = changed_at (is_same_id at id) goes old new at id s o own taken refl f c h
+changed goes old new at id s o own taken f c h k = changed_at (is_same_id at id) goes old new at id s o own taken refl f c h k
 
 cond_nil : (b : Bool) (xs : List ℕ) → xs ≡ [] → cond b xs xs ≡ []
 cond_nil true xs e = e
 cond_nil false xs e = e
 
 -- neither bytes of its own nor bytes taken
-quiet : (goes : SessionView → Outcome → SessionView → Type 0) (old new : HostState) (at id : SessionId) (s : SessionView) (o : Outcome) → find old.slots at ≡ Some s → (c : Changed goes old at s o new) → ((x : List ℕ) → due c.after x ≡ due s x) → Sees [] [] false (find old.slots id) (find new.slots id)
-quiet goes old new at id s o f c h =
+quiet : (goes : SessionView → Outcome → SessionView → Type 0) (old new : HostState) (at id : SessionId) (s : SessionView) (o : Outcome) → find old.slots at ≡ Some s → (c : Changed goes old at s o new) → ((x : List ℕ) → due c.after x ≡ due s x) → ((x : List ℕ) → state_due c.after x ≡ state_due s x) → Sees [] [] false (find old.slots id) (find new.slots id)
+quiet goes old new at id s o f c h k =
     let none : cond (is_same_id at id) [] [] ≡ [] = cond_nil (is_same_id at id) [] refl in
-    rw none at (changed goes old new at id s o [] [] f c h)
+    rw none at (changed goes old new at id s o [] [] f c h k)
 
 unknown : (old new : HostState) (o : Outcome) (id : SessionId) → Unknown old o new → Sees [] [] false (find old.slots id) (find new.slots id)
 unknown old new o id u = sees_same (find old.slots id) (find new.slots id) (ap (λ (h : HostState). find h.slots id) u.same)
@@ -55,25 +55,25 @@ fed : (old new : HostState) (at id : SessionId) (chunk : List ℕ) (o : Outcome)
 fed old new at id chunk o None e u = rw u.refused (unknown old new o id u)
 fed old new at id chunk Done (Some s) e c =
     let none : cond (is_same_id at id) [] [] ≡ [] = cond_nil (is_same_id at id) [] refl in
-    rw none at (changed (Feeds chunk) old new at id s Done chunk [] e c c.went.owed)
+    rw none at (changed (Feeds chunk) old new at id s Done chunk [] e c c.went.owed c.went.after)
 fed old new at id chunk (Opened other) (Some s) e c = absurd c.went
 fed old new at id chunk (Worked steps) (Some s) e c = absurd c.went
 fed old new at id chunk (Gave bytes) (Some s) e c = absurd c.went
 fed old new at id chunk (Refused Full) (Some s) e c = absurd c.went
 fed old new at id chunk (Refused UnknownSession) (Some s) e c = absurd c.went
-fed old new at id chunk (Refused NotReady) (Some s) e c = quiet (Feeds chunk) old new at id s (Refused NotReady) e c (λ x. ap (λ (t : SessionView). due t x) c.went.1)
-fed old new at id chunk (Refused OutOfMemory) (Some s) e c = quiet (Feeds chunk) old new at id s (Refused OutOfMemory) e c (λ x. ap (λ (t : SessionView). due t x) c.went.1)
+fed old new at id chunk (Refused NotReady) (Some s) e c = quiet (Feeds chunk) old new at id s (Refused NotReady) e c (λ x. ap (λ (t : SessionView). due t x) c.went.1) (λ x. ap (λ (t : SessionView). state_due t x) c.went.1)
+fed old new at id chunk (Refused OutOfMemory) (Some s) e c = quiet (Feeds chunk) old new at id s (Refused OutOfMemory) e c (λ x. ap (λ (t : SessionView). due t x) c.went.1) (λ x. ap (λ (t : SessionView). state_due t x) c.went.1)
 
 worked : (old new : HostState) (at id : SessionId) (budget : ℕ) (o : Outcome) (found : Option SessionView) → find old.slots at ≡ found → OnSession (Works budget) old at found o new → Sees [] [] false (find old.slots id) (find new.slots id)
 worked old new at id budget o None e u = unknown old new o id u
 worked old new at id budget Done (Some s) e c = absurd c.went
 worked old new at id budget (Opened other) (Some s) e c = absurd c.went
-worked old new at id budget (Worked steps) (Some s) e c = quiet (Works budget) old new at id s (Worked steps) e c c.went.owed
+worked old new at id budget (Worked steps) (Some s) e c = quiet (Works budget) old new at id s (Worked steps) e c c.went.owed c.went.after
 worked old new at id budget (Gave bytes) (Some s) e c = absurd c.went
 worked old new at id budget (Refused Full) (Some s) e c = absurd c.went
 worked old new at id budget (Refused UnknownSession) (Some s) e c = absurd c.went
 worked old new at id budget (Refused NotReady) (Some s) e c = absurd c.went
-worked old new at id budget (Refused OutOfMemory) (Some s) e c = quiet (Works budget) old new at id s (Refused OutOfMemory) e c c.went.owed
+worked old new at id budget (Refused OutOfMemory) (Some s) e c = quiet (Works budget) old new at id s (Refused OutOfMemory) e c c.went.owed c.went.after
 
 took : (old new : HostState) (at id : SessionId) (n : ℕ) (o : Outcome) (found : Option SessionView) → find old.slots at ≡ found → OnSession (Takes n) old at found o new → Sees (own_by id (Take at n) o) (taken_by id (Take at n) o) (opens id (Take at n) o) (find old.slots id) (find new.slots id)
 took old new at id n o None e u = rw u.refused (unknown old new o id u)
@@ -82,11 +82,11 @@ took old new at id n (Opened other) (Some s) e c = absurd c.went
 took old new at id n (Worked steps) (Some s) e c = absurd c.went
 took old new at id n (Gave bytes) (Some s) e c =
     let none : cond (is_same_id at id) [] [] ≡ [] = cond_nil (is_same_id at id) [] refl in
-    rw none at (changed (Takes n) old new at id s (Gave bytes) [] bytes e c (λ x. ap (λ bs. bs ++ due c.after x) c.went.bytes_are ∙ sym (c.went.owed x)))
+    rw none at (changed (Takes n) old new at id s (Gave bytes) [] bytes e c (λ x. ap (λ bs. bs ++ due c.after x) c.went.bytes_are ∙ sym (c.went.owed x)) (λ x. rw (c.went.state_is, c.went.running_go_is, c.went.input_is) refl))
 took old new at id n (Refused Full) (Some s) e c = absurd c.went
 took old new at id n (Refused UnknownSession) (Some s) e c = absurd c.went
-took old new at id n (Refused NotReady) (Some s) e c = quiet (Takes n) old new at id s (Refused NotReady) e c (λ x. ap (λ (t : SessionView). due t x) c.went.1)
-took old new at id n (Refused OutOfMemory) (Some s) e c = quiet (Takes n) old new at id s (Refused OutOfMemory) e c (λ x. ap (λ (t : SessionView). due t x) c.went.1)
+took old new at id n (Refused NotReady) (Some s) e c = quiet (Takes n) old new at id s (Refused NotReady) e c (λ x. ap (λ (t : SessionView). due t x) c.went.1) (λ x. ap (λ (t : SessionView). state_due t x) c.went.1)
+took old new at id n (Refused OutOfMemory) (Some s) e c = quiet (Takes n) old new at id s (Refused OutOfMemory) e c (λ x. ap (λ (t : SessionView). due t x) c.went.1) (λ x. ap (λ (t : SessionView). state_due t x) c.went.1)
 
 opened_at : (b : Bool) (old new : HostState) (at id : SessionId) → is_same_id at id ≡ b → Opens old.slots new.slots at → Sees [] [] b (find old.slots id) (find new.slots id)
 opened_at true old new at id e p =
@@ -125,7 +125,7 @@ closed old new at id o (Some s) c = closed_at (is_same_id at id) old new at id o
 pub sees : (old new : HostState) (id : SessionId) (event : Event) (o : Outcome) → Stepped old event o new → Sees (own_by id event o) (taken_by id event o) (opens id event o) (find old.slots id) (find new.slots id)
 sees old new id Open o p = opened old new id o p
 sees old new id (Feed at chunk) o p = fed old new at id chunk o (find old.slots at) refl p.0
-sees old new id (Work at budget) o p = worked old new at id budget o (find old.slots at) refl p
+sees old new id (Work at budget) o p = worked old new at id budget o (find old.slots at) refl p.0
 sees old new id (Take at n) o p = took old new at id n o (find old.slots at) refl p.0
 sees old new id (Close at) o p = closed old new at id o (find old.slots at) p
 
@@ -170,6 +170,6 @@ rises_close old new at id o (Some s) c = same_next old new id c.next_is
 pub rises : (old new : HostState) (id : SessionId) (event : Event) (o : Outcome) → Stepped old event o new → Rises old new id (opens id event o)
 rises old new id Open o p = rises_open old new id o p
 rises old new id (Feed at chunk) o p = rises_on (Feeds chunk) old new at id o (find old.slots at) p.0
-rises old new id (Work at budget) o p = rises_on (Works budget) old new at id o (find old.slots at) p
+rises old new id (Work at budget) o p = rises_on (Works budget) old new at id o (find old.slots at) p.0
 rises old new id (Take at n) o p = rises_on (Takes n) old new at id o (find old.slots at) p.0
 rises old new id (Close at) o p = rises_close old new at id o (find old.slots at) p

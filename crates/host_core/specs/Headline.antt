@@ -1,13 +1,13 @@
 -- What is promised of a run, session by session: each gets what an engine of its own would answer (own choice).
-use Rattle.std.specs.Prelude.{◌≡◌, ℕ, List, ◌++◌, true, false, Option, Some, None}
+use Rattle.std.specs.Prelude.{◌≡◌, ⊤, ℕ, List, ◌++◌, Bool, true, false, Option, Some, None}
 use Rattle.session_slots.specs.declared.id.SessionId.{SessionId}
 use Rattle.session_slots.specs.Slots.{find}
-use Rattle.usi_session.specs.Due.{SessionView, due, is_pending}
-use Rattle.usi_session.specs.Replies.{replies}
+use Rattle.usi_session.specs.Due.{SessionView, due, state_due, is_pending}
+use Rattle.usi_session.specs.Replies.{replies, is_over_after}
 use Rattle.host_core.specs.Made.{Step, own, taken, is_opened, made}
 use Rattle.host_core.specs.Steps.{HostState}
 use Rattle.host_core.specs.Runs.{IsRun}
-use Rattle.host_core.specs.ById.{queued_of}
+use Rattle.host_core.specs.ById.{queued_of, is_over_of}
 
 -- some bytes may follow
 abbrev pub IsFrontOf : List ℕ → List ℕ → Type 0
@@ -34,6 +34,27 @@ EndsFrom owed own taken (Some t) = (x : List ℕ) → taken ++ due t x ≡ owed 
 -- a session that was open before goes on from what it owed
 abbrev pub GoesOn : HostState → List Step → HostState → Type 0
 GoesOn old steps end = (id : SessionId) (s : SessionView) → find old.slots id ≡ Some s → EndsFrom (due s) (own id steps) (taken id steps) (find end.slots id)
+
+-- whether a session is over once these further bytes were fed and all was answered
+abbrev pub is_over_due : SessionView → List ℕ → Bool
+is_over_due session further = (state_due session further).is_over
+
+-- a session for which these bytes were stored is over, once all is answered, exactly where they and any further bytes end it
+abbrev pub OverFrom : (List ℕ → Bool) → List ℕ → Option SessionView → Type 0
+OverFrom ends own None = ⊤
+OverFrom ends own (Some t) = (x : List ℕ) → is_over_due t x ≡ ends (own ++ x)
+
+-- a session that the run opened ends by its own bytes, and by no others
+abbrev pub EndsByOwn : List Step → HostState → Type 0
+EndsByOwn steps end = (id : SessionId) → is_opened id steps ≡ true → OverFrom is_over_after (own id steps) (find end.slots id)
+
+-- with nothing pending it is over exactly where its own bytes end it: after `quit` or a line that is too long, and not before
+abbrev pub OverByOwn : List Step → HostState → Type 0
+OverByOwn steps end = (id : SessionId) → is_opened id steps ≡ true → IsSettled (find end.slots id) → is_over_of (find end.slots id) ≡ is_over_after (own id steps)
+
+-- a session that was open before ends as it was to end
+abbrev pub EndsOn : HostState → List Step → HostState → Type 0
+EndsOn old steps end = (id : SessionId) (s : SessionView) → find old.slots id ≡ Some s → OverFrom (is_over_due s) (own id steps) (find end.slots id)
 
 -- two runs that agree on the own bytes of a session which each of them opened make the same bytes for it, where both end with it open and nothing pending; all else may differ
 abbrev pub IsolatesSessions : Type 0

@@ -1,10 +1,10 @@
 pub mod Events
 pub mod Made
 pub mod Seen
+pub mod ById
 pub mod Sessions
 pub mod Steps
 pub mod Kept
 pub mod Runs
 pub mod Headline
-pub mod ById
 pub mod Rounds

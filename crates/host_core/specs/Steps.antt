@@ -1,11 +1,12 @@
 -- One event of a host: its outcome, and the host after it (own choice).
-use Rattle.std.specs.Prelude.{◌≡◌, ℕ, ◌+◌, [], Option, Some, None}
+use Rattle.std.specs.Prelude.{◌≡◌, ℕ, ◌+◌, [], false, Option, Some, None}
 use Rattle.session_slots.specs.declared.id.SessionId.{SessionId}
 use Rattle.session_slots.specs.Slots.{OpenSessions, find, with_session, count, Opens, OthersKept, IsFull}
 use Rattle.shared_table.specs.Recent.{Table}
 use Rattle.usi_session.specs.Due.{SessionView}
 use Rattle.host_core.specs.declared.event.HostFault.TheVariants.{Full, OutOfMemory, UnknownSession}
 use Rattle.host_core.specs.Events.{Event, Open, Feed, Work, Take, Close, Outcome, Opened, Done, Refused}
+use Rattle.host_core.specs.ById.{pending_of}
 use Rattle.host_core.specs.Sessions.{Feeds, Works, Takes}
 
 -- the table that all sessions share, and the open sessions
@@ -60,10 +61,15 @@ abbrev pub IsClosed : HostState → SessionId → Option SessionView → Outcome
 IsClosed old id None outcome new = Unknown old outcome new
 IsClosed old id (Some session) outcome new = Closed old id outcome new
 
--- each event with its outcome, and the host after it; only `Work` may change the table
+-- the session of the id goes on; where nothing of it is pending, the table is what it was
+abbrev pub IsWorked : ℕ → HostState → SessionId → Outcome → HostState → Type 0
+IsWorked budget old id outcome new =
+    OnSession (Works budget) old id (find old.slots id) outcome new × (pending_of (find old.slots id) ≡ false → new.table ≡ old.table)
+
+-- each event with its outcome, and the host after it; only a `Work` of a session that is pending may change the table
 abbrev pub Stepped : HostState → Event → Outcome → HostState → Type 0
 Stepped old Open outcome new = IsOpened old outcome new
 Stepped old (Feed id chunk) outcome new = OnSession (Feeds chunk) old id (find old.slots id) outcome new × (new.table ≡ old.table)
-Stepped old (Work id budget) outcome new = OnSession (Works budget) old id (find old.slots id) outcome new
+Stepped old (Work id budget) outcome new = IsWorked budget old id outcome new
 Stepped old (Take id n) outcome new = OnSession (Takes n) old id (find old.slots id) outcome new × (new.table ≡ old.table)
 Stepped old (Close id) outcome new = IsClosed old id (find old.slots id) outcome new

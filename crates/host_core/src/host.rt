@@ -5,7 +5,7 @@ ghost use Rattle.session_slots.specs.Slots.{find, IsBelow};
 ghost use Rattle.shared_table.specs.Recent.{AreTrue};
 ghost use Rattle.host_core.specs.ById.{IsQueue, queued_of, pending_of, wants_input_of, is_over_of};
 ghost use Rattle.host_core.specs.Events.{Open, Feed, Work, Take, Close};
-ghost use Rattle.host_core.specs.Headline.{FrontOfReplies, AllReplies, GoesOn};
+ghost use Rattle.host_core.specs.Headline.{FrontOfReplies, AllReplies, GoesOn, EndsByOwn, OverByOwn, EndsOn};
 ghost use Rattle.host_core.specs.Kept.{KeepsOthers, is_refused};
 ghost use Rattle.host_core.specs.Rounds.{pending_ids, IsRound, RoundTo};
 ghost use Rattle.host_core.specs.Runs.{IsRun};
@@ -64,13 +64,14 @@ impl<S: BuildHasher, A: Allocator + Copy> Host<S, A> {
         })
     }
 
-    /// Tells that each entry of the table is true, and that each id which finds a session has a
-    /// generation below the next one.
+    /// Tells that each entry of the table is true, that there are at most as many as its capacity, and
+    /// that each id which finds a session has a generation below the next one.
     pub fn validity(&self)
         ensures truth { AreTrue self.now.table.pairs }
+        ensures fits { length self.now.table.pairs ≤ self.now.table.capacity }
         ensures below { IsBelow self.now.slots }
     {
-        let _ = self.table.entries();
+        self.table.validity();
         self.slots.validity();
     }
 
@@ -81,6 +82,7 @@ impl<S: BuildHasher, A: Allocator + Copy> Host<S, A> {
         ensures others { KeepsOthers self.old (event_of event.entry) (outcome_of result) self.new }
         ensures refused { is_refused (event_of event.entry) (outcome_of result) ≡ true → self.new ≡ self.old }
         ensures truth { AreTrue self.new.table.pairs }
+        ensures fits { length self.new.table.pairs ≤ self.new.table.capacity }
         ensures below { IsBelow self.old.slots }
     {
         self.validity();
@@ -94,13 +96,17 @@ impl<S: BuildHasher, A: Allocator + Copy> Host<S, A> {
     ///
     /// For each session that an event opened, the bytes made for it are a front of the replies to the
     /// bytes stored for it, and all of them where it is open at the end with nothing pending. A session
-    /// that was open before goes on from what it owed.
+    /// that was open before goes on from what it owed. With nothing pending a session is over where the
+    /// bytes stored for it end it, by `quit` or a line that is too long, and nowhere else.
     pub fn run(&mut self, events: &[Event<'_>]) -> Result<Vec<Outcome<A>, A>, HostFault>
         ensures chain { IfOk result (λ outcomes. IsRun self.old (answered events.now outcomes.items) self.new) }
         ensures each { IfOk result (λ outcomes. vec_len outcomes ≡ length events.now) }
         ensures front { IfOk result (λ outcomes. FrontOfReplies (answered events.now outcomes.items) self.new) }
         ensures all { IfOk result (λ outcomes. AllReplies (answered events.now outcomes.items) self.new) }
         ensures before { IfOk result (λ outcomes. GoesOn self.old (answered events.now outcomes.items) self.new) }
+        ensures ends { IfOk result (λ outcomes. EndsByOwn (answered events.now outcomes.items) self.new) }
+        ensures over { IfOk result (λ outcomes. OverByOwn (answered events.now outcomes.items) self.new) }
+        ensures ends_on { IfOk result (λ outcomes. EndsOn self.old (answered events.now outcomes.items) self.new) }
         ensures fault { OnErr result (result ≡ Err OutOfMemory) }
         ensures err { OnErr result (self.new ≡ self.old) }
     {

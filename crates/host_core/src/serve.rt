@@ -1,6 +1,7 @@
 //! What one session answers to the events that name it.
 
-ghost use Rattle.std.specs.Prelude.{take, IsErrOf};
+ghost use Rattle.std.specs.Prelude.{◌≡◌, false, take, IsErrOf};
+ghost use Rattle.usi_session.specs.Due.{is_pending};
 ghost use Rattle.host_core.specs.Seen.{outcome_of, passed_of};
 ghost use Rattle.host_core.specs.Sessions.{Feeds, Works, Takes};
 ghost use Rattle.host_core.specs.declared.event.HostFault.TheVariants.{OutOfMemory};
@@ -24,14 +25,15 @@ pub fn feed<A: Allocator + Copy>(session: &mut Session<A>, chunk: &[u8]) -> Outc
     }
 }
 
-/// Goes on by at most so many steps. A session with nothing pending is left as it is.
+/// Goes on by at most so many steps. With nothing pending, the session and the memo are left as they are.
 #[tactic(auto, using(usi_session::proofs::WholeReplies::grows_by_none))]
 pub fn work<A: Allocator + Copy, M: Memo>(
     session: &mut Session<A>,
     memo: &mut M,
     budget: u64,
 ) -> Outcome<A>
-    ensures { Works budget session.old (outcome_of result) session.new }
+    ensures works { Works budget session.old (outcome_of result) session.new }
+    ensures idle { is_pending session.old ≡ false → memo.new ≡ memo.old }
 {
     if !session.pending() {
         return Outcome::Worked(0);

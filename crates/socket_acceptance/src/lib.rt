@@ -1,6 +1,7 @@
 //! Tests of the loop that serves sessions to connections, over a wire in memory.
 #![tactic(auto)]
 
+mod call;
 #[cfg(test)]
 mod faults;
 #[cfg(test)]
@@ -11,3 +12,5 @@ mod peers;
 mod random;
 #[cfg(test)]
 mod scene;
+#[cfg(test)]
+mod telling;

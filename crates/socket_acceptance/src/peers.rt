@@ -56,10 +56,10 @@ fn a_full_host_is_told_in_one_write(rt: HostRuntime) -> Result<(), Fail> {
     Ok(())
 }
 
-// With rounds of 10 steps the search goes on for turns after the peer has ended. Each of them moves.
+// With rounds of one step the search goes on for turns after the peer has ended. Each of them moves.
 #[test]
 fn a_peer_that_ends_is_answered_first(rt: HostRuntime) -> Result<(), Fail> {
-    let mut scene = Scene::new(rt.alloc(), 1, 10)?;
+    let mut scene = Scene::new(rt.alloc(), 1, 1)?;
     let x = scene.connect(&[b"go depth 1\n"])?;
     let mut turns = 0usize;
     for _ in 0..64 {
@@ -70,7 +70,7 @@ fn a_peer_that_ends_is_answered_first(rt: HostRuntime) -> Result<(), Fail> {
         assert!(rt; !scene.is_shut(x) || scene.written(x) == ANSWER);
     }
     assert!(rt; scene.written(x) == ANSWER && scene.is_shut(x));
-    assert!(rt; turns >= 7 && turns < 64);
+    assert!(rt; turns >= 4 && turns < 64);
     Ok(())
 }
 
@@ -97,7 +97,7 @@ fn a_slot_is_used_again(rt: HostRuntime) -> Result<(), Fail> {
     Ok(())
 }
 
-// A connection with two lines beside one with one, over the table of both, with rounds of 10 steps.
+// A connection with two lines beside one with one, over the table of both, with rounds of one step.
 #[test]
 fn lines_of_their_own(rt: HostRuntime) -> Result<(), Fail> {
     let two = b"info depth 1 multipv 1 score cp 0 pv 1g1f
@@ -105,7 +105,7 @@ info depth 1 multipv 2 score cp 0 pv 1i1h
 bestmove 1g1f
 "
         .as_slice();
-    let mut scene = Scene::new(rt.alloc(), 2, 10)?;
+    let mut scene = Scene::new(rt.alloc(), 2, 1)?;
     let x = scene.connect(&[b"setoption name MultiPV value 2\ngo de", b"pth 1\nquit\n"])?;
     let y = scene.connect(GO_AND_QUIT)?;
     assert!(rt; !scene.turn_times(64));

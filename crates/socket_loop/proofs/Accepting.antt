@@ -19,11 +19,11 @@ use Rattle.socket_loop.specs.declared.wire.WireFault.{WireFault}
 use Rattle.socket_loop.specs.Told.{Told, KeepsPeer, KeepsAll, Writes, Shuts, bytes_written, GivesNumber}
 use Rattle.socket_loop.specs.Links.{Ties, IsTied, IsAmong, IsApart, links_of}
 use Rattle.socket_loop.specs.Parts.{AllMove, AreAll, IsAdmission, IsClosing, closes}
-use Rattle.socket_loop.specs.Turns.{Fits, Accepted, HasSession, IsOneOf, IsTurnedAway, IsAway, IsNew, Accepts, Admits, openings, told_to}
+use Rattle.socket_loop.specs.Turns.{Fits, Accepted, AreNumbered, HasSession, IsOneOf, IsTurnedAway, IsAway, IsNew, Accepts, Admits, openings, told_to}
 use Rattle.socket_loop.proofs.Peers.{kept_same, kept_then, all_kept, moves_then, away_moves, stays_raised, rises_then, stays_rise, told_failure, raised_rises, Consumes-none, Appends-none, Keeps-Appends}
 use Rattle.socket_loop.specs.Asked.{Call, Accept, Asks}
 use Rattle.socket_loop.specs.Calls.{AcceptsAll, AcceptsSome, AdmitsOne, AsksAccepts, AsksAll, GivesNobody}
-use Rattle.socket_loop.proofs.Calls.{asks_accept, asks_full, asks_no_accept, asks_stop}
+use Rattle.socket_loop.proofs.Calls.{asks_accept, asks_full, asks_no_accept, asks_on, asks_stop}
 use Rattle.socket_loop.proofs.Left.{once_insert}
 use Rattle.socket_loop.proofs.Runs.{run-one, run-two, run-append, own-append, taken-append, openings-append, closes_neither, closes_either, all_append, next_rises, step_rises, opened_left, opened_right}
 
@@ -79,6 +79,7 @@ accepts_none ls from to a b h rises k = record {
   no_taken = λ id. refl;
   rises = rises;
   accepted = [];
+  numbered = rises;
   answers = refl;
   kept = λ n l. k n;
   each = λ n. inl (k n);
@@ -150,6 +151,7 @@ admits_none ls a b h i number to o steps kinds r no_own no_taken answers below o
         no_taken = no_taken;
         rises = omega arith;
         accepted = record { number = number; outcome = o } ∷ [];
+        numbered = (least, omega arith);
         answers = answers;
         kept = λ n l. kept_then old a b n (kept n) (w.others n (λ e. (let f : n ≡ number = e in absurd (omega arith))));
         each = λ n. away_each old a b from number to n o kept least most w;
@@ -204,7 +206,7 @@ insert_among (x ∷ xs) zero c l m = inr m
 insert_among (x ∷ xs) (suc i) c l (inl e) = inl e
 insert_among (x ∷ xs) (suc i) c l (inr m) = inr (insert_among xs i c l m)
 
-insert_in : (held : List Connection) (place : ℕ) (c : Connection) → IsAmong (links_of (insert held place c)) c.link
+pub insert_in : (held : List Connection) (place : ℕ) (c : Connection) → IsAmong (links_of (insert held place c)) c.link
 insert_in [] zero c = inl refl
 insert_in [] (suc i) c = inl refl
 insert_in (x ∷ xs) zero c = inl refl
@@ -220,6 +222,12 @@ tied_insert (x ∷ xs) (suc i) c l t u = (u.0, tied_insert xs i c l t u.1)
 pub fresh_tied : (ls : List Link) (k : Link) → ((l : Link) → IsAmong ls l → Ties l k) → IsTied ls k
 fresh_tied [] k f = tt
 fresh_tied (x ∷ xs) k f = (f x (inl refl), fresh_tied xs k (λ l m. f l (inr m)))
+
+-- what the link is tied to
+pub tied_of : (ls : List Link) (k l : Link) → IsTied ls k → IsAmong ls l → Ties l k
+tied_of [] k l t m = absurd m
+tied_of (x ∷ xs) k l t (inl e) = rw e t.0
+tied_of (x ∷ xs) k l t (inr m) = tied_of xs k l t.1 m
 
 same_ties : (k l : Link) → l ≡ k → Ties k l
 same_ties k l e = record { by_number = λ _. ap (λ (x : Link). x.id) (sym e); by_id = λ _. ap (λ (x : Link). x.number) (sym e) }
@@ -273,6 +281,7 @@ admits_new held place c a h i to s = λ from old kept least most.
         no_taken = λ id. refl;
         rises = omega arith;
         accepted = record { number = c.link.number; outcome = Opened c.link.id } ∷ [];
+        numbered = (least, omega arith);
         answers = refl;
         kept = λ n l. kept n;
         each = λ n. inl (kept n);
@@ -310,6 +319,26 @@ one_either : (x y : List Accepted) (e : Accepted) → IsOneOf (x ++ y) e → IsO
 one_either [] y e p = inr p
 one_either (f ∷ x) y e (inl p) = inl (inl p)
 one_either (f ∷ x) y e (inr p) = elim (one_either x y e p) [ inl first ↦ inl (inr first) | inr second ↦ inr second ]
+
+numbered_from : (f m t : ℕ) (ys : List Accepted) → f ≤ m → AreNumbered m ys t → AreNumbered f ys t
+numbered_from f m t [] p q = omega (arith, p, q)
+numbered_from f m t (y ∷ ys) p q = (omega (arith, p, q.0), q.1)
+
+numbered_end : (f m : ℕ) (xs : List Accepted) → AreNumbered f xs m → f ≤ m
+numbered_end f m [] p = p
+numbered_end f m (x ∷ xs) p = (let u : x.number + 1 ≤ m = numbered_end (x.number + 1) m xs p.1 in omega (arith, p.0))
+
+numbered_then : (f m t : ℕ) (xs ys : List Accepted) → AreNumbered f xs m → AreNumbered m ys t → AreNumbered f (xs ++ ys) t
+numbered_then f m t [] ys p q = numbered_from f m t ys p q
+numbered_then f m t (x ∷ xs) ys p q = (p.0, numbered_then (x.number + 1) m t xs ys p.1 q)
+
+numbered_below : (f m : ℕ) (xs : List Accepted) (x : Accepted) → AreNumbered f xs m → IsOneOf xs x → x.number < m
+numbered_below f m [] x p one = absurd one
+numbered_below f m (y ∷ ys) x p (inl same) =
+    let u : y.number + 1 ≤ m = numbered_end (y.number + 1) m ys p.1 in
+    let e : x.number ≡ y.number = ap (λ (z : Accepted). z.number) same in
+    omega arith
+numbered_below f m (y ∷ ys) x p (inr one) = numbered_below (y.number + 1) m ys x p.1 one
 
 -- turned away, and nothing after that
 turned_then : (f m t : ℕ) (x y : List Accepted) (a b c : Told) (n : ℕ) → m ≤ t → IsTurnedAway f m x a b n → KeepsPeer b c n → IsTurnedAway f t (x ++ y) a c n
@@ -383,6 +412,7 @@ accepts_then ls ms ns f m t a b c h i j p q =
       no_taken = λ id. taken-append id p.steps q.steps ∙ rw (p.no_taken id, q.no_taken id) refl;
       rises = omega arith;
       accepted = p.accepted ++ q.accepted;
+      numbered = numbered_then f m t p.accepted q.accepted p.numbered q.numbered;
       answers = openings-append p.steps q.steps ∙ (ap (λ xs. xs ++ openings q.steps) p.answers ∙ (ap (λ xs. map (λ (x : Accepted). x.outcome) p.accepted ++ xs) q.answers ∙ sym (map-append (λ (x : Accepted). x.outcome) p.accepted q.accepted)));
       kept = λ n lt. kept_then a b c n (p.kept n lt) (q.kept n (omega arith));
       each = λ n. each_then f m t p.accepted q.accepted a b c n u v (p.each n) (q.each n) (q.kept n);
@@ -446,7 +476,7 @@ length_one xs x = length-append xs (x ∷ [])
 
 pub some_start : (moved : Bool) (ls : List Link) (from : ℕ) (a : Told) (h : HostState) (calls : Option (List Call)) → AcceptsSome 0 moved ls from a h ls from a h calls calls
 unfolding accepts_start accepts_none
-some_start moved ls from a h calls = record { accepts = accepts_start ls from a h; none = λ e. refl; counted = refl; asked = asks_no_accept calls }
+some_start moved ls from a h calls = record { accepts = accepts_start ls from a h; none = λ e. refl; counted = refl; asked = λ fit. asks_no_accept ls calls }
 
 -- no connection waits, or the wire fails
 pub some_stop : (n : ℕ) (moved : Bool) (ls ms : List Link) (f m : ℕ) (t : ℕ) (a b c : Told) (h i : HostState) (old mid new : Option (List Call)) (answer : Result (Option ℕ) WireFault) → n < 16 → AcceptsSome n moved ls f a h ms m b i old mid → m ≤ t → KeepsAll b c → Asks mid new (Accept answer ∷ []) → GivesNobody answer → AcceptsAll moved ls f a h ms t c i old new
@@ -456,12 +486,12 @@ some_stop n moved ls ms f m t a b c h i old mid new answer lt p u k q g =
     record {
       accepts = accepts_stop ls ms f m t a b c h i p.accepts u k;
       none = λ e. ap (λ (xs : List Accepted). xs ++ []) (p.none e);
-      asked = subst (λ (xs : List Accepted). AsksAll xs old new) (sym (append-nil p.accepts.accepted)) (asks_stop p.accepts.accepted old mid new answer count p.asked q g);
+      asked = λ fit. subst (λ (xs : List Accepted). AsksAll ms xs old new) (sym (append-nil p.accepts.accepted)) (asks_stop ms p.accepts.accepted old mid new answer count (p.asked fit) q g);
     }
 
 -- as many were accepted as may be
 pub some_full : (n : ℕ) (moved : Bool) (ls ms : List Link) (f m : ℕ) (a b : Told) (h i : HostState) (old new : Option (List Call)) → n ≡ 16 → AcceptsSome n moved ls f a h ms m b i old new → AcceptsAll moved ls f a h ms m b i old new
-some_full n moved ls ms f m a b h i old new e p = record { accepts = p.accepts; none = p.none; asked = asks_full p.accepts.accepted old new (p.counted ∙ e) p.asked }
+some_full n moved ls ms f m a b h i old new e p = record { accepts = p.accepts; none = p.none; asked = λ fit. asks_full ms p.accepts.accepted old new (p.counted ∙ e) (p.asked fit) }
 
 pub some_more : (n : ℕ) (moved : Bool) (ls ms ns : List Link) (f m number t : ℕ) (a b c d : Told) (h i j : HostState) (old mid asked new : Option (List Call)) → AcceptsSome n moved ls f a h ms m b i old mid → m ≤ number → number < t → KeepsAll b c → Asks mid asked (Accept (Ok (Some number)) ∷ []) → AdmitsOne ms c i number t ns d j asked new → AcceptsSome (n + 1) true ls f a h ns t d j old new
 unfolding accepts_more accepts_then
@@ -472,8 +502,18 @@ some_more n moved ls ms ns f m number t a b c d h i j old mid asked new p u v k 
       accepts = accepts_more ls ms ns f m number t r.outcome a b c d h i j p.accepts u v k r.admits;
       none = λ e. absurd (cc);
       counted = ap length items ∙ (length_one p.accepts.accepted item ∙ ap (λ (x : ℕ). x + 1) p.counted);
-      asked = subst (λ (xs : List Accepted). AsksAccepts xs old new) (sym items) (asks_accept p.accepts.accepted item old mid asked new p.asked q r.asked);
+      asked = λ fit. subst (λ (xs : List Accepted). AsksAccepts ns xs old new) (sym items) (asks_accept ns p.accepts.accepted item old mid asked new (asks_on ms ns p.accepts.accepted old mid (r.admits m b k u v).accepts.stay later (p.asked fit)) q (r.asked (apart fit)));
     }
+  where
+    apart : Fits ls f h → IsApart ms number
+    apart fit = apart_each ms number (λ l among e. (let y : l.number < m = (p.accepts.fits fit l among).number in let z : l.number ≡ number = e in absurd (omega arith)))
+
+    later_one : (n : ℕ) (l : Link) → n < m → IsApart ms n → IsAmong ms l ⊎ IsNew m t (r.admits m b k u v).accepts.accepted i.slots.next b d (r.admits m b k u v).accepts.steps l → l.number ≢ n
+    later_one n l lt away_ (inl old_) = each_apart ms n l away_ old_
+    later_one n l lt away_ (inr new_) = λ e. (let y : m ≤ l.number = new_.least in let z : l.number ≡ n = e in absurd (omega arith))
+
+    later : (x : Accepted) → IsOneOf p.accepts.accepted x → IsApart ms x.number → IsApart ns x.number
+    later x one away_ = apart_each ns x.number (λ l among. later_one x.number l (numbered_below f m p.accepts.accepted x p.accepts.numbered one) away_ ((r.admits m b k u v).accepts.are l among))
 
 pub number_rises : (old new : ℕ) (r : Result (Option ℕ) WireFault) → GivesNumber old new r → old ≤ new
 number_rises old new (Ok (Some n)) p = (let u : old ≤ n = p.0 in let v : n < new = p.1 in omega arith)

@@ -5,18 +5,19 @@ use Rattle.std.proofs.Math.Seq.{take-append_seam}
 use Rattle.std.specs.Prelude.{not, ◌&&◌}
 use Rattle.session_slots.specs.declared.id.SessionId.{SessionId}
 use Rattle.host_core.specs.Steps.{HostState}
-use Rattle.host_core.specs.Events.{Event, Outcome, Refused, Close}
+use Rattle.host_core.specs.Events.{Event, Outcome, Opened, Done, Worked, Gave, Refused, Close}
 use Rattle.host_core.specs.Runs.{IsStep}
 use Rattle.host_core.proofs.Chains.{run-start}
 use Rattle.socket_loop.specs.declared.wire.WireFault.{WireFault}
 use Rattle.socket_loop.specs.declared.connection.Connection.{Connection}
 use Rattle.socket_loop.specs.Asked.{Call, Accept, Read, Write, Shut, Asks, IsCalled}
-use Rattle.socket_loop.specs.Links.{links_of}
+use Rattle.socket_loop.specs.declared.connection.Link.{Link}
+use Rattle.socket_loop.specs.Links.{links_of, IsAmong, IsApart}
 use Rattle.socket_loop.specs.Parts.{IsClosing}
-use Rattle.socket_loop.specs.Calls.{IsOf, IsVisit, Visits, is_to_read, is_to_write, is_to_shut, reads_of, writes_of, ends_of, AreVisitedTo, AsksTo, AsksEach, IsAdmitted, AreAccepted, AsksAdmission, AsksAccepts, AsksAll, GivesNobody, shuts_of}
+use Rattle.socket_loop.specs.Calls.{IsOf, IsVisit, Visits, is_to_read, is_to_write, is_to_shut, reads_of, writes_of, ends_of, AreVisitedTo, AsksTo, AsksEach, IsAdmittedAs, IsAdmitted, AreAccepted, AsksAdmission, AsksAccepts, AsksAll, GivesNobody, shuts_of}
 use Rattle.host_core.specs.declared.event.HostFault.{HostFault}
 use Rattle.host_core.specs.declared.event.HostFault.TheVariants.{Full, OutOfMemory, UnknownSession, NotReady}
-use Rattle.socket_loop.specs.Turns.{Accepted, KeepsMade}
+use Rattle.socket_loop.specs.Turns.{Accepted, IsOneOf, KeepsMade}
 use Rattle.session_slots.specs.Slots.{find}
 use Rattle.host_core.specs.ById.{queued_of}
 use Rattle.socket_loop.proofs.Stirs.{made_same}
@@ -33,6 +34,14 @@ asks_then None b c x y p q = tt
 asks_then (Some before) b c x y p q =
     let r : Asks (Some (before ++ x)) c y = rw p at q in
     r ∙ ap (λ (l : List Call). Some l) (append_assoc before x y)
+
+-- it is held with its session, and nothing was asked for
+pub asks_held : (met : List Link) (l : Link) (a b : Option (List Call)) → IsAmong met l → b ≡ a → AsksAdmission met l.number (Opened l.id) a b
+asks_held met l a b among e = record { calls = []; admitted = inl ((l, (among, (refl, refl))), refl); asked = rw e (asks_none a) }
+
+-- there was no memory to hold it, and it was shut
+pub asks_unheld : (met : List Link) (l : Link) (a b : Option (List Call)) → IsApart met l.number → Asks a b (Shut l.number ∷ []) → AsksAdmission met l.number (Opened l.id) a b
+asks_unheld met l a b apart asked = record { calls = Shut l.number ∷ []; admitted = inr (apart, refl); asked = asked }
 
 -- ---- one connection
 
@@ -69,9 +78,13 @@ visits_two kind id a b c event o k l e s t = record { steps = record { event = e
 
 -- ---- what a visit leaves
 
+-- where it was shut in the visit, its session is open no more
+abbrev pub ClosesShut : HostState → Connection → Connection → Type 0
+ClosesShut after x y = y.is_shut ≡ true → (x.is_shut ≡ true) ⊎ (find after.slots x.link.id ≡ None)
+
 -- no call, and no change
-visit_same : (x y : Connection) → y ≡ x → IsVisit [] x y
-visit_same x y e = rw e (record { link = refl; made = made_same x; shut = (λ was. inl was, λ o. elim o [ inl was ↦ was | inr none ↦ absurd none ]); ended = λ was. inl was })
+visit_same : (after : HostState) (x y : Connection) → y ≡ x → IsVisit after [] x y
+visit_same after x y e = rw e (record { link = refl; made = made_same x; shut = (λ was. inl was, λ o. elim o [ inl was ↦ was | inr none ↦ absurd none ]); closed = λ was. inl was; ended = λ was. inl was })
 
 shut_called : (first : Call) (x y : Connection) (was : Bool) → x.is_shut ≡ was → y.is_shut ≡ true → (x.is_shut ≡ true) ⊎ IsCalled (first ∷ shuts_of x y) (Shut x.link.number)
 shut_called first x y true e f = inl e
@@ -82,8 +95,8 @@ called_shut x y true e m = e
 called_shut x y false e m = (let none : IsCalled [] (Shut x.link.number) = rw e at m in absurd none)
 
 -- a call that is no shut, and then perhaps a shut
-visit_first : (first : Call) (x y : Connection) → (Shut x.link.number ≡ first → ⊥) → y.link ≡ x.link → KeepsMade x y → (y.has_ended ≡ true → (x.has_ended ≡ true) ⊎ IsCalled (first ∷ shuts_of x y) (Read x.link.number 4096)) → IsVisit (first ∷ shuts_of x y) x y
-visit_first first x y other link made ended = record {
+visit_first : (after : HostState) (first : Call) (x y : Connection) → (Shut x.link.number ≡ first → ⊥) → y.link ≡ x.link → KeepsMade x y → ClosesShut after x y → (y.has_ended ≡ true → (x.has_ended ≡ true) ⊎ IsCalled (first ∷ shuts_of x y) (Read x.link.number 4096)) → IsVisit after (first ∷ shuts_of x y) x y
+visit_first after first x y other link made closed ended = record {
   link = link;
   made = made;
   shut = (
@@ -93,41 +106,43 @@ visit_first first x y other link made ended = record {
       | inr called ↦ elim called [ inl same ↦ absurd (other same) | inr later ↦ called_shut x y y.is_shut refl later ]
     ],
   );
+  closed = closed;
   ended = ended;
 }
 
-reads_by : (host : HostState) (x y : Connection) (due : Bool) → is_to_read host x ≡ due → y.link ≡ x.link → KeepsMade x y → (is_to_read host x ≡ false → y ≡ x) → IsVisit (reads_of host x y) x y
-reads_by host x y true e link made still = rw e (visit_first (Read x.link.number 4096) x y (λ f. absurd (cc)) link made (λ now. inr (inl refl)))
-reads_by host x y false e link made still = rw e (visit_same x y (still e))
+reads_by : (host after : HostState) (x y : Connection) (due : Bool) → is_to_read host x ≡ due → y.link ≡ x.link → KeepsMade x y → ClosesShut after x y → (is_to_read host x ≡ false → y ≡ x) → IsVisit after (reads_of host x y) x y
+reads_by host after x y true e link made closed still = rw e (visit_first after (Read x.link.number 4096) x y (λ f. absurd (cc)) link made closed (λ now. inr (inl refl)))
+reads_by host after x y false e link made closed still = rw e (visit_same after x y (still e))
 
-pub visit_reads : (host : HostState) (x y : Connection) → y.link ≡ x.link → KeepsMade x y → (is_to_read host x ≡ false → y ≡ x) → IsVisit (reads_of host x y) x y
-visit_reads host x y link made still = reads_by host x y (is_to_read host x) refl link made still
+pub visit_reads : (host after : HostState) (x y : Connection) → y.link ≡ x.link → KeepsMade x y → ClosesShut after x y → (is_to_read host x ≡ false → y ≡ x) → IsVisit after (reads_of host x y) x y
+visit_reads host after x y link made closed still = reads_by host after x y (is_to_read host x) refl link made closed still
 
-writes_by : (host : HostState) (x y : Connection) (due : Bool) → is_to_write host x ≡ due → y.link ≡ x.link → KeepsMade x y → y.has_ended ≡ x.has_ended → (is_to_write host x ≡ false → y ≡ x) → IsVisit (writes_of host x y) x y
-writes_by host x y true e link made ended still = rw e (visit_first (Write x.link.number (queued_of (find host.slots x.link.id))) x y (λ f. absurd (cc)) link made (λ now. inl (sym ended ∙ now)))
-writes_by host x y false e link made ended still = rw e (visit_same x y (still e))
+writes_by : (host after : HostState) (x y : Connection) (due : Bool) → is_to_write host x ≡ due → y.link ≡ x.link → KeepsMade x y → y.has_ended ≡ x.has_ended → ClosesShut after x y → (is_to_write host x ≡ false → y ≡ x) → IsVisit after (writes_of host x y) x y
+writes_by host after x y true e link made ended closed still = rw e (visit_first after (Write x.link.number (queued_of (find host.slots x.link.id))) x y (λ f. absurd (cc)) link made closed (λ now. inl (sym ended ∙ now)))
+writes_by host after x y false e link made ended closed still = rw e (visit_same after x y (still e))
 
-pub visit_writes : (host : HostState) (x y : Connection) → y.link ≡ x.link → KeepsMade x y → y.has_ended ≡ x.has_ended → (is_to_write host x ≡ false → y ≡ x) → IsVisit (writes_of host x y) x y
-visit_writes host x y link made ended still = writes_by host x y (is_to_write host x) refl link made ended still
+pub visit_writes : (host after : HostState) (x y : Connection) → y.link ≡ x.link → KeepsMade x y → y.has_ended ≡ x.has_ended → ClosesShut after x y → (is_to_write host x ≡ false → y ≡ x) → IsVisit after (writes_of host x y) x y
+visit_writes host after x y link made ended closed still = writes_by host after x y (is_to_write host x) refl link made ended closed still
 
-ends_by : (host : HostState) (x y : Connection) (due : Bool) → is_to_shut host x ≡ due → y.link ≡ x.link → KeepsMade x y → y.has_ended ≡ x.has_ended → (is_to_shut host x ≡ true → y.is_shut ≡ true) → (is_to_shut host x ≡ false → y ≡ x) → IsVisit (ends_of host x y) x y
-ends_by host x y true e link made ended shuts still = rw e (record {
+ends_by : (host after : HostState) (x y : Connection) (due : Bool) → is_to_shut host x ≡ due → y.link ≡ x.link → KeepsMade x y → y.has_ended ≡ x.has_ended → ClosesShut after x y → (is_to_shut host x ≡ true → y.is_shut ≡ true) → (is_to_shut host x ≡ false → y ≡ x) → IsVisit after (ends_of host x y) x y
+ends_by host after x y true e link made ended closed shuts still = rw e (record {
   link = link;
   made = made;
   shut = (λ now. inr (inl refl), λ o. shuts e);
+  closed = closed;
   ended = λ now. inl (sym ended ∙ now);
 })
-ends_by host x y false e link made ended shuts still = rw e (visit_same x y (still e))
+ends_by host after x y false e link made ended closed shuts still = rw e (visit_same after x y (still e))
 
-pub visit_ends : (host : HostState) (x y : Connection) → y.link ≡ x.link → KeepsMade x y → y.has_ended ≡ x.has_ended → (is_to_shut host x ≡ true → y.is_shut ≡ true) → (is_to_shut host x ≡ false → y ≡ x) → IsVisit (ends_of host x y) x y
-visit_ends host x y link made ended shuts still = ends_by host x y (is_to_shut host x) refl link made ended shuts still
+pub visit_ends : (host after : HostState) (x y : Connection) → y.link ≡ x.link → KeepsMade x y → y.has_ended ≡ x.has_ended → ClosesShut after x y → (is_to_shut host x ≡ true → y.is_shut ≡ true) → (is_to_shut host x ≡ false → y ≡ x) → IsVisit after (ends_of host x y) x y
+visit_ends host after x y link made ended closed shuts still = ends_by host after x y (is_to_shut host x) refl link made ended closed shuts still
 
 -- ---- one connection after the other
 
 pub asks_start : (due : HostState → Connection → Connection → List Call) (kind : Event → Type 0) (h : HostState) (xs : List Connection) (a : Option (List Call)) → AsksTo 0 due kind h xs xs a a h
 asks_start due kind h xs a = record { calls = []; visited = (refl, (refl, refl)); asked = asks_none a }
 
-visited_next : (n : ℕ) (due : HostState → Connection → Connection → List Call) (kind : Event → Type 0) (h i j : HostState) (xs ys : List Connection) (calls : List Call) (y d : Connection) → n < length ys → AreVisitedTo n due kind h xs ys calls i → IsVisit (due i (get_or ys n d) y) (get_or ys n d) y → Visits kind (get_or ys n d).link.id i j
+visited_next : (n : ℕ) (due : HostState → Connection → Connection → List Call) (kind : Event → Type 0) (h i j : HostState) (xs ys : List Connection) (calls : List Call) (y d : Connection) → n < length ys → AreVisitedTo n due kind h xs ys calls i → IsVisit j (due i (get_or ys n d) y) (get_or ys n d) y → Visits kind (get_or ys n d).link.id i j
     → AreVisitedTo (suc n) due kind h xs (set ys n y) (calls ++ due i (get_or ys n d) y) j
 visited_next zero due kind h i j xs [] calls y d lt p w v = absurd (omega (arith, lt))
 visited_next zero due kind h i j xs (z ∷ zs) calls y d lt p w v =
@@ -137,7 +152,7 @@ visited_next (suc n) due kind h i j (x ∷ xs) [] calls y d lt p w v = absurd p
 visited_next (suc n) due kind h i j (x ∷ xs) (z ∷ zs) calls y d lt p w v =
     (p.0, (p.1.0 ++ due i (get_or zs n d) y, (ap (λ (l : List Call). l ++ due i (get_or zs n d) y) p.1.1.0 ∙ append_assoc (due h x z) p.1.0 (due i (get_or zs n d) y), (p.1.1.1.0, (p.1.1.1.1.0, visited_next n due kind p.0 i j xs zs p.1.0 y d (omega (arith, lt)) p.1.1.1.1.1 w v)))))
 
-pub asks_next : (n : ℕ) (due : HostState → Connection → Connection → List Call) (kind : Event → Type 0) (h i j : HostState) (xs ys : List Connection) (y d : Connection) (a b c : Option (List Call)) → n < length ys → AsksTo n due kind h xs ys a b i → IsVisit (due i (get_or ys n d) y) (get_or ys n d) y → Visits kind (get_or ys n d).link.id i j → Asks b c (due i (get_or ys n d) y)
+pub asks_next : (n : ℕ) (due : HostState → Connection → Connection → List Call) (kind : Event → Type 0) (h i j : HostState) (xs ys : List Connection) (y d : Connection) (a b c : Option (List Call)) → n < length ys → AsksTo n due kind h xs ys a b i → IsVisit j (due i (get_or ys n d) y) (get_or ys n d) y → Visits kind (get_or ys n d).link.id i j → Asks b c (due i (get_or ys n d) y)
     → AsksTo (n + 1) due kind h xs (set ys n y) a c j
 asks_next n due kind h i j xs ys y d a b c lt p w v q =
     let one : n + 1 ≡ suc n = omega arith in
@@ -155,27 +170,47 @@ asks_end n m due kind h i xs ys rest a b e f same p =
 
 -- ---- new connections
 
-accepted_next : (items : List Accepted) (calls : List Call) (item : Accepted) (more : List Call) → AreAccepted items calls → IsAdmitted item.number item.outcome more → AreAccepted (items ++ (item ∷ [])) (calls ++ (Accept (Ok (Some item.number)) ∷ more))
-accepted_next [] calls item more p m = rw p (more, ([], (ap (λ (l : List Call). Accept (Ok (Some item.number)) ∷ l) (sym (append-nil more)), (m, refl))))
-accepted_next (x ∷ items) calls item more p m =
+accepted_next : (met : List Link) (items : List Accepted) (calls : List Call) (item : Accepted) (more : List Call) → AreAccepted met items calls → IsAdmitted met item more → AreAccepted met (items ++ (item ∷ [])) (calls ++ (Accept (Ok (Some item.number)) ∷ more))
+accepted_next met [] calls item more p m = rw p (more, ([], (ap (λ (l : List Call). Accept (Ok (Some item.number)) ∷ l) (sym (append-nil more)), (m, refl))))
+accepted_next met (x ∷ items) calls item more p m =
     let first = p.0 in
     let rest = p.1.0 in
     let is : calls ≡ Accept (Ok (Some x.number)) ∷ (first ++ rest) = p.1.1.0 in
-    (first, (rest ++ (Accept (Ok (Some item.number)) ∷ more), (rw is (ap (λ (l : List Call). Accept (Ok (Some x.number)) ∷ l) (append_assoc first rest (Accept (Ok (Some item.number)) ∷ more))), (p.1.1.1.0, accepted_next items rest item more p.1.1.1.1 m))))
+    (first, (rest ++ (Accept (Ok (Some item.number)) ∷ more), (rw is (ap (λ (l : List Call). Accept (Ok (Some x.number)) ∷ l) (append_assoc first rest (Accept (Ok (Some item.number)) ∷ more))), (p.1.1.1.0, accepted_next met items rest item more p.1.1.1.1 m))))
 
-pub asks_no_accept : (a : Option (List Call)) → AsksAccepts [] a a
-asks_no_accept a = record { calls = []; accepted = refl; asked = asks_none a }
+-- what was so with fewer links is so with more
+admitted_on : (ms ns : List Link) (item : Accepted) (o : Outcome) (calls : List Call) → ((l : Link) → IsAmong ms l → IsAmong ns l) → (IsApart ms item.number → IsApart ns item.number) → IsAdmittedAs ms item o calls → IsAdmittedAs ns item o calls
+admitted_on ms ns item (Opened id) calls stay still (inl h) = inl ((h.0.0, (stay h.0.0 h.0.1.0, h.0.1.1)), h.1)
+admitted_on ms ns item (Opened id) calls stay still (inr a) = inr (still a.0, a.1)
+admitted_on ms ns item (Refused Full) calls stay still p = p
+admitted_on ms ns item (Refused OutOfMemory) calls stay still p = p
+admitted_on ms ns item (Refused UnknownSession) calls stay still p = p
+admitted_on ms ns item (Refused NotReady) calls stay still p = p
+admitted_on ms ns item Done calls stay still p = p
+admitted_on ms ns item (Worked n) calls stay still p = p
+admitted_on ms ns item (Gave bytes) calls stay still p = p
 
-pub asks_accept : (items : List Accepted) (item : Accepted) (a b c d : Option (List Call)) → AsksAccepts items a b → Asks b c (Accept (Ok (Some item.number)) ∷ []) → AsksAdmission item.number item.outcome c d → AsksAccepts (items ++ (item ∷ [])) a d
-asks_accept items item a b c d p q r = record {
+accepted_on : (ms ns : List Link) (items : List Accepted) (calls : List Call) → ((l : Link) → IsAmong ms l → IsAmong ns l) → ((x : Accepted) → IsOneOf items x → IsApart ms x.number → IsApart ns x.number) → AreAccepted ms items calls → AreAccepted ns items calls
+accepted_on ms ns [] calls stay still p = p
+accepted_on ms ns (x ∷ items) calls stay still p =
+    (p.0, (p.1.0, (p.1.1.0, (admitted_on ms ns x x.outcome p.0 stay (still x (inl refl)) p.1.1.1.0, accepted_on ms ns items p.1.0 stay (λ y one. still y (inr one)) p.1.1.1.1))))
+
+pub asks_on : (ms ns : List Link) (items : List Accepted) (a b : Option (List Call)) → ((l : Link) → IsAmong ms l → IsAmong ns l) → ((x : Accepted) → IsOneOf items x → IsApart ms x.number → IsApart ns x.number) → AsksAccepts ms items a b → AsksAccepts ns items a b
+asks_on ms ns items a b stay still p = record { calls = p.calls; accepted = accepted_on ms ns items p.calls stay still p.accepted; asked = p.asked }
+
+pub asks_no_accept : (met : List Link) (a : Option (List Call)) → AsksAccepts met [] a a
+asks_no_accept met a = record { calls = []; accepted = refl; asked = asks_none a }
+
+pub asks_accept : (met : List Link) (items : List Accepted) (item : Accepted) (a b c d : Option (List Call)) → AsksAccepts met items a b → Asks b c (Accept (Ok (Some item.number)) ∷ []) → AsksAdmission met item.number item.outcome c d → AsksAccepts met (items ++ (item ∷ [])) a d
+asks_accept met items item a b c d p q r = record {
   calls = p.calls ++ (Accept (Ok (Some item.number)) ∷ r.calls);
-  accepted = accepted_next items p.calls item r.calls p.accepted r.admitted;
+  accepted = accepted_next met items p.calls item r.calls p.accepted r.admitted;
   asked = asks_then a b d p.calls (Accept (Ok (Some item.number)) ∷ r.calls) p.asked (asks_then b c d (Accept (Ok (Some item.number)) ∷ []) r.calls q r.asked);
 }
 
 -- an accept gave nobody
-pub asks_stop : (items : List Accepted) (a b c : Option (List Call)) (answer : Result (Option ℕ) WireFault) → length items < 16 → AsksAccepts items a b → Asks b c (Accept answer ∷ []) → GivesNobody answer → AsksAll items a c
-asks_stop items a b c answer lt p q g = record {
+pub asks_stop : (met : List Link) (items : List Accepted) (a b c : Option (List Call)) (answer : Result (Option ℕ) WireFault) → length items < 16 → AsksAccepts met items a b → Asks b c (Accept answer ∷ []) → GivesNobody answer → AsksAll met items a c
+asks_stop met items a b c answer lt p q g = record {
   first = p.calls;
   last = Accept answer ∷ [];
   accepted = p.accepted;
@@ -183,12 +218,12 @@ asks_stop items a b c answer lt p q g = record {
   asked = asks_then a b c p.calls (Accept answer ∷ []) p.asked q;
 }
 
-pub asks_full : (items : List Accepted) (a b : Option (List Call)) → length items ≡ 16 → AsksAccepts items a b → AsksAll items a b
-asks_full items a b e p = record { first = p.calls; last = []; accepted = p.accepted; ends = inl (e, refl); asked = rw (append-nil p.calls) p.asked }
+pub asks_full : (met : List Link) (items : List Accepted) (a b : Option (List Call)) → length items ≡ 16 → AsksAccepts met items a b → AsksAll met items a b
+asks_full met items a b e p = record { first = p.calls; last = []; accepted = p.accepted; ends = inl (e, refl); asked = rw (append-nil p.calls) p.asked }
 
 -- memory was refused for a session
-pub refused_admitted : (number : ℕ) (fault : HostFault) → (fault ≡ Full → ⊥) → IsAdmitted number (Refused fault) (Shut number ∷ [])
-refused_admitted number Full f = absurd (f refl)
-refused_admitted number OutOfMemory f = refl
-refused_admitted number UnknownSession f = refl
-refused_admitted number NotReady f = refl
+pub refused_admitted : (met : List Link) (number : ℕ) (fault : HostFault) → (fault ≡ Full → ⊥) → IsAdmitted met (record { number = number; outcome = Refused fault }) (Shut number ∷ [])
+refused_admitted met number Full f = absurd (f refl)
+refused_admitted met number OutOfMemory f = refl
+refused_admitted met number UnknownSession f = refl
+refused_admitted met number NotReady f = refl

@@ -6,14 +6,14 @@ use Rattle.session_slots.specs.declared.id.SessionId.{SessionId}
 use Rattle.session_slots.specs.Slots.{find, Opens}
 use Rattle.session_slots.proofs.Finds.{find-with_session, find-with_session-other}
 use Rattle.usi_session.specs.Due.{SessionView, is_pending, new_session}
-use Rattle.usi_session.proofs.Settled.{due-over}
+use Rattle.usi_session.proofs.Settled.{due-over, state_due-over}
 use Rattle.host_core.specs.declared.event.HostFault.TheVariants.{Full, OutOfMemory, UnknownSession, NotReady}
 use Rattle.host_core.specs.Events.{Event, Open, Feed, Work, Take, Close, Outcome, Opened, Done, Worked, Gave, Refused}
 use Rattle.host_core.specs.Sessions.{Feeds, Works, Takes}
 use Rattle.host_core.specs.Steps.{HostState, OnSession, IsOpened, IsClosed, Stepped}
 use Rattle.host_core.specs.Made.{Step, own, taken, is_same_id, opens, is_opened}
 use Rattle.host_core.specs.Runs.{IsRun}
-use Rattle.host_core.specs.Headline.{EndsFrom}
+use Rattle.host_core.specs.Headline.{EndsFrom, OverFrom}
 use Rattle.host_core.proofs.Ids.{same_id, other_id}
 use Rattle.host_core.proofs.OneSession.{IsGone as IsOut}
 use Rattle.socket_loop.specs.declared.connection.Link.{Link}
@@ -73,7 +73,7 @@ close_open old new at id o (Some t) e c s = same_some _ _ (c.others id (other_id
 step_open : (old new : HostState) (id : SessionId) (event : Event) (o : Outcome) → Stepped old event o new → closes_by id event ≡ false → IsSome (find old.slots id) → IsSome (find new.slots id)
 step_open old new id Open o p e s = open_open old new id o p s
 step_open old new id (Feed at chunk) o p e s = on_open (Feeds chunk) old new at id o (find old.slots at) (is_same_id at id) refl refl p.0 s
-step_open old new id (Work at budget) o p e s = on_open (Works budget) old new at id o (find old.slots at) (is_same_id at id) refl refl p s
+step_open old new id (Work at budget) o p e s = on_open (Works budget) old new at id o (find old.slots at) (is_same_id at id) refl refl p.0 s
 step_open old new id (Take at n) o p e s = on_open (Takes n) old new at id o (find old.slots at) (is_same_id at id) refl refl p.0 s
 step_open old new id (Close at) o p e s = close_open old new at id o (find old.slots at) e p s
 
@@ -155,14 +155,19 @@ closing_end moment c id o later s r =
     let g : IsGone r.0 id = closed moment r.0 id o r.1.stepped (r.1.below id s) in
     out_gone r.0 c id later r.2 g
 
--- all that was owed to what was read was written; and the reads had ended, or nothing is owed to whatever else may be read
-pub record Ending (owes : List ℕ → List ℕ) (id : SessionId) (read written : List ℕ) (steps : List Step) (has_ended : Bool) : Type 0 where
-  pub all : written ++ taken id steps ≡ owes (read ++ own id steps)
-  pub why : (has_ended ≡ true) ⊎ ((x : List ℕ) → owes ((read ++ own id steps) ++ x) ≡ written ++ taken id steps)
+-- what was read ends the session, and nothing is owed to whatever else may be read
+pub record EndsBy (owes : List ℕ → List ℕ) (ends : List ℕ → Bool) (read written : List ℕ) : Type 0 where
+  pub over : ends read ≡ true
+  pub no_more : (x : List ℕ) → owes (read ++ x) ≡ written
 
-pub ending : (owes : List ℕ → List ℕ) (marks : List Connection) (h c : HostState) (steps : List Step) (l : Link) (read written : List ℕ) (f : Finished marks h steps c l) (m : SessionView) → find f.moment.slots l.id ≡ Some m
-    → EndsFrom owes (read ++ own l.id f.earlier) (written ++ taken l.id f.earlier) (Some m) → Ending owes l.id read written steps f.has_ended
-ending owes marks h c steps l read written f m is h_ =
+-- all that was owed to what was read was written; and the reads had ended, or it ends the session
+pub record Ending (owes : List ℕ → List ℕ) (ends : List ℕ → Bool) (id : SessionId) (read written : List ℕ) (steps : List Step) (has_ended : Bool) : Type 0 where
+  pub all : written ++ taken id steps ≡ owes (read ++ own id steps)
+  pub why : (has_ended ≡ true) ⊎ EndsBy owes ends (read ++ own id steps) (written ++ taken id steps)
+
+pub ending : (owes : List ℕ → List ℕ) (ends : List ℕ → Bool) (marks : List Connection) (h c : HostState) (steps : List Step) (l : Link) (read written : List ℕ) (f : Finished marks h steps c l) (m : SessionView) → find f.moment.slots l.id ≡ Some m
+    → EndsFrom owes (read ++ own l.id f.earlier) (written ++ taken l.id f.earlier) (Some m) → OverFrom ends (read ++ own l.id f.earlier) (Some m) → Ending owes ends l.id read written steps f.has_ended
+ending owes ends marks h c steps l read written f m is h_ o_ =
     let last : Step = record { event = Close l.id; outcome = f.outcome } in
     let s : Settled f.has_ended m = settled_at f.has_ended m (rw is at f.finished) in
     let out : IsOut l.id f.later c = closing_end f.moment c l.id f.outcome f.later (some_of (find f.moment.slots l.id) m is) f.onward in
@@ -172,6 +177,9 @@ ending owes marks h c steps l read written f m is h_ =
       all = rw (own_is, taken_is) (all_written owes (read ++ own l.id f.earlier) (written ++ taken l.id f.earlier) (Some m) h_ s.settled s.none);
       why = elim s.ended [
         | inl e ↦ inl e
-        | inr over ↦ inr (λ x. rw (own_is, taken_is) (sym (h_ x) ∙ (ap (λ xs. (written ++ taken l.id f.earlier) ++ xs) (due-over m x over ∙ s.none) ∙ append-nil (written ++ taken l.id f.earlier))))
+        | inr over ↦ inr (record {
+          over = rw own_is (sym (ap ends (append-nil (read ++ own l.id f.earlier))) ∙ (sym (o_ []) ∙ state_due-over m [] over));
+          no_more = λ x. rw (own_is, taken_is) (sym (h_ x) ∙ (ap (λ xs. (written ++ taken l.id f.earlier) ++ xs) (due-over m x over ∙ s.none) ∙ append-nil (written ++ taken l.id f.earlier)));
+        })
       ];
     }

@@ -8,6 +8,7 @@ pub mod Marks
 pub mod Quiet
 pub mod Stirs
 pub mod Pending
+pub mod Shutting
 pub mod Turning
 pub mod Calls
 pub mod Rising

@@ -1,5 +1,5 @@
 -- What was read from one connection and written to it, part after part.
-use Rattle.std.proofs.Common.{◌≡◌, ◌⊎◌, ℕ, ◌<◌, List, [], ◌∷◌, ◌++◌, Option, Some, None, refl, sym, ap, ◌∙◌, subst, append_assoc, append-nil, inl, inr}
+use Rattle.std.proofs.Common.{◌≡◌, ◌⊎◌, ℕ, ◌<◌, Bool, List, [], ◌∷◌, ◌++◌, Option, Some, None, refl, sym, ap, ◌∙◌, subst, append_assoc, append-nil, inl, inr}
 use Rattle.std.specs.Prelude.{IsSome}
 use Rattle.std.specs.Io.KnownBytes.{Keeps, Appends, Consumes}
 use Rattle.std.proofs.KnownBytes.{Appends-trans, Appends-kept, Consumes-trans, Consumes-kept}
@@ -11,12 +11,13 @@ use Rattle.host_core.specs.Steps.{HostState}
 use Rattle.host_core.specs.Made.{Step, own, taken}
 use Rattle.host_core.specs.Runs.{IsRun}
 use Rattle.host_core.specs.ById.{queued_of}
-use Rattle.host_core.specs.Headline.{EndsFrom, IsFrontOf, IsSettled}
+use Rattle.host_core.specs.Headline.{EndsFrom, IsFrontOf, IsSettled, OverFrom, is_over_due}
 use Rattle.host_core.proofs.OneSession.{kept, gone, IsGone as IsOut}
+use Rattle.host_core.proofs.Overs.{kept_over, over_more, over_none}
 use Rattle.socket_loop.specs.declared.connection.Link.{Link}
 use Rattle.socket_loop.specs.declared.connection.Connection.{Connection}
 use Rattle.socket_loop.specs.Told.{Told, KeepsPeer}
-use Rattle.socket_loop.specs.Links.{Ties, IsTied, IsAmong, IsStrange}
+use Rattle.socket_loop.specs.Links.{IsAmong, IsStrange}
 use Rattle.socket_loop.specs.Parts.{Carried, LeavesAlone}
 use Rattle.socket_loop.specs.Turns.{Served}
 use Rattle.socket_loop.proofs.Peers.{Consumes-none, Appends-none, Keeps-Appends}
@@ -46,6 +47,10 @@ then_ends owes h m id steps read written None e lt r p =
     let g : IsOut id steps m = gone h m id steps e lt r in
     ends_gone owes read written (own id steps) (taken id steps) (find m.slots id) g.no_own g.no_taken g.none p
 then_ends owes h m id steps read written (Some t) e lt r p = ends_more owes (due t) read written (own id steps) (taken id steps) (find m.slots id) p (kept h m id steps t e r).ends
+
+pub over_then : (ends : List ℕ → Bool) (h m : HostState) (id : SessionId) (steps : List Step) (read : List ℕ) (old : Option SessionView) → find h.slots id ≡ old → id.generation < h.slots.next → IsRun h steps m → OverFrom ends read old → OverFrom ends (read ++ own id steps) (find m.slots id)
+over_then ends h m id steps read None e lt r p = over_none ends (read ++ own id steps) (find m.slots id) (gone h m id steps e lt r).none
+over_then ends h m id steps read (Some t) e lt r p = over_more ends (is_over_due t) read (own id steps) (find m.slots id) p (kept_over h m id steps t e r)
 
 pub then_whole : (h m : HostState) (id : SessionId) (steps : List Step) (lost more : List ℕ) (old : Option SessionView) → find h.slots id ≡ old → id.generation < h.slots.next → IsRun h steps m → (IsSome old → lost ≡ []) → (IsSome (find m.slots id) → more ≡ []) → IsSome (find m.slots id) → lost ++ more ≡ []
 then_whole h m id steps lost more None e lt r p q some = none_some (find m.slots id) (lost ++ more) (gone h m id steps e lt r).none some
@@ -116,11 +121,6 @@ all_written owes read written (Some t) h settled none =
     sym (append-nil written) ∙ (ap (λ xs. written ++ xs) (sym (due-settled t settled ∙ none)) ∙ (h [] ∙ ap owes (append-nil read)))
 
 -- ---- links
-
-pub tied_of : (ls : List Link) (k l : Link) → IsTied ls k → IsAmong ls l → Ties l k
-tied_of [] k l t m = absurd m
-tied_of (x ∷ xs) k l t (inl e) = rw e t.0
-tied_of (x ∷ xs) k l t (inr m) = tied_of xs k l t.1 m
 
 pub strange_each : (ls : List Link) (id : SessionId) → ((l : Link) → IsAmong ls l → l.id ≡ id → ⊥) → IsStrange ls id
 strange_each [] id f = tt

@@ -183,14 +183,14 @@ worked_no_more budget n s t w = (let m : n + load t ≤ load s = w.made in omega
 
 later_by : (budget : ℕ) (at : SessionId) (ids : List SessionId) (o : Outcome) (os : List Outcome) (h mid i : HostState) (id : SessionId) (s : SessionView) (same : Bool) → is_same_id at id ≡ same → find h.slots id ≡ Some s → Stepped h (Work at budget) o mid
     → ((t : SessionView) → find mid.slots id ≡ Some t → (refuses id (works budget ids os) ≡ true) ⊎ NoMore t (find i.slots id)) → (refuses id (works budget (at ∷ ids) (o ∷ os)) ≡ true) ⊎ NoMore s (find i.slots id)
-later_by budget at ids o os h mid i id s true e f p more = elim (once_worked budget h mid at id o s (find h.slots at) (same_id at id e) f refl p) [
+later_by budget at ids o os h mid i id s true e f p more = elim (once_worked budget h mid at id o s (find h.slots at) (same_id at id e) f refl p.0) [
   | inl refused ↦ inl (or_left (refuses_by id (Work at budget) o) (refuses id (works budget ids os)) refused)
   | inr w ↦ elim (more w.after w.finds) [
     | inl refused ↦ inl (or_right (refuses_by id (Work at budget) o) (refuses id (works budget ids os)) refused)
     | inr q ↦ inr (no_more_then s w.after (find i.slots id) (worked_no_more budget w.steps s w.after w.worked) q)
   ]
 ]
-later_by budget at ids o os h mid i id s false e f p more = elim (more s (other_worked budget h mid at id o (find h.slots at) e refl p ∙ f)) [
+later_by budget at ids o os h mid i id s false e f p more = elim (more s (other_worked budget h mid at id o (find h.slots at) e refl p.0 ∙ f)) [
   | inl refused ↦ inl (or_right (refuses_by id (Work at budget) o) (refuses id (works budget ids os)) refused)
   | inr q ↦ inr q
 ]
@@ -217,7 +217,7 @@ is_in id (at ∷ ids) = is_same_id at id || is_in id ids
 
 works_near_by : (budget : ℕ) (at : SessionId) (ids : List SessionId) (o : Outcome) (os : List Outcome) (h mid i : HostState) (id : SessionId) (s : SessionView) (same : Bool) → is_same_id at id ≡ same → (is_same_id at id || is_in id ids) ≡ true → find h.slots id ≡ Some s → Stepped h (Work at budget) o mid → IsRun mid (works budget ids os) i
     → (is_in id ids ≡ true → find mid.slots id ≡ Some s → (refuses id (works budget ids os) ≡ true) ⊎ Nearer budget s (find i.slots id)) → (refuses id (works budget (at ∷ ids) (o ∷ os)) ≡ true) ⊎ Nearer budget s (find i.slots id)
-works_near_by budget at ids o os h mid i id s true e there f p r more = elim (once_worked budget h mid at id o s (find h.slots at) (same_id at id e) f refl p) [
+works_near_by budget at ids o os h mid i id s true e there f p r more = elim (once_worked budget h mid at id o s (find h.slots at) (same_id at id e) f refl p.0) [
   | inl refused ↦ inl (or_left (refuses_by id (Work at budget) o) (refuses id (works budget ids os)) refused)
   | inr w ↦ elim (later_works budget ids os mid i id w.after w.finds r) [
     | inl refused ↦ inl (or_right (refuses_by id (Work at budget) o) (refuses id (works budget ids os)) refused)
@@ -226,7 +226,7 @@ works_near_by budget at ids o os h mid i id s true e there f p r more = elim (on
 ]
 works_near_by budget at ids o os h mid i id s false e there f p r more =
     let rest : is_in id ids ≡ true = ap (λ (b : Bool). b || is_in id ids) (sym e) ∙ there in
-    elim (more rest (other_worked budget h mid at id o (find h.slots at) e refl p ∙ f)) [
+    elim (more rest (other_worked budget h mid at id o (find h.slots at) e refl p.0 ∙ f)) [
       | inl refused ↦ inl (or_right (refuses_by id (Work at budget) o) (refuses id (works budget ids os)) refused)
       | inr q ↦ inr q
     ]

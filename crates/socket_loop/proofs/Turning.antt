@@ -16,17 +16,18 @@ use Rattle.host_core.specs.Headline.{EndsFrom}
 use Rattle.host_core.proofs.OneSession.{kept, opened_ends}
 use Rattle.socket_loop.specs.declared.connection.Link.{Link}
 use Rattle.socket_loop.specs.declared.connection.Connection.{Connection}
-use Rattle.socket_loop.specs.Told.{Told, KeepsPeer, IsRaised}
+use Rattle.socket_loop.specs.Told.{Told, KeepsPeer}
 use Rattle.socket_loop.specs.Links.{IsTied, IsAmong, IsApart, IsMarked, IsRising, links_of, reads_ended, was_shut}
 use Rattle.socket_loop.specs.Parts.{IsGone, closes, Carried, Carries, Serves, IsInput, IsOutput, IsEnd, IsEmptied, AllMove, KeepsAllMarks, AddsNoMark, Grows}
 use Rattle.socket_loop.specs.Asked.{Call}
 use Rattle.socket_loop.specs.Calls.{AcceptsAll, AsksAll, AsksEach, AsksTurn, reads_of, writes_of, ends_of}
-use Rattle.socket_loop.specs.Turns.{FitsOne, Fits, Accepted, HasSession, Joins, IsTurnedAway, IsNew, Accepts, IsTurn, Served, GoesOnServing, ServesNew}
+use Rattle.socket_loop.specs.Turns.{FitsOne, Fits, Accepted, HasSession, Joins, IsTurnedAway, IsNew, Accepts, IsTurn, IsLetGo, Served, GoesOnServing, ServesNew}
 use Rattle.socket_loop.proofs.Peers.{kept_then, moves_then, emptied_move, raised_rises, rises_then, stays_rise, known_move}
 use Rattle.socket_loop.proofs.Runs.{run-append, next_rises, opened_left, starves-admissions, alone_then}
 use Rattle.socket_loop.proofs.Parts.{carried_nothing, carried_then, carries_then, carries_round}
 use Rattle.socket_loop.proofs.Marks.{marks_none, marks_then, marked_filter, let_go}
 use Rattle.socket_loop.proofs.Quiet.{either_false}
+use Rattle.socket_loop.proofs.Shutting.{ShutsAll}
 
 away_kept : (f t : ℕ) (x : List Accepted) (a b c : Told) (n : ℕ) → IsTurnedAway f t x a b n → KeepsPeer b c n → IsTurnedAway f t x a c n
 away_kept f t x a b c n w q = record {
@@ -56,10 +57,25 @@ met_are ls f t x g last a b s l lt unclosed (inl old) = inl old
 met_are ls f t x g last a b s l lt unclosed (inr new) = inr (record { least = new.least; most = new.most; answered = new.answered; opened = new.opened; unclosed = unclosed; fresh = new.fresh; below = lt })
 
 -- a connection that is held no more was shut, or was marked as shut before
-went : (t : ℕ) (a e : Told) (held last : List Connection) (l : Link) → KeepsAllMarks t a held e last → IsAmong (links_of (filter (λ x. not x.is_shut) last)) l ⊎ IsMarked was_shut last l.number
-    → IsAmong (links_of (filter (λ x. not x.is_shut) last)) l ⊎ (IsMarked was_shut held l.number ⊎ (l.number < t → IsRaised (a.is_shut l.number) (e.is_shut l.number)))
-went t a e held last l marks (inl stays) = inl stays
-went t a e held last l marks (inr shut) = inr ((marks l.number).shut shut)
+went : (t : ℕ) (a e : Told) (held last : List Connection) (m : HostState) (l : Link) → KeepsAllMarks t a held e last → (IsMarked was_shut last l.number → IsMarked was_shut held l.number ⊎ IsGone m l.id) → IsAmong (links_of (filter (λ x. not x.is_shut) last)) l ⊎ IsMarked was_shut last l.number
+    → IsAmong (links_of (filter (λ x. not x.is_shut) last)) l ⊎ (IsMarked was_shut held l.number ⊎ IsLetGo t a e m l)
+went t a e held last m l marks shutting (inl stays) = inl stays
+went t a e held last m l marks shutting (inr shut) = inr (elim ((marks l.number).shut shut) [
+  | inl was ↦ inl was
+  | inr told ↦ elim (shutting shut) [ inl was ↦ inl was | inr closed ↦ inr (record { shut = told; closed = closed }) ]
+])
+
+-- none of those that are left is marked as shut
+none_shut : (xs : List Connection) (n : ℕ) → IsMarked was_shut (filter (λ x. not x.is_shut) xs) n → ⊥
+none_shut [] n m = m
+none_shut (x ∷ xs) n m =
+    cond_both (not x.is_shut) (x ∷ filter (λ y. not y.is_shut) xs) (filter (λ y. not y.is_shut) xs) (λ (zs : List Connection). IsMarked was_shut zs n → ⊥)
+    (λ yes o. elim o [ inl here ↦ not_both x.is_shut yes here.1 | inr rest ↦ none_shut xs n rest ])
+    (λ no o. none_shut xs n o) m
+  where
+    not_both : (b : Bool) → not b ≡ true → b ≡ true → ⊥
+    not_both true e f = absurd (cc)
+    not_both false e f = absurd (cc)
 
 among_filtered : (p : Connection → Bool) (xs : List Connection) (x : Link) → IsAmong (links_of (filter p xs)) x → IsAmong (links_of xs) x
 among_filtered p [] x n = n
@@ -95,8 +111,8 @@ pub turned : (slice : ℕ) (p q r s w : Bool) (held accepted_ read_ written_ las
     → IsRound j slice (pending_ids j) worked refused k
     → Serves IsOutput written_ t (links_of accepted_) c k d l → KeepsAllMarks t c read_ d written_
     → Serves IsEnd written_ t (links_of accepted_) d l e m → KeepsAllMarks t d written_ e last → ((n : ℕ) → IsMarked reads_ended last n → IsMarked reads_ended written_ n)
-    → links_of last ≡ links_of accepted_ → IsTurn slice ((((p || q) || r) || s) || w) held f a h (filter (λ x. not x.is_shut) last) t e m
-turned slice p q r s w held accepted_ read_ written_ last f t a b c d e h i j k l m worked refused calls asked_calls fit some adds reads reads_mark round writes writes_mark shuts shuts_mark stay_ended same =
+    → links_of last ≡ links_of accepted_ → ShutsAll held accepted_ last m → IsTurn slice ((((p || q) || r) || s) || w) held f a h (filter (λ x. not x.is_shut) last) t e m
+turned slice p q r s w held accepted_ read_ written_ last f t a b c d e h i j k l m worked refused calls asked_calls fit some adds reads reads_mark round writes writes_mark shuts shuts_mark stay_ended same shutting =
     let ms : List Link = links_of accepted_ in
     let accepts : Accepts (links_of held) f a h ms t b i = some.accepts in
     let first : List Step = accepts.steps ++ reads.steps in
@@ -141,11 +157,13 @@ turned slice p q r s w held accepted_ read_ written_ last f t a b c d e h i j k 
       steps_are = refl;
       chain = to_end;
       accepted = accepts.accepted;
+      numbered = accepts.numbered;
       answers = accepts.answers;
       still = λ none. some.none (either_false p q (either_false (p || q) r (either_false ((p || q) || r) s (either_false (((p || q) || r) || s) w none).first).first).first).first;
       marks = written_;
       marked = λ n mark. over_marks n ((marks_d n).ended mark);
       ended = λ n mark. stay_ended n (marked_filter reads_ended (λ y. not y.is_shut) last n mark);
+      unshut = none_shut last;
       rises = accepts.rises;
       tied = λ x among. (accepts.fits fit x among).tied;
       stay = λ x among. accepts.stay x among;
@@ -153,7 +171,7 @@ turned slice p q r s w held accepted_ read_ written_ last f t a b c d e h i j k 
       starts = λ x among. starts_one (links_of held) f t accepts.accepted h.slots.next written_ a e h m accepts.steps steps_ x to_end (carried_ x among) (λ o. opened_left x.id first (middle ++ second) (opened_left x.id accepts.steps reads.steps o)) (are_ x among);
       accounted = λ x one. over_accounted x (λ n apart. kept_then b c e n (reads.carries.others n apart) (late.others n apart)) (accepts.accounted fit x one);
       left = λ x among. rw same at (among_filtered (λ y. not y.is_shut) last x among);
-      gone = λ x among. went t a e held last x marks_e (let_go last x (rw (sym same) at among));
+      gone = λ x among. went t a e held last m x marks_e (shutting x among) (let_go last x (rw (sym same) at among));
       carried = carried_;
       others = λ n apart. each_kept f t accepts.accepted a b e n (accepts.each n) (kept_then b c e n (reads.carries.others n apart) (late.others n apart));
       foreign = λ id lt strange. alone_then id first (middle ++ second) (alone_then id accepts.steps reads.steps (record { stored = accepts.no_own id; passed = accepts.no_taken id; kept = accepts.spared_old id lt }) (reads.carries.foreign id strange)) (late.foreign id strange);
@@ -193,19 +211,19 @@ pub turn_with : (slice : ℕ) (p q r s w : Bool) (held accepted_ read_ written_ 
     → IsRound j slice (pending_ids j) worked refused k
     → Serves IsOutput written_ t (links_of accepted_) c k d l → KeepsAllMarks t c read_ d written_
     → Serves IsEnd written_ t (links_of accepted_) d l e m → KeepsAllMarks t d written_ e last → ((n : ℕ) → IsMarked reads_ended last n → IsMarked reads_ended written_ n)
-    → links_of last ≡ links_of accepted_ → TurnWith slice ((((p || q) || r) || s) || w) held f a h (filter (λ x. not x.is_shut) last) t e m x.accepts.steps (links_of accepted_) j k written_ x.accepts.accepted
+    → links_of last ≡ links_of accepted_ → ShutsAll held accepted_ last m → TurnWith slice ((((p || q) || r) || s) || w) held f a h (filter (λ x. not x.is_shut) last) t e m x.accepts.steps (links_of accepted_) j k written_ x.accepts.accepted
 unfolding turned
-turn_with slice p q r s w held accepted_ read_ written_ last f t a b c d e h i j k l m worked refused calls asked_calls fit some adds reads reads_mark round writes writes_mark shuts shuts_mark stay_ended same =
-    record { turn = turned slice p q r s w held accepted_ read_ written_ last f t a b c d e h i j k l m worked refused calls asked_calls fit some adds reads reads_mark round writes writes_mark shuts shuts_mark stay_ended same; admissions_are = refl; met_are = refl; start_is = refl; end_is = refl; marks_are = refl; accepted_are = refl }
+turn_with slice p q r s w held accepted_ read_ written_ last f t a b c d e h i j k l m worked refused calls asked_calls fit some adds reads reads_mark round writes writes_mark shuts shuts_mark stay_ended same shutting =
+    record { turn = turned slice p q r s w held accepted_ read_ written_ last f t a b c d e h i j k l m worked refused calls asked_calls fit some adds reads reads_mark round writes writes_mark shuts shuts_mark stay_ended same shutting; admissions_are = refl; met_are = refl; start_is = refl; end_is = refl; marks_are = refl; accepted_are = refl }
 
 -- the calls of a turn
 pub asks_turn : (slice : ℕ) (moved : Bool) (held now met read written last : List Connection) (f t : ℕ) (a e : Told) (h i j k l m : HostState) (admissions : List Step) (items : List Accepted) (old accepted asked_reads asked_writes new : Option (List Call)) → TurnWith slice moved held f a h now t e m admissions (links_of met) j k written items
-    → AsksAll items old accepted → IsRun h admissions i → Grows held met → (IsRising (links_of held) → IsRising (links_of met)) → AsksEach reads_of IsInput i met read accepted asked_reads j → AsksEach writes_of IsOutput k read written asked_reads asked_writes l → AsksEach ends_of IsEnd l written last asked_writes new m
+    → AsksAll (links_of met) items old accepted → IsRun h admissions i → Grows held met → (IsRising (links_of held) → IsRising (links_of met)) → AsksEach reads_of IsInput i met read accepted asked_reads j → AsksEach writes_of IsOutput k read written asked_reads asked_writes l → AsksEach ends_of IsEnd l written last asked_writes new m
     → now ≡ filter (λ x. not x.is_shut) last → AsksTurn slice moved held f a old h now t e new m
 asks_turn slice moved held now met read written last f t a e h i j k l m admissions items old accepted asked_reads asked_writes new w accepts run grows rising reads writes ends left = record {
   turn = w.turn;
   accepted = accepted;
-  accepts = rw w.accepted_are accepts;
+  accepts = rw (w.met_are, w.accepted_are) accepts;
   middle = i;
   to_middle = rw w.admissions_are run;
   met = met;

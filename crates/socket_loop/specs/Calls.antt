@@ -15,9 +15,9 @@ use Rattle.socket_loop.specs.declared.connection.Connection.{Connection}
 use Rattle.socket_loop.specs.declared.turn.TheConstants.{ACCEPTS}
 use Rattle.usi_session.specs.declared.limits.TheConstants.{CHUNK_MAX}
 use Rattle.socket_loop.specs.Asked.{Call, Accept, Read, Write, Shut, Asks, IsCalled}
-use Rattle.socket_loop.specs.Links.{links_of, IsRising}
+use Rattle.socket_loop.specs.Links.{links_of, IsApart, IsRising}
 use Rattle.socket_loop.specs.Parts.{AreAll, Grows, IsInput, IsOutput, IsEnd, is_finished_with}
-use Rattle.socket_loop.specs.Turns.{host_full, Accepted, Accepts, Admits, IsTurn, KeepsMade}
+use Rattle.socket_loop.specs.Turns.{host_full, Accepted, Accepts, Admits, Fits, HasSession, IsTurn, KeepsMade}
 
 -- ---- one connection
 
@@ -64,11 +64,12 @@ pub record Visits (kind : Event → Type 0) (id : SessionId) (old new : HostStat
   pub of_it : AreAll (IsOf id) steps
   pub run : IsRun old steps new
 
--- a connection was visited with these calls: it is shut exactly where it was before or its shut was asked for, and its reads have ended only where they had before or a read was asked for
-pub record IsVisit (calls : List Call) (old new : Connection) : Type 0 where
+-- a connection was visited with these calls: it is shut exactly where it was before or its shut was asked for, and with it its session was closed; its reads have ended only where they had before or a read was asked for
+pub record IsVisit (after : HostState) (calls : List Call) (old new : Connection) : Type 0 where
   pub link : new.link ≡ old.link
   pub made : KeepsMade old new
   pub shut : new.is_shut ≡ true ↔ (old.is_shut ≡ true) ⊎ IsCalled calls (Shut old.link.number)
+  pub closed : new.is_shut ≡ true → (old.is_shut ≡ true) ⊎ (find after.slots old.link.id ≡ None)
   pub ended : new.has_ended ≡ true → (old.has_ended ≡ true) ⊎ IsCalled calls (Read old.link.number CHUNK_MAX)
 
 -- ---- one connection after the other
@@ -79,7 +80,7 @@ AreVisitedTo zero due kind before xs ys calls after = (ys ≡ xs) × ((calls ≡
 AreVisitedTo (suc n) due kind before [] ys calls after = ⊥
 AreVisitedTo (suc n) due kind before (x ∷ xs) [] calls after = ⊥
 AreVisitedTo (suc n) due kind before (x ∷ xs) (y ∷ ys) calls after =
-    (mid : HostState) × ((rest : List Call) × ((calls ≡ due before x y ++ rest) × (IsVisit (due before x y) x y × (Visits kind x.link.id before mid × AreVisitedTo n due kind mid xs ys rest after))))
+    (mid : HostState) × ((rest : List Call) × ((calls ≡ due before x y ++ rest) × (IsVisit mid (due before x y) x y × (Visits kind x.link.id before mid × AreVisitedTo n due kind mid xs ys rest after))))
 
 -- so many connections were visited, and a wire was asked for the calls of these visits
 pub record AsksTo (n : ℕ) (due : HostState → Connection → Connection → List Call) (kind : Event → Type 0) (before : HostState) (xs ys : List Connection) (old new : Option (List Call)) (after : HostState) : Type 0 where
@@ -93,16 +94,19 @@ AsksEach due kind before xs ys old new after = AsksTo (length xs) due kind befor
 
 -- ---- new connections
 
--- the calls after a connection was accepted, by how the host answered its `Open`: none where it is held, and else a shut, or, where the host is full, one write that tells so, and a shut
-abbrev pub IsAdmitted : ℕ → Outcome → List Call → Type 0
-IsAdmitted number (Opened id) calls = (calls ≡ []) ⊎ (calls ≡ Shut number ∷ [])
-IsAdmitted number (Refused Full) calls = calls ≡ Write number host_full ∷ Shut number ∷ []
-IsAdmitted number _ calls = calls ≡ Shut number ∷ []
+-- the calls after a connection was accepted, by how the host answered its `Open`, where these are met then: none where it has its session, and else a shut, or, where the host is full, one write that tells so, and a shut
+abbrev pub IsAdmittedAs : List Link → Accepted → Outcome → List Call → Type 0
+IsAdmittedAs met item (Opened id) calls = (HasSession met item × (calls ≡ [])) ⊎ (IsApart met item.number × (calls ≡ Shut item.number ∷ []))
+IsAdmittedAs met item (Refused Full) calls = calls ≡ Write item.number host_full ∷ Shut item.number ∷ []
+IsAdmittedAs met item _ calls = calls ≡ Shut item.number ∷ []
+
+abbrev pub IsAdmitted : List Link → Accepted → List Call → Type 0
+IsAdmitted met item calls = IsAdmittedAs met item item.outcome calls
 
 -- these connections were accepted, one after the other
-abbrev pub AreAccepted : List Accepted → List Call → Type 0
-AreAccepted [] calls = calls ≡ []
-AreAccepted (first ∷ items) calls = (more : List Call) × ((rest : List Call) × ((calls ≡ Accept (Ok (Some first.number)) ∷ (more ++ rest)) × (IsAdmitted first.number first.outcome more × AreAccepted items rest)))
+abbrev pub AreAccepted : List Link → List Accepted → List Call → Type 0
+AreAccepted met [] calls = calls ≡ []
+AreAccepted met (first ∷ items) calls = (more : List Call) × ((rest : List Call) × ((calls ≡ Accept (Ok (Some first.number)) ∷ (more ++ rest)) × (IsAdmitted met first more × AreAccepted met items rest)))
 
 -- an accept gave nobody
 abbrev pub GivesNobody : Result (Option ℕ) WireFault → Type 0
@@ -111,28 +115,28 @@ GivesNobody (Ok None) = Unit {0}
 GivesNobody (Err fault) = Unit {0}
 
 -- one connection was admitted
-pub record AsksAdmission (number : ℕ) (outcome : Outcome) (old new : Option (List Call)) : Type 0 where
+pub record AsksAdmission (met : List Link) (number : ℕ) (outcome : Outcome) (old new : Option (List Call)) : Type 0 where
   pub calls : List Call
-  pub admitted : IsAdmitted number outcome calls
+  pub admitted : IsAdmitted met (record { number = number; outcome = outcome }) calls
   pub asked : Asks old new calls
 
 -- a connection was admitted, with its calls
 pub record AdmitsOne (links : List Link) (told : Told) (before : HostState) (number to : ℕ) (met : List Link) (new : Told) (after : HostState) (old_calls new_calls : Option (List Call)) : Type 0 where
   pub outcome : Outcome
   pub admits : Admits links told before number outcome to met new after
-  pub asked : AsksAdmission number outcome old_calls new_calls
+  pub asked : IsApart links number → AsksAdmission met number outcome old_calls new_calls
 
 -- these were accepted
-pub record AsksAccepts (items : List Accepted) (old new : Option (List Call)) : Type 0 where
+pub record AsksAccepts (met : List Link) (items : List Accepted) (old new : Option (List Call)) : Type 0 where
   pub calls : List Call
-  pub accepted : AreAccepted items calls
+  pub accepted : AreAccepted met items calls
   pub asked : Asks old new calls
 
 -- connections were accepted until one accept gave nobody, or ACCEPTS of them were
-pub record AsksAll (items : List Accepted) (old new : Option (List Call)) : Type 0 where
+pub record AsksAll (met : List Link) (items : List Accepted) (old new : Option (List Call)) : Type 0 where
   pub first : List Call
   pub last : List Call
-  pub accepted : AreAccepted items first
+  pub accepted : AreAccepted met items first
   pub ends : ((length items ≡ ACCEPTS) × (last ≡ [])) ⊎ ((length items < ACCEPTS) × ((answer : Result (Option ℕ) WireFault) × (GivesNobody answer × (last ≡ Accept answer ∷ []))))
   pub asked : Asks old new (first ++ last)
 
@@ -141,13 +145,13 @@ pub record AcceptsSome (count : ℕ) (moved : Bool) (links : List Link) (from : 
   pub accepts : Accepts links from old before met to new after
   pub none : moved ≡ false → accepts.accepted ≡ []
   pub counted : length accepts.accepted ≡ count
-  pub asked : AsksAccepts accepts.accepted old_calls new_calls
+  pub asked : Fits links from before → AsksAccepts met accepts.accepted old_calls new_calls
 
 -- connections were accepted, with all calls
 pub record AcceptsAll (moved : Bool) (links : List Link) (from : ℕ) (old : Told) (before : HostState) (met : List Link) (to : ℕ) (new : Told) (after : HostState) (old_calls new_calls : Option (List Call)) : Type 0 where
   pub accepts : Accepts links from old before met to new after
   pub none : moved ≡ false → accepts.accepted ≡ []
-  pub asked : AsksAll accepts.accepted old_calls new_calls
+  pub asked : Fits links from before → AsksAll met accepts.accepted old_calls new_calls
 
 -- ---- a turn
 
@@ -155,7 +159,7 @@ pub record AcceptsAll (moved : Bool) (links : List Link) (from : ℕ) (old : Tol
 pub record AsksTurn (slice : ℕ) (moved : Bool) (held : List Connection) (from : ℕ) (told : Told) (old : Option (List Call)) (before : HostState) (now : List Connection) (to : ℕ) (tells : Told) (new : Option (List Call)) (after : HostState) : Type 0 where
   pub turn : IsTurn slice moved held from told before now to tells after
   pub accepted : Option (List Call)
-  pub accepts : AsksAll turn.accepted old accepted
+  pub accepts : AsksAll turn.met turn.accepted old accepted
   pub middle : HostState
   pub to_middle : IsRun before turn.admissions middle
   pub met : List Connection

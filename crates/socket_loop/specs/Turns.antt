@@ -1,5 +1,5 @@
 -- A turn of a loop (own choice).
-use Rattle.std.specs.Prelude.{◌≡◌, ◌<◌, ◌≤◌, ◌⊎◌, ⊤, ℕ, List, [], ◌∷◌, ◌++◌, codes, map, true, IsSome, Option, None, Some, Bool, false, ◌||◌, not, filter, length, Result, Ok, Err}
+use Rattle.std.specs.Prelude.{◌≡◌, ◌+◌, ◌<◌, ◌≤◌, ◌⊎◌, ⊤, ℕ, List, [], ◌∷◌, ◌++◌, codes, map, true, IsSome, Option, None, Some, Bool, false, ◌||◌, not, filter, length, Result, Ok, Err}
 use Rattle.std.specs.Io.KnownBytes.{Keeps, Appends, Consumes}
 use Rattle.session_slots.specs.declared.id.SessionId.{SessionId}
 use Rattle.session_slots.specs.Slots.{find}
@@ -18,7 +18,7 @@ use Rattle.socket_loop.specs.declared.connection.Link.{Link}
 use Rattle.socket_loop.specs.declared.connection.Connection.{Connection}
 use Rattle.socket_loop.specs.Told.{Told, KeepsPeer, KeepsOthers, KeepsAll, IsRaised, OnlyRises}
 use Rattle.socket_loop.specs.Links.{AreOnce, IsTied, IsAmong, IsApart, IsStrange, IsMarked, links_of, reads_ended, was_shut}
-use Rattle.socket_loop.specs.Parts.{AllMove, AreAll, IsAdmission, IsInput, IsOutput, IsEnd, Carried, IsEmptied, LeavesAlone, closes, is_finished_with}
+use Rattle.socket_loop.specs.Parts.{AllMove, AreAll, IsAdmission, IsInput, IsOutput, IsEnd, Carried, IsEmptied, IsGone, LeavesAlone, closes, is_finished_with}
 
 -- the budget of each round, and the connections
 pub record LoopState : Type 0 where
@@ -46,6 +46,11 @@ pub record Accepted : Type 0 where
 abbrev pub IsOneOf : List Accepted → Accepted → Type 0
 IsOneOf [] new = ⊥
 IsOneOf (first ∷ rest) new = (new ≡ first) ⊎ IsOneOf rest new
+
+-- the numbers of these rise, each from this one on and below that one
+abbrev pub AreNumbered : ℕ → List Accepted → ℕ → Type 0
+AreNumbered from [] to = from ≤ to
+AreNumbered from (first ∷ rest) to = (from ≤ first.number) × AreNumbered (first.number + 1) rest to
 
 abbrev pub openings_by : Event → Outcome → List Outcome
 openings_by Open outcome = outcome ∷ []
@@ -114,6 +119,7 @@ pub record Accepts (links : List Link) (from : ℕ) (old : Told) (before : HostS
   pub no_taken : (id : SessionId) → taken id steps ≡ []
   pub rises : from ≤ to
   pub accepted : List Accepted
+  pub numbered : AreNumbered from accepted to
   pub answers : openings steps ≡ map (λ new. new.outcome) accepted
   pub kept : (number : ℕ) → number < from → KeepsPeer old new number
   pub each : (number : ℕ) → KeepsPeer old new number ⊎ IsTurnedAway from to accepted old new number
@@ -175,6 +181,11 @@ pub record Joins (from to : ℕ) (accepted : List Accepted) (next last : ℕ) (a
   pub fresh : next ≤ link.id.generation
   pub below : link.id.generation < last
 
+-- a connection is shut, and its session is open no more
+pub record IsLetGo (bound : ℕ) (old new : Told) (after : HostState) (link : Link) : Type 0 where
+  pub shut : link.number < bound → IsRaised (old.is_shut link.number) (new.is_shut link.number)
+  pub closed : IsGone after link.id
+
 -- accept, read, work, write and shut, in this order, and with one round; where nothing moved nobody was accepted
 pub record IsTurn (slice : ℕ) (moved : Bool) (held : List Connection) (from : ℕ) (old : Told) (before : HostState) (now : List Connection) (to : ℕ) (new : Told) (after : HostState) : Type 0 where
   pub met : List Link
@@ -197,11 +208,13 @@ pub record IsTurn (slice : ℕ) (moved : Bool) (held : List Connection) (from : 
   pub steps_are : steps ≡ (admissions ++ inputs) ++ (works slice (pending_ids start) round.outcomes ++ (outputs ++ ends))
   pub chain : IsRun before steps after
   pub accepted : List Accepted
+  pub numbered : AreNumbered from accepted to
   pub answers : openings admissions ≡ map (λ item. item.outcome) accepted
   pub still : moved ≡ false → accepted ≡ []
   pub marks : List Connection
   pub marked : (number : ℕ) → IsMarked reads_ended marks number → IsMarked reads_ended held number ⊎ IsEmptied (old.unread number) (new.unread number)
   pub ended : (number : ℕ) → IsMarked reads_ended now number → IsMarked reads_ended marks number
+  pub unshut : (number : ℕ) → IsMarked was_shut now number → ⊥
   pub rises : from ≤ to
   pub tied : (link : Link) → IsAmong met link → IsTied met link
   pub stay : (link : Link) → IsAmong (links_of held) link → IsAmong met link
@@ -209,7 +222,7 @@ pub record IsTurn (slice : ℕ) (moved : Bool) (held : List Connection) (from : 
   pub starts : ServesNew (links_of held) old met new after
   pub accounted : (new_one : Accepted) → IsOneOf accepted new_one → HasSession met new_one ⊎ IsTurnedAway from to accepted old new new_one.number
   pub left : (link : Link) → IsAmong (links_of now) link → IsAmong met link
-  pub gone : (link : Link) → IsAmong met link → IsAmong (links_of now) link ⊎ (IsMarked was_shut held link.number ⊎ (link.number < to → IsRaised (old.is_shut link.number) (new.is_shut link.number)))
+  pub gone : (link : Link) → IsAmong met link → IsAmong (links_of now) link ⊎ (IsMarked was_shut held link.number ⊎ IsLetGo to old new after link)
   pub carried : (link : Link) → IsAmong met link → Carried marks to old before steps new after link
   pub others : (number : ℕ) → IsApart met number → KeepsPeer old new number ⊎ IsTurnedAway from to accepted old new number
   pub foreign : (id : SessionId) → id.generation < before.slots.next → IsStrange met id → LeavesAlone id steps

@@ -3,7 +3,7 @@
 ghost use Rattle.std.specs.Prelude.{true, false, Ok, ◌≡◌, ◌≤◌, ◌<◌, ℕ, List, [], ◌∷◌, length, not, filter};
 ghost use Rattle.host_core.specs.Events.{Opened};
 ghost use Rattle.host_core.specs.Steps.{HostState};
-ghost use Rattle.socket_loop.specs.Links.{links_of, place_for, reads_ended, AreOnce, IsMarked, IsRising};
+ghost use Rattle.socket_loop.specs.Links.{links_of, place_for, reads_ended, AreOnce, IsApart, IsMarked, IsRising};
 ghost use Rattle.socket_loop.specs.Parts.{Serves, Grows, IsInput, IsOutput, IsEnd, KeepsAllMarks, AddsNoMark};
 ghost use Rattle.socket_loop.specs.Turns.{any_pending, host_full, Admits, AllKeepMade, AreLeft, NoneFinished, Fits, GoesOnServing, HasMoved, IsAway, IsOpening, IsQuiet, IsTurn, ServesNew, StaysKnown, Stirs};
 ghost use Rattle.socket_loop.specs.Asked.{Write, Shut, Asks};
@@ -19,6 +19,7 @@ use session_slots::SessionId;
 use std::alloc::Allocator;
 use std::hash::BuildHasher;
 use std::marker::Model;
+use usi_session::CHUNK_MAX;
 
 /// The most connections that are accepted in a turn.
 pub const ACCEPTS: usize = 16;
@@ -104,7 +105,7 @@ impl<A: Allocator + Copy> Loop<A> {
 
     /// Holds a new connection with its session; where memory is refused, both end.
     fn hold<W: Wire, S: BuildHasher>(&mut self, host: &mut Host<S, A>, wire: &mut W, link: Link)
-        ensures asked { AsksAdmission link.number (Opened link.id) (W.asked wire.old) (W.asked wire.new) }
+        ensures asked { IsApart (links_of self.old.held) link.number → AsksAdmission (links_of self.new.held) link.number (Opened link.id) (W.asked wire.old) (W.asked wire.new) }
         ensures admits { (before : HostState) → IsOpening before (Ok link.id) host.old → Admits (links_of self.old.held) (W.told wire.old) before link.number (Opened link.id) (W.bound wire.old) (links_of self.new.held) (W.told wire.new) host.new }
         ensures marks { (number : ℕ) → AddsNoMark self.old.held self.new.held number }
         ensures grows { Grows self.old.held self.new.held }
@@ -179,8 +180,9 @@ impl<A: Allocator + Copy> Loop<A> {
         ensures slice { self.new.slice ≡ self.old.slice }
     {
         let mut moved = false;
+        let mut chunk = [0u8; CHUNK_MAX];
         for connection in self.held.iter_mut() {
-            let has_moved = read_from(connection, host, wire);
+            let has_moved = read_from(connection, host, wire, &mut chunk);
             moved = moved | has_moved;
         }
         moved

@@ -1,6 +1,6 @@
 //! What a turn does with one connection.
 
-ghost use Rattle.std.specs.Prelude.{◌≡◌, ◌<◌, ◌≤◌, ◌⊎◌, [], ◌∷◌, List, length, true, false, not, ◌&&◌};
+ghost use Rattle.std.specs.Prelude.{◌≡◌, ◌<◌, ◌≤◌, ◌⊎◌, [], ◌∷◌, List, None, length, true, false, not, ◌&&◌};
 ghost use Rattle.std.specs.Io.KnownBytes.{Keeps};
 ghost use Rattle.host_core.specs.ById.{wants_input_of};
 ghost use Rattle.host_core.specs.Seen.{outcome_of};
@@ -31,6 +31,7 @@ pub fn shut_down<W: Wire, S: BuildHasher, A: Allocator + Copy>(
     ensures asked { Asks (W.asked wire.old) (W.asked wire.new) (Shut connection.old.link.number ∷ []) }
     ensures closed { IsClosing host.old connection.old.link.id host.new }
     ensures gone { connection.old.link.id.generation < host.old.slots.next → IsGone host.new connection.old.link.id }
+    ensures none { find host.new.slots connection.old.link.id ≡ None }
     ensures link { connection.new.link ≡ connection.old.link }
     ensures ended { connection.new.has_ended ≡ connection.old.has_ended }
     ensures shut { connection.new.is_shut ≡ true }
@@ -66,6 +67,7 @@ fn feed_from<W: Wire, S: BuildHasher, A: Allocator + Copy>(
     ensures serves { (marks : List Connection) (before : Told) → GaveBytes before (W.told wire.old) connection.old.link.number chunk.now → Stays (before.has_failed connection.old.link.number) ((W.told wire.old).has_failed connection.old.link.number) → Serves IsInput marks (W.bound wire.old) (connection.old.link ∷ []) before host.old (W.told wire.new) host.new }
     ensures shut { connection.new.is_shut ≡ true → (connection.old.is_shut ≡ true) ⊎ (connection.old.link.number < W.bound wire.old → IsRaised ((W.told wire.old).is_shut connection.old.link.number) ((W.told wire.new).is_shut connection.old.link.number)) }
     ensures unread { Keeps ((W.told wire.old).unread connection.old.link.number) ((W.told wire.new).unread connection.old.link.number) }
+    ensures closed { connection.new.is_shut ≡ true → (connection.old.is_shut ≡ true) ⊎ (find host.new.slots connection.old.link.id ≡ None) }
     ensures made { KeepsMade connection.old connection.new }
     ensures ended { connection.new.has_ended ≡ connection.old.has_ended }
     ensures link { connection.new.link ≡ connection.old.link }
@@ -92,19 +94,22 @@ fn is_to_read<S: BuildHasher, A: Allocator + Copy>(
     !connection.has_ended && !connection.is_shut && host.wants_input(connection.link.id)
 }
 
-/// One read of at most `CHUNK_MAX` bytes for a connection whose session wants input, and what it gave is
-/// fed. A read that fails, or a feed refused for memory, ends the connection and its session. True
-/// where something was read, or the reads ended, or the connection was shut.
+/// One read into the chunk for a connection whose session wants input, and what it gave is fed. What the
+/// chunk has before and afterwards is of no use. A read that fails, or a feed refused for memory, ends
+/// the connection and its session. True where something was read, or the reads ended, or the connection
+/// was shut.
 pub fn read_from<W: Wire, S: BuildHasher, A: Allocator + Copy>(
     connection: &mut Connection,
     host: &mut Host<S, A>,
     wire: &mut W,
+    chunk: &mut [u8; CHUNK_MAX],
 ) -> bool
     ensures asked { Asks (W.asked wire.old) (W.asked wire.new) (reads_of host.old connection.old connection.new) }
     ensures visits { Visits IsInput connection.old.link.id host.old host.new }
     ensures still { is_to_read host.old connection.old ≡ false → result ≡ false }
     ensures quiet { IsQuiet result (W.told wire.old) connection.old (W.told wire.new) connection.new }
     ensures stirs { result ≡ true → Transfers (W.told wire.old) (W.told wire.new) connection.old.link.number ⊎ EndsOrShuts connection.old connection.new }
+    ensures closed { connection.new.is_shut ≡ true → (connection.old.is_shut ≡ true) ⊎ (find host.new.slots connection.old.link.id ≡ None) }
     ensures made { KeepsMade connection.old connection.new }
     ensures serves { (marks : List Connection) → Serves IsInput marks (W.bound wire.old) (connection.old.link ∷ []) (W.told wire.old) host.old (W.told wire.new) host.new }
     ensures ended { connection.new.has_ended ≡ true → (connection.old.has_ended ≡ true) ⊎ IsEmptied ((W.told wire.old).unread connection.old.link.number) ((W.told wire.new).unread connection.old.link.number) }
@@ -118,8 +123,7 @@ pub fn read_from<W: Wire, S: BuildHasher, A: Allocator + Copy>(
     if !is_to_read(connection, host) {
         return false;
     }
-    let mut chunk = [0u8; CHUNK_MAX];
-    match wire.read(link.number, &mut chunk) {
+    match wire.read(link.number, chunk) {
         Ok(Got::Bytes(n)) => {
             let (bytes, _) = chunk.split_at(n);
             feed_from(connection, host, wire, bytes);
@@ -150,6 +154,7 @@ pub fn write_to<W: Wire, S: BuildHasher, A: Allocator + Copy>(
     ensures still { is_to_write host.old connection.old ≡ false → result ≡ false }
     ensures quiet { IsQuiet result (W.told wire.old) connection.old (W.told wire.new) connection.new }
     ensures stirs { result ≡ true → Transfers (W.told wire.old) (W.told wire.new) connection.old.link.number ⊎ EndsOrShuts connection.old connection.new }
+    ensures closed { connection.new.is_shut ≡ true → (connection.old.is_shut ≡ true) ⊎ (find host.new.slots connection.old.link.id ≡ None) }
     ensures made { KeepsMade connection.old connection.new }
     ensures serves { (marks : List Connection) → Serves IsOutput marks (W.bound wire.old) (connection.old.link ∷ []) (W.told wire.old) host.old (W.told wire.new) host.new }
     ensures ended { connection.new.has_ended ≡ connection.old.has_ended }
@@ -207,6 +212,7 @@ pub fn close_if_finished<W: Wire, S: BuildHasher, A: Allocator + Copy>(
     ensures visits { Visits IsEnd connection.old.link.id host.old host.new }
     ensures quiet { IsQuiet result (W.told wire.old) connection.old (W.told wire.new) connection.new }
     ensures stirs { result ≡ true → Transfers (W.told wire.old) (W.told wire.new) connection.old.link.number ⊎ EndsOrShuts connection.old connection.new }
+    ensures closed { connection.new.is_shut ≡ true → (connection.old.is_shut ≡ true) ⊎ (find host.new.slots connection.old.link.id ≡ None) }
     ensures made { KeepsMade connection.old connection.new }
     ensures finished { result ≡ (not connection.old.is_shut && is_finished_with connection.old.has_ended (find host.old.slots connection.old.link.id)) }
     ensures shuts { result ≡ true → connection.new.is_shut ≡ true }

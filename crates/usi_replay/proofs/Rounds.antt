@@ -105,7 +105,7 @@ unfolding IsRun
 run_keeps budget [] os old new r = keeps_start old new r
 run_keeps budget (id ∷ ids) [] old new r = keeps_start old new r
 run_keeps budget (id ∷ ids) (o ∷ os) old new r =
-    keeps_chain old r.0 new (work_keeps budget old r.0 id o (find old.slots id) refl r.1.stepped) (run_keeps budget ids os r.0 new r.2)
+    keeps_chain old r.0 new (work_keeps budget old r.0 id o (find old.slots id) refl r.1.stepped.0) (run_keeps budget ids os r.0 new r.2)
 
 -- a round only makes sessions go on
 pub round_keeps : (old new : HostState) (budget worked refused : ℕ) (ids : List SessionId) → IsRound old budget ids worked refused new → KeepsDue old new
@@ -174,7 +174,7 @@ unfolding IsRun
 run_never budget [] os old new id one ok r = leaves_same (find old.slots id) (find new.slots id) (ap (λ (x : HostState). find x.slots id) r)
 run_never budget (at ∷ ids) [] old new id one ok r = leaves_same (find old.slots id) (find new.slots id) (ap (λ (x : HostState). find x.slots id) r)
 run_never budget (at ∷ ids) (o ∷ os) old new id one ok r =
-    let a = work_never (is_same_id at id) budget old r.0 at id o (find old.slots at) refl refl one (no_more o os ok).0 r.1.stepped in
+    let a = work_never (is_same_id at id) budget old r.0 at id o (find old.slots at) refl refl one (no_more o os ok).0 r.1.stepped.0 in
     let b = run_never budget ids os r.0 new id one (no_more o os ok).1 r.2 in
     omega (arith, a, b)
 
@@ -190,13 +190,13 @@ run_less_by : (b : Bool) (budget : ℕ) (at : SessionId) (ids : List SessionId) 
     → works_left (find new.slots id) ≤ works_left (find mid.slots id) → (is_in id ids ≡ true → pending_of (find mid.slots id) ≡ true → works_left (find new.slots id) < works_left (find mid.slots id)) → works_left (find new.slots id) < works_left (find old.slots id)
 run_less_by true budget at ids o os old mid new id e one ok step is p never less =
     let same : at ≡ id = same_id at id e in
-    let a : works_left (find mid.slots at) < works_left (find old.slots at) = work_less budget old mid at o (find old.slots at) refl (rw same p) one ok step in
+    let a : works_left (find mid.slots at) < works_left (find old.slots at) = work_less budget old mid at o (find old.slots at) refl (rw same p) one ok step.0 in
     let b : works_left (find mid.slots id) < works_left (find old.slots id) = rw same at a in
     omega (arith, never, b)
 run_less_by false budget at ids o os old mid new id e one ok step is p never less =
-    let kept : works_left (find mid.slots id) ≤ works_left (find old.slots id) = work_never false budget old mid at id o (find old.slots at) e refl one ok step in
+    let kept : works_left (find mid.slots id) ≤ works_left (find old.slots id) = work_never false budget old mid at id o (find old.slots at) e refl one ok step.0 in
     let there : is_in id ids ≡ true = ap (λ (b : Bool). b || is_in id ids) (sym e) ∙ is in
-    let waits : pending_of (find mid.slots id) ≡ true = ap pending_of (same_by budget old mid at id o (find old.slots at) refl e step) ∙ p in
+    let waits : pending_of (find mid.slots id) ≡ true = ap pending_of (same_by budget old mid at id o (find old.slots at) refl e step.0) ∙ p in
     let l = less there waits in
     omega (arith, kept, l)
 

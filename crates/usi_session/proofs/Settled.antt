@@ -1,5 +1,5 @@
 -- What a session that is settled or over still owes.
-use Rattle.std.proofs.Common.{◌≡◌, ℕ, List, [], ◌∷◌, ◌++◌, refl, ap, ◌∙◌, false, true, Bool, append-nil, Option, Some, None}
+use Rattle.std.proofs.Common.{◌≡◌, ℕ, List, [], ◌∷◌, ◌++◌, refl, sym, ap, ◌∙◌, false, true, Bool, append-nil, Option, Some, None}
 use Rattle.std.specs.Prelude.{◌&&◌, ◌||◌, not, nat_lt, length, cond, is_some}
 use Rattle.usi_lines.specs.Lines.{Line, ahead, lines}
 use Rattle.usi_session.specs.declared.state.State.{State}
@@ -68,6 +68,12 @@ state_due-over s x over =
     let ended : (rest_of_go_if s.state s.running_go).state.is_over ≡ true = rest_of_go-over s.state s.running_go ∙ over in
     ap (λ (t : State). t.is_over) (state_from-over (rest_of_go_if s.state s.running_go).state (ahead s.input x) ended) ∙ ended
 
+-- a session that is over will be as it is, whatever it is sent
+pub state_due-over_same : (s : SessionView) (x y : List ℕ) → s.state.is_over ≡ true → state_due s x ≡ state_due s y
+state_due-over_same s x y over =
+    let ended : (rest_of_go_if s.state s.running_go).state.is_over ≡ true = rest_of_go-over s.state s.running_go ∙ over in
+    state_from-over (rest_of_go_if s.state s.running_go).state (ahead s.input x) ended ∙ sym (state_from-over (rest_of_go_if s.state s.running_go).state (ahead s.input y) ended)
+
 idle_state : (over : Bool) (s : State) (running_go : Option RunningGo) (xs : List Line) → over ≡ false → (not over && (is_some running_go || has_line xs)) ≡ false → state_from (rest_of_go_if s running_go).state xs ≡ s
 idle_state true s running_go xs alive e = absurd (cc)
 idle_state false s None [] alive e = state_from-none s
@@ -87,9 +93,13 @@ settled_of over false short e = both_false over
 settled_of false true short e = absurd (cc)
 settled_of true true short e = absurd (cc)
 
+-- a session that wants input has nothing pending
+pub wanting-settled : (s : SessionView) → wants_input s ≡ true → is_pending s ≡ false
+wanting-settled s wants = settled_of s.state.is_over (is_some s.running_go || has_line (ahead s.input [])) (nat_lt (length s.queued) QUEUE_FULL) wants
+
 -- a session that wants input owes what is queued
 pub due-wanting : (s : SessionView) → wants_input s ≡ true → due s [] ≡ s.queued
-due-wanting s wants = due-settled s (settled_of s.state.is_over (is_some s.running_go || has_line (ahead s.input [])) (nat_lt (length s.queued) QUEUE_FULL) wants)
+due-wanting s wants = due-settled s (wanting-settled s wants)
 
 wants_from : (over line short : Bool) → over ≡ false → (not over && line) ≡ false → short ≡ true → (not over && not line && short) ≡ true
 wants_from false false true a b c = refl
@@ -115,7 +125,7 @@ alive_of true settled short e = absurd (cc)
 pub state_due-wanting : (s : SessionView) → wants_input s ≡ true → (state_due s []).is_over ≡ false
 state_due-wanting s wants =
     let alive : s.state.is_over ≡ false = alive_of s.state.is_over (is_some s.running_go || has_line (ahead s.input [])) (nat_lt (length s.queued) QUEUE_FULL) wants in
-    let settled : is_pending s ≡ false = settled_of s.state.is_over (is_some s.running_go || has_line (ahead s.input [])) (nat_lt (length s.queued) QUEUE_FULL) wants in
+    let settled : is_pending s ≡ false = wanting-settled s wants in
     ap (λ (t : State). t.is_over) (state_due-settled s alive settled) ∙ alive
 
 -- no session is over before it was sent anything

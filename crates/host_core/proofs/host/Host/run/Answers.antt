@@ -3,6 +3,7 @@ use Rattle.std.proofs.lemmas.List.{take_all}
 use Rattle.host_core.specs.Seen.{answered}
 use Rattle.host_core.proofs.Chains.{run-start, run_on}
 use Rattle.host_core.proofs.OneSession.{made_front, made_all, kept}
+use Rattle.host_core.proofs.Overs.{kept_over, made_over, opened_over}
 use Rattle.host_core.proofs.host.Host.run.Goals as goal
 
 pub loop-event-init : goal.loop-event-init
@@ -29,3 +30,18 @@ pub returns-clause-before : goal.returns-clause-before
 returns-clause-before g c = λ id s e.
     let all : take c.loop-event.event-index c.args.events.now ≡ c.args.events.now = take_all c.loop-event.event-index c.args.events.now (omega arith) in
     (kept c.args.self.now c.loop-event.self id (answered c.args.events.now c.loop-event.outcomes.items) s e (rw all at c.loop-event.invariant.chain)).ends
+
+pub returns-clause-ends : goal.returns-clause-ends
+returns-clause-ends g c = λ id o.
+    let all : take c.loop-event.event-index c.args.events.now ≡ c.args.events.now = take_all c.loop-event.event-index c.args.events.now (omega arith) in
+    opened_over c.args.self.now c.loop-event.self id (answered c.args.events.now c.loop-event.outcomes.items) o (rw all at c.loop-event.invariant.chain)
+
+pub returns-clause-over : goal.returns-clause-over
+returns-clause-over g c = λ id o settled.
+    let all : take c.loop-event.event-index c.args.events.now ≡ c.args.events.now = take_all c.loop-event.event-index c.args.events.now (omega arith) in
+    made_over c.args.self.now c.loop-event.self id (answered c.args.events.now c.loop-event.outcomes.items) o settled (rw all at c.loop-event.invariant.chain)
+
+pub returns-clause-ends_on : goal.returns-clause-ends_on
+returns-clause-ends_on g c = λ id s e.
+    let all : take c.loop-event.event-index c.args.events.now ≡ c.args.events.now = take_all c.loop-event.event-index c.args.events.now (omega arith) in
+    kept_over c.args.self.now c.loop-event.self id (answered c.args.events.now c.loop-event.outcomes.items) s e (rw all at c.loop-event.invariant.chain)

@@ -1,6 +1,7 @@
 use Rattle.std.proofs.Common.{rules, arith, refl, [], ◌∷◌}
 use Rattle.host_core.specs.declared.event.HostFault.TheVariants.{Full}
 use Rattle.host_core.specs.Events.{Opened, Refused}
+use Rattle.socket_loop.specs.Links.{links_of}
 use Rattle.socket_loop.proofs.Accepting.{admits_away, away_mute}
 use Rattle.socket_loop.proofs.Marks.{adds_same, grows_same}
 use Rattle.socket_loop.specs.Asked.{Write, Shut}
@@ -15,7 +16,7 @@ pub returns-in-Err-Full-clause-admits : goal.returns-in-Err-Full-clause-admits
 returns-in-Err-Full-clause-admits g c = record {
   outcome = Refused Full;
   admits = admits_away _ _ _ _ _ c.args.number _ (Refused Full) c.turn_away.ensures.away (rw c.in-Err-Full.field-0-is at (rw c.in-Err-Full.is at c.open_in.ensures));
-  asked = record { calls = Write c.args.number host_full ∷ Shut c.args.number ∷ []; admitted = refl; asked = c.turn_away.ensures.asked };
+  asked = λ apart. record { calls = Write c.args.number host_full ∷ Shut c.args.number ∷ []; admitted = refl; asked = c.turn_away.ensures.asked };
 }
 
 pub returns-in-Err-Full-clause-grows : goal.returns-in-Err-Full-clause-grows
@@ -29,7 +30,7 @@ returns-in-Err g c = record {
   admits = record {
     outcome = Refused c.in-Err.field-0;
     admits = admits_away _ _ _ _ _ c.args.number _ _ (away_mute _ _ _ c.args.number _ c.shut.ensures.shut) (rw c.in-Err.is at c.open_in.ensures);
-    asked = record { calls = Shut c.args.number ∷ []; admitted = refused_admitted c.args.number c.in-Err.field-0 (search rules); asked = c.shut.ensures.asked };
+    asked = λ apart. record { calls = Shut c.args.number ∷ []; admitted = refused_admitted (links_of c.args.self.now.held) c.args.number c.in-Err.field-0 (search rules); asked = c.shut.ensures.asked };
   };
   marks = adds_same _;
   grows = grows_same _;

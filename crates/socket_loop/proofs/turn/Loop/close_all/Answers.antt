@@ -27,7 +27,7 @@ loop-connection-preserved g c = record {
   stirs = stirs_next c.loop-connection.moved _ _ _ _ _ c.loop-connection.connection-items c.loop-connection.connection-index _ _ (search rules) c.loop-connection.invariant.links c.loop-connection.invariant.so_far.carries.all (c.close_if_finished-has_moved.ensures.serves c.args.self.now.held (λ e. c.loop-connection.invariant.ended _ (marked_at reads_ended c.loop-connection.connection-items c.loop-connection.connection-index _ (search rules) e))).carries.all c.loop-connection.invariant.made c.close_if_finished-has_moved.ensures.made c.loop-connection.invariant.stirs c.close_if_finished-has_moved.ensures.stirs;
   links = links_set c.loop-connection.connection-items c.loop-connection.connection-index _ _ c.close_if_finished-has_moved.ensures.link ∙ c.loop-connection.invariant.links;
   quiet = quiet_next c.loop-connection.moved _ _ _ _ _ c.loop-connection.connection-items c.loop-connection.connection-index _ _ _ (either_false c.loop-connection.moved _) c.loop-connection.invariant.quiet c.close_if_finished-has_moved.ensures.quiet;
-  asked = asks_next c.loop-connection.connection-index ends_of IsEnd _ _ _ c.args.self.now.held c.loop-connection.connection-items c.close_if_finished-has_moved.new.connection _ _ _ _ (search rules) c.loop-connection.invariant.asked (visit_ends c.loop-connection.host _ _ c.close_if_finished-has_moved.ensures.link c.close_if_finished-has_moved.ensures.made c.close_if_finished-has_moved.ensures.ended (λ e. c.close_if_finished-has_moved.ensures.shuts (c.close_if_finished-has_moved.ensures.finished ∙ e)) (λ e. (c.close_if_finished-has_moved.ensures.quiet (c.close_if_finished-has_moved.ensures.finished ∙ e)).1)) c.close_if_finished-has_moved.ensures.visits c.close_if_finished-has_moved.ensures.asked;
+  asked = asks_next c.loop-connection.connection-index ends_of IsEnd _ _ _ c.args.self.now.held c.loop-connection.connection-items c.close_if_finished-has_moved.new.connection _ _ _ _ (search rules) c.loop-connection.invariant.asked (visit_ends c.loop-connection.host c.close_if_finished-has_moved.new.host _ _ c.close_if_finished-has_moved.ensures.link c.close_if_finished-has_moved.ensures.made c.close_if_finished-has_moved.ensures.ended c.close_if_finished-has_moved.ensures.closed (λ e. c.close_if_finished-has_moved.ensures.shuts (c.close_if_finished-has_moved.ensures.finished ∙ e)) (λ e. (c.close_if_finished-has_moved.ensures.quiet (c.close_if_finished-has_moved.ensures.finished ∙ e)).1)) c.close_if_finished-has_moved.ensures.visits c.close_if_finished-has_moved.ensures.asked;
   bound = search rules;
   faults = omega arith;
 }

@@ -23,7 +23,7 @@ loop-connection-preserved g c = record {
   stirs = stirs_next c.loop-connection.moved _ _ _ _ _ c.loop-connection.connection-items c.loop-connection.connection-index _ _ (search rules) c.loop-connection.invariant.links (c.loop-connection.invariant.so_far []).carries.all (c.read_from-has_moved.ensures.serves []).carries.all c.loop-connection.invariant.made c.read_from-has_moved.ensures.made c.loop-connection.invariant.stirs c.read_from-has_moved.ensures.stirs;
   links = links_set c.loop-connection.connection-items c.loop-connection.connection-index _ _ c.read_from-has_moved.ensures.link ∙ c.loop-connection.invariant.links;
   quiet = quiet_next c.loop-connection.moved _ _ _ _ _ c.loop-connection.connection-items c.loop-connection.connection-index _ _ _ (either_false c.loop-connection.moved _) c.loop-connection.invariant.quiet c.read_from-has_moved.ensures.quiet;
-  asked = asks_next c.loop-connection.connection-index reads_of IsInput _ _ _ c.args.self.now.held c.loop-connection.connection-items c.read_from-has_moved.new.connection _ _ _ _ (search rules) c.loop-connection.invariant.asked (visit_reads c.loop-connection.host _ _ c.read_from-has_moved.ensures.link c.read_from-has_moved.ensures.made (λ e. (c.read_from-has_moved.ensures.quiet (c.read_from-has_moved.ensures.still e)).1)) c.read_from-has_moved.ensures.visits c.read_from-has_moved.ensures.asked;
+  asked = asks_next c.loop-connection.connection-index reads_of IsInput _ _ _ c.args.self.now.held c.loop-connection.connection-items c.read_from-has_moved.new.connection _ _ _ _ (search rules) c.loop-connection.invariant.asked (visit_reads c.loop-connection.host c.read_from-has_moved.new.host _ _ c.read_from-has_moved.ensures.link c.read_from-has_moved.ensures.made c.read_from-has_moved.ensures.closed (λ e. (c.read_from-has_moved.ensures.quiet (c.read_from-has_moved.ensures.still e)).1)) c.read_from-has_moved.ensures.visits c.read_from-has_moved.ensures.asked;
   bound = search rules;
   faults = omega arith;
 }

@@ -1,5 +1,6 @@
 use Rattle.std.proofs.Common.{rules, ◌≡◌, ◌≤◌, ◌∙◌, arith, []}
 use Rattle.socket_loop.specs.Links.{links_of, AreOnce, IsRising}
+use Rattle.socket_loop.proofs.Shutting.{shuts_all}
 use Rattle.socket_loop.proofs.Turning.{turned, turn_with, asks_turn, turn_fits, serves_rises}
 use Rattle.socket_loop.proofs.Quiet.{quiet_turn}
 use Rattle.socket_loop.proofs.Runs.{next_rises}
@@ -26,7 +27,8 @@ returns-clause-turned g c =
     (rw (bound_written, c.write_all-has_written.ensures.links, c.read_all-has_read.ensures.links) at c.close_all-has_shut.ensures.serves)
     (rw bound_written at c.close_all-has_shut.ensures.marks)
     c.close_all-has_shut.ensures.ended
-    same)
+    same
+    (shuts_all c.args.self.now.held c.accept_all-has_accepted.new.self.held c.read_all-has_read.new.self.held c.write_all-has_written.new.self.held c.close_all-has_shut.new.self.held _ c.accept_all-has_accepted.new.host c.read_all-has_read.new.host c.round-round.new.self c.write_all-has_written.new.host c.close_all-has_shut.new.host _ _ _ _ _ c.accept_all-has_accepted.ensures.marks (c.accept_all-has_accepted.ensures.accepts.accepts.fits c.requires.fits) c.read_all-has_read.ensures.links (c.write_all-has_written.ensures.links ∙ c.read_all-has_read.ensures.links) c.read_all-has_read.ensures.asked c.round-round.ensures.run c.write_all-has_written.ensures.asked c.close_all-has_shut.ensures.asked))
 
 pub returns-clause-fits : goal.returns-clause-fits
 returns-clause-fits g c =
@@ -80,8 +82,9 @@ returns-clause-asked g c =
     (rw (bound_written, c.write_all-has_written.ensures.links, c.read_all-has_read.ensures.links) at c.close_all-has_shut.ensures.serves)
     (rw bound_written at c.close_all-has_shut.ensures.marks)
     c.close_all-has_shut.ensures.ended
-    same))
-    c.accept_all-has_accepted.ensures.accepts.asked
+    same
+    (shuts_all c.args.self.now.held c.accept_all-has_accepted.new.self.held c.read_all-has_read.new.self.held c.write_all-has_written.new.self.held c.close_all-has_shut.new.self.held _ c.accept_all-has_accepted.new.host c.read_all-has_read.new.host c.round-round.new.self c.write_all-has_written.new.host c.close_all-has_shut.new.host _ _ _ _ _ c.accept_all-has_accepted.ensures.marks (c.accept_all-has_accepted.ensures.accepts.accepts.fits c.requires.fits) c.read_all-has_read.ensures.links (c.write_all-has_written.ensures.links ∙ c.read_all-has_read.ensures.links) c.read_all-has_read.ensures.asked c.round-round.ensures.run c.write_all-has_written.ensures.asked c.close_all-has_shut.ensures.asked)))
+    (c.accept_all-has_accepted.ensures.accepts.asked c.requires.fits)
     c.accept_all-has_accepted.ensures.accepts.accepts.chain
     c.accept_all-has_accepted.ensures.grows
     c.accept_all-has_accepted.ensures.rising
