@@ -5,6 +5,7 @@ flat, and that no descriptor leaked. Every socket lies in a temporary folder. It
 program; without it, the program that `make build` makes. Its last line is `N passed, M failed`."""
 
 import contextlib
+import multiprocessing
 import os
 import random
 import resource
@@ -18,6 +19,7 @@ import sys
 import tempfile
 import time
 
+import refusals
 from checks import DEPTH_ONE, DEPTH_THREE, PROGRAM, USI, Wrong, run_all, want
 
 # The longest that one step may take, in seconds.
@@ -52,6 +54,19 @@ def folder():
 def files(most):
     """Sets how many files a new process may have open."""
     return lambda: resource.setrlimit(resource.RLIMIT_NOFILE, (most, most))
+
+
+@contextlib.contextmanager
+def many_files(most):
+    """Lets this process have so many files open."""
+    soft, hard = resource.getrlimit(resource.RLIMIT_NOFILE)
+    if hard != resource.RLIM_INFINITY and hard < most:
+        raise Wrong(f"this check needs {most} open files, and may have {hard}")
+    resource.setrlimit(resource.RLIMIT_NOFILE, (max(soft, most), hard))
+    try:
+        yield
+    finally:
+        resource.setrlimit(resource.RLIMIT_NOFILE, (soft, hard))
 
 
 class Host:
@@ -409,28 +424,21 @@ def hostile_clients_leave_nothing_behind():
 
 
 def a_full_host_turns_away_who_comes_then():
-    soft, hard = resource.getrlimit(resource.RLIMIT_NOFILE)
-    if hard != resource.RLIM_INFINITY and hard < 2_200:
-        raise Wrong(f"this check needs 2,200 open files, and may have {hard}")
-    resource.setrlimit(resource.RLIMIT_NOFILE, (max(soft, 2_200), hard))
-    try:
-        with host("--slots", "1024", preexec_fn=files(1_100)) as running:
-            want(running.ask(b"isready\n"), b"readyok\n", "a first client")
-            wait_until(lambda: running.descriptors() < 8, "its descriptor is closed")
-            descriptors = running.descriptors()
-            for _ in range(2):
-                clients = [running.connect() for _ in range(1_030)]
-                for client in clients[1_024:]:
-                    want(to_the_end(client), HOST_FULL, "a client of a full host")
-                for client in clients[:1_024]:
-                    client.sendall(b"go depth 1\n")
-                for client in clients[:1_024]:
-                    want(exactly(client, len(GO_DEPTH_ONE)), GO_DEPTH_ONE, "a client with a slot")
-                for client in clients:
-                    client.close()
-                is_at_rest(running, descriptors)
-    finally:
-        resource.setrlimit(resource.RLIMIT_NOFILE, (soft, hard))
+    with many_files(2_200), host("--slots", "1024", preexec_fn=files(1_100)) as running:
+        want(running.ask(b"isready\n"), b"readyok\n", "a first client")
+        wait_until(lambda: running.descriptors() < 8, "its descriptor is closed")
+        descriptors = running.descriptors()
+        for _ in range(2):
+            clients = [running.connect() for _ in range(1_030)]
+            for client in clients[1_024:]:
+                want(to_the_end(client), HOST_FULL, "a client of a full host")
+            for client in clients[:1_024]:
+                client.sendall(b"go depth 1\n")
+            for client in clients[:1_024]:
+                want(exactly(client, len(GO_DEPTH_ONE)), GO_DEPTH_ONE, "a client with a slot")
+            for client in clients:
+                client.close()
+            is_at_rest(running, descriptors)
 
 
 def too_many_open_files_are_waited_for():
@@ -451,6 +459,239 @@ def too_many_open_files_are_waited_for():
             want(exactly(client, 8), b"readyok\n", "a client that waited")
         clients[0].close()
         want(running.ask(b"go\n"), DEPTH_THREE, "a client afterwards")
+
+
+# ---- attacks, and what they cost the others
+
+# The longest that a client may wait for `readyok` meanwhile, in seconds, on a machine that does other work too.
+MOST = 0.5
+
+# What the table answers once it was asked: eight lines of depth 8 between two kings.
+LONG_ANSWER = (
+    b"setoption name Depth value 8\nsetoption name MultiPV value 8\n"
+    b"position sfen 9/9/4k4/9/9/9/4K4/9/9 b -\n"
+)
+
+# The longest line of moves: 65,535 bytes before its LF at most.
+LONG_POSITION = b"position startpos moves" + b" 5i5h 5a5b 5h5i 5b5a" * 3_275 + b"\n"
+
+
+def pour(path, count, first, lines, reads):
+    """So many clients send the first bytes, and then the lines again and again."""
+    clients = []
+    for _ in range(count):
+        client = socket.socket(socket.AF_UNIX)
+        client.connect(path)
+        client.sendall(first)
+        client.setblocking(False)
+        clients.append((client, [0]))
+    while True:
+        for client, sent in clients:
+            with contextlib.suppress(BlockingIOError):
+                sent[0] += client.send(lines[sent[0] % len(lines) :])
+            with contextlib.suppress(BlockingIOError):
+                while reads and client.recv(65_536):
+                    pass
+        time.sleep(0.001)
+
+
+def flood(path):
+    """Connects and goes, as fast as it may."""
+    while True:
+        client = socket.socket(socket.AF_UNIX)
+        client.setblocking(False)
+        with contextlib.suppress(OSError):
+            client.connect(path)
+        client.close()
+
+
+@contextlib.contextmanager
+def attack(function, *words):
+    """A process of its own that attacks the host until the end."""
+    child = multiprocessing.get_context("fork").Process(target=function, args=words, daemon=True)
+    child.start()
+    try:
+        time.sleep(0.3)
+        yield child
+    finally:
+        child.kill()
+        child.join()
+
+
+def is_in_time(running, who, most, ask):
+    """The host answers and works no longer than this for it; what else the machine does must not count."""
+    before, began = running.seconds(), time.monotonic()
+    want(ask(), b"readyok\n", who)
+    took, waited = running.seconds() - before, time.monotonic() - began
+    if took > most or waited > PATIENCE / 4:
+        raise Wrong(f"{who} waited {waited:.2f} s, while the host worked {took:.2f} s")
+
+
+def is_served_in_time(running, what, most=MOST):
+    """Asks again and again, over one connection and over new ones."""
+    with running.connect() as client:
+
+        def ask():
+            client.sendall(b"isready\n")
+            return exactly(client, 8)
+
+        for _ in range(30):
+            is_in_time(running, f"a client beside {what}", most, ask)
+            time.sleep(0.01)
+    is_in_time(running, f"a new client beside {what}", 2 * most, lambda: running.ask(b"isready\n"))
+
+
+def is_small(running, most, what):
+    if running.memory() > most:
+        raise Wrong(f"{what}: it has {running.memory()} bytes")
+
+
+def does_not_spin(running, what):
+    before = running.seconds()
+    time.sleep(0.4)
+    if running.seconds() - before > 0.2:
+        raise Wrong(f"it spins: {what}")
+
+
+@contextlib.contextmanager
+def attacked(*words, **how):
+    """A host that is at rest before and after."""
+    with host(*words, **how) as running:
+        want(running.ask(b"isready\n"), b"readyok\n", "a first client")
+        wait_until(lambda: running.descriptors() < 8, "its descriptor is closed")
+        descriptors = running.descriptors()
+        yield running
+        is_at_rest(running, descriptors)
+        does_not_spin(running, "at rest")
+
+
+def lines_that_the_table_answers():
+    """A turn answers one line of each client, whatever else each has sent."""
+    with attacked() as running:
+        running.ask(LONG_ANSWER + b"go\n")
+        for reads in (True, False):
+            with attack(pour, running.path, 16, LONG_ANSWER, b"go\n" * 1_365, reads):
+                is_served_in_time(running, "16 clients with 1,365 `go`")
+                is_small(running, 20_000_000, "16 clients with 1,365 `go`")
+        with attack(pour, running.path, 1, LONG_ANSWER, b"go\n" * 1_365, False):
+            time.sleep(1)
+            does_not_spin(running, "a deaf client with 1,365 `go`")
+
+
+def long_lines_of_moves():
+    with attacked() as running:
+        with attack(pour, running.path, 16, b"", LONG_POSITION, True):
+            is_served_in_time(running, "16 clients with long lines")
+            is_small(running, 20_000_000, "16 clients with long lines")
+
+
+def searches(running, move):
+    """The processor time of some searches at depth 4, after positions that begin with this move."""
+    before = running.seconds()
+    with running.connect() as client:
+        for reply in (b"3c3d", b"8c8d", b"4a3b", b"6a5b", b"5c5d", b"9c9d", b"1c1d", b"7c7d"):
+            client.sendall(b"position startpos moves %s %s\ngo depth 4\n" % (move, reply))
+            while b"bestmove" not in client.recv(65_536):
+                pass
+    return running.seconds() - before
+
+
+def an_idle_crowd():
+    """1,000 clients that say nothing let another search."""
+    with many_files(2_200), host("--slots", "1024", preexec_fn=files(1_100)) as running:
+        alone = searches(running, b"7g7f")
+        with contextlib.ExitStack() as crowd:
+            for _ in range(1_000):
+                crowd.enter_context(running.connect())
+            want(running.ask(b"isready\n"), b"readyok\n", "a client of the crowd")
+            beside = searches(running, b"2g2f")
+            does_not_spin(running, "1,000 idle clients")
+        if beside > 4 * alone + 0.1:
+            raise Wrong(f"{alone:.2f} s alone, and {beside:.2f} s beside 1,000 idle clients")
+
+
+def searchers_that_vanish():
+    """Their searches go on until the next line can't be written; the others are served."""
+    with attacked("--slice", "1000") as running:
+        for _ in range(63):
+            with running.connect() as client:
+                client.sendall(b"setoption name MultiPV value 8\ngo depth 3\n")
+                want(exactly(client, 4), b"info", "the first line of a searcher")
+        is_served_in_time(running, "63 searchers that are gone")
+
+
+def connect_floods():
+    with attacked() as running:
+        with attack(flood, running.path), attack(flood, running.path):
+            is_served_in_time(running, "a flood")
+
+
+def descriptors_that_are_passed():
+    """They are closed by the system, and the bytes beside them are read."""
+    with attacked() as running:
+        with running.connect() as client, open(os.devnull, "rb") as passed:
+            for _ in range(20):
+                socket.send_fds(client, [b"isready\n"], [passed.fileno()] * 5)
+                want(exactly(client, 8), b"readyok\n", "a client that passes descriptors")
+            if running.descriptors() > 8:
+                raise Wrong("it keeps descriptors that it was passed")
+
+
+def bytes_out_of_band():
+    """They are not among the others, and nothing waits or spins for them."""
+    with attacked() as running:
+        with running.connect() as client:
+            client.sendall(b"isready\n")
+            want(exactly(client, 8), b"readyok\n", "before")
+            with contextlib.suppress(OSError):
+                client.send(b"!", socket.MSG_OOB)
+            does_not_spin(running, "a byte out of band")
+            client.sendall(b"\nisready\n")
+            want(exactly(client, 8), b"readyok\n", "afterwards")
+
+
+def standard_streams_that_are_closed():
+    def close_all():
+        for number in (0, 1, 2):
+            os.close(number)
+
+    with attacked(preexec_fn=close_all) as running:
+        want(running.ask(b"go\n"), DEPTH_THREE, "a client")
+
+
+def memory_that_is_refused_while_others_wait():
+    """No client makes it stop: with memory it serves those who come."""
+    with attacked("--entries", "256") as running:
+        pid = running.running.pid
+        with open(f"/proc/{pid}/statm", encoding="ascii") as numbers:
+            size = int(numbers.read().split()[0]) * os.sysconf("SC_PAGE_SIZE")
+        whole = resource.prlimit(pid, resource.RLIMIT_AS)
+        resource.prlimit(pid, resource.RLIMIT_AS, (size, whole[1]))
+        clients = [running.connect() for _ in range(40)]
+        for client in clients:
+            client.setblocking(False)
+            with contextlib.suppress(OSError):
+                client.send(b"usi\n" * 1_000 + LONG_POSITION)
+        time.sleep(1)
+        resource.prlimit(pid, resource.RLIMIT_AS, whole)
+        is_served_in_time(running, "clients whose memory was refused")
+        for client in clients:
+            client.close()
+
+
+def a_registration_that_is_refused_while_others_wait():
+    """One of three who come at once is dropped; the others are served without another client."""
+    with refusals.refusing(refusals.EPOLL_CTL, {2}) as how, host(**how) as running:
+        running.running.send_signal(signal.SIGSTOP)
+        clients = [running.connect() for _ in range(3)]
+        for client in clients:
+            client.sendall(b"isready\n")
+        running.running.send_signal(signal.SIGCONT)
+        want(to_the_end(clients[0]), b"", "the first one")
+        for client in clients[1:]:
+            client.settimeout(2)
+            want(exactly(client, 8), b"readyok\n", "one who waited")
+            client.close()
 
 
 def signals_are_no_fault():
@@ -574,6 +815,16 @@ CHECKS = (
     hostile_clients_leave_nothing_behind,
     a_full_host_turns_away_who_comes_then,
     too_many_open_files_are_waited_for,
+    lines_that_the_table_answers,
+    long_lines_of_moves,
+    an_idle_crowd,
+    searchers_that_vanish,
+    connect_floods,
+    descriptors_that_are_passed,
+    bytes_out_of_band,
+    standard_streams_that_are_closed,
+    memory_that_is_refused_while_others_wait,
+    a_registration_that_is_refused_while_others_wait,
     signals_are_no_fault,
     it_ends_after_its_turns,
     the_mode_of_the_socket_is_the_umask,

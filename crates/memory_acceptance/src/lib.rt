@@ -16,6 +16,8 @@ mod room;
 #[cfg(test)]
 mod scripts;
 #[cfg(test)]
+mod sockets;
+#[cfg(test)]
 mod streams;
 #[cfg(test)]
 mod tables;

@@ -1,4 +1,5 @@
 pub mod Lines
+pub mod OneLine
 pub mod Commands
 pub mod Options
 pub mod CommandLines

@@ -12,6 +12,6 @@ mod words;
 pub use buffer::{LineBuffer, LineFault};
 pub use command::{Command, Hold};
 pub use first::{FirstLine, first_line};
-pub use line::{LINE_FEED, LINE_MAX, Line};
+pub use line::{LINE_FEED, LINE_MAX, Line, cut_line};
 pub use options::{DEPTH_MAX, DEPTH_MIN, MULTI_PV_MAX, MULTI_PV_MIN};
 pub use read::read_command;

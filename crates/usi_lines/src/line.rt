@@ -1,9 +1,10 @@
 //! A line of a byte stream.
 
-ghost use Rattle.std.specs.Prelude.{◌≡◌, ◌≤◌, length};
+ghost use Rattle.std.specs.Prelude.{◌≡◌, ◌≢◌, ◌<◌, ◌≤◌, [], ◌++◌, length};
 ghost use Rattle.std.specs.List.{position_or_len};
 ghost use Rattle.std.specs.Str.Lines.{strip_carriage_return};
 ghost use Rattle.usi_lines.specs.Lines.{is_line_feed};
+ghost use Rattle.usi_lines.specs.OneLine.{one_line, IsOneLine};
 
 use memchr::memchr;
 
@@ -27,6 +28,20 @@ pub fn line_len(bytes: &[u8]) -> usize
     ensures most { result ≤ length bytes.now }
 {
     memchr(LINE_FEED, bytes).unwrap_or(bytes.len())
+}
+
+/// Cuts the bytes behind their first LF; where there is none, all of them are before the cut.
+pub fn cut_line(bytes: &[u8]) -> (&[u8], &[u8])
+    ensures line { result.0.now ≡ one_line bytes.now }
+    ensures one { IsOneLine result.0.now }
+    ensures whole { bytes.now ≡ result.0.now ++ result.1.now }
+    ensures shorter { bytes.now ≢ [] → length result.1.now < length bytes.now }
+{
+    let end = line_len(bytes);
+    if end == bytes.len() {
+        return bytes.split_at(end);
+    }
+    bytes.split_at(end + 1)
 }
 
 /// The bytes without the one CR at their end.

@@ -1,3 +1,6 @@
 pub mod Turns
 pub mod Lives
+pub mod Ends
 pub mod Waits
+pub mod Alone
+pub mod Giving

@@ -5,29 +5,30 @@ use Rattle.std.proofs.KnownBytes.{Appends-kept, Consumes-kept, Keeps-trans, Appe
 use Rattle.session_slots.specs.declared.id.SessionId.{SessionId}
 use Rattle.session_slots.specs.Slots.{find}
 use Rattle.usi_session.specs.Due.{SessionView}
-use Rattle.usi_session.specs.Replies.{replies}
+use Rattle.usi_session.specs.Replies.{replies, is_over_after}
 use Rattle.host_core.specs.declared.event.HostFault.TheVariants.{Full, OutOfMemory, UnknownSession, NotReady}
 use Rattle.host_core.specs.Events.{Close, Outcome, Opened, Done, Worked, Gave, Refused}
-use Rattle.host_core.specs.Headline.{EndsFrom, IsFrontOf}
+use Rattle.host_core.specs.Headline.{EndsFrom, IsFrontOf, OverFrom}
 use Rattle.socket_loop.specs.declared.connection.Link.{Link}
 use Rattle.socket_loop.specs.declared.wire.WireFault.{WireFault}
 use Rattle.socket_loop.specs.Told.{KeepsPeer}
-use Rattle.socket_loop.specs.Links.{Ties, IsAmong, IsApart, IsMarked, links_of, reads_ended}
-use Rattle.socket_loop.specs.Turns.{FitsOne, Fits, IsTurn, IsTurnedAway, Joins, Served, host_full, told_to}
-use Rattle.socket_loop.proofs.Accepting.{apart_each, each_apart, fresh_tied, ties_apart}
-use Rattle.socket_loop.proofs.Lives.{served_on, served_aside, then_ends, Keeps-Consumes, front_written, all_written, tied_of, strange_each}
+use Rattle.socket_loop.specs.Links.{Ties, IsAmong, IsApart, IsMarked, links_of, reads_ended, was_shut}
+use Rattle.socket_loop.specs.Turns.{FitsOne, Fits, IsTurn, IsLetGo, IsTurnedAway, Joins, Served, host_full, told_to}
+use Rattle.socket_loop.proofs.Accepting.{apart_each, each_apart, fresh_tied, tied_of, ties_apart}
+use Rattle.socket_loop.proofs.Lives.{served_on, served_aside, then_ends, over_then, Keeps-Consumes, front_written, all_written, strange_each}
 use Rattle.socket_loop.proofs.Peers.{kept_same, kept_then, all_kept, moves_then, emptied_move, move_emptied, rises_raised, Keeps-Appends, stays_raised, raised_rises, stays_rise}
 use Rattle.socket_loop.proofs.Runs.{next_rises, opened_left}
 use Rattle.socket_loop.proofs.Parts.{some_lost}
 use Rattle.socket_loop.proofs.Turning.{not_lost}
-use Rattle.socket_loop.proofs.Endings.{some_of, not_none, found, Found, stays_open, opened_stays, opened_before, ending, Ending}
+use Rattle.socket_loop.proofs.Endings.{some_of, not_none, found, Found, stays_open, opened_stays, opened_before, ending, Ending, EndsBy}
 use Rattle.socket_loop.specs.Parts.{AllMove, Carried, Cause, Finished, IsSpared, IsShutDown, LeavesAlone}
 use Rattle.host_core.specs.Made.{Step, own, taken, is_opened}
 use Rattle.host_core.specs.Rounds.{works, pending_ids}
 use Rattle.host_core.proofs.Ids.{is_same_id-refl}
 use Rattle.host_core.proofs.OneSession.{gone, opened_ends, IsGone as IsOut}
+use Rattle.host_core.proofs.Overs.{opened_over}
 use Rattle.usi_serve.specs.Serving.{AreTurns, IsTurnAndWait, IsWait, Scene, Stops}
-use Rattle.usi_serve.specs.Life.{owing, ReadsEnded, HasEnded, IsAnswered, IsServed, Life, Lives}
+use Rattle.usi_serve.specs.Life.{Duty, new_duty, duty_of, ReadsEnded, EndsItself, HasEnded, IsAnswered, IsHeldOrGone, IsServed, Life, Lives}
 
 -- ---- numbers
 
@@ -49,12 +50,14 @@ find_number (x ∷ xs) n = elim (cases_eq x.number n) [
 
 -- ---- what is answered
 
-answered : (owes : List ℕ → List ℕ) (a b : Scene) (l : Link) → (s : Served owes a.told b.told l.number (find b.host.slots l.id)) → (find b.host.slots l.id ≡ None → HasEnded owes a b l.number s.read s.lost s.written) → FitsOne (links_of b.held) b.bound b.host l → IsAnswered owes a b l
-answered owes a b l s e f = record {
+answered : (duty : Duty) (a b : Scene) (l : Link) → (s : Served duty.owes a.told b.told l.number (find b.host.slots l.id)) → OverFrom duty.ends s.read (find b.host.slots l.id) → (find b.host.slots l.id ≡ None → HasEnded duty a b l.number s.read s.lost s.written) → IsHeldOrGone a b l → FitsOne (links_of b.held) b.bound b.host l → IsAnswered duty a b l
+answered duty a b l s o e k f = record {
   served = s;
-  front = front_written owes s.read s.written (find b.host.slots l.id) s.ends;
-  all = all_written owes s.read s.written (find b.host.slots l.id) s.ends;
+  front = front_written duty.owes s.read s.written (find b.host.slots l.id) s.ends;
+  all = all_written duty.owes s.read s.written (find b.host.slots l.id) s.ends;
+  over = o;
   ended = e;
+  kept = k;
   fits = f;
 }
 
@@ -62,18 +65,26 @@ nil_or : (xs : List ℕ) → (xs ≡ []) ⊎ (xs ≢ [])
 nil_or [] = inl refl
 nil_or (x ∷ xs) = inr (λ e. absurd (cc))
 
-ends_start : (found : Option SessionView) → EndsFrom (owing found) [] [] found
+ends_start : (found : Option SessionView) → EndsFrom (duty_of found).owes [] [] found
 ends_start None = ([], refl)
 ends_start (Some t) = λ x. refl
 
-owing_none : (found_ : Option SessionView) (x : List ℕ) → found_ ≡ None → owing found_ x ≡ []
+over_start : (found : Option SessionView) → OverFrom (duty_of found).ends [] found
+over_start None = tt
+over_start (Some t) = λ x. refl
+
+owing_none : (found_ : Option SessionView) (x : List ℕ) → found_ ≡ None → (duty_of found_).owes x ≡ []
 owing_none None x e = refl
 owing_none (Some t) x e = absurd (cc)
+
+over_of_none : (found_ : Option SessionView) (x : List ℕ) → found_ ≡ None → (duty_of found_).ends x ≡ true
+over_of_none None x e = refl
+over_of_none (Some t) x e = absurd (cc)
 
 life_start_held : (s : Scene) (l : Link) → IsAmong (links_of s.held) l → FitsOne (links_of s.held) s.bound s.host l → IsServed s s l
 life_start_held s l among f = inl (
   among,
-  answered (owing (find s.host.slots l.id)) s s l
+  answered (duty_of (find s.host.slots l.id)) s s l
       (record {
         read = [];
         lost = [];
@@ -83,7 +94,9 @@ life_start_held s l among f = inl (
         ends = ends_start (find s.host.slots l.id);
         whole = λ some. refl;
       })
-      (λ none. inr (inr (record { none_lost = refl; all = sym (owing_none (find s.host.slots l.id) [] none); why = inr (λ x. owing_none (find s.host.slots l.id) x none) })))
+      (over_start (find s.host.slots l.id))
+      (λ none. inr (inr (record { none_lost = refl; all = sym (owing_none (find s.host.slots l.id) [] none); why = inr (record { over = over_of_none (find s.host.slots l.id) [] none; no_more = λ x. owing_none (find s.host.slots l.id) x none }) })))
+      (inl among)
       f,
 )
 
@@ -96,6 +109,7 @@ lives_start s fit = record {
   rises = omega arith;
   all = all_kept s.told s.told (kept_same s.told);
   marked = λ n m. inl m;
+  unmarked = λ n m. m;
   each = λ n. elim (find_number (links_of s.held) n) [
     | inl apart ↦ inl (record { kept = kept_same s.told n; unheld = apart })
     | inr there ↦ life_of s s n there.link there.same (life_start_held s there.link there.among (fit there.link there.among))
@@ -172,38 +186,49 @@ reads_on : (a b c : Scene) (n : ℕ) → AllMove b.told c.told → ReadsEnded a 
 reads_on a b c n move (inl was) = inl was
 reads_on a b c n move (inr empty) = inr (emptied_move a.told b.told c.told n empty move)
 
-why_on : (owes : List ℕ → List ℕ) (a b c : Scene) (n : ℕ) (read written more_read more_written : List ℕ) → AllMove b.told c.told → more_read ≡ [] → more_written ≡ [] → ReadsEnded a b n ⊎ ((x : List ℕ) → owes (read ++ x) ≡ written) → ReadsEnded a c n ⊎ ((x : List ℕ) → owes ((read ++ more_read) ++ x) ≡ written ++ more_written)
-why_on owes a b c n read written more_read more_written move e f (inl was) = inl (reads_on a b c n move was)
-why_on owes a b c n read written more_read more_written move e f (inr w) = inr (rw (e, f, append-nil read, append-nil written) w)
+why_on : (duty : Duty) (a b c : Scene) (n : ℕ) (read written more_read more_written : List ℕ) → AllMove b.told c.told → more_read ≡ [] → more_written ≡ [] → ReadsEnded a b n ⊎ EndsItself duty read written → ReadsEnded a c n ⊎ EndsItself duty (read ++ more_read) (written ++ more_written)
+why_on duty a b c n read written more_read more_written move e f (inl was) = inl (reads_on a b c n move was)
+why_on duty a b c n read written more_read more_written move e f (inr w) = inr (rw (e, f, append-nil read, append-nil written) w)
 
 -- it had ended before
-ended_before : (owes : List ℕ → List ℕ) (a b c : Scene) (n : ℕ) (read lost written more_read more_lost more_written : List ℕ) → AllMove b.told c.told → more_read ≡ [] → more_written ≡ [] → lost ++ more_lost ≡ [] → HasEnded owes a b n read lost written → HasEnded owes a c n (read ++ more_read) (lost ++ more_lost) (written ++ more_written)
-ended_before owes a b c n read lost written more_read more_lost more_written move e f g (inl failed) = inl (raised_rises _ _ _ failed (move n).failed)
-ended_before owes a b c n read lost written more_read more_lost more_written move e f g (inr (inl some)) = absurd (some (some_lost lost more_lost g))
-ended_before owes a b c n read lost written more_read more_lost more_written move e f g (inr (inr k)) =
-    inr (inr (record { none_lost = g; all = rw (e, f, append-nil read, append-nil written) k.all; why = why_on owes a b c n read written more_read more_written move e f k.why }))
+ended_before : (duty : Duty) (a b c : Scene) (n : ℕ) (read lost written more_read more_lost more_written : List ℕ) → AllMove b.told c.told → more_read ≡ [] → more_written ≡ [] → lost ++ more_lost ≡ [] → HasEnded duty a b n read lost written → HasEnded duty a c n (read ++ more_read) (lost ++ more_lost) (written ++ more_written)
+ended_before duty a b c n read lost written more_read more_lost more_written move e f g (inl failed) = inl (raised_rises _ _ _ failed (move n).failed)
+ended_before duty a b c n read lost written more_read more_lost more_written move e f g (inr (inl some)) = absurd (some (some_lost lost more_lost g))
+ended_before duty a b c n read lost written more_read more_lost more_written move e f g (inr (inr k)) =
+    inr (inr (record { none_lost = g; all = rw (e, f, append-nil read, append-nil written) k.all; why = why_on duty a b c n read written more_read more_written move e f k.why }))
 
 -- bytes were lost, or it ended without
-ended_or : (owes : List ℕ → List ℕ) (a c : Scene) (n : ℕ) (read lost written : List ℕ) → (lost ≡ [] → HasEnded owes a c n read lost written) → HasEnded owes a c n read lost written
-ended_or owes a c n read lost written f = elim (nil_or lost) [ inl none ↦ f none | inr some ↦ inr (inl some) ]
+ended_or : (duty : Duty) (a c : Scene) (n : ℕ) (read lost written : List ℕ) → (lost ≡ [] → HasEnded duty a c n read lost written) → HasEnded duty a c n read lost written
+ended_or duty a c n read lost written f = elim (nil_or lost) [ inl none ↦ f none | inr some ↦ inr (inl some) ]
 
-ended_aside : (slice : ℕ) (moved : Bool) (a b c : Scene) (t : IsTurned slice moved b c) (owes : List ℕ → List ℕ) (l : Link) (x : IsAnswered owes a b l) (found_ : Option SessionView) → find b.host.slots l.id ≡ found_ → LeavesAlone l.id t.steps → x.served.lost ++ [] ≡ [] → find c.host.slots l.id ≡ None
-    → HasEnded owes a c l.number (x.served.read ++ own l.id t.steps) (x.served.lost ++ []) (x.served.written ++ taken l.id t.steps)
-ended_aside slice moved a b c t owes l x None e alone g none = ended_before owes a b c l.number x.served.read x.served.lost x.served.written (own l.id t.steps) [] (taken l.id t.steps) t.all alone.stored alone.passed g (x.ended e)
-ended_aside slice moved a b c t owes l x (Some s) e alone g none =
+ended_aside : (slice : ℕ) (moved : Bool) (a b c : Scene) (t : IsTurned slice moved b c) (duty : Duty) (l : Link) (x : IsAnswered duty a b l) (found_ : Option SessionView) → find b.host.slots l.id ≡ found_ → LeavesAlone l.id t.steps → x.served.lost ++ [] ≡ [] → find c.host.slots l.id ≡ None
+    → HasEnded duty a c l.number (x.served.read ++ own l.id t.steps) (x.served.lost ++ []) (x.served.written ++ taken l.id t.steps)
+ended_aside slice moved a b c t duty l x None e alone g none = ended_before duty a b c l.number x.served.read x.served.lost x.served.written (own l.id t.steps) [] (taken l.id t.steps) t.all alone.stored alone.passed g (x.ended e)
+ended_aside slice moved a b c t duty l x (Some s) e alone g none =
     absurd (not_none (find c.host.slots l.id) (stays_open b.host c.host l.id t.steps t.chain alone.kept (some_of (find b.host.slots l.id) s e)) none)
 
-answered_aside : (slice : ℕ) (moved : Bool) (a b c : Scene) (t : IsTurned slice moved b c) (owes : List ℕ → List ℕ) (l : Link) → IsApart t.met l.number → KeepsPeer b.told c.told l.number → IsAnswered owes a b l → IsAnswered owes a c l
-answered_aside slice moved a b c t owes l p k x =
+-- one that was not met is as it was
+kept_aside : (slice : ℕ) (moved : Bool) (a b c : Scene) (t : IsTurned slice moved b c) (l : Link) → IsApart t.met l.number → FitsOne (links_of b.held) b.bound b.host l → IsHeldOrGone a b l → IsHeldOrGone a c l
+kept_aside slice moved a b c t l p f (inl held) = absurd (each_apart t.met l.number l p (t.stay l held) refl)
+kept_aside slice moved a b c t l p f (inr (inl marked)) = inr (inl marked)
+kept_aside slice moved a b c t l p f (inr (inr g)) = inr (inr (record {
+  shut = raised_rises _ _ _ g.shut (t.all l.number).shut;
+  closed = (gone b.host c.host l.id t.steps g.closed f.opened t.chain).none;
+}))
+
+answered_aside : (slice : ℕ) (moved : Bool) (a b c : Scene) (t : IsTurned slice moved b c) (duty : Duty) (l : Link) → IsApart t.met l.number → KeepsPeer b.told c.told l.number → IsAnswered duty a b l → IsAnswered duty a c l
+answered_aside slice moved a b c t duty l p k x =
     let alone : LeavesAlone l.id t.steps = t.foreign l.id x.fits.opened (strange_each t.met l.id (λ j m. strange_met slice moved b c t j l x.fits p m (t.are j m))) in
-    answered owes a c l
-    (served_aside owes a.told b.told c.told b.host c.host l.number l.id t.steps x.fits.opened t.chain x.served alone k)
-    (λ none. ended_or owes a c l.number _ _ _ (λ g. ended_aside slice moved a b c t owes l x (find b.host.slots l.id) refl alone g none))
+    answered duty a c l
+    (served_aside duty.owes a.told b.told c.told b.host c.host l.number l.id t.steps x.fits.opened t.chain x.served alone k)
+    (over_then duty.ends b.host c.host l.id t.steps x.served.read (find b.host.slots l.id) refl x.fits.opened t.chain x.over)
+    (λ none. ended_or duty a c l.number _ _ _ (λ g. ended_aside slice moved a b c t duty l x (find b.host.slots l.id) refl alone g none))
+    (kept_aside slice moved a b c t l p x.fits x.kept)
     (fits_kept slice moved b c t l x.fits)
 
 served_apart : (slice : ℕ) (moved : Bool) (a b c : Scene) (t : IsTurned slice moved b c) (l : Link) → IsApart t.met l.number → KeepsPeer b.told c.told l.number → IsServed a b l → IsServed a c l
-served_apart slice moved a b c t l p k (inl s) = inl (s.0, answered_aside slice moved a b c t (owing (find a.host.slots l.id)) l p k s.1)
-served_apart slice moved a b c t l p k (inr s) = inr (s.0, answered_aside slice moved a b c t replies l p k s.1)
+served_apart slice moved a b c t l p k (inl s) = inl (s.0, answered_aside slice moved a b c t (duty_of (find a.host.slots l.id)) l p k s.1)
+served_apart slice moved a b c t l p k (inr s) = inr (s.0, answered_aside slice moved a b c t new_duty l p k s.1)
 
 served_fits : (a b : Scene) (l : Link) → IsServed a b l → FitsOne (links_of b.held) b.bound b.host l
 served_fits a b l (inl s) = s.1.fits
@@ -255,47 +280,63 @@ reads_met slice moved a b c t n lives m = elim (t.marked n m) [
   | inr empty ↦ inr (move_emptied a.told b.told c.told n lives.all empty)
 ]
 
-ending_why : (owes : List ℕ → List ℕ) (slice : ℕ) (moved : Bool) (a b c : Scene) (t : IsTurned slice moved b c) (n : ℕ) (has_ended : Bool) (read written : List ℕ) → Lives a b → (has_ended ≡ true → IsMarked reads_ended t.marks n) → (has_ended ≡ true) ⊎ ((x : List ℕ) → owes (read ++ x) ≡ written) → ReadsEnded a c n ⊎ ((x : List ℕ) → owes (read ++ x) ≡ written)
-ending_why owes slice moved a b c t n has_ended read written lives f (inl e) = inl (reads_met slice moved a b c t n lives (f e))
-ending_why owes slice moved a b c t n has_ended read written lives f (inr w) = inr w
+-- one that was met is held, or was let go
+kept_met : (slice : ℕ) (moved : Bool) (a b c : Scene) (t : IsTurned slice moved b c) (l : Link) → Lives a b → l.number < c.bound → IsAmong (links_of c.held) l ⊎ (IsMarked was_shut b.held l.number ⊎ IsLetGo c.bound b.told c.told c.host l) → IsHeldOrGone a c l
+kept_met slice moved a b c t l lives lt (inl held) = inl held
+kept_met slice moved a b c t l lives lt (inr (inl marked)) = inr (inl (lives.unmarked l.number marked))
+kept_met slice moved a b c t l lives lt (inr (inr g)) = inr (inr (record { shut = rises_raised _ _ _ (lives.all l.number).shut (g.shut lt); closed = g.closed.none }))
 
-ended_cause : (slice : ℕ) (moved : Bool) (a b c : Scene) (t : IsTurned slice moved b c) (owes : List ℕ → List ℕ) (l : Link) (x : IsAnswered owes a b l) (s : SessionView) (k : Carried t.marks c.bound b.told b.host t.steps c.told c.host l) → Lives a b → find b.host.slots l.id ≡ Some s → x.served.lost ++ k.lost ≡ [] → Cause t.marks b.told b.host t.steps c.told c.host l
-    → HasEnded owes a c l.number (x.served.read ++ own l.id t.steps) (x.served.lost ++ k.lost) (x.served.written ++ taken l.id t.steps)
-ended_cause slice moved a b c t owes l x s k lives e g (inl failed) = inl (rises_raised _ _ _ (lives.all l.number).failed failed)
-ended_cause slice moved a b c t owes l x s k lives e g (inr (inl starved)) =
+met_below : (slice : ℕ) (moved : Bool) (b c : Scene) (t : IsTurned slice moved b c) (l : Link) → FitsOne (links_of b.held) b.bound b.host l → l.number < c.bound
+met_below slice moved b c t l f =
+    let u : l.number < b.bound = f.number in
+    let v : b.bound ≤ c.bound = t.rises in
+    omega arith
+
+ending_why : (duty : Duty) (slice : ℕ) (moved : Bool) (a b c : Scene) (t : IsTurned slice moved b c) (n : ℕ) (has_ended : Bool) (read written : List ℕ) → Lives a b → (has_ended ≡ true → IsMarked reads_ended t.marks n) → (has_ended ≡ true) ⊎ EndsBy duty.owes duty.ends read written → ReadsEnded a c n ⊎ EndsItself duty read written
+ending_why duty slice moved a b c t n has_ended read written lives f (inl e) = inl (reads_met slice moved a b c t n lives (f e))
+ending_why duty slice moved a b c t n has_ended read written lives f (inr w) = inr (record { over = w.over; no_more = w.no_more })
+
+ended_cause : (slice : ℕ) (moved : Bool) (a b c : Scene) (t : IsTurned slice moved b c) (duty : Duty) (l : Link) (x : IsAnswered duty a b l) (s : SessionView) (k : Carried t.marks c.bound b.told b.host t.steps c.told c.host l) → Lives a b → find b.host.slots l.id ≡ Some s → x.served.lost ++ k.lost ≡ [] → Cause t.marks b.told b.host t.steps c.told c.host l
+    → HasEnded duty a c l.number (x.served.read ++ own l.id t.steps) (x.served.lost ++ k.lost) (x.served.written ++ taken l.id t.steps)
+ended_cause slice moved a b c t duty l x s k lives e g (inl failed) = inl (rises_raised _ _ _ (lives.all l.number).failed failed)
+ended_cause slice moved a b c t duty l x s k lives e g (inr (inl starved)) =
     let first : x.served.lost ≡ [] = some_lost x.served.lost k.lost g in
     absurd (k.fed starved (rw first at g))
-ended_cause slice moved a b c t owes l x s k lives e g (inr (inr f)) =
+ended_cause slice moved a b c t duty l x s k lives e g (inr (inr f)) =
     let there : Found (find f.moment.slots l.id) = found (find f.moment.slots l.id) (stays_open b.host f.moment l.id f.earlier f.run f.first (some_of (find b.host.slots l.id) s e)) in
-    let ends : EndsFrom owes (x.served.read ++ own l.id f.earlier) (x.served.written ++ taken l.id f.earlier) (Some there.session) =
-    rw there.is at (then_ends owes b.host f.moment l.id f.earlier x.served.read x.served.written (find b.host.slots l.id) refl x.fits.opened f.run x.served.ends) in
-    let end : Ending owes l.id x.served.read x.served.written t.steps f.has_ended = ending owes t.marks b.host c.host t.steps l x.served.read x.served.written f there.session there.is ends in
-    inr (inr (record { none_lost = g; all = end.all; why = ending_why owes slice moved a b c t l.number f.has_ended (x.served.read ++ own l.id t.steps) (x.served.written ++ taken l.id t.steps) lives f.marked end.why }))
+    let left : EndsFrom duty.owes (x.served.read ++ own l.id f.earlier) (x.served.written ++ taken l.id f.earlier) (Some there.session) =
+    rw there.is at (then_ends duty.owes b.host f.moment l.id f.earlier x.served.read x.served.written (find b.host.slots l.id) refl x.fits.opened f.run x.served.ends) in
+    let over : OverFrom duty.ends (x.served.read ++ own l.id f.earlier) (Some there.session) =
+    rw there.is at (over_then duty.ends b.host f.moment l.id f.earlier x.served.read (find b.host.slots l.id) refl x.fits.opened f.run x.over) in
+    let end : Ending duty.owes duty.ends l.id x.served.read x.served.written t.steps f.has_ended = ending duty.owes duty.ends t.marks b.host c.host t.steps l x.served.read x.served.written f there.session there.is left over in
+    inr (inr (record { none_lost = g; all = end.all; why = ending_why duty slice moved a b c t l.number f.has_ended (x.served.read ++ own l.id t.steps) (x.served.written ++ taken l.id t.steps) lives f.marked end.why }))
 
-ended_ends : (slice : ℕ) (moved : Bool) (a b c : Scene) (t : IsTurned slice moved b c) (owes : List ℕ → List ℕ) (l : Link) (x : IsAnswered owes a b l) (s : SessionView) (k : Carried t.marks c.bound b.told b.host t.steps c.told c.host l) → Lives a b → find b.host.slots l.id ≡ Some s → x.served.lost ++ k.lost ≡ [] → find c.host.slots l.id ≡ None → IsSpared b.told t.steps c.told l ⊎ IsShutDown t.marks c.bound b.told b.host t.steps c.told c.host l
-    → HasEnded owes a c l.number (x.served.read ++ own l.id t.steps) (x.served.lost ++ k.lost) (x.served.written ++ taken l.id t.steps)
-ended_ends slice moved a b c t owes l x s k lives e g none (inl spared) =
+ended_ends : (slice : ℕ) (moved : Bool) (a b c : Scene) (t : IsTurned slice moved b c) (duty : Duty) (l : Link) (x : IsAnswered duty a b l) (s : SessionView) (k : Carried t.marks c.bound b.told b.host t.steps c.told c.host l) → Lives a b → find b.host.slots l.id ≡ Some s → x.served.lost ++ k.lost ≡ [] → find c.host.slots l.id ≡ None → IsSpared b.told t.steps c.told l ⊎ IsShutDown t.marks c.bound b.told b.host t.steps c.told c.host l
+    → HasEnded duty a c l.number (x.served.read ++ own l.id t.steps) (x.served.lost ++ k.lost) (x.served.written ++ taken l.id t.steps)
+ended_ends slice moved a b c t duty l x s k lives e g none (inl spared) =
     absurd (not_none (find c.host.slots l.id) (stays_open b.host c.host l.id t.steps t.chain spared.closed (some_of (find b.host.slots l.id) s e)) none)
-ended_ends slice moved a b c t owes l x s k lives e g none (inr d) = ended_cause slice moved a b c t owes l x s k lives e g d.cause
+ended_ends slice moved a b c t duty l x s k lives e g none (inr d) = ended_cause slice moved a b c t duty l x s k lives e g d.cause
 
-ended_on : (slice : ℕ) (moved : Bool) (a b c : Scene) (t : IsTurned slice moved b c) (owes : List ℕ → List ℕ) (l : Link) (x : IsAnswered owes a b l) (k : Carried t.marks c.bound b.told b.host t.steps c.told c.host l) (found_ : Option SessionView) → Lives a b → find b.host.slots l.id ≡ found_ → x.served.lost ++ k.lost ≡ [] → find c.host.slots l.id ≡ None
-    → HasEnded owes a c l.number (x.served.read ++ own l.id t.steps) (x.served.lost ++ k.lost) (x.served.written ++ taken l.id t.steps)
-ended_on slice moved a b c t owes l x k None lives e g none =
+ended_on : (slice : ℕ) (moved : Bool) (a b c : Scene) (t : IsTurned slice moved b c) (duty : Duty) (l : Link) (x : IsAnswered duty a b l) (k : Carried t.marks c.bound b.told b.host t.steps c.told c.host l) (found_ : Option SessionView) → Lives a b → find b.host.slots l.id ≡ found_ → x.served.lost ++ k.lost ≡ [] → find c.host.slots l.id ≡ None
+    → HasEnded duty a c l.number (x.served.read ++ own l.id t.steps) (x.served.lost ++ k.lost) (x.served.written ++ taken l.id t.steps)
+ended_on slice moved a b c t duty l x k None lives e g none =
     let out : IsOut l.id t.steps c.host = gone b.host c.host l.id t.steps e x.fits.opened t.chain in
-    ended_before owes a b c l.number x.served.read x.served.lost x.served.written (own l.id t.steps) k.lost (taken l.id t.steps) t.all out.no_own out.no_taken g (x.ended e)
-ended_on slice moved a b c t owes l x k (Some s) lives e g none = ended_ends slice moved a b c t owes l x s k lives e g none k.ends
+    ended_before duty a b c l.number x.served.read x.served.lost x.served.written (own l.id t.steps) k.lost (taken l.id t.steps) t.all out.no_own out.no_taken g (x.ended e)
+ended_on slice moved a b c t duty l x k (Some s) lives e g none = ended_ends slice moved a b c t duty l x s k lives e g none k.ends
 
-answered_on : (slice : ℕ) (moved : Bool) (a b c : Scene) (t : IsTurned slice moved b c) (owes : List ℕ → List ℕ) (l : Link) → Lives a b → IsAmong t.met l → IsAnswered owes a b l → IsAnswered owes a c l
-answered_on slice moved a b c t owes l lives among x =
+answered_on : (slice : ℕ) (moved : Bool) (a b c : Scene) (t : IsTurned slice moved b c) (duty : Duty) (l : Link) → Lives a b → IsAmong t.met l → IsAnswered duty a b l → IsAnswered duty a c l
+answered_on slice moved a b c t duty l lives among x =
     let k : Carried t.marks c.bound b.told b.host t.steps c.told c.host l = t.carried l among in
-    answered owes a c l
-    (served_on owes t.marks c.bound a.told b.told c.told b.host c.host t.steps l x.fits.opened t.chain x.served k)
-    (λ none. ended_or owes a c l.number _ _ _ (λ g. ended_on slice moved a b c t owes l x k (find b.host.slots l.id) lives refl g none))
+    answered duty a c l
+    (served_on duty.owes t.marks c.bound a.told b.told c.told b.host c.host t.steps l x.fits.opened t.chain x.served k)
+    (over_then duty.ends b.host c.host l.id t.steps x.served.read (find b.host.slots l.id) refl x.fits.opened t.chain x.over)
+    (λ none. ended_or duty a c l.number _ _ _ (λ g. ended_on slice moved a b c t duty l x k (find b.host.slots l.id) lives refl g none))
+    (kept_met slice moved a b c t l lives (met_below slice moved b c t l x.fits) (t.gone l among))
     (fits_kept slice moved b c t l x.fits)
 
 served_met : (slice : ℕ) (moved : Bool) (a b c : Scene) (t : IsTurned slice moved b c) (l : Link) → Lives a b → IsAmong t.met l → IsServed a b l → IsServed a c l
-served_met slice moved a b c t l lives among (inl s) = inl (s.0, answered_on slice moved a b c t (owing (find a.host.slots l.id)) l lives among s.1)
-served_met slice moved a b c t l lives among (inr s) = inr (s.0, answered_on slice moved a b c t replies l lives among s.1)
+served_met slice moved a b c t l lives among (inl s) = inl (s.0, answered_on slice moved a b c t (duty_of (find a.host.slots l.id)) l lives among s.1)
+served_met slice moved a b c t l lives among (inr s) = inr (s.0, answered_on slice moved a b c t new_duty l lives among s.1)
 
 -- the connection of a held link was served under that link
 held_life : (a b : Scene) (l : Link) → IsAmong (links_of b.held) l → Life a b l.number → IsServed a b l
@@ -322,26 +363,27 @@ opened_earlier slice moved b c t l new f =
     opened_before l.id t.admissions (t.inputs ++ rest) f.earlier f.later last same new.unclosed (is_same_id-refl l.id) new.opened
 
 new_cause : (slice : ℕ) (moved : Bool) (a b c : Scene) (t : IsTurned slice moved b c) (l : Link) (k : Carried t.marks c.bound b.told b.host t.steps c.told c.host l) → Lives a b → Joins b.bound c.bound t.accepted b.host.slots.next c.host.slots.next t.admissions l → k.lost ≡ [] → Cause t.marks b.told b.host t.steps c.told c.host l
-    → HasEnded replies a c l.number (own l.id t.steps) k.lost (taken l.id t.steps)
+    → HasEnded new_duty a c l.number (own l.id t.steps) k.lost (taken l.id t.steps)
 new_cause slice moved a b c t l k lives new g (inl failed) = inl (rises_raised _ _ _ (lives.all l.number).failed failed)
 new_cause slice moved a b c t l k lives new g (inr (inl starved)) = absurd (k.fed starved g)
 new_cause slice moved a b c t l k lives new g (inr (inr f)) =
     let early : is_opened l.id f.earlier ≡ true = opened_earlier slice moved b c t l new f in
     let there : Found (find f.moment.slots l.id) = found (find f.moment.slots l.id) (opened_stays b.host f.moment l.id f.earlier f.run f.first early) in
-    let ends : EndsFrom replies (own l.id f.earlier) (taken l.id f.earlier) (Some there.session) = rw there.is at (opened_ends b.host f.moment l.id f.earlier early f.run) in
-    let end : Ending replies l.id [] [] t.steps f.has_ended = ending replies t.marks b.host c.host t.steps l [] [] f there.session there.is ends in
-    inr (inr (record { none_lost = g; all = end.all; why = ending_why replies slice moved a b c t l.number f.has_ended (own l.id t.steps) (taken l.id t.steps) lives f.marked end.why }))
+    let left : EndsFrom replies (own l.id f.earlier) (taken l.id f.earlier) (Some there.session) = rw there.is at (opened_ends b.host f.moment l.id f.earlier early f.run) in
+    let over : OverFrom is_over_after (own l.id f.earlier) (Some there.session) = rw there.is at (opened_over b.host f.moment l.id f.earlier early f.run) in
+    let end : Ending replies is_over_after l.id [] [] t.steps f.has_ended = ending replies is_over_after t.marks b.host c.host t.steps l [] [] f there.session there.is left over in
+    inr (inr (record { none_lost = g; all = end.all; why = ending_why new_duty slice moved a b c t l.number f.has_ended (own l.id t.steps) (taken l.id t.steps) lives f.marked end.why }))
 
 new_ends : (slice : ℕ) (moved : Bool) (a b c : Scene) (t : IsTurned slice moved b c) (l : Link) (k : Carried t.marks c.bound b.told b.host t.steps c.told c.host l) → Lives a b → Joins b.bound c.bound t.accepted b.host.slots.next c.host.slots.next t.admissions l → k.lost ≡ [] → find c.host.slots l.id ≡ None → IsSpared b.told t.steps c.told l ⊎ IsShutDown t.marks c.bound b.told b.host t.steps c.told c.host l
-    → HasEnded replies a c l.number (own l.id t.steps) k.lost (taken l.id t.steps)
+    → HasEnded new_duty a c l.number (own l.id t.steps) k.lost (taken l.id t.steps)
 new_ends slice moved a b c t l k lives new g none (inl spared) =
     absurd (not_none (find c.host.slots l.id) (opened_stays b.host c.host l.id t.steps t.chain spared.closed (opened_all slice moved b c t l new)) none)
 new_ends slice moved a b c t l k lives new g none (inr d) = new_cause slice moved a b c t l k lives new g d.cause
 
-new_answered : (slice : ℕ) (moved : Bool) (a b c : Scene) (t : IsTurned slice moved b c) (l : Link) → Lives a b → IsAmong t.met l → Joins b.bound c.bound t.accepted b.host.slots.next c.host.slots.next t.admissions l → KeepsPeer a.told b.told l.number → IsAnswered replies a c l
+new_answered : (slice : ℕ) (moved : Bool) (a b c : Scene) (t : IsTurned slice moved b c) (l : Link) → Lives a b → IsAmong t.met l → Joins b.bound c.bound t.accepted b.host.slots.next c.host.slots.next t.admissions l → KeepsPeer a.told b.told l.number → IsAnswered new_duty a c l
 new_answered slice moved a b c t l lives among new kept_ =
     let k : Carried t.marks c.bound b.told b.host t.steps c.told c.host l = t.carried l among in
-    answered replies a c l
+    answered new_duty a c l
     (record {
       read = own l.id t.steps;
       lost = k.lost;
@@ -351,7 +393,9 @@ new_answered slice moved a b c t l lives among new kept_ =
       ends = opened_ends b.host c.host l.id t.steps (opened_all slice moved b c t l new) t.chain;
       whole = λ some. not_lost c.host l.id k.lost k.whole some;
     })
-    (λ none. ended_or replies a c l.number _ _ _ (λ g. new_ends slice moved a b c t l k lives new g none k.ends))
+    (opened_over b.host c.host l.id t.steps (opened_all slice moved b c t l new) t.chain)
+    (λ none. ended_or new_duty a c l.number _ _ _ (λ g. new_ends slice moved a b c t l k lives new g none k.ends))
+    (kept_met slice moved a b c t l lives new.most (t.gone l among))
     (fits_new slice moved b c t l among new)
 
 new_life : (slice : ℕ) (moved : Bool) (a b c : Scene) (t : IsTurned slice moved b c) (l : Link) → Lives a b → IsAmong t.met l → Joins b.bound c.bound t.accepted b.host.slots.next c.host.slots.next t.admissions l → Life a b l.number → IsServed a c l
@@ -380,6 +424,7 @@ lives_turn slice moved a b c lives t =
       rises = omega arith;
       all = moves_then a.told b.told c.told lives.all t.all;
       marked = λ n m. reads_met slice moved a b c t n lives (t.ended n m);
+      unmarked = λ n m. absurd (t.unshut n m);
       each = λ n. elim (find_number t.met n) [
         | inl apart ↦ life_apart slice moved a b c t n u apart (t.others n apart) (lives.each n)
         | inr there ↦ life_of a c n there.link there.same (life_met slice moved a b c t there.link lives there.among (t.are there.link there.among) (lives.each there.link.number))
@@ -389,17 +434,22 @@ lives_turn slice moved a b c lives t =
 
 -- ---- a wait
 
-ended_wait : (owes : List ℕ → List ℕ) (a b c : Scene) (n : ℕ) (read lost written : List ℕ) → AllMove b.told c.told → HasEnded owes a b n read lost written → HasEnded owes a c n read lost written
-ended_wait owes a b c n read lost written move (inl failed) = inl (raised_rises _ _ _ failed (move n).failed)
-ended_wait owes a b c n read lost written move (inr (inl some)) = inr (inl some)
-ended_wait owes a b c n read lost written move (inr (inr k)) =
+ended_wait : (duty : Duty) (a b c : Scene) (n : ℕ) (read lost written : List ℕ) → AllMove b.told c.told → HasEnded duty a b n read lost written → HasEnded duty a c n read lost written
+ended_wait duty a b c n read lost written move (inl failed) = inl (raised_rises _ _ _ failed (move n).failed)
+ended_wait duty a b c n read lost written move (inr (inl some)) = inr (inl some)
+ended_wait duty a b c n read lost written move (inr (inr k)) =
     inr (inr (record { none_lost = k.none_lost; all = k.all; why = elim k.why [ inl was ↦ inl (reads_on a b c n move was) | inr w ↦ inr w ] }))
 
-answered_wait : {moved : Bool} (a b c : Scene) (owes : List ℕ → List ℕ) (l : Link) → IsWait moved b c → IsAnswered owes a b l → IsAnswered owes a c l
-answered_wait a b c owes l w x =
-    let s : Served owes a.told b.told l.number (find b.host.slots l.id) = x.served in
+kept_wait : {moved : Bool} (a b c : Scene) (l : Link) → IsWait moved b c → IsHeldOrGone a b l → IsHeldOrGone a c l
+kept_wait a b c l w (inl held) = inl (rw w.held held)
+kept_wait a b c l w (inr (inl marked)) = inr (inl marked)
+kept_wait a b c l w (inr (inr g)) = inr (inr (record { shut = raised_rises _ _ _ g.shut (stays_rise _ _ (w.told l.number).shut); closed = rw w.host g.closed }))
+
+answered_wait : {moved : Bool} (a b c : Scene) (duty : Duty) (l : Link) → IsWait moved b c → IsAnswered duty a b l → IsAnswered duty a c l
+answered_wait a b c duty l w x =
+    let s : Served duty.owes a.told b.told l.number (find b.host.slots l.id) = x.served in
     let k : KeepsPeer b.told c.told l.number = w.told l.number in
-    answered owes a c l
+    answered duty a c l
     (record {
       read = s.read;
       lost = s.lost;
@@ -409,12 +459,14 @@ answered_wait a b c owes l w x =
       ends = rw w.host s.ends;
       whole = rw w.host s.whole;
     })
-    (λ none. ended_wait owes a b c l.number s.read s.lost s.written (all_kept b.told c.told w.told) (x.ended (rw w.host at none)))
+    (rw w.host x.over)
+    (λ none. ended_wait duty a b c l.number s.read s.lost s.written (all_kept b.told c.told w.told) (x.ended (rw w.host at none)))
+    (kept_wait a b c l w x.kept)
     (rw (w.held, w.bound, w.host) x.fits)
 
 served_wait : {moved : Bool} (a b c : Scene) (l : Link) → IsWait moved b c → IsServed a b l → IsServed a c l
-served_wait a b c l w (inl s) = inl (s.0, answered_wait a b c (owing (find a.host.slots l.id)) l w s.1)
-served_wait a b c l w (inr s) = inr (s.0, answered_wait a b c replies l w s.1)
+served_wait a b c l w (inl s) = inl (s.0, answered_wait a b c (duty_of (find a.host.slots l.id)) l w s.1)
+served_wait a b c l w (inr s) = inr (s.0, answered_wait a b c new_duty l w s.1)
 
 life_wait : {moved : Bool} (a b c : Scene) (n : ℕ) → IsWait moved b c → Life a b n → Life a c n
 life_wait a b c n w (inl u) = inl (record { kept = kept_then a.told b.told c.told n u.kept (w.told n); unheld = rw w.held u.unheld })
@@ -437,6 +489,7 @@ lives_wait a b c lives w = record {
   rises = rw w.bound lives.rises;
   all = moves_then a.told b.told c.told lives.all (all_kept b.told c.told w.told);
   marked = λ n m. reads_on a b c n (all_kept b.told c.told w.told) (lives.marked n (rw w.held at m));
+  unmarked = λ n m. lives.unmarked n (rw w.held at m);
   each = λ n. life_wait a b c n w (lives.each n);
   held = λ l among. served_wait a b c l w (lives.held l (rw w.held at among));
 }

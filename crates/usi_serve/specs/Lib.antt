@@ -1,3 +1,4 @@
 pub mod Serving
 pub mod Life
 pub mod Patience
+pub mod Alone

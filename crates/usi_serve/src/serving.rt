@@ -1,9 +1,9 @@
 //! Turn after turn.
 
-ghost use Rattle.std.specs.Prelude.{◌≡◌, IfErr, IfOk};
-ghost use Rattle.socket_loop.specs.Links.{links_of};
+ghost use Rattle.std.specs.Prelude.{◌≡◌, ◌≤◌, IfErr, IfOk};
+ghost use Rattle.socket_loop.specs.Links.{links_of, AreOnce};
 ghost use Rattle.socket_loop.specs.Turns.{Fits};
-ghost use Rattle.usi_serve.specs.Life.{Lives};
+ghost use Rattle.usi_serve.specs.Life.{EndsByBytes, Lives};
 ghost use Rattle.usi_serve.specs.Patience.{AnswersInTime};
 ghost use Rattle.usi_serve.specs.Serving.{AreTurns, Stops};
 
@@ -32,6 +32,9 @@ pub fn serve<W: Wire, S: BuildHasher, A: Allocator + Copy>(
         (record { held = connections.old.held; bound = W.bound wire.old; told = W.told wire.old; asked = W.asked wire.old; failed = W.failed wire.old; host = host.old })
         (record { held = connections.new.held; bound = W.bound wire.new; told = W.told wire.new; asked = W.asked wire.new; failed = W.failed wire.new; host = host.new })) }
     ensures whole { Lives
+        (record { held = connections.old.held; bound = W.bound wire.old; told = W.told wire.old; asked = W.asked wire.old; failed = W.failed wire.old; host = host.old })
+        (record { held = connections.new.held; bound = W.bound wire.new; told = W.told wire.new; asked = W.asked wire.new; failed = W.failed wire.new; host = host.new }) }
+    ensures ends { 1 ≤ turns → AreOnce (links_of connections.old.held) → EndsByBytes
         (record { held = connections.old.held; bound = W.bound wire.old; told = W.told wire.old; asked = W.asked wire.old; failed = W.failed wire.old; host = host.old })
         (record { held = connections.new.held; bound = W.bound wire.new; told = W.told wire.new; asked = W.asked wire.new; failed = W.failed wire.new; host = host.new }) }
     ensures fits { Fits (links_of connections.new.held) (W.bound wire.new) host.new }

@@ -1,14 +1,16 @@
 //! A wire over a Unix socket.
 
-ghost use Rattle.std.specs.Prelude.{◌≡◌, ◌<◌, ◌≤◌, ◌-◌, ◌^◌, IfOk, OnOk, [], Err};
-ghost use Rattle.socket_loop.specs.Told.{GivesNumber, HasCause, HasRisen};
+ghost use Rattle.std.specs.Prelude.{◌≡◌, ◌<◌, ◌≤◌, ◌+◌, ◌-◌, ◌^◌, length, IfOk, OnOk, OnErr, true, [], Err};
+ghost use Rattle.usi_serve.specs.declared.sockets.TheConstants.{PLACES};
+ghost use Rattle.socket_loop.specs.Told.{GivesNumber, HasCause, HasRisen, Reads, bytes_read, nothing_told};
 ghost use Rattle.socket_loop.specs.declared.wire.WireFault.TheVariants.{Device};
+ghost use Rattle.usi_lines.specs.OneLine.{IsOneLine};
 
+use crate::kept::Kept;
 use mio::net::{UnixListener, UnixStream};
 use mio::{Events, Interest, Poll, Token};
 use socket_loop::{Got, Wire, WireFault};
 use std::alloc::Allocator;
-use std::collections::BTreeMap;
 use std::fs::Files;
 use std::io::{ErrorKind, Read, Write};
 use std::net::Net;
@@ -24,11 +26,18 @@ const LISTENER: Token = Token(usize::MAX);
 /// tell when.
 const PATIENCE: u64 = 500;
 
+/// Each number has one of so many places: its remainder. Numbers are chosen so that the places of open
+/// connections differ, and a connection is found without a search.
+const PLACES: u64 = 1_048_576;
+
 /// A connection, and what the last calls and polls told of it.
 #[derive(Drop)]
-struct Peer {
+struct Peer<A: Allocator> {
+    number: u64,
     stream: UnixStream,
-    // The last read found something, or a poll has told of the stream since.
+    // What was read and is not given yet.
+    kept: Kept<A>,
+    // The last read of the system found something, or a poll has told of the stream since.
     may_give: bool,
     // The same of the last write.
     may_take: bool,
@@ -37,21 +46,59 @@ struct Peer {
 /// The connections of a Unix socket. It tells nothing of their bytes. `accept`, `read` and `write` ask
 /// the system and never wait for it; only `wait` does.
 ///
+/// A read gives one line at most, so that a turn answers one line of each connection. What else came
+/// with it is kept, and given by the next reads before the system is asked again. Room for it is asked
+/// for before the bytes are read: where memory is refused the read fails, and no byte is lost.
+///
 /// A listener or a stream that has said that it has nothing, or no room, is not asked again before a
 /// poll has told of it. Each `accept` polls, without waiting, so no event waits for a `wait`.
 #[derive(Drop)]
 pub struct MioWire<A: Allocator> {
+    alloc: A,
     poll: Poll,
     events: Events<A>,
     listener: UnixListener,
     // The last accept found somebody or failed, or a poll has told of the listener since.
     may_accept: bool,
-    peers: BTreeMap<u64, Peer, A>,
+    // By the place of each one's number.
+    peers: Vec<Option<Peer<A>>, A>,
+    // A read has left something to be given, and no wait has returned at once since.
+    has_more: bool,
     // A call failed or was interrupted, and no event may tell when to make it again.
     is_unsure: bool,
-    // The number of the next connection.
+    // The number of the next connection is this one or a greater one.
     next: u64,
     failed: u64,
+}
+
+/// The open connection of a number.
+fn peer_of<A: Allocator>(peers: &mut [Option<Peer<A>>], number: u64) -> Option<&mut Peer<A>> {
+    match peers.get_mut((number % PLACES) as usize) {
+        Some(Some(peer)) if peer.number == number => Some(peer),
+        _ => None,
+    }
+}
+
+/// The first place that is free.
+fn free_place<A: Allocator>(peers: &[Option<Peer<A>>]) -> usize
+    ensures { result ≤ length peers.now }
+{
+    for place in 0..peers.len() {
+        if peers[place].is_none() {
+            return place;
+        }
+    }
+    peers.len()
+}
+
+/// The least number from this one on that has this place.
+fn number_at(next: u64, place: u64) -> u64
+    requires left { next ≤ 2 ^ 64 - 1 - PLACES }
+    ensures least { next ≤ result }
+    ensures most { result < next + PLACES }
+{
+    let ahead = (place % PLACES + PLACES - next % PLACES) % PLACES;
+    next + ahead
 }
 
 impl<A: Allocator + Copy> MioWire<A> {
@@ -79,11 +126,13 @@ impl<A: Allocator + Copy> MioWire<A> {
             return Err(WireFault::Device);
         }
         Ok(MioWire {
+            alloc,
             poll,
             events,
             listener,
             may_accept: true,
-            peers: BTreeMap::new(alloc),
+            peers: Vec::new(alloc),
+            has_more: false,
             is_unsure: false,
             next: 0,
             failed: 0,
@@ -103,7 +152,7 @@ impl<A: Allocator + Copy> MioWire<A> {
             let token = event.token();
             if token == LISTENER {
                 self.may_accept = true;
-            } else if let Some(peer) = self.peers.get_mut(&(token.0 as u64)) {
+            } else if let Some(peer) = peer_of(&mut self.peers, token.0 as u64) {
                 peer.may_give = true;
                 peer.may_take = true;
             }
@@ -111,39 +160,69 @@ impl<A: Allocator + Copy> MioWire<A> {
         Ok(())
     }
 
-    /// Accepts who waits first at the listener.
+    /// Accepts who waits first at the listener. After a failure others may still wait there, and no
+    /// event tells of them.
     fn take_in(&mut self) -> Result<Option<u64>, WireFault>
-        requires { self.old.next < 2 ^ 64 - 1 }
+        requires { self.old.next ≤ 2 ^ 64 - 1 - PLACES }
         ensures number { GivesNumber self.old.next self.new.next result }
         ensures cause { HasCause self.old.failed self.new.failed result }
+        ensures unsure { OnErr result (self.new.is_unsure ≡ true) }
     {
-        let mut stream = match self.listener.accept() {
-            Ok((stream, _)) => stream,
+        match self.listener.accept() {
+            Ok((stream, _)) => self.take(stream),
             Err(error) if error.kind() == ErrorKind::WouldBlock => {
                 self.may_accept = false;
-                return Ok(None);
+                Ok(None)
             }
             Err(_) => {
                 self.is_unsure = true;
-                return Err(self.fault());
+                Err(self.fault())
             }
-        };
+        }
+    }
+
+    /// Holds a stream that was accepted; where that fails it is dropped.
+    fn take(&mut self, stream: UnixStream) -> Result<Option<u64>, WireFault>
+        requires { self.old.next ≤ 2 ^ 64 - 1 - PLACES }
+        ensures number { GivesNumber self.old.next self.new.next result }
+        ensures cause { HasCause self.old.failed self.new.failed result }
+        ensures unsure { OnErr result (self.new.is_unsure ≡ true) }
+    {
+        let held = self.hold(stream);
+        if held.is_err() {
+            self.is_unsure = true;
+        }
+        held
+    }
+
+    /// Registers a stream, and holds it under the next number.
+    fn hold(&mut self, mut stream: UnixStream) -> Result<Option<u64>, WireFault>
+        requires { self.old.next ≤ 2 ^ 64 - 1 - PLACES }
+        ensures number { GivesNumber self.old.next self.new.next result }
+        ensures cause { HasCause self.old.failed self.new.failed result }
+    {
+        let place = free_place(&self.peers);
+        let number = number_at(self.next, place as u64);
         let registry = self.poll.registry();
         let both_ways = Interest::READABLE | Interest::WRITABLE;
         if registry
-            .register(&mut stream, Token(self.next as usize), both_ways)
+            .register(&mut stream, Token(number as usize), both_ways)
             .is_err()
         {
             return Err(self.fault());
         }
-        let number = self.next;
         let peer = Peer {
+            number,
             stream,
+            kept: Kept::new(self.alloc),
             may_give: true,
             may_take: true,
         };
-        self.peers.insert(number, peer)?;
-        self.next += 1;
+        match self.peers.get_mut(place) {
+            Some(free) => *free = Some(peer),
+            None => self.peers.push(Some(peer))?,
+        }
+        self.next = number + 1;
         Ok(Some(number))
     }
 
@@ -153,6 +232,7 @@ impl<A: Allocator + Copy> MioWire<A> {
         ensures rises { self.old.failed ≤ self.new.failed }
         ensures risen { HasRisen self.old.failed self.new.failed }
         ensures next { self.new.next ≡ self.old.next }
+        ensures unsure { self.new.is_unsure ≡ self.old.is_unsure }
     {
         self.failed = self.failed.saturating_add(1);
         WireFault::Device
@@ -165,7 +245,7 @@ impl<A: Allocator + Copy> Wire for MioWire<A> {
     ghost failed = { λ wire. wire.failed };
 
     fn accept(&mut self) -> Result<Option<u64>, WireFault> {
-        if self.next == u64::MAX {
+        if self.next > u64::MAX - PLACES {
             return Err(self.fault());
         }
         self.look(Some(Duration::ZERO))?;
@@ -175,30 +255,45 @@ impl<A: Allocator + Copy> Wire for MioWire<A> {
         self.take_in()
     }
 
-    fn read(&mut self, number: u64, buf: &mut [u8]) -> Result<Got, WireFault> {
-        let Some(peer) = self.peers.get_mut(&number) else {
+    fn read(&mut self, number: u64, buf: &mut [u8]) -> Result<Got, WireFault>
+        ensures line { IsOneLine (bytes_read result buf.new) }
+        ensures bound { self.new.next ≡ self.old.next }
+        ensures read { Reads nothing_told nothing_told number result buf.new }
+        ensures cause { HasCause self.old.failed self.new.failed result }
+    {
+        let Some(peer) = peer_of(&mut self.peers, number) else {
             return Err(self.fault());
         };
-        if !peer.may_give {
-            return Ok(Got::Nothing);
+        if peer.kept.is_empty() {
+            if !peer.may_give {
+                return Ok(Got::Nothing);
+            }
+            let room = Vec::with_capacity(self.alloc, buf.len())?;
+            match peer.stream.read(buf) {
+                Ok(0) => return Ok(Got::Ended),
+                Ok(n) => peer.kept = Kept::within(room, buf.split_at(n).0),
+                Err(error) if error.kind() == ErrorKind::WouldBlock => {
+                    peer.may_give = false;
+                    return Ok(Got::Nothing);
+                }
+                Err(error) if error.kind() == ErrorKind::Interrupted => {
+                    self.is_unsure = true;
+                    return Ok(Got::Nothing);
+                }
+                Err(_) => return Err(self.fault()),
+            }
         }
-        match peer.stream.read(buf) {
-            Ok(0) => Ok(Got::Ended),
-            Ok(n) => Ok(Got::Bytes(n)),
-            Err(error) if error.kind() == ErrorKind::WouldBlock => {
-                peer.may_give = false;
-                Ok(Got::Nothing)
+        match peer.kept.give_line(buf) {
+            0 => Ok(Got::Nothing),
+            n => {
+                self.has_more = self.has_more | !peer.kept.is_empty();
+                Ok(Got::Bytes(n))
             }
-            Err(error) if error.kind() == ErrorKind::Interrupted => {
-                self.is_unsure = true;
-                Ok(Got::Nothing)
-            }
-            Err(_) => Err(self.fault()),
         }
     }
 
     fn write(&mut self, number: u64, buf: &[u8]) -> Result<usize, WireFault> {
-        let Some(peer) = self.peers.get_mut(&number) else {
+        let Some(peer) = peer_of(&mut self.peers, number) else {
             return Err(self.fault());
         };
         if !peer.may_take {
@@ -219,11 +314,19 @@ impl<A: Allocator + Copy> Wire for MioWire<A> {
     }
 
     fn shut(&mut self, number: u64) {
-        self.peers.remove(&number);
+        if let Some(place) = self.peers.get_mut((number % PLACES) as usize)
+            && place.as_ref().is_some_and(|peer| peer.number == number)
+        {
+            *place = None;
+        }
     }
 
     fn wait(&mut self, idle: bool) -> Result<(), WireFault> {
         if !idle {
+            return Ok(());
+        }
+        if self.has_more {
+            self.has_more = false;
             return Ok(());
         }
         let patience = if self.is_unsure {
@@ -239,3 +342,6 @@ impl<A: Allocator + Copy> Wire for MioWire<A> {
         self.failed
     }
 }
+
+#[cfg(test)]
+mod tests;

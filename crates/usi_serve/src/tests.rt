@@ -45,12 +45,46 @@ fn a_session_over_a_socket(rt: HostRuntime) -> Result<(), Fail> {
     client.write_all(b"usi\nquit\n")?;
     let mut host = host_of(rt.alloc(), 1)?;
     let mut connections = Loop::new(rt.alloc(), 1000);
-    assert!(rt; connections.turn(&mut host, &mut wire).moved);
+    assert!(rt; connections.turn(&mut host, &mut wire).moved, "usi");
+    assert!(rt; connections.turn(&mut host, &mut wire).moved, "quit");
     assert!(rt; !connections.turn(&mut host, &mut wire).moved);
     let mut answer = Vec::new(rt.alloc());
     client.read_to_end(&mut answer)?;
     assert!(rt; answer.as_slice() == USI);
     assert_eq!(rt; wire.faults(), 0);
+    Ok(())
+}
+
+// Whether what a client is told now is this.
+fn is_told(client: &mut UnixStream, answer: &[u8]) -> Result<bool, Fail> {
+    let mut buf = [0u8; 4096];
+    let n = client.read(&mut buf)?;
+    Ok(buf.split_at(n).0 == answer)
+}
+
+// Whoever sends many lines at once is answered one of them a turn, and so is whoever sends one.
+#[test]
+fn a_turn_answers_one_line_of_each(rt: HostRuntime) -> Result<(), Fail> {
+    let path = path_of(&rt, "turns")?;
+    let mut wire = MioWire::bind(&rt, rt.alloc(), path.as_path().as_str())?;
+    let mut many = UnixStream::connect(&rt, path.as_path())?;
+    let mut one = UnixStream::connect(&rt, path.as_path())?;
+    fs::remove_file(&rt, path.as_path())?;
+    many.write_all(b"isready\nusi\ngo depth 1\nisready")?;
+    one.write_all(b"isready\n")?;
+    let mut host = host_of(rt.alloc(), 2)?;
+    let mut connections = Loop::new(rt.alloc(), 1000);
+    assert!(rt; connections.turn(&mut host, &mut wire).moved);
+    assert!(rt; is_told(&mut many, b"readyok\n")? && is_told(&mut one, b"readyok\n")?);
+    assert!(rt; connections.turn(&mut host, &mut wire).moved);
+    assert!(rt; is_told(&mut many, USI)?);
+    assert!(rt; connections.turn(&mut host, &mut wire).moved);
+    assert!(rt; is_told(&mut many, ANSWER)?);
+    assert!(rt;
+        connections.turn(&mut host, &mut wire).moved,
+        "a line has begun"
+    );
+    assert!(rt; !connections.turn(&mut host, &mut wire).moved);
     Ok(())
 }
 
@@ -145,6 +179,49 @@ fn calls_that_find_nothing_or_fail(rt: HostRuntime) -> Result<(), Fail> {
     assert_eq!(rt; wire.write(number, b"x"), Err(WireFault::Device));
     assert_eq!(rt; wire.read(7, &mut buf), Err(WireFault::Device));
     assert_eq!(rt; wire.faults(), 4);
+    Ok(())
+}
+
+// Whether a read of at most so many bytes gives these.
+fn gives(
+    wire: &mut MioWire<Global>,
+    number: u64,
+    most: usize,
+    bytes: &[u8],
+) -> Result<bool, WireFault> {
+    let mut buf = [0u8; 4096];
+    let room = most.min(buf.len());
+    match wire.read(number, &mut buf[..room])? {
+        Got::Bytes(n) => Ok(buf.split_at(n).0 == bytes),
+        _ => Ok(false),
+    }
+}
+
+// What came with a line is given by the next reads, and a wait returns at once for it. The end comes after it.
+#[test]
+fn a_read_gives_one_line(rt: HostRuntime) -> Result<(), Fail> {
+    let path = path_of(&rt, "lines")?;
+    let mut wire = MioWire::bind(&rt, rt.alloc(), path.as_path().as_str())?;
+    let mut client = UnixStream::connect(&rt, path.as_path())?;
+    fs::remove_file(&rt, path.as_path())?;
+    let number = wire.accept()?.ok_or("a connection")?;
+    client.write_all(b"usi\n\r\n\nisready\nqu")?;
+    client.shutdown(Shutdown::Write)?;
+    assert_eq!(rt; wire.accept(), Ok(None));
+    for (most, bytes) in [
+        (4096, b"usi\n".as_slice()),
+        (4096, b"\r\n"),
+        (1, b"\n"),
+        (5, b"isrea"),
+        (5, b"dy\n"),
+    ] {
+        assert!(rt; gives(&mut wire, number, most, bytes)?);
+        wire.wait(true)?;
+    }
+    assert!(rt; gives(&mut wire, number, 4096, b"qu")?);
+    let mut buf = [0u8; 8];
+    assert_eq!(rt; wire.read(number, &mut buf), Ok(Got::Ended));
+    assert_eq!(rt; wire.faults(), 0);
     Ok(())
 }
 

@@ -1,3 +1,4 @@
 pub mod Writing
 pub mod Working
 pub mod Between
+pub mod Lining

@@ -24,10 +24,14 @@ front_of_all old mid new bytes appended kept = ([], record { done = bytes; appen
 pub due-queued : (s : SessionView) (x : List ℕ) → due s x ≡ s.queued ++ due (record s { queued = [] }) x
 due-queued s x = refl
 
--- a front of what is queued is a front of what is owed
-pub front_of_due : (old new : Option (List ℕ)) (before mid : SessionView) → due mid [] ≡ due before [] → WritesFront old new mid.queued → WritesFront old new (due before [])
-front_of_due old new before mid kept front =
-    front_of_more old new mid.queued (due (record mid { queued = [] }) []) (due before []) front (sym kept ∙ due-queued mid [])
+-- a front of what is queued is a front of what is owed, whatever bytes follow
+pub front_of_due : (old new : Option (List ℕ)) (before mid : SessionView) → ((x : List ℕ) → due mid x ≡ due before x) → WritesFront old new mid.queued → (x : List ℕ) → WritesFront old new (due before x)
+front_of_due old new before mid kept front x =
+    front_of_more old new mid.queued (due (record mid { queued = [] }) x) (due before x) front (sym (kept x) ∙ due-queued mid x)
+
+-- a front of what is owed once a line was fed is a front of what was owed with it
+pub front_of_fed : (old new : Option (List ℕ)) (before mid : SessionView) (line : List ℕ) → ((x : List ℕ) → due mid x ≡ due before (line ++ x)) → ((x : List ℕ) → WritesFront old new (due mid x)) → (x : List ℕ) → WritesFront old new (due before (line ++ x))
+front_of_fed old new before mid line fed front x = ((front x).0, record { done = (front x).1.done; appended = (front x).1.appended; split = sym (fed x) ∙ (front x).1.split })
 
 -- a slice kept what is owed, and all that it queued was written
 pub worked_on : (before mid after : SessionView) (old new : Option (List ℕ)) → ((x : List ℕ) → due mid x ≡ due before x) → ((x : List ℕ) → state_due mid x ≡ state_due before x) → IsWritten mid after old new → IsWorkedOn before after old new
@@ -54,13 +58,13 @@ worked_more before mid after old part new a b = record {
 }
 
 -- the slice was cut short by a fault
-pub worked_front : (before mid : SessionView) (old part new : Option (List ℕ)) → IsWorkedOn before mid old part → WritesFront part new (due mid []) → WritesFront old new (due before [])
-worked_front before mid old part new a (left, w) = (
-  left,
+pub worked_front : (before mid : SessionView) (old part new : Option (List ℕ)) → IsWorkedOn before mid old part → ((x : List ℕ) → WritesFront part new (due mid x)) → (x : List ℕ) → WritesFront old new (due before x)
+worked_front before mid old part new a front x = (
+  (front x).0,
   record {
-    done = a.made ++ w.done;
-    appended = Appends-trans old part new a.made w.done a.written w.appended;
-    split = a.owed [] ∙ (ap (λ xs. a.made ++ xs) w.split ∙ sym (append_assoc a.made w.done left));
+    done = a.made ++ (front x).1.done;
+    appended = Appends-trans old part new a.made (front x).1.done a.written (front x).1.appended;
+    split = a.owed x ∙ (ap (λ xs. a.made ++ xs) (front x).1.split ∙ sym (append_assoc a.made (front x).1.done (front x).0));
   },
 )
 

@@ -66,6 +66,16 @@ pub record IsFedAndWorkedOff (before after : SessionView) (chunk : List ℕ) (ol
   pub empty : after.queued ≡ []
   pub settled : is_pending after ≡ false
 
+-- of a chunk this rest is left: the answers to what came before it were written, and what is owed with it is owed still
+pub record IsAnsweredTo (rest : List ℕ) (before now : SessionView) (chunk : List ℕ) (old new : Option (List ℕ)) : Type 0 where
+  pub made : List ℕ
+  pub written : Appends old new made
+  pub owed : (x : List ℕ) → due before (chunk ++ x) ≡ made ++ due now (rest ++ x)
+  pub left : (x : List ℕ) → state_due now (rest ++ x) ≡ state_due before (chunk ++ x)
+  pub empty : now.queued ≡ []
+  pub settled : is_pending now ≡ false
+  pub few : length rest ≤ CHUNK_MAX
+
 -- between two reads: what was written and what is owed are the replies, and the session may be fed
 pub record IsBetween (before after old new : Option (List ℕ)) (s : SessionView) : Type 0 where
   pub read : List ℕ

@@ -1,9 +1,10 @@
 //! One session over a reader and a writer.
 
-ghost use Rattle.std.specs.Prelude.{◌≡◌, ◌<◌, ◌≤◌, [], true, false, length, take, IfOk, OnOk, OnErr, Err};
+ghost use Rattle.std.specs.Prelude.{◌≡◌, ◌<◌, ◌≤◌, ℕ, List, [], ◌++◌, true, false, length, take, IfOk, OnOk, OnErr, Err};
 ghost use Rattle.std.specs.Io.KnownBytes.{Appends, Consumes, IsAtEnd, Keeps};
 ghost use Rattle.usi_stdio.specs.Stdio.{WritesFront, IsAnswered, IsAnsweredInPart, IsWritten, IsWorkedOn, IsFedAndWorkedOff, slices_of};
 ghost use Rattle.usi_stdio.specs.declared.streams.StdioFault.TheVariants.{WriteFailed};
+ghost use Rattle.usi_lines.specs.OneLine.{IsOneLine};
 ghost use Rattle.usi_session.specs.Due.{due, is_pending, wants_input};
 ghost use Rattle.usi_session.specs.declared.limits.TheConstants.{CHUNK_MAX};
 ghost use Rattle.shared_table.specs.declared.table.TheConstants.{CAPACITY_MAX};
@@ -14,6 +15,7 @@ use std::alloc::Allocator;
 use std::hash::{BuildHasherDefault, FoldHasher};
 use std::io::{Read, Write};
 use thiserror::Error;
+use usi_lines::cut_line;
 use usi_session::{CHUNK_MAX, Session, SessionFault};
 
 /// The most steps of search before what is queued is written.
@@ -98,7 +100,7 @@ fn work_slice<A: Allocator + Copy, M: Memo, W: Write>(
     requires empty { session.old.queued ≡ [] }
     ensures ok { OnOk result (IsWorkedOn session.old session.new (W.contents writer.old) (W.contents writer.new)) }
     ensures fewer { OnOk result (slices_of session.new < slices_of session.old) }
-    ensures err { OnErr result (WritesFront (W.contents writer.old) (W.contents writer.new) (due session.old [])) }
+    ensures err { OnErr result ((x : List ℕ) → WritesFront (W.contents writer.old) (W.contents writer.new) (due session.old x)) }
 {
     session.work(memo, SLICE)?;
     write_queued(session, writer)
@@ -113,7 +115,7 @@ fn work_off<A: Allocator + Copy, M: Memo, W: Write>(
     requires { session.old.queued ≡ [] }
     ensures ok { OnOk result (IsWorkedOn session.old session.new (W.contents writer.old) (W.contents writer.new)) }
     ensures settled { OnOk result (is_pending session.new ≡ false) }
-    ensures err { OnErr result (WritesFront (W.contents writer.old) (W.contents writer.new) (due session.old [])) }
+    ensures err { OnErr result ((x : List ℕ) → WritesFront (W.contents writer.old) (W.contents writer.new) (due session.old x)) }
 {
     'slices: while session.pending() {
         work_slice(session, memo, writer)?;
@@ -135,7 +137,26 @@ fn read_chunk<R: Read>(reader: &mut R, chunk: &mut [u8]) -> Result<usize, StdioF
     }
 }
 
-/// Feeds one chunk, answers it, and writes the answers.
+/// Feeds one line or a part of one, answers it, and writes the answer.
+fn answer_line<A: Allocator + Copy, M: Memo, W: Write>(
+    session: &mut Session<A>,
+    memo: &mut M,
+    writer: &mut W,
+    line: &[u8],
+) -> Result<(), StdioFault>
+    requires wants { wants_input session.old ≡ true }
+    requires empty { session.old.queued ≡ [] }
+    requires most { length line.now ≤ CHUNK_MAX }
+    requires one { IsOneLine line.now }
+    ensures ok { OnOk result (IsFedAndWorkedOff session.old session.new line.now (W.contents writer.old) (W.contents writer.new)) }
+    ensures err { OnErr result ((x : List ℕ) → WritesFront (W.contents writer.old) (W.contents writer.new) (due session.old (line.now ++ x))) }
+{
+    session.feed(line)?;
+    work_off(session, memo, writer)
+}
+
+/// Feeds one chunk line by line, and writes the answer to each line before the next is fed. What comes
+/// behind a line that ends the session is passed over.
 fn answer_chunk<A: Allocator + Copy, M: Memo, W: Write>(
     session: &mut Session<A>,
     memo: &mut M,
@@ -148,15 +169,20 @@ fn answer_chunk<A: Allocator + Copy, M: Memo, W: Write>(
     ensures ok { OnOk result (IsFedAndWorkedOff session.old session.new chunk.now (W.contents writer.old) (W.contents writer.new)) }
     ensures err { OnErr result (WritesFront (W.contents writer.old) (W.contents writer.new) (due session.old chunk.now)) }
 {
-    session.feed(chunk)?;
-    work_off(session, memo, writer)
+    let mut rest = chunk;
+    'lines: while !rest.is_empty() && !session.is_over() {
+        let (line, after) = cut_line(rest);
+        answer_line(session, memo, writer, line)?;
+        rest = after;
+    }
+    Ok(())
 }
 
 /// Runs one session: reads chunks of at most 4,096 bytes and answers each before the next, until the
-/// input ends or the session is over. Replies are written and flushed as they are found: the info line
-/// of a depth comes before the next 1,000 steps of search are made. Bytes after the last LF are no
-/// line, but for 65,536 or more, which are a line that is too long. The table has `entries` entries,
-/// from 1 to 1,000,000.
+/// input ends or the session is over. Replies are written and flushed as they are found: those to a line
+/// before the next line is looked at, and the info line of a depth before the next 1,000 steps of search
+/// are made. Bytes after the last LF are no line, but for 65,536 or more, which are a line that is too
+/// long. The table has `entries` entries, from 1 to 1,000,000.
 ///
 /// `OutOfMemory` comes where memory was refused, `ReadFailed` where a read failed, and `WriteFailed`
 /// where a write or a flush failed or a write took nothing. After each of them what was written is a

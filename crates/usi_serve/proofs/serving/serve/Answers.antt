@@ -1,5 +1,6 @@
 use Rattle.std.proofs.Common.{rules, ◌≡◌, arith}
 use Rattle.usi_serve.proofs.Lives.{lives_turn, lives_turns, lives_wait}
+use Rattle.usi_serve.proofs.Ends.{ends_stopped, ends_turns}
 use Rattle.usi_serve.proofs.Turns.{stops, turns_more, turns_none}
 use Rattle.usi_serve.proofs.Waits.{in_time}
 use Rattle.usi_serve.proofs.serving.serve.Goals as goal
@@ -70,3 +71,27 @@ returns-clause-whole g c = (lives_turns _ _ _ _ c.requires.fits c.loop.invariant
 
 pub returns-clause-in_time : goal.returns-clause-in_time
 returns-clause-in_time g c = let all : c.loop.counter ≡ c.args.turns = omega arith in in_time _ _ _ _ c.requires.fits (rw all at c.loop.invariant.so_far)
+
+pub returns-clause-ends : goal.returns-clause-ends
+returns-clause-ends g c = λ one o. let all : c.loop.counter ≡ c.args.turns = omega arith in ends_turns _ _ _ _ one o (rw all at c.loop.invariant.so_far)
+
+-- the turn before the wait that fails lets it go
+pub returns-in_err-wait-clause-ends : goal.returns-in_err-wait-clause-ends
+returns-in_err-wait-clause-ends g c = λ one o. ends_stopped _ _ _ _ (record { held = c.turn-turn.new.self.held; bound = g.W.Wire.bound c.turn-turn.new.wire; told = g.W.Wire.told c.turn-turn.new.wire; asked = g.W.Wire.asked c.turn-turn.new.wire; failed = g.W.Wire.failed c.turn-turn.new.wire; host = c.turn-turn.new.host }) _ o c.loop.invariant.so_far
+    (record {
+      moved = c.turn-turn.result.moved;
+      turned = rw c.loop.invariant.slice at c.turn-turn.ensures.turned;
+      asked = rw c.loop.invariant.slice at c.turn-turn.ensures.asked;
+      moves = c.turn-turn.ensures.moved;
+      pending = c.turn-turn.ensures.pending;
+      quiet = c.turn-turn.ensures.quiet;
+      goes_on = c.turn-turn.ensures.goes_on;
+      starts = c.turn-turn.ensures.starts;
+      known = c.turn-turn.ensures.known;
+      fits = c.turn-turn.ensures.fits;
+      faults = c.turn-turn.ensures.faults;
+      rising = c.turn-turn.ensures.rising;
+      once = c.turn-turn.ensures.once;
+      finished = c.turn-turn.ensures.finished;
+    })
+    (record { held = search rules; bound = c.wait.ensures.bound; told = c.wait.ensures.kept; asked = c.wait.ensures.asked; faults = c.wait.ensures.cause.0; host = search rules })

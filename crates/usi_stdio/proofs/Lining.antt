@@ -1,0 +1,69 @@
+-- A chunk that is answered line by line.
+use Rattle.std.proofs.Common.{◌≡◌, ℕ, ◌+◌, ◌≤◌, List, [], ◌++◌, Option, length, refl, sym, ap, ◌∙◌, append_assoc, append-nil, true, arith}
+use Rattle.std.proofs.lemmas.List.{length-append}
+use Rattle.std.proofs.KnownBytes.{Appends-nil, Appends-trans}
+use Rattle.usi_session.specs.declared.limits.TheConstants.{CHUNK_MAX}
+use Rattle.usi_session.specs.Due.{SessionView, due, state_due, wants_input}
+use Rattle.usi_session.proofs.Settled.{due-over, state_due-over_same, wanting-settled}
+use Rattle.usi_stdio.specs.Stdio.{WritesFront, IsFedAndWorkedOff, IsAnsweredTo}
+
+-- before the first line
+pub lines_start : (s : SessionView) (chunk : List ℕ) (old : Option (List ℕ)) → wants_input s ≡ true → s.queued ≡ [] → length chunk ≤ CHUNK_MAX → IsAnsweredTo chunk s s chunk old old
+lines_start s chunk old wants empty most = record {
+  made = [];
+  written = Appends-nil old;
+  owed = λ x. refl;
+  left = λ x. refl;
+  empty = empty;
+  settled = wanting-settled s wants;
+  few = most;
+}
+
+-- with further bytes, a line and what is behind it
+behind : (rest line after x : List ℕ) → rest ≡ line ++ after → rest ++ x ≡ line ++ (after ++ x)
+behind rest line after x split = ap (λ xs. xs ++ x) split ∙ append_assoc line after x
+
+-- one line more
+pub lines_more : (before mid now : SessionView) (chunk rest line after : List ℕ) (old part new : Option (List ℕ)) → IsAnsweredTo rest before mid chunk old part → rest ≡ line ++ after → IsFedAndWorkedOff mid now line part new → IsAnsweredTo after before now chunk old new
+lines_more before mid now chunk rest line after old part new a split w = record {
+  made = a.made ++ w.made;
+  written = Appends-trans old part new a.made w.made a.written w.written;
+  owed = λ x. a.owed x ∙ (ap (λ xs. a.made ++ due mid xs) (behind rest line after x split) ∙ (ap (λ xs. a.made ++ xs) (w.owed (after ++ x)) ∙ sym (append_assoc a.made w.made (due now (after ++ x)))));
+  left = λ x. w.left (after ++ x) ∙ (ap (λ xs. state_due mid xs) (sym (behind rest line after x split)) ∙ a.left x);
+  empty = w.empty;
+  settled = w.settled;
+  few = (let n : length rest ≡ length line + length after = ap length split ∙ length-append line after in let m : length rest ≤ CHUNK_MAX = a.few in omega arith);
+}
+
+-- no line is left
+pub lines_done : (before now : SessionView) (chunk rest : List ℕ) (old new : Option (List ℕ)) → IsAnsweredTo rest before now chunk old new → rest ≡ [] → IsFedAndWorkedOff before now chunk old new
+lines_done before now chunk rest old new a none = record {
+  made = a.made;
+  written = a.written;
+  owed = λ x. a.owed x ∙ ap (λ xs. a.made ++ due now (xs ++ x)) none;
+  left = λ x. ap (λ xs. state_due now (xs ++ x)) (sym none) ∙ a.left x;
+  empty = a.empty;
+  settled = a.settled;
+}
+
+-- the session is over: the lines that are left change nothing
+pub lines_over : (before now : SessionView) (chunk rest : List ℕ) (old new : Option (List ℕ)) → IsAnsweredTo rest before now chunk old new → now.state.is_over ≡ true → IsFedAndWorkedOff before now chunk old new
+lines_over before now chunk rest old new a over = record {
+  made = a.made;
+  written = a.written;
+  owed = λ x. a.owed x ∙ ap (λ xs. a.made ++ xs) (due-over now (rest ++ x) over ∙ sym (due-over now x over));
+  left = λ x. state_due-over_same now x (rest ++ x) over ∙ a.left x;
+  empty = a.empty;
+  settled = a.settled;
+}
+
+-- a line was cut short by a fault
+pub lines_front : (before mid : SessionView) (chunk rest line after : List ℕ) (old part new : Option (List ℕ)) → IsAnsweredTo rest before mid chunk old part → rest ≡ line ++ after → ((x : List ℕ) → WritesFront part new (due mid (line ++ x))) → WritesFront old new (due before chunk)
+lines_front before mid chunk rest line after old part new a split front = (
+  (front after).0,
+  record {
+    done = a.made ++ (front after).1.done;
+    appended = Appends-trans old part new a.made (front after).1.done a.written (front after).1.appended;
+    split = sym (ap (λ xs. due before xs) (append-nil chunk)) ∙ (a.owed [] ∙ (ap (λ xs. a.made ++ due mid xs) (append-nil rest ∙ split) ∙ (ap (λ xs. a.made ++ xs) (front after).1.split ∙ sym (append_assoc a.made (front after).1.done (front after).0))));
+  },
+)

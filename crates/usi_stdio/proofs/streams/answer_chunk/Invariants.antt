@@ -1,0 +1,10 @@
+use Rattle.std.proofs.Common.{length}
+use Rattle.usi_stdio.specs.Stdio.{IsAnsweredTo}
+use Rattle.usi_stdio.proofs.streams.answer_chunk.Given as goal
+
+-- the answers to the lines before the rest are written
+abbrev pub invariant-lines : goal.invariant-lines
+invariant-lines g l = IsAnsweredTo l.rest l.fn.session l.session l.chunk (g.W.Write.contents l.fn.writer) (g.W.Write.contents l.writer)
+
+abbrev pub decreases-lines : goal.decreases-lines
+decreases-lines g l = length l.rest
