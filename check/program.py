@@ -20,6 +20,7 @@ from checks import DEPTH_ONE, DEPTH_THREE, PROGRAM, TOP, USI, Wrong, run_all, wa
 PATIENCE = 60
 
 POINTER = b"\n\nFor more information, try '--help'.\n"
+FOR_THE_VERSION = b"For the version, try 'usi_host --version'.\n"
 NOT_UTF_8 = b"error: a word of the command line is not UTF-8" + POINTER
 
 
@@ -147,14 +148,29 @@ def other_words_are_refused():
         ["replay", "--entries", "1000001"],
         ["replay", "--slice", "0"],
         ["replay", "--slice", "1000000001"],
-        ["stdio", "--version"],
-        ["version"],
-        ["-v"],
     ):
-        status, text, complaints = run(words)
-        want((status, text), (2, b""), f"{words}")
-        if not complaints.startswith(b"error: ") or not complaints.endswith(POINTER):
-            raise Wrong(f"{words}: standard error is {complaints!r}")
+        is_refused(words, POINTER)
+    for words in (["stdio", "--version"], ["serve", "--socket", "s", "-V"], ["version"], ["-v"]):
+        is_refused(words, POINTER + FOR_THE_VERSION)
+
+
+def is_refused(words, ending):
+    status, text, complaints = run(words)
+    want((status, text), (2, b""), f"{words}")
+    if not complaints.startswith(b"error: ") or not complaints.endswith(ending):
+        raise Wrong(f"{words}: standard error is {complaints!r}")
+
+
+def a_number_with_a_sign_is_refused():
+    said = b"error: a number is written in digits alone, without a sign" + POINTER
+    for words in (
+        ["stdio", "--entries", "+5"],
+        ["replay", "--slots", "+5"],
+        ["replay", "--slice=+5"],
+        ["serve", "--socket", "s", "--slots", "+5"],
+        ["serve", "--socket", "s", "--turns", "+05"],
+    ):
+        want(run(words), (2, b"", said), f"{words}")
 
 
 def a_word_that_is_not_utf_8_is_refused():
@@ -455,6 +471,7 @@ CHECKS = (
     help_is_no_fault,
     the_version_is_no_fault,
     other_words_are_refused,
+    a_number_with_a_sign_is_refused,
     a_word_that_is_not_utf_8_is_refused,
     a_full_device_is_a_failed_write,
     a_closed_output_is_a_failed_write,

@@ -13,12 +13,12 @@ _usi_host() {
     esac
     local words
     if [ "$COMP_CWORD" -eq 1 ]; then
-        words='stdio replay serve help --help --version'
+        words='stdio replay serve help -h --help -V --version'
     else
         case ${COMP_WORDS[1]} in
-            stdio) words='--entries --help' ;;
-            replay) words='--slots --entries --slice --help' ;;
-            serve) words='--socket --slots --entries --slice --turns --help' ;;
+            stdio) words='--entries -h --help' ;;
+            replay) words='--slots --entries --slice -h --help' ;;
+            serve) words='--socket --slots --entries --slice --turns -h --help' ;;
             help) words='stdio replay serve' ;;
         esac
     fi

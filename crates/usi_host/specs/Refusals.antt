@@ -1,17 +1,13 @@
--- The texts of the program itself: its version, words that could not be read, and a host on a socket that ended early (own choice).
+-- The texts of the program itself: words that could not be read, and a host on a socket that ended early (own choice).
 use Rattle.std.specs.Prelude.{◌≡◌, ℕ, List, ⊤, codes, string_bytes}
-use Rattle.usi_host.specs.declared.words.WordsFault.{WordsFault}
-use Rattle.usi_host.specs.declared.words.WordsFault.TheVariants.{OutOfMemory, NotAccepted}
+use Rattle.usi_words.specs.declared.words.WordsFault.{WordsFault}
+use Rattle.usi_words.specs.declared.words.WordsFault.TheVariants.{OutOfMemory, NotAccepted}
 use Rattle.usi_host.specs.declared.serving.ServeFault.{ServeFault}
 use Rattle.usi_host.specs.declared.serving.ServeFault.TheVariants as serving
 
 -- why, and a pointer to the help
 abbrev pub not_utf_8 : List ℕ
 not_utf_8 = codes "error: a word of the command line is not UTF-8\n\nFor more information, try '--help'.\n"
-
--- the name and the version, and what is proved
-abbrev pub the_version : List ℕ
-the_version = codes "usi_host 0.1.0\nProved: each session is given the replies of plain minimax at the exact depth, whatever the table\nholds and whatever other sessions do. The README of its sources says all that is proved.\n"
 
 -- where words are not accepted, this is what is said
 abbrev pub Says : List ℕ → WordsFault → Type 0

@@ -1,7 +1,7 @@
 -- The status with which the program ends (own choice).
 use Rattle.std.specs.Prelude.{ℕ}
-use Rattle.usi_host.specs.declared.words.WordsFault.{WordsFault}
-use Rattle.usi_host.specs.declared.words.WordsFault.TheVariants as words
+use Rattle.usi_words.specs.declared.words.WordsFault.{WordsFault}
+use Rattle.usi_words.specs.declared.words.WordsFault.TheVariants as words
 use Rattle.usi_host.specs.declared.serving.ServeFault.{ServeFault}
 use Rattle.usi_host.specs.declared.serving.ServeFault.TheVariants as serving
 use Rattle.host_core.specs.declared.event.HostFault.{HostFault}

@@ -4,13 +4,11 @@
 ghost use Rattle.std.specs.Prelude.{◌≡◌, ◌≤◌, IfOk};
 ghost use Rattle.session_slots.specs.declared.limits.TheConstants.{SESSIONS_MAX};
 ghost use Rattle.shared_table.specs.declared.table.TheConstants.{CAPACITY_MAX};
-ghost use Rattle.usi_host.specs.Answers.{HasRanges};
+ghost use Rattle.usi_words.specs.Answers.{HasRanges};
 ghost use Rattle.usi_host.specs.Statuses.{replay_status};
 
 mod refusal;
 mod serving;
-mod version;
-mod words;
 
 use host_core::Host;
 use refusal::{FAULT, complaint, status, unread_words};
@@ -22,8 +20,7 @@ use std::{env, io};
 use usi_replay::{ReplayFault, replay};
 use usi_serve::{MioWire, serve};
 use usi_stdio::stdio;
-use version::version_text;
-use words::{Job, WordsFault, read_words};
+use usi_words::{Job, WordsFault, read_words, version_text};
 
 /// The status of a script that has a bad line.
 const BAD_SCRIPT: u8 = 3;

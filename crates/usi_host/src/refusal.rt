@@ -3,9 +3,9 @@ ghost use Rattle.std.specs.Prelude.{◌≡◌};
 ghost use Rattle.usi_host.specs.Refusals.{Says, complaint_of, not_utf_8};
 ghost use Rattle.usi_host.specs.Statuses.{words_status};
 
-use crate::words::WordsFault;
 use std::alloc::Global;
 use std::io::ErrorKind;
+use usi_words::WordsFault;
 
 /// The status of a run that ended early.
 pub const FAULT: u8 = 1;

@@ -1,6 +1,6 @@
 -- The command line, and its answers at words that are written out.
-use Rattle.std.proofs.Common.{◌≡◌, ◌∷◌, ◌∙◌, true, List, [], Result, Ok, Err, Option, Some, None, IfOk, IfErr, codes, refl, sym, ap, arith, subst, slice_index_or, inl, inr, lit≤, lit<}
-use Rattle.std.specs.Prelude.{MatchResult}
+use Rattle.std.proofs.Common.{◌≡◌, ◌∷◌, ◌∙◌, true, ℕ, List, [], Result, Ok, Err, Option, Some, None, IfOk, IfErr, codes, refl, sym, ap, arith, subst, slice_index_or, inl, inr, lit≤, lit<}
+use Rattle.std.specs.Prelude.{MatchResult, string_bytes}
 use Rattle.clap.specs.Words.{App, FailsBy, HasMatchesOf, IsAmong, Kinds, Row, Text, fault_of, is_simple, is_simple_and_free, kind_of, subcommand_of, subcommand_rows_of}
 use Rattle.clap.specs.Kinds.{HasKind}
 use Rattle.clap.proofs.OnLiterals.{clap_on_literals}
@@ -10,13 +10,13 @@ use Rattle.clap.specs.declared.error.kind.ErrorKind.{ErrorKind}
 use Rattle.clap.specs.declared.error.kind.ErrorKind.TheVariants as kinds
 use Rattle.clap.specs.declared.parser.matches.ArgMatches.{ArgMatches}
 use Rattle.clap.specs.declared.parser.matches.ValueSource.TheVariants.{DefaultValue}
-use Rattle.usi_host.specs.Answers.{AreHelpWords, AreVersionWords, Gives, GivesHelp, HasRanges, IsAnswerTo, IsAskedBy, IsJobOf, IsRefusedFor, IsReplayOf, IsStdioOf, HasMistake, IsMistake, NamesJob, NamesNoJob}
-use Rattle.usi_host.specs.CommandLine.{IsNumber, NamesNumber, command_line, command_of, faults_of}
-use Rattle.usi_host.specs.declared.words.Job.{Job}
-use Rattle.usi_host.specs.declared.words.Job.TheVariants.{Stdio, Replay, Serve, Help, Version}
-use Rattle.usi_host.specs.declared.words.WordsFault.{WordsFault}
-use Rattle.usi_host.specs.declared.words.WordsFault.TheVariants.{OutOfMemory, NotAccepted}
-use Rattle.usi_host.proofs.Numbers.{names_once}
+use Rattle.usi_words.specs.Answers.{AreHelpWords, AreVersionWords, Gives, GivesHelp, HasRanges, IsAnswerTo, IsAskedBy, IsJobOf, IsRefusedFor, IsReplayOf, IsStdioOf, HasMistake, IsMistake, IsNoJob, NamesJob}
+use Rattle.usi_words.specs.CommandLine.{IsNumber, NamesNumber, command_line, command_of, faults_of}
+use Rattle.usi_words.specs.declared.words.Job.{Job}
+use Rattle.usi_words.specs.declared.words.Job.TheVariants.{Stdio, Replay, Serve, Help, Version}
+use Rattle.usi_words.specs.declared.words.WordsFault.{WordsFault}
+use Rattle.usi_words.specs.declared.words.WordsFault.TheVariants.{OutOfMemory, NotAccepted}
+use Rattle.usi_words.proofs.Numbers.{names_once}
 
 pub line_is_simple : is_simple command_line ≡ true
 unfolding clap_on_literals
@@ -144,7 +144,7 @@ pub line_refused : (words : List Text) (parsed : Result ArgMatches Error) (r : R
 line_refused words parsed (Ok job) line is = tt
 line_refused words parsed (Err OutOfMemory) line is = tt
 line_refused words (Ok m) (Err (NotAccepted text)) line is =
-    inr (line.kinds, subst (λ (c : Option (Text × List Row)). NamesNoJob c) line.matches is)
+    inr (line.kinds, subst (λ (c : Option (Text × List Row)). IsNoJob c (string_bytes text)) line.matches is)
 line_refused words (Err e) (Err (NotAccepted text)) line is = elim line.kinds [
   | inl memory ↦ absurd (is.1 memory)
   | inr among ↦ inl (kind_of e, among, is.0)
@@ -162,7 +162,7 @@ gives words job (Ok Version) none names range only asked refused = absurd (rw no
 gives words job (Err OutOfMemory) none names range only asked refused = inr refl
 gives words job (Err (NotAccepted text)) none names range only asked refused = elim refused [
   | inl mistake ↦ absurd (subst (λ (k : Kinds). IsAmong mistake.0 k) none mistake.1)
-  | inr no_job ↦ absurd (no_job.1 job range names)
+  | inr no_job ↦ absurd (no_job.1.0 job range names)
 ]
 
 -- words whose command is known
@@ -245,9 +245,9 @@ among_one x k (inl is) = is
 among_one x k (inr none) = absurd none
 
 -- words that are refused have a mistake: not one request alone
-not_refused : (words : List Text) (kind : ErrorKind) → faults_of words ≡ kind ∷ [] → (IsMistake kind → ⊥) → HasMistake words → ⊥
-not_refused words kind is request (inl mistake) = request (subst IsMistake (among_one kind mistake.0 (subst (λ (k : Kinds). IsAmong mistake.0 k) is mistake.1)) mistake.2)
-not_refused words kind is request (inr none) = let bad : kind ∷ [] ≡ [] = sym is ∙ none.0 in cc
+not_refused : (words : List Text) (said : List ℕ) (kind : ErrorKind) → faults_of words ≡ kind ∷ [] → (IsMistake kind → ⊥) → HasMistake words said → ⊥
+not_refused words said kind is request (inl mistake) = request (subst IsMistake (among_one kind mistake.0 (subst (λ (k : Kinds). IsAmong mistake.0 k) is mistake.1)) mistake.2)
+not_refused words said kind is request (inr none) = let bad : kind ∷ [] ≡ [] = sym is ∙ none.0 in cc
 
 no_mistake_in_help : IsMistake kinds.DisplayHelp → ⊥
 no_mistake_in_help is = is.0 refl
@@ -265,7 +265,7 @@ gives_help_of words (Ok (Serve socket slots entries slice turns)) is asked refus
 gives_help_of words (Ok Version) is asked refused =
     let bad : kinds.DisplayVersion ≡ kinds.DisplayHelp = among_one kinds.DisplayHelp kinds.DisplayVersion (subst (λ (k : Kinds). IsAmong kinds.DisplayVersion k) is asked) in cc
 gives_help_of words (Err OutOfMemory) is asked refused = tt
-gives_help_of words (Err (NotAccepted text)) is asked refused = not_refused words kinds.DisplayHelp is no_mistake_in_help refused
+gives_help_of words (Err (NotAccepted text)) is asked refused = not_refused words (string_bytes text) kinds.DisplayHelp is no_mistake_in_help refused
 
 -- words that ask for the version alone give it
 gives_version_of : (words : List Text) (r : Result Job WordsFault) → faults_of words ≡ kinds.DisplayVersion ∷ []
@@ -277,7 +277,7 @@ gives_version_of words (Ok (Serve socket slots entries slice turns)) is asked re
 gives_version_of words (Ok (Help text)) is asked refused =
     let bad : kinds.DisplayHelp ≡ kinds.DisplayVersion = among_one kinds.DisplayVersion kinds.DisplayHelp (subst (λ (k : Kinds). IsAmong kinds.DisplayHelp k) is asked) in cc
 gives_version_of words (Err OutOfMemory) is asked refused = inr refl
-gives_version_of words (Err (NotAccepted text)) is asked refused = absurd (not_refused words kinds.DisplayVersion is no_mistake_in_version refused)
+gives_version_of words (Err (NotAccepted text)) is asked refused = absurd (not_refused words (string_bytes text) kinds.DisplayVersion is no_mistake_in_version refused)
 
 pub gives_help : (words : List Text) (r : Result Job WordsFault) → AreHelpWords words
     → IfOk r (IsAskedBy words) → IfErr r (IsRefusedFor words) → GivesHelp r

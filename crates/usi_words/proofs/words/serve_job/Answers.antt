@@ -1,8 +1,8 @@
 use Rattle.std.proofs.Common.{◌∙◌, Some, sym, codes, ap, option_map}
 use Rattle.clap.specs.Words.{found_of, rows_of}
 use Rattle.clap.proofs.WalkLemmas.{first_value-rows}
-use Rattle.usi_host.proofs.Jobs.{no_numbers, no_socket}
-use Rattle.usi_host.proofs.words.serve_job.Goals as goal
+use Rattle.usi_words.proofs.Jobs.{no_numbers, no_socket}
+use Rattle.usi_words.proofs.words.serve_job.Goals as goal
 
 pub returns-in_default-clause-none : goal.returns-in_default-clause-none
 returns-in_default-clause-none c = no_socket (rows_of (found_of c.args.options.now))

@@ -1,5 +1,5 @@
-use Rattle.usi_host.proofs.Numbers.{if_none}
-use Rattle.usi_host.proofs.words.serve_numbers.Goals as goal
+use Rattle.usi_words.proofs.Numbers.{if_none}
+use Rattle.usi_words.proofs.words.serve_numbers.Goals as goal
 
 pub returns-in_err-slots-clause-none : goal.returns-in_err-slots-clause-none
 returns-in_err-slots-clause-none c = if_none c.from_residual.result _ (λ slots entries slice turns range names. c.in_err-slots.ensures.none slots range.0 names.0)

@@ -1,20 +1,24 @@
 //! The words of the command line.
-ghost use Rattle.std.specs.Prelude.{◌≡◌, ◌∷◌, ℕ, false, [], IfErr, IfNone, IfOk, IfSome, MatchResult, codes, map};
+ghost use Rattle.std.specs.Prelude.{◌≡◌, ◌∷◌, ◌<◌, ◌^◌, ℕ, false, [], IfErr, IfNone, IfOk, IfSome, MatchResult, codes, map};
 ghost use Rattle.clap.specs.Words.{app_of, found_of, kind_of, rows_of, rule_of, subcommand_rows_of};
 ghost use Rattle.clap.specs.declared.builder.command.Command.TheViews.{out-Command as fields_of};
-ghost use Rattle.usi_host.specs.Answers.{AreHelpWords, AreVersionWords, Gives, GivesHelp, HasRanges, HasServeRanges, IsAnswerTo, IsAskedBy, IsJobOf, IsRefusedFor, IsReplayOf, IsServeOf, IsStdioOf, NamesJob, NamesNoJob, NamesNoReplay, NamesNoServe, NamesNoStdio, NamesNumbers};
-ghost use Rattle.usi_host.specs.CommandLine.{IsFromOne, NamesNumber, command_line, entries_option, replay_command, replay_line, serve_command, slice_option, slots_option, socket_command, socket_option, stdio_command, stdio_line, turns_option};
-ghost use Rattle.usi_host.specs.declared.words.Job.TheVariants.{Stdio, Replay, Version};
-ghost use Rattle.usi_host.specs.declared.words.WordsFault.TheVariants.{OutOfMemory};
+ghost use Rattle.usi_words.specs.Answers.{AreHelpWords, AreVersionWords, Gives, GivesHelp, HasRanges, HasServeRanges, IsAnswerTo, IsAskedBy, IsJobOf, IsRefusedFor, IsReplayOf, IsServeOf, IsStdioOf, NamesJob, NamesNoJob, NamesNoReplay, NamesNoServe, NamesNoStdio, NamesNumbers};
+ghost use Rattle.usi_words.specs.CommandLine.{IsFromOne, IsNumber, NamesNumber, command_line, entries_option, replay_command, replay_line, serve_command, slice_option, slots_option, socket_command, socket_option, stdio_command, stdio_line, turns_option};
+ghost use Rattle.usi_words.specs.declared.words.Job.TheVariants.{Stdio, Replay, Version};
+ghost use Rattle.usi_words.specs.declared.words.WordsFault.TheVariants.{OutOfMemory};
 
 use crate::version::version_text;
 use clap::builder::ValueParser;
 use clap::error::ErrorKind;
 use clap::{Arg, ArgMatches, Command, Error};
-use session_slots::SESSIONS_MAX;
-use shared_table::CAPACITY_MAX;
 use std::alloc::{AllocError, Global};
 use std::convert::AsStr;
+
+/// The most sessions at a time that may be asked for: `SESSIONS_MAX` of `session_slots`.
+const SLOTS_MAX: usize = 1024;
+
+/// The most entries of the table that may be asked for: `CAPACITY_MAX` of `shared_table`.
+const ENTRIES_MAX: usize = 1_000_000;
 
 /// The most steps of search in a round that may be asked for (own choice).
 const STEPS_MAX: usize = 1_000_000_000;
@@ -75,8 +79,9 @@ impl From<AllocError> for WordsFault {
 /// Reads the words that follow the program's name: none or `stdio` for one session, with `--entries N`
 /// after `stdio`; `replay` for a script, with `--slots N`, `--entries N` and `--slice N`; `serve` for a
 /// Unix socket, with `--socket PATH`, which has to be there, these three and `--turns N`; `--help`, `-h`
-/// or `help` for help; and `--version` or `-V` for the version. Every other line is `NotAccepted`. The
-/// texts of help and refusals are those of `clap`.
+/// or `help` for help; and `--version` or `-V` for the version. A number is written in decimal digits
+/// alone. Every other line is `NotAccepted`. The texts of help are those of `clap`, and so are those of
+/// refusals but for a number with a sign.
 pub fn read_words<'a, S: AsStr>(alloc: Global, words: &'a [S]) -> Result<Job, WordsFault>
     ensures ranges { IfOk result HasRanges }
     ensures asked { IfOk result (IsAskedBy (map S.text words.entry.now)) }
@@ -88,10 +93,27 @@ pub fn read_words<'a, S: AsStr>(alloc: Global, words: &'a [S]) -> Result<Job, Wo
     ensures version { AreVersionWords (map S.text words.entry.now) → Gives Version result }
 {
     let line = command_line(alloc)?;
-    answer_to(alloc, line.try_get_matches_from(words))
+    answer_to(alloc, line.try_get_matches_from(words), pointer_for(words))
 }
 
-fn answer_to(alloc: Global, parsed: Result<ArgMatches<'_>, Error>) -> Result<Job, WordsFault>
+/// What is said below a refusal: how to ask for the version, where the last word looks as if it asked.
+fn pointer_for<S: AsStr>(words: &[S]) -> &'static str {
+    match words.last() {
+        Some(word) if is_for_version(word.as_str()) => FOR_THE_VERSION,
+        _ => "",
+    }
+}
+
+fn is_for_version(word: &str) -> bool {
+    word == "version" || word == "--version" || word == "-V" || word == "-v"
+}
+
+/// The answer to what `clap` made of the words; `pointer` ends the text of a refusal.
+fn answer_to(
+    alloc: Global,
+    parsed: Result<ArgMatches<'_>, Error>,
+    pointer: &str,
+) -> Result<Job, WordsFault>
     ensures ranges { IfOk result HasRanges }
     ensures parsed { MatchResult parsed.entry
         (λ matches. IsJobOf (subcommand_rows_of matches) result)
@@ -99,7 +121,7 @@ fn answer_to(alloc: Global, parsed: Result<ArgMatches<'_>, Error>) -> Result<Job
 {
     match parsed {
         Ok(matches) => job_of(alloc, &matches),
-        Err(error) => text_of(alloc, &error),
+        Err(error) => text_of(alloc, &error, pointer),
     }
 }
 
@@ -110,7 +132,7 @@ fn job_of(alloc: Global, matches: &ArgMatches<'_>) -> Result<Job, WordsFault>
     match named_job(alloc, matches)? {
         Some(job) => Ok(job),
         None => Err(WordsFault::NotAccepted {
-            text: String::from_str(alloc, OUT_OF_RANGE)?,
+            text: String::from_str(alloc, NOT_DIGITS)?,
         }),
     }
 }
@@ -141,7 +163,7 @@ fn stdio_job(options: &ArgMatches<'_>) -> Option<Job>
     ensures some { IfSome result (λ job. HasRanges job × IsStdioOf (rows_of (found_of options.now)) job) }
     ensures none { IfNone result (NamesNoStdio (rows_of (found_of options.now))) }
 {
-    let entries = number_of(options, "entries", CAPACITY_MAX)?;
+    let entries = number_of(options, "entries", ENTRIES_MAX)?;
     Some(Job::Stdio { entries })
 }
 
@@ -149,8 +171,8 @@ fn replay_job(options: &ArgMatches<'_>) -> Option<Job>
     ensures some { IfSome result (λ job. HasRanges job × IsReplayOf (rows_of (found_of options.now)) job) }
     ensures none { IfNone result (NamesNoReplay (rows_of (found_of options.now))) }
 {
-    let slots = number_of(options, "slots", SESSIONS_MAX)?;
-    let entries = number_of(options, "entries", CAPACITY_MAX)?;
+    let slots = number_of(options, "slots", SLOTS_MAX)?;
+    let entries = number_of(options, "entries", ENTRIES_MAX)?;
     let slice = number_of(options, "slice", STEPS_MAX)?;
     Some(Job::Replay {
         slots,
@@ -184,23 +206,35 @@ fn serve_numbers(options: &ArgMatches<'_>) -> Option<(usize, usize, u64, u64)>
     ensures some { IfSome result (λ n. HasServeRanges n.0 n.1 n.2 n.3 × NamesNumbers (rows_of (found_of options.now)) n.0 n.1 n.2 n.3) }
     ensures none { IfNone result ((slots entries slice turns : ℕ) → HasServeRanges slots entries slice turns → NamesNumbers (rows_of (found_of options.now)) slots entries slice turns → ⊥) }
 {
-    let slots = number_of(options, "slots", SESSIONS_MAX)?;
-    let entries = number_of(options, "entries", CAPACITY_MAX)?;
+    let slots = number_of(options, "slots", SLOTS_MAX)?;
+    let entries = number_of(options, "entries", ENTRIES_MAX)?;
     let slice = number_of(options, "slice", STEPS_MAX)?;
     let turns = number_of(options, "turns", usize::MAX)?;
     Some((slots, entries, slice as u64, turns as u64))
 }
 
-/// The number of an option, where it lies from 1 to `most`.
+/// The number that a text writes in decimal digits alone, where it is below 2 to the power 64.
+fn digits_alone(text: &str) -> Option<usize>
+    ensures some { IfSome result (λ n. IsNumber text.now n) }
+    ensures none { IfNone result ((n : ℕ) → n < 2 ^ 64 → IsNumber text.now n → ⊥) }
+{
+    if text.as_bytes().first() == Some(&b'+') {
+        return None;
+    }
+    text.parse::<usize>().ok()
+}
+
+/// The number of an option, where it is written in digits alone and lies from 1 to `most`.
 fn number_of(options: &ArgMatches<'_>, name: &str, most: usize) -> Option<usize>
     ensures some { IfSome result (λ n. IsFromOne most n × NamesNumber name.now (rows_of (found_of options.now)) n) }
     ensures none { IfNone result ((n : ℕ) → IsFromOne most n → NamesNumber name.now (rows_of (found_of options.now)) n → ⊥) }
 {
-    let n = options.get_one::<usize>(name)?;
+    let text = options.get_str(name)?;
+    let n = digits_alone(text)?;
     if n >= 1 && n <= most { Some(n) } else { None }
 }
 
-fn text_of(alloc: Global, error: &Error) -> Result<Job, WordsFault>
+fn text_of(alloc: Global, error: &Error, pointer: &str) -> Result<Job, WordsFault>
     ensures ranges { IfOk result HasRanges }
     ensures answer { IsAnswerTo (kind_of error.now) result }
 {
@@ -211,7 +245,7 @@ fn text_of(alloc: Global, error: &Error) -> Result<Job, WordsFault>
         }),
         ErrorKind::DisplayVersion => Ok(Job::Version),
         _ => Err(WordsFault::NotAccepted {
-            text: format!(in alloc; "{error}")?,
+            text: format!(in alloc; "{error}{pointer}")?,
         }),
     }
 }
@@ -296,7 +330,7 @@ fn socket_option<'a>(alloc: Global) -> Arg<'a>
         .long("socket")
         .value_name("PATH")
         .required(true)
-        .help("Where the socket is made: a path of 1 to 107 bytes at which nothing is yet")
+        .help("Where the socket is made: a path of 1 to 107 bytes, which must not exist")
 }
 
 fn turns_option<'a>(alloc: Global) -> Arg<'a>
@@ -332,7 +366,7 @@ fn entries_option<'a>(alloc: Global) -> Arg<'a>
         .value_name("N")
         .value_parser(ValueParser::unsigned(1, 1_000_000))
         .default_value("4096")
-        .help("How many searched positions the table keeps, from 1 to 1000000")
+        .help("How many positions the transposition table keeps, from 1 to 1000000")
 }
 
 fn slice_option<'a>(alloc: Global) -> Arg<'a>
@@ -344,31 +378,31 @@ fn slice_option<'a>(alloc: Global) -> Arg<'a>
         .value_name("N")
         .value_parser(ValueParser::unsigned(1, 1_000_000_000))
         .default_value("1000")
-        .help("How many steps of search a session makes in its turn, from 1 to 1000000000")
+        .help("How many steps a session searches before the others' turn, from 1 to 1000000000")
 }
 
-const OUT_OF_RANGE: &str = "error: a number is out of its range
+const NOT_DIGITS: &str = "error: a number is written in digits alone, without a sign
 
 For more information, try '--help'.
 ";
 
-const ABOUT: &str =
-    "A shogi engine for programs that speak USI: it answers `go` by a search of fixed depth";
+const FOR_THE_VERSION: &str = "For the version, try 'usi_host --version'.
+";
 
-const AFTER_HELP: &str =
-    "Without a command it does what `stdio` does: so front ends start an engine.
+const ABOUT: &str = "Analyses shogi positions to an exact depth, for front ends that speak USI";
+
+const AFTER_HELP: &str = "Without arguments it runs `stdio`, as front ends start an engine.
 `usi_host COMMAND --help` shows the options of a command, with their ranges.";
 
-const AFTER_LONG_HELP: &str =
-    "Without a command it does what `stdio` does: so front ends start an engine.
+const AFTER_LONG_HELP: &str = "Without arguments it runs `stdio`, as front ends start an engine.
 `usi_host COMMAND --help` shows the options of a command, with their ranges.
 
 Exit statuses:
   0  the input ended, the session is over, the script was replayed, the last turn was taken,
      or help or the version was asked for
-  1  memory ran out, a read or a write failed, or the socket could not be made or waited for;
+  1  out of memory, a failed read or write, or a socket that could not be made or waited for;
      standard error says which
-  2  the words are not accepted; standard error says why
+  2  the arguments are not accepted; standard error says why
   3  a script has a bad line; standard error gives its number
 
 Examples:
@@ -378,33 +412,32 @@ Examples:
   printf '+A\\n+B\\nA go depth 1\\nB usi\\n' | usi_host replay --slots 2
   usi_host serve --socket /tmp/shogi.socket";
 
-const STDIO_HELP: &str = "It ends with `quit`, and when its input ends.";
+const STDIO_HELP: &str = "It ends with `quit`, or when its input ends.";
 
-const STDIO_LONG_HELP: &str = "It ends with `quit`, and when its input ends.
+const STDIO_LONG_HELP: &str = "It ends with `quit`, or when its input ends.
 
 Exit statuses:
   0  the session is over
-  1  memory ran out, a read or a write failed; standard error says which
+  1  out of memory, or a failed read or write; standard error says which
 
 Example:
   usi_host stdio --entries 100000";
 
-const REPLAY_HELP: &str = "`usi_host replay --help` has the lines of a script.";
+const REPLAY_HELP: &str = "`usi_host replay --help` describes the lines of a script.";
 
 const REPLAY_LONG_HELP: &str = "Lines of a script:
   +A      opens a session under the name A, a letter from A to Z
   A TEXT  sends the line TEXT to the session A
   -A      closes the session A once it has answered, and frees the name
-Empty lines are skipped. Any other line, a name that is opened twice, or used while it is
-not open, is bad: nothing is written then, and the status is 3.
+Blank lines are skipped. Any other line is bad, and so is a name that is opened twice, or used
+while it is not open: nothing is written then, and the status is 3.
 
-The output has for each + line, in their order, the line `== A` and all replies of that
-session, or `refused 1` where as many sessions were open as may be. The size of the table
-and of a slice do not change it.
+The output has for each + line, in order, the line `== A` and all replies of that session, or
+`refused 1` where all slots were taken. The size of the table and of a slice does not change it.
 
 Exit statuses:
   0  the script was replayed
-  1  memory ran out, a read or a write failed; standard error says which
+  1  out of memory, or a failed read or write; standard error says which
   3  the script has a bad line; standard error gives its number
 
 Example:
@@ -413,13 +446,15 @@ Example:
 const SERVE_HELP: &str = "Each connection is a session of its own.";
 
 const SERVE_LONG_HELP: &str =
-    "Each connection is a session of its own, which ends when the client sends `quit`, or ends
-its side and has its answers. Where as many sessions are open as may be, a client is told
+    "Each connection is a session of its own. It ends when the client sends `quit`, or when the
+client closes its side and has its answers. A client that finds all slots taken is sent
 `info string host full`. The file of the socket stays when the program ends.
+An idle host does not end by --turns: each turn is followed by a wait, which may last until a
+client comes.
 
 Exit statuses:
   0  the last turn was taken
-  1  memory ran out, no random seed could be read, or the socket could not be made or waited
+  1  out of memory, no random seed could be read, or the socket could not be made or waited
      for; standard error says which
 
 Example:

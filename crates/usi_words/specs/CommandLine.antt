@@ -1,7 +1,7 @@
 -- What the words after the program's name ask for, as `clap` reads them (own choice).
 use Rattle.std.specs.Prelude.{◌≡◌, ◌∷◌, ◌≤◌, ◌-◌, ◌^◌, ℕ, true, List, [], Option, Some, codes}
-use Rattle.std.specs.Str.Parse.{IsNumeral, digits_value, without_leading_plus}
-use Rattle.clap.specs.Words.{App, Kinds, Row, Rule, Text, fault_of, first_of, new_app, new_rule, one_of, subcommand_of, with_rule, with_subcommand}
+use Rattle.std.specs.Str.Parse.{IsNumeral, digits_value}
+use Rattle.clap.specs.Words.{App, Kinds, Row, Rule, Text, fault_of, first_of, new_app, new_rule, subcommand_of, with_rule, with_subcommand}
 use Rattle.clap.specs.declared.builder.value_parser.ValueParser.TheVariants as parser
 
 -- the option `--NAME N`, a number from 1 to `most`, and `usual` where it is left out
@@ -78,19 +78,17 @@ faults_of = fault_of command_line
 abbrev pub command_of : List Text → Option (Text × List Row)
 command_of = subcommand_of command_line
 
--- the text is the decimal number n, where a plus may stand first
+-- the text is the number n in decimal digits alone: without a sign, which `clap` would take
 abbrev pub IsNumber : Text → ℕ → Type 0
-IsNumber text n =
-    IsNumeral 10 (without_leading_plus text) × (n ≡ digits_value 10 (without_leading_plus text))
-
--- the option of this name has the number n
-abbrev pub NamesNumber : Text → List Row → ℕ → Type 0
-NamesNumber name options n =
-    (text : Text) × (one_of name options ≡ Some text) × IsNumber text n
+IsNumber text n = IsNumeral 10 text × (n ≡ digits_value 10 text)
 
 -- the option of this name has this text
 abbrev pub NamesText : Text → List Row → Text → Type 0
 NamesText name options text = first_of name options ≡ Some text
+
+-- the option of this name has the number n
+abbrev pub NamesNumber : Text → List Row → ℕ → Type 0
+NamesNumber name options n = (text : Text) × NamesText name options text × IsNumber text n
 
 -- a number from 1 to `most`
 abbrev pub IsFromOne : ℕ → ℕ → Type 0

@@ -3,11 +3,12 @@ use Rattle.std.specs.Prelude.{◌≡◌, ◌≢◌, ◌⊎◌, ◌∷◌, ◌-�
 use Rattle.clap.specs.Words.{IsAmong, Row, Text}
 use Rattle.clap.specs.declared.error.kind.ErrorKind.{ErrorKind}
 use Rattle.clap.specs.declared.error.kind.ErrorKind.TheVariants as kinds
-use Rattle.usi_host.specs.CommandLine.{IsFromOne, NamesNumber, NamesText, command_of, faults_of}
-use Rattle.usi_host.specs.declared.words.Job.{Job}
-use Rattle.usi_host.specs.declared.words.Job.TheVariants.{Stdio, Replay, Serve, Help, Version}
-use Rattle.usi_host.specs.declared.words.WordsFault.{WordsFault}
-use Rattle.usi_host.specs.declared.words.WordsFault.TheVariants.{OutOfMemory, NotAccepted}
+use Rattle.usi_words.specs.CommandLine.{IsFromOne, NamesNumber, NamesText, command_of, faults_of}
+use Rattle.usi_words.specs.Texts.{not_digits}
+use Rattle.usi_words.specs.declared.words.Job.{Job}
+use Rattle.usi_words.specs.declared.words.Job.TheVariants.{Stdio, Replay, Serve, Help, Version}
+use Rattle.usi_words.specs.declared.words.WordsFault.{WordsFault}
+use Rattle.usi_words.specs.declared.words.WordsFault.TheVariants.{OutOfMemory, NotAccepted}
 
 -- the numbers of `serve` lie in their ranges
 abbrev pub HasServeRanges : ℕ → ℕ → ℕ → ℕ → Type 0
@@ -60,7 +61,7 @@ NamesNoReplay options = (job : Job) → HasRanges job → IsReplayOf options job
 abbrev pub NamesNoServe : List Row → Type 0
 NamesNoServe options = (job : Job) → HasRanges job → IsServeOf options job → ⊥
 
--- the command names no job whose numbers lie in their ranges
+-- the command names no job whose numbers are written in digits alone and lie in their ranges
 abbrev pub NamesNoJob : Option (Text × List Row) → Type 0
 NamesNoJob command = (job : Job) → HasRanges job → NamesJob command job → ⊥
 
@@ -74,15 +75,19 @@ IsAskedBy words job = (faults_of words ≡ []) × NamesJob (command_of words) jo
 abbrev pub IsMistake : ErrorKind → Type 0
 IsMistake kind = (kind ≢ kinds.DisplayHelp) × (kind ≢ kinds.DisplayVersion)
 
--- the words have a mistake, or are read without one and name no job whose numbers lie in their ranges
-abbrev pub HasMistake : List Text → Type 0
-HasMistake words = ((kind : ErrorKind) × IsAmong kind (faults_of words) × IsMistake kind)
-    ⊎ ((faults_of words ≡ []) × NamesNoJob (command_of words))
+-- the command names no job whose numbers are written in digits alone and lie in their ranges, and this is what is said of it
+abbrev pub IsNoJob : Option (Text × List Row) → List ℕ → Type 0
+IsNoJob command said = NamesNoJob command × (said ≡ not_digits)
+
+-- the words have a mistake, or are read without one and name no job, of which this is said
+abbrev pub HasMistake : List Text → List ℕ → Type 0
+HasMistake words said = ((kind : ErrorKind) × IsAmong kind (faults_of words) × IsMistake kind)
+    ⊎ ((faults_of words ≡ []) × IsNoJob (command_of words) said)
 
 -- words that are not accepted have a mistake
 abbrev pub IsRefusedFor : List Text → WordsFault → Type 0
 IsRefusedFor words OutOfMemory = ⊤
-IsRefusedFor words (NotAccepted text) = HasMistake words
+IsRefusedFor words (NotAccepted text) = HasMistake words (string_bytes text)
 
 -- this job, or memory ran out
 abbrev pub Gives : Job → Result Job WordsFault → Type 0
@@ -106,7 +111,7 @@ AreVersionWords words = (words ≡ codes "--version" ∷ []) ⊎ (words ≡ code
 abbrev pub IsJobOf : Option (Text × List Row) → Result Job WordsFault → Type 0
 IsJobOf command (Ok job) = NamesJob command job
 IsJobOf command (Err OutOfMemory) = ⊤
-IsJobOf command (Err (NotAccepted text)) = NamesNoJob command
+IsJobOf command (Err (NotAccepted text)) = IsNoJob command (string_bytes text)
 
 -- the answer to an error of this kind
 abbrev pub IsAnswerTo : ErrorKind → Result Job WordsFault → Type 0

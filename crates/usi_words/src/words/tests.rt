@@ -125,6 +125,29 @@ fn refused_words(rt: HostRuntime) {
     }
 }
 
+#[test]
+fn a_number_with_a_sign_is_refused_by_name(rt: HostRuntime) {
+    let said = "error: a number is written in digits alone, without a sign
+
+For more information, try '--help'.
+";
+    let rows: [&[&str]; 6] = [
+        &["stdio", "--entries", "+5"],
+        &["replay", "--slots", "+5"],
+        &["replay", "--slots=+5"],
+        &["replay", "--slots", "5", "--slice", "+05"],
+        &["serve", "--socket", "s", "--slots", "+5"],
+        &["serve", "--socket", "+5", "--turns", "+5"],
+    ];
+    for words in rows {
+        let is_named = matches!(
+            &read_words(rt.alloc(), words),
+            Err(WordsFault::NotAccepted { text }) if text.as_str() == said
+        );
+        assert!(rt; is_named, "for {words:?}");
+    }
+}
+
 // The text of the help, where the words ask for it.
 fn help_of(alloc: Global, words: &[&str]) -> Option<String> {
     match read_words(alloc, words) {
@@ -152,7 +175,7 @@ fn words_that_ask_for_the_version(rt: HostRuntime) -> Result<(), Fail> {
     for words in refused {
         let is_refused = matches!(
             &read_words(rt.alloc(), words),
-            Err(WordsFault::NotAccepted { .. })
+            Err(WordsFault::NotAccepted { text }) if text.as_str().contains("'usi_host --version'")
         );
         assert!(rt; is_refused, "for {words:?}");
     }

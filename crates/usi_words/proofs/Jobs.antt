@@ -1,9 +1,9 @@
 -- Options of which one has no number of its range.
 use Rattle.std.proofs.Common.{◌≡◌, ℕ, List, None, codes}
 use Rattle.clap.specs.Words.{Row, Text, first_of}
-use Rattle.usi_host.specs.Answers.{HasServeRanges, NamesNoReplay, NamesNoServe, NamesNoStdio, NamesNumbers}
-use Rattle.usi_host.specs.CommandLine.{IsFromOne, NamesNumber}
-use Rattle.usi_host.specs.declared.words.Job.TheVariants.{Stdio, Replay, Serve, Help, Version}
+use Rattle.usi_words.specs.Answers.{HasServeRanges, NamesNoReplay, NamesNoServe, NamesNoStdio, NamesNumbers}
+use Rattle.usi_words.specs.CommandLine.{IsFromOne, NamesNumber}
+use Rattle.usi_words.specs.declared.words.Job.TheVariants.{Stdio, Replay, Serve, Help, Version}
 
 -- the option has no number of its range
 abbrev pub HasNone : Text → ℕ → List Row → Type 0

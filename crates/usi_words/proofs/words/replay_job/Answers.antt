@@ -1,7 +1,7 @@
 use Rattle.clap.specs.Words.{found_of, rows_of}
-use Rattle.usi_host.proofs.Jobs.{no_slots, no_entries, no_slice}
-use Rattle.usi_host.proofs.Numbers.{if_none}
-use Rattle.usi_host.proofs.words.replay_job.Goals as goal
+use Rattle.usi_words.proofs.Jobs.{no_slots, no_entries, no_slice}
+use Rattle.usi_words.proofs.Numbers.{if_none}
+use Rattle.usi_words.proofs.words.replay_job.Goals as goal
 
 pub returns-in_err-slots-clause-none : goal.returns-in_err-slots-clause-none
 returns-in_err-slots-clause-none c = if_none c.from_residual.result _ (no_slots (rows_of (found_of c.args.options.now)) c.in_err-slots.ensures.none)

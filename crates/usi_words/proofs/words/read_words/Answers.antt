@@ -1,6 +1,6 @@
 use Rattle.std.proofs.Common.{map, ap}
-use Rattle.usi_host.proofs.Line.{gives_bare, gives_help, gives_replay, gives_stdio, gives_version, line_asked, line_refused, parsed_line}
-use Rattle.usi_host.proofs.words.read_words.Goals as goal
+use Rattle.usi_words.proofs.Line.{gives_bare, gives_help, gives_replay, gives_stdio, gives_version, line_asked, line_refused, parsed_line}
+use Rattle.usi_words.proofs.words.read_words.Goals as goal
 
 pub returns-clause-asked : goal.returns-clause-asked
 returns-clause-asked g c =
