@@ -4,7 +4,8 @@ PREFIX ?= /usr/local
 PROGRAM = crates/usi_host/out/usi_host
 BIN = $(DESTDIR)$(PREFIX)/bin
 MAN = $(DESTDIR)$(PREFIX)/share/man/man1
-COMPLETIONS = $(DESTDIR)$(PREFIX)/share/bash-completion/completions
+FOR_BASH = $(DESTDIR)$(PREFIX)/share/bash-completion/completions
+FOR_ZSH = $(DESTDIR)$(PREFIX)/share/zsh/site-functions
 
 .PHONY: try run build install uninstall check dist test bench clean help
 .DEFAULT_GOAL = help
@@ -22,18 +23,19 @@ run: build
 build:
 	@check/build.py
 
-# Puts the built program, its man page and its completion for bash below PREFIX. It builds nothing, so that
+# Puts the built program, its man page and its completions below PREFIX. It builds nothing, so that
 # it leaves no files of root among the sources.
 install:
 	@test -x $(PROGRAM) || { echo 'Nothing is built yet: call make build first.' >&2; exit 1; }
-	install -d "$(BIN)" "$(MAN)" "$(COMPLETIONS)"
+	install -d "$(BIN)" "$(MAN)" "$(FOR_BASH)" "$(FOR_ZSH)"
 	install -m 755 $(PROGRAM) "$(BIN)/usi_host"
 	install -m 644 share/usi_host.1 "$(MAN)/usi_host.1"
-	install -m 644 share/usi_host.bash "$(COMPLETIONS)/usi_host"
+	install -m 644 share/usi_host.bash "$(FOR_BASH)/usi_host"
+	install -m 644 share/_usi_host "$(FOR_ZSH)/_usi_host"
 
 # Takes away what `make install` put there.
 uninstall:
-	rm -f "$(BIN)/usi_host" "$(MAN)/usi_host.1" "$(COMPLETIONS)/usi_host"
+	rm -f "$(BIN)/usi_host" "$(MAN)/usi_host.1" "$(FOR_BASH)/usi_host" "$(FOR_ZSH)/_usi_host"
 
 # Runs the scripts that try the built program as its users run it.
 check: build
@@ -67,7 +69,7 @@ help:
 	@echo 'make try        tries the program on standard input, unproved, in about a minute'
 	@echo 'make run        starts the program on standard input and output; builds it first'
 	@echo 'make build      proves and builds what is not built yet'
-	@echo 'make install    puts the built usi_host, its man page and completion below PREFIX (/usr/local)'
+	@echo 'make install    puts the built usi_host, its man page and completions below PREFIX (/usr/local)'
 	@echo 'make uninstall  takes it away again from PREFIX'
 	@echo 'make check      tries the built program as its users run it'
 	@echo 'make dist       a tarball of the program for machines without the toolchain'

@@ -1,5 +1,5 @@
 #!/usr/bin/env bash
-# Makes dist/usi_host-VERSION.tar.gz of the built program: with its man page, completion, unit, example
+# Makes dist/usi_host-VERSION.tar.gz of the built program: with its man page, completions, unit, example
 # clients and licence, and a line that says which sources and which toolchain proved it.
 set -euo pipefail
 cd "$(dirname "$0")/.."
@@ -11,6 +11,7 @@ trap 'rm -rf "$folder"' EXIT
 install -D -m 755 "$program" "$folder/$name/bin/usi_host"
 install -D -m 644 share/usi_host.1 "$folder/$name/share/man/man1/usi_host.1"
 install -D -m 644 share/usi_host.bash "$folder/$name/share/bash-completion/completions/usi_host"
+install -D -m 644 share/_usi_host "$folder/$name/share/zsh/site-functions/_usi_host"
 install -D -m 755 -t "$folder/$name/share/doc/usi_host/examples" share/examples/*.py
 install -D -m 644 -t "$folder/$name/share/doc/usi_host" LICENSE deploy/usi_host.service
 changed=$(git status --porcelain --untracked-files=no)
