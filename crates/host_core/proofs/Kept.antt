@@ -1,6 +1,6 @@
 -- What a step leaves as it was.
 use Rattle.std.specs.Prelude.{Result, Ok, Err, OnErr}
-use Rattle.std.proofs.Common.{◌≡◌, ℕ, true, false, List, Option, Some, None, refl, ap, ◌∙◌}
+use Rattle.std.proofs.Common.{◌≡◌, ℕ, true, false, List, [], ◌∷◌, Option, Some, None, refl, ap, ◌∙◌}
 use Rattle.session_slots.specs.declared.id.SessionId.{SessionId}
 use Rattle.session_slots.specs.Slots.{find, with_session}
 use Rattle.session_slots.proofs.Finds.{find-with_session-other, with_session-same}
@@ -10,8 +10,9 @@ use Rattle.host_core.specs.declared.event.HostFault.TheVariants.{Full, OutOfMemo
 use Rattle.host_core.specs.Events.{Event, Open, Feed, Work, Take, Close, Outcome, Opened, Done, Worked, Gave, Refused}
 use Rattle.host_core.specs.Sessions.{Feeds, Works, Takes}
 use Rattle.host_core.specs.Steps.{HostState, Changed, OnSession, IsOpened, IsClosed, Stepped}
-use Rattle.host_core.specs.Made.{is_same_id}
+use Rattle.host_core.specs.Made.{Step, is_same_id}
 use Rattle.host_core.specs.Kept.{names, is_refused}
+use Rattle.host_core.specs.Runs.{IsRun}
 use Rattle.host_core.specs.Seen.{passed_of}
 use Rattle.host_core.proofs.Ids.{other_id}
 
@@ -98,3 +99,27 @@ refused_same old new (Close at) (Gave bytes) p r = absurd (cc)
 pub not_passed : {U : Type 0} (old new : HostState) (id : SessionId) (n : ℕ) (bytes : List ℕ) (r : Result U HostFault) → Stepped old (Take id n) (passed_of bytes r) new → OnErr r (new ≡ old)
 not_passed old new id n bytes (Ok done) p = tt
 not_passed old new id n bytes (Err fault) p = refused_same old new (Take id n) (Refused fault) p refl
+
+open_capacity : (old new : HostState) (o : Outcome) → IsOpened old o new → new.table.capacity ≡ old.table.capacity
+open_capacity old new (Opened id) p = ap (λ t. t.capacity) p.table_is
+open_capacity old new (Refused fault) p = ap (λ h. h.table.capacity) (open_refused old new fault p)
+open_capacity old new Done p = absurd p
+open_capacity old new (Worked steps) p = absurd p
+open_capacity old new (Gave bytes) p = absurd p
+
+close_capacity : (old new : HostState) (at : SessionId) (o : Outcome) (found : Option SessionView) → IsClosed old at found o new → new.table.capacity ≡ old.table.capacity
+close_capacity old new at o None u = ap (λ h. h.table.capacity) u.same
+close_capacity old new at o (Some s) c = ap (λ t. t.capacity) c.table_is
+
+step_capacity : (old new : HostState) (event : Event) (o : Outcome) → Stepped old event o new → new.table.capacity ≡ old.table.capacity
+step_capacity old new Open o p = open_capacity old new o p
+step_capacity old new (Feed at chunk) o p = ap (λ t. t.capacity) p.1
+step_capacity old new (Work at budget) o p = p.1.capacity_is
+step_capacity old new (Take at m) o p = ap (λ t. t.capacity) p.1
+step_capacity old new (Close at) o p = close_capacity old new at o (find old.slots at) p
+
+-- a run leaves the table its capacity
+pub keeps_capacity : (old new : HostState) (steps : List Step) → IsRun old steps new → new.table.capacity ≡ old.table.capacity
+unfolding IsRun
+keeps_capacity old new [] r = ap (λ h. h.table.capacity) r
+keeps_capacity old new (step ∷ rest) r = keeps_capacity r.0 new rest r.2 ∙ step_capacity old r.0 step.event step.outcome r.1.stepped

@@ -61,10 +61,14 @@ abbrev pub IsClosed : HostState → SessionId → Option SessionView → Outcome
 IsClosed old id None outcome new = Unknown old outcome new
 IsClosed old id (Some session) outcome new = Closed old id outcome new
 
--- the session of the id goes on; where nothing of it is pending, the table is what it was
+-- the table keeps its capacity, and is what it was where nothing of the session is pending
+pub record KeepsTable (old : HostState) (id : SessionId) (new : HostState) : Type 0 where
+  pub capacity_is : new.table.capacity ≡ old.table.capacity
+  pub idle : pending_of (find old.slots id) ≡ false → new.table ≡ old.table
+
+-- the session of the id goes on
 abbrev pub IsWorked : ℕ → HostState → SessionId → Outcome → HostState → Type 0
-IsWorked budget old id outcome new =
-    OnSession (Works budget) old id (find old.slots id) outcome new × (pending_of (find old.slots id) ≡ false → new.table ≡ old.table)
+IsWorked budget old id outcome new = OnSession (Works budget) old id (find old.slots id) outcome new × KeepsTable old id new
 
 -- each event with its outcome, and the host after it; only a `Work` of a session that is pending may change the table
 abbrev pub Stepped : HostState → Event → Outcome → HostState → Type 0

@@ -107,6 +107,7 @@ impl<S: BuildHasher, A: Allocator + Copy> Host<S, A> {
         ensures ends { IfOk result (λ outcomes. EndsByOwn (answered events.now outcomes.items) self.new) }
         ensures over { IfOk result (λ outcomes. OverByOwn (answered events.now outcomes.items) self.new) }
         ensures ends_on { IfOk result (λ outcomes. EndsOn self.old (answered events.now outcomes.items) self.new) }
+        ensures capacity { self.new.table.capacity ≡ self.old.table.capacity }
         ensures fault { OnErr result (result ≡ Err OutOfMemory) }
         ensures err { OnErr result (self.new ≡ self.old) }
     {

@@ -34,6 +34,7 @@ pub fn work<A: Allocator + Copy, M: Memo>(
 ) -> Outcome<A>
     ensures works { Works budget session.old (outcome_of result) session.new }
     ensures idle { is_pending session.old ≡ false → memo.new ≡ memo.old }
+    ensures capacity { M.capacity memo.new ≡ M.capacity memo.old }
 {
     if !session.pending() {
         return Outcome::Worked(0);

@@ -120,6 +120,8 @@ impl<S: BuildHasher, A: Allocator + Clone> Memo for SharedTable<S, A> {
 
     ghost answers = { λ table p e d. entry_of table.pairs (key_of p e d) };
 
+    ghost capacity = { λ table. table.capacity };
+
     /// Depth 0 only while an entry of that depth is held, and every other depth.
     fn keeps(&self, d: u8) -> bool
         ensures none { result ≡ false → (p : Shogi) (e : Eval) → entry_of self.now.pairs (key_of p e d) ≡ None }
@@ -132,6 +134,7 @@ impl<S: BuildHasher, A: Allocator + Clone> Memo for SharedTable<S, A> {
         ensures answer { result ≡ entry_of self.old.pairs (key_of p.now e d) }
         ensures truth { IfSome result (IsTrueEntry p.now e d) }
         ensures used { self.new ≡ record self.old { pairs = probed (key_of p.now e d) self.old.pairs } }
+        ensures capacity { self.new.capacity ≡ self.old.capacity }
     {
         if d == 0 && self.leaves == 0 {
             return None;
@@ -145,6 +148,7 @@ impl<S: BuildHasher, A: Allocator + Clone> Memo for SharedTable<S, A> {
         requires depth { d ≤ SEARCH_DEPTH_MAX }
         ensures noted { (self.new ≡ record self.old { pairs = noted self.old.capacity (key_of p.now e d) entry self.old.pairs })
             ⊎ ((entry_of self.old.pairs (key_of p.now e d) ≡ None) × (self.new ≡ self.old)) }
+        ensures capacity { self.new.capacity ≡ self.old.capacity }
     {
         let key = TableKey::of(p, e, d);
         let leaves = remember(&mut self.cache, self.leaves, key, entry);

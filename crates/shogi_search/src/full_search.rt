@@ -29,6 +29,7 @@ pub fn search_below<M: Memo>(p: &Position, e: Eval, d: u8, beta: i32, memo: &mut
     ensures steps { result.steps ≤ 2 * tree_size p.now d }
     ensures enough { IsEnough (negated INFINITY) beta (M.answers memo.old p.now e d) → result.steps ≡ 0 }
     ensures known { IsExactly (M.answers memo.old p.now e d) → result.steps ≡ 0 }
+    ensures capacity { M.capacity memo.new ≡ M.capacity memo.old }
 {
     let mut search = Search::start_below(p, e, d, beta);
     if let Some(found) = search.advance(memo, u64::MAX) {
@@ -53,6 +54,7 @@ pub fn search<M: Memo>(p: &Position, e: Eval, d: u8, memo: &mut M) -> Found
     ensures legal { IfSome result.best (λ m. is_legal p.now m ≡ true) }
     ensures steps { result.steps ≤ 2 * tree_size p.now d }
     ensures known { IsExactly (M.answers memo.old p.now e d) → result.steps ≡ 0 }
+    ensures capacity { M.capacity memo.new ≡ M.capacity memo.old }
 {
     p.validity();
     search_below(p, e, d, INFINITY, memo)

@@ -26,6 +26,9 @@ pub enum Entry {
 pub trait Memo {
     ghost answers: { Self → Shogi → Eval → ℕ → Option Entry };
 
+    /// How much it keeps at most, where it tells that. No call changes it.
+    ghost capacity: { Self → ℕ } = { λ _. 0 };
+
     /// Whether anything may ever be answered at the depth, under any evaluation.
     fn keeps(&self, _d: u8) -> bool
         ensures none { result ≡ false → (p : Shogi) (e : Eval) → answers self.now p e _d ≡ None }
@@ -36,12 +39,14 @@ pub trait Memo {
     /// What is known of the position under the evaluation at the depth.
     fn probe(&mut self, p: &Position, e: Eval, d: u8) -> Option<Entry>
         ensures answer { result ≡ answers self.old p.now e d }
-        ensures truth { IfSome result (IsTrueEntry p.now e d) };
+        ensures truth { IfSome result (IsTrueEntry p.now e d) }
+        ensures capacity { capacity self.new ≡ capacity self.old };
 
     /// Takes in what a search found out. It may be kept or not.
     fn note(&mut self, p: &Position, e: Eval, d: u8, entry: Entry)
         requires truth { IsTrueEntry p.now e d entry }
-        requires depth { d ≤ SEARCH_DEPTH_MAX };
+        requires depth { d ≤ SEARCH_DEPTH_MAX }
+        ensures capacity { capacity self.new ≡ capacity self.old };
 }
 
 /// Remembers nothing.

@@ -99,6 +99,30 @@ impl Search {
         }
     }
 
+    /// Begins anew, as `start` does, in the room of this search.
+    pub fn restart(&mut self, p: &Position, e: Eval, d: u8)
+        requires { d ≤ SEARCH_DEPTH_MAX }
+        ensures { self.new ≡ untouched p.now e d }
+    {
+        self.restart_below(p, e, d, INFINITY);
+    }
+
+    /// Begins anew, as `start_below` does, in the room of this search.
+    pub fn restart_below(&mut self, p: &Position, e: Eval, d: u8, beta: i32)
+        requires shallow { d ≤ SEARCH_DEPTH_MAX }
+        requires open { negated INFINITY <ℤ beta }
+        requires most { beta ≤ℤ INFINITY }
+        ensures { self.new ≡ untouched_below p.now e d beta }
+    {
+        self.stack.root = *p;
+        self.stack.eval = e;
+        self.stack.depth = d;
+        self.stack.beta = beta;
+        self.started = false;
+        self.steps = 0;
+        self.found = None;
+    }
+
     /// Tells what is known of a search that has entered its root and not ended: which nodes it has entered
     /// and not left, each the child of the one before, and what they are worth so far. Of any search it
     /// tells that each such node is worth its greatest searched move so far, or enough to be cut off.
@@ -125,6 +149,7 @@ impl Search {
         ensures root { (self.new.root ≡ self.old.root) × (self.new.depth ≡ self.old.depth) }
         ensures eval { self.new.eval ≡ self.old.eval }
         ensures beta { self.new.beta ≡ self.old.beta }
+        ensures capacity { M.capacity memo.new ≡ M.capacity memo.old }
         ensures steps { self.new.steps ≡ min (self.old.steps + 1) (2 ^ 64 - 1) }
         ensures left { left_of self.new < left_of self.old }
     {
@@ -152,6 +177,7 @@ impl Search {
         ensures root { (self.new.root ≡ self.old.root) × (self.new.depth ≡ self.old.depth) }
         ensures eval { self.new.eval ≡ self.old.eval }
         ensures beta { self.new.beta ≡ self.old.beta }
+        ensures capacity { M.capacity memo.new ≡ M.capacity memo.old }
         ensures found { self.new.found ≡ result }
         ensures over { OnSome result (self.new.left ≡ 0) }
         ensures unfinished { IfNone result (0 < self.new.left) }
@@ -179,6 +205,7 @@ impl Search {
         ensures below { IfSome result (IsFoundBelow self.now.root self.now.eval self.now.depth self.now.beta) }
         ensures steps { IfSome result (λ f. f.steps ≡ self.now.steps) }
         ensures enough { IsSome result ↔ IsEnough (negated INFINITY) self.now.beta (M.answers memo.old self.now.root self.now.eval self.now.depth) }
+        ensures capacity { M.capacity memo.new ≡ M.capacity memo.old }
     {
         let (root, e, depth) = (&self.stack.root, self.stack.eval, self.stack.depth);
         let beta = self.stack.beta;
@@ -201,6 +228,7 @@ impl Search {
         ensures root { (self.new.root ≡ self.old.root) × (self.new.depth ≡ self.old.depth) }
         ensures eval { self.new.eval ≡ self.old.eval }
         ensures beta { self.new.beta ≡ self.old.beta }
+        ensures capacity { M.capacity memo.new ≡ M.capacity memo.old }
         ensures found { self.new.found ≡ result }
 
         // Until the end the whole budget is used.

@@ -48,6 +48,7 @@ pub fn hash_move_of<M: Memo>(p: &Position, e: Eval, depth: u8, memo: &mut M) -> 
     ensures listed { ForSome result (λ f. is_in (code_of f) (legal_codes p.now) ≡ true) }
     ensures shallow { depth < 2 → result ≡ None }
     ensures deep { 2 ≤ depth → result ≡ move_in (M.answers memo.old p.now e (depth - 1)) }
+    ensures capacity { M.capacity memo.new ≡ M.capacity memo.old }
 {
     if depth < 2 {
         return None;
@@ -74,6 +75,7 @@ fn make_leaf<M: Memo>(top: &mut Frame, current: &Move, memo: &mut M)
     ensures free { IsFree top.new.waiting }
     ensures left { left_of_frame top.new < left_of_frame top.old + 2 * tree_size (after_code top.old.node.position (code_of current.now)) 0 }
     ensures same { IsSame top.old top.new }
+    ensures capacity { M.capacity memo.new ≡ M.capacity memo.old }
 {
     let (alpha, beta) = top.window(current);
     let mut node = top.node;
@@ -99,6 +101,7 @@ fn visit_leaf<M: Memo>(top: &mut Frame, current: &Move, memo: &mut M, room: u64)
     ensures most { result ≤ room }
     ensures left { left_of_frame top.new + result ≤ left_of_frame top.old + 2 * tree_size (after_code top.old.node.position (code_of current.now)) 0 }
     ensures same { IsSame top.old top.new }
+    ensures capacity { M.capacity memo.new ≡ M.capacity memo.old }
 {
     if looks_ahead(top.depth, memo) {
         if let Some(value) = top.certain_leaf(current) {
@@ -182,6 +185,7 @@ impl Stack {
         ensures same { (self.new.root ≡ self.old.root) × (self.new.depth ≡ self.old.depth) }
         ensures eval { self.new.eval ≡ self.old.eval }
         ensures beta { self.new.beta ≡ self.old.beta }
+        ensures capacity { M.capacity memo.new ≡ M.capacity memo.old }
     {
         self.push(current);
         let child = &self.frames[self.height];
@@ -211,6 +215,7 @@ impl Stack {
         ensures same { (self.new.root ≡ self.old.root) × (self.new.depth ≡ self.old.depth) }
         ensures eval { self.new.eval ≡ self.old.eval }
         ensures beta { self.new.beta ≡ self.old.beta }
+        ensures capacity { M.capacity memo.new ≡ M.capacity memo.old }
     {
         let top = &mut self.frames[self.height];
         if top.depth == 1 {
@@ -233,6 +238,7 @@ impl Stack {
         ensures same { (self.new.root ≡ self.old.root) × (self.new.depth ≡ self.old.depth) }
         ensures eval { self.new.eval ≡ self.old.eval }
         ensures beta { self.new.beta ≡ self.old.beta }
+        ensures capacity { M.capacity memo.new ≡ M.capacity memo.old }
     {
         let top = &self.frames[self.height];
         let entry = top.close();
@@ -263,6 +269,7 @@ impl Stack {
         ensures same { (self.new.root ≡ self.old.root) × (self.new.depth ≡ self.old.depth) }
         ensures eval { self.new.eval ≡ self.old.eval }
         ensures beta { self.new.beta ≡ self.old.beta }
+        ensures capacity { M.capacity memo.new ≡ M.capacity memo.old }
     {
         let top = &mut self.frames[self.height];
         if top.is_next() {
@@ -303,6 +310,7 @@ impl Stack {
         ensures same { (self.new.root ≡ self.old.root) × (self.new.depth ≡ self.old.depth) }
         ensures eval { self.new.eval ≡ self.old.eval }
         ensures beta { self.new.beta ≡ self.old.beta }
+        ensures capacity { M.capacity memo.new ≡ M.capacity memo.old }
     {
         let mut made = 0;
         'steps: while made < budget {

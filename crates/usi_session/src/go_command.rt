@@ -88,22 +88,20 @@ fn first_root_move(question: &Question, first: Move) -> Option<Move>
     Some(first)
 }
 
-/// The search that a depth begins with.
-fn first_search(question: &Question, first: Move, depths_done: u8) -> Search
+/// Begins with the first search of a depth.
+fn search_first(question: &Question, first: Move, depths_done: u8, search: &mut Search)
     requires question { IsQuestionInRange question.now }
     requires first { IsFirst question.now.position first }
     requires more { depths_done < question.now.depth }
-    ensures { result ≡ first_search question.now first depths_done }
+    ensures { search.new ≡ first_search question.now first depths_done }
 {
     if question.multi_pv == 1 {
-        return Search::start(&question.position, question.eval, depths_done + 1);
+        search.restart(&question.position, question.eval, depths_done + 1);
+        return;
     }
     first.validity();
-    Search::start(
-        &apply(&question.position, first),
-        question.eval,
-        depths_done,
-    )
+    let next = apply(&question.position, first);
+    search.restart(&next, question.eval, depths_done);
 }
 
 /// A walk along the pv of the line of this number, from 0, that has made its first move.
@@ -130,7 +128,7 @@ fn search_along(walk: &PvWalk, search: &mut Search)
 {
     let plies = walk.plies();
     if plies > 0 {
-        *search = Search::start(walk.at(), walk.eval(), plies);
+        search.restart(walk.at(), walk.eval(), plies);
     }
 }
 
@@ -148,17 +146,23 @@ fn walk_on(walk: &mut PvWalk, search: &mut Search, found: &Found)
     search_along(walk, search);
 }
 
-/// The search of a child, once all legal moves before its own are ranked.
-fn child_search(question: &Question, depths_done: u8, root_move: Move, ranks: &Ranks) -> Search
+/// Begins with the search of a child, once all legal moves before its own are ranked.
+fn search_child(
+    question: &Question,
+    depths_done: u8,
+    root_move: Move,
+    ranks: &Ranks,
+    search: &mut Search,
+)
     requires question { IsQuestionInRange question.now }
     requires more { depths_done < question.now.depth }
     requires ranked { IsRankedTo question.now depths_done root_move ranks.now }
-    ensures { result ≡ untouched_below (after question.now.position root_move) question.now.eval depths_done (child_beta ranks.now) }
+    ensures { search.new ≡ untouched_below (after question.now.position root_move) question.now.eval depths_done (child_beta ranks.now) }
 {
     root_move.validity();
     question.position.validity();
     let next = apply(&question.position, root_move);
-    Search::start_below(&next, question.eval, depths_done, ranks.child_beta())
+    search.restart_below(&next, question.eval, depths_done, ranks.child_beta());
 }
 
 /// Ranks a move by what the search of its child found. A value that is not below the bound ranks it
@@ -202,7 +206,7 @@ fn rank_on(
     if let Some(m) = next_legal(&question.position, Some(visited)) {
         let next = m;
         m.validity();
-        *search = child_search(question, depths_done, m, ranks);
+        search_child(question, depths_done, m, ranks, search);
         return Some(next);
     }
     *walk = line_of(question, depths_done, ranks, 0);
@@ -221,7 +225,9 @@ impl<A: Allocator> GoCommand<A> {
     {
         let asked = question;
         first.validity();
-        let search = Box::new(alloc, first_search(&asked, first, 0))?;
+        let mut search = Search::start(&asked.position, asked.eval, 0);
+        search_first(&asked, first, 0, &mut search);
+        let search = Box::new(alloc, search)?;
         let bestmove = HeldBestmove {
             best: None,
             ponder: None,
@@ -254,6 +260,7 @@ impl<A: Allocator> GoCommand<A> {
         ensures most { IfSome result (λ made. made ≤ budget) }
         ensures made { IfSome result (λ made. made + load_of self.new ≤ load_of self.old) }
         ensures fewer { OnSome result (load_of self.new < load_of self.old) }
+        ensures capacity { M.capacity memo.new ≡ M.capacity memo.old }
     {
         let before = self.search.steps();
         let found = self.search.advance(memo, budget)?;
@@ -367,7 +374,7 @@ impl<A: Allocator> GoCommand<A> {
         let root_move = first_root_move(&asked, first);
         let walk = PvWalk::new(&asked.position, asked.eval, depths_done + 1);
         let ranks = Ranks::new(asked.multi_pv as usize);
-        *self.search = first_search(&asked, first, depths_done);
+        search_first(&asked, first, depths_done, &mut self.search);
         self.walk = walk;
         self.ranks = ranks;
         self.root_move = root_move;

@@ -160,6 +160,7 @@ impl<A: Allocator + Copy> Session<A> {
         ensures made { IfOk result (λ made. IfSome made (λ n. n + load self.new ≤ load self.old)) }
         ensures fewer { IfOk result (λ made. OnSome made (turns self.new < turns self.old)) }
         ensures grown { GrowsByLines self.old.queued self.new.queued }
+        ensures capacity { M.capacity memo.new ≡ M.capacity memo.old }
         ensures err { OnErr result (self.new ≡ self.old) }
     {
         match &mut self.running_go {
@@ -189,6 +190,7 @@ impl<A: Allocator + Copy> Session<A> {
         ensures spent { IfOk result (λ n. is_pending self.new ≡ true → (n ≡ budget) × IsMidSearch self.new.running_go) }
         ensures enough { load self.old ≤ budget → OnOk result (is_pending self.new ≡ false) }
         ensures grown { GrowsByLines self.old.queued self.new.queued }
+        ensures capacity { M.capacity memo.new ≡ M.capacity memo.old }
         ensures err { OnErr result (load self.new ≤ load self.old) }
     {
         let mut left = budget;

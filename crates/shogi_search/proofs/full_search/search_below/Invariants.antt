@@ -11,6 +11,7 @@ invariant-slices g l = record {
   eval : l.search.eval ≡ l.fn.e;
   depth : l.search.depth ≡ l.fn.d;
   beta : l.search.beta ≡ l.fn.beta;
+  capacity : g.M.Memo.capacity l.memo ≡ g.M.Memo.capacity l.fn.memo;
   enough : IsEnough (negated INFINITY) l.fn.beta (g.M.Memo.answers l.fn.memo l.fn.p l.fn.e l.fn.d) → ⊥;
   unknown : IsExactly (g.M.Memo.answers l.fn.memo l.fn.p l.fn.e l.fn.d) → ⊥;
 }

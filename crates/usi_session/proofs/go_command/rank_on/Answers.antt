@@ -9,8 +9,8 @@ use Rattle.usi_session.proofs.Listed.{root_move_some, some_listed}
 use Rattle.usi_session.proofs.GoOn.{ranked_on, ranked_all, under_start, next_child_cost}
 use Rattle.usi_session.proofs.go_command.rank_on.Goals as goal
 
-pub child_search-requires-clause-ranked : goal.child_search-requires-clause-ranked
-child_search-requires-clause-ranked c = ranked_on c.args.question.now c.args.depths_done c.args.root_move c.in-Some.m c.args.ranks.now c.rank.new.ranks c.requires.ranked c.rank.ensures.gone c.in-Some.ensures.next c.rank.ensures.lines
+pub search_child-requires-clause-ranked : goal.search_child-requires-clause-ranked
+search_child-requires-clause-ranked c = ranked_on c.args.question.now c.args.depths_done c.args.root_move c.in-Some.m c.args.ranks.now c.rank.new.ranks c.requires.ranked c.rank.ensures.gone c.in-Some.ensures.next c.rank.ensures.lines
 
 pub returns-in-Some-clause-at_depth : goal.returns-in-Some-clause-at_depth
 returns-in-Some-clause-at_depth c =
@@ -19,7 +19,7 @@ returns-in-Some-clause-at_depth c =
       several = c.requires.several;
       none_done = refl;
       ranked = ranked_on q c.args.depths_done c.args.root_move c.in-Some.m c.args.ranks.now c.rank.new.ranks c.requires.ranked c.rank.ensures.gone c.in-Some.ensures.next c.rank.ensures.lines;
-      searched = under_start c.child_search.result (after q.position c.in-Some.m) q.eval c.args.depths_done (child_beta c.rank.new.ranks) c.child_search.ensures;
+      searched = under_start c.search_child.new.search (after q.position c.in-Some.m) q.eval c.args.depths_done (child_beta c.rank.new.ranks) c.search_child.ensures;
     }
 
 pub line_of-requires-clause-ranked : goal.line_of-requires-clause-ranked
@@ -43,4 +43,4 @@ returns-clause-at_depth c =
 pub returns-in-Some-clause-cost : goal.returns-in-Some-clause-cost
 returns-in-Some-clause-cost c =
     let q = c.args.question.now in
-    next_child_cost q c.args.depths_done c.args.root_move c.in-Some.m c.args.walk.now c.args.walk.now c.child_search.result c.args.search.now (child_beta c.rank.new.ranks) c.child_search.ensures (sym (after_code_of q.position c.in-Some.m c.validity.ensures.back)) c.in-Some.ensures.next
+    next_child_cost q c.args.depths_done c.args.root_move c.in-Some.m c.args.walk.now c.args.walk.now c.search_child.new.search c.args.search.now (child_beta c.rank.new.ranks) c.search_child.ensures (sym (after_code_of q.position c.in-Some.m c.validity.ensures.back)) c.in-Some.ensures.next

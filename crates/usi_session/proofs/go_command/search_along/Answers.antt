@@ -8,12 +8,12 @@ use Rattle.usi_session.proofs.go_command.search_along.Goals as goal
 pub returns-then-plies-gt0-clause-under : goal.returns-then-plies-gt0-clause-under
 returns-then-plies-gt0-clause-under c =
     let w = c.args.walk.now in
-    λ h. under_start c.start.result w.at w.eval w.plies INFINITY (search rules)
+    λ h. under_start c.restart.new.self w.at w.eval w.plies INFINITY (search rules)
 
 pub returns-then-plies-gt0-clause-cost : goal.returns-then-plies-gt0-clause-cost
 returns-then-plies-gt0-clause-cost c =
     let w = c.args.walk.now in
-    let s : c.start.result ≡ untouched w.at w.eval w.plies = search rules in
+    let s : c.restart.new.self ≡ untouched w.at w.eval w.plies = search rules in
     cost_begun w.at w.eval w.plies _ _ (search rules) (ap (λ (p : Progress). p.left) s)
 
 pub returns-else-plies-gt0-clause-cost : goal.returns-else-plies-gt0-clause-cost

@@ -2,6 +2,7 @@ use Rattle.std.proofs.Common.{rules, ◌≡◌, take, arith}
 use Rattle.std.proofs.lemmas.List.{take_all}
 use Rattle.host_core.specs.Seen.{answered}
 use Rattle.host_core.proofs.Chains.{run-start, run_on}
+use Rattle.host_core.proofs.Kept.{keeps_capacity}
 use Rattle.host_core.proofs.OneSession.{made_front, made_all, kept}
 use Rattle.host_core.proofs.Overs.{kept_over, made_over, opened_over}
 use Rattle.host_core.proofs.host.Host.run.Goals as goal
@@ -45,3 +46,8 @@ pub returns-clause-ends_on : goal.returns-clause-ends_on
 returns-clause-ends_on g c = λ id s e.
     let all : take c.loop-event.event-index c.args.events.now ≡ c.args.events.now = take_all c.loop-event.event-index c.args.events.now (omega arith) in
     kept_over c.args.self.now c.loop-event.self id (answered c.args.events.now c.loop-event.outcomes.items) s e (rw all at c.loop-event.invariant.chain)
+
+pub returns-clause-capacity : goal.returns-clause-capacity
+returns-clause-capacity g c =
+    let all : take c.loop-event.event-index c.args.events.now ≡ c.args.events.now = take_all c.loop-event.event-index c.args.events.now (omega arith) in
+    keeps_capacity c.args.self.now c.loop-event.self (answered c.args.events.now c.loop-event.outcomes.items) (rw all at c.loop-event.invariant.chain)

@@ -13,6 +13,7 @@ invariant-steps g l = record {
   left : left_of_stack l.self + l.made ≤ left_of_stack l.fn.self;
   within : l.made ≤ l.budget;
   counted : l.steps ≡ l.fn.steps;
+  capacity : g.M.Memo.capacity l.memo ≡ g.M.Memo.capacity l.fn.memo;
 }
 
 abbrev pub decreases-steps : goal.decreases-steps

@@ -15,7 +15,7 @@ invariant_of-self g c =
       range = c.self.invariant.range;
       first_is = c.self.invariant.first_is;
       left = omega (arith, t, d, c.self.invariant.left, c.requires.more);
-      at_depth = rw (c.first_root_move-root_move.ensures, c.new-walk.ensures, c.first_search.ensures) (begun s.question s.first (s.depths_done + 1) c.new-ranks.result s.bestmove c.self.invariant.range c.self.invariant.first_is (ap (λ (r : Ranking). r.lines) c.new-ranks.ensures.empty) (c.new-ranks.ensures.top _) (ap child_beta c.new-ranks.ensures.empty));
+      at_depth = rw (c.first_root_move-root_move.ensures, c.new-walk.ensures, c.search_first.ensures) (begun s.question s.first (s.depths_done + 1) c.new-ranks.result s.bestmove c.self.invariant.range c.self.invariant.first_is (ap (λ (r : Ranking). r.lines) c.new-ranks.ensures.empty) (c.new-ranks.ensures.top _) (ap child_beta c.new-ranks.ensures.empty));
     }
 
 pub returns-clause-load : goal.returns-clause-load
@@ -23,7 +23,7 @@ returns-clause-load g c =
     let s = c.self.inside in
     let t : s.depths_done ≡ c.args.self.now.depths_done = ap (λ (x : RunningGo). x.depths_done) c.self.view_is in
     let d : s.question.depth ≡ c.args.self.now.question.depth = ap (λ (x : RunningGo). x.question.depth) c.self.view_is in
-    rw (c.first_root_move-root_move.ensures, c.new-walk.ensures, c.first_search.ensures, ← c.self.view_is) (next_depth_cost s.question s.first s.depths_done s.lines_done s.root_move s.walk s.search.value (omega (arith, t, d, c.self.invariant.left, c.requires.more)) c.self.invariant.first_is c.validity.ensures.back)
+    rw (c.first_root_move-root_move.ensures, c.new-walk.ensures, c.search_first.ensures, ← c.self.view_is) (next_depth_cost s.question s.first s.depths_done s.lines_done s.root_move s.walk s.search.value (omega (arith, t, d, c.self.invariant.left, c.requires.more)) c.self.invariant.first_is c.validity.ensures.back)
 
 pub returns-clause-fewer : goal.returns-clause-fewer
 returns-clause-fewer g c =

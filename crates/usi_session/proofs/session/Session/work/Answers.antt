@@ -10,6 +10,7 @@ turns-preserved g c = record {
   within = search rules;
   grown = grows_then c.turns.invariant.grown c.turn.ensures.grown;
   made = search rules;
+  capacity = search rules;
 }
 
 pub returns-in-None-clause-grown : goal.returns-in-None-clause-grown

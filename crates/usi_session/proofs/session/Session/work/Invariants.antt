@@ -11,6 +11,7 @@ invariant-turns g l = record {
   within : l.left ≤ l.budget;
   grown : GrowsByLines l.fn.self.queued l.self.queued;
   made : l.budget + load l.self ≤ load l.fn.self + l.left;
+  capacity : g.M.Memo.capacity l.memo ≡ g.M.Memo.capacity l.fn.memo;
 }
 
 -- each turn answers a line, tells a depth, or ends a search

@@ -5,7 +5,7 @@ use Rattle.shogi_search.specs.Minimax.{negated}
 use Rattle.shogi_search.specs.Ranked.{child_beta}
 use Rattle.shogi_search.specs.declared.bounds.TheConstants.{INFINITY}
 use Rattle.usi_session.proofs.GoOn.{child_window, child_legal}
-use Rattle.usi_session.proofs.go_command.child_search.Goals as goal
+use Rattle.usi_session.proofs.go_command.search_child.Goals as goal
 
 pub child_beta-requires-clause-least : goal.child_beta-requires-clause-least
 child_beta-requires-clause-least c = (child_window c.args.question.now c.args.depths_done c.args.root_move c.args.ranks.now c.validity-2.ensures c.requires.question c.requires.more c.requires.ranked).0
@@ -16,16 +16,16 @@ child_beta-requires-clause-most c = (child_window c.args.question.now c.args.dep
 pub apply-next-requires : goal.apply-next-requires
 apply-next-requires c = child_legal c.args.question.now c.args.depths_done c.args.root_move c.args.ranks.now c.validity.ensures.back c.requires.ranked
 
-pub start_below-requires-clause-open : goal.start_below-requires-clause-open
-start_below-requires-clause-open c =
+pub restart_below-requires-clause-open : goal.restart_below-requires-clause-open
+restart_below-requires-clause-open c =
     let w = child_window c.args.question.now c.args.depths_done c.args.root_move c.args.ranks.now c.validity-2.ensures c.requires.question c.requires.more c.requires.ranked in
     let low : negated INFINITY <ℤ child_beta c.args.ranks.now = w.0 in
     let high : child_beta c.args.ranks.now ≤ℤ INFINITY = w.1 in
     let f : FitsSigned w32 c.child_beta.result = search rules in
     omega (arith, ints, c.child_beta.ensures.value, to_z-of_z _ _ f)
 
-pub start_below-requires-clause-most : goal.start_below-requires-clause-most
-start_below-requires-clause-most c =
+pub restart_below-requires-clause-most : goal.restart_below-requires-clause-most
+restart_below-requires-clause-most c =
     let w = child_window c.args.question.now c.args.depths_done c.args.root_move c.args.ranks.now c.validity-2.ensures c.requires.question c.requires.more c.requires.ranked in
     let low : negated INFINITY <ℤ child_beta c.args.ranks.now = w.0 in
     let high : child_beta c.args.ranks.now ≤ℤ INFINITY = w.1 in
