@@ -7,6 +7,7 @@ use std::alloc::Global;
 use std::test::Fail;
 use test_support::rows::{INFO_AND_BEST_ONE, INFO_THREE, joined};
 use test_support::tables::opening;
+use test_support::{holds, same};
 
 // From the opening position `go depth 1` enters and leaves 31 positions, and its answer has 46 bytes.
 // What the first session searched, the second finds in the table.
@@ -16,29 +17,29 @@ fn two_slots_and_three_sessions(rt: HostRuntime) -> Result<(), Fail> {
     let a = host.opened()?;
     let go = b"go depth 1\n".as_slice();
     let all = host.all_told(&[Event::Feed(a, go), Event::Work(a, 62)])?;
-    assert!(rt; all.as_slice() == [Told::Done, Told::Worked(4)].as_slice());
-    assert!(rt; !host.pending(a) && host.wants_input(a));
+    holds!(rt; all.as_slice() == [Told::Done, Told::Worked(4)].as_slice());
+    holds!(rt; !host.pending(a) && host.wants_input(a));
 
     let b = host.opened()?;
     let all = host.all_told(&[Event::Open, Event::Feed(b, go), Event::Work(b, 0)])?;
     let full = Told::Refused(HostFault::Full);
-    assert!(rt; all.as_slice() == [full, Told::Done, Told::Worked(0)].as_slice());
-    assert!(rt; host.output(b) == Some(INFO_AND_BEST_ONE.as_bytes()));
+    holds!(rt; all.as_slice() == [full, Told::Done, Told::Worked(0)].as_slice());
+    holds!(rt; host.output(b) == Some(INFO_AND_BEST_ONE.as_bytes()));
     let takes = [Event::Take(b, 47), Event::Take(b, 46), Event::Take(b, 1)];
     let all = host.all_told(&takes)?;
     let not_ready = Told::Refused(HostFault::NotReady);
-    assert!(rt; all.as_slice() == [not_ready, Told::Gave(46), not_ready].as_slice());
+    holds!(rt; all.as_slice() == [not_ready, Told::Gave(46), not_ready].as_slice());
 
-    assert!(rt; host.is_done(Event::Close(a)));
+    holds!(rt; host.is_done(Event::Close(a)));
     let c = host.opened()?;
-    assert_eq!(rt; (c.slot, c.generation), (a.slot, 2));
+    same!(rt; (c.slot, c.generation), (a.slot, 2));
     let fed = host.all_told(&[Event::Feed(a, b""), Event::Feed(c, b"go\n")])?;
     let unknown = Told::Refused(HostFault::UnknownSession);
-    assert!(rt; fed.as_slice() == [unknown, Told::Done].as_slice());
-    assert!(rt; host.steps_of(c, u64::MAX).is_some() && !host.pending(c));
+    holds!(rt; fed.as_slice() == [unknown, Told::Done].as_slice());
+    holds!(rt; host.steps_of(c, u64::MAX).is_some() && !host.pending(c));
     let row = opening();
     let answer = joined(rt.alloc(), row.answer)?;
-    assert!(rt; host.output(c) == Some(answer.as_bytes()));
+    holds!(rt; host.output(c) == Some(answer.as_bytes()));
     Ok(())
 }
 
@@ -47,15 +48,15 @@ fn two_slots_and_three_sessions(rt: HostRuntime) -> Result<(), Fail> {
 fn bytes_are_taken_in_order(rt: HostRuntime) -> Result<(), Fail> {
     let mut host = TestHost::new(rt.alloc(), 1, 1)?;
     let id = host.opened()?;
-    assert!(rt; host.is_done(Event::Feed(id, b"isready\ngo mate 1\n")));
-    assert_eq!(rt; host.steps_of(id, 0), Some(0));
+    holds!(rt; host.is_done(Event::Feed(id, b"isready\ngo mate 1\n")));
+    same!(rt; host.steps_of(id, 0), Some(0));
     for part in ["ready", "", "ok\ncheck", "mate notimplemented\n"] {
         let Outcome::Gave(bytes) = host.answered(Event::Take(id, part.len()))? else {
             return Err("the bytes are queued".into());
         };
-        assert_eq!(rt; std::str::from_utf8(bytes.as_slice())?, part);
+        same!(rt; std::str::from_utf8(bytes.as_slice())?, part);
     }
-    assert!(rt; host.output(id) == Some(b"".as_slice()));
+    holds!(rt; host.output(id) == Some(b"".as_slice()));
     Ok(())
 }
 
@@ -64,15 +65,15 @@ fn bytes_are_taken_in_order(rt: HostRuntime) -> Result<(), Fail> {
 fn one_step_less_than_the_search(rt: HostRuntime) -> Result<(), Fail> {
     let mut host = TestHost::new(rt.alloc(), 1, 1)?;
     let id = host.opened()?;
-    assert_eq!(rt; host.refusal(Event::Open), Some(HostFault::Full));
-    assert!(rt; host.is_done(Event::Feed(id, b"go infinite depth 1\n")));
-    assert!(rt; host.pending(id) && !host.wants_input(id));
-    assert_eq!(rt; host.steps_of(id, 3), Some(3));
-    assert!(rt; host.pending(id));
-    assert!(rt; host.output(id) == Some(b"".as_slice()));
-    assert_eq!(rt; host.steps_of(id, 3), Some(1));
-    assert!(rt; !host.pending(id));
-    assert_eq!(rt; host.output(id).map(|bytes| bytes.len()), Some(32));
+    same!(rt; host.refusal(Event::Open), Some(HostFault::Full));
+    holds!(rt; host.is_done(Event::Feed(id, b"go infinite depth 1\n")));
+    holds!(rt; host.pending(id) && !host.wants_input(id));
+    same!(rt; host.steps_of(id, 3), Some(3));
+    holds!(rt; host.pending(id));
+    holds!(rt; host.output(id) == Some(b"".as_slice()));
+    same!(rt; host.steps_of(id, 3), Some(1));
+    holds!(rt; !host.pending(id));
+    same!(rt; host.output(id).map(|bytes| bytes.len()), Some(32));
     Ok(())
 }
 
@@ -82,19 +83,19 @@ fn a_new_session_in_an_old_slot(rt: HostRuntime) -> Result<(), Fail> {
     let first = host.opened()?;
     let held =
         b"setoption name Depth value 1\nsetoption name Eval value Hand\nsetoption name MultiPV value 2\nposition startpos moves 7g7f\ngo infinite\n";
-    assert!(rt; host.is_done(Event::Feed(first, held)));
-    assert!(rt; host.steps_of(first, u64::MAX).is_some());
-    assert!(rt; host.is_done(Event::Close(first)));
+    holds!(rt; host.is_done(Event::Feed(first, held)));
+    holds!(rt; host.steps_of(first, u64::MAX).is_some());
+    holds!(rt; host.is_done(Event::Close(first)));
 
     // It has neither the options nor the position, nor the `bestmove` that was held.
     let second = host.opened()?;
-    assert_eq!(rt; (second.slot, second.generation), (first.slot, 1));
-    assert!(rt; host.output(second) == Some(b"".as_slice()) && host.output(first).is_none());
-    assert!(rt; host.is_done(Event::Feed(second, b"stop\ngo\n")));
-    assert!(rt; host.steps_of(second, u64::MAX).is_some());
+    same!(rt; (second.slot, second.generation), (first.slot, 1));
+    holds!(rt; host.output(second) == Some(b"".as_slice()) && host.output(first).is_none());
+    holds!(rt; host.is_done(Event::Feed(second, b"stop\ngo\n")));
+    holds!(rt; host.steps_of(second, u64::MAX).is_some());
     let row = opening();
     let answer = joined(rt.alloc(), row.answer)?;
-    assert!(rt; host.output(second) == Some(answer.as_bytes()));
+    holds!(rt; host.output(second) == Some(answer.as_bytes()));
     Ok(())
 }
 
@@ -102,7 +103,7 @@ fn a_new_session_in_an_old_slot(rt: HostRuntime) -> Result<(), Fail> {
 fn ids_of_no_session(rt: HostRuntime) -> Result<(), Fail> {
     let mut host = TestHost::new(rt.alloc(), 2, 64)?;
     let closed = host.opened()?;
-    assert!(rt; host.is_done(Event::Close(closed)));
+    holds!(rt; host.is_done(Event::Close(closed)));
     let open = host.opened()?;
     let never = SessionId {
         slot: open.slot,
@@ -120,11 +121,11 @@ fn ids_of_no_session(rt: HostRuntime) -> Result<(), Fail> {
             Event::Close(id),
         ] {
             let fault = host.refusal(event);
-            assert_eq!(rt; fault, Some(HostFault::UnknownSession), "{event:?}");
+            same!(rt; fault, Some(HostFault::UnknownSession), event);
         }
-        assert!(rt; host.output(id).is_none());
-        assert_eq!(rt; host.pass(id, 0), Err(HostFault::UnknownSession));
-        assert!(rt; !host.pending(id) && !host.wants_input(id) && !host.is_over(id));
+        holds!(rt; host.output(id).is_none());
+        same!(rt; host.pass(id, 0), Err(HostFault::UnknownSession));
+        holds!(rt; !host.pending(id) && !host.wants_input(id) && !host.is_over(id));
     }
     Ok(())
 }
@@ -138,16 +139,16 @@ fn a_session_that_is_not_ready(rt: HostRuntime) -> Result<(), Fail> {
     let not_ready = Some(HostFault::NotReady);
     let chunk = vec![in rt.alloc(); b'x'; 4097]?;
     let longest = chunk.as_slice().get(1..).unwrap_or(b"");
-    assert_eq!(rt; host.refusal(Event::Feed(id, chunk.as_slice())), not_ready);
-    assert!(rt; host.is_done(Event::Feed(id, longest)));
-    assert!(rt; host.is_done(Event::Feed(id, b"\nisready\n")));
-    assert_eq!(rt; host.refusal(Event::Feed(id, b"usi\n")), not_ready);
-    assert_eq!(rt; host.steps_of(id, 0), Some(0));
-    assert!(rt; host.output(id) == Some(b"readyok\n".as_slice()));
-    assert_eq!(rt; host.refusal(Event::Take(id, 9)), not_ready);
-    assert_eq!(rt; host.pass(id, 9), Err(HostFault::NotReady));
-    assert_eq!(rt; host.pass(id, 6), Ok(()));
-    assert!(rt; host.output(id) == Some(b"k\n".as_slice()));
+    same!(rt; host.refusal(Event::Feed(id, chunk.as_slice())), not_ready);
+    holds!(rt; host.is_done(Event::Feed(id, longest)));
+    holds!(rt; host.is_done(Event::Feed(id, b"\nisready\n")));
+    same!(rt; host.refusal(Event::Feed(id, b"usi\n")), not_ready);
+    same!(rt; host.steps_of(id, 0), Some(0));
+    holds!(rt; host.output(id) == Some(b"readyok\n".as_slice()));
+    same!(rt; host.refusal(Event::Take(id, 9)), not_ready);
+    same!(rt; host.pass(id, 9), Err(HostFault::NotReady));
+    same!(rt; host.pass(id, 6), Ok(()));
+    holds!(rt; host.output(id) == Some(b"k\n".as_slice()));
     Ok(())
 }
 
@@ -156,16 +157,16 @@ fn a_session_that_is_not_ready(rt: HostRuntime) -> Result<(), Fail> {
 fn a_session_that_is_over(rt: HostRuntime) -> Result<(), Fail> {
     let mut host = TestHost::new(rt.alloc(), 1, 64)?;
     let id = host.opened()?;
-    assert!(rt; host.is_done(Event::Feed(id, b"quit\nusi\n")));
-    assert!(rt; host.pending(id) && !host.is_over(id));
-    assert_eq!(rt; host.steps_of(id, 0), Some(0));
-    assert!(rt; host.is_over(id) && !host.pending(id));
+    holds!(rt; host.is_done(Event::Feed(id, b"quit\nusi\n")));
+    holds!(rt; host.pending(id) && !host.is_over(id));
+    same!(rt; host.steps_of(id, 0), Some(0));
+    holds!(rt; host.is_over(id) && !host.pending(id));
     let fed = host.refusal(Event::Feed(id, b""));
-    assert_eq!(rt; fed, Some(HostFault::NotReady));
-    assert_eq!(rt; host.steps_of(id, 9), Some(0));
-    assert_eq!(rt; host.refusal(Event::Open), Some(HostFault::Full));
-    assert!(rt; host.is_done(Event::Close(id)));
-    assert_eq!(rt; host.opened()?.generation, 1);
+    same!(rt; fed, Some(HostFault::NotReady));
+    same!(rt; host.steps_of(id, 9), Some(0));
+    same!(rt; host.refusal(Event::Open), Some(HostFault::Full));
+    holds!(rt; host.is_done(Event::Close(id)));
+    same!(rt; host.opened()?.generation, 1);
     Ok(())
 }
 
@@ -179,14 +180,14 @@ fn a_full_queue_wants_no_input(rt: HostRuntime) -> Result<(), Fail> {
     for _ in 0..1024 {
         chunk.extend_from_slice(b"usi\n")?;
     }
-    assert!(rt; host.is_done(Event::Feed(id, chunk.as_slice())));
-    assert_eq!(rt; host.steps_of(id, 0), Some(0));
-    assert_eq!(rt; host.output(id).map(|bytes| bytes.len()), Some(234_496));
-    assert_eq!(rt; host.pass(id, 234_496 - 65_536), Ok(()));
+    holds!(rt; host.is_done(Event::Feed(id, chunk.as_slice())));
+    same!(rt; host.steps_of(id, 0), Some(0));
+    same!(rt; host.output(id).map(|bytes| bytes.len()), Some(234_496));
+    same!(rt; host.pass(id, 234_496 - 65_536), Ok(()));
     let more = Event::Feed(id, b"usi\n");
-    assert_eq!(rt; host.refusal(more), Some(HostFault::NotReady));
-    assert_eq!(rt; host.pass(id, 1), Ok(()));
-    assert!(rt; host.is_done(more));
+    same!(rt; host.refusal(more), Some(HostFault::NotReady));
+    same!(rt; host.pass(id, 1), Ok(()));
+    holds!(rt; host.is_done(more));
     Ok(())
 }
 
@@ -196,19 +197,19 @@ fn a_full_queue_wants_no_input(rt: HostRuntime) -> Result<(), Fail> {
 fn a_search_is_shared(rt: HostRuntime) -> Result<(), Fail> {
     let mut host = TestHost::new(rt.alloc(), 2, 100_000)?;
     let first = host.opened()?;
-    assert!(rt; host.is_done(Event::Feed(first, b"go depth 4\n")));
-    assert!(rt; host.steps_of(first, u64::MAX) > Some(4));
+    holds!(rt; host.is_done(Event::Feed(first, b"go depth 4\n")));
+    holds!(rt; host.steps_of(first, u64::MAX) > Some(4));
 
     let second = host.opened()?;
-    assert!(rt; host.is_done(Event::Feed(second, b"go depth 4\n")));
-    assert_eq!(rt; host.steps_of(second, 0), Some(0));
-    assert!(rt; !host.pending(first) && !host.pending(second));
-    assert!(rt; host.output(first) == host.output(second));
+    holds!(rt; host.is_done(Event::Feed(second, b"go depth 4\n")));
+    same!(rt; host.steps_of(second, 0), Some(0));
+    holds!(rt; !host.pending(first) && !host.pending(second));
+    holds!(rt; host.output(first) == host.output(second));
 
     let said = std::str::from_utf8(host.output(second).ok_or("it is open")?)?;
-    assert!(rt; said.starts_with(INFO_THREE));
-    assert!(rt; said.contains("info depth 4 score cp 0 pv 7g7f "));
-    assert!(rt; said.contains("\nbestmove 7g7f ponder "));
+    holds!(rt; said.starts_with(INFO_THREE));
+    holds!(rt; said.contains("info depth 4 score cp 0 pv 7g7f "));
+    holds!(rt; said.contains("\nbestmove 7g7f ponder "));
     Ok(())
 }
 
@@ -236,20 +237,20 @@ fn as_many_sessions_as_there_may_be(rt: HostRuntime) -> Result<(), Fail> {
     for _ in 0..1024 {
         ids.push(host.opened()?)?;
     }
-    assert_eq!(rt; host.refusal(Event::Open), Some(HostFault::Full));
+    same!(rt; host.refusal(Event::Open), Some(HostFault::Full));
     for (number, id) in ids.as_slice().iter().enumerate() {
         let line = line_of(rt.alloc(), number)?;
-        assert!(rt; host.is_done(Event::Feed(*id, line.as_bytes())), "{number}");
+        holds!(rt; host.is_done(Event::Feed(*id, line.as_bytes())), number);
     }
     for (number, id) in ids.as_slice().iter().enumerate() {
-        assert!(rt; host.pending(*id), "{number}");
-        assert_eq!(rt; host.steps_of(*id, 0), Some(0), "{number}");
+        holds!(rt; host.pending(*id), number);
+        same!(rt; host.steps_of(*id, 0), Some(0), number);
     }
     for (number, id) in ids.as_slice().iter().enumerate() {
         let place = number % 32 + 1;
         let answer = format!(in rt.alloc(); "info string illegal move {place}\n")?;
-        assert!(rt; host.output(*id) == Some(answer.as_bytes()), "{number}");
+        holds!(rt; host.output(*id) == Some(answer.as_bytes()), number);
     }
-    assert_eq!(rt; host.refusal(Event::Open), Some(HostFault::Full));
+    same!(rt; host.refusal(Event::Open), Some(HostFault::Full));
     Ok(())
 }

@@ -6,6 +6,7 @@ use std::test::Fail;
 use test_support::fakes::{FailingReader, FailingWriter};
 use test_support::rows::joined;
 use test_support::tables::{refused_and_again, two_sessions};
+use test_support::{holds, same};
 use usi_replay::{ReplayFault, replay};
 
 // What a replay with these numbers writes.
@@ -21,10 +22,7 @@ fn replayed(
     assert!(rt; entries >= 1 && entries <= 1_000_000 && slice >= 1);
     let mut reader = script;
     let mut writer = Vec::new(alloc);
-    assert_eq!(rt;
-        replay(alloc, &mut reader, &mut writer, slots, entries, slice),
-        Ok(())
-    );
+    same!(rt; replay(alloc, &mut reader, &mut writer, slots, entries, slice), Ok(()));
     Ok(writer)
 }
 
@@ -32,13 +30,8 @@ fn replayed(
 fn assert_bad(rt: &impl Abort, alloc: Global, script: &[u8], line: u64) {
     let mut reader = script;
     let mut writer = Vec::new(alloc);
-    assert_eq!(rt;
-        replay(alloc, &mut reader, &mut writer, 1, 4096, 1000),
-        Err(ReplayFault::BadScript { line }),
-        "in {:?}",
-        std::str::from_utf8(script).ok()
-    );
-    assert!(rt; writer.is_empty());
+    same!(rt; replay(alloc, &mut reader, &mut writer, 1, 4096, 1000), Err(ReplayFault::BadScript { line }), std::str::from_utf8(script).ok());
+    holds!(rt; writer.is_empty());
 }
 
 // All letters are names. With 25 slots the last one is refused.
@@ -56,12 +49,12 @@ fn every_name(rt: HostRuntime) -> Result<(), Fail> {
         open.extend_from_slice(b"readyok\n")?;
     }
     let all = replayed(&rt, rt.alloc(), script.as_slice(), 26, 1, 1000)?;
-    assert_eq!(rt; all, open);
+    same!(rt; all, open);
     let most = replayed(&rt, rt.alloc(), script.as_slice(), 25, 1, 1000)?;
     let last = b"== Z\nrefused 1\n";
     let front = open.len().saturating_sub(b"== Z\nreadyok\n".len());
-    assert!(rt; most.starts_with(&open[..front]) && most.ends_with(last));
-    assert_eq!(rt; most.len(), front.saturating_add(last.len()));
+    holds!(rt; most.starts_with(&open[..front]) && most.ends_with(last));
+    same!(rt; most.len(), front.saturating_add(last.len()));
     Ok(())
 }
 
@@ -75,11 +68,11 @@ fn the_longest_line(rt: HostRuntime) -> Result<(), Fail> {
     let mut whole = longest.clone()?;
     whole.extend_from_slice(b"\nA isready\n")?;
     let written = replayed(&rt, rt.alloc(), whole.as_slice(), 1, 1, 1000)?;
-    assert_eq!(rt; std::str::from_utf8(written.as_slice())?, "== A\nreadyok\n");
+    same!(rt; std::str::from_utf8(written.as_slice())?, "== A\nreadyok\n");
 
     // Unfinished, it is no line.
     let written = replayed(&rt, rt.alloc(), longest.as_slice(), 1, 1, 1000)?;
-    assert_eq!(rt; std::str::from_utf8(written.as_slice())?, "== A\n");
+    same!(rt; std::str::from_utf8(written.as_slice())?, "== A\n");
 
     longest.push(b'\r')?;
     assert_bad(&rt, rt.alloc(), longest.as_slice(), 2);
@@ -96,7 +89,7 @@ fn a_thousand_sessions(rt: HostRuntime) -> Result<(), Fail> {
         output.extend_from_slice(b"== A\nreadyok\n")?;
     }
     let written = replayed(&rt, rt.alloc(), script.as_slice(), 1, 1, 1)?;
-    assert_eq!(rt; written, output);
+    same!(rt; written, output);
     Ok(())
 }
 
@@ -112,16 +105,16 @@ fn each_read_of_a_script_fails_in_turn(rt: HostRuntime) -> Result<(), Fail> {
         match replay(rt.alloc(), &mut reader, &mut writer, 2, 1, 1000) {
             Ok(()) => {
                 passed = true;
-                assert_eq!(rt; std::str::from_utf8(writer.as_slice())?, output.as_str());
+                same!(rt; std::str::from_utf8(writer.as_slice())?, output.as_str());
             }
             Err(fault) => {
                 failed = true;
-                assert_eq!(rt; fault, ReplayFault::ReadFailed, "after {reads} reads");
-                assert!(rt; writer.is_empty(), "after {reads} reads");
+                same!(rt; fault, ReplayFault::ReadFailed, reads);
+                holds!(rt; writer.is_empty(), reads);
             }
         }
     }
-    assert!(rt; failed && passed, "{failed} {passed}");
+    holds!(rt; failed && passed, failed);
     Ok(())
 }
 
@@ -134,12 +127,12 @@ fn assert_front(rt: &impl Abort, alloc: Global, mut writer: FailingWriter) -> Re
     let written = writer.written();
     match ended {
         Ok(()) => {
-            assert_eq!(rt; std::str::from_utf8(written)?, output.as_str());
+            same!(rt; std::str::from_utf8(written)?, output.as_str());
             Ok(true)
         }
         Err(fault) => {
-            assert_eq!(rt; fault, ReplayFault::WriteFailed);
-            assert!(rt; output.as_bytes().starts_with(written));
+            same!(rt; fault, ReplayFault::WriteFailed);
+            holds!(rt; output.as_bytes().starts_with(written));
             Ok(false)
         }
     }
@@ -156,12 +149,12 @@ fn each_write_of_an_output_fails_in_turn(rt: HostRuntime) -> Result<(), Fail> {
             failed = true;
         }
     }
-    assert!(rt; failed && passed, "{failed} {passed}");
+    holds!(rt; failed && passed, failed);
     let unflushed = FailingWriter::new(rt.alloc(), 4096, usize::MAX, 0);
-    assert!(rt; !assert_front(&rt, rt.alloc(), unflushed)?);
+    holds!(rt; !assert_front(&rt, rt.alloc(), unflushed)?);
     let narrow = FailingWriter::new(rt.alloc(), 1, usize::MAX, 1);
-    assert!(rt; assert_front(&rt, rt.alloc(), narrow)?);
+    holds!(rt; assert_front(&rt, rt.alloc(), narrow)?);
     let stalled = FailingWriter::new(rt.alloc(), 0, usize::MAX, usize::MAX);
-    assert!(rt; !assert_front(&rt, rt.alloc(), stalled)?);
+    holds!(rt; !assert_front(&rt, rt.alloc(), stalled)?);
     Ok(())
 }

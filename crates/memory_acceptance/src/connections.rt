@@ -7,8 +7,8 @@ use std::hash::{BuildHasherDefault, FoldHasher};
 use std::marker::Model;
 use std::process::Abort;
 use std::test::Fail;
-use test_support::FailingAllocator;
 use test_support::rows::INFO_AND_BEST_ONE;
+use test_support::{FailingAllocator, holds};
 
 type Memory = FailingAllocator<Global>;
 
@@ -70,9 +70,9 @@ impl<'a> Scene<'a> {
         if !self.wire.is_known(number) {
             return false;
         }
-        assert!(rt; self.wire.is_shut(number));
+        holds!(rt; self.wire.is_shut(number));
         let written = self.wire.written(number);
-        assert!(rt; INFO_AND_BEST_ONE.as_bytes().starts_with(written));
+        holds!(rt; INFO_AND_BEST_ONE.as_bytes().starts_with(written));
         written == INFO_AND_BEST_ONE.as_bytes()
     }
 }
@@ -84,22 +84,14 @@ enum Owner {
     Wire,
 }
 
-// Serves two connections while requests are refused, and a third one once memory is there again. Tells whether
-// a request was refused, and how many of the two were shut early.
-fn serve(
+// Serves two connections while requests are refused, and tells how many of the two were shut early.
+fn serve_two(
     rt: &impl Abort,
-    alloc: Global,
-    owner: Owner,
+    scene: &mut Scene<'_>,
+    memory: &Memory,
     n: u64,
     stays_gone: bool,
-) -> Result<(bool, usize), Fail> {
-    let of_host = FailingAllocator::new(alloc);
-    let of_wire = FailingAllocator::new(alloc);
-    let memory = match owner {
-        Owner::Host => &of_host,
-        Owner::Wire => &of_wire,
-    };
-    let mut scene = Scene::new(&of_host, &of_wire)?;
+) -> Result<usize, Fail> {
     let x = scene.connect()?;
     let y = scene.connect()?;
     if stays_gone {
@@ -116,9 +108,35 @@ fn serve(
             early = early.saturating_add(1);
         }
     }
+    Ok(early)
+}
+
+// A further connection is served.
+fn assert_serves(rt: &impl Abort, scene: &mut Scene<'_>) -> Result<(), Fail> {
     let last = scene.connect()?;
     scene.turn_times(8);
-    assert!(rt; scene.is_served(rt, last));
+    holds!(rt; scene.is_served(rt, last));
+    Ok(())
+}
+
+// The two, and a third one once memory is there again. Tells whether a request was refused, and how many of
+// the two were shut early.
+fn serve(
+    rt: &impl Abort,
+    alloc: Global,
+    owner: Owner,
+    n: u64,
+    stays_gone: bool,
+) -> Result<(bool, usize), Fail> {
+    let of_host = FailingAllocator::new(alloc);
+    let of_wire = FailingAllocator::new(alloc);
+    let memory = match owner {
+        Owner::Host => &of_host,
+        Owner::Wire => &of_wire,
+    };
+    let mut scene = Scene::new(&of_host, &of_wire)?;
+    let early = serve_two(rt, &mut scene, memory, n, stays_gone)?;
+    assert_serves(rt, &mut scene)?;
     Ok((memory.refused() > 0, early))
 }
 
@@ -128,10 +146,10 @@ fn refusals(rt: &impl Abort, alloc: Global, owner: Owner, stays_gone: bool) -> R
     let mut shut = 0usize;
     for n in 1..REQUESTS {
         let (refused, early) = serve(rt, alloc, owner, n, stays_gone)?;
-        assert!(rt; stays_gone || early <= 1, "request {n}");
+        holds!(rt; stays_gone || early <= 1, n);
         shut = shut.saturating_add(early);
         if !refused {
-            assert!(rt; n > 1 && early == 0 && shut > 0);
+            holds!(rt; n > 1 && early == 0 && shut > 0);
             return Ok(n.saturating_sub(1));
         }
     }

@@ -6,9 +6,9 @@ use std::alloc::Global;
 use std::hash::{BuildHasherDefault, FoldHasher};
 use std::process::Abort;
 use std::test::Fail;
-use test_support::FailingAllocator;
 use test_support::rows::{INFO_AND_BEST_ONE, joined};
 use test_support::tables::opening;
+use test_support::{FailingAllocator, holds, same};
 
 type Memory = FailingAllocator<Global>;
 
@@ -58,7 +58,7 @@ impl<'a> Served<'a> {
         self.refused = self.refused.saturating_add(1);
         if self.stays_gone {
             let second = self.host.step(event);
-            assert!(rt; matches!(second, Outcome::Refused(HostFault::OutOfMemory)));
+            holds!(rt; matches!(second, Outcome::Refused(HostFault::OutOfMemory)));
         }
         self.memory.refuse_nothing();
         self.host.step(event)
@@ -69,7 +69,7 @@ impl<'a> Served<'a> {
         let Outcome::Opened(id) = self.send(rt, Event::Open) else {
             return Err("a session is opened".into());
         };
-        assert_eq!(rt; id.generation, generation);
+        same!(rt; id.generation, generation);
         Ok(id)
     }
 
@@ -83,15 +83,15 @@ impl<'a> Served<'a> {
 
     fn feed(&mut self, rt: &impl Abort, id: SessionId, chunk: &[u8]) {
         let fed = self.send(rt, Event::Feed(id, chunk));
-        assert!(rt; matches!(fed, Outcome::Done));
+        holds!(rt; matches!(fed, Outcome::Done));
     }
 
     /// One step of the session, if it is pending. What is queued stays a front of the answer.
     fn work(&mut self, rt: &impl Abort, id: SessionId, whole: &str) {
         let before = self.refused;
         let worked = self.send(rt, Event::Work(id, 1));
-        assert!(rt; matches!(worked, Outcome::Worked(_)));
-        assert!(rt; self.refused == before || self.has_front(id, whole));
+        holds!(rt; matches!(worked, Outcome::Worked(_)));
+        holds!(rt; self.refused == before || self.has_front(id, whole));
     }
 
     /// Takes the whole answer.
@@ -99,8 +99,8 @@ impl<'a> Served<'a> {
         let Outcome::Gave(bytes) = self.send(rt, Event::Take(id, whole.len())) else {
             return Err("the bytes are given".into());
         };
-        assert_eq!(rt; std::str::from_utf8(bytes.as_slice())?, whole);
-        assert!(rt; self.host.output(id) == Some(b"".as_slice()));
+        same!(rt; std::str::from_utf8(bytes.as_slice())?, whole);
+        holds!(rt; self.host.output(id) == Some(b"".as_slice()));
         Ok(())
     }
 }
@@ -142,7 +142,7 @@ fn refusals(rt: &impl Abort, alloc: Global, stays_gone: bool) -> Result<u64, Fai
         let mut served = Served::new(&memory, stays_gone)?;
         assert_both_answered(rt, alloc, &mut served)?;
         if memory.refused() == 0 {
-            assert!(rt; seen > 0 && served.refused == 0);
+            holds!(rt; seen > 0 && served.refused == 0);
             return Ok(n.saturating_sub(1));
         }
         seen = seen.saturating_add(served.refused);
@@ -154,7 +154,7 @@ fn refusals(rt: &impl Abort, alloc: Global, stays_gone: bool) -> Result<u64, Fai
 #[test]
 fn each_request_of_a_host_is_refused_in_turn(rt: HostRuntime) -> Result<(), Fail> {
     let met = refusals(&rt, rt.alloc(), false)?;
-    assert!(rt; met > 10, "{met}");
+    holds!(rt; met > 10, met);
     println!(rt; "a host by steps, one: {met} requests")?;
     Ok(())
 }
@@ -162,7 +162,7 @@ fn each_request_of_a_host_is_refused_in_turn(rt: HostRuntime) -> Result<(), Fail
 #[test]
 fn memory_of_a_host_stays_gone_and_comes_back(rt: HostRuntime) -> Result<(), Fail> {
     let met = refusals(&rt, rt.alloc(), true)?;
-    assert!(rt; met > 10, "{met}");
+    holds!(rt; met > 10, met);
     println!(rt; "a host by steps, all from one on: {met} requests")?;
     Ok(())
 }
@@ -182,13 +182,13 @@ fn assert_run(rt: &impl Abort, alloc: Global, n: u64) -> Result<bool, Fail> {
         Event::Close(id),
     ]);
     if let Err(fault) = run {
-        assert_eq!(rt; fault, HostFault::OutOfMemory);
-        assert!(rt; n == 1 && !served.host.pending(id));
-        assert!(rt; served.host.output(id) == Some(b"readyok\n".as_slice()));
+        same!(rt; fault, HostFault::OutOfMemory);
+        holds!(rt; n == 1 && !served.host.pending(id));
+        holds!(rt; served.host.output(id) == Some(b"readyok\n".as_slice()));
         memory.refuse_nothing();
         served.take(rt, id, "readyok\n")?;
     } else {
-        assert!(rt; n > 1 && served.host.output(id).is_none());
+        holds!(rt; n > 1 && served.host.output(id).is_none());
     }
     served.open(rt, 1)?;
     Ok(memory.refused() > 0)
@@ -203,7 +203,7 @@ fn a_run_that_is_refused_answers_no_event(rt: HostRuntime) -> Result<(), Fail> {
         }
         met = met.saturating_add(1);
     }
-    assert!(rt; met > 1, "{met}");
+    holds!(rt; met > 1, met);
     println!(rt; "Host::run: {met} requests")?;
     Ok(())
 }

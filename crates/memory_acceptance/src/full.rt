@@ -8,9 +8,9 @@ use std::alloc::Global;
 use std::hash::{BuildHasherDefault, FoldHasher};
 use std::process::Abort;
 use std::test::Fail;
-use test_support::FailingAllocator;
 use test_support::rows::joined;
 use test_support::tables::opening;
+use test_support::{FailingAllocator, holds, same};
 use usi_session::Session;
 
 type Memory = FailingAllocator<Global>;
@@ -74,7 +74,7 @@ fn assert_answers(
     assert!(rt; session.wants_input() && row.sent.len() <= 4096);
     session.feed(row.sent.as_bytes())?;
     session.work(table, u64::MAX)?;
-    assert_eq!(rt; std::str::from_utf8(session.output())?, answer.as_str());
+    same!(rt; std::str::from_utf8(session.output())?, answer.as_str());
     Ok(())
 }
 
@@ -84,13 +84,13 @@ fn a_full_table_keeps_its_room(rt: HostRuntime) -> Result<(), Fail> {
     let mut table = new_table(&memory)?;
     let empty = memory.held();
     fill(&mut table, ENTRIES);
-    assert_eq!(rt; table.len(), ENTRIES);
+    same!(rt; table.len(), ENTRIES);
     let full = memory.held();
     println!(rt; "a table of {ENTRIES} entries: {empty} bytes empty, {full} full")?;
     assert_answers(&rt, rt.alloc(), &mut table)?;
-    assert_eq!(rt; (table.len(), memory.held()), (ENTRIES, full));
+    same!(rt; (table.len(), memory.held()), (ENTRIES, full));
     drop(table);
-    assert_eq!(rt; memory.held(), 0);
+    same!(rt; memory.held(), 0);
     Ok(())
 }
 
@@ -99,13 +99,13 @@ fn a_table_that_may_not_grow_on_loses_notes_alone(rt: HostRuntime) -> Result<(),
     let memory = FailingAllocator::new(rt.alloc());
     let mut table = new_table(&memory)?;
     fill(&mut table, ENTRIES / 2);
-    assert_eq!(rt; table.len(), ENTRIES / 2);
+    same!(rt; table.len(), ENTRIES / 2);
     let half = memory.held();
     memory.refuse_from(1);
     fill(&mut table, ENTRIES);
-    assert_eq!(rt; (table.len(), memory.held()), (ENTRIES / 2, half));
-    assert!(rt; memory.refused() > 0);
+    same!(rt; (table.len(), memory.held()), (ENTRIES / 2, half));
+    holds!(rt; memory.refused() > 0);
     assert_answers(&rt, rt.alloc(), &mut table)?;
-    assert_eq!(rt; (table.len(), memory.held()), (ENTRIES / 2, half));
+    same!(rt; (table.len(), memory.held()), (ENTRIES / 2, half));
     Ok(())
 }

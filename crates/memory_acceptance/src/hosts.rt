@@ -10,6 +10,7 @@ use std::process::Abort;
 use std::test::Fail;
 use test_support::rows::{INFO_AND_BEST_ONE, Row, joined};
 use test_support::tables::{cut, sliced};
+use test_support::{holds, same};
 use usi_session::Session;
 
 // Room for the current search, which is the largest block, and for what is read and queued.
@@ -54,7 +55,7 @@ fn assert_goes_on(
     if session.feed(row.sent.as_bytes()).is_err() {
         feed = true;
         ballast = None;
-        assert!(rt; session.output().is_empty() && session.wants_input());
+        holds!(rt; session.output().is_empty() && session.wants_input());
         session.feed(row.sent.as_bytes())?;
     }
     for _ in 0..SLICES {
@@ -62,20 +63,13 @@ fn assert_goes_on(
             break;
         }
         if session.work(&mut table, budget).is_err() {
-            assert!(rt; ballast.is_some(), "refused with all the memory there");
+            holds!(rt; ballast.is_some(), "refused with all the memory there");
             work = true;
             ballast = None;
-            assert!(rt;
-                session.pending() && whole.as_bytes().starts_with(session.output()),
-                "{left} bytes"
-            );
+            holds!(rt; session.pending() && whole.as_bytes().starts_with(session.output()), left);
         }
     }
-    assert_eq!(rt;
-        std::str::from_utf8(session.output())?,
-        whole.as_str(),
-        "{left} bytes"
-    );
+    same!(rt; std::str::from_utf8(session.output())?, whole.as_str(), left);
     Ok(Some(Refused { feed, work }))
 }
 
@@ -96,7 +90,7 @@ fn a_session_goes_on_after_a_refusal(rt: HostRuntime) -> Result<(), Fail> {
                 never |= !feed && !work;
             }
         }
-        assert!(rt; fed && worked && never, "{fed} {worked} {never}");
+        holds!(rt; fed && worked && never, fed);
     }
     Ok(())
 }
@@ -160,16 +154,16 @@ fn sessions_are_opened_after_a_refusal(rt: HostRuntime) -> Result<(), Fail> {
         let mut host = Host::new(&heap, 2, 1, hasher)?;
         let mut ballast = ballast_but(rt.alloc(), &heap, dropped)?;
         if dropped == 0 {
-            assert!(rt; matches!(host.run(&[Event::Open]), Err(HostFault::OutOfMemory)));
+            holds!(rt; matches!(host.run(&[Event::Open]), Err(HostFault::OutOfMemory)));
         }
         for generation in 0..2 {
             let id = opened(step_twice(&mut host, Event::Open, &mut ballast))?;
-            assert_eq!(rt; id.generation, generation, "but {dropped}");
+            same!(rt; id.generation, generation, dropped);
         }
         refused = refused || ballast.is_empty();
         never = never || !ballast.is_empty();
     }
-    assert!(rt; refused && never, "{refused} {never}");
+    holds!(rt; refused && never, refused);
     Ok(())
 }
 
@@ -197,26 +191,23 @@ fn two_sessions_go_on_after_a_refusal(rt: HostRuntime) -> Result<(), Fail> {
                     ballast = ballast_but(rt.alloc(), &heap, dropped)?;
                     if dropped == 0 {
                         let run = host.run(&[Event::Close(a), Event::Close(b)]);
-                        assert!(rt; matches!(run, Err(HostFault::OutOfMemory)));
+                        holds!(rt; matches!(run, Err(HostFault::OutOfMemory)));
                     }
                 }
                 for event in part {
                     match step_twice(&mut host, *event, &mut ballast) {
                         Outcome::Done | Outcome::Worked(_) => {}
-                        Outcome::Gave(bytes) => assert_eq!(rt;
-                            std::str::from_utf8(bytes.as_slice())?,
-                            INFO_AND_BEST_ONE,
-                            "but {dropped} from {scarce_from}"
-                        ),
+                        Outcome::Gave(bytes) =>
+                            same!(rt; std::str::from_utf8(bytes.as_slice())?, INFO_AND_BEST_ONE, dropped),
                         _ => return Err("nothing is refused twice".into()),
                     }
                 }
             }
-            assert!(rt; !host.pending(a) && host.is_over(b));
+            holds!(rt; !host.pending(a) && host.is_over(b));
             refused = refused || ballast.is_empty();
             never = never || !ballast.is_empty();
         }
-        assert!(rt; refused && never, "{refused} {never} from {scarce_from}");
+        holds!(rt; refused && never, refused);
     }
     Ok(())
 }

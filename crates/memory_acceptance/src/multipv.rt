@@ -7,9 +7,9 @@ use std::alloc::Global;
 use std::hash::{BuildHasherDefault, FoldHasher};
 use std::process::Abort;
 use std::test::Fail;
-use test_support::FailingAllocator;
 use test_support::rows::{Row, joined};
 use test_support::tables::{more_lines_than_moves, three_of_a_mate, two_plies};
+use test_support::{FailingAllocator, holds, same};
 use usi_session::Session;
 use usi_stdio::{StdioFault, stdio};
 
@@ -50,7 +50,7 @@ fn assert_session(
     assert!(rt; session.wants_input() && row.sent.as_bytes().len() <= 4096);
     if session.feed(row.sent.as_bytes()).is_err() {
         memory.refuse_nothing();
-        assert!(rt; session.output().is_empty() && session.wants_input());
+        holds!(rt; session.output().is_empty() && session.wants_input());
         session.feed(row.sent.as_bytes())?;
     }
     for _ in 0..SLICES {
@@ -58,12 +58,12 @@ fn assert_session(
             break;
         }
         if session.work(&mut table, budget).is_err() {
-            assert!(rt; memory.refused() > 0 && session.pending());
-            assert!(rt; whole.as_bytes().starts_with(session.output()));
+            holds!(rt; memory.refused() > 0 && session.pending());
+            holds!(rt; whole.as_bytes().starts_with(session.output()));
             memory.refuse_nothing();
         }
     }
-    assert_eq!(rt; std::str::from_utf8(session.output())?, whole.as_str());
+    same!(rt; std::str::from_utf8(session.output())?, whole.as_str());
     Ok(())
 }
 
@@ -91,7 +91,7 @@ fn each_request_of_a_session_is_refused_in_turn(rt: HostRuntime) -> Result<(), F
         for budget in [50, u64::MAX] {
             for stays_gone in [false, true] {
                 let met = session_refusals(&rt, rt.alloc(), &row, budget, stays_gone)?;
-                assert!(rt; met > 5, "{met}");
+                holds!(rt; met > 5, met);
             }
         }
     }
@@ -113,13 +113,13 @@ fn assert_streams(
     let ended = stdio(memory, &mut reader, &mut writer, entries);
     match ended {
         Ok(()) => {
-            assert_eq!(rt; std::str::from_utf8(writer.as_slice())?, whole.as_str());
+            same!(rt; std::str::from_utf8(writer.as_slice())?, whole.as_str());
             Ok(true)
         }
         Err(fault) => {
-            assert_eq!(rt; fault, StdioFault::OutOfMemory);
-            assert!(rt; memory.refused() > 0, "refused with all the memory there");
-            assert!(rt; whole.as_bytes().starts_with(writer.as_slice()));
+            same!(rt; fault, StdioFault::OutOfMemory);
+            holds!(rt; memory.refused() > 0, "refused with all the memory there");
+            holds!(rt; whole.as_bytes().starts_with(writer.as_slice()));
             Ok(false)
         }
     }
@@ -140,7 +140,7 @@ fn each_request_of_the_streams_is_refused_in_turn(rt: HostRuntime) -> Result<(),
                 break;
             }
         }
-        assert!(rt; ended_early > 5 && last > 5, "{ended_early} {last}");
+        holds!(rt; ended_early > 5 && last > 5, ended_early);
     }
     Ok(())
 }
@@ -170,7 +170,7 @@ fn opened(outcome: Outcome<&Memory>) -> Result<SessionId, Fail> {
 fn assert_host(rt: &impl Abort, alloc: Global, memory: &Memory) -> Result<(), Fail> {
     let hasher = BuildHasherDefault::<FoldHasher>::new();
     let Ok(mut host) = Host::new(memory, 2, 64, hasher) else {
-        assert!(rt; memory.refused() > 0);
+        holds!(rt; memory.refused() > 0);
         return Ok(());
     };
     let rows = [more_lines_than_moves(), three_of_a_mate()];
@@ -179,7 +179,7 @@ fn assert_host(rt: &impl Abort, alloc: Global, memory: &Memory) -> Result<(), Fa
     let ids = [first, second];
     for (id, row) in ids.into_iter().zip(rows) {
         let fed = send(&mut host, memory, Event::Feed(id, row.sent.as_bytes()));
-        assert!(rt; matches!(fed, Outcome::Done));
+        holds!(rt; matches!(fed, Outcome::Done));
     }
     for _ in 0..SLICES {
         if !host.pending(first) && !host.pending(second) {
@@ -187,16 +187,12 @@ fn assert_host(rt: &impl Abort, alloc: Global, memory: &Memory) -> Result<(), Fa
         }
         for id in ids {
             let worked = send(&mut host, memory, Event::Work(id, 20));
-            assert!(rt; matches!(worked, Outcome::Worked(_)));
+            holds!(rt; matches!(worked, Outcome::Worked(_)));
         }
     }
     for (id, row) in ids.into_iter().zip(rows) {
         let answer = joined(alloc, row.answer)?;
-        assert!(rt;
-            host.output(id) == Some(answer.as_bytes()),
-            "after {:?}",
-            row.sent
-        );
+        holds!(rt; host.output(id) == Some(answer.as_bytes()), row.sent);
     }
     Ok(())
 }
@@ -213,7 +209,7 @@ fn each_request_of_a_host_is_refused_in_turn(rt: HostRuntime) -> Result<(), Fail
                 break;
             }
         }
-        assert!(rt; last > 10, "{last}");
+        holds!(rt; last > 10, last);
     }
     Ok(())
 }

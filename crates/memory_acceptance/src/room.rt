@@ -6,8 +6,8 @@ use std::alloc::Global;
 use std::hash::{BuildHasherDefault, FoldHasher};
 use std::process::Abort;
 use std::test::Fail;
-use test_support::FailingAllocator;
 use test_support::rows::INFO_AND_BEST_ONE;
+use test_support::{FailingAllocator, holds, same};
 use usi_session::{CHUNK_MAX, Session};
 
 type Memory = FailingAllocator<Global>;
@@ -55,14 +55,14 @@ fn an_idle_session_is_small(rt: HostRuntime) -> Result<(), Fail> {
     let lines = usi_lines(rt.alloc())?;
     let memory = FailingAllocator::new(rt.alloc());
     let mut session = Session::new(&memory);
-    assert_eq!(rt; memory.held(), 0);
+    same!(rt; memory.held(), 0);
     for most in [1, 117, 4096, usize::MAX] {
         say(&rt, &mut session, unended.as_slice())?;
-        assert!(rt; memory.held() >= 65_535);
+        holds!(rt; memory.held() >= 65_535);
         say(&rt, &mut session, b"\n")?;
-        assert!(rt; memory.held() <= KEPT, "{}", memory.held());
+        holds!(rt; memory.held() <= KEPT, memory.held());
         say(&rt, &mut session, lines.as_slice())?;
-        assert!(rt; memory.held() >= 234_496);
+        holds!(rt; memory.held() >= 234_496);
         for _ in 0..234_496 {
             if session.output().is_empty() {
                 break;
@@ -73,16 +73,12 @@ fn an_idle_session_is_small(rt: HostRuntime) -> Result<(), Fail> {
                 .len()
                 .saturating_mul(8)
                 .saturating_add(KEPT);
-            assert!(rt; memory.held() <= bound, "{} {most}", memory.held());
+            holds!(rt; memory.held() <= bound, memory.held());
         }
-        assert!(rt;
-            session.output().is_empty() && memory.held() <= KEPT,
-            "{}",
-            memory.held()
-        );
+        holds!(rt; session.output().is_empty() && memory.held() <= KEPT, memory.held());
     }
     drop(session);
-    assert_eq!(rt; memory.held(), 0);
+    same!(rt; memory.held(), 0);
     Ok(())
 }
 
@@ -93,9 +89,9 @@ fn a_session_that_is_over_is_small(rt: HostRuntime) -> Result<(), Fail> {
     let mut session = Session::new(&memory);
     let line = vec![in rt.alloc(); b'x'; 65_536]?;
     say(&rt, &mut session, line.as_slice())?;
-    assert!(rt; session.is_over());
+    holds!(rt; session.is_over());
     take(&mut session, usize::MAX);
-    assert!(rt; memory.held() <= KEPT, "{}", memory.held());
+    holds!(rt; memory.held() <= KEPT, memory.held());
     Ok(())
 }
 
@@ -110,15 +106,15 @@ fn a_refused_block_loses_nothing(rt: HostRuntime) -> Result<(), Fail> {
     say(&rt, &mut session, lines.as_slice())?;
     memory.refuse_from(1);
     take(&mut session, 234_496 - 20);
-    assert!(rt; memory.refused() > 0 && memory.held() >= 234_496);
-    assert!(rt; session.output() == b"1 min 1 max 8\nusiok\n".as_slice());
+    holds!(rt; memory.refused() > 0 && memory.held() >= 234_496);
+    holds!(rt; session.output() == b"1 min 1 max 8\nusiok\n".as_slice());
     take(&mut session, 10);
-    assert!(rt; session.output() == b"x 8\nusiok\n".as_slice());
+    holds!(rt; session.output() == b"x 8\nusiok\n".as_slice());
     take(&mut session, 10);
-    assert!(rt; memory.held() <= KEPT, "{}", memory.held());
+    holds!(rt; memory.held() <= KEPT, memory.held());
     memory.refuse_nothing();
     say(&rt, &mut session, b"isready\n")?;
-    assert!(rt; session.output() == b"readyok\n".as_slice());
+    holds!(rt; session.output() == b"readyok\n".as_slice());
     Ok(())
 }
 
@@ -140,18 +136,14 @@ fn usual_lines_keep_their_room(rt: HostRuntime) -> Result<(), Fail> {
         if round == 0 {
             held = memory.held();
         }
-        assert!(rt;
-            held <= KEPT && memory.held() == held,
-            "{held} {}",
-            memory.held()
-        );
+        holds!(rt; held <= KEPT && memory.held() == held, held);
     }
     Ok(())
 }
 
 fn done(rt: &impl Abort, host: &mut FailingHost<'_>, event: Event<'_>) {
     let outcome = host.step(event);
-    assert!(rt; matches!(outcome, Outcome::Done | Outcome::Worked(_)));
+    holds!(rt; matches!(outcome, Outcome::Done | Outcome::Worked(_)));
 }
 
 // Opens a session, has it answer the bytes, takes the answers and closes it. Tells how many bytes it answered.
@@ -170,7 +162,7 @@ fn serve(rt: &impl Abort, host: &mut FailingHost<'_>, bytes: &[u8]) -> Result<us
     let Outcome::Gave(given) = host.step(Event::Take(id, answered)) else {
         return Err("the bytes are given".into());
     };
-    assert_eq!(rt; given.as_slice().len(), answered);
+    same!(rt; given.as_slice().len(), answered);
     done(rt, host, Event::Close(id));
     Ok(answered)
 }
@@ -189,13 +181,13 @@ fn a_host_is_as_small_as_it_was(rt: HostRuntime) -> Result<(), Fail> {
             99 => (lines.as_slice(), 234_496),
             _ => (b"go depth 1\n".as_slice(), INFO_AND_BEST_ONE.len()),
         };
-        assert_eq!(rt; serve(&rt, &mut host, sent)?, answer);
+        same!(rt; serve(&rt, &mut host, sent)?, answer);
         if number == 0 {
             held = memory.held();
         }
-        assert_eq!(rt; memory.held(), held, "session {number}");
+        same!(rt; memory.held(), held, number);
     }
     drop(host);
-    assert_eq!(rt; memory.held(), 0);
+    same!(rt; memory.held(), 0);
     Ok(())
 }

@@ -4,11 +4,11 @@ use linked_list_allocator::LocalHeap;
 use std::alloc::Global;
 use std::process::Abort;
 use std::test::Fail;
-use test_support::FailingAllocator;
 use test_support::fakes::FailingReader;
 use test_support::rows::joined;
 use test_support::scripts::Script;
 use test_support::tables::{two_ready, two_sessions};
+use test_support::{FailingAllocator, holds, same};
 use usi_replay::{ReplayFault, replay};
 
 // More requests than a run makes.
@@ -34,20 +34,16 @@ fn assert_refusals(
         match replay(&heap, &mut reader, &mut writer, slots, entries, 1000) {
             Ok(()) => {
                 passed = true;
-                assert_eq!(rt;
-                    std::str::from_utf8(writer.as_slice())?,
-                    output.as_str(),
-                    "{size} bytes"
-                );
+                same!(rt; std::str::from_utf8(writer.as_slice())?, output.as_str(), size);
             }
             Err(fault) => {
                 refused = true;
-                assert_eq!(rt; fault, ReplayFault::OutOfMemory, "{size} bytes");
-                assert!(rt; writer.is_empty(), "{size} bytes");
+                same!(rt; fault, ReplayFault::OutOfMemory, size);
+                holds!(rt; writer.is_empty(), size);
             }
         }
     }
-    assert!(rt; refused && passed, "{refused} {passed}");
+    holds!(rt; refused && passed, refused);
     Ok(())
 }
 
@@ -75,13 +71,13 @@ fn assert_played(
     let ended = replay(memory, &mut reader, &mut writer, slots, entries, 1);
     match ended {
         Ok(()) => {
-            assert_eq!(rt; std::str::from_utf8(writer.as_slice())?, output.as_str());
+            same!(rt; std::str::from_utf8(writer.as_slice())?, output.as_str());
             Ok(true)
         }
         Err(fault) => {
-            assert_eq!(rt; fault, ReplayFault::OutOfMemory);
-            assert!(rt; memory.refused() > 0, "refused with all the memory there");
-            assert!(rt; writer.is_empty());
+            same!(rt; fault, ReplayFault::OutOfMemory);
+            holds!(rt; memory.refused() > 0, "refused with all the memory there");
+            holds!(rt; writer.is_empty());
             Ok(false)
         }
     }
@@ -108,7 +104,7 @@ fn refusals(
             ended_early = ended_early.saturating_add(1);
         }
         if memory.refused() == 0 {
-            assert!(rt; ended_early > 0);
+            holds!(rt; ended_early > 0);
             return Ok(n.saturating_sub(1));
         }
     }
@@ -120,7 +116,7 @@ fn each_request_of_a_script_is_refused_in_turn(rt: HostRuntime) -> Result<(), Fa
     let script = two_sessions();
     let few = refusals(&rt, rt.alloc(), &script, 1, false)?;
     let many = refusals(&rt, rt.alloc(), &script, 4096, false)?;
-    assert!(rt; few > 0 && many > few, "{few} {many}");
+    holds!(rt; few > 0 && many > few, few);
     println!(rt; "replay, one: {few} requests with a table of 1 entry, {many} of 4,096")?;
     Ok(())
 }
@@ -130,7 +126,7 @@ fn memory_of_a_script_stays_gone(rt: HostRuntime) -> Result<(), Fail> {
     let script = two_sessions();
     let few = refusals(&rt, rt.alloc(), &script, 1, true)?;
     let many = refusals(&rt, rt.alloc(), &script, 4096, true)?;
-    assert!(rt; few > 0 && many > few, "{few} {many}");
+    holds!(rt; few > 0 && many > few, few);
     println!(rt;
         "replay, all from one on: {few} requests with a table of 1 entry, {many} of 4,096"
     )?;

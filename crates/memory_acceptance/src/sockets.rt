@@ -11,7 +11,7 @@ use std::os::unix::net::UnixStream;
 use std::path::{Path, PathBuf};
 use std::test::Fail;
 use std::{env, fs, process};
-use test_support::FailingAllocator;
+use test_support::{FailingAllocator, holds};
 use usi_serve::MioWire;
 
 type Memory = FailingAllocator<Global>;
@@ -153,9 +153,9 @@ fn refused_at(rt: &HostRuntime, n: u64) -> Result<(bool, usize), Fail> {
 fn each_request_of_a_wire_over_sockets_is_refused_in_turn(rt: HostRuntime) -> Result<(), Fail> {
     for n in 1..REQUESTS {
         let (refused, shut) = refused_at(&rt, n)?;
-        assert!(rt; shut <= 1, "request {n} shut {shut}");
+        holds!(rt; shut <= 1, n);
         if !refused {
-            assert!(rt; n > 1 && shut == 0);
+            holds!(rt; n > 1 && shut == 0);
             println!(rt; "MioWire: {} requests", n.saturating_sub(1))?;
             return Ok(());
         }

@@ -4,10 +4,10 @@ use linked_list_allocator::LocalHeap;
 use std::alloc::Global;
 use std::process::Abort;
 use std::test::Fail;
-use test_support::FailingAllocator;
 use test_support::fakes::FailingReader;
 use test_support::rows::{Row, joined};
 use test_support::tables::opening;
+use test_support::{FailingAllocator, holds, same};
 use usi_stdio::{StdioFault, stdio};
 
 // More requests than a run makes.
@@ -35,16 +35,16 @@ fn assert_refusals(
         match stdio(&heap, &mut reader, &mut writer, entries) {
             Ok(()) => {
                 passed = true;
-                assert_eq!(rt; writer, whole, "{size} bytes");
+                same!(rt; writer, whole, size);
             }
             Err(fault) => {
                 refused = true;
-                assert_eq!(rt; fault, StdioFault::OutOfMemory, "{size} bytes");
-                assert!(rt; whole.starts_with(writer.as_slice()), "{size} bytes");
+                same!(rt; fault, StdioFault::OutOfMemory, size);
+                holds!(rt; whole.starts_with(writer.as_slice()), size);
             }
         }
     }
-    assert!(rt; refused && passed, "{refused} {passed}");
+    holds!(rt; refused && passed, refused);
     Ok(())
 }
 
@@ -74,13 +74,13 @@ fn assert_run(
     let ended = stdio(memory, &mut reader, &mut writer, entries);
     match ended {
         Ok(()) => {
-            assert_eq!(rt; std::str::from_utf8(writer.as_slice())?, whole.as_str());
+            same!(rt; std::str::from_utf8(writer.as_slice())?, whole.as_str());
             Ok(true)
         }
         Err(fault) => {
-            assert_eq!(rt; fault, StdioFault::OutOfMemory);
-            assert!(rt; memory.refused() > 0, "refused with all the memory there");
-            assert!(rt; whole.as_bytes().starts_with(writer.as_slice()));
+            same!(rt; fault, StdioFault::OutOfMemory);
+            holds!(rt; memory.refused() > 0, "refused with all the memory there");
+            holds!(rt; whole.as_bytes().starts_with(writer.as_slice()));
             Ok(false)
         }
     }
@@ -107,7 +107,7 @@ fn refusals(
             ended_early = ended_early.saturating_add(1);
         }
         if memory.refused() == 0 {
-            assert!(rt; ended_early > 0);
+            holds!(rt; ended_early > 0);
             return Ok(n.saturating_sub(1));
         }
     }
@@ -121,7 +121,7 @@ fn each_request_of_the_streams_is_refused_in_turn(rt: HostRuntime) -> Result<(),
     let row = opening();
     let few = refusals(&rt, rt.alloc(), &row, 1, false)?;
     let many = refusals(&rt, rt.alloc(), &row, 4096, false)?;
-    assert!(rt; few > 0 && many > few, "{few} {many}");
+    holds!(rt; few > 0 && many > few, few);
     println!(rt; "stdio, one: {few} requests with a table of 1 entry, {many} of 4,096")?;
     Ok(())
 }
@@ -131,7 +131,7 @@ fn memory_of_the_streams_stays_gone(rt: HostRuntime) -> Result<(), Fail> {
     let row = opening();
     let few = refusals(&rt, rt.alloc(), &row, 1, true)?;
     let many = refusals(&rt, rt.alloc(), &row, 4096, true)?;
-    assert!(rt; few > 0 && many > few, "{few} {many}");
+    holds!(rt; few > 0 && many > few, few);
     println!(rt;
         "stdio, all from one on: {few} requests with a table of 1 entry, {many} of 4,096"
     )?;

@@ -6,9 +6,9 @@ use std::alloc::Global;
 use std::hash::{BuildHasherDefault, FoldHasher};
 use std::process::Abort;
 use std::test::Fail;
-use test_support::FailingAllocator;
 use test_support::rows::joined;
 use test_support::tables::opening;
+use test_support::{FailingAllocator, holds, same};
 use usi_session::Session;
 
 // More requests than a table makes.
@@ -45,9 +45,9 @@ fn a_table_whose_growth_is_refused(rt: HostRuntime) -> Result<(), Fail> {
         memory.refuse_from(n);
         let said = said_over(&rt, rt.alloc(), &memory, row.sent.as_bytes())?;
         if let Some(said) = said {
-            assert_eq!(rt; std::str::from_utf8(said.as_slice())?, answer.as_str());
+            same!(rt; std::str::from_utf8(said.as_slice())?, answer.as_str());
             if memory.refused() == 0 {
-                assert!(rt; said_with_refusals > 0);
+                holds!(rt; said_with_refusals > 0);
                 println!(rt;
                     "a table of 1,000,000 entries: {} requests",
                     n.saturating_sub(1)

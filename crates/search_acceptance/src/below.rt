@@ -17,16 +17,22 @@ use shogi_search::{Found, INFINITY, Memo, NoMemo, Search, search, search_below};
 use std::alloc::Global;
 use std::process::Abort;
 use std::test::Fail;
+use test_support::{holds, same};
+
+// A bound so far from a value.
+fn moved(value: i32, by: i32) -> i32 {
+    value.saturating_add(by)
+}
 
 // Bounds at both ends, and far below, just below, at, just above and far above a value.
 fn bounds_of(value: i32) -> [i32; 7] {
     [
         -30999,
-        value.saturating_sub(250),
-        value.saturating_sub(1),
+        moved(value, -250),
+        moved(value, -1),
         value,
-        value.saturating_add(1),
-        value.saturating_add(250),
+        moved(value, 1),
+        moved(value, 250),
         31000,
     ]
 }
@@ -35,14 +41,14 @@ fn bounds_of(value: i32) -> [i32; 7] {
 // than the bound and no more than the value.
 fn assert_below(rt: &impl Abort, found: &Found, plain: &Found, beta: i32) {
     if plain.value < beta {
-        assert_eq!(rt; found.value, plain.value, "below {beta}");
-        assert!(rt; found.best == plain.best, "the best move below {beta}");
+        same!(rt; found.value, plain.value, beta);
+        holds!(rt; found.best == plain.best, beta);
     } else {
-        assert!(rt; beta <= found.value, "no less than {beta}");
-        assert!(rt; found.value <= plain.value, "no more than the value");
-        assert!(rt; found.best.is_none() || found.best == plain.best);
+        holds!(rt; beta <= found.value, beta);
+        holds!(rt; found.value <= plain.value, "no more than the value");
+        holds!(rt; found.best.is_none() || found.best == plain.best);
     }
-    assert!(rt; found.steps <= plain.steps, "the steps below {beta}");
+    holds!(rt; found.steps <= plain.steps, beta);
 }
 
 // The search below a bound, made a step at a time.
@@ -81,7 +87,7 @@ fn assert_bound(
     assert!(rt; -INFINITY < beta && beta <= INFINITY);
     let found = search_below(p, e, depth, beta, &mut NoMemo);
     assert_below(rt, &found, plain, beta);
-    assert!(rt; in_steps(p, e, depth, beta, &mut NoMemo) == Some(found));
+    holds!(rt; in_steps(p, e, depth, beta, &mut NoMemo) == Some(found));
     assert_below(rt, &search_below(p, e, depth, beta, memo), plain, beta);
 
     let mut table = table_of(alloc, 1000)?;
@@ -90,7 +96,7 @@ fn assert_bound(
     let again = search_below(p, e, depth, beta, &mut table);
     assert_below(rt, &again, plain, beta);
     let whole = search(p, e, depth, &mut table);
-    assert!(rt; whole.value == plain.value && whole.best == plain.best);
+    holds!(rt; whole.value == plain.value && whole.best == plain.best);
     Ok(())
 }
 
@@ -163,16 +169,9 @@ fn assert_counts<M: Memo + Drop>(
         let found = search_below(p, Eval::Plain, depth, beta, &mut recorder);
         steps = steps.saturating_add(found.steps);
         let plain = search_plainly_below(alloc, p, Eval::Plain, depth, beta, &mut notes)?;
-        assert!(rt;
-            plain == Some((found.value, found.best.map(|m| m.code()))),
-            "below {beta}"
-        );
-        assert_eq!(rt; steps, notes.steps, "the steps below {beta}");
-        assert_eq!(rt;
-            recorder.calls().len(),
-            notes.calls,
-            "the calls below {beta}"
-        );
+        holds!(rt; plain == Some((found.value, found.best.map(|m| m.code()))), beta);
+        same!(rt; steps, notes.steps, beta);
+        same!(rt; recorder.calls().len(), notes.calls, beta);
     }
     Ok(())
 }

@@ -13,6 +13,7 @@ use shogi_search::{Memo, NoMemo, search};
 use std::alloc::Global;
 use std::process::Abort;
 use std::test::Fail;
+use test_support::{holds, same};
 
 // Another program's values and best moves: 1g1f twice, 7g7f twice, and 9g9f. By hand the steps at depths 1
 // and 2: a node is entered, its first move is valued or followed, the others are no better and passed,
@@ -29,13 +30,9 @@ fn the_opening_over_no_memory(rt: HostRuntime) {
     ] {
         assert!(rt; depth <= 16);
         let found = search(&start, Eval::Plain, depth, &mut NoMemo);
-        assert_eq!(rt;
-            (found.value, found.best.map(|m| m.code())),
-            (value, Some(code)),
-            "at depth {depth}"
-        );
+        same!(rt; (found.value, found.best.map(|m| m.code())), (value, Some(code)), depth);
         if let Some(steps) = steps {
-            assert_eq!(rt; found.steps, steps, "the steps at depth {depth}");
+            same!(rt; found.steps, steps, depth);
         }
     }
 }
@@ -58,16 +55,9 @@ fn assert_counts<M: Memo + Drop>(
         let found = search(p, e, depth, &mut recorder);
         steps = steps.saturating_add(found.steps);
         let plain = search_plainly(alloc, p, e, depth, &mut notes)?;
-        assert!(rt;
-            plain == Some((found.value, found.best.map(|m| m.code()))),
-            "at depth {depth}"
-        );
-        assert_eq!(rt; steps, notes.steps, "the steps at depth {depth}");
-        assert_eq!(rt;
-            recorder.calls().len(),
-            notes.calls,
-            "the calls at depth {depth}"
-        );
+        holds!(rt; plain == Some((found.value, found.best.map(|m| m.code()))), depth);
+        same!(rt; steps, notes.steps, depth);
+        same!(rt; recorder.calls().len(), notes.calls, depth);
     }
     Ok(())
 }
@@ -167,9 +157,9 @@ const PLAYED: [&str; 6] = [
 fn assert_minimax(rt: &impl Abort, alloc: Global, p: &Position, e: Eval) -> Result<(), Fail> {
     let plain = minimax(p, e, 4);
     let found = search(p, e, 4, &mut NoMemo);
-    assert!(rt; found.value == plain.value && found.best == plain.best);
+    holds!(rt; found.value == plain.value && found.best == plain.best);
     let found = search(p, e, 4, &mut table_of(alloc, 1000)?);
-    assert!(rt; found.value == plain.value && found.best == plain.best);
+    holds!(rt; found.value == plain.value && found.best == plain.best);
     Ok(())
 }
 
@@ -192,11 +182,7 @@ fn mates_at_depth_four(rt: HostRuntime) -> Result<(), Fail> {
         ("4k4/9/4G4/9/9/9/9/9/9 w G", -30002, 5886),
     ] {
         let found = search(&position(sfen)?, Eval::Plain, 4, &mut NoMemo);
-        assert_eq!(rt;
-            (found.value, found.best.map(|m| m.code())),
-            (value, Some(code)),
-            "of {sfen}"
-        );
+        same!(rt; (found.value, found.best.map(|m| m.code())), (value, Some(code)), sfen);
     }
     Ok(())
 }

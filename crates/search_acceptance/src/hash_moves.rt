@@ -11,6 +11,7 @@ use shogi_eval::Eval;
 use shogi_search::{Entry, NoMemo, Search, search};
 use std::process::Abort;
 use std::test::Fail;
+use test_support::{holds, same};
 
 // The first steps go down to a leaf. Each node from the root to depth 2 is asked for at its depth and
 // then, for its best move, at the one below; the node at depth 1 and the leaf are asked for once.
@@ -21,14 +22,11 @@ fn each_node_is_asked_for_on_the_way_down(rt: HostRuntime) -> Result<(), Fail> {
         let mut recorder = Recorder::new(rt.alloc(), NoMemo);
         search.advance(&mut recorder, u64::from(depth) + 1);
         let calls = recorder.calls();
-        assert_eq!(rt; calls.len(), usize::from(depth) * 2, "from depth {depth}");
+        same!(rt; calls.len(), usize::from(depth) * 2, depth);
         for (place, call) in calls.iter().enumerate() {
             let passed = place.saturating_add(1) / 2;
-            assert_eq!(rt;
-                usize::from(call.depth).saturating_add(passed),
-                usize::from(depth)
-            );
-            assert!(rt; call.noted.is_none(), "from depth {depth}");
+            same!(rt; usize::from(call.depth).saturating_add(passed), usize::from(depth));
+            holds!(rt; call.noted.is_none(), depth);
         }
     }
     Ok(())
@@ -43,7 +41,7 @@ fn a_child_visits_its_hash_move_first(rt: HostRuntime) -> Result<(), Fail> {
     let mut bare = Recorder::new(rt.alloc(), NoMemo);
     Search::start(&root, Eval::Plain, 3).advance(&mut bare, 3);
     let capture = played(&rt, &child, "8h3c");
-    assert!(rt; bare.calls().last().map(|call| call.position) == Some(capture));
+    holds!(rt; bare.calls().last().map(|call| call.position) == Some(capture));
     for (depth, best) in [(3u8, "8h3c+"), (4, "1g1f")] {
         assert!(rt; depth >= 2 && depth <= 16);
         let mut table = table_of(rt.alloc(), 10000)?;
@@ -68,14 +66,11 @@ const FACING: &str = "lnsgkgsnl/1r5b1/pppppp1pp/6p2/9/2P6/PP1PPPPPP/1B5R1/LNSGKG
 
 // Each call asks for one of these positions at this depth.
 fn assert_asked(rt: &impl Abort, calls: &[Call], wanted: &[(Position, u8)]) {
-    assert!(rt; calls.len() >= wanted.len());
+    holds!(rt; calls.len() >= wanted.len());
     for ((position, depth), call) in wanted.iter().zip(calls) {
-        assert!(rt;
-            call.position == *position && call.eval == Eval::Plain,
-            "at depth {depth}"
-        );
-        assert_eq!(rt; call.depth, *depth);
-        assert!(rt; call.noted.is_none(), "at depth {depth}");
+        holds!(rt; call.position == *position && call.eval == Eval::Plain, depth);
+        same!(rt; call.depth, *depth);
+        holds!(rt; call.noted.is_none(), depth);
     }
 }
 
@@ -87,14 +82,14 @@ fn the_first_capture_is_visited_first(rt: HostRuntime) -> Result<(), Fail> {
     let capture = played(&rt, &root, "8h2b");
     let mut recorder = Recorder::new(rt.alloc(), NoMemo);
     let found = search(&root, Eval::Plain, 2, &mut recorder);
-    assert!(rt; found.steps > 0);
+    holds!(rt; found.steps > 0);
     assert_asked(&rt, recorder.calls(), &[(root, 2), (root, 1), (capture, 1)]);
     for depth in [0, 1, 2] {
         let mut recorder = Recorder::new(rt.alloc(), NoMemo);
         search(&root, Eval::Plain, depth, &mut recorder);
         let last = recorder.calls().last().ok_or("a call")?;
-        assert!(rt; last.position == root && last.depth == depth);
-        assert!(rt; matches!(last.noted, Some(Entry::Exact(_, _))));
+        holds!(rt; last.position == root && last.depth == depth);
+        holds!(rt; matches!(last.noted, Some(Entry::Exact(_, _))));
     }
     Ok(())
 }

@@ -5,6 +5,8 @@
 #[cfg(test)]
 mod agreement;
 #[cfg(test)]
+mod assertions;
+#[cfg(test)]
 mod below;
 #[cfg(test)]
 mod counts;

@@ -19,6 +19,7 @@ use shogi_search::{INFINITY, Memo, NoMemo, Ranks, search, search_below};
 use std::alloc::{AllocError, Global};
 use std::process::Abort;
 use std::test::Fail;
+use test_support::{holds, same};
 
 // Whether the list has the move.
 fn has(pairs: &[(Move, i32)], m: &Move) -> bool
@@ -57,7 +58,7 @@ fn take_in<M: Memo>(
     let found = search_below(&branch.position, e, depth, beta, memo);
     if found.value < beta {
         let m = Move::of_code(branch.code).expect(rt, "a move");
-        assert!(rt; !has(ranks.list(), &m), "a move that is not listed");
+        assert!(rt; !has(ranks.list(), &m));
         ranks.offer(m, found.value.saturating_neg());
     }
     (beta, found.steps)
@@ -76,8 +77,8 @@ fn assert_line(rt: &impl Abort, worths: &[(u16, i32)], line: usize, listed: (u16
             is_worth = *worth == listed.1;
         }
     }
-    assert!(rt; is_worth, "the worth on line {line}");
-    assert_eq!(rt; ahead, line, "the moves before line {line}");
+    holds!(rt; is_worth, line);
+    same!(rt; ahead, line, line);
 }
 
 // The list of a position at a depth has the first of its moves, ranked by plain minimax.
@@ -100,7 +101,7 @@ fn assert_ranked<M: Memo>(
         let plain = minimax(&branch.position, Eval::Plain, depth);
         worths.push((branch.code, plain.value.saturating_neg()))?;
     }
-    assert_eq!(rt; ranks.list().len(), worths.len().min(lines));
+    same!(rt; ranks.list().len(), worths.len().min(lines));
     for (line, (m, value)) in ranks.list().iter().enumerate() {
         assert_line(rt, worths.as_slice(), line, (m.code(), *value));
     }
@@ -165,8 +166,8 @@ fn assert_steps(
         let found = search(&branch.position, Eval::Plain, depth, &mut NoMemo);
         whole = whole.saturating_add(found.steps);
     }
-    assert_eq!(rt; steps, notes.steps, "the steps of {lines} lines");
-    assert!(rt; steps < whole, "{steps} steps of {whole}");
+    same!(rt; steps, notes.steps, lines);
+    holds!(rt; steps < whole, steps);
     Ok(())
 }
 

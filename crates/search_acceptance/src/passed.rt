@@ -15,6 +15,7 @@ use shogi_sfen::read_move;
 use std::alloc::Global;
 use std::process::Abort;
 use std::test::Fail;
+use test_support::{holds, same};
 
 // The search finds the value and the best move of plain minimax, in as many steps as the search
 // written plainly.
@@ -29,13 +30,10 @@ fn assert_agrees(
 {
     let found = search(p, e, depth, &mut NoMemo);
     let plain = minimax(p, e, depth);
-    assert!(rt;
-        found.value == plain.value && found.best == plain.best,
-        "at depth {depth}"
-    );
+    holds!(rt; found.value == plain.value && found.best == plain.best, depth);
     let mut notes = Notes::new(alloc, 0, false);
     search_plainly(alloc, p, e, depth, &mut notes)?;
-    assert_eq!(rt; found.steps, notes.steps, "the steps at depth {depth}");
+    same!(rt; found.steps, notes.steps, depth);
     Ok(())
 }
 
@@ -56,10 +54,7 @@ fn assert_found(
             assert_agrees(rt, alloc, &p, e, depth)?;
         }
         let found = search(&p, e, 2, &mut NoMemo);
-        assert!(rt;
-            found.value == value && found.best == read_move(text.as_bytes()),
-            "two plies of {sfen}"
-        );
+        holds!(rt; found.value == value && found.best == read_move(text.as_bytes()), sfen);
     }
     Ok(())
 }
@@ -150,8 +145,8 @@ fn every_move_passed(rt: HostRuntime) {
     let start = Position::start();
     for e in [Eval::Plain, Eval::Hand] {
         let found = search_below(&start, e, 3, -500, &mut NoMemo);
-        assert!(rt; found.value >= -500 && found.value <= minimax(&start, e, 3).value);
-        assert_eq!(rt; found.steps, 4);
+        holds!(rt; found.value >= -500 && found.value <= minimax(&start, e, 3).value);
+        same!(rt; found.steps, 4);
     }
 }
 

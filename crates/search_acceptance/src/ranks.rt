@@ -16,6 +16,7 @@ use shogi_moves::{apply, next_legal};
 use shogi_search::{MULTI_PV_MAX, NoMemo, Ranks, search_below};
 use std::process::Abort;
 use std::test::Fail;
+use test_support::{holds, same};
 
 // Whether the list has the move.
 fn has(pairs: &[(Move, i32)], m: &Move) -> bool
@@ -31,16 +32,16 @@ fn has(pairs: &[(Move, i32)], m: &Move) -> bool
 
 // Offers a move with its value.
 fn offer(rt: &impl Abort, ranks: &mut Ranks, m: Move, value: i32) {
-    assert!(rt; !has(ranks.list(), &m), "a move that is not listed");
+    assert!(rt; !has(ranks.list(), &m));
     ranks.offer(m, value);
 }
 
 // The list has the moves of these codes with these values, in this order.
 fn assert_list(rt: &impl Abort, ranks: &Ranks, wanted: &[(u16, i32)]) {
     let list = ranks.list();
-    assert_eq!(rt; list.len(), wanted.len());
+    same!(rt; list.len(), wanted.len());
     for ((m, value), wanted) in list.iter().zip(wanted) {
-        assert_eq!(rt; (m.code(), *value), *wanted);
+        same!(rt; (m.code(), *value), *wanted);
     }
 }
 
@@ -110,7 +111,7 @@ fn assert_thresholds(rt: &impl Abort, lines: usize, offers: &[(u16, i32)], wante
     requires most { lines ≤ MULTI_PV_MAX }
 {
     let mut ranks = Ranks::new(lines);
-    assert_eq!(rt; ranks.threshold(), None);
+    same!(rt; ranks.threshold(), None);
     let mut left = wanted.iter();
     for (at, (code, value)) in offers.iter().enumerate() {
         let m = Move::of_code(*code).expect(rt, "a move");
@@ -120,7 +121,7 @@ fn assert_thresholds(rt: &impl Abort, lines: usize, offers: &[(u16, i32)], wante
         } else {
             left.next().copied()
         };
-        assert!(rt; ranks.threshold() == wanted, "move {at} on {lines} lines");
+        holds!(rt; ranks.threshold() == wanted, at);
     }
 }
 

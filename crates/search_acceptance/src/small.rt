@@ -6,6 +6,7 @@ use shogi_moves::apply;
 use shogi_search::{NoMemo, Search, search};
 use std::process::Abort;
 use std::test::Fail;
+use test_support::{holds, same};
 
 pub type Placed = (u8, u8, Color, Role);
 
@@ -30,19 +31,11 @@ fn assert_line(rt: &impl Abort, start: &Position, e: Eval, depth: u8, value: i32
     let mut p = *start;
     let mut left = depth;
     assert!(rt; left <= 16);
-    assert_eq!(rt;
-        search(&p, e, left, &mut NoMemo).value,
-        value,
-        "the value at depth {depth}"
-    );
+    same!(rt; search(&p, e, left, &mut NoMemo).value, value, depth);
     for code in codes {
         assert!(rt; left > 0 && left <= 16);
         let best = search(&p, e, left, &mut NoMemo).best;
-        assert_eq!(rt;
-            best.map(|m| m.code()),
-            Some(*code),
-            "the best move {left} plies from the end"
-        );
+        same!(rt; best.map(|m| m.code()), Some(*code), left);
         if let Some(m) = search(&p, e, left, &mut NoMemo).best {
             p = apply(&p, m);
         }
@@ -77,7 +70,7 @@ fn mate_in_one(rt: HostRuntime) -> Result<(), Fail> {
     if let Some(m) = found.best {
         let mated = apply(&p, m);
         let found = search(&mated, Eval::Plain, 1, &mut NoMemo);
-        assert_eq!(rt; (found.value, found.best), (-30001, None));
+        same!(rt; (found.value, found.best), (-30001, None));
     }
     Ok(())
 }
@@ -109,11 +102,7 @@ fn without_a_move(rt: HostRuntime) -> Result<(), Fail> {
     let p = position(&pieces, &[], Color::White)?;
     for (depth, value) in [(0, -30000), (1, -30001), (2, -30002)] {
         let found = search(&p, Eval::Plain, depth, &mut NoMemo);
-        assert_eq!(rt;
-            (found.value, found.best),
-            (value, None),
-            "at depth {depth}"
-        );
+        same!(rt; (found.value, found.best), (value, None), depth);
     }
     Ok(())
 }
@@ -180,11 +169,11 @@ fn horse_and_silver(rt: HostRuntime) -> Result<(), Fail> {
 #[test]
 fn steps_from_the_opening(rt: HostRuntime) {
     let start = Position::start();
-    assert_eq!(rt; search(&start, Eval::Plain, 1, &mut NoMemo).steps, 4);
-    assert_eq!(rt; search(&start, Eval::Plain, 2, &mut NoMemo).steps, 6);
+    same!(rt; search(&start, Eval::Plain, 1, &mut NoMemo).steps, 4);
+    same!(rt; search(&start, Eval::Plain, 2, &mut NoMemo).steps, 6);
     let third = search(&start, Eval::Plain, 3, &mut NoMemo).steps;
-    assert!(rt; third <= 26401, "{third} steps");
-    assert!(rt; third <= 2500, "{third} steps");
+    holds!(rt; third <= 26401, third);
+    holds!(rt; third <= 2500, third);
 }
 
 // In slices of any size a search finds the same, in as many steps.
@@ -200,11 +189,7 @@ fn in_slices(rt: HostRuntime) {
             }
         }
         let found = found.expect(&rt, "an end");
-        assert_eq!(rt;
-            (found.value, found.best.map(|m| m.code())),
-            (200, Some(9838)),
-            "in slices of {budget}"
-        );
-        assert!(rt; found.steps <= 2500 && found.steps == search.steps());
+        same!(rt; (found.value, found.best.map(|m| m.code())), (200, Some(9838)), budget);
+        holds!(rt; found.steps <= 2500 && found.steps == search.steps());
     }
 }

@@ -12,6 +12,7 @@ use shogi_search::{Entry, Memo, NoMemo, search};
 use std::alloc::{Allocator, Global};
 use std::hash::BuildHasher;
 use std::test::Fail;
+use test_support::{holds, same};
 
 // Notes what a search at the depth finds.
 fn note_search<M: Memo>(table: &mut M, p: &Position, depth: u8)
@@ -34,30 +35,24 @@ fn depths<S: BuildHasher, A: Allocator>(table: &SharedTable<S, A>) -> u64 {
 fn the_least_recently_used_drops_out(rt: HostRuntime) -> Result<(), Fail> {
     let p = Position::start();
     let mut table = SharedTable::new(rt.alloc(), 2, DefaultHasher::new())?;
-    assert_eq!(rt; table.probe(&p, Eval::Plain, 0), None);
+    same!(rt; table.probe(&p, Eval::Plain, 0), None);
     note_search(&mut table, &p, 0);
     note_search(&mut table, &p, 1);
-    assert_eq!(rt; depths(&table), 10);
-    assert_eq!(rt;
-        table.probe(&p, Eval::Plain, 0),
-        Some(Entry::Exact(0, None))
-    );
-    assert_eq!(rt; depths(&table), 1);
+    same!(rt; depths(&table), 10);
+    same!(rt; table.probe(&p, Eval::Plain, 0), Some(Entry::Exact(0, None)));
+    same!(rt; depths(&table), 1);
     note_search(&mut table, &p, 2);
-    assert_eq!(rt; depths(&table), 20);
-    assert_eq!(rt; table.len(), 2);
-    assert_eq!(rt; table.peek(&p, Eval::Plain, 1), None);
-    assert_eq!(rt; table.peek(&p, Eval::Plain, 0), Some(Entry::Exact(0, None)));
-    assert_eq!(rt;
-        table.peek(&p, Eval::Plain, 2),
-        Some(Entry::Exact(0, Move::of_code(982)))
-    );
-    assert_eq!(rt; depths(&table), 20);
+    same!(rt; depths(&table), 20);
+    same!(rt; table.len(), 2);
+    same!(rt; table.peek(&p, Eval::Plain, 1), None);
+    same!(rt; table.peek(&p, Eval::Plain, 0), Some(Entry::Exact(0, None)));
+    same!(rt; table.peek(&p, Eval::Plain, 2), Some(Entry::Exact(0, Move::of_code(982))));
+    same!(rt; depths(&table), 20);
     note_search(&mut table, &p, 1);
-    assert_eq!(rt; depths(&table), 12);
-    assert_eq!(rt; table.probe(&p, Eval::Plain, 0), None);
+    same!(rt; depths(&table), 12);
+    same!(rt; table.probe(&p, Eval::Plain, 0), None);
     note_search(&mut table, &p, 2);
-    assert_eq!(rt; depths(&table), 21);
+    same!(rt; depths(&table), 21);
     Ok(())
 }
 
@@ -105,9 +100,7 @@ fn promoted() -> Result<Position, Fail> {
 #[test]
 fn words_of_keys(rt: HostRuntime) -> Result<(), Fail> {
     let start = TableKey::of(&Position::start(), Eval::Plain, 3);
-    assert_eq!(rt;
-        start.words(),
-        [
+    same!(rt; start.words(), [
             600741269727100945,
             17612729810944,
             216243151395492866,
@@ -118,12 +111,9 @@ fn words_of_keys(rt: HostRuntime) -> Result<(), Fail> {
             0,
             0,
             12
-        ]
-    );
+        ]);
     let late = TableKey::of(&promoted()?, Eval::Hand, 16);
-    assert_eq!(rt;
-        late.words(),
-        [
+    same!(rt; late.words(), [
             360287970189639689,
             432345564227567627,
             504403158265495565,
@@ -134,8 +124,7 @@ fn words_of_keys(rt: HostRuntime) -> Result<(), Fail> {
             3211305,
             1050663,
             67
-        ]
-    );
+        ]);
     Ok(())
 }
 
@@ -145,8 +134,8 @@ fn keys_are_had_again(rt: HostRuntime) -> Result<(), Fail> {
     for p in [Position::start(), promoted()?] {
         for eval in [Eval::Plain, Eval::Hand] {
             let key = TableKey::of(&p, eval, 200);
-            assert!(rt; key.position() == p);
-            assert_eq!(rt; (key.eval(), key.depth()), (eval, 200));
+            holds!(rt; key.position() == p);
+            same!(rt; (key.eval(), key.depth()), (eval, 200));
         }
     }
     Ok(())
@@ -158,9 +147,9 @@ fn keys_are_had_again(rt: HostRuntime) -> Result<(), Fail> {
 fn keys_that_differ(rt: HostRuntime) -> Result<(), Fail> {
     let p = promoted()?;
     let key = TableKey::of(&p, Eval::Plain, 3);
-    assert!(rt; key.is_same(&TableKey::of(&p, Eval::Plain, 3)));
-    assert!(rt; !key.is_same(&TableKey::of(&p, Eval::Plain, 4)));
-    assert!(rt; !key.is_same(&TableKey::of(&p, Eval::Hand, 3)));
+    holds!(rt; key.is_same(&TableKey::of(&p, Eval::Plain, 3)));
+    holds!(rt; !key.is_same(&TableKey::of(&p, Eval::Plain, 4)));
+    holds!(rt; !key.is_same(&TableKey::of(&p, Eval::Hand, 3)));
     let cells = *p.board().cells();
     for index in 0..81usize {
         let mut others = cells;
@@ -172,10 +161,7 @@ fn keys_that_differ(rt: HostRuntime) -> Result<(), Fail> {
             }),
         };
         let other = Position::new(others, p.hands(), Color::White)?;
-        assert!(rt;
-            !key.is_same(&TableKey::of(&other, Eval::Plain, 3)),
-            "square {index}"
-        );
+        holds!(rt; !key.is_same(&TableKey::of(&other, Eval::Plain, 3)), index);
     }
     for color in [Color::Black, Color::White] {
         for kind in KINDS {
@@ -191,11 +177,11 @@ fn keys_that_differ(rt: HostRuntime) -> Result<(), Fail> {
                 Eval::Plain,
                 3,
             ));
-            assert!(rt; !same, "{color:?} {kind:?}");
+            holds!(rt; !same);
         }
     }
     let turned = Position::new(cells, p.hands(), Color::Black)?;
-    assert!(rt; !key.is_same(&TableKey::of(&turned, Eval::Plain, 3)));
+    holds!(rt; !key.is_same(&TableKey::of(&turned, Eval::Plain, 3)));
     Ok(())
 }
 
@@ -222,8 +208,8 @@ fn bytes_of_a_full_table(rt: HostRuntime) -> Result<(), Fail> {
             }
         }
     }
-    assert_eq!(rt; table.len(), 4096);
-    assert!(rt; heap.used() <= 4096 * 200, "{}", heap.used());
+    same!(rt; table.len(), 4096);
+    holds!(rt; heap.used() <= 4096 * 200, heap.used());
     Ok(())
 }
 
@@ -236,7 +222,7 @@ fn refused_memory(rt: HostRuntime) -> Result<(), Fail> {
         let heap = LocalHeap::new(rt.alloc(), blocks * 32)?;
         match SharedTable::new(&heap, 2, DefaultHasher::new()) {
             Err(fault) => {
-                assert_eq!(rt; fault, TableFault::OutOfMemory);
+                same!(rt; fault, TableFault::OutOfMemory);
                 unmade = true;
             }
             Ok(mut table) => {
@@ -249,11 +235,11 @@ fn refused_memory(rt: HostRuntime) -> Result<(), Fail> {
                 }
                 note_search(&mut table, &p, 0);
                 if table.len() > 0 {
-                    assert_eq!(rt; table.peek(&p, Eval::Plain, 0), Some(Entry::Exact(0, None)));
+                    same!(rt; table.peek(&p, Eval::Plain, 0), Some(Entry::Exact(0, None)));
                 }
             }
         }
     }
-    assert!(rt; unmade && dropped && kept, "{unmade} {dropped} {kept}");
+    holds!(rt; unmade && dropped && kept, unmade);
     Ok(())
 }

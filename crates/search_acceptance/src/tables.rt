@@ -14,6 +14,7 @@ use std::alloc::{AllocError, Global};
 use std::hash::{BuildHasherDefault, FoldHasher};
 use std::process::Abort;
 use std::test::Fail;
+use test_support::{holds, same};
 
 /// A table with a hash without a seed.
 pub type TestTable = SharedTable<BuildHasherDefault<FoldHasher>, Global>;
@@ -55,7 +56,7 @@ fn two_entries(rt: HostRuntime) -> Result<(), Fail> {
     let mut table = table_of(rt.alloc(), 2)?;
     note_exact(&mut table, &start, 0);
     note_exact(&mut table, &start, 1);
-    assert!(rt; table.probe(&start, Eval::Plain, 0) == Some(Entry::Exact(0, None)));
+    holds!(rt; table.probe(&start, Eval::Plain, 0) == Some(Entry::Exact(0, None)));
     note_exact(&mut table, &start, 2);
 
     let mut depths = [99, 99, 99];
@@ -65,15 +66,12 @@ fn two_entries(rt: HostRuntime) -> Result<(), Fail> {
         depths[count] = key.depth();
         count += 1;
     }
-    assert_eq!(rt; (depths, count), ([2, 0, 99], 2));
-    assert!(rt; table.peek(&start, Eval::Plain, 1).is_none());
-    assert_eq!(rt; table.len(), 2);
+    same!(rt; (depths, count), ([2, 0, 99], 2));
+    holds!(rt; table.peek(&start, Eval::Plain, 1).is_none());
+    same!(rt; table.len(), 2);
 
     let again = search(&start, Eval::Plain, 2, &mut table);
-    assert_eq!(rt;
-        (again.value, again.best.map(|m| m.code()), again.steps),
-        (0, Some(982), 0)
-    );
+    same!(rt; (again.value, again.best.map(|m| m.code()), again.steps), (0, Some(982), 0));
     Ok(())
 }
 
@@ -99,15 +97,11 @@ fn children_searched_before(rt: HostRuntime) -> Result<(), Fail> {
         (position(TWO_PAWNS)?, 5, 5, 8),
     ];
     for (root, count, answered_at_two, depths) in &roots {
-        assert_eq!(rt; children(rt.alloc(), root)?.len(), *count);
+        same!(rt; children(rt.alloc(), root)?.len(), *count);
         for depth in 0..*depths {
             let answered: usize = if depth == 1 { *answered_at_two } else { *count };
             let steps = steps_over_children(rt.alloc(), root, depth)?;
-            assert_eq!(rt;
-                steps,
-                (answered as u64).saturating_add(2),
-                "children at depth {depth}"
-            );
+            same!(rt; steps, (answered as u64).saturating_add(2), depth);
         }
     }
     Ok(())
@@ -139,23 +133,15 @@ fn left_of(alloc: Global, root: &Position, depth: u8) -> Result<(usize, usize), 
 #[test]
 fn children_left_in_the_table(rt: HostRuntime) -> Result<(), Fail> {
     let start = Position::start();
-    assert_eq!(rt; left_of(rt.alloc(), &start, 2)?, (30, 2));
+    same!(rt; left_of(rt.alloc(), &start, 2)?, (30, 2));
     // Two plies before the end the first child is searched, and the others are left out.
     for (depth, entries) in [(1u8, 1usize), (3, 30)] {
-        assert_eq!(rt;
-            left_of(rt.alloc(), &start, depth)?.0,
-            entries,
-            "at depth {depth}"
-        );
+        same!(rt; left_of(rt.alloc(), &start, depth)?.0, entries, depth);
     }
     let pawns = position(TWO_PAWNS)?;
     let moves = children(rt.alloc(), &pawns)?.len();
     for depth in 1..8u8 {
-        assert_eq!(rt;
-            left_of(rt.alloc(), &pawns, depth)?.0,
-            moves,
-            "at depth {depth}"
-        );
+        same!(rt; left_of(rt.alloc(), &pawns, depth)?.0, moves, depth);
     }
     Ok(())
 }
@@ -167,12 +153,12 @@ fn notes_at_every_depth(rt: HostRuntime) -> Result<(), Fail> {
     let mut table = table_of(rt.alloc(), 17)?;
     for depth in 0..=16u8 {
         note_exact(&mut table, &mated, depth);
-        assert_eq!(rt; table.len(), usize::from(depth).saturating_add(1));
+        same!(rt; table.len(), usize::from(depth).saturating_add(1));
     }
     for depth in 0..=16u8 {
         let lost = Some(Entry::Exact((-30000i32).saturating_sub(i32::from(depth)), None));
-        assert_eq!(rt; table.peek(&mated, Eval::Plain, depth), lost);
-        assert_eq!(rt; table.probe(&mated, Eval::Plain, depth), lost);
+        same!(rt; table.peek(&mated, Eval::Plain, depth), lost);
+        same!(rt; table.probe(&mated, Eval::Plain, depth), lost);
     }
     Ok(())
 }
@@ -192,8 +178,8 @@ fn two_evaluations_over_one_table(rt: HostRuntime) -> Result<(), Fail> {
             (Eval::Hand, 430),
         ] {
             let found = search(&p, e, 1, &mut table);
-            assert_eq!(rt; found.value, value);
-            assert!(rt; table.peek(&p, e, 1) == Some(Entry::Exact(value, found.best)));
+            same!(rt; found.value, value);
+            holds!(rt; table.peek(&p, e, 1) == Some(Entry::Exact(value, found.best)));
         }
     }
     Ok(())
@@ -207,12 +193,9 @@ fn tables_of_every_size(rt: HostRuntime) -> Result<(), Fail> {
     ] {
         assert!(rt; capacity >= 1 && capacity <= 1000000);
         let mut table = table_of(rt.alloc(), capacity)?;
-        assert!(rt; table.len() == 0 && table.probe(&start, Eval::Plain, 1).is_none());
+        holds!(rt; table.len() == 0 && table.probe(&start, Eval::Plain, 1).is_none());
         note_exact(&mut table, &start, 1);
-        assert_eq!(rt;
-            table.peek(&start, Eval::Plain, 1),
-            Some(Entry::Exact(0, Move::of_code(982)))
-        );
+        same!(rt; table.peek(&start, Eval::Plain, 1), Some(Entry::Exact(0, Move::of_code(982))));
     }
     Ok(())
 }

@@ -12,16 +12,14 @@ use shogi_search::{Entry, Found, Memo, NoMemo, Search};
 use std::alloc::Global;
 use std::process::Abort;
 use std::test::Fail;
+use test_support::{holds, same};
 
 /// Depths from the opening position, with the value and the code of the best move as another program
 /// found them: 1g1f twice, then 7g7f twice.
 const OPENING: [(u8, i32, u16); 4] = [(1, 0, 982), (2, 0, 982), (3, 200, 9838), (4, 0, 9838)];
 
 fn assert_found(rt: &impl Abort, found: &Found, value: i32, code: u16) {
-    assert_eq!(rt;
-        (found.value, found.best.map(|m| m.code())),
-        (value, Some(code))
-    );
+    same!(rt; (found.value, found.best.map(|m| m.code())), (value, Some(code)));
 }
 
 /// Goes on by turns, a step each, until both have ended: the first over the memory, the second over it
@@ -53,7 +51,7 @@ fn assert_turns<M: Memo>(rt: &impl Abort, memo: &mut M, depth: u8, value: i32, c
     let (one, two) = by_turns(&mut first, &mut second, memo).expect(rt, "an end");
     assert_found(rt, &one, value, code);
     assert_found(rt, &two, value, code);
-    assert_eq!(rt; (one.steps, two.steps), (first.steps(), second.steps()));
+    same!(rt; (one.steps, two.steps), (first.steps(), second.steps()));
 }
 
 #[test]
@@ -89,8 +87,8 @@ fn a_root_that_is_known(rt: HostRuntime) -> Result<(), Fail> {
         let found = search.advance(&mut Oracle, budget).ok_or("an end at once")?;
         assert_found(&rt, &found, 0, 982);
         let again = search.advance(&mut NoMemo, 1000).ok_or("an end")?;
-        assert!(rt; again == found);
-        assert_eq!(rt; (found.steps, search.steps()), (0, 0));
+        holds!(rt; again == found);
+        same!(rt; (found.steps, search.steps()), (0, 0));
     }
     Ok(())
 }
@@ -104,11 +102,11 @@ fn few_calls_in_a_step(rt: HostRuntime) -> Result<(), Fail> {
     for made in 0..60000u64 {
         let found = search.advance(&mut recorder, 1);
         let calls = recorder.calls().len();
-        assert!(rt; calls.saturating_sub(before) <= 10, "in step {made}");
+        holds!(rt; calls.saturating_sub(before) <= 10, made);
         before = calls;
         if let Some(found) = found {
             assert_found(&rt, &found, 200, 9838);
-            assert_eq!(rt; found.steps, search.steps());
+            same!(rt; found.steps, search.steps());
             return Ok(());
         }
     }
@@ -140,13 +138,13 @@ fn assert_last_call<M: Memo + Drop>(
     let found = step_by_step(&mut search, &mut recorder).ok_or("an end")?;
     let calls = recorder.calls().len();
     let last = recorder.calls().last().copied().ok_or("a call")?;
-    assert!(rt; last.position == start && last.eval == Eval::Plain && last.depth == depth);
-    assert!(rt; last.noted == Some(Entry::Exact(found.value, found.best)));
+    holds!(rt; last.position == start && last.eval == Eval::Plain && last.depth == depth);
+    holds!(rt; last.noted == Some(Entry::Exact(found.value, found.best)));
     for budget in [0, 1, 1000, u64::MAX] {
-        assert!(rt; search.advance(&mut recorder, budget) == Some(found));
-        assert_eq!(rt; recorder.calls().len(), calls, "with {budget} steps");
+        holds!(rt; search.advance(&mut recorder, budget) == Some(found));
+        same!(rt; recorder.calls().len(), calls, budget);
     }
-    assert_eq!(rt; search.steps(), found.steps);
+    same!(rt; search.steps(), found.steps);
     Ok(found)
 }
 

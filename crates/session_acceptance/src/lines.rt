@@ -3,6 +3,7 @@
 use shogi_eval::Eval;
 use std::process::Abort;
 use std::test::Fail;
+use test_support::{holds, same};
 use usi_lines::{Command, Hold, LINE_MAX, Line, LineBuffer, first_line, read_command};
 
 #[test]
@@ -13,29 +14,29 @@ fn lines_do_not_depend_on_the_cut(rt: HostRuntime) -> Result<(), Fail> {
         buffer.feed(&stream[..cut])?;
         buffer.feed(&stream[cut..])?;
         for text in [b"position startpos".as_slice(), b"isready".as_slice()] {
-            assert_eq!(rt; buffer.next_line(), Some(Line::Text(text)), "cut at {cut}");
+            same!(rt; buffer.next_line(), Some(Line::Text(text)), cut);
             assert!(rt; buffer.has_line());
             buffer.drop_line();
         }
-        assert_eq!(rt; buffer.next_line(), None);
+        same!(rt; buffer.next_line(), None);
     }
     Ok(())
 }
 
 #[test]
 fn a_line_of_the_greatest_length(rt: HostRuntime) -> Result<(), Fail> {
-    assert_eq!(rt; LINE_MAX, 65_535);
+    same!(rt; LINE_MAX, 65_535);
     let mut buffer = LineBuffer::new(rt.alloc());
     for _ in 0..LINE_MAX {
         buffer.feed(b"x")?;
     }
-    assert_eq!(rt; buffer.next_line(), None);
+    same!(rt; buffer.next_line(), None);
     buffer.feed(b"\nquit\n")?;
     let text = vec![in rt.alloc(); b'x'; LINE_MAX]?;
-    assert_eq!(rt; buffer.next_line(), Some(Line::Text(text.as_slice())));
+    same!(rt; buffer.next_line(), Some(Line::Text(text.as_slice())));
     assert!(rt; buffer.has_line());
     buffer.drop_line();
-    assert_eq!(rt; buffer.next_line(), Some(Line::Text(b"quit".as_slice())));
+    same!(rt; buffer.next_line(), Some(Line::Text(b"quit".as_slice())));
     Ok(())
 }
 
@@ -44,31 +45,31 @@ fn one_byte_more_ends_the_lines(rt: HostRuntime) -> Result<(), Fail> {
     let mut buffer = LineBuffer::new(rt.alloc());
     let text = vec![in rt.alloc(); b'x'; LINE_MAX + 1]?;
     buffer.feed(text.as_slice())?;
-    assert_eq!(rt; buffer.next_line(), Some(Line::TooLong));
+    same!(rt; buffer.next_line(), Some(Line::TooLong));
     assert!(rt; buffer.has_line());
     buffer.drop_line();
     buffer.feed(b"usi\n")?;
-    assert!(rt; !buffer.has_line());
+    holds!(rt; !buffer.has_line());
     Ok(())
 }
 
 #[test]
 fn lines_of_a_stream_that_is_all_there(rt: HostRuntime) -> Result<(), Fail> {
     let first = first_line(b"usi\r\nisready\nquit").ok_or("a line")?;
-    assert!(rt; first.line == Line::Text(b"usi".as_slice()));
+    holds!(rt; first.line == Line::Text(b"usi".as_slice()));
     let second = first_line(first.rest).ok_or("a line")?;
-    assert!(rt; second.line == Line::Text(b"isready".as_slice()));
-    assert!(rt; first_line(second.rest).is_none());
+    holds!(rt; second.line == Line::Text(b"isready".as_slice()));
+    holds!(rt; first_line(second.rest).is_none());
 
     let text = vec![in rt.alloc(); b'x'; LINE_MAX + 1]?;
-    assert!(rt; first_line(&text[..LINE_MAX]).is_none());
+    holds!(rt; first_line(&text[..LINE_MAX]).is_none());
     let long = first_line(text.as_slice()).ok_or("a line")?;
-    assert!(rt; long.line == Line::TooLong && first_line(long.rest).is_none());
+    holds!(rt; long.line == Line::TooLong && first_line(long.rest).is_none());
     Ok(())
 }
 
 fn reads(rt: &impl Abort, line: &[u8], command: Command<'_>) {
-    assert_eq!(rt; read_command(line), command);
+    same!(rt; read_command(line), command);
 }
 
 #[test]
@@ -174,7 +175,7 @@ fn positions_of_lines(rt: HostRuntime) {
 }
 
 fn goes(rt: &impl Abort, line: &[u8], depth: Option<u8>, hold: Hold) {
-    assert_eq!(rt; read_command(line), Command::Go { depth, hold });
+    same!(rt; read_command(line), Command::Go { depth, hold });
 }
 
 #[test]

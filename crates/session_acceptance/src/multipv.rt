@@ -10,6 +10,7 @@ use std::test::Fail;
 use test_support::pv_lines::TWO_AT_ONE;
 use test_support::rows::{Row, joined};
 use test_support::tables::{more_lines_than_moves, three_of_a_mate, two_plies};
+use test_support::{holds, same};
 
 // The most slices that a test works.
 const SLICES: u64 = 200_000;
@@ -39,14 +40,24 @@ fn lines_at_once_and_the_move_held(rt: HostRuntime) -> Result<(), Fail> {
         session.work(&mut NoMemo, u64::MAX)?;
         session.feed(go.as_bytes())?;
         session.work(&mut NoMemo, u64::MAX)?;
-        assert!(rt; !session.pending() && session.wants_input());
-        assert_eq!(rt; std::str::from_utf8(session.output())?, TWO_AT_ONE);
+        holds!(rt; !session.pending() && session.wants_input());
+        same!(rt; std::str::from_utf8(session.output())?, TWO_AT_ONE);
         session.take(TWO_AT_ONE.len())?;
         session.feed(until.as_bytes())?;
         session.work(&mut NoMemo, u64::MAX)?;
-        assert_eq!(rt; std::str::from_utf8(session.output())?, "bestmove 1g1f\n");
+        same!(rt; std::str::from_utf8(session.output())?, "bestmove 1g1f\n");
     }
     Ok(())
+}
+
+fn lines_in(bytes: &[u8]) -> usize {
+    let mut lines = 0usize;
+    for byte in bytes {
+        if *byte == b'\n' {
+            lines = lines.saturating_add(1);
+        }
+    }
+    lines
 }
 
 // The search is cut after so many steps, at each multiple of a number, and goes on over another memory:
@@ -64,26 +75,17 @@ fn assert_cut_anywhere(
         let mut session = fed(alloc, row.sent)?;
         session.work(&mut NoMemo, cut)?;
         if !session.pending() {
-            assert!(rt; told > 1 && session.output() == answer.as_bytes());
+            holds!(rt; told > 1 && session.output() == answer.as_bytes());
             return Ok(());
         }
         let queued = session.output().len();
-        assert!(rt;
-            answer.as_bytes().starts_with(session.output()),
-            "cut at {cut}"
-        );
-        told = told.max(
-            session
-                .output()
-                .iter()
-                .filter(|byte| **byte == b'\n')
-                .count(),
-        );
+        holds!(rt; answer.as_bytes().starts_with(session.output()), cut);
+        told = told.max(lines_in(session.output()));
         session.take(queued)?;
         session.work(&mut small_table(alloc)?, u64::MAX)?;
-        assert!(rt; !session.pending(), "cut at {cut}");
+        holds!(rt; !session.pending(), cut);
         let rest = answer.as_bytes().get(queued..).unwrap_or(b"");
-        assert!(rt; session.output() == rest, "cut at {cut}");
+        holds!(rt; session.output() == rest, cut);
     }
     Err(Fail::from("it never ends"))
 }
@@ -104,9 +106,9 @@ fn a_budget_of_the_load_is_enough(rt: HostRuntime) -> Result<(), Fail> {
         (two_plies().sent, 60 + 60 * 31 + 2 * 62),
     ] {
         let mut session = fed(rt.alloc(), sent)?;
-        assert!(rt; session.work(&mut NoMemo, load)? <= load);
-        assert!(rt; !session.pending(), "after {sent:?}");
-        assert!(rt; session.output().starts_with(TWO_AT_ONE.as_bytes()));
+        holds!(rt; session.work(&mut NoMemo, load)? <= load);
+        holds!(rt; !session.pending(), sent);
+        holds!(rt; session.output().starts_with(TWO_AT_ONE.as_bytes()));
     }
     Ok(())
 }
@@ -116,8 +118,8 @@ fn a_budget_of_the_load_is_enough(rt: HostRuntime) -> Result<(), Fail> {
 fn a_budget_of_nothing(rt: HostRuntime) -> Result<(), Fail> {
     let mut session = fed(rt.alloc(), two_plies().sent)?;
     for _ in 0..3 {
-        assert_eq!(rt; session.work(&mut NoMemo, 0)?, 0);
-        assert!(rt; session.pending() && session.output().is_empty());
+        same!(rt; session.work(&mut NoMemo, 0)?, 0);
+        holds!(rt; session.pending() && session.output().is_empty());
     }
     Ok(())
 }

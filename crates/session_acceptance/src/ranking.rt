@@ -14,6 +14,7 @@ use std::alloc::{AllocError, Global};
 use std::hash::{BuildHasherDefault, FoldHasher};
 use std::process::Abort;
 use std::test::Fail;
+use test_support::{holds, same};
 
 /// The moves of a game between two other programs: Black is mated.
 const GAME: [&str; 70] = [
@@ -156,11 +157,7 @@ fn assert_ranked<M: Memo>(
     session.feed(sent.as_str().as_bytes())?;
     session.work(memo, u64::MAX)?;
     let answer = plain_answer(alloc, p, e, lines, depth)?;
-    assert_eq!(rt;
-        std::str::from_utf8(session.output())?,
-        answer.as_str(),
-        "after {sent:?}"
-    );
+    same!(rt; std::str::from_utf8(session.output())?, answer.as_str(), sent);
     Ok(())
 }
 
@@ -257,7 +254,7 @@ fn play_to_the_mate(rt: &impl Abort, alloc: Global, seen: &mut Seen) -> Result<(
             assert_asked(rt, alloc, &mut table, &p, Eval::Plain, lines, seen)?;
         }
     }
-    assert_eq!(rt; perft(&p, 1), Some(0));
+    same!(rt; perft(&p, 1), Some(0));
     Ok(())
 }
 
@@ -265,7 +262,7 @@ fn play_to_the_mate(rt: &impl Abort, alloc: Global, seen: &mut Seen) -> Result<(
 fn positions_before_a_mate(rt: HostRuntime) -> Result<(), Fail> {
     let mut seen = Seen::none();
     play_to_the_mate(&rt, rt.alloc(), &mut seen)?;
-    assert!(rt; seen.positions == 20 && seen.deep >= 2 && seen.mates >= 3);
+    holds!(rt; seen.positions == 20 && seen.deep >= 2 && seen.mates >= 3);
     Ok(())
 }
 
@@ -275,7 +272,7 @@ fn assert_games(rt: &impl Abort, alloc: Global, seeds: [u64; 2]) -> Result<(), F
     for seed in seeds {
         play_game(rt, alloc, seed, &mut seen)?;
     }
-    assert!(rt; seen.positions >= 34);
+    holds!(rt; seen.positions >= 34);
     Ok(())
 }
 

@@ -5,6 +5,7 @@ use shogi_search::{Memo, NoMemo};
 use std::alloc::Global;
 use std::process::Abort;
 use std::test::Fail;
+use test_support::{holds, same};
 use usi_lines::{Command, Hold, read_command};
 
 // Takes what was answered.
@@ -12,7 +13,7 @@ fn take_all(rt: &impl Abort, session: &mut TestSession, said: &mut Vec<u8>) -> R
     said.extend_from_slice(session.output())?;
     let queued = session.output().len();
     session.take(queued)?;
-    assert!(rt; session.output().is_empty());
+    holds!(rt; session.output().is_empty());
     Ok(())
 }
 
@@ -25,12 +26,12 @@ fn talk<M: Memo>(
     said: &mut Vec<u8>,
 ) -> Result<(), Fail> {
     if !session.wants_input() {
-        assert!(rt; session.is_over());
+        holds!(rt; session.is_over());
         return Ok(());
     }
     session.feed(chunk)?;
     session.work(memo, u64::MAX)?;
-    assert!(rt; !session.pending());
+    holds!(rt; !session.pending());
     take_all(rt, session, said)
 }
 
@@ -65,19 +66,15 @@ fn the_longest_line(rt: HostRuntime) -> Result<(), Fail> {
         let mut sent = vec![in rt.alloc(); b'x'; length]?;
         sent.extend_from_slice(end)?;
         let got = said_to_all(&rt, rt.alloc(), sent.as_slice())?;
-        assert_eq!(rt;
-            std::str::from_utf8(got.as_slice())?,
-            answer,
-            "{length} bytes"
-        );
+        same!(rt; std::str::from_utf8(got.as_slice())?, answer, length);
     }
     Ok(())
 }
 
 // How many bytes are queued, and whether input is wanted.
 fn assert_queued(rt: &impl Abort, session: &TestSession, queued: usize, wants_input: bool) {
-    assert_eq!(rt; session.output().len(), queued);
-    assert_eq!(rt; session.wants_input(), wants_input);
+    same!(rt; session.output().len(), queued);
+    same!(rt; session.wants_input(), wants_input);
 }
 
 // A session that was fed 1,024 times `usi`, and nothing more.
@@ -95,7 +92,7 @@ fn fed_usi(alloc: Global) -> Result<TestSession, Fail> {
 #[test]
 fn input_waits_for_a_full_queue(rt: HostRuntime) -> Result<(), Fail> {
     let mut session = fed_usi(rt.alloc())?;
-    assert!(rt; session.pending());
+    holds!(rt; session.pending());
     assert_queued(&rt, &session, 0, false);
     session.work(&mut NoMemo, u64::MAX)?;
     assert_queued(&rt, &session, 234_496, false);
@@ -113,5 +110,5 @@ fn a_depth_above_the_greatest(rt: HostRuntime) {
         depth: Some(16),
         hold: Hold::Nothing,
     };
-    assert_eq!(rt; read_command(b"go depth 99999999999999999999"), command);
+    same!(rt; read_command(b"go depth 99999999999999999999"), command);
 }

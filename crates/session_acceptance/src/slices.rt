@@ -11,6 +11,7 @@ use std::test::Fail;
 use test_support::fakes::{FailingWriter, NotingWriter};
 use test_support::rows::{INFO_ONE, Row, joined};
 use test_support::tables::{opening, opening_by_hand, sliced};
+use test_support::{holds, same};
 use usi_stdio::{StdioFault, stdio};
 
 // The most slices that a test works.
@@ -31,9 +32,9 @@ fn work_slice<M: Memo>(
     budget: u64,
 ) -> Result<u64, Fail> {
     let made = session.work(memo, budget)?;
-    assert!(rt; made <= budget);
+    holds!(rt; made <= budget);
     if session.pending() {
-        assert_eq!(rt; made, budget, "still pending");
+        same!(rt; made, budget, "still pending");
     }
     Ok(made)
 }
@@ -68,21 +69,17 @@ fn assert_worked<M: Memo>(
     let steps = worked(rt, &mut session, memo, budget)?;
     let answer = joined(alloc, row.answer)?;
     let sent = row.sent;
-    assert_eq!(rt;
-        std::str::from_utf8(session.output())?,
-        answer.as_str(),
-        "after {sent:?} with a budget of {budget}"
-    );
+    same!(rt; std::str::from_utf8(session.output())?, answer.as_str(), sent);
     Ok(steps)
 }
 
 // With each budget from 1 to 70 the row takes the same steps, and no more than the load.
 fn assert_every_budget(rt: &impl Abort, alloc: Global, row: &Row, load: u64) -> Result<(), Fail> {
     let whole = assert_worked(rt, alloc, &mut NoMemo, row, u64::MAX)?;
-    assert!(rt; whole <= load, "{whole} steps");
+    holds!(rt; whole <= load, whole);
     for budget in 1..71u64 {
         let steps = assert_worked(rt, alloc, &mut NoMemo, row, budget)?;
-        assert_eq!(rt; steps, whole, "with a budget of {budget}");
+        same!(rt; steps, whole, budget);
     }
     Ok(())
 }
@@ -104,7 +101,7 @@ fn depth_one_takes_four_steps(rt: HostRuntime) -> Result<(), Fail> {
     let [row, ..] = sliced();
     for budget in [1, 3, 4, 5, u64::MAX] {
         let steps = assert_worked(&rt, rt.alloc(), &mut NoMemo, &row, budget)?;
-        assert_eq!(rt; steps, 4, "with a budget of {budget}");
+        same!(rt; steps, 4, budget);
     }
     Ok(())
 }
@@ -113,12 +110,12 @@ fn depth_one_takes_four_steps(rt: HostRuntime) -> Result<(), Fail> {
 #[test]
 fn a_budget_of_the_search_is_enough(rt: HostRuntime) -> Result<(), Fail> {
     let mut session = fed(rt.alloc(), "go depth 1\nisready\n")?;
-    assert_eq!(rt; session.work(&mut NoMemo, 3)?, 3);
-    assert!(rt; session.pending() && session.output().is_empty());
-    assert_eq!(rt; session.work(&mut NoMemo, 1)?, 1);
-    assert!(rt; !session.pending());
-    assert!(rt; session.output().starts_with(INFO_ONE.as_bytes()));
-    assert!(rt; session.output().ends_with(b"bestmove 1g1f\nreadyok\n"));
+    same!(rt; session.work(&mut NoMemo, 3)?, 3);
+    holds!(rt; session.pending() && session.output().is_empty());
+    same!(rt; session.work(&mut NoMemo, 1)?, 1);
+    holds!(rt; !session.pending());
+    holds!(rt; session.output().starts_with(INFO_ONE.as_bytes()));
+    holds!(rt; session.output().ends_with(b"bestmove 1g1f\nreadyok\n"));
     Ok(())
 }
 
@@ -127,9 +124,9 @@ fn a_budget_of_the_search_is_enough(rt: HostRuntime) -> Result<(), Fail> {
 fn a_budget_of_nothing(rt: HostRuntime) -> Result<(), Fail> {
     let mut session = fed(rt.alloc(), "isready\ngo depth 1\nisready\n")?;
     for _ in 0..3 {
-        assert_eq!(rt; session.work(&mut NoMemo, 0)?, 0);
-        assert!(rt; session.pending() && !session.wants_input());
-        assert_eq!(rt; std::str::from_utf8(session.output())?, "readyok\n");
+        same!(rt; session.work(&mut NoMemo, 0)?, 0);
+        holds!(rt; session.pending() && !session.wants_input());
+        same!(rt; std::str::from_utf8(session.output())?, "readyok\n");
     }
     Ok(())
 }
@@ -142,10 +139,7 @@ fn taken_front(
     cut: u64,
 ) -> Result<usize, Fail> {
     let queued = session.output().len();
-    assert!(rt;
-        answer.as_bytes().starts_with(session.output()),
-        "cut at {cut}"
-    );
+    holds!(rt; answer.as_bytes().starts_with(session.output()), cut);
     session.take(queued)?;
     Ok(queued)
 }
@@ -160,16 +154,9 @@ fn finish(alloc: Global, session: &mut TestSession) -> Result<(), Fail> {
 
 // What was taken and what is queued are the answer.
 fn assert_rest(rt: &impl Abort, session: &TestSession, answer: &str, taken: usize, cut: u64) {
-    assert!(rt; !session.pending(), "cut at {cut}");
-    assert!(rt;
-        answer.as_bytes().ends_with(session.output()),
-        "cut at {cut}"
-    );
-    assert_eq!(rt;
-        taken.saturating_add(session.output().len()),
-        answer.len(),
-        "cut at {cut}"
-    );
+    holds!(rt; !session.pending(), cut);
+    holds!(rt; answer.as_bytes().ends_with(session.output()), cut);
+    same!(rt; taken.saturating_add(session.output().len()), answer.len(), cut);
 }
 
 // The search is cut after each number of steps, once over each memo.
@@ -211,7 +198,7 @@ fn assert_done(
     session: &TestSession,
     row: &Row,
 ) -> Result<(), Fail> {
-    assert!(rt; !session.pending());
+    holds!(rt; !session.pending());
     assert_answer(rt, alloc, row, session.output())
 }
 
@@ -238,8 +225,8 @@ fn two_evaluations_over_one_table(rt: HostRuntime) -> Result<(), Fail> {
     let (plain, by_hand) = (opening(), opening_by_hand());
     for row in [plain, by_hand] {
         let steps = assert_worked(&rt, rt.alloc(), &mut table, &row, 1000)?;
-        assert!(rt; steps > 0);
-        assert_eq!(rt; assert_worked(&rt, rt.alloc(), &mut table, &row, 0)?, 0);
+        holds!(rt; steps > 0);
+        same!(rt; assert_worked(&rt, rt.alloc(), &mut table, &row, 0)?, 0);
     }
     for entries in [1, 4096] {
         let hasher = BuildHasherDefault::<FoldHasher>::new();
@@ -256,8 +243,8 @@ fn a_second_session_finds_what_the_first_one_searched(rt: HostRuntime) -> Result
     let mut table = SharedTable::new(rt.alloc(), 4096, hasher)?;
     for row in sliced() {
         let steps = assert_worked(&rt, rt.alloc(), &mut table, &row, 1)?;
-        assert!(rt; steps > 0);
-        assert_eq!(rt; assert_worked(&rt, rt.alloc(), &mut table, &row, 0)?, 0);
+        holds!(rt; steps > 0);
+        same!(rt; assert_worked(&rt, rt.alloc(), &mut table, &row, 0)?, 0);
     }
     Ok(())
 }
@@ -270,16 +257,13 @@ fn lines_are_flushed_as_they_are_found(rt: HostRuntime) -> Result<(), Fail> {
     let mut writer = NotingWriter::new(rt.alloc());
     stdio(rt.alloc(), &mut reader, &mut writer, 4096)?;
     let answer = writer.written();
-    assert!(rt; std::str::from_utf8(answer)?.contains("info depth 5 score cp 200 pv 9g9f"));
+    holds!(rt; std::str::from_utf8(answer)?.contains("info depth 5 score cp 200 pv 9g9f"));
     let flushed = writer.flushed();
     let first = flushed.first().copied().unwrap_or(0);
     let begun = answer.get(..first).unwrap_or(b"");
-    assert!(rt; begun.starts_with(INFO_ONE.as_bytes()), "{first} bytes");
-    assert!(rt;
-        !std::str::from_utf8(begun)?.contains("depth 5"),
-        "{first} bytes"
-    );
-    assert_eq!(rt; flushed.last().copied(), Some(answer.len()));
+    holds!(rt; begun.starts_with(INFO_ONE.as_bytes()), first);
+    holds!(rt; !std::str::from_utf8(begun)?.contains("depth 5"), first);
+    same!(rt; flushed.last().copied(), Some(answer.len()));
     Ok(())
 }
 
@@ -289,7 +273,7 @@ fn each_line_is_flushed_before_the_next(rt: HostRuntime) -> Result<(), Fail> {
     let mut reader = b"isready\nposition startpos\ngo depth 1\nisready\n".as_slice();
     let mut writer = NotingWriter::new(rt.alloc());
     stdio(rt.alloc(), &mut reader, &mut writer, 1)?;
-    assert!(rt; writer.flushed() == [8, 54, 62].as_slice());
+    holds!(rt; writer.flushed() == [8, 54, 62].as_slice());
     Ok(())
 }
 
@@ -299,7 +283,7 @@ fn lines_without_a_reply_are_not_flushed(rt: HostRuntime) -> Result<(), Fail> {
     let mut reader = b"position startpos\nusinewgame\n".as_slice();
     let mut writer = NotingWriter::new(rt.alloc());
     stdio(rt.alloc(), &mut reader, &mut writer, 1)?;
-    assert!(rt; writer.written().is_empty() && writer.flushed().is_empty());
+    holds!(rt; writer.written().is_empty() && writer.flushed().is_empty());
     Ok(())
 }
 
@@ -314,10 +298,7 @@ fn a_front_end_that_is_gone(rt: HostRuntime) -> Result<(), Fail> {
     ] {
         let mut reader = b"go depth 16\n".as_slice();
         let mut writer = FailingWriter::new(rt.alloc(), 4096, writes, flushes);
-        assert_eq!(rt;
-            stdio(rt.alloc(), &mut reader, &mut writer, 4096),
-            Err(StdioFault::WriteFailed)
-        );
+        same!(rt; stdio(rt.alloc(), &mut reader, &mut writer, 4096), Err(StdioFault::WriteFailed));
     }
     Ok(())
 }

@@ -7,6 +7,7 @@ use std::test::Fail;
 use test_support::fakes::{FailingReader, FailingWriter, Watch, WatchedWriter, WatchingReader};
 use test_support::rows::{Row, joined};
 use test_support::tables::stored;
+use test_support::{holds, same};
 use usi_stdio::{StdioFault, stdio};
 
 // What the streams write for the bytes.
@@ -14,7 +15,7 @@ fn assert_written(rt: &impl Abort, alloc: Global, sent: &[u8], answer: &str) -> 
     let mut reader = sent;
     let mut writer = Vec::new(alloc);
     stdio(alloc, &mut reader, &mut writer, 4096)?;
-    assert_eq!(rt; std::str::from_utf8(writer.as_slice())?, answer);
+    same!(rt; std::str::from_utf8(writer.as_slice())?, answer);
     Ok(())
 }
 
@@ -36,7 +37,7 @@ fn a_line_that_is_too_long(rt: HostRuntime) -> Result<(), Fail> {
 fn assert_answers(rt: &impl Abort, alloc: Global, read: &[u8], written: &[u8]) -> Result<(), Fail> {
     let (mut reader, mut wanted) = (read, Vec::new(alloc));
     stdio(alloc, &mut reader, &mut wanted, 1)?;
-    assert!(rt; written == wanted.as_slice());
+    holds!(rt; written == wanted.as_slice());
     Ok(())
 }
 
@@ -52,7 +53,7 @@ fn assert_read(rt: &impl Abort, alloc: Global, reads: usize) -> Result<bool, Fai
             Ok(true)
         }
         Err(fault) => {
-            assert_eq!(rt; fault, StdioFault::ReadFailed, "after {reads} reads");
+            same!(rt; fault, StdioFault::ReadFailed, reads);
             assert_answers(rt, alloc, reader.given(), writer.as_slice())?;
             Ok(false)
         }
@@ -70,14 +71,14 @@ fn each_read_fails_in_turn(rt: HostRuntime) -> Result<(), Fail> {
             failed = true;
         }
     }
-    assert!(rt; failed && passed, "{failed} {passed}");
+    holds!(rt; failed && passed, failed);
     Ok(())
 }
 
 // The bytes are a front of the answer of the row.
 fn assert_starts(rt: &impl Abort, alloc: Global, row: &Row, written: &[u8]) -> Result<(), Fail> {
     let whole = joined(alloc, row.answer)?;
-    assert!(rt; whole.as_bytes().starts_with(written));
+    holds!(rt; whole.as_bytes().starts_with(written));
     Ok(())
 }
 
@@ -91,7 +92,7 @@ fn assert_front(rt: &impl Abort, alloc: Global, mut writer: FailingWriter) -> Re
             Ok(true)
         }
         Err(fault) => {
-            assert_eq!(rt; fault, StdioFault::WriteFailed);
+            same!(rt; fault, StdioFault::WriteFailed);
             assert_starts(rt, alloc, &row, writer.written())?;
             Ok(false)
         }
@@ -109,7 +110,7 @@ fn each_write_fails_in_turn(rt: HostRuntime) -> Result<(), Fail> {
             failed = true;
         }
     }
-    assert!(rt; failed && passed, "{failed} {passed}");
+    holds!(rt; failed && passed, failed);
     Ok(())
 }
 
@@ -124,16 +125,16 @@ fn each_flush_fails_in_turn(rt: HostRuntime) -> Result<(), Fail> {
             failed = true;
         }
     }
-    assert!(rt; failed && passed, "{failed} {passed}");
+    holds!(rt; failed && passed, failed);
     Ok(())
 }
 
 #[test]
 fn writers_of_one_byte_and_of_none(rt: HostRuntime) -> Result<(), Fail> {
     let narrow = FailingWriter::new(rt.alloc(), 1, usize::MAX, usize::MAX);
-    assert!(rt; assert_front(&rt, rt.alloc(), narrow)?);
+    holds!(rt; assert_front(&rt, rt.alloc(), narrow)?);
     let stalled = FailingWriter::new(rt.alloc(), 0, usize::MAX, usize::MAX);
-    assert!(rt; !assert_front(&rt, rt.alloc(), stalled)?);
+    holds!(rt; !assert_front(&rt, rt.alloc(), stalled)?);
     Ok(())
 }
 

@@ -3,6 +3,7 @@
 use crate::scene::{ANSWER, GO_AND_QUIT, Scene};
 use std::process::Abort;
 use std::test::Fail;
+use test_support::{holds, same};
 
 // Calls 1 to 3 are accepts, of which the third finds nobody; call 5 is the second peer's first read.
 #[test]
@@ -12,22 +13,22 @@ fn a_read_that_fails(rt: HostRuntime) -> Result<(), Fail> {
     let y = scene.connect(GO_AND_QUIT)?;
     scene.fail_at(5);
     scene.turn();
-    assert!(rt; scene.is_shut(y) && !scene.is_shut(x));
+    holds!(rt; scene.is_shut(y) && !scene.is_shut(x));
     scene.turn_times(7);
-    assert!(rt; scene.written(x) == ANSWER && scene.is_shut(x));
-    assert!(rt; scene.written(y).is_empty() && scene.is_shut(y));
-    assert_eq!(rt; scene.faults(), 1);
+    holds!(rt; scene.written(x) == ANSWER && scene.is_shut(x));
+    holds!(rt; scene.written(y).is_empty() && scene.is_shut(y));
+    same!(rt; scene.faults(), 1);
     Ok(())
 }
 
 // What a connection was written in the end, where one call of the wire may have failed.
 fn check_one(rt: &impl Abort, scene: &Scene, number: u64, n: u64) {
     let written = scene.written(number);
-    assert!(rt; scene.is_shut(number), "call {n}");
+    holds!(rt; scene.is_shut(number), n);
     if scene.has_failed(number) {
-        assert!(rt; ANSWER.starts_with(written), "call {n}");
+        holds!(rt; ANSWER.starts_with(written), n);
     } else {
-        assert!(rt; written == ANSWER, "call {n}");
+        holds!(rt; written == ANSWER, n);
     }
 }
 
@@ -46,8 +47,8 @@ fn each_call_fails_in_turn(rt: HostRuntime) -> Result<(), Fail> {
         if scene.faults() == 0 {
             break;
         }
-        assert_eq!(rt; scene.faults(), 1);
-        assert!(rt; !(scene.has_failed(x) && scene.has_failed(y)), "call {n}");
+        same!(rt; scene.faults(), 1);
+        holds!(rt; !(scene.has_failed(x) && scene.has_failed(y)), n);
         if scene.has_failed(x) || scene.has_failed(y) {
             others = others.saturating_add(1);
         } else {
@@ -55,7 +56,7 @@ fn each_call_fails_in_turn(rt: HostRuntime) -> Result<(), Fail> {
         }
     }
     // Two reads and a write for each of the two, and ten accepts in eight turns.
-    assert_eq!(rt; (accepts, others), (10, 6));
+    same!(rt; (accepts, others), (10, 6));
     Ok(())
 }
 
@@ -84,8 +85,8 @@ fn a_fault_at_a_full_host(rt: HostRuntime) -> Result<(), Fail> {
     let y = scene.connect(GO_AND_QUIT)?;
     scene.fail_at(3);
     scene.turn_times(8);
-    assert!(rt; scene.written(x) == ANSWER && scene.is_shut(x));
-    assert!(rt; scene.written(y).is_empty() && scene.is_shut(y) && scene.has_failed(y));
+    holds!(rt; scene.written(x) == ANSWER && scene.is_shut(x));
+    holds!(rt; scene.written(y).is_empty() && scene.is_shut(y) && scene.has_failed(y));
     Ok(())
 }
 
@@ -97,13 +98,13 @@ fn peers_are_visited_by_rising_slot(rt: HostRuntime) -> Result<(), Fail> {
     let first = scene.connect(&[b"quit\n"])?;
     let second = scene.connect(&[b"isr", b"eady\n"])?;
     scene.turn();
-    assert!(rt; scene.is_shut(first) && !scene.is_shut(second));
+    holds!(rt; scene.is_shut(first) && !scene.is_shut(second));
     let third = scene.connect(GO_AND_QUIT)?;
     scene.fail_at(3);
     scene.turn_times(8);
-    assert!(rt; scene.has_failed(third) && scene.is_shut(third));
-    assert!(rt; scene.written(third).is_empty());
-    assert!(rt; !scene.has_failed(second));
-    assert!(rt; scene.written(second) == b"readyok\n".as_slice());
+    holds!(rt; scene.has_failed(third) && scene.is_shut(third));
+    holds!(rt; scene.written(third).is_empty());
+    holds!(rt; !scene.has_failed(second));
+    holds!(rt; scene.written(second) == b"readyok\n".as_slice());
     Ok(())
 }

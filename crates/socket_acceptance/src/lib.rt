@@ -1,6 +1,8 @@
 //! Tests of the loop that serves sessions to connections, over a wire in memory.
 #![tactic(auto)]
 
+#[cfg(test)]
+mod assertions;
 mod call;
 #[cfg(test)]
 mod faults;

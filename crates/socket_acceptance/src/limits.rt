@@ -5,6 +5,7 @@ use host_core::{Event, Host, Outcome};
 use std::alloc::Global;
 use std::hash::{BuildHasherDefault, FoldHasher};
 use std::test::Fail;
+use test_support::{holds, same};
 
 /// The lines of a text, so many times over.
 fn repeated(alloc: Global, text: &[u8], count: usize) -> Result<Vec<u8>, Fail> {
@@ -23,14 +24,11 @@ fn sixteen_are_accepted_in_a_turn(rt: HostRuntime) -> Result<(), Fail> {
     }
     scene.turn();
     for number in 0..20 {
-        assert_eq!(rt; scene.written(number).is_empty(), number >= 16, "{number}");
+        same!(rt; scene.written(number).is_empty(), number >= 16, number);
     }
     scene.turn();
     for number in 0..20 {
-        assert!(rt;
-            scene.written(number) == b"readyok\n".as_slice(),
-            "{number}"
-        );
+        holds!(rt; scene.written(number) == b"readyok\n".as_slice(), number);
     }
     Ok(())
 }
@@ -42,9 +40,9 @@ fn a_read_takes_at_most_4096_bytes(rt: HostRuntime) -> Result<(), Fail> {
     let sent = repeated(rt.alloc(), b"isready\n", 513)?;
     let x = scene.connect(&[sent.as_slice()])?;
     scene.turn();
-    assert_eq!(rt; scene.written(x).len(), 4096);
+    same!(rt; scene.written(x).len(), 4096);
     scene.turn();
-    assert_eq!(rt; scene.written(x).len(), 4104);
+    same!(rt; scene.written(x).len(), 4104);
     Ok(())
 }
 
@@ -61,14 +59,14 @@ fn a_full_queue_wants_no_input(rt: HostRuntime) -> Result<(), Fail> {
         return Err("a session is opened".into());
     };
     let sent = repeated(rt.alloc(), b"usi\n", 1024)?;
-    assert!(rt; matches!(host.step(Event::Feed(id, sent.as_slice())), Outcome::Done));
+    holds!(rt; matches!(host.step(Event::Feed(id, sent.as_slice())), Outcome::Done));
     host.round(1);
-    assert_eq!(rt; host.output(id).unwrap_or(b"").len(), 234496);
-    assert!(rt; !host.wants_input(id));
-    assert_eq!(rt; host.pass(id, 168960), Ok(()));
-    assert!(rt; !host.wants_input(id));
-    assert_eq!(rt; host.pass(id, 1), Ok(()));
-    assert!(rt; host.wants_input(id));
+    same!(rt; host.output(id).unwrap_or(b"").len(), 234496);
+    holds!(rt; !host.wants_input(id));
+    same!(rt; host.pass(id, 168960), Ok(()));
+    holds!(rt; !host.wants_input(id));
+    same!(rt; host.pass(id, 1), Ok(()));
+    holds!(rt; host.wants_input(id));
     Ok(())
 }
 
@@ -79,10 +77,10 @@ fn one_that_takes_nothing_beside_one_that_does(rt: HostRuntime) -> Result<(), Fa
     let x = scene.connect(&[sent.as_slice(), sent.as_slice()])?;
     let y = scene.connect(GO_AND_QUIT)?;
     scene.narrow(x, 0);
-    assert!(rt; !scene.turn_times(8));
-    assert!(rt; scene.written(y) == ANSWER && scene.is_shut(y));
-    assert!(rt; scene.written(x).is_empty() && !scene.is_shut(x));
-    assert_eq!(rt; scene.bytes_left(x), 4096);
+    holds!(rt; !scene.turn_times(8));
+    holds!(rt; scene.written(y) == ANSWER && scene.is_shut(y));
+    holds!(rt; scene.written(x).is_empty() && !scene.is_shut(x));
+    same!(rt; scene.bytes_left(x), 4096);
     Ok(())
 }
 
@@ -93,9 +91,9 @@ fn a_line_without_end(rt: HostRuntime) -> Result<(), Fail> {
     let sent = repeated(rt.alloc(), b"x", 17 * 4096)?;
     let x = scene.connect_cut(sent.as_slice(), 4096)?;
     scene.turn_times(32);
-    assert!(rt; scene.written(x) == b"info string line too long\n".as_slice());
-    assert!(rt; scene.is_shut(x));
-    assert_eq!(rt; scene.bytes_left(x), 4096);
+    holds!(rt; scene.written(x) == b"info string line too long\n".as_slice());
+    holds!(rt; scene.is_shut(x));
+    same!(rt; scene.bytes_left(x), 4096);
     Ok(())
 }
 
@@ -105,13 +103,10 @@ fn a_thousand_connections_in_chunks_of_one_byte(rt: HostRuntime) -> Result<(), F
     for _ in 0..1024 {
         scene.connect_cut(b"isready\n", 1)?;
     }
-    assert!(rt; !scene.turn_times(80));
+    holds!(rt; !scene.turn_times(80));
     for number in 0..1024 {
-        assert!(rt;
-            scene.written(number) == b"readyok\n".as_slice(),
-            "{number}"
-        );
-        assert!(rt; scene.is_shut(number), "{number}");
+        holds!(rt; scene.written(number) == b"readyok\n".as_slice(), number);
+        holds!(rt; scene.is_shut(number), number);
     }
     Ok(())
 }

@@ -2,6 +2,7 @@
 
 use crate::scene::{ANSWER, GO_AND_QUIT, HOST_FULL, Scene};
 use std::test::Fail;
+use test_support::{holds, same};
 
 // The first turn accepts both, tells the second that the host is full, and reads the first chunk; the
 // second turn reads the rest, answers, and shuts.
@@ -11,10 +12,10 @@ fn one_is_served_and_one_is_turned_away(rt: HostRuntime) -> Result<(), Fail> {
     let x = scene.connect(GO_AND_QUIT)?;
     let y = scene.connect(&[])?;
     for turn in 0..8 {
-        assert_eq!(rt; scene.turn(), turn < 2, "turn {turn}");
+        same!(rt; scene.turn(), turn < 2, turn);
     }
-    assert!(rt; scene.written(x) == ANSWER && scene.is_shut(x));
-    assert!(rt; scene.written(y) == HOST_FULL && scene.is_shut(y));
+    holds!(rt; scene.written(x) == ANSWER && scene.is_shut(x));
+    holds!(rt; scene.written(y) == HOST_FULL && scene.is_shut(y));
     Ok(())
 }
 
@@ -25,7 +26,7 @@ fn two_are_served(rt: HostRuntime) -> Result<(), Fail> {
     let y = scene.connect(GO_AND_QUIT)?;
     scene.turn_times(8);
     for number in [x, y] {
-        assert!(rt; scene.written(number) == ANSWER && scene.is_shut(number));
+        holds!(rt; scene.written(number) == ANSWER && scene.is_shut(number));
     }
     Ok(())
 }
@@ -38,7 +39,7 @@ fn one_byte_a_write(rt: HostRuntime) -> Result<(), Fail> {
     scene.narrow(x, 1);
     scene.turn_times(64);
     for number in [x, y] {
-        assert!(rt; scene.written(number) == ANSWER && scene.is_shut(number));
+        holds!(rt; scene.written(number) == ANSWER && scene.is_shut(number));
     }
     Ok(())
 }
@@ -51,8 +52,8 @@ fn a_full_host_is_told_in_one_write(rt: HostRuntime) -> Result<(), Fail> {
     let y = scene.connect(&[])?;
     scene.narrow(y, 4);
     scene.turn_times(4);
-    assert!(rt; scene.written(x) == b"readyok\n".as_slice() && scene.is_shut(x));
-    assert!(rt; scene.written(y) == b"info".as_slice() && scene.is_shut(y));
+    holds!(rt; scene.written(x) == b"readyok\n".as_slice() && scene.is_shut(x));
+    holds!(rt; scene.written(y) == b"info".as_slice() && scene.is_shut(y));
     Ok(())
 }
 
@@ -67,10 +68,10 @@ fn a_peer_that_ends_is_answered_first(rt: HostRuntime) -> Result<(), Fail> {
             break;
         }
         turns = turns.saturating_add(1);
-        assert!(rt; !scene.is_shut(x) || scene.written(x) == ANSWER);
+        holds!(rt; !scene.is_shut(x) || scene.written(x) == ANSWER);
     }
-    assert!(rt; scene.written(x) == ANSWER && scene.is_shut(x));
-    assert!(rt; turns >= 4 && turns < 64);
+    holds!(rt; scene.written(x) == ANSWER && scene.is_shut(x));
+    holds!(rt; turns >= 4 && turns < 64);
     Ok(())
 }
 
@@ -78,8 +79,8 @@ fn a_peer_that_ends_is_answered_first(rt: HostRuntime) -> Result<(), Fail> {
 fn a_peer_that_ends_in_a_line_is_shut(rt: HostRuntime) -> Result<(), Fail> {
     let mut scene = Scene::new(rt.alloc(), 1, 1000)?;
     let x = scene.connect(&[b"isready\nisrea"])?;
-    assert!(rt; !scene.turn_times(8));
-    assert!(rt; scene.written(x) == b"readyok\n".as_slice() && scene.is_shut(x));
+    holds!(rt; !scene.turn_times(8));
+    holds!(rt; scene.written(x) == b"readyok\n".as_slice() && scene.is_shut(x));
     Ok(())
 }
 
@@ -89,11 +90,11 @@ fn a_slot_is_used_again(rt: HostRuntime) -> Result<(), Fail> {
     let mut scene = Scene::new(rt.alloc(), 1, 1000)?;
     let x = scene.connect(&[b"quit\nisready\n", b"isready\n"])?;
     scene.turn();
-    assert!(rt; scene.written(x).is_empty() && scene.is_shut(x));
+    holds!(rt; scene.written(x).is_empty() && scene.is_shut(x));
     let y = scene.connect(GO_AND_QUIT)?;
     scene.turn_times(8);
-    assert!(rt; scene.written(y) == ANSWER && scene.is_shut(y));
-    assert!(rt; scene.written(x).is_empty());
+    holds!(rt; scene.written(y) == ANSWER && scene.is_shut(y));
+    holds!(rt; scene.written(x).is_empty());
     Ok(())
 }
 
@@ -108,8 +109,8 @@ bestmove 1g1f
     let mut scene = Scene::new(rt.alloc(), 2, 1)?;
     let x = scene.connect(&[b"setoption name MultiPV value 2\ngo de", b"pth 1\nquit\n"])?;
     let y = scene.connect(GO_AND_QUIT)?;
-    assert!(rt; !scene.turn_times(64));
-    assert!(rt; scene.written(x) == two && scene.is_shut(x));
-    assert!(rt; scene.written(y) == ANSWER && scene.is_shut(y));
+    holds!(rt; !scene.turn_times(64));
+    holds!(rt; scene.written(x) == two && scene.is_shut(x));
+    holds!(rt; scene.written(y) == ANSWER && scene.is_shut(y));
     Ok(())
 }

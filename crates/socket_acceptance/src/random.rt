@@ -7,6 +7,7 @@ use shogi_search::NoMemo;
 use std::alloc::Global;
 use std::process::Abort;
 use std::test::Fail;
+use test_support::holds;
 use usi_session::Session;
 
 /// Numbers that follow from a seed (a linear congruence modulo 2^64).
@@ -107,19 +108,13 @@ fn check(
 ) -> Result<bool, Fail> {
     let written = scene.written(client.number);
     let alone = said_alone(alloc, client.sent.as_slice())?;
-    assert!(rt;
-        scene.is_shut(client.number) || !client.takes,
-        "seed {seed}"
-    );
+    holds!(rt; scene.is_shut(client.number) || !client.takes, seed);
     if written == alone.as_slice() {
         return Ok(true);
     }
     let was_cut = scene.has_failed(client.number) || !client.takes;
     let is_front = alone.as_slice().starts_with(written);
-    assert!(rt;
-        was_cut && is_front || HOST_FULL.starts_with(written),
-        "seed {seed}"
-    );
+    holds!(rt; was_cut && is_front || HOST_FULL.starts_with(written), seed);
     Ok(false)
 }
 
@@ -146,13 +141,13 @@ fn wires_by_chance(rt: HostRuntime) -> Result<(), Fail> {
                 break;
             }
         }
-        assert!(rt; rests, "seed {seed}");
+        holds!(rt; rests, seed);
         for client in clients.as_slice() {
             if check(&rt, alloc, &scene, client, seed)? {
                 whole = whole.saturating_add(1);
             }
         }
     }
-    assert!(rt; whole > 100, "{whole}");
+    holds!(rt; whole > 100, whole);
     Ok(())
 }

@@ -15,6 +15,7 @@ use std::alloc::Global;
 use std::hash::{BuildHasherDefault, FoldHasher};
 use std::process::Abort;
 use std::test::Fail;
+use test_support::{holds, same};
 
 /// A wire in memory that keeps each call. Where there is no memory to keep one, the process ends.
 #[derive(Drop)]
@@ -144,7 +145,7 @@ fn the_calls_of_three_turns(rt: HostRuntime) -> Result<(), Fail> {
     let mut chunks = Vec::new(alloc);
     chunks.push(Vec::from_slice(alloc, b"go de")?)?;
     chunks.push(Vec::from_slice(alloc, b"pth 1\nquit\n")?)?;
-    assert!(rt; wire.wire.connect(chunks).is_ok() && wire.wire.connect(Vec::new(alloc)).is_ok());
+    holds!(rt; wire.wire.connect(chunks).is_ok() && wire.wire.connect(Vec::new(alloc)).is_ok());
     let mut turns = Loop::new(alloc, 1000);
     let expected = [
         Due::Accepted(0),
@@ -159,12 +160,12 @@ fn the_calls_of_three_turns(rt: HostRuntime) -> Result<(), Fail> {
         Due::Shut(0),
         Due::Nobody,
     ];
-    assert!(rt; turn_over(&mut turns, &mut host, &mut wire));
-    assert!(rt; turn_over(&mut turns, &mut host, &mut wire));
-    assert!(rt; !turn_over(&mut turns, &mut host, &mut wire));
-    assert_eq!(rt; wire.calls.len(), expected.len());
+    holds!(rt; turn_over(&mut turns, &mut host, &mut wire));
+    holds!(rt; turn_over(&mut turns, &mut host, &mut wire));
+    holds!(rt; !turn_over(&mut turns, &mut host, &mut wire));
+    same!(rt; wire.calls.len(), expected.len());
     for (call, due) in wire.calls.as_slice().iter().zip(expected) {
-        assert!(rt; is_due(call, due));
+        holds!(rt; is_due(call, due));
     }
     Ok(())
 }

@@ -2,6 +2,7 @@
 #![tactic(auto)]
 
 mod allocator;
+mod assertions;
 pub mod fakes;
 pub mod pv_lines;
 mod requests;

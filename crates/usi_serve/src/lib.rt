@@ -1,6 +1,8 @@
 //! The sessions of a host on a Unix socket.
 #![tactic(auto)]
 
+#[cfg(test)]
+mod assertions;
 mod kept;
 mod laws;
 mod serving;

@@ -1,5 +1,8 @@
 ghost use Rattle.std.specs.Prelude.{◌≤◌};
+ghost use Rattle.socket_loop.specs.Links.{links_of};
+ghost use Rattle.socket_loop.specs.Turns.{Fits};
 
+use crate::assertions::{holds, same};
 use crate::{MioWire, serve};
 use host_core::Host;
 use socket_loop::{Got, Loop, MemoryWire, Wire, WireFault};
@@ -35,6 +38,19 @@ fn host_of(alloc: Global, slots: usize) -> Result<TestHost, Fail>
     Ok(Host::new(alloc, slots, 64, BuildHasherDefault::<FoldHasher>::new())?)
 }
 
+// Whether something moved in a turn. Of all that a turn promises the tests need only that it can be followed
+// by another.
+fn has_moved(
+    connections: &mut Loop<Global>,
+    host: &mut TestHost,
+    wire: &mut MioWire<Global>,
+) -> bool
+    requires fits { Fits (links_of connections.old.held) wire.old.next host.old }
+    ensures fits { Fits (links_of connections.new.held) wire.new.next host.new }
+{
+    connections.turn(host, wire).moved
+}
+
 // One thread is both ends: a connection waits in the listener's queue, and bytes in the stream.
 #[test]
 fn a_session_over_a_socket(rt: HostRuntime) -> Result<(), Fail> {
@@ -45,19 +61,19 @@ fn a_session_over_a_socket(rt: HostRuntime) -> Result<(), Fail> {
     client.write_all(b"usi\nquit\n")?;
     let mut host = host_of(rt.alloc(), 1)?;
     let mut connections = Loop::new(rt.alloc(), 1000);
-    assert!(rt; connections.turn(&mut host, &mut wire).moved, "usi");
-    assert!(rt; connections.turn(&mut host, &mut wire).moved, "quit");
-    assert!(rt; !connections.turn(&mut host, &mut wire).moved);
+    holds(&rt, has_moved(&mut connections, &mut host, &mut wire));
+    holds(&rt, has_moved(&mut connections, &mut host, &mut wire));
+    holds(&rt, !has_moved(&mut connections, &mut host, &mut wire));
     let mut answer = Vec::new(rt.alloc());
     client.read_to_end(&mut answer)?;
-    assert!(rt; answer.as_slice() == USI);
-    assert_eq!(rt; wire.faults(), 0);
+    holds(&rt, answer.as_slice() == USI);
+    same(&rt, &wire.faults(), &0);
     Ok(())
 }
 
 // Whether what a client is told now is this.
 fn is_told(client: &mut UnixStream, answer: &[u8]) -> Result<bool, Fail> {
-    let mut buf = [0u8; 4096];
+    let mut buf = [0u8; 256];
     let n = client.read(&mut buf)?;
     Ok(buf.split_at(n).0 == answer)
 }
@@ -74,17 +90,17 @@ fn a_turn_answers_one_line_of_each(rt: HostRuntime) -> Result<(), Fail> {
     one.write_all(b"isready\n")?;
     let mut host = host_of(rt.alloc(), 2)?;
     let mut connections = Loop::new(rt.alloc(), 1000);
-    assert!(rt; connections.turn(&mut host, &mut wire).moved);
-    assert!(rt; is_told(&mut many, b"readyok\n")? && is_told(&mut one, b"readyok\n")?);
-    assert!(rt; connections.turn(&mut host, &mut wire).moved);
-    assert!(rt; is_told(&mut many, USI)?);
-    assert!(rt; connections.turn(&mut host, &mut wire).moved);
-    assert!(rt; is_told(&mut many, ANSWER)?);
-    assert!(rt;
-        connections.turn(&mut host, &mut wire).moved,
-        "a line has begun"
+    holds(&rt, has_moved(&mut connections, &mut host, &mut wire));
+    holds(
+        &rt,
+        is_told(&mut many, b"readyok\n")? && is_told(&mut one, b"readyok\n")?,
     );
-    assert!(rt; !connections.turn(&mut host, &mut wire).moved);
+    holds(&rt, has_moved(&mut connections, &mut host, &mut wire));
+    holds(&rt, is_told(&mut many, USI)?);
+    holds(&rt, has_moved(&mut connections, &mut host, &mut wire));
+    holds(&rt, is_told(&mut many, ANSWER)?);
+    holds(&rt, has_moved(&mut connections, &mut host, &mut wire));
+    holds(&rt, !has_moved(&mut connections, &mut host, &mut wire));
     Ok(())
 }
 
@@ -102,12 +118,16 @@ fn two_peers_in_memory(rt: HostRuntime) -> Result<(), Fail> {
         .map_err(|_| "memory for a peer")?;
     let mut host = host_of(alloc, 1)?;
     let mut connections = Loop::new(alloc, 1000);
-    assert_eq!(rt; serve(&mut host, &mut connections, &mut wire, 8), Ok(()));
+    same(
+        &rt,
+        &serve(&mut host, &mut connections, &mut wire, 8),
+        &Ok(()),
+    );
     assert!(rt; wire.is_known(x));
-    assert!(rt; wire.written(x) == ANSWER && wire.is_shut(x));
+    holds(&rt, wire.written(x) == ANSWER && wire.is_shut(x));
     assert!(rt; wire.is_known(y));
-    assert!(rt; wire.written(y) == HOST_FULL && wire.is_shut(y));
-    assert!(rt; x != y && !wire.is_known(2));
+    holds(&rt, wire.written(y) == HOST_FULL && wire.is_shut(y));
+    holds(&rt, x != y && !wire.is_known(2));
     Ok(())
 }
 
@@ -125,19 +145,19 @@ fn clients_that_end(rt: HostRuntime) -> Result<(), Fail> {
     drop(gone);
     let mut host = host_of(rt.alloc(), 2)?;
     let mut connections = Loop::new(rt.alloc(), 1000);
-    assert!(rt; connections.turn(&mut host, &mut wire).moved, "answers");
-    assert!(rt; connections.turn(&mut host, &mut wire).moved, "ends");
+    holds(&rt, has_moved(&mut connections, &mut host, &mut wire));
+    holds(&rt, has_moved(&mut connections, &mut host, &mut wire));
     let mut answer = Vec::new(rt.alloc());
     client.read_to_end(&mut answer)?;
-    assert!(rt; answer.as_slice() == ANSWER);
-    assert!(rt; !connections.turn(&mut host, &mut wire).moved);
-    assert_eq!(rt; wire.faults(), 1, "the write to the one that is gone");
+    holds(&rt, answer.as_slice() == ANSWER);
+    holds(&rt, !has_moved(&mut connections, &mut host, &mut wire));
+    same(&rt, &wire.faults(), &1);
     Ok(())
 }
 
 // The system takes so many bytes for a peer that never reads, and no more.
 fn fill(wire: &mut MioWire<Global>, number: u64) -> Result<usize, WireFault> {
-    let chunk = [7u8; 4096];
+    let chunk = [7u8; 1024];
     let mut sent = 0usize;
     for _ in 0..1000 {
         let n = wire.write(number, &chunk)?;
@@ -153,32 +173,32 @@ fn fill(wire: &mut MioWire<Global>, number: u64) -> Result<usize, WireFault> {
 fn calls_that_find_nothing_or_fail(rt: HostRuntime) -> Result<(), Fail> {
     let path = path_of(&rt, "calls")?;
     let mut wire = MioWire::bind(&rt, rt.alloc(), path.as_path().as_str())?;
-    assert_eq!(rt; wire.accept(), Ok(None));
+    same(&rt, &wire.accept(), &Ok(None));
     let mut client = UnixStream::connect(&rt, path.as_path())?;
     fs::remove_file(&rt, path.as_path())?;
     wire.wait(true)?;
     let number = wire.accept()?.ok_or("a connection")?;
-    assert_eq!(rt; wire.accept(), Ok(None));
+    same(&rt, &wire.accept(), &Ok(None));
     let mut buf = [0u8; 4];
-    assert_eq!(rt; wire.read(number, &mut buf), Ok(Got::Nothing));
+    same(&rt, &wire.read(number, &mut buf), &Ok(Got::Nothing));
     client.write_all(b"012345")?;
-    assert_eq!(rt; wire.accept(), Ok(None));
-    assert_eq!(rt; wire.read(number, &mut buf), Ok(Got::Bytes(4)));
-    assert_eq!(rt; wire.read(number, &mut buf), Ok(Got::Bytes(2)));
-    assert_eq!(rt; wire.read(number, &mut buf), Ok(Got::Nothing));
-    assert!(rt; fill(&mut wire, number)? > 0);
-    assert_eq!(rt; fill(&mut wire, number), Ok(0));
-    assert_eq!(rt; wire.faults(), 0);
+    same(&rt, &wire.accept(), &Ok(None));
+    same(&rt, &wire.read(number, &mut buf), &Ok(Got::Bytes(4)));
+    same(&rt, &wire.read(number, &mut buf), &Ok(Got::Bytes(2)));
+    same(&rt, &wire.read(number, &mut buf), &Ok(Got::Nothing));
+    holds(&rt, fill(&mut wire, number)? > 0);
+    same(&rt, &fill(&mut wire, number), &Ok(0));
+    same(&rt, &wire.faults(), &0);
 
     drop(client);
-    assert_eq!(rt; wire.accept(), Ok(None));
-    assert_eq!(rt; wire.write(number, b"x"), Err(WireFault::Device));
+    same(&rt, &wire.accept(), &Ok(None));
+    same(&rt, &wire.write(number, b"x"), &Err(WireFault::Device));
     wire.shut(number);
     wire.shut(number);
-    assert_eq!(rt; wire.read(number, &mut buf), Err(WireFault::Device));
-    assert_eq!(rt; wire.write(number, b"x"), Err(WireFault::Device));
-    assert_eq!(rt; wire.read(7, &mut buf), Err(WireFault::Device));
-    assert_eq!(rt; wire.faults(), 4);
+    same(&rt, &wire.read(number, &mut buf), &Err(WireFault::Device));
+    same(&rt, &wire.write(number, b"x"), &Err(WireFault::Device));
+    same(&rt, &wire.read(7, &mut buf), &Err(WireFault::Device));
+    same(&rt, &wire.faults(), &4);
     Ok(())
 }
 
@@ -189,7 +209,7 @@ fn gives(
     most: usize,
     bytes: &[u8],
 ) -> Result<bool, WireFault> {
-    let mut buf = [0u8; 4096];
+    let mut buf = [0u8; 64];
     let room = most.min(buf.len());
     match wire.read(number, &mut buf[..room])? {
         Got::Bytes(n) => Ok(buf.split_at(n).0 == bytes),
@@ -207,21 +227,21 @@ fn a_read_gives_one_line(rt: HostRuntime) -> Result<(), Fail> {
     let number = wire.accept()?.ok_or("a connection")?;
     client.write_all(b"usi\n\r\n\nisready\nqu")?;
     client.shutdown(Shutdown::Write)?;
-    assert_eq!(rt; wire.accept(), Ok(None));
+    same(&rt, &wire.accept(), &Ok(None));
     for (most, bytes) in [
-        (4096, b"usi\n".as_slice()),
-        (4096, b"\r\n"),
+        (64, b"usi\n".as_slice()),
+        (64, b"\r\n"),
         (1, b"\n"),
         (5, b"isrea"),
         (5, b"dy\n"),
     ] {
-        assert!(rt; gives(&mut wire, number, most, bytes)?);
+        holds(&rt, gives(&mut wire, number, most, bytes)?);
         wire.wait(true)?;
     }
-    assert!(rt; gives(&mut wire, number, 4096, b"qu")?);
+    holds(&rt, gives(&mut wire, number, 64, b"qu")?);
     let mut buf = [0u8; 8];
-    assert_eq!(rt; wire.read(number, &mut buf), Ok(Got::Ended));
-    assert_eq!(rt; wire.faults(), 0);
+    same(&rt, &wire.read(number, &mut buf), &Ok(Got::Ended));
+    same(&rt, &wire.faults(), &0);
     Ok(())
 }
 
@@ -231,20 +251,20 @@ fn is_refused(rt: &HostRuntime, path: &str) -> bool {
 
 #[test]
 fn paths_that_are_refused(rt: HostRuntime) -> Result<(), Fail> {
-    assert!(rt; is_refused(&rt, ""), "the system would choose a name");
-    assert!(rt; is_refused(&rt, "a/folder/that/is/not/there"));
+    holds(&rt, is_refused(&rt, ""));
+    holds(&rt, is_refused(&rt, "a/folder/that/is/not/there"));
     let path = path_of(&rt, "refused")?;
     let folder = env::temp_dir(&rt)?;
-    assert!(rt; is_refused(&rt, folder.as_path().as_str()), "a folder");
+    holds(&rt, is_refused(&rt, folder.as_path().as_str()));
     let mut long = String::from_str(rt.alloc(), path.as_path().as_str())?;
     for _ in 0..108 {
         long.push('x')?;
     }
-    assert!(rt; is_refused(&rt, long.as_str()), "over 107 bytes");
+    holds(&rt, is_refused(&rt, long.as_str()));
     let first = MioWire::bind(&rt, rt.alloc(), path.as_path().as_str())?;
-    assert!(rt; is_refused(&rt, path.as_path().as_str()), "it exists");
+    holds(&rt, is_refused(&rt, path.as_path().as_str()));
     drop(first);
-    assert!(rt; is_refused(&rt, path.as_path().as_str()), "its file stays");
+    holds(&rt, is_refused(&rt, path.as_path().as_str()));
     fs::remove_file(&rt, path.as_path())?;
     Ok(())
 }
@@ -322,8 +342,8 @@ fn each_turn_is_followed_by_a_wait(rt: HostRuntime) -> Result<(), Fail> {
         let mut host = host_of(rt.alloc(), 1)?;
         let mut connections = Loop::new(rt.alloc(), 1);
         let seen = serve(&mut host, &mut connections, &mut wire, 5);
-        assert_eq!(rt; seen, answer);
-        assert_eq!(rt; (wire.busy, wire.idle), (busy, idle));
+        same(&rt, &seen, &answer);
+        same(&rt, &(wire.busy, wire.idle), &(busy, idle));
     }
     Ok(())
 }

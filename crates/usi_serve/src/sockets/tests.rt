@@ -1,4 +1,5 @@
 use super::MioWire;
+use crate::assertions::same;
 use mio::net::UnixStream;
 use mio::{Interest, Token};
 use socket_loop::{Wire, WireFault};
@@ -20,10 +21,10 @@ fn who_waits_behind_a_refused_registration_is_accepted(rt: HostRuntime) -> Resul
     let (mut refused, _other) = UnixStream::pair(&rt)?;
     let registry = wire.poll.registry();
     registry.register(&mut refused, Token(7), Interest::READABLE)?;
-    assert_eq!(rt; wire.take(refused), Err(WireFault::Device));
+    same(&rt, &wire.take(refused), &Err(WireFault::Device));
     wire.wait(true)?;
-    assert_eq!(rt; wire.accept(), Ok(Some(0)));
-    assert_eq!(rt; wire.accept(), Ok(Some(1)));
-    assert_eq!(rt; wire.accept(), Ok(None));
+    same(&rt, &wire.accept(), &Ok(Some(0)));
+    same(&rt, &wire.accept(), &Ok(Some(1)));
+    same(&rt, &wire.accept(), &Ok(None));
     Ok(())
 }
