@@ -53,19 +53,32 @@ def install(call):
     return listener
 
 
+def is_gone():
+    """Whether the last question was taken back, as where a signal interrupts the call. It is asked again."""
+    return ctypes.get_errno() in (errno.ENOENT, errno.EINTR)
+
+
 def answer(listener, refused):
-    """Answers each question: those whose number is among the refused ones find no memory."""
-    number = 0
+    """Answers each question until the program ends: those whose number is among the refused ones find no
+    memory. A question that was taken back does not count."""
+    questions = select.poll()
+    questions.register(listener, select.POLLIN)
+    number = 1
     while True:
-        question = ctypes.create_string_buffer(80)
-        select.select([listener], [], [])
-        if LIBC.ioctl(listener, ctypes.c_ulong(RECEIVE), question) != 0:
+        [(_, events)] = questions.poll()
+        if not events & select.POLLIN:
             return
-        number += 1
+        question = ctypes.create_string_buffer(80)
+        if LIBC.ioctl(listener, ctypes.c_ulong(RECEIVE), question) != 0:
+            if is_gone():
+                continue
+            return
         name = struct.unpack_from("Q", question)[0]
         error, flags = (-errno.ENOMEM, 0) if number in refused else (0, CONTINUE)
         reply = struct.pack("QqiI", name, 0, error, flags)
-        if LIBC.ioctl(listener, ctypes.c_ulong(SEND), reply) != 0:
+        if LIBC.ioctl(listener, ctypes.c_ulong(SEND), reply) == 0:
+            number += 1
+        elif not is_gone():
             return
 
 
