@@ -196,12 +196,19 @@ def text_of(sfen):
     return sfen if sfen.split(" ", 1)[0] in ("startpos", "sfen") else f"sfen {sfen}"
 
 
+def depth_of(text):
+    """A depth on the command line. A host would take the nearest one that it has, without a word."""
+    if not text.isdecimal() or not 1 <= int(text) <= 16:
+        raise argparse.ArgumentTypeError("a depth is a number from 1 to 16")
+    return int(text)
+
+
 def add_arguments(parser):
     """The arguments by which the examples choose a host."""
     where = parser.add_mutually_exclusive_group()
     where.add_argument("--program", default="usi_host", help="the program to start (usi_host)")
     where.add_argument("--socket", help="the socket of a host that runs already")
-    parser.add_argument("--depth", type=int, default=3, help="in plies, from 1 to 16 (3)")
+    parser.add_argument("--depth", type=depth_of, default=3, help="in plies, from 1 to 16 (3)")
     parser.add_argument("--eval", choices=["Plain", "Hand"], default="Plain", help="Plain")
 
 

@@ -4,8 +4,10 @@
     grade.py [--program PATH | --socket PATH] [--depth N] [--eval Plain|Hand] [FILE] > grades.csv
 
 Each row has the SFEN, the depth, the best move, its score in hundredths of a pawn or as a mate in plies,
-and the best line. A position that is refused has a row with the reason in the last column, and the status
-is 1 then. Empty lines, and those that begin with #, are skipped. Progress goes to standard error."""
+and the best line. Where the side to move has no legal move, the best move is "resign", without a score or a
+line. A position that is refused has a row with the reason in the last column, and the status is 1 then; it is
+2 where the program cannot be started or the host is gone. Empty lines, and those that begin with #, are
+skipped. Progress goes to standard error."""
 
 import argparse
 import csv
@@ -62,4 +64,5 @@ if __name__ == "__main__":
     try:
         sys.exit(main())
     except (Gone, OSError) as why:
-        sys.exit(f"grade.py: {why}")
+        print(f"grade.py: {why}", file=sys.stderr)
+        sys.exit(2)
