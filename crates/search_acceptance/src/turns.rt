@@ -71,6 +71,23 @@ fn two_searches_by_turns_over_one_table(rt: HostRuntime) -> Result<(), Fail> {
     Ok(())
 }
 
+// A search that is under way begins anew, and so does one that has ended: each finds what one finds that was
+// made for it, from no step on.
+#[test]
+fn a_search_begins_anew(rt: HostRuntime) -> Result<(), Fail> {
+    let start = Position::start();
+    let mut search = Search::start(&start, Eval::Hand, 4);
+    holds!(rt; search.advance(&mut NoMemo, 100).is_none());
+    search.restart(&start, Eval::Plain, 3);
+    same!(rt; search.steps(), 0);
+    let found = search.advance(&mut NoMemo, u64::MAX).ok_or("an end")?;
+    assert_found(&rt, &found, 200, 9838);
+    search.restart_below(&start, Eval::Plain, 1, 1);
+    let found = search.advance(&mut NoMemo, u64::MAX).ok_or("an end")?;
+    assert_found(&rt, &found, 0, 982);
+    Ok(())
+}
+
 #[test]
 fn two_searches_by_turns_over_an_oracle(rt: HostRuntime) {
     for (depth, value, code) in OPENING {
