@@ -1,37 +1,41 @@
 -- Some move is legal, or none.
-use Rattle.std.proofs.Common.{◌≡◌, ◌≢◌, ℕ, ◌+◌, ◌-◌, ◌*◌, ◌/◌, ◌%◌, ◌^◌, ◌<◌, ◌≤◌, Bool, true, false, [], Option, Some, None, refl, sym, ap, ◌∙◌, arith, inl, inr, bit_and, bit_or}
-use Rattle.std.specs.Prelude.{zero, suc}
+use Rattle.std.proofs.Common.{◌≡◌, ◌≢◌, ℕ, ◌+◌, ◌-◌, ◌*◌, ◌/◌, ◌%◌, ◌^◌, ◌<◌, ◌≤◌, Bool, true, false, List, [], ◌∷◌, Option, Some, None, cond, refl, sym, ap, ◌∙◌, arith, inl, inr, subst, bit_and, bit_or}
+use Rattle.std.specs.Prelude.{zero, suc, ◌==◌}
 use Rattle.std.specs.Int.{trailing_zeros, w128}
-use Rattle.std.proofs.lemmas.Bool.{or_cases, and_from, and_parts, both_ways, not-true}
+use Rattle.std.proofs.lemmas.Bool.{or_cases, or_left, and_from, and_parts, both_ways, not-true, ne_eqb, eq-eqb, cases_lt, true_from_ne_false, false_from_ne_true}
 use Rattle.shogi_core.specs.declared.moves.TheConstants.{MOVE_CODE_COUNT, FIRST_DROP, SQUARE_CODES}
 use Rattle.shogi_core.specs.declared.bits.TheConstants.{ALL_SQUARES}
 use Rattle.shogi_core.specs.declared.moves.Move.TheVariants.{Board, Drop}
 use Rattle.shogi_core.specs.declared.piece.Color.{Color}
 use Rattle.shogi_core.specs.declared.piece.Color.TheVariants.{Black, White}
 use Rattle.shogi_core.specs.declared.piece.Kind.{Kind}
+use Rattle.shogi_core.specs.declared.piece.Kind.TheVariants as kinds
 use Rattle.shogi_core.specs.declared.piece.Piece.{Piece}
 use Rattle.shogi_core.specs.declared.piece.Role.{Role}
 use Rattle.shogi_core.specs.declared.piece.Role.TheVariants as roles
 use Rattle.shogi_core.specs.Attack.{in_check}
+use Rattle.shogi_core.specs.Below.{some_below}
 use Rattle.shogi_core.specs.Bits.{has_bit}
 use Rattle.shogi_core.specs.Pieces.{is_same_color, kind_number}
 use Rattle.shogi_core.specs.Cell.{is_piece_of, is_king, is_king_role, is_immobile, is_immobile_role}
-use Rattle.shogi_core.specs.Codes.{code_of}
+use Rattle.shogi_core.specs.Codes.{code_of, kind_at}
 use Rattle.shogi_core.specs.Movement.{piece_at, reaches}
 use Rattle.shogi_core.specs.Position.{Shogi}
+use Rattle.shogi_core.proofs.Below.{some_below_at, some_below_no}
 use Rattle.shogi_core.proofs.BitLaws.{has_bit-and, has_bit-or, has_bit-none}
-use Rattle.shogi_core.proofs.CodesBack.{move_of-board}
+use Rattle.shogi_core.proofs.CodesBack.{move_of-board, move_of-drop}
 use Rattle.shogi_core.proofs.Faults.{number_below}
 use Rattle.shogi_core.proofs.LineBits.{lowest_set, has_bit-not}
 use Rattle.shogi_moves.specs.Captures.{is_wanted}
 use Rattle.shogi_moves.specs.Ends.{is_unchecked}
 use Rattle.shogi_moves.specs.Guards.{Guards}
-use Rattle.shogi_moves.specs.Legal.{is_legal_code, is_pseudo_legal_board_move}
+use Rattle.shogi_moves.specs.Legal.{is_safe, is_some_and_safe, is_safe_code, is_legal, is_legal_code, is_pawn_kind, is_pseudo_legal_board_move}
 use Rattle.shogi_moves.specs.LegalMoves.{legal_from, legal_codes}
 use Rattle.shogi_moves.specs.Rising.{is_in}
 use Rattle.shogi_moves.proofs.EndLaws.{drop_wanted, legal_board, still}
 use Rattle.shogi_moves.proofs.KingLaws.{king_own}
-use Rattle.shogi_moves.proofs.LegalLaws.{in_legal, is_legal_code_of, legal_from_skips}
+use Rattle.shogi_moves.proofs.LegalLaws.{in_legal, legal_in, legal_in_above, legal_code_below, is_legal_code_of, legal_from_skips}
+use Rattle.shogi_moves.proofs.NoSafeLaws.{some_safe, board_code, drop_code, legal_code_unsafe}
 use Rattle.shogi_moves.proofs.SweepLaws.{either, at_code}
 use Rattle.shogi_moves.proofs.ZoneLaws.{all_squares, more_fits}
 
@@ -126,3 +130,75 @@ pub king_ways : (p : Shogi) (from targets own : ℕ) → own < 2 ^ 81 → ((n : 
 king_ways p from targets own fits t o n h e =
     let parts : (has_bit targets n ≡ true) × (has_bit (2 ^ 128 - 1 - own) n ≡ true) = and_parts _ _ (sym (has_bit-and targets (2 ^ 128 - 1 - own) n) ∙ e) in
     (sym (t n h) ∙ parts.0, sym (o n h) ∙ not-true _ (sym (has_bit-not own n (omega arith) (omega arith)) ∙ parts.1))
+
+-- ---- safe moves
+
+-- another kind than the pawn
+pub not_pawn : (kind : Kind) → 1 ≤ kind_number kind → is_pawn_kind kind ≡ false
+not_pawn kinds.Pawn h = absurd (omega arith)
+not_pawn _ h = refl
+
+not_pawn_at : (n : ℕ) → 1 ≤ n → is_pawn_kind (kind_at n) ≡ false
+not_pawn_at n h = rw (ne_eqb n 0 (omega arith)) (go (n == 1) (n == 2) (n == 3) (n == 4) (n == 5))
+  where
+    go : (a b c d e : Bool) → is_pawn_kind (cond a kinds.Lance (cond b kinds.Knight (cond c kinds.Silver (cond d kinds.Gold (cond e kinds.Bishop kinds.Rook))))) ≡ false
+    go true b c d e = refl
+    go false true c d e = refl
+    go false false true d e = refl
+    go false false false true e = refl
+    go false false false false true = refl
+    go false false false false false = refl
+
+safe_board : (p : Shogi) (from to : ℕ) (promote : Bool) → is_safe p (Board from to promote) ≡ true → is_legal p (Board from to promote) ≡ true
+unfolding is_legal
+safe_board p from to promote e = rw e refl
+
+safe_piece : (p : Shogi) (kind : Kind) (to : ℕ) → is_pawn_kind kind ≡ false → is_safe p (Drop kind to) ≡ true → is_legal p (Drop kind to) ≡ true
+unfolding is_legal
+safe_piece p kind to other e = rw (e, other) refl
+
+-- a safe move is legal, but for the drop of a pawn
+legal_if_board : (p : Shogi) (code : ℕ) → code < FIRST_DROP → is_safe_code p code ≡ true → is_legal_code p code ≡ true
+legal_if_board p code h e =
+    is_legal_code_of p code (Board (code / 2 / 81) (code / 2 % 81) (code % 2 == 1)) (board_code code h)
+    ∙ safe_board p (code / 2 / 81) (code / 2 % 81) (code % 2 == 1) (sym (ap (is_some_and_safe p) (board_code code h)) ∙ e)
+
+legal_if_piece : (p : Shogi) (code : ℕ) → FIRST_DROP + 81 ≤ code → code < MOVE_CODE_COUNT → is_safe_code p code ≡ true → is_legal_code p code ≡ true
+legal_if_piece p code low high e =
+    is_legal_code_of p code (Drop (kind_at ((code - FIRST_DROP) / 81)) ((code - FIRST_DROP) % 81)) (drop_code code (omega arith) high)
+    ∙ safe_piece p (kind_at ((code - FIRST_DROP) / 81)) ((code - FIRST_DROP) % 81) (not_pawn_at ((code - FIRST_DROP) / 81) (omega arith)) (sym (ap (is_some_and_safe p) (drop_code code (omega arith) high)) ∙ e)
+
+-- a legal move is safe
+safe_code : (p : Shogi) (code : ℕ) → is_legal_code p code ≡ true → some_below MOVE_CODE_COUNT (is_safe_code p) ≡ true
+safe_code p code e =
+    some_below_at MOVE_CODE_COUNT (is_safe_code p) code (legal_code_below p code e)
+    (true_from_ne_false (is_safe_code p code) (λ unsafe. both_ways (is_legal_code p code) (legal_code_unsafe p code unsafe) e))
+
+pub safe_from_legal : (p : Shogi) → legal_codes p ≢ [] → some_below MOVE_CODE_COUNT (is_safe_code p) ≡ true
+safe_from_legal p some = go (legal_codes p) (λ code h. legal_in p 0 code h) some
+  where
+    go : (codes : List ℕ) → ((code : ℕ) → is_in code codes ≡ true → is_legal_code p code ≡ true) → codes ≢ [] → some_below MOVE_CODE_COUNT (is_safe_code p) ≡ true
+    go [] all some = absurd (some refl)
+    go (code ∷ codes) all some = safe_code p code (all code (or_left (code == code) (is_in code codes) (eq-eqb code code refl)))
+
+-- a pawn with a safe end, and none where no other move is legal
+pub pawn_safe : (p : Shogi) (ends : ℕ) → ends < 2 ^ 81 → ((n : ℕ) → n < 81 → has_bit ends n ≡ is_safe p (Drop kinds.Pawn n)) → ends ≢ 0 → some_below MOVE_CODE_COUNT (is_safe_code p) ≡ true
+pawn_safe p ends fits bits some =
+    let low = lowest_set ends some fits in
+    some_safe p (Drop kinds.Pawn (trailing_zeros w128 ends)) (move_of-drop kinds.Pawn (trailing_zeros w128 ends) low.0) (sym (bits (trailing_zeros w128 ends) low.0) ∙ low.1)
+
+pawn_unsafe : (p : Shogi) (ends code : ℕ) → FIRST_DROP ≤ code → code < FIRST_DROP + 81 → ((n : ℕ) → n < 81 → has_bit ends n ≡ is_safe p (Drop kinds.Pawn n)) → ends ≡ 0 → is_safe_code p code ≡ false
+pawn_unsafe p ends code low high bits none =
+    let k : (code - FIRST_DROP) / 81 ≡ 0 = omega arith in
+    let same : kind_at ((code - FIRST_DROP) / 81) ≡ kinds.Pawn = ap kind_at k in
+    ap (is_some_and_safe p) (drop_code code low (omega arith))
+    ∙ rw same (sym (bits ((code - FIRST_DROP) % 81) (omega arith)) ∙ (ap (λ (m : ℕ). has_bit m ((code - FIRST_DROP) % 81)) none ∙ has_bit-none ((code - FIRST_DROP) % 81)))
+
+pub none_safe : (p : Shogi) (ends : ℕ) → legal_codes p ≡ legal_from p FIRST_DROP → legal_from p (FIRST_DROP + 81) ≡ [] → ((n : ℕ) → n < 81 → has_bit ends n ≡ is_safe p (Drop kinds.Pawn n)) → ends ≡ 0 → some_below MOVE_CODE_COUNT (is_safe_code p) ≡ false
+none_safe p ends board drops bits none = some_below_no MOVE_CODE_COUNT (is_safe_code p) (λ code high. false_from_ne_true (is_safe_code p code) (λ e. elim (cases_lt code FIRST_DROP) [
+  | inl below ↦ (let low : FIRST_DROP ≤ code = legal_in_above p FIRST_DROP code (subst (λ (codes : List ℕ). is_in code codes ≡ true) board (in_legal p 0 code (omega arith) (legal_if_board p code below e))) in omega arith)
+  | inr above ↦ elim (cases_lt code (FIRST_DROP + 81)) [
+    | inl pawn ↦ both_ways (is_safe_code p code) (pawn_unsafe p ends code above pawn bits none) e
+    | inr piece ↦ (let clash : false ≡ true = ap (λ codes. is_in code codes) (sym drops) ∙ in_legal p (FIRST_DROP + 81) code piece (legal_if_piece p code piece high e) in cc)
+  ]
+]))

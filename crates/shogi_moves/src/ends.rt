@@ -324,7 +324,7 @@ fn tried_drops(p: &Position, kind: Kind, ends: u128) -> u128
 
 /// Where one of the held pieces may be dropped, apart from mate by a pawn.
 #[tactic(auto, using(crate::proofs::EndLaws::safe_dropping))]
-fn safe_drops(p: &Position, guard: &Guard, kind: Kind) -> u128
+pub fn safe_drops(p: &Position, guard: &Guard, kind: Kind) -> u128
     requires guard { Guards p.now guard.now.checked guard.now.exposed }
     ensures bits { (n : ℕ) → n < 81 → has_bit result n ≡ is_safe p.now (moves.Drop kind n) }
     ensures fits { result < 2 ^ 81 }

@@ -1,14 +1,17 @@
-//! Whether some move is legal.
+//! Whether some move is legal, or safe: legal but for mate by the drop of a pawn.
 
 ghost use Rattle.std.specs.Prelude.{◌≡◌, ◌+◌, ◌<◌, ◌^◌, ◌≢◌, ◌↔◌, ℕ, true, false, [], IsTrue};
-ghost use Rattle.shogi_core.specs.declared.moves.TheConstants.{FIRST_DROP};
+ghost use Rattle.shogi_core.specs.declared.moves.TheConstants.{MOVE_CODE_COUNT, FIRST_DROP};
+ghost use Rattle.shogi_core.specs.Attack.{in_check};
+ghost use Rattle.shogi_core.specs.Below.{some_below};
 ghost use Rattle.shogi_core.specs.Bits.{has_bit};
 ghost use Rattle.shogi_core.specs.Cell.{is_king, is_piece_of};
 ghost use Rattle.shogi_core.specs.Movement.{piece_at, reaches};
 ghost use Rattle.shogi_moves.specs.Guards.{Guards};
+ghost use Rattle.shogi_moves.specs.Legal.{is_safe_code};
 ghost use Rattle.shogi_moves.specs.LegalMoves.{legal_from, legal_codes};
 
-use crate::ends::{drop_ends, is_king_safe, legal_ends};
+use crate::ends::{drop_ends, is_king_safe, legal_ends, safe_drops};
 use crate::guard::{Guard, full_guard, rough_guard};
 use crate::sweep::next_kind;
 use shogi_core::bits::{cleared, lowest, next_of, without_lowest};
@@ -82,12 +85,38 @@ fn has_piece_drop(p: &Position, guard: &Guard) -> bool
 {
     let mut kind = Kind::Pawn;
     'kinds: while let Some(next) = next_kind(kind) {
-        if drop_ends(p, guard, next) != 0 {
+        if safe_drops(p, guard, next) != 0 {
             return true;
         }
         kind = next;
     }
     false
+}
+
+/// Whether some move is legal other than the drop of a pawn.
+fn has_other_move(p: &Position, guard: &Guard) -> bool
+    requires { Guards p.now guard.now.checked guard.now.exposed }
+    ensures some { result ≡ true → legal_codes p.now ≢ [] }
+    ensures board { result ≡ false → legal_codes p.now ≡ legal_from p.now FIRST_DROP }
+    ensures drops { result ≡ false → legal_from p.now (FIRST_DROP + 81) ≡ [] }
+{
+    has_board_move(p, guard) || has_piece_drop(p, guard)
+}
+
+/// Whether some move of a side in check is safe. The king, which most often has a way out, is asked
+/// first.
+pub fn has_safe(p: &Position) -> bool
+    requires { in_check p.now.cells p.now.side ≡ true }
+    ensures { result ≡ some_below MOVE_CODE_COUNT (is_safe_code p.now) }
+{
+    if has_king_move(p) {
+        return true;
+    }
+    let guard = full_guard(p, true);
+    if has_other_move(p, &guard) {
+        return true;
+    }
+    safe_drops(p, &guard, Kind::Pawn) != 0
 }
 
 /// Whether a held pawn has a legal drop.
@@ -112,5 +141,5 @@ pub fn has_legal(p: &Position) -> bool
         return true;
     }
     let guard = full_guard(p, rough.checked);
-    has_board_move(p, &guard) || has_piece_drop(p, &guard) || has_pawn_drop(p, &guard)
+    has_other_move(p, &guard) || has_pawn_drop(p, &guard)
 }

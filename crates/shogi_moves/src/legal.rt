@@ -12,8 +12,8 @@ ghost use Rattle.shogi_moves.specs.Rising.{is_in};
 
 use crate::after::{apply, apply_safe, dropped, is_checked_after, piece_moved};
 use crate::attack::in_check;
+use crate::existence::has_safe;
 use crate::guard::{Guard, is_calm};
-use crate::safe::has_safe;
 use shogi_core::{Color, Kind, Move, Piece, Position, Role, Square, is_immobile, is_piece_of};
 
 /// Whether a piece of the role can promote.

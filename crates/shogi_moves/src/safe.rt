@@ -3,7 +3,6 @@
 ghost use Rattle.std.specs.Prelude.{◌≡◌, ◌≤◌, ◌<◌, ◌*◌, ◌+◌, true, false, Bool, IfSome, IsNone, Some};
 ghost use Rattle.shogi_core.specs.declared.moves.TheConstants.{MOVE_CODE_COUNT, FIRST_DROP};
 ghost use Rattle.shogi_core.specs.Codes.{code_of, move_of};
-ghost use Rattle.shogi_core.specs.Below.{some_below};
 ghost use Rattle.shogi_core.specs.Pieces.{kind_number};
 ghost use Rattle.shogi_moves.specs.Legal.{is_safe, is_safe_code};
 ghost use Rattle.shogi_core.specs.declared.moves.Move.{Move};
@@ -12,7 +11,7 @@ ghost use Rattle.shogi_moves.specs.Candidates.{is_candidate};
 ghost use Rattle.shogi_moves.specs.Guards.{Guards};
 ghost use Rattle.shogi_moves.specs.NoSafe.{HasNoSafe};
 
-use crate::guard::{Guard, guard_of};
+use crate::guard::Guard;
 use crate::legal::is_safe_guarded;
 use shogi_core::bits::next_of;
 use shogi_core::{FIRST_DROP, Kind, MOVE_CODE_COUNT, Move, Position, SQUARE_CODES, Square};
@@ -119,24 +118,4 @@ pub fn least_guarded(p: &Position, guard: &Guard, first: u16) -> Option<Move>
         }
     }
     None
-}
-
-/// The same, where nothing of the position is kept.
-pub fn least_safe(p: &Position, first: u16) -> Option<Move>
-    requires { first ≤ MOVE_CODE_COUNT }
-    ensures none { IsNone result → HasNoSafe p.now first MOVE_CODE_COUNT }
-    ensures idle { IfSome result (λ m. HasNoSafe p.now first (code_of m)) }
-    ensures above { IfSome result (λ m. first ≤ code_of m) }
-    ensures safe { IfSome result (λ m. is_safe p.now m ≡ true) }
-    ensures back { IfSome result (λ m. move_of (code_of m) ≡ Some m) }
-{
-    least_guarded(p, &guard_of(p), first)
-}
-
-/// Whether some move is safe.
-#[tactic(auto, using(crate::proofs::NoSafeLaws::some_safe, crate::proofs::NoSafeLaws::no_safe))]
-pub fn has_safe(p: &Position) -> bool
-    ensures { result ≡ some_below MOVE_CODE_COUNT (is_safe_code p.now) }
-{
-    least_safe(p, 0).is_some()
 }
