@@ -1,6 +1,6 @@
 -- Some move is legal, or none.
 use Rattle.std.proofs.Common.{◌≡◌, ◌≢◌, ℕ, ◌+◌, ◌-◌, ◌*◌, ◌/◌, ◌%◌, ◌^◌, ◌<◌, ◌≤◌, Bool, true, false, List, [], ◌∷◌, Option, Some, None, cond, refl, sym, ap, ◌∙◌, arith, inl, inr, subst, bit_and, bit_or}
-use Rattle.std.specs.Prelude.{zero, suc, ◌==◌}
+use Rattle.std.specs.Prelude.{◌==◌}
 use Rattle.std.specs.Int.{trailing_zeros, w128}
 use Rattle.std.proofs.lemmas.Bool.{or_cases, or_left, and_from, and_parts, both_ways, not-true, ne_eqb, eq-eqb, cases_lt, true_from_ne_false, false_from_ne_true}
 use Rattle.shogi_core.specs.declared.moves.TheConstants.{MOVE_CODE_COUNT, FIRST_DROP, SQUARE_CODES}
@@ -34,7 +34,7 @@ use Rattle.shogi_moves.specs.LegalMoves.{legal_from, legal_codes}
 use Rattle.shogi_moves.specs.Rising.{is_in}
 use Rattle.shogi_moves.proofs.EndLaws.{drop_wanted, legal_board, still}
 use Rattle.shogi_moves.proofs.KingLaws.{king_own}
-use Rattle.shogi_moves.proofs.LegalLaws.{in_legal, legal_in, legal_in_above, legal_code_below, is_legal_code_of, legal_from_skips}
+use Rattle.shogi_moves.proofs.LegalLaws.{in_legal, legal_in, legal_in_above, legal_code_below, is_legal_code_of, run_without}
 use Rattle.shogi_moves.proofs.NoSafeLaws.{some_safe, board_code, drop_code, legal_code_unsafe}
 use Rattle.shogi_moves.proofs.SweepLaws.{either, at_code}
 use Rattle.shogi_moves.proofs.ZoneLaws.{all_squares, more_fits}
@@ -48,19 +48,6 @@ guards_rough p checked e = record {
   free = λ _ n h out own. absurd (both_ways (has_bit ALL_SQUARES n) out (all_squares n h));
   fits = omega arith;
 }
-
-jump : (p : Shogi) (n first : ℕ) → first + n ≤ MOVE_CODE_COUNT → ((c : ℕ) → first ≤ c → c < first + n → is_legal_code p c ≡ false) → legal_from p first ≡ legal_from p (first + n)
-jump p zero first h none = ap (legal_from p) (omega arith)
-jump p (suc n) first h none =
-    legal_from_skips p first (omega arith) (none first (omega arith) (omega arith))
-    ∙ jump p n (first + 1) (omega arith) (λ c low high. none c (omega arith) (omega arith))
-    ∙ ap (legal_from p) (omega arith)
-
--- the legal moves are the same from either end of a run of codes without one
-run_without : (p : Shogi) (first end : ℕ) → first ≤ end → end ≤ MOVE_CODE_COUNT → ((c : ℕ) → first ≤ c → c < end → is_legal_code p c ≡ false) → legal_from p first ≡ legal_from p end
-run_without p first end low high none =
-    let there : first + (end - first) ≡ end = omega arith in
-    jump p (end - first) first (omega arith) (λ c l h. none c l (omega arith)) ∙ ap (legal_from p) there
 
 -- a piece without an end has no move
 pub piece_without : (p : Shogi) (from plain promoting : ℕ) → from < 81

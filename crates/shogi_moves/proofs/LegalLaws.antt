@@ -1,6 +1,6 @@
 -- Laws of the legal moves.
 use Rattle.std.proofs.Common.{◌≡◌, ℕ, ◌+◌, ◌-◌, ◌<◌, ◌≤◌, true, false, [], ◌∷◌, Option, Some, None, refl, sym, ◌∙◌, ap, arith, inl, inr}
-use Rattle.std.specs.Prelude.{suc, nat_lt}
+use Rattle.std.specs.Prelude.{zero, suc, nat_lt}
 use Rattle.std.proofs.lemmas.Bool.{cond-true, cond-false, cases_lt, le-ltb, both_ways}
 use Rattle.shogi_core.specs.declared.moves.TheConstants.{MOVE_CODE_COUNT, FIRST_DROP}
 use Rattle.shogi_core.specs.declared.moves.Move.{Move}
@@ -26,6 +26,19 @@ legal_from_skips p code h e = let n : MOVE_CODE_COUNT - code ≡ suc (MOVE_CODE_
 pub legal_from_end : (p : Shogi) (code : ℕ) → MOVE_CODE_COUNT ≤ code → legal_from p code ≡ []
 unfolding legal_from codes_from
 legal_from_end p code h = let n : MOVE_CODE_COUNT - code ≡ 0 = omega arith in rw n refl
+
+jump : (p : Shogi) (n first : ℕ) → first + n ≤ MOVE_CODE_COUNT → ((c : ℕ) → first ≤ c → c < first + n → is_legal_code p c ≡ false) → legal_from p first ≡ legal_from p (first + n)
+jump p zero first h none = ap (legal_from p) (omega arith)
+jump p (suc n) first h none =
+    legal_from_skips p first (omega arith) (none first (omega arith) (omega arith))
+    ∙ jump p n (first + 1) (omega arith) (λ c low high. none c (omega arith) (omega arith))
+    ∙ ap (legal_from p) (omega arith)
+
+-- the legal moves are the same from either end of a run of codes without one
+pub run_without : (p : Shogi) (first end : ℕ) → first ≤ end → end ≤ MOVE_CODE_COUNT → ((c : ℕ) → first ≤ c → c < end → is_legal_code p c ≡ false) → legal_from p first ≡ legal_from p end
+run_without p first end low high none =
+    let there : first + (end - first) ≡ end = omega arith in
+    jump p (end - first) first (omega arith) (λ c l h. none c l (omega arith)) ∙ ap (legal_from p) there
 
 -- the legal moves are in rising order of codes
 pub legal_rising : (p : Shogi) (first : ℕ) → IsRising (legal_from p first)

@@ -1,38 +1,85 @@
--- Steps from one safe move to the next.
-use Rattle.std.proofs.Common.{◌≡◌, ℕ, ◌+◌, ◌<◌, ◌≤◌, true, false, [], ◌∷◌, Some, refl, ◌∙◌, arith}
-use Rattle.shogi_core.specs.declared.moves.TheConstants.{MOVE_CODE_COUNT}
+-- The least legal move from a code on, by the ends of a piece or of a held kind.
+use Rattle.std.proofs.Common.{◌≡◌, ℕ, ◌+◌, ◌*◌, ◌^◌, ◌<◌, ◌≤◌, Bool, true, false, not, ◌∷◌, Some, sym, ◌∙◌, arith, inl, inr, bit_or}
+use Rattle.std.proofs.lemmas.Bool.{cases_Bool, or_cases, both_ways}
+use Rattle.shogi_core.specs.declared.moves.TheConstants.{MOVE_CODE_COUNT, FIRST_DROP, SQUARE_CODES}
 use Rattle.shogi_core.specs.declared.moves.Move.{Move}
+use Rattle.shogi_core.specs.declared.moves.Move.TheVariants.{Board, Drop}
+use Rattle.shogi_core.specs.declared.piece.Kind.{Kind}
+use Rattle.shogi_core.specs.Bits.{has_bit}
+use Rattle.shogi_core.specs.Cell.{is_piece_of}
 use Rattle.shogi_core.specs.Codes.{move_of, code_of}
+use Rattle.shogi_core.specs.Movement.{piece_at}
+use Rattle.shogi_core.specs.Pieces.{kind_number}
 use Rattle.shogi_core.specs.Position.{Shogi}
-use Rattle.shogi_moves.specs.Legal.{is_safe, is_legal, is_pawn_drop_mate}
+use Rattle.shogi_core.proofs.BitLaws.{has_bit-or}
+use Rattle.shogi_core.proofs.CodesBack.{move_of-board, move_of-drop}
+use Rattle.shogi_core.proofs.Faults.{number_below}
+use Rattle.shogi_moves.specs.Captures.{is_wanted}
+use Rattle.shogi_moves.specs.Legal.{is_legal, is_legal_code}
 use Rattle.shogi_moves.specs.LegalMoves.{legal_from}
-use Rattle.shogi_moves.specs.NoSafe.{HasNoSafe}
-use Rattle.shogi_moves.proofs.LegalLaws.{legal_from_found, legal_from_skips, legal_from_end, is_legal_code_of}
-use Rattle.shogi_moves.proofs.NoSafeLaws.{legal_from_jumps, move_below}
+use Rattle.shogi_moves.specs.Sweeps.{Keeps}
+use Rattle.shogi_moves.proofs.EndLaws.{drop_wanted}
+use Rattle.shogi_moves.proofs.LegalLaws.{is_legal_code_of, legal_from_found, run_without}
+use Rattle.shogi_moves.proofs.NoSafeLaws.{legal_from_jumps, idle_square}
+use Rattle.shogi_moves.proofs.SweepLaws.{keeps_first, keeps_from, fails_all, fails_to_plain, fails_to_promoting, fails_drops, fails_to_drop}
 
--- a safe move that does not mate by a pawn is legal
-pub legal_if : (p : Shogi) (m : Move) → is_safe p m ≡ true → is_pawn_drop_mate p m ≡ false → is_legal p m ≡ true
-unfolding is_legal
-legal_if p m safe fair = rw (safe, fair) refl
+-- the first legal move from a code on
+pub record IsLeast (p : Shogi) (code : ℕ) (m : Move) : Type 0 where
+  pub next : legal_from p code ≡ code_of m ∷ legal_from p (code_of m + 1)
+  pub legal : is_legal p m ≡ true
 
-illegal_if : (p : Shogi) (m : Move) → is_safe p m ≡ true → is_pawn_drop_mate p m ≡ true → is_legal p m ≡ false
-unfolding is_legal
-illegal_if p m safe mates = rw (safe, mates) refl
+least_at : (p : Shogi) (code : ℕ) (m : Move) → move_of (code_of m) ≡ Some m → code_of m < MOVE_CODE_COUNT → code ≤ code_of m → is_legal_code p (code_of m) ≡ true → ((c : ℕ) → code ≤ c → c < code_of m → is_legal_code p c ≡ false) → IsLeast p code m
+least_at p code m back small low legal none = record {
+  next = run_without p code (code_of m) low (omega arith) none ∙ legal_from_found p (code_of m) small legal;
+  legal = sym (is_legal_code_of p (code_of m) m back) ∙ legal;
+}
 
--- the next safe move is the first legal one
-pub next_found : (p : Shogi) (first : ℕ) (m : Move) → HasNoSafe p first (code_of m) → first ≤ code_of m → move_of (code_of m) ≡ Some m → is_safe p m ≡ true → is_pawn_drop_mate p m ≡ false → legal_from p first ≡ code_of m ∷ legal_from p (code_of m + 1)
-next_found p first m idle low back safe fair =
-    let below : code_of m < MOVE_CODE_COUNT = move_below (code_of m) m back in
-    legal_from_jumps p first (code_of m) low (omega arith) idle ∙ legal_from_found p (code_of m) below (is_legal_code_of p (code_of m) m back ∙ legal_if p m safe fair)
+-- no piece of the side to move stands on the square
+pub no_piece : (p : Shogi) (from code : ℕ) → from < 81 → from * SQUARE_CODES ≤ code → code ≤ from * SQUARE_CODES + SQUARE_CODES → is_piece_of p.side (piece_at p.cells from) ≡ false → legal_from p code ≡ legal_from p (from * SQUARE_CODES + SQUARE_CODES)
+no_piece p from code hf low high e = legal_from_jumps p code (from * SQUARE_CODES + SQUARE_CODES) high (omega arith) (idle_square p from code (from * SQUARE_CODES + SQUARE_CODES) hf low (omega arith) e)
 
--- a pawn that mates is left out
-pub next_skips : (p : Shogi) (first : ℕ) (m : Move) → HasNoSafe p first (code_of m) → first ≤ code_of m → move_of (code_of m) ≡ Some m → is_safe p m ≡ true → is_pawn_drop_mate p m ≡ true → legal_from p first ≡ legal_from p (code_of m + 1)
-next_skips p first m idle low back safe mates =
-    let below : code_of m < MOVE_CODE_COUNT = move_below (code_of m) m back in
-    legal_from_jumps p first (code_of m) low (omega arith) idle ∙ legal_from_skips p (code_of m) below (is_legal_code_of p (code_of m) m back ∙ illegal_if p m safe mates)
+-- the ends from a code on, of all ends
+pub ends_from : (p : Shogi) (promote : Bool) (from code ends less to : ℕ) → less < 2 ^ 81 → ends < 2 ^ 81 → ((n : ℕ) → n < 81 → has_bit ends n ≡ is_legal_code p (code_of (Board from n promote))) → from * SQUARE_CODES ≤ code
+    → ((n : ℕ) → n < to → code_of (Board from n promote) < code) → ((n : ℕ) → to ≤ n → code ≤ code_of (Board from n promote)) → ((i : ℕ) → i < 81 → to ≤ i → has_bit less i ≡ has_bit ends i) → ((i : ℕ) → i < to → has_bit less i ≡ false)
+    → Keeps (is_legal_code p) (λ n. code_of (Board from n promote)) code less
+ends_from p promote from code ends less to fits all bits low falls rises same none =
+    keeps_from (is_legal_code p) (λ n. code_of (Board from n promote)) (from * SQUARE_CODES) code ends less to
+    (keeps_first (is_legal_code p) (λ n. code_of (Board from n promote)) (from * SQUARE_CODES) ends all bits (λ n. first n promote)) fits low falls rises same none
+  where
+    first : (n : ℕ) (b : Bool) → from * SQUARE_CODES ≤ code_of (Board from n b)
+    first n true = omega arith
+    first n false = omega arith
 
--- without a further safe move there is no legal one
-pub next_end : (p : Shogi) (first : ℕ) → first ≤ MOVE_CODE_COUNT → HasNoSafe p first MOVE_CODE_COUNT → legal_from p first ≡ []
-next_end p first low idle = legal_from_jumps p first MOVE_CODE_COUNT low (omega arith) idle ∙ legal_from_end p MOVE_CODE_COUNT (omega arith)
+module _ (p : Shogi) (from code plain promoting : ℕ) (hf : from < 81) (low : from * SQUARE_CODES ≤ code) (a : Keeps (is_legal_code p) (λ n. code_of (Board from n false)) code plain) (b : Keeps (is_legal_code p) (λ n. code_of (Board from n true)) code promoting) where
+  pub no_end : code ≤ from * SQUARE_CODES + SQUARE_CODES → bit_or plain promoting ≡ 0 → legal_from p code ≡ legal_from p (from * SQUARE_CODES + SQUARE_CODES)
+  no_end high none = run_without p code (from * SQUARE_CODES + SQUARE_CODES) high (omega arith) (fails_all (is_legal_code p) from code plain promoting low a b none)
 
-pub ruleset steps = (legal_if, next_found, next_skips, next_end)
+  -- without promotion first
+  pub least_end : (to : ℕ) → to < 81 → ((n : ℕ) → has_bit (bit_or plain promoting) n ≡ true → to ≤ n) → has_bit (bit_or plain promoting) to ≡ true → IsLeast p code (Board from to (not (has_bit plain to)))
+  least_end to ht least set = elim (cases_Bool (has_bit plain to)) [
+    | inl here ↦ (
+        let at : (code ≤ code_of (Board from to false)) × (is_legal_code p (code_of (Board from to false)) ≡ true) = a.set to ht here in
+        rw here (least_at p code (Board from to false) (move_of-board from to false hf ht) (omega arith) at.0 at.1 (fails_to_plain (is_legal_code p) from code plain promoting low a b to ht least)))
+    | inr out ↦ (
+        let at : (code ≤ code_of (Board from to true)) × (is_legal_code p (code_of (Board from to true)) ≡ true) = b.set to ht (elim (or_cases (has_bit plain to) (has_bit promoting to) (sym (has_bit-or plain promoting to) ∙ set)) [ inl one ↦ absurd (both_ways (has_bit plain to) out one) | inr other ↦ other ]) in
+        rw out (least_at p code (Board from to true) (move_of-board from to true hf ht) (omega arith) at.0 at.1 (fails_to_promoting (is_legal_code p) from code plain promoting low a b to ht least out)))
+  ]
+
+-- the same of a kind
+pub drops_from : (p : Shogi) (kind : Kind) (code ends less to : ℕ) → less < 2 ^ 81 → ends < 2 ^ 81 → ((n : ℕ) → n < 81 → has_bit ends n ≡ is_wanted p false (code_of (Drop kind n))) → code ≡ code_of (Drop kind to)
+    → ((i : ℕ) → i < 81 → to ≤ i → has_bit less i ≡ has_bit ends i) → ((i : ℕ) → i < to → has_bit less i ≡ false) → Keeps (is_legal_code p) (λ n. code_of (Drop kind n)) code less
+drops_from p kind code ends less to fits all bits at same none =
+    keeps_from (is_legal_code p) (λ n. code_of (Drop kind n)) (FIRST_DROP + kind_number kind * 81) code ends less to
+    (keeps_first (is_legal_code p) (λ n. code_of (Drop kind n)) (FIRST_DROP + kind_number kind * 81) ends all (λ n h. bits n h ∙ drop_wanted p kind n h) (λ n. omega arith)) fits (omega arith) (λ n h. omega arith) (λ n h. omega arith) same none
+
+module _ (p : Shogi) (kind : Kind) (code ends : ℕ) (low : FIRST_DROP + kind_number kind * 81 ≤ code) (a : Keeps (is_legal_code p) (λ n. code_of (Drop kind n)) code ends) where
+  pub no_drop : code ≤ FIRST_DROP + 81 + kind_number kind * 81 → ends ≡ 0 → legal_from p code ≡ legal_from p (FIRST_DROP + 81 + kind_number kind * 81)
+  no_drop high none =
+      let seven : kind_number kind < 7 = number_below kind in
+      run_without p code (FIRST_DROP + 81 + kind_number kind * 81) high (omega arith) (fails_drops (is_legal_code p) kind code ends low a none)
+
+  pub least_drop : (to : ℕ) → to < 81 → ((n : ℕ) → has_bit ends n ≡ true → to ≤ n) → has_bit ends to ≡ true → IsLeast p code (Drop kind to)
+  least_drop to ht least set =
+      let seven : kind_number kind < 7 = number_below kind in
+      let at : (code ≤ code_of (Drop kind to)) × (is_legal_code p (code_of (Drop kind to)) ≡ true) = a.set to ht set in
+      least_at p code (Drop kind to) (move_of-drop kind to ht) (omega arith) at.0 at.1 (fails_to_drop (is_legal_code p) kind code ends low a to ht least)

@@ -25,7 +25,7 @@ use Rattle.shogi_moves.specs.Sweeps.{wanted_from, Keeps, KeepsBoard, KeepsDrop, 
 use Rattle.shogi_moves.proofs.CaptureLaws.{skip_one, wanted_found}
 use Rattle.shogi_moves.proofs.EndLaws.{wanted_board}
 use Rattle.shogi_moves.proofs.LegalLaws.{is_legal_code_of, after_code_of}
-use Rattle.shogi_moves.proofs.SweepLaws.{at_code}
+use Rattle.shogi_moves.proofs.SweepLaws.{at_code, keeps_from}
 
 -- none is passed
 pub passed_none : (fact : ℕ → Type 0) (codes left : List ℕ) → codes ≡ left → IsPassed fact codes left
@@ -111,19 +111,6 @@ below_uncertain ends certain to n fits h down least set = not_uncertain ends cer
 
 -- ---- what is kept of a mask whose first bits are passed
 
-keeps_from : (test : ℕ → Bool) (place : ℕ → ℕ) (code mask from to : ℕ) → Keeps test place code mask → from < 2 ^ 81 → code ≤ place to → ((n : ℕ) → n < to → place n < place to) → ((n : ℕ) → to ≤ n → place to ≤ place n) → ((i : ℕ) → i < 81 → to ≤ i → has_bit from i ≡ has_bit mask i) → ((i : ℕ) → i < to → has_bit from i ≡ false) → Keeps test place (place to) from
-keeps_from test place code mask from to k fits up falls rises same none = record {
-  fits = fits;
-  set = λ n h e. elim (cases_lt n to) [
-    | inl down ↦ absurd (both_ways (has_bit from n) (none n down) e)
-    | inr on ↦ (rises n on, (k.set n h (sym (same n h on) ∙ e)).1)
-  ];
-  clear = λ n h e l. elim (cases_lt n to) [
-    | inl down ↦ absurd (let less : place n < place to = falls n down in omega arith)
-    | inr on ↦ k.clear n h (sym (same n h on) ∙ e) (omega (arith, rises n on))
-  ];
-}
-
 keeps_nothing : (test : ℕ → Bool) (place : ℕ → ℕ) (code : ℕ) → ((n : ℕ) → n < 81 → place n < code) → Keeps test place code 0
 keeps_nothing test place code over = record {
   fits = omega arith;
@@ -137,7 +124,7 @@ ends_kept p from code plain less to k ht set fits same none =
     record {
       low = omega arith;
       high = omega arith;
-      plains = keeps_from (is_wanted p false) (λ n. code_of (Board from n false)) code plain less to k.plains fits up (λ n h. omega arith) (λ n h. omega arith) same none;
+      plains = keeps_from (is_wanted p false) (λ n. code_of (Board from n false)) code (code_of (Board from to false)) plain less to k.plains fits up (λ n h. omega arith) (λ n h. omega arith) same none;
       promotings = record {
         fits = omega arith;
         set = λ n h e. absurd (both_ways (has_bit 0 n) (has_bit-none n) e);
@@ -242,7 +229,7 @@ pub drops_kept : (p : Shogi) (kind : Kind) (code ends less to : ℕ) → KeepsDr
 drops_kept p kind code ends less to k ht set fits same none = record {
   low = omega arith;
   high = omega arith;
-  drops = keeps_from (is_wanted p false) (λ n. code_of (Drop kind n)) code ends less to k.drops fits (k.drops.set to ht set).0 (λ n h. omega arith) (λ n h. omega arith) same none;
+  drops = keeps_from (is_wanted p false) (λ n. code_of (Drop kind n)) code (code_of (Drop kind to)) ends less to k.drops fits (k.drops.set to ht set).0 (λ n h. omega arith) (λ n h. omega arith) same none;
 }
 
 pub no_drops_kept : (p : Shogi) (kind : Kind) → KeepsDrop p kind (FIRST_DROP + 81 + kind_number kind * 81) 0

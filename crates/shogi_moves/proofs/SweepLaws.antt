@@ -83,25 +83,64 @@ keeps_less test place code next mask less to k up small bits above gone = record
     more true b e = rw e refl
     more false b e = refl
 
+-- what is left from a square on
+pub keeps_from : (test : ℕ → Bool) (place : ℕ → ℕ) (code next mask less to : ℕ) → Keeps test place code mask → less < 2 ^ 81 → code ≤ next → ((n : ℕ) → n < to → place n < next) → ((n : ℕ) → to ≤ n → next ≤ place n) → ((i : ℕ) → i < 81 → to ≤ i → has_bit less i ≡ has_bit mask i) → ((i : ℕ) → i < to → has_bit less i ≡ false) → Keeps test place next less
+keeps_from test place code next mask less to k fits up falls rises same none = record {
+  fits = fits;
+  set = λ n h e. elim (cases_lt n to) [
+    | inl down ↦ absurd (both_ways (has_bit less n) (none n down) e)
+    | inr on ↦ (rises n on, (k.set n h (sym (same n h on) ∙ e)).1)
+  ];
+  clear = λ n h e l. elim (cases_lt n to) [
+    | inl down ↦ absurd (let under : place n < next = falls n down in omega arith)
+    | inr on ↦ k.clear n h (sym (same n h on) ∙ e) (omega (arith, rises n on))
+  ];
+}
+
 -- ---- the ends of a piece
 
 pub either : (plain promoting n : ℕ) → bit_or plain promoting ≡ 0 → (has_bit plain n ≡ false) × (has_bit promoting n ≡ false)
 either plain promoting n none = or_parts (has_bit plain n) (has_bit promoting n) (sym (has_bit-or plain promoting n) ∙ (ap (λ m. has_bit m n) none ∙ has_bit-none n))
 
+-- neither end below the first is one
+below : (plain promoting to : ℕ) → ((n : ℕ) → has_bit (bit_or plain promoting) n ≡ true → to ≤ n) → (n : ℕ) → n < to → (has_bit plain n ≡ false) × (has_bit promoting n ≡ false)
+below plain promoting to least n h = or_parts (has_bit plain n) (has_bit promoting n) (sym (has_bit-or plain promoting n) ∙ false_from_ne_true (has_bit (bit_or plain promoting) n) (λ e. (let le : to ≤ n = least n e in omega arith)))
+
 -- a code of the piece is that of an end, without or with promotion
 pub at_code : (from c : ℕ) → from * SQUARE_CODES ≤ c → c < from * SQUARE_CODES + SQUARE_CODES → (c ≡ code_of (Board from (c / 2 % 81) false)) ⊎ (c ≡ code_of (Board from (c / 2 % 81) true))
 at_code from c low high = elim (cases_eq (c % 2) 0) [ inl even ↦ inl (omega arith) | inr odd ↦ inr (omega arith) ]
 
-pub none_left : (p : Shogi) (capture : Bool) (from code plain promoting : ℕ) → KeepsBoard p capture from code plain promoting → bit_or plain promoting ≡ 0 → HasNoneWanted p capture code (from * SQUARE_CODES + SQUARE_CODES)
-none_left p capture from code plain promoting k none = record {
-  none = λ c above below. (
-      let low : from * SQUARE_CODES ≤ code = k.low in
+-- the ends of a piece from a code on, whose codes pass a test
+module _ (test : ℕ → Bool) (from code plain promoting : ℕ) (low : from * SQUARE_CODES ≤ code) (a : Keeps test (λ n. code_of (Board from n false)) code plain) (b : Keeps test (λ n. code_of (Board from n true)) code promoting) where
+  fails_at : (c : ℕ) → code ≤ c → c < from * SQUARE_CODES + SQUARE_CODES → (c ≡ code_of (Board from (c / 2 % 81) false) → has_bit plain (c / 2 % 81) ≡ false) → (c ≡ code_of (Board from (c / 2 % 81) true) → has_bit promoting (c / 2 % 81) ≡ false) → test c ≡ false
+  fails_at c above under x y = elim (at_code from c (omega arith) under) [
+    | inl at ↦ ap test at ∙ a.clear (c / 2 % 81) (omega arith) (x at) (omega arith)
+    | inr at ↦ ap test at ∙ b.clear (c / 2 % 81) (omega arith) (y at) (omega arith)
+  ]
+
+  -- there is none
+  pub fails_all : bit_or plain promoting ≡ 0 → (c : ℕ) → code ≤ c → c < from * SQUARE_CODES + SQUARE_CODES → test c ≡ false
+  fails_all none c above under =
       let out = either plain promoting (c / 2 % 81) none in
-      elim (at_code from c (omega arith) below) [
-        | inl at ↦ ap (is_wanted p capture) at ∙ k.plains.clear (c / 2 % 81) (omega arith) out.0 (omega arith)
-        | inr at ↦ ap (is_wanted p capture) at ∙ k.promotings.clear (c / 2 % 81) (omega arith) out.1 (omega arith)
-      ]);
-}
+      fails_at c above under (λ _. out.0) (λ _. out.1)
+
+  -- none comes before the lowest
+  pub fails_to_plain : (to : ℕ) → to < 81 → ((n : ℕ) → has_bit (bit_or plain promoting) n ≡ true → to ≤ n) → (c : ℕ) → code ≤ c → c < code_of (Board from to false) → test c ≡ false
+  fails_to_plain to ht least c above under =
+      let out = below plain promoting to least (c / 2 % 81) (omega arith) in
+      fails_at c above (omega arith) (λ _. out.0) (λ _. out.1)
+
+  pub fails_to_promoting : (to : ℕ) → to < 81 → ((n : ℕ) → has_bit (bit_or plain promoting) n ≡ true → to ≤ n) → has_bit plain to ≡ false → (c : ℕ) → code ≤ c → c < code_of (Board from to true) → test c ≡ false
+  fails_to_promoting to ht least out c above under =
+      fails_at c above (omega arith)
+      (λ at. elim (cases_eq (c / 2 % 81) to) [
+        | inl same ↦ subst (λ (x : ℕ). has_bit plain x ≡ false) (sym same) out
+        | inr other ↦ (below plain promoting to least (c / 2 % 81) (omega arith)).0
+      ])
+      (λ at. (below plain promoting to least (c / 2 % 81) (omega arith)).1)
+
+pub none_left : (p : Shogi) (capture : Bool) (from code plain promoting : ℕ) → KeepsBoard p capture from code plain promoting → bit_or plain promoting ≡ 0 → HasNoneWanted p capture code (from * SQUARE_CODES + SQUARE_CODES)
+none_left p capture from code plain promoting k none = record { none = fails_all (is_wanted p capture) from code plain promoting k.low k.plains k.promotings none }
 
 pub keeps_square : (p : Shogi) (capture : Bool) (from plain promoting : ℕ) → plain < 2 ^ 81 → promoting < 2 ^ 81
     → ((n : ℕ) → n < 81 → has_bit plain n ≡ is_wanted p capture (code_of (Board from n false))) → ((n : ℕ) → n < 81 → has_bit promoting n ≡ is_wanted p capture (code_of (Board from n true)))
@@ -124,10 +163,6 @@ taken_from p capture code m back small low wanted none = record {
 }
 
 module _ (p : Shogi) (capture : Bool) (from code plain promoting to : ℕ) (k : KeepsBoard p capture from code plain promoting) (hf : from < 81) (ht : to < 81) (least : (n : ℕ) → has_bit (bit_or plain promoting) n ≡ true → to ≤ n) where
-  -- neither end below the first is one
-  below : (n : ℕ) → n < to → (has_bit plain n ≡ false) × (has_bit promoting n ≡ false)
-  below n h = or_parts (has_bit plain n) (has_bit promoting n) (sym (has_bit-or plain promoting n) ∙ false_from_ne_true (has_bit (bit_or plain promoting) n) (λ e. (let le : to ≤ n = least n e in omega arith)))
-
   plain_above : (n : ℕ) → has_bit plain n ≡ true → to ≤ n
   plain_above n e = least n (has_bit-or plain promoting n ∙ or_left (has_bit plain n) (has_bit promoting n) e)
 
@@ -138,14 +173,7 @@ module _ (p : Shogi) (capture : Bool) (from code plain promoting to : ℕ) (k : 
   plain_taken e =
       let low : from * SQUARE_CODES ≤ code = k.low in
       let here : (code ≤ code_of (Board from to false)) × (is_wanted p capture (code_of (Board from to false)) ≡ true) = k.plains.set to ht e in
-      taken_from p capture code (Board from to false) (move_of-board from to false hf ht) (omega arith) here.0 here.1 (record {
-        none = λ c above under. (
-            let out = below (c / 2 % 81) (omega arith) in
-            elim (at_code from c (omega arith) (omega arith)) [
-              | inl at ↦ ap (is_wanted p capture) at ∙ k.plains.clear (c / 2 % 81) (omega arith) out.0 (omega arith)
-              | inr at ↦ ap (is_wanted p capture) at ∙ k.promotings.clear (c / 2 % 81) (omega arith) out.1 (omega arith)
-            ]);
-      })
+      taken_from p capture code (Board from to false) (move_of-board from to false hf ht) (omega arith) here.0 here.1 (record { none = fails_to_plain (is_wanted p capture) from code plain promoting low k.plains k.promotings to ht least })
 
   pub plain_kept : (next : ℕ) → has_bit plain to ≡ true → next < plain → ((i : ℕ) → has_bit next i ≡ (has_bit plain i && not (i == to))) → KeepsBoard p capture from (code_of (Board from to false) + 1) next promoting
   plain_kept next e less bits =
@@ -165,15 +193,7 @@ module _ (p : Shogi) (capture : Bool) (from code plain promoting to : ℕ) (k : 
   promoting_taken out e =
       let low : from * SQUARE_CODES ≤ code = k.low in
       let here : (code ≤ code_of (Board from to true)) × (is_wanted p capture (code_of (Board from to true)) ≡ true) = k.promotings.set to ht e in
-      taken_from p capture code (Board from to true) (move_of-board from to true hf ht) (omega arith) here.0 here.1 (record {
-        none = λ c above under. (elim (at_code from c (omega arith) (omega arith)) [
-          | inl at ↦ ap (is_wanted p capture) at ∙ k.plains.clear (c / 2 % 81) (omega arith) (elim (cases_eq (c / 2 % 81) to) [
-            | inl same ↦ subst (λ (x : ℕ). has_bit plain x ≡ false) (sym same) out
-            | inr other ↦ (below (c / 2 % 81) (omega arith)).0
-          ]) (omega arith)
-          | inr at ↦ ap (is_wanted p capture) at ∙ k.promotings.clear (c / 2 % 81) (omega arith) ((below (c / 2 % 81) (omega arith)).1) (omega arith)
-        ]);
-      })
+      taken_from p capture code (Board from to true) (move_of-board from to true hf ht) (omega arith) here.0 here.1 (record { none = fails_to_promoting (is_wanted p capture) from code plain promoting low k.plains k.promotings to ht least out })
 
   pub promoting_kept : (next : ℕ) → has_bit plain to ≡ false → has_bit promoting to ≡ true → next < promoting → ((i : ℕ) → has_bit next i ≡ (has_bit promoting i && not (i == to))) → KeepsBoard p capture from (code_of (Board from to true) + 1) plain next
   promoting_kept next out e less bits =
@@ -265,13 +285,25 @@ keeps_kind p kind ends fits bits = record {
   drops = keeps_first (is_wanted p false) (λ n. code_of (Drop kind n)) (FIRST_DROP + kind_number kind * 81) ends fits bits (λ n. omega arith);
 }
 
-pub no_drop_left : (p : Shogi) (kind : Kind) (code : ℕ) → KeepsDrop p kind code 0 → HasNoneWanted p false code (FIRST_DROP + 81 + kind_number kind * 81)
-no_drop_left p kind code k = record {
-  none = λ c above below. (
-      let low : FIRST_DROP + kind_number kind * 81 ≤ code = k.low in
+-- the ends of a kind from a code on, whose codes pass a test
+module _ (test : ℕ → Bool) (kind : Kind) (code ends : ℕ) (low : FIRST_DROP + kind_number kind * 81 ≤ code) (a : Keeps test (λ n. code_of (Drop kind n)) code ends) where
+  fails_drop : (c : ℕ) → code ≤ c → c < FIRST_DROP + 81 + kind_number kind * 81 → has_bit ends (c - FIRST_DROP - kind_number kind * 81) ≡ false → test c ≡ false
+  fails_drop c above under out =
       let at : c ≡ code_of (Drop kind (c - FIRST_DROP - kind_number kind * 81)) = omega arith in
-      ap (is_wanted p false) at ∙ k.drops.clear (c - FIRST_DROP - kind_number kind * 81) (omega arith) (has_bit-none (c - FIRST_DROP - kind_number kind * 81)) (omega arith));
-}
+      ap test at ∙ a.clear (c - FIRST_DROP - kind_number kind * 81) (omega arith) out (omega arith)
+
+  -- there is none
+  pub fails_drops : ends ≡ 0 → (c : ℕ) → code ≤ c → c < FIRST_DROP + 81 + kind_number kind * 81 → test c ≡ false
+  fails_drops none c above under = fails_drop c above under (ap (λ (m : ℕ). has_bit m (c - FIRST_DROP - kind_number kind * 81)) none ∙ has_bit-none (c - FIRST_DROP - kind_number kind * 81))
+
+  -- none comes before the lowest
+  pub fails_to_drop : (to : ℕ) → to < 81 → ((n : ℕ) → has_bit ends n ≡ true → to ≤ n) → (c : ℕ) → code ≤ c → c < code_of (Drop kind to) → test c ≡ false
+  fails_to_drop to ht least c above under =
+      fails_drop c above (omega arith)
+      (false_from_ne_true (has_bit ends (c - FIRST_DROP - kind_number kind * 81)) (λ e. (let le : to ≤ c - FIRST_DROP - kind_number kind * 81 = least (c - FIRST_DROP - kind_number kind * 81) e in omega arith)))
+
+pub no_drop_left : (p : Shogi) (kind : Kind) (code : ℕ) → KeepsDrop p kind code 0 → HasNoneWanted p false code (FIRST_DROP + 81 + kind_number kind * 81)
+no_drop_left p kind code k = record { none = fails_drops (is_wanted p false) kind code 0 k.low k.drops refl }
 
 -- one more kind that has none
 pub no_drop_more : (p : Shogi) (kind next : Kind) (code : ℕ) → HasNoneWanted p false code (FIRST_DROP + 81 + kind_number kind * 81) → kind_number next ≡ kind_number kind + 1 → KeepsDrop p next (FIRST_DROP + kind_number next * 81) 0 → HasNoneWanted p false code (FIRST_DROP + 81 + kind_number next * 81)
@@ -296,11 +328,7 @@ module _ (p : Shogi) (kind : Kind) (code ends to : ℕ) (k : KeepsDrop p kind co
       let seven : kind_number kind < 7 = number_below kind in
       let low : FIRST_DROP + kind_number kind * 81 ≤ code = k.low in
       let here : (code ≤ code_of (Drop kind to)) × (is_wanted p false (code_of (Drop kind to)) ≡ true) = k.drops.set to ht set in
-      taken_from p false code (Drop kind to) (move_of-drop kind to ht) (omega arith) here.0 here.1 (record {
-        none = λ c above under. (
-            let at : c ≡ code_of (Drop kind (c - FIRST_DROP - kind_number kind * 81)) = omega arith in
-            ap (is_wanted p false) at ∙ k.drops.clear (c - FIRST_DROP - kind_number kind * 81) (omega arith) (false_from_ne_true (has_bit ends (c - FIRST_DROP - kind_number kind * 81)) (λ e. (let le : to ≤ c - FIRST_DROP - kind_number kind * 81 = least (c - FIRST_DROP - kind_number kind * 81) e in omega arith))) (omega arith));
-      })
+      taken_from p false code (Drop kind to) (move_of-drop kind to ht) (omega arith) here.0 here.1 (record { none = fails_to_drop (is_wanted p false) kind code ends low k.drops to ht least })
 
   pub drop_kept : (next : ℕ) → next < ends → ((i : ℕ) → has_bit next i ≡ (has_bit ends i && not (i == to))) → KeepsDrop p kind (code_of (Drop kind to) + 1) next
   drop_kept next less bits =

@@ -2,6 +2,7 @@ pub mod Rising
 pub mod After
 pub mod Legal
 pub mod LegalMoves
+pub mod Places
 pub mod NoSafe
 pub mod Captures
 pub use Rattle.shogi_core.specs.Attack

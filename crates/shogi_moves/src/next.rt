@@ -1,17 +1,24 @@
 //! The legal moves in the order of their codes.
 
-ghost use Rattle.std.specs.Prelude.{◌≡◌, ◌≤◌, ◌<◌, ◌+◌, true, [], ◌∷◌, IfSome, MatchOption, Some};
-ghost use Rattle.shogi_core.specs.declared.moves.TheConstants.{MOVE_CODE_COUNT};
+ghost use Rattle.std.specs.Prelude.{◌≡◌, ◌≤◌, ◌<◌, ◌+◌, ◌*◌, true, false, [], ◌∷◌, IfSome, MatchOption, Some};
+ghost use Rattle.shogi_core.specs.declared.moves.TheConstants.{MOVE_CODE_COUNT, FIRST_DROP, SQUARE_CODES};
+ghost use Rattle.shogi_core.specs.declared.moves.Move.TheVariants as moves;
+ghost use Rattle.shogi_core.specs.Cell.{is_piece_of};
 ghost use Rattle.shogi_core.specs.Codes.{code_of};
+ghost use Rattle.shogi_core.specs.Movement.{piece_at};
+ghost use Rattle.shogi_core.specs.Pieces.{kind_number};
 ghost use Rattle.shogi_moves.specs.Guards.{Guards};
-ghost use Rattle.shogi_moves.specs.Legal.{is_legal};
+ghost use Rattle.shogi_moves.specs.Legal.{is_legal, is_legal_code};
 ghost use Rattle.shogi_moves.specs.LegalMoves.{legal_from, legal_above, legal_codes};
+ghost use Rattle.shogi_moves.specs.Places.{code_past};
 ghost use Rattle.shogi_moves.specs.Rising.{IsRising};
+ghost use Rattle.shogi_moves.specs.Sweeps.{Keeps};
 
+use crate::ends::{Ends, drop_ends, legal_ends};
 use crate::guard::{Guard, guard_of};
-use crate::legal::is_pawn_drop_mate;
-use crate::safe::least_guarded;
-use shogi_core::{Move, Position};
+use crate::sweep::bits_from;
+use shogi_core::bits::{has, lowest};
+use shogi_core::{FIRST_DROP, Kind, Move, Position, SQUARE_CODES, Square, is_piece_of};
 
 /// The first code above that of the move.
 pub fn code_above(m: &Move) -> u16
@@ -21,21 +28,126 @@ pub fn code_above(m: &Move) -> u16
     m.code() + 1
 }
 
-/// The legal move of least code from the given one on.
-#[tactic(auto, using(crate::proofs::NextLaws::steps))]
+/// The legal ends of one of the pieces of the side to move, those from a code on.
+fn ends_left(p: &Position, guard: &Guard, from: Square, code: u16) -> Ends
+    requires guard { Guards p.now guard.now.checked guard.now.exposed }
+    requires own { is_piece_of p.now.side (piece_at p.now.cells from) ≡ true }
+    requires code { (from * SQUARE_CODES ≤ code) × (code ≤ from * SQUARE_CODES + SQUARE_CODES) }
+    ensures plain { Keeps (is_legal_code p.now) (λ n. code_of (moves.Board from n false)) code result.plain }
+    ensures promoting { Keeps (is_legal_code p.now) (λ n. code_of (moves.Board from n true)) code result.promoting }
+{
+    from.validity();
+    let passed = (code - from.index() as u16 * SQUARE_CODES) as usize;
+    let ends = legal_ends(p, guard, from);
+    Ends {
+        plain: bits_from(ends.plain, (passed + 1) / 2),
+        promoting: bits_from(ends.promoting, passed / 2),
+    }
+}
+
+/// The legal move of least code from the given one on, of what stands on the square.
+fn least_end(p: &Position, guard: &Guard, from: Square, code: u16) -> Option<Move>
+    requires guard { Guards p.now guard.now.checked guard.now.exposed }
+    requires code { (from * SQUARE_CODES ≤ code) × (code ≤ from * SQUARE_CODES + SQUARE_CODES) }
+    ensures next { MatchOption result (legal_from p.now code ≡ legal_from p.now (from * SQUARE_CODES + SQUARE_CODES)) (λ m. legal_from p.now code ≡ code_of m ∷ legal_from p.now (code_of m + 1)) }
+    ensures legal { IfSome result (λ m. is_legal p.now m ≡ true) }
+{
+    from.validity();
+    if !is_piece_of(p.at(from), p.side()) {
+        return None;
+    }
+    let ends = ends_left(p, guard, from, code);
+    let both = ends.plain | ends.promoting;
+    if both == 0 {
+        return None;
+    }
+    let to = lowest(both);
+    Some(Move::Board {
+        from,
+        to: Square::of_index(to),
+        promote: !has(ends.plain, to),
+    })
+}
+
+/// Where one of the held pieces may legally be dropped, those from a code on.
+fn drops_left(p: &Position, guard: &Guard, kind: Kind, code: u16) -> u128
+    requires guard { Guards p.now guard.now.checked guard.now.exposed }
+    requires code { (FIRST_DROP + kind_number kind * 81 ≤ code) × (code ≤ FIRST_DROP + 81 + kind_number kind * 81) }
+    ensures { Keeps (is_legal_code p.now) (λ n. code_of (moves.Drop kind n)) code result }
+{
+    let passed = (code - FIRST_DROP) as usize - kind.number() * 81;
+    bits_from(drop_ends(p, guard, kind), passed)
+}
+
+/// The legal drop of the kind of least code from the given one on.
+fn least_drop(p: &Position, guard: &Guard, kind: Kind, code: u16) -> Option<Move>
+    requires guard { Guards p.now guard.now.checked guard.now.exposed }
+    requires code { (FIRST_DROP + kind_number kind * 81 ≤ code) × (code ≤ FIRST_DROP + 81 + kind_number kind * 81) }
+    ensures next { MatchOption result (legal_from p.now code ≡ legal_from p.now (FIRST_DROP + 81 + kind_number kind * 81)) (λ m. legal_from p.now code ≡ code_of m ∷ legal_from p.now (code_of m + 1)) }
+    ensures legal { IfSome result (λ m. is_legal p.now m ≡ true) }
+{
+    let ends = drops_left(p, guard, kind, code);
+    if ends == 0 {
+        return None;
+    }
+    let to = lowest(ends);
+    Some(Move::Drop {
+        kind,
+        to: Square::of_index(to),
+    })
+}
+
+/// The legal move of least code from that of the move on, among those from the same square or of the
+/// same kind.
+fn least_beside(p: &Position, guard: &Guard, m: &Move) -> Option<Move>
+    requires guard { Guards p.now guard.now.checked guard.now.exposed }
+    ensures next { MatchOption result (legal_from p.now (code_of m.now) ≡ legal_from p.now (code_past m.now)) (λ found. legal_from p.now (code_of m.now) ≡ code_of found ∷ legal_from p.now (code_of found + 1)) }
+    ensures legal { IfSome result (λ found. is_legal p.now found ≡ true) }
+{
+    match m {
+        Move::Board { from, to, .. } => {
+            to.validity();
+            least_end(p, guard, *from, m.code())
+        }
+        Move::Drop { kind, to } => {
+            to.validity();
+            least_drop(p, guard, *kind, m.code())
+        }
+    }
+}
+
+/// The first code above those of the moves from the same square, or of the same kind.
+fn code_past(m: &Move) -> u16
+    ensures code { result ≡ code_past m.now }
+    ensures range { (code_of m.now < result) × (result ≤ MOVE_CODE_COUNT) }
+{
+    match m {
+        Move::Board { from, to, .. } => {
+            from.validity();
+            to.validity();
+            from.index() as u16 * SQUARE_CODES + SQUARE_CODES
+        }
+        Move::Drop { kind, to } => {
+            to.validity();
+            FIRST_DROP + 81 + kind.number() as u16 * 81
+        }
+    }
+}
+
+/// The legal move of least code from the given one on: square by square, and then kind by kind.
 pub fn least_from(p: &Position, guard: &Guard, first: u16) -> Option<Move>
     requires first { first ≤ MOVE_CODE_COUNT }
     requires guard { Guards p.now guard.now.checked guard.now.exposed }
-    ensures code { IfSome result (λ m. code_of m < MOVE_CODE_COUNT) }
     ensures next { MatchOption result (legal_from p.now first ≡ []) (λ m. legal_from p.now first ≡ code_of m ∷ legal_from p.now (code_of m + 1)) }
     ensures legal { IfSome result (λ m. is_legal p.now m ≡ true) }
 {
     let mut code = first;
-    while let Some(m) = least_guarded(p, guard, code) {
-        if !is_pawn_drop_mate(p, &m) {
-            return Some(m);
+    'codes: while let Some(m) = Move::of_code(code) {
+        let found = least_beside(p, guard, &m);
+        if found.is_some() {
+            return found;
         }
-        code = m.code() + 1;
+        code = code_past(&m);
     }
     None
 }

@@ -73,8 +73,8 @@ fn bits_above(mask: u128, n: usize) -> u128
 }
 
 /// Those bits of the mask that are not below bit n.
-fn bits_from(mask: u128, n: usize) -> u128
-    requires n { n < 81 }
+pub fn bits_from(mask: u128, n: usize) -> u128
+    requires n { n ≤ 81 }
     requires fits { mask < 2 ^ 81 }
     ensures fits { result < 2 ^ 81 }
     ensures from { (i : ℕ) → i < 81 → n ≤ i → has_bit result i ≡ has_bit mask i }
