@@ -28,7 +28,9 @@ printf "$columns" request position depth entries value best nodes/steps seconds 
 for depth in 1 2 3 4; do
     row opening "perft $depth"
 done
-row many-drops "perft 1 $many_drops"
+for depth in 1 2 3; do
+    row many-drops "perft $depth $many_drops"
+done
 for depth in 1 2 3 4 5 6; do
     row opening "search $depth 0"
 done

@@ -1,11 +1,14 @@
 //! The bodies by masks against the plain ones, on worked positions and on those of a played game.
 
+ghost use Rattle.std.specs.Prelude.{true, false};
+ghost use Rattle.shogi_moves.specs.Sweeps.{IsBoardSweep, IsDropSweep};
+
 use crate::legal_moves::{position, read};
 use crate::plain;
 use shogi_core::Color::{Black, White};
 use shogi_core::{Color, MOVE_CODE_COUNT, Move, Position, Square};
 use shogi_moves::{
-    Walk, has_legal, in_check, is_legal, next_capture, next_legal, next_quiet, perft, play,
+    BoardSweep, DropSweep, Walk, guard_of, has_legal, in_check, is_legal, next_legal, perft, play,
 };
 use std::process::Abort;
 use std::test::Fail;
@@ -28,49 +31,75 @@ const GAME: [u16; 101] = [
     13572, 9022, 13663, 9204, 9027, 10842, 9510, 7584, 7420, 12302, 12790,
 ];
 
-// Each of all moves is judged alike, and the walks over all moves, over the captures and over the
-// others give the legal ones of their sort in the order of codes.
+// The next move of that sweep in which the move is to come.
+fn next_of_sort(
+    p: &Position,
+    m: &Move,
+    captures: &mut BoardSweep,
+    quiets: &mut BoardSweep,
+    drops: &mut DropSweep,
+) -> Option<Move>
+    requires captures { IsBoardSweep p.now true captures.old }
+    requires quiets { IsBoardSweep p.now false quiets.old }
+    requires drops { IsDropSweep p.now drops.old }
+    ensures captures { IsBoardSweep p.now true captures.new }
+    ensures quiets { IsBoardSweep p.now false quiets.new }
+    ensures drops { IsDropSweep p.now drops.new }
+{
+    match m {
+        Move::Drop { .. } => drops.next(p),
+        Move::Board { .. } => {
+            if plain::takes(p, m) {
+                captures.next(p, true)
+            } else {
+                quiets.next(p, false)
+            }
+        }
+    }
+}
+
+// Each of all moves is judged alike, and the walk over all moves and the sweeps over the captures, the
+// other moves on the board and the drops give the legal ones of their sort in the order of codes.
 fn assert_moves(rt: &impl Abort, p: &Position, at: usize) {
     let mut walk = Walk::new(p);
-    let (mut passed, mut taken, mut quiet) = (None, None, None);
+    let guard = guard_of(p);
+    let mut captures = BoardSweep::new(p, guard, true);
+    let mut quiets = BoardSweep::new(p, guard, false);
+    let mut drops = DropSweep::new(p, guard);
+    let mut passed = None;
     let mut count: u64 = 0;
     for code in 0..MOVE_CODE_COUNT {
         let m = Move::of_code(code).expect(rt, "a move");
         let legal = plain::is_legal(p, &m);
         assert!(rt; is_legal(p, m) == legal, "the move {code} in position {at}");
-        if legal {
-            count = count.saturating_add(1);
-            passed = next_legal(p, passed);
-            assert!(rt;
-                passed == Some(m),
-                "the move {code} is next in position {at}"
-            );
-            assert!(rt;
-                walk.next() == Some(m),
-                "the move {code} is walked in position {at}"
-            );
-            let capture = plain::takes(p, &m);
-            if capture {
-                taken = next_capture(p, taken);
-                assert!(rt; taken == Some(m), "the capture {code} in position {at}");
-            } else {
-                quiet = next_quiet(p, quiet);
-                assert!(rt; quiet == Some(m), "the quiet move {code} in position {at}");
-            }
+        if !legal {
+            continue;
         }
+        count = count.saturating_add(1);
+        passed = next_legal(p, passed);
+        assert!(rt;
+            passed == Some(m),
+            "the move {code} is next in position {at}"
+        );
+        assert!(rt;
+            walk.next() == Some(m),
+            "the move {code} is walked in position {at}"
+        );
+        let swept = next_of_sort(p, &m, &mut captures, &mut quiets, &mut drops);
+        assert!(rt;
+            swept == Some(m),
+            "the move {code} of its sort in position {at}"
+        );
     }
     assert!(rt;
         next_legal(p, passed).is_none() && walk.next().is_none(),
         "position {at}"
     );
     assert!(rt;
-        next_capture(p, taken).is_none(),
-        "no capture more in position {at}"
+        captures.next(p, true).is_none() && quiets.next(p, false).is_none(),
+        "no move more on the board in position {at}"
     );
-    assert!(rt;
-        next_quiet(p, quiet).is_none(),
-        "no quiet move more in position {at}"
-    );
+    assert!(rt; drops.next(p).is_none(), "no drop more in position {at}");
     assert!(rt;
         has_legal(p) == passed.is_some(),
         "whether a move is legal in position {at}"

@@ -3,8 +3,8 @@
 use shogi_core::Color::{Black, White};
 use shogi_core::{Color, Hands, Kind, Move, Piece, Position, Role, Square};
 use shogi_moves::{
-    Replies, has_legal, in_check, is_attacked, is_legal, next_capture, next_legal, next_quiet,
-    perft, play,
+    BoardSweep, DropSweep, Replies, guard_of, has_legal, in_check, is_attacked, is_legal,
+    next_legal, perft, play,
 };
 use std::test::Fail;
 
@@ -171,19 +171,28 @@ fn steps(rt: HostRuntime) -> Result<(), Fail> {
     Ok(())
 }
 
-/// The only capture of a position, and an opening without one.
+/// The only capture of a position, its first other move and its first drop, and an opening without captures and
+/// drops.
 #[test]
 fn captures(rt: HostRuntime) -> Result<(), Fail> {
     let p = position(b"4k4/9/9/4+p4/4P4/9/9/9/4K4", b"P", Black)?;
-    let taking = next_capture(&p, None).ok_or("a capture")?;
-    assert_eq!(rt; taking, read(b"5e5d "));
-    assert!(rt; next_capture(&p, Some(taking)).is_none());
-    let other = next_quiet(&p, None).ok_or("another move")?;
-    assert_eq!(rt; other, read(b"5i4h "));
+    let mut captures = BoardSweep::new(&p, guard_of(&p), true);
+    assert_eq!(rt; captures.next(&p, true), Some(read(b"5e5d ")));
+    assert!(rt; captures.next(&p, true).is_none());
+    let mut quiets = BoardSweep::new(&p, guard_of(&p), false);
+    assert_eq!(rt; quiets.next(&p, false), Some(read(b"5i4h ")));
+    let mut drops = DropSweep::new(&p, guard_of(&p));
+    assert_eq!(rt; drops.next(&p), Some(read(b"P*1b ")));
     let start = Position::start();
-    assert!(rt; next_capture(&start, None).is_none());
-    let quiet = next_quiet(&start, None).ok_or("a move")?;
-    assert_eq!(rt; quiet, read(b"1g1f "));
+    let mut captures = BoardSweep::new(&start, guard_of(&start), true);
+    assert!(rt; captures.next(&start, true).is_none());
+    let mut quiets = BoardSweep::new(&start, guard_of(&start), false);
+    assert_eq!(rt; quiets.next(&start, false), Some(read(b"1g1f ")));
+    assert!(rt;
+        DropSweep::new(&start, guard_of(&start))
+            .next(&start)
+            .is_none()
+    );
     Ok(())
 }
 

@@ -6,9 +6,75 @@ use shogi_core::{
     is_piece_of,
 };
 
+// A change of file and of rank, as Black sees the board.
+type Change = (i8, i8);
+
+const STRAIGHT: [Change; 4] = [(0, -1), (0, 1), (1, 0), (-1, 0)];
+
+const DIAGONAL: [Change; 4] = [(1, -1), (-1, -1), (1, 1), (-1, 1)];
+
+const AROUND: [Change; 8] = [
+    (0, -1),
+    (0, 1),
+    (1, 0),
+    (-1, 0),
+    (1, -1),
+    (-1, -1),
+    (1, 1),
+    (-1, 1),
+];
+
+const FORWARD: [Change; 1] = [(0, -1)];
+
+const KNIGHT: [Change; 2] = [(1, -2), (-1, -2)];
+
+const SILVER: [Change; 5] = [(0, -1), (1, -1), (-1, -1), (1, 1), (-1, 1)];
+
+const GOLD: [Change; 6] = [(0, -1), (1, -1), (-1, -1), (1, 0), (-1, 0), (0, 1)];
+
+fn step_changes(role: Role) -> &'static [Change] {
+    match role {
+        Role::King => &AROUND,
+        Role::Pawn => &FORWARD,
+        Role::Knight => &KNIGHT,
+        Role::Silver => &SILVER,
+        Role::Gold
+        | Role::PromotedPawn
+        | Role::PromotedLance
+        | Role::PromotedKnight
+        | Role::PromotedSilver => &GOLD,
+        Role::Horse => &STRAIGHT,
+        Role::Dragon => &DIAGONAL,
+        Role::Lance | Role::Bishop | Role::Rook => &[],
+    }
+}
+
+fn slide_changes(role: Role) -> &'static [Change] {
+    match role {
+        Role::Lance => &FORWARD,
+        Role::Bishop | Role::Horse => &DIAGONAL,
+        Role::Rook | Role::Dragon => &STRAIGHT,
+        _ => &[],
+    }
+}
+
+// Where n steps lead, if they stay on the board.
+fn away(from: Square, n: u8, change: Change, color: Color) -> Option<Square> {
+    let file = from.file() as i32 + n as i32 * change.0 as i32;
+    let step = n as i32 * change.1 as i32;
+    let rank = match color {
+        Color::Black => from.rank() as i32 + step,
+        Color::White => from.rank() as i32 - step,
+    };
+    if file < 1 || file > 9 || rank < 1 || rank > 9 {
+        return None;
+    }
+    Square::new(file as u8, rank as u8)
+}
+
 fn steps(piece: Piece, from: Square, to: Square) -> bool {
-    for offset in piece.role.steps() {
-        if from.away(1, *offset, piece.color) == Some(to) {
+    for change in step_changes(piece.role) {
+        if away(from, 1, *change, piece.color) == Some(to) {
             return true;
         }
     }
@@ -16,10 +82,10 @@ fn steps(piece: Piece, from: Square, to: Square) -> bool {
 }
 
 fn slides(board: &Board, piece: Piece, from: Square, to: Square) -> bool {
-    for offset in piece.role.slides() {
+    for change in slide_changes(piece.role) {
         let mut is_open = true;
         for n in 1..9u8 {
-            match from.away(n, *offset, piece.color) {
+            match away(from, n, *change, piece.color) {
                 None => is_open = false,
                 Some(square) => {
                     if is_open && square == to {

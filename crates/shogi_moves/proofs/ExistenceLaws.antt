@@ -34,8 +34,7 @@ use Rattle.shogi_moves.specs.LegalMoves.{legal_from, legal_codes}
 use Rattle.shogi_moves.specs.Rising.{is_in}
 use Rattle.shogi_moves.proofs.EndLaws.{drop_wanted, legal_board, still}
 use Rattle.shogi_moves.proofs.KingLaws.{king_own}
-use Rattle.shogi_moves.proofs.LegalLaws.{in_legal, legal_in, legal_in_above, legal_code_below, is_legal_code_of, run_without}
-use Rattle.shogi_moves.proofs.NoSafeLaws.{some_safe, board_code, drop_code, legal_code_unsafe}
+use Rattle.shogi_moves.proofs.LegalLaws.{in_legal, legal_in, legal_in_above, legal_code_below, is_legal_code_of, run_without, board_code, drop_code, legal_code_unsafe}
 use Rattle.shogi_moves.proofs.SweepLaws.{either, at_code}
 use Rattle.shogi_moves.proofs.ZoneLaws.{all_squares, more_fits}
 
@@ -172,7 +171,8 @@ safe_from_legal p some = go (legal_codes p) (λ code h. legal_in p 0 code h) som
 pub pawn_safe : (p : Shogi) (ends : ℕ) → ends < 2 ^ 81 → ((n : ℕ) → n < 81 → has_bit ends n ≡ is_safe p (Drop kinds.Pawn n)) → ends ≢ 0 → some_below MOVE_CODE_COUNT (is_safe_code p) ≡ true
 pawn_safe p ends fits bits some =
     let low = lowest_set ends some fits in
-    some_safe p (Drop kinds.Pawn (trailing_zeros w128 ends)) (move_of-drop kinds.Pawn (trailing_zeros w128 ends) low.0) (sym (bits (trailing_zeros w128 ends) low.0) ∙ low.1)
+    let back = move_of-drop kinds.Pawn (trailing_zeros w128 ends) low.0 in
+    some_below_at MOVE_CODE_COUNT (is_safe_code p) (code_of (Drop kinds.Pawn (trailing_zeros w128 ends))) (omega (arith, low.0)) (ap (is_some_and_safe p) back ∙ (sym (bits (trailing_zeros w128 ends) low.0) ∙ low.1))
 
 pawn_unsafe : (p : Shogi) (ends code : ℕ) → FIRST_DROP ≤ code → code < FIRST_DROP + 81 → ((n : ℕ) → n < 81 → has_bit ends n ≡ is_safe p (Drop kinds.Pawn n)) → ends ≡ 0 → is_safe_code p code ≡ false
 pawn_unsafe p ends code low high bits none =

@@ -22,7 +22,7 @@ use Rattle.shogi_core.proofs.Exposed.{check_was, check_stays, attacked_was}
 use Rattle.shogi_core.proofs.SeenLaws.{lined_back}
 use Rattle.shogi_moves.specs.After.{cells_after, piece_moved, dropped}
 use Rattle.shogi_moves.specs.Guards.{Guards, Exposes}
-use Rattle.shogi_moves.specs.Legal.{is_safe, is_pseudo_legal_board_move, is_pseudo_legal_drop}
+use Rattle.shogi_moves.specs.Legal.{is_safe, is_pseudo_legal_drop}
 use Rattle.shogi_moves.proofs.MovedPieces.{is_king-piece_moved}
 
 -- ---- the squares that are on open lines with a king
@@ -320,20 +320,6 @@ pub calm_safe : (p : Shogi) (checked : Bool) (exposed from to : ℕ) (promote : 
 calm_safe p checked exposed from to promote g len hf ht own calm off =
     filled (set p.cells from None) p.side to (piece_moved promote (piece_at p.cells from)) (length-set p.cells from None ∙ len) ht (is_piece_of-piece_moved p.side promote (piece_at p.cells from) ∙ own) (is_king-piece_moved p.side promote (piece_at p.cells from) ∙ g.kings from hf off) (g.free calm from hf off own)
 
-pub quiet_board_safe : (p : Shogi) (checked : Bool) (exposed from to : ℕ) (promote : Bool) → Guards p checked exposed → length p.cells ≡ 81 → from < 81 → to < 81 → checked ≡ false → has_bit exposed from ≡ false
-    → is_pseudo_legal_board_move p.cells p.side from to promote ≡ is_safe p (Board from to promote)
-unfolding is_safe
-quiet_board_safe p checked exposed from to promote g len hf ht calm off = go (is_pseudo_legal_board_move p.cells p.side from to promote) refl
-  where
-    go : (right : Bool) → is_pseudo_legal_board_move p.cells p.side from to promote ≡ right → right ≡ (right && not (in_check (cells_after p.cells p.side (Board from to promote)) p.side))
-    go false e = refl
-    go true e =
-        let four = and_parts _ _ e in
-        let three = and_parts _ _ (four.0) in
-        let two = and_parts _ _ (three.0) in
-        let one = and_parts _ _ (two.0) in
-        sym (ap not (calm_safe p checked exposed from to promote g len hf ht one.0 calm off))
-
 pub quiet_drop_safe : (p : Shogi) (checked : Bool) (exposed to : ℕ) (kind : Kind) → Guards p checked exposed → length p.cells ≡ 81 → to < 81 → checked ≡ false
     → is_pseudo_legal_drop p.cells p.hands p.side kind to ≡ is_safe p (Drop kind to)
 unfolding is_safe
@@ -350,11 +336,3 @@ pub ruleset exposing = (exposes_first, exposes_more, exposed_fits)
 
 pub calm_parts : (a b : Bool) → (not a && not b) ≡ true → (a ≡ false) × (b ≡ false)
 calm_parts a b e = let parts : (not a ≡ true) × (not b ≡ true) = and_parts (not a) (not b) e in (not-true a parts.0, not-true b parts.1)
-
-pub calm_board_safe : (p : Shogi) (checked : Bool) (exposed from to : ℕ) (promote : Bool) → Guards p checked exposed → length p.cells ≡ 81 → from < 81 → to < 81 → (not checked && not (has_bit exposed from)) ≡ true
-    → is_pseudo_legal_board_move p.cells p.side from to promote ≡ is_safe p (Board from to promote)
-calm_board_safe p checked exposed from to promote g len hf ht calm =
-    let parts : (checked ≡ false) × (has_bit exposed from ≡ false) = calm_parts checked (has_bit exposed from) calm in
-    quiet_board_safe p checked exposed from to promote g len hf ht parts.0 parts.1
-
-pub ruleset quiet = (calm_board_safe, quiet_drop_safe)

@@ -1,13 +1,17 @@
 -- Laws of the legal moves.
-use Rattle.std.proofs.Common.{◌≡◌, ℕ, ◌+◌, ◌-◌, ◌<◌, ◌≤◌, true, false, [], ◌∷◌, Option, Some, None, refl, sym, ◌∙◌, ap, arith, inl, inr}
-use Rattle.std.specs.Prelude.{zero, suc, nat_lt}
-use Rattle.std.proofs.lemmas.Bool.{cond-true, cond-false, cases_lt, le-ltb, both_ways}
-use Rattle.shogi_core.specs.declared.moves.TheConstants.{MOVE_CODE_COUNT, FIRST_DROP}
+use Rattle.std.proofs.Common.{◌≡◌, ℕ, ◌+◌, ◌-◌, ◌*◌, ◌/◌, ◌%◌, ◌<◌, ◌≤◌, Bool, true, false, [], ◌∷◌, Option, Some, None, refl, sym, ◌∙◌, ap, subst, arith, inl, inr}
+use Rattle.std.specs.Prelude.{zero, suc, nat_lt, ◌==◌}
+use Rattle.std.proofs.lemmas.Bool.{cond-true, cond-false, cases_lt, lt-ltb, le-ltb, both_ways}
+use Rattle.shogi_core.specs.declared.moves.TheConstants.{MOVE_CODE_COUNT, FIRST_DROP, SQUARE_CODES}
 use Rattle.shogi_core.specs.declared.moves.Move.{Move}
-use Rattle.shogi_core.specs.Codes.{move_of, code_of, codes_from}
+use Rattle.shogi_core.specs.declared.moves.Move.TheVariants.{Board, Drop}
+use Rattle.shogi_core.specs.Bits.{has_bit}
+use Rattle.shogi_core.specs.Cell.{is_piece_of}
+use Rattle.shogi_core.specs.Codes.{move_of, code_of, codes_from, kind_at}
+use Rattle.shogi_core.specs.Movement.{piece_at}
 use Rattle.shogi_core.specs.Position.{Shogi}
 use Rattle.shogi_moves.specs.After.{after, after_code, after_some}
-use Rattle.shogi_moves.specs.Legal.{is_legal, is_legal_code, is_some_and_legal}
+use Rattle.shogi_moves.specs.Legal.{is_safe, is_some_and_safe, is_safe_code, is_legal, is_legal_code, is_some_and_legal}
 use Rattle.shogi_moves.specs.LegalMoves.{legal_from, legal_codes, legal_above}
 use Rattle.shogi_moves.specs.Rising.{is_in, IsRising}
 use Rattle.shogi_moves.proofs.Rising.{kept_rising, kept_passes, kept_low, passes_kept}
@@ -66,6 +70,38 @@ legal_code_below p code e = elim (cases_lt code MOVE_CODE_COUNT) [
   | inl below ↦ below
   | inr above ↦ absurd (both_ways (is_some_and_legal p (move_of code)) (ap (is_some_and_legal p) (none_beyond code above)) e)
 ]
+
+-- what a code is the code of
+pub board_code : (code : ℕ) → code < FIRST_DROP → move_of code ≡ Some (Board (code / 2 / 81) (code / 2 % 81) (code % 2 == 1))
+board_code code h = cond-true (nat_lt code FIRST_DROP) _ _ (lt-ltb code FIRST_DROP h)
+
+pub drop_code : (code : ℕ) → FIRST_DROP ≤ code → code < MOVE_CODE_COUNT → move_of code ≡ Some (Drop (kind_at ((code - FIRST_DROP) / 81)) ((code - FIRST_DROP) % 81))
+drop_code code low high = cond-false (nat_lt code FIRST_DROP) _ _ (le-ltb code FIRST_DROP low) ∙ cond-true (nat_lt code MOVE_CODE_COUNT) _ _ (lt-ltb code MOVE_CODE_COUNT high)
+
+-- what is not safe is not legal
+legal_unsafe : (p : Shogi) (m : Option Move) → is_some_and_safe p m ≡ false → is_some_and_legal p m ≡ false
+unfolding is_legal
+legal_unsafe p None e = refl
+legal_unsafe p (Some m) e = rw e refl
+
+pub legal_code_unsafe : (p : Shogi) (code : ℕ) → is_safe_code p code ≡ false → is_legal_code p code ≡ false
+unfolding is_legal_code
+legal_code_unsafe p code e = legal_unsafe p (move_of code) e
+
+-- no piece of the side to move stands on the square
+not_own : (p : Shogi) (from to : ℕ) (promote : Bool) → is_piece_of p.side (piece_at p.cells from) ≡ false → is_safe p (Board from to promote) ≡ false
+unfolding is_safe
+not_own p from to promote e = rw e refl
+
+pub no_piece : (p : Shogi) (from code : ℕ) → from < 81 → is_piece_of p.side (piece_at p.cells from) ≡ false → from * SQUARE_CODES ≤ code → code < from * SQUARE_CODES + SQUARE_CODES → is_legal_code p code ≡ false
+no_piece p from code hf e low high =
+    let same : code / 2 / 81 ≡ from = omega arith in
+    legal_code_unsafe p code (ap (is_some_and_safe p) (board_code code (omega arith)) ∙ not_own p (code / 2 / 81) (code / 2 % 81) (code % 2 == 1) (subst (λ (n : ℕ). is_piece_of p.side (piece_at p.cells n) ≡ false) (sym same) e))
+
+pub run_squares : (p : Shogi) (own from next : ℕ) → from ≤ next → next ≤ 81 → ((n : ℕ) → n < 81 → has_bit own n ≡ is_piece_of p.side (piece_at p.cells n)) → ((n : ℕ) → from ≤ n → n < next → has_bit own n ≡ false)
+    → legal_from p (from * SQUARE_CODES) ≡ legal_from p (next * SQUARE_CODES)
+run_squares p own from next up h bits none = run_without p (from * SQUARE_CODES) (next * SQUARE_CODES) (omega arith) (omega arith) (λ c low high.
+    no_piece p (c / SQUARE_CODES) c (omega arith) (sym (bits (c / SQUARE_CODES) (omega arith)) ∙ none (c / SQUARE_CODES) (omega arith) (omega arith)) (omega arith) (omega arith))
 
 -- each code of a legal move is in the list
 pub in_legal : (p : Shogi) (first code : ℕ) → first ≤ code → is_legal_code p code ≡ true → is_in code (legal_from p first) ≡ true

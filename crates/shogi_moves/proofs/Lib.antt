@@ -5,13 +5,11 @@ pub mod KeepsBoard
 pub mod KeepsDrop
 pub mod Keeps
 pub mod LegalLaws
-pub mod NoSafeLaws
 pub mod NextLaws
 pub mod CaptureLaws
 pub mod PerftLaws
 pub mod GuardLaws
 pub mod KingLaws
-pub mod RunLaws
 pub mod ZoneLaws
 pub mod PawnFiles
 pub mod EndLaws

@@ -19,8 +19,7 @@ use Rattle.shogi_moves.specs.Legal.{is_legal, is_legal_code}
 use Rattle.shogi_moves.specs.LegalMoves.{legal_from}
 use Rattle.shogi_moves.specs.Sweeps.{Keeps}
 use Rattle.shogi_moves.proofs.EndLaws.{drop_wanted}
-use Rattle.shogi_moves.proofs.LegalLaws.{is_legal_code_of, legal_from_found, run_without}
-use Rattle.shogi_moves.proofs.NoSafeLaws.{legal_from_jumps, idle_square}
+use Rattle.shogi_moves.proofs.LegalLaws.{is_legal_code_of, legal_from_found, no_piece, run_without}
 use Rattle.shogi_moves.proofs.SweepLaws.{keeps_first, keeps_from, fails_all, fails_to_plain, fails_to_promoting, fails_drops, fails_to_drop}
 
 -- the first legal move from a code on
@@ -35,8 +34,8 @@ least_at p code m back small low legal none = record {
 }
 
 -- no piece of the side to move stands on the square
-pub no_piece : (p : Shogi) (from code : ℕ) → from < 81 → from * SQUARE_CODES ≤ code → code ≤ from * SQUARE_CODES + SQUARE_CODES → is_piece_of p.side (piece_at p.cells from) ≡ false → legal_from p code ≡ legal_from p (from * SQUARE_CODES + SQUARE_CODES)
-no_piece p from code hf low high e = legal_from_jumps p code (from * SQUARE_CODES + SQUARE_CODES) high (omega arith) (idle_square p from code (from * SQUARE_CODES + SQUARE_CODES) hf low (omega arith) e)
+pub nobody : (p : Shogi) (from code : ℕ) → from < 81 → from * SQUARE_CODES ≤ code → code ≤ from * SQUARE_CODES + SQUARE_CODES → is_piece_of p.side (piece_at p.cells from) ≡ false → legal_from p code ≡ legal_from p (from * SQUARE_CODES + SQUARE_CODES)
+nobody p from code hf low high e = run_without p code (from * SQUARE_CODES + SQUARE_CODES) high (omega arith) (λ c above under. no_piece p from c hf e (omega arith) under)
 
 -- the ends from a code on, of all ends
 pub ends_from : (p : Shogi) (promote : Bool) (from code ends less to : ℕ) → less < 2 ^ 81 → ends < 2 ^ 81 → ((n : ℕ) → n < 81 → has_bit ends n ≡ is_legal_code p (code_of (Board from n promote))) → from * SQUARE_CODES ≤ code

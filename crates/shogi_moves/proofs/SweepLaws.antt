@@ -21,7 +21,7 @@ use Rattle.shogi_core.proofs.Faults.{number_below}
 use Rattle.shogi_moves.specs.Captures.{captures, is_asked, is_wanted, HasNoneWanted}
 use Rattle.shogi_moves.specs.Legal.{is_legal}
 use Rattle.shogi_moves.specs.Sweeps.{wanted_from, Keeps, KeepsBoard, KeepsDrop, HasWantedOn}
-use Rattle.shogi_moves.proofs.CaptureLaws.{none_safe, none_square, none_drop, none_join, wanted_jumps, wanted_found, wanted_end}
+use Rattle.shogi_moves.proofs.CaptureLaws.{none_square, none_drop, none_join, wanted_jumps, wanted_found, wanted_end}
 use Rattle.shogi_moves.proofs.EndLaws.{wanted_move}
 use Rattle.shogi_moves.proofs.ZoneLaws.{more_fits}
 

@@ -19,9 +19,7 @@ use Rattle.shogi_core.specs.Codes.{code_of}
 use Rattle.shogi_core.specs.Position.{Shogi}
 use Rattle.shogi_moves.specs.Legal.{is_legal_code}
 use Rattle.shogi_moves.specs.LegalMoves.{legal_from}
-use Rattle.shogi_moves.proofs.LegalLaws.{legal_from_found, legal_from_skips}
-use Rattle.shogi_moves.proofs.NoSafeLaws.{legal_from_jumps}
-use Rattle.shogi_moves.proofs.RunLaws.{run_squares}
+use Rattle.shogi_moves.proofs.LegalLaws.{legal_from_found, legal_from_skips, run_squares}
 
 abbrev digit : Bool → ℕ
 digit b = cond b 1 0
@@ -155,4 +153,4 @@ ones_most m h = omega (arith, ones_tally 81 m h, tally_most 81 (has_bit m))
 
 -- squares without a piece of the side add nothing
 pub counted_between : (p : Shogi) (own from next : ℕ) → from ≤ next → next ≤ 81 → ((n : ℕ) → n < 81 → has_bit own n ≡ is_piece_of p.side (piece_at p.cells n)) → ((n : ℕ) → from ≤ n → n < next → has_bit own n ≡ false) → length (legal_from p (from * SQUARE_CODES)) ≡ length (legal_from p (next * SQUARE_CODES))
-counted_between p own from next up h bits none = ap length (legal_from_jumps p (from * SQUARE_CODES) (next * SQUARE_CODES) (omega arith) (omega arith) (run_squares p own from next (from * SQUARE_CODES) (omega arith) h bits none))
+counted_between p own from next up h bits none = ap length (run_squares p own from next up h bits none)

@@ -3,14 +3,12 @@ pub mod After
 pub mod Legal
 pub mod LegalMoves
 pub mod Places
-pub mod NoSafe
 pub mod Captures
 pub use Rattle.shogi_core.specs.Attack
 pub use Rattle.shogi_core.specs.Codes
 pub use Rattle.shogi_core.specs.Validity
 pub mod Guards
 pub mod Walks
-pub mod Candidates
 pub mod Ends
 pub mod Sweeps
 pub mod Replies

@@ -4,16 +4,12 @@ ghost use Rattle.std.specs.Prelude.{◌≡◌, ◌↔◌, IsTrue, true, if◌the
 ghost use Rattle.shogi_core.specs.Codes.{code_of};
 ghost use Rattle.shogi_moves.specs.After.{after};
 ghost use Rattle.shogi_moves.specs.Legal.{is_legal, is_safe, is_pseudo_legal, is_pseudo_legal_board_move, is_pseudo_legal_drop, may_promote, is_pawn_kind, is_mated_by_drop, is_pawn_drop, is_pawn_drop_mate, is_promotable, in_promotion_zone};
-ghost use Rattle.shogi_core.specs.declared.moves.Move.TheVariants as moves;
-ghost use Rattle.shogi_moves.specs.Candidates.{is_candidate};
-ghost use Rattle.shogi_moves.specs.Guards.{Guards};
 ghost use Rattle.shogi_moves.specs.LegalMoves.{legal_codes};
 ghost use Rattle.shogi_moves.specs.Rising.{is_in};
 
 use crate::after::{apply, apply_safe, dropped, is_checked_after, piece_moved};
 use crate::attack::in_check;
 use crate::existence::has_safe;
-use crate::guard::{Guard, is_calm};
 use shogi_core::{Color, Kind, Move, Piece, Position, Role, Square, is_immobile, is_piece_of};
 
 /// Whether a piece of the role can promote.
@@ -90,50 +86,10 @@ fn is_pseudo_legal(p: &Position, m: &Move) -> bool
 
 /// Whether the move obeys the rules, apart from mate by the drop of a pawn.
 #[tactic(auto, unfolding(crate::specs::Legal::is_safe))]
-pub fn is_safe(p: &Position, m: &Move) -> bool
+fn is_safe(p: &Position, m: &Move) -> bool
     ensures { result ≡ is_safe p.now m.now }
 {
     is_pseudo_legal(p, m) && !is_checked_after(p.as_board(), p.side(), m)
-}
-
-/// Whether the candidate obeys the rules on promotion, and so all rules apart from checks.
-#[tactic(auto, using(crate::proofs::RunLaws::candidate_right))]
-fn is_pseudo_legal_candidate(p: &Position, from: Square, to: Square, promote: bool) -> bool
-    requires { is_candidate p.now (moves.Board from to promote) ≡ true }
-    ensures { result ≡ is_pseudo_legal_board_move p.now.cells p.now.side from to promote }
-{
-    let piece = p.at(from);
-    (!promote || may_promote(piece, from, to))
-        && !is_immobile(piece_moved(piece, promote), to.index())
-}
-
-/// `is_safe` of a candidate, with what is kept of the position.
-#[tactic(auto, using(crate::proofs::GuardLaws::quiet), unfolding(crate::specs::Legal::is_safe))]
-pub fn is_safe_guarded(p: &Position, guard: &Guard, m: &Move) -> bool
-    requires guard { Guards p.now guard.now.checked guard.now.exposed }
-    requires candidate { is_candidate p.now m.now ≡ true }
-    ensures { result ≡ is_safe p.now m.now }
-{
-    p.validity();
-    match m {
-        Move::Board { from, to, promote } => {
-            from.validity();
-            to.validity();
-            let allowed = is_pseudo_legal_candidate(p, *from, *to, *promote);
-            if is_calm(guard, *from) {
-                return allowed;
-            }
-            allowed && !is_checked_after(p.as_board(), p.side(), m)
-        }
-        Move::Drop { kind, to } => {
-            to.validity();
-            let allowed = is_pseudo_legal_drop(p, *kind, *to);
-            if !guard.checked {
-                return allowed;
-            }
-            allowed && !is_checked_after(p.as_board(), p.side(), m)
-        }
-    }
 }
 
 /// Whether the side to move is in check and has no safe move.

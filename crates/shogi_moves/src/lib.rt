@@ -1,9 +1,14 @@
 //! Attacks, legal moves, the position after a move, and counting sequences of legal moves.
+//!
+//! A move is found in `ends`: the legal ends of a piece and the drops of a kind, as masks. `sweep` goes
+//! through them for the search, `next` and `walk` for everyone else, `existence` up to the first one.
+//! A move is tested in `legal`, by the rules one after another, and made in `after`.
+//! A check is found by `Board::in_check` of `shogi_core`; what `guard` and `zones` keep spares most looks.
+//! `replies` and `threats` tell, before a move is made, that it can be answered.
 #![tactic(auto)]
 
 mod after;
 mod attack;
-mod capture;
 mod count;
 mod ends;
 mod existence;
@@ -11,7 +16,6 @@ mod guard;
 mod legal;
 mod next;
 mod replies;
-mod safe;
 mod sweep;
 mod threats;
 mod walk;
@@ -19,7 +23,6 @@ mod zones;
 
 pub use after::{advance, apply};
 pub use attack::{in_check, is_attacked};
-pub use capture::{next_capture, next_quiet};
 pub use count::perft;
 pub use existence::has_legal;
 pub use guard::{Guard, guard_of};

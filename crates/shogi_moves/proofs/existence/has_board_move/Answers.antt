@@ -2,13 +2,12 @@ use Rattle.std.proofs.Common.{◌≡◌, ◌+◌, ◌*◌, ◌∙◌, arith, ap}
 use Rattle.shogi_core.specs.declared.moves.TheConstants.{FIRST_DROP, SQUARE_CODES}
 use Rattle.shogi_moves.specs.LegalMoves.{legal_from}
 use Rattle.shogi_moves.proofs.ExistenceLaws.{piece_with, piece_without}
-use Rattle.shogi_moves.proofs.NoSafeLaws.{legal_from_jumps}
-use Rattle.shogi_moves.proofs.RunLaws.{run_squares}
+use Rattle.shogi_moves.proofs.LegalLaws.{run_squares}
 use Rattle.shogi_moves.proofs.existence.has_board_move.Goals as goal
 
 pub squares-init : goal.squares-init
 squares-init c = record {
-  same = legal_from_jumps c.args.p.now 0 (c.next_of-square.result * SQUARE_CODES) (omega arith) (omega arith) (run_squares c.args.p.now c.own-own.result 0 c.next_of-square.result 0 (omega arith) (omega arith) (rw c.side.ensures at c.own-own.ensures.bits) c.next_of-square.ensures.none);
+  same = run_squares c.args.p.now c.own-own.result 0 c.next_of-square.result (omega arith) (omega arith) (rw c.side.ensures at c.own-own.ensures.bits) c.next_of-square.ensures.none;
   within = omega arith;
   mine = c.next_of-square.ensures.set;
 }
@@ -21,7 +20,7 @@ pub squares-preserved : goal.squares-preserved
 squares-preserved c = record {
   same = c.squares.invariant.same
       ∙ (piece_without c.args.p.now c.squares.square c.legal_ends-ends.result.plain c.legal_ends-ends.result.promoting (omega arith) (rw c.of_index.ensures at c.legal_ends-ends.ensures.plain) (rw c.of_index.ensures at c.legal_ends-ends.ensures.promoting) (omega (arith, c.if-ends-ne0.false))
-      ∙ legal_from_jumps c.args.p.now ((c.squares.square + 1) * SQUARE_CODES) (c.next_of-square-in-squares.result * SQUARE_CODES) (omega arith) (omega arith) (run_squares c.args.p.now c.own-own.result (c.squares.square + 1) c.next_of-square-in-squares.result ((c.squares.square + 1) * SQUARE_CODES) (omega arith) (omega arith) (rw c.side.ensures at c.own-own.ensures.bits) c.next_of-square-in-squares.ensures.none));
+      ∙ run_squares c.args.p.now c.own-own.result (c.squares.square + 1) c.next_of-square-in-squares.result (omega arith) (omega arith) (rw c.side.ensures at c.own-own.ensures.bits) c.next_of-square-in-squares.ensures.none);
   within = omega arith;
   mine = c.next_of-square-in-squares.ensures.set;
 }

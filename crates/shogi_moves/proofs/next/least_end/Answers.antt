@@ -1,10 +1,10 @@
 use Rattle.std.proofs.Common.{arith, rules}
-use Rattle.shogi_moves.proofs.NextLaws.{no_piece, no_end, least_end}
+use Rattle.shogi_moves.proofs.NextLaws.{nobody, no_end, least_end}
 use Rattle.shogi_moves.proofs.ZoneLaws.{more_fits}
 use Rattle.shogi_moves.proofs.next.least_end.Goals as goal
 
 pub returns-then-not-is_piece_of-clause-next : goal.returns-then-not-is_piece_of-clause-next
-returns-then-not-is_piece_of-clause-next c = no_piece c.args.p.now c.args.from c.args.code (omega arith) c.requires.code.0 c.requires.code.1 (search rules)
+returns-then-not-is_piece_of-clause-next c = nobody c.args.p.now c.args.from c.args.code (omega arith) c.requires.code.0 c.requires.code.1 (search rules)
 
 pub returns-then-both-eq0-clause-next : goal.returns-then-both-eq0-clause-next
 returns-then-both-eq0-clause-next c = no_end c.args.p.now c.args.from c.args.code c.ends_left-ends.result.plain c.ends_left-ends.result.promoting (omega arith) c.requires.code.0 c.ends_left-ends.ensures.plain c.ends_left-ends.ensures.promoting c.requires.code.1 (omega (arith, c.if-both-eq0.true))
