@@ -95,9 +95,6 @@ twice x = omega (arith, ints)
 pub back_twice : (o : Offset) → back (back o) ≡ o
 back_twice o = ap (λ f. offset_by f (pos 0 -ℤ (pos 0 -ℤ o.rank))) (twice o.file) ∙ ap (offset_by o.file) (twice o.rank)
 
-pub away_forth : (m : ℕ) (o : Offset) (a b : ℕ) → b < 81 → away m (back o) b ≡ Some a → away m o a ≡ Some b
-away_forth m o a b h e = ap (λ p. away m p a) (sym (back_twice o)) ∙ away_back m (back o) b a h e
-
 -- where n steps lead, by file and rank
 pub away_is : (n : ℕ) (o : Offset) (a x : ℕ) → away n o a ≡ Some x → (pos (a / 9) +ℤ pos n *ℤ o.file ≡ pos (x / 9)) × (pos (a % 9) +ℤ pos n *ℤ o.rank ≡ pos (x % 9)) × (x < 81)
 unfolding away

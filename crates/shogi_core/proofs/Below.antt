@@ -1,6 +1,6 @@
 -- Tests at each number below a bound.
 use Rattle.std.proofs.Common.{◌≡◌, ℕ, ◌+◌, ◌<◌, ◌≤◌, Bool, true, false, refl, sym, arith, add-one, inl, inr, subst}
-use Rattle.std.specs.Prelude.{zero, suc, ◌||◌, ◌&&◌}
+use Rattle.std.specs.Prelude.{zero, suc, ◌||◌}
 use Rattle.std.proofs.lemmas.Bool.{cases_lt, or_left, or_right, or_parts, or_from, and_parts, and_from}
 use Rattle.shogi_core.specs.Below.{some_below, all_below}
 
@@ -16,10 +16,6 @@ all_below_none test = refl
 pub some_below_more : (n : ℕ) (test : ℕ → Bool) → some_below (n + 1) test ≡ (some_below n test || test n)
 unfolding some_below
 some_below_more n test = rw add-one refl
-
-pub all_below_more : (n : ℕ) (test : ℕ → Bool) → all_below (n + 1) test ≡ (all_below n test && test n)
-unfolding all_below
-all_below_more n test = rw add-one refl
 
 -- the last number below suc n, from n on
 last_is : (n i : ℕ) → i < suc n → n ≤ i → i ≡ n

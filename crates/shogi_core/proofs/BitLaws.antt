@@ -68,10 +68,6 @@ same_mask k a b p q h = same_from_bits_below k a b p q (λ n l. bit_from a n (ha
 
 -- ---- a mask of a test
 
-tally_least : (b : Bool) → cond b 1 0 ≤ 1
-tally_least true = omega arith
-tally_least false = omega arith
-
 pub mask_fits : (n : ℕ) (test : ℕ → Bool) → mask_below n test < 2 ^ n
 unfolding mask_below
 mask_fits zero test = omega arith
@@ -96,10 +92,6 @@ has_bit-mask (suc n) test i h = elim (cases_lt i n) [
     one true = refl
     one false = refl
 
--- the mask is told by its bits
-pub mask_from : (n m : ℕ) (test : ℕ → Bool) → m < 2 ^ n → ((i : ℕ) → i < n → has_bit m i ≡ test i) → m ≡ mask_below n test
-mask_from n m test fits h = same_mask n m (mask_below n test) fits (mask_fits n test) (λ i l. h i l ∙ sym (has_bit-mask n test i l))
-
 -- ---- what the code computes
 
 -- `(m >> n) & 1 == 1`
@@ -110,10 +102,6 @@ has_bit_test m n = ap (λ x. x == 1) (shr_and_one m n)
 -- `m | (1 << n)`
 pub has_bit-with : (m n i : ℕ) → n < 128 → has_bit (bit_or m (1 * 2 ^ n % 2 ^ 128)) i ≡ (has_bit m i || i == n)
 has_bit-with m n i h = rw (one_shl n 128 h) (rw (has_bit-or m (2 ^ n) i, has_bit-one n i) refl)
-
-at_other : (x : ℕ) (b : Bool) → (b && not false) ≡ b
-at_other x true = refl
-at_other x false = refl
 
 -- `m & !(1 << n)`
 pub has_bit-without : (m n i : ℕ) → m < 2 ^ 128 → n < 128 → has_bit (bit_and m (2 ^ 128 - 1 - 1 * 2 ^ n % 2 ^ 128)) i ≡ (has_bit m i && not (i == n))

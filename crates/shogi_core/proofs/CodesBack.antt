@@ -49,8 +49,4 @@ kind_number-kind_at (suc (suc (suc (suc (suc (suc (suc n))))))) h = absurd (omeg
 pub code_of-drop : (code : ℕ) → FIRST_DROP ≤ code → code < MOVE_CODE_COUNT → code_of (Drop (kind_at ((code - FIRST_DROP) / 81)) ((code - FIRST_DROP) % 81)) ≡ code
 code_of-drop code h k = let n : kind_number (kind_at ((code - FIRST_DROP) / 81)) ≡ (code - FIRST_DROP) / 81 = kind_number-kind_at ((code - FIRST_DROP) / 81) (omega arith) in omega arith
 
--- the code of each move leads back to it
-pub code_leads_back : (from to : ℕ) (promote : Bool) (kind : Kind) → from < 81 → to < 81 → (move_of (code_of (Board from to promote)) ≡ Some (Board from to promote)) × (move_of (code_of (Drop kind to)) ≡ Some (Drop kind to))
-code_leads_back from to promote kind hf ht = (move_of-board from to promote hf ht, move_of-drop kind to ht)
-
 pub ruleset codes_back = (move_of-board, move_of-drop, code_of-board, code_of-drop)

@@ -224,15 +224,6 @@ module _ (old new : Cells) (Left : ℕ → Type 0) (opened : (x : ℕ) → is_no
             | inr later ↦ each os parts.1 later
           ]
 
-  pub line_to_king_was : (color : Color) (a : ℕ) → ((k : ℕ) → is_king color (piece_at new k) ≡ true → piece_at old k ≡ piece_at new k)
-      → ((x : ℕ) → Left x → is_lined_with_king old color x ≡ false) → is_lined_with_king old color a ≡ false → is_lined_with_king new color a ≡ false
-  unfolding is_lined_with_king
-  line_to_king_was color a kings free off = some_below_no 81 (is_line_to_king new color a) (λ k l. false_from_ne_true (is_line_to_king new color a k) (λ e.
-      let parts : (is_king color (piece_at new k) ≡ true) × (are_lined new a k ≡ true) = and_parts _ _ e in
-      let king : is_king color (piece_at old k) ≡ true = ap (is_king color) (kings k parts.0) ∙ parts.0 in
-      both_ways (is_line_to_king old color a k) (some_below_not 81 (is_line_to_king old color a) k off l)
-      (and_from _ _ king (lined_was a k (λ x left. false_from_ne_true _ (λ lined. both_ways (is_line_to_king old color x k) (some_below_not 81 (is_line_to_king old color x) k (free x left) l) (and_from _ _ king lined))) parts.1))))
-
 -- ---- a check that stays
 
 module _ (old new : Cells) (to : ℕ) (shut : (x : ℕ) → is_none (piece_at old x) ≡ true → (is_none (piece_at new x) ≡ true) ⊎ (x ≡ to)) where

@@ -23,7 +23,7 @@ use Rattle.shogi_core.proofs.Back.{away_is, away_on, leads_is}
 use Rattle.shogi_core.proofs.Exposed.{some_below_which}
 use Rattle.shogi_core.proofs.RayLaws.{rises, falls, nearer, nearer_down, slides_free, slides_to_first, slides_rising}
 use Rattle.shogi_core.proofs.RayTable.{rays_right}
-use Rattle.shogi_core.specs.declared.rays.TheConstants.{RAYS}
+use Rattle.shogi_core.specs.declared.ray_table.TheConstants.{RAYS}
 
 someone : (cell : Option Piece) → (is_piece_of Black cell || is_piece_of White cell) ≡ not (is_none cell)
 someone None = refl
@@ -265,8 +265,3 @@ pub free_fits : (a : ℕ) → bit_and a (2 ^ 81 - 1) < 2 ^ 81
 free_fits a = omega (arith, and_le_r a (2 ^ 81 - 1))
 
 pub ruleset free_bits = (free_bit, free_fits)
-
--- ---- lines in all directions
-
-pub ray_line : (a b m : ℕ) (o : Offset) → b < 81 → m ≡ ray_of o a → has_bit m b ≡ slides [] o a b
-ray_line a b m o h e = rw e (has_bit-ray o a b h)

@@ -6,7 +6,7 @@ use Rattle.shogi_core.specs.Below.{some_below, all_below}
 use Rattle.shogi_core.specs.Bits.{has_bit, mask_below}
 use Rattle.shogi_core.specs.Lines.{are_aligned, are_lined}
 use Rattle.shogi_core.specs.Movement.{away}
-use Rattle.shogi_core.specs.declared.lines.TheConstants.{ALIGNED}
+use Rattle.shogi_core.specs.declared.line_table.TheConstants.{ALIGNED}
 use Rattle.shogi_core.proofs.BitLaws.{has_bit-mask, mask_fits}
 
 abbrev is_right_at : ℕ → Bool

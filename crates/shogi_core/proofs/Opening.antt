@@ -1,27 +1,15 @@
 -- The opening position has no fault.
-use Rattle.std.proofs.Common.{◌≡◌, refl, None, false}
+use Rattle.std.proofs.Common.{◌≡◌, refl, None}
 use Rattle.shogi_core.specs.declared.start.TheConstants.{START_BLACK, START_WHITE, START_KINGS, START_SLIDERS, START_WORDS}
 use Rattle.shogi_core.specs.declared.piece.Color.TheVariants.{Black, White}
 use Rattle.shogi_core.specs.Below.{some_below, all_below}
 use Rattle.shogi_core.specs.Movement.{reaches, away}
 use Rattle.shogi_core.specs.Attack.{in_check}
-use Rattle.shogi_core.specs.Validity.{fault_of, has_two_pawns, has_dead_piece}
+use Rattle.shogi_core.specs.Validity.{fault_of}
 use Rattle.shogi_core.specs.Bits.{mask_below}
 use Rattle.shogi_core.specs.Masks.{places_of, own_of, kings_of, sliders_of}
 use Rattle.shogi_core.specs.Start.{start, start_cells}
 use Rattle.shogi_core.specs.Words.{board_words, number_in_base_32}
-
-pub start_pawns : has_two_pawns start_cells ≡ false
-unfolding some_below
-start_pawns = refl
-
-pub start_alive : has_dead_piece start_cells ≡ false
-unfolding some_below
-start_alive = refl
-
-pub start_shut : in_check start_cells White ≡ false
-unfolding in_check some_below all_below reaches away
-start_shut = refl
 
 pub start_fine : fault_of start ≡ None
 unfolding fault_of some_below all_below reaches away in_check

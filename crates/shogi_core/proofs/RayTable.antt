@@ -6,7 +6,7 @@ use Rattle.shogi_core.specs.Below.{some_below, all_below}
 use Rattle.shogi_core.specs.Bits.{mask_below}
 use Rattle.shogi_core.specs.Movement.{away}
 use Rattle.shogi_core.specs.Rays.{ray_of, direction_at}
-use Rattle.shogi_core.specs.declared.rays.TheConstants.{RAYS}
+use Rattle.shogi_core.specs.declared.ray_table.TheConstants.{RAYS}
 
 abbrev is_right_at : ℕ → Bool
 is_right_at i = get_or RAYS i 0 == ray_of (direction_at (i / 81)) (i % 81)

@@ -36,9 +36,6 @@ pub ruleset cleared = (cleared_less, has_bit-without)
 
 -- ---- lines
 
-black_sees : (test : Offset → Bool) (os : List Offset) → list_any (λ o. test (for_side Black o)) os ≡ list_any test os
-black_sees test os = refl
-
 pub lined_bits : (cells : Cells) (a b m n : ℕ) → has_bit m b ≡ list_any (λ o. slides cells (for_side Black o) a b) straight → has_bit n b ≡ list_any (λ o. slides cells (for_side Black o) a b) diagonal → has_bit (bit_or m n) b ≡ are_lined cells a b
 unfolding are_lined
 lined_bits cells a b m n p q = has_bit-or m n b ∙ (rw (p, q) (sym (list_any-append (λ o. slides cells o a b) straight diagonal)))
@@ -169,10 +166,6 @@ cell_seen cells (Some piece) a b h e = elim (or_cases (has_step piece a b) (has_
   | inr slide ↦ or_left (are_lined cells b a) (is_jump b a) (slide_seen cells piece a b h slide)
 ]
 
-pub reaches_seen : (cells : Cells) (a b : ℕ) → a < 81 → reaches cells a b ≡ true → is_seen cells b a ≡ true
-unfolding reaches
-reaches_seen cells a b h e = cell_seen cells (piece_at cells a) a b h e
-
 -- ---- the squares that are left to try
 
 -- the squares below 81 that pass are all among those of the mask
@@ -223,10 +216,6 @@ module _ (cells : Cells) (color : Color) (square own near snipers : ℕ)
 
 pub attackers_fit : (a b c d : ℕ) → a < 2 ^ 81 → c < 2 ^ 81 → bit_or (bit_and a b) (bit_and c d) < 2 ^ 81
 attackers_fit a b c d h l = or_lt 81 (bit_and a b) (bit_and c d) (and_fits a b h) (and_fits c d l)
-
--- what a loop over the attackers begins with
-pub covers_first : (test : ℕ → Bool) (m : ℕ) → ((a : ℕ) → a < 81 → test a ≡ true → has_bit m a ≡ true) → Covers m test
-covers_first test m all = record { all = all }
 
 pub kings_first : (cells : Cells) (color : Color) (m : ℕ) → ((a : ℕ) → a < 81 → has_bit m a ≡ is_king color (piece_at cells a)) → Covers m (is_open_king cells color)
 kings_first cells color m kings = record { all = λ a h e. kings a h ∙ (and_parts _ _ e).0 }

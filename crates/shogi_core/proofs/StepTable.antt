@@ -9,7 +9,7 @@ use Rattle.shogi_core.specs.Bits.{mask_below, has_bit}
 use Rattle.shogi_core.specs.Movement.{away}
 use Rattle.shogi_core.proofs.BitLaws.{has_bit-mask, mask_fits}
 use Rattle.shogi_core.specs.Steps.{steps_at, color_number, color_at, is_step, steps_mask}
-use Rattle.shogi_core.specs.declared.steps.TheConstants.{STEPS}
+use Rattle.shogi_core.specs.declared.step_table.TheConstants.{STEPS}
 
 abbrev is_right_at : ℕ → Bool
 is_right_at i = get_or STEPS i 0 == steps_mask (color_at (i / 81 % 2)) (steps_at (i / 162)) (i % 81)

@@ -1,4 +1,10 @@
 //! Squares, pieces, hands, moves and valid positions of shogi.
+//!
+//! A `Board` is 81 cells, and beside them masks (numbers whose bit n is that of the square of index n) of what
+//! stands where; a `Position` is a board with hands and a side to move that has none of five faults (`validity`).
+//! Where a piece goes is in `targets`, and who attacks a square, what is pinned and what sees it in `attack`.
+//! Both read `steps`, `rays` and `lines`, whose tables stand in files of their own.
+//! The rules themselves are in `specs/`: `Movement` first, then `Attack` and `Validity`.
 #![tactic(auto)]
 
 mod attack;
@@ -6,14 +12,17 @@ pub mod bits;
 mod board;
 mod cell;
 mod hands;
+mod line_table;
 mod lines;
 mod moves;
 mod offset;
 mod piece;
 mod position;
+mod ray_table;
 mod rays;
 mod square;
 mod start;
+mod step_table;
 mod steps;
 mod targets;
 mod validity;
@@ -24,7 +33,6 @@ pub use cell::{is_immobile, is_piece_of};
 pub use hands::Hands;
 pub use lines::aligned_squares;
 pub use moves::{FIRST_DROP, MOVE_CODE_COUNT, Move, SQUARE_CODES};
-pub use offset::Offset;
 pub use piece::{Color, KINDS, Kind, Piece, Role};
 pub use position::Position;
 pub use square::Square;

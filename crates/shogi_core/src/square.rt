@@ -1,11 +1,8 @@
 //! Squares of the board.
 
-ghost use Rattle.std.specs.Prelude.{◌≡◌, ◌<◌, ◌+◌, ◌/◌, ◌%◌, IfSome, ◌≤ℤ◌, ◌+ℤ◌, ◌*ℤ◌, pos, negsuc, IsSome, ◌↔◌};
+ghost use Rattle.std.specs.Prelude.{◌≡◌, ◌<◌, ◌+◌, ◌/◌, ◌%◌, IfSome, IsSome, ◌↔◌};
 ghost use Rattle.shogi_core.specs.Squares.{IsOnBoard, index_of};
-ghost use Rattle.shogi_core.specs.Movement.{away, for_side, square_at};
 
-use crate::offset::Offset;
-use crate::piece::Color;
 use std::marker::Model;
 
 /// A square, seen as its index: `1a` is 0, `1i` is 8, `5a` is 36 and `9i` is 80.
@@ -78,47 +75,4 @@ impl Square {
     {
         Square { index: index as u8 }
     }
-
-    /// The square at a file and a rank, each counted from 0, if there is one.
-    fn at(file: i32, rank: i32) -> Option<Square>
-        ensures { result ≡ square_at file rank }
-    {
-        if file < 0 || file > 8 || rank < 0 || rank > 8 {
-            return None;
-        }
-        Some(Square {
-            index: (file as u8) * 9 + rank as u8,
-        })
-    }
-
-    /// Where n steps by the side's offset lead, if they stay on the board.
-    #[tactic(auto, unfolding(crate::specs::Movement::away))]
-    pub fn away(self, n: u8, offset: Offset, color: Color) -> Option<Square>
-        requires { n < 9 }
-        ensures { result ≡ away n (for_side color offset) self }
-    {
-        let file = shifted(self.index / 9, n, offset.file as i32);
-        let rank = shifted(self.index % 9, n, ahead(offset, color));
-        Square::at(file, rank)
-    }
-}
-
-/// The change of rank as the side sees it.
-fn ahead(offset: Offset, color: Color) -> i32
-    ensures rank { result ≡ (for_side color offset).rank }
-    ensures range { (negsuc 127 ≤ℤ result) × (result ≤ℤ pos 128) }
-{
-    match color {
-        Color::Black => offset.rank as i32,
-        Color::White => 0 - offset.rank as i32,
-    }
-}
-
-/// Where n steps of the change lead along a file or a rank.
-fn shifted(start: u8, n: u8, change: i32) -> i32
-    requires n { n < 9 }
-    requires range { (negsuc 127 ≤ℤ change) × (change ≤ℤ pos 128) }
-    ensures { result ≡ pos start +ℤ pos n *ℤ change }
-{
-    start as i32 + n as i32 * change
 }

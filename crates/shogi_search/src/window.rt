@@ -1,6 +1,6 @@
 //! What a move has to be worth to become the best one.
 
-ghost use Rattle.std.specs.Prelude.{◌≡◌, ◌≤ℤ◌, ◌<ℤ◌, true, false};
+ghost use Rattle.std.specs.Prelude.{◌≡◌, ◌≤ℤ◌};
 ghost use Rattle.shogi_core.specs.Codes.{code_of};
 ghost use Rattle.shogi_search.specs.Window.{threshold, code_at};
 ghost use Rattle.shogi_search.specs.declared.bounds.TheConstants.{INFINITY};
@@ -25,13 +25,4 @@ pub fn threshold(best_value: i32, best_move: &Option<Move>, m: &Move) -> i32
     ensures { result ≡ threshold best_value (code_at best_move.now) (code_of m.now) }
 {
     threshold_at(best_value, best_move, m.code())
-}
-
-/// Whether a move of this worth becomes the best one.
-pub fn passes(worth: i32, m: &Move, best_value: i32, best_move: &Option<Move>) -> bool
-    requires { negated INFINITY ≤ℤ best_value }
-    ensures above { result ≡ true → threshold best_value (code_at best_move.now) (code_of m.now) <ℤ worth }
-    ensures below { result ≡ false → worth ≤ℤ threshold best_value (code_at best_move.now) (code_of m.now) }
-{
-    worth > threshold(best_value, best_move, m)
 }
