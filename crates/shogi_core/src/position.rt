@@ -1,10 +1,8 @@
 //! Positions: what stands on the board, what each side holds, and whose turn it is.
 
 ghost use Rattle.std.specs.Prelude.{slice_set, ℕ, ◌<◌, ◌^◌, is_none, ◌≡◌, ◌↔◌, IsTrue, Ok, Err, None, Some, MatchOption};
-ghost use Rattle.shogi_core.specs.Attack.{in_check};
 ghost use Rattle.shogi_core.specs.Bits.{has_bit};
 ghost use Rattle.shogi_core.specs.Cell.{is_piece_of, is_king};
-ghost use Rattle.shogi_core.specs.Lines.{are_lined};
 ghost use Rattle.shogi_core.specs.Movement.{reaches, piece_at};
 ghost use Rattle.shogi_core.specs.Pieces.{opponent_of};
 ghost use Rattle.shogi_core.specs.Position.{Shogi, count_in_hand};
@@ -181,21 +179,6 @@ impl Position {
         ensures fits { result < 2 ^ 81 }
     {
         self.board.kings(color)
-    }
-
-    /// The squares on open lines with the square.
-    pub fn lined(&self, square: Square) -> u128
-        ensures bits { (n : ℕ) → n < 81 → has_bit result n ≡ are_lined self.now.cells square n }
-        ensures fits { result < 2 ^ 81 }
-    {
-        self.board.lined(square)
-    }
-
-    /// Whether a king of the side is attacked.
-    pub fn in_check(&self, color: Color) -> bool
-        ensures { result ≡ in_check self.now.cells color }
-    {
-        self.board.in_check(color)
     }
 
     /// Whether the other is the same position, to the last piece in hand.

@@ -8,6 +8,7 @@ ghost use Rattle.shogi_core.specs.Cell.{is_piece_of};
 ghost use Rattle.shogi_core.specs.Movement.{piece_at};
 ghost use Rattle.shogi_moves.specs.Guards.{Guards, Exposes};
 
+use crate::attack::in_check;
 use shogi_core::bits::{ALL_SQUARES, has, lowest, without_lowest};
 use shogi_core::{Color, Position, Square};
 
@@ -29,7 +30,7 @@ fn exposed_squares(p: &Position, side: Color) -> u128
     let mut exposed = left;
     while left != 0 {
         let king = lowest(left);
-        exposed |= p.lined(Square::of_index(king));
+        exposed |= p.as_board().lined(Square::of_index(king));
         left = without_lowest(left, king);
     }
     exposed
@@ -79,7 +80,7 @@ pub fn rough_guard(p: &Position) -> Guard
     ensures { Guards p.now result.checked result.exposed }
 {
     Guard {
-        checked: p.in_check(p.side()),
+        checked: in_check(p),
         exposed: ALL_SQUARES,
     }
 }

@@ -69,7 +69,7 @@ fn may_uncover(p: &Position, side: Color, from: Square) -> bool
         return true;
     }
     let snipers = p.as_board().snipers(side);
-    snipers != 0 && p.lined(from) & snipers != 0
+    snipers != 0 && p.as_board().lined(from) & snipers != 0
 }
 
 /// Whether what stands on the square has a step to where none of the side's own stands, and from
