@@ -1,5 +1,6 @@
 -- The least legal move from a code on, by the ends of a piece or of a held kind.
-use Rattle.std.proofs.Common.{◌≡◌, ℕ, ◌+◌, ◌*◌, ◌^◌, ◌<◌, ◌≤◌, Bool, true, false, not, ◌∷◌, Some, sym, ◌∙◌, arith, inl, inr, bit_or}
+use Rattle.std.proofs.Common.{◌≡◌, ℕ, ◌+◌, ◌*◌, ◌^◌, ◌<◌, ◌≤◌, Bool, true, false, not, List, [], ◌∷◌, Option, None, Some, refl, sym, ◌∙◌, arith, inl, inr, bit_or, ap}
+use Rattle.std.specs.Prelude.{MatchOption, IsNone}
 use Rattle.std.proofs.lemmas.Bool.{cases_Bool, or_cases, both_ways}
 use Rattle.shogi_core.specs.declared.moves.TheConstants.{MOVE_CODE_COUNT, FIRST_DROP, SQUARE_CODES}
 use Rattle.shogi_core.specs.declared.moves.Move.{Move}
@@ -17,10 +18,10 @@ use Rattle.shogi_core.proofs.Faults.{number_below}
 use Rattle.shogi_moves.specs.Captures.{is_wanted}
 use Rattle.shogi_moves.specs.Legal.{is_legal, is_legal_code}
 use Rattle.shogi_moves.specs.LegalMoves.{legal_from}
-use Rattle.shogi_moves.specs.Sweeps.{Keeps}
+use Rattle.shogi_moves.specs.Sweeps.{Keeps, wanted_from}
 use Rattle.shogi_moves.proofs.EndLaws.{drop_wanted}
 use Rattle.shogi_moves.proofs.LegalLaws.{is_legal_code_of, legal_from_found, no_piece, run_without}
-use Rattle.shogi_moves.proofs.SweepLaws.{keeps_first, keeps_from, fails_all, fails_to_plain, fails_to_promoting, fails_drops, fails_to_drop}
+use Rattle.shogi_moves.proofs.SweepLaws.{keeps_first, keeps_from, fails_all, fails_to_plain, fails_to_promoting, fails_drops, fails_to_drop, all_drops}
 
 -- the first legal move from a code on
 pub record IsLeast (p : Shogi) (code : ℕ) (m : Move) : Type 0 where
@@ -64,6 +65,10 @@ module _ (p : Shogi) (from code plain promoting : ℕ) (hf : from < 81) (low : f
         rw out (least_at p code (Board from to true) (move_of-board from to true hf ht) (omega arith) at.0 at.1 (fails_to_promoting (is_legal_code p) from code plain promoting low a b to ht least out)))
   ]
 
+pub on_board : (from to : ℕ) (promote : Bool) → from < 81 → to < 81 → code_of (Board from to promote) < FIRST_DROP
+on_board from to true hf ht = omega arith
+on_board from to false hf ht = omega arith
+
 -- the same of a kind
 pub drops_from : (p : Shogi) (kind : Kind) (code ends less to : ℕ) → less < 2 ^ 81 → ends < 2 ^ 81 → ((n : ℕ) → n < 81 → has_bit ends n ≡ is_wanted p false (code_of (Drop kind n))) → code ≡ code_of (Drop kind to)
     → ((i : ℕ) → i < 81 → to ≤ i → has_bit less i ≡ has_bit ends i) → ((i : ℕ) → i < to → has_bit less i ≡ false) → Keeps (is_legal_code p) (λ n. code_of (Drop kind n)) code less
@@ -82,3 +87,9 @@ module _ (p : Shogi) (kind : Kind) (code ends : ℕ) (low : FIRST_DROP + kind_nu
       let seven : kind_number kind < 7 = number_below kind in
       let at : (code ≤ code_of (Drop kind to)) × (is_legal_code p (code_of (Drop kind to)) ≡ true) = a.set to ht set in
       least_at p code (Drop kind to) (move_of-drop kind to ht) (omega arith) at.0 at.1 (fails_to_drop (is_legal_code p) kind code ends low a to ht least)
+
+-- the next of a walk whose moves on the board are over
+pub next_drop : (p : Shogi) (codes : List ℕ) (old new : ℕ) (found : Option Move) → FIRST_DROP ≤ old → FIRST_DROP ≤ new → codes ≡ legal_from p old → MatchOption found (wanted_from p false old ≡ []) (λ m. wanted_from p false old ≡ code_of m ∷ wanted_from p false new) → (IsNone found → wanted_from p false new ≡ [])
+    → MatchOption found ((codes ≡ []) × (legal_from p new ≡ [])) (λ m. codes ≡ code_of m ∷ legal_from p new)
+next_drop p codes old new None low up same next end = (same ∙ (sym (all_drops p old low) ∙ next), sym (all_drops p new up) ∙ end refl)
+next_drop p codes old new (Some m) low up same next end = same ∙ (sym (all_drops p old low) ∙ (next ∙ ap (λ (xs : List ℕ). code_of m ∷ xs) (all_drops p new up)))

@@ -1,7 +1,7 @@
 -- Ways through the legal moves of a sort.
-use Rattle.std.proofs.Common.{◌≡◌, ◌≢◌, ℕ, ◌+◌, ◌-◌, ◌*◌, ◌/◌, ◌%◌, ◌^◌, ◌<◌, ◌≤◌, ◌⊎◌, Bool, true, false, not, Some, [], bit_and, ◌∷◌, refl, sym, ap, ◌∙◌, arith, inl, inr, subst, bit_or}
+use Rattle.std.proofs.Common.{◌≡◌, ◌≢◌, ℕ, ◌+◌, ◌-◌, ◌*◌, ◌/◌, ◌%◌, ◌^◌, ◌<◌, ◌≤◌, ◌⊎◌, Bool, true, false, not, Some, List, [], filter, bit_and, ◌∷◌, refl, sym, ap, ◌∙◌, arith, inl, inr, subst, bit_or}
 use Rattle.std.specs.Prelude.{◌&&◌, ◌||◌, ◌==◌}
-use Rattle.std.proofs.lemmas.Bool.{cases_eq, ne_eqb, eq-eqb, and_parts, both_ways, and_from, cases_lt, or_left, or_right, or_parts, or_cases, false_from_ne_true, true_from_ne_false}
+use Rattle.std.proofs.lemmas.Bool.{cases_eq, ne_eqb, eq-eqb, and_parts, both_ways, and_from, cases_lt, or_left, or_right, or_parts, or_cases, false_from_ne_true, true_from_ne_false, cond-true}
 use Rattle.shogi_core.specs.declared.moves.TheConstants.{MOVE_CODE_COUNT, FIRST_DROP, SQUARE_CODES}
 use Rattle.shogi_core.specs.declared.moves.Move.{Move}
 use Rattle.shogi_core.specs.declared.moves.Move.TheVariants.{Board, Drop}
@@ -18,11 +18,14 @@ use Rattle.shogi_core.proofs.Below.{some_below_at, some_below_no}
 use Rattle.shogi_core.proofs.LineBits.{has_bit-not, and_fits}
 use Rattle.shogi_core.proofs.CodesBack.{move_of-board, move_of-drop}
 use Rattle.shogi_core.proofs.Faults.{number_below}
-use Rattle.shogi_moves.specs.Captures.{captures, is_asked, is_wanted, HasNoneWanted}
+use Rattle.shogi_moves.specs.Captures.{captures, is_asked, is_of_sort, is_wanted, HasNoneWanted}
 use Rattle.shogi_moves.specs.Legal.{is_legal}
+use Rattle.shogi_moves.specs.LegalMoves.{legal_from}
+use Rattle.shogi_moves.specs.Rising.{is_in}
 use Rattle.shogi_moves.specs.Sweeps.{wanted_from, Keeps, KeepsBoard, KeepsDrop, HasWantedOn}
-use Rattle.shogi_moves.proofs.CaptureLaws.{none_square, none_drop, none_join, wanted_jumps, wanted_found, wanted_end}
+use Rattle.shogi_moves.proofs.CaptureLaws.{sort_of, none_square, none_drop, none_join, wanted_jumps, wanted_found, wanted_end}
 use Rattle.shogi_moves.proofs.EndLaws.{wanted_move}
+use Rattle.shogi_moves.proofs.LegalLaws.{drop_code, legal_in, legal_in_above, legal_code_below}
 use Rattle.shogi_moves.proofs.ZoneLaws.{more_fits}
 
 -- ---- no piece of the side stands on the square
@@ -343,5 +346,15 @@ module _ (p : Shogi) (kind : Kind) (code ends to : ℕ) (k : KeepsDrop p kind co
 -- drops take nothing
 pub no_captures : (p : Shogi) → wanted_from p true FIRST_DROP ≡ []
 no_captures p = wanted_jumps p true FIRST_DROP MOVE_CODE_COUNT (omega arith) (omega arith) (none_drop p true FIRST_DROP MOVE_CODE_COUNT (omega arith) (omega arith) refl) ∙ wanted_end p true MOVE_CODE_COUNT (omega arith)
+
+filter_all : (test : ℕ → Bool) (xs : List ℕ) → ((n : ℕ) → is_in n xs ≡ true → test n ≡ true) → filter test xs ≡ xs
+filter_all test [] all = refl
+filter_all test (x ∷ xs) all = cond-true (test x) _ _ (all x (or_left (x == x) (is_in x xs) (eq-eqb x x refl))) ∙ ap (λ (ys : List ℕ). x ∷ ys) (filter_all test xs (λ n h. all n (or_right (n == x) (is_in n xs) h)))
+
+pub all_drops : (p : Shogi) (code : ℕ) → FIRST_DROP ≤ code → wanted_from p false code ≡ legal_from p code
+all_drops p code low = filter_all (is_of_sort p false) (legal_from p code) (λ n h.
+    let above : code ≤ n = legal_in_above p code n h in
+    let under : n < MOVE_CODE_COUNT = legal_code_below p n (legal_in p code n h) in
+    ap not (sort_of p n _ (drop_code n (omega arith) under)))
 
 pub ruleset sweeping = (keeps_square, more_fits, wanted_jumps, and_fits)

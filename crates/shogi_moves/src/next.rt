@@ -51,6 +51,7 @@ fn least_end(p: &Position, guard: &Guard, from: Square, code: u16) -> Option<Mov
     requires code { (from * SQUARE_CODES ≤ code) × (code ≤ from * SQUARE_CODES + SQUARE_CODES) }
     ensures next { MatchOption result (legal_from p.now code ≡ legal_from p.now (from * SQUARE_CODES + SQUARE_CODES)) (λ m. legal_from p.now code ≡ code_of m ∷ legal_from p.now (code_of m + 1)) }
     ensures legal { IfSome result (λ m. is_legal p.now m ≡ true) }
+    ensures on_board { IfSome result (λ m. code_of m < FIRST_DROP) }
 {
     from.validity();
     if !is_piece_of(p.at(from), p.side()) {
@@ -67,6 +68,26 @@ fn least_end(p: &Position, guard: &Guard, from: Square, code: u16) -> Option<Mov
         to: Square::of_index(to),
         promote: !has(ends.plain, to),
     })
+}
+
+/// The legal move of least code from the given one on, of a piece on the board.
+pub fn least_board(p: &Position, guard: &Guard, first: u16) -> Option<Move>
+    requires first { first ≤ FIRST_DROP }
+    requires guard { Guards p.now guard.now.checked guard.now.exposed }
+    ensures next { MatchOption result (legal_from p.now first ≡ legal_from p.now FIRST_DROP) (λ m. legal_from p.now first ≡ code_of m ∷ legal_from p.now (code_of m + 1)) }
+    ensures legal { IfSome result (λ m. is_legal p.now m ≡ true) }
+    ensures on_board { IfSome result (λ m. code_of m < FIRST_DROP) }
+{
+    let mut code = first;
+    'squares: while code < FIRST_DROP {
+        let square = code / SQUARE_CODES;
+        let found = least_end(p, guard, Square::of_index(square as usize), code);
+        if found.is_some() {
+            return found;
+        }
+        code = square * SQUARE_CODES + SQUARE_CODES;
+    }
+    None
 }
 
 /// Where one of the held pieces may legally be dropped, those from a code on.

@@ -1,6 +1,6 @@
 //! Ways through the legal moves of a sort, which keep the ends of the present piece.
 
-ghost use Rattle.std.specs.Prelude.{◌≡◌, ◌≢◌, ◌<◌, ◌≤◌, ◌+◌, ◌*◌, ◌^◌, ◌∷◌, [], ℕ, true, false, IfSome, MatchOption, bit_or};
+ghost use Rattle.std.specs.Prelude.{◌≡◌, ◌≢◌, ◌<◌, ◌≤◌, ◌+◌, ◌*◌, ◌^◌, ◌∷◌, [], ℕ, true, false, IfSome, IsNone, MatchOption, bit_or};
 ghost use Rattle.shogi_core.specs.declared.moves.TheConstants.{FIRST_DROP};
 ghost use Rattle.shogi_core.specs.declared.moves.Move.TheVariants as moves;
 ghost use Rattle.shogi_core.specs.Bits.{has_bit};
@@ -312,6 +312,7 @@ impl DropSweep {
         ensures kept { IsDropSweep p.now self.new }
         ensures some { result ≡ true → (self.new.ends ≢ 0) × (wanted_from p.now false self.old.code ≡ wanted_from p.now false self.new.code) }
         ensures end { result ≡ false → wanted_from p.now false self.old.code ≡ [] }
+        ensures same { result ≡ false → self.new.code ≡ self.old.code }
     {
         let guard = self.guard;
         let mut kind = self.kind;
@@ -334,6 +335,7 @@ impl DropSweep {
         requires kept { IsDropSweep p.now self.old }
         ensures kept { IsDropSweep p.now self.new }
         ensures next { MatchOption result (wanted_from p.now false self.old.code ≡ []) (λ m. wanted_from p.now false self.old.code ≡ code_of m ∷ wanted_from p.now false self.new.code) }
+        ensures end { IsNone result → wanted_from p.now false self.new.code ≡ [] }
         ensures legal { IfSome result (λ m. is_legal p.now m ≡ true) }
     {
         if self.ends == 0 {

@@ -1,38 +1,37 @@
 //! A walk over the legal moves of a position.
 
-ghost use Rattle.std.specs.Prelude.{◌≡◌, ◌≤◌, ◌∷◌, [], true, IfSome, MatchOption};
-ghost use Rattle.shogi_core.specs.declared.moves.TheConstants.{MOVE_CODE_COUNT};
+ghost use Rattle.std.specs.Prelude.{◌≡◌, ◌∷◌, [], true, IfSome, MatchOption};
 ghost use Rattle.shogi_core.specs.Codes.{code_of};
-ghost use Rattle.shogi_moves.specs.Guards.{Guards};
 ghost use Rattle.shogi_moves.specs.Legal.{is_legal};
-ghost use Rattle.shogi_moves.specs.LegalMoves.{legal_from, legal_codes};
+ghost use Rattle.shogi_moves.specs.LegalMoves.{legal_codes};
 
-use crate::guard::{Guard, guard_of};
-use crate::next::{code_above, least_from};
-use shogi_core::{MOVE_CODE_COUNT, Move, Position};
+use crate::guard::guard_of;
+use crate::next::{code_above, least_board};
+use crate::sweep::DropSweep;
+use shogi_core::{FIRST_DROP, Move, Position};
 use std::marker::Model;
 
 /// The legal moves of a position that are still to come, in the order of codes; seen as the
-/// position and the list of their codes.
+/// position and the list of their codes. Those on the board come first, from a code on.
 #[derive(Drop)]
 pub struct Walk {
     position: Position,
-    guard: Guard,
     code: u16,
+    drops: DropSweep,
 }
 
 impl Model for Walk {
-    ghost use Rattle.std.specs.Prelude.{◌≤◌};
-    ghost use Rattle.shogi_core.specs.declared.moves.TheConstants.{MOVE_CODE_COUNT};
-    ghost use Rattle.shogi_moves.specs.Guards.{Guards};
+    ghost use Rattle.std.specs.Prelude.{◌≡◌, ◌≤◌, ◌<◌, nat_lt, cond};
+    ghost use Rattle.shogi_core.specs.declared.moves.TheConstants.{FIRST_DROP};
     ghost use Rattle.shogi_moves.specs.LegalMoves.{legal_from};
+    ghost use Rattle.shogi_moves.specs.Sweeps.{IsDropSweep};
     ghost use Rattle.shogi_moves.specs.Walks.{Remaining};
 
     ghost Value = { Remaining };
 
-    ghost view = { λ w. record { position = w.position; codes = legal_from w.position w.code } };
+    ghost view = { λ w. record { position = w.position; codes = legal_from w.position (cond (nat_lt w.code FIRST_DROP) w.code w.drops.code) } };
 
-    ghost invariant = { λ w. record { guard : Guards w.position w.guard.checked w.guard.exposed; code : w.code ≤ MOVE_CODE_COUNT } };
+    ghost invariant = { λ w. record { kept : IsDropSweep w.position w.drops; code : w.code ≤ FIRST_DROP; begun : w.code < FIRST_DROP → w.drops.code ≡ FIRST_DROP } };
 }
 
 impl Walk {
@@ -43,27 +42,26 @@ impl Walk {
     {
         Walk {
             position: *p,
-            guard: guard_of(p),
             code: 0,
+            drops: DropSweep::new(p, guard_of(p)),
         }
     }
 
     /// The next legal move, or `None` where none is left.
-    #[tactic(auto, using(crate::proofs::LegalLaws::legal_from_end))]
     pub fn next(&mut self) -> Option<Move>
         ensures position { self.new.position ≡ self.old.position }
         ensures next { MatchOption result ((self.old.codes ≡ []) × (self.new.codes ≡ [])) (λ m. self.old.codes ≡ code_of m ∷ self.new.codes) }
         ensures legal { IfSome result (λ m. is_legal self.old.position m ≡ true) }
     {
-        match least_from(&self.position, &self.guard, self.code) {
-            None => {
-                self.code = MOVE_CODE_COUNT;
-                None
-            }
-            Some(m) => {
-                self.code = code_above(&m);
-                Some(m)
-            }
+        if self.code >= FIRST_DROP {
+            return self.drops.next(&self.position);
         }
+        let found = least_board(&self.position, &self.drops.guard, self.code);
+        if let Some(m) = &found {
+            self.code = code_above(m);
+            return found;
+        }
+        self.code = FIRST_DROP;
+        self.drops.next(&self.position)
     }
 }

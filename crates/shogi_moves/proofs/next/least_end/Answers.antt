@@ -1,5 +1,5 @@
 use Rattle.std.proofs.Common.{arith, rules}
-use Rattle.shogi_moves.proofs.NextLaws.{nobody, no_end, least_end}
+use Rattle.shogi_moves.proofs.NextLaws.{nobody, no_end, least_end, on_board}
 use Rattle.shogi_moves.proofs.ZoneLaws.{more_fits}
 use Rattle.shogi_moves.proofs.next.least_end.Goals as goal
 
@@ -17,3 +17,6 @@ returns-clause-next c = rw (c.of_index.ensures, c.has.ensures) ((least_end c.arg
 
 pub returns-clause-legal : goal.returns-clause-legal
 returns-clause-legal c = rw (c.of_index.ensures, c.has.ensures) ((least_end c.args.p.now c.args.from c.args.code c.ends_left-ends.result.plain c.ends_left-ends.result.promoting (omega arith) c.requires.code.0 c.ends_left-ends.ensures.plain c.ends_left-ends.ensures.promoting c.lowest-to.result c.lowest-to.ensures.range c.lowest-to.ensures.least c.lowest-to.ensures.set).legal)
+
+pub returns-clause-on_board : goal.returns-clause-on_board
+returns-clause-on_board c = on_board c.args.from c.of_index.result _ (omega arith) (omega (arith, c.of_index.ensures, c.lowest-to.ensures.range))
