@@ -5,3 +5,4 @@ pub mod OneSession
 pub mod Overs
 pub mod Kept
 pub mod Rounds
+pub mod Still

@@ -1,10 +1,10 @@
 -- A round, session by session.
 use Rattle.std.proofs.Common.{◌≡◌, ℕ, zero, suc, ◌+◌, ◌-◌, ◌≤◌, List, [], ◌∷◌, ◌++◌, Bool, true, false, cond, Option, Some, None, length, drop, count_by, refl, sym, ap, ◌∙◌, arith, append_assoc, append-nil, length-append}
-use Rattle.std.specs.Prelude.{slice_index_or, IsSome}
+use Rattle.std.specs.Prelude.{slice_index_or, IfNone, IfSome, IsSome}
 use Rattle.std.proofs.lemmas.List.{drop-drop, drop-set-lt}
 use Rattle.std.proofs.lemmas.List.Sums.{sum_by-cons}
 use Rattle.session_slots.specs.declared.id.SessionId.{SessionId}
-use Rattle.session_slots.specs.Order.{first_open}
+use Rattle.session_slots.specs.Order.{first_open, next_of, start_of}
 use Rattle.session_slots.specs.Slots.{OpenSession, OpenSessions, find, IsBelow}
 use Rattle.session_slots.proofs.Finds.{slot_of}
 use Rattle.usi_session.specs.Due.{SessionView, is_pending}
@@ -12,6 +12,7 @@ use Rattle.host_core.specs.Events.{Outcome, Opened, Done, Worked, Gave, Refused,
 use Rattle.host_core.specs.ById.{pending_of}
 use Rattle.host_core.specs.Steps.{HostState, Stepped, OnSession}
 use Rattle.host_core.specs.Sessions.{Works}
+use Rattle.host_core.specs.Still.{AreSettled}
 use Rattle.host_core.specs.Rounds.{pending_from, pending_ids, works, has_worked, was_refused, IsRound, RoundTo}
 use Rattle.host_core.proofs.Chains.{run-start, run-last}
 
@@ -49,15 +50,33 @@ skips slot (Some o ∷ rest) id e =
     let same : record { slot = slot; generation = o.generation } ≡ id = cc in
     skips_here slot (Some o ∷ rest) id (ap (λ (i : SessionId). i.slot) (sym same))
 
--- the next open session stands no lower
-pub next_from : (slot : ℕ) (slots : List (Option OpenSession)) (id : SessionId) → first_open slot slots ≡ Some id → slot ≤ id.slot
-next_from slot slots id e = (skips slot slots id e).from
+-- up to the next open session none is pending
+next_settled : (slot : ℕ) (slots : List (Option OpenSession)) (id : SessionId) → first_open slot (drop slot slots) ≡ Some id → (slot ≤ id.slot) × AreSettled slot id.slot slots
+next_settled slot slots id e =
+    let s : Skips slot (drop slot slots) id = skips slot (drop slot slots) id e in
+    let from : slot ≤ id.slot = s.from in
+    let there : slot + (id.slot - slot) ≡ id.slot = omega arith in
+    (from, s.rest ∙ ap (pending_from id.slot) (drop-drop (id.slot - slot) slot slots ∙ ap (λ n. drop n slots) there))
 
 -- where no more session is open none is pending
 none_open : (slot : ℕ) (slots : List (Option OpenSession)) → first_open slot slots ≡ None → pending_from slot slots ≡ []
 none_open slot [] e = refl
 none_open slot (None ∷ rest) e = none_open (slot + 1) rest e
 none_open slot (Some o ∷ rest) e = absurd (cc)
+
+-- the next open session after slots of which none is pending
+pub next_found : (slots : OpenSessions) (from first : ℕ) (after : Option ℕ) (result : Option SessionId) → start_of after ≡ first → result ≡ next_of slots after → from ≤ first → AreSettled from first slots.slots
+    → IfSome result (λ id. (from ≤ id.slot) × AreSettled from id.slot slots.slots)
+next_found slots from first after None s e on passed = tt
+next_found slots from first after (Some id) s e on passed =
+    let n : (first ≤ id.slot) × AreSettled first id.slot slots.slots = next_settled first slots.slots id (sym (e ∙ ap (λ n. first_open n (drop n slots.slots)) s)) in
+    let further : first ≤ id.slot = n.0 in
+    (omega arith, passed ∙ n.1)
+
+pub next_none : (slots : OpenSessions) (from first : ℕ) (after : Option ℕ) (result : Option SessionId) → start_of after ≡ first → result ≡ next_of slots after → AreSettled from first slots.slots
+    → IfNone result (pending_from from (drop from slots.slots) ≡ [])
+next_none slots from first after None s e passed = passed ∙ none_open first (drop first slots.slots) (sym (e ∙ ap (λ n. first_open n (drop n slots.slots)) s))
+next_none slots from first after (Some id) s e passed = tt
 
 works-last : (budget : ℕ) (ids : List SessionId) (os : List Outcome) (id : SessionId) (o : Outcome) → length ids ≡ length os → works budget (ids ++ id ∷ []) (os ++ o ∷ []) ≡ works budget ids os ++ record { event = Work id budget; outcome = o } ∷ []
 works-last budget [] [] id o h = refl
@@ -82,30 +101,22 @@ counted_on budget old new id (Gave bytes) (Some s) c = absurd c.went
 pub round_start : (h : HostState) (budget : ℕ) → RoundTo h budget 0 0 0 h
 round_start h budget = record { ids = []; so_far = record { outcomes = []; each = refl; run = run-start h; worked_is = refl; refused_is = refl; all = refl }; rest = refl }
 
--- at the next open session
-pub round_skip : (old : HostState) (budget slot worked refused : ℕ) (now : HostState) (id : SessionId) → RoundTo old budget slot worked refused now → first_open slot (drop slot now.slots.slots) ≡ Some id → RoundTo old budget id.slot worked refused now
-round_skip old budget slot worked refused now id r e =
-    let s : Skips slot (drop slot now.slots.slots) id = skips slot (drop slot now.slots.slots) id e in
-    let from : slot ≤ id.slot = s.from in
-    let there : slot + (id.slot - slot) ≡ id.slot = omega arith in
-    let same : pending_from slot (drop slot now.slots.slots) ≡ pending_from id.slot (drop id.slot now.slots.slots) =
-    s.rest ∙ ap (pending_from id.slot) (drop-drop (id.slot - slot) slot now.slots.slots ∙ ap (λ n. drop n now.slots.slots) there) in
-    record { ids = r.ids; so_far = r.so_far; rest = ap (λ xs. r.ids ++ xs) (sym same) ∙ r.rest }
+-- at a later slot, where none between is pending
+pub round_settled : (old : HostState) (budget slot last worked refused : ℕ) (now : HostState) → RoundTo old budget slot worked refused now → AreSettled slot last now.slots.slots → RoundTo old budget last worked refused now
+round_settled old budget slot last worked refused now r same = record { ids = r.ids; so_far = r.so_far; rest = ap (λ xs. r.ids ++ xs) (sym same) ∙ r.rest }
 
 -- what is pending from the slot of an open session on
 pending_at : (h : HostState) (id : SessionId) (t : SessionView) → find h.slots id ≡ Some t → pending_from id.slot (drop id.slot h.slots.slots) ≡ cond (is_pending t) (id ∷ pending_from (id.slot + 1) (drop (id.slot + 1) h.slots.slots)) (pending_from (id.slot + 1) (drop (id.slot + 1) h.slots.slots))
 pending_at h id t e = pending_opened id.slot h.slots.slots id.slot (record { generation = id.generation; session = t }) (slot_of id.generation (slice_index_or h.slots.slots id.slot None) t e)
 
-passes : (old : HostState) (budget : ℕ) (id : SessionId) (worked refused : ℕ) (now : HostState) (found : Option SessionView) → find now.slots id ≡ found → IsSome found → pending_of found ≡ false → RoundTo old budget id.slot worked refused now → RoundTo old budget (id.slot + 1) worked refused now
-passes old budget id worked refused now None e some idle r = absurd (cc)
-passes old budget id worked refused now (Some t) e some idle r =
-    let gone : pending_from id.slot (drop id.slot now.slots.slots) ≡ pending_from (id.slot + 1) (drop (id.slot + 1) now.slots.slots) =
-    pending_at now id t e ∙ ap (λ b. cond b (id ∷ pending_from (id.slot + 1) (drop (id.slot + 1) now.slots.slots)) (pending_from (id.slot + 1) (drop (id.slot + 1) now.slots.slots))) idle in
-    record { ids = r.ids; so_far = r.so_far; rest = ap (λ xs. r.ids ++ xs) (sym gone) ∙ r.rest }
+here_settled : (h : HostState) (id : SessionId) (found : Option SessionView) → find h.slots id ≡ found → IsSome found → pending_of found ≡ false → AreSettled id.slot (id.slot + 1) h.slots.slots
+here_settled h id None e some idle = absurd (cc)
+here_settled h id (Some t) e some idle =
+    pending_at h id t e ∙ ap (λ b. cond b (id ∷ pending_from (id.slot + 1) (drop (id.slot + 1) h.slots.slots)) (pending_from (id.slot + 1) (drop (id.slot + 1) h.slots.slots))) idle
 
--- a session that has nothing pending
-pub round_pass : (old : HostState) (budget : ℕ) (id : SessionId) (worked refused : ℕ) (now : HostState) → IsSome (find now.slots id) → pending_of (find now.slots id) ≡ false → RoundTo old budget id.slot worked refused now → RoundTo old budget (id.slot + 1) worked refused now
-round_pass old budget id worked refused now some idle r = passes old budget id worked refused now (find now.slots id) refl some idle r
+-- at an open session that has nothing pending
+pub is_settled : (h : HostState) (id : SessionId) → IsSome (find h.slots id) → pending_of (find h.slots id) ≡ false → AreSettled id.slot (id.slot + 1) h.slots.slots
+is_settled h id some idle = here_settled h id (find h.slots id) refl some idle
 
 -- the later slots are what they were
 works_later : (budget : ℕ) (h next : HostState) (id : SessionId) (o : Outcome) (found : Option SessionView) → OnSession (Works budget) h id found o next → drop (id.slot + 1) next.slots.slots ≡ drop (id.slot + 1) h.slots.slots
@@ -139,9 +150,9 @@ round_more old budget id worked refused now next o w r t pending below stepped f
           ∙ (ap (λ xs. t.ids ++ id ∷ pending_from (id.slot + 1) xs) (works_later budget now next id o (find now.slots id) stepped.0) ∙ (ap (λ xs. t.ids ++ xs) (sym e) ∙ t.rest));
     }
 
--- behind the last open session
-pub round_all : (old : HostState) (budget slot worked refused : ℕ) (now : HostState) → RoundTo old budget slot worked refused now → first_open slot (drop slot now.slots.slots) ≡ None → IsRound old budget (pending_ids old) worked refused now
+-- where nothing more is pending
+pub round_all : (old : HostState) (budget slot worked refused : ℕ) (now : HostState) → RoundTo old budget slot worked refused now → pending_from slot (drop slot now.slots.slots) ≡ [] → IsRound old budget (pending_ids old) worked refused now
 round_all old budget slot worked refused now t e =
-    let all : t.ids ≡ pending_ids old = sym (append-nil t.ids) ∙ (ap (λ xs. t.ids ++ xs) (sym (none_open slot (drop slot now.slots.slots) e)) ∙ t.rest) in
+    let all : t.ids ≡ pending_ids old = sym (append-nil t.ids) ∙ (ap (λ xs. t.ids ++ xs) (sym e) ∙ t.rest) in
     let r : IsRound old budget t.ids worked refused now = t.so_far in
     rw all at r

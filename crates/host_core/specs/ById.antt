@@ -1,5 +1,5 @@
 -- What a host tells of a session by its id: nothing of one that is not open (own choice).
-use Rattle.std.specs.Prelude.{◌≡◌, ℕ, List, [], Bool, false, Option, Some, None}
+use Rattle.std.specs.Prelude.{◌≡◌, ℕ, List, [], length, Bool, false, ◌&&◌, nat_eq, Option, Some, None}
 use Rattle.std.specs.Borrow.{Bor}
 use Rattle.usi_session.specs.Due.{SessionView, is_pending, wants_input}
 
@@ -24,3 +24,8 @@ wants_input_of (Some t) = wants_input t
 abbrev pub is_over_of : Option SessionView → Bool
 is_over_of None = false
 is_over_of (Some t) = t.state.is_over
+
+-- it may be fed, and nothing is queued
+abbrev pub is_still_of : Option SessionView → Bool
+is_still_of None = false
+is_still_of (Some t) = wants_input t && nat_eq (length t.queued) 0

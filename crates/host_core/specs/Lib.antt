@@ -8,3 +8,4 @@ pub mod Kept
 pub mod Runs
 pub mod Headline
 pub mod Rounds
+pub mod Still

@@ -1,24 +1,25 @@
 //! A host of sessions.
 
-ghost use Rattle.std.specs.Prelude.{◌≡◌, ◌≤◌, ◌<◌, ◌+◌, ◌-◌, ◌^◌, IfOk, IsErrOf, IsSome, OnErr, Err, true, length, take, vec_len};
+ghost use Rattle.std.specs.Prelude.{◌≡◌, ◌≤◌, ◌<◌, ◌+◌, ◌-◌, ◌^◌, IfOk, IsErrOf, IfSome, IfNone, IsSome, OnErr, Err, true, [], length, take, drop, vec_len};
 ghost use Rattle.session_slots.specs.Slots.{find, IsBelow};
 ghost use Rattle.shared_table.specs.Recent.{AreTrue};
-ghost use Rattle.host_core.specs.ById.{IsQueue, queued_of, pending_of, wants_input_of, is_over_of};
-ghost use Rattle.host_core.specs.Events.{Open, Feed, Work, Take, Close};
+ghost use Rattle.host_core.specs.ById.{IsQueue, queued_of, pending_of, wants_input_of, is_over_of, is_still_of};
+ghost use Rattle.host_core.specs.Events.{Take};
 ghost use Rattle.host_core.specs.Headline.{FrontOfReplies, AllReplies, GoesOn, EndsByOwn, OverByOwn, EndsOn};
 ghost use Rattle.host_core.specs.Kept.{KeepsOthers, is_refused};
-ghost use Rattle.host_core.specs.Rounds.{pending_ids, IsRound, RoundTo};
+ghost use Rattle.host_core.specs.Rounds.{pending_from, pending_ids, IsRound, RoundTo};
 ghost use Rattle.host_core.specs.Runs.{IsRun};
 ghost use Rattle.host_core.specs.Seen.{event_of, outcome_of, answered, passed_of};
 ghost use Rattle.host_core.specs.Steps.{HostState, Stepped, new_host};
+ghost use Rattle.host_core.specs.Still.{AreSettled, named_by, noting};
 ghost use Rattle.host_core.specs.declared.event.HostFault.TheVariants.{OutOfMemory};
 ghost use Rattle.session_slots.specs.declared.limits.TheConstants.{SESSIONS_MAX};
 ghost use Rattle.shared_table.specs.declared.table.TheConstants.{CAPACITY_MAX};
 
 use crate::event::{Event, HostFault, Outcome};
 use crate::round::{Round, counted};
-use crate::serve;
-use session_slots::{SessionId, SlotFault, Slots};
+use crate::sessions::Sessions;
+use session_slots::{SessionId, Slots};
 use shared_table::SharedTable;
 use std::alloc::Allocator;
 use std::hash::BuildHasher;
@@ -28,17 +29,53 @@ use std::marker::Model;
 /// others searched can only save it steps.
 #[derive(Drop)]
 pub struct Host<S: BuildHasher, A: Allocator + Copy> {
-    alloc: A,
-    table: SharedTable<S, A>,
-    slots: Slots<A>,
+    sessions: Sessions<S, A>,
+    // By slot: the generation of its session, where that is still.
+    noted: Vec<Option<u64>, A>,
 }
 
 impl<S: BuildHasher, A: Allocator + Copy> Model for Host<S, A> {
     ghost use Rattle.host_core.specs.Steps.{HostState};
+    ghost use Rattle.host_core.specs.Still.{AreStill};
 
     ghost Value = { HostState };
 
-    ghost view = { λ h. record { table = h.table; slots = h.slots } };
+    ghost view = { λ h. h.sessions };
+
+    ghost invariant = { λ h. AreStill h.noted.items h.sessions.slots };
+}
+
+/// The session that an event names, or is answered with.
+fn named_by<A: Allocator>(event: &Event<'_>, outcome: &Outcome<A>) -> Option<SessionId>
+    ensures { result ≡ named_by (event_of event.now) (outcome_of outcome.now) }
+{
+    match event {
+        Event::Open => match outcome {
+            Outcome::Opened(id) => Some(*id),
+            _ => None,
+        },
+        Event::Feed(id, _) => Some(*id),
+        Event::Work(id, _) => Some(*id),
+        Event::Take(id, _) => Some(*id),
+        Event::Close(id) => Some(*id),
+    }
+}
+
+/// Notes at its slot whether a session is still, where there is one.
+fn note<S: BuildHasher, A: Allocator + Copy>(
+    noted: &mut Vec<Option<u64>, A>,
+    sessions: &Sessions<S, A>,
+    named: Option<SessionId>,
+)
+    ensures { noted.new.items ≡ noting noted.old.items sessions.now.slots named }
+{
+    let Some(id) = named else {
+        return;
+    };
+    let is_still = sessions.is_still(id);
+    if id.slot < noted.len() {
+        noted[id.slot] = if is_still { Some(id.generation) } else { None };
+    }
 }
 
 impl<S: BuildHasher, A: Allocator + Copy> Host<S, A> {
@@ -57,11 +94,16 @@ impl<S: BuildHasher, A: Allocator + Copy> Host<S, A> {
         let Ok(table) = SharedTable::new(alloc, entries, hasher) else {
             return Err(HostFault::OutOfMemory);
         };
-        Ok(Host {
+        let Ok(noted) = vec![in alloc; None; slots] else {
+            return Err(HostFault::OutOfMemory);
+        };
+        let slots = Slots::new(alloc, slots);
+        let sessions = Sessions {
             alloc,
             table,
-            slots: Slots::new(alloc, slots),
-        })
+            slots,
+        };
+        Ok(Host { sessions, noted })
     }
 
     /// Tells that each entry of the table is true, that there are at most as many as its capacity, and
@@ -71,8 +113,7 @@ impl<S: BuildHasher, A: Allocator + Copy> Host<S, A> {
         ensures fits { length self.now.table.pairs ≤ self.now.table.capacity }
         ensures below { IsBelow self.now.slots }
     {
-        self.table.validity();
-        self.slots.validity();
+        self.sessions.validity();
     }
 
     /// Answers one event. The session that it names answers as by its own call, and each other one is
@@ -85,9 +126,11 @@ impl<S: BuildHasher, A: Allocator + Copy> Host<S, A> {
         ensures fits { length self.new.table.pairs ≤ self.new.table.capacity }
         ensures below { IsBelow self.old.slots }
     {
-        self.validity();
-        let outcome = self.answer(event);
-        self.validity();
+        self.sessions.validity();
+        let outcome = self.sessions.answer(event);
+        let named = named_by(&event, &outcome);
+        note(&mut self.noted, &self.sessions, named);
+        self.sessions.validity();
         outcome
     }
 
@@ -111,7 +154,7 @@ impl<S: BuildHasher, A: Allocator + Copy> Host<S, A> {
         ensures fault { OnErr result (result ≡ Err OutOfMemory) }
         ensures err { OnErr result (self.new ≡ self.old) }
     {
-        let Ok(mut outcomes) = Vec::with_capacity(self.alloc, events.len()) else {
+        let Ok(mut outcomes) = Vec::with_capacity(self.sessions.alloc, events.len()) else {
             return Err(HostFault::OutOfMemory);
         };
         for event in events {
@@ -130,10 +173,10 @@ impl<S: BuildHasher, A: Allocator + Copy> Host<S, A> {
             worked: 0,
             refused: 0,
         };
-        let mut after = None;
-        while let Some(id) = self.slots.next_open(after) {
+        let mut from = 0;
+        while let Some(id) = self.next_from(from) {
             round = self.round_at(id, budget, round);
-            after = Some(id.slot);
+            from = id.slot + 1;
         }
         round
     }
@@ -147,15 +190,20 @@ impl<S: BuildHasher, A: Allocator + Copy> Host<S, A> {
         ensures err { OnErr result (self.new ≡ self.old) }
         ensures below { IsBelow self.old.slots }
     {
-        self.validity();
-        self.drop_front(id, n)
+        self.sessions.validity();
+        let passed = self.sessions.drop_front(id, n);
+        note(&mut self.noted, &self.sessions, Some(id));
+        passed
     }
 
     /// The queued bytes of a session, or `None` where none is open under the id.
     pub fn output(&self, id: SessionId) -> Option<&[u8]>
         ensures { IsQueue (find self.now.slots id) result }
     {
-        match self.slots.get(id) {
+        if self.is_still(id) {
+            return Some(&[]);
+        }
+        match self.sessions.slots.get(id) {
             Some(session) => Some(session.output()),
             None => None,
         }
@@ -166,7 +214,10 @@ impl<S: BuildHasher, A: Allocator + Copy> Host<S, A> {
     pub fn pending(&self, id: SessionId) -> bool
         ensures { result ≡ pending_of (find self.now.slots id) }
     {
-        match self.slots.get(id) {
+        if self.is_still(id) {
+            return false;
+        }
+        match self.sessions.slots.get(id) {
             Some(session) => session.pending(),
             None => false,
         }
@@ -177,7 +228,10 @@ impl<S: BuildHasher, A: Allocator + Copy> Host<S, A> {
     pub fn wants_input(&self, id: SessionId) -> bool
         ensures { result ≡ wants_input_of (find self.now.slots id) }
     {
-        match self.slots.get(id) {
+        if self.is_still(id) {
+            return true;
+        }
+        match self.sessions.slots.get(id) {
             Some(session) => session.wants_input(),
             None => false,
         }
@@ -188,86 +242,47 @@ impl<S: BuildHasher, A: Allocator + Copy> Host<S, A> {
     pub fn is_over(&self, id: SessionId) -> bool
         ensures { result ≡ is_over_of (find self.now.slots id) }
     {
-        match self.slots.get(id) {
+        if self.is_still(id) {
+            return false;
+        }
+        match self.sessions.slots.get(id) {
             Some(session) => session.is_over(),
             None => false,
         }
     }
 
-    /// Answers an event as the method of its name does.
-    fn answer(&mut self, event: Event<'_>) -> Outcome<A>
-        ensures { Stepped self.old (event_of event.entry) (outcome_of result) self.new }
+    /// Whether the session is noted as still: it may be fed, and nothing is queued, pending or over. It
+    /// looks at the note alone.
+    fn is_still(&self, id: SessionId) -> bool
+        ensures still { result ≡ true → is_still_of (find self.now.slots id) ≡ true }
     {
-        match event {
-            Event::Open => self.open(),
-            Event::Feed(id, chunk) => self.feed(id, chunk),
-            Event::Work(id, budget) => self.work(id, budget),
-            Event::Take(id, n) => self.take(id, n),
-            Event::Close(id) => self.close(id),
+        match self.noted.get(id.slot) {
+            Some(Some(generation)) => *generation == id.generation,
+            _ => false,
         }
     }
 
-    /// `Event::Open`.
-    fn open(&mut self) -> Outcome<A>
-        ensures { Stepped self.old Open (outcome_of result) self.new }
+    /// The first slot from this one on whose session is not noted as still.
+    fn past_still(&self, from: usize) -> usize
+        ensures on { from ≤ result }
+        ensures passed { AreSettled from result self.now.slots.slots }
     {
-        match self.slots.open() {
-            Ok(id) => Outcome::Opened(id),
-            Err(SlotFault::Full) => Outcome::Refused(HostFault::Full),
-            Err(SlotFault::OutOfMemory) => Outcome::Refused(HostFault::OutOfMemory),
+        let mut slot = from;
+        while slot < self.noted.len() && self.noted[slot].is_some() {
+            slot += 1;
         }
+        slot
     }
 
-    /// `Event::Feed`.
-    fn feed(&mut self, id: SessionId, chunk: &[u8]) -> Outcome<A>
-        ensures { Stepped self.old (Feed id chunk.now) (outcome_of result) self.new }
+    /// An open session from this slot on, such that none between is pending.
+    fn next_from(&self, from: usize) -> Option<SessionId>
+        ensures next { IfSome result (λ id. (from ≤ id.slot) × AreSettled from id.slot self.now.slots.slots) }
+        ensures open { IfSome result (λ id. IsSome (find self.now.slots id)) }
+        ensures not_last { IfSome result (λ id. id.slot < 2 ^ 64 - 1) }
+        ensures none { IfNone result (pending_from from (drop from self.now.slots.slots) ≡ []) }
     {
-        match self.slots.get_mut(id) {
-            Some(session) => serve::feed(session, chunk),
-            None => Outcome::Refused(HostFault::UnknownSession),
-        }
-    }
-
-    /// `Event::Work`.
-    fn work(&mut self, id: SessionId, budget: u64) -> Outcome<A>
-        ensures { Stepped self.old (Work id budget) (outcome_of result) self.new }
-    {
-        match self.slots.get_mut(id) {
-            Some(session) => serve::work(session, &mut self.table, budget),
-            None => Outcome::Refused(HostFault::UnknownSession),
-        }
-    }
-
-    /// `Event::Take`.
-    fn take(&mut self, id: SessionId, n: usize) -> Outcome<A>
-        ensures { Stepped self.old (Take id n) (outcome_of result) self.new }
-    {
-        let alloc = self.alloc;
-        match self.slots.get_mut(id) {
-            Some(session) => serve::take(alloc, session, n),
-            None => Outcome::Refused(HostFault::UnknownSession),
-        }
-    }
-
-    /// `Event::Take`, without handing the bytes out.
-    fn drop_front(&mut self, id: SessionId, n: usize) -> Result<(), HostFault>
-        ensures taken { Stepped self.old (Take id n) (passed_of (take n (queued_of (find self.old.slots id))) result) self.new }
-        ensures no_memory { IsErrOf result OutOfMemory → ⊥ }
-    {
-        match self.slots.get_mut(id) {
-            Some(session) => serve::pass(session, n),
-            None => Err(HostFault::UnknownSession),
-        }
-    }
-
-    /// `Event::Close`.
-    fn close(&mut self, id: SessionId) -> Outcome<A>
-        ensures { Stepped self.old (Close id) (outcome_of result) self.new }
-    {
-        match self.slots.close(id) {
-            Some(_) => Outcome::Done,
-            None => Outcome::Refused(HostFault::UnknownSession),
-        }
+        let first = self.past_still(from);
+        self.sessions.slots.next_open(first.checked_sub(1))
     }
 
     /// What a round does with an open session: a `Work` where something is pending.
@@ -281,8 +296,7 @@ impl<S: BuildHasher, A: Allocator + Copy> Host<S, A> {
         if !self.pending(id) {
             return round;
         }
-        self.validity();
-        let outcome = self.work(id, budget);
+        let outcome = self.step(Event::Work(id, budget));
         counted(round, &outcome)
     }
 }

@@ -7,6 +7,7 @@ mod host;
 mod laws;
 mod round;
 mod serve;
+mod sessions;
 
 pub use bytes::Bytes;
 pub use event::{Event, HostFault, Outcome};

@@ -1,0 +1,130 @@
+-- What is noted of sessions that are still.
+use Rattle.std.proofs.Common.{◌≡◌, ℕ, zero, suc, ◌+◌, Bool, true, false, cond, not, ◌&&◌, List, [], ◌∷◌, set, Option, Some, None, refl, sym, ap, ◌∙◌, inl, inr, arith}
+use Rattle.std.specs.Prelude.{◌<◌, slice_index_or, is_some, IsSome, replicate, length, nat_eq}
+use Rattle.std.proofs.lemmas.Bool.{cases_eq, and_parts}
+use Rattle.std.proofs.lemmas.List.{get_or-set_other}
+use Rattle.session_slots.specs.declared.id.SessionId.{SessionId}
+use Rattle.session_slots.specs.Slots.{OpenSessions, find}
+use Rattle.usi_session.specs.Due.{SessionView, wants_input}
+use Rattle.std.specs.Borrow.{Bor}
+use Rattle.host_core.specs.ById.{IsQueue, is_still_of, is_over_of, pending_of, wants_input_of}
+use Rattle.host_core.specs.Events.{Event, Open, Feed, Work, Take, Close, Outcome, Opened, Done, Worked, Gave, Refused}
+use Rattle.host_core.specs.Kept.{KeepsOthers}
+use Rattle.host_core.specs.Made.{is_same_id}
+use Rattle.host_core.specs.Steps.{HostState}
+use Rattle.host_core.specs.Still.{AreStill, AreSettled, note_of, noting, named_by}
+use Rattle.host_core.proofs.Ids.{same_id, other_id}
+use Rattle.host_core.proofs.Rounds.{is_settled}
+
+-- where nothing is noted
+blank : (n k g : ℕ) → slice_index_or (replicate n None) k None ≡ Some g → ⊥
+blank zero k g e = absurd (cc)
+blank (suc n) zero g e = absurd (cc)
+blank (suc n) (suc k) g e = blank n k g e
+
+pub none_still : (n : ℕ) (slots : OpenSessions) → AreStill (replicate n None) slots
+none_still n slots id e = absurd (blank n id.slot id.generation e)
+
+written : (noted : List (Option ℕ)) (k : ℕ) (m : Option ℕ) (g : ℕ) → slice_index_or (set noted k m) k None ≡ Some g → m ≡ Some g
+written [] k m g e = absurd (cc)
+written (x ∷ xs) zero m g e = e
+written (x ∷ xs) (suc k) m g e = written xs k m g e
+
+told : (b : Bool) (x g : ℕ) → cond b (Some x) None ≡ Some g → b ≡ true
+told true x g e = refl
+told false x g e = absurd (cc)
+
+told_generation : (b : Bool) (x g : ℕ) → cond b (Some x) None ≡ Some g → x ≡ g
+told_generation true x g e = cc
+told_generation false x g e = absurd (cc)
+
+same_slot : (slots : OpenSessions) (at id : SessionId) → is_same_id at id ≡ false → id.slot ≡ at.slot → note_of slots at ≡ Some id.generation → ⊥
+same_slot slots at id n same e =
+    let g : at.generation ≡ id.generation = told_generation (is_still_of (find slots at)) at.generation id.generation e in
+    other_id at id n (λ k. record { slot = same k; generation = sym g k })
+
+noted_by : (b : Bool) (noted : List (Option ℕ)) (old new : OpenSessions) (at id : SessionId) → is_same_id at id ≡ b → AreStill noted old → ((other : SessionId) → is_same_id at other ≡ false → find new other ≡ find old other)
+    → slice_index_or (noting noted new (Some at)) id.slot None ≡ Some id.generation → is_still_of (find new id) ≡ true
+noted_by true noted old new at id s still kept e =
+    let same : at ≡ id = same_id at id s in
+    let slot : id.slot ≡ at.slot = ap (λ (i : SessionId). i.slot) (sym same) in
+    let m : note_of new at ≡ Some id.generation = written noted at.slot (note_of new at) id.generation (ap (λ k. slice_index_or (noting noted new (Some at)) k None) (sym slot) ∙ e) in
+    ap (λ (i : SessionId). is_still_of (find new i)) (sym same) ∙ told (is_still_of (find new at)) at.generation id.generation m
+noted_by false noted old new at id s still kept e =
+    elim (cases_eq id.slot at.slot) [
+      | inl same ↦ absurd (same_slot new at id s same (written noted at.slot (note_of new at) id.generation (ap (λ k. slice_index_or (noting noted new (Some at)) k None) (sym same) ∙ e)))
+      | inr apart ↦ ap is_still_of (kept id s) ∙ still id (sym (get_or-set_other noted at.slot id.slot (note_of new at) None apart) ∙ e)
+    ]
+
+-- after a step of one session
+pub still_after : (noted : List (Option ℕ)) (old new : OpenSessions) (at : SessionId) → AreStill noted old → ((other : SessionId) → is_same_id at other ≡ false → find new other ≡ find old other) → AreStill (noting noted new (Some at)) new
+still_after noted old new at still kept id e = noted_by (is_same_id at id) noted old new at id refl still kept e
+
+still_where : (noted : List (Option ℕ)) (old new : OpenSessions) → AreStill noted old → ((other : SessionId) → find new other ≡ find old other) → AreStill noted new
+still_where noted old new still kept id e = ap is_still_of (kept id) ∙ still id e
+
+-- after any step
+pub still_on : (noted : List (Option ℕ)) (old new : HostState) (event : Event) (o : Outcome) → AreStill noted old.slots → KeepsOthers old event o new → AreStill (noting noted new.slots (named_by event o)) new.slots
+still_on noted old new Open (Opened at) still kept = still_after noted old.slots new.slots at still kept
+still_on noted old new Open Done still kept = still_where noted old.slots new.slots still (λ id. kept id refl)
+still_on noted old new Open (Worked steps) still kept = still_where noted old.slots new.slots still (λ id. kept id refl)
+still_on noted old new Open (Gave bytes) still kept = still_where noted old.slots new.slots still (λ id. kept id refl)
+still_on noted old new Open (Refused fault) still kept = still_where noted old.slots new.slots still (λ id. kept id refl)
+still_on noted old new (Feed at chunk) o still kept = still_after noted old.slots new.slots at still kept
+still_on noted old new (Work at budget) o still kept = still_after noted old.slots new.slots at still kept
+still_on noted old new (Take at n) o still kept = still_after noted old.slots new.slots at still kept
+still_on noted old new (Close at) o still kept = still_after noted old.slots new.slots at still kept
+
+-- a session that is still is open, and nothing of it is pending
+is_open : (found : Option SessionView) → is_still_of found ≡ true → IsSome found
+is_open None e = absurd (cc)
+is_open (Some t) e = refl
+
+wanting : (over pending few : Bool) → (not over && not pending) && few ≡ true → not over && pending ≡ false
+wanting true pending few e = refl
+wanting false true few e = absurd (cc)
+wanting false false few e = refl
+
+pub still_idle : (found : Option SessionView) → is_still_of found ≡ true → pending_of found ≡ false
+still_idle None e = refl
+still_idle (Some t) e = wanting t.state.is_over _ _ (and_parts (wants_input t) (nat_eq (length t.queued) 0) e).0
+
+pub still_wanting : (found : Option SessionView) → is_still_of found ≡ true → wants_input_of found ≡ true
+still_wanting None e = absurd (cc)
+still_wanting (Some t) e = (and_parts (wants_input t) (nat_eq (length t.queued) 0) e).0
+
+not_over : (over pending few : Bool) → (not over && not pending) && few ≡ true → over ≡ false
+not_over true pending few e = absurd (cc)
+not_over false pending few e = refl
+
+pub still_on_going : (found : Option SessionView) → is_still_of found ≡ true → is_over_of found ≡ false
+still_on_going None e = refl
+still_on_going (Some t) e = not_over t.state.is_over _ _ (and_parts (wants_input t) (nat_eq (length t.queued) 0) e).0
+
+empty_list : (xs : List ℕ) → nat_eq (length xs) 0 ≡ true → [] ≡ xs
+empty_list [] e = refl
+empty_list (x ∷ xs) e = absurd (grind arith)
+
+-- an empty queue is that of a session that is still
+pub still_queue : (found : Option SessionView) (bytes : Bor (List ℕ)) → is_still_of found ≡ true → bytes.now ≡ [] → IsQueue found (Some bytes)
+still_queue None bytes e none = absurd (cc)
+still_queue (Some t) bytes e none = none ∙ empty_list t.queued (and_parts (wants_input t) (nat_eq (length t.queued) 0) e).1
+
+same_default : (noted : List (Option ℕ)) (k : ℕ) (x : Option ℕ) → k < length noted → slice_index_or noted k x ≡ slice_index_or noted k None
+same_default [] k x h = absurd (omega arith)
+same_default (y ∷ ys) zero x h = refl
+same_default (y ∷ ys) (suc k) x h = same_default ys k x (omega arith)
+
+still_settled : (noted : List (Option ℕ)) (h : HostState) (slot g : ℕ) → AreStill noted h.slots → slice_index_or noted slot None ≡ Some g → AreSettled slot (slot + 1) h.slots.slots
+still_settled noted h slot g still e =
+    let id : SessionId = record { slot = slot; generation = g } in
+    let s : is_still_of (find h.slots id) ≡ true = still id e in
+    is_settled h id (is_open (find h.slots id) s) (still_idle (find h.slots id) s)
+
+settled_at : (noted : List (Option ℕ)) (h : HostState) (slot : ℕ) (x : Option ℕ) → AreStill noted h.slots → slice_index_or noted slot None ≡ x → is_some x ≡ true → AreSettled slot (slot + 1) h.slots.slots
+settled_at noted h slot None still e some = absurd (cc)
+settled_at noted h slot (Some g) still e some = still_settled noted h slot g still e
+
+-- a slot at which something is noted is passed
+pub noted_settled : (noted : List (Option ℕ)) (h : HostState) (slot : ℕ) (x : Option ℕ) → AreStill noted h.slots → slot < length noted → x ≡ slice_index_or noted slot x → is_some x ≡ true → AreSettled slot (slot + 1) h.slots.slots
+noted_settled noted h slot x still h1 e some = settled_at noted h slot x still (sym (e ∙ same_default noted slot x h1)) some
