@@ -585,29 +585,33 @@ def long_lines_of_moves():
             is_small(running, 20_000_000, "16 clients with long lines")
 
 
-def searches(running, move):
-    """The processor time of some searches at depth 4, after positions that begin with this move."""
+def searches(running, client):
+    """The processor time of some searches at depth 4."""
     before = running.seconds()
-    with running.connect() as client:
-        for reply in (b"3c3d", b"8c8d", b"4a3b", b"6a5b", b"5c5d", b"9c9d", b"1c1d", b"7c7d"):
-            client.sendall(b"position startpos moves %s %s\ngo depth 4\n" % (move, reply))
-            while b"bestmove" not in client.recv(65_536):
-                pass
+    for _ in range(20):
+        client.sendall(b"go depth 4\n")
+        while b"bestmove" not in client.recv(65_536):
+            pass
     return running.seconds() - before
 
 
 def an_idle_crowd():
-    """1,000 clients that say nothing let another search."""
-    with many_files(2_200), host("--slots", "1024", preexec_fn=files(1_100)) as running:
-        alone = searches(running, b"7g7f")
+    """1,000 clients that say nothing cost one who searches little. Two hosts are asked by turns, since the
+    machine may do other work too; their tables have one entry, so that each search makes the same steps."""
+    words = ("--slots", "1024", "--entries", "1")
+    alone = beside = 0.0
+    with many_files(2_300), host(*words) as quiet, host(*words, preexec_fn=files(1_100)) as full:
         with contextlib.ExitStack() as crowd:
             for _ in range(1_000):
-                crowd.enter_context(running.connect())
-            want(running.ask(b"isready\n"), b"readyok\n", "a client of the crowd")
-            beside = searches(running, b"2g2f")
-            does_not_spin(running, "1,000 idle clients")
-        if beside > 4 * alone + 0.1:
-            raise Wrong(f"{alone:.2f} s alone, and {beside:.2f} s beside 1,000 idle clients")
+                crowd.enter_context(full.connect())
+            want(full.ask(b"isready\n"), b"readyok\n", "a client of the crowd")
+            one, other = crowd.enter_context(quiet.connect()), crowd.enter_context(full.connect())
+            for _ in range(10):
+                alone += searches(quiet, one)
+                beside += searches(full, other)
+            does_not_spin(full, "1,000 idle clients")
+    if beside > 1.5 * alone + 0.05:
+        raise Wrong(f"{alone:.2f} s alone, and {beside:.2f} s beside 1,000 idle clients")
 
 
 def searchers_that_vanish():
