@@ -12,7 +12,7 @@ use Rattle.host_core.specs.Events.{Outcome, Opened, Done, Worked, Gave, Refused,
 use Rattle.host_core.specs.ById.{pending_of}
 use Rattle.host_core.specs.Steps.{HostState, Stepped, OnSession}
 use Rattle.host_core.specs.Sessions.{Works}
-use Rattle.host_core.specs.Still.{AreSettled}
+use Rattle.host_core.specs.Still.{AreSettled, IsNext}
 use Rattle.host_core.specs.Rounds.{pending_from, pending_ids, works, has_worked, was_refused, IsRound, RoundTo}
 use Rattle.host_core.proofs.Chains.{run-start, run-last}
 
@@ -66,7 +66,7 @@ none_open slot (Some o ∷ rest) e = absurd (cc)
 
 -- the next open session after slots of which none is pending
 pub next_found : (slots : OpenSessions) (from first : ℕ) (after : Option ℕ) (result : Option SessionId) → start_of after ≡ first → result ≡ next_of slots after → from ≤ first → AreSettled from first slots.slots
-    → IfSome result (λ id. (from ≤ id.slot) × AreSettled from id.slot slots.slots)
+    → IfSome result (IsNext from slots)
 next_found slots from first after None s e on passed = tt
 next_found slots from first after (Some id) s e on passed =
     let n : (first ≤ id.slot) × AreSettled first id.slot slots.slots = next_settled first slots.slots id (sym (e ∙ ap (λ n. first_open n (drop n slots.slots)) s)) in

@@ -1,5 +1,5 @@
 -- Which sessions a host has noted as still (own choice).
-use Rattle.std.specs.Prelude.{◌≡◌, ℕ, List, true, cond, drop, Option, Some, None, slice_index_or, slice_set}
+use Rattle.std.specs.Prelude.{◌≡◌, ◌≤◌, ℕ, List, true, cond, drop, Option, Some, None, slice_index_or, slice_set}
 use Rattle.session_slots.specs.declared.id.SessionId.{SessionId}
 use Rattle.session_slots.specs.Slots.{OpenSession, OpenSessions, find}
 use Rattle.host_core.specs.ById.{is_still_of}
@@ -31,3 +31,7 @@ named_by (Close at) outcome = Some at
 -- between these slots none is pending
 abbrev pub AreSettled : ℕ → ℕ → List (Option OpenSession) → Type 0
 AreSettled first last slots = pending_from first (drop first slots) ≡ pending_from last (drop last slots)
+
+-- the id stands at this slot or a later one, and none between is pending
+abbrev pub IsNext : ℕ → OpenSessions → SessionId → Type 0
+IsNext from slots id = (from ≤ id.slot) × AreSettled from id.slot slots.slots

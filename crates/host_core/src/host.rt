@@ -11,7 +11,7 @@ ghost use Rattle.host_core.specs.Rounds.{pending_from, pending_ids, IsRound, Rou
 ghost use Rattle.host_core.specs.Runs.{IsRun};
 ghost use Rattle.host_core.specs.Seen.{event_of, outcome_of, answered, passed_of};
 ghost use Rattle.host_core.specs.Steps.{HostState, Stepped, new_host};
-ghost use Rattle.host_core.specs.Still.{AreSettled, named_by, noting};
+ghost use Rattle.host_core.specs.Still.{AreSettled, IsNext, named_by, noting};
 ghost use Rattle.host_core.specs.declared.event.HostFault.TheVariants.{OutOfMemory};
 ghost use Rattle.session_slots.specs.declared.limits.TheConstants.{SESSIONS_MAX};
 ghost use Rattle.shared_table.specs.declared.table.TheConstants.{CAPACITY_MAX};
@@ -276,7 +276,7 @@ impl<S: BuildHasher, A: Allocator + Copy> Host<S, A> {
 
     /// An open session from this slot on, such that none between is pending.
     fn next_from(&self, from: usize) -> Option<SessionId>
-        ensures next { IfSome result (λ id. (from ≤ id.slot) × AreSettled from id.slot self.now.slots.slots) }
+        ensures next { IfSome result (IsNext from self.now.slots) }
         ensures open { IfSome result (λ id. IsSome (find self.now.slots id)) }
         ensures not_last { IfSome result (λ id. id.slot < 2 ^ 64 - 1) }
         ensures none { IfNone result (pending_from from (drop from self.now.slots.slots) ≡ []) }
