@@ -72,7 +72,7 @@ def main():
             print(f"crates/{crate}/README.md does not show its use as crates/examples has it")
     toolchain = subprocess.run(["rt", "version"], capture_output=True, text=True, check=True).stdout.strip()
     named = re.findall(r"`(rattle-kit[^`]*)`", read(os.path.join(TOP, "README.md")))
-    if toolchain in named:
+    if named == [toolchain]:
         passed += 1
     else:
         failed += 1
