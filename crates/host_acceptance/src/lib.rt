@@ -1,4 +1,4 @@
-//! Tests of hosts of many sessions, and of scripts.
+//! Tests of hosts of many sessions, of scripts, and of the words of the command line.
 #![tactic(auto)]
 
 #[cfg(test)]
@@ -13,3 +13,5 @@ mod scripts;
 mod slots;
 #[cfg(test)]
 mod turns;
+#[cfg(test)]
+mod words;

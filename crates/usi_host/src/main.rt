@@ -11,7 +11,7 @@ mod refusal;
 mod serving;
 
 use host_core::Host;
-use refusal::{FAULT, complaint, status, unread_words};
+use refusal::{FAULT, complaint, status};
 use serving::ServeFault;
 use socket_loop::Loop;
 use std::hash::RandomState;
@@ -20,7 +20,7 @@ use std::{env, io};
 use usi_replay::{ReplayFault, replay};
 use usi_serve::{MioWire, serve};
 use usi_stdio::stdio;
-use usi_words::{Job, WordsFault, read_words, version_text};
+use usi_words::{Job, WordsFault, read_words, unread_words, version_text};
 
 /// The status of a script that has a bad line.
 const BAD_SCRIPT: u8 = 3;

@@ -120,3 +120,8 @@ IsAnswerTo kind (Ok Version) = kind ≡ kinds.DisplayVersion
 IsAnswerTo kind (Ok job) = ⊥
 IsAnswerTo kind (Err OutOfMemory) = ⊤
 IsAnswerTo kind (Err (NotAccepted text)) = IsMistake kind × (kind ≢ kinds.OutOfMemory)
+
+-- where words are not accepted, this is what is said
+abbrev pub Says : List ℕ → WordsFault → Type 0
+Says text OutOfMemory = ⊤
+Says text (NotAccepted said) = string_bytes said ≡ text

@@ -1,4 +1,5 @@
--- The texts of the words: the version, and what is said of a number with a sign (own choice).
+-- The texts of the words: the version, and what is said of a number with a sign and of words that could not be read
+-- (own choice).
 use Rattle.std.specs.Prelude.{ℕ, List, codes}
 
 -- the name and the version, and what is proved
@@ -8,3 +9,7 @@ the_version = codes "usi_host 0.1.0\nProved: each session is given the replies o
 -- why words are refused that `clap` takes, with a pointer to the help
 abbrev pub not_digits : List ℕ
 not_digits = codes "error: a number is written in digits alone, without a sign\n\nFor more information, try '--help'.\n"
+
+-- why words are refused that could not be read, with the same pointer
+abbrev pub not_utf_8 : List ℕ
+not_utf_8 = codes "error: a word of the command line is not UTF-8\n\nFor more information, try '--help'.\n"

@@ -459,6 +459,3 @@ Exit statuses:
 
 Example:
   usi_host serve --socket /tmp/shogi.socket --slots 256 --entries 100000";
-
-#[cfg(test)]
-mod tests;

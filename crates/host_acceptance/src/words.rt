@@ -1,6 +1,9 @@
-use super::{Job, WordsFault, read_words};
+//! The words of the command line.
+
 use std::alloc::Global;
 use std::test::Fail;
+use test_support::{holds, same};
+use usi_words::{Job, WordsFault, read_words};
 
 #[test]
 fn entries_of_accepted_words(rt: HostRuntime) -> Result<(), Fail> {
@@ -14,7 +17,7 @@ fn entries_of_accepted_words(rt: HostRuntime) -> Result<(), Fail> {
     ];
     for (words, entries) in rows {
         let job = read_words(rt.alloc(), words)?;
-        assert_eq!(rt; job, Job::Stdio { entries }, "for {words:?}");
+        same!(rt; job, Job::Stdio { entries }, words);
     }
     Ok(())
 }
@@ -41,7 +44,7 @@ fn numbers_of_a_replay(rt: HostRuntime) -> Result<(), Fail> {
             entries,
             slice,
         };
-        assert_eq!(rt; job, wanted, "for {words:?}");
+        same!(rt; job, wanted, words);
     }
     Ok(())
 }
@@ -82,7 +85,7 @@ fn numbers_of_serve(rt: HostRuntime) -> Result<(), Fail> {
             slice,
             turns,
         };
-        assert_eq!(rt; job, wanted, "for {words:?}");
+        same!(rt; job, wanted, words);
     }
     Ok(())
 }
@@ -121,7 +124,7 @@ fn refused_words(rt: HostRuntime) {
             &read_words(rt.alloc(), words),
             Err(WordsFault::NotAccepted { text }) if !text.is_empty()
         );
-        assert!(rt; refused, "for {words:?}");
+        holds!(rt; refused, words);
     }
 }
 
@@ -144,7 +147,7 @@ For more information, try '--help'.
             &read_words(rt.alloc(), words),
             Err(WordsFault::NotAccepted { text }) if text.as_str() == said
         );
-        assert!(rt; is_named, "for {words:?}");
+        holds!(rt; is_named, words);
     }
 }
 
@@ -160,11 +163,7 @@ fn help_of(alloc: Global, words: &[&str]) -> Option<String> {
 #[test]
 fn words_that_ask_for_the_version(rt: HostRuntime) -> Result<(), Fail> {
     for word in ["--version", "-V"] {
-        assert_eq!(rt;
-            read_words(rt.alloc(), &[word])?,
-            Job::Version,
-            "for {word}"
-        );
+        same!(rt; read_words(rt.alloc(), &[word])?, Job::Version, word);
     }
     let refused: [&[&str]; 4] = [
         &["version"],
@@ -177,7 +176,7 @@ fn words_that_ask_for_the_version(rt: HostRuntime) -> Result<(), Fail> {
             &read_words(rt.alloc(), words),
             Err(WordsFault::NotAccepted { text }) if text.as_str().contains("'usi_host --version'")
         );
-        assert!(rt; is_refused, "for {words:?}");
+        holds!(rt; is_refused, words);
     }
     Ok(())
 }
@@ -251,43 +250,14 @@ fn help_has_what_a_user_needs(rt: HostRuntime) {
         "from 1 to 18446744073709551615",
     ];
     let host = ["host full", "1  ", "usi_host serve --socket"];
-    assert!(rt;
-        are_helps(alloc, &["-h"], &["--help"], &["help"], &program, &statuses),
-        "the program"
-    );
-    assert!(rt;
-        are_helps(
-            alloc,
-            &["stdio", "-h"],
-            &["stdio", "--help"],
-            &["help", "stdio"],
-            &stdio,
-            &stdio_run
-        ),
-        "stdio"
-    );
-    assert!(rt;
-        are_helps(
-            alloc,
-            &["replay", "-h"],
-            &["replay", "--help"],
-            &["help", "replay"],
-            &replay,
-            &script
-        ),
-        "replay"
-    );
-    assert!(rt;
-        are_helps(
-            alloc,
-            &["serve", "-h"],
-            &["serve", "--help"],
-            &["help", "serve"],
-            &serve,
-            &host
-        ),
-        "serve"
-    );
+    let (short, long, asked) = (["-h"], ["--help"], ["help"]);
+    holds!(rt; are_helps(alloc, &short, &long, &asked, &program, &statuses));
+    let (short, long, asked) = (["stdio", "-h"], ["stdio", "--help"], ["help", "stdio"]);
+    holds!(rt; are_helps(alloc, &short, &long, &asked, &stdio, &stdio_run));
+    let (short, long, asked) = (["replay", "-h"], ["replay", "--help"], ["help", "replay"]);
+    holds!(rt; are_helps(alloc, &short, &long, &asked, &replay, &script));
+    let (short, long, asked) = (["serve", "-h"], ["serve", "--help"], ["help", "serve"]);
+    holds!(rt; are_helps(alloc, &short, &long, &asked, &serve, &host));
 }
 
 // With `rt try --test --fail-alloc N`, want of memory is the only other answer.
@@ -318,6 +288,6 @@ fn only_memory_changes_an_answer(rt: HostRuntime) {
             Ok(Job::Version) => words == ["--version"].as_slice(),
             Err(WordsFault::NotAccepted { text }) => text.as_str().contains(part),
         };
-        assert!(rt; answered, "for {words:?}");
+        holds!(rt; answered, words);
     }
 }
