@@ -80,6 +80,14 @@ fn a_mate(rt: HostRuntime) -> Result<(), Fail> {
     assert_found(&rt, rt.alloc(), sfen, (30001, "3h8h"), (30001, "3h8h"))
 }
 
+// A gold before the king mates: all squares next to the king are open before that, and out of its reach
+// after it.
+#[test]
+fn a_mate_by_a_drop(rt: HostRuntime) -> Result<(), Fail> {
+    let sfen = "4k4/9/4P4/9/9/9/9/9/4K4 b G";
+    assert_found(&rt, rt.alloc(), sfen, (30001, "G*5b"), (30001, "G*5b"))
+}
+
 // The only piece of Black's has one way to go, and is taken there or without a move after any other
 // answer.
 #[test]

@@ -1,6 +1,6 @@
 //! The search written plainly, to count with: it calls itself, and remembers in a list.
 
-use shogi_core::{Color, KINDS, Move, Position, Square};
+use shogi_core::{Board, Color, KINDS, Move, Piece, Position, Role, Square};
 use shogi_eval::{Eval, drop_gain, material, taken_gain};
 use shogi_moves::{Replies, Walk, apply, has_legal};
 use shogi_search::{Found, INFINITY, MATE};
@@ -134,8 +134,7 @@ impl Notes {
     }
 }
 
-/// A legal move, where it leads, when it is visited (0 the hash move, 1 a capture, 2 a quiet move), and
-/// whether the other side surely has a legal move after it.
+/// A legal move, where it leads, and when it is visited (0 the hash move, 1 a capture, 2 a quiet move).
 #[derive(Clone, Copy, Debug)]
 pub struct Branch {
     pub code: u16,
@@ -144,6 +143,9 @@ pub struct Branch {
     to: Square,
     pub position: Position,
     pub turn: u8,
+    /// Whether the other side surely is in no check after it and has a legal move.
+    is_calm: bool,
+    /// Whether the other side surely has a legal move after it, be it a step of its king out of a check.
     is_answered: bool,
 }
 
@@ -166,6 +168,97 @@ fn ends_of(m: &Move) -> (Option<Square>, Square) {
     }
 }
 
+/// The piece that a move puts on the square where it ends.
+fn piece_of(p: &Position, m: &Move) -> Option<Piece> {
+    match m {
+        Move::Board { from, promote, .. } => {
+            let piece = p.at(*from)?;
+            let role = if *promote {
+                piece.role.promoted()
+            } else {
+                piece.role
+            };
+            Some(Piece {
+                color: piece.color,
+                role,
+            })
+        }
+        Move::Drop { kind, .. } => Some(Piece {
+            color: p.side(),
+            role: Role::from(*kind),
+        }),
+    }
+}
+
+/// The square of the king of the side, if it has just one.
+fn only_king(p: &Position, side: Color) -> Option<Square> {
+    let mut found = None;
+    let mut count = 0u8;
+    for number in 0..81u8 {
+        if let Some(piece) = p.at(square(number)) {
+            if piece.role.is_king() && piece.color == side {
+                found = Some(square(number));
+                count += 1;
+            }
+        }
+    }
+    if count == 1 { found } else { None }
+}
+
+/// Where the other side's only king may go, as far as the pieces stand that are there now: each square by
+/// its number.
+#[derive(Clone, Copy, Debug)]
+struct Escapes {
+    king: Square,
+    are_open: [bool; 81],
+}
+
+/// Squares that the king reaches, on which no piece of its own stands, and that are not attacked once the
+/// king is off the board.
+fn escapes_of(p: &Position) -> Option<Escapes> {
+    let side = p.side().opponent();
+    let king = only_king(p, side)?;
+    let lifted = p.board().put(king, None);
+    let mut are_open = [false; 81];
+    for number in 0..81u8 {
+        let at = square(number);
+        let is_own = matches!(p.at(at), Some(piece) if piece.color == side);
+        are_open[number as usize] = p.reaches(king, at)
+            && !is_own
+            && !lifted.is_attacked(p.side(), at);
+    }
+    Some(Escapes { king, are_open })
+}
+
+/// Whether the piece may ever reach the one square from the other, whatever stands on the board.
+fn may_reach(piece: Option<Piece>, from: Square, to: Square) -> bool {
+    let Some(moved) = piece else { return false };
+    if moved.role.is_sliding() && are_on_a_line(from, to) {
+        return true;
+    }
+    Board::of([None; 81]).put(from, piece).reaches(from, to)
+}
+
+/// Whether the move lets one of these squares be: it ends neither there nor on the king, begins on no line
+/// with it, and what moves never reaches it from where it ends.
+fn leaves_escape(p: &Position, escapes: &Escapes, m: &Move) -> bool {
+    let (begin, end) = ends_of(m);
+    let piece = piece_of(p, m);
+    for number in 0..81u8 {
+        let at = square(number);
+        let is_lined = matches!(begin, Some(from) if from != at && are_on_a_line(from, at));
+        if escapes.are_open[number as usize]
+            && end != escapes.king
+            && end != at
+            && !is_lined
+            && !may_reach(piece, end, at)
+        {
+            return true;
+        }
+    }
+    false
+}
+
 /// The legal moves by rising code.
 pub fn branches_of(
     alloc: Global,
@@ -175,16 +268,23 @@ pub fn branches_of(
     let mut branches = Vec::new(alloc);
     let mut walk = Walk::new(p);
     let replies = Replies::of(p);
+    let escapes = escapes_of(p);
     'moves: while let Some(m) = walk.next() {
         let tried = m;
         let (from, to) = ends_of(&m);
+        let is_calm = replies.is_certain(p, &m);
+        let is_escaped = match &escapes {
+            Some(escapes) => leaves_escape(p, escapes, &m),
+            None => false,
+        };
         branches.push(Branch {
             code: m.code(),
             from,
             to,
             position: apply(p, tried),
             turn: turn_of(p, &m, hash_move),
-            is_answered: replies.is_certain(p, &m),
+            is_calm,
+            is_answered: is_calm || is_escaped,
         })?;
     }
     Ok(branches)
@@ -323,8 +423,8 @@ impl Outlook {
         self.threat
     }
 
-    /// Whether a move is left out, since it surely is answered and not worth enough: by its answer's
-    /// material, or by what the greatest threat gains, if the move leaves it.
+    /// Whether a move is left out: it surely is answered, and not worth enough by its answer's material; or it
+    /// leaves the other side in no check and its greatest threat, and is not worth enough by what that gains.
     fn leaves_out(
         &mut self,
         p: &Position,
@@ -333,15 +433,18 @@ impl Outlook {
         beta: i32,
         threshold: i32,
     ) -> bool {
-        let is_weak = most_worth(branch, e) <= threshold
-            || match self.look(p, e, beta) {
-                Some(threat) => {
-                    let most = i32::saturating_sub(0, material(&branch.position, e));
-                    is_left(p, &threat, branch) && most.saturating_sub(threat.gain) <= threshold
-                }
-                None => false,
-            };
-        is_weak && branch.is_answered
+        if most_worth(branch, e) <= threshold {
+            return branch.is_answered;
+        }
+        match self.look(p, e, beta) {
+            Some(threat) => {
+                let most = i32::saturating_sub(0, material(&branch.position, e));
+                branch.is_calm
+                    && is_left(p, &threat, branch)
+                    && most.saturating_sub(threat.gain) <= threshold
+            }
+            None => false,
+        }
     }
 }
 

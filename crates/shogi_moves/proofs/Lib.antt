@@ -20,3 +20,5 @@ pub mod DropChecks
 pub mod ExistenceLaws
 pub mod ReplyLaws
 pub mod ThreatLaws
+pub mod EscapeLaws
+pub mod CheckLaws

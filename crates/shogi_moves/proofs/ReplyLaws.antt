@@ -262,7 +262,7 @@ module _ (old new : Cells) (hands : HandCounts) (color : Color) where
 
 -- ---- after a board move, and after a drop
 
-crowned : (color : Color) (cell : Option Piece) → is_piece_of color cell ≡ false → is_king color cell ≡ false
+pub crowned : (color : Color) (cell : Option Piece) → is_piece_of color cell ≡ false → is_king color cell ≡ false
 crowned color None e = refl
 crowned color (Some piece) e = rw e refl
 
@@ -500,11 +500,9 @@ other_than spare one n h set other = (one, h, set, λ e. both_ways _ (ap not (eq
 pub unseen_bit : (sight n : ℕ) → sight < 2 ^ 128 → n < 81 → has_bit (2 ^ 128 - 1 - sight) n ≡ true → has_bit sight n ≡ false
 unseen_bit sight n fits h e = false_from_ne_true (has_bit sight n) (λ seen. both_ways (has_bit (2 ^ 128 - 1 - sight) n) (has_bit-not sight n fits (omega arith) ∙ ap not seen) e)
 
--- what moves to an open square, or is dropped there, is answered
-pub open_board : (p : Shogi) (from n sight spare : ℕ) → IsValid p → IsReplies p sight spare → from < 81 → n < 81 → UncoversNothing p.cells (opponent_of p.side) sight from → IsOpen sight spare n → IsAnswered p (Board from n false)
-open_board p from n sight spare v r hf hn out o = λ legal.
-    replied_board p from n false sight spare o.way.0 v r hf hn (legal_own p from n false legal) out (harmless_far p.cells (opponent_of p.side) sight (piece_moved false (piece_at p.cells from)) n r.sees hn o.unseen) o.way.1 o.way.2 o.way.3
+-- what moves to an open square without a check, or is dropped there, is answered
+pub open_board : (p : Shogi) (from n sight closed spare : ℕ) → IsValid p → IsReplies p sight spare → from < 81 → n < 81 → UncoversNothing p.cells (opponent_of p.side) sight from → IsHarmless p.cells (opponent_of p.side) (piece_moved false (piece_at p.cells from)) n → IsOpen closed spare n → IsAnswered p (Board from n false)
+open_board p from n sight closed spare v r hf hn out off o = λ legal. replied_board p from n false sight spare o.way.0 v r hf hn (legal_own p from n false legal) out off o.way.1 o.way.2 o.way.3
 
-pub open_drop : (p : Shogi) (kind : Kind) (n sight spare : ℕ) → IsValid p → IsReplies p sight spare → n < 81 → IsOpen sight spare n → IsAnswered p (Drop kind n)
-open_drop p kind n sight spare v r hn o = λ legal.
-    replied_drop p kind n sight spare o.way.0 v r hn (harmless_far p.cells (opponent_of p.side) sight (dropped p.side kind) n r.sees hn o.unseen) o.way.1 o.way.2 o.way.3
+pub open_drop : (p : Shogi) (kind : Kind) (n sight closed spare : ℕ) → IsValid p → IsReplies p sight spare → n < 81 → IsHarmless p.cells (opponent_of p.side) (dropped p.side kind) n → IsOpen closed spare n → IsAnswered p (Drop kind n)
+open_drop p kind n sight closed spare v r hn off o = λ legal. replied_drop p kind n sight spare o.way.0 v r hn off o.way.1 o.way.2 o.way.3

@@ -13,3 +13,4 @@ pub mod Ends
 pub mod Sweeps
 pub mod Replies
 pub mod Threats
+pub mod Escapes

@@ -76,15 +76,19 @@ UncoversNothing cells side sight n = (has_bit sight n ≡ false) ⊎ ((is_slider
 abbrev pub IsHarmless : Cells → Color → Option Piece → ℕ → Type 0
 IsHarmless cells side cell to = (k : ℕ) → k < 81 → is_king side (piece_at cells k) ≡ true → cell_reaches cells cell to k ≡ false
 
+-- from a square that is not of the mask the piece attacks none of the kings of the side that are not left
+pub record ChecksWithin (cells : Cells) (side : Color) (cell : Option Piece) (left checks : ℕ) : Type 0 where
+  pub harmless : (k n : ℕ) → k < 81 → n < 81 → is_king side (piece_at cells k) ≡ true → has_bit left k ≡ false → has_bit checks n ≡ false → cell_reaches cells cell n k ≡ false
+
 -- such a mask for the side that is not to move, and some of the squares that give it a move
 pub record IsReplies (p : Shogi) (sight spare : ℕ) : Type 0 where
   pub sees : Sees p.cells (opponent_of p.side) 0 sight
   pub spares : (a : ℕ) → a < 81 → has_bit spare a ≡ true → is_way p (opponent_of p.side) a ≡ true
   pub fits : spare < 2 ^ 81
 
--- no king of the side sees the square, and another one gives the side a move
-pub record IsOpen (sight spare n : ℕ) : Type 0 where
-  pub unseen : has_bit sight n ≡ false
+-- the square is not closed, and another one gives the side a move
+pub record IsOpen (closed spare n : ℕ) : Type 0 where
+  pub unclosed : has_bit closed n ≡ false
   pub way : (a : ℕ) × (a < 81) × (has_bit spare a ≡ true) × (a ≢ n)
 
 -- if the move is legal, the other side has a legal move after it

@@ -2,7 +2,6 @@
 
 ghost use Rattle.std.specs.Prelude.{◌≡◌, ◌≢◌, ◌<◌, ◌^◌, ℕ, [], true, false};
 ghost use Rattle.shogi_core.specs.declared.moves.Move.TheVariants as moves;
-ghost use Rattle.shogi_core.specs.declared.piece.Kind.{Kind};
 ghost use Rattle.shogi_core.specs.Below.{some_below};
 ghost use Rattle.shogi_core.specs.Bits.{has_bit};
 ghost use Rattle.shogi_core.specs.Cell.{is_slider};
@@ -120,6 +119,26 @@ fn attacks_king(p: &Position, side: Color, cell: Option<Piece>, to: Square) -> b
     }
 }
 
+/// The squares from which the piece would attack a king of the side: those that it would reach from there
+/// if it were of the other colour.
+fn check_squares(p: &Position, side: Color, cell: Option<Piece>) -> u128
+    ensures { (n : ℕ) → n < 81 → has_bit result n ≡ false → IsHarmless p.now.cells side cell n }
+{
+    let Some(piece) = cell else { return 0 };
+    let back = Piece {
+        color: piece.color.opponent(),
+        role: piece.role,
+    };
+    let mut left = p.kings(side);
+    let mut checks = 0;
+    while left != 0 {
+        let king = lowest(left);
+        checks |= p.as_board().targets_of(back, Square::of_index(king));
+        left = without_lowest(left, king);
+    }
+    checks
+}
+
 /// Whether the side holds a piece that it may drop on each empty square where it is in no check: one
 /// that is no pawn and goes on from everywhere.
 fn holds_free(p: &Position, side: Color) -> bool
@@ -214,20 +233,31 @@ impl Replies {
         }
     }
 
-    /// The squares where what comes to stand surely gives no check, and which leave the other side a
-    /// square that gives it a move.
-    fn open_squares(&self) -> u128
+    /// Those of the squares on which what comes to stand may give check.
+    fn risky_squares(&self, p: &Position, cell: Option<Piece>, ends: u128) -> u128
+        requires kept { IsReplies p.now self.now.sight self.now.spare }
+        ensures { (n : ℕ) → n < 81 → has_bit ends n ≡ true → has_bit result n ≡ false → IsHarmless p.now.cells (opponent_of p.now.side) cell n }
+    {
+        let seen = ends & self.sight;
+        if seen == 0 {
+            return 0;
+        }
+        seen & check_squares(p, p.side().opponent(), cell)
+    }
+
+    /// The squares that are not closed and leave the other side one that gives it a move.
+    fn open_squares(&self, closed: u128) -> u128
         requires { self.now.spare < 2 ^ 81 }
-        ensures { (n : ℕ) → n < 81 → has_bit result n ≡ true → IsOpen self.now.sight self.now.spare n }
+        ensures { (n : ℕ) → n < 81 → has_bit result n ≡ true → IsOpen closed self.now.spare n }
     {
         if self.spare == 0 {
             return 0;
         }
         let one = lowest(self.spare);
         if without_lowest(self.spare, one) != 0 {
-            return !self.sight;
+            return !closed;
         }
-        without(!self.sight, one)
+        without(!closed, one)
     }
 
     /// Those of the squares to which what stands on a square may move without promotion so that the other
@@ -239,21 +269,22 @@ impl Replies {
     {
         p.validity();
         from.validity();
-        let open = ends & self.open_squares();
+        let open = ends & self.open_squares(self.sight);
         if open == 0 || !self.uncovers_nothing(p, from) {
             return 0;
         }
         open
     }
 
-    /// Those of the squares on which a piece may be dropped so that the other side surely has a legal move
+    /// Those of the squares on which a piece of the kind may be dropped so that the other side surely has a legal move
     /// after it.
-    pub fn certain_drops(&self, p: &Position, ends: u128) -> u128
+    pub fn certain_drops(&self, p: &Position, kind: Kind, ends: u128) -> u128
         requires kept { IsReplies p.now self.now.sight self.now.spare }
         ensures among { (n : ℕ) → has_bit result n ≡ true → has_bit ends n ≡ true }
-        ensures certain { (k : Kind) (n : ℕ) → n < 81 → has_bit result n ≡ true → IsAnswered p.now (moves.Drop k n) }
+        ensures certain { (n : ℕ) → n < 81 → has_bit result n ≡ true → IsAnswered p.now (moves.Drop kind n) }
     {
         p.validity();
-        ends & self.open_squares()
+        let risky = self.risky_squares(p, dropped(p.side(), kind), ends);
+        ends & self.open_squares(risky)
     }
 }

@@ -356,7 +356,7 @@ impl DropSweep {
     {
         let ends = self.ends;
         let first = FIRST_DROP + self.kind.number() as u16 * 81;
-        let uncertain = ends & !replies.certain_drops(p, ends);
+        let uncertain = ends & !replies.certain_drops(p, self.kind, ends);
         if uncertain == 0 {
             self.ends = 0;
             self.code = first + 81;

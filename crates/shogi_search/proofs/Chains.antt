@@ -137,6 +137,10 @@ moves_same f g s k =
     ∙ ap (λ (x : ℕ). sum_of_tree_sizes f.node.position (x - 1) (todo f.node.position g.picker)) s.1.0
     ∙ ap (λ (x : MovePicker). sum_of_tree_sizes f.node.position (f.depth - 1) (todo f.node.position x)) k
 
+-- what waits for the same, with the same moves to visit, has as much left
+pub left_kept : (f g : Frame) → IsSame f g → g.picker ≡ f.picker → g.waiting ≡ f.waiting → left_of_frame g ≡ left_of_frame f
+left_kept f g s p w = omega (arith, moves_same f g s p, ap left_of_waiting w)
+
 -- without a leaf to be taken in, no more is left than with one
 pub left_same : (f g : Frame) → IsSame f g → g.picker ≡ f.picker → left_of_waiting g.waiting ≡ 0 → left_of_frame g ≤ left_of_frame f
 left_same f g s k v = omega (arith, moves_same f g s k, v)

@@ -9,6 +9,7 @@ ghost use Rattle.shogi_core.specs.Pieces.{opponent_of};
 ghost use Rattle.shogi_core.specs.Position.{count_in_hand};
 ghost use Rattle.shogi_core.specs.Validity.{IsValid};
 ghost use Rattle.shogi_moves.specs.After.{after, after_code};
+ghost use Rattle.shogi_moves.specs.Escapes.{AreEscapes};
 ghost use Rattle.shogi_moves.specs.LegalMoves.{legal_codes};
 ghost use Rattle.shogi_moves.specs.Replies.{IsReplies};
 ghost use Rattle.shogi_moves.specs.Rising.{is_in};
@@ -31,7 +32,7 @@ use crate::threat::{Threat, greatest_threat};
 use crate::window::{threshold, threshold_at};
 use shogi_core::{Color, Kind, Move, Position};
 use shogi_eval::{Eval, Node, drop_gain};
-use shogi_moves::{Replies, has_legal};
+use shogi_moves::{Replies, escape_squares, has_legal, leaves_escape};
 
 /// What a node waits for.
 #[derive(Clone, Copy)]
@@ -62,6 +63,8 @@ pub struct Frame {
     pub replies: Replies,
     /// Set once the replies tell of the position.
     pub has_replies: bool,
+    /// Squares to which the other side's king may go, once they were looked for.
+    pub escapes: Option<u128>,
     /// A capture that the other side may make after most moves, if one was found.
     pub threat: Option<Threat>,
     /// Set once it was looked for.
@@ -75,6 +78,7 @@ pub struct Frame {
     ghost moves: { has_move ≡ true → legal_codes node.position ≢ [] } by { Prim.hlevel props },
     ghost kept: { IsKept node.position picker } by { IsKept-prop node.position picker },
     ghost replied: { IsReplies node.position replies.sight replies.spare } by { Prim.hlevel props },
+    ghost escaping: { ForSome escapes (AreEscapes node.position) } by { Prim.hlevel props },
     ghost threatened: { ForSome threat (IsThreatIn node.position node.eval) } by { Prim.hlevel props },
 }
 
@@ -188,6 +192,7 @@ impl Frame {
         self.waiting = Waiting::Next;
         self.replies = replies_of(node, ahead);
         self.has_replies = ahead;
+        self.escapes = None;
         self.threat = None;
         self.has_threat = false;
     }
@@ -221,6 +226,7 @@ impl Frame {
         self.waiting = Waiting::Next;
         self.replies = Replies::unknown(self.node.as_position());
         self.has_replies = false;
+        self.escapes = None;
         self.threat = None;
         self.has_threat = false;
     }
@@ -242,6 +248,7 @@ impl Frame {
         self.waiting = Waiting::Next;
         self.replies = replies_of(&self.node, ahead);
         self.has_replies = ahead;
+        self.escapes = None;
         self.threat = None;
         self.has_threat = false;
     }
@@ -310,12 +317,12 @@ impl Frame {
         ensures left { MatchOption result (left_of_frame self.new ≤ left_of_frame self.old) (λ m. 2 * tree_size (after_code self.new.node.position (code_of m)) (self.new.depth - 1) + left_of_frame self.new ≤ left_of_frame self.old) }
         ensures same { IsSame self.old self.new }
     {
+        self.pass_rows();
         'moves: while let Some(current) = self.ask_next() {
             if !self.pass(&current) {
                 return Some(current);
             }
-            self.pass_quiets();
-            self.pass_drops();
+            self.pass_rows();
         }
         None
     }
@@ -437,6 +444,41 @@ impl Frame {
         }
     }
 
+    /// The squares to which the other side's king may go, which are noted.
+    fn look_for_escapes(&mut self) -> u128
+        ensures escapes { AreEscapes self.old.node.position result }
+        ensures waiting { self.new.waiting ≡ self.old.waiting }
+        ensures best { (self.new.best_value ≡ self.old.best_value) × (self.new.best_move ≡ self.old.best_move) }
+        ensures picker { self.new.picker ≡ self.old.picker }
+        ensures same { IsSame self.old self.new }
+    {
+        if let Some(squares) = self.escapes {
+            return squares;
+        }
+        let squares = escape_squares(self.node.as_position());
+        self.escapes = Some(squares);
+        squares
+    }
+
+    /// Whether it is certain without making the current move that the other side has a legal move after it: one
+    /// that it has where no check is given, or a step of its king out of that check.
+    fn is_answered(&mut self, current: &Move) -> bool
+        requires current { IsCurrent self.old.waiting current.now }
+        ensures some { result ≡ true → legal_codes (after self.new.node.position current.now) ≢ [] }
+        ensures waiting { self.new.waiting ≡ self.old.waiting }
+        ensures best { (self.new.best_value ≡ self.old.best_value) × (self.new.best_move ≡ self.old.best_move) }
+        ensures picker { self.new.picker ≡ self.old.picker }
+        ensures same { IsSame self.old self.new }
+    {
+        self.look_ahead();
+        current.validity();
+        if self.replies.is_certain(self.node.as_position(), current) {
+            return true;
+        }
+        let escapes = self.look_for_escapes();
+        leaves_escape(self.node.as_position(), escapes, current)
+    }
+
     /// The most that a reply takes from the material of its side: nothing where leaves follow the moves, and
     /// else what a drop of the other side may lose.
     #[inline(always)]
@@ -540,9 +582,7 @@ impl Frame {
             }
             return self.pass_under_threat(current);
         }
-        self.look_ahead();
-        current.validity();
-        if !self.replies.is_certain(self.node.as_position(), current) {
+        if !self.is_answered(current) {
             return false;
         }
         self.skip(current);
@@ -591,6 +631,23 @@ impl Frame {
             .pass_drops(self.node.as_position(), &self.replies);
     }
 
+    /// Passes the next moves of a node of depth 1 or 2 as these two do, once a move was gone through and not
+    /// good enough.
+    #[inline(always)]
+    fn pass_rows(&mut self)
+        requires next { self.old.waiting ≡ Waiting.Next }
+        requires deep { 0 < self.old.depth }
+        requires near { self.old.depth ≤ 2 }
+        ensures next { self.new.waiting ≡ Waiting.Next }
+        ensures left { left_of_frame self.new ≤ left_of_frame self.old }
+        ensures same { IsSame self.old self.new }
+    {
+        if self.has_move {
+            self.pass_quiets();
+            self.pass_drops();
+        }
+    }
+
     /// Passes the current move, which is the best so far.
     fn raise(&mut self, current: &Move, value: i32)
         requires current { IsCurrent self.old.waiting current.now }
@@ -621,12 +678,15 @@ impl Frame {
     /// The value at depth 0 of the position to which the current move leads, where it is certain
     /// without making the move that a move is legal there.
     #[inline(always)]
-    pub fn certain_leaf(&self, current: &Move) -> Option<i32>
-        requires current { IsCurrent self.now.waiting current.now }
-        ensures value { IfSome result (λ v. value (after_code self.now.node.position (code_of current.now)) self.now.node.eval 0 ≡ v) }
+    pub fn certain_leaf(&mut self, current: &Move) -> Option<i32>
+        requires current { IsCurrent self.old.waiting current.now }
+        ensures value { IfSome result (λ v. value (after_code self.new.node.position (code_of current.now)) self.new.node.eval 0 ≡ v) }
+        ensures waiting { self.new.waiting ≡ self.old.waiting }
+        ensures best { (self.new.best_value ≡ self.old.best_value) × (self.new.best_move ≡ self.old.best_move) }
+        ensures picker { self.new.picker ≡ self.old.picker }
+        ensures same { IsSame self.old self.new }
     {
-        current.validity();
-        if self.replies.is_certain(self.node.as_position(), current) {
+        if self.is_answered(current) {
             return Some(self.leaf_after(current));
         }
         None
@@ -669,6 +729,7 @@ impl Default for Frame {
             waiting: Waiting::Next,
             replies: Replies::unknown(node.as_position()),
             has_replies: false,
+            escapes: None,
             threat: None,
             has_threat: false,
         }

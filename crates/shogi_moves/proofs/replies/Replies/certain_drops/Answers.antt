@@ -8,4 +8,8 @@ pub returns-clause-among : goal.returns-clause-among
 returns-clause-among c = λ n e. (and_parts _ _ (sym (has_bit-and _ _ n) ∙ e)).0
 
 pub returns-clause-certain : goal.returns-clause-certain
-returns-clause-certain c = λ kind n h e. open_drop c.args.p.now kind n c.args.self.now.sight c.args.self.now.spare c.validity.ensures c.requires.kept h (c.open_squares.ensures n h (and_parts _ _ (sym (has_bit-and _ _ n) ∙ e)).1)
+returns-clause-certain c = λ n h e.
+    let parts : _ = and_parts _ _ (sym (has_bit-and _ _ n) ∙ e) in
+    let open_there : _ = c.open_squares.ensures n h parts.1 in
+    open_drop c.args.p.now c.args.kind n c.args.self.now.sight c.risky_squares-risky.result c.args.self.now.spare c.validity.ensures c.requires.kept h
+    (rw (c.dropped.ensures, c.side.ensures) at c.risky_squares-risky.ensures n h parts.0 open_there.unclosed) open_there

@@ -12,7 +12,7 @@ returns-then-uncertain-eq0-clause-kept c = record {
 pub returns-then-uncertain-eq0-clause-passed : goal.returns-then-uncertain-eq0-clause-passed
 returns-then-uncertain-eq0-clause-passed c =
     drops_passed c.args.p.now c.args.self.now.kind c.args.self.now.code _ c.args.self.now.ends c.requires.kept.ends (omega (arith, c.number.ensures.number, c.requires.kept.ends.high)) (omega (arith, c.number.ensures.number))
-    (λ n h set below. c.certain_drops.ensures.certain c.args.self.now.kind n h (none_uncertain c.args.self.now.ends c.certain_drops.result n (omega arith) h (omega (arith, c.if-uncertain-eq0.true)) set))
+    (λ n h set below. c.certain_drops.ensures.certain n h (none_uncertain c.args.self.now.ends c.certain_drops.result n (omega arith) h (omega (arith, c.if-uncertain-eq0.true)) set))
 
 pub returns-clause-kept : goal.returns-clause-kept
 returns-clause-kept c = record {
@@ -25,4 +25,4 @@ pub returns-clause-passed : goal.returns-clause-passed
 returns-clause-passed c =
     let up : _ = (c.requires.kept.ends.drops.set c.lowest-to.result c.lowest-to.ensures.range (uncertain_end c.args.self.now.ends c.certain_drops.result c.lowest-to.result c.lowest-to.ensures.set)).0 in
     drops_passed c.args.p.now c.args.self.now.kind c.args.self.now.code _ c.args.self.now.ends c.requires.kept.ends (omega (arith, c.number.ensures.number, up)) (omega (arith, c.number.ensures.number, c.lowest-to.ensures.range))
-    (λ n h there below. c.certain_drops.ensures.certain c.args.self.now.kind n h (below_uncertain c.args.self.now.ends c.certain_drops.result c.lowest-to.result n (omega arith) h (omega (arith, below, c.number.ensures.number)) c.lowest-to.ensures.least there))
+    (λ n h there below. c.certain_drops.ensures.certain n h (below_uncertain c.args.self.now.ends c.certain_drops.result c.lowest-to.result n (omega arith) h (omega (arith, below, c.number.ensures.number)) c.lowest-to.ensures.least there))

@@ -46,4 +46,4 @@ skip-requires-clause-below c =
 pub invariant_of-self-2 : goal.invariant_of-self-2
 invariant_of-self-2 c =
     let s : Frame = c.look_ahead.new.self in
-    record { valid = s.valid; shallow = s.shallow; least = s.least; «open» = s.«open»; most = s.most; known = s.known; moves = s.moves; kept = s.kept; replied = s.replied; threatened = s.threatened }
+    record { valid = s.valid; shallow = s.shallow; least = s.least; «open» = s.«open»; most = s.most; known = s.known; moves = s.moves; kept = s.kept; replied = s.replied; escaping = s.escaping; threatened = s.threatened }

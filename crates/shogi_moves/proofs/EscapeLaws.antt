@@ -1,0 +1,197 @@
+-- A king that is given check may go to a square that stays out of reach.
+use Rattle.std.proofs.Common.{◌≡◌, ◌≢◌, ◌⊎◌, ℕ, ◌-◌, ◌*◌, ◌%◌, ◌^◌, ◌<◌, Bool, true, false, not, Option, Some, None, [], refl, sym, ap, subst, ◌∙◌, arith, inl, inr, set, length, length-set, get_or-set_same, get_or-set_other, bit_and, bit_or}
+use Rattle.std.specs.Prelude.{◌&&◌, is_none}
+use Rattle.std.specs.List.{list_any}
+use Rattle.std.specs.Int.{trailing_zeros, w128}
+use Rattle.std.proofs.lemmas.Bool.{cases_eq, false_from_ne_true, both_ways, and_parts, or_parts, or_cases, or_left, not-true}
+use Rattle.shogi_core.specs.declared.moves.Move.TheVariants.{Board, Drop}
+use Rattle.shogi_core.specs.declared.piece.Color.{Color}
+use Rattle.shogi_core.specs.declared.piece.Kind.{Kind}
+use Rattle.shogi_core.specs.declared.piece.Piece.{Piece}
+use Rattle.shogi_core.specs.declared.piece.Role.{Role}
+use Rattle.shogi_core.specs.declared.piece.Role.TheVariants as roles
+use Rattle.shogi_core.specs.Attack.{is_attacked}
+use Rattle.shogi_core.specs.Bits.{has_bit}
+use Rattle.shogi_core.specs.Cell.{is_piece_of, is_king, is_king_role}
+use Rattle.shogi_core.specs.Lines.{are_aligned, are_lined}
+use Rattle.shogi_core.specs.Movement.{Cells, piece_at, reaches, cell_reaches, has_step, has_slide, slides, slides_of, for_side}
+use Rattle.shogi_core.specs.Pieces.{opponent_of}
+use Rattle.shogi_core.specs.Position.{Shogi, HandCounts}
+use Rattle.shogi_core.specs.Validity.{IsValid}
+use Rattle.shogi_core.proofs.BitLaws.{has_bit-and, has_bit-none, has_bit-or}
+use Rattle.shogi_core.proofs.Exposed.{attacked_was_but, reach_was}
+use Rattle.shogi_core.proofs.LineBits.{lowest_set, and_fits, has_bit-not}
+use Rattle.shogi_core.proofs.SeenLaws.{lined_aligned, lined_back, slide_seen}
+use Rattle.shogi_moves.specs.After.{after, cells_after, piece_moved, dropped}
+use Rattle.shogi_moves.specs.Escapes.{IsEscape, AreEscapes, HasOpenEscape}
+use Rattle.shogi_moves.specs.Legal.{is_legal}
+use Rattle.shogi_moves.specs.LegalMoves.{legal_codes}
+use Rattle.shogi_moves.proofs.DropChecks as drops
+use Rattle.shogi_moves.proofs.ExistenceLaws.{king_move}
+use Rattle.shogi_moves.proofs.GuardLaws.{look, other_side, own_some, is_piece_of-piece_moved, dropped_of, king_set}
+use Rattle.shogi_moves.proofs.KingLaws.{king_own}
+use Rattle.shogi_moves.proofs.ReplyLaws.{another, crowned, legal_own}
+
+-- ---- a king reaches the same squares on every board
+
+no_slide : (cells : Cells) (color : Color) (role : Role) (a b : ℕ) → is_king_role role ≡ true → list_any (λ o. slides cells (for_side color o) a b) (slides_of role) ≡ false
+no_slide cells color roles.King a b k = refl
+no_slide cells color _ a b k = absurd (cc)
+
+king_reach : (old new : Cells) (side : Color) (cell : Option Piece) (a b : ℕ) → is_king side cell ≡ true → cell_reaches old cell a b ≡ true → cell_reaches new cell a b ≡ true
+king_reach old new side None a b k e = e
+king_reach old new side (Some piece) a b k e = elim (or_cases (has_step piece a b) (has_slide old piece a b) e) [
+  | inl step ↦ or_left (has_step piece a b) (has_slide new piece a b) step
+  | inr slide ↦ absurd (both_ways (has_slide old piece a b) (no_slide old piece.color piece.role a b (and_parts _ _ k).1) slide)
+]
+
+-- ---- the king steps out of the check
+
+module _ (p : Shogi) (new : Cells) (hands : HandCounts) (Left : ℕ → Type 0) (to : ℕ) (cell : Option Piece) (old_len : length p.cells ≡ 81) (len : length new ≡ 81) (mine : is_piece_of p.side cell ≡ true)
+    (see : (x : ℕ) → ((x ≡ to) × (piece_at new x ≡ cell)) ⊎ ((Left x × (piece_at new x ≡ None)) ⊎ (piece_at new x ≡ piece_at p.cells x)))
+    (k e : ℕ) (hk : k < 81) (he : e < 81) (crown : is_king (opponent_of p.side) (piece_at p.cells k) ≡ true) (stays : Left k → ⊥) (elsewhere : (k ≢ to) × (e ≢ to)) (escape : IsEscape p.cells (opponent_of p.side) k e)
+    (short : cell_reaches (set p.cells k None) cell to e ≡ false) (free : (x : ℕ) → Left x → are_lined (set p.cells k None) x e ≡ false) where
+  side : Color
+  side = opponent_of p.side
+
+  there : piece_at new k ≡ piece_at p.cells k
+  there = elim (see k) [
+    | inl at ↦ absurd (elsewhere.0 at.0)
+    | inr rest ↦ elim rest [ inl gone ↦ absurd (stays gone.0) | inr same ↦ same ]
+  ]
+
+  opened : (x : ℕ) → is_none (piece_at (set new k None) x) ≡ true → (is_none (piece_at (set p.cells k None) x) ≡ true) ⊎ Left x
+  opened x n = elim (cases_eq x k) [
+    | inl here ↦ inl (ap (λ (y : ℕ). is_none (piece_at (set p.cells k None) y)) here ∙ ap is_none (get_or-set_same p.cells k None None (omega (arith, old_len))))
+    | inr off ↦ elim (see x) [
+      | inl at ↦ absurd (both_ways (is_none cell) (own_some p.side cell mine) (ap is_none (sym at.1) ∙ (ap is_none (sym (get_or-set_other new k x None None off)) ∙ n)))
+      | inr rest ↦ elim rest [
+        | inl gone ↦ inr gone.0
+        | inr same ↦ inl (ap is_none (get_or-set_other p.cells k x None None off) ∙ (ap is_none (sym same) ∙ (ap is_none (sym (get_or-set_other new k x None None off)) ∙ n)))
+      ]
+    ]
+  ]
+
+  kept : (a : ℕ) → is_piece_of (opponent_of (opponent_of p.side)) (piece_at (set new k None) a) ≡ true → (piece_at (set p.cells k None) a ≡ piece_at (set new k None) a) ⊎ (reaches (set new k None) a e ≡ false)
+  unfolding reaches
+  kept a own = elim (cases_eq a k) [
+    | inl here ↦ absurd (both_ways (is_piece_of (opponent_of (opponent_of p.side)) None) refl
+        (ap (is_piece_of (opponent_of (opponent_of p.side))) (sym (ap (piece_at (set new k None)) here ∙ get_or-set_same new k None None (omega (arith, len)))) ∙ own))
+    | inr off ↦ elim (see a) [
+      | inl at ↦ inr (false_from_ne_true (reaches (set new k None) a e) (λ r. both_ways (cell_reaches (set p.cells k None) cell to e) short
+          (reach_was (set p.cells k None) (set new k None) Left opened cell to e free
+          (subst (λ (y : ℕ). cell_reaches (set new k None) cell y e ≡ true) at.0 (ap (λ (x : Option Piece). cell_reaches (set new k None) x a e) (sym (get_or-set_other new k a None None off ∙ at.1)) ∙ r)))))
+      | inr rest ↦ elim rest [
+        | inl gone ↦ absurd (both_ways (is_piece_of (opponent_of (opponent_of p.side)) None) refl (ap (is_piece_of (opponent_of (opponent_of p.side))) (sym (get_or-set_other new k a None None off ∙ gone.1)) ∙ own))
+        | inr same ↦ inl (get_or-set_other p.cells k a None None off ∙ (sym same ∙ sym (get_or-set_other new k a None None off)))
+      ]
+    ]
+  ]
+
+  out_of_reach : is_attacked (set new k None) (opponent_of (opponent_of p.side)) e ≡ false
+  out_of_reach = attacked_was_but (set p.cells k None) (set new k None) Left opened (opponent_of (opponent_of p.side)) e kept free escape.safe
+
+  still_lone : (x : ℕ) → x < 81 → x ≢ k → is_king (opponent_of p.side) (piece_at new x) ≡ false
+  still_lone x h other = elim (see x) [
+    | inl at ↦ ap (is_king (opponent_of p.side)) at.1 ∙ crowned (opponent_of p.side) cell (other_side p.side cell mine)
+    | inr rest ↦ elim rest [ inl gone ↦ ap (is_king (opponent_of p.side)) gone.1 | inr same ↦ ap (is_king (opponent_of p.side)) same ∙ escape.lone x h other ]
+  ]
+
+  still_open : is_piece_of (opponent_of p.side) (piece_at new e) ≡ false
+  still_open = elim (see e) [
+    | inl at ↦ absurd (elsewhere.1 at.0)
+    | inr rest ↦ elim rest [ inl gone ↦ ap (is_piece_of (opponent_of p.side)) gone.1 | inr same ↦ ap (is_piece_of (opponent_of p.side)) same ∙ escape.open_end ]
+  ]
+
+  crowned_still : is_king (opponent_of p.side) (piece_at new k) ≡ true
+  crowned_still = ap (is_king (opponent_of p.side)) there ∙ crown
+
+  still_reached : reaches new k e ≡ true
+  unfolding reaches
+  still_reached = ap (λ (x : Option Piece). cell_reaches new x k e) there ∙ king_reach p.cells new (opponent_of p.side) (piece_at p.cells k) k e crown escape.reached
+
+  escaped : legal_codes (record { cells = new; hands = hands; side = opponent_of p.side }) ≢ []
+  escaped = king_move (record { cells = new; hands = hands; side = opponent_of p.side }) k e hk he crowned_still (still_reached, still_open)
+      (ap not (king_set new (opponent_of p.side) k e (piece_moved false (piece_at new k)) len hk he (is_piece_of-piece_moved (opponent_of p.side) false (piece_at new k) ∙ king_own (opponent_of p.side) (piece_at new k) crowned_still) still_lone out_of_reach))
+
+-- ---- after a move on the board, and after a drop
+
+pub escaped_board : (p : Shogi) (from to closed reach lines : ℕ) (promote : Bool) → IsValid p → from < 81 → to < 81 → is_legal p (Board from to promote) ≡ true → HasOpenEscape p closed to → closed ≡ bit_or reach lines
+    → ((cells : Cells) (n : ℕ) → n < 81 → has_bit reach n ≡ false → cell_reaches cells (piece_moved promote (piece_at p.cells from)) to n ≡ false) → ((n : ℕ) → n < 81 → has_bit lines n ≡ are_aligned from n) → legal_codes (after p (Board from to promote)) ≢ []
+escaped_board p from to closed reach lines promote v hf ht legal h is far bits =
+    let own : is_piece_of p.side (piece_at p.cells from) ≡ true = legal_own p from to promote legal in
+    let off : (has_bit reach h.end ≡ false) × (has_bit lines h.end ≡ false) = or_parts (has_bit reach h.end) (has_bit lines h.end) (sym (has_bit-or reach lines h.end) ∙ (ap (λ (m : ℕ). has_bit m h.end) (sym is) ∙ h.open_end)) in
+    let apart : are_aligned from h.end ≡ false = sym (bits h.end h.on_board.1) ∙ off.1 in
+    escaped p (cells_after p.cells p.side (Board from to promote)) (after p (Board from to promote)).hands (λ x. x ≡ from) to (piece_moved promote (piece_at p.cells from)) v.cells_fit
+    (length-set (set p.cells from None) to (piece_moved promote (piece_at p.cells from)) ∙ (length-set p.cells from None ∙ v.cells_fit))
+    (is_piece_of-piece_moved p.side promote (piece_at p.cells from) ∙ own)
+    (look p.cells p.side from to (piece_moved promote (piece_at p.cells from)) v.cells_fit hf ht)
+    h.king_on h.end h.on_board.0 h.on_board.1 h.king
+    (λ at. both_ways (is_piece_of (opponent_of p.side) (piece_at p.cells from)) (other_side p.side (piece_at p.cells from) own) (subst (λ (x : ℕ). is_piece_of (opponent_of p.side) (piece_at p.cells x) ≡ true) at (king_own (opponent_of p.side) (piece_at p.cells h.king_on) h.king)))
+    h.elsewhere h.escape (far (set p.cells h.king_on None) h.end h.on_board.1 off.0)
+    (λ x at. subst (λ (y : ℕ). are_lined (set p.cells h.king_on None) y h.end ≡ false) (sym at) (false_from_ne_true (are_lined (set p.cells h.king_on None) from h.end) (λ l. both_ways (are_aligned from h.end) apart (lined_aligned (set p.cells h.king_on None) from h.end l))))
+
+pub escaped_drop : (p : Shogi) (kind : Kind) (to reach : ℕ) → IsValid p → to < 81 → HasOpenEscape p reach to
+    → ((cells : Cells) (n : ℕ) → n < 81 → has_bit reach n ≡ false → cell_reaches cells (dropped p.side kind) to n ≡ false) → legal_codes (after p (Drop kind to)) ≢ []
+escaped_drop p kind to reach v ht h far =
+    escaped p (cells_after p.cells p.side (Drop kind to)) (after p (Drop kind to)).hands (λ x. ⊥) to (dropped p.side kind) v.cells_fit
+    (length-set p.cells to (dropped p.side kind) ∙ v.cells_fit)
+    (dropped_of p.side kind)
+    (λ x. elim (drops.look p.cells p.side kind to v.cells_fit ht x) [ inl there ↦ inl there | inr same ↦ inr (inr same) ])
+    h.king_on h.end h.on_board.0 h.on_board.1 h.king (λ left. absurd left)
+    h.elsewhere h.escape (far (set p.cells h.king_on None) h.end h.on_board.1 h.open_end) (λ x left. absurd left)
+
+-- ---- such squares as bits
+
+-- a square out of the reach of steps, and of lines where the piece slides
+pub beyond_reach : (piece : Piece) (to steps lines : ℕ) → to < 81 → ((n : ℕ) → n < 81 → has_bit steps n ≡ has_step piece to n) → ((n : ℕ) → n < 81 → has_bit lines n ≡ are_aligned to n) → (cells : Cells) (n : ℕ) → n < 81 → has_bit (bit_or steps lines) n ≡ false → cell_reaches cells (Some piece) to n ≡ false
+beyond_reach piece to steps lines ht s l cells n hn out =
+    let off : (has_bit steps n ≡ false) × (has_bit lines n ≡ false) = or_parts (has_bit steps n) (has_bit lines n) (sym (has_bit-or steps lines n) ∙ out) in
+    false_from_ne_true (cell_reaches cells (Some piece) to n) (λ r. elim (or_cases (has_step piece to n) (has_slide cells piece to n) r) [
+      | inl step ↦ both_ways (has_step piece to n) (sym (s n hn) ∙ off.0) step
+      | inr slide ↦ both_ways (are_aligned to n) (sym (l n hn) ∙ off.1) (lined_aligned cells to n (lined_back cells n to hn (slide_seen cells piece to n ht slide)))
+    ])
+
+pub found_open : (p : Shogi) (escapes closed kings to end : ℕ) → AreEscapes p escapes → closed < 2 ^ 128 → kings < 2 ^ 81 → end < 81 → end ≡ to → ((n : ℕ) → n < 81 → has_bit kings n ≡ is_king (opponent_of p.side) (piece_at p.cells n)) → kings ≢ 0 → has_bit kings end ≡ false
+    → bit_and (bit_and escapes (2 ^ 128 - 1 - closed)) (2 ^ 128 - 1 - 1 * 2 ^ end % 2 ^ 128) ≢ 0 → HasOpenEscape p closed to
+found_open p escapes closed kings to end h fits kings_fit he same bits some off left =
+    let a = another (bit_and escapes (2 ^ 128 - 1 - closed)) end (and_fits escapes (2 ^ 128 - 1 - closed) h.fits) he left in
+    let parts : (has_bit escapes a.0 ≡ true) × (has_bit (2 ^ 128 - 1 - closed) a.0 ≡ true) = and_parts _ _ (sym (has_bit-and escapes (2 ^ 128 - 1 - closed) a.0) ∙ a.2) in
+    let low = lowest_set kings some kings_fit in
+    let crown : is_king (opponent_of p.side) (piece_at p.cells (trailing_zeros w128 kings)) ≡ true = sym (bits (trailing_zeros w128 kings) low.0) ∙ low.1 in
+    record {
+      king_on = trailing_zeros w128 kings;
+      end = a.0;
+      on_board = (low.0, a.1);
+      king = crown;
+      escape = h.escapes (trailing_zeros w128 kings) a.0 low.0 crown a.1 parts.0;
+      open_end = not-true _ (sym (has_bit-not closed a.0 fits (omega (arith, a.1))) ∙ parts.1);
+      elsewhere = (λ at. both_ways (has_bit kings end) off (subst (λ (x : ℕ). has_bit kings x ≡ true) (at ∙ sym same) low.1), λ at. a.3 (at ∙ sym same));
+    }
+
+-- the squares next to the only king that are not attacked without it
+pub found_escapes : (p : Shogi) (king squares mask : ℕ) (lifted : Cells) → lifted ≡ set p.cells king None → ((x : ℕ) → x < 81 → x ≢ king → is_king (opponent_of p.side) (piece_at p.cells x) ≡ false)
+    → ((n : ℕ) → n < 81 → has_bit squares n ≡ true → (reaches p.cells king n ≡ true) × (is_piece_of (opponent_of p.side) (piece_at p.cells n) ≡ false))
+    → ((n : ℕ) → n < 81 → has_bit mask n ≡ (has_bit squares n && not (is_attacked lifted (opponent_of (opponent_of p.side)) n))) → mask < 2 ^ 81 → AreEscapes p mask
+found_escapes p king squares mask lifted is lone ways bits fits = record {
+  escapes = λ k e hk crown he in_mask. elim (cases_eq k king) [
+    | inl same ↦ subst (λ (x : ℕ). IsEscape p.cells (opponent_of p.side) x e) (sym same) (
+        let parts : (has_bit squares e ≡ true) × (not (is_attacked lifted (opponent_of (opponent_of p.side)) e) ≡ true) = and_parts _ _ (sym (bits e he) ∙ in_mask) in
+        let way = ways e he parts.0 in
+        record {
+          lone = lone;
+          reached = way.0;
+          open_end = way.1;
+          safe = ap (λ (cells : Cells). is_attacked cells (opponent_of (opponent_of p.side)) e) (sym is) ∙ not-true _ parts.1;
+        })
+    | inr other ↦ absurd (both_ways (is_king (opponent_of p.side) (piece_at p.cells k)) (lone k hk other) crown)
+  ];
+  fits = fits;
+}
+
+-- no squares
+pub no_escapes : (p : Shogi) (mask : ℕ) → mask ≡ 0 → AreEscapes p mask
+no_escapes p mask none = record {
+  escapes = λ k e hk crown he in_mask. absurd (both_ways (has_bit mask e) (ap (λ (m : ℕ). has_bit m e) none ∙ has_bit-none e) in_mask);
+  fits = omega (arith, none);
+}

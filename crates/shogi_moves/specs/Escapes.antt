@@ -1,0 +1,31 @@
+-- Squares to which the king of the side that is not to move may go, should a move give it check (own choice).
+use Rattle.std.specs.Prelude.{ℕ, ◌≡◌, ◌≢◌, ◌<◌, ◌^◌, true, false, None, slice_set}
+use Rattle.shogi_core.specs.declared.piece.Color.{Color}
+use Rattle.shogi_core.specs.Attack.{is_attacked}
+use Rattle.shogi_core.specs.Bits.{has_bit}
+use Rattle.shogi_core.specs.Cell.{is_king, is_piece_of}
+use Rattle.shogi_core.specs.Movement.{Cells, piece_at, reaches}
+use Rattle.shogi_core.specs.Pieces.{opponent_of}
+use Rattle.shogi_core.specs.Position.{Shogi}
+
+-- the king of the side on k is its only one and steps to e, where none of its own stands and which the other side does not attack once the king has left its square
+pub record IsEscape (cells : Cells) (side : Color) (k e : ℕ) : Type 0 where
+  pub lone : (x : ℕ) → x < 81 → x ≢ k → is_king side (piece_at cells x) ≡ false
+  pub reached : reaches cells k e ≡ true
+  pub open_end : is_piece_of side (piece_at cells e) ≡ false
+  pub safe : is_attacked (slice_set cells k None) (opponent_of side) e ≡ false
+
+-- a mask of such squares of the side that is not to move
+pub record AreEscapes (p : Shogi) (mask : ℕ) : Type 0 where
+  pub escapes : (k e : ℕ) → k < 81 → is_king (opponent_of p.side) (piece_at p.cells k) ≡ true → e < 81 → has_bit mask e ≡ true → IsEscape p.cells (opponent_of p.side) k e
+  pub fits : mask < 2 ^ 81
+
+-- the king of the side that is not to move has such a square that is not among the closed ones and not where a move ends, and the move does not end on the king
+pub record HasOpenEscape (p : Shogi) (closed to : ℕ) : Type 0 where
+  pub king_on : ℕ
+  pub end : ℕ
+  pub on_board : (king_on < 81) × (end < 81)
+  pub king : is_king (opponent_of p.side) (piece_at p.cells king_on) ≡ true
+  pub escape : IsEscape p.cells (opponent_of p.side) king_on end
+  pub open_end : has_bit closed end ≡ false
+  pub elsewhere : (king_on ≢ to) × (end ≢ to)

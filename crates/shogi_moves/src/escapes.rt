@@ -1,0 +1,114 @@
+//! Squares to which the king of the side that is not to move may go, should a move give it check.
+
+ghost use Rattle.std.specs.Prelude.{◌≡◌, ◌≢◌, ◌<◌, ◌^◌, ◌&&◌, ℕ, not, true, false, [], Option};
+ghost use Rattle.shogi_core.specs.declared.piece.Piece.{Piece};
+ghost use Rattle.shogi_core.specs.Attack.{is_attacked};
+ghost use Rattle.shogi_core.specs.Bits.{has_bit};
+ghost use Rattle.shogi_core.specs.Movement.{Cells, cell_reaches};
+ghost use Rattle.shogi_moves.specs.After.{after};
+ghost use Rattle.shogi_moves.specs.Escapes.{AreEscapes, HasOpenEscape};
+ghost use Rattle.shogi_moves.specs.Legal.{is_legal};
+ghost use Rattle.shogi_moves.specs.LegalMoves.{legal_codes};
+
+use crate::after::{dropped, piece_moved};
+use shogi_core::bits::{cleared, has, lowest, without_lowest};
+use shogi_core::{Board, Color, Move, Piece, Position, Square, aligned_squares, step_squares};
+
+/// Those of the squares that the side does not attack.
+#[tactic(auto, using(crate::proofs::EndLaws::sifting))]
+fn unattacked(board: &Board, by: Color, squares: u128) -> u128
+    requires { squares < 2 ^ 81 }
+    ensures bits { (n : ℕ) → n < 81 → has_bit result n ≡ (has_bit squares n && not (is_attacked board.now by n)) }
+    ensures fits { result < 2 ^ 81 }
+{
+    let mut left = squares;
+    let mut kept = squares;
+    while left != 0 {
+        let square = lowest(left);
+        if board.is_attacked(by, Square::of_index(square)) {
+            kept = cleared(kept, square);
+        }
+        left = without_lowest(left, square);
+    }
+    kept
+}
+
+/// Squares next to the king of the side that is not to move, where it has just one, to which it may go as
+/// far as the pieces of the other side stand that are there now.
+pub fn escape_squares(p: &Position) -> u128
+    ensures { AreEscapes p.now result }
+{
+    p.validity();
+    let board = p.as_board();
+    let side = p.side().opponent();
+    let kings = board.kings(side);
+    if kings == 0 {
+        return 0;
+    }
+    let king = lowest(kings);
+    if cleared(kings, king) != 0 {
+        return 0;
+    }
+    let from = Square::of_index(king);
+    let mut lifted = *board;
+    lifted.set(from, None);
+    unattacked(
+        &lifted,
+        side.opponent(),
+        board.targets(from) & !board.own(side),
+    )
+}
+
+/// All squares that the piece may reach from the square, whatever stands on the others.
+fn within_reach(cell: Option<Piece>, to: Square) -> u128
+    ensures far { (cells : Cells) (n : ℕ) → n < 81 → has_bit result n ≡ false → cell_reaches cells cell to n ≡ false }
+    ensures fits { result < 2 ^ 81 }
+{
+    let Some(piece) = cell else { return 0 };
+    to.validity();
+    let index = to.index();
+    let steps = step_squares(piece, index);
+    if piece.role.is_sliding() {
+        steps | aligned_squares(index)
+    } else {
+        steps
+    }
+}
+
+/// Whether the king of the side that is not to move has one of the squares left that is not closed and not
+/// where a move ends.
+fn has_open(p: &Position, escapes: u128, closed: u128, to: Square) -> bool
+    requires { AreEscapes p.now escapes }
+    ensures { result ≡ true → HasOpenEscape p.now closed to }
+{
+    to.validity();
+    let end = to.index();
+    let kings = p.as_board().kings(p.side().opponent());
+    if kings == 0 || has(kings, end) {
+        return false;
+    }
+    escapes & !closed & !(1 << end) != 0
+}
+
+/// Whether one of the squares is surely left to the king after the legal move, should that give it check: the
+/// move does not end there, what moves does not reach it, and it is on no line with the square that it leaves.
+pub fn leaves_escape(p: &Position, escapes: u128, m: &Move) -> bool
+    requires escapes { AreEscapes p.now escapes }
+    requires legal { is_legal p.now m.now ≡ true }
+    ensures { result ≡ true → legal_codes (after p.now m.now) ≢ [] }
+{
+    p.validity();
+    match m {
+        Move::Board { from, to, promote } => {
+            from.validity();
+            to.validity();
+            let reach = within_reach(piece_moved(p.as_board().at(*from), *promote), *to);
+            has_open(p, escapes, reach | aligned_squares(from.index()), *to)
+        }
+        Move::Drop { kind, to } => {
+            to.validity();
+            let reach = within_reach(dropped(p.side(), *kind), *to);
+            has_open(p, escapes, reach, *to)
+        }
+    }
+}
