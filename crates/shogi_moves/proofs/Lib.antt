@@ -14,6 +14,7 @@ pub mod ZoneLaws
 pub mod PawnFiles
 pub mod EndLaws
 pub mod SweepLaws
+pub mod MoverLaws
 pub mod Passes
 pub mod TallyLaws
 pub mod DropChecks

@@ -15,6 +15,7 @@ mod escapes;
 mod existence;
 mod guard;
 mod legal;
+mod movers;
 mod next;
 mod replies;
 mod sweep;

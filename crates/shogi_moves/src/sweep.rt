@@ -16,6 +16,7 @@ ghost use Rattle.shogi_moves.specs.Sweeps.{wanted_from, IsBoardSweep, IsDropSwee
 
 use crate::ends::{Ends, board_ends, drop_ends, ends_among, ends_of_sort};
 use crate::guard::{Guard, guard_of};
+use crate::movers::movers;
 use crate::next::code_above;
 use crate::replies::Replies;
 use crate::zones::promoting_squares;
@@ -150,7 +151,8 @@ impl BoardSweep {
     {
         p.validity();
         let sort = ends_of_sort(p, capture);
-        let mut left = bits_above(p.own(p.side()), self.from.index());
+        let pieces = bits_above(p.own(p.side()), self.from.index());
+        let mut left = movers(p, capture, pieces);
         'squares: while left != 0 {
             let square = lowest(left);
             let from = Square::of_index(square);

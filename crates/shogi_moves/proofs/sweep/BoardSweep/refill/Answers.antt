@@ -7,19 +7,24 @@ use Rattle.shogi_core.specs.Movement.{piece_at}
 use Rattle.shogi_moves.specs.Sweeps.{KeepsBoard}
 use Rattle.shogi_moves.proofs.CaptureLaws.{wanted_jumps}
 use Rattle.shogi_moves.proofs.EndLaws.{among_bits, nowhere}
+use Rattle.shogi_moves.proofs.MoverLaws.{on_movers}
 use Rattle.shogi_moves.proofs.SweepLaws.{keeps_square, on_first, mine_first, on_less, on_none, on_end}
 use Rattle.shogi_moves.proofs.sweep.BoardSweep.refill.Goals as goal
 use Rattle.shogi_moves.proofs.sweep.BoardSweep.refill.Goals.{then-among-ne0+else-ends-ne0, else-among-ne0}
 
 pub squares-init : goal.squares-init
-squares-init c = record {
-  kept = c.requires.kept;
-  same = refl;
-  wanted = on_first c.args.p.now c.args.capture c.own.result c.bits_above-left.result c.args.self.now.from c.args.self.now.code c.args.self.now.ends.plain c.args.self.now.ends.promoting (omega (arith, c.index.ensures.range, c.index.ensures.index)) c.requires.kept.ends c.requires.none
-      (rw c.side.ensures at c.own.ensures.bits) (rw c.index.ensures.index at c.bits_above-left.ensures.above);
-  fits = c.bits_above-left.ensures.fits;
-  mine = mine_first c.args.p.now c.own.result c.bits_above-left.result c.args.self.now.from (rw c.side.ensures at c.own.ensures.bits) (rw c.index.ensures.index at c.bits_above-left.ensures.above) (rw c.index.ensures.index at c.bits_above-left.ensures.below);
-}
+squares-init c =
+    let mine : _ = mine_first c.args.p.now c.own.result c.bits_above-pieces.result c.args.self.now.from (rw c.side.ensures at c.own.ensures.bits) (rw c.index.ensures.index at c.bits_above-pieces.ensures.above) (rw c.index.ensures.index at c.bits_above-pieces.ensures.below) in
+    record {
+      kept = c.requires.kept;
+      same = refl;
+      wanted = on_movers c.args.p.now c.args.capture c.bits_above-pieces.result c.movers-left.result c.args.self.now.code c.validity.ensures.cells_fit
+          (on_first c.args.p.now c.args.capture c.own.result c.bits_above-pieces.result c.args.self.now.from c.args.self.now.code c.args.self.now.ends.plain c.args.self.now.ends.promoting (omega (arith, c.index.ensures.range, c.index.ensures.index)) c.requires.kept.ends c.requires.none
+          (rw c.side.ensures at c.own.ensures.bits) (rw c.index.ensures.index at c.bits_above-pieces.ensures.above))
+          (λ n h set. (mine n h set).1) c.movers-left.ensures.none;
+      fits = c.movers-left.ensures.fits;
+      mine = λ n h set. mine n h (c.movers-left.ensures.within n set);
+    }
 
 pub ends_among-ends-requires-clause-among : goal.ends_among-ends-requires-clause-among
 ends_among-ends-requires-clause-among c = λ n h. among_bits c.targets.result c.ends_of_sort-sort.result n _ _ (c.targets.ensures.bits n h) (c.ends_of_sort-sort.ensures.bits n h)

@@ -1,0 +1,46 @@
+//! The pieces that may have a move of a sort, found all at once.
+
+ghost use Rattle.std.specs.Prelude.{◌≡◌, ◌<◌, ◌^◌, ◌+◌, ◌⊎◌, ◌&&◌, ℕ, true, false};
+ghost use Rattle.shogi_core.specs.Bits.{has_bit};
+ghost use Rattle.shogi_core.specs.Lines.{is_near};
+ghost use Rattle.shogi_core.specs.Movement.{piece_at, reaches};
+ghost use Rattle.shogi_moves.specs.Ends.{is_end};
+
+use shogi_core::Position;
+
+/// The squares so many places before or behind one of the mask.
+fn places_away(mask: u128, places: usize) -> u128
+    requires fits { mask < 2 ^ 81 }
+    requires places { places < 12 }
+    ensures { (a b : ℕ) → a < 81 → b < 81 → has_bit mask b ≡ true → (b ≡ a + places) ⊎ (a ≡ b + places) → has_bit result a ≡ true }
+{
+    mask >> places | mask << places
+}
+
+/// The squares next to one of the mask or a knight's jump away, and some more at the edges of the board.
+fn squares_near(mask: u128) -> u128
+    requires { mask < 2 ^ 81 }
+    ensures { (a b : ℕ) → a < 81 → b < 81 → has_bit mask b ≡ true → is_near b a ≡ true → has_bit result a ≡ true }
+{
+    places_away(mask, 1)
+        | places_away(mask, 7)
+        | places_away(mask, 8)
+        | places_away(mask, 9)
+        | places_away(mask, 10)
+        | places_away(mask, 11)
+}
+
+/// Those of the pieces that may reach a square of the sort; to capture, a piece slides or stands near one of
+/// the other side's.
+pub fn movers(p: &Position, capture: bool, pieces: u128) -> u128
+    requires { pieces < 2 ^ 81 }
+    ensures within { (n : ℕ) → has_bit result n ≡ true → has_bit pieces n ≡ true }
+    ensures none { (n t : ℕ) → n < 81 → t < 81 → has_bit pieces n ≡ true → has_bit result n ≡ false → (reaches p.now.cells n t && is_end capture p.now.side (piece_at p.now.cells t)) ≡ false }
+    ensures fits { result < 2 ^ 81 }
+{
+    if !capture {
+        return pieces;
+    }
+    let board = p.as_board();
+    pieces & (board.sliders() | squares_near(board.own(p.side().opponent())))
+}
