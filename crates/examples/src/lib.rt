@@ -1,35 +1,34 @@
-//! A use of each library crate, as a caller writes it.
+//! A use of each library crate, as a caller writes it. All stand under `cfg(test)`, so that they are proved once,
+//! with the tests that call them.
 #![tactic(auto)]
 
+#[cfg(test)]
 mod eval;
+#[cfg(test)]
 mod host;
+#[cfg(test)]
 mod lines;
+#[cfg(test)]
 mod moves;
+#[cfg(test)]
 mod position;
+#[cfg(test)]
 mod replay;
+#[cfg(test)]
 mod search;
+#[cfg(test)]
 mod serving;
+#[cfg(test)]
 mod session;
+#[cfg(test)]
 mod sfen;
+#[cfg(test)]
 mod slots;
+#[cfg(test)]
 mod sockets;
+#[cfg(test)]
 mod stdio;
+#[cfg(test)]
 mod table;
-
-pub use eval::score_of_mover;
-pub use host::open_and_feed;
-pub use lines::has_whole_line;
-pub use moves::is_checkmate;
-pub use position::own_piece;
-pub use replay::replay_script;
-pub use search::search_in_slices;
-pub use serving::serve_at;
-pub use session::answered;
-pub use sfen::play_text;
-pub use slots::open_and_close;
-pub use sockets::turn_until_still;
-pub use stdio::answer_all;
-pub use table::search_twice;
-
 #[cfg(test)]
 mod tests;

@@ -1,6 +1,19 @@
 //! Each use, called once.
 
-use crate::*;
+use crate::eval::score_of_mover;
+use crate::host::open_and_feed;
+use crate::lines::has_whole_line;
+use crate::moves::is_checkmate;
+use crate::position::own_piece;
+use crate::replay::replay_script;
+use crate::search::search_in_slices;
+use crate::serving::serve_at;
+use crate::session::answered;
+use crate::sfen::play_text;
+use crate::slots::open_and_close;
+use crate::sockets::turn_until_still;
+use crate::stdio::answer_all;
+use crate::table::search_twice;
 use host_core::{Event, Host, Outcome};
 use session_slots::Slots;
 use shared_table::SharedTable;
