@@ -14,6 +14,8 @@ mod hosts;
 #[cfg(test)]
 mod multipv;
 #[cfg(test)]
+mod requests;
+#[cfg(test)]
 mod room;
 #[cfg(test)]
 mod scripts;

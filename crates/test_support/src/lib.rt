@@ -9,7 +9,5 @@ mod requests;
 pub mod rows;
 pub mod scripts;
 pub mod tables;
-#[cfg(test)]
-mod tests;
 
 pub use allocator::FailingAllocator;

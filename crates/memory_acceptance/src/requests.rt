@@ -1,8 +1,8 @@
-//! Which requests are refused.
+//! Which requests the fake memory refuses, and what it counts.
 
-use crate::FailingAllocator;
 use std::alloc::Global;
 use std::test::Fail;
+use test_support::{FailingAllocator, holds, same};
 
 type Bytes<'a> = Vec<u8, &'a FailingAllocator<Global>>;
 
@@ -14,12 +14,12 @@ fn is_refused(memory: &FailingAllocator<Global>) -> bool {
 #[test]
 fn one_request_is_refused(rt: HostRuntime) -> Result<(), Fail> {
     let memory = FailingAllocator::new(rt.alloc());
-    assert!(rt; !is_refused(&memory));
+    holds!(rt; !is_refused(&memory));
     memory.refuse_at(2);
     for refused in [false, true, false, false] {
-        assert_eq!(rt; is_refused(&memory), refused);
+        same!(rt; is_refused(&memory), refused);
     }
-    assert_eq!(rt; (memory.asked(), memory.refused()), (5, 1));
+    same!(rt; (memory.asked(), memory.refused()), (5, 1));
     Ok(())
 }
 
@@ -28,11 +28,11 @@ fn requests_are_refused_until_memory_comes_back(rt: HostRuntime) -> Result<(), F
     let memory = FailingAllocator::new(rt.alloc());
     memory.refuse_from(2);
     for refused in [false, true, true] {
-        assert_eq!(rt; is_refused(&memory), refused);
+        same!(rt; is_refused(&memory), refused);
     }
     memory.refuse_nothing();
-    assert!(rt; !is_refused(&memory));
-    assert_eq!(rt; (memory.asked(), memory.refused()), (4, 2));
+    holds!(rt; !is_refused(&memory));
+    same!(rt; (memory.asked(), memory.refused()), (4, 2));
     Ok(())
 }
 
@@ -43,11 +43,11 @@ fn a_vector_grows_after_a_refusal(rt: HostRuntime) -> Result<(), Fail> {
     let mut bytes = Bytes::with_capacity(&memory, 2)?;
     bytes.extend_from_slice(b"ab")?;
     memory.refuse_at(1);
-    assert!(rt; bytes.extend_from_slice(b"cdefghijk").is_err());
-    assert!(rt; bytes.as_slice() == b"ab".as_slice());
+    holds!(rt; bytes.extend_from_slice(b"cdefghijk").is_err());
+    holds!(rt; bytes.as_slice() == b"ab".as_slice());
     bytes.extend_from_slice(b"cdefghijk")?;
-    assert!(rt; bytes.as_slice() == b"abcdefghijk".as_slice());
-    assert_eq!(rt; memory.refused(), 1);
+    holds!(rt; bytes.as_slice() == b"abcdefghijk".as_slice());
+    same!(rt; memory.refused(), 1);
     Ok(())
 }
 
@@ -55,20 +55,20 @@ fn a_vector_grows_after_a_refusal(rt: HostRuntime) -> Result<(), Fail> {
 #[test]
 fn held_bytes(rt: HostRuntime) -> Result<(), Fail> {
     let memory = FailingAllocator::new(rt.alloc());
-    assert_eq!(rt; memory.held(), 0);
+    same!(rt; memory.held(), 0);
     let mut bytes = Bytes::with_capacity(&memory, 1000)?;
     let more = Bytes::with_capacity(&memory, 24)?;
-    assert_eq!(rt; memory.held(), 1024);
+    same!(rt; memory.held(), 1024);
     for (refused, held) in [(1, 1024), (0, 34)] {
         memory.refuse_at(refused);
         bytes.shrink_to(10);
-        assert_eq!(rt; memory.held(), held);
+        same!(rt; memory.held(), held);
     }
     bytes.extend_from_slice(b"abcdefghijklmnopqrst")?;
-    assert!(rt; memory.held() >= 44);
+    holds!(rt; memory.held() >= 44);
     drop(bytes);
-    assert_eq!(rt; memory.held(), 24);
+    same!(rt; memory.held(), 24);
     drop(more);
-    assert_eq!(rt; memory.held(), 0);
+    same!(rt; memory.held(), 0);
     Ok(())
 }
