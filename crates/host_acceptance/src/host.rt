@@ -5,7 +5,9 @@ use session_slots::SessionId;
 use std::alloc::Global;
 use std::hash::{BuildHasherDefault, FoldHasher};
 use std::marker::Model;
+use std::process::Abort;
 use std::test::Fail;
+use test_support::{holds, same};
 
 /// What an outcome tells, with bytes as their number.
 #[derive(Clone, Copy, Debug, PartialEq, Eq)]
@@ -25,6 +27,15 @@ fn told_by(outcome: &Outcome<Global>) -> Told {
         Outcome::Gave(bytes) => Told::Gave(bytes.as_slice().len()),
         Outcome::Refused(fault) => Told::Refused(*fault),
     }
+}
+
+// The bytes that were handed out are those of the text.
+fn assert_gave<R: Abort>(rt: &R, outcome: &Outcome<Global>, text: &str) -> Result<(), Fail> {
+    let Outcome::Gave(bytes) = outcome else {
+        return Err("the bytes are queued".into());
+    };
+    same!(rt; std::str::from_utf8(bytes.as_slice())?, text);
+    Ok(())
 }
 
 /// A host whose table has a hash without a seed.
@@ -53,25 +64,44 @@ impl TestHost {
         })
     }
 
-    /// The outcome of one event.
-    pub fn step(&mut self, event: Event<'_>) -> Outcome<Global> {
-        self.host.step(event)
+    /// Makes events one at a time, and ends the test where one tells something else than is wanted.
+    pub fn tells<R: Abort>(&mut self, rt: &R, wanted: &[(Event<'_>, Told)]) {
+        for row in wanted.iter() {
+            let (event, told) = *row;
+            same!(rt; told_by(&self.host.step(event)), told, event);
+        }
     }
 
-    /// The outcome of one event, by `run`.
-    pub fn answered(&mut self, event: Event<'_>) -> Result<Outcome<Global>, Fail> {
-        let mut outcomes = self.host.run(&[event])?;
-        Ok(outcomes.pop().ok_or("one outcome")?)
-    }
-
-    /// What a run tells of its events.
-    pub fn all_told(&mut self, events: &[Event<'_>]) -> Result<Vec<Told>, Fail> {
+    /// The same by one run, of events that stand beside what is wanted of them.
+    pub fn run_tells<R: Abort>(
+        &mut self,
+        rt: &R,
+        events: &[Event<'_>],
+        wanted: &[Told],
+    ) -> Result<(), Fail> {
         let outcomes = self.host.run(events)?;
         let mut all = Vec::new(self.alloc);
         for outcome in outcomes.as_slice() {
             all.push(told_by(outcome))?;
         }
-        Ok(all)
+        same!(rt; all.as_slice(), wanted);
+        Ok(())
+    }
+
+    /// Takes as many bytes as the text has, and ends the test where they are others.
+    pub fn takes<R: Abort>(&mut self, rt: &R, id: SessionId, text: &str) -> Result<(), Fail> {
+        assert_gave(rt, &self.host.step(Event::Take(id, text.len())), text)
+    }
+
+    /// The same by a run.
+    pub fn run_takes<R: Abort>(&mut self, rt: &R, id: SessionId, text: &str) -> Result<(), Fail> {
+        let outcomes = self.host.run(&[Event::Take(id, text.len())])?;
+        assert_gave(rt, outcomes.as_slice().first().ok_or("one outcome")?, text)
+    }
+
+    /// Ends the test where the queued bytes of a session are others.
+    pub fn output_is<R: Abort>(&self, rt: &R, id: SessionId, bytes: &[u8]) {
+        holds!(rt; self.host.output(id) == Some(bytes), id);
     }
 
     /// The id of a session that is opened.
@@ -82,23 +112,10 @@ impl TestHost {
         Ok(id)
     }
 
-    /// Whether an event is done.
-    pub fn is_done(&mut self, event: Event<'_>) -> bool {
-        matches!(self.host.step(event), Outcome::Done)
-    }
-
     /// The steps of a work, or `None` where it is refused.
     pub fn steps_of(&mut self, id: SessionId, budget: u64) -> Option<u64> {
         match self.host.step(Event::Work(id, budget)) {
             Outcome::Worked(steps) => Some(steps),
-            _ => None,
-        }
-    }
-
-    /// Why an event is refused.
-    pub fn refusal(&mut self, event: Event<'_>) -> Option<HostFault> {
-        match self.host.step(event) {
-            Outcome::Refused(fault) => Some(fault),
             _ => None,
         }
     }

@@ -1,45 +1,52 @@
 //! Rows through a host of many sessions.
 
 use crate::host::{TestHost, Told};
-use host_core::{Event, HostFault, Outcome};
+use host_core::{Event, HostFault};
 use session_slots::SessionId;
 use std::alloc::Global;
+use std::process::Abort;
 use std::test::Fail;
 use test_support::rows::{INFO_AND_BEST_ONE, INFO_THREE, joined};
 use test_support::tables::opening;
 use test_support::{holds, same};
 
+const FULL: Told = Told::Refused(HostFault::Full);
+
+const UNKNOWN: Told = Told::Refused(HostFault::UnknownSession);
+
+const NOT_READY: Told = Told::Refused(HostFault::NotReady);
+
 // From the opening position `go depth 1` enters and leaves 31 positions, and its answer has 46 bytes.
 // What the first session searched, the second finds in the table.
-#[test]
-fn two_slots_and_three_sessions(rt: HostRuntime) -> Result<(), Fail> {
-    let mut host = TestHost::new(rt.alloc(), 2, 4096)?;
+fn assert_two_sessions<R: Abort>(rt: &R, host: &mut TestHost) -> Result<SessionId, Fail> {
     let a = host.opened()?;
     let go = b"go depth 1\n".as_slice();
-    let all = host.all_told(&[Event::Feed(a, go), Event::Work(a, 62)])?;
-    holds!(rt; all.as_slice() == [Told::Done, Told::Worked(4)].as_slice());
+    let events = [Event::Feed(a, go), Event::Work(a, 62)];
+    host.run_tells(rt, &events, &[Told::Done, Told::Worked(4)])?;
     holds!(rt; !host.pending(a) && host.wants_input(a));
 
     let b = host.opened()?;
-    let all = host.all_told(&[Event::Open, Event::Feed(b, go), Event::Work(b, 0)])?;
-    let full = Told::Refused(HostFault::Full);
-    holds!(rt; all.as_slice() == [full, Told::Done, Told::Worked(0)].as_slice());
-    holds!(rt; host.output(b) == Some(INFO_AND_BEST_ONE.as_bytes()));
+    let events = [Event::Open, Event::Feed(b, go), Event::Work(b, 0)];
+    host.run_tells(rt, &events, &[FULL, Told::Done, Told::Worked(0)])?;
+    host.output_is(rt, b, INFO_AND_BEST_ONE.as_bytes());
     let takes = [Event::Take(b, 47), Event::Take(b, 46), Event::Take(b, 1)];
-    let all = host.all_told(&takes)?;
-    let not_ready = Told::Refused(HostFault::NotReady);
-    holds!(rt; all.as_slice() == [not_ready, Told::Gave(46), not_ready].as_slice());
+    host.run_tells(rt, &takes, &[NOT_READY, Told::Gave(46), NOT_READY])?;
+    Ok(a)
+}
 
-    holds!(rt; host.is_done(Event::Close(a)));
-    let c = host.opened()?;
-    same!(rt; (c.slot, c.generation), (a.slot, 2));
-    let fed = host.all_told(&[Event::Feed(a, b""), Event::Feed(c, b"go\n")])?;
-    let unknown = Told::Refused(HostFault::UnknownSession);
-    holds!(rt; fed.as_slice() == [unknown, Told::Done].as_slice());
-    holds!(rt; host.steps_of(c, u64::MAX).is_some() && !host.pending(c));
+#[test]
+fn two_slots_and_three_sessions(rt: HostRuntime) -> Result<(), Fail> {
     let row = opening();
     let answer = joined(rt.alloc(), row.answer)?;
-    holds!(rt; host.output(c) == Some(answer.as_bytes()));
+    let mut host = TestHost::new(rt.alloc(), 2, 4096)?;
+    let a = assert_two_sessions(&rt, &mut host)?;
+    host.tells(&rt, &[(Event::Close(a), Told::Done)]);
+    let c = host.opened()?;
+    same!(rt; (c.slot, c.generation), (a.slot, 2));
+    let events = [Event::Feed(a, b""), Event::Feed(c, b"go\n")];
+    host.run_tells(&rt, &events, &[UNKNOWN, Told::Done])?;
+    holds!(rt; host.steps_of(c, u64::MAX).is_some() && !host.pending(c));
+    host.output_is(&rt, c, answer.as_bytes());
     Ok(())
 }
 
@@ -48,15 +55,17 @@ fn two_slots_and_three_sessions(rt: HostRuntime) -> Result<(), Fail> {
 fn bytes_are_taken_in_order(rt: HostRuntime) -> Result<(), Fail> {
     let mut host = TestHost::new(rt.alloc(), 1, 1)?;
     let id = host.opened()?;
-    holds!(rt; host.is_done(Event::Feed(id, b"isready\ngo mate 1\n")));
-    same!(rt; host.steps_of(id, 0), Some(0));
+    host.tells(
+        &rt,
+        &[
+            (Event::Feed(id, b"isready\ngo mate 1\n"), Told::Done),
+            (Event::Work(id, 0), Told::Worked(0)),
+        ],
+    );
     for part in ["ready", "", "ok\ncheck", "mate notimplemented\n"] {
-        let Outcome::Gave(bytes) = host.answered(Event::Take(id, part.len()))? else {
-            return Err("the bytes are queued".into());
-        };
-        same!(rt; std::str::from_utf8(bytes.as_slice())?, part);
+        host.run_takes(&rt, id, part)?;
     }
-    holds!(rt; host.output(id) == Some(b"".as_slice()));
+    host.output_is(&rt, id, b"");
     Ok(())
 }
 
@@ -65,13 +74,18 @@ fn bytes_are_taken_in_order(rt: HostRuntime) -> Result<(), Fail> {
 fn one_step_less_than_the_search(rt: HostRuntime) -> Result<(), Fail> {
     let mut host = TestHost::new(rt.alloc(), 1, 1)?;
     let id = host.opened()?;
-    same!(rt; host.refusal(Event::Open), Some(HostFault::Full));
-    holds!(rt; host.is_done(Event::Feed(id, b"go infinite depth 1\n")));
+    host.tells(
+        &rt,
+        &[
+            (Event::Open, FULL),
+            (Event::Feed(id, b"go infinite depth 1\n"), Told::Done),
+        ],
+    );
     holds!(rt; host.pending(id) && !host.wants_input(id));
-    same!(rt; host.steps_of(id, 3), Some(3));
+    host.tells(&rt, &[(Event::Work(id, 3), Told::Worked(3))]);
     holds!(rt; host.pending(id));
-    holds!(rt; host.output(id) == Some(b"".as_slice()));
-    same!(rt; host.steps_of(id, 3), Some(1));
+    host.output_is(&rt, id, b"");
+    host.tells(&rt, &[(Event::Work(id, 3), Told::Worked(1))]);
     holds!(rt; !host.pending(id));
     same!(rt; host.output(id).map(|bytes| bytes.len()), Some(32));
     Ok(())
@@ -79,23 +93,24 @@ fn one_step_less_than_the_search(rt: HostRuntime) -> Result<(), Fail> {
 
 #[test]
 fn a_new_session_in_an_old_slot(rt: HostRuntime) -> Result<(), Fail> {
+    let row = opening();
+    let answer = joined(rt.alloc(), row.answer)?;
     let mut host = TestHost::new(rt.alloc(), 1, 1)?;
     let first = host.opened()?;
     let held =
         b"setoption name Depth value 1\nsetoption name Eval value Hand\nsetoption name MultiPV value 2\nposition startpos moves 7g7f\ngo infinite\n";
-    holds!(rt; host.is_done(Event::Feed(first, held)));
+    host.tells(&rt, &[(Event::Feed(first, held), Told::Done)]);
     holds!(rt; host.steps_of(first, u64::MAX).is_some());
-    holds!(rt; host.is_done(Event::Close(first)));
+    host.tells(&rt, &[(Event::Close(first), Told::Done)]);
 
     // It has neither the options nor the position, nor the `bestmove` that was held.
     let second = host.opened()?;
     same!(rt; (second.slot, second.generation), (first.slot, 1));
-    holds!(rt; host.output(second) == Some(b"".as_slice()) && host.output(first).is_none());
-    holds!(rt; host.is_done(Event::Feed(second, b"stop\ngo\n")));
+    host.output_is(&rt, second, b"");
+    holds!(rt; host.output(first).is_none());
+    host.tells(&rt, &[(Event::Feed(second, b"stop\ngo\n"), Told::Done)]);
     holds!(rt; host.steps_of(second, u64::MAX).is_some());
-    let row = opening();
-    let answer = joined(rt.alloc(), row.answer)?;
-    holds!(rt; host.output(second) == Some(answer.as_bytes()));
+    host.output_is(&rt, second, answer.as_bytes());
     Ok(())
 }
 
@@ -103,7 +118,7 @@ fn a_new_session_in_an_old_slot(rt: HostRuntime) -> Result<(), Fail> {
 fn ids_of_no_session(rt: HostRuntime) -> Result<(), Fail> {
     let mut host = TestHost::new(rt.alloc(), 2, 64)?;
     let closed = host.opened()?;
-    holds!(rt; host.is_done(Event::Close(closed)));
+    host.tells(&rt, &[(Event::Close(closed), Told::Done)]);
     let open = host.opened()?;
     let never = SessionId {
         slot: open.slot,
@@ -114,15 +129,15 @@ fn ids_of_no_session(rt: HostRuntime) -> Result<(), Fail> {
         generation: open.generation,
     };
     for id in [closed, never, elsewhere] {
-        for event in [
-            Event::Feed(id, b"usi\n"),
-            Event::Work(id, 1),
-            Event::Take(id, 0),
-            Event::Close(id),
-        ] {
-            let fault = host.refusal(event);
-            same!(rt; fault, Some(HostFault::UnknownSession), event);
-        }
+        host.tells(
+            &rt,
+            &[
+                (Event::Feed(id, b"usi\n"), UNKNOWN),
+                (Event::Work(id, 1), UNKNOWN),
+                (Event::Take(id, 0), UNKNOWN),
+                (Event::Close(id), UNKNOWN),
+            ],
+        );
         holds!(rt; host.output(id).is_none());
         same!(rt; host.pass(id, 0), Err(HostFault::UnknownSession));
         holds!(rt; !host.pending(id) && !host.wants_input(id) && !host.is_over(id));
@@ -134,21 +149,25 @@ fn ids_of_no_session(rt: HostRuntime) -> Result<(), Fail> {
 // refused is kept.
 #[test]
 fn a_session_that_is_not_ready(rt: HostRuntime) -> Result<(), Fail> {
-    let mut host = TestHost::new(rt.alloc(), 1, 64)?;
-    let id = host.opened()?;
-    let not_ready = Some(HostFault::NotReady);
     let chunk = vec![in rt.alloc(); b'x'; 4097]?;
     let longest = chunk.as_slice().get(1..).unwrap_or(b"");
-    same!(rt; host.refusal(Event::Feed(id, chunk.as_slice())), not_ready);
-    holds!(rt; host.is_done(Event::Feed(id, longest)));
-    holds!(rt; host.is_done(Event::Feed(id, b"\nisready\n")));
-    same!(rt; host.refusal(Event::Feed(id, b"usi\n")), not_ready);
-    same!(rt; host.steps_of(id, 0), Some(0));
-    holds!(rt; host.output(id) == Some(b"readyok\n".as_slice()));
-    same!(rt; host.refusal(Event::Take(id, 9)), not_ready);
+    let mut host = TestHost::new(rt.alloc(), 1, 64)?;
+    let id = host.opened()?;
+    host.tells(
+        &rt,
+        &[
+            (Event::Feed(id, chunk.as_slice()), NOT_READY),
+            (Event::Feed(id, longest), Told::Done),
+            (Event::Feed(id, b"\nisready\n"), Told::Done),
+            (Event::Feed(id, b"usi\n"), NOT_READY),
+            (Event::Work(id, 0), Told::Worked(0)),
+        ],
+    );
+    host.output_is(&rt, id, b"readyok\n");
+    host.tells(&rt, &[(Event::Take(id, 9), NOT_READY)]);
     same!(rt; host.pass(id, 9), Err(HostFault::NotReady));
     same!(rt; host.pass(id, 6), Ok(()));
-    holds!(rt; host.output(id) == Some(b"k\n".as_slice()));
+    host.output_is(&rt, id, b"k\n");
     Ok(())
 }
 
@@ -157,15 +176,19 @@ fn a_session_that_is_not_ready(rt: HostRuntime) -> Result<(), Fail> {
 fn a_session_that_is_over(rt: HostRuntime) -> Result<(), Fail> {
     let mut host = TestHost::new(rt.alloc(), 1, 64)?;
     let id = host.opened()?;
-    holds!(rt; host.is_done(Event::Feed(id, b"quit\nusi\n")));
+    host.tells(&rt, &[(Event::Feed(id, b"quit\nusi\n"), Told::Done)]);
     holds!(rt; host.pending(id) && !host.is_over(id));
-    same!(rt; host.steps_of(id, 0), Some(0));
+    host.tells(&rt, &[(Event::Work(id, 0), Told::Worked(0))]);
     holds!(rt; host.is_over(id) && !host.pending(id));
-    let fed = host.refusal(Event::Feed(id, b""));
-    same!(rt; fed, Some(HostFault::NotReady));
-    same!(rt; host.steps_of(id, 9), Some(0));
-    same!(rt; host.refusal(Event::Open), Some(HostFault::Full));
-    holds!(rt; host.is_done(Event::Close(id)));
+    host.tells(
+        &rt,
+        &[
+            (Event::Feed(id, b""), NOT_READY),
+            (Event::Work(id, 9), Told::Worked(0)),
+            (Event::Open, FULL),
+            (Event::Close(id), Told::Done),
+        ],
+    );
     same!(rt; host.opened()?.generation, 1);
     Ok(())
 }
@@ -174,43 +197,55 @@ fn a_session_that_is_over(rt: HostRuntime) -> Result<(), Fail> {
 // input is wanted.
 #[test]
 fn a_full_queue_wants_no_input(rt: HostRuntime) -> Result<(), Fail> {
-    let mut host = TestHost::new(rt.alloc(), 1, 1)?;
-    let id = host.opened()?;
     let mut chunk = Vec::new(rt.alloc());
     for _ in 0..1024 {
         chunk.extend_from_slice(b"usi\n")?;
     }
-    holds!(rt; host.is_done(Event::Feed(id, chunk.as_slice())));
-    same!(rt; host.steps_of(id, 0), Some(0));
+    let mut host = TestHost::new(rt.alloc(), 1, 1)?;
+    let id = host.opened()?;
+    host.tells(
+        &rt,
+        &[
+            (Event::Feed(id, chunk.as_slice()), Told::Done),
+            (Event::Work(id, 0), Told::Worked(0)),
+        ],
+    );
     same!(rt; host.output(id).map(|bytes| bytes.len()), Some(234_496));
     same!(rt; host.pass(id, 234_496 - 65_536), Ok(()));
-    let more = Event::Feed(id, b"usi\n");
-    same!(rt; host.refusal(more), Some(HostFault::NotReady));
+    host.tells(&rt, &[(Event::Feed(id, b"usi\n"), NOT_READY)]);
     same!(rt; host.pass(id, 1), Ok(()));
-    holds!(rt; host.is_done(more));
+    host.tells(&rt, &[(Event::Feed(id, b"usi\n"), Told::Done)]);
     Ok(())
 }
 
-// What the first session searched is known, to the last search of the second one: no step is made. At
-// depth 4 the best move is 7g7f, of value 0.
-#[test]
-fn a_search_is_shared(rt: HostRuntime) -> Result<(), Fail> {
-    let mut host = TestHost::new(rt.alloc(), 2, 100_000)?;
-    let first = host.opened()?;
-    holds!(rt; host.is_done(Event::Feed(first, b"go depth 4\n")));
-    holds!(rt; host.steps_of(first, u64::MAX) > Some(4));
-
-    let second = host.opened()?;
-    holds!(rt; host.is_done(Event::Feed(second, b"go depth 4\n")));
-    same!(rt; host.steps_of(second, 0), Some(0));
-    holds!(rt; !host.pending(first) && !host.pending(second));
-    holds!(rt; host.output(first) == host.output(second));
-
-    let said = std::str::from_utf8(host.output(second).ok_or("it is open")?)?;
+// At depth 4 the best move is 7g7f, of value 0.
+fn assert_at_depth_four<R: Abort>(rt: &R, said: &[u8]) -> Result<(), Fail> {
+    let said = std::str::from_utf8(said)?;
     holds!(rt; said.starts_with(INFO_THREE));
     holds!(rt; said.contains("info depth 4 score cp 0 pv 7g7f "));
     holds!(rt; said.contains("\nbestmove 7g7f ponder "));
     Ok(())
+}
+
+// What the first session searched is known, to the last search of the second one: no step is made.
+#[test]
+fn a_search_is_shared(rt: HostRuntime) -> Result<(), Fail> {
+    let mut host = TestHost::new(rt.alloc(), 2, 100_000)?;
+    let first = host.opened()?;
+    host.tells(&rt, &[(Event::Feed(first, b"go depth 4\n"), Told::Done)]);
+    holds!(rt; host.steps_of(first, u64::MAX) > Some(4));
+
+    let second = host.opened()?;
+    host.tells(
+        &rt,
+        &[
+            (Event::Feed(second, b"go depth 4\n"), Told::Done),
+            (Event::Work(second, 0), Told::Worked(0)),
+        ],
+    );
+    holds!(rt; !host.pending(first) && !host.pending(second));
+    holds!(rt; host.output(first) == host.output(second));
+    assert_at_depth_four(&rt, host.output(second).ok_or("it is open")?)
 }
 
 /// A line of its own for each number: so many moves back and forth, and a word that is no move.
@@ -230,27 +265,58 @@ fn line_of(alloc: Global, number: usize) -> Result<String, Fail> {
     Ok(line)
 }
 
+fn opened(alloc: Global, host: &mut TestHost, sessions: usize) -> Result<Vec<SessionId>, Fail> {
+    let mut ids = Vec::new(alloc);
+    for _ in 0..sessions {
+        ids.push(host.opened()?)?;
+    }
+    Ok(ids)
+}
+
+// Each session is fed its line.
+fn feed<R: Abort>(
+    rt: &R,
+    alloc: Global,
+    host: &mut TestHost,
+    ids: &[SessionId],
+) -> Result<(), Fail> {
+    for (number, id) in ids.iter().enumerate() {
+        let line = line_of(alloc, number)?;
+        host.tells(rt, &[(Event::Feed(*id, line.as_bytes()), Told::Done)]);
+    }
+    Ok(())
+}
+
+fn work<R: Abort>(rt: &R, host: &mut TestHost, ids: &[SessionId]) {
+    for (number, id) in ids.iter().enumerate() {
+        holds!(rt; host.pending(*id), number);
+        host.tells(rt, &[(Event::Work(*id, 0), Told::Worked(0))]);
+    }
+}
+
+// Each session has answered its own line.
+fn assert_answers<R: Abort>(
+    rt: &R,
+    alloc: Global,
+    host: &TestHost,
+    ids: &[SessionId],
+) -> Result<(), Fail> {
+    for (number, id) in ids.iter().enumerate() {
+        let place = number % 32 + 1;
+        let answer = format!(in alloc; "info string illegal move {place}\n")?;
+        host.output_is(rt, *id, answer.as_bytes());
+    }
+    Ok(())
+}
+
 #[test]
 fn as_many_sessions_as_there_may_be(rt: HostRuntime) -> Result<(), Fail> {
     let mut host = TestHost::new(rt.alloc(), 1024, 4096)?;
-    let mut ids = Vec::new(rt.alloc());
-    for _ in 0..1024 {
-        ids.push(host.opened()?)?;
-    }
-    same!(rt; host.refusal(Event::Open), Some(HostFault::Full));
-    for (number, id) in ids.as_slice().iter().enumerate() {
-        let line = line_of(rt.alloc(), number)?;
-        holds!(rt; host.is_done(Event::Feed(*id, line.as_bytes())), number);
-    }
-    for (number, id) in ids.as_slice().iter().enumerate() {
-        holds!(rt; host.pending(*id), number);
-        same!(rt; host.steps_of(*id, 0), Some(0), number);
-    }
-    for (number, id) in ids.as_slice().iter().enumerate() {
-        let place = number % 32 + 1;
-        let answer = format!(in rt.alloc(); "info string illegal move {place}\n")?;
-        holds!(rt; host.output(*id) == Some(answer.as_bytes()), number);
-    }
-    same!(rt; host.refusal(Event::Open), Some(HostFault::Full));
+    let ids = opened(rt.alloc(), &mut host, 1024)?;
+    host.tells(&rt, &[(Event::Open, FULL)]);
+    feed(&rt, rt.alloc(), &mut host, ids.as_slice())?;
+    work(&rt, &mut host, ids.as_slice());
+    assert_answers(&rt, rt.alloc(), &host, ids.as_slice())?;
+    host.tells(&rt, &[(Event::Open, FULL)]);
     Ok(())
 }
