@@ -3,8 +3,8 @@
 use shogi_core::Color::{Black, White};
 use shogi_core::{Color, Hands, Kind, Move, Piece, Position, Role, Square};
 use shogi_moves::{
-    BoardSweep, DropSweep, Replies, guard_of, has_legal, in_check, is_attacked, is_legal,
-    next_legal, perft, play,
+    BoardSweep, DropSweep, Replies, escape_squares, guard_of, has_legal, in_check, is_attacked,
+    is_legal, leaves_escape, next_legal, perft, play,
 };
 use std::test::Fail;
 
@@ -223,5 +223,32 @@ fn moves_off_a_line_of_a_king(rt: HostRuntime) -> Result<(), Fail> {
     assert!(rt; leaves_reply(other, b"9i8h ")?, "the king elsewhere");
     let lance = b"4k4/9/7p1/9/9/9/9/4S4/K3L4";
     assert!(rt; !leaves_reply(lance, b"5h4g ")?, "a lance behind");
+    Ok(())
+}
+
+/// Whether it is told without making the move that it leaves the other king a way out.
+fn leaves_way_out(board: &[u8], hand: &[u8], text: &[u8; 5]) -> Result<bool, Fail> {
+    let p = position(board, hand, Black)?;
+    let m = read(text);
+    if !is_legal(&p, m) {
+        return Err("a legal move".into());
+    }
+    Ok(leaves_escape(&p, escape_squares(&p), &m))
+}
+
+/// A rook gives check from afar and a silver from below, and the king may step aside. A gold reaches all
+/// squares next to it. Another one opens the rank below to a rook, and a knight attacks the square that is
+/// left. And without a king there is no such square.
+#[test]
+fn ways_out_of_a_check(rt: HostRuntime) -> Result<(), Fail> {
+    for (board, hand, text, left) in [
+        (&b"4k4/9/9/9/9/9/9/9/K7R"[..], &b""[..], b"1i1a ", true),
+        (b"4k4/9/9/9/9/9/9/9/K8", b"S", b"S*5b ", true),
+        (b"4k4/9/4P4/9/9/9/9/9/K8", b"G", b"G*5b ", false),
+        (b"4k4/R1G6/6N2/9/9/9/9/9/K8", b"", b"7b6a ", false),
+        (b"9/9/9/9/9/9/9/9/K7R", b"", b"1i1a ", false),
+    ] {
+        assert_eq!(rt; leaves_way_out(board, hand, text)?, left, "{board:?}");
+    }
     Ok(())
 }

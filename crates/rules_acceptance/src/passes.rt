@@ -29,14 +29,13 @@ fn quiet_moves_up_to_a_promotion(rt: HostRuntime) -> Result<(), Fail> {
     Ok(())
 }
 
-/// No line of the king on 5a goes to 1b, 1c and 1d, the first squares where a pawn can be dropped; one goes
-/// to 1e.
+/// On 5b a pawn gives check to the king on 5a, and on no other square.
 #[test]
 fn drops_of_a_pawn(rt: HostRuntime) -> Result<(), Fail> {
     let p = position(b"4k4/9/9/9/7p1/9/9/9/K8", b"P", Black)?;
     let replies = Replies::of(&p);
     let mut sweep = DropSweep::new(&p, guard_of(&p));
     sweep.pass_certain(&p, &replies);
-    assert!(rt; sweep.next(&p) == Some(read(b"P*1e ")));
+    assert!(rt; sweep.next(&p) == Some(read(b"P*5b ")));
     Ok(())
 }
