@@ -193,16 +193,17 @@ fn piece_of(p: &Position, m: &Move) -> Option<Piece> {
 /// The square of the king of the side, if it has just one.
 fn only_king(p: &Position, side: Color) -> Option<Square> {
     let mut found = None;
-    let mut count = 0u8;
     for number in 0..81u8 {
         if let Some(piece) = p.at(square(number)) {
             if piece.role.is_king() && piece.color == side {
+                if found.is_some() {
+                    return None;
+                }
                 found = Some(square(number));
-                count += 1;
             }
         }
     }
-    if count == 1 { found } else { None }
+    found
 }
 
 /// Where the other side's only king may go, as far as the pieces stand that are there now: each square by
