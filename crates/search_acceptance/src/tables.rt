@@ -29,6 +29,9 @@ pub fn table_of(alloc: Global, capacity: usize) -> Result<TestTable, TableFault>
 /// Two kings and two pawns, far apart.
 pub const TWO_PAWNS: &str = "4k4/4p4/9/9/9/9/9/4P4/4K4 b -";
 
+/// White's king in a corner behind three pieces of its own, each on a line with it, and Black's alone.
+const HEMMED_IN: &str = "7gk/7sp/9/9/9/9/9/9/4K4 b -";
+
 /// The positions after one legal move, in the order of codes.
 fn children(alloc: Global, p: &Position) -> Result<Vec<Position>, AllocError> {
     let mut reached = Vec::new(alloc);
@@ -88,23 +91,35 @@ fn steps_over_children(alloc: Global, root: &Position, depth: u8) -> Result<u64,
     Ok(search(root, Eval::Plain, depth + 1, &mut table).steps)
 }
 
-// No move of the opening position takes a piece, and each surely has a reply: so at depth 2 the first
-// child is answered, and the others are left out. With two pawns, each before its king, none surely has.
-#[test]
-fn children_searched_before(rt: HostRuntime) -> Result<(), Fail> {
-    let roots = [
-        (Position::start(), 30, 1, 4u8),
-        (position(TWO_PAWNS)?, 5, 5, 8),
-    ];
-    for (root, count, answered_at_two, depths) in &roots {
-        same!(rt; children(rt.alloc(), root)?.len(), *count);
-        for depth in 0..*depths {
-            let answered: usize = if depth == 1 { *answered_at_two } else { *count };
-            let steps = steps_over_children(rt.alloc(), root, depth)?;
-            same!(rt; steps, (answered as u64).saturating_add(2), depth);
-        }
+// So many moves of the root are legal, and over known children all of these are answered, but at depth 2 so
+// many: the others are left out.
+fn assert_answered(
+    rt: &impl Abort,
+    alloc: Global,
+    root: &Position,
+    count: usize,
+    at_two: usize,
+    depths: u8,
+) -> Result<(), Fail>
+    requires { depths ≤ 8 }
+{
+    same!(rt; children(alloc, root)?.len(), count);
+    for depth in 0..depths {
+        let answered = if depth == 1 { at_two } else { count };
+        let steps = steps_over_children(alloc, root, depth)?;
+        same!(rt; steps, (answered as u64).saturating_add(2), depth);
     }
     Ok(())
+}
+
+// No move of the opening position takes a piece, and each surely has a reply: so at depth 2 the first
+// child is answered, and the others are left out. So it is with two pawns, where the king surely has a step.
+// Behind its own pieces it has none, and no other reply is sure.
+#[test]
+fn children_searched_before(rt: HostRuntime) -> Result<(), Fail> {
+    assert_answered(&rt, rt.alloc(), &Position::start(), 30, 1, 4)?;
+    assert_answered(&rt, rt.alloc(), &position(TWO_PAWNS)?, 5, 1, 8)?;
+    assert_answered(&rt, rt.alloc(), &position(HEMMED_IN)?, 5, 5, 4)
 }
 
 /// What a search one ply deeper left of the positions after each move: how many entries there are,
@@ -139,9 +154,14 @@ fn children_left_in_the_table(rt: HostRuntime) -> Result<(), Fail> {
         same!(rt; left_of(rt.alloc(), &start, depth)?.0, entries, depth);
     }
     let pawns = position(TWO_PAWNS)?;
-    let moves = children(rt.alloc(), &pawns)?.len();
-    for depth in 1..8u8 {
-        same!(rt; left_of(rt.alloc(), &pawns, depth)?.0, moves, depth);
+    same!(rt; left_of(rt.alloc(), &pawns, 1)?.0, 1);
+    for depth in 2..8u8 {
+        same!(rt; left_of(rt.alloc(), &pawns, depth)?.0, 5, depth);
+    }
+    // Where no reply is sure, each child is searched.
+    let hemmed_in = position(HEMMED_IN)?;
+    for depth in 1..4u8 {
+        same!(rt; left_of(rt.alloc(), &hemmed_in, depth)?.0, 5, depth);
     }
     Ok(())
 }
