@@ -226,6 +226,25 @@ fn moves_off_a_line_of_a_king(rt: HostRuntime) -> Result<(), Fail> {
     Ok(())
 }
 
+/// A horse on the king's file goes to squares off the king's lines, to one on its rank, to one nearer by
+/// and to one from which it gives check. A rook behind it gives check by each move off the file.
+#[test]
+fn moves_of_a_slider_off_a_line_of_a_king(rt: HostRuntime) -> Result<(), Fail> {
+    let horse = b"4k4/9/2p4p1/9/4+B4/9/9/9/K8";
+    for (text, certain) in [
+        (b"5e4d ", true),
+        (b"5e2h ", true),
+        (b"5e1a ", false),
+        (b"5e5d ", false),
+        (b"5e3c ", false),
+    ] {
+        assert_eq!(rt; leaves_reply(horse, text)?, certain, "{text:?}");
+    }
+    let rook = b"4k4/9/2p4p1/9/4+B4/9/9/9/K3R4";
+    assert!(rt; !leaves_reply(rook, b"5e4d ")?, "a rook behind");
+    Ok(())
+}
+
 /// Whether it is told without making the move that it leaves the other king a way out.
 fn leaves_way_out(board: &[u8], hand: &[u8], text: &[u8; 5]) -> Result<bool, Fail> {
     let p = position(board, hand, Black)?;

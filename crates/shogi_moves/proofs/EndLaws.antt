@@ -1,7 +1,7 @@
 -- Where a piece may legally end.
 use Rattle.std.proofs.Common.{◌≡◌, ◌≢◌, ℕ, ◌-◌, ◌^◌, ◌<◌, Bool, true, false, not, Option, Some, None, refl, sym, ap, ◌∙◌, arith, inl, inr, bit_and, bit_or, length, cond, set, get_or-set_same, get_or-set_other, length-set, ◌⊎◌}
 use Rattle.std.specs.Prelude.{◌&&◌, ◌||◌, ◌==◌, is_none, is_some, ◌%◌, ◌/◌, nat_lt}
-use Rattle.std.proofs.lemmas.Bool.{cases_eq, ne_eqb, eq-eqb, and_parts, and_from, both_ways, lt-ltb, not-true}
+use Rattle.std.proofs.lemmas.Bool.{cases_eq, ne_eqb, eq-eqb, and_parts, and_from, both_ways, le-ltb, lt-ltb, ltb-false, not-true}
 use Rattle.shogi_core.specs.declared.moves.Move.{Move}
 use Rattle.shogi_core.specs.declared.moves.Move.TheVariants.{Board, Drop}
 use Rattle.shogi_core.specs.declared.piece.Color.{Color}
@@ -210,21 +210,6 @@ pub legal_board : (p : Shogi) (from to : ℕ) (promote : Bool) → is_legal p (B
 unfolding is_legal is_safe
 legal_board p from to promote = alone (is_pseudo_legal_board_move p.cells p.side from to promote && is_unchecked p (Board from to promote))
 
-mix : (other reach may live safe asked : Bool) → (((((other && reach) && may) && live) && safe) && asked) ≡ (((reach && (other && asked)) && safe) && (may && live))
-mix false true may live safe asked = refl
-mix false false may live safe asked = refl
-mix true false may live safe asked = refl
-mix true true false live safe false = refl
-mix true true false live false true = refl
-mix true true false live true true = refl
-mix true true true false safe false = refl
-mix true true true false false true = refl
-mix true true true false true true = refl
-mix true true true true true true = refl
-mix true true true true true false = refl
-mix true true true true false true = refl
-mix true true true true false false = refl
-
 asked_end : (capture : Bool) (side : Color) (cell : Option Piece) → (not (is_piece_of side cell) && is_asked capture (is_some cell)) ≡ is_end capture side cell
 asked_end true side None = refl
 asked_end false side None = refl
@@ -334,15 +319,6 @@ pub unchecked_either : (p : Shogi) (from to : ℕ) (promote : Bool) → length p
 unchecked_either p from to promote len ht own = ap not (same_tests (in_check (cells_after p.cells p.side (Board from to promote)) p.side) (in_check (cells_after p.cells p.side (Board from to false)) p.side)
     (unchecked_if p.cells p.side from to promote false len ht own) (unchecked_if p.cells p.side from to false promote len ht own))
 
--- the legal ends with a choice on promotion
-pub wanted_board : (p : Shogi) (capture promote : Bool) (from to : ℕ) → length p.cells ≡ 81 → from < 81 → to < 81 → is_piece_of p.side (piece_at p.cells from) ≡ true
-    → is_wanted p capture (code_of (Board from to promote)) ≡ (((reaches p.cells from to && is_end capture p.side (piece_at p.cells to)) && is_unchecked p (Board from to false)) && ((not promote || may_promote (piece_at p.cells from) from to) && not (is_immobile to (piece_moved promote (piece_at p.cells from)))))
-wanted_board p capture promote from to len hf ht own =
-    wanted_move p capture (Board from to promote) (move_of-board from to promote hf ht)
-    ∙ (rw (legal_board p from to promote, unchecked_either p from to promote len ht own, own)
-    (mix (not (is_piece_of p.side (piece_at p.cells to))) (reaches p.cells from to) (not promote || may_promote (piece_at p.cells from) from to) (not (is_immobile to (piece_moved promote (piece_at p.cells from)))) (is_unchecked p (Board from to false)) (is_asked capture (is_some (piece_at p.cells to)))
-    ∙ (rw (asked_end capture p.side (piece_at p.cells to)) refl)))
-
 pub still : (n : ℕ) (cell : Option Piece) → is_immobile n (piece_moved false cell) ≡ is_immobile n cell
 still n None = refl
 still n (Some piece) = refl
@@ -373,76 +349,52 @@ plain_apart ends dead n cell fits h d = has_bit-and ends (2 ^ 128 - 1 - dead) n 
 pub promoting_apart : (ends promoting n : ℕ) (b : Bool) → has_bit promoting n ≡ b → has_bit (bit_and ends promoting) n ≡ (has_bit ends n && b)
 promoting_apart ends promoting n b d = has_bit-and ends promoting n ∙ (rw d refl)
 
-and_true : (b : Bool) → b ≡ (b && true)
-and_true true = refl
-and_true false = refl
+-- a piece that could never move again may promote
+mobile : (from n : ℕ) (cell : Option Piece) → may_promote cell from n ≡ false → is_immobile n cell ≡ false
+mobile from n None e = refl
+mobile from n (Some piece) e = go piece.color piece.role e
+  where
+    outside : (a b : Bool) → (a || b) ≡ false → b ≡ false
+    outside false b h = h
+    outside true b h = absurd (cc)
 
-and_false : (b : Bool) → false ≡ (b && false)
-and_false true = refl
-and_false false = refl
+    go : (color : Color) (role : Role) → (is_promotable role && (in_promotion_zone color from || in_promotion_zone color n)) ≡ false → is_immobile_role color role (n % 9) ≡ false
+    go Black Pawn h = le-ltb (n % 9) 1 (omega (arith, ltb-false (n % 9) 3 (outside _ _ h)))
+    go Black Lance h = le-ltb (n % 9) 1 (omega (arith, ltb-false (n % 9) 3 (outside _ _ h)))
+    go Black Knight h = le-ltb (n % 9) 2 (omega (arith, ltb-false (n % 9) 3 (outside _ _ h)))
+    go White Pawn h = le-ltb 7 (n % 9) (omega (arith, ltb-false 5 (n % 9) (outside _ _ h)))
+    go White Lance h = le-ltb 7 (n % 9) (omega (arith, ltb-false 5 (n % 9) (outside _ _ h)))
+    go White Knight h = le-ltb 6 (n % 9) (omega (arith, ltb-false 5 (n % 9) (outside _ _ h)))
+    go Black _ h = refl
+    go White _ h = refl
 
--- what never promotes goes on from everywhere
-unpromotable : (color : Color) (role : Role) (rank : ℕ) → is_promotable role ≡ false → is_immobile_role color role rank ≡ false
-unpromotable Black Pawn rank e = absurd (cc)
-unpromotable Black Lance rank e = absurd (cc)
-unpromotable Black Knight rank e = absurd (cc)
-unpromotable White Pawn rank e = absurd (cc)
-unpromotable White Lance rank e = absurd (cc)
-unpromotable White Knight rank e = absurd (cc)
-unpromotable Black _ rank e = refl
-unpromotable White _ rank e = refl
+-- a piece that promotes on none of its ends
+pub promoting_none : (ends zone n : ℕ) (b : Bool) → has_bit zone n ≡ b → bit_and ends zone ≡ 0 → has_bit 0 n ≡ (has_bit ends n && b)
+promoting_none ends zone n b z none = ap (λ (m : ℕ). has_bit m n) (sym none) ∙ (has_bit-and ends zone n ∙ (rw z refl))
 
-pub plain_alone : (ends n : ℕ) (cell : Option Piece) (piece : Piece) → cell ≡ Some piece → is_promotable piece.role ≡ false → has_bit ends n ≡ (has_bit ends n && not (is_immobile n cell))
-plain_alone ends n cell piece stands e =
-    let goes : is_immobile n cell ≡ false = ap (is_immobile n) stands ∙ unpromotable piece.color piece.role (n % 9) e in
-    and_true (has_bit ends n) ∙ (rw goes refl)
+pub promoting_nowhere : (ends zone n : ℕ) (b : Bool) → has_bit zone n ≡ b → zone ≡ 0 → has_bit 0 n ≡ (has_bit ends n && b)
+promoting_nowhere ends zone n b z none =
+    let off : b ≡ false = sym z ∙ (ap (λ (m : ℕ). has_bit m n) none ∙ has_bit-none n) in
+    has_bit-none n ∙ (rw off (go (has_bit ends n)))
+  where
+    go : (a : Bool) → false ≡ (a && false)
+    go true = refl
+    go false = refl
 
-pub plain_none : (ends n : ℕ) (cell : Option Piece) → cell ≡ None → has_bit ends n ≡ (has_bit ends n && not (is_immobile n cell))
-plain_none ends n cell stands = let goes : is_immobile n cell ≡ false = ap (is_immobile n) stands in and_true (has_bit ends n) ∙ (rw goes refl)
+pub plain_all : (ends zone from n : ℕ) (cell : Option Piece) → has_bit zone n ≡ may_promote cell from n → bit_and ends zone ≡ 0 → has_bit ends n ≡ (has_bit ends n && not (is_immobile n cell))
+plain_all ends zone from n cell z none = go (has_bit ends n) (sym (promoting_none ends zone n (may_promote cell from n) z none) ∙ has_bit-none n)
+  where
+    go : (a : Bool) → (a && may_promote cell from n) ≡ false → a ≡ (a && not (is_immobile n cell))
+    go false h = refl
+    go true h = (let goes : is_immobile n cell ≡ false = mobile from n cell h in rw goes refl)
 
-pub promoting_none : (ends from n : ℕ) (cell : Option Piece) → cell ≡ None → has_bit 0 n ≡ (has_bit ends n && may_promote cell from n)
-promoting_none ends from n cell stands = let never : may_promote cell from n ≡ false = ap (λ (x : Option Piece). may_promote x from n) stands in has_bit-none n ∙ (and_false (has_bit ends n) ∙ (rw never refl))
-
-pub promoting_never : (ends from n : ℕ) (cell : Option Piece) (piece : Piece) → cell ≡ Some piece → is_promotable piece.role ≡ false → has_bit 0 n ≡ (has_bit ends n && may_promote cell from n)
-promoting_never ends from n cell piece stands e =
-    let never : may_promote cell from n ≡ false = ap (λ (x : Option Piece). may_promote x from n) stands ∙ ap (λ b. b && (in_promotion_zone piece.color from || in_promotion_zone piece.color n)) e in
-    has_bit-none n ∙ (and_false (has_bit ends n) ∙ (rw never refl))
-
-pub ruleset promoting = (and_fits, plain_apart, promoting_apart, plain_alone, plain_none, promoting_none, promoting_never)
+pub ruleset promoting = (and_fits, plain_apart, promoting_apart, plain_all, promoting_none, promoting_nowhere)
 
 -- the squares of a sort that a piece reaches
 pub among_bits : (targets sort n : ℕ) (r e : Bool) → has_bit targets n ≡ r → has_bit sort n ≡ e → has_bit (bit_and targets sort) n ≡ (r && e)
 among_bits targets sort n r e t s = has_bit-and targets sort n ∙ (rw (t, s) refl)
 
-pub plain_ends : (p : Shogi) (capture : Bool) (from n among ends plain : ℕ) → length p.cells ≡ 81 → from < 81 → n < 81 → is_piece_of p.side (piece_at p.cells from) ≡ true
-    → has_bit among n ≡ (reaches p.cells from n && is_end capture p.side (piece_at p.cells n))
-    → has_bit ends n ≡ (has_bit among n && is_unchecked p (Board from n false)) → has_bit plain n ≡ (has_bit ends n && not (is_immobile n (piece_at p.cells from)))
-    → has_bit plain n ≡ is_wanted p capture (code_of (Board from n false))
-plain_ends p capture from n among ends plain len hf hn own a e d =
-    d
-    ∙ (rw (e, a)
-    (sym (wanted_board p capture false from n len hf hn own ∙ (rw (still n (piece_at p.cells from)) refl))))
-
-pub promoting_ends : (p : Shogi) (capture : Bool) (from n among ends promoting : ℕ) → length p.cells ≡ 81 → from < 81 → n < 81 → is_piece_of p.side (piece_at p.cells from) ≡ true
-    → has_bit among n ≡ (reaches p.cells from n && is_end capture p.side (piece_at p.cells n))
-    → has_bit ends n ≡ (has_bit among n && is_unchecked p (Board from n false)) → has_bit promoting n ≡ (has_bit ends n && may_promote (piece_at p.cells from) from n)
-    → has_bit promoting n ≡ is_wanted p capture (code_of (Board from n true))
-promoting_ends p capture from n among ends promoting len hf hn own a e m =
-    m
-    ∙ (rw (e, a)
-    (sym (wanted_board p capture true from n len hf hn own ∙ (rw (alive from n (piece_at p.cells from)) refl))))
-
--- a piece that goes nowhere
-pub nowhere : (p : Shogi) (capture promote : Bool) (from n targets sort : ℕ) → length p.cells ≡ 81 → from < 81 → n < 81 → is_piece_of p.side (piece_at p.cells from) ≡ true
-    → has_bit targets n ≡ reaches p.cells from n → has_bit sort n ≡ is_end capture p.side (piece_at p.cells n) → bit_and targets sort ≡ 0
-    → has_bit 0 n ≡ is_wanted p capture (code_of (Board from n promote))
-nowhere p capture promote from n targets sort len hf hn own t s none =
-    let no : (reaches p.cells from n && is_end capture p.side (piece_at p.cells n)) ≡ false = sym (has_bit-and targets sort n ∙ (rw (t, s) refl)) ∙ (ap (λ (m : ℕ). has_bit m n) none ∙ has_bit-none n) in
-    has_bit-none n ∙ sym (wanted_board p capture promote from n len hf hn own ∙ (rw no refl))
-
-pub ruleset ending = (and_fits, plain_ends, promoting_ends, nowhere, among_bits)
-
--- ---- all legal ends of a piece, captures and others
+-- ---- the legal ends of a piece on squares where none of its side stands
 
 mix_all : (other reach may live safe : Bool) → ((((other && reach) && may) && live) && safe) ≡ (((reach && other) && safe) && (may && live))
 mix_all false true may live safe = refl
@@ -455,39 +407,102 @@ mix_all true true true false false = refl
 mix_all true true true true true = refl
 mix_all true true true true false = refl
 
-pub legal_board_code : (p : Shogi) (promote : Bool) (from to : ℕ) → length p.cells ≡ 81 → from < 81 → to < 81 → is_piece_of p.side (piece_at p.cells from) ≡ true
+legal_board_code : (p : Shogi) (promote : Bool) (from to : ℕ) → length p.cells ≡ 81 → from < 81 → to < 81 → is_piece_of p.side (piece_at p.cells from) ≡ true
     → is_legal_code p (code_of (Board from to promote)) ≡ (((reaches p.cells from to && not (is_piece_of p.side (piece_at p.cells to))) && is_unchecked p (Board from to false)) && ((not promote || may_promote (piece_at p.cells from) from to) && not (is_immobile to (piece_moved promote (piece_at p.cells from)))))
 legal_board_code p promote from to len hf ht own =
     is_legal_code_of p (code_of (Board from to promote)) (Board from to promote) (move_of-board from to promote hf ht)
     ∙ (rw (legal_board p from to promote, unchecked_either p from to promote len ht own, own)
     (mix_all (not (is_piece_of p.side (piece_at p.cells to))) (reaches p.cells from to) (not promote || may_promote (piece_at p.cells from) from to) (not (is_immobile to (piece_moved promote (piece_at p.cells from)))) (is_unchecked p (Board from to false))))
 
-pub plain_legal : (p : Shogi) (from n targets own ends plain : ℕ) → length p.cells ≡ 81 → from < 81 → n < 81 → is_piece_of p.side (piece_at p.cells from) ≡ true
-    → has_bit targets n ≡ reaches p.cells from n → own < 2 ^ 81 → has_bit own n ≡ is_piece_of p.side (piece_at p.cells n)
-    → has_bit ends n ≡ (has_bit (bit_and targets (2 ^ 128 - 1 - own)) n && is_unchecked p (Board from n false)) → has_bit plain n ≡ (has_bit ends n && not (is_immobile n (piece_at p.cells from)))
-    → has_bit plain n ≡ is_legal_code p (code_of (Board from n false))
-plain_legal p from n targets own ends plain len hf hn mine t of o e d =
-    d
-    ∙ (rw (e, has_bit-and targets (2 ^ 128 - 1 - own) n, has_bit-not own n (omega arith) (omega arith), t, o)
-    (sym (legal_board_code p false from n len hf hn mine ∙ (rw (still n (piece_at p.cells from)) refl))))
+within : (on reach other safe rest : Bool) → (on ≡ true → (reach ≡ true) × (other ≡ false)) → (on && (((reach && not other) && safe) && rest)) ≡ ((on && safe) && rest)
+within false reach other safe rest h = refl
+within true reach other safe rest h = rw ((h refl).0, (h refl).1) refl
 
-pub promoting_legal : (p : Shogi) (from n targets own ends promoting : ℕ) → length p.cells ≡ 81 → from < 81 → n < 81 → is_piece_of p.side (piece_at p.cells from) ≡ true
-    → has_bit targets n ≡ reaches p.cells from n → own < 2 ^ 81 → has_bit own n ≡ is_piece_of p.side (piece_at p.cells n)
-    → has_bit ends n ≡ (has_bit (bit_and targets (2 ^ 128 - 1 - own)) n && is_unchecked p (Board from n false)) → has_bit promoting n ≡ (has_bit ends n && may_promote (piece_at p.cells from) from n)
-    → has_bit promoting n ≡ is_legal_code p (code_of (Board from n true))
-promoting_legal p from n targets own ends promoting len hf hn mine t of o e m =
-    m
-    ∙ (rw (e, has_bit-and targets (2 ^ 128 - 1 - own) n, has_bit-not own n (omega arith) (omega arith), t, o)
-    (sym (legal_board_code p true from n len hf hn mine ∙ (rw (alive from n (piece_at p.cells from)) refl))))
+legal_within : (p : Shogi) (promote : Bool) (from to among : ℕ) → length p.cells ≡ 81 → from < 81 → to < 81 → is_piece_of p.side (piece_at p.cells from) ≡ true → (has_bit among to ≡ true → (reaches p.cells from to ≡ true) × (is_piece_of p.side (piece_at p.cells to) ≡ false))
+    → (has_bit among to && is_legal_code p (code_of (Board from to promote))) ≡ ((has_bit among to && is_unchecked p (Board from to false)) && ((not promote || may_promote (piece_at p.cells from) from to) && not (is_immobile to (piece_moved promote (piece_at p.cells from)))))
+legal_within p promote from to among len hf ht own way =
+    ap (λ b. has_bit among to && b) (legal_board_code p promote from to len hf ht own)
+    ∙ within (has_bit among to) (reaches p.cells from to) (is_piece_of p.side (piece_at p.cells to)) (is_unchecked p (Board from to false)) _ way
 
-pub nowhere_legal : (p : Shogi) (promote : Bool) (from n targets own : ℕ) → length p.cells ≡ 81 → from < 81 → n < 81 → is_piece_of p.side (piece_at p.cells from) ≡ true
-    → has_bit targets n ≡ reaches p.cells from n → own < 2 ^ 81 → has_bit own n ≡ is_piece_of p.side (piece_at p.cells n) → bit_and targets (2 ^ 128 - 1 - own) ≡ 0
-    → has_bit 0 n ≡ is_legal_code p (code_of (Board from n promote))
-nowhere_legal p promote from n targets own len hf hn mine t of o none =
-    let no : (reaches p.cells from n && not (is_piece_of p.side (piece_at p.cells n))) ≡ false = sym (has_bit-and targets (2 ^ 128 - 1 - own) n ∙ (rw (has_bit-not own n (omega arith) (omega arith), t, o) refl)) ∙ (ap (λ (m : ℕ). has_bit m n) none ∙ has_bit-none n) in
-    has_bit-none n ∙ sym (legal_board_code p promote from n len hf hn mine ∙ (rw no refl))
+pub plain_ends : (p : Shogi) (from n among ends plain : ℕ) → length p.cells ≡ 81 → from < 81 → n < 81 → is_piece_of p.side (piece_at p.cells from) ≡ true → (has_bit among n ≡ true → (reaches p.cells from n ≡ true) × (is_piece_of p.side (piece_at p.cells n) ≡ false))
+    → has_bit ends n ≡ (has_bit among n && is_unchecked p (Board from n false)) → has_bit plain n ≡ (has_bit ends n && not (is_immobile n (piece_at p.cells from)))
+    → has_bit plain n ≡ (has_bit among n && is_legal_code p (code_of (Board from n false)))
+plain_ends p from n among ends plain len hf hn own way e d = d ∙ (rw e (sym (legal_within p false from n among len hf hn own way ∙ (rw (still n (piece_at p.cells from)) refl))))
 
-pub ruleset ending_all = (and_fits, plain_legal, promoting_legal, nowhere_legal)
+pub promoting_ends : (p : Shogi) (from n among ends promoting : ℕ) → length p.cells ≡ 81 → from < 81 → n < 81 → is_piece_of p.side (piece_at p.cells from) ≡ true → (has_bit among n ≡ true → (reaches p.cells from n ≡ true) × (is_piece_of p.side (piece_at p.cells n) ≡ false))
+    → has_bit ends n ≡ (has_bit among n && is_unchecked p (Board from n false)) → has_bit promoting n ≡ (has_bit ends n && may_promote (piece_at p.cells from) from n)
+    → has_bit promoting n ≡ (has_bit among n && is_legal_code p (code_of (Board from n true)))
+promoting_ends p from n among ends promoting len hf hn own way e m = m ∙ (rw e (sym (legal_within p true from n among len hf hn own way ∙ (rw (alive from n (piece_at p.cells from)) refl))))
+
+-- a piece that goes nowhere
+pub nowhere : (among n : ℕ) (b : Bool) → among ≡ 0 → has_bit 0 n ≡ (has_bit among n && b)
+nowhere among n b none = rw (none, has_bit-none n) refl
+
+pub ruleset ending = (plain_ends, promoting_ends, nowhere)
+
+-- ---- all legal ends, and those of a sort
+
+pub entering : (own n : ℕ) (b : Bool) → own < 2 ^ 81 → n < 81 → has_bit own n ≡ b → has_bit (2 ^ 128 - 1 - own) n ≡ not b
+entering own n b fits h e = has_bit-not own n (omega arith) (omega arith) ∙ ap not e
+
+pub ruleset entering_bits = (entering)
+
+-- a legal move is one to a square that the piece reaches, and where none of its side stands
+legal_way : (p : Shogi) (promote : Bool) (from to : ℕ) → from < 81 → to < 81 → is_legal_code p (code_of (Board from to promote)) ≡ true → (reaches p.cells from to ≡ true) × (is_piece_of p.side (piece_at p.cells to) ≡ false)
+legal_way p promote from to hf ht e =
+    let legal = sym (is_legal_code_of p (code_of (Board from to promote)) (Board from to promote) (move_of-board from to promote hf ht) ∙ legal_board p from to promote) ∙ e in
+    let four = and_parts _ _ (and_parts (is_pseudo_legal_board_move p.cells p.side from to promote) (is_unchecked p (Board from to promote)) legal).0 in
+    let three = and_parts _ _ four.0 in
+    let two = and_parts _ _ three.0 in
+    (two.1, not-true _ (and_parts _ _ two.0).1)
+
+absorbed : (a b : Bool) → (b ≡ true → a ≡ true) → (a && b) ≡ b
+absorbed a true h = rw (h refl) refl
+absorbed true false h = refl
+absorbed false false h = refl
+
+pub all_ends : (p : Shogi) (promote : Bool) (from targets squares ends : ℕ) → from < 81 → ((n : ℕ) → n < 81 → has_bit targets n ≡ reaches p.cells from n) → ((n : ℕ) → n < 81 → has_bit squares n ≡ not (is_piece_of p.side (piece_at p.cells n)))
+    → ((n : ℕ) → n < 81 → has_bit ends n ≡ (has_bit (bit_and targets squares) n && is_legal_code p (code_of (Board from n promote)))) → (n : ℕ) → n < 81 → has_bit ends n ≡ is_legal_code p (code_of (Board from n promote))
+all_ends p promote from targets squares ends hf t s e n h = e n h ∙ absorbed (has_bit (bit_and targets squares) n) _ (λ legal. (
+    let way = legal_way p promote from n hf h legal in
+    among_bits targets squares n _ _ (t n h) (s n h) ∙ and_from _ _ way.0 (ap not way.1)))
+
+pub all_ways : (targets squares n : ℕ) (reach own : Bool) → has_bit targets n ≡ reach → has_bit squares n ≡ not own → has_bit (bit_and targets squares) n ≡ true → (reach ≡ true) × (own ≡ false)
+all_ways targets squares n reach own t s on = let both = and_parts reach (not own) (sym (among_bits targets squares n reach (not own) t s) ∙ on) in (both.0, not-true own both.1)
+
+not_own : (capture : Bool) (side : Color) (cell : Option Piece) → is_end capture side cell ≡ true → is_piece_of side cell ≡ false
+not_own true Black cell e = other_side White cell e
+not_own true White cell e = other_side Black cell e
+not_own false side None e = refl
+not_own false side (Some piece) e = absurd (cc)
+
+pub sort_ways : (side : Color) (capture : Bool) (cell : Option Piece) (targets sort n : ℕ) (reach : Bool) → has_bit targets n ≡ reach → has_bit sort n ≡ is_end capture side cell → has_bit (bit_and targets sort) n ≡ true → (reach ≡ true) × (is_piece_of side cell ≡ false)
+sort_ways side capture cell targets sort n reach t s on = let both = and_parts reach (is_end capture side cell) (sym (among_bits targets sort n reach (is_end capture side cell) t s) ∙ on) in (both.0, not_own capture side cell both.1)
+
+asked_legal : (reach end legal own asked : Bool) → (legal ≡ true → (reach ≡ true) × (own ≡ false)) → (not own && asked) ≡ end → ((reach && end) && legal) ≡ (legal && asked)
+asked_legal false end false own asked h e = refl
+asked_legal true false false own asked h e = refl
+asked_legal true true false own asked h e = refl
+asked_legal reach end true own asked h e = rw (h refl).0 (alone end ∙ (sym e ∙ (rw (h refl).1 refl)))
+
+pub sort_ends : (p : Shogi) (capture promote : Bool) (from targets sort ends : ℕ) → from < 81 → ((n : ℕ) → n < 81 → has_bit targets n ≡ reaches p.cells from n) → ((n : ℕ) → n < 81 → has_bit sort n ≡ is_end capture p.side (piece_at p.cells n))
+    → ((n : ℕ) → n < 81 → has_bit ends n ≡ (has_bit (bit_and targets sort) n && is_legal_code p (code_of (Board from n promote)))) → (n : ℕ) → n < 81 → has_bit ends n ≡ is_wanted p capture (code_of (Board from n promote))
+sort_ends p capture promote from targets sort ends hf t s e n h =
+    e n h
+    ∙ (rw (among_bits targets sort n _ _ (t n h) (s n h), sort_of p (code_of (Board from n promote)) (Board from n promote) (move_of-board from n promote hf h))
+    (asked_legal (reaches p.cells from n) (is_end capture p.side (piece_at p.cells n)) (is_legal_code p (code_of (Board from n promote))) (is_piece_of p.side (piece_at p.cells n)) (is_asked capture (is_some (piece_at p.cells n))) (legal_way p promote from n hf h) (asked_end capture p.side (piece_at p.cells n))))
+
+-- the legal ends with a choice on promotion
+pub wanted_board : (p : Shogi) (capture promote : Bool) (from to : ℕ) → length p.cells ≡ 81 → from < 81 → to < 81 → is_piece_of p.side (piece_at p.cells from) ≡ true
+    → is_wanted p capture (code_of (Board from to promote)) ≡ (((reaches p.cells from to && is_end capture p.side (piece_at p.cells to)) && is_unchecked p (Board from to false)) && ((not promote || may_promote (piece_at p.cells from) from to) && not (is_immobile to (piece_moved promote (piece_at p.cells from)))))
+wanted_board p capture promote from to len hf ht own =
+    let end = is_end capture p.side (piece_at p.cells to) in
+    let taken = asked_legal (reaches p.cells from to) end (is_legal_code p (code_of (Board from to promote))) (is_piece_of p.side (piece_at p.cells to)) (is_asked capture (is_some (piece_at p.cells to))) (legal_way p promote from to hf ht) (asked_end capture p.side (piece_at p.cells to)) in
+    rw (sort_of p (code_of (Board from to promote)) (Board from to promote) (move_of-board from to promote hf ht))
+    (sym taken
+    ∙ (ap (λ b. (reaches p.cells from to && end) && b) (legal_board_code p promote from to len hf ht own)
+    ∙ within (reaches p.cells from to && end) (reaches p.cells from to) (is_piece_of p.side (piece_at p.cells to)) (is_unchecked p (Board from to false)) _
+    (λ on. (let both = and_parts (reaches p.cells from to) end on in (both.0, not_own capture p.side (piece_at p.cells to) both.1)))))
 
 -- ---- drops
 

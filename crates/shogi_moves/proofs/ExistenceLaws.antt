@@ -2,7 +2,7 @@
 use Rattle.std.proofs.Common.{◌≡◌, ◌≢◌, ℕ, ◌+◌, ◌-◌, ◌*◌, ◌/◌, ◌%◌, ◌^◌, ◌<◌, ◌≤◌, Bool, true, false, List, [], ◌∷◌, Option, Some, None, cond, refl, sym, ap, ◌∙◌, arith, inl, inr, subst, bit_and, bit_or}
 use Rattle.std.specs.Prelude.{◌==◌}
 use Rattle.std.specs.Int.{trailing_zeros, w128}
-use Rattle.std.proofs.lemmas.Bool.{or_cases, or_left, and_from, and_parts, both_ways, not-true, ne_eqb, eq-eqb, cases_lt, true_from_ne_false, false_from_ne_true}
+use Rattle.std.proofs.lemmas.Bool.{or_cases, or_left, and_from, and_parts, both_ways, ne_eqb, eq-eqb, cases_lt, true_from_ne_false, false_from_ne_true}
 use Rattle.shogi_core.specs.declared.moves.TheConstants.{MOVE_CODE_COUNT, FIRST_DROP, SQUARE_CODES}
 use Rattle.shogi_core.specs.declared.bits.TheConstants.{ALL_SQUARES}
 use Rattle.shogi_core.specs.declared.moves.Move.TheVariants.{Board, Drop}
@@ -22,17 +22,17 @@ use Rattle.shogi_core.specs.Codes.{code_of, kind_at}
 use Rattle.shogi_core.specs.Movement.{piece_at, reaches}
 use Rattle.shogi_core.specs.Position.{Shogi}
 use Rattle.shogi_core.proofs.Below.{some_below_at, some_below_no}
-use Rattle.shogi_core.proofs.BitLaws.{has_bit-and, has_bit-or, has_bit-none}
+use Rattle.shogi_core.proofs.BitLaws.{has_bit-or, has_bit-none}
 use Rattle.shogi_core.proofs.CodesBack.{move_of-board, move_of-drop}
 use Rattle.shogi_core.proofs.Faults.{number_below}
-use Rattle.shogi_core.proofs.LineBits.{lowest_set, has_bit-not}
+use Rattle.shogi_core.proofs.LineBits.{lowest_set}
 use Rattle.shogi_moves.specs.Captures.{is_wanted}
 use Rattle.shogi_moves.specs.Ends.{is_unchecked}
 use Rattle.shogi_moves.specs.Guards.{Guards}
 use Rattle.shogi_moves.specs.Legal.{is_safe, is_some_and_safe, is_safe_code, is_legal, is_legal_code, is_pawn_kind, is_pseudo_legal_board_move}
 use Rattle.shogi_moves.specs.LegalMoves.{legal_from, legal_codes}
 use Rattle.shogi_moves.specs.Rising.{is_in}
-use Rattle.shogi_moves.proofs.EndLaws.{drop_wanted, legal_board, still}
+use Rattle.shogi_moves.proofs.EndLaws.{drop_wanted, legal_board, still, all_ways, entering}
 use Rattle.shogi_moves.proofs.KingLaws.{king_own}
 use Rattle.shogi_moves.proofs.LegalLaws.{in_legal, legal_in, legal_in_above, legal_code_below, is_legal_code_of, run_without, board_code, drop_code, legal_code_unsafe}
 use Rattle.shogi_moves.proofs.SweepLaws.{either, at_code}
@@ -113,9 +113,7 @@ king_move p from to hf ht king way safe =
 -- where it may go: squares that it reaches, and on which no piece of its own stands
 pub king_ways : (p : Shogi) (from targets own : ℕ) → own < 2 ^ 81 → ((n : ℕ) → n < 81 → has_bit targets n ≡ reaches p.cells from n) → ((n : ℕ) → n < 81 → has_bit own n ≡ is_piece_of p.side (piece_at p.cells n))
     → (n : ℕ) → n < 81 → has_bit (bit_and targets (2 ^ 128 - 1 - own)) n ≡ true → (reaches p.cells from n ≡ true) × (is_piece_of p.side (piece_at p.cells n) ≡ false)
-king_ways p from targets own fits t o n h e =
-    let parts : (has_bit targets n ≡ true) × (has_bit (2 ^ 128 - 1 - own) n ≡ true) = and_parts _ _ (sym (has_bit-and targets (2 ^ 128 - 1 - own) n) ∙ e) in
-    (sym (t n h) ∙ parts.0, sym (o n h) ∙ not-true _ (sym (has_bit-not own n (omega arith) (omega arith)) ∙ parts.1))
+king_ways p from targets own fits t o n h e = all_ways targets (2 ^ 128 - 1 - own) n (reaches p.cells from n) (is_piece_of p.side (piece_at p.cells n)) (t n h) (entering own n _ fits h (o n h)) e
 
 -- ---- safe moves
 

@@ -1,7 +1,7 @@
 -- Laws of the legal moves.
-use Rattle.std.proofs.Common.{◌≡◌, ℕ, ◌+◌, ◌-◌, ◌*◌, ◌/◌, ◌%◌, ◌<◌, ◌≤◌, Bool, true, false, [], ◌∷◌, Option, Some, None, refl, sym, ◌∙◌, ap, subst, arith, inl, inr}
-use Rattle.std.specs.Prelude.{zero, suc, nat_lt, ◌==◌}
-use Rattle.std.proofs.lemmas.Bool.{cond-true, cond-false, cases_lt, lt-ltb, le-ltb, both_ways}
+use Rattle.std.proofs.Common.{◌≡◌, ℕ, ◌+◌, ◌-◌, ◌*◌, ◌/◌, ◌%◌, ◌<◌, ◌≤◌, Bool, true, false, not, [], ◌∷◌, Option, Some, None, refl, sym, ◌∙◌, ap, subst, arith, inl, inr}
+use Rattle.std.specs.Prelude.{zero, suc, nat_lt, ◌==◌, ◌&&◌}
+use Rattle.std.proofs.lemmas.Bool.{cond-true, cond-false, cases_lt, lt-ltb, le-ltb, both_ways, and_parts, eq-eqb, ne_eqb, not-true, false_from_ne_true}
 use Rattle.shogi_core.specs.declared.moves.TheConstants.{MOVE_CODE_COUNT, FIRST_DROP, SQUARE_CODES}
 use Rattle.shogi_core.specs.declared.moves.Move.{Move}
 use Rattle.shogi_core.specs.declared.moves.Move.TheVariants.{Board, Drop}
@@ -10,6 +10,7 @@ use Rattle.shogi_core.specs.Cell.{is_piece_of}
 use Rattle.shogi_core.specs.Codes.{move_of, code_of, codes_from, kind_at}
 use Rattle.shogi_core.specs.Movement.{piece_at}
 use Rattle.shogi_core.specs.Position.{Shogi}
+use Rattle.shogi_core.proofs.BitLaws.{has_bit-none}
 use Rattle.shogi_moves.specs.After.{after, after_code, after_some}
 use Rattle.shogi_moves.specs.Legal.{is_safe, is_some_and_safe, is_safe_code, is_legal, is_legal_code, is_some_and_legal}
 use Rattle.shogi_moves.specs.LegalMoves.{legal_from, legal_codes, legal_above}
@@ -98,10 +99,43 @@ no_piece p from code hf e low high =
     let same : code / 2 / 81 ≡ from = omega arith in
     legal_code_unsafe p code (ap (is_some_and_safe p) (board_code code (omega arith)) ∙ not_own p (code / 2 / 81) (code / 2 % 81) (code % 2 == 1) (subst (λ (n : ℕ). is_piece_of p.side (piece_at p.cells n) ≡ false) (sym same) e))
 
-pub run_squares : (p : Shogi) (own from next : ℕ) → from ≤ next → next ≤ 81 → ((n : ℕ) → n < 81 → has_bit own n ≡ is_piece_of p.side (piece_at p.cells n)) → ((n : ℕ) → from ≤ n → n < next → has_bit own n ≡ false)
-    → legal_from p (from * SQUARE_CODES) ≡ legal_from p (next * SQUARE_CODES)
-run_squares p own from next up h bits none = run_without p (from * SQUARE_CODES) (next * SQUARE_CODES) (omega arith) (omega arith) (λ c low high.
-    no_piece p (c / SQUARE_CODES) c (omega arith) (sym (bits (c / SQUARE_CODES) (omega arith)) ∙ none (c / SQUARE_CODES) (omega arith) (omega arith)) (omega arith) (omega arith))
+-- squares without a piece of the side have no legal move
+pub run_squares : (p : Shogi) (from next : ℕ) → from ≤ next → next ≤ 81 → ((n : ℕ) → from ≤ n → n < next → is_piece_of p.side (piece_at p.cells n) ≡ false) → legal_from p (from * SQUARE_CODES) ≡ legal_from p (next * SQUARE_CODES)
+run_squares p from next up h none = run_without p (from * SQUARE_CODES) (next * SQUARE_CODES) (omega arith) (omega arith) (λ c low high. no_piece p (c / SQUARE_CODES) c (omega arith) (none (c / SQUARE_CODES) (omega arith) (omega arith)) (omega arith) (omega arith))
+
+-- the squares of a mask are those of the side's pieces from a square on
+pub record HasPiecesFrom (p : Shogi) (left first : ℕ) : Type 0 where
+  pub within : first ≤ 81
+  pub below : (n : ℕ) → n < first → has_bit left n ≡ false
+  pub above : (n : ℕ) → first ≤ n → n < 81 → has_bit left n ≡ is_piece_of p.side (piece_at p.cells n)
+
+pub pieces_first : (p : Shogi) (own : ℕ) → ((n : ℕ) → n < 81 → has_bit own n ≡ is_piece_of p.side (piece_at p.cells n)) → HasPiecesFrom p own 0
+pieces_first p own bits = record { within = omega arith; below = λ n low. absurd (omega arith); above = λ n low high. bits n high }
+
+-- the lowest of them is the next piece, and the legal moves from its square on are the same
+pub next_piece : (p : Shogi) (left first square : ℕ) → HasPiecesFrom p left first → square < 81 → has_bit left square ≡ true → ((n : ℕ) → has_bit left n ≡ true → square ≤ n)
+    → (first ≤ square) × (is_piece_of p.side (piece_at p.cells square) ≡ true) × (legal_from p (first * SQUARE_CODES) ≡ legal_from p (square * SQUARE_CODES))
+next_piece p left first square h range on least =
+    let up : first ≤ square = elim (cases_lt square first) [ inl low ↦ absurd (both_ways (has_bit left square) (h.below square low) on) | inr high ↦ high ] in
+    (up, sym (h.above square up range) ∙ on, run_squares p first square up (omega arith) (λ n low high. sym (h.above n low (omega arith)) ∙ false_from_ne_true (has_bit left n) (λ there. (let late : square ≤ n = least n there in omega arith))))
+
+pub pieces_after : (p : Shogi) (left next first square : ℕ) → HasPiecesFrom p left first → first ≤ square → square < 81 → ((n : ℕ) → has_bit left n ≡ true → square ≤ n) → ((i : ℕ) → has_bit next i ≡ (has_bit left i && not (i == square))) → HasPiecesFrom p next (square + 1)
+pieces_after p left next first square h up range least less = record {
+  within = omega arith;
+  below = λ n low. false_from_ne_true (has_bit next n) (λ there. (
+      let both = and_parts (has_bit left n) (not (n == square)) (sym (less n) ∙ there) in
+      let late : square ≤ n = least n both.0 in
+      let here : n ≡ square = omega arith in
+      both_ways (n == square) (not-true _ both.1) (eq-eqb n square here)));
+  above = λ n low high. less n ∙ (rw (ne_eqb n square (λ same. omega arith)) (and_true (has_bit left n) ∙ h.above n (omega arith) high));
+}
+  where
+    and_true : (b : Bool) → (b && true) ≡ b
+    and_true true = refl
+    and_true false = refl
+
+pub no_piece_left : (p : Shogi) (left first : ℕ) → HasPiecesFrom p left first → left ≡ 0 → legal_from p (first * SQUARE_CODES) ≡ legal_from p FIRST_DROP
+no_piece_left p left first h none = run_squares p first 81 h.within (omega arith) (λ n low high. sym (h.above n low high) ∙ (ap (λ (m : ℕ). has_bit m n) none ∙ has_bit-none n))
 
 -- each code of a legal move is in the list
 pub in_legal : (p : Shogi) (first code : ℕ) → first ≤ code → is_legal_code p code ≡ true → is_in code (legal_from p first) ≡ true

@@ -20,7 +20,7 @@ use Rattle.shogi_moves.specs.Ends.{is_end}
 use Rattle.shogi_moves.specs.Legal.{is_legal, is_legal_code, may_promote}
 use Rattle.shogi_moves.specs.LegalMoves.{legal_codes}
 use Rattle.shogi_moves.specs.Captures.{is_wanted}
-use Rattle.shogi_moves.specs.Replies.{IsAnswered}
+use Rattle.shogi_moves.specs.Replies.{HasCertainQuiets, IsAnswered}
 use Rattle.shogi_moves.specs.Sweeps.{wanted_from, Keeps, KeepsBoard, KeepsDrop, HasWantedOn, IsCertainQuiet, IsCertainDrop, IsPassed}
 use Rattle.shogi_moves.proofs.CaptureLaws.{skip_one, wanted_found}
 use Rattle.shogi_moves.proofs.EndLaws.{wanted_board}
@@ -146,14 +146,14 @@ no_ends_of p from plain promoting x y = rw (x, y) (no_ends_kept p from)
 -- ---- all moves of a piece
 
 -- a wanted move ends on an empty square that the piece reaches, and by promotion only where it may promote
-plain_among : (p : Shogi) (from n among : ℕ) → length p.cells ≡ 81 → from < 81 → n < 81 → is_piece_of p.side (piece_at p.cells from) ≡ true → has_bit among n ≡ (reaches p.cells from n && is_end false p.side (piece_at p.cells n)) → is_wanted p false (code_of (Board from n false)) ≡ true → has_bit among n ≡ true
-plain_among p from n among len hf hn own bits wanted = bits ∙ (and_parts _ _ (and_parts _ _ (sym (wanted_board p false false from n len hf hn own) ∙ wanted)).0).0
+plain_among : (p : Shogi) (from n : ℕ) → length p.cells ≡ 81 → from < 81 → n < 81 → is_piece_of p.side (piece_at p.cells from) ≡ true → is_wanted p false (code_of (Board from n false)) ≡ true → (reaches p.cells from n && is_end false p.side (piece_at p.cells n)) ≡ true
+plain_among p from n len hf hn own wanted = (and_parts _ _ (and_parts _ _ (sym (wanted_board p false false from n len hf hn own) ∙ wanted)).0).0
 
-promoting_among : (p : Shogi) (from n among : ℕ) → length p.cells ≡ 81 → from < 81 → n < 81 → is_piece_of p.side (piece_at p.cells from) ≡ true → has_bit among n ≡ (reaches p.cells from n && is_end false p.side (piece_at p.cells n)) → is_wanted p false (code_of (Board from n true)) ≡ true
-    → (has_bit among n ≡ true) × (may_promote (piece_at p.cells from) from n ≡ true)
-promoting_among p from n among len hf hn own bits wanted =
+promoting_among : (p : Shogi) (from n : ℕ) → length p.cells ≡ 81 → from < 81 → n < 81 → is_piece_of p.side (piece_at p.cells from) ≡ true → is_wanted p false (code_of (Board from n true)) ≡ true
+    → ((reaches p.cells from n && is_end false p.side (piece_at p.cells n)) ≡ true) × (may_promote (piece_at p.cells from) from n ≡ true)
+promoting_among p from n len hf hn own wanted =
     let parts = and_parts _ _ (sym (wanted_board p false true from n len hf hn own) ∙ wanted) in
-    (bits ∙ (and_parts _ _ parts.0).0, (and_parts _ _ parts.1).0)
+    ((and_parts _ _ parts.0).0, (and_parts _ _ parts.1).0)
 
 right_false : (a b : Bool) → a ≡ true → (a && b) ≡ false → b ≡ false
 right_false true b e h = h
@@ -166,21 +166,26 @@ plainly_certain among promoting certain n fits h none set =
     let parts : (has_bit promoting n ≡ false) × (has_bit (2 ^ 128 - 1 - certain) n ≡ false) = or_parts (has_bit promoting n) (has_bit (2 ^ 128 - 1 - certain) n) (sym (has_bit-or promoting (2 ^ 128 - 1 - certain) n) ∙ off) in
     (parts.0, not-false (has_bit certain n) (sym (has_bit-not certain n fits (omega arith)) ∙ parts.1))
 
+-- no move of a piece but such ones
+pub certain_quiets : (p : Shogi) (from among promoting certain : ℕ) → ((n : ℕ) → n < 81 → has_bit among n ≡ (reaches p.cells from n && is_end false p.side (piece_at p.cells n))) → ((n : ℕ) → n < 81 → has_bit promoting n ≡ may_promote (piece_at p.cells from) from n)
+    → certain < 2 ^ 128 → ((n : ℕ) → n < 81 → has_bit certain n ≡ true → IsAnswered p (Board from n false)) → bit_and among (bit_or promoting (2 ^ 128 - 1 - certain)) ≡ 0 → HasCertainQuiets p from
+certain_quiets p from among promoting certain among_bits promoting_bits fits answered none = record {
+  answered = λ n h e. answered n h (plainly_certain among promoting certain n fits h none (among_bits n h ∙ e)).1;
+  plain = λ n h e. sym (promoting_bits n h) ∙ (plainly_certain among promoting certain n fits h none (among_bits n h ∙ e)).0;
+}
+
 -- the moves of the first of the pieces that are left are passed, where each of them is answered and none promotes
-pub piece_passed : (p : Shogi) (first code left from among promoting certain : ℕ) → length p.cells ≡ 81 → from < 81 → is_piece_of p.side (piece_at p.cells from) ≡ true → HasWantedOn p false code left → ((n : ℕ) → has_bit left n ≡ true → from ≤ n)
-    → ((n : ℕ) → n < 81 → has_bit among n ≡ (reaches p.cells from n && is_end false p.side (piece_at p.cells n))) → ((n : ℕ) → n < 81 → has_bit promoting n ≡ may_promote (piece_at p.cells from) from n) → certain < 2 ^ 128 → ((n : ℕ) → n < 81 → has_bit certain n ≡ true → IsAnswered p (Board from n false))
-    → bit_and among (bit_or promoting (2 ^ 128 - 1 - certain)) ≡ 0 → first ≤ code → code ≤ from * SQUARE_CODES + SQUARE_CODES → IsPassed (IsCertainQuiet p first) (wanted_from p false code) (wanted_from p false (from * SQUARE_CODES + SQUARE_CODES))
-piece_passed p first code left from among promoting certain len hf own on least among_bits promoting_bits fits answered none low up =
+pub piece_passed : (p : Shogi) (first code left from : ℕ) → length p.cells ≡ 81 → from < 81 → is_piece_of p.side (piece_at p.cells from) ≡ true → HasWantedOn p false code left → ((n : ℕ) → has_bit left n ≡ true → from ≤ n)
+    → HasCertainQuiets p from → first ≤ code → code ≤ from * SQUARE_CODES + SQUARE_CODES → IsPassed (IsCertainQuiet p first) (wanted_from p false code) (wanted_from p false (from * SQUARE_CODES + SQUARE_CODES))
+piece_passed p first code left from len hf own on least quiets low up =
     passed_to p false (IsCertainQuiet p first) code (from * SQUARE_CODES + SQUARE_CODES) up (omega arith) (λ c above below wanted.
     let here : from ≤ c / SQUARE_CODES = least (c / SQUARE_CODES) (on.on c above (omega arith) wanted) in
     let hn : c / 2 % 81 < 81 = omega arith in
     elim (at_code from c (omega arith) below) [
-      | inl at ↦ (
-          let there : has_bit among (c / 2 % 81) ≡ true = plain_among p from (c / 2 % 81) among len hf hn own (among_bits (c / 2 % 81) hn) (ap (is_wanted p false) (sym at) ∙ wanted) in
-          certain_quiet p first c from (c / 2 % 81) hf hn (omega arith) at wanted (answered (c / 2 % 81) hn (plainly_certain among promoting certain (c / 2 % 81) fits hn none there).1))
+      | inl at ↦ certain_quiet p first c from (c / 2 % 81) hf hn (omega arith) at wanted (quiets.answered (c / 2 % 81) hn (plain_among p from (c / 2 % 81) len hf hn own (ap (is_wanted p false) (sym at) ∙ wanted)))
       | inr at ↦ absurd (
-          let there : (has_bit among (c / 2 % 81) ≡ true) × (may_promote (piece_at p.cells from) from (c / 2 % 81) ≡ true) = promoting_among p from (c / 2 % 81) among len hf hn own (among_bits (c / 2 % 81) hn) (ap (is_wanted p false) (sym at) ∙ wanted) in
-          both_ways (has_bit promoting (c / 2 % 81)) (plainly_certain among promoting certain (c / 2 % 81) fits hn none there.0).0 (promoting_bits (c / 2 % 81) hn ∙ there.1))
+          let there : ((reaches p.cells from (c / 2 % 81) && is_end false p.side (piece_at p.cells (c / 2 % 81))) ≡ true) × (may_promote (piece_at p.cells from) from (c / 2 % 81) ≡ true) = promoting_among p from (c / 2 % 81) len hf hn own (ap (is_wanted p false) (sym at) ∙ wanted) in
+          both_ways (may_promote (piece_at p.cells from) from (c / 2 % 81)) (quiets.plain (c / 2 % 81) hn there.0) there.1)
     ])
 
 -- and those of the others are left

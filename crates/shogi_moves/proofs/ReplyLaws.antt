@@ -2,7 +2,7 @@
 use Rattle.std.proofs.Common.{◌≡◌, ◌≢◌, ℕ, ◌+◌, ◌-◌, ◌*◌, ◌%◌, ◌^◌, ◌<◌, ◌⊎◌, Bool, true, false, not, Option, Some, None, [], refl, sym, ap, subst, ◌∙◌, arith, inl, inr, set, length, length-set, get_or-set_same, get_or-set_other, bit_and, bit_or, cond}
 use Rattle.std.specs.Prelude.{◌==◌, ◌&&◌, ◌||◌, nat_lt, is_none}
 use Rattle.std.specs.Int.{trailing_zeros, w128}
-use Rattle.std.proofs.lemmas.Bool.{cases_eq, false_from_ne_true, both_ways, and_parts, and_from, or_left, or_right, or_cases, not-true, not_from_false, ne_eqb, eq-eqb}
+use Rattle.std.proofs.lemmas.Bool.{cases_eq, false_from_ne_true, both_ways, and_parts, and_from, or_left, or_right, or_cases, or_parts, not-true, not_from_false, ne_eqb, eq-eqb}
 use Rattle.shogi_core.specs.declared.moves.Move.{Move}
 use Rattle.shogi_core.specs.declared.moves.Move.TheVariants.{Board, Drop}
 use Rattle.shogi_core.specs.declared.piece.Color.{Color}
@@ -25,16 +25,16 @@ use Rattle.shogi_core.specs.Validity.{IsValid}
 use Rattle.shogi_core.proofs.Below.{some_below_no, some_below_not, some_below_at}
 use Rattle.shogi_core.proofs.BitLaws.{has_bit-and, has_bit-or, has_bit-none, has_bit-without}
 use Rattle.shogi_core.proofs.CodesBack.{move_of-board}
-use Rattle.shogi_core.proofs.Exposed.{some_below_which}
+use Rattle.shogi_core.proofs.Exposed.{some_below_which, reach_was}
 use Rattle.shogi_core.proofs.Faults.{faultless_from, number_below}
 use Rattle.shogi_core.proofs.LineBits.{lowest_set, and_fits, has_bit-not}
 use Rattle.shogi_core.proofs.Replies.{no_check}
-use Rattle.shogi_core.proofs.SeenLaws.{lined_back, lined_aligned, cell_seen}
+use Rattle.shogi_core.proofs.SeenLaws.{lined_back, lined_aligned, cell_seen, slide_seen}
 use Rattle.shogi_core.proofs.Snipers.{left_calm, stands_still}
 use Rattle.shogi_moves.specs.After.{after, cells_after, piece_moved, dropped, with_captured, with_one_more}
 use Rattle.shogi_moves.specs.Legal.{is_legal, is_safe, is_pseudo_legal_board_move, is_pseudo_legal_drop, is_pawn_kind, is_mated_by_drop}
 use Rattle.shogi_moves.specs.LegalMoves.{legal_codes}
-use Rattle.shogi_moves.specs.Replies.{cell_steps, is_free_kind, holds_free, is_line_of_king, is_aligned_with_king, is_open_step, is_spare, is_way, Sees, Aligns, IsReplies, IsHarmless, StaysCovered, UncoversNothing, IsOpen, IsAnswered}
+use Rattle.shogi_moves.specs.Replies.{cell_steps, is_free_kind, holds_free, is_line_of_king, is_aligned_with_king, is_open_step, is_spare, is_way, Sees, Aligns, IsReplies, IsHarmless, IsHarmlessFrom, StaysCovered, UncoversNothing, UncoversWithin, IsOpen, IsAnswered}
 use Rattle.shogi_moves.proofs.DropChecks as drops
 use Rattle.shogi_moves.proofs.EndLaws.{legal_board, legal_drop, drop_wanted, still}
 use Rattle.shogi_moves.proofs.ExistenceLaws.{some_legal}
@@ -98,11 +98,14 @@ stays_unlined old new color a h kings off = some_below_no 81 (is_line_to_king ne
 
 -- ---- snipers on open lines with a square
 
-pub covered : (cells : Cells) (side : Color) (n lines snipers : ℕ) → ((a : ℕ) → a < 81 → has_bit lines a ≡ are_lined cells n a) → ((a : ℕ) → a < 81 → has_bit snipers a ≡ is_sniping cells side a) → bit_and lines snipers ≡ 0 → StaysCovered cells side n
-covered cells side n lines snipers l s none a h sniping = false_from_ne_true (are_lined cells n a) (λ lined. both_ways (has_bit (bit_and lines snipers) a) (ap (λ m. has_bit m a) none ∙ has_bit-none a) (has_bit-and lines snipers a ∙ and_from _ _ (l a h ∙ lined) (s a h ∙ sniping)))
+pub covered : (cells : Cells) (side : Color) (n open_lines snipers lines : ℕ) → ((a : ℕ) → a < 81 → has_bit open_lines a ≡ are_lined cells n a) → ((a : ℕ) → a < 81 → has_bit snipers a ≡ is_sniping cells side a) → ((a : ℕ) → a < 81 → has_bit lines a ≡ are_aligned n a) → bit_and open_lines (bit_and snipers lines) ≡ 0 → StaysCovered cells side n
+covered cells side n open_lines snipers lines o s l none a h sniping = false_from_ne_true (are_lined cells n a) (λ lined. both_ways (has_bit (bit_and open_lines (bit_and snipers lines)) a) (ap (λ m. has_bit m a) none ∙ has_bit-none a)
+    (has_bit-and open_lines (bit_and snipers lines) a ∙ and_from _ _ (o a h ∙ lined) (has_bit-and snipers lines a ∙ and_from _ _ (s a h ∙ sniping) (l a h ∙ lined_aligned cells n a lined))))
 
-pub covered_by_none : (cells : Cells) (side : Color) (n snipers : ℕ) → ((a : ℕ) → a < 81 → has_bit snipers a ≡ is_sniping cells side a) → snipers ≡ 0 → StaysCovered cells side n
-covered_by_none cells side n snipers s none a h sniping = absurd (both_ways (has_bit snipers a) (ap (λ m. has_bit m a) none ∙ has_bit-none a) (s a h ∙ sniping))
+-- the snipers that are on a line with the square, whatever stands between
+pub covered_by_none : (cells : Cells) (side : Color) (n snipers lines : ℕ) → ((a : ℕ) → a < 81 → has_bit snipers a ≡ is_sniping cells side a) → ((a : ℕ) → a < 81 → has_bit lines a ≡ are_aligned n a) → bit_and snipers lines ≡ 0 → StaysCovered cells side n
+covered_by_none cells side n snipers lines s l none a h sniping = false_from_ne_true (are_lined cells n a) (λ lined. both_ways (has_bit (bit_and snipers lines) a) (ap (λ m. has_bit m a) none ∙ has_bit-none a)
+    (has_bit-and snipers lines a ∙ and_from _ _ (s a h ∙ sniping) (l a h ∙ lined_aligned cells n a lined)))
 
 still_moved : (promote : Bool) (cell : Option Piece) → is_slider cell ≡ false → is_slider (piece_moved promote cell) ≡ false
 still_moved promote None e = refl
@@ -260,13 +263,37 @@ module _ (old new : Cells) (hands : HandCounts) (color : Color) where
         free_drop new hands color held.0 a k.len ha held.1 held.2 (k.empty a e.0 other) k.shut)
   ]
 
+-- ---- what moves attacks no king from where it ends, once it is gone
+
+harmless_still : (cells : Cells) (side : Color) (from : ℕ) (promote : Bool) (n : ℕ) → is_slider (piece_at cells from) ≡ false → IsHarmless cells side (piece_moved promote (piece_at cells from)) n → IsHarmlessFrom cells side from (piece_moved promote (piece_at cells from)) n
+harmless_still cells side from promote n still off k l e = stands_still cells (set cells from None) (piece_moved promote (piece_at cells from)) n k (still_moved promote (piece_at cells from) still) (off k l e)
+
+harmless_unaligned : (cells : Cells) (side : Color) (lines from : ℕ) (cell : Option Piece) (n : ℕ) → Aligns cells side 0 lines → n < 81 → has_bit lines n ≡ false → IsHarmless cells side cell n → IsHarmlessFrom cells side from cell n
+harmless_unaligned cells side lines from None n a h out off k l e = refl
+harmless_unaligned cells side lines from (Some piece) n a h out off k l e = false_from_ne_true (cell_reaches (set cells from None) (Some piece) n k) (λ r. elim (or_cases (has_step piece n k) (has_slide (set cells from None) piece n k) r) [
+  | inl step ↦ both_ways (cell_reaches cells (Some piece) n k) (off k l e) (or_left (has_step piece n k) (has_slide cells piece n k) step)
+  | inr slide ↦ both_ways (has_bit lines n) out (a.squares k n l h e (has_bit-none k) (lined_aligned (set cells from None) k n (slide_seen (set cells from None) piece n k h slide)))
+])
+
+pub uncovers_off_sight : (cells : Cells) (side : Color) (sight from mask : ℕ) → has_bit sight from ≡ false → UncoversWithin cells side sight from mask
+uncovers_off_sight cells side sight from mask out promote n h off far = inl out
+
+pub uncovers_anywhere : (cells : Cells) (side : Color) (sight from mask : ℕ) → ((n : ℕ) → n < 81 → has_bit mask n ≡ true) → UncoversWithin cells side sight from mask
+uncovers_anywhere cells side sight from mask all promote n h off far = absurd (both_ways (has_bit mask n) off (all n h))
+
+pub uncovers_by_lines : (cells : Cells) (side : Color) (sight from lines : ℕ) → StaysCovered cells side from → Aligns cells side 0 lines → UncoversWithin cells side sight from lines
+uncovers_by_lines cells side sight from lines covered a promote n h off far = inr (harmless_unaligned cells side lines from (piece_moved promote (piece_at cells from)) n a h off far, covered)
+
+pub uncovers_nowhere : (cells : Cells) (side : Color) (sight from mask : ℕ) → StaysCovered cells side from → is_slider (piece_at cells from) ≡ false → UncoversWithin cells side sight from mask
+uncovers_nowhere cells side sight from mask covered still promote n h off far = inr (harmless_still cells side from promote n still far, covered)
+
 -- ---- after a board move, and after a drop
 
 pub crowned : (color : Color) (cell : Option Piece) → is_piece_of color cell ≡ false → is_king color cell ≡ false
 crowned color None e = refl
 crowned color (Some piece) e = rw e refl
 
-pub left_board : (p : Shogi) (from to : ℕ) (promote : Bool) (sight spare : ℕ) → IsValid p → IsReplies p sight spare → from < 81 → to < 81 → is_piece_of p.side (piece_at p.cells from) ≡ true → UncoversNothing p.cells (opponent_of p.side) sight from → IsHarmless p.cells (opponent_of p.side) (piece_moved promote (piece_at p.cells from)) to
+pub left_board : (p : Shogi) (from to : ℕ) (promote : Bool) (sight spare : ℕ) → IsValid p → IsReplies p sight spare → from < 81 → to < 81 → is_piece_of p.side (piece_at p.cells from) ≡ true → UncoversNothing p.cells (opponent_of p.side) sight from (piece_moved promote (piece_at p.cells from)) to → IsHarmless p.cells (opponent_of p.side) (piece_moved promote (piece_at p.cells from)) to
     → LeavesStanding p.cells (cells_after p.cells p.side (Board from to promote)) (opponent_of p.side) to
 left_board p from to promote sight spare v r hf ht own out off = record {
   len = length-set (set p.cells from None) to w ∙ (length-set p.cells from None ∙ v.cells_fit);
@@ -319,7 +346,13 @@ left_board p from to promote sight spare v r hf ht own out off = record {
       | inr rest ↦ elim rest [ inl here ↦ absurd (let clash : false ≡ true = ap (is_king (opponent_of p.side)) (sym here.1) ∙ e in cc) | inr same ↦ sym same ]
     ]
 
-    shut : UncoversNothing p.cells (opponent_of p.side) sight from → in_check (set (set p.cells from None) to (piece_moved promote (piece_at p.cells from))) (opponent_of p.side) ≡ false
+    stays_none : (x : ℕ) → is_none (piece_at (set (set p.cells from None) to (piece_moved promote (piece_at p.cells from))) x) ≡ true → (is_none (piece_at (set p.cells from None) x) ≡ true) ⊎ ⊥
+    stays_none x e = elim (cases_eq x to) [
+      | inl there ↦ absurd (both_ways (is_none w) (own_some p.side w mine) (ap is_none (sym (ap (piece_at (set (set p.cells from None) to (piece_moved promote (piece_at p.cells from)))) there ∙ lands)) ∙ e))
+      | inr other ↦ inl (ap is_none (sym (get_or-set_other (set p.cells from None) to x w None other)) ∙ e)
+    ]
+
+    shut : UncoversNothing p.cells (opponent_of p.side) sight from (piece_moved promote (piece_at p.cells from)) to → in_check (set (set p.cells from None) to (piece_moved promote (piece_at p.cells from))) (opponent_of p.side) ≡ false
     shut (inl unseen_from) =
         no_check p.cells (set (set p.cells from None) to (piece_moved promote (piece_at p.cells from))) (λ x. x ≡ from) opened (opponent_of p.side) to ht theirs crown
         (λ x left. subst (λ (y : ℕ). is_lined_with_king p.cells (opponent_of p.side) y ≡ false) (sym left) (unlined p.cells (opponent_of p.side) sight from r.sees hf unseen_from))
@@ -328,10 +361,11 @@ left_board p from to promote sight spare v r hf ht own out off = record {
     shut (inr still) =
         left_calm p.cells (set (set p.cells from None) to (piece_moved promote (piece_at p.cells from))) from opened (opponent_of p.side) to theirs crown
         (λ k l e. ap (λ cell. cell_reaches (set (set p.cells from None) to (piece_moved promote (piece_at p.cells from))) cell to k) lands
-        ∙ stands_still p.cells (set (set p.cells from None) to (piece_moved promote (piece_at p.cells from))) w to k (still_moved promote (piece_at p.cells from) still.0) (off k l e))
+        ∙ false_from_ne_true (cell_reaches (set (set p.cells from None) to (piece_moved promote (piece_at p.cells from))) (piece_moved promote (piece_at p.cells from)) to k) (λ r. both_ways (cell_reaches (set p.cells from None) w to k) (still.0 k l e)
+        (reach_was (set p.cells from None) (set (set p.cells from None) to (piece_moved promote (piece_at p.cells from))) (λ x. ⊥) stays_none w to k (λ x left. absurd left) r)))
         (faultless_from p v.no_fault).shut still.1
 
-pub replied_board : (p : Shogi) (from to : ℕ) (promote : Bool) (sight spare a : ℕ) → IsValid p → IsReplies p sight spare → from < 81 → to < 81 → is_piece_of p.side (piece_at p.cells from) ≡ true → UncoversNothing p.cells (opponent_of p.side) sight from → IsHarmless p.cells (opponent_of p.side) (piece_moved promote (piece_at p.cells from)) to
+pub replied_board : (p : Shogi) (from to : ℕ) (promote : Bool) (sight spare a : ℕ) → IsValid p → IsReplies p sight spare → from < 81 → to < 81 → is_piece_of p.side (piece_at p.cells from) ≡ true → UncoversNothing p.cells (opponent_of p.side) sight from (piece_moved promote (piece_at p.cells from)) to → IsHarmless p.cells (opponent_of p.side) (piece_moved promote (piece_at p.cells from)) to
     → a < 81 → has_bit spare a ≡ true → a ≢ to → legal_codes (after p (Board from to promote)) ≢ []
 replied_board p from to promote sight spare a v r hf ht own out off ha some other =
     replied p.cells (cells_after p.cells p.side (Board from to promote)) (after p (Board from to promote)).hands (opponent_of p.side)
@@ -470,7 +504,7 @@ legal_own p from to promote e =
     let two = and_parts _ _ three.0 in
     (and_parts _ _ two.0).0
 
-pub certain_board : (p : Shogi) (from to end : ℕ) (promote : Bool) (sight spare : ℕ) → IsValid p → IsReplies p sight spare → from < 81 → to < 81 → end ≡ to → is_legal p (Board from to promote) ≡ true → UncoversNothing p.cells (opponent_of p.side) sight from → IsHarmless p.cells (opponent_of p.side) (piece_moved promote (piece_at p.cells from)) to
+pub certain_board : (p : Shogi) (from to end : ℕ) (promote : Bool) (sight spare : ℕ) → IsValid p → IsReplies p sight spare → from < 81 → to < 81 → end ≡ to → is_legal p (Board from to promote) ≡ true → UncoversNothing p.cells (opponent_of p.side) sight from (piece_moved promote (piece_at p.cells from)) to → IsHarmless p.cells (opponent_of p.side) (piece_moved promote (piece_at p.cells from)) to
     → bit_and spare (2 ^ 128 - 1 - 1 * 2 ^ end % 2 ^ 128) ≢ 0 → legal_codes (after p (Board from to promote)) ≢ []
 certain_board p from to end promote sight spare v r hf ht e legal out off some =
     let a = another spare end r.fits (omega arith) some in
@@ -500,9 +534,29 @@ other_than spare one n h set other = (one, h, set, λ e. both_ways _ (ap not (eq
 pub unseen_bit : (sight n : ℕ) → sight < 2 ^ 128 → n < 81 → has_bit (2 ^ 128 - 1 - sight) n ≡ true → has_bit sight n ≡ false
 unseen_bit sight n fits h e = false_from_ne_true (has_bit sight n) (λ seen. both_ways (has_bit (2 ^ 128 - 1 - sight) n) (has_bit-not sight n fits (omega arith) ∙ ap not seen) e)
 
+-- a piece that does not promote stays what it is
+pub unmoved : (cell : Option Piece) → piece_moved false cell ≡ cell
+unmoved None = refl
+unmoved (Some piece) = refl
+
+-- some squares of a mask, and others
+pub among_either : (ends free more n : ℕ) → has_bit (bit_or (bit_and ends free) more) n ≡ true → ((has_bit ends n ≡ true) × (has_bit free n ≡ true)) ⊎ (has_bit more n ≡ true)
+among_either ends free more n e = elim (or_cases (has_bit (bit_and ends free) n) (has_bit more n) (sym (has_bit-or (bit_and ends free) more n) ∙ e)) [
+  | inl both ↦ inl (and_parts _ _ (sym (has_bit-and ends free n) ∙ both))
+  | inr other ↦ inr other
+]
+
 -- what moves to an open square without a check, or is dropped there, is answered
-pub open_board : (p : Shogi) (from n sight closed spare : ℕ) → IsValid p → IsReplies p sight spare → from < 81 → n < 81 → UncoversNothing p.cells (opponent_of p.side) sight from → IsHarmless p.cells (opponent_of p.side) (piece_moved false (piece_at p.cells from)) n → IsOpen closed spare n → IsAnswered p (Board from n false)
-open_board p from n sight closed spare v r hf hn out off o = λ legal. replied_board p from n false sight spare o.way.0 v r hf hn (legal_own p from n false legal) out off o.way.1 o.way.2 o.way.3
+pub open_far : (p : Shogi) (from n sight closed spare : ℕ) → IsValid p → IsReplies p sight spare → from < 81 → n < 81 → has_bit sight from ≡ false → IsHarmless p.cells (opponent_of p.side) (piece_at p.cells from) n → IsOpen closed spare n → IsAnswered p (Board from n false)
+open_far p from n sight closed spare v r hf hn unseen_from far o = λ legal. replied_board p from n false sight spare o.way.0 v r hf hn (legal_own p from n false legal) (inl unseen_from)
+    (subst (λ (cell : Option Piece). IsHarmless p.cells (opponent_of p.side) cell n) (sym (unmoved (piece_at p.cells from))) far) o.way.1 o.way.2 o.way.3
+
+pub open_board : (p : Shogi) (from n sight risky uncovering spare : ℕ) → IsValid p → IsReplies p sight spare → from < 81 → n < 81 → UncoversWithin p.cells (opponent_of p.side) sight from uncovering
+    → (has_bit risky n ≡ false → IsHarmless p.cells (opponent_of p.side) (piece_at p.cells from) n) → IsOpen (bit_or risky uncovering) spare n → IsAnswered p (Board from n false)
+open_board p from n sight risky uncovering spare v r hf hn within far o = λ legal.
+    let parts : (has_bit risky n ≡ false) × (has_bit uncovering n ≡ false) = or_parts (has_bit risky n) (has_bit uncovering n) (sym (has_bit-or risky uncovering n) ∙ o.unclosed) in
+    let off : IsHarmless p.cells (opponent_of p.side) (piece_moved false (piece_at p.cells from)) n = subst (λ (cell : Option Piece). IsHarmless p.cells (opponent_of p.side) cell n) (sym (unmoved (piece_at p.cells from))) (far parts.0) in
+    replied_board p from n false sight spare o.way.0 v r hf hn (legal_own p from n false legal) (within false n hn parts.1 off) off o.way.1 o.way.2 o.way.3
 
 pub open_drop : (p : Shogi) (kind : Kind) (n sight closed spare : ℕ) → IsValid p → IsReplies p sight spare → n < 81 → IsHarmless p.cells (opponent_of p.side) (dropped p.side kind) n → IsOpen closed spare n → IsAnswered p (Drop kind n)
 open_drop p kind n sight closed spare v r hn off o = λ legal. replied_drop p kind n sight spare o.way.0 v r hn off o.way.1 o.way.2 o.way.3

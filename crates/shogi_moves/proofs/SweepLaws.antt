@@ -10,7 +10,7 @@ use Rattle.shogi_core.specs.Below.{some_below}
 use Rattle.shogi_core.specs.Bits.{has_bit}
 use Rattle.shogi_core.specs.Cell.{is_piece_of}
 use Rattle.shogi_core.specs.Codes.{move_of, code_of}
-use Rattle.shogi_core.specs.Movement.{piece_at}
+use Rattle.shogi_core.specs.Movement.{piece_at, reaches}
 use Rattle.shogi_core.specs.Pieces.{kind_number}
 use Rattle.shogi_core.specs.Position.{Shogi}
 use Rattle.shogi_core.proofs.BitLaws.{has_bit-or, has_bit-and, has_bit-none}
@@ -19,12 +19,13 @@ use Rattle.shogi_core.proofs.LineBits.{has_bit-not, and_fits}
 use Rattle.shogi_core.proofs.CodesBack.{move_of-board, move_of-drop}
 use Rattle.shogi_core.proofs.Faults.{number_below}
 use Rattle.shogi_moves.specs.Captures.{captures, is_asked, is_of_sort, is_wanted, HasNoneWanted}
-use Rattle.shogi_moves.specs.Legal.{is_legal}
+use Rattle.shogi_moves.specs.Ends.{is_end}
+use Rattle.shogi_moves.specs.Legal.{is_legal, is_legal_code}
 use Rattle.shogi_moves.specs.LegalMoves.{legal_from}
 use Rattle.shogi_moves.specs.Rising.{is_in}
 use Rattle.shogi_moves.specs.Sweeps.{wanted_from, Keeps, KeepsBoard, KeepsDrop, HasWantedOn}
 use Rattle.shogi_moves.proofs.CaptureLaws.{sort_of, none_square, none_drop, none_join, wanted_jumps, wanted_found, wanted_end}
-use Rattle.shogi_moves.proofs.EndLaws.{wanted_move}
+use Rattle.shogi_moves.proofs.EndLaws.{wanted_move, sort_ends}
 use Rattle.shogi_moves.proofs.LegalLaws.{drop_code, legal_in, legal_in_above, legal_code_below}
 use Rattle.shogi_moves.proofs.ZoneLaws.{more_fits}
 
@@ -154,6 +155,11 @@ keeps_square p capture from plain promoting pf qf pb qb = record {
   plains = keeps_first (is_wanted p capture) (λ n. code_of (Board from n false)) (from * SQUARE_CODES) plain pf pb (λ n. omega arith);
   promotings = keeps_first (is_wanted p capture) (λ n. code_of (Board from n true)) (from * SQUARE_CODES) promoting qf qb (λ n. omega arith);
 }
+
+pub keeps_sort : (p : Shogi) (capture : Bool) (from targets sort plain promoting : ℕ) → from < 81 → ((n : ℕ) → n < 81 → has_bit targets n ≡ reaches p.cells from n) → ((n : ℕ) → n < 81 → has_bit sort n ≡ is_end capture p.side (piece_at p.cells n)) → plain < 2 ^ 81 → promoting < 2 ^ 81
+    → ((n : ℕ) → n < 81 → has_bit plain n ≡ (has_bit (bit_and targets sort) n && is_legal_code p (code_of (Board from n false)))) → ((n : ℕ) → n < 81 → has_bit promoting n ≡ (has_bit (bit_and targets sort) n && is_legal_code p (code_of (Board from n true))))
+    → KeepsBoard p capture from (from * SQUARE_CODES) plain promoting
+keeps_sort p capture from targets sort plain promoting hf t s pf qf pb qb = keeps_square p capture from plain promoting pf qf (sort_ends p capture false from targets sort plain hf t s pb) (sort_ends p capture true from targets sort promoting hf t s qb)
 
 pub record IsTaken (p : Shogi) (capture : Bool) (code : ℕ) (m : Move) : Type 0 where
   pub next : wanted_from p capture code ≡ code_of m ∷ wanted_from p capture (code_of m + 1)

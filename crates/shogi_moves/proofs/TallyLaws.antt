@@ -1,6 +1,6 @@
 -- The legal moves are counted by the bits of their ends.
-use Rattle.std.proofs.Common.{◌≡◌, ℕ, ◌+◌, ◌*◌, ◌/◌, ◌%◌, ◌^◌, ◌<◌, ◌≤◌, Bool, true, false, cond, refl, sym, ap, ◌∙◌, arith, inl, inr, length, ◌∷◌}
-use Rattle.std.specs.Prelude.{zero, suc, ◌==◌, count_ones}
+use Rattle.std.proofs.Common.{◌≡◌, ℕ, ◌+◌, ◌*◌, ◌/◌, ◌%◌, ◌^◌, ◌<◌, ◌≤◌, Bool, true, false, not, cond, refl, sym, ap, ◌∙◌, arith, inl, inr, length, ◌∷◌}
+use Rattle.std.specs.Prelude.{zero, suc, ◌==◌, ◌&&◌, count_ones}
 use Rattle.std.specs.Int.{bit_at}
 use Rattle.std.specs.Int.Count.{ones_step}
 use Rattle.std.proofs.lemmas.Bool.{cases_Bool}
@@ -10,16 +10,14 @@ use native.Mathlib.Nat.{pow-suc}
 use Rattle.shogi_core.specs.declared.moves.TheConstants.{MOVE_CODE_COUNT, FIRST_DROP, SQUARE_CODES}
 use Rattle.shogi_core.specs.declared.moves.Move.TheVariants.{Board, Drop}
 use Rattle.shogi_core.specs.declared.piece.Kind.{Kind}
-use Rattle.shogi_core.specs.Cell.{is_piece_of}
-use Rattle.shogi_core.specs.Movement.{piece_at}
 use Rattle.shogi_core.specs.Pieces.{kind_number}
 use Rattle.shogi_core.proofs.Faults.{number_below}
 use Rattle.shogi_core.specs.Bits.{has_bit}
 use Rattle.shogi_core.specs.Codes.{code_of}
 use Rattle.shogi_core.specs.Position.{Shogi}
 use Rattle.shogi_moves.specs.Legal.{is_legal_code}
-use Rattle.shogi_moves.specs.LegalMoves.{legal_from}
-use Rattle.shogi_moves.proofs.LegalLaws.{legal_from_found, legal_from_skips, run_squares}
+use Rattle.shogi_moves.specs.LegalMoves.{legal_from, legal_codes}
+use Rattle.shogi_moves.proofs.LegalLaws.{legal_from_found, legal_from_skips, HasPiecesFrom, next_piece, pieces_after, no_piece_left}
 
 abbrev digit : Bool → ℕ
 digit b = cond b 1 0
@@ -151,6 +149,34 @@ counted_drop p kind ends fits bits =
 pub ones_most : (m : ℕ) → m < 2 ^ 81 → count_ones m ≤ 81
 ones_most m h = omega (arith, ones_tally 81 m h, tally_most 81 (has_bit m))
 
--- squares without a piece of the side add nothing
-pub counted_between : (p : Shogi) (own from next : ℕ) → from ≤ next → next ≤ 81 → ((n : ℕ) → n < 81 → has_bit own n ≡ is_piece_of p.side (piece_at p.cells n)) → ((n : ℕ) → from ≤ n → n < next → has_bit own n ≡ false) → length (legal_from p (from * SQUARE_CODES)) ≡ length (legal_from p (next * SQUARE_CODES))
-counted_between p own from next up h bits none = ap length (run_squares p own from next up h bits none)
+-- the legal moves from some square on are still to be counted, those of the pieces on squares of the mask
+pub record IsCounted (p : Shogi) (left total : ℕ) : Type 0 where
+  pub first : ℕ
+  pub pieces : HasPiecesFrom p left first
+  pub whole : total + length (legal_from p (first * SQUARE_CODES)) ≡ length (legal_codes p)
+  pub range : total ≤ first * SQUARE_CODES
+
+-- the next piece is counted
+pub piece_counted : (p : Shogi) (left next total square plain promoting : ℕ) → IsCounted p left total → square < 81 → has_bit left square ≡ true → ((n : ℕ) → has_bit left n ≡ true → square ≤ n) → ((i : ℕ) → has_bit next i ≡ (has_bit left i && not (i == square)))
+    → plain < 2 ^ 81 → promoting < 2 ^ 81 → ((n : ℕ) → n < 81 → has_bit plain n ≡ is_legal_code p (code_of (Board square n false))) → ((n : ℕ) → n < 81 → has_bit promoting n ≡ is_legal_code p (code_of (Board square n true)))
+    → IsCounted p next (total + (count_ones plain + count_ones promoting))
+piece_counted p left next total square plain promoting h range on least less pf qf pb qb =
+    let reached = next_piece p left h.first square h.pieces range on least in
+    let same = ap length reached.2 in
+    let block = counted_board p square plain promoting range pf qf pb qb in
+    let past : square * SQUARE_CODES + SQUARE_CODES ≡ (square + 1) * SQUARE_CODES = omega arith in
+    let pastw = ap (λ (x : ℕ). length (legal_from p x)) past in
+    let a = ones_most plain pf in
+    let b = ones_most promoting qf in
+    record {
+      first = square + 1;
+      pieces = pieces_after p left next h.first square h.pieces reached.0 range least less;
+      whole = omega (arith, h.whole, same, block, pastw);
+      range = omega (arith, h.range, reached.0, a, b);
+    }
+
+-- all pieces are counted
+pub board_counted : (p : Shogi) (left total : ℕ) → IsCounted p left total → left ≡ 0 → (total + length (legal_from p FIRST_DROP) ≡ length (legal_codes p)) × (total ≤ FIRST_DROP)
+board_counted p left total h none =
+    let end = ap length (no_piece_left p left h.first h.pieces none) in
+    (omega (arith, h.whole, end), omega (arith, h.range, h.pieces.within))

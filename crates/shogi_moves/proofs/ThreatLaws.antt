@@ -87,7 +87,7 @@ still_takes p new hands a t to k threat aside =
 elsewhere : (p : Shogi) (a t to : ℕ) → IsThreat p a t → EndsAside p a to → t ≢ to
 elsewhere p a t to threat aside same = both_ways (reaches p.cells a to) aside.unreached (subst (λ (x : ℕ). reaches p.cells a x ≡ true) same threat.reached)
 
-pub threat_board : (p : Shogi) (from to : ℕ) (promote : Bool) (sight spare a t : ℕ) → IsValid p → IsReplies p sight spare → from < 81 → to < 81 → is_legal p (Board from to promote) ≡ true → UncoversNothing p.cells (opponent_of p.side) sight from → IsHarmless p.cells (opponent_of p.side) (piece_moved promote (piece_at p.cells from)) to
+pub threat_board : (p : Shogi) (from to : ℕ) (promote : Bool) (sight spare a t : ℕ) → IsValid p → IsReplies p sight spare → from < 81 → to < 81 → is_legal p (Board from to promote) ≡ true → UncoversNothing p.cells (opponent_of p.side) sight from (piece_moved promote (piece_at p.cells from)) to → IsHarmless p.cells (opponent_of p.side) (piece_moved promote (piece_at p.cells from)) to
     → IsThreat p a t → LeavesThreat p a t (Board from to promote) → MayTake (after p (Board from to promote)) a t (piece_at p.cells t)
 threat_board p from to promote sight spare a t v r hf ht legal out off threat leaves = record {
   legal = still_takes p (cells_after p.cells p.side (Board from to promote)) (after p (Board from to promote)).hands a t to (left_board p from to promote sight spare v r hf ht (legal_own p from to promote legal) out off) threat leaves.1;

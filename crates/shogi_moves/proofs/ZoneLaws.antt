@@ -65,6 +65,8 @@ pub ruleset dead_bits = (first_rank, first_ranks, last_rank, last_ranks, no_squa
 
 pub ruleset zone_bits = (black_zone, white_zone)
 
+pub ruleset back_bits = (first_ranks, last_ranks)
+
 pub ruleset promoting_bits = (no_squares, promotes_never, promotes_all, promotes_there)
 
 -- ---- files

@@ -1,20 +1,23 @@
 -- What is kept of a position to tell that after most of its moves the other side is in no check and has a legal move.
-use Rattle.std.specs.Prelude.{ℕ, ◌≡◌, ◌≢◌, ◌<◌, ◌^◌, ◌⊎◌, ◌&&◌, ◌||◌, Bool, true, false, not, nat_lt, Option, Some, None, is_none, []}
+use Rattle.std.specs.Prelude.{ℕ, ◌%◌, ◌≡◌, ◌≢◌, ◌<◌, ◌^◌, ◌⊎◌, ◌&&◌, ◌||◌, Bool, true, false, not, nat_lt, Option, Some, None, is_none, [], slice_set}
 use Rattle.shogi_core.specs.declared.moves.Move.{Move}
+use Rattle.shogi_core.specs.declared.moves.Move.TheVariants.{Board}
 use Rattle.shogi_core.specs.declared.piece.Color.{Color}
+use Rattle.shogi_core.specs.declared.piece.Color.TheVariants.{Black, White}
 use Rattle.shogi_core.specs.declared.piece.Kind.{Kind}
 use Rattle.shogi_core.specs.declared.piece.Kind.TheVariants.{Silver, Gold, Bishop, Rook}
 use Rattle.shogi_core.specs.declared.piece.Piece.{Piece}
 use Rattle.shogi_core.specs.Attack.{is_sniping}
 use Rattle.shogi_core.specs.Below.{some_below}
 use Rattle.shogi_core.specs.Bits.{has_bit}
-use Rattle.shogi_core.specs.Cell.{is_piece_of, is_king, is_immobile, is_slider}
+use Rattle.shogi_core.specs.Cell.{is_piece_of, is_king, is_immobile}
 use Rattle.shogi_core.specs.Lines.{are_aligned, are_lined, is_seen}
-use Rattle.shogi_core.specs.Movement.{Cells, piece_at, cell_reaches, has_step}
+use Rattle.shogi_core.specs.Movement.{Cells, piece_at, reaches, cell_reaches, has_step}
 use Rattle.shogi_core.specs.Pieces.{opponent_of}
 use Rattle.shogi_core.specs.Position.{Shogi, HandCounts, count_in_hand}
-use Rattle.shogi_moves.specs.After.{after}
-use Rattle.shogi_moves.specs.Legal.{is_legal}
+use Rattle.shogi_moves.specs.After.{after, piece_moved}
+use Rattle.shogi_moves.specs.Ends.{is_end}
+use Rattle.shogi_moves.specs.Legal.{is_legal, may_promote}
 use Rattle.shogi_moves.specs.LegalMoves.{legal_codes}
 
 -- a step or a jump of what stands on a leads to t
@@ -68,13 +71,22 @@ pub record Aligns (cells : Cells) (side : Color) (left lines : ℕ) : Type 0 whe
 abbrev pub StaysCovered : Cells → Color → ℕ → Type 0
 StaysCovered cells side n = (a : ℕ) → a < 81 → is_sniping cells side a ≡ true → are_lined cells n a ≡ false
 
--- what stands on the square is off the sight of the side's kings, or does not slide and covers no king from one that does
-abbrev pub UncoversNothing : Cells → Color → ℕ → ℕ → Type 0
-UncoversNothing cells side sight n = (has_bit sight n ≡ false) ⊎ ((is_slider (piece_at cells n) ≡ false) × StaysCovered cells side n)
-
 -- what would stand on the square attacks no king of the side
 abbrev pub IsHarmless : Cells → Color → Option Piece → ℕ → Type 0
 IsHarmless cells side cell to = (k : ℕ) → k < 81 → is_king side (piece_at cells k) ≡ true → cell_reaches cells cell to k ≡ false
+
+-- the same once another square is left
+abbrev pub IsHarmlessFrom : Cells → Color → ℕ → Option Piece → ℕ → Type 0
+IsHarmlessFrom cells side from cell to = (k : ℕ) → k < 81 → is_king side (piece_at cells k) ≡ true → cell_reaches (slice_set cells from None) cell to k ≡ false
+
+-- what leaves a square is off the sight of the side's kings, or covers no king from a piece that slides and attacks none where it ends
+abbrev pub UncoversNothing : Cells → Color → ℕ → ℕ → Option Piece → ℕ → Type 0
+UncoversNothing cells side sight from cell to = (has_bit sight from ≡ false) ⊎ (IsHarmlessFrom cells side from cell to × StaysCovered cells side from)
+
+-- what stands on the square uncovers nothing where it moves to squares that are not of the mask and from which it attacks no king
+abbrev pub UncoversWithin : Cells → Color → ℕ → ℕ → ℕ → Type 0
+UncoversWithin cells side sight from mask = (promote : Bool) (n : ℕ) → n < 81 → has_bit mask n ≡ false → IsHarmless cells side (piece_moved promote (piece_at cells from)) n
+    → UncoversNothing cells side sight from (piece_moved promote (piece_at cells from)) n
 
 -- from a square that is not of the mask the piece attacks none of the kings of the side that are not left
 pub record ChecksWithin (cells : Cells) (side : Color) (cell : Option Piece) (left checks : ℕ) : Type 0 where
@@ -94,3 +106,19 @@ pub record IsOpen (closed spare n : ℕ) : Type 0 where
 -- if the move is legal, the other side has a legal move after it
 abbrev pub IsAnswered : Shogi → Move → Type 0
 IsAnswered p m = is_legal p m ≡ true → legal_codes (after p m) ≢ []
+
+-- the square is on one of the two ranks that are last before the side
+abbrev pub is_on_back_rank : Color → ℕ → Bool
+is_on_back_rank Black square = nat_lt (square % 9) 2
+is_on_back_rank White square = nat_lt 6 (square % 9)
+
+-- a move of what stands on the square to that one begins off the mask, gives no check and cannot promote
+pub record IsFarMove (p : Shogi) (sight from n : ℕ) : Type 0 where
+  pub unseen : has_bit sight from ≡ false
+  pub harmless : IsHarmless p.cells (opponent_of p.side) (piece_at p.cells from) n
+  pub plain : may_promote (piece_at p.cells from) from n ≡ false
+
+-- each move of what stands on the square that takes nothing is answered and cannot promote
+pub record HasCertainQuiets (p : Shogi) (from : ℕ) : Type 0 where
+  pub answered : (n : ℕ) → n < 81 → (reaches p.cells from n && is_end false p.side (piece_at p.cells n)) ≡ true → IsAnswered p (Board from n false)
+  pub plain : (n : ℕ) → n < 81 → (reaches p.cells from n && is_end false p.side (piece_at p.cells n)) ≡ true → may_promote (piece_at p.cells from) from n ≡ false

@@ -6,11 +6,11 @@ ghost use Rattle.shogi_moves.specs.LegalMoves.{legal_from, legal_codes, perft};
 ghost use Rattle.shogi_moves.specs.Guards.{Guards};
 
 use crate::after::apply;
-use crate::ends::{drop_ends, legal_ends};
+use crate::ends::{drop_ends, enterable, legal_ends};
 use crate::guard::{Guard, guard_of};
 use crate::sweep::next_kind;
 use crate::walk::Walk;
-use shogi_core::bits::next_of;
+use shogi_core::bits::{lowest, without_lowest};
 use shogi_core::{Kind, Position, Square};
 
 /// How many board moves are legal.
@@ -19,13 +19,15 @@ fn count_board(p: &Position, guard: &Guard) -> u64
     ensures count { result + length (legal_from p.now FIRST_DROP) ≡ length (legal_codes p.now) }
     ensures range { result ≤ FIRST_DROP }
 {
-    let own = p.own(p.side());
+    let squares = enterable(p);
+    let mut left = p.own(p.side());
     let mut total: u64 = 0;
-    let mut square = next_of(own, 0);
-    'squares: while square < 81 {
-        let ends = legal_ends(p, guard, Square::of_index(square));
+    'pieces: while left != 0 {
+        let square = lowest(left);
+        let from = Square::of_index(square);
+        let ends = legal_ends(p, guard, from, p.targets(from) & squares);
         total += (ends.plain.count_ones() + ends.promoting.count_ones()) as u64;
-        square = next_of(own, square + 1);
+        left = without_lowest(left, square);
     }
     total
 }

@@ -16,7 +16,7 @@ ghost use Rattle.shogi_moves.specs.Guards.{Guards};
 
 use crate::after::{dropped, is_checked_after};
 use crate::guard::{Guard, is_calm};
-use crate::legal::{is_pawn_drop_mate, is_pawn_kind, is_promotable};
+use crate::legal::{is_pawn_drop_mate, is_pawn_kind};
 use crate::zones::{dead_squares, pawn_files, promoting_squares};
 use shogi_core::bits::{cleared, has, lowest, without_lowest};
 use shogi_core::{Board, Kind, Move, Piece, Position, Role, Square, step_squares};
@@ -183,8 +183,8 @@ fn safe_ends(p: &Position, guard: &Guard, from: Square, ends: u128) -> u128
     risky_ends(p, guard, from, ends)
 }
 
-/// The ends of a piece without and with promotion, by the rules on promotion. Many pieces never promote,
-/// and are told at once.
+/// The ends of a piece without and with promotion, by the rules on promotion. Most pieces neither
+/// begin nor end in the zone in which they promote, and are told at once.
 #[inline(always)]
 #[tactic(auto, using(crate::proofs::EndLaws::promoting))]
 fn with_promotions(cell: Option<Piece>, from: Square, ends: u128) -> Ends
@@ -194,13 +194,8 @@ fn with_promotions(cell: Option<Piece>, from: Square, ends: u128) -> Ends
     ensures plain_fits { result.plain < 2 ^ 81 }
     ensures promoting_fits { result.promoting < 2 ^ 81 }
 {
-    let Some(piece) = cell else {
-        return Ends {
-            plain: ends,
-            promoting: 0,
-        };
-    };
-    if !is_promotable(piece.role) {
+    let zone = promoting_squares(cell, from);
+    if zone == 0 || ends & zone == 0 {
         return Ends {
             plain: ends,
             promoting: 0,
@@ -208,69 +203,34 @@ fn with_promotions(cell: Option<Piece>, from: Square, ends: u128) -> Ends
     }
     Ends {
         plain: ends & !dead_squares(cell),
-        promoting: ends & promoting_squares(cell, from),
+        promoting: ends & zone,
     }
 }
 
-/// The legal ends of one of the pieces of the side to move among the squares of a sort that it
-/// reaches; only the clauses need to know which sort that is.
+/// The squares on which no piece of the side to move stands.
+#[tactic(auto, using(crate::proofs::EndLaws::entering_bits))]
+pub fn enterable(p: &Position) -> u128
+    ensures { (n : ℕ) → n < 81 → has_bit result n ≡ not (is_piece_of p.now.side (piece_at p.now.cells n)) }
+{
+    !p.own(p.side())
+}
+
+/// The legal ends of one of the pieces of the side to move among squares that it reaches and on
+/// which no other one stands.
 #[inline(always)]
 #[tactic(auto, using(crate::proofs::EndLaws::ending))]
-pub fn ends_among(p: &Position, guard: &Guard, capture: bool, from: Square, among: u128) -> Ends
+pub fn legal_ends(p: &Position, guard: &Guard, from: Square, among: u128) -> Ends
     requires guard { Guards p.now guard.now.checked guard.now.exposed }
     requires own { is_piece_of p.now.side (piece_at p.now.cells from) ≡ true }
-    requires among { (n : ℕ) → n < 81 → has_bit among n ≡ (reaches p.now.cells from n && is_end capture p.now.side (piece_at p.now.cells n)) }
+    requires among { (n : ℕ) → n < 81 → has_bit among n ≡ true → (reaches p.now.cells from n ≡ true) × (is_piece_of p.now.side (piece_at p.now.cells n) ≡ false) }
     requires fits { among < 2 ^ 81 }
-    ensures plain { (n : ℕ) → n < 81 → has_bit result.plain n ≡ is_wanted p.now capture (code_of (moves.Board from n false)) }
-    ensures promoting { (n : ℕ) → n < 81 → has_bit result.promoting n ≡ is_wanted p.now capture (code_of (moves.Board from n true)) }
-    ensures plain_fits { result.plain < 2 ^ 81 }
-    ensures promoting_fits { result.promoting < 2 ^ 81 }
-{
-    let _ = capture;
-    p.validity();
-    from.validity();
-    let ends = safe_ends(p, guard, from, among);
-    with_promotions(p.at(from), from, ends)
-}
-
-/// The legal ends of one of the pieces of the side to move, for captures or for the other moves. Most
-/// pieces reach no square of the sort, and are told at once.
-#[inline(always)]
-#[tactic(auto, using(crate::proofs::EndLaws::ending))]
-pub fn board_ends(p: &Position, guard: &Guard, capture: bool, from: Square) -> Ends
-    requires guard { Guards p.now guard.now.checked guard.now.exposed }
-    requires own { is_piece_of p.now.side (piece_at p.now.cells from) ≡ true }
-    ensures plain { (n : ℕ) → n < 81 → has_bit result.plain n ≡ is_wanted p.now capture (code_of (moves.Board from n false)) }
-    ensures promoting { (n : ℕ) → n < 81 → has_bit result.promoting n ≡ is_wanted p.now capture (code_of (moves.Board from n true)) }
+    ensures plain { (n : ℕ) → n < 81 → has_bit result.plain n ≡ (has_bit among n && is_legal_code p.now (code_of (moves.Board from n false))) }
+    ensures promoting { (n : ℕ) → n < 81 → has_bit result.promoting n ≡ (has_bit among n && is_legal_code p.now (code_of (moves.Board from n true))) }
     ensures plain_fits { result.plain < 2 ^ 81 }
     ensures promoting_fits { result.promoting < 2 ^ 81 }
 {
     p.validity();
     from.validity();
-    let among = p.targets(from) & ends_of_sort(p, capture);
-    if among == 0 {
-        return Ends {
-            plain: 0,
-            promoting: 0,
-        };
-    }
-    ends_among(p, guard, capture, from, among)
-}
-
-/// All legal ends of one of the pieces of the side to move.
-#[tactic(auto, using(crate::proofs::EndLaws::ending_all))]
-pub fn legal_ends(p: &Position, guard: &Guard, from: Square) -> Ends
-    requires guard { Guards p.now guard.now.checked guard.now.exposed }
-    requires own { is_piece_of p.now.side (piece_at p.now.cells from) ≡ true }
-    ensures plain { (n : ℕ) → n < 81 → has_bit result.plain n ≡ is_legal_code p.now (code_of (moves.Board from n false)) }
-    ensures promoting { (n : ℕ) → n < 81 → has_bit result.promoting n ≡ is_legal_code p.now (code_of (moves.Board from n true)) }
-    ensures plain_fits { result.plain < 2 ^ 81 }
-    ensures promoting_fits { result.promoting < 2 ^ 81 }
-{
-    p.validity();
-    from.validity();
-    let own = p.own(p.side());
-    let among = p.targets(from) & !own;
     if among == 0 {
         return Ends {
             plain: 0,
@@ -300,6 +260,7 @@ fn pseudo_legal_drops(p: &Position, kind: Kind) -> u128
 }
 
 /// Those of the ends of a drop that leave the king unattacked, each of them tried.
+#[inline(never)]
 #[tactic(auto, using(crate::proofs::EndLaws::sifting))]
 fn tried_drops(p: &Position, kind: Kind, ends: u128) -> u128
     requires { ends < 2 ^ 81 }
@@ -323,6 +284,7 @@ fn tried_drops(p: &Position, kind: Kind, ends: u128) -> u128
 }
 
 /// Where one of the held pieces may be dropped, apart from mate by a pawn.
+#[inline(always)]
 #[tactic(auto, using(crate::proofs::EndLaws::safe_dropping))]
 pub fn safe_drops(p: &Position, guard: &Guard, kind: Kind) -> u128
     requires guard { Guards p.now guard.now.checked guard.now.exposed }
@@ -385,6 +347,7 @@ fn fair_drops(p: &Position, ends: u128) -> u128
 }
 
 /// Where one of the held pieces may legally be dropped.
+#[inline(always)]
 #[tactic(auto, using(crate::proofs::EndLaws::legal_dropping))]
 pub fn drop_ends(p: &Position, guard: &Guard, kind: Kind) -> u128
     requires guard { Guards p.now guard.now.checked guard.now.exposed }

@@ -1,18 +1,19 @@
 //! Squares to which the king of the side that is not to move may go, should a move give it check.
 
-ghost use Rattle.std.specs.Prelude.{◌≡◌, ◌≢◌, ◌<◌, ◌^◌, ◌&&◌, ℕ, not, true, false, [], Option};
+ghost use Rattle.std.specs.Prelude.{◌≡◌, ◌<◌, ◌^◌, ◌&&◌, ℕ, not, true, false, Option};
+ghost use Rattle.shogi_core.specs.declared.moves.Move.TheVariants as moves;
 ghost use Rattle.shogi_core.specs.declared.piece.Piece.{Piece};
 ghost use Rattle.shogi_core.specs.Attack.{is_attacked};
 ghost use Rattle.shogi_core.specs.Bits.{has_bit};
 ghost use Rattle.shogi_core.specs.Movement.{Cells, cell_reaches};
-ghost use Rattle.shogi_moves.specs.After.{after};
 ghost use Rattle.shogi_moves.specs.Escapes.{AreEscapes, HasOpenEscape};
-ghost use Rattle.shogi_moves.specs.Legal.{is_legal};
-ghost use Rattle.shogi_moves.specs.LegalMoves.{legal_codes};
+ghost use Rattle.shogi_moves.specs.Replies.{IsAnswered};
 
 use crate::after::{dropped, piece_moved};
-use shogi_core::bits::{cleared, has, lowest, without_lowest};
-use shogi_core::{Board, Color, Move, Piece, Position, Square, aligned_squares, step_squares};
+use shogi_core::bits::{ALL_SQUARES, cleared, has, lowest, without_lowest};
+use shogi_core::{
+    Board, Color, Kind, Move, Piece, Position, Square, aligned_squares, step_squares,
+};
 
 /// Those of the squares that the side does not attack.
 #[tactic(auto, using(crate::proofs::EndLaws::sifting))]
@@ -93,9 +94,8 @@ fn has_open(p: &Position, escapes: u128, closed: u128, to: Square) -> bool
 /// Whether one of the squares is surely left to the king after the legal move, should that give it check: the
 /// move does not end there, what moves does not reach it, and it is on no line with the square that it leaves.
 pub fn leaves_escape(p: &Position, escapes: u128, m: &Move) -> bool
-    requires escapes { AreEscapes p.now escapes }
-    requires legal { is_legal p.now m.now ≡ true }
-    ensures { result ≡ true → legal_codes (after p.now m.now) ≢ [] }
+    requires { AreEscapes p.now escapes }
+    ensures { result ≡ true → IsAnswered p.now m.now }
 {
     p.validity();
     match m {
@@ -111,4 +111,51 @@ pub fn leaves_escape(p: &Position, escapes: u128, m: &Move) -> bool
             has_open(p, escapes, reach, *to)
         }
     }
+}
+
+/// Those of the squares to which what stands on a square may move without promotion so that one of the
+/// escapes is surely left to the king.
+pub fn escaped_ends(p: &Position, escapes: u128, from: Square, ends: u128) -> u128
+    requires { AreEscapes p.now escapes }
+    ensures among { (n : ℕ) → has_bit result n ≡ true → has_bit ends n ≡ true }
+    ensures answered { (n : ℕ) → n < 81 → has_bit result n ≡ true → IsAnswered p.now (moves.Board from n false) }
+{
+    let mut left = ALL_SQUARES & ends;
+    let mut kept = left;
+    while left != 0 {
+        let to = lowest(left);
+        let m = Move::Board {
+            from,
+            to: Square::of_index(to),
+            promote: false,
+        };
+        if !leaves_escape(p, escapes, &m) {
+            kept = cleared(kept, to);
+        }
+        left = without_lowest(left, to);
+    }
+    kept
+}
+
+/// Those of the squares on which a piece of the kind may be dropped so that one of the escapes is surely
+/// left to the king.
+pub fn escaped_drops(p: &Position, escapes: u128, kind: Kind, ends: u128) -> u128
+    requires { AreEscapes p.now escapes }
+    ensures among { (n : ℕ) → has_bit result n ≡ true → has_bit ends n ≡ true }
+    ensures answered { (n : ℕ) → n < 81 → has_bit result n ≡ true → IsAnswered p.now (moves.Drop kind n) }
+{
+    let mut left = ALL_SQUARES & ends;
+    let mut kept = left;
+    while left != 0 {
+        let to = lowest(left);
+        let m = Move::Drop {
+            kind,
+            to: Square::of_index(to),
+        };
+        if !leaves_escape(p, escapes, &m) {
+            kept = cleared(kept, to);
+        }
+        left = without_lowest(left, to);
+    }
+    kept
 }

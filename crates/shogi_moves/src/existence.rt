@@ -11,10 +11,10 @@ ghost use Rattle.shogi_moves.specs.Guards.{Guards};
 ghost use Rattle.shogi_moves.specs.Legal.{is_safe_code};
 ghost use Rattle.shogi_moves.specs.LegalMoves.{legal_from, legal_codes};
 
-use crate::ends::{drop_ends, is_king_safe, legal_ends, safe_drops};
+use crate::ends::{drop_ends, enterable, is_king_safe, legal_ends, safe_drops};
 use crate::guard::{Guard, full_guard, rough_guard};
 use crate::sweep::next_kind;
-use shogi_core::bits::{cleared, lowest, next_of, without_lowest};
+use shogi_core::bits::{cleared, lowest, without_lowest};
 use shogi_core::{Kind, Position, Square};
 
 /// Whether the only king of the side to move may go to one of the squares, which it reaches and where
@@ -65,14 +65,16 @@ fn has_board_move(p: &Position, guard: &Guard) -> bool
     ensures some { result ≡ true → legal_codes p.now ≢ [] }
     ensures none { result ≡ false → legal_codes p.now ≡ legal_from p.now FIRST_DROP }
 {
-    let own = p.own(p.side());
-    let mut square = next_of(own, 0);
-    'squares: while square < 81 {
-        let ends = legal_ends(p, guard, Square::of_index(square));
+    let squares = enterable(p);
+    let mut left = p.own(p.side());
+    'pieces: while left != 0 {
+        let square = lowest(left);
+        let from = Square::of_index(square);
+        let ends = legal_ends(p, guard, from, p.targets(from) & squares);
         if ends.plain | ends.promoting != 0 {
             return true;
         }
-        square = next_of(own, square + 1);
+        left = without_lowest(left, square);
     }
     false
 }

@@ -5,7 +5,9 @@ ghost use Rattle.shogi_core.specs.Bits.{has_bit};
 ghost use Rattle.shogi_core.specs.Lines.{is_near};
 ghost use Rattle.shogi_core.specs.Movement.{piece_at, reaches};
 ghost use Rattle.shogi_moves.specs.Ends.{is_end};
+ghost use Rattle.shogi_moves.specs.Replies.{IsFarMove};
 
+use crate::zones::{back_squares, zone_squares};
 use shogi_core::Position;
 
 /// The squares so many places before or behind one of the mask.
@@ -43,4 +45,19 @@ pub fn movers(p: &Position, capture: bool, pieces: u128) -> u128
     }
     let board = p.as_board();
     pieces & (board.sliders() | squares_near(board.own(p.side().opponent())))
+}
+
+/// Where the kings of the other side stand on its two last ranks: those of the pieces of the side to move on
+/// the three ranks before it that do not slide and that the mask leaves out.
+#[inline(always)]
+pub fn far_pieces(p: &Position, sight: u128) -> u128
+    ensures { (a n : ℕ) → a < 81 → n < 81 → has_bit result a ≡ true → reaches p.now.cells a n ≡ true → IsFarMove p.now sight a n }
+{
+    p.validity();
+    let side = p.side();
+    let board = p.as_board();
+    if board.kings(side.opponent()) & !back_squares(side) != 0 {
+        return 0;
+    }
+    board.own(side) & zone_squares(side.opponent()) & !(board.sliders() | sight)
 }

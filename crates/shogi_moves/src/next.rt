@@ -14,7 +14,7 @@ ghost use Rattle.shogi_moves.specs.Places.{code_past};
 ghost use Rattle.shogi_moves.specs.Rising.{IsRising};
 ghost use Rattle.shogi_moves.specs.Sweeps.{Keeps};
 
-use crate::ends::{Ends, drop_ends, legal_ends};
+use crate::ends::{Ends, drop_ends, enterable, legal_ends};
 use crate::guard::{Guard, guard_of};
 use crate::sweep::bits_from;
 use shogi_core::bits::{has, lowest};
@@ -38,7 +38,7 @@ fn ends_left(p: &Position, guard: &Guard, from: Square, code: u16) -> Ends
 {
     from.validity();
     let passed = (code - from.index() as u16 * SQUARE_CODES) as usize;
-    let ends = legal_ends(p, guard, from);
+    let ends = legal_ends(p, guard, from, p.targets(from) & enterable(p));
     Ends {
         plain: bits_from(ends.plain, (passed + 1) / 2),
         promoting: bits_from(ends.promoting, passed / 2),

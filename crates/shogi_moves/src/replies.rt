@@ -4,17 +4,20 @@ ghost use Rattle.std.specs.Prelude.{◌≡◌, ◌≢◌, ◌<◌, ◌^◌, ℕ,
 ghost use Rattle.shogi_core.specs.declared.moves.Move.TheVariants as moves;
 ghost use Rattle.shogi_core.specs.Below.{some_below};
 ghost use Rattle.shogi_core.specs.Bits.{has_bit};
-ghost use Rattle.shogi_core.specs.Cell.{is_slider};
 ghost use Rattle.shogi_core.specs.Movement.{piece_at};
 ghost use Rattle.shogi_core.specs.Pieces.{opponent_of};
 ghost use Rattle.shogi_moves.specs.After.{after};
+ghost use Rattle.shogi_moves.specs.Escapes.{AreEscapes};
 ghost use Rattle.shogi_moves.specs.Legal.{is_legal};
 ghost use Rattle.shogi_moves.specs.LegalMoves.{legal_codes};
-ghost use Rattle.shogi_moves.specs.Replies.{holds_free, is_open_step, is_spare, Sees, Aligns, IsReplies, IsHarmless, IsOpen, StaysCovered, UncoversNothing, IsAnswered};
+ghost use Rattle.shogi_moves.specs.Replies.{holds_free, is_open_step, is_spare, Sees, Aligns, IsReplies, IsHarmless, IsOpen, StaysCovered, UncoversWithin, IsAnswered, HasCertainQuiets};
 ghost use Rattle.shogi_moves.specs.Threats.{IsThreat, LeavesThreat, MayTake};
 
 use crate::after::{dropped, piece_moved};
-use crate::zones::dead_squares;
+use crate::ends::ends_of_sort;
+use crate::escapes::{escaped_drops, escaped_ends};
+use crate::movers::far_pieces;
+use crate::zones::{dead_squares, promoting_squares};
 use shogi_core::bits::{ALL_SQUARES, cleared, has, lowest, without, without_lowest};
 use shogi_core::{Color, Kind, Move, Piece, Position, Square, aligned_squares, step_squares};
 
@@ -57,17 +60,13 @@ pub fn line_squares(p: &Position, side: Color) -> u128
     lines
 }
 
-/// Whether what stands on the square slides, or may stand in the way of a piece that slides to a king
-/// of the side: such a piece is on a line with the king and on an open line with the square.
+/// Whether what stands on the square may stand in the way of a piece that slides to a king of the side:
+/// such a piece is on a line with the king and on an open line with the square.
 fn may_uncover(p: &Position, side: Color, from: Square) -> bool
-    ensures still { result ≡ false → is_slider (piece_at p.now.cells from) ≡ false }
-    ensures covered { result ≡ false → StaysCovered p.now.cells side from }
+    ensures { result ≡ false → StaysCovered p.now.cells side from }
 {
     from.validity();
-    if has(p.as_board().sliders(), from.index()) {
-        return true;
-    }
-    let snipers = p.as_board().snipers(side);
+    let snipers = p.as_board().snipers(side) & aligned_squares(from.index());
     snipers != 0 && p.as_board().lined(from) & snipers != 0
 }
 
@@ -164,16 +163,25 @@ impl Replies {
         true
     }
 
-    /// Whether a move of what stands on the square surely uncovers no check of the other side.
+    /// The squares to which a move of what stands on the square may uncover a check: none where no king
+    /// sees it, all where it may cover one, and else the lines of the king for a piece that slides.
     #[inline(always)]
-    fn uncovers_nothing(&self, p: &Position, from: Square) -> bool
-        ensures { result ≡ true → UncoversNothing p.now.cells (opponent_of p.now.side) self.now.sight from }
+    fn uncovering_squares(&self, p: &Position, from: Square) -> u128
+        ensures { UncoversWithin p.now.cells (opponent_of p.now.side) self.now.sight from result }
     {
         from.validity();
-        if has(self.sight, from.index()) {
-            return !may_uncover(p, p.side().opponent(), from);
+        if !has(self.sight, from.index()) {
+            return 0;
         }
-        true
+        let side = p.side().opponent();
+        if may_uncover(p, side, from) {
+            return ALL_SQUARES;
+        }
+        if has(p.as_board().sliders(), from.index()) {
+            line_squares(p, side)
+        } else {
+            0
+        }
     }
 
     /// What is kept of the position.
@@ -218,7 +226,7 @@ impl Replies {
                 if !self.is_harmless(p, piece_moved(p.at(*from), *promote), *to) {
                     return false;
                 }
-                if !self.uncovers_nothing(p, *from) {
+                if has(self.uncovering_squares(p, *from), end) {
                     return false;
                 }
                 self.spare & !(1 << end) != 0
@@ -260,31 +268,87 @@ impl Replies {
         without(!closed, one)
     }
 
+    /// Pieces of the side to move of which each move that takes nothing leaves the other side a legal move
+    /// and cannot promote, since they are far from its kings and from the zone.
+    pub fn far_pieces(&self, p: &Position) -> u128
+        requires kept { IsReplies p.now self.now.sight self.now.spare }
+        ensures { (n : ℕ) → n < 81 → has_bit result n ≡ true → HasCertainQuiets p.now n }
+    {
+        p.validity();
+        if ALL_SQUARES & !self.open_squares(0) != 0 {
+            return 0;
+        }
+        far_pieces(p, self.sight)
+    }
+
+    /// Whether each move of what stands on the square that takes nothing surely leaves the other side a
+    /// legal move and cannot promote. Which of the moves are legal need not be known.
+    #[inline(always)]
+    pub fn has_certain_quiets(&self, p: &Position, escapes: u128, far: u128, from: Square) -> bool
+        requires kept { IsReplies p.now self.now.sight self.now.spare }
+        requires escapes { AreEscapes p.now escapes }
+        requires far { (n : ℕ) → n < 81 → has_bit far n ≡ true → HasCertainQuiets p.now n }
+        ensures { result ≡ true → HasCertainQuiets p.now from }
+    {
+        p.validity();
+        from.validity();
+        if has(far, from.index()) {
+            return true;
+        }
+        let among = p.targets(from) & ends_of_sort(p, false);
+        let promoting = promoting_squares(p.at(from), from);
+        among & (promoting | !self.certain_ends(p, escapes, from, among)) == 0
+    }
+
     /// Those of the squares to which what stands on a square may move without promotion so that the other
-    /// side surely has a legal move after it.
-    pub fn certain_ends(&self, p: &Position, from: Square, ends: u128) -> u128
+    /// side surely has a legal move after it: it is in no check, or its king has one of the escapes left.
+    #[inline(always)]
+    pub fn certain_ends(&self, p: &Position, escapes: u128, from: Square, ends: u128) -> u128
+        requires escapes { AreEscapes p.now escapes }
         requires kept { IsReplies p.now self.now.sight self.now.spare }
         ensures among { (n : ℕ) → has_bit result n ≡ true → has_bit ends n ≡ true }
         ensures certain { (n : ℕ) → n < 81 → has_bit result n ≡ true → IsAnswered p.now (moves.Board from n false) }
     {
         p.validity();
         from.validity();
-        let open = ends & self.open_squares(self.sight);
-        if open == 0 || !self.uncovers_nothing(p, from) {
-            return 0;
+        if ends & self.sight == 0 && !has(self.sight, from.index()) {
+            return ends & self.open_squares(0);
         }
-        open
+        self.certain_among(p, escapes, from, ends)
     }
 
-    /// Those of the squares on which a piece of the kind may be dropped so that the other side surely has a legal move
-    /// after it.
-    pub fn certain_drops(&self, p: &Position, kind: Kind, ends: u128) -> u128
+    /// The same, where a king sees some of the squares.
+    #[inline(never)]
+    fn certain_among(&self, p: &Position, escapes: u128, from: Square, ends: u128) -> u128
+        requires escapes { AreEscapes p.now escapes }
+        requires kept { IsReplies p.now self.now.sight self.now.spare }
+        ensures among { (n : ℕ) → has_bit result n ≡ true → has_bit ends n ≡ true }
+        ensures certain { (n : ℕ) → n < 81 → has_bit result n ≡ true → IsAnswered p.now (moves.Board from n false) }
+    {
+        p.validity();
+        from.validity();
+        let closed = self.risky_squares(p, p.at(from), ends) | self.uncovering_squares(p, from);
+        let open = ends & self.open_squares(closed);
+        if open == ends || escapes == 0 {
+            return open;
+        }
+        open | escaped_ends(p, escapes, from, ends & !open)
+    }
+
+    /// Those of the squares on which a piece of the kind may be dropped so that the other side surely has a
+    /// legal move after it: it is in no check, or its king has one of the escapes left.
+    pub fn certain_drops(&self, p: &Position, escapes: u128, kind: Kind, ends: u128) -> u128
+        requires escapes { AreEscapes p.now escapes }
         requires kept { IsReplies p.now self.now.sight self.now.spare }
         ensures among { (n : ℕ) → has_bit result n ≡ true → has_bit ends n ≡ true }
         ensures certain { (n : ℕ) → n < 81 → has_bit result n ≡ true → IsAnswered p.now (moves.Drop kind n) }
     {
         p.validity();
         let risky = self.risky_squares(p, dropped(p.side(), kind), ends);
-        ends & self.open_squares(risky)
+        let open = ends & self.open_squares(risky);
+        if open == ends || escapes == 0 {
+            return open;
+        }
+        open | escaped_drops(p, escapes, kind, ends & !open)
     }
 }

@@ -9,17 +9,17 @@ ghost use Rattle.shogi_core.specs.Codes.{code_of};
 ghost use Rattle.shogi_core.specs.Movement.{piece_at};
 ghost use Rattle.shogi_core.specs.Pieces.{kind_number};
 ghost use Rattle.shogi_moves.specs.Captures.{is_wanted, HasNoneWanted};
+ghost use Rattle.shogi_moves.specs.Escapes.{AreEscapes};
 ghost use Rattle.shogi_moves.specs.Guards.{Guards};
 ghost use Rattle.shogi_moves.specs.Legal.{is_legal};
 ghost use Rattle.shogi_moves.specs.Replies.{IsReplies};
 ghost use Rattle.shogi_moves.specs.Sweeps.{wanted_from, IsBoardSweep, IsDropSweep, IsCertainQuiet, IsCertainDrop, IsPassed, IsPassedTo};
 
-use crate::ends::{Ends, board_ends, drop_ends, ends_among, ends_of_sort};
+use crate::ends::{Ends, drop_ends, ends_of_sort, legal_ends};
 use crate::guard::{Guard, guard_of};
 use crate::movers::movers;
 use crate::next::code_above;
 use crate::replies::Replies;
-use crate::zones::promoting_squares;
 use shogi_core::bits::{has, lowest, up_to_lowest, with, without_lowest};
 use shogi_core::{FIRST_DROP, Kind, Move, Position, SQUARE_CODES, Square, is_piece_of};
 
@@ -53,7 +53,7 @@ fn ends_on(p: &Position, guard: &Guard, capture: bool, from: Square) -> Ends
 {
     from.validity();
     if is_piece_of(p.at(from), p.side()) {
-        board_ends(p, guard, capture, from)
+        legal_ends(p, guard, from, p.targets(from) & ends_of_sort(p, capture))
     } else {
         Ends {
             plain: 0,
@@ -158,7 +158,7 @@ impl BoardSweep {
             let from = Square::of_index(square);
             let among = p.targets(from) & sort;
             if among != 0 {
-                let ends = ends_among(p, &self.guard, capture, from, among);
+                let ends = legal_ends(p, &self.guard, from, among);
                 if ends.plain | ends.promoting != 0 {
                     self.from = from;
                     self.ends = ends;
@@ -190,10 +190,11 @@ impl BoardSweep {
 
     /// Passes the ends of the present piece, none of which is by promotion, up to the first after which it
     /// is not certain that the other side has a legal move.
-    fn pass_ends(&mut self, p: &Position, replies: &Replies)
+    fn pass_ends(&mut self, p: &Position, replies: &Replies, escapes: u128)
         requires kept { IsBoardSweep p.now false self.old }
         requires plain { self.old.ends.promoting ≡ 0 }
         requires replies { IsReplies p.now replies.now.sight replies.now.spare }
+        requires escapes { AreEscapes p.now escapes }
         ensures kept { IsBoardSweep p.now false self.new }
         ensures plain { self.new.ends.promoting ≡ 0 }
         ensures passed { IsPassedTo p.now self.old.code self.new.code }
@@ -201,7 +202,7 @@ impl BoardSweep {
         let (from, plain) = (self.from, self.ends.plain);
         from.validity();
         let first = from.index() as u16 * SQUARE_CODES;
-        let uncertain = plain & !replies.certain_ends(p, from, plain);
+        let uncertain = plain & !replies.certain_ends(p, escapes, from, plain);
         if uncertain == 0 {
             self.ends.plain = 0;
             self.code = first + SQUARE_CODES;
@@ -213,24 +214,22 @@ impl BoardSweep {
     }
 
     /// Passes all moves of the next pieces, as long as a piece can promote by none of them and it is certain
-    /// of each square that it reaches that the other side has a legal move after it. Which of the moves are
-    /// legal need not be known.
-    fn pass_pieces(&mut self, p: &Position, replies: &Replies)
+    /// that the other side has a legal move after each.
+    fn pass_pieces(&mut self, p: &Position, replies: &Replies, escapes: u128)
         requires kept { IsBoardSweep p.now false self.old }
         requires none { (self.old.ends.plain ≡ 0) × (self.old.ends.promoting ≡ 0) }
         requires replies { IsReplies p.now replies.now.sight replies.now.spare }
+        requires escapes { AreEscapes p.now escapes }
         ensures kept { IsBoardSweep p.now false self.new }
         ensures passed { IsPassedTo p.now self.old.code self.new.code }
     {
         p.validity();
-        let free = ends_of_sort(p, false);
+        let far = replies.far_pieces(p);
         let mut left = bits_above(p.own(p.side()), self.from.index());
         'squares: while left != 0 {
             let square = lowest(left);
             let from = Square::of_index(square);
-            let among = p.targets(from) & free;
-            let promoting = promoting_squares(p.at(from), from);
-            if among & (promoting | !replies.certain_ends(p, from, among)) != 0 {
+            if !replies.has_certain_quiets(p, escapes, far, from) {
                 return;
             }
             self.from = from;
@@ -241,18 +240,19 @@ impl BoardSweep {
 
     /// Passes the next of the moves that take nothing, as long as they do not promote and it is certain
     /// by a look at squares alone that the other side has a legal move after them.
-    pub fn pass_quiets(&mut self, p: &Position, replies: &Replies)
+    pub fn pass_quiets(&mut self, p: &Position, replies: &Replies, escapes: u128)
         requires kept { IsBoardSweep p.now false self.old }
         requires replies { IsReplies p.now replies.now.sight replies.now.spare }
+        requires escapes { AreEscapes p.now escapes }
         ensures kept { IsBoardSweep p.now false self.new }
         ensures passed { IsPassed (IsCertainQuiet p.now self.old.code) (wanted_from p.now false self.old.code) (wanted_from p.now false self.new.code) }
     {
         if self.ends.promoting != 0 {
             return;
         }
-        self.pass_ends(p, replies);
+        self.pass_ends(p, replies, escapes);
         if self.ends.plain == 0 {
-            self.pass_pieces(p, replies);
+            self.pass_pieces(p, replies, escapes);
         }
     }
 }
@@ -350,15 +350,16 @@ impl DropSweep {
 
     /// Passes the drops of the present kind, up to the first after which it is not certain by a look at
     /// squares alone that the other side has a legal move.
-    pub fn pass_certain(&mut self, p: &Position, replies: &Replies)
+    pub fn pass_certain(&mut self, p: &Position, replies: &Replies, escapes: u128)
         requires kept { IsDropSweep p.now self.old }
         requires replies { IsReplies p.now replies.now.sight replies.now.spare }
+        requires escapes { AreEscapes p.now escapes }
         ensures kept { IsDropSweep p.now self.new }
         ensures passed { IsPassed (IsCertainDrop p.now self.old.kind self.old.code) (wanted_from p.now false self.old.code) (wanted_from p.now false self.new.code) }
     {
         let ends = self.ends;
         let first = FIRST_DROP + self.kind.number() as u16 * 81;
-        let uncertain = ends & !replies.certain_drops(p, self.kind, ends);
+        let uncertain = ends & !replies.certain_drops(p, escapes, self.kind, ends);
         if uncertain == 0 {
             self.ends = 0;
             self.code = first + 81;

@@ -5,6 +5,7 @@ ghost use Rattle.shogi_core.specs.Bits.{has_bit};
 ghost use Rattle.shogi_core.specs.Cell.{is_immobile, is_pawn};
 ghost use Rattle.shogi_core.specs.Validity.{pawns_on_file};
 ghost use Rattle.shogi_moves.specs.Legal.{in_promotion_zone, may_promote};
+ghost use Rattle.shogi_moves.specs.Replies.{is_on_back_rank};
 
 use crate::legal::{in_promotion_zone, is_promotable};
 use shogi_core::bits::{ALL_SQUARES, lowest, without_lowest};
@@ -41,13 +42,25 @@ pub fn dead_squares(cell: Option<Piece>) -> u128
 
 /// The squares of the zone in which the side promotes.
 #[tactic(auto, using(crate::proofs::ZoneLaws::zone_bits))]
-fn zone_squares(color: Color) -> u128
+pub fn zone_squares(color: Color) -> u128
     ensures bits { (n : ℕ) → n < 81 → has_bit result n ≡ in_promotion_zone color n }
     ensures fits { result < 2 ^ 81 }
 {
     match color {
         Color::Black => FIRST_THREE_RANKS,
         Color::White => LAST_THREE_RANKS,
+    }
+}
+
+/// The squares of the two ranks that are last before the side.
+#[tactic(auto, using(crate::proofs::ZoneLaws::back_bits))]
+pub fn back_squares(color: Color) -> u128
+    ensures bits { (n : ℕ) → n < 81 → has_bit result n ≡ is_on_back_rank color n }
+    ensures fits { result < 2 ^ 81 }
+{
+    match color {
+        Color::Black => FIRST_TWO_RANKS,
+        Color::White => LAST_TWO_RANKS,
     }
 }
 
@@ -91,6 +104,7 @@ fn is_pawn(cell: Option<Piece>, side: Color) -> bool
 }
 
 /// The squares of the files on which an unpromoted pawn of the side stands.
+#[inline(never)]
 #[tactic(auto, using(crate::proofs::PawnFiles::pawn_files))]
 pub fn pawn_files(p: &Position, side: Color) -> u128
     ensures bits { (n : ℕ) → n < 81 → has_bit result n ≡ nat_lt 0 (pawns_on_file side (n / 9) p.now.cells) }

@@ -65,6 +65,8 @@ pub struct Frame {
     pub has_replies: bool,
     /// Squares to which the other side's king may go, once they were looked for.
     pub escapes: Option<u128>,
+    /// Set while it is known of the current move that it is not certain to be answered.
+    pub is_unanswered: bool,
     /// A capture that the other side may make after most moves, if one was found.
     pub threat: Option<Threat>,
     /// Set once it was looked for.
@@ -193,6 +195,7 @@ impl Frame {
         self.replies = replies_of(node, ahead);
         self.has_replies = ahead;
         self.escapes = None;
+        self.is_unanswered = false;
         self.threat = None;
         self.has_threat = false;
     }
@@ -227,6 +230,7 @@ impl Frame {
         self.replies = Replies::unknown(self.node.as_position());
         self.has_replies = false;
         self.escapes = None;
+        self.is_unanswered = false;
         self.threat = None;
         self.has_threat = false;
     }
@@ -249,6 +253,7 @@ impl Frame {
         self.replies = replies_of(&self.node, ahead);
         self.has_replies = ahead;
         self.escapes = None;
+        self.is_unanswered = false;
         self.threat = None;
         self.has_threat = false;
     }
@@ -460,6 +465,17 @@ impl Frame {
         squares
     }
 
+    /// The squares to which the other side's king may go, where they were looked for, and else none.
+    #[inline(always)]
+    fn known_escapes(&self) -> u128
+        ensures { AreEscapes self.now.node.position result }
+    {
+        match self.escapes {
+            Some(squares) => squares,
+            None => 0,
+        }
+    }
+
     /// Whether it is certain without making the current move that the other side has a legal move after it: one
     /// that it has where no check is given, or a step of its king out of that check.
     fn is_answered(&mut self, current: &Move) -> bool
@@ -576,6 +592,7 @@ impl Frame {
         ensures picker { self.new.picker ≡ self.old.picker }
         ensures same { IsSame self.old self.new }
     {
+        self.is_unanswered = false;
         if self.most_after(current) > self.threshold(current) {
             if self.depth == 1 {
                 return false;
@@ -583,6 +600,7 @@ impl Frame {
             return self.pass_under_threat(current);
         }
         if !self.is_answered(current) {
+            self.is_unanswered = true;
             return false;
         }
         self.skip(current);
@@ -607,8 +625,9 @@ impl Frame {
         if self.node.score() + self.loss_after() > threshold {
             return;
         }
+        let escapes = self.known_escapes();
         self.picker
-            .pass_quiets(self.node.as_position(), &self.replies);
+            .pass_quiets(self.node.as_position(), &self.replies, escapes);
     }
 
     /// The same of the drops of the kind that is under way.
@@ -627,8 +646,9 @@ impl Frame {
         if self.node.score_after_drop(kind) < self.loss_after() - threshold {
             return;
         }
+        let escapes = self.known_escapes();
         self.picker
-            .pass_drops(self.node.as_position(), &self.replies);
+            .pass_drops(self.node.as_position(), &self.replies, escapes);
     }
 
     /// Passes the next moves of a node of depth 1 or 2 as these two do, once a move was gone through and not
@@ -686,7 +706,7 @@ impl Frame {
         ensures picker { self.new.picker ≡ self.old.picker }
         ensures same { IsSame self.old self.new }
     {
-        if self.is_answered(current) {
+        if !self.is_unanswered && self.is_answered(current) {
             return Some(self.leaf_after(current));
         }
         None
@@ -730,6 +750,7 @@ impl Default for Frame {
             replies: Replies::unknown(node.as_position()),
             has_replies: false,
             escapes: None,
+            is_unanswered: false,
             threat: None,
             has_threat: false,
         }

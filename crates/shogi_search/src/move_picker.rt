@@ -4,6 +4,7 @@ ghost use Rattle.std.specs.Prelude.{◌≡◌, ◌≢◌, ◌<◌, ◌≤◌, �
 ghost use Rattle.shogi_core.specs.declared.moves.TheConstants.{FIRST_DROP};
 ghost use Rattle.shogi_core.specs.declared.piece.Kind.{Kind};
 ghost use Rattle.shogi_core.specs.Codes.{code_of};
+ghost use Rattle.shogi_moves.specs.Escapes.{AreEscapes};
 ghost use Rattle.shogi_moves.specs.Guards.{Guards};
 ghost use Rattle.shogi_moves.specs.Replies.{IsReplies};
 ghost use Rattle.shogi_moves.specs.Sweeps.{IsBoardSweep, IsDropSweep, IsPassed, IsCertainQuiet, IsCertainDrop};
@@ -163,21 +164,22 @@ impl MovePicker {
         ensures { IfSome result (IsAtQuiets self.now) }
     {
         match self {
-            MovePicker::Quiets(None, sweep) => Some(sweep.code),
+            MovePicker::Quiets(None, sweep) if sweep.ends.promoting == 0 => Some(sweep.code),
             _ => None,
         }
     }
 
     /// Passes the next moves to visit, as long as they take nothing, do not promote, and the other side
     /// surely has a legal move after them.
-    pub fn pass_quiets(&mut self, p: &Position, replies: &Replies)
+    pub fn pass_quiets(&mut self, p: &Position, replies: &Replies, escapes: u128)
         requires kept { IsKept p.now self.old }
         requires replies { IsReplies p.now replies.now.sight replies.now.spare }
+        requires escapes { AreEscapes p.now escapes }
         ensures kept { IsKept p.now self.new }
         ensures passed { (code : ℕ) → IsAtQuiets self.old code → IsPassed (IsCertainQuiet p.now code) (todo p.now self.old) (todo p.now self.new) }
     {
         if let MovePicker::Quiets(None, sweep) = self {
-            sweep.pass_quiets(p, replies);
+            sweep.pass_quiets(p, replies, escapes);
         }
     }
 
@@ -193,14 +195,15 @@ impl MovePicker {
 
     /// Passes the next moves to visit, as long as they are drops of the kind that is under way and the
     /// other side surely has a legal move after them.
-    pub fn pass_drops(&mut self, p: &Position, replies: &Replies)
+    pub fn pass_drops(&mut self, p: &Position, replies: &Replies, escapes: u128)
         requires kept { IsKept p.now self.old }
         requires replies { IsReplies p.now replies.now.sight replies.now.spare }
+        requires escapes { AreEscapes p.now escapes }
         ensures kept { IsKept p.now self.new }
         ensures passed { (kind : Kind) → (code : ℕ) → IsAtDrops self.old kind code → IsPassed (IsCertainDrop p.now kind code) (todo p.now self.old) (todo p.now self.new) }
     {
         if let MovePicker::Drops(None, sweep) = self {
-            sweep.pass_certain(p, replies);
+            sweep.pass_certain(p, replies, escapes);
         }
     }
 

@@ -1,29 +1,34 @@
-use Rattle.std.proofs.Common.{◌≡◌, ◌+◌, ◌*◌, arith, ap, ℕ, length}
-use Rattle.shogi_core.specs.declared.moves.TheConstants.{SQUARE_CODES}
-use Rattle.shogi_moves.specs.LegalMoves.{legal_from}
-use Rattle.shogi_moves.proofs.TallyLaws.{counted_board, counted_between, ones_most}
+use Rattle.std.proofs.Common.{true, false, arith}
+use Rattle.shogi_moves.proofs.EndLaws.{all_ends, all_ways}
+use Rattle.shogi_moves.proofs.LegalLaws.{pieces_first}
+use Rattle.shogi_moves.proofs.TallyLaws.{piece_counted, board_counted}
 use Rattle.shogi_moves.proofs.count.count_board.Goals as goal
 
-pub squares-init : goal.squares-init
-squares-init c = record {
-  whole = omega (arith, counted_between c.args.p.now c.own-own.result 0 c.next_of-square.result (omega arith) (omega arith) (rw c.side.ensures at c.own-own.ensures.bits) c.next_of-square.ensures.none);
-  range = omega arith;
-  within = omega arith;
-  mine = c.next_of-square.ensures.set;
+pub legal_ends-ends-requires-clause-among : goal.legal_ends-ends-requires-clause-among
+legal_ends-ends-requires-clause-among c = λ n h. all_ways c.targets.result c.enterable-squares.result n _ _ (c.targets.ensures.bits n h) (c.enterable-squares.ensures n h)
+
+pub pieces-init : goal.pieces-init
+pieces-init c = record {
+  counted = record {
+    first = 0;
+    pieces = pieces_first c.args.p.now c.own-left.result (rw c.side.ensures at c.own-left.ensures.bits);
+    whole = omega arith;
+    range = omega arith;
+  };
+  fits = c.own-left.ensures.fits;
 }
 
-pub squares-preserved : goal.squares-preserved
-squares-preserved c =
-    let block = counted_board c.args.p.now c.squares.square c.legal_ends-ends.result.plain c.legal_ends-ends.result.promoting (omega arith) c.legal_ends-ends.ensures.plain_fits c.legal_ends-ends.ensures.promoting_fits
-    (rw c.of_index.ensures at c.legal_ends-ends.ensures.plain) (rw c.of_index.ensures at c.legal_ends-ends.ensures.promoting) in
-    let on : c.squares.square * SQUARE_CODES + SQUARE_CODES ≡ (c.squares.square + 1) * SQUARE_CODES = omega arith in
-    let onw = ap (λ (x : ℕ). length (legal_from c.args.p.now x)) on in
-    let between = counted_between c.args.p.now c.own-own.result (c.squares.square + 1) c.next_of-square-in-squares.result (omega arith) (omega arith) (rw c.side.ensures at c.own-own.ensures.bits) c.next_of-square-in-squares.ensures.none in
-    let a = ones_most c.legal_ends-ends.result.plain c.legal_ends-ends.ensures.plain_fits in
-    let b = ones_most c.legal_ends-ends.result.promoting c.legal_ends-ends.ensures.promoting_fits in
-    record {
-      whole = omega (arith, c.squares.invariant.whole, block, onw, between);
-      range = omega (arith, c.squares.invariant.range, a, b);
-      within = omega arith;
-      mine = c.next_of-square-in-squares.ensures.set;
-    }
+pub pieces-preserved : goal.pieces-preserved
+pieces-preserved c = record {
+  counted = piece_counted c.args.p.now c.pieces.left c.without_lowest-left.result c.pieces.total c.lowest-square.result c.legal_ends-ends.result.plain c.legal_ends-ends.result.promoting c.pieces.invariant.counted c.lowest-square.ensures.range c.lowest-square.ensures.set c.lowest-square.ensures.least c.without_lowest-left.ensures.bits
+      c.legal_ends-ends.ensures.plain_fits c.legal_ends-ends.ensures.promoting_fits
+      (all_ends c.args.p.now false c.lowest-square.result c.targets.result c.enterable-squares.result c.legal_ends-ends.result.plain c.lowest-square.ensures.range (rw c.of_index-from.ensures at c.targets.ensures.bits) c.enterable-squares.ensures (rw c.of_index-from.ensures at c.legal_ends-ends.ensures.plain))
+      (all_ends c.args.p.now true c.lowest-square.result c.targets.result c.enterable-squares.result c.legal_ends-ends.result.promoting c.lowest-square.ensures.range (rw c.of_index-from.ensures at c.targets.ensures.bits) c.enterable-squares.ensures (rw c.of_index-from.ensures at c.legal_ends-ends.ensures.promoting));
+  fits = omega (arith, c.without_lowest-left.ensures.less, c.pieces.invariant.fits);
+}
+
+pub returns-clause-count : goal.returns-clause-count
+returns-clause-count c = (board_counted c.args.p.now c.pieces.left c.pieces.total c.pieces.invariant.counted (omega (arith, c.pieces-test.false))).0
+
+pub returns-clause-range : goal.returns-clause-range
+returns-clause-range c = (board_counted c.args.p.now c.pieces.left c.pieces.total c.pieces.invariant.counted (omega (arith, c.pieces-test.false))).1

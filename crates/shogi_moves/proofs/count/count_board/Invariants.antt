@@ -1,16 +1,12 @@
-use Rattle.std.proofs.Common.{◌≡◌, ◌-◌, ◌+◌, ◌<◌, ◌≤◌, ◌*◌, true, length}
-use Rattle.shogi_core.specs.declared.moves.TheConstants.{SQUARE_CODES}
-use Rattle.shogi_core.specs.Bits.{has_bit}
-use Rattle.shogi_moves.specs.LegalMoves.{legal_from}
+use Rattle.std.proofs.Common.{◌<◌, ◌^◌}
+use Rattle.shogi_moves.proofs.TallyLaws.{IsCounted}
 use Rattle.shogi_moves.proofs.count.count_board.Given as goal
 
-abbrev pub invariant-squares : goal.invariant-squares
-invariant-squares l = record {
-  whole : l.total + length (legal_from l.p (l.square * SQUARE_CODES)) ≡ length (legal_from l.p 0);
-  range : l.total ≤ l.square * SQUARE_CODES;
-  within : l.square ≤ 81;
-  mine : l.square < 81 → has_bit l.own l.square ≡ true;
+abbrev pub invariant-pieces : goal.invariant-pieces
+invariant-pieces l = record {
+  counted : IsCounted l.p l.left l.total;
+  fits : l.left < 2 ^ 81;
 }
 
-abbrev pub decreases-squares : goal.decreases-squares
-decreases-squares l = 81 - l.square
+abbrev pub decreases-pieces : goal.decreases-pieces
+decreases-pieces l = l.left

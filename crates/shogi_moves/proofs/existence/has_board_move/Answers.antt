@@ -1,29 +1,38 @@
-use Rattle.std.proofs.Common.{◌≡◌, ◌+◌, ◌*◌, ◌∙◌, arith, ap}
-use Rattle.shogi_core.specs.declared.moves.TheConstants.{FIRST_DROP, SQUARE_CODES}
-use Rattle.shogi_moves.specs.LegalMoves.{legal_from}
+use Rattle.std.proofs.Common.{◌+◌, ◌∙◌, true, false, refl, arith}
+use Rattle.shogi_moves.proofs.EndLaws.{all_ends, all_ways}
 use Rattle.shogi_moves.proofs.ExistenceLaws.{piece_with, piece_without}
-use Rattle.shogi_moves.proofs.LegalLaws.{run_squares}
+use Rattle.shogi_moves.proofs.LegalLaws.{pieces_first, next_piece, pieces_after, no_piece_left}
 use Rattle.shogi_moves.proofs.existence.has_board_move.Goals as goal
 
-pub squares-init : goal.squares-init
-squares-init c = record {
-  same = run_squares c.args.p.now c.own-own.result 0 c.next_of-square.result (omega arith) (omega arith) (rw c.side.ensures at c.own-own.ensures.bits) c.next_of-square.ensures.none;
-  within = omega arith;
-  mine = c.next_of-square.ensures.set;
+pub legal_ends-ends-requires-clause-among : goal.legal_ends-ends-requires-clause-among
+legal_ends-ends-requires-clause-among c = λ n h. all_ways c.targets.result c.enterable-squares.result n _ _ (c.targets.ensures.bits n h) (c.enterable-squares.ensures n h)
+
+pub pieces-init : goal.pieces-init
+pieces-init c = record {
+  first = 0;
+  pieces = pieces_first c.args.p.now c.own-left.result (rw c.side.ensures at c.own-left.ensures.bits);
+  same = refl;
+  fits = c.own-left.ensures.fits;
 }
 
 pub returns-then-ends-ne0-clause-some : goal.returns-then-ends-ne0-clause-some
-returns-then-ends-ne0-clause-some c = λ _. piece_with c.args.p.now c.squares.square c.legal_ends-ends.result.plain c.legal_ends-ends.result.promoting c.legal_ends-ends.ensures.plain_fits c.legal_ends-ends.ensures.promoting_fits
-    (rw c.of_index.ensures at c.legal_ends-ends.ensures.plain) (rw c.of_index.ensures at c.legal_ends-ends.ensures.promoting) c.if-ends-ne0.true
+returns-then-ends-ne0-clause-some c = λ _. piece_with c.args.p.now c.lowest-square.result c.legal_ends-ends.result.plain c.legal_ends-ends.result.promoting c.legal_ends-ends.ensures.plain_fits c.legal_ends-ends.ensures.promoting_fits
+    (all_ends c.args.p.now false c.lowest-square.result c.targets.result c.enterable-squares.result c.legal_ends-ends.result.plain c.lowest-square.ensures.range (rw c.of_index-from.ensures at c.targets.ensures.bits) c.enterable-squares.ensures (rw c.of_index-from.ensures at c.legal_ends-ends.ensures.plain))
+    (all_ends c.args.p.now true c.lowest-square.result c.targets.result c.enterable-squares.result c.legal_ends-ends.result.promoting c.lowest-square.ensures.range (rw c.of_index-from.ensures at c.targets.ensures.bits) c.enterable-squares.ensures (rw c.of_index-from.ensures at c.legal_ends-ends.ensures.promoting))
+    c.if-ends-ne0.true
 
-pub squares-preserved : goal.squares-preserved
-squares-preserved c = record {
-  same = c.squares.invariant.same
-      ∙ (piece_without c.args.p.now c.squares.square c.legal_ends-ends.result.plain c.legal_ends-ends.result.promoting (omega arith) (rw c.of_index.ensures at c.legal_ends-ends.ensures.plain) (rw c.of_index.ensures at c.legal_ends-ends.ensures.promoting) (omega (arith, c.if-ends-ne0.false))
-      ∙ run_squares c.args.p.now c.own-own.result (c.squares.square + 1) c.next_of-square-in-squares.result (omega arith) (omega arith) (rw c.side.ensures at c.own-own.ensures.bits) c.next_of-square-in-squares.ensures.none);
-  within = omega arith;
-  mine = c.next_of-square-in-squares.ensures.set;
-}
+pub pieces-preserved : goal.pieces-preserved
+pieces-preserved c =
+    let reached = next_piece c.args.p.now c.pieces.left c.pieces.invariant.first c.lowest-square.result c.pieces.invariant.pieces c.lowest-square.ensures.range c.lowest-square.ensures.set c.lowest-square.ensures.least in
+    record {
+      first = c.lowest-square.result + 1;
+      pieces = pieces_after c.args.p.now c.pieces.left c.without_lowest-left.result c.pieces.invariant.first c.lowest-square.result c.pieces.invariant.pieces reached.0 c.lowest-square.ensures.range c.lowest-square.ensures.least c.without_lowest-left.ensures.bits;
+      same = c.pieces.invariant.same ∙ (reached.2 ∙ piece_without c.args.p.now c.lowest-square.result c.legal_ends-ends.result.plain c.legal_ends-ends.result.promoting c.lowest-square.ensures.range
+          (all_ends c.args.p.now false c.lowest-square.result c.targets.result c.enterable-squares.result c.legal_ends-ends.result.plain c.lowest-square.ensures.range (rw c.of_index-from.ensures at c.targets.ensures.bits) c.enterable-squares.ensures (rw c.of_index-from.ensures at c.legal_ends-ends.ensures.plain))
+          (all_ends c.args.p.now true c.lowest-square.result c.targets.result c.enterable-squares.result c.legal_ends-ends.result.promoting c.lowest-square.ensures.range (rw c.of_index-from.ensures at c.targets.ensures.bits) c.enterable-squares.ensures (rw c.of_index-from.ensures at c.legal_ends-ends.ensures.promoting))
+          (omega (arith, c.if-ends-ne0.false)));
+      fits = omega (arith, c.without_lowest-left.ensures.less, c.pieces.invariant.fits);
+    }
 
 pub returns-clause-none : goal.returns-clause-none
-returns-clause-none c = λ _. (let last : c.squares.square * SQUARE_CODES ≡ FIRST_DROP = omega arith in c.squares.invariant.same ∙ ap (legal_from c.args.p.now) last)
+returns-clause-none c = λ _. c.pieces.invariant.same ∙ no_piece_left c.args.p.now c.pieces.left c.pieces.invariant.first c.pieces.invariant.pieces (omega (arith, c.pieces-test.false))

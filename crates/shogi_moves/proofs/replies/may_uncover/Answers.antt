@@ -2,8 +2,8 @@ use Rattle.std.proofs.lemmas.Bool.{eqb-true, not-false}
 use Rattle.shogi_moves.proofs.ReplyLaws.{covered, covered_by_none}
 use Rattle.shogi_moves.proofs.replies.may_uncover.Goals as goal
 
-pub returns-then-snipers-ne0-clause-covered : goal.returns-then-snipers-ne0-clause-covered
-returns-then-snipers-ne0-clause-covered c = λ e. covered c.args.p.now.cells c.args.side c.args.from c.lined.result c.snipers-snipers.result (rw c.as_board-then-snipers-ne0.ensures at c.lined.ensures.bits) (rw c.as_board-2.ensures at c.snipers-snipers.ensures.bits) (eqb-true _ 0 (not-false _ e))
+pub returns-then-snipers-ne0 : goal.returns-then-snipers-ne0
+returns-then-snipers-ne0 c = λ e. covered c.args.p.now.cells c.args.side c.args.from c.lined.result c.snipers.result c.aligned_squares.result (rw c.as_board-then-snipers-ne0.ensures at c.lined.ensures.bits) (rw c.as_board.ensures at c.snipers.ensures.bits) (rw c.index.ensures.index at c.aligned_squares.ensures.bits) (eqb-true _ 0 (not-false _ e))
 
-pub returns-else-snipers-ne0-clause-covered : goal.returns-else-snipers-ne0-clause-covered
-returns-else-snipers-ne0-clause-covered c = λ e. covered_by_none c.args.p.now.cells c.args.side c.args.from c.snipers-snipers.result (rw c.as_board-2.ensures at c.snipers-snipers.ensures.bits) (eqb-true _ 0 (not-false _ e))
+pub returns-else-snipers-ne0 : goal.returns-else-snipers-ne0
+returns-else-snipers-ne0 c = λ e. covered_by_none c.args.p.now.cells c.args.side c.args.from c.snipers.result c.aligned_squares.result (rw c.as_board.ensures at c.snipers.ensures.bits) (rw c.index.ensures.index at c.aligned_squares.ensures.bits) (eqb-true _ 0 (not-false _ e))

@@ -1,6 +1,5 @@
-use Rattle.std.proofs.Common.{◌≤◌, ◌+◌, ◌*◌, false, refl, arith, bit_and}
+use Rattle.std.proofs.Common.{◌≤◌, ◌+◌, ◌*◌, false, refl, arith}
 use Rattle.shogi_core.specs.declared.moves.TheConstants.{SQUARE_CODES}
-use Rattle.shogi_moves.proofs.EndLaws.{among_bits}
 use Rattle.shogi_moves.proofs.Passes.{passed_none, passed_on, piece_passed, others_left, above_first, no_ends_of}
 use Rattle.shogi_moves.proofs.SweepLaws.{on_first, mine_first}
 use Rattle.shogi_moves.proofs.sweep.BoardSweep.pass_pieces.Goals as goal
@@ -26,9 +25,8 @@ squares-preserved c =
       passed = record {
         up = omega (arith, c.squares.invariant.passed.up, up);
         passed = λ first low. passed_on _ _ _ _ (c.squares.invariant.passed.passed first low)
-            (piece_passed c.args.p.now first c.squares.self.code c.squares.left c.lowest-square.result (bit_and c.targets.result c.ends_of_sort-free.result) c.promoting_squares-promoting.result c.certain_ends.result c.validity.ensures.cells_fit c.lowest-square.ensures.range own.1 c.squares.invariant.wanted c.lowest-square.ensures.least
-            (λ n h. among_bits c.targets.result c.ends_of_sort-free.result n _ _ ((rw c.of_index-from.ensures at c.targets.ensures.bits) n h) (c.ends_of_sort-free.ensures.bits n h))
-            (rw (c.at.ensures, c.of_index-from.ensures) at c.promoting_squares-promoting.ensures.bits) (omega arith) (rw c.of_index-from.ensures at c.certain_ends.ensures.certain) (omega (arith, c.if-among-promoting-ne0.false)) (omega (arith, low, c.squares.invariant.passed.up)) up);
+            (piece_passed c.args.p.now first c.squares.self.code c.squares.left c.lowest-square.result c.validity.ensures.cells_fit c.lowest-square.ensures.range own.1 c.squares.invariant.wanted c.lowest-square.ensures.least
+            (rw c.of_index-from.ensures at c.has_certain_quiets.ensures c.if-not-has_certain_quiets.false) (omega (arith, low, c.squares.invariant.passed.up)) up);
       };
       wanted = others_left c.args.p.now c.squares.self.code c.squares.left c.without_lowest-left.result c.lowest-square.result c.squares.invariant.wanted up c.without_lowest-left.ensures.bits;
       fits = omega (arith, c.without_lowest-left.ensures.less, c.squares.invariant.fits);

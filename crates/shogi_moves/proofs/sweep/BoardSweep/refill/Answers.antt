@@ -1,14 +1,11 @@
-use Rattle.std.proofs.Common.{◌≡◌, ◌<◌, ◌*◌, ◌∙◌, true, false, refl, sym, arith}
+use Rattle.std.proofs.Common.{◌≡◌, ◌<◌, ◌*◌, ◌∙◌, refl, sym, arith, bit_and}
 use Rattle.std.proofs.lemmas.Bool.{and_parts}
 use Rattle.shogi_core.specs.declared.moves.TheConstants.{FIRST_DROP, SQUARE_CODES}
 use Rattle.shogi_core.specs.Bits.{has_bit}
-use Rattle.shogi_core.specs.Cell.{is_piece_of}
-use Rattle.shogi_core.specs.Movement.{piece_at}
-use Rattle.shogi_moves.specs.Sweeps.{KeepsBoard}
 use Rattle.shogi_moves.proofs.CaptureLaws.{wanted_jumps}
-use Rattle.shogi_moves.proofs.EndLaws.{among_bits, nowhere}
+use Rattle.shogi_moves.proofs.EndLaws.{nowhere, sort_ways}
 use Rattle.shogi_moves.proofs.MoverLaws.{on_movers}
-use Rattle.shogi_moves.proofs.SweepLaws.{keeps_square, on_first, mine_first, on_less, on_none, on_end}
+use Rattle.shogi_moves.proofs.SweepLaws.{keeps_sort, on_first, mine_first, on_less, on_none, on_end}
 use Rattle.shogi_moves.proofs.sweep.BoardSweep.refill.Goals as goal
 use Rattle.shogi_moves.proofs.sweep.BoardSweep.refill.Goals.{then-among-ne0+else-ends-ne0, else-among-ne0}
 
@@ -26,8 +23,8 @@ squares-init c =
       mine = λ n h set. mine n h (c.movers-left.ensures.within n set);
     }
 
-pub ends_among-ends-requires-clause-among : goal.ends_among-ends-requires-clause-among
-ends_among-ends-requires-clause-among c = λ n h. among_bits c.targets.result c.ends_of_sort-sort.result n _ _ (c.targets.ensures.bits n h) (c.ends_of_sort-sort.ensures.bits n h)
+pub legal_ends-ends-requires-clause-among : goal.legal_ends-ends-requires-clause-among
+legal_ends-ends-requires-clause-among c = λ n h. sort_ways c.args.p.now.side c.args.capture _ c.targets.result c.ends_of_sort-sort.result n _ (c.targets.ensures.bits n h) (c.ends_of_sort-sort.ensures.bits n h)
 
 pub returns-then-ends-ne0-clause-some : goal.returns-then-ends-ne0-clause-some
 returns-then-ends-ne0-clause-some c = λ _. (
@@ -37,23 +34,27 @@ returns-then-ends-ne0-clause-some c = λ _. (
       (on_none c.args.p.now c.args.capture c.squares.left c.lowest-square.result c.args.self.now.code c.squares.invariant.wanted c.lowest-square.ensures.range c.lowest-square.ensures.least),
 )
 
+pub returns-then-ends-ne0-clause-kept : goal.returns-then-ends-ne0-clause-kept
+returns-then-ends-ne0-clause-kept c = rw c.of_index-from.ensures (record {
+  guard = c.squares.invariant.kept.guard;
+  ends = keeps_sort c.args.p.now c.args.capture c.lowest-square.result c.targets.result c.ends_of_sort-sort.result c.legal_ends-ends.result.plain c.legal_ends-ends.result.promoting c.lowest-square.ensures.range (rw c.of_index-from.ensures at c.targets.ensures.bits) c.ends_of_sort-sort.ensures.bits c.legal_ends-ends.ensures.plain_fits c.legal_ends-ends.ensures.promoting_fits
+      (rw c.of_index-from.ensures at c.legal_ends-ends.ensures.plain) (rw c.of_index-from.ensures at c.legal_ends-ends.ensures.promoting);
+})
+
 pub squares-preserved : goal.squares-preserved
 squares-preserved c = record {
   kept = c.squares.invariant.kept;
   same = c.squares.invariant.same;
   wanted = elim c.if-among-ne0.branch [
-    | then-among-ne0+else-ends-ne0 w ↦ (
-        let here : KeepsBoard c.args.p.now c.args.capture c.lowest-square.result (c.lowest-square.result * SQUARE_CODES) w.ends_among-ends.result.plain w.ends_among-ends.result.promoting =
-        keeps_square c.args.p.now c.args.capture c.lowest-square.result w.ends_among-ends.result.plain w.ends_among-ends.result.promoting w.ends_among-ends.ensures.plain_fits w.ends_among-ends.ensures.promoting_fits
-        (rw c.of_index-from.ensures at w.ends_among-ends.ensures.plain) (rw c.of_index-from.ensures at w.ends_among-ends.ensures.promoting) in
-        on_less c.args.p.now c.args.capture c.squares.left c.without_lowest-left.result c.lowest-square.result c.args.self.now.code _ _ c.squares.invariant.wanted here (omega (arith, w.if-ends-ne0.false)) c.without_lowest-left.ensures.bits)
+    | then-among-ne0+else-ends-ne0 w ↦ on_less c.args.p.now c.args.capture c.squares.left c.without_lowest-left.result c.lowest-square.result c.args.self.now.code _ _ c.squares.invariant.wanted
+        (keeps_sort c.args.p.now c.args.capture c.lowest-square.result c.targets.result c.ends_of_sort-sort.result w.legal_ends-ends.result.plain w.legal_ends-ends.result.promoting c.lowest-square.ensures.range (rw c.of_index-from.ensures at c.targets.ensures.bits) c.ends_of_sort-sort.ensures.bits w.legal_ends-ends.ensures.plain_fits w.legal_ends-ends.ensures.promoting_fits
+        (rw c.of_index-from.ensures at w.legal_ends-ends.ensures.plain) (rw c.of_index-from.ensures at w.legal_ends-ends.ensures.promoting))
+        (omega (arith, w.if-ends-ne0.false)) c.without_lowest-left.ensures.bits
     | else-among-ne0 w ↦ (
-        let own : is_piece_of c.args.p.now.side (piece_at c.args.p.now.cells c.lowest-square.result) ≡ true = (c.squares.invariant.mine c.lowest-square.result c.lowest-square.ensures.range c.lowest-square.ensures.set).1 in
-        let here : KeepsBoard c.args.p.now c.args.capture c.lowest-square.result (c.lowest-square.result * SQUARE_CODES) 0 0 =
-        keeps_square c.args.p.now c.args.capture c.lowest-square.result 0 0 (omega arith) (omega arith)
-        (λ n h. nowhere c.args.p.now c.args.capture false c.lowest-square.result n c.targets.result c.ends_of_sort-sort.result c.validity.ensures.cells_fit c.lowest-square.ensures.range h own ((rw c.of_index-from.ensures at c.targets.ensures.bits) n h) (c.ends_of_sort-sort.ensures.bits n h) (omega (arith, w.if-among-ne0.false)))
-        (λ n h. nowhere c.args.p.now c.args.capture true c.lowest-square.result n c.targets.result c.ends_of_sort-sort.result c.validity.ensures.cells_fit c.lowest-square.ensures.range h own ((rw c.of_index-from.ensures at c.targets.ensures.bits) n h) (c.ends_of_sort-sort.ensures.bits n h) (omega (arith, w.if-among-ne0.false))) in
-        on_less c.args.p.now c.args.capture c.squares.left c.without_lowest-left.result c.lowest-square.result c.args.self.now.code 0 0 c.squares.invariant.wanted here refl c.without_lowest-left.ensures.bits)
+        let none : bit_and c.targets.result c.ends_of_sort-sort.result ≡ 0 = omega (arith, w.if-among-ne0.false) in
+        on_less c.args.p.now c.args.capture c.squares.left c.without_lowest-left.result c.lowest-square.result c.args.self.now.code 0 0 c.squares.invariant.wanted
+        (keeps_sort c.args.p.now c.args.capture c.lowest-square.result c.targets.result c.ends_of_sort-sort.result 0 0 c.lowest-square.ensures.range (rw c.of_index-from.ensures at c.targets.ensures.bits) c.ends_of_sort-sort.ensures.bits (omega arith) (omega arith) (λ n h. nowhere _ n _ none) (λ n h. nowhere _ n _ none))
+        refl c.without_lowest-left.ensures.bits)
   ];
   fits = omega (arith, c.without_lowest-left.ensures.less, c.squares.invariant.fits);
   mine = λ n h set. c.squares.invariant.mine n h ((and_parts (has_bit c.squares.left n) _ (sym (c.without_lowest-left.ensures.bits n) ∙ set)).0);

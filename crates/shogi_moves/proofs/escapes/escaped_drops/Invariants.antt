@@ -1,0 +1,15 @@
+use Rattle.std.proofs.Common.{◌<◌, ◌^◌}
+use Rattle.shogi_core.specs.declared.moves.Move.TheVariants.{Drop}
+use Rattle.shogi_moves.specs.Replies.{IsAnswered}
+use Rattle.shogi_moves.proofs.EscapeLaws.{PassesTried}
+use Rattle.shogi_moves.proofs.escapes.escaped_drops.Given as goal
+
+abbrev pub invariant-loop-left : goal.invariant-loop-left
+invariant-loop-left l = record {
+  tried : PassesTried l.ends l.left l.kept (λ n. IsAnswered l.p (Drop l.kind n));
+  left : l.left < 2 ^ 81;
+  fits : l.kept < 2 ^ 81;
+}
+
+abbrev pub decreases-loop-left : goal.decreases-loop-left
+decreases-loop-left l = l.left
