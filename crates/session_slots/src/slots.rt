@@ -64,7 +64,7 @@ impl<A: Allocator + Copy> Slots<A> {
         }
     }
 
-    /// Tells that each id which finds a session has a generation below the next one.
+    /// States that each id which finds a session has a generation below the next one.
     pub fn validity(&self)
         ensures { IsBelow self.now }
     {
@@ -78,9 +78,9 @@ impl<A: Allocator + Copy> Slots<A> {
         self.slots.len() >= self.max || self.next == u64::MAX
     }
 
-    /// Opens a session at its start: the opening position, each option at its default, nothing held.
-    /// Its generation is the number of sessions opened before it, so no id comes twice. `Full` is
-    /// looked at first; a refusal uses no generation.
+    /// Opens a session at its start: the opening position, each option at its default, nothing
+    /// held. Its generation is the number of sessions opened before it, so no id comes twice.
+    /// `Full` is looked at first; a refusal uses no generation.
     pub fn open(&mut self) -> Result<SessionId, SlotFault>
         ensures opened { IfOk result (λ id. Opens self.old self.new id) }
         ensures full { (result ≡ Err SlotFault.Full) ↔ IsFull self.old }
@@ -103,8 +103,8 @@ impl<A: Allocator + Copy> Slots<A> {
         Ok(SessionId { slot, generation })
     }
 
-    /// The id of the open session of least slot, or of least slot above `after`. It looks at the slots
-    /// that it skips and at no other.
+    /// The id of the open session of least slot, or of least slot above `after`. It looks at the
+    /// slots that it skips and at no other.
     pub fn next_open(&self, after: Option<usize>) -> Option<SessionId>
         ensures value { result ≡ next_of self.now after }
         ensures open { IfSome result (λ id. IsSome (find self.now id)) }
@@ -169,7 +169,8 @@ impl<A: Allocator + Copy> Slots<A> {
         }
     }
 
-    /// Closes the session of an id, if it is open, and hands it out. Its id finds nothing from now on.
+    /// Closes the session of an id, if it is open, and hands it out. Its id finds nothing from now
+    /// on.
     pub fn close(&mut self, id: SessionId) -> Option<Session<A>>
         ensures value { result ≡ find self.old id }
         ensures none { find self.new id ≡ None }

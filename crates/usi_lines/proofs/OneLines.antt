@@ -19,7 +19,7 @@ one_line-other x xs e =
     let m : position_or_len is_line_feed (x ∷ xs) + 1 ≡ suc (position_or_len is_line_feed xs + 1) = omega arith in
     ap (λ (k : ℕ). take k (x ∷ xs)) m
 
--- a front of a line has no LF but at its end
+-- a prefix of a line has no LF but at its end
 one_line-cons : (x : ℕ) (xs : List ℕ) (n : ℕ) → IsOneLine (take n (one_line xs)) → (t : Bool) → is_line_feed x ≡ t → IsOneLine (take (suc n) (one_line (x ∷ xs)))
 one_line-cons x xs n ih true e = rw (one_line-feed x xs e, take-nil n) (one_line-feed x [] e)
 one_line-cons x xs n ih false e = rw (one_line-other x xs e) (one_line-other x (take n (one_line xs)) e ∙ ap (λ ys. x ∷ ys) ih)

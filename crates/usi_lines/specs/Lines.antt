@@ -36,6 +36,10 @@ pub record Buffer : Type 0 where
 abbrev pub ahead : Buffer → List ℕ → List Line
 ahead buffer bytes = cond buffer.closed [] (lines (buffer.unread ++ bytes))
 
+-- it is the first of these lines, whatever bytes follow
+abbrev pub IsFirstAhead : Buffer → Line → Type 0
+IsFirstAhead buffer line = (x : List ℕ) → ahead buffer x ≡ line ∷ drop 1 (ahead buffer x)
+
 -- the first LF from the start on is at the end, or there is none and that is the end of the bytes
 pub record IsSearched (bytes : List ℕ) (start end : ℕ) : Type 0 where
   pub within : start ≤ length bytes

@@ -1,7 +1,7 @@
 //! A byte stream that comes in chunks, cut into lines.
 
 ghost use Rattle.std.specs.Prelude.{◌≡◌, ◌≢◌, ◌↔◌, ◌≤◌, ℕ, false, true, List, [], ◌∷◌, ◌++◌, IsTrue, IsNone, IsOk, IfSome, OnOk, OnErr, drop, vec_len, vec_capacity, ◌<◌};
-ghost use Rattle.usi_lines.specs.Lines.{Buffer, ahead, TooLong};
+ghost use Rattle.usi_lines.specs.Lines.{Buffer, ahead, IsFirstAhead, TooLong};
 ghost use Rattle.usi_lines.specs.Seen.{line_of};
 ghost use Rattle.usi_lines.specs.declared.buffer.TheConstants.{ROOM_KEPT};
 
@@ -22,12 +22,12 @@ impl From<AllocError> for LineFault {
     }
 }
 
-/// The most room that is kept while nothing is unread, in bytes: a chunk of 4,096 bytes behind a line
-/// that has begun fits in it.
+/// The most room that is kept while nothing is unread, in bytes: a chunk of 4,096 bytes behind a
+/// line that has begun fits in it.
 const ROOM_KEPT: usize = 8_192;
 
-/// The bytes of a stream that were not read as lines yet, in one buffer of the given allocator. While
-/// none are unread, it keeps at most `ROOM_KEPT` bytes of room.
+/// The bytes of a stream that were not read as lines yet, in one buffer of the given allocator.
+/// While none are unread, it keeps at most `ROOM_KEPT` bytes of room.
 #[derive(Drop)]
 pub struct LineBuffer<A: Allocator> {
     bytes: Vec<u8, A>,
@@ -45,12 +45,13 @@ impl<A: Allocator> Model for LineBuffer<A> {
 
     ghost view = { λ b. record { unread = drop b.start b.bytes.items; closed = b.closed } };
 
-    ghost invariant = { λ b. IsSearched b.bytes.items b.start b.end × (b.start ≡ vec_len b.bytes → vec_capacity b.bytes ≤ ROOM_KEPT) };
+    ghost invariant = { λ b. IsSearched b.bytes.items b.start b.end
+        × (b.start ≡ vec_len b.bytes → vec_capacity b.bytes ≤ ROOM_KEPT) };
 }
 
-/// Gives room back where there is more than `ROOM_KEPT` and at most a quarter of it is in use. Twice
-/// what is in use is left, or all of the room where the smaller block is refused. Where nothing is in
-/// use none is left, and nothing is asked for.
+/// Gives room back where there is more than `ROOM_KEPT` and at most a quarter of it is in use.
+/// Twice what is in use is left, or all of the room where the smaller block cannot be allocated.
+/// Where nothing is in use none is left, and nothing is allocated.
 fn give_back_room<A: Allocator>(bytes: &mut Vec<u8, A>)
     ensures items { bytes.new.items ≡ bytes.old.items }
     ensures room { vec_len bytes.new ≡ 0 → vec_capacity bytes.new ≤ ROOM_KEPT }
@@ -61,8 +62,8 @@ fn give_back_room<A: Allocator>(bytes: &mut Vec<u8, A>)
     }
 }
 
-/// Gives up the read bytes where they are more than half of the buffer, and room with them, and tells
-/// where the unread ones begin: fewer bytes are moved than were read.
+/// Gives up the read bytes where they are more than half of the buffer, and room with them, and
+/// returns where the unread ones begin: fewer bytes are moved than were read.
 fn compact<A: Allocator>(bytes: &mut Vec<u8, A>, start: usize) -> usize
     requires { start ≤ vec_len bytes.old }
     ensures kept { drop result bytes.new.items ≡ drop start bytes.old.items }
@@ -91,10 +92,11 @@ impl<A: Allocator> LineBuffer<A> {
     }
 
     /// Takes the next chunk of the stream. After a line that is too long was dropped, chunks are
-    /// accepted and forgotten. `OutOfMemory` comes only where memory for the chunk is refused, and
-    /// leaves all as it was.
+    /// accepted and forgotten. `OutOfMemory` comes only where the allocation for the chunk fails,
+    /// and leaves all as it was.
     pub fn feed(&mut self, chunk: &[u8]) -> Result<(), LineFault>
-        ensures ok { OnOk result ((x : List ℕ) → ahead self.new x ≡ ahead self.old (chunk.now ++ x)) }
+        ensures ok { OnOk result
+            ((x : List ℕ) → ahead self.new x ≡ ahead self.old (chunk.now ++ x)) }
         ensures closed { self.old.closed ≡ true → IsOk result × (self.new ≡ self.old) }
         ensures err { OnErr result (self.new ≡ self.old) }
     {
@@ -120,7 +122,7 @@ impl<A: Allocator> LineBuffer<A> {
     /// The first unread line, which stays unread; `None` where no line has ended yet.
     pub fn next_line(&self) -> Option<Line<'_>>
         ensures none { IsNone result ↔ (ahead self.now [] ≡ []) }
-        ensures first { IfSome result (λ line. (x : List ℕ) → ahead self.now x ≡ line_of line ∷ drop 1 (ahead self.now x)) }
+        ensures first { IfSome result (λ line. IsFirstAhead self.now (line_of line)) }
     {
         if self.closed {
             return None;

@@ -13,11 +13,12 @@ pub struct FirstLine<'a> {
     pub rest: &'a [u8],
 }
 
-/// The first line of a stream that is all there; `None` where none has ended. After a line that is too
-/// long no bytes are left.
+/// The first line of a stream that is all there; `None` where none has ended. After a line that is
+/// too long no bytes are left.
 pub fn first_line(bytes: &[u8]) -> Option<FirstLine<'_>>
     ensures none { IfNone result (lines bytes.now ≡ []) }
-    ensures first { IfSome result (λ first. lines bytes.now ≡ line_of first.line ∷ lines first.rest.now) }
+    ensures first { IfSome result
+        (λ first. lines bytes.now ≡ line_of first.line ∷ lines first.rest.now) }
     ensures shorter { IfSome result (λ first. length first.rest.now < length bytes.now) }
 {
     let len = line_len(bytes);

@@ -3,9 +3,9 @@ pub mod PositionLaws
 pub mod RunningGoLaws
 pub mod Walk
 pub mod Listed
-pub mod GoOn
+pub mod NextSearch
 pub mod Infos
-pub mod Tells
+pub mod Reports
 pub mod WholeReplies
 pub mod Steps
 pub mod Settled

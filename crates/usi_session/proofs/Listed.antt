@@ -29,7 +29,7 @@ use Rattle.usi_session.specs.GoInfos.{listed, pv_by}
 use Rattle.usi_session.specs.RunningGo.{listed_at}
 use Rattle.usi_session.specs.Walked.{Walked, IsFirst, IsRanked, IsRankedTo, IsLine}
 
--- the front of a list ends with this one
+-- what is left of a list begins with this one
 pub drop_at : (xs : List ℕ) (n x : ℕ) → slice_get xs n ≡ Some x → drop n xs ≡ x ∷ drop (n + 1) xs
 drop_at xs n x e = drop_more xs n x (slice_get_within xs n x e) ∙ ap (λ (y : ℕ). y ∷ drop (n + 1) xs) (get_or_from_slice_get xs n x x e)
 

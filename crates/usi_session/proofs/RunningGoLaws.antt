@@ -12,16 +12,16 @@ use Rattle.usi_session.specs.declared.state.State.{State}
 use Rattle.usi_session.specs.declared.state.HeldBestmove.{HeldBestmove}
 use Rattle.usi_session.specs.GoInfos.{info_lines, depth_lines, go_infos}
 use Rattle.usi_session.specs.Costs.{depth_cost, cost_to_depth}
-use Rattle.usi_session.specs.Answer.{write_or_hold, answer_go, bestmove_at}
+use Rattle.usi_session.specs.Answer.{write_or_hold, answer_go}
 use Rattle.usi_session.specs.Walked.{IsFirst}
-use Rattle.usi_session.specs.RunningGo.{RunningGo, infos_of_depths, deeper_infos, infos_to_come, infos_after_line, rest_of_go, ends_depth, is_last, cost_of_depths}
+use Rattle.usi_session.specs.RunningGo.{RunningGo, infos_of_depths, deeper_infos, infos_to_come, infos_left, infos_after, bestmove_to, rest_of_go, ends_depth, is_last, cost_of_depths}
 use Rattle.usi_session.proofs.Infos.{info_lines-start, info_lines-more, go_infos-some, not_empty}
 
 infos_of_depths-start : (question : Question) (depths_done : ℕ) → infos_of_depths question depths_done 0 ≡ []
 unfolding infos_of_depths
 infos_of_depths-start question depths_done = refl
 
-infos_of_depths-suc : (question : Question) (depths_done more : ℕ) → infos_of_depths question depths_done (suc more) ≡ depth_lines question.position question.eval question.multi_pv (depths_done + 1) ++ infos_of_depths question (depths_done + 1) more
+pub infos_of_depths-suc : (question : Question) (depths_done more : ℕ) → infos_of_depths question depths_done (suc more) ≡ depth_lines question.position question.eval question.multi_pv (depths_done + 1) ++ infos_of_depths question (depths_done + 1) more
 unfolding infos_of_depths
 infos_of_depths-suc question depths_done more = refl
 
@@ -56,7 +56,7 @@ both true false e = absurd (cc)
 both false b e = absurd (cc)
 
 -- nothing is said after the last line
-pub infos_after_line-last : (go : RunningGo) → is_last go ≡ true → infos_after_line go.question go.depths_done go.lines_done ≡ []
+pub infos_after_line-last : (go : RunningGo) → is_last go ≡ true → infos_after go ≡ []
 infos_after_line-last go e =
     let parts : (ends_depth go.question go.depths_done go.lines_done ≡ true) × ((go.depths_done + 1 == go.question.depth) ≡ true) = both (ends_depth go.question go.depths_done go.lines_done) (go.depths_done + 1 == go.question.depth) e in
     ap (λ (b : Bool). cond b (deeper_infos go.question go.depths_done) (infos_to_come go.question go.depths_done (go.lines_done + 1))) parts.0 ∙ deeper_infos-none go.question go.depths_done (eqb-true (go.depths_done + 1) go.question.depth parts.1)
@@ -120,6 +120,6 @@ question_of s depth hold = record { position = s.position; eval = s.options.eval
 pub begins-rest : (s : State) (depth : ℕ) (hold : Hold) (first : Move) (go : RunningGo) → 0 < depth → IsFirst s.position first → go.question ≡ question_of s depth hold → go.depths_done ≡ 0 → go.lines_done ≡ 0 → rest_of_go s go ≡ answer_go s depth hold
 begins-rest s depth hold first go some f q t h =
     let all : infos_to_come (question_of s depth hold) 0 0 ≡ go_infos s.position s.options.eval s.options.multi_pv depth = infos_to_come-all (question_of s depth hold) some (not_empty (legal_codes s.position) (legal_above s.position (Some first)) (code_of first) f) in
-    let left : infos_to_come go.question go.depths_done go.lines_done ≡ go_infos s.position s.options.eval s.options.multi_pv depth = rw (q, t, h) all in
-    ap (λ xs. write_or_hold s xs (bestmove_at go.question.position go.question.eval go.question.depth go.question.hold) go.question.hold) left
-    ∙ ap (λ (question : Question). write_or_hold s (go_infos s.position s.options.eval s.options.multi_pv depth) (bestmove_at question.position question.eval question.depth question.hold) question.hold) q
+    let left : infos_left go ≡ go_infos s.position s.options.eval s.options.multi_pv depth = rw (q, t, h) all in
+    ap (λ xs. write_or_hold s xs (bestmove_to go.question go.question.depth) go.question.hold) left
+    ∙ ap (λ (question : Question). write_or_hold s (go_infos s.position s.options.eval s.options.multi_pv depth) (bestmove_to question question.depth) question.hold) q

@@ -3,8 +3,7 @@ use Rattle.std.proofs.Common.{◌≡◌, ℕ, List, [], ◌∷◌, ◌++◌, ref
 use Rattle.std.specs.Prelude.{◌&&◌, ◌||◌, not, nat_lt, length, cond, is_some}
 use Rattle.usi_lines.specs.Lines.{Line, ahead, lines}
 use Rattle.usi_session.specs.declared.state.State.{State}
-use Rattle.usi_session.specs.RunningGo.{RunningGo, rest_of_go_if, infos_to_come}
-use Rattle.usi_session.specs.Answer.{bestmove_at}
+use Rattle.usi_session.specs.RunningGo.{RunningGo, rest_of_go_if, infos_left, bestmove_to}
 use Rattle.usi_session.proofs.RunningGoLaws.{write_or_hold-over}
 use Rattle.usi_session.specs.Due.{SessionView, due, state_due, owed, owed_after, has_line, is_pending, wants_input, new_session}
 use Rattle.usi_session.specs.Replies.{replies_from, state_from, is_over_after, answer_unless}
@@ -60,7 +59,7 @@ state_from-over s (line ∷ rest) over = ap (λ (t : State). state_from t rest) 
 
 rest_of_go-over : (s : State) (running_go : Option RunningGo) → (rest_of_go_if s running_go).state.is_over ≡ s.is_over
 rest_of_go-over s None = refl
-rest_of_go-over s (Some go) = write_or_hold-over s (infos_to_come go.question go.depths_done go.lines_done) (bestmove_at go.question.position go.question.eval go.question.depth go.question.hold) go.question.hold
+rest_of_go-over s (Some go) = write_or_hold-over s (infos_left go) (bestmove_to go.question go.question.depth) go.question.hold
 
 -- a session that is over will be over
 pub state_due-over : (s : SessionView) (x : List ℕ) → s.state.is_over ≡ true → (state_due s x).is_over ≡ true

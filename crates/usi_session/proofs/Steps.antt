@@ -1,15 +1,15 @@
--- One line more is answered, or one line of a `go` is told.
+-- One line more is answered, or one line of a `go` is reported.
 use Rattle.std.proofs.Common.{◌≡◌, ℕ, ◌+◌, ◌*◌, ◌<◌, ◌≤◌, List, [], ◌∷◌, ◌++◌, length, refl, sym, ap, ◌∙◌, arith, append_assoc, append-nil, true, false, Bool, Option, Some, None, cond}
 use Rattle.std.specs.Prelude.{not, ◌&&◌, ◌||◌, is_some}
 use Rattle.usi_lines.specs.Lines.{ahead}
 use Rattle.usi_session.specs.declared.question.Question.{Question}
 use Rattle.usi_session.specs.declared.state.HeldBestmove.{HeldBestmove}
-use Rattle.usi_session.specs.Answer.{bestmove_at, write_or_hold}
+use Rattle.usi_session.specs.Answer.{write_or_hold}
 use Rattle.usi_session.proofs.RunningGoLaws.{infos_after_line-last, write_or_hold-bytes, write_or_hold-state}
 use Rattle.usi_lines.specs.Lines.{Line}
 use Rattle.usi_session.specs.declared.state.State.{State}
 use Rattle.usi_session.specs.Replies.{replies_from, state_from, answer_to, answer_unless}
-use Rattle.usi_session.specs.RunningGo.{RunningGo, rest_of_go, rest_of_go_if, with_rest, load_of, load_of_if, infos_to_come, infos_after_line, is_last, tells_of_if, most_tells}
+use Rattle.usi_session.specs.RunningGo.{RunningGo, rest_of_go, rest_of_go_if, with_rest, load_of, load_of_if, infos_left, infos_after, bestmove_to, is_last, reports_of_if, most_reports}
 use Rattle.usi_session.specs.Costs.{costs_from, cost_to}
 use Rattle.usi_session.specs.Due.{SessionView, owed, owed_after, load_ahead, is_pending, has_line}
 use Rattle.usi_session.proofs.Settled.{replies_from-over}
@@ -71,62 +71,48 @@ state_on s next idle running_go line all rest alive i e h =
     ap (λ (t : State). state_from t rest) h ∙ (sym (state_from-alive s line rest alive) ∙ (ap (state_from s) (sym e) ∙ ap (λ (o : Option RunningGo). state_from (rest_of_go_if s o).state all) (sym i)))
 
 -- the bestmove of a running `go`
-abbrev bestmove_of : RunningGo → HeldBestmove
-bestmove_of go = bestmove_at go.question.position go.question.eval go.question.depth go.question.hold
+abbrev last_bestmove : RunningGo → HeldBestmove
+last_bestmove go = bestmove_to go.question go.question.depth
 
-rest-bytes : (s : State) (go : RunningGo) → (rest_of_go s go).bytes ≡ infos_to_come go.question go.depths_done go.lines_done ++ (write_or_hold s [] (bestmove_of go) go.question.hold).bytes
-rest-bytes s go = write_or_hold-bytes s (infos_to_come go.question go.depths_done go.lines_done) (bestmove_of go) go.question.hold
+rest-bytes : (s : State) (go : RunningGo) → (rest_of_go s go).bytes ≡ infos_left go ++ (write_or_hold s [] (last_bestmove go) go.question.hold).bytes
+rest-bytes s go = write_or_hold-bytes s (infos_left go) (last_bestmove go) go.question.hold
 
-rest-state : (s : State) (go : RunningGo) → (rest_of_go s go).state ≡ (write_or_hold s [] (bestmove_of go) go.question.hold).state
-rest-state s go = write_or_hold-state s (infos_to_come go.question go.depths_done go.lines_done) (bestmove_of go) go.question.hold
+rest-state : (s : State) (go : RunningGo) → (rest_of_go s go).state ≡ (write_or_hold s [] (last_bestmove go) go.question.hold).state
+rest-state s go = write_or_hold-state s (infos_left go) (last_bestmove go) go.question.hold
 
--- a `go` that has told a line more leads to the same state
-rest_told-state : (s : State) (go more : RunningGo) → more.question ≡ go.question → (rest_of_go s more).state ≡ (rest_of_go s go).state
-rest_told-state s go more q =
-    rest-state s more ∙ (ap (λ (question : Question). (write_or_hold s [] (bestmove_at question.position question.eval question.depth question.hold) question.hold).state) q ∙ sym (rest-state s go))
-
-pub state_told : (s : State) (go more : RunningGo) (running_go : Option RunningGo) (ahead : List Line) → running_go ≡ Some go → more.question ≡ go.question → state_from (rest_of_go s more).state ahead ≡ state_from (rest_of_go_if s running_go).state ahead
-state_told s go more running_go ahead i q =
-    ap (λ (t : State). state_from t ahead) (rest_told-state s go more q) ∙ ap (λ (o : Option RunningGo). state_from (rest_of_go_if s o).state ahead) (sym i)
+-- a `go` that has reported a line more leads to the same state
+rest_reported-state : (s : State) (go more : RunningGo) → more.question ≡ go.question → (rest_of_go s more).state ≡ (rest_of_go s go).state
+rest_reported-state s go more q =
+    rest-state s more ∙ (ap (λ (question : Question). (write_or_hold s [] (bestmove_to question question.depth) question.hold).state) q ∙ sym (rest-state s go))
 
 -- and costs no more, with the lines ahead
-pub load_told : (s : State) (go more : RunningGo) (running_go : Option RunningGo) (ahead : List Line) → running_go ≡ Some go → more.question ≡ go.question → load_of more ≤ load_of go → load_ahead s (Some more) ahead ≤ load_ahead s running_go ahead
-load_told s go more running_go ahead i q less =
-    let same : costs_from (rest_of_go s more).state ahead ≡ costs_from (rest_of_go s go).state ahead = ap (λ (t : State). costs_from t ahead) (rest_told-state s go more q) in
+pub load_reported : (s : State) (go more : RunningGo) (running_go : Option RunningGo) (ahead : List Line) → running_go ≡ Some go → more.question ≡ go.question → load_of more ≤ load_of go → load_ahead s (Some more) ahead ≤ load_ahead s running_go ahead
+load_reported s go more running_go ahead i q less =
+    let same : costs_from (rest_of_go s more).state ahead ≡ costs_from (rest_of_go s go).state ahead = ap (λ (t : State). costs_from t ahead) (rest_reported-state s go more q) in
     rw i (omega arith)
 
--- the line was told
-pub due_told : (s : State) (queued more infos : List ℕ) (go next : RunningGo) (running_go : Option RunningGo) (ahead : List Line) → s.is_over ≡ false → running_go ≡ Some go → next.question ≡ go.question → infos_to_come next.question next.depths_done next.lines_done ≡ infos_after_line go.question go.depths_done go.lines_done
-    → infos ++ infos_after_line go.question go.depths_done go.lines_done ≡ infos_to_come go.question go.depths_done go.lines_done → more ≡ queued ++ infos → more ++ owed s (Some next) ahead ≡ queued ++ owed s running_go ahead
-due_told s queued more infos go next running_go ahead alive i q f g m =
-    let last : (write_or_hold s [] (bestmove_of next) next.question.hold).bytes ≡ (write_or_hold s [] (bestmove_of go) go.question.hold).bytes = ap (λ (question : Question). (write_or_hold s [] (bestmove_at question.position question.eval question.depth question.hold) question.hold).bytes) q in
-    let bytes : infos ++ (rest_of_go s next).bytes ≡ (rest_of_go s go).bytes = ap (λ xs. infos ++ xs) (rest-bytes s next) ∙ (sym (append_assoc infos (infos_to_come next.question next.depths_done next.lines_done) (write_or_hold s [] (bestmove_of next) next.question.hold).bytes)
-    ∙ (ap (λ xs. (infos ++ xs) ++ (write_or_hold s [] (bestmove_of next) next.question.hold).bytes) f ∙ (ap (λ xs. xs ++ (write_or_hold s [] (bestmove_of next) next.question.hold).bytes) g ∙ (ap (λ xs. infos_to_come go.question go.depths_done go.lines_done ++ xs) last ∙ sym (rest-bytes s go))))) in
+-- the line was reported
+pub due_reported : (s : State) (queued more infos : List ℕ) (go next : RunningGo) (running_go : Option RunningGo) (ahead : List Line) → s.is_over ≡ false → running_go ≡ Some go → next.question ≡ go.question → infos_left next ≡ infos_after go
+    → infos ++ infos_after go ≡ infos_left go → more ≡ queued ++ infos → more ++ owed s (Some next) ahead ≡ queued ++ owed s running_go ahead
+due_reported s queued more infos go next running_go ahead alive i q f g m =
+    let last : (write_or_hold s [] (last_bestmove next) next.question.hold).bytes ≡ (write_or_hold s [] (last_bestmove go) go.question.hold).bytes = ap (λ (question : Question). (write_or_hold s [] (bestmove_to question question.depth) question.hold).bytes) q in
+    let bytes : infos ++ (rest_of_go s next).bytes ≡ (rest_of_go s go).bytes = ap (λ xs. infos ++ xs) (rest-bytes s next) ∙ (sym (append_assoc infos (infos_left next) (write_or_hold s [] (last_bestmove next) next.question.hold).bytes)
+    ∙ (ap (λ xs. (infos ++ xs) ++ (write_or_hold s [] (last_bestmove next) next.question.hold).bytes) f ∙ (ap (λ xs. xs ++ (write_or_hold s [] (last_bestmove next) next.question.hold).bytes) g ∙ (ap (λ xs. infos_left go ++ xs) last ∙ sym (rest-bytes s go))))) in
     let before : owed s running_go ahead ≡ (rest_of_go s go).bytes ++ replies_from (rest_of_go s go).state ahead = ap (λ (o : Option RunningGo). owed s o ahead) i ∙ owed-alive s (Some go) ahead alive in
-    let after : owed s (Some next) ahead ≡ (rest_of_go s next).bytes ++ replies_from (rest_of_go s go).state ahead = owed-alive s (Some next) ahead alive ∙ ap (λ (t : State). (rest_of_go s next).bytes ++ replies_from t ahead) (rest_told-state s go next q) in
+    let after : owed s (Some next) ahead ≡ (rest_of_go s next).bytes ++ replies_from (rest_of_go s go).state ahead = owed-alive s (Some next) ahead alive ∙ ap (λ (t : State). (rest_of_go s next).bytes ++ replies_from t ahead) (rest_reported-state s go next q) in
     ap (λ xs. xs ++ owed s (Some next) ahead) m ∙ (append_assoc queued infos (owed s (Some next) ahead)
     ∙ ap (λ xs. queued ++ xs) (ap (λ xs. infos ++ xs) after ∙ (sym (append_assoc infos (rest_of_go s next).bytes (replies_from (rest_of_go s go).state ahead)) ∙ (ap (λ xs. xs ++ replies_from (rest_of_go s go).state ahead) bytes ∙ sym before))))
 
 -- its end leads to the same state
-ends-state : (s next : State) (go : RunningGo) (held : HeldBestmove) → held ≡ bestmove_of go → next ≡ (write_or_hold s [] held held.until).state → (rest_of_go s go).state ≡ next
+ends-state : (s next : State) (go : RunningGo) (held : HeldBestmove) → held ≡ last_bestmove go → next ≡ (write_or_hold s [] held held.until).state → (rest_of_go s go).state ≡ next
 ends-state s next go held e h = rest-state s go ∙ (ap (λ (k : HeldBestmove). (write_or_hold s [] k k.until).state) (sym e) ∙ sym h)
 
-pub state_ends : (s next : State) (go : RunningGo) (running_go : Option RunningGo) (held : HeldBestmove) (ahead : List Line) → running_go ≡ Some go → held ≡ bestmove_at go.question.position go.question.eval go.question.depth go.question.hold → next ≡ (write_or_hold s [] held held.until).state → state_from next ahead ≡ state_from (rest_of_go_if s running_go).state ahead
-state_ends s next go running_go held ahead i e h =
-    ap (λ (t : State). state_from t ahead) (sym (ends-state s next go held e h)) ∙ ap (λ (o : Option RunningGo). state_from (rest_of_go_if s o).state ahead) (sym i)
-
--- and costs no more
-pub load_ends : (s next : State) (go : RunningGo) (running_go : Option RunningGo) (held : HeldBestmove) (ahead : List Line) → running_go ≡ Some go → held ≡ bestmove_at go.question.position go.question.eval go.question.depth go.question.hold → next ≡ (write_or_hold s [] held held.until).state → load_ahead next None ahead ≤ load_ahead s running_go ahead
-load_ends s next go running_go held ahead i e h =
-    let same : costs_from (rest_of_go s go).state ahead ≡ costs_from next ahead = ap (λ (t : State). costs_from t ahead) (ends-state s next go held e h) in
-    rw i (omega arith)
-
--- the last line was told, and the bestmove written or held
-pub due_ends : (s next : State) (queued more infos reply : List ℕ) (go : RunningGo) (running_go : Option RunningGo) (held : HeldBestmove) (ahead : List Line) → s.is_over ≡ false → running_go ≡ Some go → is_last go ≡ true → held ≡ bestmove_at go.question.position go.question.eval go.question.depth go.question.hold
-    → infos ++ infos_after_line go.question go.depths_done go.lines_done ≡ infos_to_come go.question go.depths_done go.lines_done → reply ≡ infos ++ (write_or_hold s [] held held.until).bytes → next ≡ (write_or_hold s [] held held.until).state → more ≡ queued ++ reply → more ++ owed next None ahead ≡ queued ++ owed s running_go ahead
+-- the last line was reported, and the bestmove written or held
+pub due_ends : (s next : State) (queued more infos reply : List ℕ) (go : RunningGo) (running_go : Option RunningGo) (held : HeldBestmove) (ahead : List Line) → s.is_over ≡ false → running_go ≡ Some go → is_last go ≡ true → held ≡ last_bestmove go
+    → infos ++ infos_after go ≡ infos_left go → reply ≡ infos ++ (write_or_hold s [] held held.until).bytes → next ≡ (write_or_hold s [] held held.until).state → more ≡ queued ++ reply → more ++ owed next None ahead ≡ queued ++ owed s running_go ahead
 due_ends s next queued more infos reply go running_go held ahead alive i last e f g h m =
-    let lines : infos ≡ infos_to_come go.question go.depths_done go.lines_done = sym (append-nil infos) ∙ (ap (λ xs. infos ++ xs) (sym (infos_after_line-last go last)) ∙ f) in
-    let bytes : (rest_of_go s go).bytes ≡ reply = rest-bytes s go ∙ (ap (λ xs. xs ++ (write_or_hold s [] (bestmove_of go) go.question.hold).bytes) (sym lines) ∙ (ap (λ (k : HeldBestmove). infos ++ (write_or_hold s [] k k.until).bytes) (sym e) ∙ sym g)) in
+    let lines : infos ≡ infos_left go = sym (append-nil infos) ∙ (ap (λ xs. infos ++ xs) (sym (infos_after_line-last go last)) ∙ f) in
+    let bytes : (rest_of_go s go).bytes ≡ reply = rest-bytes s go ∙ (ap (λ xs. xs ++ (write_or_hold s [] (last_bestmove go) go.question.hold).bytes) (sym lines) ∙ (ap (λ (k : HeldBestmove). infos ++ (write_or_hold s [] k k.until).bytes) (sym e) ∙ sym g)) in
     let state : (rest_of_go s go).state ≡ next = ends-state s next go held e h in
     let before : owed s running_go ahead ≡ (rest_of_go s go).bytes ++ replies_from (rest_of_go s go).state ahead = ap (λ (o : Option RunningGo). owed s o ahead) i ∙ owed-alive s (Some go) ahead alive in
     let after : owed next None ahead ≡ replies_from next ahead = owed_on next None ahead (λ _. refl) in
@@ -141,9 +127,9 @@ alive_of true some e = absurd (cc)
 pub pending_alive : (s : SessionView) → is_pending s ≡ true → s.state.is_over ≡ false
 pending_alive s e = alive_of s.state.is_over (is_some s.running_go || has_line (ahead s.input [])) e
 
--- a line less is ahead, and its `go` has fewer lines to tell than it stood for
-pub turns_on : (s next : State) (idle running_go : Option RunningGo) (line : Line) (all rest : List Line) → s.is_over ≡ false → idle ≡ None → all ≡ line ∷ rest → (rest_of_go_if next running_go).state ≡ (answer_to s line).state → load_of_if running_go ≤ cost_to s line → tells_of_if running_go ≤ most_tells
-    → load_ahead next running_go rest + ((most_tells + 1) * length rest + tells_of_if running_go) < load_ahead s idle all + ((most_tells + 1) * length all + tells_of_if idle)
+-- a line less is ahead, and its `go` has fewer lines to report than it stood for
+pub turns_on : (s next : State) (idle running_go : Option RunningGo) (line : Line) (all rest : List Line) → s.is_over ≡ false → idle ≡ None → all ≡ line ∷ rest → (rest_of_go_if next running_go).state ≡ (answer_to s line).state → load_of_if running_go ≤ cost_to s line → reports_of_if running_go ≤ most_reports
+    → load_ahead next running_go rest + ((most_reports + 1) * length rest + reports_of_if running_go) < load_ahead s idle all + ((most_reports + 1) * length all + reports_of_if idle)
 turns_on s next idle running_go line all rest alive i e h less least =
     let n : length all ≡ length (line ∷ rest) = ap length e in
     omega (arith, load_on s next idle running_go line all rest alive i e h less)

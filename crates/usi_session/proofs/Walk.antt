@@ -32,11 +32,6 @@ walked_all moves all at eval plies e w =
 pub cost_ends : (at : Shogi) (eval : Eval) (plies more : ℕ) → plies ≡ 0 → pv_cost at eval plies ≤ more
 cost_ends at eval plies more e = let n : pv_cost at eval 0 ≡ 0 = pv_cost-leaf at eval in rw e (omega arith)
 
--- those along the pv after a best move are the next ones
-pub cost_goes_on : (at next : Shogi) (eval : Eval) (plies : ℕ) (m : Move) (b : Option Move) → b ≡ best at eval plies → b ≡ Some m → next ≡ after at m
-    → pv_cost next eval (plies - 1) ≤ then_pv_cost (λ q. pv_cost q eval (plies - 1)) at (best at eval plies)
-cost_goes_on at next eval plies m b e n g = let s : best at eval plies ≡ Some m = sym e ∙ n in rw (s, ← g) (omega arith)
-
 -- the first search along a pv, and those after it
 pub cost_begun : (at : Shogi) (eval : Eval) (plies left old : ℕ) → 0 < plies → left ≡ 2 * tree_size at plies → left + then_pv_cost (λ q. pv_cost q eval (plies - 1)) at (best at eval plies) ≤ old + pv_cost at eval plies
 cost_begun at eval plies left old h e = omega (arith, pv_cost-above at eval plies h)

@@ -150,14 +150,14 @@ pub reply_whole : (s next : State) (reply : List ℕ) (running_go : Option Runni
 reply_whole s next reply None line e quiet = ap (last_byte LINE_FEED) e ∙ answer_to-whole s line
 reply_whole s next reply (Some go) line e quiet = ap (last_byte LINE_FEED) quiet
 
--- a line is told
-pub told_whole : (depths_done : List ℕ) → GrowsByLines [] depths_done → AreWholeLines depths_done
-told_whole depths_done g = ap (last_byte LINE_FEED) g.after_is ∙ g.whole
+-- a line is reported
+pub reported_whole : (depths_done : List ℕ) → GrowsByLines [] depths_done → AreWholeLines depths_done
+reported_whole depths_done g = ap (last_byte LINE_FEED) g.after_is ∙ g.whole
 
--- the last line is told, and the bestmove written or held
+-- the last line is reported, and the bestmove written or held
 pub end_whole : (s : State) (depths_done reply : List ℕ) (held : HeldBestmove) → GrowsByLines [] depths_done → reply ≡ depths_done ++ (write_or_hold s [] held held.until).bytes → AreWholeLines reply
 end_whole s depths_done reply held g f =
-    ap (last_byte LINE_FEED) f ∙ lines_then depths_done (write_or_hold s [] held held.until).bytes (told_whole depths_done g) (write_or_hold-whole s [] held held.until refl)
+    ap (last_byte LINE_FEED) f ∙ lines_then depths_done (write_or_hold s [] held held.until).bytes (reported_whole depths_done g) (write_or_hold-whole s [] held held.until refl)
 
 -- nothing came
 pub grows_by_none : (queued : List ℕ) → GrowsByLines queued queued

@@ -1,6 +1,7 @@
 -- The answer to a command in a state: the bytes that are written, and the state after it (USI; what keeps and what drops a held `bestmove` is an own choice).
-use Rattle.std.specs.Prelude.{ℕ, List, [], ◌++◌, Option, Some, None, Result, Ok, Err, true, false, unwrap_or}
+use Rattle.std.specs.Prelude.{◌≡◌, ℕ, List, [], ◌++◌, Option, Some, None, Result, Ok, Err, true, false, unwrap_or}
 use Rattle.shogi_core.specs.Position.{Shogi}
+use Rattle.shogi_core.specs.declared.moves.Move.{Move}
 use Rattle.shogi_core.specs.Start.{start}
 use Rattle.shogi_eval.specs.declared.eval.Eval.{Eval}
 use Rattle.shogi_search.specs.Minimax.{pv}
@@ -31,19 +32,29 @@ answer_with state bytes = record { state = state; bytes = bytes }
 abbrev pub initial_state : State
 initial_state = record { position = start; options = default_options; held = None; is_over = false }
 
+-- the answer was given: its bytes were appended, and the state is the one after it
+pub record IsGiven (answer : Answer) (before after : List ℕ) (state : State) : Type 0 where
+  pub bytes : after ≡ before ++ answer.bytes
+  pub state_is : state ≡ answer.state
+
 -- the state, with no bestmove held any more
 abbrev pub without_bestmove : State → State
 without_bestmove state = record state { held = None }
 
--- `position`: the position that was reached is taken; after a refusal the state stays, and one line tells why
+-- `position`: the position that was reached is taken; after a refusal the state stays, and one line says why
 abbrev pub answer_position : State → Result Shogi Refusal → Answer
 answer_position state (Ok position) = answer_with (record state { position = position }) []
 answer_position state (Err (refusals.BadPosition fault)) = answer_with state (bad_position_line fault)
 answer_position state (Err (refusals.IllegalMove number)) = answer_with state (illegal_move_line number)
 
--- the bestmove at a depth, and what it is to be held until; also one that is written at once
+-- the bestmove of a pv, and what it is to be held until; also one that is written at once
+abbrev pub bestmove_of : List Move → Hold → HeldBestmove
+bestmove_of moves until =
+    record { best = move_to_play moves; ponder = move_to_ponder moves; until = until }
+
+-- the bestmove at a depth
 abbrev pub bestmove_at : Shogi → Eval → ℕ → Hold → HeldBestmove
-bestmove_at position eval depth until = record { best = move_to_play (pv position eval depth); ponder = move_to_ponder (pv position eval depth); until = until }
+bestmove_at position eval depth until = bestmove_of (pv position eval depth) until
 
 -- the line of a held bestmove
 abbrev pub held_line : HeldBestmove → List ℕ
@@ -57,7 +68,9 @@ write_or_hold state infos held UntilHit = answer_with (record state { held = Som
 
 -- `go` at a depth, by the evaluation and with at most as many lines as the options say: the whole depth is searched, also under `go infinite`, and what was held is dropped
 abbrev pub answer_go : State → ℕ → Hold → Answer
-answer_go state depth hold = write_or_hold state (go_infos state.position state.options.eval state.options.multi_pv depth) (bestmove_at state.position state.options.eval depth hold) hold
+answer_go state depth hold =
+    write_or_hold state (go_infos state.position state.options.eval state.options.multi_pv depth)
+    (bestmove_at state.position state.options.eval depth hold) hold
 
 -- `stop`: the held bestmove is written, and nothing is held any more; it cuts no search short
 abbrev pub answer_stop : State → Option HeldBestmove → Answer

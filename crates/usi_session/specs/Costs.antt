@@ -20,16 +20,22 @@ pvs_cost position eval plies codes = sum_by (λ code. pv_cost (after_code positi
 abbrev pub depth_cost : Shogi → Eval → ℕ → ℕ → ℕ
 depth_cost position eval multi_pv depth =
     cond (multi_pv == 1) (pv_cost position eval depth)
-    (2 * sum_of_tree_sizes position (depth - 1) (legal_codes position) + pvs_cost position eval (depth - 1) (listed position eval multi_pv depth))
+    (2 * sum_of_tree_sizes position (depth - 1) (legal_codes position)
+    + pvs_cost position eval (depth - 1) (listed position eval multi_pv depth))
 
 -- the most search steps of all depths from 1 to this one
 unfoldable pub cost_to_depth : Shogi → Eval → ℕ → ℕ → ℕ
 cost_to_depth position eval multi_pv zero = 0
-cost_to_depth position eval multi_pv (suc depth) = cost_to_depth position eval multi_pv depth + depth_cost position eval multi_pv (suc depth)
+cost_to_depth position eval multi_pv (suc depth) =
+    cost_to_depth position eval multi_pv depth + depth_cost position eval multi_pv (suc depth)
 
--- a `go` costs at most the searches of its depths from the position where it stands; no other command costs a step
+-- the most steps of a `go` at a depth: the searches of its depths from the position where it stands
+abbrev pub go_cost : State → ℕ → ℕ
+go_cost state depth = cost_to_depth state.position state.options.eval state.options.multi_pv depth
+
+-- no command but `go` costs a step
 abbrev pub cost_of_command : State → Command → ℕ
-cost_of_command state (Go depth hold) = cost_to_depth state.position state.options.eval state.options.multi_pv (unwrap_or depth state.options.depth)
+cost_of_command state (Go depth hold) = go_cost state (unwrap_or depth state.options.depth)
 cost_of_command state _ = 0
 
 -- what a line may cost in a session that is not over

@@ -3,7 +3,7 @@ use Rattle.std.specs.Prelude.{◌≡◌, ℕ, ◌+◌, ◌*◌, List, [], ◌∷
 use Rattle.usi_lines.specs.Lines.{Buffer, Line, ahead}
 use Rattle.usi_session.specs.declared.state.State.{State}
 use Rattle.usi_session.specs.Answer.{Answer, initial_state}
-use Rattle.usi_session.specs.RunningGo.{RunningGo, rest_of_go_if, load_of_if, is_searching, tells_of_if, most_tells}
+use Rattle.usi_session.specs.RunningGo.{RunningGo, rest_of_go_if, load_of_if, is_searching, reports_of_if, most_reports}
 use Rattle.usi_session.specs.Replies.{replies_from, state_from}
 use Rattle.usi_session.specs.Costs.{costs_from}
 use Rattle.usi_session.specs.declared.limits.TheConstants.{QUEUE_FULL}
@@ -58,9 +58,9 @@ abbrev pub IsPvWhole : Option RunningGo → Type 0
 IsPvWhole None = ⊥
 IsPvWhole (Some go) = is_searching go ≡ false
 
--- more than the turns that may still be taken: each makes a step less left, tells a line, or answers one
+-- more than the turns that may still be taken: each makes a step less left, reports a line, or answers one
 abbrev pub turns : SessionView → ℕ
-turns session = load session + ((most_tells + 1) * length (ahead session.input []) + tells_of_if session.running_go)
+turns session = load session + ((most_reports + 1) * length (ahead session.input []) + reports_of_if session.running_go)
 
 -- alive, nothing pending, and fewer than 65,536 bytes queued
 abbrev pub wants_input : SessionView → Bool

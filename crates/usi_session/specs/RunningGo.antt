@@ -1,11 +1,12 @@
 -- A running `go`: what it still owes, and the steps that it may still make (own choice).
-use Rattle.std.specs.Prelude.{ℕ, zero, suc, ◌+◌, ◌-◌, ◌*◌, ◌==◌, List, [], ◌++◌, length, drop, Bool, ◌||◌, ◌&&◌, cond, nat_lt, Option, Some, None, is_some}
+use Rattle.std.specs.Prelude.{◌≡◌, ◌≤◌, ℕ, zero, suc, ◌+◌, ◌-◌, ◌*◌, ◌==◌, List, [], ◌++◌, length, drop, Bool, true, false, OnSome, ◌||◌, ◌&&◌, cond, nat_lt, Option, Some, None, is_some}
 use Rattle.shogi_core.specs.declared.moves.Move.{Move}
 use Rattle.shogi_core.specs.Position.{Shogi}
 use Rattle.shogi_moves.specs.LegalMoves.{legal_above}
 use Rattle.shogi_search.specs.Minimax.{best, pv_cost, then_pv_cost, sum_of_tree_sizes}
 use Rattle.usi_lines.specs.declared.options.TheConstants.{DEPTH_MAX, MULTI_PV_MAX}
 use Rattle.usi_session.specs.declared.question.Question.{Question}
+use Rattle.usi_session.specs.declared.state.HeldBestmove.{HeldBestmove}
 use Rattle.usi_session.specs.declared.state.State.{State}
 use Rattle.usi_session.specs.Texts.{info_line}
 use Rattle.usi_session.specs.GoInfos.{listed, numbered_lines, depth_lines}
@@ -26,48 +27,96 @@ pub record RunningGo : Type 0 where
 
 -- the moves that are listed at the current depth
 abbrev pub listed_at : Question → ℕ → List ℕ
-listed_at question depths_done = listed question.position question.eval question.multi_pv (depths_done + 1)
+listed_at question depths_done =
+    listed question.position question.eval question.multi_pv (depths_done + 1)
 
 -- what is still said of the current depth
 abbrev pub rest_of_depth : Question → ℕ → ℕ → List ℕ
 rest_of_depth question depths_done lines_done =
     cond (question.multi_pv == 1) (info_line question.position question.eval (depths_done + 1))
-    (numbered_lines question.position question.eval (depths_done + 1) (lines_done + 1) (drop lines_done (listed_at question depths_done)))
+    (numbered_lines question.position question.eval (depths_done + 1) (lines_done + 1)
+    (drop lines_done (listed_at question depths_done)))
 
 -- what is said of a position at each of so many depths above those that are done
 unfoldable pub infos_of_depths : Question → ℕ → ℕ → List ℕ
 infos_of_depths question depths_done zero = []
-infos_of_depths question depths_done (suc more) = depth_lines question.position question.eval question.multi_pv (depths_done + 1) ++ infos_of_depths question (depths_done + 1) more
+infos_of_depths question depths_done (suc more) =
+    depth_lines question.position question.eval question.multi_pv (depths_done + 1)
+    ++ infos_of_depths question (depths_done + 1) more
 
 -- what is said of the depths above the current one
 abbrev pub deeper_infos : Question → ℕ → List ℕ
-deeper_infos question depths_done = infos_of_depths question (depths_done + 1) (question.depth - (depths_done + 1))
+deeper_infos question depths_done =
+    infos_of_depths question (depths_done + 1) (question.depth - (depths_done + 1))
 
 -- what is still said before the bestmove
 abbrev pub infos_to_come : Question → ℕ → ℕ → List ℕ
-infos_to_come question depths_done lines_done = rest_of_depth question depths_done lines_done ++ deeper_infos question depths_done
+infos_to_come question depths_done lines_done =
+    rest_of_depth question depths_done lines_done ++ deeper_infos question depths_done
 
 -- whether the current line is the last one of its depth
 abbrev pub ends_depth : Question → ℕ → ℕ → Bool
-ends_depth question depths_done lines_done = lines_done + 1 == length (listed_at question depths_done)
+ends_depth question depths_done lines_done =
+    lines_done + 1 == length (listed_at question depths_done)
 
--- whether the current line is the last one of the depth that was asked for
+-- whether the current line of a running `go` is the last one of its depth
+abbrev pub is_last_of_depth : RunningGo → Bool
+is_last_of_depth go = ends_depth go.question go.depths_done go.lines_done
+
+-- whether it is the last one of the depth that was asked for
 abbrev pub is_last : RunningGo → Bool
-is_last go = ends_depth go.question go.depths_done go.lines_done && go.depths_done + 1 == go.question.depth
+is_last go = is_last_of_depth go && go.depths_done + 1 == go.question.depth
 
 -- what is said after the current line
 abbrev pub infos_after_line : Question → ℕ → ℕ → List ℕ
 infos_after_line question depths_done lines_done =
-    cond (ends_depth question depths_done lines_done) (deeper_infos question depths_done) (infos_to_come question depths_done (lines_done + 1))
+    cond (ends_depth question depths_done lines_done) (deeper_infos question depths_done)
+    (infos_to_come question depths_done (lines_done + 1))
+
+-- what a running `go` still says before the bestmove
+abbrev pub infos_left : RunningGo → List ℕ
+infos_left go = infos_to_come go.question go.depths_done go.lines_done
+
+-- what it says before the bestmove once the current line is written
+abbrev pub infos_after : RunningGo → List ℕ
+infos_after go = infos_after_line go.question go.depths_done go.lines_done
+
+-- the current line was appended: what is still said after it was said with it before
+abbrev pub WritesLine : RunningGo → List ℕ → List ℕ → Type 0
+WritesLine go before after = after ++ infos_after go ≡ before ++ infos_left go
+
+-- of a question so many depths are done, and so many lines of the current one
+pub record HasDone (question : Question) (depths_done lines_done : ℕ) (go : RunningGo)
+    : Type 0 where
+  pub question_is : go.question ≡ question
+  pub depths_done_is : go.depths_done ≡ depths_done
+  pub lines_done_is : go.lines_done ≡ lines_done
+
+-- the same `go`, but for the search that is running, and where it stands on its walk
+abbrev pub IsSameButForSearch : RunningGo → RunningGo → Type 0
+IsSameButForSearch old new =
+    new ≡ record old {
+      root_move = new.root_move;
+      walk_position = new.walk_position;
+      walk_plies = new.walk_plies;
+      steps_left = new.steps_left;
+    }
+
+-- the bestmove at a depth of what was asked
+abbrev pub bestmove_to : Question → ℕ → HeldBestmove
+bestmove_to question depth = bestmove_at question.position question.eval depth question.hold
 
 -- the most steps for each of so many depths above those that are done
 unfoldable pub cost_of_depths : Question → ℕ → ℕ → ℕ
 cost_of_depths question depths_done zero = 0
-cost_of_depths question depths_done (suc more) = depth_cost question.position question.eval question.multi_pv (depths_done + 1) + cost_of_depths question (depths_done + 1) more
+cost_of_depths question depths_done (suc more) =
+    depth_cost question.position question.eval question.multi_pv (depths_done + 1)
+    + cost_of_depths question (depths_done + 1) more
 
 -- what a running `go` still says, and the state after it: by the question and what is done, and not by how far the search is
 abbrev pub rest_of_go : State → RunningGo → Answer
-rest_of_go state go = write_or_hold state (infos_to_come go.question go.depths_done go.lines_done) (bestmove_at go.question.position go.question.eval go.question.depth go.question.hold) go.question.hold
+rest_of_go state go =
+    write_or_hold state (infos_left go) (bestmove_to go.question go.question.depth) go.question.hold
 
 -- what the running `go` still says, and the state after it: nothing more, where none is running
 abbrev pub rest_of_go_if : State → Option RunningGo → Answer
@@ -79,19 +128,43 @@ abbrev pub with_rest : List ℕ → State → Option RunningGo → List ℕ
 with_rest bytes state None = bytes
 with_rest bytes state (Some go) = bytes ++ (rest_of_go state go).bytes
 
--- the most steps of the searches after the current one, at the current depth: after each further move and along each pv listed, or along this pv and those listed behind it
-abbrev pub depth_load_after_search : Option Move → RunningGo → ℕ
-depth_load_after_search (Some root_move) go =
-    2 * sum_of_tree_sizes go.question.position go.depths_done (legal_above go.question.position (Some root_move))
-    + pvs_cost go.question.position go.question.eval go.depths_done (listed_at go.question go.depths_done)
-depth_load_after_search None go =
-    then_pv_cost (λ next. pv_cost next go.question.eval (go.walk_plies - 1)) go.walk_position (best go.walk_position go.question.eval go.walk_plies)
-    + pvs_cost go.question.position go.question.eval go.depths_done (drop (go.lines_done + 1) (listed_at go.question go.depths_done))
+-- the most steps along the pvs of the lines of the current depth from this one on
+abbrev pub lines_cost : Question → ℕ → ℕ → ℕ
+lines_cost question depths_done lines_done =
+    pvs_cost question.position question.eval depths_done
+    (drop lines_done (listed_at question depths_done))
 
--- the most steps of all searches after the current one: those of its depth, and those of the depths above
+-- the most steps of the depths above the current one
+abbrev pub deeper_cost : Question → ℕ → ℕ
+deeper_cost question depths_done =
+    cost_of_depths question (depths_done + 1) (question.depth - (depths_done + 1))
+
+-- the most steps of the searches after each root move above this one, and along each pv listed
+abbrev pub root_moves_cost : Question → ℕ → Move → ℕ
+root_moves_cost question depths_done root_move =
+    2 * sum_of_tree_sizes question.position depths_done
+    (legal_above question.position (Some root_move))
+    + lines_cost question depths_done 0
+
+-- the load that is left where the search of a root move has ended
+abbrev pub load_after_root_move : Question → ℕ → Move → ℕ
+load_after_root_move question depths_done root_move =
+    root_moves_cost question depths_done root_move + deeper_cost question depths_done
+
+-- the most steps of the searches after the current one, at the current depth: after each further
+-- move and along each pv listed, or along this pv and those listed behind it
+abbrev pub depth_load_after_search : Option Move → RunningGo → ℕ
+depth_load_after_search (Some root_move) go = root_moves_cost go.question go.depths_done root_move
+depth_load_after_search None go =
+    then_pv_cost (λ next. pv_cost next go.question.eval (go.walk_plies - 1)) go.walk_position
+    (best go.walk_position go.question.eval go.walk_plies)
+    + lines_cost go.question go.depths_done (go.lines_done + 1)
+
+-- the most steps of all searches after the current one: those of its depth, and those of the
+-- depths above
 abbrev pub load_after_search : RunningGo → ℕ
 load_after_search go =
-    depth_load_after_search go.root_move go + cost_of_depths go.question (go.depths_done + 1) (go.question.depth - (go.depths_done + 1))
+    depth_load_after_search go.root_move go + deeper_cost go.question go.depths_done
 
 -- the load of a running `go`, the most steps that it may still make: what is left of the current search, and those of the searches after it
 abbrev pub load_of : RunningGo → ℕ
@@ -106,15 +179,29 @@ load_of_if (Some go) = load_of go
 abbrev pub is_searching : RunningGo → Bool
 is_searching go = is_some go.root_move || nat_lt 0 go.walk_plies
 
--- no fewer than the lines that a running `go` may still tell
-abbrev pub tells_of : RunningGo → ℕ
-tells_of go = MULTI_PV_MAX * (go.question.depth - go.depths_done) - go.lines_done
+-- no fewer than the lines that a running `go` may still report
+abbrev pub reports_of : RunningGo → ℕ
+reports_of go = MULTI_PV_MAX * (go.question.depth - go.depths_done) - go.lines_done
 
--- more than the lines that the running `go` may still tell, and none where none is running
-abbrev pub tells_of_if : Option RunningGo → ℕ
-tells_of_if None = 0
-tells_of_if (Some go) = tells_of go + 1
+-- more than the lines that the running `go` may still report, and none where none is running
+abbrev pub reports_of_if : Option RunningGo → ℕ
+reports_of_if None = 0
+reports_of_if (Some go) = reports_of go + 1
 
--- the most that `tells_of_if` is for a `go` that has just started
-abbrev pub most_tells : ℕ
-most_tells = MULTI_PV_MAX * DEPTH_MAX + 1
+-- the most that `reports_of_if` is for a `go` that has just started
+abbrev pub most_reports : ℕ
+most_reports = MULTI_PV_MAX * DEPTH_MAX + 1
+
+-- the answer was given, or its `go` was started: what was written and what that `go` still says
+-- are the answer, and the `go` makes at most so many steps
+pub record IsBegun (answer : Answer) (cost : ℕ) (before after : List ℕ) (state : State)
+    (running_go : Option RunningGo) : Type 0 where
+  pub bytes : with_rest after state running_go ≡ before ++ answer.bytes
+  pub state_is : (rest_of_go_if state running_go).state ≡ answer.state
+  pub load : load_of_if running_go ≤ cost
+  pub reports : reports_of_if running_go ≤ most_reports
+  pub quiet : OnSome running_go (after ≡ before)
+
+-- a session that ends has no running `go`
+abbrev pub EndsIdle : State → State → Option RunningGo → Type 0
+EndsIdle old new running_go = old.is_over ≡ false → new.is_over ≡ true → running_go ≡ None

@@ -36,7 +36,8 @@ too_long_reply = codes "info string line too long\n"
 -- hundredths of a pawn, or from `MATE_MIN` up a mate in plies (plies are an own choice)
 abbrev pub size_text : List ℕ → ℕ → ℕ → List ℕ
 size_text sign depth size =
-    cond (nat_lt size MATE_MIN) (codes "cp " ++ (sign ++ decimal size)) (codes "mate " ++ (sign ++ decimal (depth - (size - MATE_MIN))))
+    cond (nat_lt size MATE_MIN) (codes "cp " ++ (sign ++ decimal size))
+    (codes "mate " ++ (sign ++ decimal (depth - (size - MATE_MIN))))
 
 -- a score at a depth, negative where the side to move stands worse
 abbrev pub score_text : ℕ → ℤ → List ℕ
@@ -47,10 +48,18 @@ score_text depth (negsuc size) = size_text (codes "-") depth (size + 1)
 abbrev pub moves_text : List Move → List ℕ
 moves_text moves = flat_map (λ played. codes " " ++ text_of played) moves
 
+-- the head of an info line: its depth, and the words for which pv
+abbrev pub head_text : ℕ → List ℕ → List ℕ
+head_text depth which = codes "info depth " ++ (decimal depth ++ (which ++ codes " score "))
+
+-- the pv of an info line, to its end
+abbrev pub pv_text : List Move → List ℕ
+pv_text moves = codes " pv" ++ (moves_text moves ++ codes "\n")
+
 -- a value and a pv at a depth, after the words for which
 abbrev pub valued_pv_text : List ℕ → ℕ → ℤ → List Move → List ℕ
 valued_pv_text which depth value moves =
-    (codes "info depth " ++ (decimal depth ++ (which ++ codes " score "))) ++ (score_text depth value ++ (codes " pv" ++ (moves_text moves ++ codes "\n")))
+    head_text depth which ++ (score_text depth value ++ pv_text moves)
 
 -- a value and a pv at a depth
 abbrev pub info_text : ℕ → ℤ → List Move → List ℕ
@@ -58,7 +67,8 @@ info_text depth value moves = valued_pv_text [] depth value moves
 
 -- a value and a pv at a depth, for the pv of this number among several
 abbrev pub numbered_info_text : ℕ → ℕ → ℤ → List Move → List ℕ
-numbered_info_text depth number value moves = valued_pv_text (codes " multipv " ++ decimal number) depth value moves
+numbered_info_text depth number value moves =
+    valued_pv_text (codes " multipv " ++ decimal number) depth value moves
 
 -- what is said of a position at a depth: its value and its pv
 abbrev pub info_line : Shogi → Eval → ℕ → List ℕ
@@ -68,4 +78,5 @@ info_line position eval depth = info_text depth (value position eval depth) (pv 
 abbrev pub bestmove_line : Option Move → Option Move → List ℕ
 bestmove_line None ponder = codes "bestmove resign\n"
 bestmove_line (Some best) None = codes "bestmove " ++ (text_of best ++ codes "\n")
-bestmove_line (Some best) (Some ponder) = codes "bestmove " ++ (text_of best ++ (codes " ponder " ++ (text_of ponder ++ codes "\n")))
+bestmove_line (Some best) (Some ponder) =
+    codes "bestmove " ++ (text_of best ++ (codes " ponder " ++ (text_of ponder ++ codes "\n")))

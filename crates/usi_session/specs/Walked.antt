@@ -1,5 +1,6 @@
--- A walk along a pv, ply by ply, and what a running `go` knows of the depth that it is at (own choice).
-use Rattle.std.specs.Prelude.{ℕ, ℤ, List, ◌∷◌, Option, None, Some, ◌≡◌, ◌≢◌, ◌+◌, ◌-◌, ◌<◌, ◌++◌, ◌==◌, cond, slice_get, unwrap_or}
+-- A walk along a pv, ply by ply, and what a running `go` knows of the depth that it is at
+-- (own choice).
+use Rattle.std.specs.Prelude.{ℕ, ℤ, List, [], ◌∷◌, Option, None, Some, ◌≡◌, ◌≢◌, ◌+◌, ◌-◌, ◌<◌, ◌++◌, ◌==◌, cond, slice_get, unwrap_or}
 use Rattle.shogi_core.specs.Codes.{code_of}
 use Rattle.shogi_core.specs.Position.{Shogi}
 use Rattle.shogi_core.specs.declared.moves.Move.{Move}
@@ -7,18 +8,18 @@ use Rattle.shogi_moves.specs.After.{after}
 use Rattle.shogi_moves.specs.LegalMoves.{legal_codes, legal_above}
 use Rattle.shogi_eval.specs.declared.eval.Eval.{Eval}
 use Rattle.shogi_search.specs.Minimax.{value, worth, best, pv, pv_cost, then_pv_cost}
-use Rattle.shogi_search.specs.Progress.{Progress, untouched}
+use Rattle.shogi_search.specs.Progress.{Progress, untouched, untouched_below, IsFoundBelow}
 use Rattle.shogi_search.specs.Ranked.{Ranking, IsTop, child_beta}
 use Rattle.shogi_search.specs.declared.bounds.TheConstants.{INFINITY}
-use Rattle.shogi_search.proofs.RankedUse.{IsGoneThrough}
+use Rattle.shogi_search.specs.declared.found.Found.{Found}
 use Rattle.usi_lines.specs.Options.{IsDepth, IsMultiPv}
 use Rattle.usi_session.specs.declared.question.Question.{Question}
 use Rattle.usi_session.specs.declared.state.HeldBestmove.{HeldBestmove}
-use Rattle.usi_session.specs.Answer.{bestmove_at}
 use Rattle.usi_session.specs.GoInfos.{pv_by}
-use Rattle.usi_session.specs.RunningGo.{RunningGo, listed_at}
+use Rattle.usi_session.specs.RunningGo.{RunningGo, listed_at, bestmove_to, lines_cost, load_of}
 
--- the evaluation, the position after the moves so far, the plies that are left, and the whole pv with its value
+-- the evaluation, the position after the moves so far, the plies that are left, and the whole pv
+-- with its value
 pub record Walked : Type 0 where
   pub eval : Eval
   pub at : Shogi
@@ -28,24 +29,45 @@ pub record Walked : Type 0 where
 
 -- the moves so far and those still to come, with the value once it is known
 abbrev pub walk_of : Eval → Shogi → ℕ → List Move → Option ℤ → Walked
-walk_of eval at plies moves found = record { eval = eval; at = at; plies = plies; pv = moves ++ pv at eval plies; value = unwrap_or found (value at eval plies) }
+walk_of eval at plies moves found = record {
+  eval = eval;
+  at = at;
+  plies = plies;
+  pv = moves ++ pv at eval plies;
+  value = unwrap_or found (value at eval plies);
+}
 
 -- before the first ply
 abbrev pub walk_from : Shogi → Eval → ℕ → Walked
-walk_from position eval plies = record { eval = eval; at = position; plies = plies; pv = pv position eval plies; value = value position eval plies }
+walk_from position eval plies = walk_of eval position plies [] None
 
 -- after a move of known worth
 abbrev pub walk_by : Move → Shogi → Eval → ℕ → ℤ → Walked
-walk_by played next eval plies worth = record { eval = eval; at = next; plies = plies; pv = played ∷ pv next eval plies; value = worth }
+walk_by played next eval plies worth = walk_of eval next plies (played ∷ []) (Some worth)
+
+-- the most steps of the searches along a walk from where it stands
+abbrev pub walk_cost : Walked → ℕ
+walk_cost walk = pv_cost walk.at walk.eval walk.plies
+
+-- the most steps of those after the one where it stands
+abbrev pub cost_after : Walked → ℕ
+cost_after walk =
+    then_pv_cost (λ next. pv_cost next walk.eval (walk.plies - 1)) walk.at
+    (best walk.at walk.eval walk.plies)
 
 -- the depth and the number of lines lie in their ranges
 pub record IsQuestionInRange (question : Question) : Type 0 where
   pub depth_fits : IsDepth question.depth
   pub multi_pv_fits : IsMultiPv question.multi_pv
 
+-- the first legal move after the one that was passed last
+abbrev pub IsNext : Shogi → Option Move → Move → Type 0
+IsNext position passed next =
+    legal_above position passed ≡ code_of next ∷ legal_above position (Some next)
+
 -- the first legal move
 abbrev pub IsFirst : Shogi → Move → Type 0
-IsFirst position first = legal_above position None ≡ code_of first ∷ legal_above position (Some first)
+IsFirst position first = IsNext position None first
 
 -- where a depth begins: with one line at the root, with several after the first root move
 abbrev pub first_root_move : Question → Move → Option Move
@@ -54,35 +76,72 @@ first_root_move question first = cond (question.multi_pv == 1) None (Some first)
 -- the search that a depth begins with
 abbrev pub first_search : Question → Move → ℕ → Progress
 first_search question first depths_done =
-    cond (question.multi_pv == 1) (untouched question.position question.eval (depths_done + 1)) (untouched (after question.position first) question.eval depths_done)
+    cond (question.multi_pv == 1) (untouched question.position question.eval (depths_done + 1))
+    (untouched (after question.position first) question.eval depths_done)
 
--- the steps of the searches along a walk after the one where it stands
-abbrev pub cost_after : Walked → ℕ
-cost_after walk = then_pv_cost (λ next. pv_cost next walk.eval (walk.plies - 1)) walk.at (best walk.at walk.eval walk.plies)
+-- the search after a root move, below the bound that its place in the list needs
+abbrev pub child_search : Question → ℕ → Move → Ranking → Progress
+child_search question depths_done root_move ranks =
+    untouched_below (after question.position root_move) question.eval depths_done (child_beta ranks)
+
+-- it was found by that search
+abbrev pub IsFoundOfChild : Question → ℕ → Move → Ranking → Found → Type 0
+IsFoundOfChild question depths_done root_move ranks found =
+    IsFoundBelow (after question.position root_move) question.eval depths_done
+    (child_beta ranks) found
 
 -- what callers see of a running `go`
 abbrev pub running_go_of : Question → ℕ → ℕ → Option Move → Walked → Progress → RunningGo
-running_go_of question depths_done lines_done root_move walk search =
-    record { question = question; depths_done = depths_done; lines_done = lines_done; root_move = root_move; walk_position = walk.at; walk_plies = walk.plies; steps_left = search.left }
+running_go_of question depths_done lines_done root_move walk search = record {
+  question = question;
+  depths_done = depths_done;
+  lines_done = lines_done;
+  root_move = root_move;
+  walk_position = walk.at;
+  walk_plies = walk.plies;
+  steps_left = search.left;
+}
+
+-- the load at a depth of which no line is done
+abbrev pub load_at : Question → ℕ → Option Move → Walked → Progress → ℕ
+load_at question depths_done root_move walk search =
+    load_of (running_go_of question depths_done 0 root_move walk search)
 
 -- a search that is not at its end, for values below a bound
-pub record IsUnder (search : Progress) (position : Shogi) (eval : Eval) (depth : ℕ) (beta : ℤ) : Type 0 where
+pub record IsUnder (search : Progress) (position : Shogi) (eval : Eval) (depth : ℕ) (beta : ℤ)
+    : Type 0 where
   pub root : search.root ≡ position
   pub eval_is : search.eval ≡ eval
   pub depth_is : search.depth ≡ depth
   pub beta_is : search.beta ≡ beta
   pub left : 0 < search.left
 
--- all legal moves before this one were ranked
-pub record IsRankedTo (question : Question) (depths_done : ℕ) (root_move : Move) (ranks : Ranking) : Type 0 where
-  pub passed : Option Move
-  pub next : legal_above question.position passed ≡ code_of root_move ∷ legal_above question.position (Some root_move)
-  pub gone : IsGoneThrough question.position (worth question.position question.eval depths_done) passed ranks
+-- where plies are left of a walk, the position where it stands is searched
+abbrev pub IsSearchedAlong : Walked → Progress → Type 0
+IsSearchedAlong walk search = 0 < walk.plies → IsUnder search walk.at walk.eval walk.plies INFINITY
+
+-- what a move is worth at the current depth, by its code
+abbrev pub worth_at : Question → ℕ → ℕ → ℤ
+worth_at question depths_done = worth question.position question.eval depths_done
+
+-- the legal moves up to the one that was passed last were ranked
+pub record IsRankedUpTo (question : Question) (depths_done : ℕ) (passed : Option Move)
+    (ranks : Ranking) : Type 0 where
+  pub seen : List ℕ
+  pub whole : seen ++ legal_above question.position passed ≡ legal_codes question.position
+  pub top : IsTop (worth_at question depths_done) seen ranks
   pub most : ranks.lines ≡ question.multi_pv
+
+-- all legal moves before this one were ranked
+pub record IsRankedTo (question : Question) (depths_done : ℕ) (root_move : Move)
+    (ranks : Ranking) : Type 0 where
+  pub passed : Option Move
+  pub next : IsNext question.position passed root_move
+  pub ranked : IsRankedUpTo question depths_done passed ranks
 
 -- all legal moves were ranked
 pub record IsRanked (question : Question) (depths_done : ℕ) (ranks : Ranking) : Type 0 where
-  pub top : IsTop (worth question.position question.eval depths_done) (legal_codes question.position) ranks
+  pub top : IsTop (worth_at question depths_done) (legal_codes question.position) ranks
   pub most : ranks.lines ≡ question.multi_pv
 
 -- the walk is along the pv of the line of this number, from 0
@@ -90,30 +149,53 @@ pub record IsLine (question : Question) (depths_done lines_done : ℕ) (walk : W
   pub code : ℕ
   pub listed_as : slice_get (listed_at question depths_done) lines_done ≡ Some code
   pub pv_is : walk.pv ≡ pv_by question.position question.eval (depths_done + 1) code
-  pub value_is : walk.value ≡ worth question.position question.eval depths_done code
+  pub value_is : walk.value ≡ worth_at question depths_done code
   pub eval_is : walk.eval ≡ question.eval
 
+-- the walk has made the first move of that line, and the rest of it is all that it costs
+pub record BeginsLine (question : Question) (depths_done lines_done : ℕ) (walk : Walked)
+    : Type 0 where
+  pub line : IsLine question depths_done lines_done walk
+  pub cost :
+      walk_cost walk + lines_cost question depths_done (lines_done + 1)
+      ≡ lines_cost question depths_done lines_done
+
 -- the pv of the current line is walked
-pub record IsWalking (question : Question) (depths_done lines_done : ℕ) (ranks : Ranking) (walk : Walked) (kept : HeldBestmove) (search : Progress) : Type 0 where
+pub record IsWalking (question : Question) (depths_done lines_done : ℕ) (ranks : Ranking)
+    (walk : Walked) (kept : HeldBestmove) (search : Progress) : Type 0 where
   pub line : IsLine question depths_done lines_done walk
   pub ranked : question.multi_pv ≢ 1 → IsRanked question depths_done ranks
-  pub kept_is : 0 < lines_done → kept ≡ bestmove_at question.position question.eval (depths_done + 1) question.hold
-  pub searched : 0 < walk.plies → IsUnder search walk.at question.eval walk.plies INFINITY
+  pub kept_is : 0 < lines_done → kept ≡ bestmove_to question (depths_done + 1)
+  pub searched : IsSearchedAlong walk search
 
--- the position after a root move is searched for what the move is worth, below the bound that its place in the list needs
-pub record IsRanking (question : Question) (depths_done lines_done : ℕ) (root_move : Move) (ranks : Ranking) (search : Progress) : Type 0 where
+-- the position after a root move is searched for what the move is worth, below the bound that its
+-- place in the list needs
+pub record IsRanking (question : Question) (depths_done lines_done : ℕ) (root_move : Move)
+    (ranks : Ranking) (search : Progress) : Type 0 where
   pub several : question.multi_pv ≢ 1
   pub none_done : lines_done ≡ 0
   pub ranked : IsRankedTo question depths_done root_move ranks
-  pub searched : IsUnder search (after question.position root_move) question.eval depths_done (child_beta ranks)
+  pub searched :
+      IsUnder search (after question.position root_move) question.eval depths_done
+      (child_beta ranks)
 
 -- what is known at a depth: while a root move is searched, or while a pv is walked
-abbrev pub IsAtDepth : Question → ℕ → ℕ → Option Move → Ranking → Walked → HeldBestmove → Progress → Type 0
-IsAtDepth question depths_done lines_done (Some root_move) ranks walk kept search = IsRanking question depths_done lines_done root_move ranks search
-IsAtDepth question depths_done lines_done None ranks walk kept search = IsWalking question depths_done lines_done ranks walk kept search
+abbrev pub IsAtDepth : Question → ℕ → ℕ → Option Move → Ranking → Walked → HeldBestmove
+    → Progress → Type 0
+IsAtDepth question depths_done lines_done (Some root_move) ranks walk kept search =
+    IsRanking question depths_done lines_done root_move ranks search
+IsAtDepth question depths_done lines_done None ranks walk kept search =
+    IsWalking question depths_done lines_done ranks walk kept search
+
+-- what is known before a line of the depth is done, when no bestmove is kept
+abbrev pub IsAtFirstLine : Question → ℕ → Option Move → Ranking → Walked → Progress → Type 0
+IsAtFirstLine question depths_done root_move ranks walk search =
+    (kept : HeldBestmove) → IsAtDepth question depths_done 0 root_move ranks walk kept search
 
 -- what holds of a running `go`
-pub record IsRunningGo (question : Question) (first : Move) (depths_done lines_done : ℕ) (root_move : Option Move) (ranks : Ranking) (walk : Walked) (kept : HeldBestmove) (search : Progress) : Type 0 where
+pub record IsRunningGo (question : Question) (first : Move) (depths_done lines_done : ℕ)
+    (root_move : Option Move) (ranks : Ranking) (walk : Walked) (kept : HeldBestmove)
+    (search : Progress) : Type 0 where
   pub range : IsQuestionInRange question
   pub first_is : IsFirst question.position first
   pub left : depths_done < question.depth

@@ -1,15 +1,14 @@
 //! The answers to commands.
 
-ghost use Rattle.std.specs.Prelude.{◌≡◌, ◌≤◌, ◌++◌, IfOk, OnOk, OnSome, unwrap_or, Result, None, true, false, []};
-ghost use Rattle.shogi_core.specs.Position.{Shogi};
+ghost use Rattle.std.specs.Prelude.{◌≡◌, ◌≤◌, IfOk, OnOk, []};
 ghost use Rattle.usi_lines.specs.Seen.{meaning_of, line_of};
 ghost use Rattle.usi_lines.specs.declared.options.TheConstants.{DEPTH_MIN, DEPTH_MAX};
 ghost use Rattle.usi_lines.specs.Options.{IsInRange};
 ghost use Rattle.usi_session.specs.Options.{AreInRange};
-ghost use Rattle.usi_session.specs.Answer.{answer, answer_position, answer_go, write_or_hold, answer_stop, answer_ponderhit};
-ghost use Rattle.usi_session.specs.Costs.{cost_of_command, cost_to, cost_to_depth};
+ghost use Rattle.usi_session.specs.Answer.{answer, answer_position, answer_go, write_or_hold, answer_stop, answer_ponderhit, IsGiven};
+ghost use Rattle.usi_session.specs.Costs.{cost_of_command, cost_to, go_cost};
 ghost use Rattle.usi_session.specs.Replies.{answer_to};
-ghost use Rattle.usi_session.specs.RunningGo.{rest_of_go_if, with_rest, load_of_if, tells_of_if, most_tells};
+ghost use Rattle.usi_session.specs.RunningGo.{EndsIdle, IsBegun};
 
 use crate::go_command::GoCommand;
 use crate::position_command::{Refusal, position_of_sfen, position_of_startpos};
@@ -29,8 +28,8 @@ fn answer_position<A: Allocator>(
     state: &mut State,
     outcome: Result<Position, Refusal>,
 ) -> Result<(), AllocError>
-    ensures bytes { OnOk result (out.new.items ≡ out.old.items ++ (answer_position state.old outcome).bytes) }
-    ensures state { OnOk result (state.new ≡ (answer_position state.old outcome).state) }
+    ensures { OnOk result
+        (IsGiven (answer_position state.old outcome) out.old.items out.new.items state.new) }
 {
     match outcome {
         Ok(position) => {
@@ -48,8 +47,8 @@ pub fn write_or_hold<A: Allocator>(
     state: &mut State,
     bestmove: HeldBestmove,
 ) -> Result<(), AllocError>
-    ensures bytes { OnOk result (out.new.items ≡ out.old.items ++ (write_or_hold state.old [] bestmove bestmove.until).bytes) }
-    ensures state { OnOk result (state.new ≡ (write_or_hold state.old [] bestmove bestmove.until).state) }
+    ensures { let given = write_or_hold state.old [] bestmove bestmove.until in
+        OnOk result (IsGiven given out.old.items out.new.items state.new) }
 {
     match bestmove.until {
         Hold::Nothing => {
@@ -72,11 +71,9 @@ fn answer_go<A: Allocator + Copy>(
     requires options { AreInRange state.old.options }
     requires least { DEPTH_MIN ≤ depth }
     requires most { depth ≤ DEPTH_MAX }
-    ensures bytes { IfOk result (λ running_go. with_rest out.new.items state.new running_go ≡ out.old.items ++ (answer_go state.old depth hold).bytes) }
-    ensures state { IfOk result (λ running_go. (rest_of_go_if state.new running_go).state ≡ (answer_go state.old depth hold).state) }
-    ensures load { IfOk result (λ running_go. load_of_if running_go ≤ cost_to_depth state.old.position state.old.options.eval state.old.options.multi_pv depth) }
-    ensures tells { IfOk result (λ running_go. tells_of_if running_go ≤ most_tells) }
-    ensures quiet { IfOk result (λ running_go. OnSome running_go (out.new.items ≡ out.old.items)) }
+    ensures begun { IfOk result
+        (IsBegun (answer_go state.old depth hold) (go_cost state.old depth)
+        out.old.items out.new.items state.new) }
     ensures options { OnOk result (state.new.options ≡ state.old.options) }
     ensures alive { OnOk result (state.new.is_over ≡ state.old.is_over) }
 {
@@ -102,8 +99,8 @@ fn answer_go<A: Allocator + Copy>(
 
 /// Writes the held bestmove, if there is one, and holds nothing any more.
 fn answer_stop<A: Allocator>(out: &mut Vec<u8, A>, state: &mut State) -> Result<(), AllocError>
-    ensures bytes { OnOk result (out.new.items ≡ out.old.items ++ (answer_stop state.old state.old.held).bytes) }
-    ensures state { OnOk result (state.new ≡ (answer_stop state.old state.old.held).state) }
+    ensures { let given = answer_stop state.old state.old.held in
+        OnOk result (IsGiven given out.old.items out.new.items state.new) }
 {
     let Some(held) = &state.held else {
         return Ok(());
@@ -115,8 +112,8 @@ fn answer_stop<A: Allocator>(out: &mut Vec<u8, A>, state: &mut State) -> Result<
 
 /// Writes the bestmove that is held until `ponderhit`.
 fn answer_ponderhit<A: Allocator>(out: &mut Vec<u8, A>, state: &mut State) -> Result<(), AllocError>
-    ensures bytes { OnOk result (out.new.items ≡ out.old.items ++ (answer_ponderhit state.old state.old.held).bytes) }
-    ensures state { OnOk result (state.new ≡ (answer_ponderhit state.old state.old.held).state) }
+    ensures { let given = answer_ponderhit state.old state.old.held in
+        OnOk result (IsGiven given out.old.items out.new.items state.new) }
 {
     let Some(held) = &state.held else {
         return Ok(());
@@ -136,12 +133,10 @@ pub fn answer<A: Allocator + Copy>(
 ) -> Result<Option<GoCommand<A>>, AllocError>
     requires options { AreInRange state.old.options }
     requires range { IsInRange (meaning_of command) }
-    ensures bytes { IfOk result (λ running_go. with_rest out.new.items state.new running_go ≡ out.old.items ++ (answer state.old (meaning_of command.entry)).bytes) }
-    ensures state { IfOk result (λ running_go. (rest_of_go_if state.new running_go).state ≡ (answer state.old (meaning_of command.entry)).state) }
-    ensures load { IfOk result (λ running_go. load_of_if running_go ≤ cost_of_command state.old (meaning_of command.entry)) }
-    ensures tells { IfOk result (λ running_go. tells_of_if running_go ≤ most_tells) }
-    ensures quiet { IfOk result (λ running_go. OnSome running_go (out.new.items ≡ out.old.items)) }
-    ensures over { IfOk result (λ running_go. state.old.is_over ≡ false → state.new.is_over ≡ true → running_go ≡ None) }
+    ensures begun { let asked = meaning_of command.entry in IfOk result
+        (IsBegun (answer state.old asked) (cost_of_command state.old asked)
+        out.old.items out.new.items state.new) }
+    ensures over { IfOk result (EndsIdle state.old state.new) }
     ensures options { OnOk result (AreInRange state.new.options) }
 {
     match command {
@@ -185,12 +180,10 @@ pub fn answer_line<A: Allocator + Copy>(
     line: Line<'_>,
 ) -> Result<Option<GoCommand<A>>, AllocError>
     requires options { AreInRange state.old.options }
-    ensures bytes { IfOk result (λ running_go. with_rest out.new.items state.new running_go ≡ out.old.items ++ (answer_to state.old (line_of line.entry)).bytes) }
-    ensures state { IfOk result (λ running_go. (rest_of_go_if state.new running_go).state ≡ (answer_to state.old (line_of line.entry)).state) }
-    ensures load { IfOk result (λ running_go. load_of_if running_go ≤ cost_to state.old (line_of line.entry)) }
-    ensures tells { IfOk result (λ running_go. tells_of_if running_go ≤ most_tells) }
-    ensures quiet { IfOk result (λ running_go. OnSome running_go (out.new.items ≡ out.old.items)) }
-    ensures over { IfOk result (λ running_go. state.old.is_over ≡ false → state.new.is_over ≡ true → running_go ≡ None) }
+    ensures begun { let asked = line_of line.entry in IfOk result
+        (IsBegun (answer_to state.old asked) (cost_to state.old asked)
+        out.old.items out.new.items state.new) }
+    ensures over { IfOk result (EndsIdle state.old state.new) }
     ensures options { OnOk result (AreInRange state.new.options) }
 {
     match line {

@@ -1,18 +1,11 @@
 //! A running `go`: its searches, one after another, depth by depth.
 
-ghost use Rattle.std.specs.Prelude.{◌≡◌, ◌≢◌, ◌≤◌, ◌<◌, ◌≤ℤ◌, ◌<ℤ◌, ◌+◌, ◌++◌, IfOk, IfSome, IfNone, OnSome, OnOk, Some, drop, length, true, false};
-ghost use Rattle.shogi_moves.specs.After.{after};
-ghost use Rattle.shogi_search.specs.Minimax.{value, best, worth, negated, pv_cost};
-ghost use Rattle.shogi_search.specs.Progress.{untouched_below, IsFoundBelow};
-ghost use Rattle.shogi_search.specs.Ranked.{child_beta};
-ghost use Rattle.shogi_search.specs.declared.bounds.TheConstants.{INFINITY};
-ghost use Rattle.shogi_search.proofs.RankedUse.{IsGoneThrough};
-ghost use Rattle.usi_session.specs.declared.state.HeldBestmove.{HeldBestmove};
-ghost use Rattle.usi_session.specs.Answer.{bestmove_at};
-ghost use Rattle.usi_session.specs.Costs.{pvs_cost};
+ghost use Rattle.std.specs.Prelude.{◌≡◌, ◌≢◌, ◌≤◌, ◌<◌, ◌+◌, IfOk, IfSome, IfNone, OnSome, OnOk, length, true, false};
+ghost use Rattle.shogi_search.specs.Minimax.{value, best};
+ghost use Rattle.usi_session.specs.Answer.{bestmove_of};
 ghost use Rattle.usi_session.specs.GoInfos.{move_to_play, move_to_ponder};
-ghost use Rattle.usi_session.specs.RunningGo.{listed_at, infos_to_come, infos_after_line, deeper_infos, ends_depth, is_last, is_searching, cost_of_depths, load_after_search, load_of, tells_of};
-ghost use Rattle.usi_session.specs.Walked.{IsQuestionInRange, IsFirst, IsRankedTo, IsRanked, IsLine, IsUnder, IsAtDepth, first_root_move, first_search, cost_after, running_go_of};
+ghost use Rattle.usi_session.specs.RunningGo.{listed_at, infos_left, infos_after, deeper_infos, is_last, is_last_of_depth, is_searching, bestmove_to, cost_of_depths, load_of, load_after_root_move, reports_of, HasDone, IsSameButForSearch, WritesLine};
+ghost use Rattle.usi_session.specs.Walked.{IsQuestionInRange, IsFirst, IsRankedTo, IsRankedUpTo, IsRanked, BeginsLine, IsSearchedAlong, IsFoundOfChild, IsAtFirstLine, first_root_move, first_search, child_search, cost_after, walk_cost, load_at};
 ghost use Rattle.usi_session.specs.WholeLines.{GrowsByLines};
 
 use crate::pv_walk::PvWalk;
@@ -26,9 +19,10 @@ use std::alloc::{AllocError, Allocator};
 use std::marker::Model;
 use usi_lines::Hold;
 
-/// A running `go`. With one line it walks along the pv of each depth; with several it first searches
-/// each child of the root, only as far as its move may still be listed, and ranks the moves, and then
-/// walks along the pv of each move that is listed. The search lies apart, since its stack is large.
+/// A running `go`. With one line it walks along the pv of each depth; with several it first
+/// searches each child of the root, only as far as its move may still be listed, and ranks the
+/// moves, and then walks along the pv of each move that is listed. The search lies apart, since its
+/// stack is large.
 #[derive(Drop)]
 pub struct GoCommand<A: Allocator> {
     question: Question,
@@ -48,9 +42,12 @@ impl<A: Allocator> Model for GoCommand<A> {
 
     ghost Value = { RunningGo };
 
-    ghost view = { λ g. running_go_of g.question g.depths_done g.lines_done g.root_move g.walk g.search.value };
+    ghost view = { λ g.
+        running_go_of g.question g.depths_done g.lines_done g.root_move g.walk g.search.value };
 
-    ghost invariant = { λ g. IsRunningGo g.question g.first g.depths_done g.lines_done g.root_move g.ranks g.walk g.bestmove g.search.value };
+    ghost invariant = { λ g.
+        IsRunningGo g.question g.first g.depths_done g.lines_done
+        g.root_move g.ranks g.walk g.bestmove g.search.value };
 }
 
 /// The move to play.
@@ -69,7 +66,7 @@ fn move_to_ponder(moves: &[Move]) -> Option<Move>
 
 /// The bestmove of a pv.
 fn bestmove_of(moves: &[Move], until: Hold) -> HeldBestmove
-    ensures { result ≡ record { best = move_to_play moves.now; ponder = move_to_ponder moves.now; until = until } }
+    ensures { result ≡ bestmove_of moves.now until }
 {
     HeldBestmove {
         best: move_to_play(moves),
@@ -110,8 +107,7 @@ fn line_of(question: &Question, depths_done: u8, ranks: &Ranks, lines_done: u8) 
     requires more { depths_done < question.now.depth }
     requires ranked { IsRanked question.now depths_done ranks.now }
     requires lines_done { lines_done < length (listed_at question.now depths_done) }
-    ensures line { IsLine question.now depths_done lines_done result }
-    ensures cost { pv_cost result.at result.eval result.plies + pvs_cost question.now.position question.now.eval depths_done (drop (lines_done + 1) (listed_at question.now depths_done)) ≡ pvs_cost question.now.position question.now.eval depths_done (drop lines_done (listed_at question.now depths_done)) }
+    ensures { BeginsLine question.now depths_done lines_done result }
 {
     let line = ranks.list()[lines_done as usize];
     let (m, worth) = line;
@@ -123,8 +119,8 @@ fn line_of(question: &Question, depths_done: u8, ranks: &Ranks, lines_done: u8) 
 
 /// Searches the position where a walk stands, where plies are left.
 fn search_along(walk: &PvWalk, search: &mut Search)
-    ensures under { 0 < walk.now.plies → IsUnder search.new walk.now.at walk.now.eval walk.now.plies INFINITY }
-    ensures cost { search.new.left + cost_after walk.now ≤ search.old.left + pv_cost walk.now.at walk.now.eval walk.now.plies }
+    ensures under { IsSearchedAlong walk.now search.new }
+    ensures cost { search.new.left + cost_after walk.now ≤ search.old.left + walk_cost walk.now }
 {
     let plies = walk.plies();
     if plies > 0 {
@@ -139,7 +135,7 @@ fn walk_on(walk: &mut PvWalk, search: &mut Search, found: &Found)
     requires value { found.now.value ≡ value walk.old.at walk.old.eval walk.old.plies }
     requires best { found.now.best ≡ best walk.old.at walk.old.eval walk.old.plies }
     ensures same { walk.new ≡ record walk.old { at = walk.new.at; plies = walk.new.plies } }
-    ensures under { 0 < walk.new.plies → IsUnder search.new walk.new.at walk.new.eval walk.new.plies INFINITY }
+    ensures under { IsSearchedAlong walk.new search.new }
     ensures cost { search.new.left + cost_after walk.new ≤ cost_after walk.old }
 {
     walk.follow(found);
@@ -157,7 +153,7 @@ fn search_child(
     requires question { IsQuestionInRange question.now }
     requires more { depths_done < question.now.depth }
     requires ranked { IsRankedTo question.now depths_done root_move ranks.now }
-    ensures { search.new ≡ untouched_below (after question.now.position root_move) question.now.eval depths_done (child_beta ranks.now) }
+    ensures { search.new ≡ child_search question.now depths_done root_move ranks.now }
 {
     root_move.validity();
     question.position.validity();
@@ -171,9 +167,8 @@ fn rank(question: &Question, depths_done: u8, root_move: Move, found: &Found, ra
     requires question { IsQuestionInRange question.now }
     requires more { depths_done < question.now.depth }
     requires ranked { IsRankedTo question.now depths_done root_move ranks.old }
-    requires below { IsFoundBelow (after question.now.position root_move) question.now.eval depths_done (child_beta ranks.old) found.now }
-    ensures gone { IsGoneThrough question.now.position (worth question.now.position question.now.eval depths_done) (Some root_move) ranks.new }
-    ensures lines { ranks.new.lines ≡ ranks.old.lines }
+    requires below { IsFoundOfChild question.now depths_done root_move ranks.old found.now }
+    ensures { IsRankedUpTo question.now depths_done (Some root_move) ranks.new }
 {
     root_move.validity();
     question.position.validity();
@@ -197,9 +192,10 @@ fn rank_on(
     requires more { depths_done < question.now.depth }
     requires ranked { IsRankedTo question.now depths_done root_move ranks.old }
     requires over { search.old.left ≡ 0 }
-    requires below { IsFoundBelow (after question.now.position root_move) question.now.eval depths_done (child_beta ranks.old) found.now }
-    ensures at_depth { (kept : HeldBestmove) → IsAtDepth question.now depths_done 0 result ranks.new walk.new kept search.new }
-    ensures cost { load_of (running_go_of question.now depths_done 0 result walk.new search.new) ≤ load_after_search (running_go_of question.now depths_done 0 (Some root_move) walk.old search.old) }
+    requires below { IsFoundOfChild question.now depths_done root_move ranks.old found.now }
+    ensures at_depth { IsAtFirstLine question.now depths_done result ranks.new walk.new search.new }
+    ensures cost { load_at question.now depths_done result walk.new search.new
+        ≤ load_after_root_move question.now depths_done root_move }
 {
     let visited = root_move;
     rank(question, depths_done, root_move, found, ranks);
@@ -219,9 +215,8 @@ impl<A: Allocator> GoCommand<A> {
     pub fn start(alloc: A, question: Question, first: Move) -> Result<GoCommand<A>, AllocError>
         requires question { IsQuestionInRange question }
         requires first { IsFirst question.position first }
-        ensures question { IfOk result (λ running_go. running_go.question ≡ question) }
-        ensures depths_done { IfOk result (λ running_go. (running_go.depths_done ≡ 0) × (running_go.lines_done ≡ 0)) }
-        ensures load { IfOk result (λ running_go. load_of running_go ≤ cost_of_depths question 0 question.depth) }
+        ensures done { IfOk result (HasDone question 0 0) }
+        ensures load { IfOk result (λ go. load_of go ≤ cost_of_depths question 0 question.depth) }
     {
         let asked = question;
         first.validity();
@@ -249,11 +244,11 @@ impl<A: Allocator> GoCommand<A> {
         })
     }
 
-    /// Goes on with the current search. Where it ends in at most so many steps, tells how many it made,
-    /// and the next one is started, or the pv is whole. Otherwise all of the budget was used.
+    /// Continues the current search. Where it ends in at most so many steps, returns how many it
+    /// made, and the next one is started, or the pv is whole. Otherwise all of the budget was used.
     pub fn advance<M: Memo>(&mut self, memo: &mut M, budget: u64) -> Option<u64>
         requires searching { is_searching self.old ≡ true }
-        ensures same { self.new ≡ record self.old { root_move = self.new.root_move; walk_position = self.new.walk_position; walk_plies = self.new.walk_plies; steps_left = self.new.steps_left } }
+        ensures same { IsSameButForSearch self.old self.new }
         ensures spent { IfNone result (budget + load_of self.new ≤ load_of self.old) }
         ensures stays { IfNone result (is_searching self.new ≡ true) }
         ensures unfinished { IfNone result (0 < self.new.steps_left) }
@@ -282,10 +277,10 @@ impl<A: Allocator> GoCommand<A> {
         Some(after.saturating_sub(before))
     }
 
-    /// Says the current line, once its pv is whole.
-    pub fn tell<B: Allocator>(&self, out: &mut Vec<u8, B>) -> Result<(), AllocError>
+    /// Reports the current line, once its pv is whole.
+    pub fn report<B: Allocator>(&self, out: &mut Vec<u8, B>) -> Result<(), AllocError>
         requires whole { is_searching self.now ≡ false }
-        ensures rest { OnOk result (out.new.items ++ infos_after_line self.now.question self.now.depths_done self.now.lines_done ≡ out.old.items ++ infos_to_come self.now.question self.now.depths_done self.now.lines_done) }
+        ensures rest { OnOk result (WritesLine self.now out.old.items out.new.items) }
         ensures lines { OnOk result (GrowsByLines out.old.items out.new.items) }
     {
         let value = self.walk.value();
@@ -317,7 +312,7 @@ impl<A: Allocator> GoCommand<A> {
     /// Whether the current line is the last one of its depth.
     fn ends_depth(&self) -> bool
         requires whole { is_searching self.now ≡ false }
-        ensures { result ≡ ends_depth self.now.question self.now.depths_done self.now.lines_done }
+        ensures { result ≡ is_last_of_depth self.now }
     {
         self.lines_done as usize + 1 == self.lines()
     }
@@ -333,7 +328,7 @@ impl<A: Allocator> GoCommand<A> {
     /// The bestmove at the current depth.
     fn current_bestmove(&self) -> HeldBestmove
         requires whole { is_searching self.now ≡ false }
-        ensures { result ≡ bestmove_at self.now.question.position self.now.question.eval (self.now.depths_done + 1) self.now.question.hold }
+        ensures { result ≡ bestmove_to self.now.question (self.now.depths_done + 1) }
     {
         if self.lines_done == 0 {
             return bestmove_of(self.walk.moves(), self.question.hold);
@@ -341,14 +336,14 @@ impl<A: Allocator> GoCommand<A> {
         self.bestmove
     }
 
-    /// Goes on with the next line.
+    /// Continues with the next line.
     fn next_line(&mut self)
         requires whole { is_searching self.old ≡ false }
-        requires more { ends_depth self.old.question self.old.depths_done self.old.lines_done ≡ false }
-        ensures question { self.new.question ≡ self.old.question }
-        ensures depths_done { (self.new.depths_done ≡ self.old.depths_done) × (self.new.lines_done ≡ self.old.lines_done + 1) }
+        requires more { is_last_of_depth self.old ≡ false }
+        ensures done { let lines_done = self.old.lines_done + 1 in
+            HasDone self.old.question self.old.depths_done lines_done self.new }
         ensures load { load_of self.new ≤ load_of self.old }
-        ensures fewer { tells_of self.new < tells_of self.old }
+        ensures fewer { reports_of self.new < reports_of self.old }
     {
         let bestmove = self.current_bestmove();
         let lines_done = self.lines_done + 1;
@@ -359,15 +354,14 @@ impl<A: Allocator> GoCommand<A> {
         self.lines_done = lines_done;
     }
 
-    /// Goes on with the next depth.
+    /// Continues with the next depth.
     fn next_depth(&mut self)
         requires whole { is_searching self.old ≡ false }
         requires more { self.old.depths_done + 1 ≢ self.old.question.depth }
-        ensures question { self.new.question ≡ self.old.question }
-        ensures depths_done { (self.new.depths_done ≡ self.old.depths_done + 1) × (self.new.lines_done ≡ 0) }
-        ensures rest { infos_to_come self.new.question self.new.depths_done self.new.lines_done ≡ deeper_infos self.old.question self.old.depths_done }
+        ensures done { HasDone self.old.question (self.old.depths_done + 1) 0 self.new }
+        ensures rest { infos_left self.new ≡ deeper_infos self.old.question self.old.depths_done }
         ensures load { load_of self.new ≤ load_of self.old }
-        ensures fewer { tells_of self.new < tells_of self.old }
+        ensures fewer { reports_of self.new < reports_of self.old }
     {
         let (asked, first, depths_done) = (self.question, self.first, self.depths_done + 1);
         first.validity();
@@ -382,14 +376,14 @@ impl<A: Allocator> GoCommand<A> {
         self.depths_done = depths_done;
     }
 
-    /// Goes on with the next line, or the next depth.
+    /// Continues with the next line, or the next depth.
     pub fn next(&mut self)
         requires whole { is_searching self.old ≡ false }
         requires more { is_last self.old ≡ false }
         ensures question { self.new.question ≡ self.old.question }
-        ensures rest { infos_to_come self.new.question self.new.depths_done self.new.lines_done ≡ infos_after_line self.old.question self.old.depths_done self.old.lines_done }
+        ensures rest { infos_left self.new ≡ infos_after self.old }
         ensures load { load_of self.new ≤ load_of self.old }
-        ensures fewer { tells_of self.new < tells_of self.old }
+        ensures fewer { reports_of self.new < reports_of self.old }
     {
         if self.ends_depth() {
             self.next_depth();
@@ -402,7 +396,7 @@ impl<A: Allocator> GoCommand<A> {
     pub fn bestmove(&self) -> HeldBestmove
         requires whole { is_searching self.now ≡ false }
         requires last { is_last self.now ≡ true }
-        ensures { result ≡ bestmove_at self.now.question.position self.now.question.eval self.now.question.depth self.now.question.hold }
+        ensures { result ≡ bestmove_to self.now.question self.now.question.depth }
     {
         self.current_bestmove()
     }

@@ -64,8 +64,8 @@ pub fn position_of_startpos(text: &[u8]) -> Result<Position, Refusal>
     after_words(&Position::start(), text)
 }
 
-/// The position of `position sfen ..`, by the bytes after that word. A fault of the SFEN comes before
-/// one of what follows it.
+/// The position of `position sfen ..`, by the bytes after that word. A fault of the SFEN comes
+/// before one of what follows it.
 pub fn position_of_sfen(text: &[u8]) -> Result<Position, Refusal>
     ensures { result ≡ position_of_sfen text.now }
 {

@@ -37,7 +37,8 @@ impl Model for PvWalk {
 
     ghost view = { λ w. walk_of w.eval w.at w.plies w.moves.items w.value };
 
-    ghost invariant = { λ w. (length w.moves.items + w.plies ≤ DEPTH_MAX) × (w.plies ≡ 0 → is_some w.value ≡ true) };
+    ghost invariant = { λ w. (length w.moves.items + w.plies ≤ DEPTH_MAX)
+        × (w.plies ≡ 0 → is_some w.value ≡ true) };
 }
 
 impl PvWalk {
@@ -56,7 +57,8 @@ impl PvWalk {
         }
     }
 
-    /// A walk that has made a move of known worth, with so many plies to go from the position after it.
+    /// A walk that has made a move of known worth, with so many plies to go from the position after
+    /// it.
     pub fn after(played: Move, next: &Position, eval: Eval, plies: u8, worth: i32) -> PvWalk
         requires most { plies < DEPTH_MAX }
         ensures { result ≡ walk_by played next.now eval plies worth }
@@ -72,8 +74,8 @@ impl PvWalk {
         }
     }
 
-    /// Goes one ply on, by what a search of the position where it stands found; where no move is legal
-    /// the pv is whole.
+    /// Steps one ply on, by what a search of the position where it stands found; where no move is
+    /// legal the pv is whole.
     pub fn follow(&mut self, found: &Found)
         requires some { 0 < self.old.plies }
         requires value { found.now.value ≡ value self.old.at self.old.eval self.old.plies }

@@ -4,8 +4,8 @@ use shogi_core::Position;
 use shogi_eval::Eval;
 use usi_lines::Hold;
 
-/// What a `go` asks: of which position, by which evaluation, with how many lines, how deep, and what
-/// its bestmove is held until.
+/// What a `go` asks: of which position, by which evaluation, with how many lines, how deep, and
+/// what its bestmove is held until.
 #[derive(Clone, Copy, Debug)]
 pub struct Question {
     pub position: Position,

@@ -9,9 +9,9 @@ use std::marker::Model;
 /// The most room that is kept while nothing waits, in bytes.
 const ROOM_KEPT: usize = 4_096;
 
-/// Gives room back where there is more than `ROOM_KEPT` and at most a quarter of it is in use. Twice
-/// what is in use is left, or all of the room where the smaller block is refused. Where nothing is in
-/// use none is left, and nothing is asked for.
+/// Gives room back where there is more than `ROOM_KEPT` and at most a quarter of it is in use.
+/// Twice what is in use is left, or all of the room where the smaller block cannot be allocated.
+/// Where nothing is in use none is left, and nothing is allocated.
 fn give_back_room<A: Allocator>(bytes: &mut Vec<u8, A>)
     ensures items { bytes.new.items ≡ bytes.old.items }
     ensures room { vec_len bytes.new ≡ 0 → vec_capacity bytes.new ≤ ROOM_KEPT }
@@ -22,8 +22,8 @@ fn give_back_room<A: Allocator>(bytes: &mut Vec<u8, A>)
     }
 }
 
-/// The bytes that were written and not yet taken. While none wait, it keeps at most `ROOM_KEPT` bytes
-/// of room.
+/// The bytes that were written and not yet taken. While none wait, it keeps at most `ROOM_KEPT`
+/// bytes of room.
 #[derive(Drop)]
 pub struct Queue<A: Allocator> {
     bytes: Vec<u8, A>,
@@ -38,7 +38,8 @@ impl<A: Allocator> Model for Queue<A> {
 
     ghost view = { λ o. drop o.taken o.bytes.items };
 
-    ghost invariant = { λ o. (o.taken ≤ vec_len o.bytes) × (o.taken ≡ vec_len o.bytes → vec_capacity o.bytes ≤ ROOM_KEPT) };
+    ghost invariant = { λ o. (o.taken ≤ vec_len o.bytes)
+        × (o.taken ≡ vec_len o.bytes → vec_capacity o.bytes ≤ ROOM_KEPT) };
 }
 
 impl<A: Allocator> Queue<A> {
@@ -52,7 +53,7 @@ impl<A: Allocator> Queue<A> {
         }
     }
 
-    /// Appends the text; where no memory is given, nothing changes.
+    /// Appends the text; where allocation fails, nothing changes.
     pub fn push(&mut self, text: &[u8]) -> Result<(), AllocError>
         ensures ok { OnOk result (self.new ≡ self.old ++ text.now) }
         ensures err { OnErr result (self.new ≡ self.old) }
@@ -71,8 +72,8 @@ impl<A: Allocator> Queue<A> {
         &self.bytes[self.taken..]
     }
 
-    /// Drops the first n bytes. What was taken is given up once it is more than half, and room with it:
-    /// fewer bytes are moved than were taken.
+    /// Drops the first n bytes. What was taken is given up once it is more than half, and room with
+    /// it: fewer bytes are moved than were taken.
     pub fn take(&mut self, n: usize)
         requires { n ≤ length self.old }
         ensures { self.new ≡ drop n self.old }

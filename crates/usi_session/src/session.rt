@@ -23,8 +23,8 @@ use usi_lines::{LineBuffer, LineFault};
 /// Why a session did not do what it was asked.
 #[derive(Clone, Copy, Debug, PartialEq, Eq)]
 pub enum SessionFault {
-    /// Memory was refused. From `feed`: nothing changed. From `work`: whole lines may have been
-    /// answered, and the next `work` goes on.
+    /// Allocation failed. From `feed`: nothing changed. From `work`: whole lines may have been
+    /// answered, and the next `work` continues.
     OutOfMemory,
 }
 
@@ -50,14 +50,15 @@ impl<A: Allocator + Copy> Model for Session<A> {
 
     ghost Value = { SessionView };
 
-    ghost view = { λ s. record { state = s.state; running_go = s.running_go; queued = s.queue; input = s.input } };
+    ghost view = { λ s.
+        record { state = s.state; running_go = s.running_go; queued = s.queue; input = s.input } };
 
     ghost invariant = { λ s. AreInRange s.state.options };
 }
 
 impl<A: Allocator + Copy> Session<A> {
-    /// A session at its start: the opening position, each option at its default, nothing held. It takes
-    /// no memory.
+    /// A session at its start: the opening position, each option at its default, nothing held. It
+    /// takes no memory.
     pub fn new(alloc: A) -> Session<A>
         ensures initial { result ≡ new_session }
         ensures due { (x : List ℕ) → due result x ≡ replies x }
@@ -82,7 +83,8 @@ impl<A: Allocator + Copy> Session<A> {
         requires wants { wants_input self.old ≡ true }
         requires most { length chunk.now ≤ CHUNK_MAX }
         ensures due { OnOk result ((x : List ℕ) → due self.new x ≡ due self.old (chunk.now ++ x)) }
-        ensures after { OnOk result ((x : List ℕ) → state_due self.new x ≡ state_due self.old (chunk.now ++ x)) }
+        ensures after { OnOk result
+            ((x : List ℕ) → state_due self.new x ≡ state_due self.old (chunk.now ++ x)) }
         ensures queued { self.new.queued ≡ self.old.queued }
         ensures state { self.new.state ≡ self.old.state }
         ensures running_go { self.new.running_go ≡ self.old.running_go }
@@ -94,7 +96,7 @@ impl<A: Allocator + Copy> Session<A> {
         }
     }
 
-    /// Answers the first unread line, or starts its `go`. Where memory is refused nothing changed.
+    /// Answers the first unread line, or starts its `go`. Where allocation fails nothing changed.
     fn answer_next(&mut self) -> Result<(), SessionFault>
         requires idle { self.old.running_go ≡ None }
         requires pending { is_pending self.old ≡ true }
@@ -118,9 +120,9 @@ impl<A: Allocator + Copy> Session<A> {
         Ok(())
     }
 
-    /// Tells the current line, once its pv is whole, and goes on with the next line or ends the `go`.
-    /// Where memory is refused nothing changed.
-    fn tell_next(&mut self) -> Result<(), SessionFault>
+    /// Reports the current line, once its pv is whole, and continues with the next line or ends the
+    /// `go`. Where allocation fails nothing changed.
+    fn report_next(&mut self) -> Result<(), SessionFault>
         requires whole { IsPvWhole self.old.running_go }
         requires pending { is_pending self.old ≡ true }
         ensures due { (x : List ℕ) → due self.new x ≡ due self.old x }
@@ -134,7 +136,7 @@ impl<A: Allocator + Copy> Session<A> {
             return Ok(());
         };
         let mut reply = Vec::new(self.alloc);
-        running_go.tell(&mut reply)?;
+        running_go.report(&mut reply)?;
         if !running_go.is_last() {
             self.queue.push(reply.as_slice())?;
             running_go.next();
@@ -148,14 +150,15 @@ impl<A: Allocator + Copy> Session<A> {
         Ok(())
     }
 
-    /// Makes steps of the current search, or what needs none: tells a line of the running `go`, or answers
-    /// an unread one. Tells how many steps were made, or nothing where the budget was used up within a
-    /// search.
+    /// Makes steps of the current search, or what needs none: reports a line of the running `go`,
+    /// or answers an unread one. Returns how many steps were made, or nothing where the budget was
+    /// used up within a search.
     fn turn<M: Memo>(&mut self, memo: &mut M, budget: u64) -> Result<Option<u64>, SessionFault>
         requires pending { is_pending self.old ≡ true }
         ensures due { (x : List ℕ) → due self.new x ≡ due self.old x }
         ensures after { (x : List ℕ) → state_due self.new x ≡ state_due self.old x }
-        ensures spent { IfOk result (λ made. IfNone made ((budget + load self.new ≤ load self.old) × IsMidSearch self.new.running_go)) }
+        ensures spent { IfOk result (λ made. IfNone made (budget + load self.new ≤ load self.old)) }
+        ensures unfinished { IfOk result (λ made. IfNone made (IsMidSearch self.new.running_go)) }
         ensures most { IfOk result (λ made. IfSome made (λ n. n ≤ budget)) }
         ensures made { IfOk result (λ made. IfSome made (λ n. n + load self.new ≤ load self.old)) }
         ensures fewer { IfOk result (λ made. OnSome made (turns self.new < turns self.old)) }
@@ -172,22 +175,23 @@ impl<A: Allocator + Copy> Session<A> {
                 if running_go.is_searching() {
                     return Ok(running_go.advance(memo, budget));
                 }
-                self.tell_next()?;
+                self.report_next()?;
                 Ok(Some(0))
             }
         }
     }
 
-    /// Answers the pending lines in order, with at most so many steps of search, and gives the number
-    /// of steps made. Where something is still pending the budget is used up, and a search is running.
-    /// On `OutOfMemory` what is owed stays as it was, and a later call goes on; the memo may have
-    /// changed. Either way the queue has only grown, by whole lines.
+    /// Answers the pending lines in order, with at most so many steps of search, and returns the
+    /// number of steps made. Where something is still pending the budget is used up, and a search
+    /// is running. On `OutOfMemory` what is owed stays as it was, and a later call continues; the
+    /// memo may have changed. Either way the queue has only grown, by whole lines.
     pub fn work<M: Memo>(&mut self, memo: &mut M, budget: u64) -> Result<u64, SessionFault>
         ensures due { (x : List ℕ) → due self.new x ≡ due self.old x }
         ensures after { (x : List ℕ) → state_due self.new x ≡ state_due self.old x }
         ensures most { IfOk result (λ n. n ≤ budget) }
         ensures made { IfOk result (λ n. n + load self.new ≤ load self.old) }
-        ensures spent { IfOk result (λ n. is_pending self.new ≡ true → (n ≡ budget) × IsMidSearch self.new.running_go) }
+        ensures spent { IfOk result (λ n. is_pending self.new ≡ true
+            → (n ≡ budget) × IsMidSearch self.new.running_go) }
         ensures enough { load self.old ≤ budget → OnOk result (is_pending self.new ≡ false) }
         ensures grown { GrowsByLines self.old.queued self.new.queued }
         ensures capacity { M.capacity memo.new ≡ M.capacity memo.old }
@@ -203,7 +207,8 @@ impl<A: Allocator + Copy> Session<A> {
         Ok(budget - left)
     }
 
-    /// Whether it is alive and has a running `go` or an unread line. A held `bestmove` is not pending.
+    /// Whether it is alive and has a running `go` or an unread line. A held `bestmove` is not
+    /// pending.
     pub fn pending(&self) -> bool
         ensures { result ≡ is_pending self.now }
     {

@@ -1,8 +1,7 @@
 //! The lines that a session writes.
 
-ghost use Rattle.std.specs.Prelude.{◌≡◌, ◌++◌, ◌+◌, OnOk, codes, decimal, ℤ, flat_map};
-ghost use Rattle.shogi_sfen.specs.MoveTexts.{text_of};
-ghost use Rattle.usi_session.specs.Texts.{usi_reply, mate_not_implemented_reply, bad_position_line, illegal_move_line, size_text, score_text, moves_text, valued_pv_text, info_text, numbered_info_text, bestmove_line};
+ghost use Rattle.std.specs.Prelude.{◌≡◌, ◌++◌, ◌+◌, OnOk, flat_map};
+ghost use Rattle.usi_session.specs.Texts.{usi_reply, mate_not_implemented_reply, bad_position_line, illegal_move_line, size_text, score_text, moves_text, head_text, pv_text, valued_pv_text, info_text, numbered_info_text, bestmove_line};
 
 use crate::options::write_options;
 use itoa::Buffer;
@@ -108,7 +107,8 @@ fn write_head<A: Allocator>(
     word: &[u8],
     number: &[u8],
 ) -> Result<(), AllocError>
-    ensures { OnOk result (out.new.items ≡ out.old.items ++ (codes "info depth " ++ (decimal depth ++ ((word.now ++ number.now) ++ codes " score ")))) }
+    ensures { OnOk result
+        (out.new.items ≡ out.old.items ++ head_text depth (word.now ++ number.now)) }
 {
     let mut buffer = Buffer::new();
     let digits = buffer.format(depth).as_bytes();
@@ -117,7 +117,7 @@ fn write_head<A: Allocator>(
 
 /// The pv of an info line, to its end.
 fn write_pv<A: Allocator>(out: &mut Vec<u8, A>, moves: &[Move]) -> Result<(), AllocError>
-    ensures { OnOk result (out.new.items ≡ out.old.items ++ (codes " pv" ++ (moves_text moves.now ++ codes "\n"))) }
+    ensures { OnOk result (out.new.items ≡ out.old.items ++ pv_text moves.now) }
 {
     out.extend_from_slice(b" pv")?;
     write_moves(out, moves)?;
@@ -135,7 +135,8 @@ fn write_valued_pv<A: Allocator>(
     value: i32,
     moves: &[Move],
 ) -> Result<(), AllocError>
-    ensures { OnOk result (out.new.items ≡ out.old.items ++ valued_pv_text (word.now ++ number.now) depth value moves.now) }
+    ensures { let which = word.now ++ number.now in
+        OnOk result (out.new.items ≡ out.old.items ++ valued_pv_text which depth value moves.now) }
 {
     write_head(out, depth, word, number)?;
     write_score(out, depth, value)?;
@@ -155,7 +156,8 @@ pub fn write_info<A: Allocator>(
     write_valued_pv(out, b"", b"", depth, value, moves)
 }
 
-/// A value and a pv at a depth, for the pv of this number among several, from 1 (USI, info, multipv).
+/// A value and a pv at a depth, for the pv of this number among several, from 1 (USI, info,
+/// multipv).
 pub fn write_numbered_info<A: Allocator>(
     out: &mut Vec<u8, A>,
     depth: u8,
@@ -163,7 +165,8 @@ pub fn write_numbered_info<A: Allocator>(
     value: i32,
     moves: &[Move],
 ) -> Result<(), AllocError>
-    ensures { OnOk result (out.new.items ≡ out.old.items ++ numbered_info_text depth number value moves.now) }
+    ensures { OnOk result
+        (out.new.items ≡ out.old.items ++ numbered_info_text depth number value moves.now) }
 {
     let mut buffer = Buffer::new();
     let digits = buffer.format(number).as_bytes();

@@ -5,16 +5,27 @@ use Rattle.std.proofs.KnownBytes.{Appends-nil, Appends-trans, Consumes-nil, Cons
 use Rattle.usi_lines.specs.Lines.{lines}
 use Rattle.usi_session.specs.declared.state.State.{State}
 use Rattle.usi_session.specs.Answer.{initial_state}
-use Rattle.usi_session.specs.Due.{SessionView, due, state_due, new_session}
+use Rattle.usi_session.specs.Due.{SessionView, due, state_due, wants_input, new_session}
 use Rattle.usi_session.specs.Replies.{replies, state_from, is_over_after}
 use Rattle.usi_session.proofs.Settled.{due-over, due-wanting, state_due-over, state_due-wanting, wants_after, new_wants, initial_state_alive}
-use Rattle.usi_stdio.specs.Stdio.{WritesFront, StopsInTime, IsAnswered, IsAnsweredInPart, IsFedAndWorkedOff, IsBetween}
+use Rattle.usi_stdio.specs.Stdio.{WritesPrefix, StopsInTime, IsAnswered, IsAnsweredInPart, IsFedAndWorkedOff}
 use Rattle.usi_session.specs.declared.limits.TheConstants.{CHUNK_MAX}
+
+-- between two reads: what was written and what is owed are the replies, and the session may be fed
+pub record IsBetween (before after old new : Option (List ℕ)) (s : SessionView) : Type 0 where
+  pub read : List ℕ
+  pub consumed : Consumes before after read
+  pub made : List ℕ
+  pub written : Appends old new made
+  pub owed : (x : List ℕ) → made ++ due s x ≡ replies (read ++ x)
+  pub left : (x : List ℕ) → state_due s x ≡ state_from initial_state (lines (read ++ x))
+  pub empty : s.queued ≡ []
+  pub wants : wants_input s ≡ true
 
 -- a chunk that is read while the session wants input
 stops_at : (before mid old part : Option (List ℕ)) (s : SessionView) (chunk : List ℕ) → (b : IsBetween before mid old part s) → length chunk ≤ CHUNK_MAX → StopsInTime (b.read ++ chunk)
 stops_at before mid old part s chunk b most = record {
-  front = b.read;
+  prefix = b.read;
   chunk = chunk;
   split = refl;
   most = most;
@@ -33,7 +44,7 @@ part_start before old = record {
   read = [];
   consumed = Consumes-nil before;
   written = (replies [], record { done = []; appended = Appends-nil old; split = refl });
-  stops = record { front = []; chunk = []; split = refl; most = omega arith; alive = initial_state_alive };
+  stops = record { prefix = []; chunk = []; split = refl; most = omega arith; alive = initial_state_alive };
 }
 
 -- before the first read
@@ -117,8 +128,8 @@ part_read before mid after old new s b kept = record {
   stops = stops_between before mid old new s b;
 }
 
--- memory was refused for a chunk, or a write of its answers failed
-pub part_chunk : (before mid after old part new : Option (List ℕ)) (s : SessionView) (chunk : List ℕ) → IsBetween before mid old part s → Consumes mid after chunk → WritesFront part new (due s chunk) → length chunk ≤ CHUNK_MAX → IsAnsweredInPart before after old new
+-- allocation failed for a chunk, or a write of its answers
+pub part_chunk : (before mid after old part new : Option (List ℕ)) (s : SessionView) (chunk : List ℕ) → IsBetween before mid old part s → Consumes mid after chunk → WritesPrefix part new (due s chunk) → length chunk ≤ CHUNK_MAX → IsAnsweredInPart before after old new
 part_chunk before mid after old part new s chunk b consumed (left, w) most = record {
   stops = stops_at before mid old part s chunk b most;
   read = b.read ++ chunk;

@@ -1,11 +1,22 @@
 -- A chunk that is answered line by line.
-use Rattle.std.proofs.Common.{◌≡◌, ℕ, ◌+◌, ◌≤◌, List, [], ◌++◌, Option, length, refl, sym, ap, ◌∙◌, append_assoc, append-nil, true, arith}
+use Rattle.std.proofs.Common.{◌≡◌, ℕ, ◌+◌, ◌≤◌, List, [], ◌++◌, Option, length, refl, sym, ap, ◌∙◌, append_assoc, append-nil, true, false, arith}
 use Rattle.std.proofs.lemmas.List.{length-append}
+use Rattle.std.specs.Io.KnownBytes.{Appends}
 use Rattle.std.proofs.KnownBytes.{Appends-nil, Appends-trans}
 use Rattle.usi_session.specs.declared.limits.TheConstants.{CHUNK_MAX}
-use Rattle.usi_session.specs.Due.{SessionView, due, state_due, wants_input}
+use Rattle.usi_session.specs.Due.{SessionView, due, state_due, is_pending, wants_input}
 use Rattle.usi_session.proofs.Settled.{due-over, state_due-over_same, wanting-settled}
-use Rattle.usi_stdio.specs.Stdio.{WritesFront, IsFedAndWorkedOff, IsAnsweredTo}
+use Rattle.usi_stdio.specs.Stdio.{WritesPrefix, IsFedAndWorkedOff}
+
+-- of a chunk this rest is left: the answers to what came before it were written, and what is owed with it is owed still
+pub record IsAnsweredTo (rest : List ℕ) (before now : SessionView) (chunk : List ℕ) (old new : Option (List ℕ)) : Type 0 where
+  pub made : List ℕ
+  pub written : Appends old new made
+  pub owed : (x : List ℕ) → due before (chunk ++ x) ≡ made ++ due now (rest ++ x)
+  pub left : (x : List ℕ) → state_due now (rest ++ x) ≡ state_due before (chunk ++ x)
+  pub empty : now.queued ≡ []
+  pub settled : is_pending now ≡ false
+  pub few : length rest ≤ CHUNK_MAX
 
 -- before the first line
 pub lines_start : (s : SessionView) (chunk : List ℕ) (old : Option (List ℕ)) → wants_input s ≡ true → s.queued ≡ [] → length chunk ≤ CHUNK_MAX → IsAnsweredTo chunk s s chunk old old
@@ -58,8 +69,8 @@ lines_over before now chunk rest old new a over = record {
 }
 
 -- a line was cut short by a fault
-pub lines_front : (before mid : SessionView) (chunk rest line after : List ℕ) (old part new : Option (List ℕ)) → IsAnsweredTo rest before mid chunk old part → rest ≡ line ++ after → ((x : List ℕ) → WritesFront part new (due mid (line ++ x))) → WritesFront old new (due before chunk)
-lines_front before mid chunk rest line after old part new a split front = (
+pub lines_prefix : (before mid : SessionView) (chunk rest line after : List ℕ) (old part new : Option (List ℕ)) → IsAnsweredTo rest before mid chunk old part → rest ≡ line ++ after → ((x : List ℕ) → WritesPrefix part new (due mid (line ++ x))) → WritesPrefix old new (due before chunk)
+lines_prefix before mid chunk rest line after old part new a split front = (
   (front after).0,
   record {
     done = a.made ++ (front after).1.done;

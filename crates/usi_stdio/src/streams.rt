@@ -1,8 +1,8 @@
 //! One session over a reader and a writer.
 
-ghost use Rattle.std.specs.Prelude.{◌≡◌, ◌<◌, ◌≤◌, ℕ, List, [], ◌++◌, true, false, length, take, IfOk, OnOk, OnErr, Err};
+ghost use Rattle.std.specs.Prelude.{◌≡◌, ◌<◌, ◌≤◌, [], true, false, length, take, IfOk, OnOk, OnErr, Err};
 ghost use Rattle.std.specs.Io.KnownBytes.{Appends, Consumes, IsAtEnd, Keeps};
-ghost use Rattle.usi_stdio.specs.Stdio.{WritesFront, IsAnswered, IsAnsweredInPart, IsWritten, IsWorkedOn, IsFedAndWorkedOff, slices_of};
+ghost use Rattle.usi_stdio.specs.Stdio.{WritesPrefix, WritesPrefixOfDue, IsAnswered, IsAnsweredInPart, IsWritten, IsWorkedOn, IsFedAndWorkedOff, slices_of};
 ghost use Rattle.usi_stdio.specs.declared.streams.StdioFault.TheVariants.{WriteFailed};
 ghost use Rattle.usi_lines.specs.OneLine.{IsOneLine};
 ghost use Rattle.usi_session.specs.Due.{due, is_pending, wants_input};
@@ -24,7 +24,7 @@ pub const SLICE: u64 = 1000;
 /// Why a run over a reader and a writer ended early.
 #[derive(Debug, PartialEq, Eq, Drop, Error)]
 pub enum StdioFault {
-    /// Memory was refused.
+    /// Allocation failed.
     #[error("out of memory")]
     OutOfMemory,
     /// A read failed, or there were 18,446,744,073,709,551,615 of them.
@@ -51,12 +51,13 @@ impl From<TableFault> for StdioFault {
     }
 }
 
-/// Writes the bytes, in as many writes as the writer needs, and flushes. It takes no memory. Its one
-/// fault is `WriteFailed`, where a write or the flush failed or a write took nothing; then a front of
-/// the bytes was written.
+/// Writes the bytes, in as many writes as the writer needs, and flushes. It takes no memory. Its
+/// one fault is `WriteFailed`, where a write or the flush failed or a write took nothing; then a
+/// prefix of the bytes was written.
 pub fn write_out<W: Write>(writer: &mut W, bytes: &[u8]) -> Result<(), StdioFault>
     ensures ok { OnOk result (Appends (W.contents writer.old) (W.contents writer.new) bytes.now) }
-    ensures err { OnErr result (WritesFront (W.contents writer.old) (W.contents writer.new) bytes.now) }
+    ensures err { OnErr result
+        (WritesPrefix (W.contents writer.old) (W.contents writer.new) bytes.now) }
     ensures fault { OnErr result (result ≡ Err WriteFailed) }
 {
     let mut rest = bytes;
@@ -78,8 +79,10 @@ fn write_queued<A: Allocator + Copy, W: Write>(
     session: &mut Session<A>,
     writer: &mut W,
 ) -> Result<(), StdioFault>
-    ensures ok { OnOk result (IsWritten session.old session.new (W.contents writer.old) (W.contents writer.new)) }
-    ensures err { OnErr result (WritesFront (W.contents writer.old) (W.contents writer.new) session.old.queued) }
+    ensures ok { OnOk result
+        (IsWritten session.old session.new (W.contents writer.old) (W.contents writer.new)) }
+    ensures err { OnErr result
+        (WritesPrefix (W.contents writer.old) (W.contents writer.new) session.old.queued) }
 {
     let queued = session.output().len();
     if queued == 0 {
@@ -98,9 +101,11 @@ fn work_slice<A: Allocator + Copy, M: Memo, W: Write>(
 ) -> Result<(), StdioFault>
     requires pending { is_pending session.old ≡ true }
     requires empty { session.old.queued ≡ [] }
-    ensures ok { OnOk result (IsWorkedOn session.old session.new (W.contents writer.old) (W.contents writer.new)) }
+    ensures ok { OnOk result
+        (IsWorkedOn session.old session.new (W.contents writer.old) (W.contents writer.new)) }
     ensures fewer { OnOk result (slices_of session.new < slices_of session.old) }
-    ensures err { OnErr result ((x : List ℕ) → WritesFront (W.contents writer.old) (W.contents writer.new) (due session.old x)) }
+    ensures err { OnErr result
+        (WritesPrefixOfDue (W.contents writer.old) (W.contents writer.new) session.old []) }
 {
     session.work(memo, SLICE)?;
     write_queued(session, writer)
@@ -113,9 +118,11 @@ fn work_off<A: Allocator + Copy, M: Memo, W: Write>(
     writer: &mut W,
 ) -> Result<(), StdioFault>
     requires { session.old.queued ≡ [] }
-    ensures ok { OnOk result (IsWorkedOn session.old session.new (W.contents writer.old) (W.contents writer.new)) }
+    ensures ok { OnOk result
+        (IsWorkedOn session.old session.new (W.contents writer.old) (W.contents writer.new)) }
     ensures settled { OnOk result (is_pending session.new ≡ false) }
-    ensures err { OnErr result ((x : List ℕ) → WritesFront (W.contents writer.old) (W.contents writer.new) (due session.old x)) }
+    ensures err { OnErr result
+        (WritesPrefixOfDue (W.contents writer.old) (W.contents writer.new) session.old []) }
 {
     'slices: while session.pending() {
         work_slice(session, memo, writer)?;
@@ -123,11 +130,12 @@ fn work_off<A: Allocator + Copy, M: Memo, W: Write>(
     Ok(())
 }
 
-/// Reads once, and gives the number of bytes at the front of the chunk; 0 where the input ended.
+/// Reads once, and returns the number of bytes read into the chunk; 0 where the input ended.
 fn read_chunk<R: Read>(reader: &mut R, chunk: &mut [u8]) -> Result<usize, StdioFault>
     requires { 0 < length chunk.old }
     ensures most { IfOk result (λ n. n ≤ length chunk.new) }
-    ensures given { IfOk result (λ n. Consumes (R.remaining reader.old) (R.remaining reader.new) (take n chunk.new)) }
+    ensures given { IfOk result (λ n.
+        Consumes (R.remaining reader.old) (R.remaining reader.new) (take n chunk.new)) }
     ensures ended { IfOk result (λ n. n ≡ 0 → IsAtEnd (R.remaining reader.new)) }
     ensures err { OnErr result (Keeps (R.remaining reader.old) (R.remaining reader.new)) }
 {
@@ -148,15 +156,17 @@ fn answer_line<A: Allocator + Copy, M: Memo, W: Write>(
     requires empty { session.old.queued ≡ [] }
     requires most { length line.now ≤ CHUNK_MAX }
     requires one { IsOneLine line.now }
-    ensures ok { OnOk result (IsFedAndWorkedOff session.old session.new line.now (W.contents writer.old) (W.contents writer.new)) }
-    ensures err { OnErr result ((x : List ℕ) → WritesFront (W.contents writer.old) (W.contents writer.new) (due session.old (line.now ++ x))) }
+    ensures ok { OnOk result (IsFedAndWorkedOff
+        session.old session.new line.now (W.contents writer.old) (W.contents writer.new)) }
+    ensures err { OnErr result (WritesPrefixOfDue
+        (W.contents writer.old) (W.contents writer.new) session.old line.now) }
 {
     session.feed(line)?;
     work_off(session, memo, writer)
 }
 
-/// Feeds one chunk line by line, and writes the answer to each line before the next is fed. What comes
-/// behind a line that ends the session is passed over.
+/// Feeds one chunk line by line, and writes the answer to each line before the next is fed. What
+/// comes behind a line that ends the session is passed over.
 fn answer_chunk<A: Allocator + Copy, M: Memo, W: Write>(
     session: &mut Session<A>,
     memo: &mut M,
@@ -166,8 +176,10 @@ fn answer_chunk<A: Allocator + Copy, M: Memo, W: Write>(
     requires wants { wants_input session.old ≡ true }
     requires empty { session.old.queued ≡ [] }
     requires most { length chunk.now ≤ CHUNK_MAX }
-    ensures ok { OnOk result (IsFedAndWorkedOff session.old session.new chunk.now (W.contents writer.old) (W.contents writer.new)) }
-    ensures err { OnErr result (WritesFront (W.contents writer.old) (W.contents writer.new) (due session.old chunk.now)) }
+    ensures ok { OnOk result (IsFedAndWorkedOff
+        session.old session.new chunk.now (W.contents writer.old) (W.contents writer.new)) }
+    ensures err { OnErr result (WritesPrefix
+        (W.contents writer.old) (W.contents writer.new) (due session.old chunk.now)) }
 {
     let mut rest = chunk;
     'lines: while !rest.is_empty() && !session.is_over() {
@@ -178,15 +190,15 @@ fn answer_chunk<A: Allocator + Copy, M: Memo, W: Write>(
     Ok(())
 }
 
-/// Runs one session: reads chunks of at most 4,096 bytes and answers each before the next, until the
-/// input ends or the session is over. Replies are written and flushed as they are found: those to a line
-/// before the next line is looked at, and the info line of a depth before the next 1,000 steps of search
-/// are made. Bytes after the last LF are no line, but for 65,536 or more, which are a line that is too
-/// long. The table has `entries` entries, from 1 to 1,000,000.
+/// Runs one session: reads chunks of at most 4,096 bytes and answers each before the next, until
+/// the input ends or the session is over. Replies are written and flushed as they are found: those
+/// to a line before the next line is looked at, and the info line of a depth before the next 1,000
+/// steps of search are made. Bytes after the last LF are no line, but for 65,536 or more, which are
+/// a line that is too long. The table has `entries` entries, from 1 to 1,000,000.
 ///
-/// `OutOfMemory` comes where memory was refused, `ReadFailed` where a read failed, and `WriteFailed`
-/// where a write or a flush failed or a write took nothing. After each of them what was written is a
-/// front of the replies to what was read.
+/// `OutOfMemory` comes where allocation failed, `ReadFailed` where a read failed, and `WriteFailed`
+/// where a write or a flush failed or a write took nothing. After each of them what was written is
+/// a prefix of the replies to what was read.
 pub fn stdio<A: Allocator + Copy, R: Read, W: Write>(
     alloc: A,
     reader: &mut R,
@@ -195,8 +207,12 @@ pub fn stdio<A: Allocator + Copy, R: Read, W: Write>(
 ) -> Result<(), StdioFault>
     requires least { 1 ≤ entries }
     requires most { entries ≤ CAPACITY_MAX }
-    ensures answered { OnOk result (IsAnswered (R.remaining reader.old) (R.remaining reader.new) (W.contents writer.old) (W.contents writer.new)) }
-    ensures fault { OnErr result (IsAnsweredInPart (R.remaining reader.old) (R.remaining reader.new) (W.contents writer.old) (W.contents writer.new)) }
+    ensures answered { OnOk result (IsAnswered
+        (R.remaining reader.old) (R.remaining reader.new)
+        (W.contents writer.old) (W.contents writer.new)) }
+    ensures fault { OnErr result (IsAnsweredInPart
+        (R.remaining reader.old) (R.remaining reader.new)
+        (W.contents writer.old) (W.contents writer.new)) }
 {
     let mut table = SharedTable::new(alloc, entries, BuildHasherDefault::<FoldHasher>::new())?;
     let mut session = Session::new(alloc);

@@ -1,13 +1,9 @@
 -- Options of which one has no number of its range.
-use Rattle.std.proofs.Common.{◌≡◌, ℕ, List, None, codes}
-use Rattle.clap.specs.Words.{Row, Text, first_of}
-use Rattle.usi_words.specs.Answers.{HasServeRanges, NamesNoReplay, NamesNoServe, NamesNoStdio, NamesNumbers}
-use Rattle.usi_words.specs.CommandLine.{IsFromOne, NamesNumber}
+use Rattle.std.proofs.Common.{◌≡◌, List, None, codes}
+use Rattle.clap.specs.Words.{Row, first_of}
+use Rattle.usi_words.specs.Answers.{HasNoNumbers, NamesNoReplay, NamesNoServe, NamesNoStdio}
+use Rattle.usi_words.specs.CommandLine.{HasNone}
 use Rattle.usi_words.specs.declared.words.Job.TheVariants.{Stdio, Replay, Serve, Help, Version}
-
--- the option has no number of its range
-abbrev pub HasNone : Text → ℕ → List Row → Type 0
-HasNone name most options = (n : ℕ) → IsFromOne most n → NamesNumber name options n → ⊥
 
 pub no_stdio : (options : List Row) → HasNone (codes "entries") 1000000 options → NamesNoStdio options
 no_stdio options none (Stdio entries) range is = none entries range is
@@ -36,10 +32,6 @@ no_slice options none (Replay slots entries slice) range is = none slice range.2
 no_slice options none (Serve socket slots entries slice turns) range is = is
 no_slice options none (Help text) range is = is
 no_slice options none Version range is = is
-
--- options that name no numbers of `serve` in their ranges
-abbrev pub HasNoNumbers : List Row → Type 0
-HasNoNumbers options = (slots entries slice turns : ℕ) → HasServeRanges slots entries slice turns → NamesNumbers options slots entries slice turns → ⊥
 
 pub no_socket : (options : List Row) → first_of (codes "socket") options ≡ None → NamesNoServe options
 no_socket options none (Stdio entries) range is = is

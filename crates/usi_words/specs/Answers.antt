@@ -12,7 +12,8 @@ use Rattle.usi_words.specs.declared.words.WordsFault.TheVariants.{OutOfMemory, N
 
 -- the numbers of `serve` lie in their ranges
 abbrev pub HasServeRanges : ℕ → ℕ → ℕ → ℕ → Type 0
-HasServeRanges slots entries slice turns = IsFromOne 1024 slots × IsFromOne 1000000 entries × IsFromOne 1000000000 slice × IsFromOne (2 ^ 64 - 1) turns
+HasServeRanges slots entries slice turns =
+    IsFromOne 1024 slots × IsFromOne 1000000 entries × IsFromOne 1000000000 slice × IsFromOne (2 ^ 64 - 1) turns
 
 -- the numbers of the job lie in their ranges
 abbrev pub HasRanges : Job → Type 0
@@ -38,6 +39,16 @@ abbrev pub NamesNumbers : List Row → ℕ → ℕ → ℕ → ℕ → Type 0
 NamesNumbers options slots entries slice turns =
     NamesNumber (codes "slots") options slots × NamesNumber (codes "entries") options entries × NamesNumber (codes "slice") options slice × NamesNumber (codes "turns") options turns
 
+-- they are these numbers, and lie in their ranges
+abbrev pub AreServeNumbers : List Row → ℕ → ℕ → ℕ → ℕ → Type 0
+AreServeNumbers options slots entries slice turns =
+    HasServeRanges slots entries slice turns × NamesNumbers options slots entries slice turns
+
+-- these options name no numbers of `serve` in their ranges
+abbrev pub HasNoNumbers : List Row → Type 0
+HasNoNumbers options =
+    (slots entries slice turns : ℕ) → HasServeRanges slots entries slice turns → NamesNumbers options slots entries slice turns → ⊥
+
 -- the job is `serve`, with the path and the numbers that these options name
 abbrev pub IsServeOf : List Row → Job → Type 0
 IsServeOf options (Serve socket slots entries slice turns) =
@@ -50,6 +61,14 @@ NamesJob None job = job ≡ Stdio 4096
 NamesJob (Some command) job = ((command.0 ≡ codes "stdio") × IsStdioOf command.1 job)
     ⊎ ((command.0 ≡ codes "replay") × IsReplayOf command.1 job)
     ⊎ ((command.0 ≡ codes "serve") × IsServeOf command.1 job)
+
+-- the job has its numbers in their ranges, and is `serve` as these options name it
+abbrev pub IsServeIn : List Row → Job → Type 0
+IsServeIn options job = HasRanges job × IsServeOf options job
+
+-- the job has its numbers in their ranges, and the command names it
+abbrev pub IsJobIn : Option (Text × List Row) → Job → Type 0
+IsJobIn command job = HasRanges job × NamesJob command job
 
 -- these options name no `stdio`, no `replay`, no `serve`, whose numbers lie in their ranges
 abbrev pub NamesNoStdio : List Row → Type 0

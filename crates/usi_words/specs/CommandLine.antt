@@ -1,8 +1,9 @@
 -- What the words after the program's name ask for, as `clap` reads them (own choice).
 use Rattle.std.specs.Prelude.{◌≡◌, ◌∷◌, ◌≤◌, ◌-◌, ◌^◌, ℕ, true, List, [], Option, Some, codes}
 use Rattle.std.specs.Str.Parse.{IsNumeral, digits_value}
-use Rattle.clap.specs.Words.{App, Kinds, Row, Rule, Text, fault_of, first_of, new_app, new_rule, subcommand_of, with_rule, with_subcommand}
+use Rattle.clap.specs.Words.{App, Kinds, Row, Rule, Text, fault_of, first_of, found_of, new_app, new_rule, rows_of, subcommand_of, with_rule, with_subcommand}
 use Rattle.clap.specs.declared.builder.value_parser.ValueParser.TheVariants as parser
+use Rattle.clap.specs.declared.parser.matches.ArgMatches.{ArgMatches}
 
 -- the option `--NAME N`, a number from 1 to `most`, and `usual` where it is left out
 abbrev pub number_option : Text → ℕ → Text → Rule
@@ -93,3 +94,15 @@ NamesNumber name options n = (text : Text) × NamesText name options text × IsN
 -- a number from 1 to `most`
 abbrev pub IsFromOne : ℕ → ℕ → Type 0
 IsFromOne most n = (1 ≤ n) × (n ≤ most)
+
+-- the option of this name has the number n, from 1 to `most`
+abbrev pub HasNumber : Text → ℕ → List Row → ℕ → Type 0
+HasNumber name most options n = IsFromOne most n × NamesNumber name options n
+
+-- the option of this name has no number from 1 to `most`
+abbrev pub HasNone : Text → ℕ → List Row → Type 0
+HasNone name most options = (n : ℕ) → IsFromOne most n → NamesNumber name options n → ⊥
+
+-- the options of a command that were read
+abbrev pub options_in : ArgMatches → List Row
+options_in matches = rows_of (found_of matches)

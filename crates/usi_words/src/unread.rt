@@ -7,8 +7,8 @@ use crate::words::WordsFault;
 use std::alloc::Global;
 use std::io::ErrorKind;
 
-/// Why words whose reading ended with an error of this kind are refused: memory ran out, or else one
-/// of them is not UTF-8.
+/// Why words whose reading ended with an error of this kind are refused: memory ran out, or else
+/// one of them is not UTF-8.
 pub fn unread_words(alloc: Global, kind: ErrorKind) -> WordsFault
     ensures memory { kind ≡ ErrorKind.OutOfMemory → result ≡ WordsFault.OutOfMemory }
     ensures refused { Says not_utf_8 result }

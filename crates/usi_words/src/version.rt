@@ -2,7 +2,8 @@
 ghost use Rattle.std.specs.Prelude.{◌≡◌};
 ghost use Rattle.usi_words.specs.Texts.{the_version};
 
-/// The name and the version of the program on one line, and then in a few words what is proved of it.
+/// The name and the version of the program on one line, and then in a few words what is proved of
+/// it.
 pub fn version_text() -> &'static str
     ensures { result.now ≡ the_version }
 {

@@ -1,9 +1,9 @@
 //! The words of the command line.
 ghost use Rattle.std.specs.Prelude.{◌≡◌, ◌∷◌, ◌<◌, ◌^◌, ℕ, false, [], IfErr, IfNone, IfOk, IfSome, MatchResult, codes, map};
-ghost use Rattle.clap.specs.Words.{app_of, found_of, kind_of, rows_of, rule_of, subcommand_rows_of};
+ghost use Rattle.clap.specs.Words.{app_of, kind_of, rule_of, subcommand_rows_of};
 ghost use Rattle.clap.specs.declared.builder.command.Command.TheViews.{out-Command as fields_of};
-ghost use Rattle.usi_words.specs.Answers.{AreHelpWords, AreVersionWords, Gives, GivesHelp, HasRanges, HasServeRanges, IsAnswerTo, IsAskedBy, IsJobOf, IsRefusedFor, IsReplayOf, IsServeOf, IsStdioOf, NamesJob, NamesNoJob, NamesNoReplay, NamesNoServe, NamesNoStdio, NamesNumbers};
-ghost use Rattle.usi_words.specs.CommandLine.{IsFromOne, IsNumber, NamesNumber, command_line, entries_option, replay_command, replay_line, serve_command, slice_option, slots_option, socket_command, socket_option, stdio_command, stdio_line, turns_option};
+ghost use Rattle.usi_words.specs.Answers.{AreHelpWords, AreServeNumbers, AreVersionWords, Gives, GivesHelp, HasNoNumbers, HasRanges, IsAnswerTo, IsAskedBy, IsJobIn, IsJobOf, IsRefusedFor, IsReplayOf, IsServeIn, IsStdioOf, NamesNoJob, NamesNoReplay, NamesNoServe, NamesNoStdio};
+ghost use Rattle.usi_words.specs.CommandLine.{HasNone, HasNumber, IsNumber, command_line, entries_option, options_in, replay_command, replay_line, serve_command, slice_option, slots_option, socket_command, socket_option, stdio_command, stdio_line, turns_option};
 ghost use Rattle.usi_words.specs.declared.words.Job.TheVariants.{Stdio, Replay, Version};
 ghost use Rattle.usi_words.specs.declared.words.WordsFault.TheVariants.{OutOfMemory};
 
@@ -29,21 +29,22 @@ const USUAL_ENTRIES: usize = 4096;
 /// What the words ask for.
 #[derive(Debug, PartialEq, Eq, Drop)]
 pub enum Job {
-    /// One session over standard input and output, with a table of `entries` entries, 1 to 1,000,000.
+    /// One session over standard input and output, with a table of `entries` entries, 1 to
+    /// 1,000,000.
     Stdio {
         entries: usize,
     },
-    /// A script on standard input, over a host of at most `slots` sessions, 1 to 1,024, that share a
-    /// table of `entries` entries, 1 to 1,000,000; in each round a session goes on by at most `slice`
+    /// A script on standard input, over a host of at most `slots` sessions, 1 to 1,024, that share
+    /// a table of `entries` entries, 1 to 1,000,000; in each round a session makes at most `slice`
     /// steps of search, 1 to 1,000,000,000.
     Replay {
         slots: usize,
         entries: usize,
         slice: u64,
     },
-    /// The host on a Unix socket at the path `socket`, for `turns` turns, at least 1: at most `slots`
-    /// sessions, 1 to 1,024, that share a table of `entries` entries, 1 to 1,000,000; in each turn a
-    /// session goes on by at most `slice` steps of search, 1 to 1,000,000,000.
+    /// The host on a Unix socket at the path `socket`, for `turns` turns, at least 1: at most
+    /// `slots` sessions, 1 to 1,024, that share a table of `entries` entries, 1 to 1,000,000; in
+    /// each turn a session makes at most `slice` steps of search, 1 to 1,000,000,000.
     Serve {
         socket: String,
         slots: usize,
@@ -76,19 +77,20 @@ impl From<AllocError> for WordsFault {
     }
 }
 
-/// Reads the words that follow the program's name: none or `stdio` for one session, with `--entries N`
-/// after `stdio`; `replay` for a script, with `--slots N`, `--entries N` and `--slice N`; `serve` for a
-/// Unix socket, with `--socket PATH`, which has to be there, these three and `--turns N`; `--help`, `-h`
-/// or `help` for help; and `--version` or `-V` for the version. A number is written in decimal digits
-/// alone. Every other line is `NotAccepted`. The texts of help are those of `clap`, and so are those of
-/// refusals but for a number with a sign.
+/// Reads the words that follow the program's name: none or `stdio` for one session, with `--entries
+/// N` after `stdio`; `replay` for a script, with `--slots N`, `--entries N` and `--slice N`;
+/// `serve` for a Unix socket, with `--socket PATH`, which has to be there, these three and `--turns
+/// N`; `--help`, `-h` or `help` for help; and `--version` or `-V` for the version. A number is
+/// written in decimal digits alone. Every other line is `NotAccepted`. The texts of help are those
+/// of `clap`, and so are those of refusals but for a number with a sign.
 pub fn read_words<'a, S: AsStr>(alloc: Global, words: &'a [S]) -> Result<Job, WordsFault>
     ensures ranges { IfOk result HasRanges }
     ensures asked { IfOk result (IsAskedBy (map S.text words.entry.now)) }
     ensures refused { IfErr result (IsRefusedFor (map S.text words.entry.now)) }
     ensures bare { words.entry.now ≡ [] → Gives (Stdio 4096) result }
     ensures stdio { map S.text words.entry.now ≡ codes "stdio" ∷ [] → Gives (Stdio 4096) result }
-    ensures replay { map S.text words.entry.now ≡ codes "replay" ∷ [] → Gives (Replay 64 4096 1000) result }
+    ensures replay { map S.text words.entry.now ≡ codes "replay" ∷ []
+        → Gives (Replay 64 4096 1000) result }
     ensures help { AreHelpWords (map S.text words.entry.now) → GivesHelp result }
     ensures version { AreVersionWords (map S.text words.entry.now) → Gives Version result }
 {
@@ -96,7 +98,8 @@ pub fn read_words<'a, S: AsStr>(alloc: Global, words: &'a [S]) -> Result<Job, Wo
     answer_to(alloc, line.try_get_matches_from(words), pointer_for(words))
 }
 
-/// What is said below a refusal: how to ask for the version, where the last word looks as if it asked.
+/// What is said below a refusal: how to ask for the version, where the last word looks as if it
+/// asked.
 fn pointer_for<S: AsStr>(words: &[S]) -> &'static str {
     match words.last() {
         Some(word) if is_for_version(word.as_str()) => FOR_THE_VERSION,
@@ -139,8 +142,8 @@ fn job_of(alloc: Global, matches: &ArgMatches<'_>) -> Result<Job, WordsFault>
 
 /// The job that the command names, where its numbers lie in their ranges.
 fn named_job(alloc: Global, matches: &ArgMatches<'_>) -> Result<Option<Job>, AllocError>
-    ensures some { IfOk result (λ named. IfSome named (λ job. HasRanges job × NamesJob (subcommand_rows_of matches.now) job)) }
-    ensures none { IfOk result (λ named. IfNone named (NamesNoJob (subcommand_rows_of matches.now))) }
+    ensures some { IfOk result (λ named. IfSome named (IsJobIn (subcommand_rows_of matches.now))) }
+    ensures none { IfOk result (λ job. IfNone job (NamesNoJob (subcommand_rows_of matches.now))) }
 {
     let Some((name, options)) = matches.subcommand() else {
         return Ok(Some(Job::Stdio {
@@ -160,16 +163,16 @@ fn named_job(alloc: Global, matches: &ArgMatches<'_>) -> Result<Option<Job>, All
 }
 
 fn stdio_job(options: &ArgMatches<'_>) -> Option<Job>
-    ensures some { IfSome result (λ job. HasRanges job × IsStdioOf (rows_of (found_of options.now)) job) }
-    ensures none { IfNone result (NamesNoStdio (rows_of (found_of options.now))) }
+    ensures some { IfSome result (λ job. HasRanges job × IsStdioOf (options_in options.now) job) }
+    ensures none { IfNone result (NamesNoStdio (options_in options.now)) }
 {
     let entries = number_of(options, "entries", ENTRIES_MAX)?;
     Some(Job::Stdio { entries })
 }
 
 fn replay_job(options: &ArgMatches<'_>) -> Option<Job>
-    ensures some { IfSome result (λ job. HasRanges job × IsReplayOf (rows_of (found_of options.now)) job) }
-    ensures none { IfNone result (NamesNoReplay (rows_of (found_of options.now))) }
+    ensures some { IfSome result (λ job. HasRanges job × IsReplayOf (options_in options.now) job) }
+    ensures none { IfNone result (NamesNoReplay (options_in options.now)) }
 {
     let slots = number_of(options, "slots", SLOTS_MAX)?;
     let entries = number_of(options, "entries", ENTRIES_MAX)?;
@@ -182,8 +185,8 @@ fn replay_job(options: &ArgMatches<'_>) -> Option<Job>
 }
 
 fn serve_job(alloc: Global, options: &ArgMatches<'_>) -> Result<Option<Job>, AllocError>
-    ensures some { IfOk result (λ named. IfSome named (λ job. HasRanges job × IsServeOf (rows_of (found_of options.now)) job)) }
-    ensures none { IfOk result (λ named. IfNone named (NamesNoServe (rows_of (found_of options.now)))) }
+    ensures some { IfOk result (λ named. IfSome named (IsServeIn (options_in options.now))) }
+    ensures none { IfOk result (λ named. IfNone named (NamesNoServe (options_in options.now))) }
 {
     let Some(text) = options.get_str("socket") else {
         return Ok(None);
@@ -203,8 +206,8 @@ fn serve_job(alloc: Global, options: &ArgMatches<'_>) -> Result<Option<Job>, All
 
 /// The slots, the entries, the slice and the turns.
 fn serve_numbers(options: &ArgMatches<'_>) -> Option<(usize, usize, u64, u64)>
-    ensures some { IfSome result (λ n. HasServeRanges n.0 n.1 n.2 n.3 × NamesNumbers (rows_of (found_of options.now)) n.0 n.1 n.2 n.3) }
-    ensures none { IfNone result ((slots entries slice turns : ℕ) → HasServeRanges slots entries slice turns → NamesNumbers (rows_of (found_of options.now)) slots entries slice turns → ⊥) }
+    ensures some { IfSome result (λ n. AreServeNumbers (options_in options.now) n.0 n.1 n.2 n.3) }
+    ensures none { IfNone result (HasNoNumbers (options_in options.now)) }
 {
     let slots = number_of(options, "slots", SLOTS_MAX)?;
     let entries = number_of(options, "entries", ENTRIES_MAX)?;
@@ -226,8 +229,8 @@ fn digits_alone(text: &str) -> Option<usize>
 
 /// The number of an option, where it is written in digits alone and lies from 1 to `most`.
 fn number_of(options: &ArgMatches<'_>, name: &str, most: usize) -> Option<usize>
-    ensures some { IfSome result (λ n. IsFromOne most n × NamesNumber name.now (rows_of (found_of options.now)) n) }
-    ensures none { IfNone result ((n : ℕ) → IsFromOne most n → NamesNumber name.now (rows_of (found_of options.now)) n → ⊥) }
+    ensures some { IfSome result (HasNumber name.now most (options_in options.now)) }
+    ensures none { IfNone result (HasNone name.now most (options_in options.now)) }
 {
     let text = options.get_str(name)?;
     let n = digits_alone(text)?;

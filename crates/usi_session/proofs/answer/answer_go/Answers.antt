@@ -1,30 +1,33 @@
-use Rattle.std.proofs.Common.{◌≡◌, ◌++◌, ap, [], arith, rules}
+use Rattle.std.proofs.Common.{◌≡◌, ◌++◌, ap, [], arith, rules, refl}
 use Rattle.shogi_moves.specs.LegalMoves.{legal_codes}
-use Rattle.usi_session.specs.Answer.{Answer}
+use Rattle.usi_session.specs.declared.question.Question.{Question}
+use Rattle.usi_session.specs.Answer.{Answer, answer_go}
+use Rattle.usi_session.specs.RunningGo.{rest_of_go}
 use Rattle.usi_session.proofs.Infos.{go_infos-none, pv-empty}
 use Rattle.usi_session.proofs.RunningGoLaws.{begins-rest, cost_of_depths-all, question_of}
 use Rattle.usi_session.proofs.answer.answer_go.Goals as goal
 
 -- all depths are still to be said
-pub returns-clause-bytes : goal.returns-clause-bytes
-returns-clause-bytes g c =
-    ap (λ (a : Answer). c.args.out.now.items ++ a.bytes) (begins-rest c.args.state.now c.args.depth c.args.hold c.in-Some.first c.in_ok-running_go.running_go (omega arith) (search rules) (search rules) (search rules) (search rules))
-
-pub returns-clause-state : goal.returns-clause-state
-returns-clause-state g c =
-    ap (λ (a : Answer). a.state) (begins-rest c.args.state.now c.args.depth c.args.hold c.in-Some.first c.in_ok-running_go.running_go (omega arith) (search rules) (search rules) (search rules) (search rules))
-
-pub returns-clause-load : goal.returns-clause-load
-returns-clause-load g c =
-    rw (← cost_of_depths-all (question_of c.args.state.now c.args.depth c.args.hold)) c.in_ok-running_go.ensures.load
+pub returns-clause-begun : goal.returns-clause-begun
+returns-clause-begun g c =
+    let go = c.in_ok-running_go.running_go in
+    let begins : rest_of_go c.args.state.now go ≡ answer_go c.args.state.now c.args.depth c.args.hold = begins-rest c.args.state.now c.args.depth c.args.hold c.in-Some.first go (omega arith) (search rules) (search rules) (search rules) (search rules) in
+    record {
+      bytes = ap (λ (a : Answer). c.args.out.now.items ++ a.bytes) begins;
+      state_is = ap (λ (a : Answer). a.state) begins;
+      load = rw (← cost_of_depths-all (question_of c.args.state.now c.args.depth c.args.hold)) c.in_ok-running_go.ensures.load;
+      reports = omega (arith, ap (λ (q : Question). q.depth) c.in_ok-running_go.ensures.done.question_is);
+      quiet = refl;
+    }
 
 -- no move is legal, and the pv is empty
-pub returns-in_default-clause-bytes : goal.returns-in_default-clause-bytes
-returns-in_default-clause-bytes g c =
+pub returns-in_default-clause-begun : goal.returns-in_default-clause-begun
+returns-in_default-clause-begun g c =
     let none : legal_codes c.args.state.now.position ≡ [] = search rules in
-    rw (go_infos-none c.args.state.now.position c.args.state.now.options.eval c.args.state.now.options.multi_pv c.args.depth none, pv-empty c.args.state.now.position c.args.state.now.options.eval c.args.depth (omega arith) none) c.in_ok-write_or_hold.ensures.bytes
-
-pub returns-in_default-clause-state : goal.returns-in_default-clause-state
-returns-in_default-clause-state g c =
-    let none : legal_codes c.args.state.now.position ≡ [] = search rules in
-    rw (go_infos-none c.args.state.now.position c.args.state.now.options.eval c.args.state.now.options.multi_pv c.args.depth none, pv-empty c.args.state.now.position c.args.state.now.options.eval c.args.depth (omega arith) none) c.in_ok-write_or_hold.ensures.state
+    record {
+      bytes = rw (go_infos-none c.args.state.now.position c.args.state.now.options.eval c.args.state.now.options.multi_pv c.args.depth none, pv-empty c.args.state.now.position c.args.state.now.options.eval c.args.depth (omega arith) none) c.in_ok-write_or_hold.ensures.bytes;
+      state_is = rw (go_infos-none c.args.state.now.position c.args.state.now.options.eval c.args.state.now.options.multi_pv c.args.depth none, pv-empty c.args.state.now.position c.args.state.now.options.eval c.args.depth (omega arith) none) c.in_ok-write_or_hold.ensures.state_is;
+      load = omega arith;
+      reports = omega arith;
+      quiet = tt;
+    }

@@ -6,7 +6,7 @@ use Rattle.shogi_core.specs.Codes.{code_of}
 use Rattle.shogi_core.specs.Position.{Shogi}
 use Rattle.shogi_search.specs.Minimax.{pv_cost}
 use Rattle.usi_session.specs.RunningGo.{listed_at}
-use Rattle.usi_session.specs.Walked.{Walked}
+use Rattle.usi_session.specs.Walked.{Walked, walk_cost}
 use Rattle.usi_session.proofs.Listed.{IsPair, ranked_length, ranked_pair, listed_legal, pv_by_move, pvs_next}
 use Rattle.usi_session.proofs.go_command.line_of.Goals as goal
 
@@ -19,28 +19,22 @@ apply-next-requires c =
     let pair : IsPair question c.args.depths_done c.args.lines_done x.0 x.1 = ranked_pair question c.args.depths_done c.args.lines_done c.args.ranks.now x c.requires.ranked at in
     listed_legal question.position question.eval question.multi_pv (c.args.depths_done + 1) c.args.lines_done x.0 pair.listed_as c.validity.ensures.back
 
-pub returns-clause-line : goal.returns-clause-line
-returns-clause-line c =
+pub returns : goal.returns
+returns c =
     let question = c.args.question.now in
     let x = c.index-list-lines_done.result in
     let n : length c.list.result.now ≡ length (listed_at question c.args.depths_done) = ap length c.list.ensures.value ∙ ranked_length question c.args.depths_done c.args.ranks.now c.requires.ranked in
     let at : slice_get c.args.ranks.now.pairs c.args.lines_done ≡ Some x = ap (λ (l : List (Move × ℤ)). slice_get l c.args.lines_done) (sym c.list.ensures.value) ∙ slice_get_read c.list.result.now (length c.list.result.now) c.args.lines_done x refl (omega (arith, n, c.requires.lines_done)) c.index-list-lines_done.is in
     let pair : IsPair question c.args.depths_done c.args.lines_done x.0 x.1 = ranked_pair question c.args.depths_done c.args.lines_done c.args.ranks.now x c.requires.ranked at in
     let z : c.after.result.value ≡ x.1 = search rules in
+    let cost : walk_cost c.after.result ≡ pv_cost _ question.eval c.args.depths_done = ap walk_cost c.after.ensures ∙ ap (λ (q : Shogi). pv_cost q question.eval c.args.depths_done) c.apply-next.ensures.by_code in
     record {
-      code = code_of x.0;
-      listed_as = pair.listed_as;
-      pv_is = ap (λ (w : Walked). w.pv) c.after.ensures ∙ pv_by_move question.position c.apply-next.result question.eval c.args.depths_done x.0 c.validity.ensures.back c.apply-next.ensures.after;
-      value_is = z ∙ pair.value_is;
-      eval_is = ap (λ (w : Walked). w.eval) c.after.ensures;
+      line = record {
+        code = code_of x.0;
+        listed_as = pair.listed_as;
+        pv_is = ap (λ (w : Walked). w.pv) c.after.ensures ∙ pv_by_move question.position c.apply-next.result question.eval c.args.depths_done x.0 c.validity.ensures.back c.apply-next.ensures.after;
+        value_is = z ∙ pair.value_is;
+        eval_is = ap (λ (w : Walked). w.eval) c.after.ensures;
+      };
+      cost = omega (arith, cost, pvs_next question.position question.eval c.args.depths_done (listed_at question c.args.depths_done) c.args.lines_done (code_of x.0) pair.listed_as);
     }
-
-pub returns-clause-cost : goal.returns-clause-cost
-returns-clause-cost c =
-    let question = c.args.question.now in
-    let x = c.index-list-lines_done.result in
-    let n : length c.list.result.now ≡ length (listed_at question c.args.depths_done) = ap length c.list.ensures.value ∙ ranked_length question c.args.depths_done c.args.ranks.now c.requires.ranked in
-    let at : slice_get c.args.ranks.now.pairs c.args.lines_done ≡ Some x = ap (λ (l : List (Move × ℤ)). slice_get l c.args.lines_done) (sym c.list.ensures.value) ∙ slice_get_read c.list.result.now (length c.list.result.now) c.args.lines_done x refl (omega (arith, n, c.requires.lines_done)) c.index-list-lines_done.is in
-    let pair : IsPair question c.args.depths_done c.args.lines_done x.0 x.1 = ranked_pair question c.args.depths_done c.args.lines_done c.args.ranks.now x c.requires.ranked at in
-    let cost : pv_cost c.after.result.at c.after.result.eval c.after.result.plies ≡ pv_cost _ question.eval c.args.depths_done = ap (λ (w : Walked). pv_cost w.at w.eval w.plies) c.after.ensures ∙ ap (λ (q : Shogi). pv_cost q question.eval c.args.depths_done) c.apply-next.ensures.by_code in
-    omega (arith, cost, pvs_next question.position question.eval c.args.depths_done (listed_at question c.args.depths_done) c.args.lines_done (code_of x.0) pair.listed_as)

@@ -1,16 +1,14 @@
-use Rattle.std.proofs.Common.{refl, sym, arith, subst}
-use Rattle.shogi_eval.specs.declared.eval.Eval.{Eval}
+use Rattle.std.proofs.Common.{refl, sym, arith}
 use Rattle.shogi_search.specs.Ranked.{child_beta}
-use Rattle.shogi_search.specs.declared.bounds.TheConstants.{INFINITY}
 use Rattle.shogi_moves.specs.After.{after}
 use Rattle.shogi_moves.proofs.LegalLaws.{after_code_of}
-use Rattle.usi_session.specs.Walked.{IsUnder, IsRanked}
+use Rattle.usi_session.specs.Walked.{IsRanked}
 use Rattle.usi_session.proofs.Listed.{root_move_some, some_listed}
-use Rattle.usi_session.proofs.GoOn.{ranked_on, ranked_all, under_start, next_child_cost}
+use Rattle.usi_session.proofs.NextSearch.{ranked_on, ranked_all, under_start, next_child_cost}
 use Rattle.usi_session.proofs.go_command.rank_on.Goals as goal
 
 pub search_child-requires-clause-ranked : goal.search_child-requires-clause-ranked
-search_child-requires-clause-ranked c = ranked_on c.args.question.now c.args.depths_done c.args.root_move c.in-Some.m c.args.ranks.now c.rank.new.ranks c.requires.ranked c.rank.ensures.gone c.in-Some.ensures.next c.rank.ensures.lines
+search_child-requires-clause-ranked c = ranked_on c.args.question.now c.args.depths_done c.args.root_move c.in-Some.m c.rank.new.ranks c.rank.ensures c.in-Some.ensures.next
 
 pub returns-in-Some-clause-at_depth : goal.returns-in-Some-clause-at_depth
 returns-in-Some-clause-at_depth c =
@@ -18,13 +16,13 @@ returns-in-Some-clause-at_depth c =
     λ kept. record {
       several = c.requires.several;
       none_done = refl;
-      ranked = ranked_on q c.args.depths_done c.args.root_move c.in-Some.m c.args.ranks.now c.rank.new.ranks c.requires.ranked c.rank.ensures.gone c.in-Some.ensures.next c.rank.ensures.lines;
+      ranked = ranked_on q c.args.depths_done c.args.root_move c.in-Some.m c.rank.new.ranks c.rank.ensures c.in-Some.ensures.next;
       searched = under_start c.search_child.new.search (after q.position c.in-Some.m) q.eval c.args.depths_done (child_beta c.rank.new.ranks) c.search_child.ensures;
     }
 
 pub line_of-requires-clause-ranked : goal.line_of-requires-clause-ranked
 line_of-requires-clause-ranked c =
-    ranked_all c.args.question.now c.args.depths_done c.args.root_move c.args.ranks.now c.rank.new.ranks c.requires.ranked c.rank.ensures.gone c.in_default.ensures.next c.rank.ensures.lines
+    ranked_all c.args.question.now c.args.depths_done c.args.root_move c.rank.new.ranks c.rank.ensures c.in_default.ensures.next
 
 pub line_of-requires-clause-lines_done : goal.line_of-requires-clause-lines_done
 line_of-requires-clause-lines_done c = some_listed c.args.question.now c.args.depths_done c.requires.question.multi_pv_fits.least (root_move_some c.args.question.now c.args.depths_done c.args.root_move c.args.ranks.now c.requires.ranked)
@@ -32,15 +30,15 @@ line_of-requires-clause-lines_done c = some_listed c.args.question.now c.args.de
 pub returns-clause-at_depth : goal.returns-clause-at_depth
 returns-clause-at_depth c =
     let q = c.args.question.now in
-    let all : IsRanked q c.args.depths_done c.rank.new.ranks = ranked_all q c.args.depths_done c.args.root_move c.args.ranks.now c.rank.new.ranks c.requires.ranked c.rank.ensures.gone c.in_default.ensures.next c.rank.ensures.lines in
+    let all : IsRanked q c.args.depths_done c.rank.new.ranks = ranked_all q c.args.depths_done c.args.root_move c.rank.new.ranks c.rank.ensures c.in_default.ensures.next in
     λ kept. record {
       line = c.line_of.ensures.line;
       ranked = λ ne. all;
       kept_is = λ h. absurd (omega arith);
-      searched = λ h. subst (λ (e : Eval). IsUnder c.search_along.new.search c.line_of.result.at e c.line_of.result.plies INFINITY) c.line_of.ensures.line.eval_is (c.search_along.ensures.under h);
+      searched = c.search_along.ensures.under;
     }
 
 pub returns-in-Some-clause-cost : goal.returns-in-Some-clause-cost
 returns-in-Some-clause-cost c =
     let q = c.args.question.now in
-    next_child_cost q c.args.depths_done c.args.root_move c.in-Some.m c.args.walk.now c.args.walk.now c.search_child.new.search c.args.search.now (child_beta c.rank.new.ranks) c.search_child.ensures (sym (after_code_of q.position c.in-Some.m c.validity.ensures.back)) c.in-Some.ensures.next
+    next_child_cost q c.args.depths_done c.args.root_move c.in-Some.m c.args.walk.now c.search_child.new.search (child_beta c.rank.new.ranks) c.search_child.ensures (sym (after_code_of q.position c.in-Some.m c.validity.ensures.back)) c.in-Some.ensures.next

@@ -4,7 +4,7 @@ use Rattle.std.proofs.lemmas.Int.{ints, to_z-of_z}
 use Rattle.shogi_search.specs.Minimax.{negated}
 use Rattle.shogi_search.specs.Ranked.{child_beta}
 use Rattle.shogi_search.specs.declared.bounds.TheConstants.{INFINITY}
-use Rattle.usi_session.proofs.GoOn.{child_window, child_legal}
+use Rattle.usi_session.proofs.NextSearch.{child_window, child_legal}
 use Rattle.usi_session.proofs.go_command.search_child.Goals as goal
 
 pub child_beta-requires-clause-least : goal.child_beta-requires-clause-least

@@ -1,5 +1,5 @@
 use Rattle.std.proofs.Common.{length}
-use Rattle.usi_stdio.specs.Stdio.{IsAnsweredTo}
+use Rattle.usi_stdio.proofs.Lining.{IsAnsweredTo}
 use Rattle.usi_stdio.proofs.streams.answer_chunk.Given as goal
 
 -- the answers to the lines before the rest are written

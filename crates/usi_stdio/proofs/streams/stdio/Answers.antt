@@ -19,7 +19,7 @@ pub returns-then-n-eq0-clause-answered : goal.returns-then-n-eq0-clause-answered
 returns-then-n-eq0-clause-answered g c =
     answered_at_end _ _ _ _ _ c.chunks.session (take c.in_ok-n.n c.read_chunk.new.chunk) c.chunks.invariant (ap (λ k. take k c.read_chunk.new.chunk) c.if-n-eq0.true) c.in_ok-n.ensures.given (c.in_ok-n.ensures.ended c.if-n-eq0.true)
 
--- a front of the chunk's answers was written
+-- a prefix of the chunk's answers was written
 pub returns-in_err-answer_chunk-clause-fault : goal.returns-in_err-answer_chunk-clause-fault
 returns-in_err-answer_chunk-clause-fault g c =
     on_err _ (part_chunk _ _ _ _ _ _ c.chunks.session c.split_at.result.0.now c.chunks.invariant (rw c.split_at.ensures.front c.in_ok-n.ensures.given) c.in_err-answer_chunk.ensures.err (search rules))

@@ -1,4 +1,4 @@
-use Rattle.usi_stdio.specs.Stdio.{IsBetween}
+use Rattle.usi_stdio.proofs.Between.{IsBetween}
 use Rattle.usi_stdio.proofs.streams.stdio.Given as goal
 
 -- what was read is answered or owed

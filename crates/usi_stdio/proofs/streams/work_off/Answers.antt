@@ -1,4 +1,4 @@
-use Rattle.usi_stdio.proofs.Working.{on_err, worked_front, worked_more}
+use Rattle.usi_stdio.proofs.Working.{on_err, worked_prefix, worked_more}
 use Rattle.usi_stdio.proofs.streams.work_off.Goals as goal
 
 -- one slice more
@@ -7,4 +7,4 @@ slices-preserved g c = worked_more _ c.slices.session _ _ _ _ c.slices.invariant
 
 -- the slice was cut short
 pub returns-in_err-work_slice-clause-err : goal.returns-in_err-work_slice-clause-err
-returns-in_err-work_slice-clause-err g c = on_err _ (worked_front _ c.slices.session _ _ _ c.slices.invariant c.in_err-work_slice.ensures.err)
+returns-in_err-work_slice-clause-err g c = on_err _ (worked_prefix _ c.slices.session _ _ _ c.slices.invariant c.in_err-work_slice.ensures.err)

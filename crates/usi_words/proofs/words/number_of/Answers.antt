@@ -1,7 +1,7 @@
 use Rattle.std.proofs.Common.{◌∙◌, sym, ap, option_map, arith}
-use Rattle.clap.specs.Words.{found_of, rows_of}
+use Rattle.clap.specs.Words.{found_of}
 use Rattle.clap.proofs.WalkLemmas.{first_value-rows}
-use Rattle.usi_words.specs.CommandLine.{IsFromOne}
+use Rattle.usi_words.specs.CommandLine.{IsFromOne, options_in}
 use Rattle.usi_words.proofs.Numbers.{if_none, no_number, no_text, other_in_range}
 use Rattle.usi_words.proofs.words.number_of.Goals as goal
 use Rattle.usi_words.proofs.words.number_of.Goals.{else-n-ge1-via-then-n-ge1+else-n-most, else-n-ge1-via-else-n-ge1}
@@ -9,13 +9,13 @@ use Rattle.usi_words.proofs.words.number_of.Goals.{else-n-ge1-via-then-n-ge1+els
 pub returns-in_err-text-clause-none : goal.returns-in_err-text-clause-none
 returns-in_err-text-clause-none c =
     if_none c.from_residual.result _
-    (no_text c.args.most c.args.name.now (rows_of (found_of c.args.options.now))
+    (no_text c.args.most c.args.name.now (options_in c.args.options.now)
     (sym (first_value-rows (found_of c.args.options.now) c.args.name.now) ∙ sym c.get_str.ensures ∙ ap (option_map (λ s. s.now)) c.in_err-text.was))
 
 pub returns-in_err-n-clause-none : goal.returns-in_err-n-clause-none
 returns-in_err-n-clause-none c =
     if_none c.from_residual-in_err-n.result _
-    (no_number c.args.most c.args.name.now (rows_of (found_of c.args.options.now)) c.in_ok-text.text.now (omega arith)
+    (no_number c.args.most c.args.name.now (options_in c.args.options.now) c.in_ok-text.text.now (omega arith)
     (sym (first_value-rows (found_of c.args.options.now) c.args.name.now) ∙ sym c.get_str.ensures ∙ ap (option_map (λ s. s.now)) c.in_ok-text.was)
     c.in_err-n.ensures.none)
 
@@ -35,7 +35,7 @@ returns-else-n-ge1-clause-none c =
       | else-n-ge1-via-then-n-ge1+else-n-most w ↦ omega arith
       | else-n-ge1-via-else-n-ge1 w ↦ omega arith
     ] in
-    other_in_range c.args.most c.args.name.now (rows_of (found_of c.args.options.now)) c.in_ok-n.n out (
+    other_in_range c.args.most c.args.name.now (options_in c.args.options.now) c.in_ok-n.n out (
       c.in_ok-text.text.now,
       sym (first_value-rows (found_of c.args.options.now) c.args.name.now) ∙ sym c.get_str.ensures ∙ ap (option_map (λ s. s.now)) c.in_ok-text.was,
       c.in_ok-n.ensures.some,

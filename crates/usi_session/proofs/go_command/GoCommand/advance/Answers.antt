@@ -9,7 +9,7 @@ use Rattle.usi_session.specs.declared.state.HeldBestmove.{HeldBestmove}
 use Rattle.usi_session.specs.Walked.{Walked, IsUnder, IsAtDepth}
 use Rattle.usi_session.proofs.go_command.GoCommand.advance.Goals as goal
 
--- a search that was cut goes on for the same
+-- a search that was cut is continued for the same
 still_under : (s t : Progress) (p : Shogi) (eval : Eval) (d : ℕ) (beta : ℤ) → t.root ≡ s.root → t.eval ≡ s.eval → t.depth ≡ s.depth → t.beta ≡ s.beta → 0 < t.left → IsUnder s p eval d beta → IsUnder t p eval d beta
 still_under s t p eval d beta r e n b l h = record { root = r ∙ h.root; eval_is = e ∙ h.eval_is; depth_is = n ∙ h.depth_is; beta_is = b ∙ h.beta_is; left = l }
 

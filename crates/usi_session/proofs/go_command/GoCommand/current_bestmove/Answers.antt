@@ -1,17 +1,12 @@
 use Rattle.std.proofs.Common.{◌≡◌, ◌+◌, ap, ◌∙◌, List, subst, ℕ}
 use Rattle.shogi_core.specs.declared.moves.Move.{Move}
 use Rattle.shogi_search.specs.Minimax.{pv}
-use Rattle.usi_session.specs.declared.state.HeldBestmove.{HeldBestmove}
-use Rattle.usi_lines.specs.declared.command.Hold.{Hold}
-use Rattle.usi_session.specs.GoInfos.{move_to_play, move_to_ponder}
+use Rattle.usi_session.specs.Answer.{bestmove_of}
 use Rattle.usi_session.specs.RunningGo.{is_searching}
 use Rattle.usi_session.specs.Walked.{IsLine}
 use Rattle.usi_session.proofs.Listed.{line_first, first_some}
-use Rattle.usi_session.proofs.GoOn.{whole_line, IsWholeLine}
+use Rattle.usi_session.proofs.NextSearch.{whole_line, IsWholeLine}
 use Rattle.usi_session.proofs.go_command.GoCommand.current_bestmove.Goals as goal
-
-abbrev held : List Move → Hold → HeldBestmove
-held moves until = record { best = move_to_play moves; ponder = move_to_ponder moves; until = until }
 
 pub returns-then-self-eq0 : goal.returns-then-self-eq0
 returns-then-self-eq0 g c =
@@ -19,4 +14,4 @@ returns-then-self-eq0 g c =
     let w : IsWholeLine s.question s.depths_done s.lines_done s.root_move s.ranks s.walk s.bestmove = whole_line s.question s.depths_done s.lines_done s.root_move s.ranks s.walk s.bestmove s.search.value c.self.invariant.at_depth (ap is_searching c.self.view_is ∙ c.requires.whole) in
     let l : IsLine s.question s.depths_done 0 s.walk = subst (λ (n : ℕ). IsLine s.question s.depths_done n s.walk) c.if-self-eq0.true w.line in
     let f : s.walk.pv ≡ pv s.question.position s.question.eval (s.depths_done + 1) = (line_first s.question s.depths_done s.walk l c.self.invariant.range.multi_pv_fits.least (first_some s.question.position s.first c.self.invariant.first_is)).1 in
-    rw (← c.self.view_is) (c.bestmove_of.ensures ∙ ap (λ (ms : List Move). held ms s.question.hold) (c.moves.ensures ∙ f))
+    rw (← c.self.view_is) (c.bestmove_of.ensures ∙ ap (λ (ms : List Move). bestmove_of ms s.question.hold) (c.moves.ensures ∙ f))

@@ -2,8 +2,8 @@ use Rattle.std.proofs.Common.{◌≡◌, ◌+◌, ◌<◌, ap, ◌∙◌, arith}
 use Rattle.shogi_search.specs.Ranked.{Ranking, child_beta}
 use Rattle.usi_session.specs.RunningGo.{RunningGo, is_searching}
 use Rattle.usi_session.proofs.Listed.{line_below}
-use Rattle.usi_session.proofs.Tells.{told_depth}
-use Rattle.usi_session.proofs.GoOn.{begun, next_depth_cost, whole_line, IsWholeLine}
+use Rattle.usi_session.proofs.Reports.{reported_depth}
+use Rattle.usi_session.proofs.NextSearch.{begun, next_depth_cost, whole_line, IsWholeLine}
 use Rattle.usi_session.proofs.go_command.GoCommand.next_depth.Goals as goal
 
 pub invariant_of-self : goal.invariant_of-self
@@ -39,4 +39,4 @@ returns-clause-rest g c =
     let s = c.self.inside in
     let t : s.depths_done ≡ c.args.self.now.depths_done = ap (λ (x : RunningGo). x.depths_done) c.self.view_is in
     let d : s.question.depth ≡ c.args.self.now.question.depth = ap (λ (x : RunningGo). x.question.depth) c.self.view_is in
-    rw (← c.self.view_is) (told_depth s.question s.depths_done (omega (arith, t, d, c.self.invariant.left, c.requires.more)))
+    rw (← c.self.view_is) (reported_depth s.question s.depths_done (omega (arith, t, d, c.self.invariant.left, c.requires.more)))

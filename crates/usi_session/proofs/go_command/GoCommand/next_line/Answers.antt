@@ -1,25 +1,22 @@
-use Rattle.std.proofs.Common.{◌≢◌, ◌+◌, ◌<◌, ap, ◌∙◌, arith, rules, subst, length}
+use Rattle.std.proofs.Common.{◌≢◌, ◌+◌, ◌<◌, ap, ◌∙◌, arith, rules, length}
 use Rattle.std.proofs.lemmas.Bool.{eqb-false}
-use Rattle.shogi_eval.specs.declared.eval.Eval.{Eval}
-use Rattle.shogi_search.specs.declared.bounds.TheConstants.{INFINITY}
-use Rattle.usi_session.specs.RunningGo.{RunningGo, is_searching, ends_depth, listed_at}
-use Rattle.usi_session.specs.Walked.{IsUnder}
+use Rattle.usi_session.specs.RunningGo.{is_searching, is_last_of_depth, listed_at}
 use Rattle.usi_session.proofs.Listed.{line_below, line_within, one_listed, first_some}
-use Rattle.usi_session.proofs.GoOn.{whole_line, IsWholeLine}
+use Rattle.usi_session.proofs.NextSearch.{whole_line, IsWholeLine}
 use Rattle.usi_session.proofs.go_command.GoCommand.next_line.Goals as goal
 
 pub line_of-walk-requires-clause-ranked : goal.line_of-walk-requires-clause-ranked
 line_of-walk-requires-clause-ranked g c =
     let s = c.self.inside in
     let w : IsWholeLine s.question s.depths_done s.lines_done s.root_move s.ranks s.walk s.bestmove = whole_line s.question s.depths_done s.lines_done s.root_move s.ranks s.walk s.bestmove s.search.value c.self.invariant.at_depth (ap is_searching c.self.view_is ∙ c.requires.whole) in
-    let ne : s.lines_done + 1 ≢ length (listed_at s.question s.depths_done) = eqb-false (s.lines_done + 1) (length (listed_at s.question s.depths_done)) (ap (λ (x : RunningGo). ends_depth x.question x.depths_done x.lines_done) c.self.view_is ∙ c.requires.more) in
+    let ne : s.lines_done + 1 ≢ length (listed_at s.question s.depths_done) = eqb-false (s.lines_done + 1) (length (listed_at s.question s.depths_done)) (ap is_last_of_depth c.self.view_is ∙ c.requires.more) in
     w.ranked (λ n. ne (omega (arith, n, line_below s.question s.depths_done s.lines_done s.walk w.line, one_listed s.question.position s.question.eval s.question.multi_pv (s.depths_done + 1) n (omega arith) (first_some s.question.position s.first c.self.invariant.first_is))))
 
 pub line_of-walk-requires-clause-lines_done : goal.line_of-walk-requires-clause-lines_done
 line_of-walk-requires-clause-lines_done g c =
     let s = c.self.inside in
     let w : IsWholeLine s.question s.depths_done s.lines_done s.root_move s.ranks s.walk s.bestmove = whole_line s.question s.depths_done s.lines_done s.root_move s.ranks s.walk s.bestmove s.search.value c.self.invariant.at_depth (ap is_searching c.self.view_is ∙ c.requires.whole) in
-    let ne : s.lines_done + 1 ≢ length (listed_at s.question s.depths_done) = eqb-false (s.lines_done + 1) (length (listed_at s.question s.depths_done)) (ap (λ (x : RunningGo). ends_depth x.question x.depths_done x.lines_done) c.self.view_is ∙ c.requires.more) in
+    let ne : s.lines_done + 1 ≢ length (listed_at s.question s.depths_done) = eqb-false (s.lines_done + 1) (length (listed_at s.question s.depths_done)) (ap is_last_of_depth c.self.view_is ∙ c.requires.more) in
     omega (arith, line_within s.question s.depths_done s.lines_done s.walk w.line, ne)
 
 pub invariant_of-self : goal.invariant_of-self
@@ -34,7 +31,7 @@ invariant_of-self g c =
         line = c.line_of-walk.ensures.line;
         ranked = w.ranked;
         kept_is = λ h. search rules;
-        searched = λ h. subst (λ (e : Eval). IsUnder c.search_along.new.search c.line_of-walk.result.at e c.line_of-walk.result.plies INFINITY) c.line_of-walk.ensures.line.eval_is (c.search_along.ensures.under h);
+        searched = c.search_along.ensures.under;
       });
     }
 

@@ -2,7 +2,7 @@ use Rattle.std.proofs.Common.{◌≡◌, ◌-◌, ap, arith, rules}
 use Rattle.shogi_search.specs.Ranked.{Ranking, child_beta}
 use Rattle.usi_session.specs.RunningGo.{cost_of_depths}
 use Rattle.usi_session.specs.Walked.{first_search}
-use Rattle.usi_session.proofs.GoOn.{begun, begun_cost}
+use Rattle.usi_session.proofs.NextSearch.{begun, begun_cost}
 use Rattle.usi_session.proofs.go_command.GoCommand.start.Goals as goal
 
 pub invariant_of-result : goal.invariant_of-result

@@ -14,6 +14,6 @@ invariant-turns g l = record {
   capacity : g.M.Memo.capacity l.memo ≡ g.M.Memo.capacity l.fn.memo;
 }
 
--- each turn answers a line, tells a depth, or ends a search
+-- each turn answers a line, reports one, or ends a search
 abbrev pub decreases-turns : goal.decreases-turns
 decreases-turns g l = turns l.self

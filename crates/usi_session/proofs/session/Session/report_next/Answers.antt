@@ -1,31 +1,31 @@
 use Rattle.std.proofs.Common.{◌≡◌, ap, ◌∙◌, rules, false, []}
 use Rattle.usi_lines.specs.Lines.{ahead}
 use Rattle.usi_session.specs.Due.{SessionView}
-use Rattle.usi_session.proofs.Steps.{due_told, due_ends, load_told, pending_alive}
-use Rattle.usi_session.proofs.WholeReplies.{told_whole, end_whole}
-use Rattle.usi_session.proofs.session.Session.tell_next.Goals as goal
+use Rattle.usi_session.proofs.Steps.{due_reported, due_ends, load_reported, pending_alive}
+use Rattle.usi_session.proofs.WholeReplies.{reported_whole, end_whole}
+use Rattle.usi_session.proofs.session.Session.report_next.Goals as goal
 
 pub returns-then-not-is_last-clause-due : goal.returns-then-not-is_last-clause-due
 returns-then-not-is_last-clause-due g c = λ x.
     let s = c.self.inside in
     let alive : s.state.is_over ≡ false = ap (λ (t : SessionView). t.state.is_over) c.self.view_is ∙ pending_alive c.args.self.now c.requires.pending in
-    rw (← c.self.view_is) (due_told s.state s.queue c.push.new.self c.tell.new.out.items c.in-Some.running_go c.next.new.self s.running_go (ahead s.input x)
+    rw (← c.self.view_is) (due_reported s.state s.queue c.push.new.self c.report.new.out.items c.in-Some.running_go c.next.new.self s.running_go (ahead s.input x)
     alive c.in-Some.is (search rules) (search rules) (search rules) (search rules))
 
 pub returns-then-not-is_last-clause-load : goal.returns-then-not-is_last-clause-load
 returns-then-not-is_last-clause-load g c =
     let s = c.self.inside in
-    rw (← c.self.view_is) (load_told s.state c.in-Some.running_go c.next.new.self s.running_go (ahead s.input []) c.in-Some.is (search rules) (search rules))
+    rw (← c.self.view_is) (load_reported s.state c.in-Some.running_go c.next.new.self s.running_go (ahead s.input []) c.in-Some.is (search rules) (search rules))
 
 pub returns-then-not-is_last-clause-grown : goal.returns-then-not-is_last-clause-grown
 returns-then-not-is_last-clause-grown g c =
-    rw (← c.self.view_is) (record { lines = c.tell.new.out.items; after_is = search rules; whole = told_whole c.tell.new.out.items (search rules) })
+    rw (← c.self.view_is) (record { lines = c.report.new.out.items; after_is = search rules; whole = reported_whole c.report.new.out.items (search rules) })
 
 pub returns-clause-due : goal.returns-clause-due
 returns-clause-due g c = λ x.
     let s = c.self.inside in
     let alive : s.state.is_over ≡ false = ap (λ (t : SessionView). t.state.is_over) c.self.view_is ∙ pending_alive c.args.self.now c.requires.pending in
-    rw (← c.self.view_is) (due_ends s.state c.write_or_hold.new.state s.queue c.push-2.new.self c.tell.new.out.items c.write_or_hold.new.out.items c.in-Some.running_go s.running_go c.bestmove.result (ahead s.input x)
+    rw (← c.self.view_is) (due_ends s.state c.write_or_hold.new.state s.queue c.push-2.new.self c.report.new.out.items c.write_or_hold.new.out.items c.in-Some.running_go s.running_go c.bestmove.result (ahead s.input x)
     alive c.in-Some.is (search rules) (search rules) (search rules) (search rules) (search rules) (search rules))
 
 pub returns-clause-grown : goal.returns-clause-grown
@@ -33,5 +33,5 @@ returns-clause-grown g c =
     rw (← c.self.view_is) (record {
       lines = c.write_or_hold.new.out.items;
       after_is = search rules;
-      whole = end_whole c.self.inside.state c.tell.new.out.items c.write_or_hold.new.out.items c.bestmove.result (search rules) (search rules);
+      whole = end_whole c.self.inside.state c.report.new.out.items c.write_or_hold.new.out.items c.bestmove.result (search rules) (search rules);
     })

@@ -1,4 +1,4 @@
--- A line of a running `go` is told.
+-- A line of a running `go` is reported.
 use Rattle.std.proofs.Common.{◌≡◌, ◌≢◌, ℕ, suc, ◌+◌, ◌-◌, ◌<◌, ℤ, List, [], ◌∷◌, ◌++◌, refl, sym, ap, ◌∙◌, arith, append_assoc, subst, true, false, Bool, length, drop}
 use Rattle.std.proofs.lemmas.Bool.{eqb-true, eq-eqb, cond-true, cond-false, false_from_ne_true}
 use Rattle.std.proofs.lemmas.List.{drop_all}
@@ -10,12 +10,13 @@ use Rattle.shogi_eval.specs.declared.eval.Eval.{Eval}
 use Rattle.shogi_search.specs.Minimax.{value, worth, pv}
 use Rattle.usi_session.specs.declared.question.Question.{Question}
 use Rattle.usi_session.specs.Texts.{info_line, info_text, numbered_info_text}
-use Rattle.usi_session.specs.GoInfos.{numbered_line, numbered_lines, depth_lines}
+use Rattle.usi_session.specs.GoInfos.{numbered_line, numbered_lines}
 use Rattle.usi_session.specs.RunningGo.{listed_at, infos_of_depths, deeper_infos, rest_of_depth, infos_to_come, infos_after_line, ends_depth}
 use Rattle.usi_session.specs.Walked.{Walked, IsLine}
 use Rattle.usi_session.specs.WholeLines.{GrowsByLines}
 use Rattle.usi_session.proofs.WholeReplies.{info_whole, numbered_info_whole, grows_by_text}
 use Rattle.usi_session.proofs.Listed.{drop_at, line_below, line_first, one_listed}
+use Rattle.usi_session.proofs.RunningGoLaws.{infos_of_depths-suc}
 
 numbered_lines-next : (p : Shogi) (eval : Eval) (depth number code : ℕ) (rest : List ℕ) → numbered_lines p eval depth number (code ∷ rest) ≡ numbered_line p eval depth number code ++ numbered_lines p eval depth (number + 1) rest
 unfolding numbered_lines
@@ -25,10 +26,10 @@ numbered_lines-none : (p : Shogi) (eval : Eval) (depth number : ℕ) → numbere
 unfolding numbered_lines
 numbered_lines-none p eval depth number = refl
 
--- with one line the value and the pv are told, and the depth ends
-pub told_one : (question : Question) (depths_done lines_done : ℕ) (w : Walked) (old new : List ℕ) (v : ℤ) (moves : List Move) → IsLine question depths_done lines_done w → question.multi_pv ≡ 1 → legal_codes question.position ≢ []
+-- with one line the value and the pv are reported, and the depth ends
+pub reported_one : (question : Question) (depths_done lines_done : ℕ) (w : Walked) (old new : List ℕ) (v : ℤ) (moves : List Move) → IsLine question depths_done lines_done w → question.multi_pv ≡ 1 → legal_codes question.position ≢ []
     → v ≡ w.value → moves ≡ w.pv → new ≡ old ++ info_text (depths_done + 1) v moves → new ++ infos_after_line question depths_done lines_done ≡ old ++ infos_to_come question depths_done lines_done
-told_one question depths_done lines_done w old new v moves l n ne value_is moves_are e =
+reported_one question depths_done lines_done w old new v moves l n ne value_is moves_are e =
     let z : lines_done ≡ 0 = omega (arith, line_below question depths_done lines_done w l, n) in
     let both : (w.value ≡ value question.position question.eval (depths_done + 1)) × (w.pv ≡ pv question.position question.eval (depths_done + 1)) = line_first question depths_done w (subst (λ (k : ℕ). IsLine question depths_done k w) z l) (omega (arith, n)) ne in
     let len : length (listed_at question depths_done) ≡ 1 = one_listed question.position question.eval question.multi_pv (depths_done + 1) n (omega arith) ne in
@@ -58,10 +59,10 @@ after_at question depths_done lines_done false e n =
 not_one : (n : ℕ) → n ≢ 1 → (n == 1) ≡ false
 not_one n ne = false_from_ne_true (n == 1) (λ e. ne (eqb-true n 1 e))
 
--- with several lines the current one is told by its number
-pub told_several : (question : Question) (depths_done lines_done : ℕ) (w : Walked) (old new : List ℕ) (v : ℤ) (moves : List Move) → IsLine question depths_done lines_done w → question.multi_pv ≢ 1
+-- with several lines the current one is reported by its number
+pub reported_several : (question : Question) (depths_done lines_done : ℕ) (w : Walked) (old new : List ℕ) (v : ℤ) (moves : List Move) → IsLine question depths_done lines_done w → question.multi_pv ≢ 1
     → v ≡ w.value → moves ≡ w.pv → new ≡ old ++ numbered_info_text (depths_done + 1) (lines_done + 1) v moves → new ++ infos_after_line question depths_done lines_done ≡ old ++ infos_to_come question depths_done lines_done
-told_several question depths_done lines_done w old new v moves l ne value_is moves_are e =
+reported_several question depths_done lines_done w old new v moves l ne value_is moves_are e =
     let several : (question.multi_pv == 1) ≡ false = not_one question.multi_pv ne in
     let more : List ℕ = numbered_lines question.position question.eval (depths_done + 1) (lines_done + 1 + 1) (drop (lines_done + 1) (listed_at question depths_done)) in
     let line : List ℕ = numbered_line question.position question.eval (depths_done + 1) (lines_done + 1) l.code in
@@ -87,12 +88,8 @@ one_grows old new depth v moves e = grows_by_text old new (info_text depth v mov
 pub several_grow : (old new : List ℕ) (depth number : ℕ) (v : ℤ) (moves : List Move) → new ≡ old ++ numbered_info_text depth number v moves → GrowsByLines old new
 several_grow old new depth number v moves e = grows_by_text old new (numbered_info_text depth number v moves) e (numbered_info_whole depth number v moves)
 
-infos_of_depths-suc : (question : Question) (depths_done more : ℕ) → infos_of_depths question depths_done (suc more) ≡ depth_lines question.position question.eval question.multi_pv (depths_done + 1) ++ infos_of_depths question (depths_done + 1) more
-unfolding infos_of_depths
-infos_of_depths-suc question depths_done more = refl
-
 -- after the last line of a depth comes the next depth
-pub told_depth : (question : Question) (depths_done : ℕ) → depths_done + 1 < question.depth → infos_to_come question (depths_done + 1) 0 ≡ deeper_infos question depths_done
-told_depth question depths_done h =
+pub reported_depth : (question : Question) (depths_done : ℕ) → depths_done + 1 < question.depth → infos_to_come question (depths_done + 1) 0 ≡ deeper_infos question depths_done
+reported_depth question depths_done h =
     let n : question.depth - (depths_done + 1) ≡ suc (question.depth - (depths_done + 1 + 1)) = omega arith in
     sym (ap (infos_of_depths question (depths_done + 1)) n ∙ infos_of_depths-suc question (depths_done + 1) (question.depth - (depths_done + 1 + 1)))

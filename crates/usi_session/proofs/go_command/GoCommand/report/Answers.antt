@@ -2,15 +2,15 @@ use Rattle.std.proofs.Common.{◌+◌, ◌<◌, ap, ◌∙◌, arith, rules, ref
 use Rattle.std.proofs.lemmas.Result.{on_ok_weaker}
 use Rattle.usi_session.specs.RunningGo.{is_searching}
 use Rattle.usi_session.proofs.Listed.{line_below, first_some}
-use Rattle.usi_session.proofs.GoOn.{whole_line, IsWholeLine}
-use Rattle.usi_session.proofs.Tells.{told_one, told_several, one_grows, several_grow}
-use Rattle.usi_session.proofs.go_command.GoCommand.tell.Goals as goal
+use Rattle.usi_session.proofs.NextSearch.{whole_line, IsWholeLine}
+use Rattle.usi_session.proofs.Reports.{reported_one, reported_several, one_grows, several_grow}
+use Rattle.usi_session.proofs.go_command.GoCommand.report.Goals as goal
 
 pub returns-then-self-eq1-clause-rest : goal.returns-then-self-eq1-clause-rest
 returns-then-self-eq1-clause-rest g c =
     let s = c.self.inside in
     let w : IsWholeLine s.question s.depths_done s.lines_done s.root_move s.ranks s.walk s.bestmove = whole_line s.question s.depths_done s.lines_done s.root_move s.ranks s.walk s.bestmove s.search.value c.self.invariant.at_depth (ap is_searching c.self.view_is ∙ c.requires.whole) in
-    rw (← c.self.view_is) (on_ok_weaker c.write_info.result (λ e. told_one s.question s.depths_done s.lines_done s.walk _ _ s.walk.value s.walk.pv w.line c.if-self-eq1.true (first_some s.question.position s.first c.self.invariant.first_is) refl refl (search rules)) c.write_info.ensures)
+    rw (← c.self.view_is) (on_ok_weaker c.write_info.result (λ e. reported_one s.question s.depths_done s.lines_done s.walk _ _ s.walk.value s.walk.pv w.line c.if-self-eq1.true (first_some s.question.position s.first c.self.invariant.first_is) refl refl (search rules)) c.write_info.ensures)
 
 pub returns-then-self-eq1-clause-lines : goal.returns-then-self-eq1-clause-lines
 returns-then-self-eq1-clause-lines g c =
@@ -29,7 +29,7 @@ pub returns-clause-rest : goal.returns-clause-rest
 returns-clause-rest g c =
     let s = c.self.inside in
     let w : IsWholeLine s.question s.depths_done s.lines_done s.root_move s.ranks s.walk s.bestmove = whole_line s.question s.depths_done s.lines_done s.root_move s.ranks s.walk s.bestmove s.search.value c.self.invariant.at_depth (ap is_searching c.self.view_is ∙ c.requires.whole) in
-    rw (← c.self.view_is) (on_ok_weaker c.write_numbered_info.result (λ e. told_several s.question s.depths_done s.lines_done s.walk _ _ s.walk.value s.walk.pv w.line (search rules) refl refl (search rules)) c.write_numbered_info.ensures)
+    rw (← c.self.view_is) (on_ok_weaker c.write_numbered_info.result (λ e. reported_several s.question s.depths_done s.lines_done s.walk _ _ s.walk.value s.walk.pv w.line (search rules) refl refl (search rules)) c.write_numbered_info.ensures)
 
 pub returns-clause-lines : goal.returns-clause-lines
 returns-clause-lines g c =
