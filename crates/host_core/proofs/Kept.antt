@@ -2,7 +2,7 @@
 use Rattle.std.specs.Prelude.{Result, Ok, Err, OnErr}
 use Rattle.std.proofs.Common.{◌≡◌, ℕ, true, false, List, [], ◌∷◌, Option, Some, None, refl, ap, ◌∙◌}
 use Rattle.session_slots.specs.declared.id.SessionId.{SessionId}
-use Rattle.session_slots.specs.Slots.{find, with_session}
+use Rattle.session_slots.specs.Slots.{OthersKept, find, with_session}
 use Rattle.session_slots.proofs.Finds.{find-with_session-other, with_session-same}
 use Rattle.usi_session.specs.Due.{SessionView}
 use Rattle.host_core.specs.declared.event.HostFault.{HostFault}
@@ -10,19 +10,20 @@ use Rattle.host_core.specs.declared.event.HostFault.TheVariants.{Full, OutOfMemo
 use Rattle.host_core.specs.Events.{Event, Open, Feed, Work, Take, Close, Outcome, Opened, Done, Worked, Gave, Refused}
 use Rattle.host_core.specs.Sessions.{Feeds, Works, Takes}
 use Rattle.host_core.specs.Steps.{HostState, Changed, OnSession, IsOpened, IsClosed, Stepped}
-use Rattle.host_core.specs.Made.{Step, is_same_id}
+use Rattle.host_core.specs.Made.{Step}
 use Rattle.host_core.specs.Kept.{names, is_refused}
 use Rattle.host_core.specs.Runs.{IsRun}
-use Rattle.host_core.specs.Seen.{passed_of}
+use Rattle.host_core.specs.Seen.{as_outcome}
 use Rattle.host_core.proofs.Ids.{other_id}
 
-on_other : (goes : SessionView → Outcome → SessionView → Type 0) (old new : HostState) (at id : SessionId) (o : Outcome) (found : Option SessionView) → find old.slots at ≡ found → is_same_id at id ≡ false → OnSession goes old at found o new → find new.slots id ≡ find old.slots id
-on_other goes old new at id o None e n u = ap (λ (h : HostState). find h.slots id) u.same
-on_other goes old new at id o (Some s) e n c = ap (λ q. find q id) c.slots_are ∙ find-with_session-other old.slots at id s c.after e (other_id at id n)
+-- a session answered, and no other changed
+pub on_others : (goes : SessionView → Outcome → SessionView → Type 0) (old new : HostState) (at : SessionId) (o : Outcome) (found : Option SessionView) → find old.slots at ≡ found → OnSession goes old at found o new → OthersKept old.slots new.slots at
+on_others goes old new at o None e u id differs = ap (λ (h : HostState). find h.slots id) u.same
+on_others goes old new at o (Some s) e c id differs = ap (λ q. find q id) c.slots_are ∙ find-with_session-other old.slots at id s c.after e differs
 
-close_other : (old new : HostState) (at id : SessionId) (o : Outcome) (found : Option SessionView) → is_same_id at id ≡ false → IsClosed old at found o new → find new.slots id ≡ find old.slots id
-close_other old new at id o None n u = ap (λ (h : HostState). find h.slots id) u.same
-close_other old new at id o (Some s) n c = c.others id (other_id at id n)
+pub close_others : (old new : HostState) (at : SessionId) (o : Outcome) (found : Option SessionView) → IsClosed old at found o new → OthersKept old.slots new.slots at
+close_others old new at o None u id differs = ap (λ (h : HostState). find h.slots id) u.same
+close_others old new at o (Some s) c id differs = c.others id differs
 
 open_other : (old new : HostState) (id : SessionId) (o : Outcome) → names id Open o ≡ false → IsOpened old o new → find new.slots id ≡ find old.slots id
 open_other old new id (Opened at) n p = p.opens.others id (other_id at id n)
@@ -36,10 +37,10 @@ open_other old new id (Refused NotReady) n p = absurd p
 
 pub keeps_others : (old new : HostState) (event : Event) (o : Outcome) → Stepped old event o new → (id : SessionId) → names id event o ≡ false → find new.slots id ≡ find old.slots id
 keeps_others old new Open o p id n = open_other old new id o n p
-keeps_others old new (Feed at chunk) o p id n = on_other (Feeds chunk) old new at id o (find old.slots at) refl n p.0
-keeps_others old new (Work at budget) o p id n = on_other (Works budget) old new at id o (find old.slots at) refl n p.0
-keeps_others old new (Take at m) o p id n = on_other (Takes m) old new at id o (find old.slots at) refl n p.0
-keeps_others old new (Close at) o p id n = close_other old new at id o (find old.slots at) n p
+keeps_others old new (Feed at chunk) o p id n = on_others (Feeds chunk) old new at o (find old.slots at) refl p.0 id (other_id at id n)
+keeps_others old new (Work at budget) o p id n = on_others (Works budget) old new at o (find old.slots at) refl p.0 id (other_id at id n)
+keeps_others old new (Take at m) o p id n = on_others (Takes m) old new at o (find old.slots at) refl p.0 id (other_id at id n)
+keeps_others old new (Close at) o p id n = close_others old new at o (find old.slots at) p id (other_id at id n)
 
 same_host : (old new : HostState) → new.table ≡ old.table → new.slots ≡ old.slots → new ≡ old
 same_host old new e f = λ k. record { table = e k; slots = f k }
@@ -95,10 +96,11 @@ refused_same old new (Close at) Done p r = absurd (cc)
 refused_same old new (Close at) (Worked steps) p r = absurd (cc)
 refused_same old new (Close at) (Gave bytes) p r = absurd (cc)
 
--- bytes that were not passed leave all as it was
-pub not_passed : {U : Type 0} (old new : HostState) (id : SessionId) (n : ℕ) (bytes : List ℕ) (r : Result U HostFault) → Stepped old (Take id n) (passed_of bytes r) new → OnErr r (new ≡ old)
-not_passed old new id n bytes (Ok done) p = tt
-not_passed old new id n bytes (Err fault) p = refused_same old new (Take id n) (Refused fault) p refl
+-- a call that was refused, and is no `Work`, leaves all as it was
+pub refused_call : {X : Type 0} (done : X → Outcome) (old new : HostState) (event : Event) (r : Result X HostFault)
+    → ((fault : HostFault) → is_refused event (Refused fault) ≡ true) → Stepped old event (as_outcome done r) new → OnErr r (new ≡ old)
+refused_call done old new event (Ok given) may p = tt
+refused_call done old new event (Err fault) may p = refused_same old new event (Refused fault) p (may fault)
 
 open_capacity : (old new : HostState) (o : Outcome) → IsOpened old o new → new.table.capacity ≡ old.table.capacity
 open_capacity old new (Opened id) p = ap (λ t. t.capacity) p.table_is

@@ -1,18 +1,18 @@
 -- What is noted of sessions that are still.
-use Rattle.std.proofs.Common.{◌≡◌, ℕ, zero, suc, ◌+◌, Bool, true, false, cond, not, ◌&&◌, List, [], ◌∷◌, set, Option, Some, None, refl, sym, ap, ◌∙◌, inl, inr, arith}
+use Rattle.std.proofs.Common.{◌≡◌, ◌≢◌, ℕ, zero, suc, ◌+◌, Bool, true, false, cond, not, ◌&&◌, List, [], ◌∷◌, set, Option, Some, None, refl, sym, ap, ◌∙◌, inl, inr, arith}
 use Rattle.std.specs.Prelude.{◌<◌, slice_index_or, is_some, IsSome, replicate, length, nat_eq}
 use Rattle.std.proofs.lemmas.Bool.{cases_eq, and_parts}
 use Rattle.std.proofs.lemmas.List.{get_or-set_other}
 use Rattle.session_slots.specs.declared.id.SessionId.{SessionId}
-use Rattle.session_slots.specs.Slots.{OpenSessions, find}
-use Rattle.usi_session.specs.Due.{SessionView, wants_input}
+use Rattle.session_slots.specs.Slots.{OpenSessions, Opens, OthersKept, find, with_session}
+use Rattle.session_slots.proofs.Finds.{find-with_session, find-with_session-other}
+use Rattle.usi_session.specs.Due.{SessionView, new_session, wants_input}
+use Rattle.usi_session.proofs.Settled.{new_wants}
 use Rattle.std.specs.Borrow.{Bor}
 use Rattle.host_core.specs.ById.{IsQueue, is_still_of, is_over_of, pending_of, wants_input_of}
-use Rattle.host_core.specs.Events.{Event, Open, Feed, Work, Take, Close, Outcome, Opened, Done, Worked, Gave, Refused}
-use Rattle.host_core.specs.Kept.{KeepsOthers}
 use Rattle.host_core.specs.Made.{is_same_id}
 use Rattle.host_core.specs.Steps.{HostState}
-use Rattle.host_core.specs.Still.{AreStill, AreSettled, note_of, noting, named_by}
+use Rattle.host_core.specs.Still.{AreStill, AreSettled, note_of}
 use Rattle.host_core.proofs.Ids.{same_id, other_id}
 use Rattle.host_core.proofs.Rounds.{is_settled}
 
@@ -30,50 +30,59 @@ written [] k m g e = absurd (cc)
 written (x ∷ xs) zero m g e = e
 written (x ∷ xs) (suc k) m g e = written xs k m g e
 
-told : (b : Bool) (x g : ℕ) → cond b (Some x) None ≡ Some g → b ≡ true
-told true x g e = refl
-told false x g e = absurd (cc)
+noted_still : (b : Bool) (x g : ℕ) → cond b (Some x) None ≡ Some g → b ≡ true
+noted_still true x g e = refl
+noted_still false x g e = absurd (cc)
 
-told_generation : (b : Bool) (x g : ℕ) → cond b (Some x) None ≡ Some g → x ≡ g
-told_generation true x g e = cc
-told_generation false x g e = absurd (cc)
+noted_generation : (b : Bool) (x g : ℕ) → cond b (Some x) None ≡ Some g → x ≡ g
+noted_generation true x g e = cc
+noted_generation false x g e = absurd (cc)
 
-same_slot : (slots : OpenSessions) (at id : SessionId) → is_same_id at id ≡ false → id.slot ≡ at.slot → note_of slots at ≡ Some id.generation → ⊥
-same_slot slots at id n same e =
-    let g : at.generation ≡ id.generation = told_generation (is_still_of (find slots at)) at.generation id.generation e in
-    other_id at id n (λ k. record { slot = same k; generation = sym g k })
+-- a note of another session at the slot is of another generation
+same_slot : (at id : SessionId) (found : Option SessionView) → id ≢ at → id.slot ≡ at.slot
+    → note_of at found ≡ Some id.generation → ⊥
+same_slot at id found differs same e =
+    let g : at.generation ≡ id.generation = noted_generation (is_still_of found) at.generation id.generation e in
+    differs (λ k. record { slot = same k; generation = sym g k })
 
-noted_by : (b : Bool) (noted : List (Option ℕ)) (old new : OpenSessions) (at id : SessionId) → is_same_id at id ≡ b → AreStill noted old → ((other : SessionId) → is_same_id at other ≡ false → find new other ≡ find old other)
-    → slice_index_or (noting noted new (Some at)) id.slot None ≡ Some id.generation → is_still_of (find new id) ≡ true
-noted_by true noted old new at id s still kept e =
+noted_by : (b : Bool) (noted : List (Option ℕ)) (old new : OpenSessions) (at id : SessionId) (found : Option SessionView)
+    → is_same_id at id ≡ b → find new at ≡ found → AreStill noted old → OthersKept old new at
+    → slice_index_or (set noted at.slot (note_of at found)) id.slot None ≡ Some id.generation
+    → is_still_of (find new id) ≡ true
+noted_by true noted old new at id found s finds still kept e =
     let same : at ≡ id = same_id at id s in
     let slot : id.slot ≡ at.slot = ap (λ (i : SessionId). i.slot) (sym same) in
-    let m : note_of new at ≡ Some id.generation = written noted at.slot (note_of new at) id.generation (ap (λ k. slice_index_or (noting noted new (Some at)) k None) (sym slot) ∙ e) in
-    ap (λ (i : SessionId). is_still_of (find new i)) (sym same) ∙ told (is_still_of (find new at)) at.generation id.generation m
-noted_by false noted old new at id s still kept e =
+    let m : note_of at found ≡ Some id.generation = written noted at.slot (note_of at found) id.generation (ap (λ k. slice_index_or (set noted at.slot (note_of at found)) k None) (sym slot) ∙ e) in
+    ap (λ (i : SessionId). is_still_of (find new i)) (sym same) ∙ (ap is_still_of finds ∙ noted_still (is_still_of found) at.generation id.generation m)
+noted_by false noted old new at id found s finds still kept e =
     elim (cases_eq id.slot at.slot) [
-      | inl same ↦ absurd (same_slot new at id s same (written noted at.slot (note_of new at) id.generation (ap (λ k. slice_index_or (noting noted new (Some at)) k None) (sym same) ∙ e)))
-      | inr apart ↦ ap is_still_of (kept id s) ∙ still id (sym (get_or-set_other noted at.slot id.slot (note_of new at) None apart) ∙ e)
+      | inl same ↦ absurd (same_slot at id found (other_id at id s) same (written noted at.slot (note_of at found) id.generation (ap (λ k. slice_index_or (set noted at.slot (note_of at found)) k None) (sym same) ∙ e)))
+      | inr apart ↦ ap is_still_of (kept id (other_id at id s)) ∙ still id (sym (get_or-set_other noted at.slot id.slot (note_of at found) None apart) ∙ e)
     ]
 
--- after a step of one session
-pub still_after : (noted : List (Option ℕ)) (old new : OpenSessions) (at : SessionId) → AreStill noted old → ((other : SessionId) → is_same_id at other ≡ false → find new other ≡ find old other) → AreStill (noting noted new (Some at)) new
-still_after noted old new at still kept id e = noted_by (is_same_id at id) noted old new at id refl still kept e
+-- after one session changed, and was noted
+pub still_after : (noted : List (Option ℕ)) (old new : OpenSessions) (at : SessionId) (found : Option SessionView)
+    → find new at ≡ found → AreStill noted old → OthersKept old new at
+    → AreStill (set noted at.slot (note_of at found)) new
+still_after noted old new at found finds still kept id e = noted_by (is_same_id at id) noted old new at id found refl finds still kept e
 
-still_where : (noted : List (Option ℕ)) (old new : OpenSessions) → AreStill noted old → ((other : SessionId) → find new other ≡ find old other) → AreStill noted new
-still_where noted old new still kept id e = ap is_still_of (kept id) ∙ still id e
+-- after a write to the session of an id
+pub still_written : (noted : List (Option ℕ)) (old : OpenSessions) (at : SessionId) (t after : SessionView)
+    → find old at ≡ Some t → AreStill noted old
+    → AreStill (set noted at.slot (note_of at (Some after))) (with_session old at after)
+still_written noted old at t after e still =
+    still_after noted old (with_session old at after) at (Some after) (find-with_session old at t after e) still (λ other differs. find-with_session-other old at other t after e differs)
 
--- after any step
-pub still_on : (noted : List (Option ℕ)) (old new : HostState) (event : Event) (o : Outcome) → AreStill noted old.slots → KeepsOthers old event o new → AreStill (noting noted new.slots (named_by event o)) new.slots
-still_on noted old new Open (Opened at) still kept = still_after noted old.slots new.slots at still kept
-still_on noted old new Open Done still kept = still_where noted old.slots new.slots still (λ id. kept id refl)
-still_on noted old new Open (Worked steps) still kept = still_where noted old.slots new.slots still (λ id. kept id refl)
-still_on noted old new Open (Gave bytes) still kept = still_where noted old.slots new.slots still (λ id. kept id refl)
-still_on noted old new Open (Refused fault) still kept = still_where noted old.slots new.slots still (λ id. kept id refl)
-still_on noted old new (Feed at chunk) o still kept = still_after noted old.slots new.slots at still kept
-still_on noted old new (Work at budget) o still kept = still_after noted old.slots new.slots at still kept
-still_on noted old new (Take at n) o still kept = still_after noted old.slots new.slots at still kept
-still_on noted old new (Close at) o still kept = still_after noted old.slots new.slots at still kept
+-- a new session is still
+new_noted : (at : SessionId) → note_of at (Some new_session) ≡ Some at.generation
+new_noted at = ap (λ b. cond (b && true) (Some at.generation) None) new_wants
+
+-- after a session was opened
+pub still_opened : (noted : List (Option ℕ)) (old new : OpenSessions) (at : SessionId) → AreStill noted old → Opens old new at
+    → AreStill (set noted at.slot (Some at.generation)) new
+still_opened noted old new at still o =
+    let s : AreStill (set noted at.slot (note_of at (Some new_session))) new = still_after noted old new at (Some new_session) o.now still o.others in
+    rw (new_noted at) at s
 
 -- a session that is still is open, and nothing of it is pending
 is_open : (found : Option SessionView) → is_still_of found ≡ true → IsSome found

@@ -1,4 +1,4 @@
--- What a host tells of a session by its id: nothing of one that is not open (own choice).
+-- What a host returns of a session by its id: nothing of one that is not open (own choice).
 use Rattle.std.specs.Prelude.{◌≡◌, ℕ, List, [], length, Bool, false, ◌&&◌, nat_eq, Option, Some, None}
 use Rattle.std.specs.Borrow.{Bor}
 use Rattle.usi_session.specs.Due.{SessionView, is_pending, wants_input}

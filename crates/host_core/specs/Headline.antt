@@ -18,22 +18,32 @@ abbrev pub IsSettled : Option SessionView → Type 0
 IsSettled None = ⊥
 IsSettled (Some t) = is_pending t ≡ false
 
--- the bytes made for a session that the run opened are a front of the replies to its own bytes
-abbrev pub FrontOfReplies : List Step → HostState → Type 0
-FrontOfReplies steps end = (id : SessionId) → is_opened id steps ≡ true → IsFrontOf (made id steps (queued_of (find end.slots id))) (replies (own id steps))
+-- the bytes made for an id in these steps, which end here
+abbrev pub made_by : SessionId → List Step → HostState → List ℕ
+made_by id steps end = made id steps (queued_of (find end.slots id))
+
+-- the bytes made for a session that the run opened are a prefix of the replies to its own bytes
+abbrev pub PrefixOfReplies : List Step → HostState → Type 0
+PrefixOfReplies steps end =
+    (id : SessionId) → is_opened id steps ≡ true
+    → IsFrontOf (made_by id steps end) (replies (own id steps))
 
 -- the bytes made for a session that the run opened are all of the replies to its own bytes, where it is open at the end with nothing pending
 abbrev pub AllReplies : List Step → HostState → Type 0
-AllReplies steps end = (id : SessionId) → is_opened id steps ≡ true → IsSettled (find end.slots id) → made id steps (queued_of (find end.slots id)) ≡ replies (own id steps)
+AllReplies steps end =
+    (id : SessionId) → is_opened id steps ≡ true → IsSettled (find end.slots id)
+    → made_by id steps end ≡ replies (own id steps)
 
--- of what was owed to its own bytes, a session was taken these: what it owes now is the rest, for any further bytes; where it is closed, they are a front
+-- of what was owed to its own bytes, a session was taken these: what it owes now is the rest, for any further bytes; where it is closed, they are a prefix
 abbrev pub EndsFrom : (List ℕ → List ℕ) → List ℕ → List ℕ → Option SessionView → Type 0
 EndsFrom owed own taken None = IsFrontOf taken (owed own)
 EndsFrom owed own taken (Some t) = (x : List ℕ) → taken ++ due t x ≡ owed (own ++ x)
 
 -- a session that was open before goes on from what it owed
 abbrev pub GoesOn : HostState → List Step → HostState → Type 0
-GoesOn old steps end = (id : SessionId) (s : SessionView) → find old.slots id ≡ Some s → EndsFrom (due s) (own id steps) (taken id steps) (find end.slots id)
+GoesOn old steps end =
+    (id : SessionId) (s : SessionView) → find old.slots id ≡ Some s
+    → EndsFrom (due s) (own id steps) (taken id steps) (find end.slots id)
 
 -- whether a session is over once these further bytes were fed and all was answered
 abbrev pub is_over_due : SessionView → List ℕ → Bool
@@ -46,19 +56,28 @@ OverFrom ends own (Some t) = (x : List ℕ) → is_over_due t x ≡ ends (own ++
 
 -- a session that the run opened ends by its own bytes, and by no others
 abbrev pub EndsByOwn : List Step → HostState → Type 0
-EndsByOwn steps end = (id : SessionId) → is_opened id steps ≡ true → OverFrom is_over_after (own id steps) (find end.slots id)
+EndsByOwn steps end =
+    (id : SessionId) → is_opened id steps ≡ true
+    → OverFrom is_over_after (own id steps) (find end.slots id)
 
 -- with nothing pending it is over exactly where its own bytes end it: after `quit` or a line that is too long, and not before
 abbrev pub OverByOwn : List Step → HostState → Type 0
-OverByOwn steps end = (id : SessionId) → is_opened id steps ≡ true → IsSettled (find end.slots id) → is_over_of (find end.slots id) ≡ is_over_after (own id steps)
+OverByOwn steps end =
+    (id : SessionId) → is_opened id steps ≡ true → IsSettled (find end.slots id)
+    → is_over_of (find end.slots id) ≡ is_over_after (own id steps)
 
 -- a session that was open before ends as it was to end
 abbrev pub EndsOn : HostState → List Step → HostState → Type 0
-EndsOn old steps end = (id : SessionId) (s : SessionView) → find old.slots id ≡ Some s → OverFrom (is_over_due s) (own id steps) (find end.slots id)
+EndsOn old steps end =
+    (id : SessionId) (s : SessionView) → find old.slots id ≡ Some s
+    → OverFrom (is_over_due s) (own id steps) (find end.slots id)
 
 -- two runs that agree on the own bytes of a session which each of them opened make the same bytes for it, where both end with it open and nothing pending; all else may differ
 abbrev pub IsolatesSessions : Type 0
 IsolatesSessions =
-    (old new other_old other_new : HostState) (steps other_steps : List Step) (id other : SessionId) → IsRun old steps new → IsRun other_old other_steps other_new
-    → is_opened id steps ≡ true → is_opened other other_steps ≡ true → IsSettled (find new.slots id) → IsSettled (find other_new.slots other)
-    → own id steps ≡ own other other_steps → made id steps (queued_of (find new.slots id)) ≡ made other other_steps (queued_of (find other_new.slots other))
+    (old new other_old other_new : HostState) (steps other_steps : List Step) (id other : SessionId)
+    → IsRun old steps new → IsRun other_old other_steps other_new
+    → is_opened id steps ≡ true → is_opened other other_steps ≡ true
+    → IsSettled (find new.slots id) → IsSettled (find other_new.slots other)
+    → own id steps ≡ own other other_steps
+    → made_by id steps new ≡ made_by other other_steps other_new

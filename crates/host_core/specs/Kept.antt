@@ -17,7 +17,8 @@ names id (Close at) outcome = is_same_id at id
 
 -- each session that is not named is what it was
 abbrev pub KeepsOthers : HostState → Event → Outcome → HostState → Type 0
-KeepsOthers old event outcome new = (id : SessionId) → names id event outcome ≡ false → find new.slots id ≡ find old.slots id
+KeepsOthers old event outcome new =
+    (id : SessionId) → names id event outcome ≡ false → find new.slots id ≡ find old.slots id
 
 -- refused, and no `Work`
 abbrev pub is_refused : Event → Outcome → Bool

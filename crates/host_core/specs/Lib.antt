@@ -1,9 +1,9 @@
 pub mod Events
 pub mod Made
-pub mod Seen
 pub mod ById
 pub mod Sessions
 pub mod Steps
+pub mod Seen
 pub mod Kept
 pub mod Runs
 pub mod Headline

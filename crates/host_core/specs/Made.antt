@@ -12,7 +12,8 @@ pub record Step : Type 0 where
 abbrev pub steps_of : {E O : Type 0} → (E → Event) → (O → Outcome) → List E → List O → List Step
 steps_of event outcome [] os = []
 steps_of event outcome (e ∷ es) [] = []
-steps_of event outcome (e ∷ es) (o ∷ os) = record { event = event e; outcome = outcome o } ∷ steps_of event outcome es os
+steps_of event outcome (e ∷ es) (o ∷ os) =
+    record { event = event e; outcome = outcome o } ∷ steps_of event outcome es os
 
 -- two ids are the same
 abbrev pub is_same_id : SessionId → SessionId → Bool

@@ -8,11 +8,17 @@ use Rattle.host_core.specs.Made.{Step}
 use Rattle.host_core.specs.Runs.{IsRun}
 use Rattle.host_core.specs.Steps.{HostState}
 
+-- the id of an open session in this slot
+abbrev pub id_in : ℕ → OpenSession → SessionId
+id_in slot o = record { slot = slot; generation = o.generation }
+
 -- the ids of the pending sessions of these slots, of which the first has this number
 abbrev pub pending_from : ℕ → List (Option OpenSession) → List SessionId
 pending_from slot [] = []
 pending_from slot (None ∷ rest) = pending_from (slot + 1) rest
-pending_from slot (Some o ∷ rest) = cond (is_pending o.session) (record { slot = slot; generation = o.generation } ∷ pending_from (slot + 1) rest) (pending_from (slot + 1) rest)
+pending_from slot (Some o ∷ rest) =
+    cond (is_pending o.session) (id_in slot o ∷ pending_from (slot + 1) rest)
+    (pending_from (slot + 1) rest)
 
 -- the ids of the pending sessions, by rising slot
 abbrev pub pending_ids : HostState → List SessionId
@@ -22,7 +28,8 @@ pending_ids h = pending_from 0 h.slots.slots
 abbrev pub works : ℕ → List SessionId → List Outcome → List Step
 works budget [] os = []
 works budget (id ∷ ids) [] = []
-works budget (id ∷ ids) (o ∷ os) = record { event = Work id budget; outcome = o } ∷ works budget ids os
+works budget (id ∷ ids) (o ∷ os) =
+    record { event = Work id budget; outcome = o } ∷ works budget ids os
 
 abbrev pub has_worked : Outcome → Bool
 has_worked (Worked steps) = true
@@ -33,7 +40,8 @@ was_refused (Refused fault) = true
 was_refused _ = false
 
 -- one `Work` for each of these ids in order: so many succeeded, and so many were refused, which is all of them
-pub record IsRound (old : HostState) (budget : ℕ) (ids : List SessionId) (worked refused : ℕ) (new : HostState) : Type 0 where
+pub record IsRound (old : HostState) (budget : ℕ) (ids : List SessionId)
+    (worked refused : ℕ) (new : HostState) : Type 0 where
   pub outcomes : List Outcome
   pub each : length ids ≡ length outcomes
   pub run : IsRun old (works budget ids outcomes) new
@@ -42,7 +50,8 @@ pub record IsRound (old : HostState) (budget : ℕ) (ids : List SessionId) (work
   pub all : worked + refused ≡ length ids
 
 -- a round that has come to a slot: it did its part for some ids, and those that are still pending from there on are the rest
-pub record RoundTo (old : HostState) (budget slot worked refused : ℕ) (now : HostState) : Type 0 where
+pub record RoundTo (old : HostState) (budget slot worked refused : ℕ)
+    (now : HostState) : Type 0 where
   pub ids : List SessionId
   pub so_far : IsRound old budget ids worked refused now
   pub rest : ids ++ pending_from slot (drop slot now.slots.slots) ≡ pending_ids old

@@ -1,12 +1,16 @@
 -- Events and outcomes of the code as those of the definitions.
-use Rattle.std.specs.Prelude.{ℕ, List, Result, Ok, Err}
+use Rattle.std.specs.Prelude.{ℕ, List, Result, Ok, Err, take}
+use Rattle.session_slots.specs.declared.id.SessionId.{SessionId}
+use Rattle.session_slots.specs.Slots.{find}
 use Rattle.host_core.specs.declared.event.Event as code_event
 use Rattle.host_core.specs.declared.event.Event.TheVariants as event
 use Rattle.host_core.specs.declared.event.Outcome as code_outcome
 use Rattle.host_core.specs.declared.event.Outcome.TheVariants as outcome
 use Rattle.host_core.specs.declared.event.HostFault.{HostFault}
 use Rattle.host_core.specs.Events as events
+use Rattle.host_core.specs.ById.{queued_of}
 use Rattle.host_core.specs.Made.{Step, steps_of}
+use Rattle.host_core.specs.Steps.{HostState}
 
 abbrev pub event_of : code_event.Event → events.Event
 event_of event.Open = events.Open
@@ -23,10 +27,24 @@ outcome_of (outcome.Gave bytes) = events.Gave bytes
 outcome_of (outcome.Refused fault) = events.Refused fault
 
 -- each event of a run with its outcome
-abbrev pub answered : {A : Type 0} → List code_event.Event → List (code_outcome.Outcome A) → List Step
+abbrev pub answered : {A : Type 0} → List code_event.Event → List (code_outcome.Outcome A)
+    → List Step
 answered {A} es os = steps_of event_of (outcome_of {A = A}) es os
+
+-- what a call gave, as an outcome, or its fault as a refusal
+abbrev pub as_outcome : {X : Type 0} → (X → events.Outcome) → Result X HostFault → events.Outcome
+as_outcome done (Ok given) = done given
+as_outcome done (Err fault) = events.Refused fault
+
+-- of a call that gives nothing
+abbrev pub done_of : {U : Type 0} → Result U HostFault → events.Outcome
+done_of result = as_outcome (λ _. events.Done) result
 
 -- the outcome of a `Take` of these bytes, where the bytes themselves are not handed out
 abbrev pub passed_of : {U : Type 0} → List ℕ → Result U HostFault → events.Outcome
-passed_of bytes (Ok done) = events.Gave bytes
-passed_of bytes (Err fault) = events.Refused fault
+passed_of bytes result = as_outcome (λ _. events.Gave bytes) result
+
+-- the outcome of a `Take` of the first n queued bytes, where they are not handed out
+abbrev pub passed_from : {U : Type 0} → HostState → SessionId → ℕ → Result U HostFault
+    → events.Outcome
+passed_from old id n result = passed_of (take n (queued_of (find old.slots id))) result

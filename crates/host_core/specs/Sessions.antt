@@ -30,7 +30,7 @@ pub record WorkedOn (old : SessionView) (budget steps : ℕ) (new : SessionView)
   pub enough : load old ≤ budget → is_pending new ≡ false
   pub idle : is_pending old ≡ false → (steps ≡ 0) × (new ≡ old)
 
--- memory was refused on the way: it owes what it owed, and may have gone on; its queue has only grown, by whole lines
+-- out of memory on the way: it owes what it owed, and may have gone on; its queue has only grown, by whole lines
 pub record Stopped (old new : SessionView) : Type 0 where
   pub was_pending : is_pending old ≡ true
   pub owed : (x : List ℕ) → due new x ≡ due old x

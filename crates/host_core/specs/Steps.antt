@@ -16,7 +16,10 @@ pub record HostState : Type 0 where
 
 -- no session was opened yet, and the table is empty
 abbrev pub new_host : ℕ → ℕ → HostState
-new_host max entries = record { table = record { pairs = []; capacity = entries }; slots = record { max = max; next = 0; slots = [] } }
+new_host max entries = record {
+  table = record { pairs = []; capacity = entries };
+  slots = record { max = max; next = 0; slots = [] };
+}
 
 -- no session is open under the id
 pub record Unknown (old : HostState) (outcome : Outcome) (new : HostState) : Type 0 where
@@ -24,13 +27,15 @@ pub record Unknown (old : HostState) (outcome : Outcome) (new : HostState) : Typ
   pub same : new ≡ old
 
 -- the session of the id answered, and no other changed
-pub record Changed (goes : SessionView → Outcome → SessionView → Type 0) (old : HostState) (id : SessionId) (session : SessionView) (outcome : Outcome) (new : HostState) : Type 0 where
+pub record Changed (goes : SessionView → Outcome → SessionView → Type 0) (old : HostState)
+    (id : SessionId) (session : SessionView) (outcome : Outcome) (new : HostState) : Type 0 where
   pub after : SessionView
   pub went : goes session outcome after
   pub slots_are : new.slots ≡ with_session old.slots id after
 
 -- the session of the id answers, where it is open
-abbrev pub OnSession : (SessionView → Outcome → SessionView → Type 0) → HostState → SessionId → Option SessionView → Outcome → HostState → Type 0
+abbrev pub OnSession : (SessionView → Outcome → SessionView → Type 0) → HostState → SessionId
+    → Option SessionView → Outcome → HostState → Type 0
 OnSession goes old id None outcome new = Unknown old outcome new
 OnSession goes old id (Some session) outcome new = Changed goes old id session outcome new
 
@@ -48,7 +53,8 @@ IsOpened old (Refused OutOfMemory) new = (IsFull old.slots → ⊥) × (new ≡ 
 IsOpened old _ new = ⊥
 
 -- the session of the id is open no more, and no other changed
-pub record Closed (old : HostState) (id : SessionId) (outcome : Outcome) (new : HostState) : Type 0 where
+pub record Closed (old : HostState) (id : SessionId) (outcome : Outcome)
+    (new : HostState) : Type 0 where
   pub done : outcome ≡ Done
   pub none : find new.slots id ≡ None
   pub others : OthersKept old.slots new.slots id
@@ -68,12 +74,15 @@ pub record KeepsTable (old : HostState) (id : SessionId) (new : HostState) : Typ
 
 -- the session of the id goes on
 abbrev pub IsWorked : ℕ → HostState → SessionId → Outcome → HostState → Type 0
-IsWorked budget old id outcome new = OnSession (Works budget) old id (find old.slots id) outcome new × KeepsTable old id new
+IsWorked budget old id outcome new =
+    OnSession (Works budget) old id (find old.slots id) outcome new × KeepsTable old id new
 
 -- each event with its outcome, and the host after it; only a `Work` of a session that is pending may change the table
 abbrev pub Stepped : HostState → Event → Outcome → HostState → Type 0
 Stepped old Open outcome new = IsOpened old outcome new
-Stepped old (Feed id chunk) outcome new = OnSession (Feeds chunk) old id (find old.slots id) outcome new × (new.table ≡ old.table)
+Stepped old (Feed id chunk) outcome new =
+    OnSession (Feeds chunk) old id (find old.slots id) outcome new × (new.table ≡ old.table)
 Stepped old (Work id budget) outcome new = IsWorked budget old id outcome new
-Stepped old (Take id n) outcome new = OnSession (Takes n) old id (find old.slots id) outcome new × (new.table ≡ old.table)
+Stepped old (Take id n) outcome new =
+    OnSession (Takes n) old id (find old.slots id) outcome new × (new.table ≡ old.table)
 Stepped old (Close id) outcome new = IsClosed old id (find old.slots id) outcome new

@@ -20,7 +20,7 @@ impl<A: Allocator> Model for Bytes<A> {
 }
 
 impl<A: Allocator> Bytes<A> {
-    /// A copy of the bytes, or an error where memory is refused.
+    /// A copy of the bytes, or an error where there is no memory for it.
     pub fn copy_of(alloc: A, bytes: &[u8]) -> Result<Bytes<A>, AllocError>
         ensures { IfOk result (λ copy. copy ≡ bytes.now) }
     {

@@ -1,20 +1,31 @@
 //! What a host is asked, and what it answers.
 
+ghost use Rattle.std.specs.Prelude.{◌≡◌};
+ghost use Rattle.host_core.specs.declared.event.HostFault.TheVariants.{OutOfMemory};
+
 use crate::bytes::Bytes;
 use session_slots::SessionId;
-use std::alloc::Allocator;
+use std::alloc::{AllocError, Allocator};
 
 /// Why a host did not do what it was asked. Nothing changed, unless `Event::Work` says otherwise.
 #[derive(Clone, Copy, Debug, PartialEq, Eq)]
 pub enum HostFault {
     /// As many sessions are open as may be, or no id is left.
     Full,
-    /// Memory was refused.
+    /// Out of memory.
     OutOfMemory,
     /// No session is open under the id: it was never given out, or its session was closed.
     UnknownSession,
     /// The session wants no input, a chunk is too long, or fewer bytes are queued than were asked for.
     NotReady,
+}
+
+impl From<AllocError> for HostFault {
+    ghost from_gives = { λ _ fault. fault ≡ OutOfMemory };
+
+    fn from(_error: AllocError) -> HostFault {
+        HostFault::OutOfMemory
+    }
 }
 
 /// What a host is asked, one at a time. Refusals are listed in the order in which they are looked for.

@@ -5,9 +5,10 @@ mod bytes;
 mod event;
 mod host;
 mod laws;
+mod notes;
 mod round;
+mod runs;
 mod serve;
-mod sessions;
 
 pub use bytes::Bytes;
 pub use event::{Event, HostFault, Outcome};

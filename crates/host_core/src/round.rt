@@ -1,36 +1,88 @@
-//! What a round did.
+//! A round of works.
 
-ghost use Rattle.std.specs.Prelude.{◌≡◌, ◌≤◌, ◌<◌, ◌+◌, ◌-◌, ◌^◌, cond};
-ghost use Rattle.host_core.specs.Rounds.{has_worked, was_refused};
-ghost use Rattle.host_core.specs.Seen.{outcome_of};
+ghost use Rattle.std.specs.Prelude.{◌≡◌, ◌≤◌, ◌<◌, ◌+◌, ◌-◌, ◌^◌, IfSome, IfNone, IsSome, [], drop};
+ghost use Rattle.session_slots.specs.Slots.{find};
+ghost use Rattle.host_core.specs.Rounds.{pending_from, pending_ids, IsRound, RoundTo};
+ghost use Rattle.host_core.specs.Steps.{HostState};
+ghost use Rattle.host_core.specs.Still.{AreSettled, IsNext};
 
-use crate::event::Outcome;
+use crate::host::Host;
+use session_slots::SessionId;
 use std::alloc::Allocator;
+use std::hash::BuildHasher;
 
-/// How many works of a round succeeded, and how many were refused for memory.
+/// How many works of a round succeeded, and how many ran out of memory.
 #[derive(Clone, Copy, Debug, PartialEq, Eq)]
 pub struct Round {
     pub worked: usize,
     pub refused: usize,
 }
 
-/// A round with the outcome of one work more.
-pub fn counted<A: Allocator>(round: Round, outcome: &Outcome<A>) -> Round
-    requires { round.worked + round.refused < 2 ^ 64 - 1 }
-    ensures worked { result.worked ≡ round.worked + cond (has_worked (outcome_of outcome.now)) 1 0 }
-    ensures refused { result.refused ≡ round.refused + cond (was_refused (outcome_of outcome.now)) 1 0 }
-    ensures most { result.worked + result.refused ≤ round.worked + round.refused + 1 }
-{
-    let Round { worked, refused } = round;
-    match outcome {
-        Outcome::Worked(_) => Round {
-            worked: worked + 1,
-            refused,
-        },
-        Outcome::Refused(_) => Round {
-            worked,
-            refused: refused + 1,
-        },
-        _ => round,
+impl<S: BuildHasher, A: Allocator + Copy> Host<S, A> {
+    /// One `Work` with this budget for each session that is pending as the call starts, by rising slot,
+    /// and for no other.
+    pub fn round(&mut self, budget: u64) -> Round
+        ensures { IsRound self.old budget (pending_ids self.old) result.worked result.refused
+            self.new }
+    {
+        let mut round = Round {
+            worked: 0,
+            refused: 0,
+        };
+        let mut from = 0;
+        while let Some(id) = self.next_from(from) {
+            round = self.round_at(id, budget, round);
+            from = id.slot + 1;
+        }
+        round
+    }
+
+    /// What a round does with an open session: a `Work` where something is pending.
+    fn round_at(&mut self, id: SessionId, budget: u64, round: Round) -> Round
+        requires open { IsSome (find self.old.slots id) }
+        requires not_last { id.slot < 2 ^ 64 - 1 }
+        requires most { round.worked + round.refused ≤ id.slot }
+        ensures goes_on { (start : HostState)
+            → RoundTo start budget id.slot round.worked round.refused self.old
+            → RoundTo start budget (id.slot + 1) result.worked result.refused self.new }
+        ensures most { result.worked + result.refused ≤ id.slot + 1 }
+    {
+        if !self.pending(id) {
+            return round;
+        }
+        let Round { worked, refused } = round;
+        match self.work(id, budget) {
+            Ok(_) => Round {
+                worked: worked + 1,
+                refused,
+            },
+            Err(_) => Round {
+                worked,
+                refused: refused + 1,
+            },
+        }
+    }
+
+    /// An open session from this slot on, such that none between is pending.
+    fn next_from(&self, from: usize) -> Option<SessionId>
+        ensures next { IfSome result (IsNext from self.now.slots) }
+        ensures open { IfSome result (λ id. IsSome (find self.now.slots id)) }
+        ensures not_last { IfSome result (λ id. id.slot < 2 ^ 64 - 1) }
+        ensures none { IfNone result (pending_from from (drop from self.now.slots.slots) ≡ []) }
+    {
+        let first = self.past_still(from);
+        self.slots.next_open(first.checked_sub(1))
+    }
+
+    /// The first slot from this one on whose session is not noted as still.
+    fn past_still(&self, from: usize) -> usize
+        ensures on { from ≤ result }
+        ensures passed { AreSettled from result self.now.slots.slots }
+    {
+        let mut slot = from;
+        while slot < self.noted.len() && self.noted[slot].is_some() {
+            slot += 1;
+        }
+        slot
     }
 }

@@ -1,27 +1,28 @@
 //! What one session answers to the events that name it.
 
-ghost use Rattle.std.specs.Prelude.{◌≡◌, false, take, IsErrOf};
+ghost use Rattle.std.specs.Prelude.{◌≡◌, false, take, MatchResult, IsErrOf};
 ghost use Rattle.usi_session.specs.Due.{is_pending};
-ghost use Rattle.host_core.specs.Seen.{outcome_of, passed_of};
-ghost use Rattle.host_core.specs.Sessions.{Feeds, Works, Takes};
+ghost use Rattle.host_core.specs.Events.{Gave};
+ghost use Rattle.host_core.specs.Seen.{as_outcome, done_of, passed_of};
+ghost use Rattle.host_core.specs.Sessions.{Feeds, Takes, WorkedOn, Stopped};
 ghost use Rattle.host_core.specs.declared.event.HostFault.TheVariants.{OutOfMemory};
 
 use crate::bytes::Bytes;
-use crate::event::{HostFault, Outcome};
+use crate::event::HostFault;
 use shogi_search::Memo;
-use std::alloc::Allocator;
+use std::alloc::{AllocError, Allocator};
 use usi_session::{CHUNK_MAX, Session};
 
 /// Stores the bytes, where the session may be fed.
-pub fn feed<A: Allocator + Copy>(session: &mut Session<A>, chunk: &[u8]) -> Outcome<A>
-    ensures { Feeds chunk.now session.old (outcome_of result) session.new }
+pub fn feed<A: Allocator + Copy>(session: &mut Session<A>, chunk: &[u8]) -> Result<(), HostFault>
+    ensures { Feeds chunk.now session.old (done_of result) session.new }
 {
     if chunk.len() > CHUNK_MAX || !session.wants_input() {
-        return Outcome::Refused(HostFault::NotReady);
+        return Err(HostFault::NotReady);
     }
     match session.feed(chunk) {
-        Ok(()) => Outcome::Done,
-        Err(_) => Outcome::Refused(HostFault::OutOfMemory),
+        Ok(()) => Ok(()),
+        Err(_) => Err(HostFault::OutOfMemory),
     }
 }
 
@@ -31,35 +32,36 @@ pub fn work<A: Allocator + Copy, M: Memo>(
     session: &mut Session<A>,
     memo: &mut M,
     budget: u64,
-) -> Outcome<A>
-    ensures works { Works budget session.old (outcome_of result) session.new }
+) -> Result<u64, AllocError>
+    ensures works { MatchResult result (λ steps. WorkedOn session.old budget steps session.new)
+        (λ _. Stopped session.old session.new) }
     ensures idle { is_pending session.old ≡ false → memo.new ≡ memo.old }
     ensures capacity { M.capacity memo.new ≡ M.capacity memo.old }
 {
     if !session.pending() {
-        return Outcome::Worked(0);
+        return Ok(0);
     }
     match session.work(memo, budget) {
-        Ok(steps) => Outcome::Worked(steps),
-        Err(_) => Outcome::Refused(HostFault::OutOfMemory),
+        Ok(steps) => Ok(steps),
+        Err(_) => Err(AllocError),
     }
 }
 
 /// Hands out the first n bytes of the queue.
-pub fn take<A: Allocator + Copy>(alloc: A, session: &mut Session<A>, n: usize) -> Outcome<A>
-    ensures { Takes n session.old (outcome_of result) session.new }
+pub fn take<A: Allocator + Copy>(
+    alloc: A,
+    session: &mut Session<A>,
+    n: usize,
+) -> Result<Bytes<A>, HostFault>
+    ensures { Takes n session.old (as_outcome Gave result) session.new }
 {
     let output = session.output();
     if n > output.len() {
-        return Outcome::Refused(HostFault::NotReady);
+        return Err(HostFault::NotReady);
     }
-    match Bytes::copy_of(alloc, output.split_at(n).0) {
-        Ok(bytes) => {
-            session.take(n);
-            Outcome::Gave(bytes)
-        }
-        Err(_) => Outcome::Refused(HostFault::OutOfMemory),
-    }
+    let bytes = Bytes::copy_of(alloc, output.split_at(n).0)?;
+    session.take(n);
+    Ok(bytes)
 }
 
 /// Drops the first n bytes of the queue.

@@ -38,14 +38,14 @@ pub writes_next : (old mid new : HostState) (es fs gs : List Transcript) (i : �
 writes_next old mid new es fs gs i out more x w played all lt item e slots os p =
     let q = w slots os p in
     let r : IsPlayback slots new os gs = played slots os q.0 in
-    let n : length os ≡ length gs = transcripts_len new 0 os gs r.tells in
-    let s : transcript_section (get_or gs i no_transcript) ≡ section (get_or os i no_opening) = section_is new (get_or os i no_opening) (get_or gs i no_transcript) (transcripts_get new 0 os gs i r.tells lt) (all slots os q.0) in
+    let n : length os ≡ length gs = transcripts_len new 0 os gs r.transcripts in
+    let s : transcript_section (get_or gs i no_transcript) ≡ section (get_or os i no_opening) = section_is new (get_or os i no_opening) (get_or gs i no_transcript) (transcripts_get new 0 os gs i r.transcripts lt) (all slots os q.0) in
     (r, ap (λ xs. xs ++ output (drop (i + 1) os)) (e ∙ ap (λ xs. out ++ xs) (ap transcript_section (sym item) ∙ s)) ∙ (append_assoc out (section (get_or os i no_opening)) (output (drop (i + 1) os)) ∙ (ap (λ xs. out ++ xs) (sym (output_from os i (omega arith))) ∙ q.1)))
 
 pub writes_end : (old now : HostState) (es fs : List Transcript) (i : ℕ) (out : List ℕ) → WritesTo old es now fs i out → length fs ≤ i → (slots : ℕ) (os : List Opening) → IsPlayback slots old os es → out ≡ output os
 writes_end old now es fs i out w le slots os p =
     let q = w slots os p in
-    let n : length os ≡ length fs = transcripts_len now 0 os fs q.0.tells in
+    let n : length os ≡ length fs = transcripts_len now 0 os fs q.0.transcripts in
     sym (append-nil out) ∙ (ap (λ (rest : List Opening). out ++ output rest) (sym (drop_all i os (omega arith))) ∙ q.1)
 
 -- a script before its first line
@@ -53,7 +53,7 @@ pub read_start : (slots entries : ℕ) (bytes : List ℕ) (h : HostState) → h 
 unfolding AreTranscripts
 read_start slots entries bytes h e = record {
   openings = [];
-  play = rw e (record { tells = omega arith; count_is = refl; max_is = refl; few = omega arith });
+  play = rw e (record { transcripts = omega arith; count_is = refl; max_is = refl; few = omega arith });
   comes = refl;
 }
 

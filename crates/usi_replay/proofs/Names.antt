@@ -111,7 +111,7 @@ opened_played old mid es name None o room slots os p =
     let len = length-append es (new_transcript name None ∷ []) in
     let few : old.slots.next ≤ length es = p.few in
     let now : IsPlayback slots old (os ++ new_opening slots name os ∷ []) (es ++ new_transcript name None ∷ []) = record {
-      tells = transcripts_refused old 0 os es (new_opening slots name os) (new_transcript name None) refl of p.tells;
+      transcripts = transcripts_refused old 0 os es (new_opening slots name os) (new_transcript name None) refl of p.transcripts;
       count_is = p.count_is ∙ omega (arith, last, held);
       max_is = p.max_is;
       few = omega (arith, len);
@@ -129,7 +129,7 @@ opened_played old mid es name (Some at) o room slots os p =
     let more : count mid.slots ≡ count old.slots + 1 = o.opens.count_is in
     let was : count old.slots ≡ count_by has_session os = p.count_is in
     record {
-      tells = transcripts_open old mid at 0 os es (new_opening slots name os) (new_transcript name (Some at)) o.opens.others o.opens.generation_is o.opens.next_is refl of p.tells;
+      transcripts = transcripts_open old mid at 0 os es (new_opening slots name os) (new_transcript name (Some at)) o.opens.others o.opens.generation_is o.opens.next_is refl of p.transcripts;
       count_is = omega (arith, last, held, more, was);
       max_is = o.opens.max_is ∙ p.max_is;
       few = omega (arith, len);
@@ -153,10 +153,10 @@ held_not o e = ap (λ (b : Bool). o.in_use && not b) e ∙ and_false o.in_use wh
 pub freed_live : (old new : HostState) (at : SessionId) (es : List Transcript) (i : ℕ) (slots : ℕ) (os : List Opening) → i < length es → open_id (get_or es i no_transcript) ≡ Some at → IsClosedAs old (Some at) new → HasAllReplies (get_or os i no_opening) (get_or es i no_transcript) → IsPlayback slots old os es → IsPlayback slots new (set os i (closed_opening (get_or os i no_opening))) (set es i (record (get_or es i no_transcript) { in_use = false }))
 freed_live old new at es i slots os lt l closed all p =
     let li : HasOpenId (get_or es i no_transcript) at = has_open_id (get_or es i no_transcript) at l in
-    let of : IsTranscriptOf old (get_or os i no_opening) (get_or es i no_transcript) = transcripts_get old 0 os es i p.tells lt in
+    let of : IsTranscriptOf old (get_or os i no_opening) (get_or es i no_transcript) = transcripts_get old 0 os es i p.transcripts lt in
     let m = made_live old (get_or os i no_opening) (get_or es i no_transcript) at li of in
     let c : Closed old at closed.0 new = closed_of old new at (find old.slots at) (get_or es i no_transcript).made (get_or os i no_opening).text closed.0 m.1 closed.1 in
-    let n : length os ≡ length es = transcripts_len old 0 os es p.tells in
+    let n : length os ≡ length es = transcripts_len old 0 os es p.transcripts in
     let used : (get_or os i no_opening).in_use ≡ true = sym of.used_is ∙ li.used in
     let held : has_session (get_or os i no_opening) ≡ true = rw (used, m.0) refl in
     let fewer = held_freed os i (closed_opening (get_or os i no_opening)) (omega arith) refl held in
@@ -164,7 +164,7 @@ freed_live old new at es i slots os lt l closed all p =
     let was : count old.slots ≡ count_by has_session os = p.count_is in
     let made : HasMade new (get_or es i no_transcript).id false (get_or os i no_opening).refused (get_or os i no_opening).text (get_or es i no_transcript).made = rw li.id_is (m.0, all) in
     record {
-      tells = transcripts_set old new at 0 os es i (closed_opening (get_or os i no_opening)) (record (get_or es i no_transcript) { in_use = false }) (record { others = c.others; next_is = c.next_is }) p.tells lt li.id_is li.id_is (record { name_is = of.name_is; used_is = refl; made_is = made });
+      transcripts = transcripts_set old new at 0 os es i (closed_opening (get_or os i no_opening)) (record (get_or es i no_transcript) { in_use = false }) (record { others = c.others; next_is = c.next_is }) p.transcripts lt li.id_is li.id_is (record { name_is = of.name_is; used_is = refl; made_is = made });
       count_is = omega (arith, fewer, less, was);
       max_is = c.max_is ∙ p.max_is;
       few = (let a : new.slots.next ≡ old.slots.next = c.next_is in let b : old.slots.next ≤ length es = p.few in grind (arith, length-set));
@@ -173,11 +173,11 @@ freed_live old new at es i slots os lt l closed all p =
 pub freed_refused : (h : HostState) (es : List Transcript) (i : ℕ) (slots : ℕ) (os : List Opening) → i < length es → (get_or es i no_transcript).in_use ≡ true → open_id (get_or es i no_transcript) ≡ None → IsPlayback slots h os es → IsPlayback slots h (set os i (closed_opening (get_or os i no_opening))) (set es i (record (get_or es i no_transcript) { in_use = false }))
 freed_refused h es i slots os lt used l p =
     let none : (get_or es i no_transcript).id ≡ None = id_none (get_or es i no_transcript).in_use (get_or es i no_transcript).id used l in
-    let of : IsTranscriptOf h (get_or os i no_opening) (get_or es i no_transcript) = transcripts_get h 0 os es i p.tells lt in
+    let of : IsTranscriptOf h (get_or os i no_opening) (get_or es i no_transcript) = transcripts_get h 0 os es i p.transcripts lt in
     let refused : (get_or os i no_opening).refused ≡ true = none_made h (get_or es i no_transcript).id _ _ _ _ none of.made_is in
-    let n : length os ≡ length es = transcripts_len h 0 os es p.tells in
+    let n : length os ≡ length es = transcripts_len h 0 os es p.transcripts in
     record {
-      tells = transcripts_text h 0 os es i (closed_opening (get_or os i no_opening)) (record (get_or es i no_transcript) { in_use = false }) p.tells lt refl (record { name_is = of.name_is; used_is = refl; made_is = made_none h (get_or es i no_transcript).id _ _ _ _ none refused });
+      transcripts = transcripts_text h 0 os es i (closed_opening (get_or os i no_opening)) (record (get_or es i no_transcript) { in_use = false }) p.transcripts lt refl (record { name_is = of.name_is; used_is = refl; made_is = made_none h (get_or es i no_transcript).id _ _ _ _ none refused });
       count_is = p.count_is ∙ sym (held_set os i (closed_opening (get_or os i no_opening)) (omega arith) (sym (held_not (get_or os i no_opening) refused)));
       max_is = p.max_is;
       few = (let b : h.slots.next ≤ length es = p.few in grind (arith, length-set));

@@ -233,10 +233,10 @@ taken_of old mid new id o before after t i =
 pub taken_played : (old mid new : HostState) (id : SessionId) (es : List Transcript) (i : ℕ) (after : Transcript) → i < length es → IsTaken old mid new id (get_or es i no_transcript) after → KeepsPlayback old es new (set es i after)
 taken_played old mid new id es i after lt t slots os p =
     let l : HasOpenId (get_or es i no_transcript) id = has_open_id (get_or es i no_transcript) id t.open_id_is in
-    let of : IsTranscriptOf new (get_or os i no_opening) after = taken_of old mid new id (get_or os i no_opening) (get_or es i no_transcript) after t (transcripts_get old 0 os es i p.tells lt) in
-    let s : AreTranscripts new 0 (set os i (get_or os i no_opening)) (set es i after) = transcripts_set mid new id 0 os es i (get_or os i no_opening) after (keeps_only mid new id t.others) (transcripts_due old mid 0 os es t.due p.tells) lt l.id_is (live_after old mid new id (get_or es i no_transcript) after t).id_is of in
+    let of : IsTranscriptOf new (get_or os i no_opening) after = taken_of old mid new id (get_or os i no_opening) (get_or es i no_transcript) after t (transcripts_get old 0 os es i p.transcripts lt) in
+    let s : AreTranscripts new 0 (set os i (get_or os i no_opening)) (set es i after) = transcripts_set mid new id 0 os es i (get_or os i no_opening) after (keeps_only mid new id t.others) (transcripts_due old mid 0 os es t.due p.transcripts) lt l.id_is (live_after old mid new id (get_or es i no_transcript) after t).id_is of in
     record {
-      tells = rw (set-get_or os i no_opening) at s;
+      transcripts = rw (set-get_or os i no_opening) at s;
       count_is = t.others.count_is ∙ (t.due.count_is ∙ p.count_is);
       max_is = t.others.max_is ∙ (t.due.max_is ∙ p.max_is);
       few = (let a : new.slots.next ≡ mid.slots.next = t.others.next_is in let b : mid.slots.next ≡ old.slots.next = t.due.next_is in let c : old.slots.next ≤ length es = p.few in grind (arith, length-set));
@@ -269,13 +269,13 @@ pub fed_live : (old new : HostState) (id : SessionId) (es : List Transcript) (i 
 fed_live old new id es i x chunk lt e l others fed slots os p =
     let a : get_or es i no_transcript ≡ x = item_is es i x lt e in
     let li : HasOpenId (get_or es i no_transcript) id = has_open_id (get_or es i no_transcript) id (ap open_id a ∙ l) in
-    let of : IsTranscriptOf old (get_or os i no_opening) (get_or es i no_transcript) = transcripts_get old 0 os es i p.tells lt in
+    let of : IsTranscriptOf old (get_or os i no_opening) (get_or es i no_transcript) = transcripts_get old 0 os es i p.transcripts lt in
     let m = made_live old (get_or os i no_opening) (get_or es i no_transcript) id li of in
     let now : IsTranscriptOf new (with_more chunk (get_or os i no_opening)) (get_or es i no_transcript) = of_live new (with_more chunk (get_or os i no_opening)) (get_or es i no_transcript) id li of.name_is of.used_is m.0 (fed_by (find old.slots id) (find new.slots id) (get_or es i no_transcript).made (get_or os i no_opening).text chunk fed m.1) in
-    let s : AreTranscripts new 0 (set os i (with_more chunk (get_or os i no_opening))) (set es i (get_or es i no_transcript)) = transcripts_set old new id 0 os es i (with_more chunk (get_or os i no_opening)) (get_or es i no_transcript) (keeps_only old new id others) p.tells lt li.id_is li.id_is now in
-    let n : length os ≡ length es = transcripts_len old 0 os es p.tells in
+    let s : AreTranscripts new 0 (set os i (with_more chunk (get_or os i no_opening))) (set es i (get_or es i no_transcript)) = transcripts_set old new id 0 os es i (with_more chunk (get_or os i no_opening)) (get_or es i no_transcript) (keeps_only old new id others) p.transcripts lt li.id_is li.id_is now in
+    let n : length os ≡ length es = transcripts_len old 0 os es p.transcripts in
     record {
-      tells = rw (set-get_or es i no_transcript) at s;
+      transcripts = rw (set-get_or es i no_transcript) at s;
       count_is = others.count_is ∙ (p.count_is ∙ sym (held_set os i (with_more chunk (get_or os i no_opening)) (omega arith) refl));
       max_is = others.max_is ∙ p.max_is;
       few = (let b : new.slots.next ≡ old.slots.next = others.next_is in let c : old.slots.next ≤ length es = p.few in omega arith);
@@ -295,12 +295,12 @@ pub fed_refused : (h : HostState) (es : List Transcript) (i : ℕ) (x : Transcri
 fed_refused h es i x chunk lt e used l slots os p =
     let a : get_or es i no_transcript ≡ x = item_is es i x lt e in
     let none : (get_or es i no_transcript).id ≡ None = id_none (get_or es i no_transcript).in_use (get_or es i no_transcript).id used (ap open_id a ∙ l) in
-    let of : IsTranscriptOf h (get_or os i no_opening) (get_or es i no_transcript) = transcripts_get h 0 os es i p.tells lt in
+    let of : IsTranscriptOf h (get_or os i no_opening) (get_or es i no_transcript) = transcripts_get h 0 os es i p.transcripts lt in
     let now : IsTranscriptOf h (with_more chunk (get_or os i no_opening)) (get_or es i no_transcript) = record { name_is = of.name_is; used_is = of.used_is; made_is = made_none h (get_or es i no_transcript).id _ _ _ _ none (none_made h (get_or es i no_transcript).id _ _ _ _ none of.made_is) } in
-    let s : AreTranscripts h 0 (set os i (with_more chunk (get_or os i no_opening))) (set es i (get_or es i no_transcript)) = transcripts_text h 0 os es i (with_more chunk (get_or os i no_opening)) (get_or es i no_transcript) p.tells lt refl now in
-    let n : length os ≡ length es = transcripts_len h 0 os es p.tells in
+    let s : AreTranscripts h 0 (set os i (with_more chunk (get_or os i no_opening))) (set es i (get_or es i no_transcript)) = transcripts_text h 0 os es i (with_more chunk (get_or os i no_opening)) (get_or es i no_transcript) p.transcripts lt refl now in
+    let n : length os ≡ length es = transcripts_len h 0 os es p.transcripts in
     record {
-      tells = rw (set-get_or es i no_transcript) at s;
+      transcripts = rw (set-get_or es i no_transcript) at s;
       count_is = p.count_is ∙ sym (held_set os i (with_more chunk (get_or os i no_opening)) (omega arith) refl);
       max_is = p.max_is;
       few = p.few;
@@ -328,7 +328,7 @@ more_more os i xs ys lt =
 pub fed_more : (old mid new : HostState) (es fs gs : List Transcript) (i : ℕ) (xs ys all : List ℕ) → i < length es → all ≡ xs ++ ys → IsSent old es mid fs i xs → IsSent mid fs new gs i ys → IsSent old es new gs i all
 fed_more old mid new es fs gs i xs ys all lt e a b slots os p =
     let q : IsPlayback slots mid (set os i (with_more xs (get_or os i no_opening))) fs = a slots os p in
-    let n : length os ≡ length es = transcripts_len old 0 os es p.tells in
+    let n : length os ≡ length es = transcripts_len old 0 os es p.transcripts in
     let r : IsPlayback slots new (set (set os i (with_more xs (get_or os i no_opening))) i (with_more ys (get_or (set os i (with_more xs (get_or os i no_opening))) i no_opening))) gs = b slots (set os i (with_more xs (get_or os i no_opening))) q in
     rw e (rw (more_more os i xs ys (omega arith)) at r)
 
@@ -361,7 +361,7 @@ fed_whole old mid new end es fs gs hs i text rest lt f none b last =
 
 pub rounds_played : (old new : HostState) (es : List Transcript) → KeepsDue old new → KeepsPlayback old es new es
 rounds_played old new es k slots os p = record {
-  tells = transcripts_due old new 0 os es k p.tells;
+  transcripts = transcripts_due old new 0 os es k p.transcripts;
   count_is = k.count_is ∙ p.count_is;
   max_is = k.max_is ∙ p.max_is;
   few = (let b : new.slots.next ≡ old.slots.next = k.next_is in let c : old.slots.next ≤ length es = p.few in omega arith);

@@ -62,18 +62,21 @@ unfoldable pub AreTranscripts : HostState → ℕ → List Opening → List Tran
 AreTranscripts h low [] [] = low ≤ h.slots.next
 AreTranscripts h low [] (t ∷ ts) = ⊥
 AreTranscripts h low (o ∷ os) [] = ⊥
-AreTranscripts h low (o ∷ os) (t ∷ ts) = IsTranscriptOf h o t × IsAbove low t.id × AreTranscripts h (floor_after low t.id) os ts
+AreTranscripts h low (o ∷ os) (t ∷ ts) =
+    IsTranscriptOf h o t × IsAbove low t.id × AreTranscripts h (floor_after low t.id) os ts
 
 -- these `+` lines were replayed over a host of so many slots
-pub record IsPlayback (slots : ℕ) (h : HostState) (os : List Opening) (ts : List Transcript) : Type 0 where
-  pub tells : AreTranscripts h 0 os ts
+pub record IsPlayback (slots : ℕ) (h : HostState) (os : List Opening)
+    (ts : List Transcript) : Type 0 where
+  pub transcripts : AreTranscripts h 0 os ts
   pub count_is : count h.slots ≡ count_by has_session os
   pub max_is : h.slots.max ≡ slots
   pub few : h.slots.next ≤ length ts
 
 -- it goes on without a further line
 abbrev pub KeepsPlayback : HostState → List Transcript → HostState → List Transcript → Type 0
-KeepsPlayback h ts new us = (slots : ℕ) (os : List Opening) → IsPlayback slots h os ts → IsPlayback slots new os us
+KeepsPlayback h ts new us =
+    (slots : ℕ) (os : List Opening) → IsPlayback slots h os ts → IsPlayback slots new os us
 
 -- a `+` line with more texts
 abbrev pub with_more : List ℕ → Opening → Opening
@@ -81,7 +84,9 @@ with_more chunk o = record o { text = o.text ++ chunk }
 
 -- bytes were sent to the `+` line of this place
 abbrev pub IsSent : HostState → List Transcript → HostState → List Transcript → ℕ → List ℕ → Type 0
-IsSent h ts new us i chunk = (slots : ℕ) (os : List Opening) → IsPlayback slots h os ts → IsPlayback slots new (set os i (with_more chunk (get_or os i no_opening))) us
+IsSent h ts new us i chunk =
+    (slots : ℕ) (os : List Opening) → IsPlayback slots h os ts
+    → IsPlayback slots new (set os i (with_more chunk (get_or os i no_opening))) us
 
 -- all that the session replies was kept
 abbrev pub HasAllReplies : Opening → Transcript → Type 0
@@ -89,15 +94,22 @@ HasAllReplies o t = t.made ≡ replies o.text
 
 -- all that the session of this place replies is kept, while it is open
 abbrev pub CollectsAll : HostState → List Transcript → List Transcript → ℕ → Type 0
-CollectsAll h ts us i = (slots : ℕ) (os : List Opening) → IsPlayback slots h os ts → open_id (get_or us i no_transcript) ≢ None → HasAllReplies (get_or os i no_opening) (get_or us i no_transcript)
+CollectsAll h ts us i =
+    (slots : ℕ) (os : List Opening) → IsPlayback slots h os ts
+    → open_id (get_or us i no_transcript) ≢ None
+    → HasAllReplies (get_or os i no_opening) (get_or us i no_transcript)
 
 -- the name of the `+` line of this place is free
 abbrev pub IsClosedAt : HostState → List Transcript → HostState → List Transcript → ℕ → Type 0
-IsClosedAt h ts new us i = (slots : ℕ) (os : List Opening) → IsPlayback slots h os ts → IsPlayback slots new (set os i (closed_opening (get_or os i no_opening))) us
+IsClosedAt h ts new us i =
+    (slots : ℕ) (os : List Opening) → IsPlayback slots h os ts
+    → IsPlayback slots new (set os i (closed_opening (get_or os i no_opening))) us
 
 -- one `+` line more
 abbrev pub IsOpenedUnder : HostState → List Transcript → HostState → List Transcript → ℕ → Type 0
-IsOpenedUnder h ts new us name = (slots : ℕ) (os : List Opening) → IsPlayback slots h os ts → IsPlayback slots new (os ++ new_opening slots name os ∷ []) us
+IsOpenedUnder h ts new us name =
+    (slots : ℕ) (os : List Opening) → IsPlayback slots h os ts
+    → IsPlayback slots new (os ++ new_opening slots name os ∷ []) us
 
 -- the output of the `+` lines
 abbrev pub IsWhole : HostState → List Transcript → List ℕ → Type 0
@@ -105,19 +117,25 @@ IsWhole h ts out = (slots : ℕ) (os : List Opening) → IsPlayback slots h os t
 
 -- what is written for it
 abbrev pub transcript_section : Transcript → List ℕ
-transcript_section t = codes "== " ++ (t.name ∷ LINE_FEED ∷ cond (is_some t.id) t.made (codes "refused 1\n"))
+transcript_section t =
+    codes "== " ++ (t.name ∷ LINE_FEED ∷ cond (is_some t.id) t.made (codes "refused 1\n"))
 
 -- a script was replayed up to here: so many lines were read, and the rest is left
-pub record IsReadTo (slots : ℕ) (h : HostState) (ts : List Transcript) (bytes : List ℕ) (number : ℕ) (rest : List ℕ) : Type 0 where
+pub record IsReadTo (slots : ℕ) (h : HostState) (ts : List Transcript) (bytes : List ℕ)
+    (number : ℕ) (rest : List ℕ) : Type 0 where
   pub openings : List Opening
   pub play : IsPlayback slots h openings ts
   pub comes : read_script slots bytes ≡ read_from slots (number + 1) (lines rest) openings
 
 -- the `+` lines after a good line; none after a bad one
 abbrev pub LeadsTo : Bool → ℕ → Option (List Opening) → HostState → List Transcript → Type 0
-LeadsTo true slots after new ts = (next : List Opening) × (after ≡ Some next) × IsPlayback slots new next ts
+LeadsTo true slots after new ts =
+    (next : List Opening) × (after ≡ Some next) × IsPlayback slots new next ts
 LeadsTo false slots after new ts = after ≡ None
 
 -- what a line did, and whether it was good
-abbrev pub Plays : Bool → HostState → List Transcript → ScriptLine → HostState → List Transcript → Type 0
-Plays good old ts line new us = (slots : ℕ) (os : List Opening) → IsPlayback slots old os ts → LeadsTo good slots (openings_after slots line os) new us
+abbrev pub Plays : Bool → HostState → List Transcript → ScriptLine → HostState → List Transcript
+    → Type 0
+Plays good old ts line new us =
+    (slots : ℕ) (os : List Opening) → IsPlayback slots old os ts
+    → LeadsTo good slots (openings_after slots line os) new us

@@ -1,7 +1,7 @@
 -- What `replay` does with its reader and its writer (own choice).
 use Rattle.std.specs.Prelude.{◌≡◌, ℕ, List, Option, Result, Ok, Err}
 use Rattle.std.specs.Io.KnownBytes.{Appends, Consumes, IsAtEnd, Keeps}
-use Rattle.usi_stdio.specs.Stdio.{WritesFront}
+use Rattle.usi_stdio.specs.Stdio.{WritesPrefix}
 use Rattle.usi_replay.specs.declared.fault.ReplayFault.{ReplayFault}
 use Rattle.usi_replay.specs.declared.fault.ReplayFault.TheVariants.{OutOfMemory, ReadFailed, WriteFailed, BadScript}
 use Rattle.usi_replay.specs.Script.{Opening, read_script, output}
@@ -12,7 +12,8 @@ pub record IsAllRead (before after : Option (List ℕ)) (bytes : List ℕ) : Typ
   pub ended : IsAtEnd after
 
 -- all was read, and is a script that comes to this
-pub record IsScript (slots : ℕ) (before after : Option (List ℕ)) (comes : Result (List Opening) ℕ) : Type 0 where
+pub record IsScript (slots : ℕ) (before after : Option (List ℕ))
+    (comes : Result (List Opening) ℕ) : Type 0 where
   pub bytes : List ℕ
   pub consumed : Consumes before after bytes
   pub ended : IsAtEnd after
@@ -24,11 +25,11 @@ pub record IsReplayed (slots : ℕ) (before after old new : Option (List ℕ)) :
   pub read : IsScript slots before after (Ok openings)
   pub written : Appends old new (output openings)
 
--- a front of it was written
+-- a prefix of it was written
 pub record IsReplayedInPart (slots : ℕ) (before after old new : Option (List ℕ)) : Type 0 where
   pub openings : List Opening
   pub read : IsScript slots before after (Ok openings)
-  pub written : WritesFront old new (output openings)
+  pub written : WritesPrefix old new (output openings)
 
 -- the first bad line has this number, and nothing was written
 pub record IsBadAt (slots : ℕ) (before after old new : Option (List ℕ)) (line : ℕ) : Type 0 where
@@ -36,7 +37,8 @@ pub record IsBadAt (slots : ℕ) (before after old new : Option (List ℕ)) (lin
   pub written : Keeps old new
 
 -- what a fault leaves: only a write that failed leaves anything written
-abbrev pub IsFault : ℕ → Option (List ℕ) → Option (List ℕ) → Option (List ℕ) → Option (List ℕ) → ReplayFault → Type 0
+abbrev pub IsFault : ℕ → Option (List ℕ) → Option (List ℕ) → Option (List ℕ) → Option (List ℕ)
+    → ReplayFault → Type 0
 IsFault slots before after old new OutOfMemory = Keeps old new
 IsFault slots before after old new ReadFailed = Keeps old new
 IsFault slots before after old new WriteFailed = IsReplayedInPart slots before after old new
@@ -51,7 +53,8 @@ IsReadFault (BadScript line) = ⊥
 
 -- the output of a script
 abbrev pub IsOutputOf : ℕ → List ℕ → List ℕ → Type 0
-IsOutputOf slots bytes out = (os : List Opening) × (read_script slots bytes ≡ Ok os) × (out ≡ output os)
+IsOutputOf slots bytes out =
+    (os : List Opening) × (read_script slots bytes ≡ Ok os) × (out ≡ output os)
 
 -- a fault of the answering alone
 abbrev pub IsAnswerFault : ℕ → List ℕ → ReplayFault → Type 0

@@ -55,7 +55,8 @@ abbrev pub has_session : Opening → Bool
 has_session o = o.in_use && not o.refused
 
 -- the `+` line for which the name is in use is changed; nothing, where there is none
-abbrev pub change_into : Bool → (Opening → Opening) → Opening → List Opening → Option (List Opening) → Option (List Opening)
+abbrev pub change_into : Bool → (Opening → Opening) → Opening → List Opening
+    → Option (List Opening) → Option (List Opening)
 change_into true change o os rest = Some (change o ∷ os)
 change_into false change o os None = None
 change_into false change o os (Some rest) = Some (o ∷ rest)
@@ -66,7 +67,12 @@ change name by (o ∷ os) = change_into (is_under name o) by o os (change name b
 
 -- a new `+` line; it is refused a session where as many are open as may be
 abbrev pub new_opening : ℕ → ℕ → List Opening → Opening
-new_opening slots name os = record { name = name; in_use = true; refused = nat_le slots (count_by has_session os); text = [] }
+new_opening slots name os = record {
+  name = name;
+  in_use = true;
+  refused = nat_le slots (count_by has_session os);
+  text = [];
+}
 
 -- a `+` line whose session is closed, so that its name is free
 abbrev pub closed_opening : Opening → Opening
@@ -79,7 +85,8 @@ sent_opening text o = record o { text = o.text ++ (text ++ LINE_FEED ∷ []) }
 -- the `+` lines after one line more; nothing, where it is bad: also a `+` of a name in use, and a text or `-` of a name that is not in use
 abbrev pub openings_after : ℕ → ScriptLine → List Opening → Option (List Opening)
 openings_after slots Empty os = Some os
-openings_after slots (Open name) os = cond (is_used name os) None (Some (os ++ new_opening slots name os ∷ []))
+openings_after slots (Open name) os =
+    cond (is_used name os) None (Some (os ++ new_opening slots name os ∷ []))
 openings_after slots (Close name) os = change name closed_opening os
 openings_after slots (Send name text) os = change name (sent_opening text) os
 openings_after slots Bad os = None
@@ -95,7 +102,9 @@ or_else (Some x) bad good = good x
 -- the `+` lines after these lines, of which the first has this number; or the number of the first bad one
 unfoldable pub read_from : ℕ → ℕ → List Line → List Opening → Result (List Opening) ℕ
 read_from slots number [] os = Ok os
-read_from slots number (line ∷ rest) os = or_else (openings_after_line slots line os) (Err number) (λ next. read_from slots (number + 1) rest next)
+read_from slots number (line ∷ rest) os =
+    or_else (openings_after_line slots line os) (Err number)
+    (λ next. read_from slots (number + 1) rest next)
 
 -- the `+` lines of a script, or the number of its first bad line, counted from 1
 abbrev pub read_script : ℕ → List ℕ → Result (List Opening) ℕ

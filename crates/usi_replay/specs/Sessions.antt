@@ -37,7 +37,8 @@ pub record KeepsAllBut (old new : HostState) (id : SessionId) : Type 0 where
 abbrev pub IsCollected : Option SessionView → Option SessionView → List ℕ → List ℕ → Type 0
 IsCollected None now made more = (now ≡ None) × (more ≡ made)
 IsCollected (Some s) None made more = ⊥
-IsCollected (Some s) (Some t) made more = (more ≡ made ++ s.queued) × ((x : List ℕ) → due s x ≡ s.queued ++ due t x)
+IsCollected (Some s) (Some t) made more =
+    (more ≡ made ++ s.queued) × ((x : List ℕ) → due s x ≡ s.queued ++ due t x)
 
 -- the session owes what it owed for these bytes and for what follows; a session that is over owes nothing for them
 abbrev pub IsFed : Option SessionView → Option SessionView → List ℕ → Type 0

@@ -41,7 +41,8 @@ pub struct Playback<S: BuildHasher, A: Allocator + Copy> {
 impl<S: BuildHasher, A: Allocator + Copy> Playback<S, A> {
     /// The place of the `+` line for which the name is in use, or the number of all of them.
     fn place_of(&self, name: u8) -> usize
-        ensures value { result ≡ position_or_len (is_transcript_under name) self.now.transcripts.items }
+        ensures value { result
+            ≡ position_or_len (is_transcript_under name) self.now.transcripts.items }
         ensures within { result ≤ length self.now.transcripts.items }
     {
         for i in 0..self.transcripts.len() {
@@ -81,7 +82,8 @@ impl<S: BuildHasher, A: Allocator + Copy> Playback<S, A> {
         requires used { (get_or self.old.transcripts.items place no_transcript).in_use ≡ true }
         ensures fed { OnOk result (IsSent self.old.host self.old.transcripts.items
             self.new.host self.new.transcripts.items place chunk.now) }
-        ensures used { OnOk result ((get_or self.new.transcripts.items place no_transcript).in_use ≡ true) }
+        ensures used { OnOk result ((get_or self.new.transcripts.items place no_transcript).in_use
+            ≡ true) }
         ensures len { length self.new.transcripts.items ≡ length self.old.transcripts.items }
         ensures slice { self.new.slice ≡ self.old.slice }
     {

@@ -7,7 +7,7 @@ ghost use Rattle.host_core.specs.ById.{pending_of};
 ghost use Rattle.usi_replay.specs.Sessions.{KeepsDue, KeepsAllBut, IsCollected, IsFed, IsOpenedAs, IsClosedAs, works_left};
 
 use crate::transcript::Transcript;
-use host_core::{Event, Host, HostFault, Outcome};
+use host_core::{Host, HostFault};
 use session_slots::SessionId;
 use std::alloc::{AllocError, Allocator};
 use std::hash::BuildHasher;
@@ -53,7 +53,8 @@ pub fn take_output<S: BuildHasher, A: Allocator + Copy>(
     ensures others { OnOk result (KeepsAllBut host.old host.new id) }
     ensures collected { OnOk result (IsCollected (find host.old.slots id) (find host.new.slots id)
         transcript.old.made transcript.new.made) }
-    ensures rest { OnOk result (transcript.new ≡ record transcript.old { made = transcript.new.made }) }
+    ensures rest { OnOk result (transcript.new
+        ≡ record transcript.old { made = transcript.new.made }) }
 {
     let Some(bytes) = host.output(id) else {
         return Ok(());
@@ -78,9 +79,9 @@ pub fn feed<S: BuildHasher, A: Allocator + Copy>(
     if host.is_over(id) {
         return Ok(());
     }
-    let Outcome::Done = host.step(Event::Feed(id, chunk)) else {
+    if host.feed(id, chunk).is_err() {
         return Err(AllocError);
-    };
+    }
     Ok(())
 }
 
@@ -90,10 +91,10 @@ pub fn open<S: BuildHasher, A: Allocator + Copy>(
 ) -> Result<Option<SessionId>, AllocError>
     ensures { IfOk result (λ id. IsOpenedAs host.old id host.new) }
 {
-    match host.step(Event::Open) {
-        Outcome::Opened(id) => Ok(Some(id)),
-        Outcome::Refused(HostFault::Full) => Ok(None),
-        _ => Err(AllocError),
+    match host.open() {
+        Ok(id) => Ok(Some(id)),
+        Err(HostFault::Full) => Ok(None),
+        Err(_) => Err(AllocError),
     }
 }
 
@@ -102,6 +103,6 @@ pub fn close<S: BuildHasher, A: Allocator + Copy>(host: &mut Host<S, A>, id: Opt
     ensures { IsClosedAs host.old id host.new }
 {
     if let Some(id) = id {
-        host.step(Event::Close(id));
+        let _closed = host.close(id);
     }
 }

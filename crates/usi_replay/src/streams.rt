@@ -17,7 +17,8 @@ use usi_stdio::write_out;
 
 /// Reads all that comes.
 fn read_all<A: Allocator, R: Read>(alloc: A, reader: &mut R) -> Result<Vec<u8, A>, ReplayFault>
-    ensures read { IfOk result (λ bytes. IsAllRead (R.remaining reader.old) (R.remaining reader.new) bytes.items) }
+    ensures read { IfOk result (λ bytes.
+        IsAllRead (R.remaining reader.old) (R.remaining reader.new) bytes.items) }
     ensures fault { IfErr result IsReadFault }
 {
     let mut bytes = Vec::new(alloc);
@@ -50,7 +51,8 @@ fn output_of<A: Allocator + Copy>(
     requires least_entries { 1 ≤ entries }
     requires most_entries { entries ≤ CAPACITY_MAX }
     requires least_slice { 1 ≤ slice }
-    ensures { MatchResult result (λ out. IsOutputOf slots script.now out.items) (IsAnswerFault slots script.now) }
+    ensures { MatchResult result (λ out. IsOutputOf slots script.now out.items)
+        (IsAnswerFault slots script.now) }
 {
     let hasher = BuildHasherDefault::<FoldHasher>::new();
     let Ok(host) = Host::new(alloc, slots, entries, hasher) else {
@@ -98,9 +100,9 @@ fn output_of<A: Allocator + Copy>(
 /// The whole script is read first, nothing is written before all of it was answered, and no memory is
 /// taken once writing began. It flushes at the end.
 ///
-/// `OutOfMemory` comes where memory was refused, `ReadFailed` where a read failed, and `BadScript` names
+/// `OutOfMemory` comes where an allocation failed, `ReadFailed` where a read failed; `BadScript` names
 /// the first bad line, counted from 1; after each of them nothing was written. `WriteFailed` comes where
-/// a write or the flush failed or a write took nothing; then a front of the output was written.
+/// a write or the flush failed or a write took nothing; then a prefix of the output was written.
 pub fn replay<A: Allocator + Copy, R: Read, W: Write>(
     alloc: A,
     reader: &mut R,
@@ -114,7 +116,8 @@ pub fn replay<A: Allocator + Copy, R: Read, W: Write>(
     requires least_entries { 1 ≤ entries }
     requires most_entries { entries ≤ CAPACITY_MAX }
     requires least_slice { 1 ≤ slice }
-    ensures replayed { OnOk result (IsReplayed slots (R.remaining reader.old) (R.remaining reader.new)
+    ensures replayed { OnOk result (IsReplayed slots
+        (R.remaining reader.old) (R.remaining reader.new)
         (W.contents writer.old) (W.contents writer.new)) }
     ensures fault { IfErr result (IsFault slots (R.remaining reader.old) (R.remaining reader.new)
         (W.contents writer.old) (W.contents writer.new)) }

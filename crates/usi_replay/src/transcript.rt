@@ -22,7 +22,12 @@ impl<A: Allocator> Model for Transcript<A> {
 
     ghost Value = { Transcript };
 
-    ghost view = { λ t. record { name = t.name; in_use = t.in_use; id = t.id; made = t.made.items } };
+    ghost view = { λ t. record {
+      name = t.name;
+      in_use = t.in_use;
+      id = t.id;
+      made = t.made.items;
+    } };
 }
 
 impl<A: Allocator> Transcript<A> {

@@ -3,4 +3,4 @@ use Rattle.host_core.proofs.Still.{none_still}
 use Rattle.host_core.proofs.host.Host.new.Goals as goal
 
 pub invariant_of-result : goal.invariant_of-result
-invariant_of-result g c = rw (c.in-Ok-vec.ensures.items_if_clones_equal (search rules)) (none_still c.args.slots c.new-slots.result)
+invariant_of-result g c = rw (c.in_ok-noted.ensures.items_if_clones_equal (search rules)) (none_still c.args.slots c.new-2.result)

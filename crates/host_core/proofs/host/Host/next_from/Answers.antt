@@ -12,15 +12,15 @@ starts_at (Some slot) first s = omega arith
 
 pub returns-clause-next : goal.returns-clause-next
 returns-clause-next g c =
-    let same = ap (λ i. i.sessions.slots) c.self-inside.view_is ∙ ap (λ (h : HostState). h.slots) c.self.view_is in
+    let same = ap (λ (h : HostState). h.slots) c.self.view_is in
     next_found c.args.self.now.slots c.args.from c.past_still-first.result c.checked_sub.result c.next_open.result (starts_at _ _ c.checked_sub.ensures) (c.next_open.ensures.value ∙ ap (λ s. next_of s c.checked_sub.result) same) c.past_still-first.ensures.on c.past_still-first.ensures.passed
 
 pub returns-clause-open : goal.returns-clause-open
 returns-clause-open g c =
-    let same = ap (λ i. i.sessions.slots) c.self-inside.view_is ∙ ap (λ (h : HostState). h.slots) c.self.view_is in
+    let same = ap (λ (h : HostState). h.slots) c.self.view_is in
     subst (λ (s : OpenSessions). IfSome c.next_open.result (λ id. IsSome (find s id))) same c.next_open.ensures.open
 
 pub returns-clause-none : goal.returns-clause-none
 returns-clause-none g c =
-    let same = ap (λ i. i.sessions.slots) c.self-inside.view_is ∙ ap (λ (h : HostState). h.slots) c.self.view_is in
+    let same = ap (λ (h : HostState). h.slots) c.self.view_is in
     next_none c.args.self.now.slots c.args.from c.past_still-first.result c.checked_sub.result c.next_open.result (starts_at _ _ c.checked_sub.ensures) (c.next_open.ensures.value ∙ ap (λ s. next_of s c.checked_sub.result) same) c.past_still-first.ensures.passed

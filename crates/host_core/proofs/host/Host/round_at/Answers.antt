@@ -1,11 +1,15 @@
-use Rattle.std.proofs.Common.{rules}
-use Rattle.host_core.specs.Seen.{outcome_of}
+use Rattle.std.proofs.Common.{rules, refl, arith, ◌+◌}
+use Rattle.host_core.specs.Events.{Worked, Refused}
 use Rattle.host_core.proofs.Rounds.{round_settled, is_settled, round_more}
 use Rattle.host_core.proofs.host.Host.round_at.Goals as goal
 
 pub returns-then-not-pending-clause-goes_on : goal.returns-then-not-pending-clause-goes_on
 returns-then-not-pending-clause-goes_on g c = λ start r. round_settled start c.args.budget c.args.id.slot _ _ _ c.args.self.now r (is_settled c.args.self.now c.args.id c.requires.open (search rules))
 
-pub returns-clause-goes_on : goal.returns-clause-goes_on
-returns-clause-goes_on g c = λ start r.
-    round_more start c.args.budget c.args.id _ _ c.args.self.now c.step-outcome.new.self (outcome_of c.step-outcome.result) _ _ r (search rules) c.step-outcome.ensures.below c.step-outcome.ensures.stepped c.counted.ensures.worked c.counted.ensures.refused
+pub returns-in-Ok-clause-goes_on : goal.returns-in-Ok-clause-goes_on
+returns-in-Ok-clause-goes_on g c = λ start r.
+    round_more start c.args.budget c.args.id _ _ c.args.self.now c.work.new.self (Worked c.in-Ok.field-0) (c.args.round.worked + 1) c.args.round.refused r (search rules) c.work.ensures.below (search rules) refl (omega arith)
+
+pub returns-in-Err-clause-goes_on : goal.returns-in-Err-clause-goes_on
+returns-in-Err-clause-goes_on g c = λ start r.
+    round_more start c.args.budget c.args.id _ _ c.args.self.now c.work.new.self (Refused c.in-Err.field-0) c.args.round.worked (c.args.round.refused + 1) r (search rules) c.work.ensures.below (search rules) (omega arith) refl

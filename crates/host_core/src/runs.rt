@@ -1,0 +1,98 @@
+//! Events and runs of events, by the calls of a host.
+
+ghost use Rattle.std.specs.Prelude.{◌≡◌, ◌≤◌, IfOk, OnErr, Err, true, length, vec_len};
+ghost use Rattle.session_slots.specs.Slots.{IsBelow};
+ghost use Rattle.shared_table.specs.Recent.{AreTrue};
+ghost use Rattle.host_core.specs.Headline.{PrefixOfReplies, AllReplies, GoesOn, EndsByOwn, OverByOwn, EndsOn};
+ghost use Rattle.host_core.specs.Kept.{KeepsOthers, is_refused};
+ghost use Rattle.host_core.specs.Runs.{IsRun};
+ghost use Rattle.host_core.specs.Seen.{event_of, outcome_of, answered};
+ghost use Rattle.host_core.specs.Steps.{Stepped};
+ghost use Rattle.host_core.specs.declared.event.HostFault.TheVariants.{OutOfMemory};
+
+use crate::event::{Event, HostFault, Outcome};
+use crate::host::Host;
+use std::alloc::Allocator;
+use std::hash::BuildHasher;
+
+impl<S: BuildHasher, A: Allocator + Copy> Host<S, A> {
+    /// Makes the call that an event names.
+    fn answer(&mut self, event: Event<'_>) -> Outcome<A>
+        ensures { Stepped self.old (event_of event.entry) (outcome_of result) self.new }
+    {
+        match event {
+            Event::Open => match self.open() {
+                Ok(id) => Outcome::Opened(id),
+                Err(fault) => Outcome::Refused(fault),
+            },
+            Event::Feed(id, chunk) => match self.feed(id, chunk) {
+                Ok(()) => Outcome::Done,
+                Err(fault) => Outcome::Refused(fault),
+            },
+            Event::Work(id, budget) => match self.work(id, budget) {
+                Ok(steps) => Outcome::Worked(steps),
+                Err(fault) => Outcome::Refused(fault),
+            },
+            Event::Take(id, n) => match self.take(id, n) {
+                Ok(bytes) => Outcome::Gave(bytes),
+                Err(fault) => Outcome::Refused(fault),
+            },
+            Event::Close(id) => match self.close(id) {
+                Ok(()) => Outcome::Done,
+                Err(fault) => Outcome::Refused(fault),
+            },
+        }
+    }
+
+    /// Answers one event. The session that it names answers as by its own call, and each other one is
+    /// left as it was. A refusal leaves all as it was, but for `Work` (see `Event::Work`).
+    pub fn step(&mut self, event: Event<'_>) -> Outcome<A>
+        ensures stepped { Stepped self.old (event_of event.entry) (outcome_of result) self.new }
+        ensures others { KeepsOthers self.old (event_of event.entry) (outcome_of result) self.new }
+        ensures refused { is_refused (event_of event.entry) (outcome_of result) ≡ true
+            → self.new ≡ self.old }
+        ensures truth { AreTrue self.new.table.pairs }
+        ensures fits { length self.new.table.pairs ≤ self.new.table.capacity }
+        ensures below { IsBelow self.old.slots }
+    {
+        self.validity();
+        let outcome = self.answer(event);
+        self.validity();
+        outcome
+    }
+
+    /// Answers the events in order, with one outcome for each. `OutOfMemory` comes before the first
+    /// event, and leaves the host as it was.
+    ///
+    /// For each session that an event opened, the bytes made for it are a prefix of the replies to the
+    /// bytes stored for it, and all of them where it is open at the end with nothing pending. A session
+    /// that was open before goes on from what it owed. With nothing pending a session is over where the
+    /// bytes stored for it end it, by `quit` or a line that is too long, and nowhere else.
+    pub fn run(&mut self, events: &[Event<'_>]) -> Result<Vec<Outcome<A>, A>, HostFault>
+        ensures chain { IfOk result (λ outcomes.
+            IsRun self.old (answered events.now outcomes.items) self.new) }
+        ensures each { IfOk result (λ outcomes. vec_len outcomes ≡ length events.now) }
+        ensures front { IfOk result (λ outcomes.
+            PrefixOfReplies (answered events.now outcomes.items) self.new) }
+        ensures all { IfOk result (λ outcomes.
+            AllReplies (answered events.now outcomes.items) self.new) }
+        ensures before { IfOk result (λ outcomes.
+            GoesOn self.old (answered events.now outcomes.items) self.new) }
+        ensures ends { IfOk result (λ outcomes.
+            EndsByOwn (answered events.now outcomes.items) self.new) }
+        ensures over { IfOk result (λ outcomes.
+            OverByOwn (answered events.now outcomes.items) self.new) }
+        ensures ends_on { IfOk result (λ outcomes.
+            EndsOn self.old (answered events.now outcomes.items) self.new) }
+        ensures capacity { self.new.table.capacity ≡ self.old.table.capacity }
+        ensures fault { OnErr result (result ≡ Err OutOfMemory) }
+        ensures err { OnErr result (self.new ≡ self.old) }
+    {
+        let mut outcomes = Vec::with_capacity(self.alloc, events.len())?;
+        for event in events {
+            let outcome = self.step(*event);
+            outcomes.push_reserved(outcome);
+        }
+        Ok(outcomes)
+    }
+}
