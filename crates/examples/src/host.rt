@@ -3,7 +3,7 @@
 ghost use Rattle.std.specs.Prelude.{IfOk, IsSome};
 ghost use Rattle.session_slots.specs.Slots.{find};
 
-use host_core::{Event, Host, HostFault, Outcome};
+use host_core::{Host, HostFault};
 use session_slots::SessionId;
 use std::alloc::Allocator;
 use std::hash::BuildHasher;
@@ -15,15 +15,12 @@ pub fn open_and_feed<S: BuildHasher, A: Allocator + Copy>(
 ) -> Result<SessionId, HostFault>
     ensures { IfOk result (λ id. IsSome (find host.new.slots id)) }
 {
-    match host.step(Event::Open) {
-        Outcome::Opened(id) => match host.step(Event::Feed(id, bytes)) {
-            Outcome::Refused(fault) => {
-                host.step(Event::Close(id));
-                Err(fault)
-            }
-            _ => Ok(id),
-        },
-        Outcome::Refused(fault) => Err(fault),
-        _ => Err(HostFault::Full),
+    let id = host.open()?;
+    match host.feed(id, bytes) {
+        Ok(()) => Ok(id),
+        Err(fault) => {
+            let _closed = host.close(id);
+            Err(fault)
+        }
     }
 }

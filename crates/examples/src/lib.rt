@@ -32,3 +32,5 @@ mod stdio;
 mod table;
 #[cfg(test)]
 mod tests;
+#[cfg(test)]
+mod wire;

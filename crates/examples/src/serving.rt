@@ -1,15 +1,16 @@
 //! A use of `usi_serve`.
 
 ghost use Rattle.std.specs.Prelude.{◌≡◌, [], Err};
-ghost use Rattle.socket_loop.specs.declared.wire.WireFault.TheVariants.{Device};
+ghost use Rattle.wires.specs.declared.wire.WireFault.TheVariants.{Device};
 
 use host_core::Host;
-use socket_loop::{Loop, WireFault};
+use socket_loop::Loop;
 use std::alloc::Allocator;
 use std::fs::Files;
 use std::hash::BuildHasher;
 use std::net::Net;
 use usi_serve::{MioWire, serve};
+use wires::WireFault;
 
 /// Makes a socket at the path, and serves those who connect for so many turns.
 pub fn serve_at<R: Files + Net, S: BuildHasher, A: Allocator + Copy>(

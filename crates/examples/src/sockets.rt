@@ -1,13 +1,15 @@
 //! A use of `socket_loop`.
 
 ghost use Rattle.std.specs.Prelude.{◌≡◌, true, false};
-ghost use Rattle.socket_loop.specs.Turns.{Fits, StaysKnown, any_pending};
+ghost use Rattle.socket_loop.specs.Turns.{Fits, any_pending};
+ghost use Rattle.wires.specs.Moves.{StaysKnown};
 ghost use Rattle.socket_loop.specs.Links.{links_of};
 
 use host_core::Host;
-use socket_loop::{Loop, Wire};
+use socket_loop::Loop;
 use std::alloc::Allocator;
 use std::hash::BuildHasher;
+use wires::Wire;
 
 /// Turns until nothing moves, and at most so often. Tells whether it is still.
 pub fn turn_until_still<W: Wire, S: BuildHasher, A: Allocator + Copy>(

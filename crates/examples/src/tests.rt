@@ -14,6 +14,7 @@ use crate::slots::open_and_close;
 use crate::sockets::turn_until_still;
 use crate::stdio::answer_all;
 use crate::table::search_twice;
+use crate::wire::write_and_shut;
 use host_core::{Event, Host, Outcome};
 use session_slots::Slots;
 use shared_table::SharedTable;
@@ -21,9 +22,10 @@ use shogi_core::{Color, Move, Piece, Position, Role};
 use shogi_eval::Eval;
 use shogi_moves::is_legal;
 use shogi_sfen::read_position;
-use socket_loop::{Loop, MemoryWire, WireFault};
+use socket_loop::Loop;
 use std::hash::{BuildHasherDefault, FoldHasher};
 use std::test::Fail;
+use wires::{MemoryWire, Wire, WireFault};
 
 #[test]
 fn a_piece_of_the_side_to_move(rt: HostRuntime) {
@@ -120,6 +122,17 @@ fn a_session_of_a_host(rt: HostRuntime) -> Result<(), Fail> {
     assert!(rt; open_and_feed(&mut host, b"isready\n").is_err());
     assert!(rt; matches!(host.step(Event::Work(id, 1)), Outcome::Worked(_)));
     assert_eq!(rt; host.output(id), Some(b"readyok\n".as_slice()));
+    Ok(())
+}
+
+#[test]
+fn a_connection_that_is_written_and_shut(rt: HostRuntime) -> Result<(), Fail> {
+    let mut wire = MemoryWire::new(rt.alloc());
+    let number = wire.connect(Vec::new(rt.alloc()))?;
+    assert_eq!(rt; wire.accept(), Ok(Some(number)));
+    assert_eq!(rt; write_and_shut(&mut wire, number, b"no room\n"), Ok(8));
+    assert_eq!(rt; wire.written(number), b"no room\n".as_slice());
+    assert!(rt; wire.is_shut(number));
     Ok(())
 }
 

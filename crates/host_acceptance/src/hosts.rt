@@ -211,9 +211,12 @@ fn a_full_queue_wants_no_input(rt: HostRuntime) -> Result<(), Fail> {
         ],
     );
     same!(rt; host.output(id).map(|bytes| bytes.len()), Some(234_496));
+    holds!(rt; !host.wants_input(id));
     same!(rt; host.pass(id, 234_496 - 65_536), Ok(()));
+    holds!(rt; !host.wants_input(id));
     host.tells(&rt, &[(Event::Feed(id, b"usi\n"), NOT_READY)]);
     same!(rt; host.pass(id, 1), Ok(()));
+    holds!(rt; host.wants_input(id));
     host.tells(&rt, &[(Event::Feed(id, b"usi\n"), Told::Done)]);
     Ok(())
 }

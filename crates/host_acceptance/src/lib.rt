@@ -1,8 +1,10 @@
-//! Tests of hosts of many sessions, of scripts, and of the words of the command line.
+//! Tests of hosts of many sessions, of the loop that serves them to connections, of scripts, and of the
+//! words of the command line.
 #![tactic(auto)]
 
 #[cfg(test)]
 mod assertions;
+mod connections;
 #[cfg(test)]
 mod host;
 #[cfg(test)]

@@ -1,7 +1,7 @@
 //! Each request of a loop refused in turn: one connection at most is shut early.
 
 use host_core::Host;
-use socket_loop::{Loop, MemoryWire, Wire};
+use socket_loop::Loop;
 use std::alloc::Global;
 use std::hash::{BuildHasherDefault, FoldHasher};
 use std::marker::Model;
@@ -9,6 +9,7 @@ use std::process::Abort;
 use std::test::Fail;
 use test_support::rows::INFO_AND_BEST_ONE;
 use test_support::{FailingAllocator, holds};
+use wires::{MemoryWire, Wire};
 
 type Memory = FailingAllocator<Global>;
 
@@ -30,11 +31,11 @@ struct Scene<'a> {
 
 impl<'a> Model for Scene<'a> {
     ghost use Rattle.socket_loop.specs.Links.{links_of};
-    ghost use Rattle.socket_loop.specs.Turns.{Fits, LoopState};
+    ghost use Rattle.socket_loop.specs.Turns.{Fits};
 
-    ghost Value = { LoopState };
+    ghost Value = { Unit };
 
-    ghost view = { λ s. s.turns };
+    ghost view = { λ _. tt };
 
     ghost invariant = { λ s. Fits (links_of s.turns.held) (⟦<MemoryWire<&'static Memory> as Wire>⟧.bound s.wire) s.host };
 }

@@ -2,7 +2,7 @@
 //! shut, and the others are answered without another client.
 
 use host_core::Host;
-use socket_loop::{Loop, Wire, WireFault};
+use socket_loop::Loop;
 use std::alloc::Global;
 use std::hash::{BuildHasherDefault, FoldHasher};
 use std::io::{ErrorKind, Read, Write};
@@ -13,6 +13,7 @@ use std::test::Fail;
 use std::{env, fs, process};
 use test_support::{FailingAllocator, holds};
 use usi_serve::MioWire;
+use wires::{Wire, WireFault};
 
 type Memory = FailingAllocator<Global>;
 
@@ -33,11 +34,11 @@ struct Scene<'a> {
 
 impl<'a> Model for Scene<'a> {
     ghost use Rattle.socket_loop.specs.Links.{links_of};
-    ghost use Rattle.socket_loop.specs.Turns.{Fits, LoopState};
+    ghost use Rattle.socket_loop.specs.Turns.{Fits};
 
-    ghost Value = { LoopState };
+    ghost Value = { Unit };
 
-    ghost view = { λ s. s.turns };
+    ghost view = { λ _. tt };
 
     ghost invariant = { λ s. Fits (links_of s.turns.held) (⟦<MioWire<&'static Memory> as Wire>⟧.bound s.wire) s.host };
 }

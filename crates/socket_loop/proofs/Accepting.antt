@@ -15,13 +15,14 @@ use Rattle.host_core.proofs.Chains.{run-start}
 use Rattle.host_core.proofs.Ids.{same_id, is_same_id-refl}
 use Rattle.socket_loop.specs.declared.connection.Link.{Link}
 use Rattle.socket_loop.specs.declared.connection.Connection.{Connection}
-use Rattle.socket_loop.specs.declared.wire.WireFault.{WireFault}
-use Rattle.socket_loop.specs.Told.{Told, KeepsPeer, KeepsAll, Writes, Shuts, bytes_written, GivesNumber}
+use Rattle.wires.specs.declared.wire.WireFault.{WireFault}
+use Rattle.wires.specs.Told.{Told, KeepsPeer, KeepsAll, Writes, Shuts, bytes_written, GivesNumber}
 use Rattle.socket_loop.specs.Links.{Ties, IsTied, IsAmong, IsApart, links_of}
-use Rattle.socket_loop.specs.Parts.{AllMove, AreAll, IsAdmission, IsClosing, closes}
+use Rattle.socket_loop.specs.Parts.{AreAll, IsAdmission, IsClosing, closes}
+use Rattle.wires.specs.Moves.{AllMove}
 use Rattle.socket_loop.specs.Turns.{Fits, Accepted, AreNumbered, HasSession, IsOneOf, IsTurnedAway, IsAway, IsNew, Accepts, Admits, openings, told_to}
-use Rattle.socket_loop.proofs.Peers.{kept_same, kept_then, all_kept, moves_then, away_moves, stays_raised, rises_then, stays_rise, told_failure, raised_rises, Consumes-none, Appends-none, Keeps-Appends}
-use Rattle.socket_loop.specs.Asked.{Call, Accept, Asks}
+use Rattle.wires.proofs.Peers.{kept_same, kept_then, all_kept, moves_then, away_moves, stays_raised, rises_then, stays_rise, told_failure, raised_rises, Consumes-none, Appends-none, Keeps-Appends}
+use Rattle.wires.specs.Asked.{Call, Accept, Asks}
 use Rattle.socket_loop.specs.Calls.{AcceptsAll, AcceptsSome, AdmitsOne, AsksAccepts, AsksAll, GivesNobody}
 use Rattle.socket_loop.proofs.Calls.{asks_accept, asks_full, asks_no_accept, asks_on, asks_stop}
 use Rattle.socket_loop.proofs.Left.{once_insert}

@@ -8,9 +8,10 @@ use Rattle.host_core.specs.Steps.{HostState}
 use Rattle.host_core.specs.Events.{Event, Outcome, Opened, Done, Worked, Gave, Refused, Close}
 use Rattle.host_core.specs.Runs.{IsStep}
 use Rattle.host_core.proofs.Chains.{run-start}
-use Rattle.socket_loop.specs.declared.wire.WireFault.{WireFault}
+use Rattle.wires.specs.declared.wire.WireFault.{WireFault}
+use Rattle.wires.proofs.Asked.{asks_none, asks_then}
 use Rattle.socket_loop.specs.declared.connection.Connection.{Connection}
-use Rattle.socket_loop.specs.Asked.{Call, Accept, Read, Write, Shut, Asks, IsCalled}
+use Rattle.wires.specs.Asked.{Call, Accept, Read, Write, Shut, Asks, IsCalled}
 use Rattle.socket_loop.specs.declared.connection.Link.{Link}
 use Rattle.socket_loop.specs.Links.{links_of, IsAmong, IsApart}
 use Rattle.socket_loop.specs.Parts.{IsClosing}
@@ -24,16 +25,6 @@ use Rattle.socket_loop.proofs.Stirs.{made_same}
 use Rattle.socket_loop.proofs.Runs.{run-one, run-two}
 
 -- ---- what was asked
-
-pub asks_none : (a : Option (List Call)) → Asks a a []
-asks_none None = tt
-asks_none (Some before) = ap (λ (l : List Call). Some l) (sym (append-nil before))
-
-pub asks_then : (a b c : Option (List Call)) (x y : List Call) → Asks a b x → Asks b c y → Asks a c (x ++ y)
-asks_then None b c x y p q = tt
-asks_then (Some before) b c x y p q =
-    let r : Asks (Some (before ++ x)) c y = rw p at q in
-    r ∙ ap (λ (l : List Call). Some l) (append_assoc before x y)
 
 -- it is held with its session, and nothing was asked for
 pub asks_held : (met : List Link) (l : Link) (a b : Option (List Call)) → IsAmong met l → b ≡ a → AsksAdmission met l.number (Opened l.id) a b

@@ -1,5 +1,3 @@
-pub mod Chunks
-pub mod Peers
 pub mod Runs
 pub mod Parts
 pub mod Visits

@@ -16,11 +16,11 @@ use Rattle.host_core.proofs.OneSession.{kept, gone, IsGone as IsOut}
 use Rattle.host_core.proofs.Overs.{kept_over, over_more, over_none}
 use Rattle.socket_loop.specs.declared.connection.Link.{Link}
 use Rattle.socket_loop.specs.declared.connection.Connection.{Connection}
-use Rattle.socket_loop.specs.Told.{Told, KeepsPeer}
+use Rattle.wires.specs.Told.{Told, KeepsPeer}
 use Rattle.socket_loop.specs.Links.{IsAmong, IsStrange}
 use Rattle.socket_loop.specs.Parts.{Carried, LeavesAlone}
 use Rattle.socket_loop.specs.Turns.{Served}
-use Rattle.socket_loop.proofs.Peers.{Consumes-none, Appends-none, Keeps-Appends}
+use Rattle.wires.proofs.Peers.{Consumes-none, Appends-none, Keeps-Appends}
 use Rattle.socket_loop.proofs.Parts.{lost_order}
 use Rattle.socket_loop.proofs.Turning.{not_lost}
 

@@ -20,7 +20,7 @@ use Rattle.host_core.specs.ById.{pending_of}
 use Rattle.host_core.proofs.Ids.{same_id, other_id, is_same_id-refl}
 use Rattle.host_core.proofs.OneSession.{gone}
 use Rattle.socket_loop.specs.declared.connection.Connection.{Connection}
-use Rattle.socket_loop.specs.Told.{Told}
+use Rattle.wires.specs.Told.{Told}
 use Rattle.socket_loop.specs.Parts.{AreAll, IsAdmission, IsInput, IsOutput, IsEnd, refuses, refuses_by}
 use Rattle.socket_loop.specs.Turns.{IsTurn}
 use Rattle.socket_loop.proofs.Runs.{step_rises, next_rises, all_append}

@@ -15,10 +15,11 @@ use Rattle.host_core.proofs.Chains.{run-start}
 use Rattle.host_core.proofs.OneSession.{gone, IsGone as IsOut}
 use Rattle.socket_loop.specs.declared.connection.Link.{Link}
 use Rattle.socket_loop.specs.declared.connection.Connection.{Connection}
-use Rattle.socket_loop.specs.Told.{Told, KeepsPeer, KeepsAll}
+use Rattle.wires.specs.Told.{Told, KeepsPeer, KeepsAll}
 use Rattle.socket_loop.specs.Links.{IsTied, IsApart, IsStrange, links_of}
-use Rattle.socket_loop.specs.Parts.{IsGone, closes, starves, AllMove, Finished, Cause, IsSpared, IsShutDown, Carried, Carries, Serves}
-use Rattle.socket_loop.proofs.Peers.{stays_then, stays_raised, raised_rises, rises_raised, kept_same, kept_then, all_kept, moves_then, Consumes-none, Appends-none}
+use Rattle.socket_loop.specs.Parts.{IsGone, closes, starves, Finished, Cause, IsSpared, IsShutDown, Carried, Carries, Serves}
+use Rattle.wires.specs.Moves.{AllMove}
+use Rattle.wires.proofs.Peers.{stays_then, stays_raised, raised_rises, rises_raised, kept_same, kept_then, all_kept, moves_then, Consumes-none, Appends-none}
 use Rattle.socket_loop.proofs.Runs.{run-append, own-append, taken-append, own-works, taken-works, closes-works, closes_left, closes_right, closes_neither, starves_left, starves_right, starves_either, starves_neither, starves-works, alone_then, all_append, next_rises}
 
 -- ---- why a connection is shut

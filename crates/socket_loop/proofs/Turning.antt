@@ -16,13 +16,14 @@ use Rattle.host_core.specs.Headline.{EndsFrom}
 use Rattle.host_core.proofs.OneSession.{kept, opened_ends}
 use Rattle.socket_loop.specs.declared.connection.Link.{Link}
 use Rattle.socket_loop.specs.declared.connection.Connection.{Connection}
-use Rattle.socket_loop.specs.Told.{Told, KeepsPeer}
+use Rattle.wires.specs.Told.{Told, KeepsPeer}
 use Rattle.socket_loop.specs.Links.{IsTied, IsAmong, IsApart, IsMarked, IsRising, links_of, reads_ended, was_shut}
-use Rattle.socket_loop.specs.Parts.{IsGone, closes, Carried, Carries, Serves, IsInput, IsOutput, IsEnd, IsEmptied, AllMove, KeepsAllMarks, AddsNoMark, Grows}
-use Rattle.socket_loop.specs.Asked.{Call}
+use Rattle.socket_loop.specs.Parts.{IsGone, closes, Carried, Carries, Serves, IsInput, IsOutput, IsEnd, KeepsAllMarks, AddsNoMark, Grows}
+use Rattle.wires.specs.Moves.{IsEmptied, AllMove}
+use Rattle.wires.specs.Asked.{Call}
 use Rattle.socket_loop.specs.Calls.{AcceptsAll, AsksAll, AsksEach, AsksTurn, reads_of, writes_of, ends_of}
 use Rattle.socket_loop.specs.Turns.{FitsOne, Fits, Accepted, HasSession, Joins, IsTurnedAway, IsNew, Accepts, IsTurn, IsLetGo, Served, GoesOnServing, ServesNew}
-use Rattle.socket_loop.proofs.Peers.{kept_then, moves_then, emptied_move, raised_rises, rises_then, stays_rise, known_move}
+use Rattle.wires.proofs.Peers.{kept_then, moves_then, emptied_move, raised_rises, rises_then, stays_rise, known_move}
 use Rattle.socket_loop.proofs.Runs.{run-append, next_rises, opened_left, starves-admissions, alone_then}
 use Rattle.socket_loop.proofs.Parts.{carried_nothing, carried_then, carries_then, carries_round}
 use Rattle.socket_loop.proofs.Marks.{marks_none, marks_then, marked_filter, let_go}

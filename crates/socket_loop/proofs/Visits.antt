@@ -22,12 +22,13 @@ use Rattle.host_core.proofs.Chains.{run-start}
 use Rattle.host_core.proofs.Ids.{same_id, is_same_id-refl}
 use Rattle.socket_loop.specs.declared.connection.Link.{Link}
 use Rattle.socket_loop.specs.declared.connection.Connection.{Connection}
-use Rattle.socket_loop.specs.declared.wire.Got.TheVariants.{Bytes}
-use Rattle.socket_loop.specs.declared.wire.WireFault.{WireFault}
-use Rattle.socket_loop.specs.Told.{Told, KeepsPeer, Stays, IsRaised, Reads, Writes, Shuts}
+use Rattle.wires.specs.declared.wire.Got.TheVariants.{Bytes}
+use Rattle.wires.specs.declared.wire.WireFault.{WireFault}
+use Rattle.wires.specs.Told.{Told, KeepsPeer, Stays, IsRaised, Reads, Writes, Shuts}
 use Rattle.socket_loop.specs.Links.{Ties, IsMarked, reads_ended}
-use Rattle.socket_loop.specs.Parts.{GaveBytes, IsGone, IsClosing, AreAll, IsInput, IsOutput, IsEnd, closes, starves, Cause, Carried, Serves, is_done, is_finished_with}
-use Rattle.socket_loop.proofs.Peers.{kept_same, kept_then, moves_then, writes_move, shuts_move, gave_move, stays_rise, raised_rise, stays_raised, raised_rises, stays-refl, rises-refl, Consumes-none, Keeps-nothing, Appends-none}
+use Rattle.socket_loop.specs.Parts.{IsGone, IsClosing, AreAll, IsInput, IsOutput, IsEnd, closes, starves, Cause, Carried, Serves, is_done, is_finished_with}
+use Rattle.wires.specs.Moves.{GaveBytes}
+use Rattle.wires.proofs.Peers.{kept_same, kept_then, moves_then, writes_move, shuts_move, gave_move, stays_rise, raised_rise, stays_raised, raised_rises, stays-refl, rises-refl, Consumes-none, Keeps-nothing, Appends-none}
 use Rattle.socket_loop.proofs.Runs.{run-one, run-two, step_rises}
 use Rattle.socket_loop.proofs.Parts.{carried_nothing}
 

@@ -7,14 +7,14 @@ use Rattle.host_core.specs.Steps.{HostState}
 use Rattle.host_core.specs.ById.{wants_input_of, queued_of}
 use Rattle.host_core.specs.Events.{Event, Outcome, Opened, Refused, Open, Feed, Work, Take, Close}
 use Rattle.host_core.specs.Made.{Step}
-use Rattle.socket_loop.specs.Told.{Told}
+use Rattle.wires.specs.Told.{Told}
 use Rattle.host_core.specs.Runs.{IsRun}
-use Rattle.socket_loop.specs.declared.wire.WireFault.{WireFault}
+use Rattle.wires.specs.declared.wire.WireFault.{WireFault}
 use Rattle.socket_loop.specs.declared.connection.Link.{Link}
 use Rattle.socket_loop.specs.declared.connection.Connection.{Connection}
 use Rattle.socket_loop.specs.declared.turn.TheConstants.{ACCEPTS}
 use Rattle.usi_session.specs.declared.limits.TheConstants.{CHUNK_MAX}
-use Rattle.socket_loop.specs.Asked.{Call, Accept, Read, Write, Shut, Asks, IsCalled}
+use Rattle.wires.specs.Asked.{Call, Accept, Read, Write, Shut, Asks, IsCalled}
 use Rattle.socket_loop.specs.Links.{links_of, IsApart, IsRising}
 use Rattle.socket_loop.specs.Parts.{AreAll, Grows, IsInput, IsOutput, IsEnd, is_finished_with}
 use Rattle.socket_loop.specs.Turns.{host_full, Accepted, Accepts, Admits, Fits, HasSession, IsTurn, KeepsMade}

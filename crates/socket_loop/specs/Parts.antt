@@ -1,6 +1,6 @@
 -- Parts of a turn: what they do to the host and to the connections of a wire (own choice).
 use Rattle.std.specs.Prelude.{◌≡◌, ◌<◌, ◌≢◌, ◌⊎◌, ⊤, ℕ, List, [], ◌∷◌, ◌++◌, Option, None, Some, Bool, true, false, ◌&&◌, ◌||◌, not, ◌==◌, length}
-use Rattle.std.specs.Io.KnownBytes.{Keeps, Appends, Consumes}
+use Rattle.std.specs.Io.KnownBytes.{Appends, Consumes}
 use Rattle.session_slots.specs.declared.id.SessionId.{SessionId}
 use Rattle.session_slots.specs.Slots.{find}
 use Rattle.usi_session.specs.Due.{SessionView, is_pending}
@@ -11,7 +11,8 @@ use Rattle.host_core.specs.Made.{Step, own, taken, is_same_id}
 use Rattle.host_core.specs.Runs.{IsStep, IsRun}
 use Rattle.socket_loop.specs.declared.connection.Link.{Link}
 use Rattle.socket_loop.specs.declared.connection.Connection.{Connection}
-use Rattle.socket_loop.specs.Told.{Told, KeepsPeer, KeepsOthers, Stays, IsRaised, OnlyRises}
+use Rattle.wires.specs.Told.{Told, KeepsPeer, Stays, IsRaised}
+use Rattle.wires.specs.Moves.{AllMove, IsEmptied}
 use Rattle.socket_loop.specs.Links.{IsTied, IsApart, IsStrange, IsHeld, IsMarked, reads_ended, was_shut}
 
 -- ---- steps of a host
@@ -109,26 +110,6 @@ pub record LeavesAlone (id : SessionId) (steps : List Step) : Type 0 where
 
 -- ---- one connection
 
--- bytes of any connection leave at the front and are written at the end, and its flags only rise
-pub record Moves (old new : Told) (number : ℕ) : Type 0 where
-  pub gave : List ℕ
-  pub unread : Consumes (old.unread number) (new.unread number) gave
-  pub took : List ℕ
-  pub written : Appends (old.written number) (new.written number) took
-  pub shut : OnlyRises (old.is_shut number) (new.is_shut number)
-  pub failed : OnlyRises (old.has_failed number) (new.has_failed number)
-
-abbrev pub AllMove : Told → Told → Type 0
-AllMove old new = (number : ℕ) → Moves old new number
-
--- a connection gave these bytes, and nothing else changed, but that a call of it may have failed
-pub record GaveBytes (old new : Told) (number : ℕ) (bytes : List ℕ) : Type 0 where
-  pub consumed : Consumes (old.unread number) (new.unread number) bytes
-  pub written : Keeps (old.written number) (new.written number)
-  pub shut : Stays (old.is_shut number) (new.is_shut number)
-  pub failed : OnlyRises (old.has_failed number) (new.has_failed number)
-  pub others : KeepsOthers old new number
-
 -- the host no longer has the session; or it is over, or the reads have ended, and nothing is pending or queued
 abbrev pub is_finished_with : Bool → Option SessionView → Bool
 is_finished_with has_ended None = true
@@ -192,11 +173,6 @@ pub record Serves (kind : Event → Type 0) (marks : List Connection) (bound : �
   pub carries : Carries marks bound links old before steps new after
 
 -- ---- marks
-
--- a connection that is told of has nothing left to be read
-abbrev pub IsEmptied : Option (List ℕ) → Option (List ℕ) → Type 0
-IsEmptied None new = ⊤
-IsEmptied (Some bytes) new = new ≡ Some []
 
 -- where the reads of a connection have ended, they had ended before, or nothing is left; where it was shut, it was shut before, or the wire tells so
 pub record KeepsMarks (bound : ℕ) (old : Told) (held : List Connection) (new : Told) (now : List Connection) (number : ℕ) : Type 0 where

@@ -1,5 +1,5 @@
 -- A turn of a loop (own choice).
-use Rattle.std.specs.Prelude.{◌≡◌, ◌+◌, ◌<◌, ◌≤◌, ◌⊎◌, ⊤, ℕ, List, [], ◌∷◌, ◌++◌, codes, map, true, IsSome, Option, None, Some, Bool, false, ◌||◌, not, filter, length, Result, Ok, Err}
+use Rattle.std.specs.Prelude.{◌≡◌, ◌+◌, ◌<◌, ◌≤◌, ◌⊎◌, ⊤, ℕ, List, [], ◌∷◌, ◌++◌, codes, map, true, IsSome, Option, Some, Bool, false, ◌||◌, not, filter, Result, Ok, Err}
 use Rattle.std.specs.Io.KnownBytes.{Keeps, Appends, Consumes}
 use Rattle.session_slots.specs.declared.id.SessionId.{SessionId}
 use Rattle.session_slots.specs.Slots.{find}
@@ -16,9 +16,10 @@ use Rattle.host_core.specs.Rounds.{IsRound, works, pending_ids}
 use Rattle.host_core.specs.Headline.{EndsFrom, IsFrontOf}
 use Rattle.socket_loop.specs.declared.connection.Link.{Link}
 use Rattle.socket_loop.specs.declared.connection.Connection.{Connection}
-use Rattle.socket_loop.specs.Told.{Told, KeepsPeer, KeepsOthers, KeepsAll, IsRaised, OnlyRises}
+use Rattle.wires.specs.Told.{Told, KeepsPeer, KeepsOthers, KeepsAll, IsRaised, OnlyRises}
 use Rattle.socket_loop.specs.Links.{AreOnce, IsTied, IsAmong, IsApart, IsStrange, IsMarked, links_of, reads_ended, was_shut}
-use Rattle.socket_loop.specs.Parts.{AllMove, AreAll, IsAdmission, IsInput, IsOutput, IsEnd, Carried, IsEmptied, IsGone, LeavesAlone, closes, is_finished_with}
+use Rattle.socket_loop.specs.Parts.{AreAll, IsAdmission, IsInput, IsOutput, IsEnd, Carried, IsGone, LeavesAlone, closes, is_finished_with}
+use Rattle.wires.specs.Moves.{AllMove, IsEmptied, Transfers}
 
 -- the budget of each round, and the connections
 pub record LoopState : Type 0 where
@@ -244,21 +245,6 @@ IsQuiet moved old held new now = moved ≡ false → KeepsAll old new × (now �
 
 -- ---- what moves
 
--- a connection that is told of gave at least one byte
-abbrev pub IsShorter : Option (List ℕ) → Option (List ℕ) → Type 0
-IsShorter None new = ⊤
-IsShorter (Some bytes) None = ⊥
-IsShorter (Some bytes) (Some left) = length left < length bytes
-
--- a connection that is told of took at least one byte
-abbrev pub IsLonger : Option (List ℕ) → Option (List ℕ) → Type 0
-IsLonger None new = ⊤
-IsLonger (Some bytes) None = ⊥
-IsLonger (Some bytes) (Some more) = length bytes < length more
-
-abbrev pub Transfers : Told → Told → ℕ → Type 0
-Transfers old new number = IsShorter (old.unread number) (new.unread number) ⊎ IsLonger (old.written number) (new.written number)
-
 -- the marks of a connection stay once they are made
 pub record KeepsMade (old new : Connection) : Type 0 where
   pub ended : old.has_ended ≡ true → new.has_ended ≡ true
@@ -295,10 +281,6 @@ pub record StirsHeld (old : Told) (held : List Connection) (new : Told) (now : L
 abbrev pub any_pending : HostState → List Link → Bool
 any_pending host [] = false
 any_pending host (link ∷ rest) = pending_of (find host.slots link.id) || any_pending host rest
-
--- the wire still knows each connection that it knew
-abbrev pub StaysKnown : Told → Told → Type 0
-StaysKnown old new = (number : ℕ) → IsSome (old.written number) → IsSome (new.written number)
 
 -- a connection was accepted, gave or took at least one byte, ended or was shut, or the session of one that is held is pending
 abbrev pub HasMoved : ℕ → Told → List Connection → ℕ → Told → List Connection → HostState → Type 0

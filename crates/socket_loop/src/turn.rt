@@ -5,21 +5,21 @@ ghost use Rattle.host_core.specs.Events.{Opened};
 ghost use Rattle.host_core.specs.Steps.{HostState};
 ghost use Rattle.socket_loop.specs.Links.{links_of, place_for, reads_ended, AreOnce, IsApart, IsMarked, IsRising};
 ghost use Rattle.socket_loop.specs.Parts.{Serves, Grows, IsInput, IsOutput, IsEnd, KeepsAllMarks, AddsNoMark};
-ghost use Rattle.socket_loop.specs.Turns.{any_pending, host_full, Admits, AllKeepMade, AreLeft, NoneFinished, Fits, GoesOnServing, HasMoved, IsAway, IsOpening, IsQuiet, IsTurn, ServesNew, StaysKnown, Stirs};
-ghost use Rattle.socket_loop.specs.Asked.{Write, Shut, Asks};
+ghost use Rattle.socket_loop.specs.Turns.{any_pending, host_full, Admits, AllKeepMade, AreLeft, NoneFinished, Fits, GoesOnServing, HasMoved, IsAway, IsOpening, IsQuiet, IsTurn, ServesNew, Stirs};
+ghost use Rattle.wires.specs.Moves.{StaysKnown};
+ghost use Rattle.wires.specs.Asked.{Write, Shut, Asks};
 ghost use Rattle.socket_loop.specs.Calls.{AcceptsAll, AdmitsOne, AsksAdmission, AsksEach, AsksTurn, reads_of, writes_of, ends_of};
 ghost use Rattle.socket_loop.specs.declared.connection.Connection.{Connection};
 ghost use Rattle.socket_loop.specs.declared.turn.TheConstants.{ACCEPTS};
 
 use crate::connection::{Connection, Link};
 use crate::visit::{close_if_finished, read_from, shut_down, write_to};
-use crate::wire::Wire;
-use host_core::{Event, Host, HostFault, Outcome};
-use session_slots::SessionId;
+use host_core::{Host, HostFault};
 use std::alloc::Allocator;
 use std::hash::BuildHasher;
 use std::marker::Model;
 use usi_session::CHUNK_MAX;
+use wires::Wire;
 
 /// The most connections that are accepted in a turn.
 pub const ACCEPTS: usize = 16;
@@ -58,19 +58,6 @@ fn place_of(held: &[Connection], slot: usize) -> usize
         }
     }
     held.len()
-}
-
-/// Opens a session.
-fn open_in<S: BuildHasher, A: Allocator + Copy>(
-    host: &mut Host<S, A>,
-) -> Result<SessionId, HostFault>
-    ensures { IsOpening host.old result host.new }
-{
-    match host.step(Event::Open) {
-        Outcome::Opened(id) => Ok(id),
-        Outcome::Refused(fault) => Err(fault),
-        _ => Err(HostFault::OutOfMemory),
-    }
 }
 
 /// Drops the connections that were shut.
@@ -137,7 +124,7 @@ impl<A: Allocator + Copy> Loop<A> {
         ensures rising { IsRising (links_of self.old.held) → IsRising (links_of self.new.held) }
         ensures slice { self.new.slice ≡ self.old.slice }
     {
-        match open_in(host) {
+        match host.open() {
             Ok(id) => self.hold(host, wire, Link { number, id }),
             Err(HostFault::Full) => turn_away(wire, number),
             Err(_) => wire.shut(number),

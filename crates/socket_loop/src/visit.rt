@@ -3,23 +3,23 @@
 ghost use Rattle.std.specs.Prelude.{◌≡◌, ◌<◌, ◌≤◌, ◌⊎◌, [], ◌∷◌, List, None, length, true, false, not, ◌&&◌};
 ghost use Rattle.std.specs.Io.KnownBytes.{Keeps};
 ghost use Rattle.host_core.specs.ById.{wants_input_of};
-ghost use Rattle.host_core.specs.Seen.{outcome_of};
 ghost use Rattle.session_slots.specs.Slots.{find};
 ghost use Rattle.usi_session.specs.declared.limits.TheConstants.{CHUNK_MAX};
 ghost use Rattle.socket_loop.specs.Links.{IsMarked, reads_ended};
-ghost use Rattle.socket_loop.specs.Parts.{Serves, GaveBytes, IsClosing, IsEmptied, IsEnd, IsGone, IsInput, IsOutput, is_done, is_finished_with};
-ghost use Rattle.socket_loop.specs.Told.{IsRaised, Shuts, Stays, Told};
-ghost use Rattle.socket_loop.specs.Asked.{Shut, Asks};
+ghost use Rattle.socket_loop.specs.Parts.{Serves, IsClosing, IsEnd, IsGone, IsInput, IsOutput, is_finished_with};
+ghost use Rattle.wires.specs.Moves.{GaveBytes, IsEmptied, Transfers};
+ghost use Rattle.wires.specs.Told.{IsRaised, Shuts, Stays, Told};
+ghost use Rattle.wires.specs.Asked.{Shut, Asks};
 ghost use Rattle.socket_loop.specs.Calls.{Visits, shuts_of, reads_of, writes_of, ends_of, is_to_read, is_to_write};
-ghost use Rattle.socket_loop.specs.Turns.{EndsOrShuts, IsQuiet, KeepsMade, Transfers};
+ghost use Rattle.socket_loop.specs.Turns.{EndsOrShuts, IsQuiet, KeepsMade};
 ghost use Rattle.socket_loop.specs.declared.connection.Connection.{Connection};
 
 use crate::connection::Connection;
-use crate::wire::{Got, Wire};
-use host_core::{Event, Host, Outcome};
+use host_core::Host;
 use std::alloc::Allocator;
 use std::hash::BuildHasher;
 use usi_session::CHUNK_MAX;
+use wires::{Got, Wire};
 
 /// Shuts a connection and closes its session.
 pub fn shut_down<W: Wire, S: BuildHasher, A: Allocator + Copy>(
@@ -41,15 +41,8 @@ pub fn shut_down<W: Wire, S: BuildHasher, A: Allocator + Copy>(
 {
     let link = connection.link;
     wire.shut(link.number);
-    let _outcome = host.step(Event::Close(link.id));
+    let _closed = host.close(link.id);
     connection.is_shut = true;
-}
-
-/// Whether an event was done.
-fn was_done<A: Allocator>(outcome: &Outcome<A>) -> bool
-    ensures { result ≡ is_done (outcome_of outcome.now) }
-{
-    matches!(outcome, Outcome::Done)
 }
 
 /// Feeds a session what its connection gave; where memory is refused, both end.
@@ -75,8 +68,7 @@ fn feed_from<W: Wire, S: BuildHasher, A: Allocator + Copy>(
     ensures faults { W.failed wire.old ≤ W.failed wire.new }
     ensures next { host.old.slots.next ≤ host.new.slots.next }
 {
-    let outcome = host.step(Event::Feed(connection.link.id, chunk));
-    if was_done(&outcome) {
+    if host.feed(connection.link.id, chunk).is_ok() {
         return;
     }
     shut_down(connection, host, wire);

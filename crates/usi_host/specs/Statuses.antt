@@ -5,8 +5,8 @@ use Rattle.usi_words.specs.declared.words.WordsFault.TheVariants as words
 use Rattle.usi_host.specs.declared.serving.ServeFault.{ServeFault}
 use Rattle.usi_host.specs.declared.serving.ServeFault.TheVariants as serving
 use Rattle.host_core.specs.declared.event.HostFault.{HostFault}
-use Rattle.socket_loop.specs.declared.wire.WireFault.{WireFault}
-use Rattle.socket_loop.specs.declared.wire.WireFault.TheVariants as wires
+use Rattle.wires.specs.declared.wire.WireFault.{WireFault}
+use Rattle.wires.specs.declared.wire.WireFault.TheVariants as wires
 use Rattle.usi_replay.specs.declared.fault.ReplayFault.{ReplayFault}
 use Rattle.usi_replay.specs.declared.fault.ReplayFault.TheVariants.{OutOfMemory, ReadFailed, WriteFailed, BadScript}
 

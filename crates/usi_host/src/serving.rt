@@ -6,7 +6,7 @@ ghost use Rattle.usi_host.specs.Statuses.{of_host, of_wire, serve_status};
 
 use crate::refusal::FAULT;
 use host_core::HostFault;
-use socket_loop::WireFault;
+use wires::WireFault;
 
 /// Why the host on a socket ended early.
 #[derive(Clone, Copy, Debug, PartialEq, Eq)]

@@ -10,18 +10,19 @@ use Rattle.host_core.specs.declared.event.HostFault.TheVariants.{Full, OutOfMemo
 use Rattle.host_core.specs.Events.{Close, Outcome, Opened, Done, Worked, Gave, Refused}
 use Rattle.host_core.specs.Headline.{EndsFrom, IsFrontOf, OverFrom}
 use Rattle.socket_loop.specs.declared.connection.Link.{Link}
-use Rattle.socket_loop.specs.declared.wire.WireFault.{WireFault}
-use Rattle.socket_loop.specs.Told.{KeepsPeer}
+use Rattle.wires.specs.declared.wire.WireFault.{WireFault}
+use Rattle.wires.specs.Told.{KeepsPeer}
 use Rattle.socket_loop.specs.Links.{Ties, IsAmong, IsApart, IsMarked, links_of, reads_ended, was_shut}
 use Rattle.socket_loop.specs.Turns.{FitsOne, Fits, IsTurn, IsLetGo, IsTurnedAway, Joins, Served, host_full, told_to}
 use Rattle.socket_loop.proofs.Accepting.{apart_each, each_apart, fresh_tied, tied_of, ties_apart}
 use Rattle.socket_loop.proofs.Lives.{served_on, served_aside, then_ends, over_then, Keeps-Consumes, front_written, all_written, strange_each}
-use Rattle.socket_loop.proofs.Peers.{kept_same, kept_then, all_kept, moves_then, emptied_move, move_emptied, rises_raised, Keeps-Appends, stays_raised, raised_rises, stays_rise}
+use Rattle.wires.proofs.Peers.{kept_same, kept_then, all_kept, moves_then, emptied_move, move_emptied, rises_raised, Keeps-Appends, stays_raised, raised_rises, stays_rise}
 use Rattle.socket_loop.proofs.Runs.{next_rises, opened_left}
 use Rattle.socket_loop.proofs.Parts.{some_lost}
 use Rattle.socket_loop.proofs.Turning.{not_lost}
 use Rattle.socket_loop.proofs.Endings.{some_of, not_none, found, Found, stays_open, opened_stays, opened_before, ending, Ending, EndsBy}
-use Rattle.socket_loop.specs.Parts.{AllMove, Carried, Cause, Finished, IsSpared, IsShutDown, LeavesAlone}
+use Rattle.socket_loop.specs.Parts.{Carried, Cause, Finished, IsSpared, IsShutDown, LeavesAlone}
+use Rattle.wires.specs.Moves.{AllMove}
 use Rattle.host_core.specs.Made.{Step, own, taken, is_opened}
 use Rattle.host_core.specs.Rounds.{works, pending_ids}
 use Rattle.host_core.proofs.Ids.{is_same_id-refl}

@@ -1,7 +1,7 @@
 -- One turn after others.
 use Rattle.std.proofs.Common.{◌≡◌, ◌<◌, ◌+◌, ℕ, suc, Result, Ok, Err, IfErr, refl, arith}
-use Rattle.socket_loop.specs.declared.wire.WireFault.{WireFault}
-use Rattle.socket_loop.specs.Told.{HasCause}
+use Rattle.wires.specs.declared.wire.WireFault.{WireFault}
+use Rattle.wires.specs.Told.{HasCause}
 use Rattle.usi_serve.specs.Serving.{AreTurns, IsTurnTo, IsTurnAndWait, IsWait, Scene, Stops}
 
 pub turns_none : (slice : ℕ) (scene : Scene) → AreTurns slice 0 scene scene

@@ -8,9 +8,9 @@ use Rattle.usi_session.specs.Replies.{replies, is_over_after}
 use Rattle.host_core.specs.ById.{queued_of, pending_of}
 use Rattle.host_core.specs.Headline.{IsFrontOf, IsSettled, OverFrom, is_over_due}
 use Rattle.socket_loop.specs.declared.connection.Link.{Link}
-use Rattle.socket_loop.specs.Told.{KeepsPeer, IsRaised}
+use Rattle.wires.specs.Told.{KeepsPeer, IsRaised}
 use Rattle.socket_loop.specs.Links.{links_of, reads_ended, was_shut, IsAmong, IsApart, IsMarked}
-use Rattle.socket_loop.specs.Parts.{AllMove, IsEmptied}
+use Rattle.wires.specs.Moves.{AllMove, IsEmptied}
 use Rattle.socket_loop.specs.Turns.{FitsOne, Served, host_full}
 use Rattle.usi_serve.specs.Serving.{Scene}
 

@@ -2,12 +2,13 @@
 use Rattle.std.specs.Prelude.{◌≡◌, ◌≤◌, ◌<◌, ℕ, zero, suc, List, [], ◌∷◌, Bool, true, false, Option, Err, filter, not}
 use Rattle.host_core.specs.Steps.{HostState}
 use Rattle.socket_loop.specs.declared.connection.Connection.{Connection}
-use Rattle.socket_loop.specs.declared.wire.WireFault.{WireFault}
-use Rattle.socket_loop.specs.Asked.{Call, Wait, Asks}
+use Rattle.wires.specs.declared.wire.WireFault.{WireFault}
+use Rattle.wires.specs.Asked.{Call, Wait, Asks}
 use Rattle.socket_loop.specs.Calls.{AsksTurn}
 use Rattle.socket_loop.specs.Links.{links_of, AreOnce, IsRising}
-use Rattle.socket_loop.specs.Told.{Told, HasCause, KeepsAll}
-use Rattle.socket_loop.specs.Turns.{any_pending, Fits, GoesOnServing, HasMoved, IsQuiet, IsTurn, NoneFinished, ServesNew, StaysKnown}
+use Rattle.wires.specs.Told.{Told, HasCause, KeepsAll}
+use Rattle.socket_loop.specs.Turns.{any_pending, Fits, GoesOnServing, HasMoved, IsQuiet, IsTurn, NoneFinished, ServesNew}
+use Rattle.wires.specs.Moves.{StaysKnown}
 
 -- the connections of a loop, what its wire gave, tells, was asked for and counts, and its host
 pub record Scene : Type 0 where

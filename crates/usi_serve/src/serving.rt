@@ -8,9 +8,10 @@ ghost use Rattle.usi_serve.specs.Patience.{AnswersInTime};
 ghost use Rattle.usi_serve.specs.Serving.{AreTurns, Stops};
 
 use host_core::Host;
-use socket_loop::{Loop, Wire, WireFault};
+use socket_loop::Loop;
 use std::alloc::Allocator;
 use std::hash::BuildHasher;
+use wires::{Wire, WireFault};
 
 /// Takes so many turns, and waits after each of them, the last one too: until something may be ready
 /// where the turn did not move, and not at all where it did. A wait that fails ends it, with its fault.

@@ -2,19 +2,19 @@
 
 ghost use Rattle.std.specs.Prelude.{◌≡◌, ◌<◌, ◌≤◌, ◌+◌, ◌-◌, ◌^◌, length, IfOk, OnOk, OnErr, true, [], Err};
 ghost use Rattle.usi_serve.specs.declared.sockets.TheConstants.{PLACES};
-ghost use Rattle.socket_loop.specs.Told.{GivesNumber, HasCause, HasRisen, Reads, bytes_read, nothing_told};
-ghost use Rattle.socket_loop.specs.declared.wire.WireFault.TheVariants.{Device};
+ghost use Rattle.wires.specs.Told.{GivesNumber, HasCause, HasRisen, Reads, bytes_read, nothing_told};
+ghost use Rattle.wires.specs.declared.wire.WireFault.TheVariants.{Device};
 ghost use Rattle.usi_lines.specs.OneLine.{IsOneLine};
 
 use crate::kept::Kept;
 use mio::net::{UnixListener, UnixStream};
 use mio::{Events, Interest, Poll, Token};
-use socket_loop::{Got, Wire, WireFault};
 use std::alloc::Allocator;
 use std::fs::Files;
 use std::io::{ErrorKind, Read, Write};
 use std::net::Net;
 use std::time::Duration;
+use wires::{Got, Wire, WireFault};
 
 /// How many events a poll may give: one for each connection of a full host, and one for the listener.
 const EVENTS: usize = 1025;

@@ -5,7 +5,7 @@ ghost use Rattle.socket_loop.specs.Turns.{Fits};
 use crate::assertions::{holds, same};
 use crate::{MioWire, serve};
 use host_core::Host;
-use socket_loop::{Got, Loop, MemoryWire, Wire, WireFault};
+use socket_loop::Loop;
 use std::alloc::Global;
 use std::hash::{BuildHasherDefault, FoldHasher};
 use std::io::{Read, Write};
@@ -14,6 +14,7 @@ use std::os::unix::net::UnixStream;
 use std::path::PathBuf;
 use std::test::Fail;
 use std::{env, fs, process};
+use wires::{Got, MemoryWire, Wire, WireFault};
 
 type TestHost = Host<BuildHasherDefault<FoldHasher>, Global>;
 

@@ -2,10 +2,10 @@ use super::MioWire;
 use crate::assertions::same;
 use mio::net::UnixStream;
 use mio::{Interest, Token};
-use socket_loop::{Wire, WireFault};
 use std::path::PathBuf;
 use std::test::Fail;
 use std::{env, fs, net, os, process};
+use wires::{Wire, WireFault};
 
 // Two clients wait behind a connection that the poll refuses, as it has it already. They are accepted without
 // another client, since the wait has an end.

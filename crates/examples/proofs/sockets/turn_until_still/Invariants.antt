@@ -1,4 +1,5 @@
-use Rattle.socket_loop.specs.Turns.{Fits, StaysKnown}
+use Rattle.socket_loop.specs.Turns.{Fits}
+use Rattle.wires.specs.Moves.{StaysKnown}
 use Rattle.socket_loop.specs.Links.{links_of}
 use Rattle.examples.proofs.sockets.turn_until_still.Given as goal
 

@@ -1,8 +1,8 @@
 use Rattle.std.proofs.Common.{refl, [], ◌∷◌}
 use Rattle.socket_loop.proofs.Accepting.{away}
-use Rattle.socket_loop.specs.Asked.{Write, Shut}
+use Rattle.wires.specs.Asked.{Write, Shut}
 use Rattle.socket_loop.specs.Turns.{host_full}
-use Rattle.socket_loop.proofs.Calls.{asks_then}
+use Rattle.wires.proofs.Asked.{asks_then}
 use Rattle.socket_loop.proofs.turn.turn_away.Goals as goal
 
 pub returns-clause-away : goal.returns-clause-away

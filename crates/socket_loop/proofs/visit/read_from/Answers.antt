@@ -1,8 +1,8 @@
 use Rattle.std.proofs.Common.{inl}
-use Rattle.socket_loop.proofs.Peers.{nothing_keeps, ended_keeps}
+use Rattle.wires.proofs.Peers.{nothing_keeps, ended_keeps}
 use Rattle.socket_loop.proofs.Parts.{serves_same, serves_wire}
 use Rattle.socket_loop.proofs.Visits.{read_fault, serves_fault, shut_after}
-use Rattle.socket_loop.proofs.Stirs.{read_shorter}
+use Rattle.wires.proofs.Transfers.{read_shorter}
 use Rattle.socket_loop.specs.Parts.{IsInput}
 use Rattle.socket_loop.proofs.Calls.{visits_nothing, visits_closing}
 use Rattle.socket_loop.proofs.visit.read_from.Goals as goal

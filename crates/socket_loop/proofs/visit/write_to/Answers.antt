@@ -1,7 +1,7 @@
 use Rattle.std.proofs.Common.{rules, inl, inr, refl}
 use Rattle.socket_loop.proofs.Parts.{serves_same}
 use Rattle.socket_loop.proofs.Visits.{write_fault, serves_fault, serves_passed}
-use Rattle.socket_loop.proofs.Stirs.{write_longer}
+use Rattle.wires.proofs.Transfers.{write_longer}
 use Rattle.socket_loop.specs.Parts.{IsOutput}
 use Rattle.host_core.specs.Events.{Take}
 use Rattle.socket_loop.proofs.Calls.{visits_nothing, visits_step, visits_closing}

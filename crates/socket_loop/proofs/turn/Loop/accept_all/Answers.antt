@@ -1,7 +1,7 @@
 use Rattle.std.proofs.Common.{rules, ◌≡◌, ◌≤◌, ◌<◌, arith}
 use Rattle.socket_loop.proofs.Accepting.{some_start, some_stop, some_full, some_more, number_rises}
 use Rattle.socket_loop.proofs.Marks.{adds_same, adds_then, grows_same, grows_then}
-use Rattle.socket_loop.proofs.Peers.{kept_same}
+use Rattle.wires.proofs.Peers.{kept_same}
 use Rattle.socket_loop.proofs.Quiet.{quiet_stop}
 use Rattle.socket_loop.proofs.turn.Loop.accept_all.Goals as goal
 

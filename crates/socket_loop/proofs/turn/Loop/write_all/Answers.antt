@@ -1,6 +1,6 @@
 use Rattle.std.proofs.Common.{rules, arith, ◌≡◌, ◌∙◌, sym, inl, []}
 use Rattle.socket_loop.specs.Parts.{IsOutput}
-use Rattle.socket_loop.proofs.Peers.{kept_same}
+use Rattle.wires.proofs.Peers.{kept_same}
 use Rattle.socket_loop.proofs.Parts.{serves_same, serves_next, links_set}
 use Rattle.socket_loop.proofs.Marks.{marks_same, marks_then, marks_visit}
 use Rattle.socket_loop.proofs.Stirs.{all_made_same, all_made_then, all_made_set, stirs_next}

@@ -1,8 +1,0 @@
-use Rattle.socket_loop.specs.Told.{bytes_read}
-use Rattle.std.proofs.Common.{Ok, length}
-use Rattle.socket_loop.proofs.Chunks.{all_left}
-use Rattle.socket_loop.proofs.peer.Peer.read.Goals as goal
-
--- what is given and what is left are all
-pub returns-clause-consumed : goal.returns-clause-consumed
-returns-clause-consumed g c = rw c.give.ensures.left (all_left c.args.self.now.chunks (length c.args.buf.now) (bytes_read (Ok c.give.result) c.give.new.buf) c.give.ensures.given)

@@ -1,0 +1,4 @@
+pub mod Asked
+pub mod Chunks
+pub mod Peers
+pub mod Transfers

@@ -1,0 +1,4 @@
+pub mod Told
+pub mod Asked
+pub mod Moves
+pub mod Memory
