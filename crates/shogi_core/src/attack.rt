@@ -3,7 +3,7 @@
 ghost use Rattle.std.specs.Prelude.{◌≡◌, ◌≢◌, ◌<◌, ◌≤◌, ◌^◌, ℕ, true, false, None, IfSome, IsNone, is_none, slice_set};
 ghost use Rattle.shogi_core.specs.Attack.{is_attacked, is_open_king, in_check, is_sniper, is_sniping, cell_steps, cell_slides_back, is_step_from, is_shot_along, is_pinned_by};
 ghost use Rattle.shogi_core.specs.Below.{some_below};
-ghost use Rattle.shogi_core.specs.Bits.{has_bit};
+ghost use Rattle.shogi_core.specs.Bits.{HasBits, has_bit};
 ghost use Rattle.shogi_core.specs.Cell.{is_king, is_piece_of};
 ghost use Rattle.shogi_core.specs.Lines.{are_aligned, are_lined, is_near, is_seen};
 ghost use Rattle.shogi_core.specs.Pieces.{opponent_of};
@@ -32,7 +32,7 @@ fn is_open_king(board: &Board, color: Color, square: Square) -> bool
 fn lined_squares(board: &Board, from: usize) -> u128
     requires { from < 81 }
     ensures fits { result < 2 ^ 81 }
-    ensures bits { (b : ℕ) → b < 81 → has_bit result b ≡ are_lined board.now from b }
+    ensures bits { HasBits result (are_lined board.now from) }
 {
     straight_squares(board, Color::Black, from) | diagonal_squares(board, Color::Black, from)
 }
@@ -42,7 +42,7 @@ fn lined_squares(board: &Board, from: usize) -> u128
 fn seen_squares(board: &Board, from: usize) -> u128
     requires { from < 81 }
     ensures fits { result < 2 ^ 81 }
-    ensures bits { (b : ℕ) → b < 81 → has_bit result b ≡ is_seen board.now from b }
+    ensures bits { HasBits result (is_seen board.now from) }
 {
     lined_squares(board, from) | jump_squares(from)
 }
@@ -52,7 +52,7 @@ fn seen_squares(board: &Board, from: usize) -> u128
 fn sniper_squares(board: &Board, by: Color, from: usize) -> u128
     requires { from < 81 }
     ensures fits { result < 2 ^ 81 }
-    ensures bits { (b : ℕ) → b < 81 → has_bit result b ≡ is_sniper board.now by from b }
+    ensures bits { HasBits result (is_sniper board.now by from) }
 {
     board.own(by) & board.sliders() & aligned_squares(from)
 }
@@ -109,7 +109,7 @@ fn slides_back(cell: Option<Piece>, direction: usize) -> bool
 fn is_shot_on(board: &Board, by: Color, square: usize, direction: usize, snipers: u128) -> bool
     requires direction { direction < 8 }
     requires square { square < 81 }
-    requires snipers { (b : ℕ) → b < 81 → has_bit snipers b ≡ is_sniper board.now by square b }
+    requires snipers { HasBits snipers (is_sniper board.now by square) }
     ensures { result ≡ is_shot_along board.now by square direction }
 {
     let mut left = slide_squares(board, direction, square) & snipers;
@@ -128,7 +128,7 @@ fn is_shot_on(board: &Board, by: Color, square: usize, direction: usize, snipers
 fn is_shot_apart(board: &Board, by: Color, square: usize, direction: usize, snipers: u128) -> bool
     requires direction { direction < 8 }
     requires square { square < 81 }
-    requires snipers { (b : ℕ) → b < 81 → has_bit snipers b ≡ is_sniper board.now by square b }
+    requires snipers { HasBits snipers (is_sniper board.now by square) }
     ensures { result ≡ is_shot_along board.now by square direction }
 {
     is_shot_on(board, by, square, direction, snipers)
@@ -139,7 +139,7 @@ fn is_shot_apart(board: &Board, by: Color, square: usize, direction: usize, snip
 fn is_shot_along(board: &Board, by: Color, square: usize, direction: usize, snipers: u128) -> bool
     requires direction { direction < 8 }
     requires square { square < 81 }
-    requires snipers { (b : ℕ) → b < 81 → has_bit snipers b ≡ is_sniper board.now by square b }
+    requires snipers { HasBits snipers (is_sniper board.now by square) }
     ensures { result ≡ is_shot_along board.now by square direction }
 {
     if ray(direction, square) & snipers == 0 {
@@ -151,7 +151,7 @@ fn is_shot_along(board: &Board, by: Color, square: usize, direction: usize, snip
 /// Whether one of the snipers of the square slides to it.
 fn is_shot(board: &Board, by: Color, square: usize, snipers: u128) -> bool
     requires square { square < 81 }
-    requires snipers { (b : ℕ) → b < 81 → has_bit snipers b ≡ is_sniper board.now by square b }
+    requires snipers { HasBits snipers (is_sniper board.now by square) }
     ensures { result ≡ some_below 8 (is_shot_along board.now by square) }
 {
     for direction in 0..8 {
@@ -208,7 +208,7 @@ fn shot_or_pin(
 ) -> bool
     requires direction { direction < 8 }
     requires square { square < 81 }
-    requires snipers { (b : ℕ) → b < 81 → has_bit snipers b ≡ is_sniper board.now (opponent_of side) square b }
+    requires snipers { HasBits snipers (is_sniper board.now (opponent_of side) square) }
     requires fits { pinned.old < 2 ^ 81 }
     ensures shot { result ≡ is_shot_along board.now (opponent_of side) square direction }
     ensures fits { pinned.new < 2 ^ 81 }
@@ -245,7 +245,7 @@ fn shot_or_pin_along(
 ) -> bool
     requires direction { direction < 8 }
     requires square { square < 81 }
-    requires snipers { (b : ℕ) → b < 81 → has_bit snipers b ≡ is_sniper board.now (opponent_of side) square b }
+    requires snipers { HasBits snipers (is_sniper board.now (opponent_of side) square) }
     requires fits { pinned.old < 2 ^ 81 }
     ensures shot { result ≡ is_shot_along board.now (opponent_of side) square direction }
     ensures fits { pinned.new < 2 ^ 81 }
@@ -262,7 +262,7 @@ fn shot_or_pin_along(
 /// `None` where one of those slides to the square.
 fn pinned_to(board: &Board, side: Color, square: usize, snipers: u128) -> Option<u128>
     requires square { square < 81 }
-    requires snipers { (b : ℕ) → b < 81 → has_bit snipers b ≡ is_sniper board.now (opponent_of side) square b }
+    requires snipers { HasBits snipers (is_sniper board.now (opponent_of side) square) }
     ensures shot { IsNone result → some_below 8 (is_shot_along board.now (opponent_of side) square) ≡ true }
     ensures open { IfSome result (λ m. some_below 8 (is_shot_along board.now (opponent_of side) square) ≡ false) }
     ensures fits { IfSome result (λ m. m < 2 ^ 81) }
@@ -302,7 +302,7 @@ impl Board {
     /// piece between.
     pub fn lined(&self, square: Square) -> u128
         ensures fits { result < 2 ^ 81 }
-        ensures bits { (n : ℕ) → n < 81 → has_bit result n ≡ are_lined self.now square n }
+        ensures bits { HasBits result (are_lined self.now square) }
     {
         square.validity();
         lined_squares(self, square.index())
@@ -312,7 +312,7 @@ impl Board {
     /// knight's jump away.
     pub fn seen(&self, square: Square) -> u128
         ensures fits { result < 2 ^ 81 }
-        ensures bits { (n : ℕ) → n < 81 → has_bit result n ≡ is_seen self.now square n }
+        ensures bits { HasBits result (is_seen self.now square) }
     {
         square.validity();
         seen_squares(self, square.index())
@@ -354,7 +354,7 @@ impl Board {
     #[tactic(auto, using(crate::proofs::Snipers::sniping))]
     pub fn snipers(&self, side: Color) -> u128
         ensures fits { result < 2 ^ 81 }
-        ensures bits { (n : ℕ) → n < 81 → has_bit result n ≡ is_sniping self.now side n }
+        ensures bits { HasBits result (is_sniping self.now side) }
     {
         let mut left = self.kings(side);
         let mut found = 0;

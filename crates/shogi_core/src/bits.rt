@@ -2,7 +2,7 @@
 
 ghost use Rattle.std.specs.Prelude.{◌≡◌, ◌≢◌, ◌<◌, ◌≤◌, ◌^◌, ◌%◌, ◌==◌, ◌&&◌, ◌||◌, not, true, false, ℕ};
 ghost use Rattle.shogi_core.specs.Below.{some_below};
-ghost use Rattle.shogi_core.specs.Bits.{has_bit};
+ghost use Rattle.shogi_core.specs.Bits.{HasBits, has_bit};
 
 /// Every square of the board.
 pub const ALL_SQUARES: u128 = 2417851639229258349412351;
@@ -89,7 +89,7 @@ pub fn highest(mask: u128) -> usize
 /// The bits up to the lowest that is set, that one included; all bits where none is set.
 #[tactic(auto, using(crate::proofs::LowBits::low_bits))]
 pub fn up_to_lowest(mask: u128) -> u128
-    ensures { (n : ℕ) → n < 81 → has_bit result n ≡ not (some_below n (has_bit mask)) }
+    ensures { HasBits result (λ n. not (some_below n (has_bit mask))) }
 {
     mask ^ mask.wrapping_sub(1)
 }

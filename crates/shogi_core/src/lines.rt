@@ -1,7 +1,7 @@
 //! Slides by masks.
 
 ghost use Rattle.std.specs.Prelude.{◌≡◌, ◌≢◌, ◌<◌, ◌≤◌, ◌^◌, ◌&&◌, ℕ, not, true, false, is_none};
-ghost use Rattle.shogi_core.specs.Bits.{has_bit};
+ghost use Rattle.shogi_core.specs.Bits.{HasBits};
 ghost use Rattle.shogi_core.specs.Lines.{are_aligned};
 ghost use Rattle.shogi_core.specs.Movement.{piece_at, slides};
 ghost use Rattle.shogi_core.specs.Rays.{ray_of, direction_at};
@@ -32,7 +32,7 @@ pub const UP_RIGHT: usize = 7;
 pub fn aligned_squares(from: usize) -> u128
     requires { from < 81 }
     ensures fits { result < 2 ^ 81 }
-    ensures bits { (b : ℕ) → b < 81 → has_bit result b ≡ are_aligned from b }
+    ensures bits { HasBits result (are_aligned from) }
 {
     ALIGNED[from]
 }
@@ -43,7 +43,7 @@ fn rising_squares(board: &Board, direction: usize, from: usize) -> u128
     requires direction { direction < 4 }
     requires from { from < 81 }
     ensures fits { result < 2 ^ 81 }
-    ensures bits { (b : ℕ) → b < 81 → has_bit result b ≡ slides board.now (direction_at direction) from b }
+    ensures bits { HasBits result (slides board.now (direction_at direction) from) }
 {
     let line = ray(direction, from);
     line & up_to_lowest(line & board.occupied())
@@ -55,7 +55,7 @@ fn falling_squares(board: &Board, direction: usize, from: usize) -> u128
     requires direction { (4 ≤ direction) × (direction < 8) }
     requires from { from < 81 }
     ensures fits { result < 2 ^ 81 }
-    ensures bits { (b : ℕ) → b < 81 → has_bit result b ≡ slides board.now (direction_at direction) from b }
+    ensures bits { HasBits result (slides board.now (direction_at direction) from) }
 {
     let line = ray(direction, from);
     // No such line leads on from the square of index 0.
@@ -68,7 +68,7 @@ pub fn slide_squares(board: &Board, direction: usize, from: usize) -> u128
     requires direction { direction < 8 }
     requires from { from < 81 }
     ensures fits { result < 2 ^ 81 }
-    ensures bits { (b : ℕ) → b < 81 → has_bit result b ≡ slides board.now (direction_at direction) from b }
+    ensures bits { HasBits result (slides board.now (direction_at direction) from) }
 {
     if direction < 4 {
         rising_squares(board, direction, from)

@@ -1,7 +1,7 @@
 //! Positions: what stands on the board, what each side holds, and whose turn it is.
 
 ghost use Rattle.std.specs.Prelude.{slice_set, ℕ, ◌<◌, ◌^◌, is_none, ◌≡◌, ◌↔◌, IsTrue, Ok, Err, None, Some, MatchOption};
-ghost use Rattle.shogi_core.specs.Bits.{has_bit};
+ghost use Rattle.shogi_core.specs.Bits.{HasBits};
 ghost use Rattle.shogi_core.specs.Cell.{is_piece_of, is_king};
 ghost use Rattle.shogi_core.specs.Movement.{reaches, piece_at};
 ghost use Rattle.shogi_core.specs.Pieces.{opponent_of};
@@ -151,7 +151,7 @@ impl Position {
 
     /// The squares that the piece on the square reaches, bit n that of index n.
     pub fn targets(&self, from: Square) -> u128
-        ensures bits { (n : ℕ) → n < 81 → has_bit result n ≡ reaches self.now.cells from n }
+        ensures bits { HasBits result (reaches self.now.cells from) }
         ensures fits { result < 2 ^ 81 }
     {
         self.board.targets(from)
@@ -159,7 +159,7 @@ impl Position {
 
     /// The squares on which pieces of the side stand.
     pub fn own(&self, color: Color) -> u128
-        ensures bits { (n : ℕ) → n < 81 → has_bit result n ≡ is_piece_of color (piece_at self.now.cells n) }
+        ensures bits { HasBits result (λ n. is_piece_of color (piece_at self.now.cells n)) }
         ensures fits { result < 2 ^ 81 }
     {
         self.board.own(color)
@@ -167,7 +167,7 @@ impl Position {
 
     /// The empty squares.
     pub fn free(&self) -> u128
-        ensures bits { (n : ℕ) → n < 81 → has_bit result n ≡ is_none (piece_at self.now.cells n) }
+        ensures bits { HasBits result (λ n. is_none (piece_at self.now.cells n)) }
         ensures fits { result < 2 ^ 81 }
     {
         self.board.free()
@@ -175,7 +175,7 @@ impl Position {
 
     /// The squares on which kings of the side stand.
     pub fn kings(&self, color: Color) -> u128
-        ensures bits { (n : ℕ) → n < 81 → has_bit result n ≡ is_king color (piece_at self.now.cells n) }
+        ensures bits { HasBits result (λ n. is_king color (piece_at self.now.cells n)) }
         ensures fits { result < 2 ^ 81 }
     {
         self.board.kings(color)

@@ -1,7 +1,7 @@
 //! Where steps and jumps from each square lead.
 
 ghost use Rattle.std.specs.Prelude.{◌≡◌, ◌<◌, ◌^◌, ℕ};
-ghost use Rattle.shogi_core.specs.Bits.{has_bit};
+ghost use Rattle.shogi_core.specs.Bits.{HasBits};
 ghost use Rattle.shogi_core.specs.Movement.{steps_of, has_step};
 ghost use Rattle.shogi_core.specs.Steps.{steps_at, color_number};
 ghost use Rattle.shogi_core.specs.Lines.{is_jump, is_near};
@@ -35,7 +35,7 @@ fn color_number(color: Color) -> usize
 pub fn step_squares(piece: Piece, from: usize) -> u128
     requires { from < 81 }
     ensures fits { result < 2 ^ 81 }
-    ensures bits { (b : ℕ) → b < 81 → has_bit result b ≡ has_step piece from b }
+    ensures bits { HasBits result (has_step piece from) }
 {
     STEPS[(steps_kind(piece.role) * 2 + color_number(piece.color)) * 81 + from]
 }
@@ -45,7 +45,7 @@ pub fn step_squares(piece: Piece, from: usize) -> u128
 pub fn jump_squares(from: usize) -> u128
     requires { from < 81 }
     ensures fits { result < 2 ^ 81 }
-    ensures bits { (b : ℕ) → b < 81 → has_bit result b ≡ is_jump from b }
+    ensures bits { HasBits result (is_jump from) }
 {
     let black = Piece {
         color: Color::Black,
@@ -63,7 +63,7 @@ pub fn jump_squares(from: usize) -> u128
 pub fn near_squares(from: usize) -> u128
     requires { from < 81 }
     ensures fits { result < 2 ^ 81 }
-    ensures bits { (b : ℕ) → b < 81 → has_bit result b ≡ is_near from b }
+    ensures bits { HasBits result (is_near from) }
 {
     let king = Piece {
         color: Color::Black,

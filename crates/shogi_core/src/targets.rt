@@ -2,7 +2,7 @@
 
 ghost use Rattle.std.specs.Prelude.{◌≡◌, ◌<◌, ◌^◌, ◌||◌, ℕ, Some};
 ghost use Rattle.std.specs.List.{list_any};
-ghost use Rattle.shogi_core.specs.Bits.{has_bit};
+ghost use Rattle.shogi_core.specs.Bits.{HasBits};
 ghost use Rattle.shogi_core.specs.Movement.{reaches, cell_reaches, has_slide, slides, straight, diagonal, forward, for_side};
 
 use crate::bits::has;
@@ -19,7 +19,7 @@ use crate::steps::step_squares;
 pub fn straight_squares(board: &Board, color: Color, from: usize) -> u128
     requires { from < 81 }
     ensures fits { result < 2 ^ 81 }
-    ensures bits { (b : ℕ) → b < 81 → has_bit result b ≡ list_any (λ o. slides board.now (for_side color o) from b) straight }
+    ensures bits { HasBits result (λ b. list_any (λ o. slides board.now (for_side color o) from b) straight) }
 {
     slide_squares(board, UP, from)
         | slide_squares(board, DOWN, from)
@@ -32,7 +32,7 @@ pub fn straight_squares(board: &Board, color: Color, from: usize) -> u128
 pub fn diagonal_squares(board: &Board, color: Color, from: usize) -> u128
     requires { from < 81 }
     ensures fits { result < 2 ^ 81 }
-    ensures bits { (b : ℕ) → b < 81 → has_bit result b ≡ list_any (λ o. slides board.now (for_side color o) from b) diagonal }
+    ensures bits { HasBits result (λ b. list_any (λ o. slides board.now (for_side color o) from b) diagonal) }
 {
     slide_squares(board, UP_LEFT, from)
         | slide_squares(board, UP_RIGHT, from)
@@ -45,7 +45,7 @@ pub fn diagonal_squares(board: &Board, color: Color, from: usize) -> u128
 fn forward_squares(board: &Board, color: Color, from: usize) -> u128
     requires { from < 81 }
     ensures fits { result < 2 ^ 81 }
-    ensures bits { (b : ℕ) → b < 81 → has_bit result b ≡ list_any (λ o. slides board.now (for_side color o) from b) forward }
+    ensures bits { HasBits result (λ b. list_any (λ o. slides board.now (for_side color o) from b) forward) }
 {
     match color {
         Color::Black => slide_squares(board, UP, from),
@@ -59,7 +59,7 @@ fn forward_squares(board: &Board, color: Color, from: usize) -> u128
 fn slider_slides(board: &Board, piece: Piece, from: usize) -> u128
     requires { from < 81 }
     ensures fits { result < 2 ^ 81 }
-    ensures bits { (b : ℕ) → b < 81 → has_bit result b ≡ has_slide board.now piece from b }
+    ensures bits { HasBits result (has_slide board.now piece from) }
 {
     match piece.role {
         Role::Lance => forward_squares(board, piece.color, from),
@@ -74,7 +74,7 @@ fn slider_slides(board: &Board, piece: Piece, from: usize) -> u128
 fn piece_slides(board: &Board, piece: Piece, from: usize) -> u128
     requires { from < 81 }
     ensures fits { result < 2 ^ 81 }
-    ensures bits { (b : ℕ) → b < 81 → has_bit result b ≡ has_slide board.now piece from b }
+    ensures bits { HasBits result (has_slide board.now piece from) }
 {
     if piece.role.is_sliding() {
         slider_slides(board, piece, from)
@@ -87,7 +87,7 @@ impl Board {
     /// The squares that the piece would reach if it stood on the square, where now stands whatever does.
     #[tactic(auto, using(crate::proofs::TargetLaws::no_bits))]
     pub fn targets_of(&self, piece: Piece, from: Square) -> u128
-        ensures bits { (n : ℕ) → n < 81 → has_bit result n ≡ cell_reaches self.now (Some piece) from n }
+        ensures bits { HasBits result (cell_reaches self.now (Some piece) from) }
         ensures fits { result < 2 ^ 81 }
     {
         let index = from.index();
@@ -98,7 +98,7 @@ impl Board {
     /// empty.
     #[tactic(auto, using(crate::proofs::TargetLaws::no_bits), unfolding(crate::specs::Movement::reaches))]
     pub fn targets(&self, from: Square) -> u128
-        ensures bits { (n : ℕ) → n < 81 → has_bit result n ≡ reaches self.now from n }
+        ensures bits { HasBits result (reaches self.now from) }
         ensures fits { result < 2 ^ 81 }
     {
         from.validity();
