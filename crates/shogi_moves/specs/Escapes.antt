@@ -8,9 +8,14 @@ use Rattle.shogi_core.specs.Movement.{Cells, piece_at, reaches}
 use Rattle.shogi_core.specs.Pieces.{opponent_of}
 use Rattle.shogi_core.specs.Position.{Shogi}
 
+-- no king of the side stands on another square
+abbrev pub HasNoOtherKing : Cells → Color → ℕ → Type 0
+HasNoOtherKing cells side king =
+    (x : ℕ) → x < 81 → x ≢ king → is_king side (piece_at cells x) ≡ false
+
 -- the king of the side on k is its only one and steps to e, where none of its own stands and which the other side does not attack once the king has left its square
 pub record IsEscape (cells : Cells) (side : Color) (k e : ℕ) : Type 0 where
-  pub lone : (x : ℕ) → x < 81 → x ≢ k → is_king side (piece_at cells x) ≡ false
+  pub lone : HasNoOtherKing cells side k
   pub reached : reaches cells k e ≡ true
   pub open_end : is_piece_of side (piece_at cells e) ≡ false
   pub safe : is_attacked (slice_set cells k None) (opponent_of side) e ≡ false

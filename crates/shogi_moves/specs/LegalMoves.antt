@@ -1,5 +1,5 @@
 -- The legal moves of a position by their codes, and sequences of legal moves (their order is an own choice).
-use Rattle.std.specs.Prelude.{ℕ, zero, suc, ◌+◌, List, Option, Some, None, filter, sum_by}
+use Rattle.std.specs.Prelude.{◌≡◌, ℕ, zero, suc, ◌+◌, List, ◌∷◌, Option, Some, None, MatchOption, filter, sum_by}
 use Rattle.shogi_core.specs.declared.moves.Move.{Move}
 use Rattle.shogi_core.specs.Codes.{code_of, codes_from}
 use Rattle.shogi_core.specs.Position.{Shogi}
@@ -18,6 +18,11 @@ legal_codes p = legal_from p 0
 abbrev pub legal_above : Shogi → Option Move → List ℕ
 legal_above p None = legal_from p 0
 legal_above p (Some m) = legal_from p (code_of m + 1)
+
+-- the move found is the legal one of least code from the first on; where none is found, there is none before the end
+abbrev pub IsLeastFrom : Shogi → Option Move → ℕ → ℕ → Type 0
+IsLeastFrom p found first end = MatchOption found (legal_from p first ≡ legal_from p end)
+    (λ m. legal_from p first ≡ code_of m ∷ legal_from p (code_of m + 1))
 
 -- how many sequences of n legal moves there are
 unfoldable pub perft : Shogi → ℕ → ℕ

@@ -1,7 +1,7 @@
 -- What is kept of a position to tell that after most of its moves the other side is in no check and has a legal move.
 use Rattle.std.specs.Prelude.{ℕ, ◌%◌, ◌≡◌, ◌≢◌, ◌<◌, ◌^◌, ◌⊎◌, ◌&&◌, ◌||◌, Bool, true, false, not, nat_lt, Option, Some, None, is_none, [], slice_set}
 use Rattle.shogi_core.specs.declared.moves.Move.{Move}
-use Rattle.shogi_core.specs.declared.moves.Move.TheVariants.{Board}
+use Rattle.shogi_core.specs.declared.moves.Move.TheVariants.{Board, Drop}
 use Rattle.shogi_core.specs.declared.piece.Color.{Color}
 use Rattle.shogi_core.specs.declared.piece.Color.TheVariants.{Black, White}
 use Rattle.shogi_core.specs.declared.piece.Kind.{Kind}
@@ -106,6 +106,16 @@ pub record IsOpen (closed spare n : ℕ) : Type 0 where
 -- if the move is legal, the other side has a legal move after it
 abbrev pub IsAnswered : Shogi → Move → Type 0
 IsAnswered p m = is_legal p m ≡ true → legal_codes (after p m) ≢ []
+
+-- a move from the square to each one of the mask is answered, without promotion
+abbrev pub AreAnswered : Shogi → ℕ → ℕ → Type 0
+AreAnswered p from mask =
+    (n : ℕ) → n < 81 → has_bit mask n ≡ true → IsAnswered p (Board from n false)
+
+-- a drop of the kind on each square of the mask is answered
+abbrev pub AreDropsAnswered : Shogi → Kind → ℕ → Type 0
+AreDropsAnswered p kind mask =
+    (n : ℕ) → n < 81 → has_bit mask n ≡ true → IsAnswered p (Drop kind n)
 
 -- the square is on one of the two ranks that are last before the side
 abbrev pub is_on_back_rank : Color → ℕ → Bool

@@ -19,6 +19,11 @@ use Rattle.shogi_moves.specs.LegalMoves.{legal_from, legal_codes}
 abbrev pub wanted_from : Shogi → Bool → ℕ → List ℕ
 wanted_from p capture first = filter (is_of_sort p capture) (legal_from p first)
 
+-- the mask has the ends at which the move of the piece is legal and of the sort, promoting or not
+abbrev pub AreWantedEnds : Shogi → Bool → ℕ → Bool → ℕ → Type 0
+AreWantedEnds p capture from promote mask =
+    (n : ℕ) → n < 81 → has_bit mask n ≡ is_wanted p capture (code_of (Board from n promote))
+
 -- the mask has the squares whose codes pass, from a code on
 pub record Keeps (test : ℕ → Bool) (place : ℕ → ℕ) (code mask : ℕ) : Type 0 where
   pub fits : mask < 2 ^ 81

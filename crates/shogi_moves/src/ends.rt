@@ -1,17 +1,17 @@
 //! Where the pieces of the side to move may legally end.
 
-ghost use Rattle.std.specs.Prelude.{◌≡◌, ◌≢◌, ◌<◌, ◌^◌, ◌&&◌, ℕ, not, true, false, None, slice_set};
+ghost use Rattle.std.specs.Prelude.{◌≡◌, ◌<◌, ◌^◌, ◌&&◌, ℕ, not, true, false, None, slice_set};
 ghost use Rattle.shogi_core.specs.declared.moves.Move.TheVariants as moves;
 ghost use Rattle.shogi_core.specs.declared.piece.Kind.TheVariants as kinds;
-ghost use Rattle.shogi_moves.specs.Legal.{is_legal_code, is_pseudo_legal_drop, is_safe, is_pawn_drop_mate, may_promote};
-ghost use Rattle.shogi_core.specs.Attack.{in_check, is_attacked};
+ghost use Rattle.shogi_moves.specs.Legal.{is_pseudo_legal_drop, is_safe, is_pawn_drop_mate, may_promote};
+ghost use Rattle.shogi_core.specs.Attack.{in_check};
 ghost use Rattle.shogi_core.specs.Bits.{has_bit};
 ghost use Rattle.shogi_core.specs.Cell.{is_piece_of, is_king, is_immobile};
 ghost use Rattle.shogi_core.specs.Codes.{code_of};
-ghost use Rattle.shogi_core.specs.Movement.{piece_at, reaches};
-ghost use Rattle.shogi_core.specs.Pieces.{opponent_of};
+ghost use Rattle.shogi_core.specs.Movement.{piece_at};
 ghost use Rattle.shogi_moves.specs.Captures.{is_wanted};
-ghost use Rattle.shogi_moves.specs.Ends.{is_end, is_unchecked};
+ghost use Rattle.shogi_moves.specs.Ends.{is_end, is_unchecked, AreUncheckedEnds, AreLegalEnds, AreEnterable, ShowsAttack};
+ghost use Rattle.shogi_moves.specs.Escapes.{HasNoOtherKing};
 ghost use Rattle.shogi_moves.specs.Guards.{Guards};
 
 use crate::after::{dropped, is_checked_after};
@@ -51,7 +51,7 @@ fn is_unchecked(p: &Position, m: &Move) -> bool
 #[tactic(auto, using(crate::proofs::EndLaws::sifting))]
 fn tried_ends(p: &Position, from: Square, ends: u128) -> u128
     requires { ends < 2 ^ 81 }
-    ensures bits { (n : ℕ) → n < 81 → has_bit result n ≡ (has_bit ends n && is_unchecked p.now (moves.Board from n false)) }
+    ensures bits { AreUncheckedEnds p.now from ends result }
     ensures fits { result < 2 ^ 81 }
 {
     let mut left = ends;
@@ -85,8 +85,8 @@ fn is_free(p: &Position, from: Square) -> bool
 /// that square, as seen on a board where the king stands in no piece's way.
 pub fn is_king_safe(p: &Position, seen: &Board, from: Square, to: Square) -> bool
     requires king { is_king p.now.side (piece_at p.now.cells from) ≡ true }
-    requires seen { is_attacked seen.now (opponent_of p.now.side) to ≡ is_attacked (slice_set p.now.cells from None) (opponent_of p.now.side) to }
-    requires lone { (x : ℕ) → x < 81 → x ≢ from → is_king p.now.side (piece_at p.now.cells x) ≡ false }
+    requires seen { ShowsAttack p.now seen.now from to }
+    requires lone { HasNoOtherKing p.now.cells p.now.side from }
     ensures { result ≡ is_unchecked p.now (moves.Board from to false) }
 {
     p.validity();
@@ -99,10 +99,10 @@ pub fn is_king_safe(p: &Position, seen: &Board, from: Square, to: Square) -> boo
 #[tactic(auto, using(crate::proofs::EndLaws::sifting))]
 fn seen_king_ends(p: &Position, seen: &Board, from: Square, ends: u128) -> u128
     requires king { is_king p.now.side (piece_at p.now.cells from) ≡ true }
-    requires seen { (n : ℕ) → n < 81 → is_attacked seen.now (opponent_of p.now.side) n ≡ is_attacked (slice_set p.now.cells from None) (opponent_of p.now.side) n }
-    requires lone { (x : ℕ) → x < 81 → x ≢ from → is_king p.now.side (piece_at p.now.cells x) ≡ false }
+    requires seen { (n : ℕ) → n < 81 → ShowsAttack p.now seen.now from n }
+    requires lone { HasNoOtherKing p.now.cells p.now.side from }
     requires fits { ends < 2 ^ 81 }
-    ensures bits { (n : ℕ) → n < 81 → has_bit result n ≡ (has_bit ends n && is_unchecked p.now (moves.Board from n false)) }
+    ensures bits { AreUncheckedEnds p.now from ends result }
     ensures fits { result < 2 ^ 81 }
 {
     let mut left = ends;
@@ -122,9 +122,9 @@ fn seen_king_ends(p: &Position, seen: &Board, from: Square, ends: u128) -> u128
 fn king_ends(p: &Position, checked: bool, from: Square, ends: u128) -> u128
     requires king { is_king p.now.side (piece_at p.now.cells from) ≡ true }
     requires checked { checked ≡ in_check p.now.cells p.now.side }
-    requires lone { (x : ℕ) → x < 81 → x ≢ from → is_king p.now.side (piece_at p.now.cells x) ≡ false }
+    requires lone { HasNoOtherKing p.now.cells p.now.side from }
     requires fits { ends < 2 ^ 81 }
-    ensures bits { (n : ℕ) → n < 81 → has_bit result n ≡ (has_bit ends n && is_unchecked p.now (moves.Board from n false)) }
+    ensures bits { AreUncheckedEnds p.now from ends result }
     ensures fits { result < 2 ^ 81 }
 {
     p.validity();
@@ -144,7 +144,7 @@ fn risky_ends(p: &Position, guard: &Guard, from: Square, ends: u128) -> u128
     requires guard { Guards p.now guard.now.checked guard.now.exposed }
     requires own { is_piece_of p.now.side (piece_at p.now.cells from) ≡ true }
     requires fits { ends < 2 ^ 81 }
-    ensures bits { (n : ℕ) → n < 81 → has_bit result n ≡ (has_bit ends n && is_unchecked p.now (moves.Board from n false)) }
+    ensures bits { AreUncheckedEnds p.now from ends result }
     ensures fits { result < 2 ^ 81 }
 {
     p.validity();
@@ -172,7 +172,7 @@ fn safe_ends(p: &Position, guard: &Guard, from: Square, ends: u128) -> u128
     requires guard { Guards p.now guard.now.checked guard.now.exposed }
     requires own { is_piece_of p.now.side (piece_at p.now.cells from) ≡ true }
     requires fits { ends < 2 ^ 81 }
-    ensures bits { (n : ℕ) → n < 81 → has_bit result n ≡ (has_bit ends n && is_unchecked p.now (moves.Board from n false)) }
+    ensures bits { AreUncheckedEnds p.now from ends result }
     ensures fits { result < 2 ^ 81 }
 {
     p.validity();
@@ -222,10 +222,10 @@ pub fn enterable(p: &Position) -> u128
 pub fn legal_ends(p: &Position, guard: &Guard, from: Square, among: u128) -> Ends
     requires guard { Guards p.now guard.now.checked guard.now.exposed }
     requires own { is_piece_of p.now.side (piece_at p.now.cells from) ≡ true }
-    requires among { (n : ℕ) → n < 81 → has_bit among n ≡ true → (reaches p.now.cells from n ≡ true) × (is_piece_of p.now.side (piece_at p.now.cells n) ≡ false) }
+    requires among { AreEnterable p.now from among }
     requires fits { among < 2 ^ 81 }
-    ensures plain { (n : ℕ) → n < 81 → has_bit result.plain n ≡ (has_bit among n && is_legal_code p.now (code_of (moves.Board from n false))) }
-    ensures promoting { (n : ℕ) → n < 81 → has_bit result.promoting n ≡ (has_bit among n && is_legal_code p.now (code_of (moves.Board from n true))) }
+    ensures plain { AreLegalEnds p.now from false among result.plain }
+    ensures promoting { AreLegalEnds p.now from true among result.promoting }
     ensures plain_fits { result.plain < 2 ^ 81 }
     ensures promoting_fits { result.promoting < 2 ^ 81 }
 {

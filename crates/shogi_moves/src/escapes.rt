@@ -1,13 +1,12 @@
 //! Squares to which the king of the side that is not to move may go, should a move give it check.
 
 ghost use Rattle.std.specs.Prelude.{◌≡◌, ◌<◌, ◌^◌, ◌&&◌, ℕ, not, true, false, Option};
-ghost use Rattle.shogi_core.specs.declared.moves.Move.TheVariants as moves;
 ghost use Rattle.shogi_core.specs.declared.piece.Piece.{Piece};
 ghost use Rattle.shogi_core.specs.Attack.{is_attacked};
 ghost use Rattle.shogi_core.specs.Bits.{has_bit};
 ghost use Rattle.shogi_core.specs.Movement.{Cells, cell_reaches};
 ghost use Rattle.shogi_moves.specs.Escapes.{AreEscapes, HasOpenEscape};
-ghost use Rattle.shogi_moves.specs.Replies.{IsAnswered};
+ghost use Rattle.shogi_moves.specs.Replies.{IsAnswered, AreAnswered, AreDropsAnswered};
 
 use crate::after::{dropped, piece_moved};
 use shogi_core::bits::{ALL_SQUARES, cleared, has, lowest, without_lowest};
@@ -62,7 +61,8 @@ pub fn escape_squares(p: &Position) -> u128
 
 /// All squares that the piece may reach from the square, whatever stands on the others.
 fn within_reach(cell: Option<Piece>, to: Square) -> u128
-    ensures far { (cells : Cells) (n : ℕ) → n < 81 → has_bit result n ≡ false → cell_reaches cells cell to n ≡ false }
+    ensures far { (cells : Cells) (n : ℕ) → n < 81 → has_bit result n ≡ false
+        → cell_reaches cells cell to n ≡ false }
     ensures fits { result < 2 ^ 81 }
 {
     let Some(piece) = cell else { return 0 };
@@ -118,7 +118,7 @@ pub fn leaves_escape(p: &Position, escapes: u128, m: &Move) -> bool
 pub fn escaped_ends(p: &Position, escapes: u128, from: Square, ends: u128) -> u128
     requires { AreEscapes p.now escapes }
     ensures among { (n : ℕ) → has_bit result n ≡ true → has_bit ends n ≡ true }
-    ensures answered { (n : ℕ) → n < 81 → has_bit result n ≡ true → IsAnswered p.now (moves.Board from n false) }
+    ensures answered { AreAnswered p.now from result }
 {
     let mut left = ALL_SQUARES & ends;
     let mut kept = left;
@@ -142,7 +142,7 @@ pub fn escaped_ends(p: &Position, escapes: u128, from: Square, ends: u128) -> u1
 pub fn escaped_drops(p: &Position, escapes: u128, kind: Kind, ends: u128) -> u128
     requires { AreEscapes p.now escapes }
     ensures among { (n : ℕ) → has_bit result n ≡ true → has_bit ends n ≡ true }
-    ensures answered { (n : ℕ) → n < 81 → has_bit result n ≡ true → IsAnswered p.now (moves.Drop kind n) }
+    ensures answered { AreDropsAnswered p.now kind result }
 {
     let mut left = ALL_SQUARES & ends;
     let mut kept = left;

@@ -1,12 +1,13 @@
 //! Whether some move is legal, or safe: legal but for mate by the drop of a pawn.
 
-ghost use Rattle.std.specs.Prelude.{◌≡◌, ◌+◌, ◌<◌, ◌^◌, ◌≢◌, ◌↔◌, ℕ, true, false, [], IsTrue};
+ghost use Rattle.std.specs.Prelude.{◌≡◌, ◌+◌, ◌<◌, ◌^◌, ◌≢◌, ◌↔◌, true, false, [], IsTrue};
 ghost use Rattle.shogi_core.specs.declared.moves.TheConstants.{MOVE_CODE_COUNT, FIRST_DROP};
 ghost use Rattle.shogi_core.specs.Attack.{in_check};
 ghost use Rattle.shogi_core.specs.Below.{some_below};
-ghost use Rattle.shogi_core.specs.Bits.{has_bit};
-ghost use Rattle.shogi_core.specs.Cell.{is_king, is_piece_of};
-ghost use Rattle.shogi_core.specs.Movement.{piece_at, reaches};
+ghost use Rattle.shogi_core.specs.Cell.{is_king};
+ghost use Rattle.shogi_core.specs.Movement.{piece_at};
+ghost use Rattle.shogi_moves.specs.Ends.{AreEnterable};
+ghost use Rattle.shogi_moves.specs.Escapes.{HasNoOtherKing};
 ghost use Rattle.shogi_moves.specs.Guards.{Guards};
 ghost use Rattle.shogi_moves.specs.Legal.{is_safe_code};
 ghost use Rattle.shogi_moves.specs.LegalMoves.{legal_from, legal_codes};
@@ -22,8 +23,8 @@ use shogi_core::{Kind, Position, Square};
 #[tactic(auto, using(crate::proofs::ExistenceLaws::king_move))]
 fn king_escapes(p: &Position, from: Square, ends: u128) -> bool
     requires king { is_king p.now.side (piece_at p.now.cells from) ≡ true }
-    requires lone { (x : ℕ) → x < 81 → x ≢ from → is_king p.now.side (piece_at p.now.cells x) ≡ false }
-    requires ends { (n : ℕ) → n < 81 → has_bit ends n ≡ true → (reaches p.now.cells from n ≡ true) × (is_piece_of p.now.side (piece_at p.now.cells n) ≡ false) }
+    requires lone { HasNoOtherKing p.now.cells p.now.side from }
+    requires ends { AreEnterable p.now from ends }
     requires fits { ends < 2 ^ 81 }
     ensures { result ≡ true → legal_codes p.now ≢ [] }
 {
@@ -125,7 +126,8 @@ pub fn has_safe(p: &Position) -> bool
 fn has_pawn_drop(p: &Position, guard: &Guard) -> bool
     requires { Guards p.now guard.now.checked guard.now.exposed }
     ensures some { result ≡ true → legal_codes p.now ≢ [] }
-    ensures none { result ≡ false → legal_from p.now FIRST_DROP ≡ legal_from p.now (FIRST_DROP + 81) }
+    ensures none { result ≡ false
+        → legal_from p.now FIRST_DROP ≡ legal_from p.now (FIRST_DROP + 81) }
 {
     drop_ends(p, guard, Kind::Pawn) != 0
 }

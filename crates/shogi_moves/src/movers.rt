@@ -14,7 +14,8 @@ use shogi_core::Position;
 fn places_away(mask: u128, places: usize) -> u128
     requires fits { mask < 2 ^ 81 }
     requires places { places < 12 }
-    ensures { (a b : ℕ) → a < 81 → b < 81 → has_bit mask b ≡ true → (b ≡ a + places) ⊎ (a ≡ b + places) → has_bit result a ≡ true }
+    ensures { (a b : ℕ) → a < 81 → b < 81 → has_bit mask b ≡ true
+        → (b ≡ a + places) ⊎ (a ≡ b + places) → has_bit result a ≡ true }
 {
     mask >> places | mask << places
 }
@@ -22,7 +23,8 @@ fn places_away(mask: u128, places: usize) -> u128
 /// The squares next to one of the mask or a knight's jump away, and some more at the edges of the board.
 fn squares_near(mask: u128) -> u128
     requires { mask < 2 ^ 81 }
-    ensures { (a b : ℕ) → a < 81 → b < 81 → has_bit mask b ≡ true → is_near b a ≡ true → has_bit result a ≡ true }
+    ensures { (a b : ℕ) → a < 81 → b < 81 → has_bit mask b ≡ true
+        → is_near b a ≡ true → has_bit result a ≡ true }
 {
     places_away(mask, 1)
         | places_away(mask, 7)
@@ -37,7 +39,8 @@ fn squares_near(mask: u128) -> u128
 pub fn movers(p: &Position, capture: bool, pieces: u128) -> u128
     requires { pieces < 2 ^ 81 }
     ensures within { (n : ℕ) → has_bit result n ≡ true → has_bit pieces n ≡ true }
-    ensures none { (n t : ℕ) → n < 81 → t < 81 → has_bit pieces n ≡ true → has_bit result n ≡ false → (reaches p.now.cells n t && is_end capture p.now.side (piece_at p.now.cells t)) ≡ false }
+    ensures none { (n t : ℕ) → n < 81 → t < 81 → has_bit pieces n ≡ true → has_bit result n ≡ false
+        → (reaches p.now.cells n t && is_end capture p.now.side (piece_at p.now.cells t)) ≡ false }
     ensures fits { result < 2 ^ 81 }
 {
     if !capture {
@@ -51,7 +54,8 @@ pub fn movers(p: &Position, capture: bool, pieces: u128) -> u128
 /// the three ranks before it that do not slide and that the mask leaves out.
 #[inline(always)]
 pub fn far_pieces(p: &Position, sight: u128) -> u128
-    ensures { (a n : ℕ) → a < 81 → n < 81 → has_bit result a ≡ true → reaches p.now.cells a n ≡ true → IsFarMove p.now sight a n }
+    ensures { (a n : ℕ) → a < 81 → n < 81 → has_bit result a ≡ true
+        → reaches p.now.cells a n ≡ true → IsFarMove p.now sight a n }
 {
     p.validity();
     let side = p.side();

@@ -9,8 +9,8 @@ ghost use Rattle.shogi_core.specs.Movement.{piece_at};
 ghost use Rattle.shogi_core.specs.Pieces.{kind_number};
 ghost use Rattle.shogi_moves.specs.Guards.{Guards};
 ghost use Rattle.shogi_moves.specs.Legal.{is_legal, is_legal_code};
-ghost use Rattle.shogi_moves.specs.LegalMoves.{legal_from, legal_above, legal_codes};
-ghost use Rattle.shogi_moves.specs.Places.{code_past};
+ghost use Rattle.shogi_moves.specs.LegalMoves.{legal_from, legal_above, legal_codes, IsLeastFrom};
+ghost use Rattle.shogi_moves.specs.Places.{code_past, IsAtSquare, IsAtKind};
 ghost use Rattle.shogi_moves.specs.Rising.{IsRising};
 ghost use Rattle.shogi_moves.specs.Sweeps.{Keeps};
 
@@ -32,9 +32,11 @@ pub fn code_above(m: &Move) -> u16
 fn ends_left(p: &Position, guard: &Guard, from: Square, code: u16) -> Ends
     requires guard { Guards p.now guard.now.checked guard.now.exposed }
     requires own { is_piece_of p.now.side (piece_at p.now.cells from) ≡ true }
-    requires code { (from * SQUARE_CODES ≤ code) × (code ≤ from * SQUARE_CODES + SQUARE_CODES) }
-    ensures plain { Keeps (is_legal_code p.now) (λ n. code_of (moves.Board from n false)) code result.plain }
-    ensures promoting { Keeps (is_legal_code p.now) (λ n. code_of (moves.Board from n true)) code result.promoting }
+    requires code { IsAtSquare from code }
+    ensures plain { Keeps (is_legal_code p.now) (λ n. code_of (moves.Board from n false))
+        code result.plain }
+    ensures promoting { Keeps (is_legal_code p.now) (λ n. code_of (moves.Board from n true))
+        code result.promoting }
 {
     from.validity();
     let passed = (code - from.index() as u16 * SQUARE_CODES) as usize;
@@ -48,8 +50,8 @@ fn ends_left(p: &Position, guard: &Guard, from: Square, code: u16) -> Ends
 /// The legal move of least code from the given one on, of what stands on the square.
 fn least_end(p: &Position, guard: &Guard, from: Square, code: u16) -> Option<Move>
     requires guard { Guards p.now guard.now.checked guard.now.exposed }
-    requires code { (from * SQUARE_CODES ≤ code) × (code ≤ from * SQUARE_CODES + SQUARE_CODES) }
-    ensures next { MatchOption result (legal_from p.now code ≡ legal_from p.now (from * SQUARE_CODES + SQUARE_CODES)) (λ m. legal_from p.now code ≡ code_of m ∷ legal_from p.now (code_of m + 1)) }
+    requires code { IsAtSquare from code }
+    ensures next { IsLeastFrom p.now result code (from * SQUARE_CODES + SQUARE_CODES) }
     ensures legal { IfSome result (λ m. is_legal p.now m ≡ true) }
     ensures on_board { IfSome result (λ m. code_of m < FIRST_DROP) }
 {
@@ -74,7 +76,7 @@ fn least_end(p: &Position, guard: &Guard, from: Square, code: u16) -> Option<Mov
 pub fn least_board(p: &Position, guard: &Guard, first: u16) -> Option<Move>
     requires first { first ≤ FIRST_DROP }
     requires guard { Guards p.now guard.now.checked guard.now.exposed }
-    ensures next { MatchOption result (legal_from p.now first ≡ legal_from p.now FIRST_DROP) (λ m. legal_from p.now first ≡ code_of m ∷ legal_from p.now (code_of m + 1)) }
+    ensures next { IsLeastFrom p.now result first FIRST_DROP }
     ensures legal { IfSome result (λ m. is_legal p.now m ≡ true) }
     ensures on_board { IfSome result (λ m. code_of m < FIRST_DROP) }
 {
@@ -93,7 +95,7 @@ pub fn least_board(p: &Position, guard: &Guard, first: u16) -> Option<Move>
 /// Where one of the held pieces may legally be dropped, those from a code on.
 fn drops_left(p: &Position, guard: &Guard, kind: Kind, code: u16) -> u128
     requires guard { Guards p.now guard.now.checked guard.now.exposed }
-    requires code { (FIRST_DROP + kind_number kind * 81 ≤ code) × (code ≤ FIRST_DROP + 81 + kind_number kind * 81) }
+    requires code { IsAtKind kind code }
     ensures { Keeps (is_legal_code p.now) (λ n. code_of (moves.Drop kind n)) code result }
 {
     let passed = (code - FIRST_DROP) as usize - kind.number() * 81;
@@ -103,8 +105,8 @@ fn drops_left(p: &Position, guard: &Guard, kind: Kind, code: u16) -> u128
 /// The legal drop of the kind of least code from the given one on.
 fn least_drop(p: &Position, guard: &Guard, kind: Kind, code: u16) -> Option<Move>
     requires guard { Guards p.now guard.now.checked guard.now.exposed }
-    requires code { (FIRST_DROP + kind_number kind * 81 ≤ code) × (code ≤ FIRST_DROP + 81 + kind_number kind * 81) }
-    ensures next { MatchOption result (legal_from p.now code ≡ legal_from p.now (FIRST_DROP + 81 + kind_number kind * 81)) (λ m. legal_from p.now code ≡ code_of m ∷ legal_from p.now (code_of m + 1)) }
+    requires code { IsAtKind kind code }
+    ensures next { IsLeastFrom p.now result code (FIRST_DROP + 81 + kind_number kind * 81) }
     ensures legal { IfSome result (λ m. is_legal p.now m ≡ true) }
 {
     let ends = drops_left(p, guard, kind, code);
@@ -122,7 +124,7 @@ fn least_drop(p: &Position, guard: &Guard, kind: Kind, code: u16) -> Option<Move
 /// same kind.
 fn least_beside(p: &Position, guard: &Guard, m: &Move) -> Option<Move>
     requires guard { Guards p.now guard.now.checked guard.now.exposed }
-    ensures next { MatchOption result (legal_from p.now (code_of m.now) ≡ legal_from p.now (code_past m.now)) (λ found. legal_from p.now (code_of m.now) ≡ code_of found ∷ legal_from p.now (code_of found + 1)) }
+    ensures next { IsLeastFrom p.now result (code_of m.now) (code_past m.now) }
     ensures legal { IfSome result (λ found. is_legal p.now found ≡ true) }
 {
     match m {
@@ -159,7 +161,8 @@ fn code_past(m: &Move) -> u16
 pub fn least_from(p: &Position, guard: &Guard, first: u16) -> Option<Move>
     requires first { first ≤ MOVE_CODE_COUNT }
     requires guard { Guards p.now guard.now.checked guard.now.exposed }
-    ensures next { MatchOption result (legal_from p.now first ≡ []) (λ m. legal_from p.now first ≡ code_of m ∷ legal_from p.now (code_of m + 1)) }
+    ensures next { MatchOption result (legal_from p.now first ≡ [])
+        (λ m. legal_from p.now first ≡ code_of m ∷ legal_from p.now (code_of m + 1)) }
     ensures legal { IfSome result (λ m. is_legal p.now m ≡ true) }
 {
     let mut code = first;
@@ -178,7 +181,8 @@ pub fn least_from(p: &Position, guard: &Guard, first: u16) -> Option<Move>
 /// each legal move once, in the order of codes (own choice).
 #[tactic(auto, using(crate::proofs::LegalLaws::legal_rising))]
 pub fn next_legal(p: &Position, after: Option<Move>) -> Option<Move>
-    ensures next { MatchOption result (legal_above p.now after ≡ []) (λ m. legal_above p.now after ≡ code_of m ∷ legal_above p.now (Some m)) }
+    ensures next { MatchOption result (legal_above p.now after ≡ [])
+        (λ m. legal_above p.now after ≡ code_of m ∷ legal_above p.now (Some m)) }
     ensures legal { IfSome result (λ m. is_legal p.now m ≡ true) }
     ensures rising { IsRising (legal_codes p.now) }
 {

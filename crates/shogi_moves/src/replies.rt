@@ -1,7 +1,6 @@
 //! Whether the other side surely has a legal move after a move, without making it.
 
 ghost use Rattle.std.specs.Prelude.{◌≡◌, ◌≢◌, ◌<◌, ◌^◌, ℕ, [], true, false};
-ghost use Rattle.shogi_core.specs.declared.moves.Move.TheVariants as moves;
 ghost use Rattle.shogi_core.specs.Below.{some_below};
 ghost use Rattle.shogi_core.specs.Bits.{has_bit};
 ghost use Rattle.shogi_core.specs.Movement.{piece_at};
@@ -10,7 +9,7 @@ ghost use Rattle.shogi_moves.specs.After.{after};
 ghost use Rattle.shogi_moves.specs.Escapes.{AreEscapes};
 ghost use Rattle.shogi_moves.specs.Legal.{is_legal};
 ghost use Rattle.shogi_moves.specs.LegalMoves.{legal_codes};
-ghost use Rattle.shogi_moves.specs.Replies.{holds_free, is_open_step, is_spare, Sees, Aligns, IsReplies, IsHarmless, IsOpen, StaysCovered, UncoversWithin, IsAnswered, HasCertainQuiets};
+ghost use Rattle.shogi_moves.specs.Replies.{holds_free, is_open_step, is_spare, Sees, Aligns, IsReplies, IsHarmless, IsOpen, StaysCovered, UncoversWithin, AreAnswered, AreDropsAnswered, HasCertainQuiets};
 ghost use Rattle.shogi_moves.specs.Threats.{IsThreat, LeavesThreat, MayTake};
 
 use crate::after::{dropped, piece_moved};
@@ -89,7 +88,8 @@ fn has_open_step(p: &Position, side: Color, from: Square) -> bool
 /// fewer where there are no more.
 fn spare_pieces(p: &Position, side: Color, lines: u128) -> u128
     requires { Aligns p.now.cells side 0 lines }
-    ensures spares { (a : ℕ) → a < 81 → has_bit result a ≡ true → is_spare p.now.cells side a ≡ true }
+    ensures spares { (a : ℕ) → a < 81 → has_bit result a ≡ true
+        → is_spare p.now.cells side a ≡ true }
     ensures fits { result < 2 ^ 81 }
 {
     let mut left = p.own(side) & !lines;
@@ -216,7 +216,9 @@ impl Replies {
         requires kept { IsReplies p.now self.now.sight self.now.spare }
         requires legal { is_legal p.now m.now ≡ true }
         ensures replied { result ≡ true → legal_codes (after p.now m.now) ≢ [] }
-        ensures threats { result ≡ true → (a t : ℕ) → IsThreat p.now a t → LeavesThreat p.now a t m.now → MayTake (after p.now m.now) a t (piece_at p.now.cells t) }
+        ensures threats { result ≡ true → (a t : ℕ) → IsThreat p.now a t
+            → LeavesThreat p.now a t m.now
+            → MayTake (after p.now m.now) a t (piece_at p.now.cells t) }
     {
         p.validity();
         match m {
@@ -244,7 +246,8 @@ impl Replies {
     /// Those of the squares on which what comes to stand may give check.
     fn risky_squares(&self, p: &Position, cell: Option<Piece>, ends: u128) -> u128
         requires kept { IsReplies p.now self.now.sight self.now.spare }
-        ensures { (n : ℕ) → n < 81 → has_bit ends n ≡ true → has_bit result n ≡ false → IsHarmless p.now.cells (opponent_of p.now.side) cell n }
+        ensures { (n : ℕ) → n < 81 → has_bit ends n ≡ true → has_bit result n ≡ false
+            → IsHarmless p.now.cells (opponent_of p.now.side) cell n }
     {
         let seen = ends & self.sight;
         if seen == 0 {
@@ -307,7 +310,7 @@ impl Replies {
         requires escapes { AreEscapes p.now escapes }
         requires kept { IsReplies p.now self.now.sight self.now.spare }
         ensures among { (n : ℕ) → has_bit result n ≡ true → has_bit ends n ≡ true }
-        ensures certain { (n : ℕ) → n < 81 → has_bit result n ≡ true → IsAnswered p.now (moves.Board from n false) }
+        ensures certain { AreAnswered p.now from result }
     {
         p.validity();
         from.validity();
@@ -323,7 +326,7 @@ impl Replies {
         requires escapes { AreEscapes p.now escapes }
         requires kept { IsReplies p.now self.now.sight self.now.spare }
         ensures among { (n : ℕ) → has_bit result n ≡ true → has_bit ends n ≡ true }
-        ensures certain { (n : ℕ) → n < 81 → has_bit result n ≡ true → IsAnswered p.now (moves.Board from n false) }
+        ensures certain { AreAnswered p.now from result }
     {
         p.validity();
         from.validity();
@@ -341,7 +344,7 @@ impl Replies {
         requires escapes { AreEscapes p.now escapes }
         requires kept { IsReplies p.now self.now.sight self.now.spare }
         ensures among { (n : ℕ) → has_bit result n ≡ true → has_bit ends n ≡ true }
-        ensures certain { (n : ℕ) → n < 81 → has_bit result n ≡ true → IsAnswered p.now (moves.Drop kind n) }
+        ensures certain { AreDropsAnswered p.now kind result }
     {
         p.validity();
         let risky = self.risky_squares(p, dropped(p.side(), kind), ends);

@@ -2,18 +2,16 @@
 
 ghost use Rattle.std.specs.Prelude.{◌≡◌, ◌≢◌, ◌<◌, ◌≤◌, ◌+◌, ◌*◌, ◌^◌, ◌∷◌, [], ℕ, true, false, IfSome, IsNone, MatchOption, bit_or};
 ghost use Rattle.shogi_core.specs.declared.moves.TheConstants.{FIRST_DROP};
-ghost use Rattle.shogi_core.specs.declared.moves.Move.TheVariants as moves;
 ghost use Rattle.shogi_core.specs.Bits.{has_bit};
 ghost use Rattle.shogi_core.specs.Cell.{is_piece_of};
 ghost use Rattle.shogi_core.specs.Codes.{code_of};
-ghost use Rattle.shogi_core.specs.Movement.{piece_at};
 ghost use Rattle.shogi_core.specs.Pieces.{kind_number};
-ghost use Rattle.shogi_moves.specs.Captures.{is_wanted, HasNoneWanted};
 ghost use Rattle.shogi_moves.specs.Escapes.{AreEscapes};
 ghost use Rattle.shogi_moves.specs.Guards.{Guards};
 ghost use Rattle.shogi_moves.specs.Legal.{is_legal};
 ghost use Rattle.shogi_moves.specs.Replies.{IsReplies};
-ghost use Rattle.shogi_moves.specs.Sweeps.{wanted_from, IsBoardSweep, IsDropSweep, IsCertainQuiet, IsCertainDrop, IsPassed, IsPassedTo};
+ghost use Rattle.shogi_moves.specs.Sweeps.{wanted_from, AreWantedEnds, IsBoardSweep, IsDropSweep, IsCertainQuiet, IsCertainDrop, IsPassed, IsPassedTo};
+ghost use Rattle.shogi_moves.specs.Walks.{IsNextOf};
 
 use crate::ends::{Ends, drop_ends, ends_of_sort, legal_ends};
 use crate::guard::{Guard, guard_of};
@@ -46,8 +44,8 @@ pub struct DropSweep {
 #[tactic(auto, using(crate::proofs::SweepLaws::no_piece))]
 fn ends_on(p: &Position, guard: &Guard, capture: bool, from: Square) -> Ends
     requires guard { Guards p.now guard.now.checked guard.now.exposed }
-    ensures plain { (n : ℕ) → n < 81 → has_bit result.plain n ≡ is_wanted p.now capture (code_of (moves.Board from n false)) }
-    ensures promoting { (n : ℕ) → n < 81 → has_bit result.promoting n ≡ is_wanted p.now capture (code_of (moves.Board from n true)) }
+    ensures plain { AreWantedEnds p.now capture from false result.plain }
+    ensures promoting { AreWantedEnds p.now capture from true result.promoting }
     ensures plain_fits { result.plain < 2 ^ 81 }
     ensures promoting_fits { result.promoting < 2 ^ 81 }
 {
@@ -112,7 +110,8 @@ impl BoardSweep {
         requires kept { IsBoardSweep p.now capture self.old }
         requires some { bit_or self.old.ends.plain self.old.ends.promoting ≢ 0 }
         ensures kept { IsBoardSweep p.now capture self.new }
-        ensures next { wanted_from p.now capture self.old.code ≡ code_of result ∷ wanted_from p.now capture self.new.code }
+        ensures next { wanted_from p.now capture self.old.code
+            ≡ code_of result ∷ wanted_from p.now capture self.new.code }
         ensures legal { is_legal p.now result ≡ true }
     {
         let (from, plain, promoting) = (self.from, self.ends.plain, self.ends.promoting);
@@ -146,8 +145,10 @@ impl BoardSweep {
         requires kept { IsBoardSweep p.now capture self.old }
         requires none { bit_or self.old.ends.plain self.old.ends.promoting ≡ 0 }
         ensures kept { IsBoardSweep p.now capture self.new }
-        ensures some { result ≡ true → (bit_or self.new.ends.plain self.new.ends.promoting ≢ 0) × (wanted_from p.now capture self.old.code ≡ wanted_from p.now capture self.new.code) }
-        ensures end { result ≡ false → wanted_from p.now capture self.old.code ≡ wanted_from p.now capture FIRST_DROP }
+        ensures some { result ≡ true → (bit_or self.new.ends.plain self.new.ends.promoting ≢ 0)
+            × (wanted_from p.now capture self.old.code ≡ wanted_from p.now capture self.new.code) }
+        ensures end { result ≡ false
+            → wanted_from p.now capture self.old.code ≡ wanted_from p.now capture FIRST_DROP }
     {
         p.validity();
         let sort = ends_of_sort(p, capture);
@@ -177,7 +178,8 @@ impl BoardSweep {
     pub fn next(&mut self, p: &Position, capture: bool) -> Option<Move>
         requires kept { IsBoardSweep p.now capture self.old }
         ensures kept { IsBoardSweep p.now capture self.new }
-        ensures next { MatchOption result (wanted_from p.now capture self.old.code ≡ wanted_from p.now capture FIRST_DROP) (λ m. wanted_from p.now capture self.old.code ≡ code_of m ∷ wanted_from p.now capture self.new.code) }
+        ensures next { IsNextOf result (wanted_from p.now capture self.old.code)
+            (wanted_from p.now capture self.new.code) (wanted_from p.now capture FIRST_DROP) }
         ensures legal { IfSome result (λ m. is_legal p.now m ≡ true) }
     {
         if self.ends.plain | self.ends.promoting == 0 {
@@ -245,7 +247,8 @@ impl BoardSweep {
         requires replies { IsReplies p.now replies.now.sight replies.now.spare }
         requires escapes { AreEscapes p.now escapes }
         ensures kept { IsBoardSweep p.now false self.new }
-        ensures passed { IsPassed (IsCertainQuiet p.now self.old.code) (wanted_from p.now false self.old.code) (wanted_from p.now false self.new.code) }
+        ensures passed { IsPassed (IsCertainQuiet p.now self.old.code)
+            (wanted_from p.now false self.old.code) (wanted_from p.now false self.new.code) }
     {
         if self.ends.promoting != 0 {
             return;
@@ -259,7 +262,8 @@ impl BoardSweep {
 
 /// The kind after this one in the order of kinds.
 pub fn next_kind(kind: Kind) -> Option<Kind>
-    ensures { MatchOption result (kind_number kind ≡ 6) (λ k. kind_number k ≡ kind_number kind + 1) }
+    ensures { MatchOption result (kind_number kind ≡ 6)
+        (λ k. kind_number k ≡ kind_number kind + 1) }
 {
     match kind {
         Kind::Pawn => Some(Kind::Lance),
@@ -294,7 +298,8 @@ impl DropSweep {
         requires kept { IsDropSweep p.now self.old }
         requires some { self.old.ends ≢ 0 }
         ensures kept { IsDropSweep p.now self.new }
-        ensures next { wanted_from p.now false self.old.code ≡ code_of result ∷ wanted_from p.now false self.new.code }
+        ensures next { wanted_from p.now false self.old.code
+            ≡ code_of result ∷ wanted_from p.now false self.new.code }
         ensures legal { is_legal p.now result ≡ true }
     {
         let (kind, ends) = (self.kind, self.ends);
@@ -312,7 +317,8 @@ impl DropSweep {
         requires kept { IsDropSweep p.now self.old }
         requires none { self.old.ends ≡ 0 }
         ensures kept { IsDropSweep p.now self.new }
-        ensures some { result ≡ true → (self.new.ends ≢ 0) × (wanted_from p.now false self.old.code ≡ wanted_from p.now false self.new.code) }
+        ensures some { result ≡ true → (self.new.ends ≢ 0)
+            × (wanted_from p.now false self.old.code ≡ wanted_from p.now false self.new.code) }
         ensures end { result ≡ false → wanted_from p.now false self.old.code ≡ [] }
         ensures same { result ≡ false → self.new.code ≡ self.old.code }
     {
@@ -336,7 +342,8 @@ impl DropSweep {
     pub fn next(&mut self, p: &Position) -> Option<Move>
         requires kept { IsDropSweep p.now self.old }
         ensures kept { IsDropSweep p.now self.new }
-        ensures next { MatchOption result (wanted_from p.now false self.old.code ≡ []) (λ m. wanted_from p.now false self.old.code ≡ code_of m ∷ wanted_from p.now false self.new.code) }
+        ensures next { IsNextOf result (wanted_from p.now false self.old.code)
+            (wanted_from p.now false self.new.code) [] }
         ensures end { IsNone result → wanted_from p.now false self.new.code ≡ [] }
         ensures legal { IfSome result (λ m. is_legal p.now m ≡ true) }
     {
@@ -355,7 +362,8 @@ impl DropSweep {
         requires replies { IsReplies p.now replies.now.sight replies.now.spare }
         requires escapes { AreEscapes p.now escapes }
         ensures kept { IsDropSweep p.now self.new }
-        ensures passed { IsPassed (IsCertainDrop p.now self.old.kind self.old.code) (wanted_from p.now false self.old.code) (wanted_from p.now false self.new.code) }
+        ensures passed { IsPassed (IsCertainDrop p.now self.old.kind self.old.code)
+            (wanted_from p.now false self.old.code) (wanted_from p.now false self.new.code) }
     {
         let ends = self.ends;
         let first = FIRST_DROP + self.kind.number() as u16 * 81;

@@ -1,9 +1,9 @@
 //! A walk over the legal moves of a position.
 
-ghost use Rattle.std.specs.Prelude.{◌≡◌, ◌∷◌, [], true, IfSome, MatchOption};
-ghost use Rattle.shogi_core.specs.Codes.{code_of};
+ghost use Rattle.std.specs.Prelude.{◌≡◌, true, IfSome};
 ghost use Rattle.shogi_moves.specs.Legal.{is_legal};
 ghost use Rattle.shogi_moves.specs.LegalMoves.{legal_codes};
+ghost use Rattle.shogi_moves.specs.Walks.{TakesNext};
 
 use crate::guard::guard_of;
 use crate::next::{code_above, least_board};
@@ -29,9 +29,16 @@ impl Model for Walk {
 
     ghost Value = { Remaining };
 
-    ghost view = { λ w. record { position = w.position; codes = legal_from w.position (cond (nat_lt w.code FIRST_DROP) w.code w.drops.code) } };
+    ghost view = { λ w. record {
+      position = w.position;
+      codes = legal_from w.position (cond (nat_lt w.code FIRST_DROP) w.code w.drops.code);
+    } };
 
-    ghost invariant = { λ w. record { kept : IsDropSweep w.position w.drops; code : w.code ≤ FIRST_DROP; begun : w.code < FIRST_DROP → w.drops.code ≡ FIRST_DROP } };
+    ghost invariant = { λ w. record {
+      kept : IsDropSweep w.position w.drops;
+      code : w.code ≤ FIRST_DROP;
+      begun : w.code < FIRST_DROP → w.drops.code ≡ FIRST_DROP;
+    } };
 }
 
 impl Walk {
@@ -50,7 +57,7 @@ impl Walk {
     /// The next legal move, or `None` where none is left.
     pub fn next(&mut self) -> Option<Move>
         ensures position { self.new.position ≡ self.old.position }
-        ensures next { MatchOption result ((self.old.codes ≡ []) × (self.new.codes ≡ [])) (λ m. self.old.codes ≡ code_of m ∷ self.new.codes) }
+        ensures next { TakesNext result self.old.codes self.new.codes }
         ensures legal { IfSome result (λ m. is_legal self.old.position m ≡ true) }
     {
         if self.code >= FIRST_DROP {
