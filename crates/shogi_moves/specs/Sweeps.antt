@@ -11,7 +11,7 @@ use Rattle.shogi_moves.specs.declared.sweep.BoardSweep.{BoardSweep}
 use Rattle.shogi_moves.specs.declared.sweep.DropSweep.{DropSweep}
 use Rattle.shogi_moves.specs.After.{after_code}
 use Rattle.shogi_moves.specs.Captures.{is_of_sort, is_wanted}
-use Rattle.shogi_moves.specs.Guards.{Guards}
+use Rattle.shogi_moves.specs.Guards.{IsGuardOf}
 use Rattle.shogi_moves.specs.Legal.{is_legal_code}
 use Rattle.shogi_moves.specs.LegalMoves.{legal_from, legal_codes}
 
@@ -49,11 +49,11 @@ pub record HasWantedOn (p : Shogi) (capture : Bool) (code mask : ℕ) : Type 0 w
 
 -- the ends still to come of the present piece or kind of a sweep, with what is known of the position
 pub record IsBoardSweep (p : Shogi) (capture : Bool) (s : BoardSweep) : Type 0 where
-  pub guard : Guards p s.guard.checked s.guard.exposed
+  pub guard : IsGuardOf s.guard p
   pub ends : KeepsBoard p capture s.from s.code s.ends.plain s.ends.promoting
 
 pub record IsDropSweep (p : Shogi) (s : DropSweep) : Type 0 where
-  pub guard : Guards p s.guard.checked s.guard.exposed
+  pub guard : IsGuardOf s.guard p
   pub ends : KeepsDrop p s.kind s.code s.ends
 
 -- the code is that of a legal move on the board, from a code on, that takes nothing and does not promote, after which the other side has a legal move

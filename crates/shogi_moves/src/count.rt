@@ -3,7 +3,7 @@
 ghost use Rattle.std.specs.Prelude.{◌≡◌, ◌≤◌, ◌<◌, ◌^◌, ◌+◌, ◌-◌, ◌↔◌, IfSome, IsNone, length};
 ghost use Rattle.shogi_core.specs.declared.moves.TheConstants.{MOVE_CODE_COUNT, FIRST_DROP};
 ghost use Rattle.shogi_moves.specs.LegalMoves.{legal_from, legal_codes, perft};
-ghost use Rattle.shogi_moves.specs.Guards.{Guards};
+ghost use Rattle.shogi_moves.specs.Guards.{IsGuardOf};
 
 use crate::after::apply;
 use crate::ends::{drop_ends, enterable, legal_ends};
@@ -15,7 +15,7 @@ use shogi_core::{Kind, Position, Square};
 
 /// How many board moves are legal.
 fn count_board(p: &Position, guard: &Guard) -> u64
-    requires guard { Guards p.now guard.now.checked guard.now.exposed }
+    requires guard { IsGuardOf guard.now p.now }
     ensures count { result + length (legal_from p.now FIRST_DROP) ≡ length (legal_codes p.now) }
     ensures range { result ≤ FIRST_DROP }
 {
@@ -34,7 +34,7 @@ fn count_board(p: &Position, guard: &Guard) -> u64
 
 /// How many drops are legal.
 fn count_drops(p: &Position, guard: &Guard) -> u64
-    requires guard { Guards p.now guard.now.checked guard.now.exposed }
+    requires guard { IsGuardOf guard.now p.now }
     ensures count { result ≡ length (legal_from p.now FIRST_DROP) }
     ensures range { result ≤ MOVE_CODE_COUNT - FIRST_DROP }
 {

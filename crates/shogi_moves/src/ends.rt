@@ -12,7 +12,7 @@ ghost use Rattle.shogi_core.specs.Movement.{piece_at};
 ghost use Rattle.shogi_moves.specs.Captures.{is_wanted};
 ghost use Rattle.shogi_moves.specs.Ends.{is_end, is_unchecked, AreUncheckedEnds, AreLegalEnds, AreEnterable, ShowsAttack};
 ghost use Rattle.shogi_moves.specs.Escapes.{HasNoOtherKing};
-ghost use Rattle.shogi_moves.specs.Guards.{Guards};
+ghost use Rattle.shogi_moves.specs.Guards.{IsGuardOf};
 
 use crate::after::{dropped, is_checked_after};
 use crate::guard::{Guard, is_calm};
@@ -141,7 +141,7 @@ fn king_ends(p: &Position, checked: bool, from: Square, ends: u128) -> u128
 #[inline(never)]
 #[tactic(auto, using(crate::proofs::EndLaws::calm_ends))]
 fn risky_ends(p: &Position, guard: &Guard, from: Square, ends: u128) -> u128
-    requires guard { Guards p.now guard.now.checked guard.now.exposed }
+    requires guard { IsGuardOf guard.now p.now }
     requires own { is_piece_of p.now.side (piece_at p.now.cells from) ≡ true }
     requires fits { ends < 2 ^ 81 }
     ensures bits { AreUncheckedEnds p.now from ends result }
@@ -169,7 +169,7 @@ fn risky_ends(p: &Position, guard: &Guard, from: Square, ends: u128) -> u128
 /// Those of the ends that leave the king unattacked. Most pieces may end anywhere, and are told at once.
 #[tactic(auto, using(crate::proofs::EndLaws::calm_ends))]
 fn safe_ends(p: &Position, guard: &Guard, from: Square, ends: u128) -> u128
-    requires guard { Guards p.now guard.now.checked guard.now.exposed }
+    requires guard { IsGuardOf guard.now p.now }
     requires own { is_piece_of p.now.side (piece_at p.now.cells from) ≡ true }
     requires fits { ends < 2 ^ 81 }
     ensures bits { AreUncheckedEnds p.now from ends result }
@@ -220,7 +220,7 @@ pub fn enterable(p: &Position) -> u128
 #[inline(always)]
 #[tactic(auto, using(crate::proofs::EndLaws::ending))]
 pub fn legal_ends(p: &Position, guard: &Guard, from: Square, among: u128) -> Ends
-    requires guard { Guards p.now guard.now.checked guard.now.exposed }
+    requires guard { IsGuardOf guard.now p.now }
     requires own { is_piece_of p.now.side (piece_at p.now.cells from) ≡ true }
     requires among { AreEnterable p.now from among }
     requires fits { among < 2 ^ 81 }
@@ -287,7 +287,7 @@ fn tried_drops(p: &Position, kind: Kind, ends: u128) -> u128
 #[inline(always)]
 #[tactic(auto, using(crate::proofs::EndLaws::safe_dropping))]
 pub fn safe_drops(p: &Position, guard: &Guard, kind: Kind) -> u128
-    requires guard { Guards p.now guard.now.checked guard.now.exposed }
+    requires guard { IsGuardOf guard.now p.now }
     ensures bits { (n : ℕ) → n < 81 → has_bit result n ≡ is_safe p.now (moves.Drop kind n) }
     ensures fits { result < 2 ^ 81 }
 {
@@ -350,7 +350,7 @@ fn fair_drops(p: &Position, ends: u128) -> u128
 #[inline(always)]
 #[tactic(auto, using(crate::proofs::EndLaws::legal_dropping))]
 pub fn drop_ends(p: &Position, guard: &Guard, kind: Kind) -> u128
-    requires guard { Guards p.now guard.now.checked guard.now.exposed }
+    requires guard { IsGuardOf guard.now p.now }
     ensures bits { (n : ℕ) → n < 81 → has_bit result n ≡ is_wanted p.now false (code_of (moves.Drop kind n)) }
     ensures fits { result < 2 ^ 81 }
 {

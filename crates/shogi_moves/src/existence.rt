@@ -8,7 +8,7 @@ ghost use Rattle.shogi_core.specs.Cell.{is_king};
 ghost use Rattle.shogi_core.specs.Movement.{piece_at};
 ghost use Rattle.shogi_moves.specs.Ends.{AreEnterable};
 ghost use Rattle.shogi_moves.specs.Escapes.{HasNoOtherKing};
-ghost use Rattle.shogi_moves.specs.Guards.{Guards};
+ghost use Rattle.shogi_moves.specs.Guards.{IsGuardOf};
 ghost use Rattle.shogi_moves.specs.Legal.{is_safe_code};
 ghost use Rattle.shogi_moves.specs.LegalMoves.{legal_from, legal_codes};
 
@@ -62,7 +62,7 @@ fn has_king_move(p: &Position) -> bool
 
 /// Whether a piece on the board has a legal move.
 fn has_board_move(p: &Position, guard: &Guard) -> bool
-    requires { Guards p.now guard.now.checked guard.now.exposed }
+    requires { IsGuardOf guard.now p.now }
     ensures some { result ≡ true → legal_codes p.now ≢ [] }
     ensures none { result ≡ false → legal_codes p.now ≡ legal_from p.now FIRST_DROP }
 {
@@ -82,7 +82,7 @@ fn has_board_move(p: &Position, guard: &Guard) -> bool
 
 /// Whether a held piece other than a pawn has a legal drop.
 fn has_piece_drop(p: &Position, guard: &Guard) -> bool
-    requires { Guards p.now guard.now.checked guard.now.exposed }
+    requires { IsGuardOf guard.now p.now }
     ensures some { result ≡ true → legal_codes p.now ≢ [] }
     ensures none { result ≡ false → legal_from p.now (FIRST_DROP + 81) ≡ [] }
 {
@@ -98,7 +98,7 @@ fn has_piece_drop(p: &Position, guard: &Guard) -> bool
 
 /// Whether some move is legal other than the drop of a pawn.
 fn has_other_move(p: &Position, guard: &Guard) -> bool
-    requires { Guards p.now guard.now.checked guard.now.exposed }
+    requires { IsGuardOf guard.now p.now }
     ensures some { result ≡ true → legal_codes p.now ≢ [] }
     ensures board { result ≡ false → legal_codes p.now ≡ legal_from p.now FIRST_DROP }
     ensures drops { result ≡ false → legal_from p.now (FIRST_DROP + 81) ≡ [] }
@@ -124,7 +124,7 @@ pub fn has_safe(p: &Position) -> bool
 
 /// Whether a held pawn has a legal drop.
 fn has_pawn_drop(p: &Position, guard: &Guard) -> bool
-    requires { Guards p.now guard.now.checked guard.now.exposed }
+    requires { IsGuardOf guard.now p.now }
     ensures some { result ≡ true → legal_codes p.now ≢ [] }
     ensures none { result ≡ false
         → legal_from p.now FIRST_DROP ≡ legal_from p.now (FIRST_DROP + 81) }

@@ -6,7 +6,7 @@ ghost use Rattle.shogi_core.specs.Lines.{are_lined};
 ghost use Rattle.shogi_core.specs.Bits.{has_bit};
 ghost use Rattle.shogi_core.specs.Cell.{is_piece_of};
 ghost use Rattle.shogi_core.specs.Movement.{piece_at};
-ghost use Rattle.shogi_moves.specs.Guards.{Guards, Exposes};
+ghost use Rattle.shogi_moves.specs.Guards.{IsGuardOf, Exposes};
 
 use crate::attack::in_check;
 use shogi_core::bits::{ALL_SQUARES, has, lowest, without_lowest};
@@ -40,7 +40,7 @@ fn exposed_squares(p: &Position, side: Color) -> u128
 #[tactic(auto, using(crate::proofs::GuardLaws::guards_from))]
 pub fn full_guard(p: &Position, checked: bool) -> Guard
     requires { checked ≡ in_check p.now.cells p.now.side }
-    ensures { Guards p.now result.checked result.exposed }
+    ensures { IsGuardOf result p.now }
 {
     p.validity();
     Guard {
@@ -56,7 +56,7 @@ fn calm_guard(p: &Position, pinned: u128) -> Guard
     requires safe { in_check p.now.cells p.now.side ≡ false }
     requires fits { pinned < 2 ^ 81 }
     requires free { (n : ℕ) → n < 81 → has_bit pinned n ≡ false → is_piece_of p.now.side (piece_at p.now.cells n) ≡ true → in_check (slice_set p.now.cells n None) p.now.side ≡ false }
-    ensures { Guards p.now result.checked result.exposed }
+    ensures { IsGuardOf result p.now }
 {
     Guard {
         checked: false,
@@ -66,7 +66,7 @@ fn calm_guard(p: &Position, pinned: u128) -> Guard
 
 /// What is kept of the position.
 pub fn guard_of(p: &Position) -> Guard
-    ensures { Guards p.now result.checked result.exposed }
+    ensures { IsGuardOf result p.now }
 {
     match p.as_board().pinned(p.side()) {
         None => full_guard(p, true),
@@ -77,7 +77,7 @@ pub fn guard_of(p: &Position) -> Guard
 /// What is kept where no piece is looked for that may leave its square: each is held to be exposed.
 #[tactic(auto, using(crate::proofs::ExistenceLaws::guards_rough))]
 pub fn rough_guard(p: &Position) -> Guard
-    ensures { Guards p.now result.checked result.exposed }
+    ensures { IsGuardOf result p.now }
 {
     Guard {
         checked: in_check(p),

@@ -7,7 +7,7 @@ ghost use Rattle.shogi_core.specs.Cell.{is_piece_of};
 ghost use Rattle.shogi_core.specs.Codes.{code_of};
 ghost use Rattle.shogi_core.specs.Movement.{piece_at};
 ghost use Rattle.shogi_core.specs.Pieces.{kind_number};
-ghost use Rattle.shogi_moves.specs.Guards.{Guards};
+ghost use Rattle.shogi_moves.specs.Guards.{IsGuardOf};
 ghost use Rattle.shogi_moves.specs.Legal.{is_legal, is_legal_code};
 ghost use Rattle.shogi_moves.specs.LegalMoves.{legal_from, legal_above, legal_codes, IsLeastFrom};
 ghost use Rattle.shogi_moves.specs.Places.{code_past, IsAtSquare, IsAtKind};
@@ -30,7 +30,7 @@ pub fn code_above(m: &Move) -> u16
 
 /// The legal ends of one of the pieces of the side to move, those from a code on.
 fn ends_left(p: &Position, guard: &Guard, from: Square, code: u16) -> Ends
-    requires guard { Guards p.now guard.now.checked guard.now.exposed }
+    requires guard { IsGuardOf guard.now p.now }
     requires own { is_piece_of p.now.side (piece_at p.now.cells from) ≡ true }
     requires code { IsAtSquare from code }
     ensures plain { Keeps (is_legal_code p.now) (λ n. code_of (moves.Board from n false))
@@ -49,7 +49,7 @@ fn ends_left(p: &Position, guard: &Guard, from: Square, code: u16) -> Ends
 
 /// The legal move of least code from the given one on, of what stands on the square.
 fn least_end(p: &Position, guard: &Guard, from: Square, code: u16) -> Option<Move>
-    requires guard { Guards p.now guard.now.checked guard.now.exposed }
+    requires guard { IsGuardOf guard.now p.now }
     requires code { IsAtSquare from code }
     ensures next { IsLeastFrom p.now result code (from * SQUARE_CODES + SQUARE_CODES) }
     ensures legal { IfSome result (λ m. is_legal p.now m ≡ true) }
@@ -75,7 +75,7 @@ fn least_end(p: &Position, guard: &Guard, from: Square, code: u16) -> Option<Mov
 /// The legal move of least code from the given one on, of a piece on the board.
 pub fn least_board(p: &Position, guard: &Guard, first: u16) -> Option<Move>
     requires first { first ≤ FIRST_DROP }
-    requires guard { Guards p.now guard.now.checked guard.now.exposed }
+    requires guard { IsGuardOf guard.now p.now }
     ensures next { IsLeastFrom p.now result first FIRST_DROP }
     ensures legal { IfSome result (λ m. is_legal p.now m ≡ true) }
     ensures on_board { IfSome result (λ m. code_of m < FIRST_DROP) }
@@ -94,7 +94,7 @@ pub fn least_board(p: &Position, guard: &Guard, first: u16) -> Option<Move>
 
 /// Where one of the held pieces may legally be dropped, those from a code on.
 fn drops_left(p: &Position, guard: &Guard, kind: Kind, code: u16) -> u128
-    requires guard { Guards p.now guard.now.checked guard.now.exposed }
+    requires guard { IsGuardOf guard.now p.now }
     requires code { IsAtKind kind code }
     ensures { Keeps (is_legal_code p.now) (λ n. code_of (moves.Drop kind n)) code result }
 {
@@ -104,7 +104,7 @@ fn drops_left(p: &Position, guard: &Guard, kind: Kind, code: u16) -> u128
 
 /// The legal drop of the kind of least code from the given one on.
 fn least_drop(p: &Position, guard: &Guard, kind: Kind, code: u16) -> Option<Move>
-    requires guard { Guards p.now guard.now.checked guard.now.exposed }
+    requires guard { IsGuardOf guard.now p.now }
     requires code { IsAtKind kind code }
     ensures next { IsLeastFrom p.now result code (FIRST_DROP + 81 + kind_number kind * 81) }
     ensures legal { IfSome result (λ m. is_legal p.now m ≡ true) }
@@ -123,7 +123,7 @@ fn least_drop(p: &Position, guard: &Guard, kind: Kind, code: u16) -> Option<Move
 /// The legal move of least code from that of the move on, among those from the same square or of the
 /// same kind.
 fn least_beside(p: &Position, guard: &Guard, m: &Move) -> Option<Move>
-    requires guard { Guards p.now guard.now.checked guard.now.exposed }
+    requires guard { IsGuardOf guard.now p.now }
     ensures next { IsLeastFrom p.now result (code_of m.now) (code_past m.now) }
     ensures legal { IfSome result (λ found. is_legal p.now found ≡ true) }
 {
@@ -160,7 +160,7 @@ fn code_past(m: &Move) -> u16
 /// The legal move of least code from the given one on: square by square, and then kind by kind.
 pub fn least_from(p: &Position, guard: &Guard, first: u16) -> Option<Move>
     requires first { first ≤ MOVE_CODE_COUNT }
-    requires guard { Guards p.now guard.now.checked guard.now.exposed }
+    requires guard { IsGuardOf guard.now p.now }
     ensures next { MatchOption result (legal_from p.now first ≡ [])
         (λ m. legal_from p.now first ≡ code_of m ∷ legal_from p.now (code_of m + 1)) }
     ensures legal { IfSome result (λ m. is_legal p.now m ≡ true) }

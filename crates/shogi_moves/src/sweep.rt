@@ -7,7 +7,7 @@ ghost use Rattle.shogi_core.specs.Cell.{is_piece_of};
 ghost use Rattle.shogi_core.specs.Codes.{code_of};
 ghost use Rattle.shogi_core.specs.Pieces.{kind_number};
 ghost use Rattle.shogi_moves.specs.Escapes.{AreEscapes};
-ghost use Rattle.shogi_moves.specs.Guards.{Guards};
+ghost use Rattle.shogi_moves.specs.Guards.{IsGuardOf};
 ghost use Rattle.shogi_moves.specs.Legal.{is_legal};
 ghost use Rattle.shogi_moves.specs.Replies.{IsReplies};
 ghost use Rattle.shogi_moves.specs.Sweeps.{wanted_from, AreWantedEnds, IsBoardSweep, IsDropSweep, IsCertainQuiet, IsCertainDrop, IsPassed, IsPassedTo};
@@ -43,7 +43,7 @@ pub struct DropSweep {
 /// The legal ends of what stands on the square; none where that is no piece of the side to move.
 #[tactic(auto, using(crate::proofs::SweepLaws::no_piece))]
 fn ends_on(p: &Position, guard: &Guard, capture: bool, from: Square) -> Ends
-    requires guard { Guards p.now guard.now.checked guard.now.exposed }
+    requires guard { IsGuardOf guard.now p.now }
     ensures plain { AreWantedEnds p.now capture from false result.plain }
     ensures promoting { AreWantedEnds p.now capture from true result.promoting }
     ensures plain_fits { result.plain < 2 ^ 81 }
@@ -90,7 +90,7 @@ impl BoardSweep {
     /// Through all board moves of the sort.
     #[tactic(auto, using(crate::proofs::SweepLaws::sweeping))]
     pub fn new(p: &Position, guard: Guard, capture: bool) -> BoardSweep
-        requires guard { Guards p.now guard.checked guard.exposed }
+        requires guard { IsGuardOf guard p.now }
         ensures kept { IsBoardSweep p.now capture result }
         ensures code { result.code ≡ 0 }
     {
@@ -280,7 +280,7 @@ impl DropSweep {
     /// Through all drops.
     #[tactic(auto, using(crate::proofs::SweepLaws::keeps_kind))]
     pub fn new(p: &Position, guard: Guard) -> DropSweep
-        requires guard { Guards p.now guard.checked guard.exposed }
+        requires guard { IsGuardOf guard p.now }
         ensures kept { IsDropSweep p.now result }
         ensures code { result.code ≡ FIRST_DROP }
     {
