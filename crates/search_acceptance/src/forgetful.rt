@@ -39,7 +39,8 @@ impl Model for Kept {
 impl Kept {
     /// Whether it is of this position under this evaluation at this depth.
     fn is_of(&self, p: &Position, e: Eval, d: u8) -> bool
-        ensures value { result ≡ (self.now.1.1.0 == d && is_same_eval self.now.1.0 e && is_same_position self.now.0 p.now) }
+        ensures value { result ≡ (self.now.1.1.0 == d && is_same_eval self.now.1.0 e
+            && is_same_position self.now.0 p.now) }
         ensures same { result ≡ true → (self.now.0 ≡ p.now) × (self.now.1.0 ≡ e) }
     {
         self.depth == d && self.eval.is_same(e) && self.position.is_same(p)

@@ -23,7 +23,9 @@ pub record Entered : Type 0 where
 
 -- each move but the unsearched ones is worth no more than the best so far, and less where its code is less than that of the best move, which is worth exactly that
 abbrev pub IsSearchedSoFar : Entered → Type 0
-IsSearchedSoFar n = IsCovered (worth n.position n.eval (n.depth - 1)) (moves_at n.position n.depth) n.unsearched n.alpha n.best_value n.best_code
+IsSearchedSoFar n =
+    IsCovered (worth n.position n.eval (n.depth - 1)) (moves_at n.position n.depth) n.unsearched
+    n.alpha n.best_value n.best_code
 
 -- the node is worth at least this, which is enough
 abbrev pub IsCutOffAt : Entered → ℤ → Type 0
@@ -50,4 +52,5 @@ IsPath p e d low high (n ∷ m ∷ more) =
     × ((0 < d)
     × IsSomeAnd n.current (λ code.
     (is_in code n.unsearched ≡ true)
-    × IsPath (after_code p code) e (d - 1) (negated high) (negated (threshold n.best_value n.best_code code)) (m ∷ more)))
+    × IsPath (after_code p code) e (d - 1) (negated high)
+    (negated (threshold n.best_value n.best_code code)) (m ∷ more)))

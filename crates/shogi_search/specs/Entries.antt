@@ -3,6 +3,8 @@ use Rattle.std.specs.Prelude.{ℤ, ◌≤ℤ◌, Option, Some, None}
 use Rattle.shogi_core.specs.declared.moves.Move.{Move}
 use Rattle.shogi_search.specs.declared.memo.Entry.{Entry}
 use Rattle.shogi_search.specs.declared.memo.Entry.TheVariants.{Exact, AtLeast, AtMost}
+use Rattle.shogi_search.specs.Minimax.{negated}
+use Rattle.shogi_search.specs.declared.bounds.TheConstants.{INFINITY}
 
 -- an entry says enough for a window: the value, or that it lies at or above high, or at or below low
 abbrev pub IsCutoff : ℤ → ℤ → Entry → Type 0
@@ -14,6 +16,10 @@ IsCutoff alpha beta (AtMost v) = v ≤ℤ alpha
 abbrev pub IsEnough : ℤ → ℤ → Option Entry → Type 0
 IsEnough alpha beta None = ⊥
 IsEnough alpha beta (Some e) = IsCutoff alpha beta e
+
+-- the answer says enough for a search below a bound
+abbrev pub IsEnoughBelow : ℤ → Option Entry → Type 0
+IsEnoughBelow beta answer = IsEnough (negated INFINITY) beta answer
 
 -- the answer is the value itself
 abbrev pub IsExactly : Option Entry → Type 0

@@ -4,6 +4,7 @@ pub mod Window
 pub mod Order
 pub mod Visits
 pub mod Losses
+pub mod Frames
 pub mod Stack
 pub mod Entered
 pub mod Progress

@@ -7,6 +7,11 @@ use Rattle.shogi_eval.specs.declared.eval.Eval.{Eval}
 use Rattle.shogi_eval.specs.Material.{drop_gain}
 use Rattle.shogi_search.specs.Minimax.{negated}
 
+-- a drop of the kind takes no more than this, where the side holds one
+abbrev pub KindLosesAtMost : HandCounts → Color → Eval → ℤ → Kind → Type 0
+KindLosesAtMost hands side e loss kind =
+    0 < count_in_hand hands side kind → negated loss ≤ℤ drop_gain e kind
+
 -- no drop of a kind that the side holds takes more than this
 abbrev pub LosesAtMost : HandCounts → Color → Eval → ℤ → Type 0
-LosesAtMost hands side e loss = (kind : Kind) → 0 < count_in_hand hands side kind → negated loss ≤ℤ drop_gain e kind
+LosesAtMost hands side e loss = (kind : Kind) → KindLosesAtMost hands side e loss kind

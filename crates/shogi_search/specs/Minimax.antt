@@ -41,7 +41,9 @@ if_no_move_else lost static_value (code ∷ codes) = static_value
 -- the value of a position at a depth, for the side to move
 unfoldable pub value : Shogi → Eval → ℕ → ℤ
 value p e zero = if_no_move_else (lost_value 0) (material_of p e) (legal_codes p)
-value p e (suc d) = greatest_or (lost_value (suc d)) (λ code. negated (value (after_code p code) e d)) (legal_codes p)
+value p e (suc d) =
+    greatest_or (lost_value (suc d)) (λ code. negated (value (after_code p code) e d))
+    (legal_codes p)
 
 -- what the move of a code is worth to its mover, with d plies after it
 abbrev pub worth : Shogi → Eval → ℕ → ℕ → ℤ
@@ -88,7 +90,8 @@ then_pv_cost rest p (Some m) = rest (after p m)
 -- the most search steps for the pv of this depth, where each of its positions with plies left is searched anew: two for each node of the trees along it, one to enter it and one to leave it
 unfoldable pub pv_cost : Shogi → Eval → ℕ → ℕ
 pv_cost p e zero = 0
-pv_cost p e (suc d) = 2 * tree_size p (suc d) + then_pv_cost (λ q. pv_cost q e d) p (best p e (suc d))
+pv_cost p e (suc d) =
+    2 * tree_size p (suc d) + then_pv_cost (λ q. pv_cost q e d) p (best p e (suc d))
 
 -- what an entry says of the position at the depth holds
 abbrev pub IsTrueEntry : Shogi → Eval → ℕ → Entry → Type 0

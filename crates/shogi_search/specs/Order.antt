@@ -1,5 +1,5 @@
 -- The order in which a node's moves are visited: a remembered move, then captures, then the rest, each by rising code (own choice).
-use Rattle.std.specs.Prelude.{ℕ, ◌≡◌, Bool, true, false, ◌&&◌, not, ◌==◌, Option, Some, None, List, [], ◌∷◌, ◌++◌, filter}
+use Rattle.std.specs.Prelude.{ℕ, ◌+◌, ◌-◌, ◌*◌, ◌<◌, ◌≡◌, Bool, true, false, ◌&&◌, not, ◌==◌, Option, Some, None, MatchOption, List, [], ◌∷◌, ◌++◌, filter}
 use denote.Struct.Props as logic
 use Rattle.shogi_core.specs.declared.moves.TheConstants.{FIRST_DROP}
 use Rattle.shogi_core.specs.declared.moves.Move.{Move}
@@ -7,8 +7,10 @@ use Rattle.shogi_core.specs.declared.piece.Kind.{Kind}
 use Rattle.shogi_core.specs.Codes.{code_of}
 use Rattle.shogi_core.specs.Position.{Shogi}
 use Rattle.shogi_moves.specs.Captures.{is_of_sort}
-use Rattle.shogi_moves.specs.LegalMoves.{legal_from}
+use Rattle.shogi_moves.specs.LegalMoves.{legal_codes, legal_from}
+use Rattle.shogi_moves.specs.Rising.{is_in}
 use Rattle.shogi_moves.specs.Sweeps.{IsBoardSweep, IsDropSweep}
+use Rattle.shogi_search.specs.Minimax.{sum_of_tree_sizes, tree_size}
 use Rattle.shogi_search.specs.declared.move_picker.MovePicker.{MovePicker}
 use Rattle.shogi_search.specs.declared.move_picker.MovePicker.TheVariants.{HashMove, Start, Captures, Quiets, Drops, Done}
 
@@ -33,6 +35,19 @@ todo p (Captures hash_move s) = picks_from p hash_move true s.code ++ picks_from
 todo p (Quiets hash_move s) = picks_from p hash_move false s.code
 todo p (Drops hash_move s) = picks_from p hash_move false s.code
 todo p Done = []
+
+-- a picker at its start, with the hash move to visit first where there is one
+abbrev pub BeginsWith : Option Move → MovePicker → Type 0
+BeginsWith hash_move picker =
+    MatchOption hash_move (picker ≡ Start None) (λ f. picker ≡ HashMove f)
+
+-- the move is among the legal ones of the position, by its code
+abbrev pub IsListed : Shogi → Move → Type 0
+IsListed p m = is_in (code_of m) (legal_codes p) ≡ true
+
+-- two steps for each node after the moves still to be visited, and one more, are fewer than two for each node of the whole tree
+abbrev pub IsWithinTree : Shogi → ℕ → MovePicker → Type 0
+IsWithinTree p d picker = 1 + 2 * sum_of_tree_sizes p (d - 1) (todo p picker) < 2 * tree_size p d
 
 -- the codes of the moves still to be visited once the sweep that is under way has ended
 abbrev pub todo_after : Shogi → MovePicker → List ℕ

@@ -4,8 +4,10 @@ use Rattle.std.specs.Option.{ForSome}
 use Rattle.shogi_core.specs.Position.{Shogi}
 use Rattle.shogi_eval.specs.declared.eval.Eval.{Eval}
 use Rattle.shogi_search.specs.declared.found.Found.{Found}
+use Rattle.shogi_search.specs.declared.memo.Entry.{Entry}
 use Rattle.shogi_search.specs.Minimax.{value, best, tree_size, negated}
-use Rattle.shogi_search.specs.Entered.{Entered}
+use Rattle.shogi_search.specs.Entered.{Entered, IsPath}
+use Rattle.shogi_search.specs.Entries.{IsEnoughBelow, IsExactly}
 use Rattle.shogi_search.specs.declared.bounds.TheConstants.{INFINITY}
 
 -- where it began, under which evaluation, how deep it looks, the bound below which values are found, whether its root is entered, the nodes that are entered and not left, what is left of it, its steps so far, and what it found
@@ -26,11 +28,35 @@ left_of search = search.left
 
 -- a search before its first slice, for values below a bound
 abbrev pub untouched_below : Shogi → Eval → ℕ → ℤ → Progress
-untouched_below p e d beta = record { root = p; eval = e; depth = d; beta = beta; begun = false; entered = []; left = 2 * tree_size p d; steps = 0; found = None }
+untouched_below p e d beta = record {
+  root = p;
+  eval = e;
+  depth = d;
+  beta = beta;
+  begun = false;
+  entered = [];
+  left = 2 * tree_size p d;
+  steps = 0;
+  found = None;
+}
 
 -- a search before its first slice, where every value is below the bound
 abbrev pub untouched : Shogi → Eval → ℕ → Progress
 untouched p e d = untouched_below p e d INFINITY
+
+-- the nodes that it has entered and not left are a way down from its root
+abbrev pub HasPath : Progress → Type 0
+HasPath search =
+    IsPath search.root search.eval search.depth (negated INFINITY) search.beta search.entered
+
+-- what a memory that gives these answers has for its root says enough, below its bound
+abbrev pub IsAnsweredBy : (Shogi → Eval → ℕ → Option Entry) → Progress → Type 0
+IsAnsweredBy answers search =
+    IsEnoughBelow search.beta (answers search.root search.eval search.depth)
+
+-- and that is the value itself
+abbrev pub IsExactlyAnsweredBy : (Shogi → Eval → ℕ → Option Entry) → Progress → Type 0
+IsExactlyAnsweredBy answers search = IsExactly (answers search.root search.eval search.depth)
 
 -- what is found of a position below a bound: the value and the best move where it is less, and else no more than the value; a best move that is told is the best move
 pub record IsFoundBelow (p : Shogi) (e : Eval) (d : ℕ) (beta : ℤ) (f : Found) : Type 0 where
@@ -40,3 +66,17 @@ pub record IsFoundBelow (p : Shogi) (e : Eval) (d : ℕ) (beta : ℤ) (f : Found
   pub told : ForSome f.best (λ m. best p e d ≡ Some m)
   pub least : negated INFINITY <ℤ f.value
   pub most : f.value <ℤ INFINITY
+
+-- what is found of its root below its bound
+abbrev pub IsFoundBy : Progress → Found → Type 0
+IsFoundBy search f = IsFoundBelow search.root search.eval search.depth search.beta f
+
+-- where its bound is the end of the whole window, the value of its root is found
+abbrev pub FindsValue : Progress → Found → Type 0
+FindsValue search f =
+    search.beta ≡ INFINITY → f.value ≡ value search.root search.eval search.depth
+
+-- and the best move
+abbrev pub FindsBest : Progress → Found → Type 0
+FindsBest search f =
+    search.beta ≡ INFINITY → f.best ≡ best search.root search.eval search.depth

@@ -1,6 +1,6 @@
 -- Moves ranked by what they are worth (own choice: the greater worth first, among equal ones the lesser code).
 use Rattle.std.specs.List.{slice_get}
-use Rattle.std.specs.Prelude.{◌≡◌, Option, Some, None, ℕ, ℤ, ◌-◌, List, [], ◌∷◌, map, take, cond, ◌&&◌, ◌||◌, Bool, true, int_lt, nat_lt}
+use Rattle.std.specs.Prelude.{◌≡◌, Option, Some, None, ℕ, ℤ, ◌-◌, List, [], ◌∷◌, map, take, insert, cond, ◌&&◌, ◌||◌, Bool, true, int_lt, nat_lt}
 use Rattle.std.specs.Ordering.{int_eq}
 use Rattle.shogi_core.specs.declared.moves.Move.{Move}
 use Rattle.shogi_core.specs.Codes.{code_of}
@@ -18,7 +18,8 @@ is_better v code w other = int_lt w v || (int_eq v w && nat_lt code other)
 abbrev pub insert_code : (ℕ → ℤ) → ℕ → List ℕ → List ℕ
 insert_code worth_of code [] = code ∷ []
 insert_code worth_of code (next ∷ more) =
-    cond (is_better (worth_of code) code (worth_of next) next) (code ∷ next ∷ more) (next ∷ insert_code worth_of code more)
+    cond (is_better (worth_of code) code (worth_of next) next) (code ∷ next ∷ more)
+    (next ∷ insert_code worth_of code more)
 
 -- the codes of a list, each put in its place
 unfoldable pub ranked : (ℕ → ℤ) → List ℕ → List ℕ
@@ -37,7 +38,12 @@ pub record Ranking : Type 0 where
 -- a move with its value before the first pair that it stands before, or last
 abbrev pub insert_pair : Move → ℤ → List (Move × ℤ) → List (Move × ℤ)
 insert_pair m v [] = (m, v) ∷ []
-insert_pair m v (x ∷ xs) = cond (is_better v (code_of m) x.1 (code_of x.0)) ((m, v) ∷ x ∷ xs) (x ∷ insert_pair m v xs)
+insert_pair m v (x ∷ xs) =
+    cond (is_better v (code_of m) x.1 (code_of x.0)) ((m, v) ∷ x ∷ xs) (x ∷ insert_pair m v xs)
+
+-- there a move with its value goes
+abbrev pub IsPlaceOf : Move → ℤ → List (Move × ℤ) → ℕ → Type 0
+IsPlaceOf m v pairs place = insert pairs place (m, v) ≡ insert_pair m v pairs
 
 -- the codes of the moves
 abbrev pub codes_in : List (Move × ℤ) → List ℕ
@@ -59,7 +65,8 @@ with_worth worth_of code = (code, worth_of code)
 
 -- the pairs are the first of these codes, ranked, each with its worth: as many as there are lines, or all
 abbrev pub IsTop : (ℕ → ℤ) → List ℕ → Ranking → Type 0
-IsTop worth_of codes r = map coded r.pairs ≡ map (with_worth worth_of) (take r.lines (ranked worth_of codes))
+IsTop worth_of codes r =
+    map coded r.pairs ≡ map (with_worth worth_of) (take r.lines (ranked worth_of codes))
 
 -- the value of a pair, if there is one
 abbrev pub value_in : Option (Move × ℤ) → Option ℤ

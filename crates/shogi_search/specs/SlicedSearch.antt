@@ -7,6 +7,7 @@ use Rattle.shogi_search.specs.declared.frame.Waiting.{Waiting}
 use Rattle.shogi_search.specs.declared.frame.Waiting.TheVariants.{Next, Asked, Leaf, Cut}
 use Rattle.shogi_search.specs.declared.found.Found.{Found}
 use Rattle.shogi_search.specs.declared.sliced_search.Search.TheInside.{Inside}
+use Rattle.shogi_search.specs.declared.stack.Stack.{Stack}
 use Rattle.shogi_search.specs.Minimax.{tree_size, negated}
 use Rattle.shogi_search.specs.Entered.{Entered}
 use Rattle.shogi_search.specs.Order.{todo}
@@ -15,6 +16,10 @@ use Rattle.shogi_search.specs.Visits.{IsFree}
 use Rattle.shogi_search.specs.Stack.{IsStack, OnTop, frames_of, left_of_stack}
 use Rattle.shogi_search.specs.Window.{code_at}
 use Rattle.shogi_search.specs.declared.bounds.TheConstants.{SEARCH_DEPTH_MAX, INFINITY}
+
+-- the most steps of the search: two for each node of the tree
+abbrev pub steps_of_tree : Stack → ℕ
+steps_of_tree s = 2 * tree_size s.root s.depth
 
 -- nothing once it has found, all before the root is entered, and else what is left of the stack
 abbrev pub left_in : Option Found → Bool → ℕ → ℕ → ℕ
@@ -71,7 +76,7 @@ progress_of s = record {
   beta = s.stack.beta;
   begun = s.started;
   entered = entered_in s.found s.started (map entered_of (frames_of s.stack));
-  left = left_in s.found s.started (2 * tree_size s.stack.root s.stack.depth) (left_of_stack s.stack);
+  left = left_in s.found s.started (steps_of_tree s.stack) (left_of_stack s.stack);
   steps = s.steps;
   found = s.found;
 }
@@ -89,4 +94,6 @@ pub record IsSearch (s : Inside) : Type 0 where
   pub known : ForSome s.found (IsKnown s)
   pub chain : s.found ≡ None → s.started ≡ true → IsStack s.stack
   pub free : s.found ≡ None → s.started ≡ true → OnTop s.stack (λ top. IsFree top.waiting)
-  pub counted : s.steps + left_in s.found s.started (2 * tree_size s.stack.root s.stack.depth) (left_of_stack s.stack) ≤ 2 * tree_size s.stack.root s.stack.depth
+  pub counted :
+      s.steps + left_in s.found s.started (steps_of_tree s.stack) (left_of_stack s.stack)
+      ≤ steps_of_tree s.stack

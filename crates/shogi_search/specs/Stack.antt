@@ -1,5 +1,5 @@
 -- The stack of a search in slices: the nodes that wait for a child, from the root on, and the node on top.
-use Rattle.std.specs.Prelude.{◌≡◌, ◌≤◌, ℕ, ◌+◌, ◌*◌, ◌-◌, ◌<◌, ◌<ℤ◌, ℤ, List, [], ◌∷◌, sum_by, take, slice_get, IsSomeAnd}
+use Rattle.std.specs.Prelude.{◌≡◌, ◌≤◌, ℕ, ◌+◌, ◌*◌, ◌-◌, ◌<◌, ◌<ℤ◌, ℤ, List, [], ◌∷◌, sum_by, take, slice_get, IsSomeAnd, Option, MatchOption}
 use Rattle.shogi_core.specs.declared.moves.Move.{Move}
 use Rattle.shogi_core.specs.Codes.{code_of}
 use Rattle.shogi_core.specs.Position.{Shogi}
@@ -8,10 +8,11 @@ use Rattle.shogi_eval.specs.declared.eval.Eval.{Eval}
 use Rattle.shogi_search.specs.declared.frame.Frame.{Frame}
 use Rattle.shogi_search.specs.declared.frame.Waiting.{Waiting}
 use Rattle.shogi_search.specs.declared.frame.Waiting.TheVariants.{Next, Asked, Leaf, Cut}
+use Rattle.shogi_search.specs.declared.memo.Entry.{Entry}
 use Rattle.shogi_search.specs.declared.stack.Stack.{Stack}
-use Rattle.shogi_search.specs.Minimax.{negated, sum_of_tree_sizes, tree_size}
+use Rattle.shogi_search.specs.Frames.{position_after, threshold_of}
+use Rattle.shogi_search.specs.Minimax.{negated, sum_of_tree_sizes, tree_size, IsTrueEntry}
 use Rattle.shogi_search.specs.Order.{todo}
-use Rattle.shogi_search.specs.Window.{threshold, code_at}
 use Rattle.shogi_search.specs.declared.bounds.TheConstants.{SEARCH_DEPTH_MAX, INFINITY}
 
 -- a frame stands for a position under an evaluation at a depth, under a window
@@ -36,7 +37,12 @@ WhereAsked (Cut v) fact = ⊥
 -- each frame is the child that the one below it has asked for
 abbrev pub IsChain : Shogi → Eval → ℕ → ℤ → ℤ → List Frame → Frame → Type 0
 IsChain p e d alpha beta [] top = IsAt p e d alpha beta top
-IsChain p e d alpha beta (f ∷ fs) top = IsAt p e d alpha beta f × ((0 < d) × WhereAsked f.waiting (λ m. IsChain (after_code p (code_of m)) e (d - 1) (negated beta) (negated (threshold f.best_value (code_at f.best_move) (code_of m))) fs top))
+IsChain p e d alpha beta (f ∷ fs) top =
+    IsAt p e d alpha beta f
+    × ((0 < d)
+    × WhereAsked f.waiting (λ m.
+    IsChain (after_code p (code_of m)) e (d - 1) (negated beta) (negated (threshold_of f m))
+    fs top))
 
 -- the nodes that wait for a child, from the root on
 abbrev pub parents_of : Stack → List Frame
@@ -46,9 +52,17 @@ parents_of s = take s.height s.frames
 abbrev pub frames_of : Stack → List Frame
 frames_of s = take (s.height + 1) s.frames
 
+-- what holds of the frame at a place
+abbrev pub AtPlace : List Frame → ℕ → (Frame → Type 0) → Type 0
+AtPlace frames place fact = IsSomeAnd (slice_get frames place) fact
+
 -- what holds of the node on top
 abbrev pub OnTop : Stack → (Frame → Type 0) → Type 0
-OnTop s fact = IsSomeAnd (slice_get s.frames s.height) fact
+OnTop s fact = AtPlace s.frames s.height fact
+
+-- what an entry says of the root holds
+abbrev pub IsTrueOfRoot : Stack → Entry → Type 0
+IsTrueOfRoot s entry = IsTrueEntry s.root s.eval s.depth entry
 
 -- a chain from the root, under the window that ends at its bound
 pub record IsStack (s : Stack) : Type 0 where
@@ -65,15 +79,42 @@ left_of_waiting (Cut v) = 0
 
 -- what is left of a frame: itself, a leaf, and twice the nodes after the moves neither entered nor answered
 abbrev pub left_of_frame : Frame → ℕ
-left_of_frame frame = 1 + left_of_waiting frame.waiting + 2 * sum_of_tree_sizes frame.node.position (frame.depth - 1) (todo frame.node.position frame.picker)
+left_of_frame f =
+    1 + left_of_waiting f.waiting
+    + 2 * sum_of_tree_sizes f.node.position (f.depth - 1) (todo f.node.position f.picker)
+
+-- the most steps for the tree after a move of the node: two for each of its nodes
+abbrev pub steps_after : Frame → Move → ℕ
+steps_after f m = 2 * tree_size (position_after f m) (f.depth - 1)
+
+-- the steps for the tree after the move that is asked for are taken off what was left of the frame; where there is no move, no more is left than was
+abbrev pub HandsOver : Option Move → Frame → Frame → Type 0
+HandsOver asked old new =
+    MatchOption asked (left_of_frame new ≤ left_of_frame old)
+    (λ m. steps_after new m + left_of_frame new ≤ left_of_frame old)
+
+-- what is left of a frame, and the steps for a leaf after a move of it
+abbrev pub left_with_leaf : Frame → Move → ℕ
+left_with_leaf f m = left_of_frame f + 2 * tree_size (position_after f m) 0
 
 -- what is left of the whole stack
 abbrev pub left_of_stack : Stack → ℕ
 left_of_stack s = sum_by left_of_frame (frames_of s)
 
+-- less is left than was left of the stack and is handed over for a move of the node on top
+abbrev pub LeavesLess : Stack → Stack → Move → Type 0
+LeavesLess old new m =
+    OnTop old (λ top. left_of_stack new < left_of_stack old + steps_after top m)
+
 -- one frame is made for the child after a move of another, and none of its moves is gone through
 pub record IsNext (f q : Frame) (m : Move) : Type 0 where
-  pub at_child : IsAt (after_code f.node.position (code_of m)) f.node.eval (f.depth - 1) (negated f.beta) (negated (threshold f.best_value (code_at f.best_move) (code_of m))) q
+  pub at_child :
+      IsAt (position_after f m) f.node.eval (f.depth - 1) (negated f.beta)
+      (negated (threshold_of f m)) q
   pub next : q.waiting ≡ Next
   pub opens : q.alpha <ℤ q.beta
-  pub counted : left_of_frame q < 2 * tree_size (after_code f.node.position (code_of m)) (f.depth - 1)
+  pub counted : left_of_frame q < steps_after f m
+
+-- the frame on top of the new stack is made for the child after a move of the one on top of the old stack
+abbrev pub MakesChild : Stack → Stack → Move → Type 0
+MakesChild old new m = OnTop old (λ parent. OnTop new (λ child. IsNext parent child m))

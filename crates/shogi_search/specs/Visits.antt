@@ -40,14 +40,20 @@ IsOver (Cut v) codes = Unit {0}
 
 -- what is known of a node with these moves to visit: the worth of all others but the current one; the value of the leaf after that; or that the node is worth enough
 abbrev pub IsKnownWhile : Shogi → Eval → ℕ → ℤ → ℤ → ℤ → Option ℕ → List ℕ → Waiting → Type 0
-IsKnownWhile p e d alpha beta best_value best_move codes Next = IsCovered (worth p e (d - 1)) (moves_at p d) codes alpha best_value best_move
-IsKnownWhile p e d alpha beta best_value best_move codes (Asked m) = IsCovered (worth p e (d - 1)) (moves_at p d) (code_of m ∷ codes) alpha best_value best_move
+IsKnownWhile p e d alpha beta best_value best_move codes Next =
+    IsCovered (worth p e (d - 1)) (moves_at p d) codes alpha best_value best_move
+IsKnownWhile p e d alpha beta best_value best_move codes (Asked m) =
+    IsCovered (worth p e (d - 1)) (moves_at p d) (code_of m ∷ codes) alpha best_value best_move
 IsKnownWhile p e d alpha beta best_value best_move codes (Leaf m v) =
-    IsCovered (worth p e (d - 1)) (moves_at p d) (code_of m ∷ codes) alpha best_value best_move × ((d ≡ 1) × (value (after_code p (code_of m)) e 0 ≡ v))
+    IsCovered (worth p e (d - 1)) (moves_at p d) (code_of m ∷ codes) alpha best_value best_move
+    × ((d ≡ 1) × (value (after_code p (code_of m)) e 0 ≡ v))
 IsKnownWhile p e d alpha beta best_value best_move codes (Cut v) = (v ≤ℤ value p e d) × (beta ≤ℤ v)
 
 -- it has one proof at most, so it may be a ghost field
-pub IsKnownWhile-prop : (p : Shogi) (e : Eval) (d : ℕ) (alpha beta best_value : ℤ) (best_move : Option ℕ) (codes : List ℕ) (waiting : Waiting) → IsProp (IsKnownWhile p e d alpha beta best_value best_move codes waiting)
+pub IsKnownWhile-prop :
+    (p : Shogi) (e : Eval) (d : ℕ) (alpha beta best_value : ℤ) (best_move : Option ℕ)
+    (codes : List ℕ) (waiting : Waiting)
+    → IsProp (IsKnownWhile p e d alpha beta best_value best_move codes waiting)
 IsKnownWhile-prop p e d alpha beta best_value best_move codes Next = Prim.hlevel props
 IsKnownWhile-prop p e d alpha beta best_value best_move codes (Asked m) = Prim.hlevel props
 IsKnownWhile-prop p e d alpha beta best_value best_move codes (Leaf m v) = Prim.hlevel props

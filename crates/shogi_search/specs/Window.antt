@@ -15,7 +15,12 @@ threshold best_value None n = best_value
 threshold best_value (Some b) n = if nat_lt n b then best_value -ℤ pos 1 else best_value
 
 -- each move of all that is not in todo is worth at most its threshold; a best move is worth the best so far
-pub record IsCovered (worth_of : ℕ → ℤ) (all todo : List ℕ) (alpha best_value : ℤ) (best_move : Option ℕ) : Type 0 where
+pub record IsCovered (worth_of : ℕ → ℤ) (all todo : List ℕ) (alpha best_value : ℤ)
+    (best_move : Option ℕ) : Type 0 where
   pub among : (n : ℕ) → is_in n todo ≡ true → is_in n all ≡ true
-  pub below : (n : ℕ) → is_in n all ≡ true → is_in n todo ≡ false → worth_of n ≤ℤ threshold best_value best_move n
-  pub reached : MatchOption best_move (best_value ≡ alpha) (λ b. (is_in b all ≡ true) × (worth_of b ≡ best_value))
+  pub below :
+      (n : ℕ) → is_in n all ≡ true → is_in n todo ≡ false
+      → worth_of n ≤ℤ threshold best_value best_move n
+  pub reached :
+      MatchOption best_move (best_value ≡ alpha)
+      (λ b. (is_in b all ≡ true) × (worth_of b ≡ best_value))

@@ -1,28 +1,21 @@
 //! A node of the tree while the search goes through its moves.
 
-ghost use Rattle.std.specs.Prelude.{◌≡◌, ◌≤◌, ◌<◌, ◌-◌, ◌+◌, ◌*◌, ◌≤ℤ◌, ◌<ℤ◌, ℕ, pos, [], ◌∷◌, Some, None, true, false, IsTrue, IfSome, ◌↔◌, ◌≢◌, MatchOption, IfNone};
+ghost use Rattle.std.specs.Prelude.{◌≡◌, ◌≤◌, ◌<◌, ◌-◌, ◌+◌, ◌*◌, ◌≤ℤ◌, ◌<ℤ◌, pos, [], Some, None, true, false, IsTrue, IfSome, ◌↔◌, ◌≢◌, IfNone};
 ghost use Rattle.std.specs.Option.{ForSome};
 ghost use Rattle.std.proofs.Props.{props};
-ghost use Rattle.shogi_core.specs.Codes.{code_of};
-ghost use Rattle.shogi_core.specs.Movement.{piece_at};
-ghost use Rattle.shogi_core.specs.Pieces.{opponent_of};
-ghost use Rattle.shogi_core.specs.Position.{count_in_hand};
 ghost use Rattle.shogi_core.specs.Validity.{IsValid};
-ghost use Rattle.shogi_moves.specs.After.{after, after_code};
 ghost use Rattle.shogi_moves.specs.Escapes.{AreEscapes};
 ghost use Rattle.shogi_moves.specs.LegalMoves.{legal_codes};
 ghost use Rattle.shogi_moves.specs.Replies.{IsReplies};
-ghost use Rattle.shogi_moves.specs.Rising.{is_in};
-ghost use Rattle.shogi_moves.specs.Threats.{MayTake};
 ghost use Rattle.shogi_eval.specs.Material.{drop_gain};
 ghost use Rattle.shogi_eval.specs.declared.points.TheConstants.{POINTS_MAX};
-ghost use Rattle.shogi_search.specs.Minimax.{value, tree_size, worth, negated, sum_of_tree_sizes, IsTrueEntry};
+ghost use Rattle.shogi_search.specs.Minimax.{value, negated};
 ghost use Rattle.shogi_search.specs.Entries.{IsCutoff};
-ghost use Rattle.shogi_search.specs.Losses.{LosesAtMost};
+ghost use Rattle.shogi_search.specs.Losses.{LosesAtMost, KindLosesAtMost};
 ghost use Rattle.shogi_search.specs.Threats.{IsThreatIn};
-ghost use Rattle.shogi_search.specs.Order.{todo, IsKept, IsKept-prop};
-ghost use Rattle.shogi_search.specs.Visits.{IsKnownWhile, IsKnownWhile-prop, IsCurrent, IsFree, IsOver};
-ghost use Rattle.shogi_search.specs.Window.{threshold, code_at};
+ghost use Rattle.shogi_search.specs.Order.{todo, BeginsWith, IsListed, IsWithinTree, IsKept, IsKept-prop};
+ghost use Rattle.shogi_search.specs.Visits.{IsKnownWhile, IsKnownWhile-prop, IsCurrent, IsFree};
+ghost use Rattle.shogi_search.specs.Window.{code_at};
 ghost use Rattle.shogi_search.specs.declared.bounds.TheConstants.{SEARCH_DEPTH_MAX, INFINITY, MATE};
 
 use crate::bounds::MATE;
@@ -76,7 +69,10 @@ pub struct Frame {
     ghost least: { negated INFINITY ≤ℤ alpha },
     ghost open: { best_value <ℤ beta },
     ghost most: { beta ≤ℤ INFINITY },
-    ghost known: { IsKnownWhile node.position node.eval depth alpha beta best_value (code_at best_move) (todo node.position picker) waiting } by { IsKnownWhile-prop node.position node.eval depth alpha beta best_value (code_at best_move) (todo node.position picker) waiting },
+    ghost known: { IsKnownWhile node.position node.eval depth alpha beta best_value
+        (code_at best_move) (todo node.position picker) waiting } by { IsKnownWhile-prop
+            node.position node.eval depth alpha beta best_value (code_at best_move)
+            (todo node.position picker) waiting },
     ghost moves: { has_move ≡ true → legal_codes node.position ≢ [] } by { Prim.hlevel props },
     ghost kept: { IsKept node.position picker } by { IsKept-prop node.position picker },
     ghost replied: { IsReplies node.position replies.sight replies.spare } by { Prim.hlevel props },
@@ -112,12 +108,13 @@ fn replies_of(node: &Node, ahead: bool) -> Replies
     }
 }
 
-/// The greater of the loss and what a drop of the kind loses under `Hand`, where the side holds one.
+/// The greater of the loss and what a drop of the kind loses under `Hand`, where the side holds
+/// one.
 #[inline(always)]
 fn with_loss_of_kind(p: &Position, side: Color, kind: Kind, loss: u32) -> u32
     requires most { loss ≤ 100 }
     ensures kept { loss ≤ result }
-    ensures loss { 0 < count_in_hand p.now.hands side kind → negated (pos result) ≤ℤ drop_gain Eval.Hand kind }
+    ensures loss { KindLosesAtMost p.now.hands side Eval.Hand (pos result) kind }
     ensures most { result ≤ 100 }
 {
     if p.hand(side, kind) == 0 {
@@ -127,7 +124,8 @@ fn with_loss_of_kind(p: &Position, side: Color, kind: Kind, loss: u32) -> u32
     if other > loss { other } else { loss }
 }
 
-/// The most that a drop of the side loses under `Hand`: what one of the dearest kind that it holds loses.
+/// The most that a drop of the side loses under `Hand`: what one of the dearest kind that it holds
+/// loses.
 fn loss_of_hand(p: &Position, side: Color) -> u32
     ensures loss { LosesAtMost p.now.hands side Eval.Hand (pos result) }
     ensures most { result ≤ 100 }
@@ -155,7 +153,8 @@ fn loss_of_drops(p: &Position, side: Color, e: Eval) -> i32
 }
 
 impl Frame {
-    ghost use Rattle.shogi_search.specs.Stack.{IsSame, left_of_waiting, left_of_frame};
+    ghost use Rattle.shogi_search.specs.Frames.{position_after, worth_of, threshold_of, leaf_value, IsTrueOf, IsTrueAfter, IsCutoffAfter, IsToBeLeft, KeepsBest, WaitsFor, HasReply, StandsAfter, RepliesLoseAtMost};
+    ghost use Rattle.shogi_search.specs.Stack.{IsSame, HandsOver, left_of_waiting, left_of_frame};
 
     /// The frame becomes that of a node that is entered, with the hash move to visit first; `ahead`
     /// asks for what tells of leaves without making them.
@@ -172,15 +171,15 @@ impl Frame {
         requires least { negated INFINITY ≤ℤ alpha }
         requires open { alpha <ℤ beta }
         requires most { beta ≤ℤ INFINITY }
-        requires hash_move { ForSome hash_move (λ f. is_in (code_of f) (legal_codes node.now.position) ≡ true) }
+        requires hash_move { ForSome hash_move (IsListed node.now.position) }
         ensures node { self.new.node ≡ node.now }
         ensures depth { self.new.depth ≡ depth }
         ensures alpha { self.new.alpha ≡ alpha }
         ensures beta { self.new.beta ≡ beta }
-        ensures counted { 1 + 2 * sum_of_tree_sizes node.now.position (depth - 1) (todo node.now.position self.new.picker) < 2 * tree_size node.now.position depth }
+        ensures counted { IsWithinTree node.now.position depth self.new.picker }
         ensures waiting { self.new.waiting ≡ Waiting.Next }
         ensures leaf { depth ≡ 0 → self.new.picker ≡ MovePicker.Done }
-        ensures hash_move { 0 < depth → MatchOption hash_move (self.new.picker ≡ MovePicker.Start None) (λ f. self.new.picker ≡ MovePicker.HashMove f) }
+        ensures hash_move { 0 < depth → BeginsWith hash_move self.new.picker }
     {
         node.as_position().validity();
         self.node = *node;
@@ -200,18 +199,18 @@ impl Frame {
         self.has_threat = false;
     }
 
-    /// The frame becomes that of the child after the current move of another one, under the window that
-    /// this one leaves it and with all of the child's moves to visit; nothing tells of leaves without
-    /// making them.
+    /// The frame becomes that of the child after the current move of another one, under the window
+    /// that this one leaves it and with all of the child's moves to visit; nothing tells of leaves
+    /// without making them.
     pub fn follow(&mut self, parent: &Frame, current: &Move)
         requires current { IsCurrent parent.now.waiting current.now }
-        ensures position { self.new.node.position ≡ after_code parent.now.node.position (code_of current.now) }
+        ensures position { self.new.node.position ≡ position_after parent.now current.now }
         ensures eval { self.new.node.eval ≡ parent.now.node.eval }
         ensures depth { self.new.depth ≡ parent.now.depth - 1 }
         ensures alpha { self.new.alpha ≡ negated parent.now.beta }
-        ensures beta { self.new.beta ≡ negated (threshold parent.now.best_value (code_at parent.now.best_move) (code_of current.now)) }
+        ensures beta { self.new.beta ≡ negated (threshold_of parent.now current.now) }
         ensures open { self.new.alpha <ℤ self.new.beta }
-        ensures counted { 1 + 2 * sum_of_tree_sizes self.new.node.position (self.new.depth - 1) (todo self.new.node.position self.new.picker) < 2 * tree_size self.new.node.position self.new.depth }
+        ensures counted { IsWithinTree self.new.node.position self.new.depth self.new.picker }
         ensures waiting { self.new.waiting ≡ Waiting.Next }
     {
         let (alpha, beta) = parent.window(current);
@@ -239,11 +238,11 @@ impl Frame {
     /// without making them.
     pub fn begin(&mut self, hash_move: Option<Move>, ahead: bool)
         requires open { self.old.alpha <ℤ self.old.beta }
-        requires hash_move { ForSome hash_move (λ f. is_in (code_of f) (legal_codes self.old.node.position) ≡ true) }
+        requires hash_move { ForSome hash_move (IsListed self.old.node.position) }
         ensures same { IsSame self.old self.new }
-        ensures counted { 1 + 2 * sum_of_tree_sizes self.new.node.position (self.new.depth - 1) (todo self.new.node.position self.new.picker) < 2 * tree_size self.new.node.position self.new.depth }
+        ensures counted { IsWithinTree self.new.node.position self.new.depth self.new.picker }
         ensures waiting { self.new.waiting ≡ Waiting.Next }
-        ensures hash_move { 0 < self.new.depth → MatchOption hash_move (self.new.picker ≡ MovePicker.Start None) (λ f. self.new.picker ≡ MovePicker.HashMove f) }
+        ensures hash_move { 0 < self.new.depth → BeginsWith hash_move self.new.picker }
     {
         self.best_value = self.alpha;
         self.best_move = None;
@@ -267,8 +266,8 @@ impl Frame {
 
     /// What is known of the node once it is cut off or all its moves are gone through.
     pub fn close(&self) -> Entry
-        requires over { IsOver self.now.waiting (todo self.now.node.position self.now.picker) }
-        ensures truth { IsTrueEntry self.now.node.position self.now.node.eval self.now.depth result }
+        requires over { IsToBeLeft self.now }
+        ensures truth { IsTrueOf self.now result }
         ensures cutoff { IsCutoff self.now.alpha self.now.beta result }
     {
         if let Waiting::Cut(v) = self.waiting {
@@ -298,8 +297,8 @@ impl Frame {
     fn ask_next(&mut self) -> Option<Move>
         requires next { self.old.waiting ≡ Waiting.Next }
         ensures over { IfNone result (todo self.new.node.position self.new.picker ≡ []) }
-        ensures waiting { MatchOption result (self.new.waiting ≡ Waiting.Next) (λ m. self.new.waiting ≡ Waiting.Asked m) }
-        ensures left { MatchOption result (left_of_frame self.new ≤ left_of_frame self.old) (λ m. 2 * tree_size (after_code self.new.node.position (code_of m)) (self.new.depth - 1) + left_of_frame self.new ≤ left_of_frame self.old) }
+        ensures waiting { WaitsFor result self.new.waiting }
+        ensures left { HandsOver result self.old self.new }
         ensures same { IsSame self.old self.new }
     {
         match self.picker.next(self.node.as_position()) {
@@ -318,8 +317,8 @@ impl Frame {
         requires deep { 0 < self.old.depth }
         requires near { self.old.depth ≤ 2 }
         ensures over { IfNone result (todo self.new.node.position self.new.picker ≡ []) }
-        ensures waiting { MatchOption result (self.new.waiting ≡ Waiting.Next) (λ m. self.new.waiting ≡ Waiting.Asked m) }
-        ensures left { MatchOption result (left_of_frame self.new ≤ left_of_frame self.old) (λ m. 2 * tree_size (after_code self.new.node.position (code_of m)) (self.new.depth - 1) + left_of_frame self.new ≤ left_of_frame self.old) }
+        ensures waiting { WaitsFor result self.new.waiting }
+        ensures left { HandsOver result self.old self.new }
         ensures same { IsSame self.old self.new }
     {
         self.pass_rows();
@@ -332,14 +331,14 @@ impl Frame {
         None
     }
 
-    /// Asks for the answer of the next move, where there is one. At depth 2, and at depth 1 where leaves
-    /// are told without making them, the moves that surely are not worth enough are passed.
+    /// Asks for the answer of the next move, where there is one. At depth 2, and at depth 1 where
+    /// leaves are told without making them, the moves that surely are not worth enough are passed.
     #[inline(always)]
     pub fn ask(&mut self) -> Option<Move>
         requires next { self.old.waiting ≡ Waiting.Next }
         ensures over { IfNone result (todo self.new.node.position self.new.picker ≡ []) }
-        ensures waiting { MatchOption result (self.new.waiting ≡ Waiting.Next) (λ m. self.new.waiting ≡ Waiting.Asked m) }
-        ensures left { MatchOption result (left_of_frame self.new ≤ left_of_frame self.old) (λ m. 2 * tree_size (after_code self.new.node.position (code_of m)) (self.new.depth - 1) + left_of_frame self.new ≤ left_of_frame self.old) }
+        ensures waiting { WaitsFor result self.new.waiting }
+        ensures left { HandsOver result self.old self.new }
         ensures same { IsSame self.old self.new }
     {
         if self.depth == 2 || self.depth == 1 && self.has_replies {
@@ -351,7 +350,7 @@ impl Frame {
     /// What the current move has to be worth more than.
     pub fn threshold(&self, current: &Move) -> i32
         requires current { IsCurrent self.now.waiting current.now }
-        ensures threshold { result ≡ threshold self.now.best_value (code_at self.now.best_move) (code_of current.now) }
+        ensures threshold { result ≡ threshold_of self.now current.now }
         ensures least { negated INFINITY ≤ℤ result }
         ensures open { result <ℤ self.now.beta }
     {
@@ -362,7 +361,7 @@ impl Frame {
     pub fn window(&self, current: &Move) -> (i32, i32)
         requires current { IsCurrent self.now.waiting current.now }
         ensures alpha { result.0 ≡ negated self.now.beta }
-        ensures beta { result.1 ≡ negated (threshold self.now.best_value (code_at self.now.best_move) (code_of current.now)) }
+        ensures beta { result.1 ≡ negated (threshold_of self.now current.now) }
         ensures least { negated INFINITY ≤ℤ result.0 }
         ensures open { result.0 <ℤ result.1 }
         ensures most { result.1 ≤ℤ INFINITY }
@@ -374,8 +373,8 @@ impl Frame {
     /// Whether this worth makes the current move the best one.
     fn passes(&self, current: &Move, worth: i32) -> bool
         requires current { IsCurrent self.now.waiting current.now }
-        ensures above { result ≡ true → threshold self.now.best_value (code_at self.now.best_move) (code_of current.now) <ℤ worth }
-        ensures below { result ≡ false → worth ≤ℤ threshold self.now.best_value (code_at self.now.best_move) (code_of current.now) }
+        ensures above { result ≡ true → threshold_of self.now current.now <ℤ worth }
+        ensures below { result ≡ false → worth ≤ℤ threshold_of self.now current.now }
     {
         worth > self.threshold(current)
     }
@@ -384,8 +383,8 @@ impl Frame {
     #[inline(always)]
     pub fn take(&mut self, current: &Move, entry: &Entry)
         requires current { IsCurrent self.old.waiting current.now }
-        requires truth { IsTrueEntry (after_code self.old.node.position (code_of current.now)) self.old.node.eval (self.old.depth - 1) entry.now }
-        requires cutoff { IsCutoff (negated self.old.beta) (negated (threshold self.old.best_value (code_at self.old.best_move) (code_of current.now))) entry.now }
+        requires truth { IsTrueAfter self.old current.now entry.now }
+        requires cutoff { IsCutoffAfter self.old current.now entry.now }
         ensures free { IsFree self.new.waiting }
         ensures taken { left_of_waiting self.new.waiting ≡ 0 }
         ensures picker { self.new.picker ≡ self.old.picker }
@@ -410,7 +409,7 @@ impl Frame {
     /// The current move, which only the clauses need, is worth this much or more, which is enough.
     fn cut_with(&mut self, current: &Move, value: i32)
         requires current { IsCurrent self.old.waiting current.now }
-        requires worth { value ≤ℤ worth self.old.node.position self.old.node.eval (self.old.depth - 1) (code_of current.now) }
+        requires worth { value ≤ℤ worth_of self.old current.now }
         requires beta { self.old.beta ≤ℤ value }
         ensures free { IsFree self.new.waiting }
         ensures taken { left_of_waiting self.new.waiting ≡ 0 }
@@ -424,7 +423,7 @@ impl Frame {
     /// Passes the current move, which is not worth enough; only the clauses need to know it.
     fn skip(&mut self, current: &Move)
         requires current { IsCurrent self.old.waiting current.now }
-        requires below { worth self.old.node.position self.old.node.eval (self.old.depth - 1) (code_of current.now) ≤ℤ threshold self.old.best_value (code_at self.old.best_move) (code_of current.now) }
+        requires below { worth_of self.old current.now ≤ℤ threshold_of self.old current.now }
         ensures free { IsFree self.new.waiting }
         ensures next { self.new.waiting ≡ Waiting.Next }
         ensures taken { left_of_waiting self.new.waiting ≡ 0 }
@@ -439,7 +438,7 @@ impl Frame {
     /// Notes what tells of the other side's moves after the node's, where it is not noted yet.
     fn look_ahead(&mut self)
         ensures waiting { self.new.waiting ≡ self.old.waiting }
-        ensures best { (self.new.best_value ≡ self.old.best_value) × (self.new.best_move ≡ self.old.best_move) }
+        ensures best { KeepsBest self.old self.new }
         ensures picker { self.new.picker ≡ self.old.picker }
         ensures same { IsSame self.old self.new }
     {
@@ -453,7 +452,7 @@ impl Frame {
     fn look_for_escapes(&mut self) -> u128
         ensures escapes { AreEscapes self.old.node.position result }
         ensures waiting { self.new.waiting ≡ self.old.waiting }
-        ensures best { (self.new.best_value ≡ self.old.best_value) × (self.new.best_move ≡ self.old.best_move) }
+        ensures best { KeepsBest self.old self.new }
         ensures picker { self.new.picker ≡ self.old.picker }
         ensures same { IsSame self.old self.new }
     {
@@ -465,7 +464,8 @@ impl Frame {
         squares
     }
 
-    /// The squares to which the other side's king may go, where they were looked for, and else none.
+    /// The squares to which the other side's king may go, where they were looked for, and else
+    /// none.
     #[inline(always)]
     fn known_escapes(&self) -> u128
         ensures { AreEscapes self.now.node.position result }
@@ -476,13 +476,13 @@ impl Frame {
         }
     }
 
-    /// Whether it is certain without making the current move that the other side has a legal move after it: one
-    /// that it has where no check is given, or a step of its king out of that check.
+    /// Whether it is certain without making the current move that the other side has a legal move
+    /// after it: one that it has where no check is given, or a step of its king out of that check.
     fn is_answered(&mut self, current: &Move) -> bool
         requires current { IsCurrent self.old.waiting current.now }
-        ensures some { result ≡ true → legal_codes (after self.new.node.position current.now) ≢ [] }
+        ensures some { result ≡ true → HasReply self.new current.now }
         ensures waiting { self.new.waiting ≡ self.old.waiting }
-        ensures best { (self.new.best_value ≡ self.old.best_value) × (self.new.best_move ≡ self.old.best_move) }
+        ensures best { KeepsBest self.old self.new }
         ensures picker { self.new.picker ≡ self.old.picker }
         ensures same { IsSame self.old self.new }
     {
@@ -495,11 +495,11 @@ impl Frame {
         leaves_escape(self.node.as_position(), escapes, current)
     }
 
-    /// The most that a reply takes from the material of its side: nothing where leaves follow the moves, and
-    /// else what a drop of the other side may lose.
+    /// The most that a reply takes from the material of its side: nothing where leaves follow the
+    /// moves, and else what a drop of the other side may lose.
     #[inline(always)]
     fn loss_after(&self) -> i32
-        ensures loss { self.now.depth ≡ 2 → LosesAtMost self.now.node.position.hands (opponent_of self.now.node.position.side) self.now.node.eval result }
+        ensures loss { self.now.depth ≡ 2 → RepliesLoseAtMost self.now result }
         ensures least { pos 0 ≤ℤ result }
         ensures most { result ≤ℤ pos 100 }
     {
@@ -510,24 +510,25 @@ impl Frame {
         loss_of_drops(p, p.side().opponent(), self.node.eval())
     }
 
-    /// What the current move of a node of depth 1 or 2 is worth at most, where the other side has a legal
-    /// move after it: that move, whichever it is, leaves it its material, or what a drop of it loses less.
+    /// What the current move of a node of depth 1 or 2 is worth at most, where the other side has a
+    /// legal move after it: that move, whichever it is, leaves it its material, or what a drop of
+    /// it loses less.
     #[inline(always)]
     fn most_after(&self, current: &Move) -> i32
         requires current { IsCurrent self.now.waiting current.now }
         requires deep { 0 < self.now.depth }
         requires near { self.now.depth ≤ 2 }
-        ensures most { legal_codes (after self.now.node.position current.now) ≢ [] → worth self.now.node.position self.now.node.eval (self.now.depth - 1) (code_of current.now) ≤ℤ result }
+        ensures most { HasReply self.now current.now → worth_of self.now current.now ≤ℤ result }
     {
         current.validity();
         self.loss_after() - self.node.score_after(current)
     }
 
-    /// Looks for a threat of the other side, once a move was gone through and not good enough or where the
-    /// material alone is not enough; before that none may be wanted.
+    /// Looks for a threat of the other side, once a move was gone through and not good enough or
+    /// where the material alone is not enough; before that none may be wanted.
     fn look_for_threat(&mut self)
         ensures waiting { self.new.waiting ≡ self.old.waiting }
-        ensures best { (self.new.best_value ≡ self.old.best_value) × (self.new.best_move ≡ self.old.best_move) }
+        ensures best { KeepsBest self.old self.new }
         ensures picker { self.new.picker ≡ self.old.picker }
         ensures same { IsSame self.old self.new }
     {
@@ -537,21 +538,22 @@ impl Frame {
         }
     }
 
-    /// What the current move of a node of depth 2 is worth at most, where the other side may carry out
-    /// the threat after it.
+    /// What the current move of a node of depth 2 is worth at most, where the other side may carry
+    /// out the threat after it.
     #[inline(always)]
     fn most_under_threat(&self, current: &Move, threat: &Threat) -> i32
         requires current { IsCurrent self.now.waiting current.now }
         requires last { self.now.depth ≡ 2 }
         requires threat { IsThreatIn self.now.node.position self.now.node.eval threat.now }
-        ensures most { MayTake (after self.now.node.position current.now) threat.now.from threat.now.target (piece_at self.now.node.position.cells threat.now.target) → worth self.now.node.position self.now.node.eval (self.now.depth - 1) (code_of current.now) ≤ℤ result }
+        ensures most { StandsAfter self.now threat.now current.now →
+            worth_of self.now current.now ≤ℤ result }
     {
         current.validity();
         0 - self.node.score_after(current) - threat.gain as i32
     }
 
-    /// Passes the current move of a node of depth 2, where it is certain without making it that it is not
-    /// worth enough since a threat stands after it, and tells whether it did.
+    /// Passes the current move of a node of depth 2, where it is certain without making it that it
+    /// is not worth enough since a threat stands after it, and tells whether it did.
     fn pass_under_threat(&mut self, current: &Move) -> bool
         requires asked { self.old.waiting ≡ Waiting.Asked current.now }
         requires last { self.old.depth ≡ 2 }
@@ -580,8 +582,8 @@ impl Frame {
         true
     }
 
-    /// Passes the current move of a node of depth 1 or 2, where it is certain without making it that it is
-    /// not worth enough, and returns whether it did.
+    /// Passes the current move of a node of depth 1 or 2, where it is certain without making it
+    /// that it is not worth enough, and returns whether it did.
     #[inline(always)]
     fn pass(&mut self, current: &Move) -> bool
         requires asked { self.old.waiting ≡ Waiting.Asked current.now }
@@ -607,9 +609,9 @@ impl Frame {
         true
     }
 
-    /// Passes the next moves of a node of depth 1 or 2 that take nothing and do not promote, while it is
-    /// certain without making them that the other side has a legal move, where no such move is worth
-    /// enough.
+    /// Passes the next moves of a node of depth 1 or 2 that take nothing and do not promote, while
+    /// it is certain without making them that the other side has a legal move, where no such move
+    /// is worth enough.
     fn pass_quiets(&mut self)
         requires next { self.old.waiting ≡ Waiting.Next }
         requires deep { 0 < self.old.depth }
@@ -651,8 +653,8 @@ impl Frame {
             .pass_drops(self.node.as_position(), &self.replies, escapes);
     }
 
-    /// Passes the next moves of a node of depth 1 or 2 as these two do, once a move was gone through and not
-    /// good enough.
+    /// Passes the next moves of a node of depth 1 or 2 as these two do, once a move was gone
+    /// through and not good enough.
     #[inline(always)]
     fn pass_rows(&mut self)
         requires next { self.old.waiting ≡ Waiting.Next }
@@ -671,8 +673,8 @@ impl Frame {
     /// Passes the current move, which is the best so far.
     fn raise(&mut self, current: &Move, value: i32)
         requires current { IsCurrent self.old.waiting current.now }
-        requires is { worth self.old.node.position self.old.node.eval (self.old.depth - 1) (code_of current.now) ≡ value }
-        requires above { threshold self.old.best_value (code_at self.old.best_move) (code_of current.now) <ℤ value }
+        requires is { worth_of self.old current.now ≡ value }
+        requires above { threshold_of self.old current.now <ℤ value }
         requires open { value <ℤ self.old.beta }
         ensures free { IsFree self.new.waiting }
         ensures taken { left_of_waiting self.new.waiting ≡ 0 }
@@ -684,12 +686,13 @@ impl Frame {
         self.waiting = Waiting::Next;
     }
 
-    /// The value at depth 0 of the position to which the current move leads, where a move is legal there.
+    /// The value at depth 0 of the position to which the current move leads, where a move is legal
+    /// there.
     #[inline(always)]
     fn leaf_after(&self, current: &Move) -> i32
         requires current { IsCurrent self.now.waiting current.now }
-        requires some { legal_codes (after self.now.node.position current.now) ≢ [] }
-        ensures { value (after_code self.now.node.position (code_of current.now)) self.now.node.eval 0 ≡ result }
+        requires some { HasReply self.now current.now }
+        ensures { leaf_value self.now current.now ≡ result }
     {
         current.validity();
         self.node.score_after(current)
@@ -700,9 +703,9 @@ impl Frame {
     #[inline(always)]
     pub fn certain_leaf(&mut self, current: &Move) -> Option<i32>
         requires current { IsCurrent self.old.waiting current.now }
-        ensures value { IfSome result (λ v. value (after_code self.new.node.position (code_of current.now)) self.new.node.eval 0 ≡ v) }
+        ensures value { IfSome result (λ v. leaf_value self.new current.now ≡ v) }
         ensures waiting { self.new.waiting ≡ self.old.waiting }
-        ensures best { (self.new.best_value ≡ self.old.best_value) × (self.new.best_move ≡ self.old.best_move) }
+        ensures best { KeepsBest self.old self.new }
         ensures picker { self.new.picker ≡ self.old.picker }
         ensures same { IsSame self.old self.new }
     {
@@ -723,7 +726,7 @@ impl Frame {
     pub fn hear(&mut self, current: &Move, found: i32)
         requires current { IsCurrent self.old.waiting current.now }
         requires last { self.old.depth ≡ 1 }
-        requires value { value (after_code self.old.node.position (code_of current.now)) self.old.node.eval 0 ≡ found }
+        requires value { leaf_value self.old current.now ≡ found }
         ensures free { IsFree self.new.waiting }
         ensures picker { self.new.picker ≡ self.old.picker }
         ensures same { IsSame self.old self.new }

@@ -3,7 +3,7 @@
 ghost use Rattle.std.specs.Prelude.{◌≡◌, ◌≤◌, ◌*◌, ◌≤ℤ◌, ◌<ℤ◌, true, [], ◌↔◌, ◌⊎◌, IfSome, IsNone};
 ghost use Rattle.shogi_moves.specs.Legal.{is_legal};
 ghost use Rattle.shogi_moves.specs.LegalMoves.{legal_codes};
-ghost use Rattle.shogi_search.specs.Entries.{IsExactly, IsEnough};
+ghost use Rattle.shogi_search.specs.Entries.{IsExactly, IsEnoughBelow};
 ghost use Rattle.shogi_search.specs.Minimax.{value, best, tree_size, lost_value, negated};
 ghost use Rattle.shogi_search.specs.declared.bounds.TheConstants.{SEARCH_DEPTH_MAX, INFINITY};
 ghost use Rattle.shogi_search.specs.Progress.{IsFoundBelow};
@@ -15,9 +15,9 @@ use crate::sliced_search::Search;
 use shogi_core::Position;
 use shogi_eval::Eval;
 
-/// The value of a position under an evaluation at a depth from 0 to 16, and its best move, where the
-/// value is less than `beta`, from -30,999 to 31,000. Otherwise a number from `beta` on that is no more
-/// than the value. A root of which the memo knows enough takes no step.
+/// The value of a position under an evaluation at a depth from 0 to 16, and its best move, where
+/// the value is less than `beta`, from -30,999 to 31,000. Otherwise a number from `beta` on that is
+/// no more than the value. A root of which the memo knows enough takes no step.
 pub fn search_below<M: Memo>(p: &Position, e: Eval, d: u8, beta: i32, memo: &mut M) -> Found
     requires shallow { d ≤ SEARCH_DEPTH_MAX }
     requires open { negated INFINITY <ℤ beta }
@@ -27,7 +27,7 @@ pub fn search_below<M: Memo>(p: &Position, e: Eval, d: u8, beta: i32, memo: &mut
     ensures value { beta ≡ INFINITY → result.value ≡ value p.now e d }
     ensures best { beta ≡ INFINITY → result.best ≡ best p.now e d }
     ensures steps { result.steps ≤ 2 * tree_size p.now d }
-    ensures enough { IsEnough (negated INFINITY) beta (M.answers memo.old p.now e d) → result.steps ≡ 0 }
+    ensures enough { IsEnoughBelow beta (M.answers memo.old p.now e d) → result.steps ≡ 0 }
     ensures known { IsExactly (M.answers memo.old p.now e d) → result.steps ≡ 0 }
     ensures capacity { M.capacity memo.new ≡ M.capacity memo.old }
 {

@@ -1,10 +1,11 @@
 //! Minimax at a fixed depth, over any memo and in slices.
 //!
-//! Alpha-beta is `Stack::step`, over the frames of the nodes on the way down from the root (`frame`); what it
-//! has to find is `value` and `best` of `specs/Minimax`, and what it promises stands at `Search`.
-//! A step enters a node, leaves a node, or has a child answered by the memo: `Search` counts them in slices.
-//! The order is `MovePicker`: the hash move, then captures, then the other moves, each by rising code.
-//! Moves that cannot matter are passed in `frame`, with the window of `window` and a `threat`.
+//! Alpha-beta is `Stack::step`, over the frames of the nodes on the way down from the root
+//! (`frame`); what it has to find is `value` and `best` of `specs/Minimax`, and what it promises
+//! stands at `Search`. A step enters a node, leaves a node, or has a child answered by the memo:
+//! `Search` counts them in slices. The order is `MovePicker`: the hash move, then captures, then
+//! the other moves, each by rising code. Moves that cannot matter are passed in `frame`, with the
+//! window of `window` and a `threat`.
 #![tactic(auto)]
 
 mod bounds;

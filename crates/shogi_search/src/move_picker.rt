@@ -8,7 +8,7 @@ ghost use Rattle.shogi_moves.specs.Escapes.{AreEscapes};
 ghost use Rattle.shogi_moves.specs.Guards.{Guards};
 ghost use Rattle.shogi_moves.specs.Replies.{IsReplies};
 ghost use Rattle.shogi_moves.specs.Sweeps.{IsBoardSweep, IsDropSweep, IsPassed, IsCertainQuiet, IsCertainDrop};
-ghost use Rattle.shogi_search.specs.Order.{is_hash_move, picks_from, todo, todo_after, IsKept, IsAtQuiets, IsAtDrops};
+ghost use Rattle.shogi_search.specs.Order.{is_hash_move, picks_from, todo, todo_after, BeginsWith, IsKept, IsAtQuiets, IsAtDrops};
 
 use shogi_core::{Kind, Move, Position};
 use shogi_moves::{BoardSweep, DropSweep, Guard, Replies, guard_of};
@@ -76,7 +76,7 @@ impl MovePicker {
     /// The moves that a search at a depth goes through, the hash move first.
     pub fn new(depth: u8, hash_move: Option<Move>) -> MovePicker
         ensures leaf { depth ≡ 0 → result ≡ MovePicker.Done }
-        ensures inner { 0 < depth → MatchOption hash_move (result ≡ MovePicker.Start None) (λ f. result ≡ MovePicker.HashMove f) }
+        ensures inner { 0 < depth → BeginsWith hash_move result }
     {
         if depth == 0 {
             return MovePicker::Done;
@@ -159,7 +159,8 @@ impl MovePicker {
         None
     }
 
-    /// The code to go on from where the moves that take nothing are under way, and none of them is left out.
+    /// The code to go on from where the moves that take nothing are under way, and none of them is
+    /// left out.
     pub fn quiets(&self) -> Option<u16>
         ensures { IfSome result (IsAtQuiets self.now) }
     {
@@ -169,21 +170,23 @@ impl MovePicker {
         }
     }
 
-    /// Passes the next moves to visit, as long as they take nothing, do not promote, and the other side
-    /// surely has a legal move after them.
+    /// Passes the next moves to visit, as long as they take nothing, do not promote, and the other
+    /// side surely has a legal move after them.
     pub fn pass_quiets(&mut self, p: &Position, replies: &Replies, escapes: u128)
         requires kept { IsKept p.now self.old }
         requires replies { IsReplies p.now replies.now.sight replies.now.spare }
         requires escapes { AreEscapes p.now escapes }
         ensures kept { IsKept p.now self.new }
-        ensures passed { (code : ℕ) → IsAtQuiets self.old code → IsPassed (IsCertainQuiet p.now code) (todo p.now self.old) (todo p.now self.new) }
+        ensures passed { (code : ℕ) → IsAtQuiets self.old code →
+            IsPassed (IsCertainQuiet p.now code) (todo p.now self.old) (todo p.now self.new) }
     {
         if let MovePicker::Quiets(None, sweep) = self {
             sweep.pass_quiets(p, replies, escapes);
         }
     }
 
-    /// The kind whose drops are under way, where none of them is left out, and the code to go on from.
+    /// The kind whose drops are under way, where none of them is left out, and the code to go on
+    /// from.
     pub fn drops(&self) -> Option<(Kind, u16)>
         ensures { IfSome result (λ drops. IsAtDrops self.now drops.0 drops.1) }
     {
@@ -193,14 +196,15 @@ impl MovePicker {
         }
     }
 
-    /// Passes the next moves to visit, as long as they are drops of the kind that is under way and the
-    /// other side surely has a legal move after them.
+    /// Passes the next moves to visit, as long as they are drops of the kind that is under way and
+    /// the other side surely has a legal move after them.
     pub fn pass_drops(&mut self, p: &Position, replies: &Replies, escapes: u128)
         requires kept { IsKept p.now self.old }
         requires replies { IsReplies p.now replies.now.sight replies.now.spare }
         requires escapes { AreEscapes p.now escapes }
         ensures kept { IsKept p.now self.new }
-        ensures passed { (kind : Kind) → (code : ℕ) → IsAtDrops self.old kind code → IsPassed (IsCertainDrop p.now kind code) (todo p.now self.old) (todo p.now self.new) }
+        ensures passed { (kind : Kind) → (code : ℕ) → IsAtDrops self.old kind code →
+            IsPassed (IsCertainDrop p.now kind code) (todo p.now self.old) (todo p.now self.new) }
     {
         if let MovePicker::Drops(None, sweep) = self {
             sweep.pass_certain(p, replies, escapes);

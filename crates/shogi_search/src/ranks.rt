@@ -3,7 +3,7 @@
 ghost use Rattle.std.specs.Prelude.{◌≡◌, ℕ, ℤ, ◌≤◌, ◌≤ℤ◌, ◌<ℤ◌, List, [], ◌∷◌, ◌++◌, length, take, insert, true, false};
 ghost use Rattle.shogi_core.specs.Codes.{code_of};
 ghost use Rattle.shogi_moves.specs.Rising.{is_in};
-ghost use Rattle.shogi_search.specs.Ranked.{is_better, insert_pair, codes_in, are_ranked, IsTop, value_to_pass, child_beta};
+ghost use Rattle.shogi_search.specs.Ranked.{is_better, insert_pair, IsPlaceOf, codes_in, are_ranked, IsTop, value_to_pass, child_beta};
 ghost use Rattle.shogi_search.specs.Minimax.{negated};
 ghost use Rattle.shogi_search.specs.declared.bounds.TheConstants.{INFINITY};
 ghost use Rattle.shogi_search.specs.declared.ranks.TheConstants.{MULTI_PV_MAX};
@@ -19,8 +19,8 @@ pub const MULTI_PV_MAX: usize = 8;
 /// A pair more than there are lines: a new one is put in before the last one goes.
 const ROOM: usize = 9;
 
-/// The best of the moves that were offered, with their values: at most so many as there are lines, the
-/// greater value first, among equal ones the lesser code.
+/// The best of the moves that were offered, with their values: at most so many as there are lines,
+/// the greater value first, among equal ones the lesser code.
 #[derive(Drop)]
 pub struct Ranks {
     lines: usize,
@@ -36,7 +36,8 @@ impl Model for Ranks {
 
     ghost view = { λ r. record { lines = r.lines; pairs = r.pairs.items } };
 
-    ghost invariant = { λ r. (1 ≤ r.lines) × (r.lines ≤ MULTI_PV_MAX) × (length r.pairs.items ≤ r.lines) × (are_ranked r.pairs.items ≡ true) };
+    ghost invariant = { λ r. (1 ≤ r.lines) × (r.lines ≤ MULTI_PV_MAX)
+        × (length r.pairs.items ≤ r.lines) × (are_ranked r.pairs.items ≡ true) };
 }
 
 /// Whether a move with its value stands before another one.
@@ -62,7 +63,7 @@ impl Ranks {
 
     /// Where a move with its value goes.
     fn place_of(&self, m: &Move, value: i32) -> usize
-        ensures place { insert self.now.pairs result (m.now, value) ≡ insert_pair m.now value self.now.pairs }
+        ensures place { IsPlaceOf m.now value self.now.pairs result }
         ensures bound { result ≤ length self.now.pairs }
     {
         let pairs = self.pairs.as_slice();
@@ -74,13 +75,17 @@ impl Ranks {
         pairs.len()
     }
 
-    /// Puts a move with its value in its place, and drops the last one where there are more than lines.
+    /// Puts a move with its value in its place, and drops the last one where there are more than
+    /// lines.
     pub fn offer(&mut self, m: Move, value: i32)
         requires { is_in (code_of m) (codes_in self.old.pairs) ≡ false }
         ensures lines { self.new.lines ≡ self.old.lines }
         ensures pairs { self.new.pairs ≡ take self.old.lines (insert_pair m value self.old.pairs) }
-        // The first of some codes that are ranked by their worth become the first of these and one more.
-        ensures top { (f : ℕ → ℤ) → (codes : List ℕ) → IsTop f codes self.old → is_in (code_of m) codes ≡ false → value ≡ f (code_of m) → IsTop f (codes ++ code_of m ∷ []) self.new }
+        // The first of some codes that are ranked by their worth become the first of these and one
+        // more.
+        ensures top { (f : ℕ → ℤ) → (codes : List ℕ) → IsTop f codes self.old →
+            is_in (code_of m) codes ≡ false → value ≡ f (code_of m) →
+            IsTop f (codes ++ code_of m ∷ []) self.new }
     {
         let place = self.place_of(&m, value);
         self.pairs.insert(place, (m, value));
@@ -96,8 +101,8 @@ impl Ranks {
         Some(*value)
     }
 
-    /// The bound below which the child of such a move is searched: from there on the move is not listed.
-    /// The end of the whole window where a line is free.
+    /// The bound below which the child of such a move is searched: from there on the move is not
+    /// listed. The end of the whole window where a line is free.
     pub fn child_beta(&self) -> i32
         requires least { negated INFINITY <ℤ child_beta self.now }
         requires most { child_beta self.now ≤ℤ INFINITY }

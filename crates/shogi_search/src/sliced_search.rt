@@ -3,11 +3,10 @@
 ghost use Rattle.std.specs.Prelude.{◌≡◌, ◌≤◌, ◌<◌, ◌+◌, ◌*◌, ◌-◌, ◌^◌, ◌≤ℤ◌, ◌<ℤ◌, true, false, Some, None, IfSome, IfNone, OnSome, IsSome, ◌↔◌, min};
 ghost use Rattle.std.specs.List.{All};
 ghost use Rattle.std.specs.Option.{ForSome};
-ghost use Rattle.shogi_moves.specs.Legal.{is_legal};
-ghost use Rattle.shogi_search.specs.Minimax.{value, best, tree_size, IsTrueEntry, negated};
-ghost use Rattle.shogi_search.specs.Entered.{IsKnownNode, IsPath};
-ghost use Rattle.shogi_search.specs.Entries.{IsExactly, IsEnough, IsCutoff};
-ghost use Rattle.shogi_search.specs.Progress.{untouched, untouched_below, left_of, IsFoundBelow};
+ghost use Rattle.shogi_search.specs.Minimax.{tree_size, IsTrueEntry, negated};
+ghost use Rattle.shogi_search.specs.Entered.{IsKnownNode};
+ghost use Rattle.shogi_search.specs.Entries.{IsCutoff};
+ghost use Rattle.shogi_search.specs.Progress.{untouched, untouched_below, left_of, HasPath, IsAnsweredBy, IsExactlyAnsweredBy, IsFoundBelow, IsFoundBy, FindsValue, FindsBest};
 ghost use Rattle.shogi_search.specs.declared.bounds.TheConstants.{SEARCH_DEPTH_MAX, INFINITY};
 
 use crate::bounds::INFINITY;
@@ -20,8 +19,8 @@ use shogi_eval::{Eval, Node};
 use std::marker::Model;
 
 /// A search of a position under an evaluation at a depth, for its value below a bound. It makes its
-/// steps in slices, and each slice may be given another memo. A step enters a node, leaves a node, or
-/// has a child answered by the memo.
+/// steps in slices, and each slice may be given another memo. A step enters a node, leaves a node,
+/// or has a child answered by the memo.
 #[derive(Drop)]
 pub struct Search {
     stack: Stack,
@@ -76,8 +75,9 @@ impl Search {
         Search::start_below(p, e, d, INFINITY)
     }
 
-    /// The same, which finds the value and the best move only where the value is less than `beta`, from
-    /// -30,999 to 31,000. Otherwise it finds a number from `beta` on that is no more than the value.
+    /// The same, which finds the value and the best move only where the value is less than `beta`,
+    /// from -30,999 to 31,000. Otherwise it finds a number from `beta` on that is no more than the
+    /// value.
     pub fn start_below(p: &Position, e: Eval, d: u8, beta: i32) -> Self
         requires shallow { d ≤ SEARCH_DEPTH_MAX }
         requires open { negated INFINITY <ℤ beta }
@@ -123,11 +123,12 @@ impl Search {
         self.found = None;
     }
 
-    /// Tells what is known of a search that has entered its root and not ended: which nodes it has entered
-    /// and not left, each the child of the one before, and what they are worth so far. Of any search it
-    /// tells that each such node is worth its greatest searched move so far, or enough to be cut off.
+    /// Tells what is known of a search that has entered its root and not ended: which nodes it has
+    /// entered and not left, each the child of the one before, and what they are worth so far. Of
+    /// any search it tells that each such node is worth its greatest searched move so far, or
+    /// enough to be cut off.
     pub fn validity(&self)
-        ensures path { self.now.begun ≡ true → self.now.found ≡ None → IsPath self.now.root self.now.eval self.now.depth (negated INFINITY) self.now.beta self.now.entered }
+        ensures path { self.now.begun ≡ true → self.now.found ≡ None → HasPath self.now }
         ensures known { All IsKnownNode self.now.entered }
     {
         let _ = &self.started;
@@ -168,10 +169,10 @@ impl Search {
     fn go_on<M: Memo>(&mut self, memo: &mut M, budget: u64) -> Option<Found>
         requires begun { self.old.begun ≡ true }
         requires open { self.old.found ≡ None }
-        ensures below { IfSome result (IsFoundBelow self.old.root self.old.eval self.old.depth self.old.beta) }
+        ensures below { IfSome result (IsFoundBy self.old) }
         // Below the end of the whole window lies every value.
-        ensures value { IfSome result (λ f. self.old.beta ≡ INFINITY → f.value ≡ value self.old.root self.old.eval self.old.depth) }
-        ensures best { IfSome result (λ f. self.old.beta ≡ INFINITY → f.best ≡ best self.old.root self.old.eval self.old.depth) }
+        ensures value { IfSome result (FindsValue self.old) }
+        ensures best { IfSome result (FindsBest self.old) }
         ensures counted { IfSome result (λ f. f.steps ≡ self.new.steps) }
         ensures range { IfSome result (λ f. f.steps ≤ 2 * tree_size self.old.root self.old.depth) }
         ensures root { (self.new.root ≡ self.old.root) × (self.new.depth ≡ self.old.depth) }
@@ -202,9 +203,9 @@ impl Search {
 
     /// What is found where the memo's answer for the root says enough.
     fn answered<M: Memo>(&self, memo: &mut M) -> Option<Found>
-        ensures below { IfSome result (IsFoundBelow self.now.root self.now.eval self.now.depth self.now.beta) }
+        ensures below { IfSome result (IsFoundBy self.now) }
         ensures steps { IfSome result (λ f. f.steps ≡ self.now.steps) }
-        ensures enough { IsSome result ↔ IsEnough (negated INFINITY) self.now.beta (M.answers memo.old self.now.root self.now.eval self.now.depth) }
+        ensures enough { IsSome result ↔ IsAnsweredBy (M.answers memo.old) self.now }
         ensures capacity { M.capacity memo.new ≡ M.capacity memo.old }
     {
         let (root, e, depth) = (&self.stack.root, self.stack.eval, self.stack.depth);
@@ -216,13 +217,13 @@ impl Search {
         None
     }
 
-    /// Goes on by so many steps, or fewer where it ends, and then tells what it found. After the end
-    /// it tells the same again, without a step or a call of the memo.
+    /// Goes on by so many steps, or fewer where it ends, and then tells what it found. After the
+    /// end it tells the same again, without a step or a call of the memo.
     pub fn advance<M: Memo>(&mut self, memo: &mut M, budget: u64) -> Option<Found>
-        ensures below { IfSome result (IsFoundBelow self.old.root self.old.eval self.old.depth self.old.beta) }
+        ensures below { IfSome result (IsFoundBy self.old) }
         // Below the end of the whole window lies every value.
-        ensures value { IfSome result (λ f. self.old.beta ≡ INFINITY → f.value ≡ value self.old.root self.old.eval self.old.depth) }
-        ensures best { IfSome result (λ f. self.old.beta ≡ INFINITY → f.best ≡ best self.old.root self.old.eval self.old.depth) }
+        ensures value { IfSome result (FindsValue self.old) }
+        ensures best { IfSome result (FindsBest self.old) }
         ensures counted { IfSome result (λ f. f.steps ≡ self.new.steps) }
         ensures range { IfSome result (λ f. f.steps ≤ 2 * tree_size self.old.root self.old.depth) }
         ensures root { (self.new.root ≡ self.old.root) × (self.new.depth ≡ self.old.depth) }
@@ -238,13 +239,16 @@ impl Search {
         ensures most { self.new.steps ≤ self.old.steps + budget }
         ensures fell { self.new.steps + left_of self.new ≤ self.old.steps + left_of self.old }
 
-        ensures again { ForSome self.old.found (λ f. (result ≡ Some f) × (self.new ≡ self.old) × (memo.new ≡ memo.old)) }
+        ensures again { ForSome self.old.found (λ f.
+            (result ≡ Some f) × (self.new ≡ self.old) × (memo.new ≡ memo.old)) }
         // Once it has ended nothing is left, and until then something is.
         ensures over { OnSome result (self.new.left ≡ 0) }
         ensures unfinished { IfNone result (0 < self.new.left) }
         // Before the first step an answer for the root that says enough ends it.
-        ensures enough { self.old.begun ≡ false → IsEnough (negated INFINITY) self.old.beta (M.answers memo.old self.old.root self.old.eval self.old.depth) → IsSome result × (self.new.steps ≡ self.old.steps) }
-        ensures known { self.old.begun ≡ false → IsExactly (M.answers memo.old self.old.root self.old.eval self.old.depth) → IsSome result × (self.new.steps ≡ self.old.steps) }
+        ensures enough { self.old.begun ≡ false → IsAnsweredBy (M.answers memo.old) self.old →
+            IsSome result × (self.new.steps ≡ self.old.steps) }
+        ensures known { self.old.begun ≡ false → IsExactlyAnsweredBy (M.answers memo.old) self.old →
+            IsSome result × (self.new.steps ≡ self.old.steps) }
     {
         if self.found.is_some() {
             return self.found;

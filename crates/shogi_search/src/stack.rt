@@ -1,26 +1,23 @@
 //! The stack of a search that goes on in slices.
 
-ghost use Rattle.std.specs.Prelude.{◌≡◌, ◌≤◌, ◌<◌, ◌+◌, ◌*◌, ◌-◌, ◌^◌, ◌++◌, true, false, [], ◌∷◌, None, Some, IfSome, IfNone, OnSome, min, IsTrue, ◌↔◌, length, take, slice_get, IsSomeAnd};
+ghost use Rattle.std.specs.Prelude.{◌≡◌, ◌≤◌, ◌<◌, ◌+◌, ◌*◌, ◌-◌, ◌^◌, true, false, None, Some, IfSome, IfNone, min, IsTrue, ◌↔◌, length, take};
 ghost use Rattle.std.specs.Option.{ForSome};
-ghost use Rattle.shogi_core.specs.Codes.{code_of};
-ghost use Rattle.shogi_moves.specs.After.{after_code};
-ghost use Rattle.shogi_moves.specs.LegalMoves.{legal_codes};
-ghost use Rattle.shogi_moves.specs.Rising.{is_in};
-ghost use Rattle.shogi_search.specs.Minimax.{value, tree_size, IsTrueEntry, negated};
+ghost use Rattle.shogi_search.specs.Minimax.{negated};
 ghost use Rattle.shogi_search.specs.Entries.{IsCutoff, move_in};
-ghost use Rattle.shogi_search.specs.Order.{todo};
-ghost use Rattle.shogi_search.specs.Visits.{IsCurrent, IsFree, IsOver};
-ghost use Rattle.shogi_search.specs.Stack.{IsStack, IsSame, IsNext, OnTop, frames_of, parents_of, left_of_frame, left_of_stack};
-ghost use Rattle.shogi_search.specs.declared.bounds.TheConstants.{SEARCH_DEPTH_MAX, INFINITY};
+ghost use Rattle.shogi_search.specs.Order.{IsListed};
+ghost use Rattle.shogi_search.specs.Visits.{IsFree};
+ghost use Rattle.shogi_search.specs.Frames.{IsTrueOf, IsToBeLeft};
+ghost use Rattle.shogi_search.specs.Stack.{IsStack, IsSame, IsNext, AtPlace, OnTop, MakesChild, IsTrueOfRoot, LeavesLess, steps_after, left_with_leaf, frames_of, parents_of, left_of_frame, left_of_stack};
+ghost use Rattle.shogi_search.specs.declared.bounds.TheConstants.{INFINITY};
 
 use crate::frame::{Frame, Waiting, leaf};
 use crate::memo::{Entry, Memo};
 use shogi_core::{Move, Position};
 use shogi_eval::{Eval, Node};
 
-/// The root of a search, its evaluation, its depth and the end of its window, and the nodes that are
-/// entered and not yet left, from the root on: the one on top stands at the height, and those below it
-/// wait for a child.
+/// The root of a search, its evaluation, its depth and the end of its window, and the nodes that
+/// are entered and not yet left, from the root on: the one on top stands at the height, and those
+/// below it wait for a child.
 #[derive(Clone, Copy)]
 pub struct Stack {
     pub root: Position,
@@ -45,7 +42,7 @@ pub fn is_cutoff(entry: &Entry, alpha: i32, beta: i32) -> bool
 /// The best move one ply less deep, where the memo has it.
 #[tactic(auto, using(crate::proofs::OrderLaws::best_listed))]
 pub fn hash_move_of<M: Memo>(p: &Position, e: Eval, depth: u8, memo: &mut M) -> Option<Move>
-    ensures listed { ForSome result (λ f. is_in (code_of f) (legal_codes p.now) ≡ true) }
+    ensures listed { ForSome result (IsListed p.now) }
     ensures shallow { depth < 2 → result ≡ None }
     ensures deep { 2 ≤ depth → result ≡ move_in (M.answers memo.old p.now e (depth - 1)) }
     ensures capacity { M.capacity memo.new ≡ M.capacity memo.old }
@@ -73,7 +70,7 @@ fn make_leaf<M: Memo>(top: &mut Frame, current: &Move, memo: &mut M)
     requires asked { top.old.waiting ≡ Waiting.Asked current.now }
     requires last { top.old.depth ≡ 1 }
     ensures free { IsFree top.new.waiting }
-    ensures left { left_of_frame top.new < left_of_frame top.old + 2 * tree_size (after_code top.old.node.position (code_of current.now)) 0 }
+    ensures left { left_of_frame top.new < left_with_leaf top.old current.now }
     ensures same { IsSame top.old top.new }
     ensures capacity { M.capacity memo.new ≡ M.capacity memo.old }
 {
@@ -99,7 +96,7 @@ fn visit_leaf<M: Memo>(top: &mut Frame, current: &Move, memo: &mut M, room: u64)
     ensures free { IsFree top.new.waiting }
     ensures some { 0 < result }
     ensures most { result ≤ room }
-    ensures left { left_of_frame top.new + result ≤ left_of_frame top.old + 2 * tree_size (after_code top.old.node.position (code_of current.now)) 0 }
+    ensures left { left_of_frame top.new + result ≤ left_with_leaf top.old current.now }
     ensures same { IsSame top.old top.new }
     ensures capacity { M.capacity memo.new ≡ M.capacity memo.old }
 {
@@ -120,9 +117,10 @@ fn visit_leaf<M: Memo>(top: &mut Frame, current: &Move, memo: &mut M, room: u64)
 /// Makes the child after the current move of the frame at a place, in the place above it.
 fn make_child(frames: &mut [Frame], place: usize, current: &Move)
     requires room { place + 1 < length frames.old }
-    requires asked { IsSomeAnd (slice_get frames.old place) (λ parent. parent.waiting ≡ Waiting.Asked current.now) }
+    requires asked { AtPlace frames.old place (λ f. f.waiting ≡ Waiting.Asked current.now) }
     ensures below { take (place + 1) frames.new ≡ take (place + 1) frames.old }
-    ensures child { IsSomeAnd (slice_get frames.old place) (λ parent. IsSomeAnd (slice_get frames.new (place + 1)) (λ child. IsNext parent child current.now)) }
+    ensures child { AtPlace frames.old place (λ parent.
+        AtPlace frames.new (place + 1) (λ child. IsNext parent child current.now)) }
 {
     let (below, above) = frames.split_at_mut(place + 1);
     above[0].follow(&below[place], current);
@@ -135,8 +133,8 @@ impl Stack {
         requires asked { OnTop self.old (λ top. top.waiting ≡ Waiting.Asked current.now) }
         ensures stack { IsStack self.new }
         ensures parents { parents_of self.new ≡ frames_of self.old }
-        ensures child { OnTop self.old (λ parent. OnTop self.new (λ child. IsNext parent child current.now)) }
-        ensures left { OnTop self.old (λ top. left_of_stack self.new < left_of_stack self.old + 2 * tree_size (after_code top.node.position (code_of current.now)) (top.depth - 1)) }
+        ensures child { MakesChild self.old self.new current.now }
+        ensures left { LeavesLess self.old self.new current.now }
         ensures same { (self.new.root ≡ self.old.root) × (self.new.depth ≡ self.old.depth) }
         ensures eval { self.new.eval ≡ self.old.eval }
         ensures beta { self.new.beta ≡ self.old.beta }
@@ -148,12 +146,12 @@ impl Stack {
     /// The node below the top takes in what is known of the node on top, where there is one.
     fn go_back(&mut self, entry: &Entry) -> bool
         requires stack { IsStack self.old }
-        requires truth { OnTop self.old (λ top. IsTrueEntry top.node.position top.node.eval top.depth entry.now) }
+        requires truth { OnTop self.old (λ top. IsTrueOf top entry.now) }
         requires cutoff { OnTop self.old (λ top. IsCutoff top.alpha top.beta entry.now) }
         ensures stack { IsStack self.new }
         ensures free { result ≡ true → OnTop self.new (λ top. IsFree top.waiting) }
         ensures left { result ≡ true → left_of_stack self.new < left_of_stack self.old }
-        ensures truth { result ≡ false → IsTrueEntry self.old.root self.old.eval self.old.depth entry.now }
+        ensures truth { result ≡ false → IsTrueOfRoot self.old entry.now }
         ensures cutoff { result ≡ false → IsCutoff (negated INFINITY) self.old.beta entry.now }
         ensures most { left_of_stack self.new ≤ left_of_stack self.old }
         ensures none { result ≡ false → self.new ≡ self.old }
@@ -173,15 +171,15 @@ impl Stack {
         true
     }
 
-    /// Goes on with the current move of the node on top, and makes its child: by the memo's answer, or
-    /// into the child.
+    /// Goes on with the current move of the node on top, and makes its child: by the memo's answer,
+    /// or into the child.
     #[inline(never)]
     fn enter_child<M: Memo>(&mut self, current: &Move, memo: &mut M)
         requires stack { IsStack self.old }
         requires asked { OnTop self.old (λ top. top.waiting ≡ Waiting.Asked current.now) }
         ensures stack { IsStack self.new }
         ensures free { OnTop self.new (λ top. IsFree top.waiting) }
-        ensures left { OnTop self.old (λ top. left_of_stack self.new < left_of_stack self.old + 2 * tree_size (after_code top.node.position (code_of current.now)) (top.depth - 1)) }
+        ensures left { LeavesLess self.old self.new current.now }
         ensures same { (self.new.root ≡ self.old.root) × (self.new.depth ≡ self.old.depth) }
         ensures eval { self.new.eval ≡ self.old.eval }
         ensures beta { self.new.beta ≡ self.old.beta }
@@ -201,8 +199,8 @@ impl Stack {
         self.frames[self.height].begin(hash_move, ahead);
     }
 
-    /// The same for a node of any depth, where a child that is a leaf is told by its value. Gives the
-    /// number of steps.
+    /// The same for a node of any depth, where a child that is a leaf is told by its value. Gives
+    /// the number of steps.
     fn descend<M: Memo>(&mut self, current: &Move, memo: &mut M, room: u64) -> u64
         requires stack { IsStack self.old }
         requires asked { OnTop self.old (λ top. top.waiting ≡ Waiting.Asked current.now) }
@@ -211,7 +209,8 @@ impl Stack {
         ensures free { OnTop self.new (λ top. IsFree top.waiting) }
         ensures some { 0 < result }
         ensures most { result ≤ room }
-        ensures left { OnTop self.old (λ top. left_of_stack self.new + result ≤ left_of_stack self.old + 2 * tree_size (after_code top.node.position (code_of current.now)) (top.depth - 1)) }
+        ensures left { OnTop self.old (λ top. left_of_stack self.new + result
+            ≤ left_of_stack self.old + steps_after top current.now) }
         ensures same { (self.new.root ≡ self.old.root) × (self.new.depth ≡ self.old.depth) }
         ensures eval { self.new.eval ≡ self.old.eval }
         ensures beta { self.new.beta ≡ self.old.beta }
@@ -229,11 +228,11 @@ impl Stack {
     #[inline(always)]
     fn leave<M: Memo>(&mut self, memo: &mut M) -> Option<Entry>
         requires stack { IsStack self.old }
-        requires over { OnTop self.old (λ top. IsOver top.waiting (todo top.node.position top.picker)) }
+        requires over { OnTop self.old (λ top. IsToBeLeft top) }
         ensures stack { IfNone result (IsStack self.new) }
         ensures free { IfNone result (OnTop self.new (λ top. IsFree top.waiting)) }
         ensures left { IfNone result (left_of_stack self.new < left_of_stack self.old) }
-        ensures truth { IfSome result (IsTrueEntry self.old.root self.old.eval self.old.depth) }
+        ensures truth { IfSome result (IsTrueOfRoot self.old) }
         ensures cutoff { IfSome result (IsCutoff (negated INFINITY) self.old.beta) }
         ensures same { (self.new.root ≡ self.old.root) × (self.new.depth ≡ self.old.depth) }
         ensures eval { self.new.eval ≡ self.old.eval }
@@ -252,8 +251,8 @@ impl Stack {
         Some(answer)
     }
 
-    /// Makes one step, or the two of a leaf, and counts them; gives what is known of the root where that
-    /// was left.
+    /// Makes one step, or the two of a leaf, and counts them; gives what is known of the root where
+    /// that was left.
     fn step<M: Memo>(&mut self, memo: &mut M, budget: u64, made: &mut u64) -> Option<Entry>
         requires stack { IsStack self.old }
         requires free { OnTop self.old (λ top. IsFree top.waiting) }
@@ -263,8 +262,9 @@ impl Stack {
         ensures rises { made.old < made.new }
         ensures most { made.new ≤ budget }
         ensures one { IfSome result (λ _. made.new ≡ made.old + 1) }
-        ensures left { IfNone result (left_of_stack self.new + made.new ≤ left_of_stack self.old + made.old) }
-        ensures truth { IfSome result (IsTrueEntry self.old.root self.old.eval self.old.depth) }
+        ensures left { IfNone result
+            (left_of_stack self.new + made.new ≤ left_of_stack self.old + made.old) }
+        ensures truth { IfSome result (IsTrueOfRoot self.old) }
         ensures cutoff { IfSome result (IsCutoff (negated INFINITY) self.old.beta) }
         ensures same { (self.new.root ≡ self.old.root) × (self.new.depth ≡ self.old.depth) }
         ensures eval { self.new.eval ≡ self.old.eval }
@@ -305,7 +305,7 @@ impl Stack {
         ensures rises { steps.old ≤ steps.new }
         ensures most { steps.new ≤ steps.old + budget }
         ensures fell { IfSome result (λ _. steps.new ≤ steps.old + left_of_stack self.old) }
-        ensures truth { IfSome result (IsTrueEntry self.old.root self.old.eval self.old.depth) }
+        ensures truth { IfSome result (IsTrueOfRoot self.old) }
         ensures cutoff { IfSome result (IsCutoff (negated INFINITY) self.old.beta) }
         ensures same { (self.new.root ≡ self.old.root) × (self.new.depth ≡ self.old.depth) }
         ensures eval { self.new.eval ≡ self.old.eval }

@@ -11,8 +11,8 @@ use shogi_core::{Move, Position, Square};
 use shogi_eval::{Eval, taken_gain};
 use shogi_moves::{threatened_by, unpinnable_pieces};
 
-/// A piece of the side that is not to move and one that it attacks, with all squares that it reaches
-/// and what the capture gains.
+/// A piece of the side that is not to move and one that it attacks, with all squares that it
+/// reaches and what the capture gains.
 #[derive(Clone, Copy)]
 pub struct Threat {
     pub from: Square,

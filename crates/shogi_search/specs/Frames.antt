@@ -1,0 +1,76 @@
+-- What clauses say of a node on the stack and of a move of it (own choice).
+use Rattle.std.specs.Prelude.{◌≡◌, ◌≢◌, ◌-◌, ℤ, [], Option, MatchOption}
+use Rattle.shogi_core.specs.declared.moves.Move.{Move}
+use Rattle.shogi_core.specs.Codes.{code_of}
+use Rattle.shogi_core.specs.Movement.{piece_at}
+use Rattle.shogi_core.specs.Pieces.{opponent_of}
+use Rattle.shogi_core.specs.Position.{Shogi}
+use Rattle.shogi_moves.specs.After.{after, after_code}
+use Rattle.shogi_moves.specs.LegalMoves.{legal_codes}
+use Rattle.shogi_moves.specs.Threats.{MayTake}
+use Rattle.shogi_search.specs.declared.frame.Frame.{Frame}
+use Rattle.shogi_search.specs.declared.frame.Waiting.{Waiting}
+use Rattle.shogi_search.specs.declared.frame.Waiting.TheVariants.{Next, Asked}
+use Rattle.shogi_search.specs.declared.memo.Entry.{Entry}
+use Rattle.shogi_search.specs.declared.threat.Threat.{Threat}
+use Rattle.shogi_search.specs.Entries.{IsCutoff}
+use Rattle.shogi_search.specs.Losses.{LosesAtMost}
+use Rattle.shogi_search.specs.Minimax.{value, worth, negated, IsTrueEntry}
+use Rattle.shogi_search.specs.Order.{todo}
+use Rattle.shogi_search.specs.Visits.{IsOver}
+use Rattle.shogi_search.specs.Window.{threshold, code_at}
+
+-- the position after a move of the node
+abbrev pub position_after : Frame → Move → Shogi
+position_after f m = after_code f.node.position (code_of m)
+
+-- what the move is worth to its mover
+abbrev pub worth_of : Frame → Move → ℤ
+worth_of f m = worth f.node.position f.node.eval (f.depth - 1) (code_of m)
+
+-- what the move has to be worth more than
+abbrev pub threshold_of : Frame → Move → ℤ
+threshold_of f m = threshold f.best_value (code_at f.best_move) (code_of m)
+
+-- the value at depth 0 of the position after the move
+abbrev pub leaf_value : Frame → Move → ℤ
+leaf_value f m = value (position_after f m) f.node.eval 0
+
+-- what an entry says of the node holds
+abbrev pub IsTrueOf : Frame → Entry → Type 0
+IsTrueOf f entry = IsTrueEntry f.node.position f.node.eval f.depth entry
+
+-- what an entry says of the position after the move holds
+abbrev pub IsTrueAfter : Frame → Move → Entry → Type 0
+IsTrueAfter f m entry = IsTrueEntry (position_after f m) f.node.eval (f.depth - 1) entry
+
+-- an entry says enough for the window under which the child after the move is searched
+abbrev pub IsCutoffAfter : Frame → Move → Entry → Type 0
+IsCutoffAfter f m entry = IsCutoff (negated f.beta) (negated (threshold_of f m)) entry
+
+-- the node is cut off, or no move of it is to be visited
+abbrev pub IsToBeLeft : Frame → Type 0
+IsToBeLeft f = IsOver f.waiting (todo f.node.position f.picker)
+
+-- the best value and the best move so far are what they were
+abbrev pub KeepsBest : Frame → Frame → Type 0
+KeepsBest old new = (new.best_value ≡ old.best_value) × (new.best_move ≡ old.best_move)
+
+-- it waits for the answer of this move, or to begin with its next one where there is none
+abbrev pub WaitsFor : Option Move → Waiting → Type 0
+WaitsFor asked waiting = MatchOption asked (waiting ≡ Next) (λ m. waiting ≡ Asked m)
+
+-- the other side has a legal move after the move
+abbrev pub HasReply : Frame → Move → Type 0
+HasReply f m = legal_codes (after f.node.position m) ≢ []
+
+-- the other side may carry out the threat after the move
+abbrev pub StandsAfter : Frame → Threat → Move → Type 0
+StandsAfter f threat m =
+    MayTake (after f.node.position m) threat.from threat.target
+    (piece_at f.node.position.cells threat.target)
+
+-- no drop of the other side takes more than this from its material
+abbrev pub RepliesLoseAtMost : Frame → ℤ → Type 0
+RepliesLoseAtMost f loss =
+    LosesAtMost f.node.position.hands (opponent_of f.node.position.side) f.node.eval loss
