@@ -1,10 +1,10 @@
 -- Bits of a number as tests.
 use Rattle.std.proofs.Common.{◌≡◌, ◌≢◌, ℕ, ◌+◌, ◌-◌, ◌*◌, ◌/◌, ◌%◌, ◌^◌, ◌<◌, ◌≤◌, Bool, true, false, cond, not, refl, sym, ap, ◌∙◌, arith, bit_and, bit_or, max, min, inl, inr, shr-shr}
 use Rattle.std.specs.Prelude.{zero, suc, ◌==◌, ◌&&◌, ◌||◌}
-use Rattle.std.specs.Int.{bit_at, trailing_zeros, w128}
+use Rattle.std.specs.Int.{bit_at, w128}
 use Rattle.std.proofs.lemmas.Nat.{and_le_l, one_shl}
 use native.Mathlib.Nat.{pow-suc}
-use Rattle.std.proofs.lemmas.Nat.Bits.{bit_at_and, bit_at_or, bit_at-lt, bit_at-zero, bit_at_above, bit_at_cat_low, bit_at_cat_high, bit_at-pow_same, bit_at-pow_other, same_from_bits_below, bit_at-trailing_zeros, shr_and_one, bit_at_clear_same, bit_at_clear_other}
+use Rattle.std.proofs.lemmas.Nat.Bits.{bit_at_and, bit_at_or, bit_at-lt, bit_at-zero, bit_at_above, bit_at_cat_low, bit_at_cat_high, bit_at-pow_same, bit_at-pow_other, same_from_bits_below, shr_and_one, bit_at_clear_same, bit_at_clear_other}
 use Rattle.std.proofs.lemmas.Bool.{cases_lt, cases_eq, eq-eqb, ne_eqb, eqb-true, eqb-false}
 use Rattle.shogi_core.specs.Bits.{has_bit, mask_below}
 
@@ -125,32 +125,6 @@ has_bit-without m n i fits h = elim (cases_eq i n) [
     zero_and : (i : ℕ) → 128 ≤ i → bit_at (bit_and m (2 ^ 128 - 1 - 1 * 2 ^ n % 2 ^ 128)) i ≡ 0
     zero_and i high = bit_at_above _ 128 i (omega (arith, and_le_l m (2 ^ 128 - 1 - 1 * 2 ^ n % 2 ^ 128))) high
 
--- `(m >> n) == 0`: no bit from n on
-pub next_none : (m n : ℕ) → m / 2 ^ n ≡ 0 → (i : ℕ) → n ≤ i → has_bit m i ≡ false
-next_none m n e i from =
-    let at : n + (i - n) ≡ i = omega arith in
-    ap (has_bit m) (sym at) ∙ (sym (has_bit-shr m n (i - n)) ∙ (ap (λ x. has_bit x (i - n)) e ∙ has_bit-none (i - n)))
-
--- the place of the lowest bit from n on
-pub next_some : (m n : ℕ) → m < 2 ^ 128 → 0 < m / 2 ^ n → (n + trailing_zeros w128 (m / 2 ^ n) < 128) × (has_bit m (n + trailing_zeros w128 (m / 2 ^ n)) ≡ true) × ((i : ℕ) → n ≤ i → i < n + trailing_zeros w128 (m / 2 ^ n) → has_bit m i ≡ false)
-unfolding has_bit
-next_some m n fits some =
-    let rest : ℕ = m / 2 ^ n in
-    let low = bit_at-trailing_zeros w128 (m / 2 ^ n) some (omega (arith, div_small m (2 ^ n))) in
-    let set : has_bit m (n + trailing_zeros w128 (m / 2 ^ n)) ≡ true = sym (has_bit-shr m n (trailing_zeros w128 (m / 2 ^ n))) ∙ eq-eqb _ 1 low.1 in (
-      elim (cases_lt (n + trailing_zeros w128 (m / 2 ^ n)) 128) [
-        | inl below ↦ below
-        | inr above ↦ absurd (let no : has_bit m (n + trailing_zeros w128 (m / 2 ^ n)) ≡ false = has_bit-above m 128 _ fits above in cc)
-      ],
-      set,
-      λ i from below. (
-          let at : n + (i - n) ≡ i = omega arith in
-          ap (has_bit m) (sym at) ∙ (sym (has_bit-shr m n (i - n)) ∙ ne_eqb _ 1 (λ one. let none : bit_at (m / 2 ^ n) (i - n) ≡ 0 = low.2 (i - n) (omega arith) in omega arith))),
-    )
-  where
-    div_small : (a b : ℕ) → a / b ≤ a
-    div_small a b = omega arith
-
 -- ---- halves of 64 bits
 
 pub half_low : (m n : ℕ) → n < 64 → has_bit (m % 2 ^ 64) (n % 64) ≡ has_bit m n
@@ -167,4 +141,4 @@ half_high m n low high =
 
 pub ruleset halves = (half_low, half_high)
 
-pub ruleset bit_tests = (has_bit_test, has_bit-with, has_bit-without, next_none, next_some)
+pub ruleset bit_tests = (has_bit_test, has_bit-with, has_bit-without)

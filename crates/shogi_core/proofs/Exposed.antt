@@ -207,23 +207,6 @@ module _ (old new : Cells) (Left : ℕ → Type 0) (opened : (x : ℕ) → is_no
     | inr slide ↦ or_right (has_step piece a s) (has_slide old piece a s) (has_slide_was piece a s free slide)
   ]
 
-  -- an open line was one before
-  pub lined_was : (a s : ℕ) → ((x : ℕ) → Left x → are_lined old x s ≡ false) → are_lined new a s ≡ true → are_lined old a s ≡ true
-  unfolding are_lined
-  lined_was a s free e = each around refl e
-    where
-      each : (os : List Offset) → list_all (λ o. list_any (same_way o) around) os ≡ true → list_any (λ o. slides new o a s) os ≡ true → list_any (λ o. slides old o a s) around ≡ true
-      each [] all e = absurd (cc)
-      each (o ∷ os) all e =
-          let parts : (list_any (same_way o) around ≡ true) × (list_all (λ p. list_any (same_way p) around) os ≡ true) = and_parts _ _ all in
-          elim (or_cases _ _ e) [
-            | inl here ↦ elim (slides_was o a s here) [
-              | inl lined ↦ absurd (both_ways (list_any (λ d. slides old d lined.0 s) around) (free lined.0 lined.1) (one_of (λ d. slides old d lined.0 s) o around parts.0 lined.2))
-              | inr was ↦ one_of (λ d. slides old d a s) o around parts.0 was
-            ]
-            | inr later ↦ each os parts.1 later
-          ]
-
 -- ---- a check that stays
 
 module _ (old new : Cells) (to : ℕ) (shut : (x : ℕ) → is_none (piece_at old x) ≡ true → (is_none (piece_at new x) ≡ true) ⊎ (x ≡ to)) where

@@ -17,7 +17,7 @@ use Rattle.shogi_core.specs.Bits.{has_bit}
 use Rattle.shogi_core.specs.Cell.{is_piece_of}
 use Rattle.shogi_core.specs.Pieces.{is_same_color}
 use Rattle.shogi_core.specs.Movement.{Cells, away, slides_across, slides, piece_at}
-use Rattle.shogi_core.proofs.BitLaws.{next_none, next_some, has_bit-or, has_bit-and, has_bit-none, has_bit-above, has_bit-one, has_bit-mask, mask_fits}
+use Rattle.shogi_core.proofs.BitLaws.{has_bit-or, has_bit-and, has_bit-none, has_bit-above, has_bit-one, has_bit-mask, mask_fits}
 use Rattle.shogi_core.specs.Rays.{is_on_ray, ray_of, direction_at}
 use Rattle.shogi_core.proofs.Back.{away_is, away_on, leads_is}
 use Rattle.shogi_core.proofs.Exposed.{some_below_which}
@@ -238,17 +238,6 @@ pub or_one_fits : (a b : ℕ) → a < 2 ^ 81 → bit_or (bit_and a b) 1 < 2 ^ 81
 or_one_fits a b h = or_lt 81 (bit_and a b) 1 (omega (arith, and_le_l a b)) (omega arith)
 
 pub ruleset line_squares = (and_fits, or_one, or_one_fits)
-
-pub next_81 : (m n : ℕ) → m < 2 ^ 81 → 0 < m / 2 ^ n → n + trailing_zeros w128 (m / 2 ^ n) < 81
-next_81 m n fits some = let at = next_some m n (omega arith) some in below_bits m (n + trailing_zeros w128 (m / 2 ^ n)) fits at.1
-
-pub next_bit : (m n : ℕ) → m < 2 ^ 128 → 0 < m / 2 ^ n → has_bit m (n + trailing_zeros w128 (m / 2 ^ n)) ≡ true
-next_bit m n fits some = (next_some m n fits some).1
-
-pub next_skips : (m n i : ℕ) → m < 2 ^ 128 → 0 < m / 2 ^ n → n ≤ i → i < n + trailing_zeros w128 (m / 2 ^ n) → has_bit m i ≡ false
-next_skips m n i fits some low high = (next_some m n fits some).2 i low high
-
-pub ruleset next_bits = (next_none, next_81, next_bit, next_skips)
 
 has_bit-all : (n : ℕ) → n < 81 → has_bit (2 ^ 81 - 1) n ≡ true
 unfolding has_bit

@@ -1,10 +1,11 @@
 -- Attacks and checks (JSA playing rules, check).
-use Rattle.std.specs.Prelude.{ℕ, ◌&&◌, Bool, false, Option, Some, None}
+use Rattle.std.specs.Prelude.{ℕ, ◌≡◌, ◌<◌, ◌&&◌, Bool, true, false, Option, Some, None, is_none, slice_set}
 use Rattle.std.specs.List.{list_any}
 use Rattle.shogi_core.specs.declared.offset.Offset.{Offset}
 use Rattle.shogi_core.specs.declared.piece.Color.{Color}
 use Rattle.shogi_core.specs.declared.piece.Piece.{Piece}
 use Rattle.shogi_core.specs.Below.{some_below}
+use Rattle.shogi_core.specs.Bits.{has_bit}
 use Rattle.shogi_core.specs.Cell.{is_piece_of, is_king, is_slider}
 use Rattle.shogi_core.specs.Lines.{are_aligned, back, is_same_offset}
 use Rattle.shogi_core.specs.Movement.{Cells, piece_at, reaches, has_step, slides, slides_of, for_side}
@@ -13,7 +14,8 @@ use Rattle.shogi_core.specs.Rays.{direction_at, is_on_ray}
 
 -- the piece on `from` is of the side and reaches the square
 abbrev pub is_attacked_from : Cells → Color → ℕ → ℕ → Bool
-is_attacked_from cells color square from = is_piece_of color (piece_at cells from) && reaches cells from square
+is_attacked_from cells color square from =
+    is_piece_of color (piece_at cells from) && reaches cells from square
 
 -- a piece of the side reaches the square
 abbrev pub is_attacked : Cells → Color → ℕ → Bool
@@ -21,7 +23,8 @@ is_attacked cells color square = some_below 81 (is_attacked_from cells color squ
 
 -- on the square stands the king of the side, and it is attacked
 abbrev pub is_open_king : Cells → Color → ℕ → Bool
-is_open_king cells color square = is_king color (piece_at cells square) && is_attacked cells (opponent_of color) square
+is_open_king cells color square =
+    is_king color (piece_at cells square) && is_attacked cells (opponent_of color) square
 
 -- a king of the side is attacked
 unfoldable pub in_check : Cells → Color → Bool
@@ -29,11 +32,14 @@ in_check cells color = some_below 81 (is_open_king cells color)
 
 -- the piece on `from` is one of the side that slides, and on a line with the square, whatever stands between
 abbrev pub is_sniper : Cells → Color → ℕ → ℕ → Bool
-is_sniper cells color square from = is_piece_of color (piece_at cells from) && is_slider (piece_at cells from) && are_aligned square from
+is_sniper cells color square from =
+    is_piece_of color (piece_at cells from) && is_slider (piece_at cells from)
+    && are_aligned square from
 
 -- on the square stands the king of the side, and the piece on `from` is a sniper of the other side's
 abbrev pub is_sniper_of_king : Cells → Color → ℕ → ℕ → Bool
-is_sniper_of_king cells color from square = is_king color (piece_at cells square) && is_sniper cells (opponent_of color) square from
+is_sniper_of_king cells color from square =
+    is_king color (piece_at cells square) && is_sniper cells (opponent_of color) square from
 
 -- the piece on `from` is one of the other side that slides, and on a line with a king of the side, whatever stands between
 unfoldable pub is_sniping : Cells → Color → ℕ → Bool
@@ -47,21 +53,50 @@ cell_steps (Some piece) from to = has_step piece from to
 -- what stands there slides against the direction
 abbrev pub cell_slides_back : Offset → Option Piece → Bool
 cell_slides_back o None = false
-cell_slides_back o (Some piece) = list_any (λ p. is_same_offset (back (for_side piece.color p)) o) (slides_of piece.role)
+cell_slides_back o (Some piece) =
+    list_any (λ p. is_same_offset (back (for_side piece.color p)) o) (slides_of piece.role)
 
 -- the piece on `from` is of the side, and a step or a jump of it leads to the square
 abbrev pub is_step_from : Cells → Color → ℕ → ℕ → Bool
-is_step_from cells color square from = is_piece_of color (piece_at cells from) && cell_steps (piece_at cells from) from square
+is_step_from cells color square from =
+    is_piece_of color (piece_at cells from) && cell_steps (piece_at cells from) from square
 
 -- the piece on `from` is of the side, and slides to the square against the direction
 abbrev pub is_shot_from : Cells → Color → ℕ → Offset → ℕ → Bool
-is_shot_from cells color square o from = is_piece_of color (piece_at cells from) && cell_slides_back o (piece_at cells from) && slides cells o square from
+is_shot_from cells color square o from =
+    is_piece_of color (piece_at cells from) && cell_slides_back o (piece_at cells from)
+    && slides cells o square from
 
 -- a piece of the side slides to the square against the direction of that number
 unfoldable pub is_shot_along : Cells → Color → ℕ → ℕ → Bool
-is_shot_along cells color square direction = some_below 81 (is_shot_from cells color square (direction_at direction))
+is_shot_along cells color square direction =
+    some_below 81 (is_shot_from cells color square (direction_at direction))
+
+-- a piece of the side slides to the square
+abbrev pub is_shot : Cells → Color → ℕ → Bool
+is_shot cells color square = some_below 8 (is_shot_along cells color square)
+
+-- no piece stands in the direction: each square to which a slide leads is empty
+abbrev pub IsOpenLine : Cells → Offset → ℕ → Type 0
+IsOpenLine cells o from = (n : ℕ) → slides cells o from n ≡ true → is_none (piece_at cells n) ≡ true
 
 -- the piece on `from` is of the side and stands alone between the square and a sniper of the other side's, which is on `sniper`, in the direction
 abbrev pub is_pinned_by : Cells → Color → ℕ → Offset → ℕ → ℕ → Bool
 is_pinned_by cells color square o from sniper =
-    is_piece_of color (piece_at cells from) && is_sniper cells (opponent_of color) square sniper && is_on_ray o square sniper && slides cells o square from && slides cells o from sniper
+    is_piece_of color (piece_at cells from) && is_sniper cells (opponent_of color) square sniper
+    && is_on_ray o square sniper && slides cells o square from && slides cells o from sniper
+
+-- the mask has each piece of the side that is pinned to the square in the direction
+abbrev pub HasPinnedAlong : ℕ → Cells → Color → ℕ → Offset → Type 0
+HasPinnedAlong m cells side square o = (n a : ℕ) → n < 81 → a < 81
+    → is_pinned_by cells side square o n a ≡ true → has_bit m n ≡ true
+
+-- the mask has each piece of the side that is pinned to the square, in whichever direction
+abbrev pub HasPinned : ℕ → Cells → Color → ℕ → Type 0
+HasPinned m cells side square = (d n a : ℕ) → d < 8 → n < 81 → a < 81
+    → is_pinned_by cells side square (direction_at d) n a ≡ true → has_bit m n ≡ true
+
+-- no piece of the side that is not in the mask is pinned: once it is lifted off, the side is not in check
+abbrev pub OthersAreUnpinned : ℕ → Cells → Color → Type 0
+OthersAreUnpinned m cells side = (n : ℕ) → n < 81 → has_bit m n ≡ false
+    → is_piece_of side (piece_at cells n) ≡ true → in_check (slice_set cells n None) side ≡ false

@@ -11,7 +11,9 @@ use Rattle.shogi_core.specs.Pieces.{kind_number}
 -- the kind of a number
 abbrev pub kind_at : ℕ → Kind
 kind_at n =
-    cond (n == 0) kinds.Pawn (cond (n == 1) kinds.Lance (cond (n == 2) kinds.Knight (cond (n == 3) kinds.Silver (cond (n == 4) kinds.Gold (cond (n == 5) kinds.Bishop kinds.Rook)))))
+    cond (n == 0) kinds.Pawn (cond (n == 1) kinds.Lance
+    (cond (n == 2) kinds.Knight (cond (n == 3) kinds.Silver
+    (cond (n == 4) kinds.Gold (cond (n == 5) kinds.Bishop kinds.Rook)))))
 
 -- board moves come first, by from, to and promotion; then drops, by kind and to
 abbrev pub code_of : Move → ℕ
@@ -22,7 +24,8 @@ code_of (Drop kind to) = FIRST_DROP + kind_number kind * 81 + to
 abbrev pub move_of : ℕ → Option Move
 move_of code =
     cond (nat_lt code FIRST_DROP) (Some (Board (code / 2 / 81) (code / 2 % 81) (code % 2 == 1)))
-    (cond (nat_lt code MOVE_CODE_COUNT) (Some (Drop (kind_at ((code - FIRST_DROP) / 81)) ((code - FIRST_DROP) % 81))) None)
+    (cond (nat_lt code MOVE_CODE_COUNT)
+    (Some (Drop (kind_at ((code - FIRST_DROP) / 81)) ((code - FIRST_DROP) % 81))) None)
 
 -- the codes of all moves from the given code on, in their order
 unfoldable pub codes_from : ℕ → List ℕ

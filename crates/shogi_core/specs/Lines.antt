@@ -33,7 +33,8 @@ are_aligned a b = are_lined [] a b
 
 -- the square lies on an open line with a king of the side
 abbrev pub is_line_to_king : Cells → Color → ℕ → ℕ → Bool
-is_line_to_king cells color square king = is_king color (piece_at cells king) && are_lined cells square king
+is_line_to_king cells color square king =
+    is_king color (piece_at cells king) && are_lined cells square king
 
 -- the square lies on an open line with some king of the side
 unfoldable pub is_lined_with_king : Cells → Color → ℕ → Bool

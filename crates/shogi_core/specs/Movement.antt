@@ -95,7 +95,8 @@ slides_of _ = []
 
 -- the square at a file and a rank, each counted from 0, if there is one
 abbrev pub square_at : ℤ → ℤ → Option ℕ
-square_at (pos file) (pos rank) = cond (nat_lt file 9 && nat_lt rank 9) (Some (file * 9 + rank)) None
+square_at (pos file) (pos rank) =
+    cond (nat_lt file 9 && nat_lt rank 9) (Some (file * 9 + rank)) None
 square_at (pos file) (negsuc rank) = None
 square_at (negsuc file) rank = None
 
@@ -107,7 +108,8 @@ for_side White offset = offset_by offset.file (pos 0 -ℤ offset.rank)
 
 -- the square n steps by the offset from a square, if it is on the board
 unfoldable pub away : ℕ → Offset → ℕ → Option ℕ
-away n offset from = square_at (pos (from / 9) +ℤ pos n *ℤ offset.file) (pos (from % 9) +ℤ pos n *ℤ offset.rank)
+away n offset from =
+    square_at (pos (from / 9) +ℤ pos n *ℤ offset.file) (pos (from % 9) +ℤ pos n *ℤ offset.rank)
 
 -- there is a square, and it is this one
 abbrev pub is_same_square : Option ℕ → ℕ → Bool
@@ -133,7 +135,8 @@ is_step_empty cells offset from k = is_empty cells (away (k + 1) offset from)
 
 -- a slide of n + 1 steps in the direction leads from the one square to the other, and the n squares between are empty
 abbrev pub slides_across : Cells → Offset → ℕ → ℕ → ℕ → Bool
-slides_across cells offset from to n = leads (n + 1) offset from to && all_below n (is_step_empty cells offset from)
+slides_across cells offset from to n =
+    leads (n + 1) offset from to && all_below n (is_step_empty cells offset from)
 
 -- a slide in the direction leads from the one square to the other, and each of the 0 to 7 squares between is empty, whatever stands on the two
 abbrev pub slides : Cells → Offset → ℕ → ℕ → Bool
@@ -141,11 +144,17 @@ slides cells offset from to = some_below 8 (slides_across cells offset from to)
 
 -- a step or a jump of the piece leads from the one square to the other
 abbrev pub has_step : Piece → ℕ → ℕ → Bool
-has_step piece from to = list_any (λ offset. leads 1 (for_side piece.color offset) from to) (steps_of piece.role)
+has_step piece from to =
+    list_any (λ offset. leads 1 (for_side piece.color offset) from to) (steps_of piece.role)
+
+-- a free slide by one of the offsets, as the side makes them, leads from the one square to the other
+abbrev pub is_slide : Cells → Color → List Offset → ℕ → ℕ → Bool
+is_slide cells color offsets from to =
+    list_any (λ offset. slides cells (for_side color offset) from to) offsets
 
 -- a free slide of the piece leads from the one square to the other
 abbrev pub has_slide : Cells → Piece → ℕ → ℕ → Bool
-has_slide cells piece from to = list_any (λ offset. slides cells (for_side piece.color offset) from to) (slides_of piece.role)
+has_slide cells piece from to = is_slide cells piece.color (slides_of piece.role) from to
 
 -- what stands in a cell, if it stood on the one square, has a step, a jump or a free slide to the other
 abbrev pub cell_reaches : Cells → Option Piece → ℕ → ℕ → Bool

@@ -31,7 +31,9 @@ kind_number kinds.Rook = 6
 
 -- all of them
 abbrev pub all_kinds : List Kind
-all_kinds = kinds.Pawn ∷ kinds.Lance ∷ kinds.Knight ∷ kinds.Silver ∷ kinds.Gold ∷ kinds.Bishop ∷ kinds.Rook ∷ []
+all_kinds =
+    kinds.Pawn ∷ kinds.Lance ∷ kinds.Knight ∷ kinds.Silver ∷ kinds.Gold ∷ kinds.Bishop ∷ kinds.Rook
+    ∷ []
 
 -- how many of a kind one set has
 abbrev pub set_size : Kind → ℕ

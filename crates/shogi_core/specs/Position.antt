@@ -1,10 +1,11 @@
 -- A position: what stands on the board, what each side holds, and whose turn it is.
-use Rattle.std.specs.Prelude.{ℕ, List, ◌+◌, slice_index}
+use Rattle.std.specs.Prelude.{ℕ, List, ◌+◌, Option, None, slice_index, slice_set}
 use Rattle.shogi_core.specs.declared.piece.Color.{Color}
 use Rattle.shogi_core.specs.declared.piece.Color.TheVariants.{Black, White}
 use Rattle.shogi_core.specs.declared.piece.Kind.{Kind}
+use Rattle.shogi_core.specs.declared.piece.Piece.{Piece}
 use Rattle.shogi_core.specs.Movement.{Cells}
-use Rattle.shogi_core.specs.Pieces.{kind_number}
+use Rattle.shogi_core.specs.Pieces.{kind_number, opponent_of}
 
 -- the counts held, Black's of each kind and then White's
 abbrev pub HandCounts : Type 0
@@ -24,3 +25,19 @@ pub record Shogi : Type 0 where
   pub cells : Cells
   pub hands : HandCounts
   pub side : Color
+
+-- the position once a piece moved: `from` is empty, this stands on `to`, both sides hold these, and the other is to move
+abbrev pub with_piece_moved : Shogi → ℕ → ℕ → Option Piece → HandCounts → Shogi
+with_piece_moved p from to piece hands = record {
+  cells = slice_set (slice_set p.cells from None) to piece;
+  hands = hands;
+  side = opponent_of p.side;
+}
+
+-- the position once a piece was dropped: this stands on `to`, both sides hold these, and the other is to move
+abbrev pub with_piece_dropped : Shogi → ℕ → Option Piece → HandCounts → Shogi
+with_piece_dropped p to piece hands = record {
+  cells = slice_set p.cells to piece;
+  hands = hands;
+  side = opponent_of p.side;
+}

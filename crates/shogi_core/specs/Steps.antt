@@ -10,13 +10,17 @@ use Rattle.shogi_core.specs.Movement.{jump_left, jump_right, leads, for_side, st
 -- the kinds of steps
 abbrev pub steps_at : ℕ → List Offset
 steps_at n =
-    cond (n == 0) [] (cond (n == 1) (straight ++ diagonal) (cond (n == 2) forward (cond (n == 3) (jump_left ∷ jump_right ∷ [])
-    (cond (n == 4) (forward ++ diagonal) (cond (n == 5) gold_steps (cond (n == 6) straight diagonal))))))
+    cond (n == 0) [] (cond (n == 1) (straight ++ diagonal)
+    (cond (n == 2) forward (cond (n == 3) (jump_left ∷ jump_right ∷ [])
+    (cond (n == 4) (forward ++ diagonal) (cond (n == 5) gold_steps
+    (cond (n == 6) straight diagonal))))))
 
+-- a number for each side
 abbrev pub color_number : Color → ℕ
 color_number Black = 0
 color_number White = 1
 
+-- the side of a number
 abbrev pub color_at : ℕ → Color
 color_at n = cond (n == 0) Black White
 

@@ -15,15 +15,19 @@ use Rattle.shogi_core.specs.Position.{Shogi, HandCounts, count_in_hand}
 
 -- how many of a kind there are, on the board and in both hands
 abbrev pub count_of : Kind → Cells → HandCounts → ℕ
-count_of kind cells hands = count_by (is_of_kind kind) cells + count_in_hand hands Black kind + count_in_hand hands White kind
+count_of kind cells hands =
+    count_by (is_of_kind kind) cells + count_in_hand hands Black kind
+    + count_in_hand hands White kind
 
 -- more of a kind than one set has
 abbrev pub has_too_many : Cells → HandCounts → Bool
-has_too_many cells hands = list_any (λ kind. nat_lt (set_size kind) (count_of kind cells hands)) all_kinds
+has_too_many cells hands =
+    list_any (λ kind. nat_lt (set_size kind) (count_of kind cells hands)) all_kinds
 
 -- a side has more than one king
 abbrev pub has_two_kings : Cells → Bool
-has_two_kings cells = nat_lt 1 (count_by (is_king Black) cells) || nat_lt 1 (count_by (is_king White) cells)
+has_two_kings cells =
+    nat_lt 1 (count_by (is_king Black) cells) || nat_lt 1 (count_by (is_king White) cells)
 
 -- the nine cells of a file; files are counted from 0
 abbrev pub on_file : ℕ → Cells → Cells
@@ -35,7 +39,8 @@ pawns_on_file color file cells = count_by (is_pawn color) (on_file file cells)
 
 -- a side has two unpromoted pawns on the file
 abbrev pub has_two_pawns_on : Cells → ℕ → Bool
-has_two_pawns_on cells file = nat_lt 1 (pawns_on_file Black file cells) || nat_lt 1 (pawns_on_file White file cells)
+has_two_pawns_on cells file =
+    nat_lt 1 (pawns_on_file Black file cells) || nat_lt 1 (pawns_on_file White file cells)
 
 -- a side has two unpromoted pawns on a file
 abbrev pub has_two_pawns : Cells → Bool

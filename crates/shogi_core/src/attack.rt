@@ -1,11 +1,11 @@
 //! Attacks and checks, seen from the square that is attacked.
 
-ghost use Rattle.std.specs.Prelude.{◌≡◌, ◌≢◌, ◌<◌, ◌≤◌, ◌^◌, ℕ, true, false, None, IfSome, IsNone, is_none, slice_set};
-ghost use Rattle.shogi_core.specs.Attack.{is_attacked, is_open_king, in_check, is_sniper, is_sniping, cell_steps, cell_slides_back, is_step_from, is_shot_along, is_pinned_by};
+ghost use Rattle.std.specs.Prelude.{◌≡◌, ◌≢◌, ◌<◌, ◌≤◌, ◌^◌, ℕ, true, false, None, IfSome, IsNone, is_none};
+ghost use Rattle.shogi_core.specs.Attack.{is_attacked, is_open_king, in_check, is_sniper, is_sniping, cell_steps, cell_slides_back, is_step_from, is_shot_along, is_shot, IsOpenLine, HasPinned, HasPinnedAlong, OthersAreUnpinned};
 ghost use Rattle.shogi_core.specs.Below.{some_below};
 ghost use Rattle.shogi_core.specs.Bits.{HasBits, has_bit};
-ghost use Rattle.shogi_core.specs.Cell.{is_king, is_piece_of};
-ghost use Rattle.shogi_core.specs.Lines.{are_aligned, are_lined, is_near, is_seen};
+ghost use Rattle.shogi_core.specs.Cell.{is_king};
+ghost use Rattle.shogi_core.specs.Lines.{are_lined, is_seen};
 ghost use Rattle.shogi_core.specs.Pieces.{opponent_of};
 ghost use Rattle.shogi_core.specs.Movement.{piece_at, slides};
 ghost use Rattle.shogi_core.specs.Rays.{direction_at};
@@ -152,7 +152,7 @@ fn is_shot_along(board: &Board, by: Color, square: usize, direction: usize, snip
 fn is_shot(board: &Board, by: Color, square: usize, snipers: u128) -> bool
     requires square { square < 81 }
     requires snipers { HasBits snipers (is_sniper board.now by square) }
-    ensures { result ≡ some_below 8 (is_shot_along board.now by square) }
+    ensures { result ≡ is_shot board.now by square }
 {
     for direction in 0..8 {
         if is_shot_along(board, by, square, direction, snipers) {
@@ -183,7 +183,7 @@ fn nearest(places: u128, direction: usize) -> usize
 fn first_piece(board: &Board, direction: usize, from: usize) -> Option<usize>
     requires direction { direction < 8 }
     requires from { from < 81 }
-    ensures none { IsNone result → (n : ℕ) → slides board.now (direction_at direction) from n ≡ true → is_none (piece_at board.now n) ≡ true }
+    ensures none { IsNone result → IsOpenLine board.now (direction_at direction) from }
     ensures range { IfSome result (λ n. n < 81) }
     ensures reached { IfSome result (λ n. slides board.now (direction_at direction) from n ≡ true) }
     ensures piece { IfSome result (λ n. is_none (piece_at board.now n) ≡ false) }
@@ -213,7 +213,7 @@ fn shot_or_pin(
     ensures shot { result ≡ is_shot_along board.now (opponent_of side) square direction }
     ensures fits { pinned.new < 2 ^ 81 }
     ensures kept { (n : ℕ) → has_bit pinned.old n ≡ true → has_bit pinned.new n ≡ true }
-    ensures all { result ≡ false → (n a : ℕ) → n < 81 → a < 81 → is_pinned_by board.now side square (direction_at direction) n a ≡ true → has_bit pinned.new n ≡ true }
+    ensures all { result ≡ false → HasPinnedAlong pinned.new board.now side square (direction_at direction) }
 {
     let Some(first) = first_piece(board, direction, square) else {
         return false
@@ -250,7 +250,7 @@ fn shot_or_pin_along(
     ensures shot { result ≡ is_shot_along board.now (opponent_of side) square direction }
     ensures fits { pinned.new < 2 ^ 81 }
     ensures kept { (n : ℕ) → has_bit pinned.old n ≡ true → has_bit pinned.new n ≡ true }
-    ensures all { result ≡ false → (n a : ℕ) → n < 81 → a < 81 → is_pinned_by board.now side square (direction_at direction) n a ≡ true → has_bit pinned.new n ≡ true }
+    ensures all { result ≡ false → HasPinnedAlong pinned.new board.now side square (direction_at direction) }
 {
     if ray(direction, square) & snipers == 0 {
         return false;
@@ -263,10 +263,10 @@ fn shot_or_pin_along(
 fn pinned_to(board: &Board, side: Color, square: usize, snipers: u128) -> Option<u128>
     requires square { square < 81 }
     requires snipers { HasBits snipers (is_sniper board.now (opponent_of side) square) }
-    ensures shot { IsNone result → some_below 8 (is_shot_along board.now (opponent_of side) square) ≡ true }
-    ensures open { IfSome result (λ m. some_below 8 (is_shot_along board.now (opponent_of side) square) ≡ false) }
+    ensures shot { IsNone result → is_shot board.now (opponent_of side) square ≡ true }
+    ensures open { IfSome result (λ m. is_shot board.now (opponent_of side) square ≡ false) }
     ensures fits { IfSome result (λ m. m < 2 ^ 81) }
-    ensures all { IfSome result (λ m. (d n a : ℕ) → d < 8 → n < 81 → a < 81 → is_pinned_by board.now side square (direction_at d) n a ≡ true → has_bit m n ≡ true) }
+    ensures all { IfSome result (λ m. HasPinned m board.now side square) }
 {
     let mut pinned = 0;
     for direction in 0..8 {
@@ -284,7 +284,7 @@ fn pinned_pieces(board: &Board, side: Color, square: usize) -> Option<u128>
     ensures attacked { IsNone result → is_attacked board.now (opponent_of side) square ≡ true }
     ensures safe { IfSome result (λ m. is_attacked board.now (opponent_of side) square ≡ false) }
     ensures fits { IfSome result (λ m. m < 2 ^ 81) }
-    ensures all { IfSome result (λ m. (d n a : ℕ) → d < 8 → n < 81 → a < 81 → is_pinned_by board.now side square (direction_at d) n a ≡ true → has_bit m n ≡ true) }
+    ensures all { IfSome result (λ m. HasPinned m board.now side square) }
 {
     let by = side.opponent();
     if is_stepped_on(board, by, square) {
@@ -373,7 +373,7 @@ impl Board {
         ensures checked { IsNone result → in_check self.now side ≡ true }
         ensures unchecked { IfSome result (λ m. in_check self.now side ≡ false) }
         ensures fits { IfSome result (λ m. m < 2 ^ 81) }
-        ensures free { IfSome result (λ m. (n : ℕ) → n < 81 → has_bit m n ≡ false → is_piece_of side (piece_at self.now n) ≡ true → in_check (slice_set self.now n None) side ≡ false) }
+        ensures free { IfSome result (λ m. OthersAreUnpinned m self.now side) }
     {
         let mut left = self.kings(side);
         let mut found = 0;

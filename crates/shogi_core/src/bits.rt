@@ -1,6 +1,6 @@
 //! Sets of squares as the bits of a number: bit n is the square of index n.
 
-ghost use Rattle.std.specs.Prelude.{◌≡◌, ◌≢◌, ◌<◌, ◌≤◌, ◌^◌, ◌%◌, ◌==◌, ◌&&◌, ◌||◌, not, true, false, ℕ};
+ghost use Rattle.std.specs.Prelude.{◌≡◌, ◌≢◌, ◌<◌, ◌≤◌, ◌^◌, ◌%◌, ◌==◌, ◌&&◌, ◌||◌, not, true, ℕ};
 ghost use Rattle.shogi_core.specs.Below.{some_below};
 ghost use Rattle.shogi_core.specs.Bits.{HasBits, has_bit};
 
@@ -105,20 +105,4 @@ pub fn without_lowest(mask: u128, n: usize) -> u128
 {
     let _ = n;
     mask & (mask - 1)
-}
-
-/// The place of the lowest set bit from n on, and 81 where there is none.
-#[tactic(auto, using(crate::proofs::LineBits::next_bits))]
-pub fn next_of(mask: u128, n: usize) -> usize
-    requires n { n ≤ 81 }
-    requires fits { mask < 2 ^ 81 }
-    ensures range { (n ≤ result) × (result ≤ 81) }
-    ensures none { (i : ℕ) → n ≤ i → i < result → has_bit mask i ≡ false }
-    ensures set { result < 81 → has_bit mask result ≡ true }
-{
-    let rest = mask >> n;
-    if rest == 0 {
-        return 81;
-    }
-    n + rest.trailing_zeros() as usize
 }

@@ -1,11 +1,10 @@
 //! Positions: what stands on the board, what each side holds, and whose turn it is.
 
-ghost use Rattle.std.specs.Prelude.{slice_set, ℕ, ◌<◌, ◌^◌, is_none, ◌≡◌, ◌↔◌, IsTrue, Ok, Err, None, Some, MatchOption};
+ghost use Rattle.std.specs.Prelude.{◌<◌, ◌^◌, is_none, ◌≡◌, ◌↔◌, IsTrue, Ok, Err, None, Some, MatchOption};
 ghost use Rattle.shogi_core.specs.Bits.{HasBits};
 ghost use Rattle.shogi_core.specs.Cell.{is_piece_of, is_king};
 ghost use Rattle.shogi_core.specs.Movement.{reaches, piece_at};
-ghost use Rattle.shogi_core.specs.Pieces.{opponent_of};
-ghost use Rattle.shogi_core.specs.Position.{Shogi, count_in_hand};
+ghost use Rattle.shogi_core.specs.Position.{Shogi, count_in_hand, with_piece_moved, with_piece_dropped};
 ghost use Rattle.shogi_core.specs.Same.{is_same_position};
 ghost use Rattle.shogi_core.specs.Validity.{IsValid, fault_of};
 
@@ -69,8 +68,8 @@ impl Position {
     /// The other side is to move, `from` is empty, this stands on `to`, and both sides hold these;
     /// all else stays. The position must then have none of the faults.
     pub fn move_piece(&mut self, from: Square, to: Square, piece: Option<Piece>, hands: Hands)
-        requires { fault_of (record { cells = slice_set (slice_set self.old.cells from None) to piece; hands = hands; side = opponent_of self.old.side }) ≡ None }
-        ensures { self.new ≡ record { cells = slice_set (slice_set self.old.cells from None) to piece; hands = hands; side = opponent_of self.old.side } }
+        requires { fault_of (with_piece_moved self.old from to piece hands) ≡ None }
+        ensures { self.new ≡ with_piece_moved self.old from to piece hands }
     {
         let Position {
             board,
@@ -86,8 +85,8 @@ impl Position {
     /// The other side is to move, this stands on `to`, and both sides hold these; all else stays.
     /// The position must then have none of the faults.
     pub fn drop_piece(&mut self, to: Square, dropped: Option<Piece>, hands: Hands)
-        requires { fault_of (record { cells = slice_set self.old.cells to dropped; hands = hands; side = opponent_of self.old.side }) ≡ None }
-        ensures { self.new ≡ record { cells = slice_set self.old.cells to dropped; hands = hands; side = opponent_of self.old.side } }
+        requires { fault_of (with_piece_dropped self.old to dropped hands) ≡ None }
+        ensures { self.new ≡ with_piece_dropped self.old to dropped hands }
     {
         let Position {
             board,

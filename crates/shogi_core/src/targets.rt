@@ -1,9 +1,8 @@
 //! The squares that a piece reaches, as a mask.
 
-ghost use Rattle.std.specs.Prelude.{◌≡◌, ◌<◌, ◌^◌, ◌||◌, ℕ, Some};
-ghost use Rattle.std.specs.List.{list_any};
+ghost use Rattle.std.specs.Prelude.{◌≡◌, ◌<◌, ◌^◌, Some};
 ghost use Rattle.shogi_core.specs.Bits.{HasBits};
-ghost use Rattle.shogi_core.specs.Movement.{reaches, cell_reaches, has_slide, slides, straight, diagonal, forward, for_side};
+ghost use Rattle.shogi_core.specs.Movement.{reaches, cell_reaches, has_slide, slides, straight, diagonal, forward, is_slide};
 
 use crate::bits::has;
 use crate::board::Board;
@@ -19,7 +18,7 @@ use crate::steps::step_squares;
 pub fn straight_squares(board: &Board, color: Color, from: usize) -> u128
     requires { from < 81 }
     ensures fits { result < 2 ^ 81 }
-    ensures bits { HasBits result (λ b. list_any (λ o. slides board.now (for_side color o) from b) straight) }
+    ensures bits { HasBits result (is_slide board.now color straight from) }
 {
     slide_squares(board, UP, from)
         | slide_squares(board, DOWN, from)
@@ -32,7 +31,7 @@ pub fn straight_squares(board: &Board, color: Color, from: usize) -> u128
 pub fn diagonal_squares(board: &Board, color: Color, from: usize) -> u128
     requires { from < 81 }
     ensures fits { result < 2 ^ 81 }
-    ensures bits { HasBits result (λ b. list_any (λ o. slides board.now (for_side color o) from b) diagonal) }
+    ensures bits { HasBits result (is_slide board.now color diagonal from) }
 {
     slide_squares(board, UP_LEFT, from)
         | slide_squares(board, UP_RIGHT, from)
@@ -45,7 +44,7 @@ pub fn diagonal_squares(board: &Board, color: Color, from: usize) -> u128
 fn forward_squares(board: &Board, color: Color, from: usize) -> u128
     requires { from < 81 }
     ensures fits { result < 2 ^ 81 }
-    ensures bits { HasBits result (λ b. list_any (λ o. slides board.now (for_side color o) from b) forward) }
+    ensures bits { HasBits result (is_slide board.now color forward from) }
 {
     match color {
         Color::Black => slide_squares(board, UP, from),
