@@ -86,10 +86,10 @@ is_pinned_by cells color square o from sniper =
     is_piece_of color (piece_at cells from) && is_sniper cells (opponent_of color) square sniper
     && is_on_ray o square sniper && slides cells o square from && slides cells o from sniper
 
--- the mask has each piece of the side that is pinned to the square in the direction
-abbrev pub HasPinnedAlong : ℕ → Cells → Color → ℕ → Offset → Type 0
-HasPinnedAlong m cells side square o = (n a : ℕ) → n < 81 → a < 81
-    → is_pinned_by cells side square o n a ≡ true → has_bit m n ≡ true
+-- the mask has each piece of the side that is pinned to the square in the direction of that number
+abbrev pub HasPinnedAlong : ℕ → Cells → Color → ℕ → ℕ → Type 0
+HasPinnedAlong m cells side square direction = (n a : ℕ) → n < 81 → a < 81
+    → is_pinned_by cells side square (direction_at direction) n a ≡ true → has_bit m n ≡ true
 
 -- the mask has each piece of the side that is pinned to the square, in whichever direction
 abbrev pub HasPinned : ℕ → Cells → Color → ℕ → Type 0

@@ -213,7 +213,7 @@ fn shot_or_pin(
     ensures shot { result ≡ is_shot_along board.now (opponent_of side) square direction }
     ensures fits { pinned.new < 2 ^ 81 }
     ensures kept { (n : ℕ) → has_bit pinned.old n ≡ true → has_bit pinned.new n ≡ true }
-    ensures all { result ≡ false → HasPinnedAlong pinned.new board.now side square (direction_at direction) }
+    ensures all { result ≡ false → HasPinnedAlong pinned.new board.now side square direction }
 {
     let Some(first) = first_piece(board, direction, square) else {
         return false
@@ -250,7 +250,7 @@ fn shot_or_pin_along(
     ensures shot { result ≡ is_shot_along board.now (opponent_of side) square direction }
     ensures fits { pinned.new < 2 ^ 81 }
     ensures kept { (n : ℕ) → has_bit pinned.old n ≡ true → has_bit pinned.new n ≡ true }
-    ensures all { result ≡ false → HasPinnedAlong pinned.new board.now side square (direction_at direction) }
+    ensures all { result ≡ false → HasPinnedAlong pinned.new board.now side square direction }
 {
     if ray(direction, square) & snipers == 0 {
         return false;
