@@ -5,7 +5,7 @@ use Rattle.shogi_core.specs.declared.piece.Piece.{Piece}
 use Rattle.shogi_core.specs.declared.moves.Move.{Move}
 use Rattle.shogi_core.specs.declared.moves.Move.TheVariants.{Board}
 use Rattle.shogi_core.specs.Attack.{in_check, is_attacked}
-use Rattle.shogi_core.specs.Bits.{has_bit}
+use Rattle.shogi_core.specs.Bits.{HasBits, has_bit}
 use Rattle.shogi_core.specs.Cell.{is_piece_of}
 use Rattle.shogi_core.specs.Codes.{code_of}
 use Rattle.shogi_core.specs.Movement.{Cells, piece_at, reaches}
@@ -26,12 +26,12 @@ is_unchecked p m = not (in_check (cells_after p.cells p.side m) p.side)
 -- the mask has those of the ends at which the piece leaves its king unattacked
 abbrev pub AreUncheckedEnds : Shogi → ℕ → ℕ → ℕ → Type 0
 AreUncheckedEnds p from ends mask =
-    (n : ℕ) → n < 81 → has_bit mask n ≡ (has_bit ends n && is_unchecked p (Board from n false))
+    HasBits mask (λ n. has_bit ends n && is_unchecked p (Board from n false))
 
 -- the mask has those of the ends at which the move of the piece is legal, promoting or not
 abbrev pub AreLegalEnds : Shogi → ℕ → Bool → ℕ → ℕ → Type 0
 AreLegalEnds p from promote ends mask =
-    (n : ℕ) → n < 81 → has_bit mask n ≡ (has_bit ends n && is_legal_code p (code_of (Board from n promote)))
+    HasBits mask (λ n. has_bit ends n && is_legal_code p (code_of (Board from n promote)))
 
 -- the piece reaches each square of the mask, and none of the side to move stands there
 abbrev pub AreEnterable : Shogi → ℕ → ℕ → Type 0

@@ -3,7 +3,7 @@ use Rattle.std.specs.Prelude.{ℕ, ◌≡◌, ◌≢◌, ◌≤◌, ◌<◌, ◌
 use Rattle.shogi_core.specs.declared.moves.TheConstants.{FIRST_DROP, SQUARE_CODES}
 use Rattle.shogi_core.specs.declared.moves.Move.TheVariants.{Board, Drop}
 use Rattle.shogi_core.specs.declared.piece.Kind.{Kind}
-use Rattle.shogi_core.specs.Bits.{has_bit}
+use Rattle.shogi_core.specs.Bits.{HasBits, has_bit}
 use Rattle.shogi_core.specs.Codes.{code_of}
 use Rattle.shogi_core.specs.Pieces.{kind_number}
 use Rattle.shogi_core.specs.Position.{Shogi}
@@ -22,7 +22,7 @@ wanted_from p capture first = filter (is_of_sort p capture) (legal_from p first)
 -- the mask has the ends at which the move of the piece is legal and of the sort, promoting or not
 abbrev pub AreWantedEnds : Shogi → Bool → ℕ → Bool → ℕ → Type 0
 AreWantedEnds p capture from promote mask =
-    (n : ℕ) → n < 81 → has_bit mask n ≡ is_wanted p capture (code_of (Board from n promote))
+    HasBits mask (λ n. is_wanted p capture (code_of (Board from n promote)))
 
 -- the mask has the squares whose codes pass, from a code on
 pub record Keeps (test : ℕ → Bool) (place : ℕ → ℕ) (code mask : ℕ) : Type 0 where

@@ -5,7 +5,7 @@ ghost use Rattle.shogi_core.specs.declared.moves.Move.TheVariants as moves;
 ghost use Rattle.shogi_core.specs.declared.piece.Kind.TheVariants as kinds;
 ghost use Rattle.shogi_moves.specs.Legal.{is_pseudo_legal_drop, is_safe, is_pawn_drop_mate, may_promote};
 ghost use Rattle.shogi_core.specs.Attack.{in_check};
-ghost use Rattle.shogi_core.specs.Bits.{has_bit};
+ghost use Rattle.shogi_core.specs.Bits.{HasBits, has_bit};
 ghost use Rattle.shogi_core.specs.Cell.{is_piece_of, is_king, is_immobile};
 ghost use Rattle.shogi_core.specs.Codes.{code_of};
 ghost use Rattle.shogi_core.specs.Movement.{piece_at};
@@ -30,7 +30,7 @@ pub struct Ends {
 
 /// Where captures end, or the other moves.
 pub fn ends_of_sort(p: &Position, capture: bool) -> u128
-    ensures bits { (n : ℕ) → n < 81 → has_bit result n ≡ is_end capture p.now.side (piece_at p.now.cells n) }
+    ensures bits { HasBits result (λ n. is_end capture p.now.side (piece_at p.now.cells n)) }
     ensures fits { result < 2 ^ 81 }
 {
     if capture {
@@ -189,8 +189,8 @@ fn safe_ends(p: &Position, guard: &Guard, from: Square, ends: u128) -> u128
 #[tactic(auto, using(crate::proofs::EndLaws::promoting))]
 fn with_promotions(cell: Option<Piece>, from: Square, ends: u128) -> Ends
     requires { ends < 2 ^ 81 }
-    ensures plain { (n : ℕ) → n < 81 → has_bit result.plain n ≡ (has_bit ends n && not (is_immobile n cell)) }
-    ensures promoting { (n : ℕ) → n < 81 → has_bit result.promoting n ≡ (has_bit ends n && may_promote cell from n) }
+    ensures plain { HasBits result.plain (λ n. has_bit ends n && not (is_immobile n cell)) }
+    ensures promoting { HasBits result.promoting (λ n. has_bit ends n && may_promote cell from n) }
     ensures plain_fits { result.plain < 2 ^ 81 }
     ensures promoting_fits { result.promoting < 2 ^ 81 }
 {
@@ -210,7 +210,7 @@ fn with_promotions(cell: Option<Piece>, from: Square, ends: u128) -> Ends
 /// The squares on which no piece of the side to move stands.
 #[tactic(auto, using(crate::proofs::EndLaws::entering_bits))]
 pub fn enterable(p: &Position) -> u128
-    ensures { (n : ℕ) → n < 81 → has_bit result n ≡ not (is_piece_of p.now.side (piece_at p.now.cells n)) }
+    ensures { HasBits result (λ n. not (is_piece_of p.now.side (piece_at p.now.cells n))) }
 {
     !p.own(p.side())
 }
@@ -244,7 +244,7 @@ pub fn legal_ends(p: &Position, guard: &Guard, from: Square, among: u128) -> End
 /// Where one of the held pieces may be dropped by the rules on drops, apart from checks.
 #[tactic(auto, using(crate::proofs::EndLaws::dropping))]
 fn pseudo_legal_drops(p: &Position, kind: Kind) -> u128
-    ensures bits { (n : ℕ) → n < 81 → has_bit result n ≡ is_pseudo_legal_drop p.now.cells p.now.hands p.now.side kind n }
+    ensures bits { HasBits result (is_pseudo_legal_drop p.now.cells p.now.hands p.now.side kind) }
     ensures fits { result < 2 ^ 81 }
 {
     let side = p.side();
@@ -264,7 +264,7 @@ fn pseudo_legal_drops(p: &Position, kind: Kind) -> u128
 #[tactic(auto, using(crate::proofs::EndLaws::sifting))]
 fn tried_drops(p: &Position, kind: Kind, ends: u128) -> u128
     requires { ends < 2 ^ 81 }
-    ensures bits { (n : ℕ) → n < 81 → has_bit result n ≡ (has_bit ends n && is_unchecked p.now (moves.Drop kind n)) }
+    ensures bits { HasBits result (λ n. has_bit ends n && is_unchecked p.now (moves.Drop kind n)) }
     ensures fits { result < 2 ^ 81 }
 {
     let mut left = ends;
@@ -288,7 +288,7 @@ fn tried_drops(p: &Position, kind: Kind, ends: u128) -> u128
 #[tactic(auto, using(crate::proofs::EndLaws::safe_dropping))]
 pub fn safe_drops(p: &Position, guard: &Guard, kind: Kind) -> u128
     requires guard { IsGuardOf guard.now p.now }
-    ensures bits { (n : ℕ) → n < 81 → has_bit result n ≡ is_safe p.now (moves.Drop kind n) }
+    ensures bits { HasBits result (λ n. is_safe p.now (moves.Drop kind n)) }
     ensures fits { result < 2 ^ 81 }
 {
     p.validity();
@@ -304,7 +304,8 @@ pub fn safe_drops(p: &Position, guard: &Guard, kind: Kind) -> u128
 #[tactic(auto, using(crate::proofs::DropChecks::facing))]
 fn facing_squares(p: &Position) -> u128
     ensures fits { result < 2 ^ 81 }
-    ensures far { (n : ℕ) → n < 81 → has_bit result n ≡ false → not (is_pawn_drop_mate p.now (moves.Drop kinds.Pawn n)) ≡ true }
+    ensures far { (n : ℕ) → n < 81 → has_bit result n ≡ false
+        → not (is_pawn_drop_mate p.now (moves.Drop kinds.Pawn n)) ≡ true }
 {
     p.validity();
     let opponent = p.side().opponent();
@@ -326,8 +327,9 @@ fn facing_squares(p: &Position) -> u128
 #[tactic(auto, using(crate::proofs::EndLaws::sifting))]
 fn fair_drops(p: &Position, ends: u128) -> u128
     requires fits { ends < 2 ^ 81 }
-    requires safe { (n : ℕ) → n < 81 → has_bit ends n ≡ is_safe p.now (moves.Drop kinds.Pawn n) }
-    ensures bits { (n : ℕ) → n < 81 → has_bit result n ≡ (has_bit ends n && not (is_pawn_drop_mate p.now (moves.Drop kinds.Pawn n))) }
+    requires safe { HasBits ends (λ n. is_safe p.now (moves.Drop kinds.Pawn n)) }
+    ensures bits { HasBits result (λ n.
+        has_bit ends n && not (is_pawn_drop_mate p.now (moves.Drop kinds.Pawn n))) }
     ensures fits { result < 2 ^ 81 }
 {
     let mut left = ends & facing_squares(p);
@@ -351,7 +353,7 @@ fn fair_drops(p: &Position, ends: u128) -> u128
 #[tactic(auto, using(crate::proofs::EndLaws::legal_dropping))]
 pub fn drop_ends(p: &Position, guard: &Guard, kind: Kind) -> u128
     requires guard { IsGuardOf guard.now p.now }
-    ensures bits { (n : ℕ) → n < 81 → has_bit result n ≡ is_wanted p.now false (code_of (moves.Drop kind n)) }
+    ensures bits { HasBits result (λ n. is_wanted p.now false (code_of (moves.Drop kind n))) }
     ensures fits { result < 2 ^ 81 }
 {
     let ends = safe_drops(p, guard, kind);

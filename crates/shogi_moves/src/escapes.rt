@@ -3,7 +3,7 @@
 ghost use Rattle.std.specs.Prelude.{◌≡◌, ◌<◌, ◌^◌, ◌&&◌, ℕ, not, true, false, Option};
 ghost use Rattle.shogi_core.specs.declared.piece.Piece.{Piece};
 ghost use Rattle.shogi_core.specs.Attack.{is_attacked};
-ghost use Rattle.shogi_core.specs.Bits.{has_bit};
+ghost use Rattle.shogi_core.specs.Bits.{HasBits, has_bit};
 ghost use Rattle.shogi_core.specs.Movement.{Cells, cell_reaches};
 ghost use Rattle.shogi_moves.specs.Escapes.{AreEscapes, HasOpenEscape};
 ghost use Rattle.shogi_moves.specs.Replies.{IsAnswered, AreAnswered, AreDropsAnswered};
@@ -18,7 +18,7 @@ use shogi_core::{
 #[tactic(auto, using(crate::proofs::EndLaws::sifting))]
 fn unattacked(board: &Board, by: Color, squares: u128) -> u128
     requires { squares < 2 ^ 81 }
-    ensures bits { (n : ℕ) → n < 81 → has_bit result n ≡ (has_bit squares n && not (is_attacked board.now by n)) }
+    ensures bits { HasBits result (λ n. has_bit squares n && not (is_attacked board.now by n)) }
     ensures fits { result < 2 ^ 81 }
 {
     let mut left = squares;

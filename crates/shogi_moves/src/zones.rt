@@ -1,7 +1,7 @@
 //! Squares by rank, as masks.
 
-ghost use Rattle.std.specs.Prelude.{◌≡◌, ◌<◌, ◌^◌, ◌/◌, ◌==◌, ◌&&◌, ℕ, nat_lt};
-ghost use Rattle.shogi_core.specs.Bits.{has_bit};
+ghost use Rattle.std.specs.Prelude.{◌≡◌, ◌<◌, ◌^◌, ◌/◌, ◌==◌, ◌&&◌, nat_lt};
+ghost use Rattle.shogi_core.specs.Bits.{HasBits};
 ghost use Rattle.shogi_core.specs.Cell.{is_immobile, is_pawn};
 ghost use Rattle.shogi_core.specs.Validity.{pawns_on_file};
 ghost use Rattle.shogi_moves.specs.Legal.{in_promotion_zone, may_promote};
@@ -27,7 +27,7 @@ const LAST_THREE_RANKS: u128 = 2119760341242089511813568;
 /// The squares on which the piece could never move again.
 #[tactic(auto, using(crate::proofs::ZoneLaws::dead_bits))]
 pub fn dead_squares(cell: Option<Piece>) -> u128
-    ensures bits { (n : ℕ) → n < 81 → has_bit result n ≡ is_immobile n cell }
+    ensures bits { HasBits result (λ n. is_immobile n cell) }
     ensures fits { result < 2 ^ 81 }
 {
     let Some(piece) = cell else { return 0 };
@@ -43,7 +43,7 @@ pub fn dead_squares(cell: Option<Piece>) -> u128
 /// The squares of the zone in which the side promotes.
 #[tactic(auto, using(crate::proofs::ZoneLaws::zone_bits))]
 pub fn zone_squares(color: Color) -> u128
-    ensures bits { (n : ℕ) → n < 81 → has_bit result n ≡ in_promotion_zone color n }
+    ensures bits { HasBits result (in_promotion_zone color) }
     ensures fits { result < 2 ^ 81 }
 {
     match color {
@@ -55,7 +55,7 @@ pub fn zone_squares(color: Color) -> u128
 /// The squares of the two ranks that are last before the side.
 #[tactic(auto, using(crate::proofs::ZoneLaws::back_bits))]
 pub fn back_squares(color: Color) -> u128
-    ensures bits { (n : ℕ) → n < 81 → has_bit result n ≡ is_on_back_rank color n }
+    ensures bits { HasBits result (is_on_back_rank color) }
     ensures fits { result < 2 ^ 81 }
 {
     match color {
@@ -67,7 +67,7 @@ pub fn back_squares(color: Color) -> u128
 /// The squares on which the piece may promote.
 #[tactic(auto, using(crate::proofs::ZoneLaws::promoting_bits))]
 pub fn promoting_squares(cell: Option<Piece>, from: Square) -> u128
-    ensures bits { (n : ℕ) → n < 81 → has_bit result n ≡ may_promote cell from n }
+    ensures bits { HasBits result (may_promote cell from) }
     ensures fits { result < 2 ^ 81 }
 {
     let Some(piece) = cell else { return 0 };
@@ -107,7 +107,7 @@ fn is_pawn(cell: Option<Piece>, side: Color) -> bool
 #[inline(never)]
 #[tactic(auto, using(crate::proofs::PawnFiles::pawn_files))]
 pub fn pawn_files(p: &Position, side: Color) -> u128
-    ensures bits { (n : ℕ) → n < 81 → has_bit result n ≡ nat_lt 0 (pawns_on_file side (n / 9) p.now.cells) }
+    ensures bits { HasBits result (λ n. nat_lt 0 (pawns_on_file side (n / 9) p.now.cells)) }
     ensures fits { result < 2 ^ 81 }
 {
     p.validity();
