@@ -13,7 +13,8 @@ use Rattle.shogi_core.specs.Position.{Shogi, HandCounts, count_in_hand, place_of
 -- what stood on a square, as it stands after its move
 abbrev pub piece_moved : Bool → Option Piece → Option Piece
 piece_moved promote None = None
-piece_moved promote (Some piece) = Some (record { color = piece.color; role = cond promote (promoted piece.role) piece.role })
+piece_moved promote (Some piece) =
+    Some (record { color = piece.color; role = cond promote (promoted piece.role) piece.role })
 
 -- a held piece as the side drops it, unpromoted
 abbrev pub dropped : Color → Kind → Option Piece
@@ -22,7 +23,8 @@ dropped color kind = Some (record { color = color; role = role_of kind })
 -- one more of a kind in the side's hand; a king goes to no hand
 abbrev pub with_one_more : HandCounts → Color → Option Kind → HandCounts
 with_one_more hands color None = hands
-with_one_more hands color (Some kind) = slice_set hands (place_of color kind) (count_in_hand hands color kind + 1)
+with_one_more hands color (Some kind) =
+    slice_set hands (place_of color kind) (count_in_hand hands color kind + 1)
 
 -- a captured piece goes to the captor's hand as its unpromoted kind
 abbrev pub with_captured : HandCounts → Color → Option Piece → HandCounts
@@ -31,17 +33,23 @@ with_captured hands color (Some piece) = with_one_more hands color (kind_of piec
 
 -- the cells after a move of the side
 abbrev pub cells_after : Cells → Color → Move → Cells
-cells_after cells side (Board from to promote) = slice_set (slice_set cells from None) to (piece_moved promote (piece_at cells from))
+cells_after cells side (Board from to promote) =
+    slice_set (slice_set cells from None) to (piece_moved promote (piece_at cells from))
 cells_after cells side (Drop kind to) = slice_set cells to (dropped side kind)
 
 -- the hands after a move of the side: a capture adds one, a drop takes one
 abbrev pub hands_after : HandCounts → Cells → Color → Move → HandCounts
 hands_after hands cells side (Board from to promote) = with_captured hands side (piece_at cells to)
-hands_after hands cells side (Drop kind to) = slice_set hands (place_of side kind) (count_in_hand hands side kind - 1)
+hands_after hands cells side (Drop kind to) =
+    slice_set hands (place_of side kind) (count_in_hand hands side kind - 1)
 
 -- the position after the move; the other side is to move
 abbrev pub after : Shogi → Move → Shogi
-after p m = record { cells = cells_after p.cells p.side m; hands = hands_after p.hands p.cells p.side m; side = opponent_of p.side }
+after p m = record {
+  cells = cells_after p.cells p.side m;
+  hands = hands_after p.hands p.cells p.side m;
+  side = opponent_of p.side;
+}
 
 -- the position after the move, and the same position where there is none
 abbrev pub after_some : Shogi → Option Move → Shogi

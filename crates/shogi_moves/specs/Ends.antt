@@ -41,7 +41,8 @@ AreEnterable p from mask = (n : ℕ) → n < 81 → has_bit mask n ≡ true
 -- on that board the other side attacks the square just as it does once the king has left its own
 abbrev pub ShowsAttack : Shogi → Cells → ℕ → ℕ → Type 0
 ShowsAttack p seen king to =
-    is_attacked seen (opponent_of p.side) to ≡ is_attacked (slice_set p.cells king None) (opponent_of p.side) to
+    is_attacked seen (opponent_of p.side) to
+    ≡ is_attacked (slice_set p.cells king None) (opponent_of p.side) to
 
 -- of the first squares, those are kept that pass or are still to be tried
 pub record Sifts (first left kept : ℕ) (test : ℕ → Bool) : Type 0 where

@@ -22,7 +22,8 @@ pub record IsEscape (cells : Cells) (side : Color) (k e : ℕ) : Type 0 where
 
 -- a mask of such squares of the side that is not to move
 pub record AreEscapes (p : Shogi) (mask : ℕ) : Type 0 where
-  pub escapes : (k e : ℕ) → k < 81 → is_king (opponent_of p.side) (piece_at p.cells k) ≡ true → e < 81 → has_bit mask e ≡ true → IsEscape p.cells (opponent_of p.side) k e
+  pub escapes : (k e : ℕ) → k < 81 → is_king (opponent_of p.side) (piece_at p.cells k) ≡ true
+      → e < 81 → has_bit mask e ≡ true → IsEscape p.cells (opponent_of p.side) k e
   pub fits : mask < 2 ^ 81
 
 -- the king of the side that is not to move has such a square that is not among the closed ones and not where a move ends, and the move does not end on the king

@@ -12,9 +12,13 @@ use Rattle.shogi_moves.specs.declared.guard.Guard.{Guard}
 -- whether the side to move is in check, and a mask with its king: in check it has the squares on open lines with the king, and else the side's own pieces without which there might be one
 pub record Guards (p : Shogi) (checked : Bool) (exposed : ℕ) : Type 0 where
   pub check : checked ≡ in_check p.cells p.side
-  pub kings : (n : ℕ) → n < 81 → has_bit exposed n ≡ false → is_king p.side (piece_at p.cells n) ≡ false
-  pub lines : checked ≡ true → (n : ℕ) → n < 81 → has_bit exposed n ≡ false → is_lined_with_king p.cells p.side n ≡ false
-  pub free : checked ≡ false → (n : ℕ) → n < 81 → has_bit exposed n ≡ false → is_piece_of p.side (piece_at p.cells n) ≡ true → in_check (slice_set p.cells n None) p.side ≡ false
+  pub kings : (n : ℕ) → n < 81 → has_bit exposed n ≡ false
+      → is_king p.side (piece_at p.cells n) ≡ false
+  pub lines : checked ≡ true → (n : ℕ) → n < 81 → has_bit exposed n ≡ false
+      → is_lined_with_king p.cells p.side n ≡ false
+  pub free : checked ≡ false → (n : ℕ) → n < 81 → has_bit exposed n ≡ false
+      → is_piece_of p.side (piece_at p.cells n) ≡ true
+      → in_check (slice_set p.cells n None) p.side ≡ false
   pub fits : exposed < 2 ^ 81
 
 -- a guard with such a test and such a mask of the position
@@ -24,4 +28,5 @@ IsGuardOf guard p = Guards p guard.checked guard.exposed
 -- the mask has the kings of a side, and the squares on open lines with those of them that are not left
 pub record Exposes (cells : Cells) (side : Color) (left exposed : ℕ) : Type 0 where
   pub kings : (n : ℕ) → n < 81 → is_king side (piece_at cells n) ≡ true → has_bit exposed n ≡ true
-  pub lines : (k n : ℕ) → k < 81 → n < 81 → is_king side (piece_at cells k) ≡ true → has_bit left k ≡ false → are_lined cells k n ≡ true → has_bit exposed n ≡ true
+  pub lines : (k n : ℕ) → k < 81 → n < 81 → is_king side (piece_at cells k) ≡ true
+      → has_bit left k ≡ false → are_lined cells k n ≡ true → has_bit exposed n ≡ true

@@ -39,7 +39,9 @@ in_promotion_zone White square = nat_lt 5 (square % 9)
 -- a piece that can promote may do so by a move that begins or ends in the zone
 abbrev pub may_promote : Option Piece → ℕ → ℕ → Bool
 may_promote None from to = false
-may_promote (Some piece) from to = is_promotable piece.role && (in_promotion_zone piece.color from || in_promotion_zone piece.color to)
+may_promote (Some piece) from to =
+    is_promotable piece.role
+    && (in_promotion_zone piece.color from || in_promotion_zone piece.color to)
 
 -- the kind is the pawn
 abbrev pub is_pawn_kind : Kind → Bool
@@ -65,7 +67,8 @@ is_pseudo_legal_drop cells hands side kind to =
 
 -- the rules on one move, apart from checks and mates
 abbrev pub is_pseudo_legal : Shogi → Move → Bool
-is_pseudo_legal p (Board from to promote) = is_pseudo_legal_board_move p.cells p.side from to promote
+is_pseudo_legal p (Board from to promote) =
+    is_pseudo_legal_board_move p.cells p.side from to promote
 is_pseudo_legal p (Drop kind to) = is_pseudo_legal_drop p.cells p.hands p.side kind to
 
 -- pseudo-legal, and the mover is not in check after it; mate by the drop of a pawn is not looked at

@@ -27,7 +27,10 @@ cell_steps (Some piece) a t = has_step piece a t
 
 -- the piece on a may step to t: none of its own stands there, and it can move again from there without promotion
 abbrev pub is_open_step : Cells → Color → ℕ → ℕ → Bool
-is_open_step cells side a t = cell_steps (piece_at cells a) a t && not (is_piece_of side (piece_at cells t)) && not (is_immobile t (piece_at cells a))
+is_open_step cells side a t =
+    cell_steps (piece_at cells a) a t
+    && not (is_piece_of side (piece_at cells t))
+    && not (is_immobile t (piece_at cells a))
 
 -- the square lies on a line with a king of the side, whatever stands between
 abbrev pub is_line_of_king : Cells → Color → ℕ → ℕ → Bool
@@ -39,7 +42,11 @@ is_aligned_with_king cells side a = some_below 81 (is_line_of_king cells side a)
 
 -- a piece of the side with such a step, which is no king and on no line with one
 unfoldable pub is_spare : Cells → Color → ℕ → Bool
-is_spare cells side a = is_piece_of side (piece_at cells a) && not (is_king side (piece_at cells a)) && not (is_aligned_with_king cells side a) && some_below 81 (is_open_step cells side a)
+is_spare cells side a =
+    is_piece_of side (piece_at cells a)
+    && not (is_king side (piece_at cells a))
+    && not (is_aligned_with_king cells side a)
+    && some_below 81 (is_open_step cells side a)
 
 -- a kind that goes on from every square, and is no pawn
 abbrev pub is_free_kind : Kind → Bool
@@ -51,7 +58,11 @@ is_free_kind _ = false
 
 -- the side holds a piece of such a kind, which it may drop on each empty square where it is in no check
 abbrev pub holds_free : HandCounts → Color → Bool
-holds_free hands side = nat_lt 0 (count_in_hand hands side Silver) || nat_lt 0 (count_in_hand hands side Gold) || nat_lt 0 (count_in_hand hands side Bishop) || nat_lt 0 (count_in_hand hands side Rook)
+holds_free hands side =
+    nat_lt 0 (count_in_hand hands side Silver)
+    || nat_lt 0 (count_in_hand hands side Gold)
+    || nat_lt 0 (count_in_hand hands side Bishop)
+    || nat_lt 0 (count_in_hand hands side Rook)
 
 -- a spare piece stands there, or nothing, and such a piece is held
 abbrev pub is_way : Shogi → Color → ℕ → Bool
@@ -60,37 +71,48 @@ is_way p side a = is_spare p.cells side a || is_none (piece_at p.cells a) && hol
 -- a mask with the kings of a side and all squares that those see which are not left
 pub record Sees (cells : Cells) (side : Color) (left sight : ℕ) : Type 0 where
   pub kings : (n : ℕ) → n < 81 → is_king side (piece_at cells n) ≡ true → has_bit sight n ≡ true
-  pub squares : (k n : ℕ) → k < 81 → n < 81 → is_king side (piece_at cells k) ≡ true → has_bit left k ≡ false → is_seen cells k n ≡ true → has_bit sight n ≡ true
+  pub squares : (k n : ℕ) → k < 81 → n < 81 → is_king side (piece_at cells k) ≡ true
+      → has_bit left k ≡ false → is_seen cells k n ≡ true → has_bit sight n ≡ true
 
 -- a mask with the kings of a side and all squares on lines with those which are not left
 pub record Aligns (cells : Cells) (side : Color) (left lines : ℕ) : Type 0 where
   pub kings : (n : ℕ) → n < 81 → is_king side (piece_at cells n) ≡ true → has_bit lines n ≡ true
-  pub squares : (k n : ℕ) → k < 81 → n < 81 → is_king side (piece_at cells k) ≡ true → has_bit left k ≡ false → are_aligned k n ≡ true → has_bit lines n ≡ true
+  pub squares : (k n : ℕ) → k < 81 → n < 81 → is_king side (piece_at cells k) ≡ true
+      → has_bit left k ≡ false → are_aligned k n ≡ true → has_bit lines n ≡ true
 
 -- no piece of the other side that slides and is on a line with a king of the side is on an open line with the square
 abbrev pub StaysCovered : Cells → Color → ℕ → Type 0
-StaysCovered cells side n = (a : ℕ) → a < 81 → is_sniping cells side a ≡ true → are_lined cells n a ≡ false
+StaysCovered cells side n =
+    (a : ℕ) → a < 81 → is_sniping cells side a ≡ true → are_lined cells n a ≡ false
 
 -- what would stand on the square attacks no king of the side
 abbrev pub IsHarmless : Cells → Color → Option Piece → ℕ → Type 0
-IsHarmless cells side cell to = (k : ℕ) → k < 81 → is_king side (piece_at cells k) ≡ true → cell_reaches cells cell to k ≡ false
+IsHarmless cells side cell to = (k : ℕ) → k < 81 → is_king side (piece_at cells k) ≡ true
+    → cell_reaches cells cell to k ≡ false
 
 -- the same once another square is left
 abbrev pub IsHarmlessFrom : Cells → Color → ℕ → Option Piece → ℕ → Type 0
-IsHarmlessFrom cells side from cell to = (k : ℕ) → k < 81 → is_king side (piece_at cells k) ≡ true → cell_reaches (slice_set cells from None) cell to k ≡ false
+IsHarmlessFrom cells side from cell to = (k : ℕ) → k < 81 → is_king side (piece_at cells k) ≡ true
+    → cell_reaches (slice_set cells from None) cell to k ≡ false
 
 -- what leaves a square is off the sight of the side's kings, or covers no king from a piece that slides and attacks none where it ends
 abbrev pub UncoversNothing : Cells → Color → ℕ → ℕ → Option Piece → ℕ → Type 0
-UncoversNothing cells side sight from cell to = (has_bit sight from ≡ false) ⊎ (IsHarmlessFrom cells side from cell to × StaysCovered cells side from)
+UncoversNothing cells side sight from cell to =
+    (has_bit sight from ≡ false)
+    ⊎ (IsHarmlessFrom cells side from cell to × StaysCovered cells side from)
 
 -- what stands on the square uncovers nothing where it moves to squares that are not of the mask and from which it attacks no king
 abbrev pub UncoversWithin : Cells → Color → ℕ → ℕ → ℕ → Type 0
-UncoversWithin cells side sight from mask = (promote : Bool) (n : ℕ) → n < 81 → has_bit mask n ≡ false → IsHarmless cells side (piece_moved promote (piece_at cells from)) n
+UncoversWithin cells side sight from mask = (promote : Bool) (n : ℕ) → n < 81
+    → has_bit mask n ≡ false
+    → IsHarmless cells side (piece_moved promote (piece_at cells from)) n
     → UncoversNothing cells side sight from (piece_moved promote (piece_at cells from)) n
 
 -- from a square that is not of the mask the piece attacks none of the kings of the side that are not left
-pub record ChecksWithin (cells : Cells) (side : Color) (cell : Option Piece) (left checks : ℕ) : Type 0 where
-  pub harmless : (k n : ℕ) → k < 81 → n < 81 → is_king side (piece_at cells k) ≡ true → has_bit left k ≡ false → has_bit checks n ≡ false → cell_reaches cells cell n k ≡ false
+pub record ChecksWithin (cells : Cells) (side : Color) (cell : Option Piece)
+    (left checks : ℕ) : Type 0 where
+  pub harmless : (k n : ℕ) → k < 81 → n < 81 → is_king side (piece_at cells k) ≡ true
+      → has_bit left k ≡ false → has_bit checks n ≡ false → cell_reaches cells cell n k ≡ false
 
 -- such a mask for the side that is not to move, and some of the squares that give it a move
 pub record IsReplies (p : Shogi) (sight spare : ℕ) : Type 0 where
@@ -130,5 +152,9 @@ pub record IsFarMove (p : Shogi) (sight from n : ℕ) : Type 0 where
 
 -- each move of what stands on the square that takes nothing is answered and cannot promote
 pub record HasCertainQuiets (p : Shogi) (from : ℕ) : Type 0 where
-  pub answered : (n : ℕ) → n < 81 → (reaches p.cells from n && is_end false p.side (piece_at p.cells n)) ≡ true → IsAnswered p (Board from n false)
-  pub plain : (n : ℕ) → n < 81 → (reaches p.cells from n && is_end false p.side (piece_at p.cells n)) ≡ true → may_promote (piece_at p.cells from) from n ≡ false
+  pub answered : (n : ℕ) → n < 81
+      → (reaches p.cells from n && is_end false p.side (piece_at p.cells n)) ≡ true
+      → IsAnswered p (Board from n false)
+  pub plain : (n : ℕ) → n < 81
+      → (reaches p.cells from n && is_end false p.side (piece_at p.cells n)) ≡ true
+      → may_promote (piece_at p.cells from) from n ≡ false

@@ -45,7 +45,8 @@ pub record KeepsDrop (p : Shogi) (kind : Kind) (code ends : ℕ) : Type 0 where
 
 -- the moves of the sort from a code on are of pieces on squares of the mask, or drops
 pub record HasWantedOn (p : Shogi) (capture : Bool) (code mask : ℕ) : Type 0 where
-  pub on : (c : ℕ) → code ≤ c → c < FIRST_DROP → is_wanted p capture c ≡ true → has_bit mask (c / SQUARE_CODES) ≡ true
+  pub on : (c : ℕ) → code ≤ c → c < FIRST_DROP → is_wanted p capture c ≡ true
+      → has_bit mask (c / SQUARE_CODES) ≡ true
 
 -- the ends still to come of the present piece or kind of a sweep, with what is known of the position
 pub record IsBoardSweep (p : Shogi) (capture : Bool) (s : BoardSweep) : Type 0 where
@@ -80,4 +81,5 @@ IsPassed fact (code ∷ codes) left = (code ∷ codes ≡ left) ⊎ (fact code �
 -- the certain quiet moves below another code are passed
 pub record IsPassedTo (p : Shogi) (code next : ℕ) : Type 0 where
   pub up : code ≤ next
-  pub passed : (first : ℕ) → first ≤ code → IsPassed (IsCertainQuiet p first) (wanted_from p false code) (wanted_from p false next)
+  pub passed : (first : ℕ) → first ≤ code
+      → IsPassed (IsCertainQuiet p first) (wanted_from p false code) (wanted_from p false next)
