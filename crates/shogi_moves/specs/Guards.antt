@@ -1,9 +1,9 @@
 -- What is kept of a position, so that most of its moves need no look at checks.
-use Rattle.std.specs.Prelude.{ℕ, ◌≡◌, ◌<◌, ◌^◌, Bool, true, false, None, slice_set}
+use Rattle.std.specs.Prelude.{ℕ, ◌≡◌, ◌<◌, ◌^◌, Bool, true, false}
 use Rattle.shogi_core.specs.declared.piece.Color.{Color}
-use Rattle.shogi_core.specs.Attack.{in_check}
+use Rattle.shogi_core.specs.Attack.{in_check, OthersAreUnpinned}
 use Rattle.shogi_core.specs.Bits.{has_bit}
-use Rattle.shogi_core.specs.Cell.{is_king, is_piece_of}
+use Rattle.shogi_core.specs.Cell.{is_king}
 use Rattle.shogi_core.specs.Lines.{are_lined, is_lined_with_king}
 use Rattle.shogi_core.specs.Movement.{Cells, piece_at}
 use Rattle.shogi_core.specs.Position.{Shogi}
@@ -16,9 +16,7 @@ pub record Guards (p : Shogi) (checked : Bool) (exposed : ℕ) : Type 0 where
       → is_king p.side (piece_at p.cells n) ≡ false
   pub lines : checked ≡ true → (n : ℕ) → n < 81 → has_bit exposed n ≡ false
       → is_lined_with_king p.cells p.side n ≡ false
-  pub free : checked ≡ false → (n : ℕ) → n < 81 → has_bit exposed n ≡ false
-      → is_piece_of p.side (piece_at p.cells n) ≡ true
-      → in_check (slice_set p.cells n None) p.side ≡ false
+  pub free : checked ≡ false → OthersAreUnpinned exposed p.cells p.side
   pub fits : exposed < 2 ^ 81
 
 -- a guard with such a test and such a mask of the position

@@ -1,11 +1,8 @@
 //! What is kept of a position, so that most of its moves need no look at checks.
 
-ghost use Rattle.std.specs.Prelude.{◌≡◌, ◌<◌, ◌^◌, ◌&&◌, ℕ, not, true, false, None, slice_set};
-ghost use Rattle.shogi_core.specs.Attack.{in_check};
-ghost use Rattle.shogi_core.specs.Lines.{are_lined};
+ghost use Rattle.std.specs.Prelude.{◌≡◌, ◌<◌, ◌^◌, ◌&&◌, not, false};
+ghost use Rattle.shogi_core.specs.Attack.{in_check, OthersAreUnpinned};
 ghost use Rattle.shogi_core.specs.Bits.{has_bit};
-ghost use Rattle.shogi_core.specs.Cell.{is_piece_of};
-ghost use Rattle.shogi_core.specs.Movement.{piece_at};
 ghost use Rattle.shogi_moves.specs.Guards.{IsGuardOf, Exposes};
 
 use crate::attack::in_check;
@@ -55,7 +52,7 @@ pub fn full_guard(p: &Position, checked: bool) -> Guard
 fn calm_guard(p: &Position, pinned: u128) -> Guard
     requires safe { in_check p.now.cells p.now.side ≡ false }
     requires fits { pinned < 2 ^ 81 }
-    requires free { (n : ℕ) → n < 81 → has_bit pinned n ≡ false → is_piece_of p.now.side (piece_at p.now.cells n) ≡ true → in_check (slice_set p.now.cells n None) p.now.side ≡ false }
+    requires free { OthersAreUnpinned pinned p.now.cells p.now.side }
     ensures { IsGuardOf result p.now }
 {
     Guard {
