@@ -78,7 +78,8 @@ taken_gain e (Some piece) = value_of piece.role + value_of_captured e (kind_of p
 -- what a promotion gains
 abbrev pub promotion_gain : Bool → Option Piece → ℕ
 promotion_gain promote None = 0
-promotion_gain promote (Some piece) = cond promote (value_of (promoted piece.role) - value_of piece.role) 0
+promotion_gain promote (Some piece) =
+    cond promote (value_of (promoted piece.role) - value_of piece.role) 0
 
 -- what a drop gains: the piece leaves the hand and stands on the board
 abbrev pub drop_gain : Eval → Kind → ℤ

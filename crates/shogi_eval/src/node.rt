@@ -128,7 +128,8 @@ impl Node {
     /// The material after a legal drop of the kind, on any square, from the side that is to move then.
     #[inline(always)]
     pub fn score_after_drop(&self, kind: Kind) -> i32
-        ensures { (to : ℕ) → to < 81 → is_legal self.now.position (moves.Drop kind to) ≡ true → material_of (after self.now.position (moves.Drop kind to)) self.now.eval ≡ result }
+        ensures { (to : ℕ) → to < 81 → is_legal self.now.position (moves.Drop kind to) ≡ true
+            → material_of (after self.now.position (moves.Drop kind to)) self.now.eval ≡ result }
     {
         let p = self.as_position();
         p.validity();

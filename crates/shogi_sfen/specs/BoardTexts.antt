@@ -13,7 +13,9 @@ use Rattle.shogi_sfen.specs.Items.{item_cells}
 -- what a byte says, where a plus stands right before it or not: a number of empty squares, or a piece
 abbrev pub item_named : Bool → ℕ → Option RankItem
 item_named plus byte =
-    cond (not plus && (nat_lt ZERO byte && nat_lt byte (ZERO + 10))) (Some (Empty (byte - ZERO))) (option_map (λ piece. Occupied piece) (piece_named plus byte))
+    cond (not plus && (nat_lt ZERO byte && nat_lt byte (ZERO + 10)))
+    (Some (Empty (byte - ZERO)))
+    (option_map (λ piece. Occupied piece) (piece_named plus byte))
 
 -- an item, and then others
 abbrev pub onto_items : Option RankItem → Option (List RankItem) → Option (List RankItem)
@@ -27,7 +29,9 @@ is_first_plus plus byte = not plus && byte == PLUS
 -- the items of bytes, where a plus stands right before them or not
 abbrev pub items_from : Bool → List ℕ → Option (List RankItem)
 items_from plus [] = cond plus None (Some [])
-items_from plus (byte ∷ bytes) = cond (is_first_plus plus byte) (items_from true bytes) (onto_items (item_named plus byte) (items_from false bytes))
+items_from plus (byte ∷ bytes) =
+    cond (is_first_plus plus byte) (items_from true bytes)
+    (onto_items (item_named plus byte) (items_from false bytes))
 
 -- the squares of items
 abbrev pub squares_in : Option (List RankItem) → Option Cells
@@ -67,7 +71,8 @@ place_in_text square = square % 9 * 9 + (8 - square / 9)
 
 -- the board of squares in the order of a text
 abbrev pub board_from : Cells → Cells
-board_from squares = map (λ square. piece_at squares (place_in_text square)) (range_with_len 0 BOARD_SQUARES)
+board_from squares =
+    map (λ square. piece_at squares (place_in_text square)) (range_with_len 0 BOARD_SQUARES)
 
 -- the squares of nine ranks
 abbrev pub squares_of : List (List ℕ) → Option Cells

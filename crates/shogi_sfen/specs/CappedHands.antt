@@ -14,7 +14,9 @@ use Rattle.shogi_sfen.specs.Letters.{piece_named}
 -- so many more of a kind held by the side
 abbrev pub capped_kind : HandCounts → ℕ → Color → Option Kind → Option HandCounts
 capped_kind hands count color None = None
-capped_kind hands count color (Some kind) = Some (slice_set hands (place_of color kind) (min COUNTED_MAX (count_in_hand hands color kind + count)))
+capped_kind hands count color (Some kind) =
+    Some (slice_set hands (place_of color kind)
+    (min COUNTED_MAX (count_in_hand hands color kind + count)))
 
 -- so many more of a piece, if it can be held
 abbrev pub capped_piece : HandCounts → ℕ → Option Piece → Option HandCounts
@@ -23,7 +25,9 @@ capped_piece hands count (Some piece) = capped_kind hands count piece.color (kin
 
 -- one more digit of a count, of which the first is not 0
 abbrev pub capped_digit : Option ℕ → ℕ → Option ℕ
-capped_digit count byte = cond (is_none count && byte == ZERO) None (Some (min COUNTED_MAX (unwrap_or count 0 * 10 + (byte - ZERO))))
+capped_digit count byte =
+    cond (is_none count && byte == ZERO) None
+    (Some (min COUNTED_MAX (unwrap_or count 0 * 10 + (byte - ZERO))))
 
 -- the hands that the bytes say on top of those so far, where a count stands right before or none does
 abbrev pub capped_from : HandCounts → Option ℕ → List ℕ → Option HandCounts
@@ -32,7 +36,8 @@ capped_from hands (Some count) [] = None
 capped_from hands count (byte ∷ bytes) =
     cond (is_ascii_digit byte)
     (option_and_then (λ more. capped_from hands (Some more) bytes) (capped_digit count byte))
-    (option_and_then (λ more. capped_from more None bytes) (capped_piece hands (unwrap_or count 1) (piece_named false byte)))
+    (option_and_then (λ more. capped_from more None bytes)
+    (capped_piece hands (unwrap_or count 1) (piece_named false byte)))
 
 -- each count, or the most that is counted where it is greater
 abbrev pub capped : HandCounts → HandCounts

@@ -15,7 +15,8 @@ use Rattle.shogi_sfen.specs.Letters.{piece_named}
 -- so many more of a kind held by the side
 abbrev pub with_kind : HandCounts → ℕ → Color → Option Kind → Option HandCounts
 with_kind hands count color None = None
-with_kind hands count color (Some kind) = Some (slice_set hands (place_of color kind) (count_in_hand hands color kind + count))
+with_kind hands count color (Some kind) =
+    Some (slice_set hands (place_of color kind) (count_in_hand hands color kind + count))
 
 -- so many more of a piece, if it can be held
 abbrev pub with_piece : HandCounts → ℕ → Option Piece → Option HandCounts
@@ -24,7 +25,8 @@ with_piece hands count (Some piece) = with_kind hands count piece.color (kind_of
 
 -- one more digit of a count, of which the first is not 0
 abbrev pub with_digit : Option ℕ → ℕ → Option ℕ
-with_digit count byte = cond (is_none count && byte == ZERO) None (Some (unwrap_or count 0 * 10 + (byte - ZERO)))
+with_digit count byte =
+    cond (is_none count && byte == ZERO) None (Some (unwrap_or count 0 * 10 + (byte - ZERO)))
 
 -- the hands that the bytes say on top of those so far, where a count stands right before or none does
 abbrev pub hands_from : HandCounts → Option ℕ → List ℕ → Option HandCounts
@@ -33,7 +35,8 @@ hands_from hands (Some count) [] = None
 hands_from hands count (byte ∷ bytes) =
     cond (is_ascii_digit byte)
     (option_and_then (λ more. hands_from hands (Some more) bytes) (with_digit count byte))
-    (option_and_then (λ more. hands_from more None bytes) (with_piece hands (unwrap_or count 1) (piece_named false byte)))
+    (option_and_then (λ more. hands_from more None bytes)
+    (with_piece hands (unwrap_or count 1) (piece_named false byte)))
 
 -- nothing held by either side
 abbrev pub no_hands : HandCounts

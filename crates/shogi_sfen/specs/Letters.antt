@@ -58,7 +58,9 @@ all_roles =
 
 -- the piece is named by the letter, behind a plus or not
 abbrev pub is_named : Bool → ℕ → Piece → Bool
-is_named plus letter piece = cond plus (is_promoted piece.role) (not (is_promoted piece.role)) && piece_letter piece == letter
+is_named plus letter piece =
+    cond plus (is_promoted piece.role) (not (is_promoted piece.role))
+    && piece_letter piece == letter
 
 -- the side of a letter
 abbrev pub color_of_letter : ℕ → Color
@@ -66,7 +68,8 @@ color_of_letter letter = cond (nat_lt letter LOWER_CASE) Black White
 
 -- the role, among all there are, that the letter names for the side, behind a plus or not
 abbrev pub role_named : Bool → ℕ → Color → Option Role
-role_named plus letter color = find (λ role. is_named plus letter (record { color = color; role = role })) all_roles
+role_named plus letter color =
+    find (λ role. is_named plus letter (record { color = color; role = role })) all_roles
 
 -- a piece of the side
 abbrev pub piece_of_side : Color → Option Role → Option Piece
@@ -75,4 +78,5 @@ piece_of_side color (Some role) = Some (record { color = color; role = role })
 
 -- the piece, among all there are, that the letter names, behind a plus or not
 unfoldable pub piece_named : Bool → ℕ → Option Piece
-piece_named plus letter = piece_of_side (color_of_letter letter) (role_named plus letter (color_of_letter letter))
+piece_named plus letter =
+    piece_of_side (color_of_letter letter) (role_named plus letter (color_of_letter letter))

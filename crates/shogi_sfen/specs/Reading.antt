@@ -9,7 +9,9 @@ use Rattle.shogi_sfen.specs.Letters.{kind_named}
 -- the square of a digit and a letter
 abbrev pub square_read : ℕ → ℕ → Option ℕ
 square_read file rank =
-    cond (nat_lt (FIRST_FILE - 1) file && nat_lt file (FIRST_FILE + 9) && nat_lt (FIRST_RANK - 1) rank && nat_lt rank (FIRST_RANK + 9)) (Some ((file - FIRST_FILE) * 9 + (rank - FIRST_RANK))) None
+    cond (nat_lt (FIRST_FILE - 1) file && nat_lt file (FIRST_FILE + 9)
+    && nat_lt (FIRST_RANK - 1) rank && nat_lt rank (FIRST_RANK + 9))
+    (Some ((file - FIRST_FILE) * 9 + (rank - FIRST_RANK))) None
 
 -- a move from a square to a square
 abbrev pub board_read : Option ℕ → Option ℕ → Bool → Option Move
@@ -24,14 +26,18 @@ drop_read _ _ = None
 -- four bytes: a drop where the second is a star, else a board move
 abbrev pub short_read : List ℕ → Option Move
 short_read text =
-    cond (slice_index text 1 == STAR) (drop_read (kind_named (slice_index text 0)) (square_read (slice_index text 2) (slice_index text 3)))
-    (board_read (square_read (slice_index text 0) (slice_index text 1)) (square_read (slice_index text 2) (slice_index text 3)) false)
+    let to = square_read (slice_index text 2) (slice_index text 3) in
+    cond (slice_index text 1 == STAR) (drop_read (kind_named (slice_index text 0)) to)
+    (board_read (square_read (slice_index text 0) (slice_index text 1)) to false)
 
 -- five bytes: a promotion, where the last is a plus
 abbrev pub long_read : List ℕ → Option Move
 long_read text =
-    cond (slice_index text 4 == PLUS) (board_read (square_read (slice_index text 0) (slice_index text 1)) (square_read (slice_index text 2) (slice_index text 3)) true) None
+    let from = square_read (slice_index text 0) (slice_index text 1) in
+    let to = square_read (slice_index text 2) (slice_index text 3) in
+    cond (slice_index text 4 == PLUS) (board_read from to true) None
 
 -- the move of a text
 unfoldable pub move_read : List ℕ → Option Move
-move_read text = cond (length text == 4) (short_read text) (cond (length text == 5) (long_read text) None)
+move_read text =
+    cond (length text == 4) (short_read text) (cond (length text == 5) (long_read text) None)

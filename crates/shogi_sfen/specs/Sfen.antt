@@ -17,7 +17,9 @@ use Rattle.shogi_sfen.specs.declared.position.SfenFault.TheVariants.{BadBoard, B
 
 -- the side to move of a word
 abbrev pub side_of : List ℕ → Option Color
-side_of word = cond (bytes_eq word (codes "b")) (Some Black) (cond (bytes_eq word (codes "w")) (Some White) None)
+side_of word =
+    cond (bytes_eq word (codes "b")) (Some Black)
+    (cond (bytes_eq word (codes "w")) (Some White) None)
 
 -- a position by the first of its faults, if it has one
 abbrev pub judged : Option PositionFault → Shogi → ℕ → Result (Shogi × ℕ) SfenFault
@@ -25,16 +27,19 @@ judged None position end = Ok (position, end)
 judged (Some fault) position end = Err (Invalid fault)
 
 -- a position by its parts, and the first fault of those that are missing
-abbrev pub position_of_parts : Option Cells → Option Color → Option HandCounts → ℕ → Result (Shogi × ℕ) SfenFault
+abbrev pub position_of_parts : Option Cells → Option Color → Option HandCounts → ℕ
+    → Result (Shogi × ℕ) SfenFault
 position_of_parts None side hands end = Err BadBoard
 position_of_parts (Some cells) None hands end = Err BadSide
 position_of_parts (Some cells) (Some side) None end = Err BadHand
 position_of_parts (Some cells) (Some side) (Some hands) end =
-    let position : Shogi = record { cells = cells; hands = hands; side = side } in judged (fault_of position) position end
+    let position : Shogi = record { cells = cells; hands = hands; side = side } in
+    judged (fault_of position) position end
 
 -- what stands after a first word that is a number, or all where it is none
 abbrev pub past_number : List ℕ → List ℕ
-past_number text = cond (option_map_or is_number (slice_get (words text) 0) false) (after_word text) text
+past_number text =
+    cond (option_map_or is_number (slice_get (words text) 0) false) (after_word text) text
 
 -- the index right after the last word read: the third, or the fourth where that is a number
 abbrev pub end_of : List ℕ → ℕ
@@ -44,7 +49,9 @@ end_of text = length text - length (past_number (rest_after 3 text))
 unfoldable pub position_at : List ℕ → Result (Shogi × ℕ) SfenFault
 position_at text =
     let ws = words text in
-    position_of_parts (option_and_then board_of (slice_get ws 0)) (option_and_then side_of (slice_get ws 1)) (option_and_then hands_of (slice_get ws 2)) (end_of text)
+    position_of_parts (option_and_then board_of (slice_get ws 0))
+    (option_and_then side_of (slice_get ws 1)) (option_and_then hands_of (slice_get ws 2))
+    (end_of text)
 
 -- a word ends before these bytes: they are none, or begin with a space or a tab
 abbrev pub EndsWord : List ℕ → Type 0

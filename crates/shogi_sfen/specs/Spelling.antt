@@ -54,7 +54,8 @@ hand_item_text item = item.digits ++ cased_for item.color (letter_of item.kind) 
 
 -- the item is of this side and kind
 abbrev pub is_hand_item_of : Color → Kind → HandItem → Bool
-is_hand_item_of color kind item = is_same_color item.color color && kind_number item.kind == kind_number kind
+is_hand_item_of color kind item =
+    is_same_color item.color color && kind_number item.kind == kind_number kind
 
 -- how many of a kind an item gives a side
 abbrev pub count_given : Color → Kind → HandItem → ℕ
@@ -65,7 +66,8 @@ pub record SpellsHands (text : List ℕ) (hands : HandCounts) : Type 0 where
   pub places : length hands ≡ 14
   pub items : List HandItem
   pub each : AllByRecursion (λ item. AreCountDigits item.digits) items
-  pub sums : (color : Color) (kind : Kind) → count_in_hand hands color kind ≡ sum_by (count_given color kind) items
+  pub sums : (color : Color) (kind : Kind)
+      → count_in_hand hands color kind ≡ sum_by (count_given color kind) items
   pub spelled : or_hyphen (flat_map hand_item_text items) ≡ text
 
 -- of the words of a text (`words` of Words: what stands between spaces and tabs), the first three are a text of the position's board, one of its side to move, and one of its hands; what follows is not looked at
@@ -84,4 +86,5 @@ HasSide words = IsSomeAnd (slice_get words 1) (λ text. (side : Color) × (text 
 
 -- the third word is the text of some hands
 abbrev pub HasHands : List (List ℕ) → Type 0
-HasHands words = IsSomeAnd (slice_get words 2) (λ text. (hands : HandCounts) × SpellsHands text hands)
+HasHands words =
+    IsSomeAnd (slice_get words 2) (λ text. (hands : HandCounts) × SpellsHands text hands)

@@ -39,19 +39,26 @@ side_text White = codes "w"
 
 -- a count below 100, where it is over 1
 abbrev pub count_digits : ℕ → List ℕ
-count_digits count = cond (nat_lt count 2) [] (cond (nat_lt count 10) ((count + ZERO) ∷ []) ((count / 10 + ZERO) ∷ (count % 10 + ZERO) ∷ []))
+count_digits count =
+    cond (nat_lt count 2) []
+    (cond (nat_lt count 10) ((count + ZERO) ∷ [])
+    ((count / 10 + ZERO) ∷ (count % 10 + ZERO) ∷ []))
 
 -- so many of a kind
 abbrev pub held_text : Color → Kind → ℕ → List ℕ
-held_text color kind count = cond (count == 0) [] (count_digits count ++ cased_for color (letter_of kind) ∷ [])
+held_text color kind count =
+    cond (count == 0) [] (count_digits count ++ cased_for color (letter_of kind) ∷ [])
 
 -- the kinds in their order in a text: R B G S N L P
 abbrev pub kinds_in_text : List Kind
-kinds_in_text = kinds.Rook ∷ kinds.Bishop ∷ kinds.Gold ∷ kinds.Silver ∷ kinds.Knight ∷ kinds.Lance ∷ kinds.Pawn ∷ []
+kinds_in_text =
+    kinds.Rook ∷ kinds.Bishop ∷ kinds.Gold ∷ kinds.Silver ∷ kinds.Knight ∷ kinds.Lance ∷ kinds.Pawn
+    ∷ []
 
 -- what a side holds
 abbrev pub side_held_text : HandCounts → Color → List ℕ
-side_held_text hands color = flat_map (λ kind. held_text color kind (count_in_hand hands color kind)) kinds_in_text
+side_held_text hands color =
+    flat_map (λ kind. held_text color kind (count_in_hand hands color kind)) kinds_in_text
 
 -- a hyphen for nothing
 abbrev pub or_hyphen : List ℕ → List ℕ
@@ -64,4 +71,6 @@ hands_text hands = or_hyphen (side_held_text hands Black ++ side_held_text hands
 
 -- the one written text: board, side and hands with a space between each two
 unfoldable pub position_text : Shogi → List ℕ
-position_text position = board_text position.cells ++ (SPACE ∷ (side_text position.side ++ (SPACE ∷ hands_text position.hands)))
+position_text position =
+    board_text position.cells
+    ++ (SPACE ∷ (side_text position.side ++ (SPACE ∷ hands_text position.hands)))

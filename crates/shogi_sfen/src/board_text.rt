@@ -84,7 +84,8 @@ fn push_item(rank: &mut Rank, item: Option<RankItem>) -> bool
 /// The nine squares of a rank, if the bytes say one.
 #[tactic(auto, unfolding(crate::specs::BoardTexts::rank_of))]
 fn read_rank(part: &[u8]) -> Option<Rank>
-    ensures value { MatchOption result (rank_of part.now ≡ None) (λ rank. rank_of part.now ≡ Some rank.items) }
+    ensures value { MatchOption result (rank_of part.now ≡ None)
+        (λ rank. rank_of part.now ≡ Some rank.items) }
     ensures len { IfSome result (λ rank. length rank.items ≡ RANK_SQUARES) }
 {
     let mut rank = ArrayVec::new();
@@ -145,7 +146,8 @@ fn skip(text: &[u8], count: usize) -> &[u8]
 
 /// The squares of nine ranks, if the bytes say them.
 fn read_squares(word: &[u8]) -> Option<Squares>
-    ensures value { MatchOption result (squares_of (slice_split is_slash word.now) ≡ None) (λ squares. squares_of (slice_split is_slash word.now) ≡ Some squares.items) }
+    ensures value { MatchOption result (squares_of (slice_split is_slash word.now) ≡ None)
+        (λ squares. squares_of (slice_split is_slash word.now) ≡ Some squares.items) }
     ensures len { IfSome result (λ squares. length squares.items ≡ BOARD_SQUARES) }
 {
     let mut squares = ArrayVec::new();

@@ -143,11 +143,15 @@ pub fn read_position(text: &[u8]) -> Result<(Position, usize), SfenFault>
     ensures value { result ≡ position_at text.now }
     ensures within { IfOk result (λ found. found.1 ≤ length text.now) }
     ensures spelled { IfOk result (λ found. Spells (words text.now) found.0 × IsValid found.0) }
-    ensures read { (position : Shogi) → Spells (words text.now) position → IsValid position → result ≡ Ok (position, end_of text.now) }
+    ensures read { (position : Shogi) → Spells (words text.now) position → IsValid position
+        → result ≡ Ok (position, end_of text.now) }
     ensures bad_board { (result ≡ Err BadBoard) ↔ (HasBoard (words text.now) → ⊥) }
-    ensures bad_side { (result ≡ Err BadSide) ↔ (HasBoard (words text.now) × (HasSide (words text.now) → ⊥)) }
-    ensures bad_hand { (result ≡ Err BadHand) ↔ (HasBoard (words text.now) × HasSide (words text.now) × (HasHands (words text.now) → ⊥)) }
-    ensures invalid { (fault : PositionFault) → (result ≡ Err (Invalid fault)) ↔ ((position : Shogi) × Spells (words text.now) position × (fault_of position ≡ Some fault)) }
+    ensures bad_side { (result ≡ Err BadSide)
+        ↔ (HasBoard (words text.now) × (HasSide (words text.now) → ⊥)) }
+    ensures bad_hand { (result ≡ Err BadHand) ↔ (HasBoard (words text.now)
+        × HasSide (words text.now) × (HasHands (words text.now) → ⊥)) }
+    ensures invalid { (fault : PositionFault) → (result ≡ Err (Invalid fault)) ↔ (
+        (position : Shogi) × Spells (words text.now) position × (fault_of position ≡ Some fault)) }
 {
     position_at(text)
 }

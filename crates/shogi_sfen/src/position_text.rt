@@ -174,8 +174,11 @@ fn side_letter(side: Color) -> u8
 /// The one written text of the position (SFEN): board, side and hands, without a move number.
 pub fn write_position(position: &Position) -> ArrayVec<u8, TEXT_BYTES>
     ensures text { result.items ≡ position_text position.now }
-    ensures back { (tail : List ℕ) → EndsWord tail → position_at (position_text position.now ++ tail) ≡ Ok (position.now, end_of (position_text position.now ++ tail)) }
-    ensures spelled { (tail : List ℕ) → EndsWord tail → Spells (words (position_text position.now ++ tail)) position.now }
+    ensures back { (tail : List ℕ) → EndsWord tail
+        → position_at (position_text position.now ++ tail)
+        ≡ Ok (position.now, end_of (position_text position.now ++ tail)) }
+    ensures spelled { (tail : List ℕ) → EndsWord tail
+        → Spells (words (position_text position.now ++ tail)) position.now }
 {
     // Told to the proof: the position is valid, so that no side holds 100 of a kind.
     position.validity();
