@@ -1,8 +1,8 @@
 #!/usr/bin/env bash
 # The gate. First what the READMEs show, and `rt ci`: every proof, each edit that must be refused, each
 # test, each program; what an earlier run passed on this machine is kept there by checksums. Then the
-# program is built and run as its users run it. At the end, or where it is cut off, it tells what it cost.
-# The last line counts all of it.
+# program is built and run as its users run it. At the end, or where it is cut off, it tells what it cost,
+# and shows again what failed. The last line counts all of it.
 set -uo pipefail
 cd "$(dirname "$0")/.."
 log=$(mktemp)
@@ -24,6 +24,7 @@ if [ $status -eq 0 ]; then
 fi
 kill $costs
 wait $costs
+grep -E 'FAILED|NOT (PROVED|REFUSED|TRIED)|BAD EDIT' "$log" | tail -n 20
 awk '/^[0-9]+ passed, [0-9]+ failed$/ { passed += $1; failed += $3 }
      END { print passed + 0 " passed, " failed + 0 " failed" }' "$log"
 exit $status

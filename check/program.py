@@ -264,11 +264,12 @@ def a_front_end_that_is_gone_is_noticed():
 
 
 # A front end: it starts the program that it is given, tells the number of its group, sends a deep search,
-# and tells each line that the program writes. A shell between them tells the status on standard error.
+# and tells each line that the program writes. A shell between them tells the status on standard error, and
+# then by `times` what the program took of the processors, as in `0m1.250s 0m0.010s`.
 FRONT_END = """
 import subprocess, sys
 running = subprocess.Popen(
-    ["sh", "-c", '"$0"; echo "status $?" >&2', sys.argv[1]],
+    ["sh", "-c", '"$0"; echo "status $?" >&2; times >&2', sys.argv[1]],
     stdin=subprocess.PIPE, stdout=subprocess.PIPE, start_new_session=True, bufsize=0,
 )
 print(running.pid, flush=True)
@@ -279,31 +280,49 @@ for line in running.stdout:
 """
 
 
+def processor_seconds(words, sent):
+    """What a whole run takes of the processors."""
+    before = resource.getrusage(resource.RUSAGE_CHILDREN)
+    want(run(words, sent)[0], 0, "status")
+    after = resource.getrusage(resource.RUSAGE_CHILDREN)
+    return after.ru_utime + after.ru_stime - before.ru_utime - before.ru_stime
+
+
+def seconds_of_children(times):
+    """The second line of `times`: the seconds of the shell's children."""
+    words = times.decode().splitlines()[1].split()
+    return sum(60 * float(it.split("m")[0]) + float(it.split("m")[1].rstrip("s")) for it in words)
+
+
 def a_killed_front_end_is_noticed_at_the_next_depth():
-    """The front end is killed when depth 6 is done. Depth 7 takes several times as long as the first six,
-    and depth 8 ten times as long again: the program ends when 7 is done, and not later."""
+    """The front end is killed when depth 6 is done: the program ends when 7 is done, and not later. Depth 8
+    takes several times as long as the first seven; processor time is compared, since the machine may do
+    other work."""
+    seven = processor_seconds([], b"go depth 7\n")
     with subprocess.Popen(
         [sys.executable, "-c", FRONT_END, PROGRAM], stdout=subprocess.PIPE, stderr=subprocess.PIPE
     ) as front_end:
         group = int(front_end.stdout.readline())
-        began = time.monotonic()
         for depth in range(1, 7):
             line = front_end.stdout.readline()
             want(line.startswith(b"info depth %d " % depth), True, f"the line of depth {depth}")
-        patience = 30 * (time.monotonic() - began) + 5
         front_end.kill()
-        complaints = b""
-        until = time.monotonic() + patience
-        while not complaints.endswith(b"status 1\n"):
+        said = b""
+        until = time.monotonic() + PATIENCE
+        while True:
             left = until - time.monotonic()
             if left < 0 or not select.select([front_end.stderr], [], [], left)[0]:
                 os.killpg(group, signal.SIGKILL)
-                raise Wrong(f"it runs on for {patience:.1f} s after its front end")
+                raise Wrong(f"it runs on for {PATIENCE} s after its front end")
             piece = os.read(front_end.stderr.fileno(), 1_000)
             if not piece:
                 break
-            complaints += piece
-    want(complaints, b"usi_host: write failed\nstatus 1\n", "standard error and the status")
+            said += piece
+    ending = b"usi_host: write failed\nstatus 1\n"
+    want(said[: len(ending)], ending, "standard error and the status")
+    took = seconds_of_children(said[len(ending) :])
+    if took > 3 * seven + 0.5:
+        raise Wrong(f"it took {took:.2f} s of the processors, and {seven:.2f} s to depth 7")
 
 
 def a_closed_output_is_a_failed_write():

@@ -693,7 +693,6 @@ def a_registration_that_is_refused_while_others_wait():
         running.running.send_signal(signal.SIGCONT)
         want(to_the_end(clients[0]), b"", "the first one")
         for client in clients[1:]:
-            client.settimeout(2)
             want(exactly(client, 8), b"readyok\n", "one who waited")
             client.close()
 

@@ -32,7 +32,3 @@ one_line_front (x ∷ xs) (suc n) = one_line-cons x xs n (one_line_front xs n) (
 -- so has the line
 pub one_line_once : (xs : List ℕ) → IsOneLine (one_line xs)
 one_line_once xs = let whole : take (length (one_line xs)) (one_line xs) ≡ one_line xs = take_all (length (one_line xs)) (one_line xs) (omega arith) in rw whole at (one_line_front xs (length (one_line xs)))
-
--- where there is no LF it is all of the bytes
-pub one_line_open : (xs : List ℕ) → position_or_len is_line_feed xs ≡ length xs → one_line xs ≡ xs
-one_line_open xs e = take_all (position_or_len is_line_feed xs + 1) xs (omega arith)
