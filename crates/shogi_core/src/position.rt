@@ -1,8 +1,6 @@
 //! Positions: what stands on the board, what each side holds, and whose turn it is.
 
-ghost use Rattle.std.specs.Prelude.{◌<◌, ◌^◌, is_none, ◌≡◌, ◌↔◌, IsTrue, Ok, Err, None, Some, MatchOption};
-ghost use Rattle.shogi_core.specs.Bits.{HasBits};
-ghost use Rattle.shogi_core.specs.Cell.{is_piece_of, is_king};
+ghost use Rattle.std.specs.Prelude.{◌≡◌, ◌↔◌, IsTrue, Ok, Err, None, Some, MatchOption};
 ghost use Rattle.shogi_core.specs.Movement.{reaches, piece_at};
 ghost use Rattle.shogi_core.specs.Position.{Shogi, count_in_hand, with_piece_moved, with_piece_dropped};
 ghost use Rattle.shogi_core.specs.Same.{is_same_position};
@@ -146,38 +144,6 @@ impl Position {
         ensures { result ≡ reaches self.now.cells from to }
     {
         self.board.reaches(from, to)
-    }
-
-    /// The squares that the piece on the square reaches, bit n that of index n.
-    pub fn targets(&self, from: Square) -> u128
-        ensures bits { HasBits result (reaches self.now.cells from) }
-        ensures fits { result < 2 ^ 81 }
-    {
-        self.board.targets(from)
-    }
-
-    /// The squares on which pieces of the side stand.
-    pub fn own(&self, color: Color) -> u128
-        ensures bits { HasBits result (λ n. is_piece_of color (piece_at self.now.cells n)) }
-        ensures fits { result < 2 ^ 81 }
-    {
-        self.board.own(color)
-    }
-
-    /// The empty squares.
-    pub fn free(&self) -> u128
-        ensures bits { HasBits result (λ n. is_none (piece_at self.now.cells n)) }
-        ensures fits { result < 2 ^ 81 }
-    {
-        self.board.free()
-    }
-
-    /// The squares on which kings of the side stand.
-    pub fn kings(&self, color: Color) -> u128
-        ensures bits { HasBits result (λ n. is_king color (piece_at self.now.cells n)) }
-        ensures fits { result < 2 ^ 81 }
-    {
-        self.board.kings(color)
     }
 
     /// Whether the other is the same position, to the last piece in hand.

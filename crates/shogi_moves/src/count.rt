@@ -20,12 +20,13 @@ fn count_board(p: &Position, guard: &Guard) -> u64
     ensures range { result ≤ FIRST_DROP }
 {
     let squares = enterable(p);
-    let mut left = p.own(p.side());
+    let board = p.as_board();
+    let mut left = board.own(p.side());
     let mut total: u64 = 0;
     'pieces: while left != 0 {
         let square = lowest(left);
         let from = Square::of_index(square);
-        let ends = legal_ends(p, guard, from, p.targets(from) & squares);
+        let ends = legal_ends(p, guard, from, board.targets(from) & squares);
         total += (ends.plain.count_ones() + ends.promoting.count_ones()) as u64;
         left = without_lowest(left, square);
     }

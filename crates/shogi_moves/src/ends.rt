@@ -34,9 +34,9 @@ pub fn ends_of_sort(p: &Position, capture: bool) -> u128
     ensures fits { result < 2 ^ 81 }
 {
     if capture {
-        p.own(p.side().opponent())
+        p.as_board().own(p.side().opponent())
     } else {
-        p.free()
+        p.as_board().free()
     }
 }
 
@@ -149,7 +149,8 @@ fn risky_ends(p: &Position, guard: &Guard, from: Square, ends: u128) -> u128
 {
     p.validity();
     from.validity();
-    let kings = p.kings(p.side());
+    let board = p.as_board();
+    let kings = board.kings(p.side());
     if has(kings, from.index()) {
         if cleared(kings, from.index()) == 0 {
             return king_ends(p, guard.checked, from, ends);
@@ -157,7 +158,7 @@ fn risky_ends(p: &Position, guard: &Guard, from: Square, ends: u128) -> u128
         return tried_ends(p, from, ends);
     }
     if guard.checked {
-        let theirs = p.own(p.side().opponent());
+        let theirs = board.own(p.side().opponent());
         return tried_ends(p, from, ends & (guard.exposed | theirs));
     }
     if is_free(p, from) {
@@ -212,7 +213,7 @@ fn with_promotions(cell: Option<Piece>, from: Square, ends: u128) -> Ends
 pub fn enterable(p: &Position) -> u128
     ensures { HasBits result (λ n. not (is_piece_of p.now.side (piece_at p.now.cells n))) }
 {
-    !p.own(p.side())
+    !p.as_board().own(p.side())
 }
 
 /// The legal ends of one of the pieces of the side to move among squares that it reaches and on
@@ -251,7 +252,7 @@ fn pseudo_legal_drops(p: &Position, kind: Kind) -> u128
     if p.hand(side, kind) == 0 {
         return 0;
     }
-    let ends = p.free() & !dead_squares(dropped(side, kind));
+    let ends = p.as_board().free() & !dead_squares(dropped(side, kind));
     if is_pawn_kind(kind) {
         ends & !pawn_files(p, side)
     } else {
@@ -313,7 +314,7 @@ fn facing_squares(p: &Position) -> u128
         color: opponent,
         role: Role::Pawn,
     };
-    let mut left = p.kings(opponent);
+    let mut left = p.as_board().kings(opponent);
     let mut faces = 0;
     while left != 0 {
         let king = lowest(left);

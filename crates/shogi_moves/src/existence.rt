@@ -47,7 +47,8 @@ fn has_king_move(p: &Position) -> bool
     ensures { result ≡ true → legal_codes p.now ≢ [] }
 {
     p.validity();
-    let kings = p.kings(p.side());
+    let board = p.as_board();
+    let kings = board.kings(p.side());
     if kings == 0 {
         return false;
     }
@@ -56,8 +57,8 @@ fn has_king_move(p: &Position) -> bool
         return false;
     }
     let from = Square::of_index(king);
-    let own = p.own(p.side());
-    king_escapes(p, from, p.targets(from) & !own)
+    let own = board.own(p.side());
+    king_escapes(p, from, board.targets(from) & !own)
 }
 
 /// Whether a piece on the board has a legal move.
@@ -67,11 +68,12 @@ fn has_board_move(p: &Position, guard: &Guard) -> bool
     ensures none { result ≡ false → legal_codes p.now ≡ legal_from p.now FIRST_DROP }
 {
     let squares = enterable(p);
-    let mut left = p.own(p.side());
+    let board = p.as_board();
+    let mut left = board.own(p.side());
     'pieces: while left != 0 {
         let square = lowest(left);
         let from = Square::of_index(square);
-        let ends = legal_ends(p, guard, from, p.targets(from) & squares);
+        let ends = legal_ends(p, guard, from, board.targets(from) & squares);
         if ends.plain | ends.promoting != 0 {
             return true;
         }

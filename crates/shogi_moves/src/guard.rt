@@ -23,11 +23,12 @@ fn exposed_squares(p: &Position, side: Color) -> u128
     ensures fits { result < 2 ^ 81 }
     ensures all { Exposes p.now.cells side 0 result }
 {
-    let mut left = p.kings(side);
+    let board = p.as_board();
+    let mut left = board.kings(side);
     let mut exposed = left;
     while left != 0 {
         let king = lowest(left);
-        exposed |= p.as_board().lined(Square::of_index(king));
+        exposed |= board.lined(Square::of_index(king));
         left = without_lowest(left, king);
     }
     exposed
@@ -57,7 +58,7 @@ fn calm_guard(p: &Position, pinned: u128) -> Guard
 {
     Guard {
         checked: false,
-        exposed: p.kings(p.side()) | pinned,
+        exposed: p.as_board().kings(p.side()) | pinned,
     }
 }
 

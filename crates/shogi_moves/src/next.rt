@@ -40,7 +40,7 @@ fn ends_left(p: &Position, guard: &Guard, from: Square, code: u16) -> Ends
 {
     from.validity();
     let passed = (code - from.index() as u16 * SQUARE_CODES) as usize;
-    let ends = legal_ends(p, guard, from, p.targets(from) & enterable(p));
+    let ends = legal_ends(p, guard, from, p.as_board().targets(from) & enterable(p));
     Ends {
         plain: bits_from(ends.plain, (passed + 1) / 2),
         promoting: bits_from(ends.promoting, passed / 2),

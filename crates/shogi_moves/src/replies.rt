@@ -34,11 +34,12 @@ pub struct Replies {
 fn sight_squares(p: &Position, side: Color) -> u128
     ensures { Sees p.now.cells side 0 result }
 {
-    let mut left = p.kings(side);
+    let board = p.as_board();
+    let mut left = board.kings(side);
     let mut sight = left;
     while left != 0 {
         let king = lowest(left);
-        sight |= p.as_board().seen(Square::of_index(king));
+        sight |= board.seen(Square::of_index(king));
         left = without_lowest(left, king);
     }
     sight
@@ -49,7 +50,7 @@ fn sight_squares(p: &Position, side: Color) -> u128
 pub fn line_squares(p: &Position, side: Color) -> u128
     ensures { Aligns p.now.cells side 0 result }
 {
-    let mut left = p.kings(side);
+    let mut left = p.as_board().kings(side);
     let mut lines = left;
     while left != 0 {
         let king = lowest(left);
@@ -79,7 +80,7 @@ fn has_open_step(p: &Position, side: Color, from: Square) -> bool
         None => false,
         Some(piece) => {
             from.validity();
-            step_squares(piece, from.index()) & !p.own(side) & !dead_squares(cell) != 0
+            step_squares(piece, from.index()) & !p.as_board().own(side) & !dead_squares(cell) != 0
         }
     }
 }
@@ -92,7 +93,7 @@ fn spare_pieces(p: &Position, side: Color, lines: u128) -> u128
         → is_spare p.now.cells side a ≡ true }
     ensures fits { result < 2 ^ 81 }
 {
-    let mut left = p.own(side) & !lines;
+    let mut left = p.as_board().own(side) & !lines;
     let mut kept = left;
     let mut found = 0u8;
     while left != 0 && found < 2 {
@@ -114,7 +115,10 @@ fn attacks_king(p: &Position, side: Color, cell: Option<Piece>, to: Square) -> b
 {
     match cell {
         None => false,
-        Some(piece) => p.as_board().targets_of(piece, to) & p.kings(side) != 0,
+        Some(piece) => {
+            let board = p.as_board();
+            board.targets_of(piece, to) & board.kings(side) != 0
+        }
     }
 }
 
@@ -128,11 +132,12 @@ fn check_squares(p: &Position, side: Color, cell: Option<Piece>) -> u128
         color: piece.color.opponent(),
         role: piece.role,
     };
-    let mut left = p.kings(side);
+    let board = p.as_board();
+    let mut left = board.kings(side);
     let mut checks = 0;
     while left != 0 {
         let king = lowest(left);
-        checks |= p.as_board().targets_of(back, Square::of_index(king));
+        checks |= board.targets_of(back, Square::of_index(king));
         left = without_lowest(left, king);
     }
     checks
@@ -191,7 +196,7 @@ impl Replies {
         let opponent = p.side().opponent();
         let sight = sight_squares(p, opponent);
         let spare = if holds_free(p, opponent) {
-            p.free()
+            p.as_board().free()
         } else {
             spare_pieces(p, opponent, line_squares(p, opponent))
         };
@@ -298,7 +303,7 @@ impl Replies {
         if has(far, from.index()) {
             return true;
         }
-        let among = p.targets(from) & ends_of_sort(p, false);
+        let among = p.as_board().targets(from) & ends_of_sort(p, false);
         let promoting = promoting_squares(p.at(from), from);
         among & (promoting | !self.certain_ends(p, escapes, from, among)) == 0
     }

@@ -51,7 +51,8 @@ fn ends_on(p: &Position, guard: &Guard, capture: bool, from: Square) -> Ends
 {
     from.validity();
     if is_piece_of(p.at(from), p.side()) {
-        legal_ends(p, guard, from, p.targets(from) & ends_of_sort(p, capture))
+        let among = p.as_board().targets(from) & ends_of_sort(p, capture);
+        legal_ends(p, guard, from, among)
     } else {
         Ends {
             plain: 0,
@@ -152,12 +153,13 @@ impl BoardSweep {
     {
         p.validity();
         let sort = ends_of_sort(p, capture);
-        let pieces = bits_above(p.own(p.side()), self.from.index());
+        let board = p.as_board();
+        let pieces = bits_above(board.own(p.side()), self.from.index());
         let mut left = movers(p, capture, pieces);
         'squares: while left != 0 {
             let square = lowest(left);
             let from = Square::of_index(square);
-            let among = p.targets(from) & sort;
+            let among = board.targets(from) & sort;
             if among != 0 {
                 let ends = legal_ends(p, &self.guard, from, among);
                 if ends.plain | ends.promoting != 0 {
@@ -227,7 +229,7 @@ impl BoardSweep {
     {
         p.validity();
         let far = replies.far_pieces(p);
-        let mut left = bits_above(p.own(p.side()), self.from.index());
+        let mut left = bits_above(p.as_board().own(p.side()), self.from.index());
         'squares: while left != 0 {
             let square = lowest(left);
             let from = Square::of_index(square);

@@ -15,7 +15,7 @@ pub fn unpinnable_pieces(p: &Position) -> u128
     ensures fits { result < 2 ^ 81 }
 {
     let side = p.side().opponent();
-    p.own(side) & !line_squares(p, side)
+    p.as_board().own(side) & !line_squares(p, side)
 }
 
 /// The pieces of the side to move that the piece on the square attacks, where that is such a piece,
@@ -26,5 +26,6 @@ pub fn threatened_by(p: &Position, from: Square) -> u128
     ensures fits { result < 2 ^ 81 }
 {
     from.validity();
-    p.targets(from) & p.own(p.side()) & !dead_squares(p.at(from))
+    let board = p.as_board();
+    board.targets(from) & board.own(p.side()) & !dead_squares(p.at(from))
 }

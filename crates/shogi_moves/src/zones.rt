@@ -111,7 +111,7 @@ pub fn pawn_files(p: &Position, side: Color) -> u128
     ensures fits { result < 2 ^ 81 }
 {
     p.validity();
-    let mut left = p.own(side);
+    let mut left = p.as_board().own(side);
     let mut mask = 0;
     while left != 0 {
         let square = lowest(left);

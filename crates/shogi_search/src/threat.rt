@@ -44,7 +44,7 @@ fn greatest_from(p: &Position, e: Eval, from: Square, first: Option<Threat>) -> 
     requires first { ForSome first (IsThreatIn p.now e) }
     ensures { ForSome result (IsThreatIn p.now e) }
 {
-    let reach = p.targets(from);
+    let reach = p.as_board().targets(from);
     let mut left = threatened_by(p, from);
     let mut best = first;
     'targets: while left != 0 {

@@ -6,11 +6,11 @@ use Rattle.shogi_moves.proofs.EndLaws.{lone_king, narrowed, no_answer}
 use Rattle.shogi_moves.proofs.ends.risky_ends.Goals as goal
 
 pub king_ends-requires-clause-lone : goal.king_ends-requires-clause-lone
-king_ends-requires-clause-lone c = lone_king c.args.p.now c.kings-kings.result c.cleared.result c.args.from (rw c.side.ensures at c.kings-kings.ensures.bits) (rw c.index-then-has.ensures.index at c.cleared.ensures.bits) c.if-cleared-eq0.true
+king_ends-requires-clause-lone c = lone_king c.args.p.now c.kings-kings.result c.cleared.result c.args.from (rw (c.side.ensures, c.as_board-board.ensures) at c.kings-kings.ensures.bits) (rw c.index-then-has.ensures.index at c.cleared.ensures.bits) c.if-cleared-eq0.true
 
 pub returns-then-guard-clause-bits : goal.returns-then-guard-clause-bits
 returns-then-guard-clause-bits c = λ n h. (
     let off : has_bit c.kings-kings.result c.args.from ≡ false = search rules in
     c.tried_ends-then-guard.ensures.bits n h
     ∙ narrowed c.args.ends c.args.guard.now.exposed c.own-theirs.result n (is_unchecked c.args.p.now (Board c.args.from n false))
-    (λ out none. no_answer c.args.p.now c.args.guard.now.checked c.args.guard.now.exposed c.own-theirs.result c.args.from n c.requires.guard c.if-guard.true c.validity.ensures.cells_fit (omega arith) h c.requires.own (sym (rw c.side.ensures at c.kings-kings.ensures.bits c.args.from (omega arith)) ∙ off) (rw (c.opponent.ensures, c.side-then-guard.ensures) at c.own-theirs.ensures.bits n h) out none))
+    (λ out none. no_answer c.args.p.now c.args.guard.now.checked c.args.guard.now.exposed c.own-theirs.result c.args.from n c.requires.guard c.if-guard.true c.validity.ensures.cells_fit (omega arith) h c.requires.own (sym (rw (c.side.ensures, c.as_board-board.ensures) at c.kings-kings.ensures.bits c.args.from (omega arith)) ∙ off) (rw (c.opponent.ensures, c.side-then-guard.ensures, c.as_board-board.ensures) at c.own-theirs.ensures.bits n h) out none))
