@@ -44,6 +44,12 @@ IsChain p e d alpha beta (f ∷ fs) top =
     IsChain (after_code p (code_of m)) e (d - 1) (negated beta) (negated (threshold_of f m))
     fs top))
 
+-- the root, the depth, the evaluation and the bound are what they were
+abbrev pub KeepsGoal : Stack → Stack → Type 0
+KeepsGoal old new =
+    (new.root ≡ old.root)
+    × ((new.depth ≡ old.depth) × ((new.eval ≡ old.eval) × (new.beta ≡ old.beta)))
+
 -- the nodes that wait for a child, from the root on
 abbrev pub parents_of : Stack → List Frame
 parents_of s = take s.height s.frames

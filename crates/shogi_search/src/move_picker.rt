@@ -1,13 +1,14 @@
 //! The move picker: in which order a node's moves are visited.
 
-ghost use Rattle.std.specs.Prelude.{◌≡◌, ◌≢◌, ◌<◌, ◌≤◌, ◌++◌, ℕ, [], ◌∷◌, MatchOption, Some, None, IfSome, true, false};
+ghost use Rattle.std.specs.Prelude.{◌≡◌, ◌<◌, ◌++◌, ℕ, [], Some, None, IfSome, true, false};
 ghost use Rattle.shogi_core.specs.declared.moves.TheConstants.{FIRST_DROP};
 ghost use Rattle.shogi_core.specs.declared.piece.Kind.{Kind};
 ghost use Rattle.shogi_core.specs.Codes.{code_of};
 ghost use Rattle.shogi_moves.specs.Escapes.{AreEscapes};
-ghost use Rattle.shogi_moves.specs.Guards.{Guards};
+ghost use Rattle.shogi_moves.specs.Guards.{IsGuardOf};
 ghost use Rattle.shogi_moves.specs.Replies.{IsReplies};
 ghost use Rattle.shogi_moves.specs.Sweeps.{IsBoardSweep, IsDropSweep, IsPassed, IsCertainQuiet, IsCertainDrop};
+ghost use Rattle.shogi_moves.specs.Walks.{IsNextOf, TakesNext};
 ghost use Rattle.shogi_search.specs.Order.{is_hash_move, picks_from, todo, todo_after, BeginsWith, IsKept, IsAtQuiets, IsAtDrops};
 
 use shogi_core::{Kind, Move, Position};
@@ -46,7 +47,9 @@ fn next_board(
 ) -> Option<Move>
     requires kept { IsBoardSweep p.now capture sweep.old }
     ensures kept { IsBoardSweep p.now capture sweep.new }
-    ensures next { MatchOption result (picks_from p.now hash_move.now capture sweep.old.code ≡ picks_from p.now hash_move.now capture FIRST_DROP) (λ m. picks_from p.now hash_move.now capture sweep.old.code ≡ code_of m ∷ picks_from p.now hash_move.now capture sweep.new.code) }
+    ensures next { IsNextOf result (picks_from p.now hash_move.now capture sweep.old.code)
+        (picks_from p.now hash_move.now capture sweep.new.code)
+        (picks_from p.now hash_move.now capture FIRST_DROP) }
 {
     'picks: while let Some(m) = sweep.next(p, capture) {
         if !is_hash_move(hash_move, &m) {
@@ -62,7 +65,8 @@ fn next_board(
 fn next_drop(p: &Position, hash_move: &Option<Move>, sweep: &mut DropSweep) -> Option<Move>
     requires kept { IsDropSweep p.now sweep.old }
     ensures kept { IsDropSweep p.now sweep.new }
-    ensures next { MatchOption result (picks_from p.now hash_move.now false sweep.old.code ≡ []) (λ m. picks_from p.now hash_move.now false sweep.old.code ≡ code_of m ∷ picks_from p.now hash_move.now false sweep.new.code) }
+    ensures next { IsNextOf result (picks_from p.now hash_move.now false sweep.old.code)
+        (picks_from p.now hash_move.now false sweep.new.code) [] }
 {
     'picks: while let Some(m) = sweep.next(p) {
         if !is_hash_move(hash_move, &m) {
@@ -89,8 +93,9 @@ impl MovePicker {
 
     /// Begins with the drops.
     fn enter_drops(&mut self, p: &Position, hash_move: Option<Move>, guard: Guard) -> Option<Move>
-        requires guard { Guards p.now guard.checked guard.exposed }
-        ensures next { MatchOption result ((picks_from p.now hash_move false FIRST_DROP ≡ []) × (todo p.now self.new ≡ [])) (λ m. picks_from p.now hash_move false FIRST_DROP ≡ code_of m ∷ todo p.now self.new) }
+        requires guard { IsGuardOf guard p.now }
+        ensures next { TakesNext result (picks_from p.now hash_move false FIRST_DROP)
+            (todo p.now self.new) }
         ensures kept { IsKept p.now self.new }
     {
         let mut sweep = DropSweep::new(p, guard);
@@ -108,8 +113,8 @@ impl MovePicker {
 
     /// Begins with the quiet moves.
     fn enter_quiets(&mut self, p: &Position, hash_move: Option<Move>, guard: Guard) -> Option<Move>
-        requires guard { Guards p.now guard.checked guard.exposed }
-        ensures next { MatchOption result ((picks_from p.now hash_move false 0 ≡ []) × (todo p.now self.new ≡ [])) (λ m. picks_from p.now hash_move false 0 ≡ code_of m ∷ todo p.now self.new) }
+        requires guard { IsGuardOf guard p.now }
+        ensures next { TakesNext result (picks_from p.now hash_move false 0) (todo p.now self.new) }
         ensures kept { IsKept p.now self.new }
     {
         let mut sweep = BoardSweep::new(p, guard, false);
@@ -125,7 +130,9 @@ impl MovePicker {
     /// Begins with the captures.
     #[tactic(auto, using(crate::proofs::Picks::no_capture_left))]
     fn enter_captures(&mut self, p: &Position, hash_move: Option<Move>) -> Option<Move>
-        ensures next { MatchOption result ((picks_from p.now hash_move true 0 ++ picks_from p.now hash_move false 0 ≡ []) × (todo p.now self.new ≡ [])) (λ m. picks_from p.now hash_move true 0 ++ picks_from p.now hash_move false 0 ≡ code_of m ∷ todo p.now self.new) }
+        ensures next { TakesNext result
+            (picks_from p.now hash_move true 0 ++ picks_from p.now hash_move false 0)
+            (todo p.now self.new) }
         ensures kept { IsKept p.now self.new }
     {
         let guard = guard_of(p);
@@ -144,7 +151,8 @@ impl MovePicker {
     #[tactic(auto, using(crate::proofs::Picks::no_capture_left))]
     fn sweep_on(&mut self, p: &Position) -> Option<Move>
         requires kept { IsKept p.now self.old }
-        ensures next { MatchOption result (todo p.now self.old ≡ todo_after p.now self.new) (λ m. todo p.now self.old ≡ code_of m ∷ todo p.now self.new) }
+        ensures next { IsNextOf result (todo p.now self.old) (todo p.now self.new)
+            (todo_after p.now self.new) }
         ensures kept { IsKept p.now self.new }
     {
         if let MovePicker::Drops(hash_move, sweep) = self {
@@ -215,7 +223,7 @@ impl MovePicker {
     #[inline(never)]
     fn go_on(&mut self, p: &Position) -> Option<Move>
         requires kept { IsKept p.now self.old }
-        ensures next { MatchOption result ((todo_after p.now self.old ≡ []) × (todo p.now self.new ≡ [])) (λ m. todo_after p.now self.old ≡ code_of m ∷ todo p.now self.new) }
+        ensures next { TakesNext result (todo_after p.now self.old) (todo p.now self.new) }
         ensures kept { IsKept p.now self.new }
     {
         match *self {
@@ -238,7 +246,7 @@ impl MovePicker {
     #[inline(always)]
     pub fn next(&mut self, p: &Position) -> Option<Move>
         requires kept { IsKept p.now self.old }
-        ensures next { MatchOption result ((todo p.now self.old ≡ []) × (todo p.now self.new ≡ [])) (λ m. todo p.now self.old ≡ code_of m ∷ todo p.now self.new) }
+        ensures next { TakesNext result (todo p.now self.old) (todo p.now self.new) }
         ensures kept { IsKept p.now self.new }
     {
         let found = self.sweep_on(p);

@@ -7,7 +7,7 @@ ghost use Rattle.shogi_search.specs.Entries.{IsCutoff, move_in};
 ghost use Rattle.shogi_search.specs.Order.{IsListed};
 ghost use Rattle.shogi_search.specs.Visits.{IsFree};
 ghost use Rattle.shogi_search.specs.Frames.{IsTrueOf, IsToBeLeft};
-ghost use Rattle.shogi_search.specs.Stack.{IsStack, IsSame, IsNext, AtPlace, OnTop, MakesChild, IsTrueOfRoot, LeavesLess, steps_after, left_with_leaf, frames_of, parents_of, left_of_frame, left_of_stack};
+ghost use Rattle.shogi_search.specs.Stack.{IsStack, IsSame, IsNext, AtPlace, OnTop, MakesChild, IsTrueOfRoot, KeepsGoal, LeavesLess, steps_after, left_with_leaf, frames_of, parents_of, left_of_frame, left_of_stack};
 ghost use Rattle.shogi_search.specs.declared.bounds.TheConstants.{INFINITY};
 
 use crate::frame::{Frame, Waiting, leaf};
@@ -135,9 +135,7 @@ impl Stack {
         ensures parents { parents_of self.new ≡ frames_of self.old }
         ensures child { MakesChild self.old self.new current.now }
         ensures left { LeavesLess self.old self.new current.now }
-        ensures same { (self.new.root ≡ self.old.root) × (self.new.depth ≡ self.old.depth) }
-        ensures eval { self.new.eval ≡ self.old.eval }
-        ensures beta { self.new.beta ≡ self.old.beta }
+        ensures same { KeepsGoal self.old self.new }
     {
         make_child(&mut self.frames, self.height, current);
         self.height += 1;
@@ -155,9 +153,7 @@ impl Stack {
         ensures cutoff { result ≡ false → IsCutoff (negated INFINITY) self.old.beta entry.now }
         ensures most { left_of_stack self.new ≤ left_of_stack self.old }
         ensures none { result ≡ false → self.new ≡ self.old }
-        ensures same { (self.new.root ≡ self.old.root) × (self.new.depth ≡ self.old.depth) }
-        ensures eval { self.new.eval ≡ self.old.eval }
-        ensures beta { self.new.beta ≡ self.old.beta }
+        ensures same { KeepsGoal self.old self.new }
     {
         if self.height == 0 {
             return false;
@@ -180,9 +176,7 @@ impl Stack {
         ensures stack { IsStack self.new }
         ensures free { OnTop self.new (λ top. IsFree top.waiting) }
         ensures left { LeavesLess self.old self.new current.now }
-        ensures same { (self.new.root ≡ self.old.root) × (self.new.depth ≡ self.old.depth) }
-        ensures eval { self.new.eval ≡ self.old.eval }
-        ensures beta { self.new.beta ≡ self.old.beta }
+        ensures same { KeepsGoal self.old self.new }
         ensures capacity { M.capacity memo.new ≡ M.capacity memo.old }
     {
         self.push(current);
@@ -211,9 +205,7 @@ impl Stack {
         ensures most { result ≤ room }
         ensures left { OnTop self.old (λ top. left_of_stack self.new + result
             ≤ left_of_stack self.old + steps_after top current.now) }
-        ensures same { (self.new.root ≡ self.old.root) × (self.new.depth ≡ self.old.depth) }
-        ensures eval { self.new.eval ≡ self.old.eval }
-        ensures beta { self.new.beta ≡ self.old.beta }
+        ensures same { KeepsGoal self.old self.new }
         ensures capacity { M.capacity memo.new ≡ M.capacity memo.old }
     {
         let top = &mut self.frames[self.height];
@@ -234,9 +226,7 @@ impl Stack {
         ensures left { IfNone result (left_of_stack self.new < left_of_stack self.old) }
         ensures truth { IfSome result (IsTrueOfRoot self.old) }
         ensures cutoff { IfSome result (IsCutoff (negated INFINITY) self.old.beta) }
-        ensures same { (self.new.root ≡ self.old.root) × (self.new.depth ≡ self.old.depth) }
-        ensures eval { self.new.eval ≡ self.old.eval }
-        ensures beta { self.new.beta ≡ self.old.beta }
+        ensures same { KeepsGoal self.old self.new }
         ensures capacity { M.capacity memo.new ≡ M.capacity memo.old }
     {
         let top = &self.frames[self.height];
@@ -266,9 +256,7 @@ impl Stack {
             (left_of_stack self.new + made.new ≤ left_of_stack self.old + made.old) }
         ensures truth { IfSome result (IsTrueOfRoot self.old) }
         ensures cutoff { IfSome result (IsCutoff (negated INFINITY) self.old.beta) }
-        ensures same { (self.new.root ≡ self.old.root) × (self.new.depth ≡ self.old.depth) }
-        ensures eval { self.new.eval ≡ self.old.eval }
-        ensures beta { self.new.beta ≡ self.old.beta }
+        ensures same { KeepsGoal self.old self.new }
         ensures capacity { M.capacity memo.new ≡ M.capacity memo.old }
     {
         let top = &mut self.frames[self.height];
@@ -307,9 +295,7 @@ impl Stack {
         ensures fell { IfSome result (λ _. steps.new ≤ steps.old + left_of_stack self.old) }
         ensures truth { IfSome result (IsTrueOfRoot self.old) }
         ensures cutoff { IfSome result (IsCutoff (negated INFINITY) self.old.beta) }
-        ensures same { (self.new.root ≡ self.old.root) × (self.new.depth ≡ self.old.depth) }
-        ensures eval { self.new.eval ≡ self.old.eval }
-        ensures beta { self.new.beta ≡ self.old.beta }
+        ensures same { KeepsGoal self.old self.new }
         ensures capacity { M.capacity memo.new ≡ M.capacity memo.old }
     {
         let mut made = 0;

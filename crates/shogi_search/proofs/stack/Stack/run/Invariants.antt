@@ -1,15 +1,13 @@
 use Rattle.std.proofs.Common.{◌≡◌, ◌≤◌, ◌+◌, ◌-◌}
 use Rattle.shogi_search.specs.Visits.{IsFree}
-use Rattle.shogi_search.specs.Stack.{IsStack, OnTop, left_of_stack}
+use Rattle.shogi_search.specs.Stack.{IsStack, KeepsGoal, OnTop, left_of_stack}
 use Rattle.shogi_search.proofs.stack.Stack.run.Given as goal
 
 abbrev pub invariant-steps : goal.invariant-steps
 invariant-steps g l = record {
   stack : IsStack l.self;
   free : OnTop l.self (λ top. IsFree top.waiting);
-  eval : l.self.eval ≡ l.fn.self.eval;
-  beta : l.self.beta ≡ l.fn.self.beta;
-  same : (l.self.root ≡ l.fn.self.root) × (l.self.depth ≡ l.fn.self.depth);
+  same : KeepsGoal l.fn.self l.self;
   left : left_of_stack l.self + l.made ≤ left_of_stack l.fn.self;
   within : l.made ≤ l.budget;
   counted : l.steps ≡ l.fn.steps;
