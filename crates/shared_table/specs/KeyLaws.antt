@@ -20,11 +20,17 @@ eval_same Hand Hand = ((λ _. refl), (λ _. refl))
 pub key_same : (a b : Key) → Decides (is_same_key a b) (a ≡ b)
 unfolding is_same_key
 key_same a b =
-    both_decide _ _ (a.depth ≡ b.depth) ((a.eval ≡ b.eval) × (a.position ≡ b.position)) (a ≡ b) (Decides-eqb a.depth b.depth)
-    (both_decide _ _ (a.eval ≡ b.eval) (a.position ≡ b.position) ((a.eval ≡ b.eval) × (a.position ≡ b.position))
+    both_decide _ _ (a.depth ≡ b.depth) ((a.eval ≡ b.eval) × (a.position ≡ b.position)) (a ≡ b)
+    (Decides-eqb a.depth b.depth)
+    (both_decide _ _ (a.eval ≡ b.eval) (a.position ≡ b.position)
+    ((a.eval ≡ b.eval) × (a.position ≡ b.position))
     (eval_same a.eval b.eval) (position_same a.position b.position) (λ e p. (e, p)) (λ r. r))
-    (λ d r. ap (λ (e : Eval). key_of a.position e a.depth) r.0 ∙ ap₂ (λ (p : Shogi) d. key_of p b.eval d) r.1 d)
-    (λ e. (ap (λ (x : Key). x.depth) e, (ap (λ (x : Key). x.eval) e, ap (λ (x : Key). x.position) e)))
+    (λ d r. ap (λ (e : Eval). key_of a.position e a.depth) r.0
+    ∙ ap₂ (λ (p : Shogi) d. key_of p b.eval d) r.1 d)
+    (λ e. (
+      ap (λ (x : Key). x.depth) e,
+      (ap (λ (x : Key). x.eval) e, ap (λ (x : Key). x.position) e),
+    ))
 
 -- so it is an equality
 pub key_equivalence : IsEquivalence is_same_key

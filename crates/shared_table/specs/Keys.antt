@@ -18,7 +18,9 @@ eval_number Hand = 1
 
 -- the keys have the same depth, the same evaluation and the same position
 unfoldable pub is_same_key : Key → Key → Bool
-is_same_key a b = a.depth == b.depth && (eval_number a.eval == eval_number b.eval && is_same_position a.position b.position)
+is_same_key a b =
+    a.depth == b.depth
+    && (eval_number a.eval == eval_number b.eval && is_same_position a.position b.position)
 
 -- the key of a position under an evaluation at a depth
 abbrev pub key_of : Shogi → Eval → ℕ → Key

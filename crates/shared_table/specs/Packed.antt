@@ -45,6 +45,7 @@ cell_of_number number = slice_index_or CELLS number None
 abbrev pub cells_in : ℕ → ℕ → Cells
 cells_in count word = map cell_of_number (digits_in_base_32 count word)
 
+-- the side of a number
 abbrev pub side_of_number : ℕ → Color
 side_of_number zero = Black
 side_of_number (suc n) = White
@@ -52,13 +53,15 @@ side_of_number (suc n) = White
 -- the position that the words say
 unfoldable pub position_in : List ℕ → Shogi
 position_in words = record {
-  cells = cells_in 12 (slice_index words 0) ++ (cells_in 12 (slice_index words 1) ++ (cells_in 12 (slice_index words 2)
-      ++ (cells_in 12 (slice_index words 3) ++ (cells_in 12 (slice_index words 4) ++ (cells_in 12 (slice_index words 5)
+  cells = cells_in 12 (slice_index words 0) ++ (cells_in 12 (slice_index words 1)
+      ++ (cells_in 12 (slice_index words 2) ++ (cells_in 12 (slice_index words 3)
+      ++ (cells_in 12 (slice_index words 4) ++ (cells_in 12 (slice_index words 5)
       ++ cells_in 9 (slice_index words 6))))));
   hands = digits_in_base_32 7 (slice_index words 7) ++ digits_in_base_32 7 (slice_index words 8);
   side = side_of_number (slice_index words 9 % 2);
 }
 
+-- the evaluation of a number
 abbrev pub eval_of_number : ℕ → Eval
 eval_of_number zero = Plain
 eval_of_number (suc n) = Hand
@@ -88,5 +91,6 @@ double_word_at words place = slice_index words place + 2 ^ 64 * slice_index word
 -- what a hasher is fed: the words, two at a time
 abbrev pub writes_of : List ℕ → List (List ℕ)
 writes_of words =
-    fed.u128 (double_word_at words 0) ++ (fed.u128 (double_word_at words 2) ++ (fed.u128 (double_word_at words 4)
-    ++ (fed.u128 (double_word_at words 6) ++ fed.u128 (double_word_at words 8))))
+    fed.u128 (double_word_at words 0) ++ (fed.u128 (double_word_at words 2)
+    ++ (fed.u128 (double_word_at words 4) ++ (fed.u128 (double_word_at words 6)
+    ++ fed.u128 (double_word_at words 8))))

@@ -33,6 +33,14 @@ probed key pairs =
 abbrev pub noted : ℕ → Key → Entry → List Pair → List Pair
 noted capacity key entry pairs = take capacity ((key, entry) ∷ without key pairs)
 
+-- the table after a probe for the key
+abbrev pub with_probe : Table → Key → Table
+with_probe table key = record table { pairs = probed key table.pairs }
+
+-- the table after a note of the entry under the key
+abbrev pub with_note : Table → Key → Entry → Table
+with_note table key entry = record table { pairs = noted table.capacity key entry table.pairs }
+
 -- each entry is true of its position under its evaluation at its depth
 abbrev pub AreTrue : List Pair → Type 0
 AreTrue pairs = (key : Key) (entry : Entry) → Contains pairs (key, entry)

@@ -194,7 +194,8 @@ pub fn place_cells(cells: &mut [Option<Piece>; 81], from: usize, end: usize, wor
 /// The hands with the counts of a side that the word says.
 pub fn with_counts(hands: Hands, color: Color, word: u64) -> Hands
     requires { length hands ≡ 14 }
-    ensures counts { take (place_of color Pawn + 7) result ≡ take (place_of color Pawn) hands ++ digits_in_base_32 7 word }
+    ensures counts { take (place_of color Pawn + 7) result
+        ≡ take (place_of color Pawn) hands ++ digits_in_base_32 7 word }
     ensures length { length result ≡ 14 }
 {
     let mut counted = hands;

@@ -8,7 +8,7 @@ ghost use Rattle.std.specs.List.{IsDistinct};
 ghost use Rattle.std.specs.Map.{keys_of};
 ghost use Rattle.std.specs.Map.Iter.{ShowsInOrder, deref_pair};
 ghost use Rattle.shared_table.specs.Keys.{is_same_key, key_of};
-ghost use Rattle.shared_table.specs.Recent.{AreTrue, entry_of, leaf_count, leaf_of, noted, probed};
+ghost use Rattle.shared_table.specs.Recent.{AreTrue, entry_of, leaf_count, leaf_of, noted, with_note, with_probe};
 ghost use Rattle.shared_table.specs.declared.table.TheConstants.{CAPACITY_MAX};
 ghost use Rattle.shogi_search.specs.declared.bounds.TheConstants.{SEARCH_DEPTH_MAX};
 ghost use Rattle.shared_table.specs.declared.table.TableFault.TheVariants.{OutOfMemory};
@@ -124,7 +124,8 @@ impl<S: BuildHasher, A: Allocator + Clone> Memo for SharedTable<S, A> {
 
     /// Depth 0 only while an entry of that depth is held, and every other depth.
     fn keeps(&self, d: u8) -> bool
-        ensures none { result ≡ false → (p : Shogi) (e : Eval) → entry_of self.now.pairs (key_of p e d) ≡ None }
+        ensures none { result ≡ false
+            → (p : Shogi) (e : Eval) → entry_of self.now.pairs (key_of p e d) ≡ None }
         ensures kept { result ≡ not (d == 0 && leaf_count self.now.pairs == 0) }
     {
         d > 0 || self.leaves > 0
@@ -133,7 +134,7 @@ impl<S: BuildHasher, A: Allocator + Clone> Memo for SharedTable<S, A> {
     fn probe(&mut self, p: &Position, e: Eval, d: u8) -> Option<Entry>
         ensures answer { result ≡ entry_of self.old.pairs (key_of p.now e d) }
         ensures truth { IfSome result (IsTrueEntry p.now e d) }
-        ensures used { self.new ≡ record self.old { pairs = probed (key_of p.now e d) self.old.pairs } }
+        ensures used { self.new ≡ with_probe self.old (key_of p.now e d) }
         ensures capacity { self.new.capacity ≡ self.old.capacity }
     {
         if d == 0 && self.leaves == 0 {
@@ -146,7 +147,7 @@ impl<S: BuildHasher, A: Allocator + Clone> Memo for SharedTable<S, A> {
     fn note(&mut self, p: &Position, e: Eval, d: u8, entry: Entry)
         requires truth { IsTrueEntry p.now e d entry }
         requires depth { d ≤ SEARCH_DEPTH_MAX }
-        ensures noted { (self.new ≡ record self.old { pairs = noted self.old.capacity (key_of p.now e d) entry self.old.pairs })
+        ensures noted { (self.new ≡ with_note self.old (key_of p.now e d) entry)
             ⊎ ((entry_of self.old.pairs (key_of p.now e d) ≡ None) × (self.new ≡ self.old)) }
         ensures capacity { self.new.capacity ≡ self.old.capacity }
     {
@@ -162,7 +163,8 @@ fn recall<S: BuildHasher, A: Allocator>(
     key: &TableKey,
 ) -> Option<Entry>
     ensures value { result ≡ entry_of cache.old.entries key.now }
-    ensures entries { cache.new ≡ lru_cache (promoted (is_same_key key.now) cache.old.entries) cache.old.cap }
+    ensures entries { cache.new
+        ≡ lru_cache (promoted (is_same_key key.now) cache.old.entries) cache.old.cap }
 {
     cache.get(key).copied()
 }
@@ -176,7 +178,8 @@ fn remember<S: BuildHasher, A: Allocator + Clone>(
     entry: Entry,
 ) -> usize
     requires { leaves ≡ leaf_count cache.old.entries }
-    ensures noted { (cache.new ≡ lru_cache (noted cache.old.cap key entry cache.old.entries) cache.old.cap)
+    ensures noted { (cache.new
+        ≡ lru_cache (noted cache.old.cap key entry cache.old.entries) cache.old.cap)
         ⊎ ((entry_of cache.old.entries key ≡ None) × (cache.new ≡ cache.old)) }
     ensures leaves { result ≡ leaf_count cache.new.entries }
 {
