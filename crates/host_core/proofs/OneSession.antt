@@ -12,7 +12,7 @@ use Rattle.host_core.specs.Steps.{HostState}
 use Rattle.host_core.specs.Made.{Step, own, taken, own_by, taken_by, opens, is_opened, made}
 use Rattle.host_core.specs.ById.{queued_of}
 use Rattle.host_core.specs.Runs.{IsRun}
-use Rattle.host_core.specs.Headline.{EndsFrom, IsFrontOf, IsSettled}
+use Rattle.host_core.specs.Headline.{EndsFrom, IsPrefixOf, IsSettled}
 use Rattle.host_core.proofs.Sees.{Sees, sees, rises, Rises}
 
 -- nothing happens of an id that is gone
@@ -120,9 +120,9 @@ opened_by old new id steps (Some s) e o r = absurd (both_ways (is_opened id step
 pub opened_ends : (old new : HostState) (id : SessionId) (steps : List Step) → is_opened id steps ≡ true → IsRun old steps new → EndsFrom replies (own id steps) (taken id steps) (find new.slots id)
 opened_ends old new id steps o r = opened_by old new id steps (find old.slots id) refl o r
 
-front_of : (owes : List ℕ → List ℕ) (own_ taken_ : List ℕ) (now : Option SessionView) → EndsFrom owes own_ taken_ now → IsFrontOf (taken_ ++ queued_of now) (owes own_)
-front_of owes own_ taken_ None (rest, e) = (rest, ap (λ xs. xs ++ rest) (append-nil taken_) ∙ e)
-front_of owes own_ taken_ (Some t) h =
+prefix_of : (owes : List ℕ → List ℕ) (own_ taken_ : List ℕ) (now : Option SessionView) → EndsFrom owes own_ taken_ now → IsPrefixOf (taken_ ++ queued_of now) (owes own_)
+prefix_of owes own_ taken_ None (rest, e) = (rest, ap (λ xs. xs ++ rest) (append-nil taken_) ∙ e)
+prefix_of owes own_ taken_ (Some t) h =
     (owed t.state t.running_go (ahead t.input []), append_assoc taken_ t.queued (owed t.state t.running_go (ahead t.input [])) ∙ (h [] ∙ ap owes (append-nil own_)))
 
 all_of : (owes : List ℕ → List ℕ) (own_ taken_ : List ℕ) (now : Option SessionView) → EndsFrom owes own_ taken_ now → IsSettled now → taken_ ++ queued_of now ≡ owes own_
@@ -130,8 +130,8 @@ all_of owes own_ taken_ None h settled = absurd settled
 all_of owes own_ taken_ (Some t) h settled =
     ap (λ xs. taken_ ++ xs) (sym (due-settled t settled)) ∙ (h [] ∙ ap owes (append-nil own_))
 
-pub made_front : (old new : HostState) (id : SessionId) (steps : List Step) → is_opened id steps ≡ true → IsRun old steps new → IsFrontOf (made id steps (queued_of (find new.slots id))) (replies (own id steps))
-made_front old new id steps o r = front_of replies (own id steps) (taken id steps) (find new.slots id) (opened_ends old new id steps o r)
+pub made_prefix : (old new : HostState) (id : SessionId) (steps : List Step) → is_opened id steps ≡ true → IsRun old steps new → IsPrefixOf (made id steps (queued_of (find new.slots id))) (replies (own id steps))
+made_prefix old new id steps o r = prefix_of replies (own id steps) (taken id steps) (find new.slots id) (opened_ends old new id steps o r)
 
 pub made_all : (old new : HostState) (id : SessionId) (steps : List Step) → is_opened id steps ≡ true → IsSettled (find new.slots id) → IsRun old steps new → made id steps (queued_of (find new.slots id)) ≡ replies (own id steps)
 made_all old new id steps o settled r = all_of replies (own id steps) (taken id steps) (find new.slots id) (opened_ends old new id steps o r) settled

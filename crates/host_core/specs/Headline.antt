@@ -10,8 +10,8 @@ use Rattle.host_core.specs.Runs.{IsRun}
 use Rattle.host_core.specs.ById.{queued_of, is_over_of}
 
 -- some bytes may follow
-abbrev pub IsFrontOf : List ℕ → List ℕ → Type 0
-IsFrontOf xs ys = (rest : List ℕ) × (xs ++ rest ≡ ys)
+abbrev pub IsPrefixOf : List ℕ → List ℕ → Type 0
+IsPrefixOf xs ys = (rest : List ℕ) × (xs ++ rest ≡ ys)
 
 -- open, with nothing pending
 abbrev pub IsSettled : Option SessionView → Type 0
@@ -26,7 +26,7 @@ made_by id steps end = made id steps (queued_of (find end.slots id))
 abbrev pub PrefixOfReplies : List Step → HostState → Type 0
 PrefixOfReplies steps end =
     (id : SessionId) → is_opened id steps ≡ true
-    → IsFrontOf (made_by id steps end) (replies (own id steps))
+    → IsPrefixOf (made_by id steps end) (replies (own id steps))
 
 -- the bytes made for a session that the run opened are all of the replies to its own bytes, where it is open at the end with nothing pending
 abbrev pub AllReplies : List Step → HostState → Type 0
@@ -36,7 +36,7 @@ AllReplies steps end =
 
 -- of what was owed to its own bytes, a session was taken these: what it owes now is the rest, for any further bytes; where it is closed, they are a prefix
 abbrev pub EndsFrom : (List ℕ → List ℕ) → List ℕ → List ℕ → Option SessionView → Type 0
-EndsFrom owed own taken None = IsFrontOf taken (owed own)
+EndsFrom owed own taken None = IsPrefixOf taken (owed own)
 EndsFrom owed own taken (Some t) = (x : List ℕ) → taken ++ due t x ≡ owed (own ++ x)
 
 -- a session that was open before goes on from what it owed

@@ -72,7 +72,7 @@ impl<S: BuildHasher, A: Allocator + Copy> Host<S, A> {
         ensures chain { IfOk result (λ outcomes.
             IsRun self.old (answered events.now outcomes.items) self.new) }
         ensures each { IfOk result (λ outcomes. vec_len outcomes ≡ length events.now) }
-        ensures front { IfOk result (λ outcomes.
+        ensures prefix { IfOk result (λ outcomes.
             PrefixOfReplies (answered events.now outcomes.items) self.new) }
         ensures all { IfOk result (λ outcomes.
             AllReplies (answered events.now outcomes.items) self.new) }

@@ -10,7 +10,7 @@ use Rattle.host_core.specs.Steps.{HostState}
 use Rattle.host_core.specs.Events.{Outcome, Opened, Open, Close}
 use Rattle.host_core.specs.Made.{Step, own, taken, is_opened, is_same_id}
 use Rattle.host_core.specs.Runs.{IsStep, IsRun}
-use Rattle.host_core.specs.Headline.{IsFrontOf}
+use Rattle.host_core.specs.Headline.{IsPrefixOf}
 use Rattle.host_core.proofs.Chains.{run-start}
 use Rattle.host_core.proofs.Ids.{same_id, is_same_id-refl}
 use Rattle.socket_loop.specs.declared.connection.Link.{Link}
@@ -30,7 +30,7 @@ use Rattle.socket_loop.proofs.Runs.{run-one, run-two, run-append, own-append, ta
 
 -- ---- turned away
 
-written_front : (r : Result ℕ WireFault) (bytes : List ℕ) → IsFrontOf (bytes_written r bytes) bytes
+written_front : (r : Result ℕ WireFault) (bytes : List ℕ) → IsPrefixOf (bytes_written r bytes) bytes
 written_front (Ok n) bytes = (drop n bytes, take-append-drop n bytes)
 written_front (Err e) bytes = (bytes, refl)
 
@@ -39,7 +39,7 @@ pub away : (a b c : Told) (bound number : ℕ) (r : Result ℕ WireFault) (bytes
 away a b c bound number r bytes text e w s = record {
   unread = Keeps-trans _ _ _ w.unread s.unread;
   bytes = bytes_written r bytes;
-  front = subst (λ (xs : List ℕ). IsFrontOf (bytes_written r bytes) xs) e (written_front r bytes);
+  front = subst (λ (xs : List ℕ). IsPrefixOf (bytes_written r bytes) xs) e (written_front r bytes);
   appended = Appends-kept _ _ _ _ w.appended s.written;
   shut = λ lt. stays_raised _ _ _ w.shut (s.shut lt);
   only_rises = rises_then _ _ _ (stays_rise _ _ w.shut) s.only_rises;

@@ -11,7 +11,7 @@ use Rattle.host_core.specs.Steps.{HostState}
 use Rattle.host_core.specs.Made.{Step, own, taken}
 use Rattle.host_core.specs.Runs.{IsRun}
 use Rattle.host_core.specs.ById.{queued_of}
-use Rattle.host_core.specs.Headline.{EndsFrom, IsFrontOf, IsSettled, OverFrom, is_over_due}
+use Rattle.host_core.specs.Headline.{EndsFrom, IsPrefixOf, IsSettled, OverFrom, is_over_due}
 use Rattle.host_core.proofs.OneSession.{kept, gone, IsGone as IsOut}
 use Rattle.host_core.proofs.Overs.{kept_over, over_more, over_none}
 use Rattle.socket_loop.specs.declared.connection.Link.{Link}
@@ -111,7 +111,7 @@ served_kept owes a b c n now s k = record {
 
 -- ---- a front, and all
 
-pub front_written : (owes : List ℕ → List ℕ) (read written : List ℕ) (now : Option SessionView) → EndsFrom owes read written now → IsFrontOf written (owes read)
+pub front_written : (owes : List ℕ → List ℕ) (read written : List ℕ) (now : Option SessionView) → EndsFrom owes read written now → IsPrefixOf written (owes read)
 front_written owes read written None h = h
 front_written owes read written (Some t) h = (due t [], h [] ∙ ap owes (append-nil read))
 

@@ -13,7 +13,7 @@ use Rattle.host_core.specs.Events.{Event, Outcome, Opened, Refused, Open, Feed, 
 use Rattle.host_core.specs.Made.{Step, own, taken, is_opened}
 use Rattle.host_core.specs.Runs.{IsStep, IsRun}
 use Rattle.host_core.specs.Rounds.{IsRound, works, pending_ids}
-use Rattle.host_core.specs.Headline.{EndsFrom, IsFrontOf}
+use Rattle.host_core.specs.Headline.{EndsFrom, IsPrefixOf}
 use Rattle.socket_loop.specs.declared.connection.Link.{Link}
 use Rattle.socket_loop.specs.declared.connection.Connection.{Connection}
 use Rattle.wires.specs.Told.{Told, KeepsPeer, KeepsOthers, KeepsAll, IsRaised, OnlyRises}
@@ -78,7 +78,7 @@ told_to _ = []
 pub record IsAway (bound : ℕ) (text : List ℕ) (old new : Told) (number : ℕ) : Type 0 where
   pub unread : Keeps (old.unread number) (new.unread number)
   pub bytes : List ℕ
-  pub front : IsFrontOf bytes text
+  pub front : IsPrefixOf bytes text
   pub appended : Appends (old.written number) (new.written number) bytes
   pub shut : number < bound → IsRaised (old.is_shut number) (new.is_shut number)
   pub only_rises : OnlyRises (old.is_shut number) (new.is_shut number)
@@ -93,7 +93,7 @@ pub record IsTurnedAway (from to : ℕ) (accepted : List Accepted) (old new : To
   pub answered : IsOneOf accepted (record { number = number; outcome = outcome })
   pub unread : Keeps (old.unread number) (new.unread number)
   pub bytes : List ℕ
-  pub front : IsFrontOf bytes (told_to outcome)
+  pub front : IsPrefixOf bytes (told_to outcome)
   pub appended : Appends (old.written number) (new.written number) bytes
   pub shut : IsRaised (old.is_shut number) (new.is_shut number)
   pub failed : OnlyRises (old.has_failed number) (new.has_failed number)

@@ -8,7 +8,7 @@ use Rattle.usi_session.specs.Due.{SessionView}
 use Rattle.usi_session.specs.Replies.{replies, is_over_after}
 use Rattle.host_core.specs.declared.event.HostFault.TheVariants.{Full, OutOfMemory, UnknownSession, NotReady}
 use Rattle.host_core.specs.Events.{Close, Outcome, Opened, Done, Worked, Gave, Refused}
-use Rattle.host_core.specs.Headline.{EndsFrom, IsFrontOf, OverFrom}
+use Rattle.host_core.specs.Headline.{EndsFrom, IsPrefixOf, OverFrom}
 use Rattle.socket_loop.specs.declared.connection.Link.{Link}
 use Rattle.wires.specs.declared.wire.WireFault.{WireFault}
 use Rattle.wires.specs.Told.{KeepsPeer}
@@ -120,11 +120,11 @@ lives_start s fit = record {
 
 -- ---- a turn
 
-front_none : (bytes : List ℕ) → IsFrontOf bytes [] → IsFrontOf bytes host_full
+front_none : (bytes : List ℕ) → IsPrefixOf bytes [] → IsPrefixOf bytes host_full
 front_none [] f = (host_full, refl)
 front_none (x ∷ bytes) f = (let e : x ∷ (bytes ++ f.0) ≡ [] = f.1 in absurd (cc))
 
-front_full : (o : Outcome) (bytes : List ℕ) → IsFrontOf bytes (told_to o) → IsFrontOf bytes host_full
+front_full : (o : Outcome) (bytes : List ℕ) → IsPrefixOf bytes (told_to o) → IsPrefixOf bytes host_full
 front_full (Refused Full) bytes f = f
 front_full (Refused OutOfMemory) bytes f = front_none bytes f
 front_full (Refused UnknownSession) bytes f = front_none bytes f

@@ -6,7 +6,7 @@ use Rattle.session_slots.specs.Slots.{find}
 use Rattle.usi_session.specs.Due.{SessionView, due}
 use Rattle.usi_session.specs.Replies.{replies, is_over_after}
 use Rattle.host_core.specs.ById.{queued_of, pending_of}
-use Rattle.host_core.specs.Headline.{IsFrontOf, IsSettled, OverFrom, is_over_due}
+use Rattle.host_core.specs.Headline.{IsPrefixOf, IsSettled, OverFrom, is_over_due}
 use Rattle.socket_loop.specs.declared.connection.Link.{Link}
 use Rattle.wires.specs.Told.{KeepsPeer, IsRaised}
 use Rattle.socket_loop.specs.Links.{links_of, reads_ended, was_shut, IsAmong, IsApart, IsMarked}
@@ -60,7 +60,7 @@ IsHeldOrGone before after link = IsAmong (links_of after.held) link ⊎ (IsMarke
 -- the bytes that were read from a connection and those that were written to it: what was written is a front of what is owed to what was read, and all of it where its session is open with nothing pending and nothing queued; its session is over, once all is answered, exactly where these bytes end it; where it is closed, it has ended for a cause of its own
 pub record IsAnswered (duty : Duty) (before after : Scene) (link : Link) : Type 0 where
   pub served : Served duty.owes before.told after.told link.number (find after.host.slots link.id)
-  pub front : IsFrontOf served.written (duty.owes served.read)
+  pub front : IsPrefixOf served.written (duty.owes served.read)
   pub all : IsSettled (find after.host.slots link.id) → queued_of (find after.host.slots link.id) ≡ [] → served.written ≡ duty.owes served.read
   pub over : OverFrom duty.ends served.read (find after.host.slots link.id)
   pub ended : find after.host.slots link.id ≡ None → HasEnded duty before after link.number served.read served.lost served.written
@@ -84,7 +84,7 @@ pub record WasTurnedAway (before after : Scene) (number : ℕ) : Type 0 where
   pub most : number < after.bound
   pub unread : Keeps (before.told.unread number) (after.told.unread number)
   pub bytes : List ℕ
-  pub front : IsFrontOf bytes host_full
+  pub front : IsPrefixOf bytes host_full
   pub appended : Appends (before.told.written number) (after.told.written number) bytes
   pub shut : IsRaised (before.told.is_shut number) (after.told.is_shut number)
   pub unheld : IsApart (links_of after.held) number

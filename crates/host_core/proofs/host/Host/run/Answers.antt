@@ -3,7 +3,7 @@ use Rattle.std.proofs.lemmas.List.{take_all}
 use Rattle.host_core.specs.Seen.{answered}
 use Rattle.host_core.proofs.Chains.{run-start, run_on}
 use Rattle.host_core.proofs.Kept.{keeps_capacity}
-use Rattle.host_core.proofs.OneSession.{made_front, made_all, kept}
+use Rattle.host_core.proofs.OneSession.{made_prefix, made_all, kept}
 use Rattle.host_core.proofs.Overs.{kept_over, made_over, opened_over}
 use Rattle.host_core.proofs.host.Host.run.Goals as goal
 
@@ -17,10 +17,10 @@ loop-event-preserved g c = record {
   room = search rules;
 }
 
-pub returns-clause-front : goal.returns-clause-front
-returns-clause-front g c = λ id o.
+pub returns-clause-prefix : goal.returns-clause-prefix
+returns-clause-prefix g c = λ id o.
     let all : take c.loop-event.event-index c.args.events.now ≡ c.args.events.now = take_all c.loop-event.event-index c.args.events.now (omega arith) in
-    made_front c.args.self.now c.loop-event.self id (answered c.args.events.now c.loop-event.outcomes.items) o (rw all at c.loop-event.invariant.chain)
+    made_prefix c.args.self.now c.loop-event.self id (answered c.args.events.now c.loop-event.outcomes.items) o (rw all at c.loop-event.invariant.chain)
 
 pub returns-clause-all : goal.returns-clause-all
 returns-clause-all g c = λ id o settled.
