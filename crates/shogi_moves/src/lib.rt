@@ -2,11 +2,11 @@
 //!
 //! A move is found in `ends`: the legal ends of a piece and the drops of a kind, as masks. `sweep` goes
 //! through them for the search, `next` and `walk` for everyone else, `existence` up to the first one.
-//! `movers` leaves out, before their ends are looked for, most pieces that can take nothing.
+//! `movers` leaves out, before their ends are looked for, pieces that surely take nothing.
 //! A move is tested in `legal`, by the rules one after another, and made in `after`.
 //! A check is found by `Board::in_check` of `shogi_core`; what `guard` and `zones` keep spares most looks.
 //! Before a move is made `replies` tells that it can be answered, `escapes` that a king which it checks
-//! surely has a square to go to, and `threats` what the other side may take after it.
+//! surely has a square to go to, and `threats` what the other side may take after most moves.
 #![tactic(auto)]
 
 mod after;
