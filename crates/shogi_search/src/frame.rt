@@ -545,8 +545,8 @@ impl Frame {
         requires current { IsCurrent self.now.waiting current.now }
         requires last { self.now.depth ≡ 2 }
         requires threat { IsThreatIn self.now.node.position self.now.node.eval threat.now }
-        ensures most { StandsAfter self.now threat.now current.now →
-            worth_of self.now current.now ≤ℤ result }
+        ensures most { StandsAfter self.now threat.now current.now
+            → worth_of self.now current.now ≤ℤ result }
     {
         current.validity();
         0 - self.node.score_after(current) - threat.gain as i32

@@ -185,8 +185,8 @@ impl MovePicker {
         requires replies { IsReplies p.now replies.now.sight replies.now.spare }
         requires escapes { AreEscapes p.now escapes }
         ensures kept { IsKept p.now self.new }
-        ensures passed { (code : ℕ) → IsAtQuiets self.old code →
-            IsPassed (IsCertainQuiet p.now code) (todo p.now self.old) (todo p.now self.new) }
+        ensures passed { (code : ℕ) → IsAtQuiets self.old code
+            → IsPassed (IsCertainQuiet p.now code) (todo p.now self.old) (todo p.now self.new) }
     {
         if let MovePicker::Quiets(None, sweep) = self {
             sweep.pass_quiets(p, replies, escapes);
@@ -211,8 +211,8 @@ impl MovePicker {
         requires replies { IsReplies p.now replies.now.sight replies.now.spare }
         requires escapes { AreEscapes p.now escapes }
         ensures kept { IsKept p.now self.new }
-        ensures passed { (kind : Kind) → (code : ℕ) → IsAtDrops self.old kind code →
-            IsPassed (IsCertainDrop p.now kind code) (todo p.now self.old) (todo p.now self.new) }
+        ensures passed { (kind : Kind) → (code : ℕ) → IsAtDrops self.old kind code
+            → IsPassed (IsCertainDrop p.now kind code) (todo p.now self.old) (todo p.now self.new) }
     {
         if let MovePicker::Drops(None, sweep) = self {
             sweep.pass_certain(p, replies, escapes);

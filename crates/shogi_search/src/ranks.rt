@@ -83,9 +83,9 @@ impl Ranks {
         ensures pairs { self.new.pairs ≡ take self.old.lines (insert_pair m value self.old.pairs) }
         // The first of some codes that are ranked by their worth become the first of these and one
         // more.
-        ensures top { (f : ℕ → ℤ) → (codes : List ℕ) → IsTop f codes self.old →
-            is_in (code_of m) codes ≡ false → value ≡ f (code_of m) →
-            IsTop f (codes ++ code_of m ∷ []) self.new }
+        ensures top { (f : ℕ → ℤ) → (codes : List ℕ) → IsTop f codes self.old
+            → is_in (code_of m) codes ≡ false → value ≡ f (code_of m)
+            → IsTop f (codes ++ code_of m ∷ []) self.new }
     {
         let place = self.place_of(&m, value);
         self.pairs.insert(place, (m, value));

@@ -245,10 +245,10 @@ impl Search {
         ensures over { OnSome result (self.new.left ≡ 0) }
         ensures unfinished { IfNone result (0 < self.new.left) }
         // Before the first step an answer for the root that says enough ends it.
-        ensures enough { self.old.begun ≡ false → IsAnsweredBy (M.answers memo.old) self.old →
-            IsSome result × (self.new.steps ≡ self.old.steps) }
-        ensures known { self.old.begun ≡ false → IsExactlyAnsweredBy (M.answers memo.old) self.old →
-            IsSome result × (self.new.steps ≡ self.old.steps) }
+        ensures enough { self.old.begun ≡ false → IsAnsweredBy (M.answers memo.old) self.old
+            → IsSome result × (self.new.steps ≡ self.old.steps) }
+        ensures known { self.old.begun ≡ false → IsExactlyAnsweredBy (M.answers memo.old) self.old
+            → IsSome result × (self.new.steps ≡ self.old.steps) }
     {
         if self.found.is_some() {
             return self.found;
