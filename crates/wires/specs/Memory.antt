@@ -1,5 +1,5 @@
 -- A wire in memory: what it is seen as, what it tells, and what its calls answer and leave (own choice).
-use Rattle.std.specs.Prelude.{◌+◌, ◌-◌, ◌^◌, ◌==◌, ◌||◌, ◌&&◌, not, cond, min, ℕ, Bool, true, false, List, [], ◌∷◌, ◌++◌, length, take, drop, slice_set, slice_index_or, nat_lt, Option, Some, None, Result, Ok, Err, IsSome}
+use Rattle.std.specs.Prelude.{◌+◌, ◌-◌, ◌^◌, ◌==◌, ◌||◌, ◌&&◌, not, cond, min, ℕ, Bool, true, false, List, [], ◌∷◌, ◌++◌, length, map, take, drop, Vec, slice_set, slice_index_or, nat_lt, Option, Some, None, Result, Ok, Err, IsSome}
 use Rattle.std.specs.Option.{option_map}
 use Rattle.std.specs.List.{slice_get, flat_map}
 use Rattle.wires.specs.declared.wire.Got.{Got}
@@ -31,6 +31,10 @@ pub record WireState : Type 0 where
 abbrev pub bytes_left : List (List ℕ) → List ℕ
 bytes_left chunks = flat_map (λ chunk. chunk) chunks
 
+-- the bytes of each of these
+abbrev pub contents_of : {A : Type 0} → List (Vec ℕ A) → List (List ℕ)
+contents_of chunks = map (λ chunk. chunk.items) chunks
+
 -- what is told of each connection, which has its place as its number
 abbrev pub told_of : List PeerState → Told
 told_of peers = record {
@@ -51,7 +55,13 @@ IsKnown told number = IsSome (told.written number)
 
 -- a peer that gives these chunks, to which nothing was written; a write takes all
 abbrev pub new_peer : List (List ℕ) → PeerState
-new_peer chunks = record { chunks = chunks; written = []; width = 2 ^ 64 - 1; is_shut = false; has_failed = false }
+new_peer chunks = record {
+  chunks = chunks;
+  written = [];
+  width = 2 ^ 64 - 1;
+  is_shut = false;
+  has_failed = false;
+}
 
 -- a call of the peer has failed
 abbrev pub failing : PeerState → PeerState
@@ -94,6 +104,10 @@ abbrev pub left_from : List (List ℕ) → ℕ → List (List ℕ)
 left_from [] room = []
 left_from (chunk ∷ rest) room = drop room chunk ∷ rest
 
+-- the bytes that the peer gives to a read into so much room
+abbrev pub given_by : ℕ → PeerState → List ℕ
+given_by room peer = given_from (past_empty peer.chunks) room
+
 -- the peer has given what a read into so much room finds
 abbrev pub giving : ℕ → PeerState → PeerState
 giving room peer = record peer { chunks = left_from (past_empty peer.chunks) room }
@@ -101,7 +115,8 @@ giving room peer = record peer { chunks = left_from (past_empty peer.chunks) roo
 -- ---- calls
 
 abbrev pub change_at : (PeerState → PeerState) → ℕ → List PeerState → List PeerState
-change_at change number peers = slice_set peers number (change (slice_index_or peers number (new_peer [])))
+change_at change number peers =
+    slice_set peers number (change (slice_index_or peers number (new_peer [])))
 
 -- the peer of this number is changed, where there is one
 abbrev pub changed : (PeerState → PeerState) → ℕ → WireState → WireState
@@ -109,6 +124,14 @@ changed change number wire = record wire { peers = change_at change number wire.
 
 abbrev pub peer_of : WireState → ℕ → PeerState
 peer_of wire number = slice_index_or wire.peers number (new_peer [])
+
+-- the most bytes that a write of this number takes
+abbrev pub width_of : WireState → ℕ → ℕ
+width_of wire number = (peer_of wire number).width
+
+-- the wire has one more peer, which gives these chunks
+abbrev pub with_peer : List (List ℕ) → WireState → WireState
+with_peer chunks wire = record wire { peers = wire.peers ++ new_peer chunks ∷ [] }
 
 -- one of accept, read and write was called
 abbrev pub called : WireState → WireState
@@ -138,16 +161,21 @@ abbrev pub accept_answer : WireState → Result (Option ℕ) WireFault
 accept_answer wire = cond (fails_next wire) (Err Device) (Ok (next_peer wire))
 
 abbrev pub after_accept : WireState → WireState
-after_accept wire = cond (fails_next wire) (failed (called wire)) (record (called wire) { accepted = min (wire.accepted + 1) (length wire.peers) })
+after_accept wire = cond (fails_next wire) (failed (called wire))
+    (record (called wire) { accepted = min (wire.accepted + 1) (length wire.peers) })
 
 abbrev pub read_answer : WireState → ℕ → ℕ → Result Got WireFault
-read_answer wire number room = cond (fails_for wire number) (Err Device) (Ok (got_from (past_empty (peer_of wire number).chunks) room))
+read_answer wire number room =
+    cond (fails_for wire number) (Err Device)
+    (Ok (got_from (past_empty (peer_of wire number).chunks) room))
 
 abbrev pub after_failing : WireState → ℕ → WireState
 after_failing wire number = changed failing number (failed (called wire))
 
 abbrev pub after_read : WireState → ℕ → ℕ → WireState
-after_read wire number room = cond (fails_for wire number) (after_failing wire number) (changed (giving room) number (called wire))
+after_read wire number room =
+    cond (fails_for wire number) (after_failing wire number)
+    (changed (giving room) number (called wire))
 
 -- by its answer; where memory runs out the peer is marked, and no call of the wire has failed
 abbrev pub after_write : WireState → ℕ → List ℕ → Result ℕ WireFault → WireState

@@ -41,7 +41,9 @@ IsLonger (Some bytes) None = ⊥
 IsLonger (Some bytes) (Some more) = length bytes < length more
 
 abbrev pub Transfers : Told → Told → ℕ → Type 0
-Transfers old new number = IsShorter (old.unread number) (new.unread number) ⊎ IsLonger (old.written number) (new.written number)
+Transfers old new number =
+    IsShorter (old.unread number) (new.unread number)
+    ⊎ IsLonger (old.written number) (new.written number)
 
 -- the wire still knows each connection that it knew
 abbrev pub StaysKnown : Told → Told → Type 0

@@ -16,7 +16,8 @@ pub record Told : Type 0 where
 
 -- a wire that tells nothing
 abbrev pub nothing_told : Told
-nothing_told = record { unread = λ _. None; written = λ _. None; is_shut = λ _. None; has_failed = λ _. None }
+nothing_told =
+    record { unread = λ _. None; written = λ _. None; is_shut = λ _. None; has_failed = λ _. None }
 
 -- a flag that is told stays
 abbrev pub Stays : Option Bool → Option Bool → Type 0
@@ -76,7 +77,8 @@ EndsAt (Ok Nothing) left = ⊤
 EndsAt (Err fault) left = ⊤
 
 -- a read gave the next bytes of its connection, or failed and moved none; nothing else changed
-pub record Reads (old new : Told) (number : ℕ) (result : Result Got WireFault) (buf : List ℕ) : Type 0 where
+pub record Reads (old new : Told) (number : ℕ) (result : Result Got WireFault) (buf : List ℕ)
+    : Type 0 where
   pub within : IsWithin result (length buf)
   pub consumed : Consumes (old.unread number) (new.unread number) (bytes_read result buf)
   pub ended : EndsAt result (new.unread number)
@@ -91,7 +93,8 @@ bytes_written (Ok n) buf = take n buf
 bytes_written (Err fault) buf = []
 
 -- a write took the first bytes, or failed and took none; nothing else changed
-pub record Writes (old new : Told) (number : ℕ) (result : Result ℕ WireFault) (buf : List ℕ) : Type 0 where
+pub record Writes (old new : Told) (number : ℕ) (result : Result ℕ WireFault) (buf : List ℕ)
+    : Type 0 where
   pub within : IfOk result (λ n. n ≤ length buf)
   pub appended : Appends (old.written number) (new.written number) (bytes_written result buf)
   pub unread : Keeps (old.unread number) (new.unread number)

@@ -1,8 +1,8 @@
 //! A wire in memory.
 
-ghost use Rattle.std.specs.Prelude.{◌≡◌, ◌<◌, ◌≤◌, ◌↔◌, true, false, nat_lt, [], ◌∷◌, ◌++◌, length, map, cond, min, Some, Ok, Err, IfOk, IfErr, OnErr, OnOk};
+ghost use Rattle.std.specs.Prelude.{◌≡◌, ◌<◌, ◌≤◌, ◌↔◌, true, false, nat_lt, [], length, cond, min, Some, Ok, Err, IfOk, IfErr, OnErr, OnOk};
 ghost use Rattle.wires.specs.Told.{GivesNumber, KeepsAll, HasCause, HasRisen, Reads, Writes, bytes_read};
-ghost use Rattle.wires.specs.Memory.{IsKnown, WireState, told_by, new_peer, changed, narrowing, failing, called, failed, is_open, fails_for, peer_of, past_empty, given_from, accept_answer, after_accept, read_answer, after_failing, after_read, after_write, after_shut};
+ghost use Rattle.wires.specs.Memory.{IsKnown, WireState, contents_of, told_by, with_peer, changed, narrowing, failing, called, failed, is_open, fails_for, peer_of, width_of, given_by, accept_answer, after_accept, read_answer, after_failing, after_read, after_write, after_shut};
 ghost use Rattle.wires.specs.declared.wire.WireFault.TheVariants.{Device, OutOfMemory};
 
 use crate::peer::Peer;
@@ -52,7 +52,7 @@ impl<A: Allocator + Copy> MemoryWire<A> {
     /// order of these calls. On `OutOfMemory` the chunks are dropped.
     pub fn connect(&mut self, chunks: Vec<Vec<u8, A>, A>) -> Result<u64, WireFault>
         ensures ok { IfOk result (λ number. number ≡ length self.old.peers) }
-        ensures connected { OnOk result (self.new ≡ record self.old { peers = self.old.peers ++ new_peer (map (λ chunk. chunk.items) chunks.items) ∷ [] }) }
+        ensures connected { OnOk result (self.new ≡ with_peer (contents_of chunks.items) self.old) }
         ensures known { IfOk result (λ number. IsKnown (told_by self.new) number) }
         ensures fault { IfErr result (λ fault. fault ≡ OutOfMemory) }
         ensures err { OnErr result (self.new ≡ self.old) }
@@ -91,7 +91,7 @@ impl<A: Allocator + Copy> MemoryWire<A> {
     /// What reads of the connection give from here on.
     pub fn chunks(&self, number: u64) -> &[Vec<u8, A>]
         requires { IsKnown (told_by self.now) number }
-        ensures { map (λ chunk. chunk.items) result.now ≡ (peer_of self.now number).chunks }
+        ensures { contents_of result.now ≡ (peer_of self.now number).chunks }
     {
         self.peers[number as usize].chunks()
     }
@@ -198,7 +198,8 @@ impl<A: Allocator + Copy> Wire for MemoryWire<A> {
     fn read(&mut self, number: u64, buf: &mut [u8]) -> Result<Got, WireFault>
         ensures answer { result ≡ read_answer self.old number (length buf.old) }
         ensures after { self.new ≡ after_read self.old number (length buf.old) }
-        ensures given { OnOk result (bytes_read result buf.new ≡ given_from (past_empty (peer_of self.old number).chunks) (length buf.old)) }
+        ensures given { OnOk result
+            (bytes_read result buf.new ≡ given_by (length buf.old) (peer_of self.old number)) }
         ensures bound { self.new.accepted ≡ self.old.accepted }
         ensures read { Reads (told_by self.old) (told_by self.new) number result buf.new }
         ensures cause { HasCause self.old.failed self.new.failed result }
@@ -211,7 +212,7 @@ impl<A: Allocator + Copy> Wire for MemoryWire<A> {
 
     fn write(&mut self, number: u64, buf: &[u8]) -> Result<usize, WireFault>
         ensures device { (result ≡ Err Device) ↔ (fails_for self.old number ≡ true) }
-        ensures taken { IfOk result (λ n. n ≡ min (peer_of self.old number).width (length buf.now)) }
+        ensures taken { IfOk result (λ n. n ≡ min (width_of self.old number) (length buf.now)) }
         ensures after { self.new ≡ after_write self.old number buf.now result }
         ensures bound { self.new.accepted ≡ self.old.accepted }
         ensures written { Writes (told_by self.old) (told_by self.new) number result buf.now }

@@ -1,8 +1,8 @@
 //! One connection of a wire in memory.
 
-ghost use Rattle.std.specs.Prelude.{◌≡◌, ◌≤◌, ◌++◌, length, min, map, take, drop, Some, Ok, Err, IfOk, IfErr, OnErr};
+ghost use Rattle.std.specs.Prelude.{◌≡◌, ◌≤◌, ◌++◌, length, min, take, drop, Some, Ok, Err, IfOk, IfErr, OnErr};
 ghost use Rattle.wires.specs.Told.{IsWithin, EndsAt, TellsFailure, bytes_read, bytes_written};
-ghost use Rattle.wires.specs.Memory.{bytes_left, new_peer, failing, shutting, narrowing, taking, past_empty, got_from, given_from, giving};
+ghost use Rattle.wires.specs.Memory.{bytes_left, contents_of, new_peer, failing, shutting, narrowing, taking, past_empty, got_from, given_by, giving};
 ghost use Rattle.wires.specs.declared.wire.WireFault.TheVariants.{OutOfMemory};
 
 use crate::wire::{Got, WireFault};
@@ -23,17 +23,22 @@ pub struct Peer<A: Allocator + Copy> {
 }
 
 impl<A: Allocator + Copy> Model for Peer<A> {
-    ghost use Rattle.std.specs.Prelude.{map};
-    ghost use Rattle.wires.specs.Memory.{PeerState};
+    ghost use Rattle.wires.specs.Memory.{PeerState, contents_of};
 
     ghost Value = { PeerState };
 
-    ghost view = { λ p. record { chunks = map (λ chunk. chunk.items) p.chunks.items; written = p.written.items; width = p.width; is_shut = p.is_shut; has_failed = p.has_failed } };
+    ghost view = { λ p. record {
+      chunks = contents_of p.chunks.items;
+      written = p.written.items;
+      width = p.width;
+      is_shut = p.is_shut;
+      has_failed = p.has_failed;
+    } };
 }
 
 // Passes over the empty chunks in front.
 fn skip_empty<A: Allocator + Copy>(chunks: &mut Vec<Vec<u8, A>, A>)
-    ensures { map (λ chunk. chunk.items) chunks.new.items ≡ past_empty (map (λ chunk. chunk.items) chunks.old.items) }
+    ensures { contents_of chunks.new.items ≡ past_empty (contents_of chunks.old.items) }
 {
     while !chunks.is_empty() && chunks[0].is_empty() {
         chunks.remove(0);
@@ -58,7 +63,7 @@ fn take_front<A: Allocator + Copy>(chunk: &mut Vec<u8, A>, buf: &mut [u8]) -> us
 impl<A: Allocator + Copy> Peer<A> {
     /// Nothing was written to it; a write takes all.
     pub fn new(alloc: A, chunks: Vec<Vec<u8, A>, A>) -> Peer<A>
-        ensures { result ≡ new_peer (map (λ chunk. chunk.items) chunks.items) }
+        ensures { result ≡ new_peer (contents_of chunks.items) }
     {
         Peer {
             chunks,
@@ -88,7 +93,7 @@ impl<A: Allocator + Copy> Peer<A> {
     }
 
     pub fn chunks(&self) -> &[Vec<u8, A>]
-        ensures { map (λ chunk. chunk.items) result.now ≡ self.now.chunks }
+        ensures { contents_of result.now ≡ self.now.chunks }
     {
         self.chunks.as_slice()
     }
@@ -115,7 +120,7 @@ impl<A: Allocator + Copy> Peer<A> {
     fn give(&mut self, buf: &mut [u8]) -> Got
         ensures got { result ≡ got_from (past_empty self.old.chunks) (length buf.old) }
         ensures len { length buf.new ≡ length buf.old }
-        ensures given { bytes_read (Ok result) buf.new ≡ given_from (past_empty self.old.chunks) (length buf.old) }
+        ensures given { bytes_read (Ok result) buf.new ≡ given_by (length buf.old) self.old }
         ensures left { self.new ≡ giving (length buf.old) self.old }
         ensures within { IsWithin (Ok result) (length buf.new) }
         ensures ended { EndsAt (Ok result) (Some (bytes_left self.new.chunks)) }
@@ -132,10 +137,11 @@ impl<A: Allocator + Copy> Peer<A> {
     pub fn read(&mut self, buf: &mut [u8]) -> Got
         ensures got { result ≡ got_from (past_empty self.old.chunks) (length buf.old) }
         ensures len { length buf.new ≡ length buf.old }
-        ensures given { bytes_read (Ok result) buf.new ≡ given_from (past_empty self.old.chunks) (length buf.old) }
+        ensures given { bytes_read (Ok result) buf.new ≡ given_by (length buf.old) self.old }
         ensures left { self.new ≡ giving (length buf.old) self.old }
         ensures within { IsWithin (Ok result) (length buf.new) }
-        ensures consumed { bytes_left self.old.chunks ≡ bytes_read (Ok result) buf.new ++ bytes_left self.new.chunks }
+        ensures consumed { bytes_left self.old.chunks
+            ≡ bytes_read (Ok result) buf.new ++ bytes_left self.new.chunks }
         ensures ended { EndsAt (Ok result) (Some (bytes_left self.new.chunks)) }
     {
         self.give(buf)
