@@ -23,7 +23,7 @@ use Rattle.wires.specs.Moves.{AllMove}
 use Rattle.socket_loop.specs.Turns.{Fits, Accepted, AreNumbered, HasSession, IsOneOf, IsTurnedAway, IsAway, IsNew, Accepts, Admits, openings, told_to}
 use Rattle.wires.proofs.Peers.{kept_same, kept_then, all_kept, moves_then, away_moves, stays_raised, rises_then, stays_rise, told_failure, raised_rises, Consumes-none, Appends-none, Keeps-Appends}
 use Rattle.wires.specs.Asked.{Call, Accept, Asks}
-use Rattle.socket_loop.specs.Calls.{AcceptsAll, AcceptsSome, AdmitsOne, AsksAccepts, AsksAll, GivesNobody}
+use Rattle.socket_loop.specs.Calls.{AllAccepted, AcceptsSome, OneAdmitted, AsksAccepts, AsksAll, GivesNobody}
 use Rattle.socket_loop.proofs.Calls.{asks_accept, asks_full, asks_no_accept, asks_on, asks_stop}
 use Rattle.socket_loop.proofs.Left.{once_insert}
 use Rattle.socket_loop.proofs.Runs.{run-one, run-two, run-append, own-append, taken-append, openings-append, closes_neither, closes_either, all_append, next_rises, step_rises, opened_left, opened_right}
@@ -480,7 +480,7 @@ unfolding accepts_start accepts_none
 some_start moved ls from a h calls = record { accepts = accepts_start ls from a h; none = λ e. refl; counted = refl; asked = λ fit. asks_no_accept ls calls }
 
 -- no connection waits, or the wire fails
-pub some_stop : (n : ℕ) (moved : Bool) (ls ms : List Link) (f m : ℕ) (t : ℕ) (a b c : Told) (h i : HostState) (old mid new : Option (List Call)) (answer : Result (Option ℕ) WireFault) → n < 16 → AcceptsSome n moved ls f a h ms m b i old mid → m ≤ t → KeepsAll b c → Asks mid new (Accept answer ∷ []) → GivesNobody answer → AcceptsAll moved ls f a h ms t c i old new
+pub some_stop : (n : ℕ) (moved : Bool) (ls ms : List Link) (f m : ℕ) (t : ℕ) (a b c : Told) (h i : HostState) (old mid new : Option (List Call)) (answer : Result (Option ℕ) WireFault) → n < 16 → AcceptsSome n moved ls f a h ms m b i old mid → m ≤ t → KeepsAll b c → Asks mid new (Accept answer ∷ []) → GivesNobody answer → AllAccepted moved ls f a h ms t c i old new
 unfolding accepts_stop accepts_then accepts_none
 some_stop n moved ls ms f m t a b c h i old mid new answer lt p u k q g =
     let count : length p.accepts.accepted < 16 = (let e : length p.accepts.accepted ≡ n = p.counted in omega arith) in
@@ -491,10 +491,10 @@ some_stop n moved ls ms f m t a b c h i old mid new answer lt p u k q g =
     }
 
 -- as many were accepted as may be
-pub some_full : (n : ℕ) (moved : Bool) (ls ms : List Link) (f m : ℕ) (a b : Told) (h i : HostState) (old new : Option (List Call)) → n ≡ 16 → AcceptsSome n moved ls f a h ms m b i old new → AcceptsAll moved ls f a h ms m b i old new
+pub some_full : (n : ℕ) (moved : Bool) (ls ms : List Link) (f m : ℕ) (a b : Told) (h i : HostState) (old new : Option (List Call)) → n ≡ 16 → AcceptsSome n moved ls f a h ms m b i old new → AllAccepted moved ls f a h ms m b i old new
 some_full n moved ls ms f m a b h i old new e p = record { accepts = p.accepts; none = p.none; asked = λ fit. asks_full ms p.accepts.accepted old new (p.counted ∙ e) (p.asked fit) }
 
-pub some_more : (n : ℕ) (moved : Bool) (ls ms ns : List Link) (f m number t : ℕ) (a b c d : Told) (h i j : HostState) (old mid asked new : Option (List Call)) → AcceptsSome n moved ls f a h ms m b i old mid → m ≤ number → number < t → KeepsAll b c → Asks mid asked (Accept (Ok (Some number)) ∷ []) → AdmitsOne ms c i number t ns d j asked new → AcceptsSome (n + 1) true ls f a h ns t d j old new
+pub some_more : (n : ℕ) (moved : Bool) (ls ms ns : List Link) (f m number t : ℕ) (a b c d : Told) (h i j : HostState) (old mid asked new : Option (List Call)) → AcceptsSome n moved ls f a h ms m b i old mid → m ≤ number → number < t → KeepsAll b c → Asks mid asked (Accept (Ok (Some number)) ∷ []) → OneAdmitted ms c i number t ns d j asked new → AcceptsSome (n + 1) true ls f a h ns t d j old new
 unfolding accepts_more accepts_then
 some_more n moved ls ms ns f m number t a b c d h i j old mid asked new p u v k q r =
     let item : Accepted = record { number = number; outcome = r.outcome } in

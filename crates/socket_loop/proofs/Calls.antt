@@ -153,6 +153,10 @@ asks_next n due kind h i j xs ys y d a b c lt p w v q =
       asked = asks_then a b c p.calls (due i (get_or ys n d) y) p.asked q;
     })
 
+-- nothing of what was there before is left behind them
+pub all_taken : (m : ℕ) (ys rest : List Connection) → m ≡ length ys → take m (ys ++ rest) ≡ ys
+all_taken m ys rest e = rw e (take-append_seam ys rest)
+
 -- each was visited, and they are as many as before
 pub asks_end : (n m : ℕ) (due : HostState → Connection → Connection → List Call) (kind : Event → Type 0) (h i : HostState) (xs ys rest : List Connection) (a b : Option (List Call)) → n ≡ length ys → m ≡ length ys → links_of ys ≡ links_of xs → AsksTo n due kind h xs ys a b i → AsksEach due kind h xs (take m (ys ++ rest)) a b i
 asks_end n m due kind h i xs ys rest a b e f same p =

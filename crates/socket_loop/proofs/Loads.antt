@@ -19,9 +19,8 @@ use Rattle.host_core.specs.Rounds.{IsRound, works, pending_from, pending_ids}
 use Rattle.host_core.specs.ById.{pending_of}
 use Rattle.host_core.proofs.Ids.{same_id, other_id, is_same_id-refl}
 use Rattle.host_core.proofs.OneSession.{gone}
-use Rattle.socket_loop.specs.declared.connection.Connection.{Connection}
-use Rattle.wires.specs.Told.{Told}
 use Rattle.socket_loop.specs.Parts.{AreAll, IsAdmission, IsInput, IsOutput, IsEnd, refuses, refuses_by}
+use Rattle.socket_loop.specs.Scenes.{Scene}
 use Rattle.socket_loop.specs.Turns.{IsTurn}
 use Rattle.socket_loop.proofs.Runs.{step_rises, next_rises, all_append}
 
@@ -347,16 +346,16 @@ near_round slice start end after id late s worked refused r (Some t) p lt all q 
     ]
 
 -- a session that is pending before a turn: a work of it is refused; or after the turn it is closed, has nothing pending, or a whole slice less to do
-pub near_turn : (slice : ℕ) (moved : Bool) (held now : List Connection) (f t : ℕ) (a b : Told) (h m : HostState) (turn : IsTurn slice moved held f a h now t b m) (id : SessionId) (s : SessionView) → id.generation < h.slots.next → find h.slots id ≡ Some s → is_pending s ≡ true → (refuses id turn.steps ≡ true) ⊎ Nearer slice s (find m.slots id)
-near_turn slice moved held now f t a b h m turn id s lt e p =
+pub near_turn : (slice : ℕ) (moved : Bool) (x y : Scene) (turn : IsTurn slice moved x y) (id : SessionId) (s : SessionView) → id.generation < x.host.slots.next → find x.host.slots id ≡ Some s → is_pending s ≡ true → (refuses id turn.steps ≡ true) ⊎ Nearer slice s (find y.host.slots id)
+near_turn slice moved x y turn id s lt e p =
     let early : List Step = turn.admissions ++ turn.inputs in
     let late : List Step = turn.outputs ++ turn.ends in
     let middle : List Step = works slice (pending_ids turn.start) turn.round.outcomes in
-    let u : h.slots.next ≤ turn.start.slots.next = next_rises h turn.start early turn.to_round in
+    let u : x.host.slots.next ≤ turn.start.slots.next = next_rises x.host turn.start early turn.to_round in
     let before : AreAll IsNoWork early = all_append IsNoWork turn.admissions turn.inputs (all_are IsAdmission IsNoWork turn.admissions admission_quiet turn.admissions_are) (all_are IsInput IsNoWork turn.inputs input_quiet turn.inputs_are) in
     let after : AreAll IsQuietEvent late = all_append IsQuietEvent turn.outputs turn.ends (all_are IsOutput IsQuietEvent turn.outputs output_quiet turn.outputs_are) (all_are IsEnd IsQuietEvent turn.ends end_quiet turn.ends_are) in
-    let k : KeepsLoad s (find turn.start.slots id) = load_run IsNoWork h turn.start id early s (λ e_ q. q) (λ e_ q feed. p) before lt e turn.to_round in
-    elim (near_round slice turn.start turn.end m id late s turn.worked turn.refused turn.round (find turn.start.slots id) p (omega arith) after turn.from_round refl k) [
+    let k : KeepsLoad s (find turn.start.slots id) = load_run IsNoWork x.host turn.start id early s (λ e_ q. q) (λ e_ q feed. p) before lt e turn.to_round in
+    elim (near_round slice turn.start turn.end y.host id late s turn.worked turn.refused turn.round (find turn.start.slots id) p (omega arith) after turn.from_round refl k) [
       | inl refused ↦ inl (rw turn.steps_are (refuses_right id early (middle ++ late) (refuses_left id middle late refused)))
       | inr near ↦ inr near
     ]

@@ -8,7 +8,7 @@ use Rattle.wires.specs.Told.{Told, KeepsAll}
 use Rattle.socket_loop.specs.Links.{links_of, IsAmong}
 use Rattle.wires.specs.Moves.{AllMove, Transfers}
 use Rattle.wires.proofs.Peers.{all_kept}
-use Rattle.socket_loop.specs.Turns.{KeepsMade, EndsOrShuts, AllKeepMade, OneEndsOrShuts, Stirs, HasMoved, IsQuiet, any_pending}
+use Rattle.socket_loop.specs.Turns.{KeepsMade, EndsOrShuts, AllKeepMade, OneEndsOrShuts, Stirs, StirsHeld, IsQuiet, any_pending}
 use Rattle.wires.proofs.Transfers.{transfers_then, then_transfers}
 
 -- ---- marks
@@ -105,7 +105,8 @@ parts_stir q r s b c d e ys zs ws vs one two j k l m n o f g h any = elim (or_ca
 ]
 
 moved_parts : (p q r s : Bool) (from to : ℕ) (a b c d e : Told) (held ys zs ws vs now : List Connection) (host : HostState) → (p ≡ true → from < to) → IsQuiet p a held b ys → links_of zs ≡ links_of ys → links_of ws ≡ links_of zs → AllMove b c → AllMove c d → AllMove d e → AllKeepMade ys zs → AllKeepMade zs ws → AllKeepMade ws vs
-    → (q ≡ true → Stirs b ys c zs) → (r ≡ true → Stirs c zs d ws) → (s ≡ true → Stirs d ws e vs) → links_of vs ≡ links_of ys → now ≡ filter (λ x. not x.is_shut) vs → (((p || q) || r) || s) ≡ true → HasMoved from a held to e now host
+    → (q ≡ true → Stirs b ys c zs) → (r ≡ true → Stirs c zs d ws) → (s ≡ true → Stirs d ws e vs) → links_of vs ≡ links_of ys → now ≡ filter (λ x. not x.is_shut) vs → (((p || q) || r) || s) ≡ true
+    → (from < to) ⊎ (StirsHeld a held e now ⊎ (any_pending host (links_of now) ≡ true))
 moved_parts true q r s from to a b c d e held ys zs ws vs now host accepted quiet one two j k l m n o f g h links left any = inl (accepted refl)
 moved_parts false q r s from to a b c d e held ys zs ws vs now host accepted quiet one two j k l m n o f g h links left any =
     let nothing : KeepsAll a b × (ys ≡ held) = quiet refl in
@@ -118,7 +119,8 @@ moved_parts false q r s from to a b c d e held ys zs ws vs now host accepted qui
 
 -- a turn that moved
 pub moved_turn : (p q r s t : Bool) (from to : ℕ) (a b c d e : Told) (held ys zs ws vs now : List Connection) (host : HostState) → (p ≡ true → from < to) → IsQuiet p a held b ys → links_of zs ≡ links_of ys → links_of ws ≡ links_of zs → AllMove b c → AllMove c d → AllMove d e → AllKeepMade ys zs → AllKeepMade zs ws → AllKeepMade ws vs
-    → (q ≡ true → Stirs b ys c zs) → (r ≡ true → Stirs c zs d ws) → (s ≡ true → Stirs d ws e vs) → links_of vs ≡ links_of ys → now ≡ filter (λ x. not x.is_shut) vs → t ≡ any_pending host (links_of now) → ((((p || q) || r) || s) || t) ≡ true → HasMoved from a held to e now host
+    → (q ≡ true → Stirs b ys c zs) → (r ≡ true → Stirs c zs d ws) → (s ≡ true → Stirs d ws e vs) → links_of vs ≡ links_of ys → now ≡ filter (λ x. not x.is_shut) vs → t ≡ any_pending host (links_of now) → ((((p || q) || r) || s) || t) ≡ true
+    → (from < to) ⊎ (StirsHeld a held e now ⊎ (any_pending host (links_of now) ≡ true))
 moved_turn p q r s t from to a b c d e held ys zs ws vs now host accepted quiet one two j k l m n o f g h links left pending any = elim (or_cases (((p || q) || r) || s) t any) [
   | inl parts ↦ moved_parts p q r s from to a b c d e held ys zs ws vs now host accepted quiet one two j k l m n o f g h links left parts
   | inr last ↦ inr (inr (sym pending ∙ last))

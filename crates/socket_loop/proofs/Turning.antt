@@ -18,11 +18,12 @@ use Rattle.socket_loop.specs.declared.connection.Link.{Link}
 use Rattle.socket_loop.specs.declared.connection.Connection.{Connection}
 use Rattle.wires.specs.Told.{Told, KeepsPeer}
 use Rattle.socket_loop.specs.Links.{IsTied, IsAmong, IsApart, IsMarked, IsRising, links_of, reads_ended, was_shut}
-use Rattle.socket_loop.specs.Parts.{IsGone, closes, Carried, Carries, Serves, IsInput, IsOutput, IsEnd, KeepsAllMarks, AddsNoMark, Grows}
+use Rattle.socket_loop.specs.Parts.{IsGone, closes, Carried, Carries, ServesLinks, IsInput, IsOutput, IsEnd, KeepsAllMarks, AddsNoMark, Grows}
 use Rattle.wires.specs.Moves.{IsEmptied, AllMove}
 use Rattle.wires.specs.Asked.{Call}
-use Rattle.socket_loop.specs.Calls.{AcceptsAll, AsksAll, AsksEach, AsksTurn, reads_of, writes_of, ends_of}
+use Rattle.socket_loop.specs.Calls.{AllAccepted, AsksAll, AsksEach, AsksTurn, reads_of, writes_of, ends_of}
 use Rattle.socket_loop.specs.Turns.{FitsOne, Fits, Accepted, HasSession, Joins, IsTurnedAway, IsNew, Accepts, IsTurn, IsLetGo, Served, GoesOnServing, ServesNew}
+use Rattle.socket_loop.specs.Scenes.{Scene}
 use Rattle.wires.proofs.Peers.{kept_then, moves_then, emptied_move, raised_rises, rises_then, stays_rise, known_move}
 use Rattle.socket_loop.proofs.Runs.{run-append, next_rises, opened_left, starves-admissions, alone_then}
 use Rattle.socket_loop.proofs.Parts.{carried_nothing, carried_then, carries_then, carries_round}
@@ -106,14 +107,16 @@ starts_one ls f t x g marks a b h m first steps l r c up (inr new) = inr (served
 -- ---- all parts
 
 -- accept, read, work, write, shut
-pub turned : (slice : ℕ) (p q r s w : Bool) (held accepted_ read_ written_ last : List Connection) (f t : ℕ) (a b c d e : Told) (h i j k l m : HostState) (worked refused : ℕ) (calls asked_calls : Option (List Call)) → Fits (links_of held) f h
-    → AcceptsAll p (links_of held) f a h (links_of accepted_) t b i calls asked_calls → ((n : ℕ) → AddsNoMark held accepted_ n)
-    → Serves IsInput written_ t (links_of accepted_) b i c j → KeepsAllMarks t b accepted_ c read_
+pub turned : (slice : ℕ) (p q r s w : Bool) (held accepted_ read_ written_ last : List Connection) (f t : ℕ) (a b c d e : Told) (h i j k l m : HostState) (worked refused : ℕ) (calls asked_calls last_calls : Option (List Call)) (u v : ℕ) → Fits (links_of held) f h
+    → AllAccepted p (links_of held) f a h (links_of accepted_) t b i calls asked_calls → ((n : ℕ) → AddsNoMark held accepted_ n)
+    → ServesLinks IsInput written_ t (links_of accepted_) b i c j → KeepsAllMarks t b accepted_ c read_
     → IsRound j slice (pending_ids j) worked refused k
-    → Serves IsOutput written_ t (links_of accepted_) c k d l → KeepsAllMarks t c read_ d written_
-    → Serves IsEnd written_ t (links_of accepted_) d l e m → KeepsAllMarks t d written_ e last → ((n : ℕ) → IsMarked reads_ended last n → IsMarked reads_ended written_ n)
-    → links_of last ≡ links_of accepted_ → ShutsAll held accepted_ last m → IsTurn slice ((((p || q) || r) || s) || w) held f a h (filter (λ x. not x.is_shut) last) t e m
-turned slice p q r s w held accepted_ read_ written_ last f t a b c d e h i j k l m worked refused calls asked_calls fit some adds reads reads_mark round writes writes_mark shuts shuts_mark stay_ended same shutting =
+    → ServesLinks IsOutput written_ t (links_of accepted_) c k d l → KeepsAllMarks t c read_ d written_
+    → ServesLinks IsEnd written_ t (links_of accepted_) d l e m → KeepsAllMarks t d written_ e last → ((n : ℕ) → IsMarked reads_ended last n → IsMarked reads_ended written_ n)
+    → links_of last ≡ links_of accepted_ → ShutsAll held accepted_ last m → IsTurn slice ((((p || q) || r) || s) || w)
+    (record { held = held; bound = f; told = a; asked = calls; failed = u; host = h })
+    (record { held = filter (λ x. not x.is_shut) last; bound = t; told = e; asked = last_calls; failed = v; host = m })
+turned slice p q r s w held accepted_ read_ written_ last f t a b c d e h i j k l m worked refused calls asked_calls last_calls u v fit some adds reads reads_mark round writes writes_mark shuts shuts_mark stay_ended same shutting =
     let ms : List Link = links_of accepted_ in
     let accepts : Accepts (links_of held) f a h ms t b i = some.accepts in
     let first : List Step = accepts.steps ++ reads.steps in
@@ -197,8 +200,8 @@ turned slice p q r s w held accepted_ read_ written_ last f t a b c d e h i j k 
     over_marks n (inr empty) = inr (emptied_move a d e n empty shuts.carries.all)
 
 -- a turn with what it met, and the states between its parts
-pub record TurnWith (slice : ℕ) (moved : Bool) (held : List Connection) (f : ℕ) (a : Told) (h : HostState) (now : List Connection) (t : ℕ) (e : Told) (m : HostState) (admissions : List Step) (met : List Link) (start end : HostState) (marks : List Connection) (accepted : List Accepted) : Type 0 where
-  pub turn : IsTurn slice moved held f a h now t e m
+pub record TurnWith (slice : ℕ) (moved : Bool) (before after : Scene) (admissions : List Step) (met : List Link) (start end : HostState) (marks : List Connection) (accepted : List Accepted) : Type 0 where
+  pub turn : IsTurn slice moved before after
   pub admissions_are : turn.admissions ≡ admissions
   pub met_are : turn.met ≡ met
   pub start_is : turn.start ≡ start
@@ -206,22 +209,25 @@ pub record TurnWith (slice : ℕ) (moved : Bool) (held : List Connection) (f : �
   pub marks_are : turn.marks ≡ marks
   pub accepted_are : turn.accepted ≡ accepted
 
-pub turn_with : (slice : ℕ) (p q r s w : Bool) (held accepted_ read_ written_ last : List Connection) (f t : ℕ) (a b c d e : Told) (h i j k l m : HostState) (worked refused : ℕ) (calls asked_calls : Option (List Call)) → Fits (links_of held) f h
-    → (x : AcceptsAll p (links_of held) f a h (links_of accepted_) t b i calls asked_calls) → ((n : ℕ) → AddsNoMark held accepted_ n)
-    → Serves IsInput written_ t (links_of accepted_) b i c j → KeepsAllMarks t b accepted_ c read_
+pub turn_with : (slice : ℕ) (p q r s w : Bool) (held accepted_ read_ written_ last : List Connection) (f t : ℕ) (a b c d e : Told) (h i j k l m : HostState) (worked refused : ℕ) (calls asked_calls last_calls : Option (List Call)) (u v : ℕ) → Fits (links_of held) f h
+    → (x : AllAccepted p (links_of held) f a h (links_of accepted_) t b i calls asked_calls) → ((n : ℕ) → AddsNoMark held accepted_ n)
+    → ServesLinks IsInput written_ t (links_of accepted_) b i c j → KeepsAllMarks t b accepted_ c read_
     → IsRound j slice (pending_ids j) worked refused k
-    → Serves IsOutput written_ t (links_of accepted_) c k d l → KeepsAllMarks t c read_ d written_
-    → Serves IsEnd written_ t (links_of accepted_) d l e m → KeepsAllMarks t d written_ e last → ((n : ℕ) → IsMarked reads_ended last n → IsMarked reads_ended written_ n)
-    → links_of last ≡ links_of accepted_ → ShutsAll held accepted_ last m → TurnWith slice ((((p || q) || r) || s) || w) held f a h (filter (λ x. not x.is_shut) last) t e m x.accepts.steps (links_of accepted_) j k written_ x.accepts.accepted
+    → ServesLinks IsOutput written_ t (links_of accepted_) c k d l → KeepsAllMarks t c read_ d written_
+    → ServesLinks IsEnd written_ t (links_of accepted_) d l e m → KeepsAllMarks t d written_ e last → ((n : ℕ) → IsMarked reads_ended last n → IsMarked reads_ended written_ n)
+    → links_of last ≡ links_of accepted_ → ShutsAll held accepted_ last m → TurnWith slice ((((p || q) || r) || s) || w)
+    (record { held = held; bound = f; told = a; asked = calls; failed = u; host = h })
+    (record { held = filter (λ x. not x.is_shut) last; bound = t; told = e; asked = last_calls; failed = v; host = m })
+    x.accepts.steps (links_of accepted_) j k written_ x.accepts.accepted
 unfolding turned
-turn_with slice p q r s w held accepted_ read_ written_ last f t a b c d e h i j k l m worked refused calls asked_calls fit some adds reads reads_mark round writes writes_mark shuts shuts_mark stay_ended same shutting =
-    record { turn = turned slice p q r s w held accepted_ read_ written_ last f t a b c d e h i j k l m worked refused calls asked_calls fit some adds reads reads_mark round writes writes_mark shuts shuts_mark stay_ended same shutting; admissions_are = refl; met_are = refl; start_is = refl; end_is = refl; marks_are = refl; accepted_are = refl }
+turn_with slice p q r s w held accepted_ read_ written_ last f t a b c d e h i j k l m worked refused calls asked_calls last_calls u v fit some adds reads reads_mark round writes writes_mark shuts shuts_mark stay_ended same shutting =
+    record { turn = turned slice p q r s w held accepted_ read_ written_ last f t a b c d e h i j k l m worked refused calls asked_calls last_calls u v fit some adds reads reads_mark round writes writes_mark shuts shuts_mark stay_ended same shutting; admissions_are = refl; met_are = refl; start_is = refl; end_is = refl; marks_are = refl; accepted_are = refl }
 
 -- the calls of a turn
-pub asks_turn : (slice : ℕ) (moved : Bool) (held now met read written last : List Connection) (f t : ℕ) (a e : Told) (h i j k l m : HostState) (admissions : List Step) (items : List Accepted) (old accepted asked_reads asked_writes new : Option (List Call)) → TurnWith slice moved held f a h now t e m admissions (links_of met) j k written items
-    → AsksAll (links_of met) items old accepted → IsRun h admissions i → Grows held met → (IsRising (links_of held) → IsRising (links_of met)) → AsksEach reads_of IsInput i met read accepted asked_reads j → AsksEach writes_of IsOutput k read written asked_reads asked_writes l → AsksEach ends_of IsEnd l written last asked_writes new m
-    → now ≡ filter (λ x. not x.is_shut) last → AsksTurn slice moved held f a old h now t e new m
-asks_turn slice moved held now met read written last f t a e h i j k l m admissions items old accepted asked_reads asked_writes new w accepts run grows rising reads writes ends left = record {
+pub asks_turn : (slice : ℕ) (moved : Bool) (before after : Scene) (met read written last : List Connection) (i j k l : HostState) (admissions : List Step) (items : List Accepted) (accepted asked_reads asked_writes : Option (List Call)) → TurnWith slice moved before after admissions (links_of met) j k written items
+    → AsksAll (links_of met) items before.asked accepted → IsRun before.host admissions i → Grows before.held met → (IsRising (links_of before.held) → IsRising (links_of met)) → AsksEach reads_of IsInput i met read accepted asked_reads j → AsksEach writes_of IsOutput k read written asked_reads asked_writes l → AsksEach ends_of IsEnd l written last asked_writes after.asked after.host
+    → after.held ≡ filter (λ x. not x.is_shut) last → AsksTurn slice moved before after
+asks_turn slice moved before after met read written last i j k l admissions items accepted asked_reads asked_writes w accepts run grows rising reads writes ends left = record {
   turn = w.turn;
   accepted = accepted;
   accepts = rw (w.met_are, w.accepted_are) accepts;
@@ -242,12 +248,12 @@ asks_turn slice moved held now met read written last f t a e h i j k l m admissi
   left = left;
 }
 
-pub goes_on : (slice : ℕ) (moved : Bool) (held now : List Connection) (f t : ℕ) (a b : Told) (h m : HostState) → IsTurn slice moved held f a h now t b m → GoesOnServing (links_of held) a h b m
-goes_on slice moved held now f t a b h m turn = λ l s among found.
-    served (due s) turn.marks t a b h m turn.steps l (turn.carried l (turn.stay l among)) (kept h m l.id turn.steps s found turn.chain).ends
+pub goes_on : (slice : ℕ) (moved : Bool) (before after : Scene) → IsTurn slice moved before after → GoesOnServing before after
+goes_on slice moved before after turn = λ l s among found.
+    served (due s) turn.marks after.bound before.told after.told before.host after.host turn.steps l (turn.carried l (turn.stay l among)) (kept before.host after.host l.id turn.steps s found turn.chain).ends
 
-pub starts : (slice : ℕ) (moved : Bool) (held now : List Connection) (f t : ℕ) (a b : Told) (h m : HostState) → IsTurn slice moved held f a h now t b m → ServesNew (links_of held) a (links_of now) b m
-starts slice moved held now f t a b h m turn = λ l among. turn.starts l (turn.left l among)
+pub starts : (slice : ℕ) (moved : Bool) (before after : Scene) → IsTurn slice moved before after → ServesNew before (links_of after.held) after
+starts slice moved before after turn = λ l among. turn.starts l (turn.left l among)
 
 -- ---- what is let go
 
@@ -267,8 +273,8 @@ fits_left p held t h i rises fit = λ l m.
 pub turn_fits : (held met last : List Connection) (f t : ℕ) (a b : Told) (h i m : HostState) → Fits (links_of held) f h → Accepts (links_of held) f a h (links_of met) t b i → i.slots.next ≤ m.slots.next → links_of last ≡ links_of met → Fits (links_of (filter (λ x. not x.is_shut) last)) t m
 turn_fits held met last f t a b h i m fit accepts rises same = fits_left (λ x. not x.is_shut) last t i m rises (rw same (accepts.fits fit))
 
-pub serves_rises : (kind : Event → Type 0) (marks : List Connection) (bound : ℕ) (ls : List Link) (a b : Told) (h i : HostState) → Serves kind marks bound ls a h b i → h.slots.next ≤ i.slots.next
+pub serves_rises : (kind : Event → Type 0) (marks : List Connection) (bound : ℕ) (ls : List Link) (a b : Told) (h i : HostState) → ServesLinks kind marks bound ls a h b i → h.slots.next ≤ i.slots.next
 serves_rises kind marks bound ls a b h i s = next_rises h i s.steps s.carries.chain
 
-pub turn_knows : (slice : ℕ) (moved : Bool) (held now : List Connection) (f t : ℕ) (a b : Told) (h m : HostState) → IsTurn slice moved held f a h now t b m → (n : ℕ) → IsSome (a.written n) → IsSome (b.written n)
-turn_knows slice moved held now f t a b h m turn = known_move a b turn.all
+pub turn_knows : (slice : ℕ) (moved : Bool) (before after : Scene) → IsTurn slice moved before after → (n : ℕ) → IsSome (before.told.written n) → IsSome (after.told.written n)
+turn_knows slice moved before after turn = known_move before.told after.told turn.all

@@ -1,5 +1,5 @@
 -- The calls of a turn, in order (own choice).
-use Rattle.std.specs.Prelude.{◌≡◌, ◌⊎◌, ◌↔◌, true, false, ℕ, suc, zero, ◌<◌, List, [], ◌∷◌, ◌++◌, length, nat_lt, Bool, not, cond, ◌&&◌, Option, None, Some, Result, Ok, Err, filter}
+use Rattle.std.specs.Prelude.{◌≡◌, ◌⊎◌, ◌↔◌, true, false, ℕ, suc, zero, ◌<◌, List, [], ◌∷◌, ◌++◌, length, nat_lt, Bool, not, cond, ◌&&◌, Option, None, Some, Result, Ok, Err}
 use Rattle.session_slots.specs.declared.id.SessionId.{SessionId}
 use Rattle.session_slots.specs.Slots.{find}
 use Rattle.host_core.specs.declared.event.HostFault.TheVariants.{Full}
@@ -15,23 +15,27 @@ use Rattle.socket_loop.specs.declared.connection.Connection.{Connection}
 use Rattle.socket_loop.specs.declared.turn.TheConstants.{ACCEPTS}
 use Rattle.usi_session.specs.declared.limits.TheConstants.{CHUNK_MAX}
 use Rattle.wires.specs.Asked.{Call, Accept, Read, Write, Shut, Asks, IsCalled}
-use Rattle.socket_loop.specs.Links.{links_of, IsApart, IsRising}
-use Rattle.socket_loop.specs.Parts.{AreAll, Grows, IsInput, IsOutput, IsEnd, is_finished_with}
-use Rattle.socket_loop.specs.Turns.{host_full, Accepted, Accepts, Admits, Fits, HasSession, IsTurn, KeepsMade}
+use Rattle.socket_loop.specs.Links.{links_of, unshut_of, IsApart, IsRising}
+use Rattle.socket_loop.specs.Scenes.{Scene}
+use Rattle.socket_loop.specs.Parts.{AreAll, Grows, IsInput, IsOutput, IsEnd, is_finished}
+use Rattle.socket_loop.specs.Turns.{host_full, Accepted, Accepts, Admits, Fits, HasSession, IsOpening, IsTurn, KeepsMade}
 
 -- ---- one connection
 
 -- the connection is one to read from: its reads have not ended, it is not shut, and its session wants input
 abbrev pub is_to_read : HostState → Connection → Bool
-is_to_read host connection = (not connection.has_ended && not connection.is_shut) && wants_input_of (find host.slots connection.link.id)
+is_to_read host connection =
+    (not connection.has_ended && not connection.is_shut)
+    && wants_input_of (find host.slots connection.link.id)
 
 -- the connection is one to write to: it is not shut, and something is queued for it
 abbrev pub is_to_write : HostState → Connection → Bool
-is_to_write host connection = not connection.is_shut && nat_lt 0 (length (queued_of (find host.slots connection.link.id)))
+is_to_write host connection =
+    not connection.is_shut && nat_lt 0 (length (queued_of (find host.slots connection.link.id)))
 
 -- it is not shut, and finished with
 abbrev pub is_to_shut : HostState → Connection → Bool
-is_to_shut host connection = not connection.is_shut && is_finished_with connection.has_ended (find host.slots connection.link.id)
+is_to_shut host connection = not connection.is_shut && is_finished host connection
 
 -- the call that shut it, where it was not shut before
 abbrev pub shuts_of : Connection → Connection → List Call
@@ -39,11 +43,14 @@ shuts_of old new = cond (new.is_shut && not old.is_shut) (Shut old.link.number �
 
 -- one read where it is to be read; it may be shut then
 abbrev pub reads_of : HostState → Connection → Connection → List Call
-reads_of host old new = cond (is_to_read host old) (Read old.link.number CHUNK_MAX ∷ shuts_of old new) []
+reads_of host old new =
+    cond (is_to_read host old) (Read old.link.number CHUNK_MAX ∷ shuts_of old new) []
 
 -- one write of all that is queued, where it is to be written; it may be shut then
 abbrev pub writes_of : HostState → Connection → Connection → List Call
-writes_of host old new = cond (is_to_write host old) (Write old.link.number (queued_of (find host.slots old.link.id)) ∷ shuts_of old new) []
+writes_of host old new =
+    cond (is_to_write host old)
+    (Write old.link.number (queued_of (find host.slots old.link.id)) ∷ shuts_of old new) []
 
 -- it is shut where it is finished with
 abbrev pub ends_of : HostState → Connection → Connection → List Call
@@ -70,34 +77,48 @@ pub record IsVisit (after : HostState) (calls : List Call) (old new : Connection
   pub made : KeepsMade old new
   pub shut : new.is_shut ≡ true ↔ (old.is_shut ≡ true) ⊎ IsCalled calls (Shut old.link.number)
   pub closed : new.is_shut ≡ true → (old.is_shut ≡ true) ⊎ (find after.slots old.link.id ≡ None)
-  pub ended : new.has_ended ≡ true → (old.has_ended ≡ true) ⊎ IsCalled calls (Read old.link.number CHUNK_MAX)
+  pub ended : new.has_ended ≡ true
+      → (old.has_ended ≡ true) ⊎ IsCalled calls (Read old.link.number CHUNK_MAX)
 
 -- ---- one connection after the other
 
 -- the first connections were visited, each with the calls that are due by the host's state then; the others are as they were
-abbrev pub AreVisitedTo : ℕ → (HostState → Connection → Connection → List Call) → (Event → Type 0) → HostState → List Connection → List Connection → List Call → HostState → Type 0
+abbrev pub AreVisitedTo : ℕ → (HostState → Connection → Connection → List Call) → (Event → Type 0)
+    → HostState → List Connection → List Connection → List Call → HostState → Type 0
 AreVisitedTo zero due kind before xs ys calls after = (ys ≡ xs) × ((calls ≡ []) × (after ≡ before))
 AreVisitedTo (suc n) due kind before [] ys calls after = ⊥
 AreVisitedTo (suc n) due kind before (x ∷ xs) [] calls after = ⊥
 AreVisitedTo (suc n) due kind before (x ∷ xs) (y ∷ ys) calls after =
-    (mid : HostState) × ((rest : List Call) × ((calls ≡ due before x y ++ rest) × (IsVisit mid (due before x y) x y × (Visits kind x.link.id before mid × AreVisitedTo n due kind mid xs ys rest after))))
+    (mid : HostState)
+    × ((rest : List Call)
+    × ((calls ≡ due before x y ++ rest)
+    × (IsVisit mid (due before x y) x y
+    × (Visits kind x.link.id before mid × AreVisitedTo n due kind mid xs ys rest after))))
 
 -- so many connections were visited, and a wire was asked for the calls of these visits
-pub record AsksTo (n : ℕ) (due : HostState → Connection → Connection → List Call) (kind : Event → Type 0) (before : HostState) (xs ys : List Connection) (old new : Option (List Call)) (after : HostState) : Type 0 where
+pub record AsksTo (n : ℕ) (due : HostState → Connection → Connection → List Call)
+    (kind : Event → Type 0) (before : HostState) (xs ys : List Connection)
+    (old new : Option (List Call)) (after : HostState) : Type 0 where
   pub calls : List Call
   pub visited : AreVisitedTo n due kind before xs ys calls after
   pub asked : Asks old new calls
 
 -- each connection was visited
-abbrev pub AsksEach : (HostState → Connection → Connection → List Call) → (Event → Type 0) → HostState → List Connection → List Connection → Option (List Call) → Option (List Call) → HostState → Type 0
-AsksEach due kind before xs ys old new after = AsksTo (length xs) due kind before xs ys old new after
+abbrev pub AsksEach : (HostState → Connection → Connection → List Call) → (Event → Type 0)
+    → HostState → List Connection → List Connection → Option (List Call) → Option (List Call)
+    → HostState → Type 0
+AsksEach due kind before xs ys old new after =
+    AsksTo (length xs) due kind before xs ys old new after
 
 -- ---- new connections
 
 -- the calls after a connection was accepted, by how the host answered its `Open`, where these are met then: none where it has its session, and else a shut, or, where the host is full, one write that tells so, and a shut
 abbrev pub IsAdmittedAs : List Link → Accepted → Outcome → List Call → Type 0
-IsAdmittedAs met item (Opened id) calls = (HasSession met item × (calls ≡ [])) ⊎ (IsApart met item.number × (calls ≡ Shut item.number ∷ []))
-IsAdmittedAs met item (Refused Full) calls = calls ≡ Write item.number host_full ∷ Shut item.number ∷ []
+IsAdmittedAs met item (Opened id) calls =
+    (HasSession met item × (calls ≡ []))
+    ⊎ (IsApart met item.number × (calls ≡ Shut item.number ∷ []))
+IsAdmittedAs met item (Refused Full) calls =
+    calls ≡ Write item.number host_full ∷ Shut item.number ∷ []
 IsAdmittedAs met item _ calls = calls ≡ Shut item.number ∷ []
 
 abbrev pub IsAdmitted : List Link → Accepted → List Call → Type 0
@@ -106,7 +127,11 @@ IsAdmitted met item calls = IsAdmittedAs met item item.outcome calls
 -- these connections were accepted, one after the other
 abbrev pub AreAccepted : List Link → List Accepted → List Call → Type 0
 AreAccepted met [] calls = calls ≡ []
-AreAccepted met (first ∷ items) calls = (more : List Call) × ((rest : List Call) × ((calls ≡ Accept (Ok (Some first.number)) ∷ (more ++ rest)) × (IsAdmitted met first more × AreAccepted met items rest)))
+AreAccepted met (first ∷ items) calls =
+    (more : List Call)
+    × ((rest : List Call)
+    × ((calls ≡ Accept (Ok (Some first.number)) ∷ (more ++ rest))
+    × (IsAdmitted met first more × AreAccepted met items rest)))
 
 -- an accept gave nobody
 abbrev pub GivesNobody : Result (Option ℕ) WireFault → Type 0
@@ -115,57 +140,95 @@ GivesNobody (Ok None) = Unit {0}
 GivesNobody (Err fault) = Unit {0}
 
 -- one connection was admitted
-pub record AsksAdmission (met : List Link) (number : ℕ) (outcome : Outcome) (old new : Option (List Call)) : Type 0 where
+pub record AsksAdmission (met : List Link) (number : ℕ) (outcome : Outcome)
+    (old new : Option (List Call)) : Type 0 where
   pub calls : List Call
   pub admitted : IsAdmitted met (record { number = number; outcome = outcome }) calls
   pub asked : Asks old new calls
 
 -- a connection was admitted, with its calls
-pub record AdmitsOne (links : List Link) (told : Told) (before : HostState) (number to : ℕ) (met : List Link) (new : Told) (after : HostState) (old_calls new_calls : Option (List Call)) : Type 0 where
+pub record OneAdmitted (links : List Link) (told : Told) (before : HostState) (number to : ℕ)
+    (met : List Link) (new : Told) (after : HostState) (old_calls new_calls : Option (List Call))
+    : Type 0 where
   pub outcome : Outcome
   pub admits : Admits links told before number outcome to met new after
   pub asked : IsApart links number → AsksAdmission met number outcome old_calls new_calls
 
+-- a new connection of this number was admitted
+abbrev pub AdmitsOne : ℕ → Scene → Scene → Type 0
+AdmitsOne number before after =
+    OneAdmitted (links_of before.held) before.told before.host number before.bound
+    (links_of after.held) after.told after.host before.asked after.asked
+
+-- a new connection whose session was opened before, by an `Open` in any host, was admitted
+abbrev pub AdmitsOpened : Link → Scene → Scene → Type 0
+AdmitsOpened link before after =
+    (start : HostState)
+    → IsOpening start (Ok link.id) before.host
+    → Admits (links_of before.held) before.told start link.number (Opened link.id) before.bound
+    (links_of after.held) after.told after.host
+
+-- the calls for it, where its number is new
+abbrev pub AsksForOpened : Link → Scene → Scene → Type 0
+AsksForOpened link before after =
+    IsApart (links_of before.held) link.number
+    → AsksAdmission (links_of after.held) link.number (Opened link.id) before.asked after.asked
+
 -- these were accepted
-pub record AsksAccepts (met : List Link) (items : List Accepted) (old new : Option (List Call)) : Type 0 where
+pub record AsksAccepts (met : List Link) (items : List Accepted) (old new : Option (List Call))
+    : Type 0 where
   pub calls : List Call
   pub accepted : AreAccepted met items calls
   pub asked : Asks old new calls
 
 -- connections were accepted until one accept gave nobody, or ACCEPTS of them were
-pub record AsksAll (met : List Link) (items : List Accepted) (old new : Option (List Call)) : Type 0 where
+pub record AsksAll (met : List Link) (items : List Accepted) (old new : Option (List Call))
+    : Type 0 where
   pub first : List Call
   pub last : List Call
   pub accepted : AreAccepted met items first
-  pub ends : ((length items ≡ ACCEPTS) × (last ≡ [])) ⊎ ((length items < ACCEPTS) × ((answer : Result (Option ℕ) WireFault) × (GivesNobody answer × (last ≡ Accept answer ∷ []))))
+  pub ends : ((length items ≡ ACCEPTS) × (last ≡ []))
+      ⊎ ((length items < ACCEPTS)
+      × ((answer : Result (Option ℕ) WireFault)
+      × (GivesNobody answer × (last ≡ Accept answer ∷ []))))
   pub asked : Asks old new (first ++ last)
 
 -- so many connections were accepted, with their calls
-pub record AcceptsSome (count : ℕ) (moved : Bool) (links : List Link) (from : ℕ) (old : Told) (before : HostState) (met : List Link) (to : ℕ) (new : Told) (after : HostState) (old_calls new_calls : Option (List Call)) : Type 0 where
+pub record AcceptsSome (count : ℕ) (moved : Bool) (links : List Link) (from : ℕ) (old : Told)
+    (before : HostState) (met : List Link) (to : ℕ) (new : Told) (after : HostState)
+    (old_calls new_calls : Option (List Call)) : Type 0 where
   pub accepts : Accepts links from old before met to new after
   pub none : moved ≡ false → accepts.accepted ≡ []
   pub counted : length accepts.accepted ≡ count
   pub asked : Fits links from before → AsksAccepts met accepts.accepted old_calls new_calls
 
 -- connections were accepted, with all calls
-pub record AcceptsAll (moved : Bool) (links : List Link) (from : ℕ) (old : Told) (before : HostState) (met : List Link) (to : ℕ) (new : Told) (after : HostState) (old_calls new_calls : Option (List Call)) : Type 0 where
+pub record AllAccepted (moved : Bool) (links : List Link) (from : ℕ) (old : Told)
+    (before : HostState) (met : List Link) (to : ℕ) (new : Told) (after : HostState)
+    (old_calls new_calls : Option (List Call)) : Type 0 where
   pub accepts : Accepts links from old before met to new after
   pub none : moved ≡ false → accepts.accepted ≡ []
   pub asked : Fits links from before → AsksAll met accepts.accepted old_calls new_calls
 
+-- the same of the connections that are held
+abbrev pub AcceptsAll : Bool → Scene → Scene → Type 0
+AcceptsAll moved before after =
+    AllAccepted moved (links_of before.held) before.bound before.told before.host
+    (links_of after.held) after.bound after.told after.host before.asked after.asked
+
 -- ---- a turn
 
 -- a turn, and its calls: accepts, then a read for each connection that is to be read, a round, a write for each that is to be written, and a shut for each that is finished with
-pub record AsksTurn (slice : ℕ) (moved : Bool) (held : List Connection) (from : ℕ) (told : Told) (old : Option (List Call)) (before : HostState) (now : List Connection) (to : ℕ) (tells : Told) (new : Option (List Call)) (after : HostState) : Type 0 where
-  pub turn : IsTurn slice moved held from told before now to tells after
+pub record AsksTurn (slice : ℕ) (moved : Bool) (before after : Scene) : Type 0 where
+  pub turn : IsTurn slice moved before after
   pub accepted : Option (List Call)
-  pub accepts : AsksAll turn.met turn.accepted old accepted
+  pub accepts : AsksAll turn.met turn.accepted before.asked accepted
   pub middle : HostState
-  pub to_middle : IsRun before turn.admissions middle
+  pub to_middle : IsRun before.host turn.admissions middle
   pub met : List Connection
   pub met_are : links_of met ≡ turn.met
-  pub grows : Grows held met
-  pub rising : IsRising (links_of held) → IsRising (links_of met)
+  pub grows : Grows before.held met
+  pub rising : IsRising (links_of before.held) → IsRising (links_of met)
   pub read : List Connection
   pub asked_reads : Option (List Call)
   pub reads : AsksEach reads_of IsInput middle met read accepted asked_reads turn.start
@@ -173,5 +236,5 @@ pub record AsksTurn (slice : ℕ) (moved : Bool) (held : List Connection) (from 
   pub passed : HostState
   pub writes : AsksEach writes_of IsOutput turn.end read turn.marks asked_reads asked_writes passed
   pub last : List Connection
-  pub ends : AsksEach ends_of IsEnd passed turn.marks last asked_writes new after
-  pub left : now ≡ filter (λ connection. not connection.is_shut) last
+  pub ends : AsksEach ends_of IsEnd passed turn.marks last asked_writes after.asked after.host
+  pub left : after.held ≡ unshut_of last

@@ -1,4 +1,6 @@
 pub mod Links
+pub mod Scenes
 pub mod Parts
 pub mod Turns
 pub mod Calls
+pub mod Visits

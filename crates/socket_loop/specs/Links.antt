@@ -1,5 +1,5 @@
 -- Connections and their sessions (own choice).
-use Rattle.std.specs.Prelude.{◌≡◌, ◌≢◌, ◌≤◌, ◌⊎◌, ⊤, ℕ, suc, List, [], ◌∷◌, Bool, true, cond, nat_lt, map}
+use Rattle.std.specs.Prelude.{◌≡◌, ◌≢◌, ◌≤◌, ◌⊎◌, ⊤, ℕ, suc, List, [], ◌∷◌, Bool, true, cond, nat_lt, not, map, filter}
 use Rattle.session_slots.specs.declared.id.SessionId.{SessionId}
 use Rattle.socket_loop.specs.declared.connection.Link.{Link}
 use Rattle.socket_loop.specs.declared.connection.Connection.{Connection}
@@ -45,7 +45,8 @@ links_of held = map (λ connection. connection.link) held
 -- one of these has the number, and the mark
 abbrev pub IsMarked : (Connection → Bool) → List Connection → ℕ → Type 0
 IsMarked mark [] number = ⊥
-IsMarked mark (first ∷ rest) number = ((first.link.number ≡ number) × (mark first ≡ true)) ⊎ IsMarked mark rest number
+IsMarked mark (first ∷ rest) number =
+    ((first.link.number ≡ number) × (mark first ≡ true)) ⊎ IsMarked mark rest number
 
 -- the reads of the connection have ended
 abbrev pub reads_ended : Connection → Bool
@@ -54,6 +55,10 @@ reads_ended connection = connection.has_ended
 -- the connection was shut
 abbrev pub was_shut : Connection → Bool
 was_shut connection = connection.is_shut
+
+-- those that were not shut
+abbrev pub unshut_of : List Connection → List Connection
+unshut_of held = filter (λ connection. not connection.is_shut) held
 
 -- ---- by rising slot
 

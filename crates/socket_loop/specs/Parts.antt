@@ -13,7 +13,8 @@ use Rattle.socket_loop.specs.declared.connection.Link.{Link}
 use Rattle.socket_loop.specs.declared.connection.Connection.{Connection}
 use Rattle.wires.specs.Told.{Told, KeepsPeer, Stays, IsRaised}
 use Rattle.wires.specs.Moves.{AllMove, IsEmptied}
-use Rattle.socket_loop.specs.Links.{IsTied, IsApart, IsStrange, IsHeld, IsMarked, reads_ended, was_shut}
+use Rattle.socket_loop.specs.Links.{IsTied, IsApart, IsStrange, IsHeld, IsMarked, links_of, reads_ended, was_shut}
+use Rattle.socket_loop.specs.Scenes.{Scene}
 
 -- ---- steps of a host
 
@@ -113,10 +114,17 @@ pub record LeavesAlone (id : SessionId) (steps : List Step) : Type 0 where
 -- the host no longer has the session; or it is over, or the reads have ended, and nothing is pending or queued
 abbrev pub is_finished_with : Bool → Option SessionView → Bool
 is_finished_with has_ended None = true
-is_finished_with has_ended (Some t) = (has_ended || t.state.is_over) && (length t.queued == 0) && not (is_pending t)
+is_finished_with has_ended (Some t) =
+    (has_ended || t.state.is_over) && (length t.queued == 0) && not (is_pending t)
+
+-- the connection is finished with
+abbrev pub is_finished : HostState → Connection → Bool
+is_finished host connection =
+    is_finished_with connection.has_ended (find host.slots connection.link.id)
 
 -- a connection was finished with at the moment of the steps at which its session was closed; these are the connections whose reads may have ended
-pub record Finished (marks : List Connection) (before : HostState) (steps : List Step) (after : HostState) (link : Link) : Type 0 where
+pub record Finished (marks : List Connection) (before : HostState) (steps : List Step)
+    (after : HostState) (link : Link) : Type 0 where
   pub earlier : List Step
   pub outcome : Outcome
   pub later : List Step
@@ -132,7 +140,8 @@ pub record Finished (marks : List Connection) (before : HostState) (steps : List
 -- why a connection is shut: a read or a write of it failed, a `Feed` of its session was refused for memory, or it was finished with
 abbrev pub Cause : List Connection → Told → HostState → List Step → Told → HostState → Link → Type 0
 Cause marks old before steps new after link =
-    IsRaised (old.has_failed link.number) (new.has_failed link.number) ⊎ ((starves link.id steps ≡ true) ⊎ Finished marks before steps after link)
+    IsRaised (old.has_failed link.number) (new.has_failed link.number)
+    ⊎ ((starves link.id steps ≡ true) ⊎ Finished marks before steps after link)
 
 -- a connection is not shut, and its session is not closed; no call of it failed, and no `Feed` of its session was refused for memory
 pub record IsSpared (old : Told) (steps : List Step) (new : Told) (link : Link) : Type 0 where
@@ -142,15 +151,18 @@ pub record IsSpared (old : Told) (steps : List Step) (new : Told) (link : Link) 
   pub fed : starves link.id steps ≡ false
 
 -- a connection is shut and its session is closed, for a cause of its own
-pub record IsShutDown (marks : List Connection) (bound : ℕ) (old : Told) (before : HostState) (steps : List Step) (new : Told) (after : HostState) (link : Link) : Type 0 where
+pub record IsShutDown (marks : List Connection) (bound : ℕ) (old : Told) (before : HostState)
+    (steps : List Step) (new : Told) (after : HostState) (link : Link) : Type 0 where
   pub shut : link.number < bound → IsRaised (old.is_shut link.number) (new.is_shut link.number)
   pub closed : closes link.id steps ≡ true
   pub cause : Cause marks old before steps new after link
 
 -- a connection gave the bytes that were stored for its session and took those that were taken from it; it lost bytes exactly where a `Feed` was refused for memory, and its session is gone then; it is shut only for a cause of its own
-pub record Carried (marks : List Connection) (bound : ℕ) (old : Told) (before : HostState) (steps : List Step) (new : Told) (after : HostState) (link : Link) : Type 0 where
+pub record Carried (marks : List Connection) (bound : ℕ) (old : Told) (before : HostState)
+    (steps : List Step) (new : Told) (after : HostState) (link : Link) : Type 0 where
   pub lost : List ℕ
-  pub consumed : Consumes (old.unread link.number) (new.unread link.number) (own link.id steps ++ lost)
+  pub consumed : Consumes (old.unread link.number) (new.unread link.number)
+      (own link.id steps ++ lost)
   pub appended : Appends (old.written link.number) (new.written link.number) (taken link.id steps)
   pub whole : (lost ≡ []) ⊎ (IsGone after link.id × (starves link.id steps ≡ true))
   pub fed : starves link.id steps ≡ true → lost ≢ []
@@ -159,25 +171,39 @@ pub record Carried (marks : List Connection) (bound : ℕ) (old : Told) (before 
 -- ---- many connections
 
 -- the steps of the host carry the bytes of each of these connections, and of no other
-pub record Carries (marks : List Connection) (bound : ℕ) (links : List Link) (old : Told) (before : HostState) (steps : List Step) (new : Told) (after : HostState) : Type 0 where
+pub record Carries (marks : List Connection) (bound : ℕ) (links : List Link) (old : Told)
+    (before : HostState) (steps : List Step) (new : Told) (after : HostState) : Type 0 where
   pub chain : IsRun before steps after
-  pub carried : (link : Link) → IsTied links link → Carried marks bound old before steps new after link
+  pub carried : (link : Link) → IsTied links link
+      → Carried marks bound old before steps new after link
   pub others : (number : ℕ) → IsApart links number → KeepsPeer old new number
   pub foreign : (id : SessionId) → IsStrange links id → LeavesAlone id steps
   pub all : AllMove old new
 
 -- some steps of this kind, with these connections
-pub record Serves (kind : Event → Type 0) (marks : List Connection) (bound : ℕ) (links : List Link) (old : Told) (before : HostState) (new : Told) (after : HostState) : Type 0 where
+pub record ServesLinks (kind : Event → Type 0) (marks : List Connection) (bound : ℕ)
+    (links : List Link) (old : Told) (before : HostState) (new : Told) (after : HostState)
+    : Type 0 where
   pub steps : List Step
   pub kinds : AreAll kind steps
   pub carries : Carries marks bound links old before steps new after
 
+-- the same of the connections that are held
+abbrev pub Serves : (Event → Type 0) → List Connection → Scene → Scene → Type 0
+Serves kind marks before after =
+    ServesLinks kind marks before.bound (links_of before.held) before.told before.host after.told
+    after.host
+
 -- ---- marks
 
 -- where the reads of a connection have ended, they had ended before, or nothing is left; where it was shut, it was shut before, or the wire tells so
-pub record KeepsMarks (bound : ℕ) (old : Told) (held : List Connection) (new : Told) (now : List Connection) (number : ℕ) : Type 0 where
-  pub ended : IsMarked reads_ended now number → IsMarked reads_ended held number ⊎ IsEmptied (old.unread number) (new.unread number)
-  pub shut : IsMarked was_shut now number → IsMarked was_shut held number ⊎ (number < bound → IsRaised (old.is_shut number) (new.is_shut number))
+pub record KeepsMarks (bound : ℕ) (old : Told) (held : List Connection) (new : Told)
+    (now : List Connection) (number : ℕ) : Type 0 where
+  pub ended : IsMarked reads_ended now number
+      → IsMarked reads_ended held number ⊎ IsEmptied (old.unread number) (new.unread number)
+  pub shut : IsMarked was_shut now number
+      → IsMarked was_shut held number
+      ⊎ (number < bound → IsRaised (old.is_shut number) (new.is_shut number))
 
 abbrev pub KeepsAllMarks : ℕ → Told → List Connection → Told → List Connection → Type 0
 KeepsAllMarks bound old held new now = (number : ℕ) → KeepsMarks bound old held new now number
@@ -185,7 +211,8 @@ KeepsAllMarks bound old held new now = (number : ℕ) → KeepsMarks bound old h
 -- each connection is held as it was, and each further one is unmarked
 pub record Grows (held now : List Connection) : Type 0 where
   pub kept : (connection : Connection) → IsHeld held connection → IsHeld now connection
-  pub unmarked : (connection : Connection) → IsHeld now connection → IsHeld held connection ⊎ ((connection.has_ended ≡ false) × (connection.is_shut ≡ false))
+  pub unmarked : (connection : Connection) → IsHeld now connection
+      → IsHeld held connection ⊎ ((connection.has_ended ≡ false) × (connection.is_shut ≡ false))
 
 -- no further connection is marked
 pub record AddsNoMark (held now : List Connection) (number : ℕ) : Type 0 where

@@ -1,5 +1,5 @@
 -- A turn of a loop (own choice).
-use Rattle.std.specs.Prelude.{◌≡◌, ◌+◌, ◌<◌, ◌≤◌, ◌⊎◌, ⊤, ℕ, List, [], ◌∷◌, ◌++◌, codes, map, true, IsSome, Option, Some, Bool, false, ◌||◌, not, filter, Result, Ok, Err}
+use Rattle.std.specs.Prelude.{◌≡◌, ◌+◌, ◌<◌, ◌≤◌, ◌⊎◌, ⊤, ℕ, List, [], ◌∷◌, ◌++◌, codes, map, true, IsSome, Option, Some, Bool, false, ◌||◌, Result, Ok, Err}
 use Rattle.std.specs.Io.KnownBytes.{Keeps, Appends, Consumes}
 use Rattle.session_slots.specs.declared.id.SessionId.{SessionId}
 use Rattle.session_slots.specs.Slots.{find}
@@ -17,9 +17,10 @@ use Rattle.host_core.specs.Headline.{EndsFrom, IsPrefixOf}
 use Rattle.socket_loop.specs.declared.connection.Link.{Link}
 use Rattle.socket_loop.specs.declared.connection.Connection.{Connection}
 use Rattle.wires.specs.Told.{Told, KeepsPeer, KeepsOthers, KeepsAll, IsRaised, OnlyRises}
-use Rattle.socket_loop.specs.Links.{AreOnce, IsTied, IsAmong, IsApart, IsStrange, IsMarked, links_of, reads_ended, was_shut}
-use Rattle.socket_loop.specs.Parts.{AreAll, IsAdmission, IsInput, IsOutput, IsEnd, Carried, IsGone, LeavesAlone, closes, is_finished_with}
+use Rattle.socket_loop.specs.Links.{AreOnce, IsTied, IsAmong, IsApart, IsStrange, IsMarked, links_of, reads_ended, unshut_of, was_shut}
+use Rattle.socket_loop.specs.Parts.{AreAll, IsAdmission, IsInput, IsOutput, IsEnd, Carried, IsGone, LeavesAlone, closes, is_finished}
 use Rattle.wires.specs.Moves.{AllMove, IsEmptied, Transfers}
+use Rattle.socket_loop.specs.Scenes.{Scene}
 
 -- the budget of each round, and the connections
 pub record LoopState : Type 0 where
@@ -86,7 +87,8 @@ pub record IsAway (bound : ℕ) (text : List ℕ) (old new : Told) (number : ℕ
   pub others : KeepsOthers old new number
 
 -- a new connection was turned away: it was written a front of what it is told, and shut
-pub record IsTurnedAway (from to : ℕ) (accepted : List Accepted) (old new : Told) (number : ℕ) : Type 0 where
+pub record IsTurnedAway (from to : ℕ) (accepted : List Accepted) (old new : Told) (number : ℕ)
+    : Type 0 where
   pub least : from ≤ number
   pub most : number < to
   pub outcome : Outcome
@@ -99,7 +101,8 @@ pub record IsTurnedAway (from to : ℕ) (accepted : List Accepted) (old new : To
   pub failed : OnlyRises (old.has_failed number) (new.has_failed number)
 
 -- a new connection has a session, of this generation or a later one
-pub record IsNew (from to : ℕ) (accepted : List Accepted) (next : ℕ) (old new : Told) (steps : List Step) (link : Link) : Type 0 where
+pub record IsNew (from to : ℕ) (accepted : List Accepted) (next : ℕ) (old new : Told)
+    (steps : List Step) (link : Link) : Type 0 where
   pub least : from ≤ link.number
   pub most : link.number < to
   pub answered : IsOneOf accepted (record { number = link.number; outcome = Opened link.id })
@@ -109,10 +112,13 @@ pub record IsNew (from to : ℕ) (accepted : List Accepted) (next : ℕ) (old ne
 
 -- a connection that was accepted has a session, which was opened for it
 abbrev pub HasSession : List Link → Accepted → Type 0
-HasSession met new = (link : Link) × (IsAmong met link × ((link.number ≡ new.number) × (new.outcome ≡ Opened link.id)))
+HasSession met new =
+    (link : Link)
+    × (IsAmong met link × ((link.number ≡ new.number) × (new.outcome ≡ Opened link.id)))
 
 -- new connections were accepted: each number keeps what is told of it, or was turned away
-pub record Accepts (links : List Link) (from : ℕ) (old : Told) (before : HostState) (met : List Link) (to : ℕ) (new : Told) (after : HostState) : Type 0 where
+pub record Accepts (links : List Link) (from : ℕ) (old : Told) (before : HostState)
+    (met : List Link) (to : ℕ) (new : Told) (after : HostState) : Type 0 where
   pub steps : List Step
   pub kinds : AreAll IsAdmission steps
   pub chain : IsRun before steps after
@@ -126,11 +132,15 @@ pub record Accepts (links : List Link) (from : ℕ) (old : Told) (before : HostS
   pub each : (number : ℕ) → KeepsPeer old new number ⊎ IsTurnedAway from to accepted old new number
   pub all : AllMove old new
   pub closed_below : (id : SessionId) → closes id steps ≡ true → id.generation < after.slots.next
-  pub spared : Fits links from before → (link : Link) → IsAmong met link → closes link.id steps ≡ false
+  pub spared : Fits links from before → (link : Link) → IsAmong met link
+      → closes link.id steps ≡ false
   pub spared_old : (id : SessionId) → id.generation < before.slots.next → closes id steps ≡ false
-  pub accounted : Fits links from before → (new_one : Accepted) → IsOneOf accepted new_one → HasSession met new_one ⊎ (IsTurnedAway from to accepted old new new_one.number × IsApart met new_one.number)
+  pub accounted : Fits links from before → (new_one : Accepted) → IsOneOf accepted new_one
+      → HasSession met new_one
+      ⊎ (IsTurnedAway from to accepted old new new_one.number × IsApart met new_one.number)
   pub stay : (link : Link) → IsAmong links link → IsAmong met link
-  pub are : (link : Link) → IsAmong met link → IsAmong links link ⊎ IsNew from to accepted before.slots.next old new steps link
+  pub are : (link : Link) → IsAmong met link
+      → IsAmong links link ⊎ IsNew from to accepted before.slots.next old new steps link
   pub fits : Fits links from before → Fits met to after
   pub once : Fits links from before → AreOnce links → AreOnce met
 
@@ -143,19 +153,24 @@ abbrev pub IsOpening : HostState → Result SessionId HostFault → HostState �
 IsOpening old result new = IsStep old (record { event = Open; outcome = opening_of result }) new
 
 -- these connections were accepted
-pub record AcceptsThese (items : List Accepted) (links : List Link) (from : ℕ) (old : Told) (before : HostState) (met : List Link) (to : ℕ) (new : Told) (after : HostState) : Type 0 where
+pub record AcceptsThese (items : List Accepted) (links : List Link) (from : ℕ) (old : Told)
+    (before : HostState) (met : List Link) (to : ℕ) (new : Told) (after : HostState) : Type 0 where
   pub accepts : Accepts links from old before met to new after
   pub items_are : accepts.accepted ≡ items
 
 -- of a new connection, from any state of the wire that told the same
-abbrev pub Admits : List Link → Told → HostState → ℕ → Outcome → ℕ → List Link → Told → HostState → Type 0
+abbrev pub Admits : List Link → Told → HostState → ℕ → Outcome → ℕ → List Link → Told → HostState
+    → Type 0
 Admits links told before number outcome to met new after =
-    (from : ℕ) (old : Told) → KeepsAll old told → from ≤ number → number < to → AcceptsThese (record { number = number; outcome = outcome } ∷ []) links from old before met to new after
+    (from : ℕ) (old : Told) → KeepsAll old told → from ≤ number → number < to
+    → AcceptsThese (record { number = number; outcome = outcome } ∷ []) links from old before met to
+    new after
 
 -- ---- a turn
 
 -- what was read from a connection, and written to it: all that its session owes to what was read, but for what it owes still; or, where it is closed, a front of it
-pub record Served (owes : List ℕ → List ℕ) (old new : Told) (number : ℕ) (now : Option SessionView) : Type 0 where
+pub record Served (owes : List ℕ → List ℕ) (old new : Told) (number : ℕ) (now : Option SessionView)
+    : Type 0 where
   pub read : List ℕ
   pub lost : List ℕ
   pub written : List ℕ
@@ -165,15 +180,24 @@ pub record Served (owes : List ℕ → List ℕ) (old new : Told) (number : ℕ)
   pub whole : IsSome now → lost ≡ []
 
 -- each connection that was held before, with its session open
-abbrev pub GoesOnServing : List Link → Told → HostState → Told → HostState → Type 0
-GoesOnServing links old before new after = (link : Link) (s : SessionView) → IsAmong links link → find before.slots link.id ≡ Some s → Served (due s) old new link.number (find after.slots link.id)
+abbrev pub GoesOnServing : Scene → Scene → Type 0
+GoesOnServing before after =
+    (link : Link) (s : SessionView)
+    → IsAmong (links_of before.held) link
+    → find before.host.slots link.id ≡ Some s
+    → Served (due s) before.told after.told link.number (find after.host.slots link.id)
 
 -- each of these connections that is not one of those before
-abbrev pub ServesNew : List Link → Told → List Link → Told → HostState → Type 0
-ServesNew links old now new after = (link : Link) → IsAmong now link → IsAmong links link ⊎ Served replies old new link.number (find after.slots link.id)
+abbrev pub ServesNew : Scene → List Link → Scene → Type 0
+ServesNew before met after =
+    (link : Link)
+    → IsAmong met link
+    → IsAmong (links_of before.held) link
+    ⊎ Served replies before.told after.told link.number (find after.host.slots link.id)
 
 -- a connection was accepted in the turn, with a session of this generation or a later one, and below that one, which the admissions opened and left open
-pub record Joins (from to : ℕ) (accepted : List Accepted) (next last : ℕ) (admissions : List Step) (link : Link) : Type 0 where
+pub record Joins (from to : ℕ) (accepted : List Accepted) (next last : ℕ) (admissions : List Step)
+    (link : Link) : Type 0 where
   pub least : from ≤ link.number
   pub most : link.number < to
   pub answered : IsOneOf accepted (record { number = link.number; outcome = Opened link.id })
@@ -188,7 +212,7 @@ pub record IsLetGo (bound : ℕ) (old new : Told) (after : HostState) (link : Li
   pub closed : IsGone after link.id
 
 -- accept, read, work, write and shut, in this order, and with one round; where nothing moved nobody was accepted
-pub record IsTurn (slice : ℕ) (moved : Bool) (held : List Connection) (from : ℕ) (old : Told) (before : HostState) (now : List Connection) (to : ℕ) (new : Told) (after : HostState) : Type 0 where
+pub record IsTurn (slice : ℕ) (moved : Bool) (before after : Scene) : Type 0 where
   pub met : List Link
   pub admissions : List Step
   pub inputs : List Step
@@ -202,42 +226,62 @@ pub record IsTurn (slice : ℕ) (moved : Bool) (held : List Connection) (from : 
   pub end : HostState
   pub worked : ℕ
   pub refused : ℕ
-  pub to_round : IsRun before (admissions ++ inputs) start
+  pub to_round : IsRun before.host (admissions ++ inputs) start
   pub round : IsRound start slice (pending_ids start) worked refused end
-  pub from_round : IsRun end (outputs ++ ends) after
+  pub from_round : IsRun end (outputs ++ ends) after.host
   pub steps : List Step
-  pub steps_are : steps ≡ (admissions ++ inputs) ++ (works slice (pending_ids start) round.outcomes ++ (outputs ++ ends))
-  pub chain : IsRun before steps after
+  pub steps_are : steps
+      ≡ (admissions ++ inputs)
+      ++ (works slice (pending_ids start) round.outcomes ++ (outputs ++ ends))
+  pub chain : IsRun before.host steps after.host
   pub accepted : List Accepted
-  pub numbered : AreNumbered from accepted to
+  pub numbered : AreNumbered before.bound accepted after.bound
   pub answers : openings admissions ≡ map (λ item. item.outcome) accepted
   pub still : moved ≡ false → accepted ≡ []
   pub marks : List Connection
-  pub marked : (number : ℕ) → IsMarked reads_ended marks number → IsMarked reads_ended held number ⊎ IsEmptied (old.unread number) (new.unread number)
-  pub ended : (number : ℕ) → IsMarked reads_ended now number → IsMarked reads_ended marks number
-  pub unshut : (number : ℕ) → IsMarked was_shut now number → ⊥
-  pub rises : from ≤ to
+  pub marked : (number : ℕ) → IsMarked reads_ended marks number
+      → IsMarked reads_ended before.held number
+      ⊎ IsEmptied (before.told.unread number) (after.told.unread number)
+  pub ended : (number : ℕ) → IsMarked reads_ended after.held number
+      → IsMarked reads_ended marks number
+  pub unshut : (number : ℕ) → IsMarked was_shut after.held number → ⊥
+  pub rises : before.bound ≤ after.bound
   pub tied : (link : Link) → IsAmong met link → IsTied met link
-  pub stay : (link : Link) → IsAmong (links_of held) link → IsAmong met link
-  pub are : (link : Link) → IsAmong met link → IsAmong (links_of held) link ⊎ Joins from to accepted before.slots.next after.slots.next admissions link
-  pub starts : ServesNew (links_of held) old met new after
-  pub accounted : (new_one : Accepted) → IsOneOf accepted new_one → HasSession met new_one ⊎ IsTurnedAway from to accepted old new new_one.number
-  pub left : (link : Link) → IsAmong (links_of now) link → IsAmong met link
-  pub gone : (link : Link) → IsAmong met link → IsAmong (links_of now) link ⊎ (IsMarked was_shut held link.number ⊎ IsLetGo to old new after link)
-  pub carried : (link : Link) → IsAmong met link → Carried marks to old before steps new after link
-  pub others : (number : ℕ) → IsApart met number → KeepsPeer old new number ⊎ IsTurnedAway from to accepted old new number
-  pub foreign : (id : SessionId) → id.generation < before.slots.next → IsStrange met id → LeavesAlone id steps
-  pub all : AllMove old new
+  pub stay : (link : Link) → IsAmong (links_of before.held) link → IsAmong met link
+  pub are : (link : Link) → IsAmong met link
+      → IsAmong (links_of before.held) link
+      ⊎ Joins before.bound after.bound accepted before.host.slots.next after.host.slots.next
+      admissions link
+  pub starts : ServesNew before met after
+  pub accounted : (new_one : Accepted) → IsOneOf accepted new_one
+      → HasSession met new_one
+      ⊎ IsTurnedAway before.bound after.bound accepted before.told after.told new_one.number
+  pub left : (link : Link) → IsAmong (links_of after.held) link → IsAmong met link
+  pub gone : (link : Link) → IsAmong met link
+      → IsAmong (links_of after.held) link
+      ⊎ (IsMarked was_shut before.held link.number
+      ⊎ IsLetGo after.bound before.told after.told after.host link)
+  pub carried : (link : Link) → IsAmong met link
+      → Carried marks after.bound before.told before.host steps after.told after.host link
+  pub others : (number : ℕ) → IsApart met number
+      → KeepsPeer before.told after.told number
+      ⊎ IsTurnedAway before.bound after.bound accepted before.told after.told number
+  pub foreign : (id : SessionId) → id.generation < before.host.slots.next → IsStrange met id
+      → LeavesAlone id steps
+  pub all : AllMove before.told after.told
 
--- each of these connections was shut, or is not finished with
+-- the connection was shut, or is not finished with
+abbrev pub IsLeft : HostState → Connection → Type 0
+IsLeft host connection = (connection.is_shut ≡ true) ⊎ (is_finished host connection ≡ false)
+
 abbrev pub AreLeft : HostState → List Connection → Type 0
 AreLeft host [] = ⊤
-AreLeft host (first ∷ rest) = ((first.is_shut ≡ true) ⊎ (is_finished_with first.has_ended (find host.slots first.link.id) ≡ false)) × AreLeft host rest
+AreLeft host (first ∷ rest) = IsLeft host first × AreLeft host rest
 
 -- none of these connections is finished with: each session is open, and something of it is pending or queued, or it is not over and the reads have not ended
 abbrev pub NoneFinished : HostState → List Connection → Type 0
 NoneFinished host [] = ⊤
-NoneFinished host (first ∷ rest) = (is_finished_with first.has_ended (find host.slots first.link.id) ≡ false) × NoneFinished host rest
+NoneFinished host (first ∷ rest) = (is_finished host first ≡ false) × NoneFinished host rest
 
 -- where nothing moved, all that is told stays, and the connections are as they were
 abbrev pub IsQuiet : {X : Type 0} → Bool → Told → X → Told → X → Type 0
@@ -252,7 +296,9 @@ pub record KeepsMade (old new : Connection) : Type 0 where
 
 -- the reads of a connection ended, or it was shut
 abbrev pub EndsOrShuts : Connection → Connection → Type 0
-EndsOrShuts old new = ((old.has_ended ≡ false) × (new.has_ended ≡ true)) ⊎ ((old.is_shut ≡ false) × (new.is_shut ≡ true))
+EndsOrShuts old new =
+    ((old.has_ended ≡ false) × (new.has_ended ≡ true))
+    ⊎ ((old.is_shut ≡ false) × (new.is_shut ≡ true))
 
 abbrev pub AllKeepMade : List Connection → List Connection → Type 0
 AllKeepMade [] [] = ⊤
@@ -268,13 +314,16 @@ OneEndsOrShuts (x ∷ xs) (y ∷ ys) = EndsOrShuts x y ⊎ OneEndsOrShuts xs ys
 
 -- one of these connections gave or took at least one byte, or ended, or was shut
 abbrev pub Stirs : Told → List Connection → Told → List Connection → Type 0
-Stirs old held new now = ((link : Link) × (IsAmong (links_of held) link × Transfers old new link.number)) ⊎ OneEndsOrShuts held now
+Stirs old held new now =
+    ((link : Link) × (IsAmong (links_of held) link × Transfers old new link.number))
+    ⊎ OneEndsOrShuts held now
 
 -- one of these connections gave or took at least one byte, or ended, or was shut, where those that were shut are held no more
-pub record StirsHeld (old : Told) (held : List Connection) (new : Told) (now : List Connection) : Type 0 where
+pub record StirsHeld (old : Told) (held : List Connection) (new : Told) (now : List Connection)
+    : Type 0 where
   pub last : List Connection
   pub links : links_of last ≡ links_of held
-  pub left : now ≡ filter (λ connection. not connection.is_shut) last
+  pub left : now ≡ unshut_of last
   pub stirs : Stirs old held new last
 
 -- a session of one of these is pending
@@ -283,5 +332,8 @@ any_pending host [] = false
 any_pending host (link ∷ rest) = pending_of (find host.slots link.id) || any_pending host rest
 
 -- a connection was accepted, gave or took at least one byte, ended or was shut, or the session of one that is held is pending
-abbrev pub HasMoved : ℕ → Told → List Connection → ℕ → Told → List Connection → HostState → Type 0
-HasMoved from old held to new now host = (from < to) ⊎ (StirsHeld old held new now ⊎ (any_pending host (links_of now) ≡ true))
+abbrev pub HasMoved : Scene → Scene → Type 0
+HasMoved before after =
+    (before.bound < after.bound)
+    ⊎ (StirsHeld before.told before.held after.told after.held
+    ⊎ (any_pending after.host (links_of after.held) ≡ true))

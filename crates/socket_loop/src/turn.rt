@@ -1,14 +1,14 @@
 //! A loop that serves the sessions of a host to the connections of a wire.
 
-ghost use Rattle.std.specs.Prelude.{true, false, Ok, ◌≡◌, ◌≤◌, ◌<◌, ℕ, List, [], ◌∷◌, length, not, filter};
-ghost use Rattle.host_core.specs.Events.{Opened};
-ghost use Rattle.host_core.specs.Steps.{HostState};
-ghost use Rattle.socket_loop.specs.Links.{links_of, place_for, reads_ended, AreOnce, IsApart, IsMarked, IsRising};
-ghost use Rattle.socket_loop.specs.Parts.{Serves, Grows, IsInput, IsOutput, IsEnd, KeepsAllMarks, AddsNoMark};
-ghost use Rattle.socket_loop.specs.Turns.{any_pending, host_full, Admits, AllKeepMade, AreLeft, NoneFinished, Fits, GoesOnServing, HasMoved, IsAway, IsOpening, IsQuiet, IsTurn, ServesNew, Stirs};
+ghost use Rattle.std.specs.Prelude.{true, false, ◌≡◌, ◌≤◌, ◌<◌, ℕ, List, [], ◌∷◌, length};
+ghost use Rattle.socket_loop.specs.Links.{links_of, place_for, reads_ended, unshut_of, AreOnce, IsMarked, IsRising};
+ghost use Rattle.socket_loop.specs.Scenes.{scene};
+ghost use Rattle.socket_loop.specs.Parts.{Serves, Grows, IsInput, IsOutput, IsEnd, AddsNoMark};
+ghost use Rattle.socket_loop.specs.Turns.{any_pending, host_full, AreLeft, NoneFinished, Fits, GoesOnServing, HasMoved, IsAway, IsQuiet, IsTurn, ServesNew};
+ghost use Rattle.socket_loop.specs.Visits.{VisitsEach};
 ghost use Rattle.wires.specs.Moves.{StaysKnown};
 ghost use Rattle.wires.specs.Asked.{Write, Shut, Asks};
-ghost use Rattle.socket_loop.specs.Calls.{AcceptsAll, AdmitsOne, AsksAdmission, AsksEach, AsksTurn, reads_of, writes_of, ends_of};
+ghost use Rattle.socket_loop.specs.Calls.{AcceptsAll, AdmitsOne, AdmitsOpened, AsksForOpened, AsksTurn, reads_of, writes_of, ends_of};
 ghost use Rattle.socket_loop.specs.declared.connection.Connection.{Connection};
 ghost use Rattle.socket_loop.specs.declared.turn.TheConstants.{ACCEPTS};
 
@@ -62,14 +62,15 @@ fn place_of(held: &[Connection], slot: usize) -> usize
 
 /// Drops the connections that were shut.
 fn drop_shut<A: Allocator>(held: &mut Vec<Connection, A>)
-    ensures { held.new.items ≡ filter (λ c. not c.is_shut) held.old.items }
+    ensures { held.new.items ≡ unshut_of held.old.items }
 {
     held.retain(|connection| !connection.is_shut);
 }
 
 /// Tells a connection that the host is full, in one write, and shuts it.
 fn turn_away<W: Wire>(wire: &mut W, number: u64)
-    ensures asked { Asks (W.asked wire.old) (W.asked wire.new) (Write number host_full ∷ Shut number ∷ []) }
+    ensures asked { Asks (W.asked wire.old) (W.asked wire.new)
+        (Write number host_full ∷ Shut number ∷ []) }
     ensures away { IsAway (W.bound wire.old) host_full (W.told wire.old) (W.told wire.new) number }
     ensures bound { W.bound wire.new ≡ W.bound wire.old }
     ensures faults { W.failed wire.old ≤ W.failed wire.new }
@@ -92,8 +93,12 @@ impl<A: Allocator + Copy> Loop<A> {
 
     /// Holds a new connection with its session; where memory is refused, both end.
     fn hold<W: Wire, S: BuildHasher>(&mut self, host: &mut Host<S, A>, wire: &mut W, link: Link)
-        ensures asked { IsApart (links_of self.old.held) link.number → AsksAdmission (links_of self.new.held) link.number (Opened link.id) (W.asked wire.old) (W.asked wire.new) }
-        ensures admits { (before : HostState) → IsOpening before (Ok link.id) host.old → Admits (links_of self.old.held) (W.told wire.old) before link.number (Opened link.id) (W.bound wire.old) (links_of self.new.held) (W.told wire.new) host.new }
+        ensures asked { AsksForOpened link
+            (scene W.bound W.told W.asked W.failed self.old.held wire.old host.old)
+            (scene W.bound W.told W.asked W.failed self.new.held wire.new host.new) }
+        ensures admits { AdmitsOpened link
+            (scene W.bound W.told W.asked W.failed self.old.held wire.old host.old)
+            (scene W.bound W.told W.asked W.failed self.new.held wire.new host.new) }
         ensures marks { (number : ℕ) → AddsNoMark self.old.held self.new.held number }
         ensures grows { Grows self.old.held self.new.held }
         ensures bound { W.bound wire.new ≡ W.bound wire.old }
@@ -116,7 +121,9 @@ impl<A: Allocator + Copy> Loop<A> {
     /// Opens a session for a new connection. Where the host is full it is told so and shut; where there
     /// is no memory for a session it is shut without a word.
     fn admit<W: Wire, S: BuildHasher>(&mut self, host: &mut Host<S, A>, wire: &mut W, number: u64)
-        ensures admits { AdmitsOne (links_of self.old.held) (W.told wire.old) host.old number (W.bound wire.old) (links_of self.new.held) (W.told wire.new) host.new (W.asked wire.old) (W.asked wire.new) }
+        ensures admits { AdmitsOne number
+            (scene W.bound W.told W.asked W.failed self.old.held wire.old host.old)
+            (scene W.bound W.told W.asked W.failed self.new.held wire.new host.new) }
         ensures marks { (number : ℕ) → AddsNoMark self.old.held self.new.held number }
         ensures grows { Grows self.old.held self.new.held }
         ensures bound { W.bound wire.new ≡ W.bound wire.old }
@@ -133,8 +140,11 @@ impl<A: Allocator + Copy> Loop<A> {
 
     /// Accepts new connections, at most `ACCEPTS`. True where one was accepted.
     fn accept_all<W: Wire, S: BuildHasher>(&mut self, host: &mut Host<S, A>, wire: &mut W) -> bool
-        ensures quiet { IsQuiet result (W.told wire.old) self.old.held (W.told wire.new) self.new.held }
-        ensures accepts { AcceptsAll result (links_of self.old.held) (W.bound wire.old) (W.told wire.old) host.old (links_of self.new.held) (W.bound wire.new) (W.told wire.new) host.new (W.asked wire.old) (W.asked wire.new) }
+        ensures quiet { IsQuiet result (W.told wire.old) self.old.held
+            (W.told wire.new) self.new.held }
+        ensures accepts { AcceptsAll result
+            (scene W.bound W.told W.asked W.failed self.old.held wire.old host.old)
+            (scene W.bound W.told W.asked W.failed self.new.held wire.new host.new) }
         ensures marks { (number : ℕ) → AddsNoMark self.old.held self.new.held number }
         ensures grows { Grows self.old.held self.new.held }
         ensures accepted { result ≡ true → W.bound wire.old < W.bound wire.new }
@@ -155,15 +165,12 @@ impl<A: Allocator + Copy> Loop<A> {
 
     /// One read for each connection whose session wants input. True where something moved.
     fn read_all<W: Wire, S: BuildHasher>(&mut self, host: &mut Host<S, A>, wire: &mut W) -> bool
-        ensures asked { AsksEach reads_of IsInput host.old self.old.held self.new.held (W.asked wire.old) (W.asked wire.new) host.new }
-        ensures quiet { IsQuiet result (W.told wire.old) self.old.held (W.told wire.new) self.new.held }
-        ensures serves { (marks : List Connection) → Serves IsInput marks (W.bound wire.old) (links_of self.old.held) (W.told wire.old) host.old (W.told wire.new) host.new }
-        ensures marks { KeepsAllMarks (W.bound wire.old) (W.told wire.old) self.old.held (W.told wire.new) self.new.held }
-        ensures stirs { result ≡ true → Stirs (W.told wire.old) self.old.held (W.told wire.new) self.new.held }
-        ensures made { AllKeepMade self.old.held self.new.held }
-        ensures links { links_of self.new.held ≡ links_of self.old.held }
-        ensures bound { W.bound wire.new ≡ W.bound wire.old }
-        ensures faults { W.failed wire.old ≤ W.failed wire.new }
+        ensures visited { VisitsEach reads_of IsInput result
+            (scene W.bound W.told W.asked W.failed self.old.held wire.old host.old)
+            (scene W.bound W.told W.asked W.failed self.new.held wire.new host.new) }
+        ensures serves { (marks : List Connection) → Serves IsInput marks
+            (scene W.bound W.told W.asked W.failed self.old.held wire.old host.old)
+            (scene W.bound W.told W.asked W.failed self.new.held wire.new host.new) }
         ensures slice { self.new.slice ≡ self.old.slice }
     {
         let mut moved = false;
@@ -177,15 +184,12 @@ impl<A: Allocator + Copy> Loop<A> {
 
     /// One write for each connection with queued bytes. True where something moved.
     fn write_all<W: Wire, S: BuildHasher>(&mut self, host: &mut Host<S, A>, wire: &mut W) -> bool
-        ensures asked { AsksEach writes_of IsOutput host.old self.old.held self.new.held (W.asked wire.old) (W.asked wire.new) host.new }
-        ensures quiet { IsQuiet result (W.told wire.old) self.old.held (W.told wire.new) self.new.held }
-        ensures serves { (marks : List Connection) → Serves IsOutput marks (W.bound wire.old) (links_of self.old.held) (W.told wire.old) host.old (W.told wire.new) host.new }
-        ensures marks { KeepsAllMarks (W.bound wire.old) (W.told wire.old) self.old.held (W.told wire.new) self.new.held }
-        ensures stirs { result ≡ true → Stirs (W.told wire.old) self.old.held (W.told wire.new) self.new.held }
-        ensures made { AllKeepMade self.old.held self.new.held }
-        ensures links { links_of self.new.held ≡ links_of self.old.held }
-        ensures bound { W.bound wire.new ≡ W.bound wire.old }
-        ensures faults { W.failed wire.old ≤ W.failed wire.new }
+        ensures visited { VisitsEach writes_of IsOutput result
+            (scene W.bound W.told W.asked W.failed self.old.held wire.old host.old)
+            (scene W.bound W.told W.asked W.failed self.new.held wire.new host.new) }
+        ensures serves { (marks : List Connection) → Serves IsOutput marks
+            (scene W.bound W.told W.asked W.failed self.old.held wire.old host.old)
+            (scene W.bound W.told W.asked W.failed self.new.held wire.new host.new) }
         ensures slice { self.new.slice ≡ self.old.slice }
     {
         let mut moved = false;
@@ -198,17 +202,15 @@ impl<A: Allocator + Copy> Loop<A> {
 
     /// Shuts each connection that is finished with. True where one was shut.
     fn close_all<W: Wire, S: BuildHasher>(&mut self, host: &mut Host<S, A>, wire: &mut W) -> bool
-        ensures asked { AsksEach ends_of IsEnd host.old self.old.held self.new.held (W.asked wire.old) (W.asked wire.new) host.new }
-        ensures quiet { IsQuiet result (W.told wire.old) self.old.held (W.told wire.new) self.new.held }
-        ensures serves { Serves IsEnd self.old.held (W.bound wire.old) (links_of self.old.held) (W.told wire.old) host.old (W.told wire.new) host.new }
-        ensures ended { (number : ℕ) → IsMarked reads_ended self.new.held number → IsMarked reads_ended self.old.held number }
+        ensures visited { VisitsEach ends_of IsEnd result
+            (scene W.bound W.told W.asked W.failed self.old.held wire.old host.old)
+            (scene W.bound W.told W.asked W.failed self.new.held wire.new host.new) }
+        ensures serves { Serves IsEnd self.old.held
+            (scene W.bound W.told W.asked W.failed self.old.held wire.old host.old)
+            (scene W.bound W.told W.asked W.failed self.new.held wire.new host.new) }
+        ensures ended { (number : ℕ) → IsMarked reads_ended self.new.held number
+            → IsMarked reads_ended self.old.held number }
         ensures left { AreOnce (links_of self.old.held) → AreLeft host.new self.new.held }
-        ensures marks { KeepsAllMarks (W.bound wire.old) (W.told wire.old) self.old.held (W.told wire.new) self.new.held }
-        ensures stirs { result ≡ true → Stirs (W.told wire.old) self.old.held (W.told wire.new) self.new.held }
-        ensures made { AllKeepMade self.old.held self.new.held }
-        ensures links { links_of self.new.held ≡ links_of self.old.held }
-        ensures bound { W.bound wire.new ≡ W.bound wire.old }
-        ensures faults { W.failed wire.old ≤ W.failed wire.new }
         ensures slice { self.new.slice ≡ self.old.slice }
     {
         let mut moved = false;
@@ -221,7 +223,7 @@ impl<A: Allocator + Copy> Loop<A> {
 
     /// Lets the connections go that were shut.
     fn let_go(&mut self)
-        ensures held { self.new.held ≡ filter (λ c. not c.is_shut) self.old.held }
+        ensures held { self.new.held ≡ unshut_of self.old.held }
         ensures slice { self.new.slice ≡ self.old.slice }
     {
         drop_shut(&mut self.held);
@@ -241,11 +243,19 @@ impl<A: Allocator + Copy> Loop<A> {
     /// The five parts of a turn.
     fn take_turn<W: Wire, S: BuildHasher>(&mut self, host: &mut Host<S, A>, wire: &mut W) -> Turn
         requires fits { Fits (links_of self.old.held) (W.bound wire.old) host.old }
-        ensures asked { AsksTurn self.old.slice result.moved self.old.held (W.bound wire.old) (W.told wire.old) (W.asked wire.old) host.old self.new.held (W.bound wire.new) (W.told wire.new) (W.asked wire.new) host.new }
-        ensures moved { result.moved ≡ true → HasMoved (W.bound wire.old) (W.told wire.old) self.old.held (W.bound wire.new) (W.told wire.new) self.new.held host.new }
-        ensures pending { result.moved ≡ false → any_pending host.new (links_of self.new.held) ≡ false }
-        ensures quiet { IsQuiet result.moved (W.told wire.old) (filter (λ c. not c.is_shut) self.old.held) (W.told wire.new) self.new.held }
-        ensures turned { IsTurn self.old.slice result.moved self.old.held (W.bound wire.old) (W.told wire.old) host.old self.new.held (W.bound wire.new) (W.told wire.new) host.new }
+        ensures asked { AsksTurn self.old.slice result.moved
+            (scene W.bound W.told W.asked W.failed self.old.held wire.old host.old)
+            (scene W.bound W.told W.asked W.failed self.new.held wire.new host.new) }
+        ensures moved { result.moved ≡ true → HasMoved
+            (scene W.bound W.told W.asked W.failed self.old.held wire.old host.old)
+            (scene W.bound W.told W.asked W.failed self.new.held wire.new host.new) }
+        ensures pending { result.moved ≡ false
+            → any_pending host.new (links_of self.new.held) ≡ false }
+        ensures quiet { IsQuiet result.moved (W.told wire.old) (unshut_of self.old.held)
+            (W.told wire.new) self.new.held }
+        ensures turned { IsTurn self.old.slice result.moved
+            (scene W.bound W.told W.asked W.failed self.old.held wire.old host.old)
+            (scene W.bound W.told W.asked W.failed self.new.held wire.new host.new) }
         ensures fits { Fits (links_of self.new.held) (W.bound wire.new) host.new }
         ensures faults { W.failed wire.old ≤ W.failed wire.new }
         ensures once { AreOnce (links_of self.old.held) → AreOnce (links_of self.new.held) }
@@ -275,13 +285,26 @@ impl<A: Allocator + Copy> Loop<A> {
     /// it failed, a feed of its session was refused for memory, or it was finished with.
     pub fn turn<W: Wire, S: BuildHasher>(&mut self, host: &mut Host<S, A>, wire: &mut W) -> Turn
         requires fits { Fits (links_of self.old.held) (W.bound wire.old) host.old }
-        ensures asked { AsksTurn self.old.slice result.moved self.old.held (W.bound wire.old) (W.told wire.old) (W.asked wire.old) host.old self.new.held (W.bound wire.new) (W.told wire.new) (W.asked wire.new) host.new }
-        ensures moved { result.moved ≡ true → HasMoved (W.bound wire.old) (W.told wire.old) self.old.held (W.bound wire.new) (W.told wire.new) self.new.held host.new }
-        ensures pending { result.moved ≡ false → any_pending host.new (links_of self.new.held) ≡ false }
-        ensures quiet { IsQuiet result.moved (W.told wire.old) (filter (λ c. not c.is_shut) self.old.held) (W.told wire.new) self.new.held }
-        ensures turned { IsTurn self.old.slice result.moved self.old.held (W.bound wire.old) (W.told wire.old) host.old self.new.held (W.bound wire.new) (W.told wire.new) host.new }
-        ensures goes_on { GoesOnServing (links_of self.old.held) (W.told wire.old) host.old (W.told wire.new) host.new }
-        ensures starts { ServesNew (links_of self.old.held) (W.told wire.old) (links_of self.new.held) (W.told wire.new) host.new }
+        ensures asked { AsksTurn self.old.slice result.moved
+            (scene W.bound W.told W.asked W.failed self.old.held wire.old host.old)
+            (scene W.bound W.told W.asked W.failed self.new.held wire.new host.new) }
+        ensures moved { result.moved ≡ true → HasMoved
+            (scene W.bound W.told W.asked W.failed self.old.held wire.old host.old)
+            (scene W.bound W.told W.asked W.failed self.new.held wire.new host.new) }
+        ensures pending { result.moved ≡ false
+            → any_pending host.new (links_of self.new.held) ≡ false }
+        ensures quiet { IsQuiet result.moved (W.told wire.old) (unshut_of self.old.held)
+            (W.told wire.new) self.new.held }
+        ensures turned { IsTurn self.old.slice result.moved
+            (scene W.bound W.told W.asked W.failed self.old.held wire.old host.old)
+            (scene W.bound W.told W.asked W.failed self.new.held wire.new host.new) }
+        ensures goes_on { GoesOnServing
+            (scene W.bound W.told W.asked W.failed self.old.held wire.old host.old)
+            (scene W.bound W.told W.asked W.failed self.new.held wire.new host.new) }
+        ensures starts { ServesNew
+            (scene W.bound W.told W.asked W.failed self.old.held wire.old host.old)
+            (links_of self.new.held)
+            (scene W.bound W.told W.asked W.failed self.new.held wire.new host.new) }
         ensures known { StaysKnown (W.told wire.old) (W.told wire.new) }
         ensures fits { Fits (links_of self.new.held) (W.bound wire.new) host.new }
         ensures faults { W.failed wire.old ≤ W.failed wire.new }

@@ -1,17 +1,19 @@
 //! What a turn does with one connection.
 
-ghost use Rattle.std.specs.Prelude.{◌≡◌, ◌<◌, ◌≤◌, ◌⊎◌, [], ◌∷◌, List, None, length, true, false, not, ◌&&◌};
+ghost use Rattle.std.specs.Prelude.{◌≡◌, ◌<◌, ◌≤◌, ◌⊎◌, [], ◌∷◌, List, None, length, true, false};
 ghost use Rattle.std.specs.Io.KnownBytes.{Keeps};
 ghost use Rattle.host_core.specs.ById.{wants_input_of};
 ghost use Rattle.session_slots.specs.Slots.{find};
 ghost use Rattle.usi_session.specs.declared.limits.TheConstants.{CHUNK_MAX};
 ghost use Rattle.socket_loop.specs.Links.{IsMarked, reads_ended};
-ghost use Rattle.socket_loop.specs.Parts.{Serves, IsClosing, IsEnd, IsGone, IsInput, IsOutput, is_finished_with};
-ghost use Rattle.wires.specs.Moves.{GaveBytes, IsEmptied, Transfers};
-ghost use Rattle.wires.specs.Told.{IsRaised, Shuts, Stays, Told};
+ghost use Rattle.socket_loop.specs.Scenes.{scene};
+ghost use Rattle.socket_loop.specs.Parts.{Serves, IsClosing, IsEnd, IsGone, IsInput, IsOutput, is_finished};
+ghost use Rattle.wires.specs.Moves.{IsEmptied};
+ghost use Rattle.wires.specs.Told.{Shuts};
 ghost use Rattle.wires.specs.Asked.{Shut, Asks};
-ghost use Rattle.socket_loop.specs.Calls.{Visits, shuts_of, reads_of, writes_of, ends_of, is_to_read, is_to_write};
-ghost use Rattle.socket_loop.specs.Turns.{EndsOrShuts, IsQuiet, KeepsMade};
+ghost use Rattle.socket_loop.specs.Calls.{shuts_of, reads_of, writes_of, ends_of, is_to_read, is_to_write, is_to_shut};
+ghost use Rattle.socket_loop.specs.Turns.{IsLeft};
+ghost use Rattle.socket_loop.specs.Visits.{IsVisited, ServesGiven, VisitsOne};
 ghost use Rattle.socket_loop.specs.declared.connection.Connection.{Connection};
 
 use crate::connection::Connection;
@@ -27,10 +29,13 @@ pub fn shut_down<W: Wire, S: BuildHasher, A: Allocator + Copy>(
     host: &mut Host<S, A>,
     wire: &mut W,
 )
-    ensures shuts { Shuts (W.bound wire.old) (W.told wire.old) (W.told wire.new) connection.old.link.number }
-    ensures asked { Asks (W.asked wire.old) (W.asked wire.new) (Shut connection.old.link.number ∷ []) }
+    ensures shuts { Shuts (W.bound wire.old) (W.told wire.old) (W.told wire.new)
+        connection.old.link.number }
+    ensures asked { Asks (W.asked wire.old) (W.asked wire.new)
+        (Shut connection.old.link.number ∷ []) }
     ensures closed { IsClosing host.old connection.old.link.id host.new }
-    ensures gone { connection.old.link.id.generation < host.old.slots.next → IsGone host.new connection.old.link.id }
+    ensures gone { connection.old.link.id.generation < host.old.slots.next
+        → IsGone host.new connection.old.link.id }
     ensures none { find host.new.slots connection.old.link.id ≡ None }
     ensures link { connection.new.link ≡ connection.old.link }
     ensures ended { connection.new.has_ended ≡ connection.old.has_ended }
@@ -55,18 +60,17 @@ fn feed_from<W: Wire, S: BuildHasher, A: Allocator + Copy>(
     requires wants { wants_input_of (find host.old.slots connection.old.link.id) ≡ true }
     requires few { length chunk.now ≤ CHUNK_MAX }
     requires some { 1 ≤ length chunk.now }
-    ensures asked { connection.old.is_shut ≡ false → Asks (W.asked wire.old) (W.asked wire.new) (shuts_of connection.old connection.new) }
-    ensures visits { Visits IsInput connection.old.link.id host.old host.new }
-    ensures serves { (marks : List Connection) (before : Told) → GaveBytes before (W.told wire.old) connection.old.link.number chunk.now → Stays (before.has_failed connection.old.link.number) ((W.told wire.old).has_failed connection.old.link.number) → Serves IsInput marks (W.bound wire.old) (connection.old.link ∷ []) before host.old (W.told wire.new) host.new }
-    ensures shut { connection.new.is_shut ≡ true → (connection.old.is_shut ≡ true) ⊎ (connection.old.link.number < W.bound wire.old → IsRaised ((W.told wire.old).is_shut connection.old.link.number) ((W.told wire.new).is_shut connection.old.link.number)) }
-    ensures unread { Keeps ((W.told wire.old).unread connection.old.link.number) ((W.told wire.new).unread connection.old.link.number) }
-    ensures closed { connection.new.is_shut ≡ true → (connection.old.is_shut ≡ true) ⊎ (find host.new.slots connection.old.link.id ≡ None) }
-    ensures made { KeepsMade connection.old connection.new }
+    ensures visited { IsVisited IsInput connection.old connection.new
+        (scene W.bound W.told W.asked W.failed (connection.old ∷ []) wire.old host.old)
+        (scene W.bound W.told W.asked W.failed (connection.new ∷ []) wire.new host.new) }
+    ensures asked { connection.old.is_shut ≡ false
+        → Asks (W.asked wire.old) (W.asked wire.new) (shuts_of connection.old connection.new) }
+    ensures serves { ServesGiven connection.old.link chunk.now
+        (scene W.bound W.told W.asked W.failed (connection.old ∷ []) wire.old host.old)
+        (scene W.bound W.told W.asked W.failed (connection.new ∷ []) wire.new host.new) }
+    ensures unread { Keeps ((W.told wire.old).unread connection.old.link.number)
+        ((W.told wire.new).unread connection.old.link.number) }
     ensures ended { connection.new.has_ended ≡ connection.old.has_ended }
-    ensures link { connection.new.link ≡ connection.old.link }
-    ensures bound { W.bound wire.new ≡ W.bound wire.old }
-    ensures faults { W.failed wire.old ≤ W.failed wire.new }
-    ensures next { host.old.slots.next ≤ host.new.slots.next }
 {
     if host.feed(connection.link.id, chunk).is_ok() {
         return;
@@ -80,7 +84,8 @@ fn is_to_read<S: BuildHasher, A: Allocator + Copy>(
     host: &Host<S, A>,
 ) -> bool
     ensures test { result ≡ is_to_read host.now connection.now }
-    ensures wants { result ≡ true → wants_input_of (find host.now.slots connection.now.link.id) ≡ true }
+    ensures wants { result ≡ true
+        → wants_input_of (find host.now.slots connection.now.link.id) ≡ true }
     ensures open { result ≡ true → connection.now.is_shut ≡ false }
 {
     !connection.has_ended && !connection.is_shut && host.wants_input(connection.link.id)
@@ -96,20 +101,18 @@ pub fn read_from<W: Wire, S: BuildHasher, A: Allocator + Copy>(
     wire: &mut W,
     chunk: &mut [u8; CHUNK_MAX],
 ) -> bool
-    ensures asked { Asks (W.asked wire.old) (W.asked wire.new) (reads_of host.old connection.old connection.new) }
-    ensures visits { Visits IsInput connection.old.link.id host.old host.new }
+    ensures asked { Asks (W.asked wire.old) (W.asked wire.new)
+        (reads_of host.old connection.old connection.new) }
+    ensures visited { VisitsOne IsInput result connection.old connection.new
+        (scene W.bound W.told W.asked W.failed (connection.old ∷ []) wire.old host.old)
+        (scene W.bound W.told W.asked W.failed (connection.new ∷ []) wire.new host.new) }
     ensures still { is_to_read host.old connection.old ≡ false → result ≡ false }
-    ensures quiet { IsQuiet result (W.told wire.old) connection.old (W.told wire.new) connection.new }
-    ensures stirs { result ≡ true → Transfers (W.told wire.old) (W.told wire.new) connection.old.link.number ⊎ EndsOrShuts connection.old connection.new }
-    ensures closed { connection.new.is_shut ≡ true → (connection.old.is_shut ≡ true) ⊎ (find host.new.slots connection.old.link.id ≡ None) }
-    ensures made { KeepsMade connection.old connection.new }
-    ensures serves { (marks : List Connection) → Serves IsInput marks (W.bound wire.old) (connection.old.link ∷ []) (W.told wire.old) host.old (W.told wire.new) host.new }
-    ensures ended { connection.new.has_ended ≡ true → (connection.old.has_ended ≡ true) ⊎ IsEmptied ((W.told wire.old).unread connection.old.link.number) ((W.told wire.new).unread connection.old.link.number) }
-    ensures shut { connection.new.is_shut ≡ true → (connection.old.is_shut ≡ true) ⊎ (connection.old.link.number < W.bound wire.old → IsRaised ((W.told wire.old).is_shut connection.old.link.number) ((W.told wire.new).is_shut connection.old.link.number)) }
-    ensures link { connection.new.link ≡ connection.old.link }
-    ensures bound { W.bound wire.new ≡ W.bound wire.old }
-    ensures faults { W.failed wire.old ≤ W.failed wire.new }
-    ensures next { host.old.slots.next ≤ host.new.slots.next }
+    ensures serves { (marks : List Connection) → Serves IsInput marks
+        (scene W.bound W.told W.asked W.failed (connection.old ∷ []) wire.old host.old)
+        (scene W.bound W.told W.asked W.failed (connection.new ∷ []) wire.new host.new) }
+    ensures ended { connection.new.has_ended ≡ true → (connection.old.has_ended ≡ true)
+        ⊎ IsEmptied ((W.told wire.old).unread connection.old.link.number)
+        ((W.told wire.new).unread connection.old.link.number) }
 {
     let link = connection.link;
     if !is_to_read(connection, host) {
@@ -141,20 +144,16 @@ pub fn write_to<W: Wire, S: BuildHasher, A: Allocator + Copy>(
     host: &mut Host<S, A>,
     wire: &mut W,
 ) -> bool
-    ensures asked { Asks (W.asked wire.old) (W.asked wire.new) (writes_of host.old connection.old connection.new) }
-    ensures visits { Visits IsOutput connection.old.link.id host.old host.new }
+    ensures asked { Asks (W.asked wire.old) (W.asked wire.new)
+        (writes_of host.old connection.old connection.new) }
+    ensures visited { VisitsOne IsOutput result connection.old connection.new
+        (scene W.bound W.told W.asked W.failed (connection.old ∷ []) wire.old host.old)
+        (scene W.bound W.told W.asked W.failed (connection.new ∷ []) wire.new host.new) }
     ensures still { is_to_write host.old connection.old ≡ false → result ≡ false }
-    ensures quiet { IsQuiet result (W.told wire.old) connection.old (W.told wire.new) connection.new }
-    ensures stirs { result ≡ true → Transfers (W.told wire.old) (W.told wire.new) connection.old.link.number ⊎ EndsOrShuts connection.old connection.new }
-    ensures closed { connection.new.is_shut ≡ true → (connection.old.is_shut ≡ true) ⊎ (find host.new.slots connection.old.link.id ≡ None) }
-    ensures made { KeepsMade connection.old connection.new }
-    ensures serves { (marks : List Connection) → Serves IsOutput marks (W.bound wire.old) (connection.old.link ∷ []) (W.told wire.old) host.old (W.told wire.new) host.new }
+    ensures serves { (marks : List Connection) → Serves IsOutput marks
+        (scene W.bound W.told W.asked W.failed (connection.old ∷ []) wire.old host.old)
+        (scene W.bound W.told W.asked W.failed (connection.new ∷ []) wire.new host.new) }
     ensures ended { connection.new.has_ended ≡ connection.old.has_ended }
-    ensures shut { connection.new.is_shut ≡ true → (connection.old.is_shut ≡ true) ⊎ (connection.old.link.number < W.bound wire.old → IsRaised ((W.told wire.old).is_shut connection.old.link.number) ((W.told wire.new).is_shut connection.old.link.number)) }
-    ensures link { connection.new.link ≡ connection.old.link }
-    ensures bound { W.bound wire.new ≡ W.bound wire.old }
-    ensures faults { W.failed wire.old ≤ W.failed wire.new }
-    ensures next { host.old.slots.next ≤ host.new.slots.next }
 {
     let link = connection.link;
     if connection.is_shut {
@@ -184,7 +183,7 @@ fn is_finished<S: BuildHasher, A: Allocator + Copy>(
     connection: &Connection,
     host: &Host<S, A>,
 ) -> bool
-    ensures { result ≡ is_finished_with connection.now.has_ended (find host.now.slots connection.now.link.id) }
+    ensures { result ≡ is_finished host.now connection.now }
 {
     let id = connection.link.id;
     let Some(bytes) = host.output(id) else {
@@ -200,23 +199,21 @@ pub fn close_if_finished<W: Wire, S: BuildHasher, A: Allocator + Copy>(
     host: &mut Host<S, A>,
     wire: &mut W,
 ) -> bool
-    ensures asked { Asks (W.asked wire.old) (W.asked wire.new) (ends_of host.old connection.old connection.new) }
-    ensures visits { Visits IsEnd connection.old.link.id host.old host.new }
-    ensures quiet { IsQuiet result (W.told wire.old) connection.old (W.told wire.new) connection.new }
-    ensures stirs { result ≡ true → Transfers (W.told wire.old) (W.told wire.new) connection.old.link.number ⊎ EndsOrShuts connection.old connection.new }
-    ensures closed { connection.new.is_shut ≡ true → (connection.old.is_shut ≡ true) ⊎ (find host.new.slots connection.old.link.id ≡ None) }
-    ensures made { KeepsMade connection.old connection.new }
-    ensures finished { result ≡ (not connection.old.is_shut && is_finished_with connection.old.has_ended (find host.old.slots connection.old.link.id)) }
+    ensures asked { Asks (W.asked wire.old) (W.asked wire.new)
+        (ends_of host.old connection.old connection.new) }
+    ensures visited { VisitsOne IsEnd result connection.old connection.new
+        (scene W.bound W.told W.asked W.failed (connection.old ∷ []) wire.old host.old)
+        (scene W.bound W.told W.asked W.failed (connection.new ∷ []) wire.new host.new) }
+    ensures finished { result ≡ is_to_shut host.old connection.old }
     ensures shuts { result ≡ true → connection.new.is_shut ≡ true }
     ensures unchanged { result ≡ false → host.new ≡ host.old }
-    ensures left { (connection.new.is_shut ≡ true) ⊎ (is_finished_with connection.new.has_ended (find host.new.slots connection.new.link.id) ≡ false) }
-    ensures serves { (marks : List Connection) → (connection.old.has_ended ≡ true → IsMarked reads_ended marks connection.old.link.number) → Serves IsEnd marks (W.bound wire.old) (connection.old.link ∷ []) (W.told wire.old) host.old (W.told wire.new) host.new }
+    ensures left { IsLeft host.new connection.new }
+    ensures serves { (marks : List Connection)
+        → (connection.old.has_ended ≡ true → IsMarked reads_ended marks connection.old.link.number)
+        → Serves IsEnd marks
+        (scene W.bound W.told W.asked W.failed (connection.old ∷ []) wire.old host.old)
+        (scene W.bound W.told W.asked W.failed (connection.new ∷ []) wire.new host.new) }
     ensures ended { connection.new.has_ended ≡ connection.old.has_ended }
-    ensures shut { connection.new.is_shut ≡ true → (connection.old.is_shut ≡ true) ⊎ (connection.old.link.number < W.bound wire.old → IsRaised ((W.told wire.old).is_shut connection.old.link.number) ((W.told wire.new).is_shut connection.old.link.number)) }
-    ensures link { connection.new.link ≡ connection.old.link }
-    ensures bound { W.bound wire.new ≡ W.bound wire.old }
-    ensures faults { W.failed wire.old ≤ W.failed wire.new }
-    ensures next { host.old.slots.next ≤ host.new.slots.next }
 {
     if connection.is_shut || !is_finished(connection, host) {
         return false;

@@ -16,7 +16,7 @@ use Rattle.usi_session.specs.Replies.{answer_line, replies, replies_from, state_
 use Rattle.usi_session.proofs.Settled.{replies_from-over}
 use Rattle.socket_loop.specs.declared.connection.Link.{Link}
 use Rattle.usi_stdio.specs.Stdio as stdio
-use Rattle.usi_serve.specs.Serving.{Scene}
+use Rattle.socket_loop.specs.Scenes.{Scene}
 use Rattle.usi_serve.specs.Life.{Duty, IsAnswered, new_duty}
 use Rattle.usi_serve.specs.Alone.{IsGiven, IsUndisturbed}
 

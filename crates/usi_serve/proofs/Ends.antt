@@ -12,7 +12,8 @@ use Rattle.socket_loop.specs.declared.connection.Connection.{Connection}
 use Rattle.socket_loop.specs.Links.{IsAmong, AreOnce, links_of}
 use Rattle.socket_loop.specs.Parts.{is_finished_with}
 use Rattle.socket_loop.specs.Turns.{NoneFinished}
-use Rattle.usi_serve.specs.Serving.{AreTurns, IsTurnTo, IsWait, Scene}
+use Rattle.socket_loop.specs.Scenes.{Scene}
+use Rattle.usi_serve.specs.Serving.{AreTurns, IsTurnTo, IsWait}
 use Rattle.usi_serve.specs.Life.{EndsByBytes}
 
 once_turns : (slice n : ℕ) (a b : Scene) → AreTurns slice n a b → AreOnce (links_of a.held) → AreOnce (links_of b.held)

@@ -28,7 +28,8 @@ use Rattle.host_core.specs.Rounds.{works, pending_ids}
 use Rattle.host_core.proofs.Ids.{is_same_id-refl}
 use Rattle.host_core.proofs.OneSession.{gone, opened_ends, IsGone as IsOut}
 use Rattle.host_core.proofs.Overs.{opened_over}
-use Rattle.usi_serve.specs.Serving.{AreTurns, IsTurnAndWait, IsWait, Scene, Stops}
+use Rattle.socket_loop.specs.Scenes.{Scene}
+use Rattle.usi_serve.specs.Serving.{AreTurns, IsTurnAndWait, IsWait, Stops}
 use Rattle.usi_serve.specs.Life.{Duty, new_duty, duty_of, ReadsEnded, EndsItself, HasEnded, IsAnswered, IsHeldOrGone, IsServed, Life, Lives}
 
 -- ---- numbers
@@ -138,14 +139,11 @@ front_full (Gave xs) bytes f = front_none bytes f
 still_apart : (met now : List Link) (n : ℕ) → ((l : Link) → IsAmong now l → IsAmong met l) → IsApart met n → IsApart now n
 still_apart met now n left p = apart_each now n (λ l m. each_apart met n l p (left l m))
 
-abbrev IsTurned : ℕ → Bool → Scene → Scene → Type 0
-IsTurned slice moved b c = IsTurn slice moved b.held b.bound b.told b.host c.held c.bound c.told c.host
-
-next_turned : (slice : ℕ) (moved : Bool) (b c : Scene) → IsTurned slice moved b c → b.host.slots.next ≤ c.host.slots.next
+next_turned : (slice : ℕ) (moved : Bool) (b c : Scene) → IsTurn slice moved b c → b.host.slots.next ≤ c.host.slots.next
 next_turned slice moved b c t = next_rises b.host c.host t.steps t.chain
 
 -- a link that was known is known still
-ties_met : (slice : ℕ) (moved : Bool) (b c : Scene) (t : IsTurned slice moved b c) (k l : Link) → FitsOne (links_of b.held) b.bound b.host l → IsAmong (links_of b.held) k ⊎ Joins b.bound c.bound t.accepted b.host.slots.next c.host.slots.next t.admissions k → Ties k l
+ties_met : (slice : ℕ) (moved : Bool) (b c : Scene) (t : IsTurn slice moved b c) (k l : Link) → FitsOne (links_of b.held) b.bound b.host l → IsAmong (links_of b.held) k ⊎ Joins b.bound c.bound t.accepted b.host.slots.next c.host.slots.next t.admissions k → Ties k l
 ties_met slice moved b c t k l f (inl old) = tied_of (links_of b.held) l k f.tied old
 ties_met slice moved b c t k l f (inr new) =
     let u : l.number < b.bound = f.number in
@@ -154,7 +152,7 @@ ties_met slice moved b c t k l f (inr new) =
     let y : b.host.slots.next ≤ k.id.generation = new.fresh in
     ties_apart l k (omega arith) (omega arith)
 
-fits_kept : (slice : ℕ) (moved : Bool) (b c : Scene) (t : IsTurned slice moved b c) (l : Link) → FitsOne (links_of b.held) b.bound b.host l → FitsOne (links_of c.held) c.bound c.host l
+fits_kept : (slice : ℕ) (moved : Bool) (b c : Scene) (t : IsTurn slice moved b c) (l : Link) → FitsOne (links_of b.held) b.bound b.host l → FitsOne (links_of c.held) c.bound c.host l
 fits_kept slice moved b c t l f =
     let u : l.number < b.bound = f.number in
     let v : l.id.generation < b.host.slots.next = f.opened in
@@ -166,7 +164,7 @@ fits_kept slice moved b c t l f =
       opened = omega arith;
     }
 
-fits_new : (slice : ℕ) (moved : Bool) (b c : Scene) (t : IsTurned slice moved b c) (l : Link) → IsAmong t.met l → Joins b.bound c.bound t.accepted b.host.slots.next c.host.slots.next t.admissions l → FitsOne (links_of c.held) c.bound c.host l
+fits_new : (slice : ℕ) (moved : Bool) (b c : Scene) (t : IsTurn slice moved b c) (l : Link) → IsAmong t.met l → Joins b.bound c.bound t.accepted b.host.slots.next c.host.slots.next t.admissions l → FitsOne (links_of c.held) c.bound c.host l
 fits_new slice moved b c t l among new = record {
   tied = fresh_tied (links_of c.held) l (λ k m. tied_of t.met l k (t.tied l among) (t.left k m));
   number = new.most;
@@ -175,7 +173,7 @@ fits_new slice moved b c t l among new = record {
 
 -- ---- a connection that was not met
 
-strange_met : (slice : ℕ) (moved : Bool) (b c : Scene) (t : IsTurned slice moved b c) (k l : Link) → FitsOne (links_of b.held) b.bound b.host l → IsApart t.met l.number → IsAmong t.met k → IsAmong (links_of b.held) k ⊎ Joins b.bound c.bound t.accepted b.host.slots.next c.host.slots.next t.admissions k → k.id ≡ l.id → ⊥
+strange_met : (slice : ℕ) (moved : Bool) (b c : Scene) (t : IsTurn slice moved b c) (k l : Link) → FitsOne (links_of b.held) b.bound b.host l → IsApart t.met l.number → IsAmong t.met k → IsAmong (links_of b.held) k ⊎ Joins b.bound c.bound t.accepted b.host.slots.next c.host.slots.next t.admissions k → k.id ≡ l.id → ⊥
 strange_met slice moved b c t k l f p among (inl old) e = each_apart t.met l.number k p among ((tied_of (links_of b.held) l k f.tied old).by_id e)
 strange_met slice moved b c t k l f p among (inr new) e =
     let v : l.id.generation < b.host.slots.next = f.opened in
@@ -202,14 +200,14 @@ ended_before duty a b c n read lost written more_read more_lost more_written mov
 ended_or : (duty : Duty) (a c : Scene) (n : ℕ) (read lost written : List ℕ) → (lost ≡ [] → HasEnded duty a c n read lost written) → HasEnded duty a c n read lost written
 ended_or duty a c n read lost written f = elim (nil_or lost) [ inl none ↦ f none | inr some ↦ inr (inl some) ]
 
-ended_aside : (slice : ℕ) (moved : Bool) (a b c : Scene) (t : IsTurned slice moved b c) (duty : Duty) (l : Link) (x : IsAnswered duty a b l) (found_ : Option SessionView) → find b.host.slots l.id ≡ found_ → LeavesAlone l.id t.steps → x.served.lost ++ [] ≡ [] → find c.host.slots l.id ≡ None
+ended_aside : (slice : ℕ) (moved : Bool) (a b c : Scene) (t : IsTurn slice moved b c) (duty : Duty) (l : Link) (x : IsAnswered duty a b l) (found_ : Option SessionView) → find b.host.slots l.id ≡ found_ → LeavesAlone l.id t.steps → x.served.lost ++ [] ≡ [] → find c.host.slots l.id ≡ None
     → HasEnded duty a c l.number (x.served.read ++ own l.id t.steps) (x.served.lost ++ []) (x.served.written ++ taken l.id t.steps)
 ended_aside slice moved a b c t duty l x None e alone g none = ended_before duty a b c l.number x.served.read x.served.lost x.served.written (own l.id t.steps) [] (taken l.id t.steps) t.all alone.stored alone.passed g (x.ended e)
 ended_aside slice moved a b c t duty l x (Some s) e alone g none =
     absurd (not_none (find c.host.slots l.id) (stays_open b.host c.host l.id t.steps t.chain alone.kept (some_of (find b.host.slots l.id) s e)) none)
 
 -- one that was not met is as it was
-kept_aside : (slice : ℕ) (moved : Bool) (a b c : Scene) (t : IsTurned slice moved b c) (l : Link) → IsApart t.met l.number → FitsOne (links_of b.held) b.bound b.host l → IsHeldOrGone a b l → IsHeldOrGone a c l
+kept_aside : (slice : ℕ) (moved : Bool) (a b c : Scene) (t : IsTurn slice moved b c) (l : Link) → IsApart t.met l.number → FitsOne (links_of b.held) b.bound b.host l → IsHeldOrGone a b l → IsHeldOrGone a c l
 kept_aside slice moved a b c t l p f (inl held) = absurd (each_apart t.met l.number l p (t.stay l held) refl)
 kept_aside slice moved a b c t l p f (inr (inl marked)) = inr (inl marked)
 kept_aside slice moved a b c t l p f (inr (inr g)) = inr (inr (record {
@@ -217,7 +215,7 @@ kept_aside slice moved a b c t l p f (inr (inr g)) = inr (inr (record {
   closed = (gone b.host c.host l.id t.steps g.closed f.opened t.chain).none;
 }))
 
-answered_aside : (slice : ℕ) (moved : Bool) (a b c : Scene) (t : IsTurned slice moved b c) (duty : Duty) (l : Link) → IsApart t.met l.number → KeepsPeer b.told c.told l.number → IsAnswered duty a b l → IsAnswered duty a c l
+answered_aside : (slice : ℕ) (moved : Bool) (a b c : Scene) (t : IsTurn slice moved b c) (duty : Duty) (l : Link) → IsApart t.met l.number → KeepsPeer b.told c.told l.number → IsAnswered duty a b l → IsAnswered duty a c l
 answered_aside slice moved a b c t duty l p k x =
     let alone : LeavesAlone l.id t.steps = t.foreign l.id x.fits.opened (strange_each t.met l.id (λ j m. strange_met slice moved b c t j l x.fits p m (t.are j m))) in
     answered duty a c l
@@ -227,7 +225,7 @@ answered_aside slice moved a b c t duty l p k x =
     (kept_aside slice moved a b c t l p x.fits x.kept)
     (fits_kept slice moved b c t l x.fits)
 
-served_apart : (slice : ℕ) (moved : Bool) (a b c : Scene) (t : IsTurned slice moved b c) (l : Link) → IsApart t.met l.number → KeepsPeer b.told c.told l.number → IsServed a b l → IsServed a c l
+served_apart : (slice : ℕ) (moved : Bool) (a b c : Scene) (t : IsTurn slice moved b c) (l : Link) → IsApart t.met l.number → KeepsPeer b.told c.told l.number → IsServed a b l → IsServed a c l
 served_apart slice moved a b c t l p k (inl s) = inl (s.0, answered_aside slice moved a b c t (duty_of (find a.host.slots l.id)) l p k s.1)
 served_apart slice moved a b c t l p k (inr s) = inr (s.0, answered_aside slice moved a b c t new_duty l p k s.1)
 
@@ -235,7 +233,7 @@ served_fits : (a b : Scene) (l : Link) → IsServed a b l → FitsOne (links_of 
 served_fits a b l (inl s) = s.1.fits
 served_fits a b l (inr s) = s.1.fits
 
-life_apart : (slice : ℕ) (moved : Bool) (a b c : Scene) (t : IsTurned slice moved b c) (n : ℕ) → a.bound ≤ b.bound → IsApart t.met n → KeepsPeer b.told c.told n ⊎ IsTurnedAway b.bound c.bound t.accepted b.told c.told n → Life a b n → Life a c n
+life_apart : (slice : ℕ) (moved : Bool) (a b c : Scene) (t : IsTurn slice moved b c) (n : ℕ) → a.bound ≤ b.bound → IsApart t.met n → KeepsPeer b.told c.told n ⊎ IsTurnedAway b.bound c.bound t.accepted b.told c.told n → Life a b n → Life a c n
 life_apart slice moved a b c t n le p (inl k) (inl u) = inl (record { kept = kept_then a.told b.told c.told n u.kept k; unheld = still_apart t.met (links_of c.held) n t.left p })
 life_apart slice moved a b c t n le p (inr w) (inl u) =
     let v : b.bound ≤ n = w.least in
@@ -275,29 +273,29 @@ life_apart slice moved a b c t n le p (inr away) (inr (inr s)) =
 -- ---- a connection that was met
 
 -- the reads of a connection that was met have ended
-reads_met : (slice : ℕ) (moved : Bool) (a b c : Scene) (t : IsTurned slice moved b c) (n : ℕ) → Lives a b → IsMarked reads_ended t.marks n → ReadsEnded a c n
+reads_met : (slice : ℕ) (moved : Bool) (a b c : Scene) (t : IsTurn slice moved b c) (n : ℕ) → Lives a b → IsMarked reads_ended t.marks n → ReadsEnded a c n
 reads_met slice moved a b c t n lives m = elim (t.marked n m) [
   | inl was ↦ reads_on a b c n t.all (lives.marked n was)
   | inr empty ↦ inr (move_emptied a.told b.told c.told n lives.all empty)
 ]
 
 -- one that was met is held, or was let go
-kept_met : (slice : ℕ) (moved : Bool) (a b c : Scene) (t : IsTurned slice moved b c) (l : Link) → Lives a b → l.number < c.bound → IsAmong (links_of c.held) l ⊎ (IsMarked was_shut b.held l.number ⊎ IsLetGo c.bound b.told c.told c.host l) → IsHeldOrGone a c l
+kept_met : (slice : ℕ) (moved : Bool) (a b c : Scene) (t : IsTurn slice moved b c) (l : Link) → Lives a b → l.number < c.bound → IsAmong (links_of c.held) l ⊎ (IsMarked was_shut b.held l.number ⊎ IsLetGo c.bound b.told c.told c.host l) → IsHeldOrGone a c l
 kept_met slice moved a b c t l lives lt (inl held) = inl held
 kept_met slice moved a b c t l lives lt (inr (inl marked)) = inr (inl (lives.unmarked l.number marked))
 kept_met slice moved a b c t l lives lt (inr (inr g)) = inr (inr (record { shut = rises_raised _ _ _ (lives.all l.number).shut (g.shut lt); closed = g.closed.none }))
 
-met_below : (slice : ℕ) (moved : Bool) (b c : Scene) (t : IsTurned slice moved b c) (l : Link) → FitsOne (links_of b.held) b.bound b.host l → l.number < c.bound
+met_below : (slice : ℕ) (moved : Bool) (b c : Scene) (t : IsTurn slice moved b c) (l : Link) → FitsOne (links_of b.held) b.bound b.host l → l.number < c.bound
 met_below slice moved b c t l f =
     let u : l.number < b.bound = f.number in
     let v : b.bound ≤ c.bound = t.rises in
     omega arith
 
-ending_why : (duty : Duty) (slice : ℕ) (moved : Bool) (a b c : Scene) (t : IsTurned slice moved b c) (n : ℕ) (has_ended : Bool) (read written : List ℕ) → Lives a b → (has_ended ≡ true → IsMarked reads_ended t.marks n) → (has_ended ≡ true) ⊎ EndsBy duty.owes duty.ends read written → ReadsEnded a c n ⊎ EndsItself duty read written
+ending_why : (duty : Duty) (slice : ℕ) (moved : Bool) (a b c : Scene) (t : IsTurn slice moved b c) (n : ℕ) (has_ended : Bool) (read written : List ℕ) → Lives a b → (has_ended ≡ true → IsMarked reads_ended t.marks n) → (has_ended ≡ true) ⊎ EndsBy duty.owes duty.ends read written → ReadsEnded a c n ⊎ EndsItself duty read written
 ending_why duty slice moved a b c t n has_ended read written lives f (inl e) = inl (reads_met slice moved a b c t n lives (f e))
 ending_why duty slice moved a b c t n has_ended read written lives f (inr w) = inr (record { over = w.over; no_more = w.no_more })
 
-ended_cause : (slice : ℕ) (moved : Bool) (a b c : Scene) (t : IsTurned slice moved b c) (duty : Duty) (l : Link) (x : IsAnswered duty a b l) (s : SessionView) (k : Carried t.marks c.bound b.told b.host t.steps c.told c.host l) → Lives a b → find b.host.slots l.id ≡ Some s → x.served.lost ++ k.lost ≡ [] → Cause t.marks b.told b.host t.steps c.told c.host l
+ended_cause : (slice : ℕ) (moved : Bool) (a b c : Scene) (t : IsTurn slice moved b c) (duty : Duty) (l : Link) (x : IsAnswered duty a b l) (s : SessionView) (k : Carried t.marks c.bound b.told b.host t.steps c.told c.host l) → Lives a b → find b.host.slots l.id ≡ Some s → x.served.lost ++ k.lost ≡ [] → Cause t.marks b.told b.host t.steps c.told c.host l
     → HasEnded duty a c l.number (x.served.read ++ own l.id t.steps) (x.served.lost ++ k.lost) (x.served.written ++ taken l.id t.steps)
 ended_cause slice moved a b c t duty l x s k lives e g (inl failed) = inl (rises_raised _ _ _ (lives.all l.number).failed failed)
 ended_cause slice moved a b c t duty l x s k lives e g (inr (inl starved)) =
@@ -312,20 +310,20 @@ ended_cause slice moved a b c t duty l x s k lives e g (inr (inr f)) =
     let end : Ending duty.owes duty.ends l.id x.served.read x.served.written t.steps f.has_ended = ending duty.owes duty.ends t.marks b.host c.host t.steps l x.served.read x.served.written f there.session there.is left over in
     inr (inr (record { none_lost = g; all = end.all; why = ending_why duty slice moved a b c t l.number f.has_ended (x.served.read ++ own l.id t.steps) (x.served.written ++ taken l.id t.steps) lives f.marked end.why }))
 
-ended_ends : (slice : ℕ) (moved : Bool) (a b c : Scene) (t : IsTurned slice moved b c) (duty : Duty) (l : Link) (x : IsAnswered duty a b l) (s : SessionView) (k : Carried t.marks c.bound b.told b.host t.steps c.told c.host l) → Lives a b → find b.host.slots l.id ≡ Some s → x.served.lost ++ k.lost ≡ [] → find c.host.slots l.id ≡ None → IsSpared b.told t.steps c.told l ⊎ IsShutDown t.marks c.bound b.told b.host t.steps c.told c.host l
+ended_ends : (slice : ℕ) (moved : Bool) (a b c : Scene) (t : IsTurn slice moved b c) (duty : Duty) (l : Link) (x : IsAnswered duty a b l) (s : SessionView) (k : Carried t.marks c.bound b.told b.host t.steps c.told c.host l) → Lives a b → find b.host.slots l.id ≡ Some s → x.served.lost ++ k.lost ≡ [] → find c.host.slots l.id ≡ None → IsSpared b.told t.steps c.told l ⊎ IsShutDown t.marks c.bound b.told b.host t.steps c.told c.host l
     → HasEnded duty a c l.number (x.served.read ++ own l.id t.steps) (x.served.lost ++ k.lost) (x.served.written ++ taken l.id t.steps)
 ended_ends slice moved a b c t duty l x s k lives e g none (inl spared) =
     absurd (not_none (find c.host.slots l.id) (stays_open b.host c.host l.id t.steps t.chain spared.closed (some_of (find b.host.slots l.id) s e)) none)
 ended_ends slice moved a b c t duty l x s k lives e g none (inr d) = ended_cause slice moved a b c t duty l x s k lives e g d.cause
 
-ended_on : (slice : ℕ) (moved : Bool) (a b c : Scene) (t : IsTurned slice moved b c) (duty : Duty) (l : Link) (x : IsAnswered duty a b l) (k : Carried t.marks c.bound b.told b.host t.steps c.told c.host l) (found_ : Option SessionView) → Lives a b → find b.host.slots l.id ≡ found_ → x.served.lost ++ k.lost ≡ [] → find c.host.slots l.id ≡ None
+ended_on : (slice : ℕ) (moved : Bool) (a b c : Scene) (t : IsTurn slice moved b c) (duty : Duty) (l : Link) (x : IsAnswered duty a b l) (k : Carried t.marks c.bound b.told b.host t.steps c.told c.host l) (found_ : Option SessionView) → Lives a b → find b.host.slots l.id ≡ found_ → x.served.lost ++ k.lost ≡ [] → find c.host.slots l.id ≡ None
     → HasEnded duty a c l.number (x.served.read ++ own l.id t.steps) (x.served.lost ++ k.lost) (x.served.written ++ taken l.id t.steps)
 ended_on slice moved a b c t duty l x k None lives e g none =
     let out : IsOut l.id t.steps c.host = gone b.host c.host l.id t.steps e x.fits.opened t.chain in
     ended_before duty a b c l.number x.served.read x.served.lost x.served.written (own l.id t.steps) k.lost (taken l.id t.steps) t.all out.no_own out.no_taken g (x.ended e)
 ended_on slice moved a b c t duty l x k (Some s) lives e g none = ended_ends slice moved a b c t duty l x s k lives e g none k.ends
 
-answered_on : (slice : ℕ) (moved : Bool) (a b c : Scene) (t : IsTurned slice moved b c) (duty : Duty) (l : Link) → Lives a b → IsAmong t.met l → IsAnswered duty a b l → IsAnswered duty a c l
+answered_on : (slice : ℕ) (moved : Bool) (a b c : Scene) (t : IsTurn slice moved b c) (duty : Duty) (l : Link) → Lives a b → IsAmong t.met l → IsAnswered duty a b l → IsAnswered duty a c l
 answered_on slice moved a b c t duty l lives among x =
     let k : Carried t.marks c.bound b.told b.host t.steps c.told c.host l = t.carried l among in
     answered duty a c l
@@ -335,7 +333,7 @@ answered_on slice moved a b c t duty l lives among x =
     (kept_met slice moved a b c t l lives (met_below slice moved b c t l x.fits) (t.gone l among))
     (fits_kept slice moved b c t l x.fits)
 
-served_met : (slice : ℕ) (moved : Bool) (a b c : Scene) (t : IsTurned slice moved b c) (l : Link) → Lives a b → IsAmong t.met l → IsServed a b l → IsServed a c l
+served_met : (slice : ℕ) (moved : Bool) (a b c : Scene) (t : IsTurn slice moved b c) (l : Link) → Lives a b → IsAmong t.met l → IsServed a b l → IsServed a c l
 served_met slice moved a b c t l lives among (inl s) = inl (s.0, answered_on slice moved a b c t (duty_of (find a.host.slots l.id)) l lives among s.1)
 served_met slice moved a b c t l lives among (inr s) = inr (s.0, answered_on slice moved a b c t new_duty l lives among s.1)
 
@@ -350,20 +348,20 @@ held_life a b l old (inr (inr s)) =
 
 -- ---- a connection that was accepted
 
-opened_all : (slice : ℕ) (moved : Bool) (b c : Scene) (t : IsTurned slice moved b c) (l : Link) → Joins b.bound c.bound t.accepted b.host.slots.next c.host.slots.next t.admissions l → is_opened l.id t.steps ≡ true
+opened_all : (slice : ℕ) (moved : Bool) (b c : Scene) (t : IsTurn slice moved b c) (l : Link) → Joins b.bound c.bound t.accepted b.host.slots.next c.host.slots.next t.admissions l → is_opened l.id t.steps ≡ true
 opened_all slice moved b c t l new =
     let rest : List Step = works slice (pending_ids t.start) t.round.outcomes ++ (t.outputs ++ t.ends) in
     rw t.steps_are (opened_left l.id (t.admissions ++ t.inputs) rest (opened_left l.id t.admissions t.inputs new.opened))
 
 -- it was opened before it was closed
-opened_earlier : (slice : ℕ) (moved : Bool) (b c : Scene) (t : IsTurned slice moved b c) (l : Link) → Joins b.bound c.bound t.accepted b.host.slots.next c.host.slots.next t.admissions l → (f : Finished t.marks b.host t.steps c.host l) → is_opened l.id f.earlier ≡ true
+opened_earlier : (slice : ℕ) (moved : Bool) (b c : Scene) (t : IsTurn slice moved b c) (l : Link) → Joins b.bound c.bound t.accepted b.host.slots.next c.host.slots.next t.admissions l → (f : Finished t.marks b.host t.steps c.host l) → is_opened l.id f.earlier ≡ true
 opened_earlier slice moved b c t l new f =
     let rest : List Step = works slice (pending_ids t.start) t.round.outcomes ++ (t.outputs ++ t.ends) in
     let last : Step = record { event = Close l.id; outcome = f.outcome } in
     let same : t.admissions ++ (t.inputs ++ rest) ≡ f.earlier ++ (last ∷ f.later) = sym (append_assoc t.admissions t.inputs rest) ∙ (sym t.steps_are ∙ f.steps_are) in
     opened_before l.id t.admissions (t.inputs ++ rest) f.earlier f.later last same new.unclosed (is_same_id-refl l.id) new.opened
 
-new_cause : (slice : ℕ) (moved : Bool) (a b c : Scene) (t : IsTurned slice moved b c) (l : Link) (k : Carried t.marks c.bound b.told b.host t.steps c.told c.host l) → Lives a b → Joins b.bound c.bound t.accepted b.host.slots.next c.host.slots.next t.admissions l → k.lost ≡ [] → Cause t.marks b.told b.host t.steps c.told c.host l
+new_cause : (slice : ℕ) (moved : Bool) (a b c : Scene) (t : IsTurn slice moved b c) (l : Link) (k : Carried t.marks c.bound b.told b.host t.steps c.told c.host l) → Lives a b → Joins b.bound c.bound t.accepted b.host.slots.next c.host.slots.next t.admissions l → k.lost ≡ [] → Cause t.marks b.told b.host t.steps c.told c.host l
     → HasEnded new_duty a c l.number (own l.id t.steps) k.lost (taken l.id t.steps)
 new_cause slice moved a b c t l k lives new g (inl failed) = inl (rises_raised _ _ _ (lives.all l.number).failed failed)
 new_cause slice moved a b c t l k lives new g (inr (inl starved)) = absurd (k.fed starved g)
@@ -375,13 +373,13 @@ new_cause slice moved a b c t l k lives new g (inr (inr f)) =
     let end : Ending replies is_over_after l.id [] [] t.steps f.has_ended = ending replies is_over_after t.marks b.host c.host t.steps l [] [] f there.session there.is left over in
     inr (inr (record { none_lost = g; all = end.all; why = ending_why new_duty slice moved a b c t l.number f.has_ended (own l.id t.steps) (taken l.id t.steps) lives f.marked end.why }))
 
-new_ends : (slice : ℕ) (moved : Bool) (a b c : Scene) (t : IsTurned slice moved b c) (l : Link) (k : Carried t.marks c.bound b.told b.host t.steps c.told c.host l) → Lives a b → Joins b.bound c.bound t.accepted b.host.slots.next c.host.slots.next t.admissions l → k.lost ≡ [] → find c.host.slots l.id ≡ None → IsSpared b.told t.steps c.told l ⊎ IsShutDown t.marks c.bound b.told b.host t.steps c.told c.host l
+new_ends : (slice : ℕ) (moved : Bool) (a b c : Scene) (t : IsTurn slice moved b c) (l : Link) (k : Carried t.marks c.bound b.told b.host t.steps c.told c.host l) → Lives a b → Joins b.bound c.bound t.accepted b.host.slots.next c.host.slots.next t.admissions l → k.lost ≡ [] → find c.host.slots l.id ≡ None → IsSpared b.told t.steps c.told l ⊎ IsShutDown t.marks c.bound b.told b.host t.steps c.told c.host l
     → HasEnded new_duty a c l.number (own l.id t.steps) k.lost (taken l.id t.steps)
 new_ends slice moved a b c t l k lives new g none (inl spared) =
     absurd (not_none (find c.host.slots l.id) (opened_stays b.host c.host l.id t.steps t.chain spared.closed (opened_all slice moved b c t l new)) none)
 new_ends slice moved a b c t l k lives new g none (inr d) = new_cause slice moved a b c t l k lives new g d.cause
 
-new_answered : (slice : ℕ) (moved : Bool) (a b c : Scene) (t : IsTurned slice moved b c) (l : Link) → Lives a b → IsAmong t.met l → Joins b.bound c.bound t.accepted b.host.slots.next c.host.slots.next t.admissions l → KeepsPeer a.told b.told l.number → IsAnswered new_duty a c l
+new_answered : (slice : ℕ) (moved : Bool) (a b c : Scene) (t : IsTurn slice moved b c) (l : Link) → Lives a b → IsAmong t.met l → Joins b.bound c.bound t.accepted b.host.slots.next c.host.slots.next t.admissions l → KeepsPeer a.told b.told l.number → IsAnswered new_duty a c l
 new_answered slice moved a b c t l lives among new kept_ =
     let k : Carried t.marks c.bound b.told b.host t.steps c.told c.host l = t.carried l among in
     answered new_duty a c l
@@ -399,7 +397,7 @@ new_answered slice moved a b c t l lives among new kept_ =
     (kept_met slice moved a b c t l lives new.most (t.gone l among))
     (fits_new slice moved b c t l among new)
 
-new_life : (slice : ℕ) (moved : Bool) (a b c : Scene) (t : IsTurned slice moved b c) (l : Link) → Lives a b → IsAmong t.met l → Joins b.bound c.bound t.accepted b.host.slots.next c.host.slots.next t.admissions l → Life a b l.number → IsServed a c l
+new_life : (slice : ℕ) (moved : Bool) (a b c : Scene) (t : IsTurn slice moved b c) (l : Link) → Lives a b → IsAmong t.met l → Joins b.bound c.bound t.accepted b.host.slots.next c.host.slots.next t.admissions l → Life a b l.number → IsServed a c l
 new_life slice moved a b c t l lives among new (inl u) =
     let le : a.bound ≤ b.bound = lives.rises in
     let v : b.bound ≤ l.number = new.least in
@@ -413,11 +411,11 @@ new_life slice moved a b c t l lives among new (inr (inr x)) =
     let v : b.bound ≤ l.number = new.least in
     absurd (omega arith)
 
-life_met : (slice : ℕ) (moved : Bool) (a b c : Scene) (t : IsTurned slice moved b c) (l : Link) → Lives a b → IsAmong t.met l → IsAmong (links_of b.held) l ⊎ Joins b.bound c.bound t.accepted b.host.slots.next c.host.slots.next t.admissions l → Life a b l.number → IsServed a c l
+life_met : (slice : ℕ) (moved : Bool) (a b c : Scene) (t : IsTurn slice moved b c) (l : Link) → Lives a b → IsAmong t.met l → IsAmong (links_of b.held) l ⊎ Joins b.bound c.bound t.accepted b.host.slots.next c.host.slots.next t.admissions l → Life a b l.number → IsServed a c l
 life_met slice moved a b c t l lives among (inl old) life = served_met slice moved a b c t l lives among (held_life a b l old life)
 life_met slice moved a b c t l lives among (inr new) life = new_life slice moved a b c t l lives among new life
 
-pub lives_turn : (slice : ℕ) (moved : Bool) (a b c : Scene) → Lives a b → IsTurn slice moved b.held b.bound b.told b.host c.held c.bound c.told c.host → Lives a c
+pub lives_turn : (slice : ℕ) (moved : Bool) (a b c : Scene) → Lives a b → IsTurn slice moved b c → Lives a c
 lives_turn slice moved a b c lives t =
     let u : a.bound ≤ b.bound = lives.rises in
     let v : b.bound ≤ c.bound = t.rises in

@@ -2,7 +2,8 @@
 use Rattle.std.proofs.Common.{◌≡◌, ◌<◌, ◌+◌, ℕ, suc, Result, Ok, Err, IfErr, refl, arith}
 use Rattle.wires.specs.declared.wire.WireFault.{WireFault}
 use Rattle.wires.specs.Told.{HasCause}
-use Rattle.usi_serve.specs.Serving.{AreTurns, IsTurnTo, IsTurnAndWait, IsWait, Scene, Stops}
+use Rattle.socket_loop.specs.Scenes.{Scene}
+use Rattle.usi_serve.specs.Serving.{AreTurns, IsTurnTo, IsTurnAndWait, IsWait, Stops}
 
 pub turns_none : (slice : ℕ) (scene : Scene) → AreTurns slice 0 scene scene
 turns_none slice scene = refl

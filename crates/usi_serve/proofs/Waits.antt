@@ -9,7 +9,8 @@ use Rattle.socket_loop.specs.Links.{links_of}
 use Rattle.socket_loop.specs.Turns.{Fits}
 use Rattle.socket_loop.proofs.Loads.{Nearer, near_turn}
 use Rattle.socket_loop.proofs.Runs.{next_rises}
-use Rattle.usi_serve.specs.Serving.{AreTurns, IsTurnAndWait, Scene}
+use Rattle.socket_loop.specs.Scenes.{Scene}
+use Rattle.usi_serve.specs.Serving.{AreTurns, IsTurnAndWait}
 use Rattle.usi_serve.specs.Patience.{IsThroughOnce, IsNearer, AnswersInTime}
 
 -- the generation of the next id never falls
@@ -38,7 +39,7 @@ made_by slice n s t b id (Some u) e p near = more_made slice n s t u b id (is_pe
 
 next_made : (slice n : ℕ) (a m b : Scene) (s : SessionView) (id : SessionId) (so_far : AreTurns slice n a m) (last : IsTurnAndWait slice m b) → id.generation < m.host.slots.next → IsNearer slice n s m id → IsThroughOnce slice (suc n) a b (m, so_far, last) id ⊎ IsNearer slice (suc n) s b id
 next_made slice n a m b s id so_far last lt k =
-    elim (near_turn slice last.turn.moved m.held last.middle.held m.bound last.middle.bound m.told last.middle.told m.host last.middle.host last.turn.turned id k.session lt k.finds k.pending) [
+    elim (near_turn slice last.turn.moved m last.middle last.turn.turned id k.session lt k.finds k.pending) [
       | inl refused ↦ inl (inr (inr refused))
       | inr near ↦ elim (made_by slice n s k.session b id (find b.host.slots id) refl k.made (rw last.wait.host near)) [
         | inl none ↦ inl (inr (inl none))

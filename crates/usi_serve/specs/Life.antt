@@ -12,7 +12,7 @@ use Rattle.wires.specs.Told.{KeepsPeer, IsRaised}
 use Rattle.socket_loop.specs.Links.{links_of, reads_ended, was_shut, IsAmong, IsApart, IsMarked}
 use Rattle.wires.specs.Moves.{AllMove, IsEmptied}
 use Rattle.socket_loop.specs.Turns.{FitsOne, Served, host_full}
-use Rattle.usi_serve.specs.Serving.{Scene}
+use Rattle.socket_loop.specs.Scenes.{Scene}
 
 -- what is owed to the bytes that are read from here on, and whether they end the session
 pub record Duty : Type 0 where
@@ -30,7 +30,9 @@ duty_of (Some session) = record { owes = due session; ends = is_over_due session
 
 -- the reads of a connection had ended before, or nothing is left to be read from it, where that is told
 abbrev pub ReadsEnded : Scene → Scene → ℕ → Type 0
-ReadsEnded before after number = IsMarked reads_ended before.held number ⊎ IsEmptied (before.told.unread number) (after.told.unread number)
+ReadsEnded before after number =
+    IsMarked reads_ended before.held number
+    ⊎ IsEmptied (before.told.unread number) (after.told.unread number)
 
 -- the bytes that were read end the session, by `quit` or a line that is too long, and nothing is owed to whatever else may be read
 pub record EndsItself (duty : Duty) (read written : List ℕ) : Type 0 where
@@ -38,7 +40,8 @@ pub record EndsItself (duty : Duty) (read written : List ℕ) : Type 0 where
   pub no_more : (x : List ℕ) → duty.owes (read ++ x) ≡ written
 
 -- nothing was lost of what was read, and all that is owed to it was written; and the reads have ended, or what was read ends the session
-pub record IsComplete (duty : Duty) (before after : Scene) (number : ℕ) (read lost written : List ℕ) : Type 0 where
+pub record IsComplete (duty : Duty) (before after : Scene) (number : ℕ) (read lost written : List ℕ)
+    : Type 0 where
   pub none_lost : lost ≡ []
   pub all : written ≡ duty.owes read
   pub why : ReadsEnded before after number ⊎ EndsItself duty read written
@@ -46,7 +49,8 @@ pub record IsComplete (duty : Duty) (before after : Scene) (number : ℕ) (read 
 -- why a connection was shut: a call of it failed; or bytes were lost that were read, as memory was refused for them; or it was complete
 abbrev pub HasEnded : Duty → Scene → Scene → ℕ → List ℕ → List ℕ → List ℕ → Type 0
 HasEnded duty before after number read lost written =
-    IsRaised (before.told.has_failed number) (after.told.has_failed number) ⊎ ((lost ≢ []) ⊎ IsComplete duty before after number read lost written)
+    IsRaised (before.told.has_failed number) (after.told.has_failed number)
+    ⊎ ((lost ≢ []) ⊎ IsComplete duty before after number read lost written)
 
 -- it was shut, and its session is open no more
 pub record WasLetGo (before after : Scene) (link : Link) : Type 0 where
@@ -55,22 +59,27 @@ pub record WasLetGo (before after : Scene) (link : Link) : Type 0 where
 
 -- it is held, or it was let go; but one that was marked as shut before may be held no more as it is
 abbrev pub IsHeldOrGone : Scene → Scene → Link → Type 0
-IsHeldOrGone before after link = IsAmong (links_of after.held) link ⊎ (IsMarked was_shut before.held link.number ⊎ WasLetGo before after link)
+IsHeldOrGone before after link =
+    IsAmong (links_of after.held) link
+    ⊎ (IsMarked was_shut before.held link.number ⊎ WasLetGo before after link)
 
 -- the bytes that were read from a connection and those that were written to it: what was written is a front of what is owed to what was read, and all of it where its session is open with nothing pending and nothing queued; its session is over, once all is answered, exactly where these bytes end it; where it is closed, it has ended for a cause of its own
 pub record IsAnswered (duty : Duty) (before after : Scene) (link : Link) : Type 0 where
   pub served : Served duty.owes before.told after.told link.number (find after.host.slots link.id)
   pub front : IsPrefixOf served.written (duty.owes served.read)
-  pub all : IsSettled (find after.host.slots link.id) → queued_of (find after.host.slots link.id) ≡ [] → served.written ≡ duty.owes served.read
+  pub all : IsSettled (find after.host.slots link.id)
+      → queued_of (find after.host.slots link.id) ≡ [] → served.written ≡ duty.owes served.read
   pub over : OverFrom duty.ends served.read (find after.host.slots link.id)
-  pub ended : find after.host.slots link.id ≡ None → HasEnded duty before after link.number served.read served.lost served.written
+  pub ended : find after.host.slots link.id ≡ None
+      → HasEnded duty before after link.number served.read served.lost served.written
   pub kept : IsHeldOrGone before after link
   pub fits : FitsOne (links_of after.held) after.bound after.host link
 
 -- it was held before, and is answered what its session owed; or it was accepted since, and is answered from the replies
 abbrev pub IsServed : Scene → Scene → Link → Type 0
 IsServed before after link =
-    (IsAmong (links_of before.held) link × IsAnswered (duty_of (find before.host.slots link.id)) before after link)
+    (IsAmong (links_of before.held) link
+    × IsAnswered (duty_of (find before.host.slots link.id)) before after link)
     ⊎ ((before.bound ≤ link.number) × IsAnswered new_duty before after link)
 
 -- it was not held and is not, and all that is told of it stays
@@ -92,19 +101,25 @@ pub record WasTurnedAway (before after : Scene) (number : ℕ) : Type 0 where
 -- what became of the connection of a number from one scene to a later one: nothing; or it was turned away; or it was served, with one session
 abbrev pub Life : Scene → Scene → ℕ → Type 0
 Life before after number =
-    IsUntouched before after number ⊎ (WasTurnedAway before after number ⊎ ((id : SessionId) × IsServed before after (record { number = number; id = id })))
+    IsUntouched before after number
+    ⊎ (WasTurnedAway before after number
+    ⊎ ((id : SessionId) × IsServed before after (record { number = number; id = id })))
 
 -- what became of each connection; those that are held now were served
 pub record Lives (before after : Scene) : Type 0 where
   pub rises : before.bound ≤ after.bound
   pub all : AllMove before.told after.told
-  pub marked : (number : ℕ) → IsMarked reads_ended after.held number → ReadsEnded before after number
-  pub unmarked : (number : ℕ) → IsMarked was_shut after.held number → IsMarked was_shut before.held number
+  pub marked : (number : ℕ) → IsMarked reads_ended after.held number
+      → ReadsEnded before after number
+  pub unmarked : (number : ℕ) → IsMarked was_shut after.held number
+      → IsMarked was_shut before.held number
   pub each : (number : ℕ) → Life before after number
   pub held : (link : Link) → IsAmong (links_of after.held) link → IsServed before after link
 
 -- once what was read from a connection ends its session, and nothing of it is pending or queued, it is shut and its session is closed
 abbrev pub EndsByBytes : Scene → Scene → Type 0
 EndsByBytes before after =
-    (duty : Duty) (link : Link) (answered : IsAnswered duty before after link) → duty.ends answered.served.read ≡ true → pending_of (find after.host.slots link.id) ≡ false → queued_of (find after.host.slots link.id) ≡ []
+    (duty : Duty) (link : Link) (answered : IsAnswered duty before after link)
+    → duty.ends answered.served.read ≡ true → pending_of (find after.host.slots link.id) ≡ false
+    → queued_of (find after.host.slots link.id) ≡ []
     → IsMarked was_shut before.held link.number ⊎ WasLetGo before after link

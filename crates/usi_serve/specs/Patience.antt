@@ -7,19 +7,25 @@ use Rattle.host_core.specs.ById.{pending_of}
 use Rattle.socket_loop.specs.declared.connection.Link.{Link}
 use Rattle.socket_loop.specs.Links.{links_of, IsAmong}
 use Rattle.socket_loop.specs.Parts.{refuses}
-use Rattle.usi_serve.specs.Serving.{AreTurns, IsTurnAndWait, Scene}
+use Rattle.socket_loop.specs.Scenes.{Scene}
+use Rattle.usi_serve.specs.Serving.{AreTurns, IsTurnAndWait}
 
 -- after a turn a session has nothing pending, or is closed; or a `Work` of it was refused for memory in the turn
-abbrev pub IsThrough : (slice : ℕ) (before after : Scene) → IsTurnAndWait slice before after → SessionId → Type 0
-IsThrough slice before after turn id = (pending_of (find after.host.slots id) ≡ false) ⊎ (refuses id turn.turn.turned.steps ≡ true)
+abbrev pub IsThrough : (slice : ℕ) (before after : Scene) → IsTurnAndWait slice before after
+    → SessionId → Type 0
+IsThrough slice before after turn id =
+    (pending_of (find after.host.slots id) ≡ false) ⊎ (refuses id turn.turn.turned.steps ≡ true)
 
 -- after one of the turns it is so
-abbrev pub IsThroughOnce : (slice n : ℕ) (before after : Scene) → AreTurns slice n before after → SessionId → Type 0
+abbrev pub IsThroughOnce : (slice n : ℕ) (before after : Scene) → AreTurns slice n before after
+    → SessionId → Type 0
 IsThroughOnce slice zero before after turns id = ⊥
-IsThroughOnce slice (suc n) before after turns id = IsThroughOnce slice n before turns.0 turns.1 id ⊎ IsThrough slice turns.0 after turns.2 id
+IsThroughOnce slice (suc n) before after turns id =
+    IsThroughOnce slice n before turns.0 turns.1 id ⊎ IsThrough slice turns.0 after turns.2 id
 
 -- a session is pending still, and each of so many turns made a slice of what it had to do
-pub record IsNearer (slice n : ℕ) (start : SessionView) (after : Scene) (id : SessionId) : Type 0 where
+pub record IsNearer (slice n : ℕ) (start : SessionView) (after : Scene) (id : SessionId)
+    : Type 0 where
   pub session : SessionView
   pub finds : find after.host.slots id ≡ Some session
   pub pending : is_pending session ≡ true
@@ -28,5 +34,10 @@ pub record IsNearer (slice n : ℕ) (start : SessionView) (after : Scene) (id : 
 -- so many turns were taken, each with a wait after it; the session of each connection that was held and pending is through once, or a slice nearer for each turn: so it is through once where the turns are more than its load has slices
 pub record AnswersInTime (slice n : ℕ) (before after : Scene) : Type 0 where
   pub turns : AreTurns slice n before after
-  pub nearer : (link : Link) (start : SessionView) → IsAmong (links_of before.held) link → find before.host.slots link.id ≡ Some start → is_pending start ≡ true → IsThroughOnce slice n before after turns link.id ⊎ IsNearer slice n start after link.id
-  pub in_time : (link : Link) (start : SessionView) → IsAmong (links_of before.held) link → find before.host.slots link.id ≡ Some start → is_pending start ≡ true → load start < n * slice → IsThroughOnce slice n before after turns link.id
+  pub nearer : (link : Link) (start : SessionView) → IsAmong (links_of before.held) link
+      → find before.host.slots link.id ≡ Some start → is_pending start ≡ true
+      → IsThroughOnce slice n before after turns link.id ⊎ IsNearer slice n start after link.id
+  pub in_time : (link : Link) (start : SessionView) → IsAmong (links_of before.held) link
+      → find before.host.slots link.id ≡ Some start → is_pending start ≡ true
+      → load start < n * slice
+      → IsThroughOnce slice n before after turns link.id

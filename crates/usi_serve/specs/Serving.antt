@@ -1,34 +1,24 @@
 -- A loop that takes turns and waits after each of them (own choice).
-use Rattle.std.specs.Prelude.{◌≡◌, ◌≤◌, ◌<◌, ℕ, zero, suc, List, [], ◌∷◌, Bool, true, false, Option, Err, filter, not}
-use Rattle.host_core.specs.Steps.{HostState}
-use Rattle.socket_loop.specs.declared.connection.Connection.{Connection}
+use Rattle.std.specs.Prelude.{◌≡◌, ◌≤◌, ◌<◌, ℕ, zero, suc, [], ◌∷◌, Bool, true, false, Err, not}
 use Rattle.wires.specs.declared.wire.WireFault.{WireFault}
-use Rattle.wires.specs.Asked.{Call, Wait, Asks}
-use Rattle.socket_loop.specs.Calls.{AsksTurn}
-use Rattle.socket_loop.specs.Links.{links_of, AreOnce, IsRising}
-use Rattle.wires.specs.Told.{Told, HasCause, KeepsAll}
-use Rattle.socket_loop.specs.Turns.{any_pending, Fits, GoesOnServing, HasMoved, IsQuiet, IsTurn, NoneFinished, ServesNew}
+use Rattle.wires.specs.Asked.{Wait, Asks}
+use Rattle.wires.specs.Told.{HasCause, KeepsAll}
 use Rattle.wires.specs.Moves.{StaysKnown}
-
--- the connections of a loop, what its wire gave, tells, was asked for and counts, and its host
-pub record Scene : Type 0 where
-  pub held : List Connection
-  pub bound : ℕ
-  pub told : Told
-  pub asked : Option (List Call)
-  pub failed : ℕ
-  pub host : HostState
+use Rattle.socket_loop.specs.Links.{links_of, unshut_of, AreOnce, IsRising}
+use Rattle.socket_loop.specs.Scenes.{Scene}
+use Rattle.socket_loop.specs.Turns.{any_pending, Fits, GoesOnServing, HasMoved, IsQuiet, IsTurn, NoneFinished, ServesNew}
+use Rattle.socket_loop.specs.Calls.{AsksTurn}
 
 -- a turn: all that is promised of one
 pub record IsTurnTo (slice : ℕ) (before after : Scene) : Type 0 where
   pub moved : Bool
-  pub turned : IsTurn slice moved before.held before.bound before.told before.host after.held after.bound after.told after.host
-  pub asked : AsksTurn slice moved before.held before.bound before.told before.asked before.host after.held after.bound after.told after.asked after.host
-  pub moves : moved ≡ true → HasMoved before.bound before.told before.held after.bound after.told after.held after.host
+  pub turned : IsTurn slice moved before after
+  pub asked : AsksTurn slice moved before after
+  pub moves : moved ≡ true → HasMoved before after
   pub pending : moved ≡ false → any_pending after.host (links_of after.held) ≡ false
-  pub quiet : IsQuiet moved before.told (filter (λ connection. not connection.is_shut) before.held) after.told after.held
-  pub goes_on : GoesOnServing (links_of before.held) before.told before.host after.told after.host
-  pub starts : ServesNew (links_of before.held) before.told (links_of after.held) after.told after.host
+  pub quiet : IsQuiet moved before.told (unshut_of before.held) after.told after.held
+  pub goes_on : GoesOnServing before after
+  pub starts : ServesNew before (links_of after.held) after
   pub known : StaysKnown before.told after.told
   pub fits : Fits (links_of after.held) after.bound after.host
   pub faults : before.failed ≤ after.failed
@@ -54,7 +44,8 @@ pub record IsTurnAndWait (slice : ℕ) (before after : Scene) : Type 0 where
 -- so many turns, each with a wait after it
 abbrev pub AreTurns : ℕ → ℕ → Scene → Scene → Type 0
 AreTurns slice zero before after = after ≡ before
-AreTurns slice (suc n) before after = (between : Scene) × AreTurns slice n before between × IsTurnAndWait slice between after
+AreTurns slice (suc n) before after =
+    (between : Scene) × AreTurns slice n before between × IsTurnAndWait slice between after
 
 -- fewer turns than so many, each with a wait after it, and then one more, with a wait that failed
 pub record Stops (slice most : ℕ) (before after : Scene) (fault : WireFault) : Type 0 where

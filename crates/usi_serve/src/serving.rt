@@ -2,6 +2,7 @@
 
 ghost use Rattle.std.specs.Prelude.{◌≡◌, ◌≤◌, IfErr, IfOk};
 ghost use Rattle.socket_loop.specs.Links.{links_of, AreOnce};
+ghost use Rattle.socket_loop.specs.Scenes.{scene};
 ghost use Rattle.socket_loop.specs.Turns.{Fits};
 ghost use Rattle.usi_serve.specs.Life.{EndsByBytes, Lives};
 ghost use Rattle.usi_serve.specs.Patience.{AnswersInTime};
@@ -24,20 +25,20 @@ pub fn serve<W: Wire, S: BuildHasher, A: Allocator + Copy>(
 ) -> Result<(), WireFault>
     requires fits { Fits (links_of connections.old.held) (W.bound wire.old) host.old }
     ensures done { IfOk result (λ _. AreTurns connections.old.slice turns
-        (record { held = connections.old.held; bound = W.bound wire.old; told = W.told wire.old; asked = W.asked wire.old; failed = W.failed wire.old; host = host.old })
-        (record { held = connections.new.held; bound = W.bound wire.new; told = W.told wire.new; asked = W.asked wire.new; failed = W.failed wire.new; host = host.new })) }
+        (scene W.bound W.told W.asked W.failed connections.old.held wire.old host.old)
+        (scene W.bound W.told W.asked W.failed connections.new.held wire.new host.new)) }
     ensures stopped { IfErr result (λ fault. Stops connections.old.slice turns
-        (record { held = connections.old.held; bound = W.bound wire.old; told = W.told wire.old; asked = W.asked wire.old; failed = W.failed wire.old; host = host.old })
-        (record { held = connections.new.held; bound = W.bound wire.new; told = W.told wire.new; asked = W.asked wire.new; failed = W.failed wire.new; host = host.new }) fault) }
+        (scene W.bound W.told W.asked W.failed connections.old.held wire.old host.old)
+        (scene W.bound W.told W.asked W.failed connections.new.held wire.new host.new) fault) }
     ensures in_time { IfOk result (λ _. AnswersInTime connections.old.slice turns
-        (record { held = connections.old.held; bound = W.bound wire.old; told = W.told wire.old; asked = W.asked wire.old; failed = W.failed wire.old; host = host.old })
-        (record { held = connections.new.held; bound = W.bound wire.new; told = W.told wire.new; asked = W.asked wire.new; failed = W.failed wire.new; host = host.new })) }
+        (scene W.bound W.told W.asked W.failed connections.old.held wire.old host.old)
+        (scene W.bound W.told W.asked W.failed connections.new.held wire.new host.new)) }
     ensures whole { Lives
-        (record { held = connections.old.held; bound = W.bound wire.old; told = W.told wire.old; asked = W.asked wire.old; failed = W.failed wire.old; host = host.old })
-        (record { held = connections.new.held; bound = W.bound wire.new; told = W.told wire.new; asked = W.asked wire.new; failed = W.failed wire.new; host = host.new }) }
+        (scene W.bound W.told W.asked W.failed connections.old.held wire.old host.old)
+        (scene W.bound W.told W.asked W.failed connections.new.held wire.new host.new) }
     ensures ends { 1 ≤ turns → AreOnce (links_of connections.old.held) → EndsByBytes
-        (record { held = connections.old.held; bound = W.bound wire.old; told = W.told wire.old; asked = W.asked wire.old; failed = W.failed wire.old; host = host.old })
-        (record { held = connections.new.held; bound = W.bound wire.new; told = W.told wire.new; asked = W.asked wire.new; failed = W.failed wire.new; host = host.new }) }
+        (scene W.bound W.told W.asked W.failed connections.old.held wire.old host.old)
+        (scene W.bound W.told W.asked W.failed connections.new.held wire.new host.new) }
     ensures fits { Fits (links_of connections.new.held) (W.bound wire.new) host.new }
     ensures slice { connections.new.slice ≡ connections.old.slice }
 {

@@ -100,10 +100,22 @@ fn turn_over<R: Abort>(
 ) -> bool
     requires fits { Fits (links_of turns.old.held) wire.old.wire.accepted host.old }
     ensures told { AsksTurn turns.old.slice result
-        turns.old.held wire.old.wire.accepted (told_by wire.old.wire)
-        (Some (map call_of wire.old.calls.items)) host.old
-        turns.new.held wire.new.wire.accepted (told_by wire.new.wire)
-        (Some (map call_of wire.new.calls.items)) host.new }
+        (record {
+          held = turns.old.held;
+          bound = wire.old.wire.accepted;
+          told = told_by wire.old.wire;
+          asked = Some (map call_of wire.old.calls.items);
+          failed = wire.old.wire.failed;
+          host = host.old;
+        })
+        (record {
+          held = turns.new.held;
+          bound = wire.new.wire.accepted;
+          told = told_by wire.new.wire;
+          asked = Some (map call_of wire.new.calls.items);
+          failed = wire.new.wire.failed;
+          host = host.new;
+        }) }
     ensures fits { Fits (links_of turns.new.held) wire.new.wire.accepted host.new }
 {
     turns.turn(host, wire).moved

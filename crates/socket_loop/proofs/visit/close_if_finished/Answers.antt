@@ -1,4 +1,4 @@
-use Rattle.std.proofs.Common.{rules}
+use Rattle.std.proofs.Common.{arith, rules}
 use Rattle.socket_loop.proofs.Parts.{serves_same}
 use Rattle.socket_loop.proofs.Visits.{serves_finished}
 use Rattle.socket_loop.specs.Parts.{IsEnd}
@@ -11,8 +11,8 @@ returns-then-connection-clause-serves g c = λ marks marked. serves_same _ _ _ _
 pub returns-clause-serves : goal.returns-clause-serves
 returns-clause-serves g c = λ marks marked. serves_finished marks _ c.args.connection.now.link _ _ _ _ c.args.connection.now.has_ended marked (search rules) c.shut_down.ensures.shuts c.shut_down.ensures.closed
 
-pub returns-then-connection-clause-visits : goal.returns-then-connection-clause-visits
-returns-then-connection-clause-visits g c = visits_nothing _ _ _
+pub returns-then-connection-clause-visited : goal.returns-then-connection-clause-visited
+returns-then-connection-clause-visited g c = record { visit = record { steps = visits_nothing _ _ _; link = search rules; made = search rules; closed = search rules; shut = search rules; bound = search rules; faults = omega arith; next = omega arith }; quiet = search rules; stirs = search rules }
 
-pub returns-clause-visits : goal.returns-clause-visits
-returns-clause-visits g c = visits_closing IsEnd _ _ _ tt c.shut_down.ensures.closed
+pub returns-clause-visited : goal.returns-clause-visited
+returns-clause-visited g c = record { visit = record { steps = visits_closing IsEnd _ _ _ tt c.shut_down.ensures.closed; link = search rules; made = search rules; closed = search rules; shut = search rules; bound = search rules; faults = omega arith; next = omega arith }; quiet = search rules; stirs = search rules }

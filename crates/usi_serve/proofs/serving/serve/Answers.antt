@@ -1,4 +1,5 @@
 use Rattle.std.proofs.Common.{rules, ◌≡◌, arith}
+use Rattle.socket_loop.specs.Scenes.{scene}
 use Rattle.usi_serve.proofs.Lives.{lives_turn, lives_turns, lives_wait}
 use Rattle.usi_serve.proofs.Ends.{ends_stopped, ends_turns}
 use Rattle.usi_serve.proofs.Turns.{stops, turns_more, turns_none}
@@ -11,7 +12,7 @@ loop-init g c = record { so_far = turns_none c.args.connections.now.slice _; fit
 pub loop-preserved : goal.loop-preserved
 loop-preserved g c = record {
   so_far = turns_more _ _ _ _ _ c.loop.invariant.so_far (record {
-    middle = record { held = c.turn-turn.new.self.held; bound = g.W.Wire.bound c.turn-turn.new.wire; told = g.W.Wire.told c.turn-turn.new.wire; asked = g.W.Wire.asked c.turn-turn.new.wire; failed = g.W.Wire.failed c.turn-turn.new.wire; host = c.turn-turn.new.host };
+    middle = scene g.W.Wire.bound g.W.Wire.told g.W.Wire.asked g.W.Wire.failed c.turn-turn.new.self.held c.turn-turn.new.wire c.turn-turn.new.host;
     turn = record {
       moved = c.turn-turn.result.moved;
       turned = rw c.loop.invariant.slice at c.turn-turn.ensures.turned;
@@ -36,7 +37,7 @@ loop-preserved g c = record {
 
 -- the wait is what failed
 pub returns-in_err-wait-clause-stopped : goal.returns-in_err-wait-clause-stopped
-returns-in_err-wait-clause-stopped g c = stops c.wait.result c.from_residual.result _ _ _ _ _ (record { held = c.turn-turn.new.self.held; bound = g.W.Wire.bound c.turn-turn.new.wire; told = g.W.Wire.told c.turn-turn.new.wire; asked = g.W.Wire.asked c.turn-turn.new.wire; failed = g.W.Wire.failed c.turn-turn.new.wire; host = c.turn-turn.new.host }) _ (search rules) (search rules) c.loop.invariant.so_far
+returns-in_err-wait-clause-stopped g c = stops c.wait.result c.from_residual.result _ _ _ _ _ (scene g.W.Wire.bound g.W.Wire.told g.W.Wire.asked g.W.Wire.failed c.turn-turn.new.self.held c.turn-turn.new.wire c.turn-turn.new.host) _ (search rules) (search rules) c.loop.invariant.so_far
     (record {
       moved = c.turn-turn.result.moved;
       turned = rw c.loop.invariant.slice at c.turn-turn.ensures.turned;
@@ -62,8 +63,8 @@ returns-clause-done g c = let all : c.loop.counter ≡ c.args.turns = omega arit
 -- the life of each connection goes on in the last turn, and in the wait that fails
 pub returns-in_err-wait-clause-whole : goal.returns-in_err-wait-clause-whole
 returns-in_err-wait-clause-whole g c =
-    lives_wait _ (record { held = c.turn-turn.new.self.held; bound = g.W.Wire.bound c.turn-turn.new.wire; told = g.W.Wire.told c.turn-turn.new.wire; asked = g.W.Wire.asked c.turn-turn.new.wire; failed = g.W.Wire.failed c.turn-turn.new.wire; host = c.turn-turn.new.host }) _
-    (lives_turn _ _ _ _ (record { held = c.turn-turn.new.self.held; bound = g.W.Wire.bound c.turn-turn.new.wire; told = g.W.Wire.told c.turn-turn.new.wire; asked = g.W.Wire.asked c.turn-turn.new.wire; failed = g.W.Wire.failed c.turn-turn.new.wire; host = c.turn-turn.new.host }) (lives_turns _ _ _ _ c.requires.fits c.loop.invariant.so_far).lives c.turn-turn.ensures.turned)
+    lives_wait _ (scene g.W.Wire.bound g.W.Wire.told g.W.Wire.asked g.W.Wire.failed c.turn-turn.new.self.held c.turn-turn.new.wire c.turn-turn.new.host) _
+    (lives_turn _ _ _ _ (scene g.W.Wire.bound g.W.Wire.told g.W.Wire.asked g.W.Wire.failed c.turn-turn.new.self.held c.turn-turn.new.wire c.turn-turn.new.host) (lives_turns _ _ _ _ c.requires.fits c.loop.invariant.so_far).lives c.turn-turn.ensures.turned)
     (record { held = search rules; bound = c.wait.ensures.bound; told = c.wait.ensures.kept; asked = c.wait.ensures.asked; faults = c.wait.ensures.cause.0; host = search rules })
 
 pub returns-clause-whole : goal.returns-clause-whole
@@ -77,7 +78,7 @@ returns-clause-ends g c = λ one o. let all : c.loop.counter ≡ c.args.turns = 
 
 -- the turn before the wait that fails lets it go
 pub returns-in_err-wait-clause-ends : goal.returns-in_err-wait-clause-ends
-returns-in_err-wait-clause-ends g c = λ one o. ends_stopped _ _ _ _ (record { held = c.turn-turn.new.self.held; bound = g.W.Wire.bound c.turn-turn.new.wire; told = g.W.Wire.told c.turn-turn.new.wire; asked = g.W.Wire.asked c.turn-turn.new.wire; failed = g.W.Wire.failed c.turn-turn.new.wire; host = c.turn-turn.new.host }) _ o c.loop.invariant.so_far
+returns-in_err-wait-clause-ends g c = λ one o. ends_stopped _ _ _ _ (scene g.W.Wire.bound g.W.Wire.told g.W.Wire.asked g.W.Wire.failed c.turn-turn.new.self.held c.turn-turn.new.wire c.turn-turn.new.host) _ o c.loop.invariant.so_far
     (record {
       moved = c.turn-turn.result.moved;
       turned = rw c.loop.invariant.slice at c.turn-turn.ensures.turned;

@@ -1,5 +1,6 @@
 use Rattle.std.proofs.Common.{◌≡◌}
 use Rattle.socket_loop.specs.Links.{links_of}
+use Rattle.socket_loop.specs.Scenes.{scene}
 use Rattle.socket_loop.specs.Turns.{Fits}
 use Rattle.usi_serve.specs.Serving.{AreTurns}
 use Rattle.usi_serve.proofs.serving.serve.Given as goal
@@ -8,8 +9,8 @@ use Rattle.usi_serve.proofs.serving.serve.Given as goal
 abbrev pub invariant-loop : goal.invariant-loop
 invariant-loop g l = record {
   so_far : AreTurns l.fn.connections.slice l.counter
-      (record { held = l.fn.connections.held; bound = g.W.Wire.bound l.fn.wire; told = g.W.Wire.told l.fn.wire; asked = g.W.Wire.asked l.fn.wire; failed = g.W.Wire.failed l.fn.wire; host = l.fn.host })
-      (record { held = l.connections.held; bound = g.W.Wire.bound l.wire; told = g.W.Wire.told l.wire; asked = g.W.Wire.asked l.wire; failed = g.W.Wire.failed l.wire; host = l.host });
+      (scene g.W.Wire.bound g.W.Wire.told g.W.Wire.asked g.W.Wire.failed l.fn.connections.held l.fn.wire l.fn.host)
+      (scene g.W.Wire.bound g.W.Wire.told g.W.Wire.asked g.W.Wire.failed l.connections.held l.wire l.host);
   fits : Fits (links_of l.connections.held) (g.W.Wire.bound l.wire) l.host;
   slice : l.connections.slice ≡ l.fn.connections.slice;
 }

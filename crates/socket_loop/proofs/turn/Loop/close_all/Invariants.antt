@@ -1,6 +1,6 @@
 use Rattle.std.proofs.Common.{◌≡◌, take, ◌≤◌, true, ℕ}
 use Rattle.socket_loop.specs.Links.{links_of, AreOnce, IsMarked, reads_ended}
-use Rattle.socket_loop.specs.Parts.{Serves, IsEnd, KeepsAllMarks}
+use Rattle.socket_loop.specs.Parts.{ServesLinks, IsEnd, KeepsAllMarks}
 use Rattle.socket_loop.specs.Calls.{AsksTo, ends_of}
 use Rattle.socket_loop.specs.Turns.{AllKeepMade, AreLeft, IsQuiet, Stirs}
 use Rattle.socket_loop.proofs.turn.Loop.close_all.Given as goal
@@ -8,7 +8,7 @@ use Rattle.socket_loop.proofs.turn.Loop.close_all.Given as goal
 -- the connections so far were visited, and each is linked as before
 abbrev pub invariant-loop-connection : goal.invariant-loop-connection
 invariant-loop-connection g l = record {
-  so_far : Serves IsEnd l.fn.self.held (g.W.Wire.bound l.fn.wire) (links_of l.fn.self.held) (g.W.Wire.told l.fn.wire) l.fn.host (g.W.Wire.told l.wire) l.host;
+  so_far : ServesLinks IsEnd l.fn.self.held (g.W.Wire.bound l.fn.wire) (links_of l.fn.self.held) (g.W.Wire.told l.fn.wire) l.fn.host (g.W.Wire.told l.wire) l.host;
   ended : (number : ℕ) → IsMarked reads_ended l.connection-items number → IsMarked reads_ended l.fn.self.held number;
   left : AreOnce (links_of l.fn.self.held) → AreLeft l.host (take l.connection-index l.connection-items);
   marks : KeepsAllMarks (g.W.Wire.bound l.fn.wire) (g.W.Wire.told l.fn.wire) l.fn.self.held (g.W.Wire.told l.wire) l.connection-items;

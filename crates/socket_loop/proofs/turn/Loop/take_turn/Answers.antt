@@ -11,29 +11,29 @@ use Rattle.socket_loop.proofs.turn.Loop.take_turn.Goals as goal
 
 pub returns-clause-turned : goal.returns-clause-turned
 returns-clause-turned g c =
-    let same : links_of c.close_all-has_shut.new.self.held ≡ links_of c.accept_all-has_accepted.new.self.held = c.close_all-has_shut.ensures.links ∙ (c.write_all-has_written.ensures.links ∙ c.read_all-has_read.ensures.links) in
+    let same : links_of c.close_all-has_shut.new.self.held ≡ links_of c.accept_all-has_accepted.new.self.held = c.close_all-has_shut.ensures.visited.links ∙ (c.write_all-has_written.ensures.visited.links ∙ c.read_all-has_read.ensures.visited.links) in
     let slice : c.self.inside.slice ≡ c.args.self.now.slice = search rules in
-    let bound_read = c.read_all-has_read.ensures.bound in
-    let bound_written = c.write_all-has_written.ensures.bound ∙ bound_read in
-    rw (c.close_all-has_shut.ensures.bound ∙ bound_written, c.let_go.ensures.held) (
-    turned c.args.self.now.slice c.accept_all-has_accepted.result c.read_all-has_read.result c.write_all-has_written.result c.close_all-has_shut.result _ c.args.self.now.held c.accept_all-has_accepted.new.self.held c.read_all-has_read.new.self.held c.write_all-has_written.new.self.held c.close_all-has_shut.new.self.held _ _ _ _ _ _ _ _ _ _ _ _ _ c.round-round.result.worked c.round-round.result.refused _ _ c.requires.fits
+    let bound_read = c.read_all-has_read.ensures.visited.bound in
+    let bound_written = c.write_all-has_written.ensures.visited.bound ∙ bound_read in
+    rw (c.close_all-has_shut.ensures.visited.bound ∙ bound_written, c.let_go.ensures.held) (
+    turned c.args.self.now.slice c.accept_all-has_accepted.result c.read_all-has_read.result c.write_all-has_written.result c.close_all-has_shut.result _ c.args.self.now.held c.accept_all-has_accepted.new.self.held c.read_all-has_read.new.self.held c.write_all-has_written.new.self.held c.close_all-has_shut.new.self.held _ _ _ _ _ _ _ _ _ _ _ _ _ c.round-round.result.worked c.round-round.result.refused _ _ _ _ _ c.requires.fits
     c.accept_all-has_accepted.ensures.accepts
     c.accept_all-has_accepted.ensures.marks
     (c.read_all-has_read.ensures.serves c.write_all-has_written.new.self.held)
-    c.read_all-has_read.ensures.marks
+    c.read_all-has_read.ensures.visited.marks
     (rw slice at c.round-round.ensures)
-    (rw (bound_read, c.read_all-has_read.ensures.links) at (c.write_all-has_written.ensures.serves c.write_all-has_written.new.self.held))
-    (rw bound_read at c.write_all-has_written.ensures.marks)
-    (rw (bound_written, c.write_all-has_written.ensures.links, c.read_all-has_read.ensures.links) at c.close_all-has_shut.ensures.serves)
-    (rw bound_written at c.close_all-has_shut.ensures.marks)
+    (rw (bound_read, c.read_all-has_read.ensures.visited.links) at (c.write_all-has_written.ensures.serves c.write_all-has_written.new.self.held))
+    (rw bound_read at c.write_all-has_written.ensures.visited.marks)
+    (rw (bound_written, c.write_all-has_written.ensures.visited.links, c.read_all-has_read.ensures.visited.links) at c.close_all-has_shut.ensures.serves)
+    (rw bound_written at c.close_all-has_shut.ensures.visited.marks)
     c.close_all-has_shut.ensures.ended
     same
-    (shuts_all c.args.self.now.held c.accept_all-has_accepted.new.self.held c.read_all-has_read.new.self.held c.write_all-has_written.new.self.held c.close_all-has_shut.new.self.held _ c.accept_all-has_accepted.new.host c.read_all-has_read.new.host c.round-round.new.self c.write_all-has_written.new.host c.close_all-has_shut.new.host _ _ _ _ _ c.accept_all-has_accepted.ensures.marks (c.accept_all-has_accepted.ensures.accepts.accepts.fits c.requires.fits) c.read_all-has_read.ensures.links (c.write_all-has_written.ensures.links ∙ c.read_all-has_read.ensures.links) c.read_all-has_read.ensures.asked c.round-round.ensures.run c.write_all-has_written.ensures.asked c.close_all-has_shut.ensures.asked))
+    (shuts_all c.args.self.now.held c.accept_all-has_accepted.new.self.held c.read_all-has_read.new.self.held c.write_all-has_written.new.self.held c.close_all-has_shut.new.self.held _ c.accept_all-has_accepted.new.host c.read_all-has_read.new.host c.round-round.new.self c.write_all-has_written.new.host c.close_all-has_shut.new.host _ _ _ _ _ c.accept_all-has_accepted.ensures.marks (c.accept_all-has_accepted.ensures.accepts.accepts.fits c.requires.fits) c.read_all-has_read.ensures.visited.links (c.write_all-has_written.ensures.visited.links ∙ c.read_all-has_read.ensures.visited.links) c.read_all-has_read.ensures.visited.asked c.round-round.ensures.run c.write_all-has_written.ensures.visited.asked c.close_all-has_shut.ensures.visited.asked))
 
 pub returns-clause-fits : goal.returns-clause-fits
 returns-clause-fits g c =
-    let same : links_of c.close_all-has_shut.new.self.held ≡ links_of c.accept_all-has_accepted.new.self.held = c.close_all-has_shut.ensures.links ∙ (c.write_all-has_written.ensures.links ∙ c.read_all-has_read.ensures.links) in
-    let bound = c.close_all-has_shut.ensures.bound ∙ (c.write_all-has_written.ensures.bound ∙ c.read_all-has_read.ensures.bound) in
+    let same : links_of c.close_all-has_shut.new.self.held ≡ links_of c.accept_all-has_accepted.new.self.held = c.close_all-has_shut.ensures.visited.links ∙ (c.write_all-has_written.ensures.visited.links ∙ c.read_all-has_read.ensures.visited.links) in
+    let bound = c.close_all-has_shut.ensures.visited.bound ∙ (c.write_all-has_written.ensures.visited.bound ∙ c.read_all-has_read.ensures.visited.bound) in
     let u : c.accept_all-has_accepted.new.host.slots.next ≤ c.read_all-has_read.new.host.slots.next = serves_rises _ _ _ _ _ _ _ _ (c.read_all-has_read.ensures.serves c.args.self.now.held) in
     let v : c.read_all-has_read.new.host.slots.next ≤ c.round-round.new.self.slots.next = next_rises _ _ _ c.round-round.ensures.run in
     let w : c.round-round.new.self.slots.next ≤ c.write_all-has_written.new.host.slots.next = serves_rises _ _ _ _ _ _ _ _ (c.write_all-has_written.ensures.serves c.args.self.now.held) in
@@ -48,68 +48,68 @@ pub returns-clause-quiet : goal.returns-clause-quiet
 returns-clause-quiet g c =
     rw c.let_go.ensures.held (
     quiet_turn c.accept_all-has_accepted.result c.read_all-has_read.result c.write_all-has_written.result c.close_all-has_shut.result _ _ _ _ _ _ c.args.self.now.held c.accept_all-has_accepted.new.self.held c.read_all-has_read.new.self.held c.write_all-has_written.new.self.held c.close_all-has_shut.new.self.held _
-    c.accept_all-has_accepted.ensures.quiet c.read_all-has_read.ensures.quiet c.write_all-has_written.ensures.quiet c.close_all-has_shut.ensures.quiet)
+    c.accept_all-has_accepted.ensures.quiet c.read_all-has_read.ensures.visited.quiet c.write_all-has_written.ensures.visited.quiet c.close_all-has_shut.ensures.visited.quiet)
 
 pub returns-clause-moved : goal.returns-clause-moved
 returns-clause-moved g c =
-    let same : links_of c.close_all-has_shut.new.self.held ≡ links_of c.accept_all-has_accepted.new.self.held = c.close_all-has_shut.ensures.links ∙ (c.write_all-has_written.ensures.links ∙ c.read_all-has_read.ensures.links) in
-    let bound = c.close_all-has_shut.ensures.bound ∙ (c.write_all-has_written.ensures.bound ∙ c.read_all-has_read.ensures.bound) in
+    let same : links_of c.close_all-has_shut.new.self.held ≡ links_of c.accept_all-has_accepted.new.self.held = c.close_all-has_shut.ensures.visited.links ∙ (c.write_all-has_written.ensures.visited.links ∙ c.read_all-has_read.ensures.visited.links) in
+    let bound = c.close_all-has_shut.ensures.visited.bound ∙ (c.write_all-has_written.ensures.visited.bound ∙ c.read_all-has_read.ensures.visited.bound) in
     rw bound (
     moved_turn c.accept_all-has_accepted.result c.read_all-has_read.result c.write_all-has_written.result c.close_all-has_shut.result c.is_pending-is_pending.result _ _ _ _ _ _ _ c.args.self.now.held c.accept_all-has_accepted.new.self.held c.read_all-has_read.new.self.held c.write_all-has_written.new.self.held c.close_all-has_shut.new.self.held _ c.close_all-has_shut.new.host
-    c.accept_all-has_accepted.ensures.accepted c.accept_all-has_accepted.ensures.quiet c.read_all-has_read.ensures.links c.write_all-has_written.ensures.links
+    c.accept_all-has_accepted.ensures.accepted c.accept_all-has_accepted.ensures.quiet c.read_all-has_read.ensures.visited.links c.write_all-has_written.ensures.visited.links
     (c.read_all-has_read.ensures.serves []).carries.all (c.write_all-has_written.ensures.serves []).carries.all c.close_all-has_shut.ensures.serves.carries.all
-    c.read_all-has_read.ensures.made c.write_all-has_written.ensures.made c.close_all-has_shut.ensures.made
-    c.read_all-has_read.ensures.stirs c.write_all-has_written.ensures.stirs c.close_all-has_shut.ensures.stirs
+    c.read_all-has_read.ensures.visited.made c.write_all-has_written.ensures.visited.made c.close_all-has_shut.ensures.visited.made
+    c.read_all-has_read.ensures.visited.stirs c.write_all-has_written.ensures.visited.stirs c.close_all-has_shut.ensures.visited.stirs
     same c.let_go.ensures.held c.is_pending-is_pending.ensures)
 
 pub returns-clause-asked : goal.returns-clause-asked
 returns-clause-asked g c =
-    let same : links_of c.close_all-has_shut.new.self.held ≡ links_of c.accept_all-has_accepted.new.self.held = c.close_all-has_shut.ensures.links ∙ (c.write_all-has_written.ensures.links ∙ c.read_all-has_read.ensures.links) in
+    let same : links_of c.close_all-has_shut.new.self.held ≡ links_of c.accept_all-has_accepted.new.self.held = c.close_all-has_shut.ensures.visited.links ∙ (c.write_all-has_written.ensures.visited.links ∙ c.read_all-has_read.ensures.visited.links) in
     let slice : c.self.inside.slice ≡ c.args.self.now.slice = search rules in
-    let bound_read = c.read_all-has_read.ensures.bound in
-    let bound_written = c.write_all-has_written.ensures.bound ∙ bound_read in
-    rw (c.close_all-has_shut.ensures.bound ∙ bound_written) (
-    asks_turn c.args.self.now.slice _ c.args.self.now.held _ c.accept_all-has_accepted.new.self.held c.read_all-has_read.new.self.held c.write_all-has_written.new.self.held c.close_all-has_shut.new.self.held _ _ _ _ _ c.accept_all-has_accepted.new.host c.read_all-has_read.new.host c.round-round.new.self c.write_all-has_written.new.host c.close_all-has_shut.new.host _ _ _ (g.W.Wire.asked c.accept_all-has_accepted.new.wire) (g.W.Wire.asked c.read_all-has_read.new.wire) (g.W.Wire.asked c.write_all-has_written.new.wire) _
+    let bound_read = c.read_all-has_read.ensures.visited.bound in
+    let bound_written = c.write_all-has_written.ensures.visited.bound ∙ bound_read in
+    rw (c.close_all-has_shut.ensures.visited.bound ∙ bound_written) (
+    asks_turn c.args.self.now.slice _ _ _ c.accept_all-has_accepted.new.self.held c.read_all-has_read.new.self.held c.write_all-has_written.new.self.held c.close_all-has_shut.new.self.held c.accept_all-has_accepted.new.host c.read_all-has_read.new.host c.round-round.new.self c.write_all-has_written.new.host _ _ (g.W.Wire.asked c.accept_all-has_accepted.new.wire) (g.W.Wire.asked c.read_all-has_read.new.wire) (g.W.Wire.asked c.write_all-has_written.new.wire)
     (rw c.let_go.ensures.held (
-    turn_with c.args.self.now.slice c.accept_all-has_accepted.result c.read_all-has_read.result c.write_all-has_written.result c.close_all-has_shut.result _ c.args.self.now.held c.accept_all-has_accepted.new.self.held c.read_all-has_read.new.self.held c.write_all-has_written.new.self.held c.close_all-has_shut.new.self.held _ _ _ _ _ _ _ _ _ _ _ _ _ c.round-round.result.worked c.round-round.result.refused _ _ c.requires.fits
+    turn_with c.args.self.now.slice c.accept_all-has_accepted.result c.read_all-has_read.result c.write_all-has_written.result c.close_all-has_shut.result _ c.args.self.now.held c.accept_all-has_accepted.new.self.held c.read_all-has_read.new.self.held c.write_all-has_written.new.self.held c.close_all-has_shut.new.self.held _ _ _ _ _ _ _ _ _ _ _ _ _ c.round-round.result.worked c.round-round.result.refused _ _ _ _ _ c.requires.fits
     c.accept_all-has_accepted.ensures.accepts
     c.accept_all-has_accepted.ensures.marks
     (c.read_all-has_read.ensures.serves c.write_all-has_written.new.self.held)
-    c.read_all-has_read.ensures.marks
+    c.read_all-has_read.ensures.visited.marks
     (rw slice at c.round-round.ensures)
-    (rw (bound_read, c.read_all-has_read.ensures.links) at (c.write_all-has_written.ensures.serves c.write_all-has_written.new.self.held))
-    (rw bound_read at c.write_all-has_written.ensures.marks)
-    (rw (bound_written, c.write_all-has_written.ensures.links, c.read_all-has_read.ensures.links) at c.close_all-has_shut.ensures.serves)
-    (rw bound_written at c.close_all-has_shut.ensures.marks)
+    (rw (bound_read, c.read_all-has_read.ensures.visited.links) at (c.write_all-has_written.ensures.serves c.write_all-has_written.new.self.held))
+    (rw bound_read at c.write_all-has_written.ensures.visited.marks)
+    (rw (bound_written, c.write_all-has_written.ensures.visited.links, c.read_all-has_read.ensures.visited.links) at c.close_all-has_shut.ensures.serves)
+    (rw bound_written at c.close_all-has_shut.ensures.visited.marks)
     c.close_all-has_shut.ensures.ended
     same
-    (shuts_all c.args.self.now.held c.accept_all-has_accepted.new.self.held c.read_all-has_read.new.self.held c.write_all-has_written.new.self.held c.close_all-has_shut.new.self.held _ c.accept_all-has_accepted.new.host c.read_all-has_read.new.host c.round-round.new.self c.write_all-has_written.new.host c.close_all-has_shut.new.host _ _ _ _ _ c.accept_all-has_accepted.ensures.marks (c.accept_all-has_accepted.ensures.accepts.accepts.fits c.requires.fits) c.read_all-has_read.ensures.links (c.write_all-has_written.ensures.links ∙ c.read_all-has_read.ensures.links) c.read_all-has_read.ensures.asked c.round-round.ensures.run c.write_all-has_written.ensures.asked c.close_all-has_shut.ensures.asked)))
+    (shuts_all c.args.self.now.held c.accept_all-has_accepted.new.self.held c.read_all-has_read.new.self.held c.write_all-has_written.new.self.held c.close_all-has_shut.new.self.held _ c.accept_all-has_accepted.new.host c.read_all-has_read.new.host c.round-round.new.self c.write_all-has_written.new.host c.close_all-has_shut.new.host _ _ _ _ _ c.accept_all-has_accepted.ensures.marks (c.accept_all-has_accepted.ensures.accepts.accepts.fits c.requires.fits) c.read_all-has_read.ensures.visited.links (c.write_all-has_written.ensures.visited.links ∙ c.read_all-has_read.ensures.visited.links) c.read_all-has_read.ensures.visited.asked c.round-round.ensures.run c.write_all-has_written.ensures.visited.asked c.close_all-has_shut.ensures.visited.asked)))
     (c.accept_all-has_accepted.ensures.accepts.asked c.requires.fits)
     c.accept_all-has_accepted.ensures.accepts.accepts.chain
     c.accept_all-has_accepted.ensures.grows
     c.accept_all-has_accepted.ensures.rising
-    c.read_all-has_read.ensures.asked
-    c.write_all-has_written.ensures.asked
-    c.close_all-has_shut.ensures.asked
+    c.read_all-has_read.ensures.visited.asked
+    c.write_all-has_written.ensures.visited.asked
+    c.close_all-has_shut.ensures.visited.asked
     c.let_go.ensures.held)
 
 pub returns-clause-rising : goal.returns-clause-rising
 returns-clause-rising g c = λ r.
-    let same : links_of c.close_all-has_shut.new.self.held ≡ links_of c.accept_all-has_accepted.new.self.held = c.close_all-has_shut.ensures.links ∙ (c.write_all-has_written.ensures.links ∙ c.read_all-has_read.ensures.links) in
+    let same : links_of c.close_all-has_shut.new.self.held ≡ links_of c.accept_all-has_accepted.new.self.held = c.close_all-has_shut.ensures.visited.links ∙ (c.write_all-has_written.ensures.visited.links ∙ c.read_all-has_read.ensures.visited.links) in
     let met : IsRising (links_of c.accept_all-has_accepted.new.self.held) = c.accept_all-has_accepted.ensures.rising r in
     let last : IsRising (links_of c.close_all-has_shut.new.self.held) = rw same met in
     rw c.let_go.ensures.held (rising_filter _ c.close_all-has_shut.new.self.held last)
 
 pub returns-clause-once : goal.returns-clause-once
 returns-clause-once g c = λ o.
-    let same : links_of c.close_all-has_shut.new.self.held ≡ links_of c.accept_all-has_accepted.new.self.held = c.close_all-has_shut.ensures.links ∙ (c.write_all-has_written.ensures.links ∙ c.read_all-has_read.ensures.links) in
+    let same : links_of c.close_all-has_shut.new.self.held ≡ links_of c.accept_all-has_accepted.new.self.held = c.close_all-has_shut.ensures.visited.links ∙ (c.write_all-has_written.ensures.visited.links ∙ c.read_all-has_read.ensures.visited.links) in
     let met : AreOnce (links_of c.accept_all-has_accepted.new.self.held) = c.accept_all-has_accepted.ensures.accepts.accepts.once c.requires.fits o in
     let last : AreOnce (links_of c.close_all-has_shut.new.self.held) = rw same met in
     rw c.let_go.ensures.held (once_filter _ c.close_all-has_shut.new.self.held last)
 
 pub returns-clause-finished : goal.returns-clause-finished
 returns-clause-finished g c = λ o.
-    let same : links_of c.write_all-has_written.new.self.held ≡ links_of c.accept_all-has_accepted.new.self.held = c.write_all-has_written.ensures.links ∙ c.read_all-has_read.ensures.links in
+    let same : links_of c.write_all-has_written.new.self.held ≡ links_of c.accept_all-has_accepted.new.self.held = c.write_all-has_written.ensures.visited.links ∙ c.read_all-has_read.ensures.visited.links in
     let met : AreOnce (links_of c.accept_all-has_accepted.new.self.held) = c.accept_all-has_accepted.ensures.accepts.accepts.once c.requires.fits o in
     let written : AreOnce (links_of c.write_all-has_written.new.self.held) = rw same met in
     rw c.let_go.ensures.held (none_finished c.close_all-has_shut.new.host c.close_all-has_shut.new.self.held (c.close_all-has_shut.ensures.left written))

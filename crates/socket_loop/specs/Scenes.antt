@@ -1,0 +1,27 @@
+-- The connections, the wire and the host at one moment (own choice).
+use Rattle.std.specs.Prelude.{ℕ, List, Option}
+use Rattle.host_core.specs.Steps.{HostState}
+use Rattle.socket_loop.specs.declared.connection.Connection.{Connection}
+use Rattle.wires.specs.Asked.{Call}
+use Rattle.wires.specs.Told.{Told}
+
+-- some connections, what their wire gave, tells, was asked for and counts, and the host of their sessions
+pub record Scene : Type 0 where
+  pub held : List Connection
+  pub bound : ℕ
+  pub told : Told
+  pub asked : Option (List Call)
+  pub failed : ℕ
+  pub host : HostState
+
+-- the scene of a wire of which these tell
+abbrev pub scene : {W : Type 0} → (W → ℕ) → (W → Told) → (W → Option (List Call)) → (W → ℕ)
+    → List Connection → W → HostState → Scene
+scene bound told asked failed held wire host = record {
+  held = held;
+  bound = bound wire;
+  told = told wire;
+  asked = asked wire;
+  failed = failed wire;
+  host = host;
+}
