@@ -13,7 +13,9 @@ pub fn replay_script<A: Allocator + Copy, R: Read, W: Write>(
     reader: &mut R,
     writer: &mut W,
 ) -> Result<(), ReplayFault>
-    ensures { OnOk result (IsReplayed 64 (R.remaining reader.old) (R.remaining reader.new) (W.contents writer.old) (W.contents writer.new)) }
+    ensures { OnOk result
+        (IsReplayed 64 (R.remaining reader.old) (R.remaining reader.new)
+        (W.contents writer.old) (W.contents writer.new)) }
 {
     let (slots, entries, slice) = (64, 4096, 1000);
     replay(alloc, reader, writer, slots, entries, slice)

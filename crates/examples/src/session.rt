@@ -16,7 +16,8 @@ pub fn answered<A: Allocator + Copy>(
     slices: u64,
 ) -> Result<Option<Session<A>>, SessionFault>
     requires { length bytes.now ≤ 4096 }
-    ensures { IfOk result (λ answered. IfSome answered (λ session. session.queued ≡ replies bytes.now)) }
+    ensures { IfOk result
+        (λ answered. IfSome answered (λ session. session.queued ≡ replies bytes.now)) }
 {
     let mut session = Session::new(alloc);
     session.feed(bytes)?;

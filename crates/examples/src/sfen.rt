@@ -13,7 +13,8 @@ use shogi_sfen::read_move;
 /// The position after a move given by its text, as `7g7f` or `P*5e`; none where the text is no move's
 /// or the move is not legal.
 pub fn play_text(p: &Position, text: &[u8]) -> Option<Position>
-    ensures { IfSome result (λ next. (m : Move) × ((move_of_text text.now ≡ Some m) × (is_legal p.now m ≡ true) × (next ≡ after p.now m))) }
+    ensures { IfSome result (λ next. (m : Move)
+        × ((move_of_text text.now ≡ Some m) × (is_legal p.now m ≡ true) × (next ≡ after p.now m))) }
 {
     play(p, read_move(text)?)
 }
