@@ -109,11 +109,11 @@ served_kept owes a b c n now s k = record {
   whole = s.whole;
 }
 
--- ---- a front, and all
+-- ---- a prefix, and all
 
-pub front_written : (owes : List ℕ → List ℕ) (read written : List ℕ) (now : Option SessionView) → EndsFrom owes read written now → IsPrefixOf written (owes read)
-front_written owes read written None h = h
-front_written owes read written (Some t) h = (due t [], h [] ∙ ap owes (append-nil read))
+pub prefix_written : (owes : List ℕ → List ℕ) (read written : List ℕ) (now : Option SessionView) → EndsFrom owes read written now → IsPrefixOf written (owes read)
+prefix_written owes read written None h = h
+prefix_written owes read written (Some t) h = (due t [], h [] ∙ ap owes (append-nil read))
 
 pub all_written : (owes : List ℕ → List ℕ) (read written : List ℕ) (now : Option SessionView) → EndsFrom owes read written now → IsSettled now → queued_of now ≡ [] → written ≡ owes read
 all_written owes read written None h settled none = absurd settled

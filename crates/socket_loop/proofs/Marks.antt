@@ -79,16 +79,16 @@ marks_visit bound b c items i d y lt same f g = λ n. record {
   ];
 }
 
-let_go_at : (b : Bool) (x : Connection) (xs : List Connection) (l : Link) → x.is_shut ≡ b → (IsAmong (links_of xs) l → IsAmong (links_of (filter (λ y. not y.is_shut) xs)) l ⊎ IsMarked was_shut xs l.number) → IsAmong (links_of (x ∷ xs)) l → IsAmong (links_of (filter (λ y. not y.is_shut) (x ∷ xs))) l ⊎ IsMarked was_shut (x ∷ xs) l.number
-let_go_at true x xs l e more (inl same) = inr (inl (ap (λ (k : Link). k.number) (sym same), e))
-let_go_at true x xs l e more (inr m) = rw e (elim (more m) [ inl stays ↦ inl stays | inr went ↦ inr (inr went) ])
-let_go_at false x xs l e more (inl same) = rw e (inl (inl same))
-let_go_at false x xs l e more (inr m) = rw e (elim (more m) [ inl stays ↦ inl (inr stays) | inr went ↦ inr (inr went) ])
+remove_shut_at : (b : Bool) (x : Connection) (xs : List Connection) (l : Link) → x.is_shut ≡ b → (IsAmong (links_of xs) l → IsAmong (links_of (filter (λ y. not y.is_shut) xs)) l ⊎ IsMarked was_shut xs l.number) → IsAmong (links_of (x ∷ xs)) l → IsAmong (links_of (filter (λ y. not y.is_shut) (x ∷ xs))) l ⊎ IsMarked was_shut (x ∷ xs) l.number
+remove_shut_at true x xs l e more (inl same) = inr (inl (ap (λ (k : Link). k.number) (sym same), e))
+remove_shut_at true x xs l e more (inr m) = rw e (elim (more m) [ inl stays ↦ inl stays | inr went ↦ inr (inr went) ])
+remove_shut_at false x xs l e more (inl same) = rw e (inl (inl same))
+remove_shut_at false x xs l e more (inr m) = rw e (elim (more m) [ inl stays ↦ inl (inr stays) | inr went ↦ inr (inr went) ])
 
 -- what is let go was shut
-pub let_go : (held : List Connection) (l : Link) → IsAmong (links_of held) l → IsAmong (links_of (filter (λ x. not x.is_shut) held)) l ⊎ IsMarked was_shut held l.number
-let_go [] l m = absurd m
-let_go (x ∷ xs) l m = let_go_at x.is_shut x xs l refl (let_go xs l) m
+pub remove_shut : (held : List Connection) (l : Link) → IsAmong (links_of held) l → IsAmong (links_of (filter (λ x. not x.is_shut) held)) l ⊎ IsMarked was_shut held l.number
+remove_shut [] l m = absurd m
+remove_shut (x ∷ xs) l m = remove_shut_at x.is_shut x xs l refl (remove_shut xs l) m
 
 -- a visit after which the reads of its connection have ended as before
 pub ended_visit : (held items : List Connection) (i : ℕ) (d y : Connection) → i < length items → y.link ≡ (get_or items i d).link → y.has_ended ≡ (get_or items i d).has_ended → ((n : ℕ) → IsMarked reads_ended items n → IsMarked reads_ended held n) → (n : ℕ) → IsMarked reads_ended (set items i y) n → IsMarked reads_ended held n

@@ -27,7 +27,7 @@ use Rattle.socket_loop.specs.Scenes.{Scene}
 use Rattle.wires.proofs.Peers.{kept_then, moves_then, emptied_move, raised_rises, rises_then, stays_rise, known_move}
 use Rattle.socket_loop.proofs.Runs.{run-append, next_rises, opened_left, starves-admissions, alone_then}
 use Rattle.socket_loop.proofs.Parts.{carried_nothing, carried_then, carries_then, carries_round}
-use Rattle.socket_loop.proofs.Marks.{marks_none, marks_then, marked_filter, let_go}
+use Rattle.socket_loop.proofs.Marks.{marks_none, marks_then, marked_filter, remove_shut}
 use Rattle.socket_loop.proofs.Quiet.{either_false}
 use Rattle.socket_loop.proofs.Shutting.{ShutsAll}
 
@@ -39,7 +39,7 @@ away_kept f t x a b c n w q = record {
   answered = w.answered;
   unread = Keeps-trans _ _ _ w.unread q.unread;
   bytes = w.bytes;
-  front = w.front;
+  prefix = w.prefix;
   appended = Appends-kept _ _ _ _ w.appended q.written;
   shut = raised_rises _ _ _ w.shut (stays_rise _ _ q.shut);
   failed = rises_then _ _ _ w.failed (stays_rise _ _ q.failed);
@@ -175,7 +175,7 @@ turned slice p q r s w held accepted_ read_ written_ last f t a b c d e h i j k 
       starts = λ x among. starts_one (links_of held) f t accepts.accepted h.slots.next written_ a e h m accepts.steps steps_ x to_end (carried_ x among) (λ o. opened_left x.id first (middle ++ second) (opened_left x.id accepts.steps reads.steps o)) (are_ x among);
       accounted = λ x one. over_accounted x (λ n apart. kept_then b c e n (reads.carries.others n apart) (late.others n apart)) (accepts.accounted fit x one);
       left = λ x among. rw same at (among_filtered (λ y. not y.is_shut) last x among);
-      gone = λ x among. went t a e held last m x marks_e (shutting x among) (let_go last x (rw (sym same) at among));
+      gone = λ x among. went t a e held last m x marks_e (shutting x among) (remove_shut last x (rw (sym same) at among));
       carried = carried_;
       others = λ n apart. each_kept f t accepts.accepted a b e n (accepts.each n) (kept_then b c e n (reads.carries.others n apart) (late.others n apart));
       foreign = λ id lt strange. alone_then id first (middle ++ second) (alone_then id accepts.steps reads.steps (record { stored = accepts.no_own id; passed = accepts.no_taken id; kept = accepts.spared_old id lt }) (reads.carries.foreign id strange)) (late.foreign id strange);

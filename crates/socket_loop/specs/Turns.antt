@@ -75,18 +75,18 @@ abbrev pub told_to : Outcome → List ℕ
 told_to (Refused Full) = host_full
 told_to _ = []
 
--- a connection was written a front of a text, and shut
+-- a connection was written a prefix of a text, and shut
 pub record IsAway (bound : ℕ) (text : List ℕ) (old new : Told) (number : ℕ) : Type 0 where
   pub unread : Keeps (old.unread number) (new.unread number)
   pub bytes : List ℕ
-  pub front : IsPrefixOf bytes text
+  pub prefix : IsPrefixOf bytes text
   pub appended : Appends (old.written number) (new.written number) bytes
   pub shut : number < bound → IsRaised (old.is_shut number) (new.is_shut number)
   pub only_rises : OnlyRises (old.is_shut number) (new.is_shut number)
   pub failed : OnlyRises (old.has_failed number) (new.has_failed number)
   pub others : KeepsOthers old new number
 
--- a new connection was turned away: it was written a front of what it is told, and shut
+-- a new connection was turned away: it was written a prefix of what it is told, and shut
 pub record IsTurnedAway (from to : ℕ) (accepted : List Accepted) (old new : Told) (number : ℕ)
     : Type 0 where
   pub least : from ≤ number
@@ -95,7 +95,7 @@ pub record IsTurnedAway (from to : ℕ) (accepted : List Accepted) (old new : To
   pub answered : IsOneOf accepted (record { number = number; outcome = outcome })
   pub unread : Keeps (old.unread number) (new.unread number)
   pub bytes : List ℕ
-  pub front : IsPrefixOf bytes (told_to outcome)
+  pub prefix : IsPrefixOf bytes (told_to outcome)
   pub appended : Appends (old.written number) (new.written number) bytes
   pub shut : IsRaised (old.is_shut number) (new.is_shut number)
   pub failed : OnlyRises (old.has_failed number) (new.has_failed number)
@@ -168,7 +168,7 @@ Admits links told before number outcome to met new after =
 
 -- ---- a turn
 
--- what was read from a connection, and written to it: all that its session owes to what was read, but for what it owes still; or, where it is closed, a front of it
+-- what was read from a connection, and written to it: all that its session owes to what was read, but for what it owes still; or, where it is closed, a prefix of it
 pub record Served (owes : List ℕ → List ℕ) (old new : Told) (number : ℕ) (now : Option SessionView)
     : Type 0 where
   pub read : List ℕ

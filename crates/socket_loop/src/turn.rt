@@ -68,7 +68,7 @@ fn drop_shut<A: Allocator>(held: &mut Vec<Connection, A>)
 }
 
 /// Tells a connection that the host is full, in one write, and shuts it.
-fn turn_away<W: Wire>(wire: &mut W, number: u64)
+fn reject<W: Wire>(wire: &mut W, number: u64)
     ensures asked { Asks (W.asked wire.old) (W.asked wire.new)
         (Write number host_full ∷ Shut number ∷ []) }
     ensures away { IsAway (W.bound wire.old) host_full (W.told wire.old) (W.told wire.new) number }
@@ -133,7 +133,7 @@ impl<A: Allocator + Copy> Loop<A> {
     {
         match host.open() {
             Ok(id) => self.hold(host, wire, Link { number, id }),
-            Err(HostFault::Full) => turn_away(wire, number),
+            Err(HostFault::Full) => reject(wire, number),
             Err(_) => wire.shut(number),
         }
     }
@@ -221,8 +221,8 @@ impl<A: Allocator + Copy> Loop<A> {
         moved
     }
 
-    /// Lets the connections go that were shut.
-    fn let_go(&mut self)
+    /// Removes the connections that were shut.
+    fn remove_shut(&mut self)
         ensures held { self.new.held ≡ unshut_of self.old.held }
         ensures slice { self.new.slice ≡ self.old.slice }
     {
@@ -268,7 +268,7 @@ impl<A: Allocator + Copy> Loop<A> {
         let _round = host.round(self.slice);
         let has_written = self.write_all(host, wire);
         let has_shut = self.close_all(host, wire);
-        self.let_go();
+        self.remove_shut();
         let is_pending = self.is_pending(host);
         Turn {
             moved: has_accepted | has_read | has_written | has_shut | is_pending,
@@ -280,7 +280,7 @@ impl<A: Allocator + Copy> Loop<A> {
     ///
     /// Over a wire that tells its bytes: what was written to a connection in the turn is what its
     /// session owes to what was read from it, but for what the session owes still; where the
-    /// connection was shut it is a front of that, and where the host was full a front of
+    /// connection was shut it is a prefix of that, and where the host was full a prefix of
     /// `info string host full`. A connection is shut only for a cause of its own: a read or a write of
     /// it failed, a feed of its session was refused for memory, or it was finished with.
     pub fn turn<W: Wire, S: BuildHasher>(&mut self, host: &mut Host<S, A>, wire: &mut W) -> Turn

@@ -1,4 +1,4 @@
--- A front of what is kept is given.
+-- A prefix of what is kept is given.
 use Rattle.std.proofs.Common.{◌≡◌, ℕ, ◌+◌, ◌≤◌, List, ◌++◌, length, take, drop, sym, ap, ◌∙◌, arith}
 use Rattle.std.proofs.lemmas.List.{take_at, take-append-le, take-append-drop, length-take-le, drop-drop}
 

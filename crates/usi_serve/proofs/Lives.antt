@@ -15,7 +15,7 @@ use Rattle.wires.specs.Told.{KeepsPeer}
 use Rattle.socket_loop.specs.Links.{Ties, IsAmong, IsApart, IsMarked, links_of, reads_ended, was_shut}
 use Rattle.socket_loop.specs.Turns.{FitsOne, Fits, IsTurn, IsLetGo, IsTurnedAway, Joins, Served, host_full, told_to}
 use Rattle.socket_loop.proofs.Accepting.{apart_each, each_apart, fresh_tied, tied_of, ties_apart}
-use Rattle.socket_loop.proofs.Lives.{served_on, served_aside, then_ends, over_then, Keeps-Consumes, front_written, all_written, strange_each}
+use Rattle.socket_loop.proofs.Lives.{served_on, served_aside, then_ends, over_then, Keeps-Consumes, prefix_written, all_written, strange_each}
 use Rattle.wires.proofs.Peers.{kept_same, kept_then, all_kept, moves_then, emptied_move, move_emptied, rises_raised, Keeps-Appends, stays_raised, raised_rises, stays_rise}
 use Rattle.socket_loop.proofs.Runs.{next_rises, opened_left}
 use Rattle.socket_loop.proofs.Parts.{some_lost}
@@ -55,7 +55,7 @@ find_number (x ∷ xs) n = elim (cases_eq x.number n) [
 answered : (duty : Duty) (a b : Scene) (l : Link) → (s : Served duty.owes a.told b.told l.number (find b.host.slots l.id)) → OverFrom duty.ends s.read (find b.host.slots l.id) → (find b.host.slots l.id ≡ None → HasEnded duty a b l.number s.read s.lost s.written) → IsHeldOrGone a b l → FitsOne (links_of b.held) b.bound b.host l → IsAnswered duty a b l
 answered duty a b l s o e k f = record {
   served = s;
-  front = front_written duty.owes s.read s.written (find b.host.slots l.id) s.ends;
+  prefix = prefix_written duty.owes s.read s.written (find b.host.slots l.id) s.ends;
   all = all_written duty.owes s.read s.written (find b.host.slots l.id) s.ends;
   over = o;
   ended = e;
@@ -121,19 +121,19 @@ lives_start s fit = record {
 
 -- ---- a turn
 
-front_none : (bytes : List ℕ) → IsPrefixOf bytes [] → IsPrefixOf bytes host_full
-front_none [] f = (host_full, refl)
-front_none (x ∷ bytes) f = (let e : x ∷ (bytes ++ f.0) ≡ [] = f.1 in absurd (cc))
+prefix_none : (bytes : List ℕ) → IsPrefixOf bytes [] → IsPrefixOf bytes host_full
+prefix_none [] f = (host_full, refl)
+prefix_none (x ∷ bytes) f = (let e : x ∷ (bytes ++ f.0) ≡ [] = f.1 in absurd (cc))
 
-front_full : (o : Outcome) (bytes : List ℕ) → IsPrefixOf bytes (told_to o) → IsPrefixOf bytes host_full
-front_full (Refused Full) bytes f = f
-front_full (Refused OutOfMemory) bytes f = front_none bytes f
-front_full (Refused UnknownSession) bytes f = front_none bytes f
-front_full (Refused NotReady) bytes f = front_none bytes f
-front_full (Opened id) bytes f = front_none bytes f
-front_full Done bytes f = front_none bytes f
-front_full (Worked n) bytes f = front_none bytes f
-front_full (Gave xs) bytes f = front_none bytes f
+prefix_full : (o : Outcome) (bytes : List ℕ) → IsPrefixOf bytes (told_to o) → IsPrefixOf bytes host_full
+prefix_full (Refused Full) bytes f = f
+prefix_full (Refused OutOfMemory) bytes f = prefix_none bytes f
+prefix_full (Refused UnknownSession) bytes f = prefix_none bytes f
+prefix_full (Refused NotReady) bytes f = prefix_none bytes f
+prefix_full (Opened id) bytes f = prefix_none bytes f
+prefix_full Done bytes f = prefix_none bytes f
+prefix_full (Worked n) bytes f = prefix_none bytes f
+prefix_full (Gave xs) bytes f = prefix_none bytes f
 
 -- the links that are left are among those that were met
 still_apart : (met now : List Link) (n : ℕ) → ((l : Link) → IsAmong now l → IsAmong met l) → IsApart met n → IsApart now n
@@ -242,7 +242,7 @@ life_apart slice moved a b c t n le p (inr w) (inl u) =
       most = w.most;
       unread = Keeps-trans _ _ _ u.kept.unread w.unread;
       bytes = w.bytes;
-      front = front_full w.outcome w.bytes w.front;
+      prefix = prefix_full w.outcome w.bytes w.prefix;
       appended = Keeps-Appends _ _ _ w.bytes u.kept.written w.appended;
       shut = stays_raised _ _ _ u.kept.shut w.shut;
       unheld = still_apart t.met (links_of c.held) n t.left p;
@@ -255,7 +255,7 @@ life_apart slice moved a b c t n le p (inl k) (inr (inl w)) =
       most = omega arith;
       unread = Keeps-trans _ _ _ w.unread k.unread;
       bytes = w.bytes;
-      front = w.front;
+      prefix = w.prefix;
       appended = Appends-kept _ _ _ w.bytes w.appended k.written;
       shut = raised_rises _ _ _ w.shut (stays_rise _ _ k.shut);
       unheld = still_apart t.met (links_of c.held) n t.left p;
@@ -476,7 +476,7 @@ life_wait a b c n w (inr (inl x)) =
       most = rw w.bound x.most;
       unread = Keeps-trans _ _ _ x.unread k.unread;
       bytes = x.bytes;
-      front = x.front;
+      prefix = x.prefix;
       appended = Appends-kept _ _ _ x.bytes x.appended k.written;
       shut = raised_rises _ _ _ x.shut (stays_rise _ _ k.shut);
       unheld = rw w.held x.unheld;

@@ -63,10 +63,10 @@ IsHeldOrGone before after link =
     IsAmong (links_of after.held) link
     ⊎ (IsMarked was_shut before.held link.number ⊎ WasLetGo before after link)
 
--- the bytes that were read from a connection and those that were written to it: what was written is a front of what is owed to what was read, and all of it where its session is open with nothing pending and nothing queued; its session is over, once all is answered, exactly where these bytes end it; where it is closed, it has ended for a cause of its own
+-- the bytes that were read from a connection and those that were written to it: what was written is a prefix of what is owed to what was read, and all of it where its session is open with nothing pending and nothing queued; its session is over, once all is answered, exactly where these bytes end it; where it is closed, it has ended for a cause of its own
 pub record IsAnswered (duty : Duty) (before after : Scene) (link : Link) : Type 0 where
   pub served : Served duty.owes before.told after.told link.number (find after.host.slots link.id)
-  pub front : IsPrefixOf served.written (duty.owes served.read)
+  pub prefix : IsPrefixOf served.written (duty.owes served.read)
   pub all : IsSettled (find after.host.slots link.id)
       → queued_of (find after.host.slots link.id) ≡ [] → served.written ≡ duty.owes served.read
   pub over : OverFrom duty.ends served.read (find after.host.slots link.id)
@@ -87,13 +87,13 @@ pub record IsUntouched (before after : Scene) (number : ℕ) : Type 0 where
   pub kept : KeepsPeer before.told after.told number
   pub unheld : IsApart (links_of after.held) number
 
--- it was accepted since, and turned away: it was read nothing from, written a front of `info string host full`, and shut
+-- it was accepted since, and turned away: it was read nothing from, written a prefix of `info string host full`, and shut
 pub record WasTurnedAway (before after : Scene) (number : ℕ) : Type 0 where
   pub least : before.bound ≤ number
   pub most : number < after.bound
   pub unread : Keeps (before.told.unread number) (after.told.unread number)
   pub bytes : List ℕ
-  pub front : IsPrefixOf bytes host_full
+  pub prefix : IsPrefixOf bytes host_full
   pub appended : Appends (before.told.written number) (after.told.written number) bytes
   pub shut : IsRaised (before.told.is_shut number) (after.told.is_shut number)
   pub unheld : IsApart (links_of after.held) number

@@ -15,8 +15,8 @@ returns-in-Ok-clause-admits g c = record { outcome = Opened c.in-Ok.id; admits =
 pub returns-in-Err-Full-clause-admits : goal.returns-in-Err-Full-clause-admits
 returns-in-Err-Full-clause-admits g c = record {
   outcome = Refused Full;
-  admits = admits_away _ _ _ _ _ c.args.number _ (Refused Full) c.turn_away.ensures.away (record { below = c.open.ensures.below; stepped = rw c.in-Err-Full.field-0-is at (rw c.in-Err-Full.is at c.open.ensures.opened) });
-  asked = λ apart. record { calls = Write c.args.number host_full ∷ Shut c.args.number ∷ []; admitted = refl; asked = c.turn_away.ensures.asked };
+  admits = admits_away _ _ _ _ _ c.args.number _ (Refused Full) c.reject.ensures.away (record { below = c.open.ensures.below; stepped = rw c.in-Err-Full.field-0-is at (rw c.in-Err-Full.is at c.open.ensures.opened) });
+  asked = λ apart. record { calls = Write c.args.number host_full ∷ Shut c.args.number ∷ []; admitted = refl; asked = c.reject.ensures.asked };
 }
 
 pub returns-in-Err-Full-clause-grows : goal.returns-in-Err-Full-clause-grows

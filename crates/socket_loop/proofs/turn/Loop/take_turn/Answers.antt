@@ -15,7 +15,7 @@ returns-clause-turned g c =
     let slice : c.self.inside.slice ≡ c.args.self.now.slice = search rules in
     let bound_read = c.read_all-has_read.ensures.visited.bound in
     let bound_written = c.write_all-has_written.ensures.visited.bound ∙ bound_read in
-    rw (c.close_all-has_shut.ensures.visited.bound ∙ bound_written, c.let_go.ensures.held) (
+    rw (c.close_all-has_shut.ensures.visited.bound ∙ bound_written, c.remove_shut.ensures.held) (
     turned c.args.self.now.slice c.accept_all-has_accepted.result c.read_all-has_read.result c.write_all-has_written.result c.close_all-has_shut.result _ c.args.self.now.held c.accept_all-has_accepted.new.self.held c.read_all-has_read.new.self.held c.write_all-has_written.new.self.held c.close_all-has_shut.new.self.held _ _ _ _ _ _ _ _ _ _ _ _ _ c.round-round.result.worked c.round-round.result.refused _ _ _ _ _ c.requires.fits
     c.accept_all-has_accepted.ensures.accepts
     c.accept_all-has_accepted.ensures.marks
@@ -38,7 +38,7 @@ returns-clause-fits g c =
     let v : c.read_all-has_read.new.host.slots.next ≤ c.round-round.new.self.slots.next = next_rises _ _ _ c.round-round.ensures.run in
     let w : c.round-round.new.self.slots.next ≤ c.write_all-has_written.new.host.slots.next = serves_rises _ _ _ _ _ _ _ _ (c.write_all-has_written.ensures.serves c.args.self.now.held) in
     let x : c.write_all-has_written.new.host.slots.next ≤ c.close_all-has_shut.new.host.slots.next = serves_rises _ _ _ _ _ _ _ _ c.close_all-has_shut.ensures.serves in
-    rw (bound, c.let_go.ensures.held) (
+    rw (bound, c.remove_shut.ensures.held) (
     turn_fits c.args.self.now.held c.accept_all-has_accepted.new.self.held c.close_all-has_shut.new.self.held _ _ _ _ _ _ _ c.requires.fits
     c.accept_all-has_accepted.ensures.accepts.accepts
     (omega arith)
@@ -46,7 +46,7 @@ returns-clause-fits g c =
 
 pub returns-clause-quiet : goal.returns-clause-quiet
 returns-clause-quiet g c =
-    rw c.let_go.ensures.held (
+    rw c.remove_shut.ensures.held (
     quiet_turn c.accept_all-has_accepted.result c.read_all-has_read.result c.write_all-has_written.result c.close_all-has_shut.result _ _ _ _ _ _ c.args.self.now.held c.accept_all-has_accepted.new.self.held c.read_all-has_read.new.self.held c.write_all-has_written.new.self.held c.close_all-has_shut.new.self.held _
     c.accept_all-has_accepted.ensures.quiet c.read_all-has_read.ensures.visited.quiet c.write_all-has_written.ensures.visited.quiet c.close_all-has_shut.ensures.visited.quiet)
 
@@ -60,7 +60,7 @@ returns-clause-moved g c =
     (c.read_all-has_read.ensures.serves []).carries.all (c.write_all-has_written.ensures.serves []).carries.all c.close_all-has_shut.ensures.serves.carries.all
     c.read_all-has_read.ensures.visited.made c.write_all-has_written.ensures.visited.made c.close_all-has_shut.ensures.visited.made
     c.read_all-has_read.ensures.visited.stirs c.write_all-has_written.ensures.visited.stirs c.close_all-has_shut.ensures.visited.stirs
-    same c.let_go.ensures.held c.is_pending-is_pending.ensures)
+    same c.remove_shut.ensures.held c.is_pending-is_pending.ensures)
 
 pub returns-clause-asked : goal.returns-clause-asked
 returns-clause-asked g c =
@@ -70,7 +70,7 @@ returns-clause-asked g c =
     let bound_written = c.write_all-has_written.ensures.visited.bound ∙ bound_read in
     rw (c.close_all-has_shut.ensures.visited.bound ∙ bound_written) (
     asks_turn c.args.self.now.slice _ _ _ c.accept_all-has_accepted.new.self.held c.read_all-has_read.new.self.held c.write_all-has_written.new.self.held c.close_all-has_shut.new.self.held c.accept_all-has_accepted.new.host c.read_all-has_read.new.host c.round-round.new.self c.write_all-has_written.new.host _ _ (g.W.Wire.asked c.accept_all-has_accepted.new.wire) (g.W.Wire.asked c.read_all-has_read.new.wire) (g.W.Wire.asked c.write_all-has_written.new.wire)
-    (rw c.let_go.ensures.held (
+    (rw c.remove_shut.ensures.held (
     turn_with c.args.self.now.slice c.accept_all-has_accepted.result c.read_all-has_read.result c.write_all-has_written.result c.close_all-has_shut.result _ c.args.self.now.held c.accept_all-has_accepted.new.self.held c.read_all-has_read.new.self.held c.write_all-has_written.new.self.held c.close_all-has_shut.new.self.held _ _ _ _ _ _ _ _ _ _ _ _ _ c.round-round.result.worked c.round-round.result.refused _ _ _ _ _ c.requires.fits
     c.accept_all-has_accepted.ensures.accepts
     c.accept_all-has_accepted.ensures.marks
@@ -91,25 +91,25 @@ returns-clause-asked g c =
     c.read_all-has_read.ensures.visited.asked
     c.write_all-has_written.ensures.visited.asked
     c.close_all-has_shut.ensures.visited.asked
-    c.let_go.ensures.held)
+    c.remove_shut.ensures.held)
 
 pub returns-clause-rising : goal.returns-clause-rising
 returns-clause-rising g c = λ r.
     let same : links_of c.close_all-has_shut.new.self.held ≡ links_of c.accept_all-has_accepted.new.self.held = c.close_all-has_shut.ensures.visited.links ∙ (c.write_all-has_written.ensures.visited.links ∙ c.read_all-has_read.ensures.visited.links) in
     let met : IsRising (links_of c.accept_all-has_accepted.new.self.held) = c.accept_all-has_accepted.ensures.rising r in
     let last : IsRising (links_of c.close_all-has_shut.new.self.held) = rw same met in
-    rw c.let_go.ensures.held (rising_filter _ c.close_all-has_shut.new.self.held last)
+    rw c.remove_shut.ensures.held (rising_filter _ c.close_all-has_shut.new.self.held last)
 
 pub returns-clause-once : goal.returns-clause-once
 returns-clause-once g c = λ o.
     let same : links_of c.close_all-has_shut.new.self.held ≡ links_of c.accept_all-has_accepted.new.self.held = c.close_all-has_shut.ensures.visited.links ∙ (c.write_all-has_written.ensures.visited.links ∙ c.read_all-has_read.ensures.visited.links) in
     let met : AreOnce (links_of c.accept_all-has_accepted.new.self.held) = c.accept_all-has_accepted.ensures.accepts.accepts.once c.requires.fits o in
     let last : AreOnce (links_of c.close_all-has_shut.new.self.held) = rw same met in
-    rw c.let_go.ensures.held (once_filter _ c.close_all-has_shut.new.self.held last)
+    rw c.remove_shut.ensures.held (once_filter _ c.close_all-has_shut.new.self.held last)
 
 pub returns-clause-finished : goal.returns-clause-finished
 returns-clause-finished g c = λ o.
     let same : links_of c.write_all-has_written.new.self.held ≡ links_of c.accept_all-has_accepted.new.self.held = c.write_all-has_written.ensures.visited.links ∙ c.read_all-has_read.ensures.visited.links in
     let met : AreOnce (links_of c.accept_all-has_accepted.new.self.held) = c.accept_all-has_accepted.ensures.accepts.accepts.once c.requires.fits o in
     let written : AreOnce (links_of c.write_all-has_written.new.self.held) = rw same met in
-    rw c.let_go.ensures.held (none_finished c.close_all-has_shut.new.host c.close_all-has_shut.new.self.held (c.close_all-has_shut.ensures.left written))
+    rw c.remove_shut.ensures.held (none_finished c.close_all-has_shut.new.host c.close_all-has_shut.new.self.held (c.close_all-has_shut.ensures.left written))

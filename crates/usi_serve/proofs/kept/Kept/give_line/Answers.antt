@@ -3,7 +3,7 @@ use Rattle.usi_lines.proofs.OneLines.{one_line_front}
 use Rattle.usi_serve.proofs.Giving.{given_front, given_rest}
 use Rattle.usi_serve.proofs.kept.Kept.give_line.Goals as goal
 
--- a front of the first line
+-- a prefix of the first line
 pub returns-else-self-len-clause-line : goal.returns-else-self-len-clause-line
 returns-else-self-len-clause-line g c =
     let copied : c.copy_from_slice.new.self ≡ take c.min-n.result c.cut_line.result.0.now = c.copy_from_slice.ensures.after ∙ c.split_at-2.ensures.front in

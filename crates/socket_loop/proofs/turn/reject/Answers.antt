@@ -3,7 +3,7 @@ use Rattle.socket_loop.proofs.Accepting.{away}
 use Rattle.wires.specs.Asked.{Write, Shut}
 use Rattle.socket_loop.specs.Turns.{host_full}
 use Rattle.wires.proofs.Asked.{asks_then}
-use Rattle.socket_loop.proofs.turn.turn_away.Goals as goal
+use Rattle.socket_loop.proofs.turn.reject.Goals as goal
 
 pub returns-clause-away : goal.returns-clause-away
 returns-clause-away g c = away _ _ _ _ c.args.number c.write-written.result _ _ refl c.write-written.ensures.written (rw c.write-written.ensures.bound at c.shut.ensures.shut)
