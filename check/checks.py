@@ -39,18 +39,28 @@ def want(seen, wanted, what):
         raise Wrong(f"{what}: {seen!r}, wanted {wanted!r}")
 
 
+def failure_of(check):
+    """Runs the check; why it failed, or nothing."""
+    try:
+        check()
+    except (Wrong, OSError, subprocess.SubprocessError) as why:
+        return f"{type(why).__name__}: {why}"[:2_000]
+    return ""
+
+
 def run_all(name, checks):
-    """Runs the checks, tells how each one ended and how long it took, and then counts them. Gives the
-    status of the script."""
+    """Runs the checks, tells how each one ended and how long it took, and then counts them. One that fails
+    is run once more, since the machine may stand still for a moment; its first failure is told too. Gives
+    the status of the script."""
     failed = 0
     for check in checks:
         began = time.monotonic()
-        try:
-            check()
-            verdict = "ok"
-        except (Wrong, OSError, subprocess.SubprocessError) as why:
-            failed += 1
-            verdict = f"FAILED: {type(why).__name__}: {why}"[:2_000]
+        verdict = "ok"
+        first = failure_of(check)
+        if first:
+            second = failure_of(check)
+            failed += bool(second)
+            verdict = f"FAILED twice: {first}; {second}" if second else f"ok, but FAILED once: {first}"
         took = time.monotonic() - began
         print(f"{name} {check.__name__} ... {verdict} ({took:.1f} s)", flush=True)
     print(f"{len(checks) - failed} passed, {failed} failed")

@@ -263,6 +263,9 @@ def a_front_end_that_is_gone_is_noticed():
     ends(running, 1, b"usi_host: write failed\n")
 
 
+# A middle game: depth 6 takes ten times as long as the first five, and depth 7 ten times as long again.
+MIDDLE_GAME = "position sfen l6nl/5+P1gk/2np1S3/p1p4Pp/3P2Sp1/1PPb2P1P/P5GS1/R8/LN4bKL w RGgsn5p 1\n"
+
 # A front end: it starts the program that it is given, tells the number of its group, sends a deep search,
 # and tells each line that the program writes. A shell between them tells the status on standard error, and
 # then by `times` what the program took of the processors, as in `0m1.250s 0m0.010s`.
@@ -273,7 +276,7 @@ running = subprocess.Popen(
     stdin=subprocess.PIPE, stdout=subprocess.PIPE, start_new_session=True, bufsize=0,
 )
 print(running.pid, flush=True)
-running.stdin.write(b"go depth 9\\n")
+running.stdin.write(sys.argv[2].encode())
 for line in running.stdout:
     sys.stdout.buffer.write(line)
     sys.stdout.buffer.flush()
@@ -295,15 +298,13 @@ def seconds_of_children(times):
 
 
 def a_killed_front_end_is_noticed_at_the_next_depth():
-    """The front end is killed when depth 6 is done: the program ends when 7 is done, and not later. Depth 8
-    takes several times as long as the first seven; processor time is compared, since the machine may do
-    other work."""
-    seven = processor_seconds([], b"go depth 7\n")
-    with subprocess.Popen(
-        [sys.executable, "-c", FRONT_END, PROGRAM], stdout=subprocess.PIPE, stderr=subprocess.PIPE
-    ) as front_end:
+    """The front end is killed when depth 5 is done: the program ends when 6 is done, and not later. What it
+    takes of the processors is compared, since the machine may do other work."""
+    six = processor_seconds([], f"{MIDDLE_GAME}go depth 6\n".encode())
+    words = [sys.executable, "-c", FRONT_END, PROGRAM, f"{MIDDLE_GAME}go depth 9\n"]
+    with subprocess.Popen(words, stdout=subprocess.PIPE, stderr=subprocess.PIPE) as front_end:
         group = int(front_end.stdout.readline())
-        for depth in range(1, 7):
+        for depth in range(1, 6):
             line = front_end.stdout.readline()
             want(line.startswith(b"info depth %d " % depth), True, f"the line of depth {depth}")
         front_end.kill()
@@ -321,8 +322,8 @@ def a_killed_front_end_is_noticed_at_the_next_depth():
     ending = b"usi_host: write failed\nstatus 1\n"
     want(said[: len(ending)], ending, "standard error and the status")
     took = seconds_of_children(said[len(ending) :])
-    if took > 3 * seven + 0.5:
-        raise Wrong(f"it took {took:.2f} s of the processors, and {seven:.2f} s to depth 7")
+    if took > 2 * six + 0.5:
+        raise Wrong(f"it took {took:.2f} s of the processors, and {six:.2f} s to depth 6")
 
 
 def a_closed_output_is_a_failed_write():
