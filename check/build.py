@@ -1,10 +1,10 @@
 #!/usr/bin/env python3
 """Proves and builds the program, where a source is newer than it. Crates that do not stand on each
 other are proved side by side, as many as there are processors and memory; the one with the longest chain
-of crates that wait for it may use all processors, each other one job. Standard error tells how far it is:
-which crates are done, after how many seconds, and what is under way. What the toolchain says of a crate
-is kept in the file `build.log` of its `out/`, and shown where it fails. A build that was cut off goes on
-with the crates that are not done."""
+of crates that wait for it may use all processors, each other one job and only what the first leaves of
+them. Standard error tells how far it is: which crates are done, after how many seconds, and what is under
+way. What the toolchain says of a crate is kept in the file `build.log` of its `out/`, and shown where it
+fails. A build that was cut off goes on with the crates that are not done."""
 
 import fcntl
 import os
@@ -27,6 +27,8 @@ ROOMS = os.path.join(CRATES, NAME, "out", "rooms")
 MEMORY = 2_500_000_000
 # How long nothing is told at most, in seconds.
 QUIET = 20
+# What a crate is put back behind the one with the longest chain, as nice(1) has it.
+BEHIND = 10
 # What a crate is proved from, and what is kept of that.
 TEXTS = ("src", "specs", "proofs")
 PARTS = ("incremental", "rlib")
@@ -137,7 +139,7 @@ def move(one, other):
 class Run:
     """A crate that is being proved: as a library in a room of its own, or as the program in its place."""
 
-    def __init__(self, crates, crate, jobs, lock):
+    def __init__(self, crates, crate, jobs, behind, lock):
         self.crate, self.start, self.processor = crate, time.time(), 0.0
         self.home, self.room = os.path.join(CRATES, crate), None
         os.makedirs(os.path.join(self.home, "out"), exist_ok=True)
@@ -152,7 +154,7 @@ class Run:
                 raise
             self.room = os.path.join(ROOMS, crate)
             self.furnish(below(crates, crate))
-        words = ["rt", "run" if crate == NAME else "lib", "--jobs", str(jobs)]
+        words = ["nice", "-n", str(behind), "rt", "run" if crate == NAME else "lib", "--jobs", str(jobs)]
         with open(self.path, "wb") as log:
             self.running = subprocess.Popen(
                 words,
@@ -263,7 +265,7 @@ class Build:
             is_first = all(self.chain[crate] >= self.chain[it.crate] for it in self.running)
             jobs = self.lanes if is_first and crate not in self.again else 1
             try:
-                run = Run(self.crates, crate, jobs, self.lock)
+                run = Run(self.crates, crate, jobs, 0 if is_first else BEHIND, self.lock)
             except BlockingIOError:
                 # Another command of the toolchain works in that crate.
                 continue
