@@ -8,7 +8,8 @@ use crate::plain;
 use shogi_core::Color::{Black, White};
 use shogi_core::{Color, MOVE_CODE_COUNT, Move, Position, Square};
 use shogi_moves::{
-    BoardSweep, DropSweep, Walk, guard_of, has_legal, in_check, is_legal, next_legal, perft, play,
+    BoardSweep, DropSweep, Walk, check_info_of, has_legal, in_check, is_legal, next_legal, perft,
+    play,
 };
 use std::process::Abort;
 use std::test::Fail;
@@ -32,7 +33,7 @@ const GAME: [u16; 101] = [
 ];
 
 // The next move of that sweep in which the move is to come.
-fn next_of_sort(
+fn next_matching(
     p: &Position,
     m: &Move,
     captures: &mut BoardSweep,
@@ -58,14 +59,15 @@ fn next_of_sort(
     }
 }
 
-// Each of all moves is judged alike, and the walk over all moves and the sweeps over the captures, the
-// other moves on the board and the drops give the legal ones of their sort in the order of codes.
+// Each of all moves is judged alike, and the walk over all moves and the sweeps over the captures,
+// the other moves on the board and the drops give the legal ones of their sort in the order of
+// codes.
 fn assert_moves(rt: &impl Abort, p: &Position, at: usize) {
     let mut walk = Walk::new(p);
-    let guard = guard_of(p);
-    let mut captures = BoardSweep::new(p, guard, true);
-    let mut quiets = BoardSweep::new(p, guard, false);
-    let mut drops = DropSweep::new(p, guard);
+    let info = check_info_of(p);
+    let mut captures = BoardSweep::new(p, info, true);
+    let mut quiets = BoardSweep::new(p, info, false);
+    let mut drops = DropSweep::new(p, info);
     let mut passed = None;
     let mut count: u64 = 0;
     for code in 0..MOVE_CODE_COUNT {
@@ -85,7 +87,7 @@ fn assert_moves(rt: &impl Abort, p: &Position, at: usize) {
             walk.next() == Some(m),
             "the move {code} is walked in position {at}"
         );
-        let swept = next_of_sort(p, &m, &mut captures, &mut quiets, &mut drops);
+        let swept = next_matching(p, &m, &mut captures, &mut quiets, &mut drops);
         assert!(rt;
             swept == Some(m),
             "the move {code} of its sort in position {at}"

@@ -158,7 +158,8 @@ fn captures_and_promotions(rt: HostRuntime) -> Result<(), Fail> {
     Ok(())
 }
 
-// White's bishop, on 3c or as a horse on 7g, Black's dragon if it is there, Black's gold on 1i and the kings.
+// White's bishop, on 3c or as a horse on 7g, Black's dragon if it is there, Black's gold on 1i and
+// the kings.
 fn board_of_a_bishop(
     (file, rank, role): (u8, u8, Role),
     dragon: Option<(u8, u8)>,
@@ -183,8 +184,8 @@ fn board_of_a_bishop(
     Ok(cells)
 }
 
-// White's bishop on 3c takes a dragon on 7g and promotes: White holds a rook, and Black's pawn in hand, gold
-// and king stay.
+// White's bishop on 3c takes a dragon on 7g and promotes: White holds a rook, and Black's pawn in
+// hand, gold and king stay.
 #[test]
 fn a_node_goes_on_to_the_next(rt: HostRuntime) -> Result<(), Fail> {
     let pawn = Hands::none().with(Color::Black, Kind::Pawn, 1);

@@ -3,8 +3,8 @@
 use shogi_core::Color::{Black, White};
 use shogi_core::{Color, Hands, Kind, Move, Piece, Position, Role, Square};
 use shogi_moves::{
-    BoardSweep, DropSweep, Replies, escape_squares, guard_of, has_legal, in_check, is_attacked,
-    is_legal, leaves_escape, next_legal, perft, play,
+    BoardSweep, DropSweep, Replies, check_info_of, escape_squares, has_legal, in_check,
+    is_attacked, is_legal, leaves_escape, next_legal, perft, play,
 };
 use std::test::Fail;
 
@@ -171,25 +171,25 @@ fn steps(rt: HostRuntime) -> Result<(), Fail> {
     Ok(())
 }
 
-/// The only capture of a position, its first other move and its first drop, and an opening without captures and
-/// drops.
+/// The only capture of a position, its first other move and its first drop, and an opening without
+/// captures and drops.
 #[test]
 fn captures(rt: HostRuntime) -> Result<(), Fail> {
     let p = position(b"4k4/9/9/4+p4/4P4/9/9/9/4K4", b"P", Black)?;
-    let mut captures = BoardSweep::new(&p, guard_of(&p), true);
+    let mut captures = BoardSweep::new(&p, check_info_of(&p), true);
     assert_eq!(rt; captures.next(&p, true), Some(read(b"5e5d ")));
     assert!(rt; captures.next(&p, true).is_none());
-    let mut quiets = BoardSweep::new(&p, guard_of(&p), false);
+    let mut quiets = BoardSweep::new(&p, check_info_of(&p), false);
     assert_eq!(rt; quiets.next(&p, false), Some(read(b"5i4h ")));
-    let mut drops = DropSweep::new(&p, guard_of(&p));
+    let mut drops = DropSweep::new(&p, check_info_of(&p));
     assert_eq!(rt; drops.next(&p), Some(read(b"P*1b ")));
     let start = Position::start();
-    let mut captures = BoardSweep::new(&start, guard_of(&start), true);
+    let mut captures = BoardSweep::new(&start, check_info_of(&start), true);
     assert!(rt; captures.next(&start, true).is_none());
-    let mut quiets = BoardSweep::new(&start, guard_of(&start), false);
+    let mut quiets = BoardSweep::new(&start, check_info_of(&start), false);
     assert_eq!(rt; quiets.next(&start, false), Some(read(b"1g1f ")));
     assert!(rt;
-        DropSweep::new(&start, guard_of(&start))
+        DropSweep::new(&start, check_info_of(&start))
             .next(&start)
             .is_none()
     );
@@ -206,8 +206,8 @@ fn leaves_reply(board: &[u8], text: &[u8; 5]) -> Result<bool, Fail> {
     Ok(Replies::of(&p).is_certain(&p, &m))
 }
 
-/// A silver leaves the file of the king of the other side, with nothing behind it that slides, with a
-/// rook that then gives check, or with a bishop elsewhere.
+/// A silver leaves the file of the king of the other side, with nothing behind it that slides, with
+/// a rook that then gives check, or with a bishop elsewhere.
 #[test]
 fn moves_off_a_line_of_a_king(rt: HostRuntime) -> Result<(), Fail> {
     for (board, certain) in [
@@ -226,8 +226,9 @@ fn moves_off_a_line_of_a_king(rt: HostRuntime) -> Result<(), Fail> {
     Ok(())
 }
 
-/// A horse on the king's file goes to squares off the king's lines, to one on its rank, to one nearer by
-/// and to one from which it gives check. A rook behind it gives check by each move off the file.
+/// A horse on the king's file goes to squares off the king's lines, to one on its rank, to one
+/// nearer by and to one from which it gives check. A rook behind it gives check by each move off
+/// the file.
 #[test]
 fn moves_of_a_slider_off_a_line_of_a_king(rt: HostRuntime) -> Result<(), Fail> {
     let horse = b"4k4/9/2p4p1/9/4+B4/9/9/9/K8";
@@ -255,9 +256,9 @@ fn leaves_way_out(board: &[u8], hand: &[u8], text: &[u8; 5]) -> Result<bool, Fai
     Ok(leaves_escape(&p, escape_squares(&p), &m))
 }
 
-/// A rook gives check from afar and a silver from below, and the king may step aside. A gold reaches all
-/// squares next to it. Another one opens the rank below to a rook, and a knight attacks the square that is
-/// left. And without a king there is no such square.
+/// A rook gives check from afar and a silver from below, and the king may step aside. A gold
+/// reaches all squares next to it. Another one opens the rank below to a rook, and a knight attacks
+/// the square that is left. And without a king there is no such square.
 #[test]
 fn ways_out_of_a_check(rt: HostRuntime) -> Result<(), Fail> {
     for (board, hand, text, left) in [

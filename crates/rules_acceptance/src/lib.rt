@@ -1,4 +1,5 @@
-//! Tests of the pieces and positions, of SFEN, of the rules and of the values: what is known from elsewhere.
+//! Tests of the pieces and positions, of SFEN, of the rules and of the values: what is known from
+//! elsewhere.
 #![tactic(auto)]
 
 #[cfg(test)]

@@ -1,4 +1,5 @@
-//! Outside values: codes and indices by hand, the opening position, faults and moves of pieces of the rule book.
+//! Outside values: codes and indices by hand, the opening position, faults and moves of pieces of
+//! the rule book.
 
 use shogi_core::bits::has;
 use shogi_core::{
@@ -189,7 +190,8 @@ fn faults_of_positions(rt: HostRuntime) -> Result<(), Fail> {
     Ok(())
 }
 
-/// Whether the piece, alone on 5e, reaches exactly these squares as Black, and their mirror images as White.
+/// Whether the piece, alone on 5e, reaches exactly these squares as Black, and their mirror images
+/// as White.
 fn reaches_only(role: Role, targets: &[(u8, u8)]) -> Result<bool, Fail> {
     let center = square(5, 5)?;
     for index in 0..81 {
@@ -341,7 +343,8 @@ fn moves_at_the_edge_and_blocked(rt: HostRuntime) -> Result<(), Fail> {
     Ok(())
 }
 
-/// Whether a piece that stands nowhere would reach exactly these squares of the board from the square.
+/// Whether a piece that stands nowhere would reach exactly these squares of the board from the
+/// square.
 fn would_reach_only(
     board: &Board,
     (color, role, file, rank): Placed,
@@ -357,8 +360,8 @@ fn would_reach_only(
     Ok(true)
 }
 
-// A gold stands where the pieces are thought to stand, or a silver, and neither moves nor blocks for them;
-// the first piece on the way is reached, whosever it is, and nothing behind it.
+// A gold stands where the pieces are thought to stand, or a silver, and neither moves nor blocks
+// for them; the first piece on the way is reached, whosever it is, and nothing behind it.
 #[test]
 fn moves_from_where_another_stands(rt: HostRuntime) -> Result<(), Fail> {
     let board = board(&[
@@ -450,8 +453,8 @@ fn moves_from_an_empty_square(rt: HostRuntime) -> Result<(), Fail> {
 }
 
 // Each square is a digit in base 32, counted file by file: 1a and 2d are the lowest digits of the
-// first two words, and 9i is the ninth of the last. A piece is its role's place in the list of roles,
-// counted from 1 for Black and from 15 for White.
+// first two words, and 9i is the ninth of the last. A piece is its role's place in the list of
+// roles, counted from 1 for Black and from 15 for White.
 #[test]
 fn words_of_boards(rt: HostRuntime) -> Result<(), Fail> {
     assert_eq!(rt; *board(&[])?.words(), [0; 7]);
@@ -480,7 +483,8 @@ fn words_of_boards(rt: HostRuntime) -> Result<(), Fail> {
     Ok(())
 }
 
-/// Whether the pieces of the side that may be pinned are exactly those on these squares; never, where it is in check.
+/// Whether the pieces of the side that may be pinned are exactly those on these squares; never,
+/// where it is in check.
 fn pins_only(side: Color, pieces: &[Placed], pinned: &[(u8, u8)]) -> Result<bool, Fail> {
     let Some(mask) = board(pieces)?.pinned(side) else {
         return Ok(false);

@@ -144,7 +144,7 @@ pub struct Branch {
     pub position: Position,
     pub turn: u8,
     /// Whether the other side surely is in no check after it and has a legal move.
-    is_calm: bool,
+    is_certain: bool,
     /// Whether the other side surely has a legal move after it, be it a step of its king out of a check.
     is_answered: bool,
 }
@@ -273,7 +273,7 @@ pub fn branches_of(
     'moves: while let Some(m) = walk.next() {
         let tried = m;
         let (from, to) = ends_of(&m);
-        let is_calm = replies.is_certain(p, &m);
+        let is_certain = replies.is_certain(p, &m);
         let is_escaped = match &escapes {
             Some(escapes) => leaves_escape(p, escapes, &m),
             None => false,
@@ -284,8 +284,8 @@ pub fn branches_of(
             to,
             position: apply(p, tried),
             turn: turn_of(p, &m, hash_move),
-            is_calm,
-            is_answered: is_calm || is_escaped,
+            is_certain,
+            is_answered: is_certain || is_escaped,
         })?;
     }
     Ok(branches)
@@ -440,7 +440,7 @@ impl Outlook {
         match self.look(p, e, beta) {
             Some(threat) => {
                 let most = i32::saturating_sub(0, material(&branch.position, e));
-                branch.is_calm
+                branch.is_certain
                     && is_left(p, &threat, branch)
                     && most.saturating_sub(threat.gain) <= threshold
             }

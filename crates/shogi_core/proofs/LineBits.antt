@@ -20,7 +20,7 @@ use Rattle.shogi_core.specs.Movement.{Cells, away, slides_across, slides, piece_
 use Rattle.shogi_core.proofs.BitLaws.{has_bit-or, has_bit-and, has_bit-none, has_bit-above, has_bit-one, has_bit-mask, mask_fits}
 use Rattle.shogi_core.specs.Rays.{is_on_ray, ray_of, direction_at}
 use Rattle.shogi_core.proofs.Back.{away_is, away_on, leads_is}
-use Rattle.shogi_core.proofs.Exposed.{some_below_which}
+use Rattle.shogi_core.proofs.Uncovered.{some_below_which}
 use Rattle.shogi_core.proofs.RayLaws.{rises, falls, nearer, nearer_down, slides_free, slides_to_first, slides_rising}
 use Rattle.shogi_core.proofs.RayTable.{rays_right}
 use Rattle.shogi_core.specs.declared.ray_table.TheConstants.{RAYS}

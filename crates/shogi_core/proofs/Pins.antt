@@ -20,7 +20,7 @@ use Rattle.shogi_core.specs.Rays.{direction_at, ray_of, is_on_ray}
 use Rattle.shogi_core.proofs.Back.{back_twice}
 use Rattle.shogi_core.proofs.Below.{some_below_at, some_below_no}
 use Rattle.shogi_core.proofs.BitLaws.{same_mask, has_bit-and, has_bit-or, has_bit-one, has_bit-none}
-use Rattle.shogi_core.proofs.Exposed.{one_of, some_below_which, slides_was}
+use Rattle.shogi_core.proofs.Uncovered.{one_of, some_below_which, slides_was}
 use Rattle.shogi_core.proofs.LineBits.{has_bit-ray}
 use Rattle.shogi_core.proofs.Nearest.{one_piece}
 use Rattle.shogi_core.proofs.RayLaws.{slides_bare}

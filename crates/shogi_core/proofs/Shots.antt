@@ -17,7 +17,7 @@ use Rattle.shogi_core.specs.Rays.{direction_at, ray_of}
 use Rattle.shogi_core.proofs.Back.{back_twice}
 use Rattle.shogi_core.proofs.Below.{some_below_at, some_below_no, some_below_found}
 use Rattle.shogi_core.proofs.BitLaws.{has_bit-and, has_bit-none}
-use Rattle.shogi_core.proofs.Exposed.{same_way, same_way_is, one_of, list_any_kept, some_below_which}
+use Rattle.shogi_core.proofs.Uncovered.{same_way, same_way_is, one_of, list_any_kept, some_below_which}
 use Rattle.shogi_core.proofs.LineBits.{and_fits, has_bit-ray}
 use Rattle.shogi_core.proofs.Nearest.{one_piece}
 use Rattle.shogi_core.proofs.RayLaws.{slides_bare}

@@ -17,7 +17,7 @@ use Rattle.shogi_core.specs.Pieces.{opponent_of}
 use Rattle.shogi_core.proofs.Back.{back_twice, same_test}
 use Rattle.shogi_core.proofs.Below.{some_below_at, some_below_no}
 use Rattle.shogi_core.proofs.BitLaws.{has_bit-or, has_bit-none}
-use Rattle.shogi_core.proofs.Exposed.{same_way, one_of, some_below_which, slides_was}
+use Rattle.shogi_core.proofs.Uncovered.{same_way, one_of, some_below_which, slides_was}
 use Rattle.shogi_core.proofs.SeenLaws.{slides_back, slides_back_around, slides_role, slide_seen, lined_aligned}
 
 -- ---- those on lines with the kings that are gone through
@@ -97,13 +97,13 @@ module _ (old new : Cells) (n : ℕ) (opened : (x : ℕ) → is_none (piece_at n
       ]
 
   -- that gives no check where the square is on an open line with no sniper, and what comes to stand on another one gives none
-  pub left_calm : (color : Color) (to : ℕ)
+  pub left_unpinned : (color : Color) (to : ℕ)
       → ((x : ℕ) → is_piece_of (opponent_of color) (piece_at new x) ≡ true → (piece_at old x ≡ piece_at new x) ⊎ (x ≡ to))
       → ((k : ℕ) → is_king color (piece_at new k) ≡ true → piece_at old k ≡ piece_at new k)
       → ((k : ℕ) → k < 81 → is_king color (piece_at old k) ≡ true → cell_reaches new (piece_at new to) to k ≡ false)
       → in_check old color ≡ false → ((a : ℕ) → a < 81 → is_sniping old color a ≡ true → are_lined old n a ≡ false) → in_check new color ≡ false
   unfolding in_check is_sniping reaches
-  left_calm color to theirs crown far safe calm = some_below_no 81 (is_open_king new color) (λ k h. false_from_ne_true (is_open_king new color k) (λ e. (
+  left_unpinned color to theirs crown far safe unpinned = some_below_no 81 (is_open_king new color) (λ k h. false_from_ne_true (is_open_king new color k) (λ e. (
       let parts : (is_king color (piece_at new k) ≡ true) × (is_attacked new (opponent_of color) k ≡ true) = and_parts _ _ e in
       let king : is_king color (piece_at old k) ≡ true = ap (is_king color) (crown k parts.0) ∙ parts.0 in
       let who = some_below_which 81 (is_attacked_from new (opponent_of color) k) parts.1 in
@@ -116,7 +116,7 @@ module _ (old new : Cells) (n : ℕ) (opened : (x : ℕ) → is_none (piece_at n
               | inl stays ↦ both_ways (some_below 81 (is_open_king old color)) safe
                   (some_below_at 81 (is_open_king old color) k h (and_from _ _ king (some_below_at 81 (is_attacked_from old (opponent_of color) k) who.0 who.1 (and_from _ _ foe stays))))
               | inr open_line ↦ both_ways (are_lined old n who.0)
-                  (calm who.0 who.1 (some_below_at 81 (is_sniper_of_king old color who.0) k h (and_from _ _ king (and_from _ _ (and_from _ _ foe open_line.0) open_line.1)))) open_line.2
+                  (unpinned who.0 who.1 (some_below_at 81 (is_sniper_of_king old color who.0) k h (and_from _ _ king (and_from _ _ (and_from _ _ foe open_line.0) open_line.1)))) open_line.2
             ])
       ])))
 

@@ -195,8 +195,8 @@ fn first_piece(board: &Board, direction: usize, from: usize) -> Option<usize>
     Some(nearest(pieces, direction))
 }
 
-/// Whether one of the snipers of the square slides to it against the direction; where none does, the
-/// mask gets the piece of the side, if there is one, that stands alone before one of them.
+/// Whether one of the snipers of the square slides to it against the direction; where none does,
+/// the mask gets the piece of the side, if there is one, that stands alone before one of them.
 #[inline(never)]
 fn shot_or_pin(
     board: &Board,
@@ -349,8 +349,8 @@ impl Board {
         }
         false
     }
-    /// The squares of pieces of the other side that slide and are on a line with a king of the side,
-    /// whatever stands between.
+    /// The squares of pieces of the other side that slide and are on a line with a king of the
+    /// side, whatever stands between.
     #[tactic(auto, using(crate::proofs::Snipers::sniping))]
     pub fn snipers(&self, side: Color) -> u128
         ensures fits { result < 2 ^ 81 }

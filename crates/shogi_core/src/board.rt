@@ -201,8 +201,8 @@ impl Board {
         self.sliders
     }
 
-    /// What stands on all squares, packed: each word is the number in base 32 whose digits are those
-    /// of twelve squares, and of nine in the last.
+    /// What stands on all squares, packed: each word is the number in base 32 whose digits are
+    /// those of twelve squares, and of nine in the last.
     pub fn words(&self) -> &[u64; 7]
         ensures { result.now ≡ board_words self.now }
     {

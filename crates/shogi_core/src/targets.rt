@@ -83,7 +83,8 @@ fn piece_slides(board: &Board, piece: Piece, from: usize) -> u128
 }
 
 impl Board {
-    /// The squares that the piece would reach if it stood on the square, where now stands whatever does.
+    /// The squares that the piece would reach if it stood on the square, where now stands whatever
+    /// does.
     #[tactic(auto, using(crate::proofs::TargetLaws::no_bits))]
     pub fn targets_of(&self, piece: Piece, from: Square) -> u128
         ensures bits { HasBits result (cell_reaches self.now (Some piece) from) }

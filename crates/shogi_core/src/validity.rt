@@ -13,7 +13,8 @@ use crate::piece::{Color, KINDS, Kind, Piece};
 /// Why a position is not valid, in the order in which the faults are looked for.
 #[derive(Clone, Copy, Debug, PartialEq, Eq, Hash)]
 pub enum PositionFault {
-    /// More pieces of a kind than one set has, on the board and in both hands, promoted ones counted.
+    /// More pieces of a kind than one set has, on the board and in both hands, promoted ones
+    /// counted.
     TooMany,
     /// A side has more than one king.
     TwoKings,

@@ -1,4 +1,4 @@
--- Laws of runs of codes without a legal move of a sort.
+-- Laws of runs of codes without a legal move of a kind.
 use Rattle.std.proofs.Common.{◌≡◌, ℕ, ◌+◌, ◌-◌, ◌*◌, ◌<◌, ◌≤◌, Bool, true, false, [], ◌∷◌, Some, filter, refl, sym, ◌∙◌, ap, arith, subst, inl, inr}
 use Rattle.std.specs.Prelude.{zero, suc, ◌&&◌}
 use Rattle.std.proofs.lemmas.Bool.{cond-true, cond-false, cases_Bool, cases_lt, and_right, and_parts}
@@ -8,7 +8,7 @@ use Rattle.shogi_core.specs.Cell.{is_piece_of}
 use Rattle.shogi_core.specs.Codes.{move_of}
 use Rattle.shogi_core.specs.Movement.{piece_at}
 use Rattle.shogi_core.specs.Position.{Shogi}
-use Rattle.shogi_moves.specs.Captures.{captures, is_asked, is_capture, is_of_sort, is_wanted, HasNoneWanted}
+use Rattle.shogi_moves.specs.Captures.{captures, matches, is_capture, matches_kind, is_matching, HasNoneMatching}
 use Rattle.shogi_moves.specs.Legal.{is_legal_code}
 use Rattle.shogi_moves.specs.LegalMoves.{legal_from}
 use Rattle.shogi_moves.proofs.LegalLaws.{drop_code, legal_from_found, legal_from_skips, legal_from_end, no_piece}
@@ -17,51 +17,51 @@ use Rattle.shogi_moves.proofs.LegalLaws.{drop_code, legal_from_found, legal_from
 left_fails : (a b : Bool) → a ≡ false → (a && b) ≡ false
 left_fails a b e = rw e refl
 
--- the sort of a code is that of its move
-pub sort_of : (p : Shogi) (code : ℕ) (m : Move) → move_of code ≡ Some m → is_capture p code ≡ captures p (Some m)
+-- the kind of a code is that of its move
+pub matches_kind_of : (p : Shogi) (code : ℕ) (m : Move) → move_of code ≡ Some m → is_capture p code ≡ captures p (Some m)
 unfolding is_capture
-sort_of p code m e = ap (captures p) e
+matches_kind_of p code m e = ap (captures p) e
 
 -- no piece of the side to move stands on the square
-pub none_square : (p : Shogi) (capture : Bool) (from code end : ℕ) → from < 81 → from * SQUARE_CODES ≤ code → end ≤ from * SQUARE_CODES + SQUARE_CODES → is_piece_of p.side (piece_at p.cells from) ≡ false → HasNoneWanted p capture code end
+pub none_square : (p : Shogi) (capture : Bool) (from code end : ℕ) → from < 81 → from * SQUARE_CODES ≤ code → end ≤ from * SQUARE_CODES + SQUARE_CODES → is_piece_of p.side (piece_at p.cells from) ≡ false → HasNoneMatching p capture code end
 none_square p capture from code end small low high e = record { none = λ c above below. left_fails _ _ (no_piece p from c small e (omega arith) (omega arith)) }
 
 -- drops take nothing
-pub none_drop : (p : Shogi) (capture : Bool) (code end : ℕ) → FIRST_DROP ≤ code → end ≤ MOVE_CODE_COUNT → is_asked capture false ≡ false → HasNoneWanted p capture code end
+pub none_drop : (p : Shogi) (capture : Bool) (code end : ℕ) → FIRST_DROP ≤ code → end ≤ MOVE_CODE_COUNT → matches capture false ≡ false → HasNoneMatching p capture code end
 none_drop p capture code end low high e = record {
-  none = λ c above below. and_right _ _ (ap (is_asked capture) (sort_of p c _ (drop_code c (omega arith) (omega arith))) ∙ e);
+  none = λ c above below. and_right _ _ (ap (matches capture) (matches_kind_of p c _ (drop_code c (omega arith) (omega arith))) ∙ e);
 }
 
 -- such runs join
-pub none_join : (p : Shogi) (capture : Bool) (first middle end : ℕ) → HasNoneWanted p capture first middle → HasNoneWanted p capture middle end → HasNoneWanted p capture first end
+pub none_join : (p : Shogi) (capture : Bool) (first middle end : ℕ) → HasNoneMatching p capture first middle → HasNoneMatching p capture middle end → HasNoneMatching p capture first end
 none_join p capture first middle end h k = record { none = λ code low high. elim (cases_lt code middle) [ inl below ↦ h.none code low below | inr above ↦ k.none code above high ] }
 
 -- a step over a code
-pub skip_one : (p : Shogi) (capture : Bool) (code : ℕ) → code < MOVE_CODE_COUNT → is_wanted p capture code ≡ false → filter (is_of_sort p capture) (legal_from p code) ≡ filter (is_of_sort p capture) (legal_from p (code + 1))
+pub skip_one : (p : Shogi) (capture : Bool) (code : ℕ) → code < MOVE_CODE_COUNT → is_matching p capture code ≡ false → filter (matches_kind p capture) (legal_from p code) ≡ filter (matches_kind p capture) (legal_from p (code + 1))
 skip_one p capture code h e = elim (cases_Bool (is_legal_code p code)) [
-  | inl legal ↦ ap (filter (is_of_sort p capture)) (legal_from_found p code h legal) ∙ cond-false (is_of_sort p capture code) _ _ (sym (ap (λ (b : Bool). b && is_of_sort p capture code) legal) ∙ e)
-  | inr other ↦ ap (filter (is_of_sort p capture)) (legal_from_skips p code h other)
+  | inl legal ↦ ap (filter (matches_kind p capture)) (legal_from_found p code h legal) ∙ cond-false (matches_kind p capture code) _ _ (sym (ap (λ (b : Bool). b && matches_kind p capture code) legal) ∙ e)
+  | inr other ↦ ap (filter (matches_kind p capture)) (legal_from_skips p code h other)
 ]
 
-jump : (p : Shogi) (capture : Bool) (n first : ℕ) → first + n ≤ MOVE_CODE_COUNT → HasNoneWanted p capture first (first + n) → filter (is_of_sort p capture) (legal_from p first) ≡ filter (is_of_sort p capture) (legal_from p (first + n))
-jump p capture zero first h none = ap (λ (k : ℕ). filter (is_of_sort p capture) (legal_from p k)) (omega arith)
+jump : (p : Shogi) (capture : Bool) (n first : ℕ) → first + n ≤ MOVE_CODE_COUNT → HasNoneMatching p capture first (first + n) → filter (matches_kind p capture) (legal_from p first) ≡ filter (matches_kind p capture) (legal_from p (first + n))
+jump p capture zero first h none = ap (λ (k : ℕ). filter (matches_kind p capture) (legal_from p k)) (omega arith)
 jump p capture (suc n) first h none =
     skip_one p capture first (omega arith) (none.none first (omega arith) (omega arith))
     ∙ jump p capture n (first + 1) (omega arith) (record { none = λ code low high. none.none code (omega arith) (omega arith) })
-    ∙ ap (λ (k : ℕ). filter (is_of_sort p capture) (legal_from p k)) (omega arith)
+    ∙ ap (λ (k : ℕ). filter (matches_kind p capture) (legal_from p k)) (omega arith)
 
--- the legal moves of the sort are the same from either end of such a run
-pub wanted_jumps : (p : Shogi) (capture : Bool) (first end : ℕ) → first ≤ end → end ≤ MOVE_CODE_COUNT → HasNoneWanted p capture first end → filter (is_of_sort p capture) (legal_from p first) ≡ filter (is_of_sort p capture) (legal_from p end)
-wanted_jumps p capture first end low high none =
+-- the legal moves of the kind are the same from either end of such a run
+pub matching_jumps : (p : Shogi) (capture : Bool) (first end : ℕ) → first ≤ end → end ≤ MOVE_CODE_COUNT → HasNoneMatching p capture first end → filter (matches_kind p capture) (legal_from p first) ≡ filter (matches_kind p capture) (legal_from p end)
+matching_jumps p capture first end low high none =
     let there : first + (end - first) ≡ end = omega arith in
-    subst (λ (k : ℕ). filter (is_of_sort p capture) (legal_from p first) ≡ filter (is_of_sort p capture) (legal_from p k)) there (jump p capture (end - first) first (omega arith) (subst (λ (k : ℕ). HasNoneWanted p capture first k) (sym there) none))
+    subst (λ (k : ℕ). filter (matches_kind p capture) (legal_from p first) ≡ filter (matches_kind p capture) (legal_from p k)) there (jump p capture (end - first) first (omega arith) (subst (λ (k : ℕ). HasNoneMatching p capture first k) (sym there) none))
 
 -- one of them comes first, and then those above it
-pub wanted_found : (p : Shogi) (capture : Bool) (code : ℕ) → code < MOVE_CODE_COUNT → is_wanted p capture code ≡ true → filter (is_of_sort p capture) (legal_from p code) ≡ code ∷ filter (is_of_sort p capture) (legal_from p (code + 1))
-wanted_found p capture code h e =
-    let both : (is_legal_code p code ≡ true) × (is_of_sort p capture code ≡ true) = and_parts _ _ e in
-    ap (filter (is_of_sort p capture)) (legal_from_found p code h both.0) ∙ cond-true (is_of_sort p capture code) _ _ both.1
+pub matching_found : (p : Shogi) (capture : Bool) (code : ℕ) → code < MOVE_CODE_COUNT → is_matching p capture code ≡ true → filter (matches_kind p capture) (legal_from p code) ≡ code ∷ filter (matches_kind p capture) (legal_from p (code + 1))
+matching_found p capture code h e =
+    let both : (is_legal_code p code ≡ true) × (matches_kind p capture code ≡ true) = and_parts _ _ e in
+    ap (filter (matches_kind p capture)) (legal_from_found p code h both.0) ∙ cond-true (matches_kind p capture code) _ _ both.1
 
 -- above the last code there is none
-pub wanted_end : (p : Shogi) (capture : Bool) (code : ℕ) → MOVE_CODE_COUNT ≤ code → filter (is_of_sort p capture) (legal_from p code) ≡ []
-wanted_end p capture code h = ap (filter (is_of_sort p capture)) (legal_from_end p code h)
+pub matching_end : (p : Shogi) (capture : Bool) (code : ℕ) → MOVE_CODE_COUNT ≤ code → filter (matches_kind p capture) (legal_from p code) ≡ []
+matching_end p capture code h = ap (filter (matches_kind p capture)) (legal_from_end p code h)

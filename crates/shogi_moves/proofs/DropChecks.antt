@@ -19,7 +19,7 @@ use Rattle.shogi_core.specs.Pieces.{opponent_of}
 use Rattle.shogi_core.specs.Position.{Shogi}
 use Rattle.shogi_core.specs.Lines.{back}
 use Rattle.shogi_core.specs.declared.offset.Offset.{Offset}
-use Rattle.shogi_core.proofs.Exposed.{check_was_but}
+use Rattle.shogi_core.proofs.Uncovered.{check_was_but}
 use Rattle.shogi_core.proofs.SeenLaws.{leads_back}
 use Rattle.shogi_moves.specs.After.{cells_after, dropped}
 use Rattle.shogi_moves.specs.Legal.{is_pawn_drop_mate}
@@ -57,10 +57,10 @@ module _ (cells : Cells) (side : Color) (kind : Kind) (to : ℕ) (len : length c
       safe
 
 -- a dropped pawn that reaches no king mates none
-pub fair_pawn : (p : Shogi) (to : ℕ) → length p.cells ≡ 81 → to < 81 → in_check p.cells (opponent_of p.side) ≡ false
+pub non_mating_pawn : (p : Shogi) (to : ℕ) → length p.cells ≡ 81 → to < 81 → in_check p.cells (opponent_of p.side) ≡ false
     → ((k : ℕ) → k < 81 → is_king (opponent_of p.side) (piece_at (cells_after p.cells p.side (Drop kinds.Pawn to)) k) ≡ true → reaches (cells_after p.cells p.side (Drop kinds.Pawn to)) to k ≡ false)
     → is_pawn_drop_mate p (Drop kinds.Pawn to) ≡ false
-fair_pawn p to len ht safe short = rw (drop_shut p.cells p.side kinds.Pawn to len ht safe short) refl
+non_mating_pawn p to len ht safe short = rw (drop_shut p.cells p.side kinds.Pawn to len ht safe short) refl
 
 step_alone : (a : Bool) → (a || false) ≡ a
 step_alone true = refl
@@ -94,7 +94,7 @@ facing_more p left next faces king steps f bits s = record {
 }
 
 pub far_pawn : (p : Shogi) (to faces : ℕ) → IsValid p → to < 81 → IsFacing p 0 faces → has_bit faces to ≡ false → not (is_pawn_drop_mate p (Drop kinds.Pawn to)) ≡ true
-far_pawn p to faces v ht f out = ap not (fair_pawn p to v.cells_fit ht (faultless_from p v.no_fault).shut (λ k h king.
+far_pawn p to faces v ht f out = ap not (non_mating_pawn p to v.cells_fit ht (faultless_from p v.no_fault).shut (λ k h king.
     pawn_reaches p.cells p.side to k v.cells_fit ht
     ∙ false_from_ne_true (has_step (record { color = p.side; role = Pawn }) to k) (λ step. both_ways (has_bit faces to) out (f.all k to h ht (old_king k king) (has_bit-none k) (pawn_back p.side to k ht step)))))
   where

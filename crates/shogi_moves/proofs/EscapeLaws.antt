@@ -19,7 +19,7 @@ use Rattle.shogi_core.specs.Pieces.{opponent_of}
 use Rattle.shogi_core.specs.Position.{Shogi, HandCounts}
 use Rattle.shogi_core.specs.Validity.{IsValid}
 use Rattle.shogi_core.proofs.BitLaws.{has_bit-and, has_bit-none, has_bit-or}
-use Rattle.shogi_core.proofs.Exposed.{attacked_was_but, reach_was}
+use Rattle.shogi_core.proofs.Uncovered.{attacked_was_but, reach_was}
 use Rattle.shogi_core.proofs.LineBits.{lowest_set, and_fits, has_bit-not}
 use Rattle.shogi_core.proofs.SeenLaws.{lined_aligned, lined_back, slide_seen}
 use Rattle.shogi_moves.specs.After.{after, cells_after, piece_moved, dropped}
@@ -28,7 +28,7 @@ use Rattle.shogi_moves.specs.Legal.{is_legal}
 use Rattle.shogi_moves.specs.LegalMoves.{legal_codes}
 use Rattle.shogi_moves.proofs.DropChecks as drops
 use Rattle.shogi_moves.proofs.ExistenceLaws.{king_move}
-use Rattle.shogi_moves.proofs.GuardLaws.{look, other_side, own_some, is_piece_of-piece_moved, dropped_of, king_set}
+use Rattle.shogi_moves.proofs.CheckInfoLaws.{look, other_side, own_some, is_piece_of-piece_moved, dropped_of, king_set}
 use Rattle.shogi_moves.proofs.KingLaws.{king_own}
 use Rattle.shogi_moves.proofs.ReplyLaws.{another, crowned, legal_own}
 

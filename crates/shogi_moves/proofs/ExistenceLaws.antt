@@ -26,21 +26,21 @@ use Rattle.shogi_core.proofs.BitLaws.{has_bit-or, has_bit-none}
 use Rattle.shogi_core.proofs.CodesBack.{move_of-board, move_of-drop}
 use Rattle.shogi_core.proofs.Faults.{number_below}
 use Rattle.shogi_core.proofs.LineBits.{lowest_set}
-use Rattle.shogi_moves.specs.Captures.{is_wanted}
-use Rattle.shogi_moves.specs.Ends.{is_unchecked}
-use Rattle.shogi_moves.specs.Guards.{Guards}
+use Rattle.shogi_moves.specs.Captures.{is_matching}
+use Rattle.shogi_moves.specs.Destinations.{is_unchecked}
+use Rattle.shogi_moves.specs.CheckInfo.{IsCheckInfo}
 use Rattle.shogi_moves.specs.Legal.{is_safe, is_some_and_safe, is_safe_code, is_legal, is_legal_code, is_pawn_kind, is_pseudo_legal_board_move}
 use Rattle.shogi_moves.specs.LegalMoves.{legal_from, legal_codes}
 use Rattle.shogi_moves.specs.Rising.{is_in}
-use Rattle.shogi_moves.proofs.EndLaws.{drop_wanted, legal_board, still, all_ways, entering}
+use Rattle.shogi_moves.proofs.DestinationLaws.{drop_matching, legal_board, still, all_ways, entering}
 use Rattle.shogi_moves.proofs.KingLaws.{king_own}
 use Rattle.shogi_moves.proofs.LegalLaws.{in_legal, legal_in, legal_in_above, legal_code_below, is_legal_code_of, run_without, board_code, drop_code, legal_code_unsafe}
 use Rattle.shogi_moves.proofs.SweepLaws.{either, at_code}
 use Rattle.shogi_moves.proofs.ZoneLaws.{all_squares, more_fits}
 
--- with every square held to be exposed, nothing is claimed of any
-pub guards_rough : (p : Shogi) (checked : Bool) → checked ≡ in_check p.cells p.side → Guards p checked ALL_SQUARES
-guards_rough p checked e = record {
+-- where every piece may be pinned, nothing is claimed of any
+pub check_info_rough : (p : Shogi) (checked : Bool) → checked ≡ in_check p.cells p.side → IsCheckInfo p checked ALL_SQUARES
+check_info_rough p checked e = record {
   check = e;
   kings = λ n h out. absurd (both_ways (has_bit ALL_SQUARES n) out (all_squares n h));
   lines = λ _ n h out. absurd (both_ways (has_bit ALL_SQUARES n) out (all_squares n h));
@@ -60,15 +60,15 @@ piece_without p from plain promoting hf pb qb none = run_without p (from * SQUAR
     ]))
 
 -- a kind without an end has no drop
-pub kind_without : (p : Shogi) (kind : Kind) (ends : ℕ) → ((n : ℕ) → n < 81 → has_bit ends n ≡ is_wanted p false (code_of (Drop kind n))) → ends ≡ 0
+pub kind_without : (p : Shogi) (kind : Kind) (destinations : ℕ) → ((n : ℕ) → n < 81 → has_bit destinations n ≡ is_matching p false (code_of (Drop kind n))) → destinations ≡ 0
     → legal_from p (FIRST_DROP + kind_number kind * 81) ≡ legal_from p (FIRST_DROP + 81 + kind_number kind * 81)
-kind_without p kind ends bits none =
+kind_without p kind destinations bits none =
     let seven : kind_number kind < 7 = number_below kind in
     run_without p (FIRST_DROP + kind_number kind * 81) (FIRST_DROP + 81 + kind_number kind * 81) (omega arith) (omega arith) (λ c low high. (
     let at : c ≡ code_of (Drop kind (c - FIRST_DROP - kind_number kind * 81)) = omega arith in
     let there : c - FIRST_DROP - kind_number kind * 81 < 81 = omega arith in
     ap (is_legal_code p) at
-    ∙ (sym (drop_wanted p kind (c - FIRST_DROP - kind_number kind * 81) there)
+    ∙ (sym (drop_matching p kind (c - FIRST_DROP - kind_number kind * 81) there)
     ∙ (sym (bits (c - FIRST_DROP - kind_number kind * 81) there)
     ∙ (ap (λ m. has_bit m (c - FIRST_DROP - kind_number kind * 81)) none ∙ has_bit-none (c - FIRST_DROP - kind_number kind * 81))))))
 
@@ -87,10 +87,10 @@ piece_with p from plain promoting pf qf pb qb some =
     ]
 
 -- a kind with an end has a drop
-pub kind_with : (p : Shogi) (kind : Kind) (ends : ℕ) → ends < 2 ^ 81 → ((n : ℕ) → n < 81 → has_bit ends n ≡ is_wanted p false (code_of (Drop kind n))) → ends ≢ 0 → legal_codes p ≢ []
-kind_with p kind ends fits bits some =
-    let low = lowest_set ends some fits in
-    some_legal p (code_of (Drop kind (trailing_zeros w128 ends))) (sym (drop_wanted p kind (trailing_zeros w128 ends) low.0) ∙ (sym (bits (trailing_zeros w128 ends) low.0) ∙ low.1))
+pub kind_with : (p : Shogi) (kind : Kind) (destinations : ℕ) → destinations < 2 ^ 81 → ((n : ℕ) → n < 81 → has_bit destinations n ≡ is_matching p false (code_of (Drop kind n))) → destinations ≢ 0 → legal_codes p ≢ []
+kind_with p kind destinations fits bits some =
+    let low = lowest_set destinations some fits in
+    some_legal p (code_of (Drop kind (trailing_zeros w128 destinations))) (sym (drop_matching p kind (trailing_zeros w128 destinations) low.0) ∙ (sym (bits (trailing_zeros w128 destinations) low.0) ∙ low.1))
 
 -- a king moves on from everywhere
 king_lives : (side : Color) (cell : Option Piece) (t : ℕ) → is_king side cell ≡ true → is_immobile t cell ≡ false
@@ -166,24 +166,24 @@ safe_from_legal p some = go (legal_codes p) (λ code h. legal_in p 0 code h) som
     go (code ∷ codes) all some = safe_code p code (all code (or_left (code == code) (is_in code codes) (eq-eqb code code refl)))
 
 -- a pawn with a safe end, and none where no other move is legal
-pub pawn_safe : (p : Shogi) (ends : ℕ) → ends < 2 ^ 81 → ((n : ℕ) → n < 81 → has_bit ends n ≡ is_safe p (Drop kinds.Pawn n)) → ends ≢ 0 → some_below MOVE_CODE_COUNT (is_safe_code p) ≡ true
-pawn_safe p ends fits bits some =
-    let low = lowest_set ends some fits in
-    let back = move_of-drop kinds.Pawn (trailing_zeros w128 ends) low.0 in
-    some_below_at MOVE_CODE_COUNT (is_safe_code p) (code_of (Drop kinds.Pawn (trailing_zeros w128 ends))) (omega (arith, low.0)) (ap (is_some_and_safe p) back ∙ (sym (bits (trailing_zeros w128 ends) low.0) ∙ low.1))
+pub pawn_safe : (p : Shogi) (destinations : ℕ) → destinations < 2 ^ 81 → ((n : ℕ) → n < 81 → has_bit destinations n ≡ is_safe p (Drop kinds.Pawn n)) → destinations ≢ 0 → some_below MOVE_CODE_COUNT (is_safe_code p) ≡ true
+pawn_safe p destinations fits bits some =
+    let low = lowest_set destinations some fits in
+    let back = move_of-drop kinds.Pawn (trailing_zeros w128 destinations) low.0 in
+    some_below_at MOVE_CODE_COUNT (is_safe_code p) (code_of (Drop kinds.Pawn (trailing_zeros w128 destinations))) (omega (arith, low.0)) (ap (is_some_and_safe p) back ∙ (sym (bits (trailing_zeros w128 destinations) low.0) ∙ low.1))
 
-pawn_unsafe : (p : Shogi) (ends code : ℕ) → FIRST_DROP ≤ code → code < FIRST_DROP + 81 → ((n : ℕ) → n < 81 → has_bit ends n ≡ is_safe p (Drop kinds.Pawn n)) → ends ≡ 0 → is_safe_code p code ≡ false
-pawn_unsafe p ends code low high bits none =
+pawn_unsafe : (p : Shogi) (destinations code : ℕ) → FIRST_DROP ≤ code → code < FIRST_DROP + 81 → ((n : ℕ) → n < 81 → has_bit destinations n ≡ is_safe p (Drop kinds.Pawn n)) → destinations ≡ 0 → is_safe_code p code ≡ false
+pawn_unsafe p destinations code low high bits none =
     let k : (code - FIRST_DROP) / 81 ≡ 0 = omega arith in
     let same : kind_at ((code - FIRST_DROP) / 81) ≡ kinds.Pawn = ap kind_at k in
     ap (is_some_and_safe p) (drop_code code low (omega arith))
     ∙ rw same (sym (bits ((code - FIRST_DROP) % 81) (omega arith)) ∙ (ap (λ (m : ℕ). has_bit m ((code - FIRST_DROP) % 81)) none ∙ has_bit-none ((code - FIRST_DROP) % 81)))
 
-pub none_safe : (p : Shogi) (ends : ℕ) → legal_codes p ≡ legal_from p FIRST_DROP → legal_from p (FIRST_DROP + 81) ≡ [] → ((n : ℕ) → n < 81 → has_bit ends n ≡ is_safe p (Drop kinds.Pawn n)) → ends ≡ 0 → some_below MOVE_CODE_COUNT (is_safe_code p) ≡ false
-none_safe p ends board drops bits none = some_below_no MOVE_CODE_COUNT (is_safe_code p) (λ code high. false_from_ne_true (is_safe_code p code) (λ e. elim (cases_lt code FIRST_DROP) [
+pub none_safe : (p : Shogi) (destinations : ℕ) → legal_codes p ≡ legal_from p FIRST_DROP → legal_from p (FIRST_DROP + 81) ≡ [] → ((n : ℕ) → n < 81 → has_bit destinations n ≡ is_safe p (Drop kinds.Pawn n)) → destinations ≡ 0 → some_below MOVE_CODE_COUNT (is_safe_code p) ≡ false
+none_safe p destinations board drops bits none = some_below_no MOVE_CODE_COUNT (is_safe_code p) (λ code high. false_from_ne_true (is_safe_code p code) (λ e. elim (cases_lt code FIRST_DROP) [
   | inl below ↦ (let low : FIRST_DROP ≤ code = legal_in_above p FIRST_DROP code (subst (λ (codes : List ℕ). is_in code codes ≡ true) board (in_legal p 0 code (omega arith) (legal_if_board p code below e))) in omega arith)
   | inr above ↦ elim (cases_lt code (FIRST_DROP + 81)) [
-    | inl pawn ↦ both_ways (is_safe_code p code) (pawn_unsafe p ends code above pawn bits none) e
+    | inl pawn ↦ both_ways (is_safe_code p code) (pawn_unsafe p destinations code above pawn bits none) e
     | inr piece ↦ (let clash : false ≡ true = ap (λ codes. is_in code codes) (sym drops) ∙ in_legal p (FIRST_DROP + 81) code piece (legal_if_piece p code piece high e) in cc)
   ]
 ]))

@@ -31,12 +31,12 @@ pub record IsSafeBoardMove (p : Shogi) (from to : ℕ) (promote : Bool) : Type 0
 pub safe_board_move : (p : Shogi) (from to : ℕ) (promote : Bool) → is_safe p (Board from to promote) ≡ true → IsSafeBoardMove p from to promote
 unfolding is_safe
 safe_board_move p from to promote e =
-    let ends = and_parts (is_pseudo_legal_board_move p.cells p.side from to promote) (not (in_check (after p (Board from to promote)).cells p.side)) e in
-    let four = and_parts _ _ (ends.0) in
+    let destinations = and_parts (is_pseudo_legal_board_move p.cells p.side from to promote) (not (in_check (after p (Board from to promote)).cells p.side)) e in
+    let four = and_parts _ _ (destinations.0) in
     let three = and_parts _ _ (four.0) in
     let two = and_parts _ _ (three.0) in
     let one = and_parts _ _ (two.0) in
-    record { own = one.0; free = not-true _ (one.1); reached = two.1; alive = not-true _ (four.1); shut = not-true _ (ends.1) }
+    record { own = one.0; free = not-true _ (one.1); reached = two.1; alive = not-true _ (four.1); shut = not-true _ (destinations.1) }
 
 -- the new square is another one
 apart : (cells : Cells) (side : Color) (from to : ℕ) → is_piece_of side (piece_at cells from) ≡ true → is_piece_of side (piece_at cells to) ≡ false → to ≢ from

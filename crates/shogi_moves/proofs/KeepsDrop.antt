@@ -61,8 +61,8 @@ pawn_ban x n e h = elim (and_cases x (nat_lt 0 n) (not-true _ e)) [ inl off ↦ 
 pub safe_drop : (p : Shogi) (kind : Kind) (to : ℕ) → is_safe p (Drop kind to) ≡ true → IsSafeDrop p kind to
 unfolding is_safe
 safe_drop p kind to e =
-    let ends = and_parts (is_pseudo_legal_drop p.cells p.hands p.side kind to) (not (in_check (after p (Drop kind to)).cells p.side)) e in
-    let three = and_parts _ _ (ends.0) in
+    let destinations = and_parts (is_pseudo_legal_drop p.cells p.hands p.side kind to) (not (in_check (after p (Drop kind to)).cells p.side)) e in
+    let three = and_parts _ _ (destinations.0) in
     let two = and_parts _ _ (three.0) in
     let one = and_parts _ _ (two.0) in
     record {
@@ -70,7 +70,7 @@ safe_drop p kind to e =
       free = is_none-true (piece_at p.cells to) (one.1);
       alive = not-true _ (two.1);
       pawns = pawn_ban (is_pawn_kind kind) (pawns_on_file p.side (to / 9) p.cells) (three.1);
-      shut = not-true _ (ends.1);
+      shut = not-true _ (destinations.1);
     }
 
 -- the hand has one less

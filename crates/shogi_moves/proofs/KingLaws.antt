@@ -14,12 +14,12 @@ use Rattle.shogi_core.specs.Pieces.{opponent_of}
 use Rattle.shogi_core.specs.Position.{Shogi}
 use Rattle.shogi_core.specs.Rays.{direction_at}
 use Rattle.shogi_core.proofs.Below.{some_below_at, some_below_not}
-use Rattle.shogi_core.proofs.Exposed.{attacked_was, attacked_was_but, slides_was, some_below_which}
+use Rattle.shogi_core.proofs.Uncovered.{attacked_was, attacked_was_but, slides_was, some_below_which}
 use Rattle.shogi_core.proofs.SeenLaws.{lined_aligned, reaches_near, slides_back_around}
 use Rattle.shogi_core.proofs.Shots.{shot_by, slide_by}
 use Rattle.shogi_moves.specs.After.{piece_moved}
-use Rattle.shogi_moves.specs.Ends.{is_unchecked}
-use Rattle.shogi_moves.proofs.GuardLaws.{king_set, other_side}
+use Rattle.shogi_moves.specs.Destinations.{is_unchecked}
+use Rattle.shogi_moves.proofs.CheckInfoLaws.{king_set, other_side}
 use Rattle.shogi_moves.proofs.MovedPieces.{is_king-piece_moved}
 
 -- ---- no piece reaches the square on which it stands

@@ -8,11 +8,11 @@ pub mod LegalLaws
 pub mod NextLaws
 pub mod CaptureLaws
 pub mod PerftLaws
-pub mod GuardLaws
+pub mod CheckInfoLaws
 pub mod KingLaws
 pub mod ZoneLaws
 pub mod PawnFiles
-pub mod EndLaws
+pub mod DestinationLaws
 pub mod SweepLaws
 pub mod MoverLaws
 pub mod Passes

@@ -1,4 +1,4 @@
--- The pieces that may have a move of a sort.
+-- The pieces that may have a move of a kind.
 use Rattle.std.proofs.Common.{◌≡◌, ◌⊎◌, ℕ, ◌+◌, ◌-◌, ◌*◌, ◌/◌, ◌%◌, ◌^◌, ◌<◌, Bool, true, false, not, refl, ap, sym, subst, ◌∙◌, Option, Some, None, arith, inl, inr, length, bit_and, bit_or, pow_pos, ◌≤◌}
 use Rattle.std.specs.Prelude.{◌&&◌, ◌||◌, ◌==◌, nat_lt}
 use Rattle.std.specs.Int.{bit_at}
@@ -22,12 +22,12 @@ use Rattle.shogi_core.specs.Position.{Shogi}
 use Rattle.shogi_core.proofs.BitLaws.{has_bit-and, has_bit-or, has_bit-shr}
 use Rattle.shogi_core.proofs.LineBits.{has_bit-not}
 use Rattle.shogi_core.proofs.SeenLaws.{reaches_near, slides_role, step_near}
-use Rattle.shogi_moves.specs.Captures.{is_wanted}
-use Rattle.shogi_moves.specs.Ends.{is_end}
+use Rattle.shogi_moves.specs.Captures.{is_matching}
+use Rattle.shogi_moves.specs.Destinations.{is_destination}
 use Rattle.shogi_moves.specs.Legal.{in_promotion_zone, is_promotable, may_promote}
 use Rattle.shogi_moves.specs.Replies.{IsFarMove, is_on_back_rank}
-use Rattle.shogi_moves.specs.Sweeps.{HasWantedOn}
-use Rattle.shogi_moves.proofs.EndLaws.{wanted_board}
+use Rattle.shogi_moves.specs.Sweeps.{HasMatchingOn}
+use Rattle.shogi_moves.proofs.DestinationLaws.{matching_board}
 use Rattle.shogi_moves.proofs.Passes.{none_uncertain}
 use Rattle.shogi_moves.proofs.SweepLaws.{at_code}
 
@@ -101,7 +101,7 @@ near_bits a b m1 m7 m8 m9 m10 m11 ha hb near d1 d7 d8 d9 d10 d11 =
 -- ---- pieces that reach nothing to capture
 
 pub reaches_none : (p : Shogi) (pieces sliders near n t : ℕ) → n < 81 → t < 81 → has_bit pieces n ≡ true → has_bit (bit_and pieces (bit_or sliders near)) n ≡ false
-    → ((i : ℕ) → i < 81 → has_bit sliders i ≡ is_slider (piece_at p.cells i)) → (is_piece_of (opponent_of p.side) (piece_at p.cells t) ≡ true → is_near t n ≡ true → has_bit near n ≡ true) → (reaches p.cells n t && is_end true p.side (piece_at p.cells t)) ≡ false
+    → ((i : ℕ) → i < 81 → has_bit sliders i ≡ is_slider (piece_at p.cells i)) → (is_piece_of (opponent_of p.side) (piece_at p.cells t) ≡ true → is_near t n ≡ true → has_bit near n ≡ true) → (reaches p.cells n t && is_destination true p.side (piece_at p.cells t)) ≡ false
 reaches_none p pieces sliders near n t hn ht set out slides close = false_from_ne_true _ (λ e.
     let parts : (reaches p.cells n t ≡ true) × (is_piece_of (opponent_of p.side) (piece_at p.cells t) ≡ true) = and_parts _ _ e in
     both_ways (has_bit (bit_and pieces (bit_or sliders near)) n) out (has_bit-and pieces (bit_or sliders near) n ∙ and_from _ _ set (has_bit-or sliders near n ∙ elim (reaches_near p.cells n t hn parts.0) [
@@ -109,21 +109,21 @@ reaches_none p pieces sliders near n t hn ht set out slides close = false_from_n
       | inr far ↦ or_left _ _ (slides n hn ∙ far.0)
     ])))
 
-unwanted : (p : Shogi) (capture promote : Bool) (from n : ℕ) → length p.cells ≡ 81 → from < 81 → n < 81 → is_piece_of p.side (piece_at p.cells from) ≡ true → (reaches p.cells from n && is_end capture p.side (piece_at p.cells n)) ≡ false → is_wanted p capture (code_of (Board from n promote)) ≡ false
-unwanted p capture promote from n len hf hn own none = wanted_board p capture promote from n len hf hn own ∙ (rw none refl)
+not_matching : (p : Shogi) (capture promote : Bool) (from n : ℕ) → length p.cells ≡ 81 → from < 81 → n < 81 → is_piece_of p.side (piece_at p.cells from) ≡ true → (reaches p.cells from n && is_destination capture p.side (piece_at p.cells n)) ≡ false → is_matching p capture (code_of (Board from n promote)) ≡ false
+not_matching p capture promote from n len hf hn own none = matching_board p capture promote from n len hf hn own ∙ (rw none refl)
 
 -- so the moves to come are of the others
-pub on_movers : (p : Shogi) (capture : Bool) (pieces left code : ℕ) → length p.cells ≡ 81 → HasWantedOn p capture code pieces → ((n : ℕ) → n < 81 → has_bit pieces n ≡ true → is_piece_of p.side (piece_at p.cells n) ≡ true)
-    → ((n t : ℕ) → n < 81 → t < 81 → has_bit pieces n ≡ true → has_bit left n ≡ false → (reaches p.cells n t && is_end capture p.side (piece_at p.cells t)) ≡ false) → HasWantedOn p capture code left
+pub on_movers : (p : Shogi) (capture : Bool) (pieces left code : ℕ) → length p.cells ≡ 81 → HasMatchingOn p capture code pieces → ((n : ℕ) → n < 81 → has_bit pieces n ≡ true → is_piece_of p.side (piece_at p.cells n) ≡ true)
+    → ((n t : ℕ) → n < 81 → t < 81 → has_bit pieces n ≡ true → has_bit left n ≡ false → (reaches p.cells n t && is_destination capture p.side (piece_at p.cells t)) ≡ false) → HasMatchingOn p capture code left
 on_movers p capture pieces left code len w mine none = record {
-  on = λ c low high wanted. (
+  on = λ c low high matching. (
       let from : ℕ = c / SQUARE_CODES in
       let hf : c / SQUARE_CODES < 81 = omega arith in
       let hn : c / 2 % 81 < 81 = omega arith in
-      let here : has_bit pieces (c / SQUARE_CODES) ≡ true = w.on c low high wanted in
+      let here : has_bit pieces (c / SQUARE_CODES) ≡ true = w.on c low high matching in
       true_from_ne_false (has_bit left (c / SQUARE_CODES)) (λ out. elim (at_code (c / SQUARE_CODES) c (omega arith) (omega arith)) [
-        | inl at ↦ both_ways (is_wanted p capture c) (ap (is_wanted p capture) at ∙ unwanted p capture false (c / SQUARE_CODES) (c / 2 % 81) len hf hn (mine (c / SQUARE_CODES) hf here) (none (c / SQUARE_CODES) (c / 2 % 81) hf hn here out)) wanted
-        | inr at ↦ both_ways (is_wanted p capture c) (ap (is_wanted p capture) at ∙ unwanted p capture true (c / SQUARE_CODES) (c / 2 % 81) len hf hn (mine (c / SQUARE_CODES) hf here) (none (c / SQUARE_CODES) (c / 2 % 81) hf hn here out)) wanted
+        | inl at ↦ both_ways (is_matching p capture c) (ap (is_matching p capture) at ∙ not_matching p capture false (c / SQUARE_CODES) (c / 2 % 81) len hf hn (mine (c / SQUARE_CODES) hf here) (none (c / SQUARE_CODES) (c / 2 % 81) hf hn here out)) matching
+        | inr at ↦ both_ways (is_matching p capture c) (ap (is_matching p capture) at ∙ not_matching p capture true (c / SQUARE_CODES) (c / 2 % 81) len hf hn (mine (c / SQUARE_CODES) hf here) (none (c / SQUARE_CODES) (c / 2 % 81) hf hn here out)) matching
       ]));
 }
 

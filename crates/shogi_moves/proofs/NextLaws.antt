@@ -1,4 +1,4 @@
--- The least legal move from a code on, by the ends of a piece or of a held kind.
+-- The least legal move from a code on, by the destinations of a piece or of a held kind.
 use Rattle.std.proofs.Common.{◌≡◌, ℕ, ◌+◌, ◌*◌, ◌^◌, ◌<◌, ◌≤◌, Bool, true, false, not, List, [], ◌∷◌, Option, None, Some, refl, sym, ◌∙◌, arith, inl, inr, bit_or, ap}
 use Rattle.std.specs.Prelude.{MatchOption, IsNone}
 use Rattle.std.proofs.lemmas.Bool.{cases_Bool, or_cases, both_ways}
@@ -15,11 +15,11 @@ use Rattle.shogi_core.specs.Position.{Shogi}
 use Rattle.shogi_core.proofs.BitLaws.{has_bit-or}
 use Rattle.shogi_core.proofs.CodesBack.{move_of-board, move_of-drop}
 use Rattle.shogi_core.proofs.Faults.{number_below}
-use Rattle.shogi_moves.specs.Captures.{is_wanted}
+use Rattle.shogi_moves.specs.Captures.{is_matching}
 use Rattle.shogi_moves.specs.Legal.{is_legal, is_legal_code}
 use Rattle.shogi_moves.specs.LegalMoves.{legal_from}
-use Rattle.shogi_moves.specs.Sweeps.{Keeps, wanted_from}
-use Rattle.shogi_moves.proofs.EndLaws.{drop_wanted}
+use Rattle.shogi_moves.specs.Sweeps.{Keeps, matching_from}
+use Rattle.shogi_moves.proofs.DestinationLaws.{drop_matching}
 use Rattle.shogi_moves.proofs.LegalLaws.{is_legal_code_of, legal_from_found, no_piece, run_without}
 use Rattle.shogi_moves.proofs.SweepLaws.{keeps_first, keeps_from, fails_all, fails_to_plain, fails_to_promoting, fails_drops, fails_to_drop, all_drops}
 
@@ -38,25 +38,25 @@ least_at p code m back small low legal none = record {
 pub nobody : (p : Shogi) (from code : ℕ) → from < 81 → from * SQUARE_CODES ≤ code → code ≤ from * SQUARE_CODES + SQUARE_CODES → is_piece_of p.side (piece_at p.cells from) ≡ false → legal_from p code ≡ legal_from p (from * SQUARE_CODES + SQUARE_CODES)
 nobody p from code hf low high e = run_without p code (from * SQUARE_CODES + SQUARE_CODES) high (omega arith) (λ c above under. no_piece p from c hf e (omega arith) under)
 
--- the ends from a code on, of all ends
-pub ends_from : (p : Shogi) (promote : Bool) (from code ends less to : ℕ) → less < 2 ^ 81 → ends < 2 ^ 81 → ((n : ℕ) → n < 81 → has_bit ends n ≡ is_legal_code p (code_of (Board from n promote))) → from * SQUARE_CODES ≤ code
-    → ((n : ℕ) → n < to → code_of (Board from n promote) < code) → ((n : ℕ) → to ≤ n → code ≤ code_of (Board from n promote)) → ((i : ℕ) → i < 81 → to ≤ i → has_bit less i ≡ has_bit ends i) → ((i : ℕ) → i < to → has_bit less i ≡ false)
+-- the destinations from a code on, of all destinations
+pub destinations_from : (p : Shogi) (promote : Bool) (from code destinations less to : ℕ) → less < 2 ^ 81 → destinations < 2 ^ 81 → ((n : ℕ) → n < 81 → has_bit destinations n ≡ is_legal_code p (code_of (Board from n promote))) → from * SQUARE_CODES ≤ code
+    → ((n : ℕ) → n < to → code_of (Board from n promote) < code) → ((n : ℕ) → to ≤ n → code ≤ code_of (Board from n promote)) → ((i : ℕ) → i < 81 → to ≤ i → has_bit less i ≡ has_bit destinations i) → ((i : ℕ) → i < to → has_bit less i ≡ false)
     → Keeps (is_legal_code p) (λ n. code_of (Board from n promote)) code less
-ends_from p promote from code ends less to fits all bits low falls rises same none =
-    keeps_from (is_legal_code p) (λ n. code_of (Board from n promote)) (from * SQUARE_CODES) code ends less to
-    (keeps_first (is_legal_code p) (λ n. code_of (Board from n promote)) (from * SQUARE_CODES) ends all bits (λ n. first n promote)) fits low falls rises same none
+destinations_from p promote from code destinations less to fits all bits low falls rises same none =
+    keeps_from (is_legal_code p) (λ n. code_of (Board from n promote)) (from * SQUARE_CODES) code destinations less to
+    (keeps_first (is_legal_code p) (λ n. code_of (Board from n promote)) (from * SQUARE_CODES) destinations all bits (λ n. first n promote)) fits low falls rises same none
   where
     first : (n : ℕ) (b : Bool) → from * SQUARE_CODES ≤ code_of (Board from n b)
     first n true = omega arith
     first n false = omega arith
 
 module _ (p : Shogi) (from code plain promoting : ℕ) (hf : from < 81) (low : from * SQUARE_CODES ≤ code) (a : Keeps (is_legal_code p) (λ n. code_of (Board from n false)) code plain) (b : Keeps (is_legal_code p) (λ n. code_of (Board from n true)) code promoting) where
-  pub no_end : code ≤ from * SQUARE_CODES + SQUARE_CODES → bit_or plain promoting ≡ 0 → legal_from p code ≡ legal_from p (from * SQUARE_CODES + SQUARE_CODES)
-  no_end high none = run_without p code (from * SQUARE_CODES + SQUARE_CODES) high (omega arith) (fails_all (is_legal_code p) from code plain promoting low a b none)
+  pub no_destination : code ≤ from * SQUARE_CODES + SQUARE_CODES → bit_or plain promoting ≡ 0 → legal_from p code ≡ legal_from p (from * SQUARE_CODES + SQUARE_CODES)
+  no_destination high none = run_without p code (from * SQUARE_CODES + SQUARE_CODES) high (omega arith) (fails_all (is_legal_code p) from code plain promoting low a b none)
 
   -- without promotion first
-  pub least_end : (to : ℕ) → to < 81 → ((n : ℕ) → has_bit (bit_or plain promoting) n ≡ true → to ≤ n) → has_bit (bit_or plain promoting) to ≡ true → IsLeast p code (Board from to (not (has_bit plain to)))
-  least_end to ht least set = elim (cases_Bool (has_bit plain to)) [
+  pub least_destination : (to : ℕ) → to < 81 → ((n : ℕ) → has_bit (bit_or plain promoting) n ≡ true → to ≤ n) → has_bit (bit_or plain promoting) to ≡ true → IsLeast p code (Board from to (not (has_bit plain to)))
+  least_destination to ht least set = elim (cases_Bool (has_bit plain to)) [
     | inl here ↦ (
         let at : (code ≤ code_of (Board from to false)) × (is_legal_code p (code_of (Board from to false)) ≡ true) = a.set to ht here in
         rw here (least_at p code (Board from to false) (move_of-board from to false hf ht) (omega arith) at.0 at.1 (fails_to_plain (is_legal_code p) from code plain promoting low a b to ht least)))
@@ -70,26 +70,26 @@ on_board from to true hf ht = omega arith
 on_board from to false hf ht = omega arith
 
 -- the same of a kind
-pub drops_from : (p : Shogi) (kind : Kind) (code ends less to : ℕ) → less < 2 ^ 81 → ends < 2 ^ 81 → ((n : ℕ) → n < 81 → has_bit ends n ≡ is_wanted p false (code_of (Drop kind n))) → code ≡ code_of (Drop kind to)
-    → ((i : ℕ) → i < 81 → to ≤ i → has_bit less i ≡ has_bit ends i) → ((i : ℕ) → i < to → has_bit less i ≡ false) → Keeps (is_legal_code p) (λ n. code_of (Drop kind n)) code less
-drops_from p kind code ends less to fits all bits at same none =
-    keeps_from (is_legal_code p) (λ n. code_of (Drop kind n)) (FIRST_DROP + kind_number kind * 81) code ends less to
-    (keeps_first (is_legal_code p) (λ n. code_of (Drop kind n)) (FIRST_DROP + kind_number kind * 81) ends all (λ n h. bits n h ∙ drop_wanted p kind n h) (λ n. omega arith)) fits (omega arith) (λ n h. omega arith) (λ n h. omega arith) same none
+pub drops_from : (p : Shogi) (kind : Kind) (code destinations less to : ℕ) → less < 2 ^ 81 → destinations < 2 ^ 81 → ((n : ℕ) → n < 81 → has_bit destinations n ≡ is_matching p false (code_of (Drop kind n))) → code ≡ code_of (Drop kind to)
+    → ((i : ℕ) → i < 81 → to ≤ i → has_bit less i ≡ has_bit destinations i) → ((i : ℕ) → i < to → has_bit less i ≡ false) → Keeps (is_legal_code p) (λ n. code_of (Drop kind n)) code less
+drops_from p kind code destinations less to fits all bits at same none =
+    keeps_from (is_legal_code p) (λ n. code_of (Drop kind n)) (FIRST_DROP + kind_number kind * 81) code destinations less to
+    (keeps_first (is_legal_code p) (λ n. code_of (Drop kind n)) (FIRST_DROP + kind_number kind * 81) destinations all (λ n h. bits n h ∙ drop_matching p kind n h) (λ n. omega arith)) fits (omega arith) (λ n h. omega arith) (λ n h. omega arith) same none
 
-module _ (p : Shogi) (kind : Kind) (code ends : ℕ) (low : FIRST_DROP + kind_number kind * 81 ≤ code) (a : Keeps (is_legal_code p) (λ n. code_of (Drop kind n)) code ends) where
-  pub no_drop : code ≤ FIRST_DROP + 81 + kind_number kind * 81 → ends ≡ 0 → legal_from p code ≡ legal_from p (FIRST_DROP + 81 + kind_number kind * 81)
+module _ (p : Shogi) (kind : Kind) (code destinations : ℕ) (low : FIRST_DROP + kind_number kind * 81 ≤ code) (a : Keeps (is_legal_code p) (λ n. code_of (Drop kind n)) code destinations) where
+  pub no_drop : code ≤ FIRST_DROP + 81 + kind_number kind * 81 → destinations ≡ 0 → legal_from p code ≡ legal_from p (FIRST_DROP + 81 + kind_number kind * 81)
   no_drop high none =
       let seven : kind_number kind < 7 = number_below kind in
-      run_without p code (FIRST_DROP + 81 + kind_number kind * 81) high (omega arith) (fails_drops (is_legal_code p) kind code ends low a none)
+      run_without p code (FIRST_DROP + 81 + kind_number kind * 81) high (omega arith) (fails_drops (is_legal_code p) kind code destinations low a none)
 
-  pub least_drop : (to : ℕ) → to < 81 → ((n : ℕ) → has_bit ends n ≡ true → to ≤ n) → has_bit ends to ≡ true → IsLeast p code (Drop kind to)
+  pub least_drop : (to : ℕ) → to < 81 → ((n : ℕ) → has_bit destinations n ≡ true → to ≤ n) → has_bit destinations to ≡ true → IsLeast p code (Drop kind to)
   least_drop to ht least set =
       let seven : kind_number kind < 7 = number_below kind in
       let at : (code ≤ code_of (Drop kind to)) × (is_legal_code p (code_of (Drop kind to)) ≡ true) = a.set to ht set in
-      least_at p code (Drop kind to) (move_of-drop kind to ht) (omega arith) at.0 at.1 (fails_to_drop (is_legal_code p) kind code ends low a to ht least)
+      least_at p code (Drop kind to) (move_of-drop kind to ht) (omega arith) at.0 at.1 (fails_to_drop (is_legal_code p) kind code destinations low a to ht least)
 
 -- the next of a walk whose moves on the board are over
-pub next_drop : (p : Shogi) (codes : List ℕ) (old new : ℕ) (found : Option Move) → FIRST_DROP ≤ old → FIRST_DROP ≤ new → codes ≡ legal_from p old → MatchOption found (wanted_from p false old ≡ []) (λ m. wanted_from p false old ≡ code_of m ∷ wanted_from p false new) → (IsNone found → wanted_from p false new ≡ [])
+pub next_drop : (p : Shogi) (codes : List ℕ) (old new : ℕ) (found : Option Move) → FIRST_DROP ≤ old → FIRST_DROP ≤ new → codes ≡ legal_from p old → MatchOption found (matching_from p false old ≡ []) (λ m. matching_from p false old ≡ code_of m ∷ matching_from p false new) → (IsNone found → matching_from p false new ≡ [])
     → MatchOption found ((codes ≡ []) × (legal_from p new ≡ [])) (λ m. codes ≡ code_of m ∷ legal_from p new)
 next_drop p codes old new None low up same next end = (same ∙ (sym (all_drops p old low) ∙ next), sym (all_drops p new up) ∙ end refl)
 next_drop p codes old new (Some m) low up same next end = same ∙ (sym (all_drops p old low) ∙ (next ∙ ap (λ (xs : List ℕ). code_of m ∷ xs) (all_drops p new up)))

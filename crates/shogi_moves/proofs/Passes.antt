@@ -16,14 +16,14 @@ use Rattle.shogi_core.proofs.LineBits.{has_bit-not}
 use Rattle.shogi_core.proofs.CodesBack.{move_of-board, move_of-drop}
 use Rattle.shogi_core.proofs.Faults.{number_below}
 use Rattle.shogi_moves.specs.After.{after, after_code}
-use Rattle.shogi_moves.specs.Ends.{is_end}
+use Rattle.shogi_moves.specs.Destinations.{is_destination}
 use Rattle.shogi_moves.specs.Legal.{is_legal, is_legal_code, may_promote}
 use Rattle.shogi_moves.specs.LegalMoves.{legal_codes}
-use Rattle.shogi_moves.specs.Captures.{is_wanted}
+use Rattle.shogi_moves.specs.Captures.{is_matching}
 use Rattle.shogi_moves.specs.Replies.{HasCertainQuiets, IsAnswered}
-use Rattle.shogi_moves.specs.Sweeps.{wanted_from, Keeps, KeepsBoard, KeepsDrop, HasWantedOn, IsCertainQuiet, IsCertainDrop, IsPassed}
-use Rattle.shogi_moves.proofs.CaptureLaws.{skip_one, wanted_found}
-use Rattle.shogi_moves.proofs.EndLaws.{wanted_board}
+use Rattle.shogi_moves.specs.Sweeps.{matching_from, Keeps, KeepsBoard, KeepsDrop, HasMatchingOn, IsCertainQuiet, IsCertainDrop, IsPassed}
+use Rattle.shogi_moves.proofs.CaptureLaws.{skip_one, matching_found}
+use Rattle.shogi_moves.proofs.DestinationLaws.{matching_board}
 use Rattle.shogi_moves.proofs.LegalLaws.{is_legal_code_of, after_code_of}
 use Rattle.shogi_moves.proofs.SweepLaws.{at_code, keeps_from}
 
@@ -44,70 +44,70 @@ passed_on fact (c ∷ codes) middle left h k = elim h [
 passed_first : (fact : ℕ → Type 0) (codes : List ℕ) (c : ℕ) (rest left : List ℕ) → codes ≡ c ∷ rest → fact c → IsPassed fact rest left → IsPassed fact codes left
 passed_first fact codes c rest left e f h = subst (λ (xs : List ℕ). IsPassed fact xs left) (sym e) (inr (f, h))
 
--- all moves of the sort from a code up to another are passed
-pub passed_range : (p : Shogi) (capture : Bool) (fact : ℕ → Type 0) (n code : ℕ) → code + n ≤ MOVE_CODE_COUNT → ((c : ℕ) → code ≤ c → c < code + n → is_wanted p capture c ≡ true → fact c) → IsPassed fact (wanted_from p capture code) (wanted_from p capture (code + n))
-passed_range p capture fact zero code fits all = passed_none fact _ _ (ap (wanted_from p capture) (omega arith))
+-- all moves of the kind from a code up to another are passed
+pub passed_range : (p : Shogi) (capture : Bool) (fact : ℕ → Type 0) (n code : ℕ) → code + n ≤ MOVE_CODE_COUNT → ((c : ℕ) → code ≤ c → c < code + n → is_matching p capture c ≡ true → fact c) → IsPassed fact (matching_from p capture code) (matching_from p capture (code + n))
+passed_range p capture fact zero code fits all = passed_none fact _ _ (ap (matching_from p capture) (omega arith))
 passed_range p capture fact (suc n) code fits all =
-    let rest : IsPassed fact (wanted_from p capture (code + 1)) (wanted_from p capture (code + 1 + n)) = passed_range p capture fact n (code + 1) (omega arith) (λ c above below. all c (omega arith) (omega arith)) in
-    let left : IsPassed fact (wanted_from p capture (code + 1)) (wanted_from p capture (code + suc n)) = subst (λ (x : ℕ). IsPassed fact (wanted_from p capture (code + 1)) (wanted_from p capture x)) (omega arith) rest in
-    elim (cases_Bool (is_wanted p capture code)) [
-      | inl here ↦ passed_first fact (wanted_from p capture code) code (wanted_from p capture (code + 1)) _ (wanted_found p capture code (omega arith) here) (all code (omega arith) (omega arith) here) left
-      | inr other ↦ subst (λ (xs : List ℕ). IsPassed fact xs (wanted_from p capture (code + suc n))) (sym (skip_one p capture code (omega arith) other)) left
+    let rest : IsPassed fact (matching_from p capture (code + 1)) (matching_from p capture (code + 1 + n)) = passed_range p capture fact n (code + 1) (omega arith) (λ c above below. all c (omega arith) (omega arith)) in
+    let left : IsPassed fact (matching_from p capture (code + 1)) (matching_from p capture (code + suc n)) = subst (λ (x : ℕ). IsPassed fact (matching_from p capture (code + 1)) (matching_from p capture x)) (omega arith) rest in
+    elim (cases_Bool (is_matching p capture code)) [
+      | inl here ↦ passed_first fact (matching_from p capture code) code (matching_from p capture (code + 1)) _ (matching_found p capture code (omega arith) here) (all code (omega arith) (omega arith) here) left
+      | inr other ↦ subst (λ (xs : List ℕ). IsPassed fact xs (matching_from p capture (code + suc n))) (sym (skip_one p capture code (omega arith) other)) left
     ]
 
-pub passed_to : (p : Shogi) (capture : Bool) (fact : ℕ → Type 0) (code next : ℕ) → code ≤ next → next ≤ MOVE_CODE_COUNT → ((c : ℕ) → code ≤ c → c < next → is_wanted p capture c ≡ true → fact c) → IsPassed fact (wanted_from p capture code) (wanted_from p capture next)
+pub passed_to : (p : Shogi) (capture : Bool) (fact : ℕ → Type 0) (code next : ℕ) → code ≤ next → next ≤ MOVE_CODE_COUNT → ((c : ℕ) → code ≤ c → c < next → is_matching p capture c ≡ true → fact c) → IsPassed fact (matching_from p capture code) (matching_from p capture next)
 passed_to p capture fact code next up fits all =
     let there : code + (next - code) ≡ next = omega arith in
-    subst (λ (x : ℕ). IsPassed fact (wanted_from p capture code) (wanted_from p capture x)) there (passed_range p capture fact (next - code) code (omega arith) (λ c above below. all c above (omega arith)))
+    subst (λ (x : ℕ). IsPassed fact (matching_from p capture code) (matching_from p capture x)) there (passed_range p capture fact (next - code) code (omega arith) (λ c above below. all c above (omega arith)))
 
--- ---- the ends of a piece
+-- ---- the destinations of a piece
 
--- a wanted move of the piece is one of its ends
-end_of : (p : Shogi) (from code plain c : ℕ) → KeepsBoard p false from code plain 0 → code ≤ c → c < from * SQUARE_CODES + SQUARE_CODES → is_wanted p false c ≡ true → (c ≡ code_of (Board from (c / 2 % 81) false)) × (has_bit plain (c / 2 % 81) ≡ true)
-end_of p from code plain c k up below wanted =
+-- a matching move of the piece is one of its destinations
+destination_of : (p : Shogi) (from code plain c : ℕ) → KeepsBoard p false from code plain 0 → code ≤ c → c < from * SQUARE_CODES + SQUARE_CODES → is_matching p false c ≡ true → (c ≡ code_of (Board from (c / 2 % 81) false)) × (has_bit plain (c / 2 % 81) ≡ true)
+destination_of p from code plain c k up below matching =
     let low : from * SQUARE_CODES ≤ code = k.low in
     elim (at_code from c (omega arith) below) [
-      | inl at ↦ (at, true_from_ne_false (has_bit plain (c / 2 % 81)) (λ out. both_ways (is_wanted p false c) (ap (is_wanted p false) at ∙ k.plains.clear (c / 2 % 81) (omega arith) out (omega arith)) wanted))
-      | inr at ↦ absurd (both_ways (is_wanted p false c) (ap (is_wanted p false) at ∙ k.promotings.clear (c / 2 % 81) (omega arith) (has_bit-none (c / 2 % 81)) (omega arith)) wanted)
+      | inl at ↦ (at, true_from_ne_false (has_bit plain (c / 2 % 81)) (λ out. both_ways (is_matching p false c) (ap (is_matching p false) at ∙ k.plains.clear (c / 2 % 81) (omega arith) out (omega arith)) matching))
+      | inr at ↦ absurd (both_ways (is_matching p false c) (ap (is_matching p false) at ∙ k.promotings.clear (c / 2 % 81) (omega arith) (has_bit-none (c / 2 % 81)) (omega arith)) matching)
     ]
 
--- a wanted move on the board without promotion that is answered
-certain_quiet : (p : Shogi) (first c from n : ℕ) → from < 81 → n < 81 → first ≤ c → c ≡ code_of (Board from n false) → is_wanted p false c ≡ true → IsAnswered p (Board from n false) → IsCertainQuiet p first c
-certain_quiet p first c from n hf hn above at wanted answered =
+-- a matching move on the board without promotion that is answered
+certain_quiet : (p : Shogi) (first c from n : ℕ) → from < 81 → n < 81 → first ≤ c → c ≡ code_of (Board from n false) → is_matching p false c ≡ true → IsAnswered p (Board from n false) → IsCertainQuiet p first c
+certain_quiet p first c from n hf hn above at matching answered =
     let back : move_of (code_of (Board from n false)) ≡ Some (Board from n false) = move_of-board from n false hf hn in
-    let legal : is_legal p (Board from n false) ≡ true = sym (is_legal_code_of p c (Board from n false) (ap move_of at ∙ back)) ∙ (and_parts _ _ wanted).0 in
+    let legal : is_legal p (Board from n false) ≡ true = sym (is_legal_code_of p c (Board from n false) (ap move_of at ∙ back)) ∙ (and_parts _ _ matching).0 in
     let made : after_code p c ≡ after p (Board from n false) = ap (after_code p) at ∙ after_code_of p (Board from n false) back in
     record {
       above = above;
       on_board = omega (arith, at);
       plain = omega (arith, at);
-      quiet = wanted;
+      quiet = matching;
       replied = subst (λ (q : Shogi). legal_codes q ≢ []) (sym made) (answered legal);
     }
 
 -- those below another code are passed, where each of them is answered
-pub ends_passed : (p : Shogi) (from code next plain first : ℕ) → from < 81 → KeepsBoard p false from code plain 0 → first ≤ code → code ≤ next → next ≤ from * SQUARE_CODES + SQUARE_CODES
-    → ((n : ℕ) → n < 81 → has_bit plain n ≡ true → code_of (Board from n false) < next → IsAnswered p (Board from n false)) → IsPassed (IsCertainQuiet p first) (wanted_from p false code) (wanted_from p false next)
-ends_passed p from code next plain first hf k low up high answered =
-    passed_to p false (IsCertainQuiet p first) code next up (omega arith) (λ c above below wanted.
-    let at : (c ≡ code_of (Board from (c / 2 % 81) false)) × (has_bit plain (c / 2 % 81) ≡ true) = end_of p from code plain c k above (omega arith) wanted in
-    certain_quiet p first c from (c / 2 % 81) hf (omega arith) (omega arith) at.0 wanted (answered (c / 2 % 81) (omega arith) at.1 (omega (arith, at.0))))
+pub destinations_passed : (p : Shogi) (from code next plain first : ℕ) → from < 81 → KeepsBoard p false from code plain 0 → first ≤ code → code ≤ next → next ≤ from * SQUARE_CODES + SQUARE_CODES
+    → ((n : ℕ) → n < 81 → has_bit plain n ≡ true → code_of (Board from n false) < next → IsAnswered p (Board from n false)) → IsPassed (IsCertainQuiet p first) (matching_from p false code) (matching_from p false next)
+destinations_passed p from code next plain first hf k low up high answered =
+    passed_to p false (IsCertainQuiet p first) code next up (omega arith) (λ c above below matching.
+    let at : (c ≡ code_of (Board from (c / 2 % 81) false)) × (has_bit plain (c / 2 % 81) ≡ true) = destination_of p from code plain c k above (omega arith) matching in
+    certain_quiet p first c from (c / 2 % 81) hf (omega arith) (omega arith) at.0 matching (answered (c / 2 % 81) (omega arith) at.1 (omega (arith, at.0))))
 
 -- what is not uncertain is certain
-pub not_uncertain : (ends certain n : ℕ) → certain < 2 ^ 128 → n < 81 → has_bit (bit_and ends (2 ^ 128 - 1 - certain)) n ≡ false → has_bit ends n ≡ true → has_bit certain n ≡ true
-not_uncertain ends certain n fits h out set = true_from_ne_false (has_bit certain n) (λ out_of.
-    both_ways (has_bit (bit_and ends (2 ^ 128 - 1 - certain)) n) out (has_bit-and ends (2 ^ 128 - 1 - certain) n ∙ and_from _ _ set (has_bit-not certain n fits (omega arith) ∙ ap not out_of)))
+pub not_uncertain : (destinations certain n : ℕ) → certain < 2 ^ 128 → n < 81 → has_bit (bit_and destinations (2 ^ 128 - 1 - certain)) n ≡ false → has_bit destinations n ≡ true → has_bit certain n ≡ true
+not_uncertain destinations certain n fits h out set = true_from_ne_false (has_bit certain n) (λ out_of.
+    both_ways (has_bit (bit_and destinations (2 ^ 128 - 1 - certain)) n) out (has_bit-and destinations (2 ^ 128 - 1 - certain) n ∙ and_from _ _ set (has_bit-not certain n fits (omega arith) ∙ ap not out_of)))
 
-pub none_uncertain : (ends certain n : ℕ) → certain < 2 ^ 128 → n < 81 → bit_and ends (2 ^ 128 - 1 - certain) ≡ 0 → has_bit ends n ≡ true → has_bit certain n ≡ true
-none_uncertain ends certain n fits h none set = not_uncertain ends certain n fits h (ap (λ m. has_bit m n) none ∙ has_bit-none n) set
+pub none_uncertain : (destinations certain n : ℕ) → certain < 2 ^ 128 → n < 81 → bit_and destinations (2 ^ 128 - 1 - certain) ≡ 0 → has_bit destinations n ≡ true → has_bit certain n ≡ true
+none_uncertain destinations certain n fits h none set = not_uncertain destinations certain n fits h (ap (λ m. has_bit m n) none ∙ has_bit-none n) set
 
 -- the first that is uncertain is an end
-pub uncertain_end : (ends certain to : ℕ) → has_bit (bit_and ends (2 ^ 128 - 1 - certain)) to ≡ true → has_bit ends to ≡ true
-uncertain_end ends certain to set = (and_parts (has_bit ends to) _ (sym (has_bit-and ends (2 ^ 128 - 1 - certain) to) ∙ set)).0
+pub uncertain_destination : (destinations certain to : ℕ) → has_bit (bit_and destinations (2 ^ 128 - 1 - certain)) to ≡ true → has_bit destinations to ≡ true
+uncertain_destination destinations certain to set = (and_parts (has_bit destinations to) _ (sym (has_bit-and destinations (2 ^ 128 - 1 - certain) to) ∙ set)).0
 
 -- and those below it are certain
-pub below_uncertain : (ends certain to n : ℕ) → certain < 2 ^ 128 → n < 81 → n < to → ((i : ℕ) → has_bit (bit_and ends (2 ^ 128 - 1 - certain)) i ≡ true → to ≤ i) → has_bit ends n ≡ true → has_bit certain n ≡ true
-below_uncertain ends certain to n fits h down least set = not_uncertain ends certain n fits h (false_from_ne_true (has_bit (bit_and ends (2 ^ 128 - 1 - certain)) n) (λ there. (let le : to ≤ n = least n there in omega arith))) set
+pub below_uncertain : (destinations certain to n : ℕ) → certain < 2 ^ 128 → n < 81 → n < to → ((i : ℕ) → has_bit (bit_and destinations (2 ^ 128 - 1 - certain)) i ≡ true → to ≤ i) → has_bit destinations n ≡ true → has_bit certain n ≡ true
+below_uncertain destinations certain to n fits h down least set = not_uncertain destinations certain n fits h (false_from_ne_true (has_bit (bit_and destinations (2 ^ 128 - 1 - certain)) n) (λ there. (let le : to ≤ n = least n there in omega arith))) set
 
 -- ---- what is kept of a mask whose first bits are passed
 
@@ -118,13 +118,13 @@ keeps_nothing test place code over = record {
   clear = λ n h e l. absurd (let less : place n < code = over n h in omega arith);
 }
 
-pub ends_kept : (p : Shogi) (from code plain less to : ℕ) → KeepsBoard p false from code plain 0 → to < 81 → has_bit plain to ≡ true → less < 2 ^ 81 → ((i : ℕ) → i < 81 → to ≤ i → has_bit less i ≡ has_bit plain i) → ((i : ℕ) → i < to → has_bit less i ≡ false) → KeepsBoard p false from (code_of (Board from to false)) less 0
-ends_kept p from code plain less to k ht set fits same none =
+pub destinations_kept : (p : Shogi) (from code plain less to : ℕ) → KeepsBoard p false from code plain 0 → to < 81 → has_bit plain to ≡ true → less < 2 ^ 81 → ((i : ℕ) → i < 81 → to ≤ i → has_bit less i ≡ has_bit plain i) → ((i : ℕ) → i < to → has_bit less i ≡ false) → KeepsBoard p false from (code_of (Board from to false)) less 0
+destinations_kept p from code plain less to k ht set fits same none =
     let up : code ≤ code_of (Board from to false) = (k.plains.set to ht set).0 in
     record {
       low = omega arith;
       high = omega arith;
-      plains = keeps_from (is_wanted p false) (λ n. code_of (Board from n false)) code (code_of (Board from to false)) plain less to k.plains fits up (λ n h. omega arith) (λ n h. omega arith) same none;
+      plains = keeps_from (is_matching p false) (λ n. code_of (Board from n false)) code (code_of (Board from to false)) plain less to k.plains fits up (λ n h. omega arith) (λ n h. omega arith) same none;
       promotings = record {
         fits = omega arith;
         set = λ n h e. absurd (both_ways (has_bit 0 n) (has_bit-none n) e);
@@ -132,27 +132,27 @@ ends_kept p from code plain less to k ht set fits same none =
       };
     }
 
-pub no_ends_kept : (p : Shogi) (from : ℕ) → KeepsBoard p false from (from * SQUARE_CODES + SQUARE_CODES) 0 0
-no_ends_kept p from = record {
+pub no_destinations_kept : (p : Shogi) (from : ℕ) → KeepsBoard p false from (from * SQUARE_CODES + SQUARE_CODES) 0 0
+no_destinations_kept p from = record {
   low = omega arith;
   high = omega arith;
-  plains = keeps_nothing (is_wanted p false) (λ n. code_of (Board from n false)) (from * SQUARE_CODES + SQUARE_CODES) (λ n h. omega arith);
-  promotings = keeps_nothing (is_wanted p false) (λ n. code_of (Board from n true)) (from * SQUARE_CODES + SQUARE_CODES) (λ n h. omega arith);
+  plains = keeps_nothing (is_matching p false) (λ n. code_of (Board from n false)) (from * SQUARE_CODES + SQUARE_CODES) (λ n h. omega arith);
+  promotings = keeps_nothing (is_matching p false) (λ n. code_of (Board from n true)) (from * SQUARE_CODES + SQUARE_CODES) (λ n h. omega arith);
 }
 
-pub no_ends_of : (p : Shogi) (from plain promoting : ℕ) → plain ≡ 0 → promoting ≡ 0 → KeepsBoard p false from (from * SQUARE_CODES + SQUARE_CODES) plain promoting
-no_ends_of p from plain promoting x y = rw (x, y) (no_ends_kept p from)
+pub no_destinations_of : (p : Shogi) (from plain promoting : ℕ) → plain ≡ 0 → promoting ≡ 0 → KeepsBoard p false from (from * SQUARE_CODES + SQUARE_CODES) plain promoting
+no_destinations_of p from plain promoting x y = rw (x, y) (no_destinations_kept p from)
 
 -- ---- all moves of a piece
 
--- a wanted move ends on an empty square that the piece reaches, and by promotion only where it may promote
-plain_among : (p : Shogi) (from n : ℕ) → length p.cells ≡ 81 → from < 81 → n < 81 → is_piece_of p.side (piece_at p.cells from) ≡ true → is_wanted p false (code_of (Board from n false)) ≡ true → (reaches p.cells from n && is_end false p.side (piece_at p.cells n)) ≡ true
-plain_among p from n len hf hn own wanted = (and_parts _ _ (and_parts _ _ (sym (wanted_board p false false from n len hf hn own) ∙ wanted)).0).0
+-- a matching move ends on an empty square that the piece reaches, and by promotion only where it may promote
+plain_among : (p : Shogi) (from n : ℕ) → length p.cells ≡ 81 → from < 81 → n < 81 → is_piece_of p.side (piece_at p.cells from) ≡ true → is_matching p false (code_of (Board from n false)) ≡ true → (reaches p.cells from n && is_destination false p.side (piece_at p.cells n)) ≡ true
+plain_among p from n len hf hn own matching = (and_parts _ _ (and_parts _ _ (sym (matching_board p false false from n len hf hn own) ∙ matching)).0).0
 
-promoting_among : (p : Shogi) (from n : ℕ) → length p.cells ≡ 81 → from < 81 → n < 81 → is_piece_of p.side (piece_at p.cells from) ≡ true → is_wanted p false (code_of (Board from n true)) ≡ true
-    → ((reaches p.cells from n && is_end false p.side (piece_at p.cells n)) ≡ true) × (may_promote (piece_at p.cells from) from n ≡ true)
-promoting_among p from n len hf hn own wanted =
-    let parts = and_parts _ _ (sym (wanted_board p false true from n len hf hn own) ∙ wanted) in
+promoting_among : (p : Shogi) (from n : ℕ) → length p.cells ≡ 81 → from < 81 → n < 81 → is_piece_of p.side (piece_at p.cells from) ≡ true → is_matching p false (code_of (Board from n true)) ≡ true
+    → ((reaches p.cells from n && is_destination false p.side (piece_at p.cells n)) ≡ true) × (may_promote (piece_at p.cells from) from n ≡ true)
+promoting_among p from n len hf hn own matching =
+    let parts = and_parts _ _ (sym (matching_board p false true from n len hf hn own) ∙ matching) in
     ((and_parts _ _ parts.0).0, (and_parts _ _ parts.1).0)
 
 right_false : (a b : Bool) → a ≡ true → (a && b) ≡ false → b ≡ false
@@ -167,7 +167,7 @@ plainly_certain among promoting certain n fits h none set =
     (parts.0, not-false (has_bit certain n) (sym (has_bit-not certain n fits (omega arith)) ∙ parts.1))
 
 -- no move of a piece but such ones
-pub certain_quiets : (p : Shogi) (from among promoting certain : ℕ) → ((n : ℕ) → n < 81 → has_bit among n ≡ (reaches p.cells from n && is_end false p.side (piece_at p.cells n))) → ((n : ℕ) → n < 81 → has_bit promoting n ≡ may_promote (piece_at p.cells from) from n)
+pub certain_quiets : (p : Shogi) (from among promoting certain : ℕ) → ((n : ℕ) → n < 81 → has_bit among n ≡ (reaches p.cells from n && is_destination false p.side (piece_at p.cells n))) → ((n : ℕ) → n < 81 → has_bit promoting n ≡ may_promote (piece_at p.cells from) from n)
     → certain < 2 ^ 128 → ((n : ℕ) → n < 81 → has_bit certain n ≡ true → IsAnswered p (Board from n false)) → bit_and among (bit_or promoting (2 ^ 128 - 1 - certain)) ≡ 0 → HasCertainQuiets p from
 certain_quiets p from among promoting certain among_bits promoting_bits fits answered none = record {
   answered = λ n h e. answered n h (plainly_certain among promoting certain n fits h none (among_bits n h ∙ e)).1;
@@ -175,23 +175,23 @@ certain_quiets p from among promoting certain among_bits promoting_bits fits ans
 }
 
 -- the moves of the first of the pieces that are left are passed, where each of them is answered and none promotes
-pub piece_passed : (p : Shogi) (first code left from : ℕ) → length p.cells ≡ 81 → from < 81 → is_piece_of p.side (piece_at p.cells from) ≡ true → HasWantedOn p false code left → ((n : ℕ) → has_bit left n ≡ true → from ≤ n)
-    → HasCertainQuiets p from → first ≤ code → code ≤ from * SQUARE_CODES + SQUARE_CODES → IsPassed (IsCertainQuiet p first) (wanted_from p false code) (wanted_from p false (from * SQUARE_CODES + SQUARE_CODES))
+pub piece_passed : (p : Shogi) (first code left from : ℕ) → length p.cells ≡ 81 → from < 81 → is_piece_of p.side (piece_at p.cells from) ≡ true → HasMatchingOn p false code left → ((n : ℕ) → has_bit left n ≡ true → from ≤ n)
+    → HasCertainQuiets p from → first ≤ code → code ≤ from * SQUARE_CODES + SQUARE_CODES → IsPassed (IsCertainQuiet p first) (matching_from p false code) (matching_from p false (from * SQUARE_CODES + SQUARE_CODES))
 piece_passed p first code left from len hf own on least quiets low up =
-    passed_to p false (IsCertainQuiet p first) code (from * SQUARE_CODES + SQUARE_CODES) up (omega arith) (λ c above below wanted.
-    let here : from ≤ c / SQUARE_CODES = least (c / SQUARE_CODES) (on.on c above (omega arith) wanted) in
+    passed_to p false (IsCertainQuiet p first) code (from * SQUARE_CODES + SQUARE_CODES) up (omega arith) (λ c above below matching.
+    let here : from ≤ c / SQUARE_CODES = least (c / SQUARE_CODES) (on.on c above (omega arith) matching) in
     let hn : c / 2 % 81 < 81 = omega arith in
     elim (at_code from c (omega arith) below) [
-      | inl at ↦ certain_quiet p first c from (c / 2 % 81) hf hn (omega arith) at wanted (quiets.answered (c / 2 % 81) hn (plain_among p from (c / 2 % 81) len hf hn own (ap (is_wanted p false) (sym at) ∙ wanted)))
+      | inl at ↦ certain_quiet p first c from (c / 2 % 81) hf hn (omega arith) at matching (quiets.answered (c / 2 % 81) hn (plain_among p from (c / 2 % 81) len hf hn own (ap (is_matching p false) (sym at) ∙ matching)))
       | inr at ↦ absurd (
-          let there : ((reaches p.cells from (c / 2 % 81) && is_end false p.side (piece_at p.cells (c / 2 % 81))) ≡ true) × (may_promote (piece_at p.cells from) from (c / 2 % 81) ≡ true) = promoting_among p from (c / 2 % 81) len hf hn own (ap (is_wanted p false) (sym at) ∙ wanted) in
+          let there : ((reaches p.cells from (c / 2 % 81) && is_destination false p.side (piece_at p.cells (c / 2 % 81))) ≡ true) × (may_promote (piece_at p.cells from) from (c / 2 % 81) ≡ true) = promoting_among p from (c / 2 % 81) len hf hn own (ap (is_matching p false) (sym at) ∙ matching) in
           both_ways (may_promote (piece_at p.cells from) from (c / 2 % 81)) (quiets.plain (c / 2 % 81) hn there.0) there.1)
     ])
 
 -- and those of the others are left
-pub others_left : (p : Shogi) (code left less from : ℕ) → HasWantedOn p false code left → code ≤ from * SQUARE_CODES + SQUARE_CODES → ((i : ℕ) → has_bit less i ≡ (has_bit left i && not (i == from))) → HasWantedOn p false (from * SQUARE_CODES + SQUARE_CODES) less
+pub others_left : (p : Shogi) (code left less from : ℕ) → HasMatchingOn p false code left → code ≤ from * SQUARE_CODES + SQUARE_CODES → ((i : ℕ) → has_bit less i ≡ (has_bit left i && not (i == from))) → HasMatchingOn p false (from * SQUARE_CODES + SQUARE_CODES) less
 others_left p code left less from w up bits = record {
-  on = λ c low high wanted. bits (c / SQUARE_CODES) ∙ and_from (has_bit left (c / SQUARE_CODES)) (not (c / SQUARE_CODES == from)) (w.on c (omega arith) high wanted) (ap not (ne_eqb (c / SQUARE_CODES) from (omega arith)));
+  on = λ c low high matching. bits (c / SQUARE_CODES) ∙ and_from (has_bit left (c / SQUARE_CODES)) (not (c / SQUARE_CODES == from)) (w.on c (omega arith) high matching) (ap not (ne_eqb (c / SQUARE_CODES) from (omega arith)));
 }
 
 -- pieces above the first of them
@@ -205,22 +205,22 @@ above_first left less from n least bits set =
 
 -- ---- the drops of a kind
 
-drop_of : (p : Shogi) (kind : Kind) (code ends c : ℕ) → KeepsDrop p kind code ends → code ≤ c → c < FIRST_DROP + 81 + kind_number kind * 81 → is_wanted p false c ≡ true → (c ≡ code_of (Drop kind (c - FIRST_DROP - kind_number kind * 81))) × (has_bit ends (c - FIRST_DROP - kind_number kind * 81) ≡ true)
-drop_of p kind code ends c k up below wanted =
+drop_of : (p : Shogi) (kind : Kind) (code destinations c : ℕ) → KeepsDrop p kind code destinations → code ≤ c → c < FIRST_DROP + 81 + kind_number kind * 81 → is_matching p false c ≡ true → (c ≡ code_of (Drop kind (c - FIRST_DROP - kind_number kind * 81))) × (has_bit destinations (c - FIRST_DROP - kind_number kind * 81) ≡ true)
+drop_of p kind code destinations c k up below matching =
     let low : FIRST_DROP + kind_number kind * 81 ≤ code = k.low in
     let at : c ≡ code_of (Drop kind (c - FIRST_DROP - kind_number kind * 81)) = omega arith in
-    (at, true_from_ne_false (has_bit ends (c - FIRST_DROP - kind_number kind * 81)) (λ out. both_ways (is_wanted p false c) (ap (is_wanted p false) at ∙ k.drops.clear (c - FIRST_DROP - kind_number kind * 81) (omega arith) out (omega arith)) wanted))
+    (at, true_from_ne_false (has_bit destinations (c - FIRST_DROP - kind_number kind * 81)) (λ out. both_ways (is_matching p false c) (ap (is_matching p false) at ∙ k.drops.clear (c - FIRST_DROP - kind_number kind * 81) (omega arith) out (omega arith)) matching))
 
-pub drops_passed : (p : Shogi) (kind : Kind) (code next ends : ℕ) → KeepsDrop p kind code ends → code ≤ next → next ≤ FIRST_DROP + 81 + kind_number kind * 81
-    → ((n : ℕ) → n < 81 → has_bit ends n ≡ true → code_of (Drop kind n) < next → IsAnswered p (Drop kind n)) → IsPassed (IsCertainDrop p kind code) (wanted_from p false code) (wanted_from p false next)
-drops_passed p kind code next ends k up high answered =
+pub drops_passed : (p : Shogi) (kind : Kind) (code next destinations : ℕ) → KeepsDrop p kind code destinations → code ≤ next → next ≤ FIRST_DROP + 81 + kind_number kind * 81
+    → ((n : ℕ) → n < 81 → has_bit destinations n ≡ true → code_of (Drop kind n) < next → IsAnswered p (Drop kind n)) → IsPassed (IsCertainDrop p kind code) (matching_from p false code) (matching_from p false next)
+drops_passed p kind code next destinations k up high answered =
     let seven : kind_number kind < 7 = number_below kind in
     let low : FIRST_DROP + kind_number kind * 81 ≤ code = k.low in
-    passed_to p false (IsCertainDrop p kind code) code next up (omega arith) (λ c above below wanted.
+    passed_to p false (IsCertainDrop p kind code) code next up (omega arith) (λ c above below matching.
     let ht : c - FIRST_DROP - kind_number kind * 81 < 81 = omega arith in
-    let at : (c ≡ code_of (Drop kind (c - FIRST_DROP - kind_number kind * 81))) × (has_bit ends (c - FIRST_DROP - kind_number kind * 81) ≡ true) = drop_of p kind code ends c k above (omega arith) wanted in
+    let at : (c ≡ code_of (Drop kind (c - FIRST_DROP - kind_number kind * 81))) × (has_bit destinations (c - FIRST_DROP - kind_number kind * 81) ≡ true) = drop_of p kind code destinations c k above (omega arith) matching in
     let back : move_of c ≡ Some (Drop kind (c - FIRST_DROP - kind_number kind * 81)) = ap move_of at.0 ∙ move_of-drop kind (c - FIRST_DROP - kind_number kind * 81) ht in
-    let legal : is_legal_code p c ≡ true = (and_parts _ _ wanted).0 in
+    let legal : is_legal_code p c ≡ true = (and_parts _ _ matching).0 in
     let made : after_code p c ≡ after p (Drop kind (c - FIRST_DROP - kind_number kind * 81)) = ap (after_code p) at.0 ∙ after_code_of p (Drop kind (c - FIRST_DROP - kind_number kind * 81)) (move_of-drop kind (c - FIRST_DROP - kind_number kind * 81) ht) in
     record {
       above = above;
@@ -230,16 +230,16 @@ drops_passed p kind code next ends k up high answered =
       replied = subst (λ (q : Shogi). legal_codes q ≢ []) (sym made) (answered (c - FIRST_DROP - kind_number kind * 81) ht at.1 (omega (arith, at.0)) (sym (is_legal_code_of p c (Drop kind (c - FIRST_DROP - kind_number kind * 81)) back) ∙ legal));
     })
 
-pub drops_kept : (p : Shogi) (kind : Kind) (code ends less to : ℕ) → KeepsDrop p kind code ends → to < 81 → has_bit ends to ≡ true → less < 2 ^ 81 → ((i : ℕ) → i < 81 → to ≤ i → has_bit less i ≡ has_bit ends i) → ((i : ℕ) → i < to → has_bit less i ≡ false) → KeepsDrop p kind (code_of (Drop kind to)) less
-drops_kept p kind code ends less to k ht set fits same none = record {
+pub drops_kept : (p : Shogi) (kind : Kind) (code destinations less to : ℕ) → KeepsDrop p kind code destinations → to < 81 → has_bit destinations to ≡ true → less < 2 ^ 81 → ((i : ℕ) → i < 81 → to ≤ i → has_bit less i ≡ has_bit destinations i) → ((i : ℕ) → i < to → has_bit less i ≡ false) → KeepsDrop p kind (code_of (Drop kind to)) less
+drops_kept p kind code destinations less to k ht set fits same none = record {
   low = omega arith;
   high = omega arith;
-  drops = keeps_from (is_wanted p false) (λ n. code_of (Drop kind n)) code (code_of (Drop kind to)) ends less to k.drops fits (k.drops.set to ht set).0 (λ n h. omega arith) (λ n h. omega arith) same none;
+  drops = keeps_from (is_matching p false) (λ n. code_of (Drop kind n)) code (code_of (Drop kind to)) destinations less to k.drops fits (k.drops.set to ht set).0 (λ n h. omega arith) (λ n h. omega arith) same none;
 }
 
 pub no_drops_kept : (p : Shogi) (kind : Kind) → KeepsDrop p kind (FIRST_DROP + 81 + kind_number kind * 81) 0
 no_drops_kept p kind = record {
   low = omega arith;
   high = omega arith;
-  drops = keeps_nothing (is_wanted p false) (λ n. code_of (Drop kind n)) (FIRST_DROP + 81 + kind_number kind * 81) (λ n h. omega arith);
+  drops = keeps_nothing (is_matching p false) (λ n. code_of (Drop kind n)) (FIRST_DROP + 81 + kind_number kind * 81) (λ n h. omega arith);
 }

@@ -25,20 +25,20 @@ use Rattle.shogi_core.specs.Validity.{IsValid}
 use Rattle.shogi_core.proofs.Below.{some_below_no, some_below_not, some_below_at}
 use Rattle.shogi_core.proofs.BitLaws.{has_bit-and, has_bit-or, has_bit-none, has_bit-without}
 use Rattle.shogi_core.proofs.CodesBack.{move_of-board}
-use Rattle.shogi_core.proofs.Exposed.{some_below_which, reach_was}
+use Rattle.shogi_core.proofs.Uncovered.{some_below_which, reach_was}
 use Rattle.shogi_core.proofs.Faults.{faultless_from, number_below}
 use Rattle.shogi_core.proofs.LineBits.{lowest_set, and_fits, has_bit-not}
 use Rattle.shogi_core.proofs.Replies.{no_check}
 use Rattle.shogi_core.proofs.SeenLaws.{lined_back, lined_aligned, cell_seen, slide_seen}
-use Rattle.shogi_core.proofs.Snipers.{left_calm, stands_still}
+use Rattle.shogi_core.proofs.Snipers.{left_unpinned, stands_still}
 use Rattle.shogi_moves.specs.After.{after, cells_after, piece_moved, dropped, with_captured, with_one_more}
 use Rattle.shogi_moves.specs.Legal.{is_legal, is_safe, is_pseudo_legal_board_move, is_pseudo_legal_drop, is_pawn_kind, is_mated_by_drop}
 use Rattle.shogi_moves.specs.LegalMoves.{legal_codes}
 use Rattle.shogi_moves.specs.Replies.{cell_steps, is_free_kind, holds_free, is_line_of_king, is_aligned_with_king, is_open_step, is_spare, is_way, Sees, Aligns, IsReplies, IsHarmless, IsHarmlessFrom, StaysCovered, UncoversNothing, UncoversWithin, IsOpen, IsAnswered}
 use Rattle.shogi_moves.proofs.DropChecks as drops
-use Rattle.shogi_moves.proofs.EndLaws.{legal_board, legal_drop, drop_wanted, still}
+use Rattle.shogi_moves.proofs.DestinationLaws.{legal_board, legal_drop, drop_matching, still}
 use Rattle.shogi_moves.proofs.ExistenceLaws.{some_legal}
-use Rattle.shogi_moves.proofs.GuardLaws.{look, other_side, own_some, is_piece_of-piece_moved, dropped_of, quiet_board, quiet_drop}
+use Rattle.shogi_moves.proofs.CheckInfoLaws.{look, other_side, own_some, is_piece_of-piece_moved, dropped_of, quiet_board, quiet_drop}
 use Rattle.shogi_moves.proofs.LegalLaws.{is_legal_code_of}
 
 -- ---- what a king sees
@@ -182,7 +182,7 @@ free_drop cells hands color kind a len ha kin held empty shut =
     let lands : is_immobile a (dropped color kind) ≡ false = free_lands color kind a kin in
     let allowed : is_pseudo_legal_drop cells hands color kind a ≡ true = rw (held, empty, lands, plain) refl in
     let safe : is_safe (record { cells = cells; hands = hands; side = color }) (Drop kind a) ≡ true = and_from _ _ allowed (ap not (quiet_drop cells color kind a len ha shut)) in
-    some_legal q (code_of (Drop kind a)) (sym (drop_wanted q kind a ha) ∙ (legal_drop q kind a ha ∙ and_from _ _ safe (ap (λ b. not (b && is_mated_by_drop (after q (Drop kind a)))) plain)))
+    some_legal q (code_of (Drop kind a)) (sym (drop_matching q kind a ha) ∙ (legal_drop q kind a ha ∙ and_from _ _ safe (ap (λ b. not (b && is_mated_by_drop (after q (Drop kind a)))) plain)))
 
 -- a move changes nothing in the other side's hand
 other_place : (side : Color) (kind other : Kind) → place_of (opponent_of side) other ≢ place_of side kind
@@ -359,7 +359,7 @@ left_board p from to promote sight spare v r hf ht own out off = record {
         (λ k l e. ap (λ cell. cell_reaches p.cells cell to k) lands ∙ off k l e)
         (faultless_from p v.no_fault).shut
     shut (inr still) =
-        left_calm p.cells (set (set p.cells from None) to (piece_moved promote (piece_at p.cells from))) from opened (opponent_of p.side) to theirs crown
+        left_unpinned p.cells (set (set p.cells from None) to (piece_moved promote (piece_at p.cells from))) from opened (opponent_of p.side) to theirs crown
         (λ k l e. ap (λ cell. cell_reaches (set (set p.cells from None) to (piece_moved promote (piece_at p.cells from))) cell to k) lands
         ∙ false_from_ne_true (cell_reaches (set (set p.cells from None) to (piece_moved promote (piece_at p.cells from))) (piece_moved promote (piece_at p.cells from)) to k) (λ r. both_ways (cell_reaches (set p.cells from None) w to k) (still.0 k l e)
         (reach_was (set p.cells from None) (set (set p.cells from None) to (piece_moved promote (piece_at p.cells from))) (λ x. ⊥) stays_none w to k (λ x left. absurd left) r)))
@@ -540,9 +540,9 @@ unmoved None = refl
 unmoved (Some piece) = refl
 
 -- some squares of a mask, and others
-pub among_either : (ends free more n : ℕ) → has_bit (bit_or (bit_and ends free) more) n ≡ true → ((has_bit ends n ≡ true) × (has_bit free n ≡ true)) ⊎ (has_bit more n ≡ true)
-among_either ends free more n e = elim (or_cases (has_bit (bit_and ends free) n) (has_bit more n) (sym (has_bit-or (bit_and ends free) more n) ∙ e)) [
-  | inl both ↦ inl (and_parts _ _ (sym (has_bit-and ends free n) ∙ both))
+pub among_either : (destinations free more n : ℕ) → has_bit (bit_or (bit_and destinations free) more) n ≡ true → ((has_bit destinations n ≡ true) × (has_bit free n ≡ true)) ⊎ (has_bit more n ≡ true)
+among_either destinations free more n e = elim (or_cases (has_bit (bit_and destinations free) n) (has_bit more n) (sym (has_bit-or (bit_and destinations free) more n) ∙ e)) [
+  | inl both ↦ inl (and_parts _ _ (sym (has_bit-and destinations free n) ∙ both))
   | inr other ↦ inr other
 ]
 
@@ -551,10 +551,10 @@ pub open_far : (p : Shogi) (from n sight closed spare : ℕ) → IsValid p → I
 open_far p from n sight closed spare v r hf hn unseen_from far o = λ legal. replied_board p from n false sight spare o.way.0 v r hf hn (legal_own p from n false legal) (inl unseen_from)
     (subst (λ (cell : Option Piece). IsHarmless p.cells (opponent_of p.side) cell n) (sym (unmoved (piece_at p.cells from))) far) o.way.1 o.way.2 o.way.3
 
-pub open_board : (p : Shogi) (from n sight risky uncovering spare : ℕ) → IsValid p → IsReplies p sight spare → from < 81 → n < 81 → UncoversWithin p.cells (opponent_of p.side) sight from uncovering
-    → (has_bit risky n ≡ false → IsHarmless p.cells (opponent_of p.side) (piece_at p.cells from) n) → IsOpen (bit_or risky uncovering) spare n → IsAnswered p (Board from n false)
-open_board p from n sight risky uncovering spare v r hf hn within far o = λ legal.
-    let parts : (has_bit risky n ≡ false) × (has_bit uncovering n ≡ false) = or_parts (has_bit risky n) (has_bit uncovering n) (sym (has_bit-or risky uncovering n) ∙ o.unclosed) in
+pub open_board : (p : Shogi) (from n sight checking uncovering spare : ℕ) → IsValid p → IsReplies p sight spare → from < 81 → n < 81 → UncoversWithin p.cells (opponent_of p.side) sight from uncovering
+    → (has_bit checking n ≡ false → IsHarmless p.cells (opponent_of p.side) (piece_at p.cells from) n) → IsOpen (bit_or checking uncovering) spare n → IsAnswered p (Board from n false)
+open_board p from n sight checking uncovering spare v r hf hn within far o = λ legal.
+    let parts : (has_bit checking n ≡ false) × (has_bit uncovering n ≡ false) = or_parts (has_bit checking n) (has_bit uncovering n) (sym (has_bit-or checking uncovering n) ∙ o.unclosed) in
     let off : IsHarmless p.cells (opponent_of p.side) (piece_moved false (piece_at p.cells from)) n = subst (λ (cell : Option Piece). IsHarmless p.cells (opponent_of p.side) cell n) (sym (unmoved (piece_at p.cells from))) (far parts.0) in
     replied_board p from n false sight spare o.way.0 v r hf hn (legal_own p from n false legal) (within false n hn parts.1 off) off o.way.1 o.way.2 o.way.3
 

@@ -1,4 +1,4 @@
--- Ways through the legal moves of a sort.
+-- Ways through the legal moves of a kind.
 use Rattle.std.proofs.Common.{◌≡◌, ◌≢◌, ℕ, ◌+◌, ◌-◌, ◌*◌, ◌/◌, ◌%◌, ◌^◌, ◌<◌, ◌≤◌, ◌⊎◌, Bool, true, false, not, Some, List, [], filter, bit_and, ◌∷◌, refl, sym, ap, ◌∙◌, arith, inl, inr, subst, bit_or}
 use Rattle.std.specs.Prelude.{◌&&◌, ◌||◌, ◌==◌}
 use Rattle.std.proofs.lemmas.Bool.{cases_eq, ne_eqb, eq-eqb, and_parts, both_ways, and_from, cases_lt, or_left, or_right, or_parts, or_cases, false_from_ne_true, true_from_ne_false, cond-true}
@@ -18,21 +18,21 @@ use Rattle.shogi_core.proofs.Below.{some_below_at, some_below_no}
 use Rattle.shogi_core.proofs.LineBits.{has_bit-not, and_fits}
 use Rattle.shogi_core.proofs.CodesBack.{move_of-board, move_of-drop}
 use Rattle.shogi_core.proofs.Faults.{number_below}
-use Rattle.shogi_moves.specs.Captures.{captures, is_asked, is_of_sort, is_wanted, HasNoneWanted}
-use Rattle.shogi_moves.specs.Ends.{is_end}
+use Rattle.shogi_moves.specs.Captures.{captures, matches, matches_kind, is_matching, HasNoneMatching}
+use Rattle.shogi_moves.specs.Destinations.{is_destination}
 use Rattle.shogi_moves.specs.Legal.{is_legal, is_legal_code}
 use Rattle.shogi_moves.specs.LegalMoves.{legal_from}
 use Rattle.shogi_moves.specs.Rising.{is_in}
-use Rattle.shogi_moves.specs.Sweeps.{wanted_from, Keeps, KeepsBoard, KeepsDrop, HasWantedOn}
-use Rattle.shogi_moves.proofs.CaptureLaws.{sort_of, none_square, none_drop, none_join, wanted_jumps, wanted_found, wanted_end}
-use Rattle.shogi_moves.proofs.EndLaws.{wanted_move, sort_ends}
+use Rattle.shogi_moves.specs.Sweeps.{matching_from, Keeps, KeepsBoard, KeepsDrop, HasMatchingOn}
+use Rattle.shogi_moves.proofs.CaptureLaws.{matches_kind_of, none_square, none_drop, none_join, matching_jumps, matching_found, matching_end}
+use Rattle.shogi_moves.proofs.DestinationLaws.{matching_move, matching_among}
 use Rattle.shogi_moves.proofs.LegalLaws.{drop_code, legal_in, legal_in_above, legal_code_below}
 use Rattle.shogi_moves.proofs.ZoneLaws.{more_fits}
 
 -- ---- no piece of the side stands on the square
 
-pub no_ends : (p : Shogi) (capture promote : Bool) (from n : ℕ) → from < 81 → n < 81 → is_piece_of p.side (piece_at p.cells from) ≡ false → has_bit 0 n ≡ is_wanted p capture (code_of (Board from n promote))
-no_ends p capture promote from n hf hn e =
+pub no_destinations : (p : Shogi) (capture promote : Bool) (from n : ℕ) → from < 81 → n < 81 → is_piece_of p.side (piece_at p.cells from) ≡ false → has_bit 0 n ≡ is_matching p capture (code_of (Board from n promote))
+no_destinations p capture promote from n hf hn e =
     has_bit-none n ∙ sym ((none_square p capture from (from * SQUARE_CODES) (from * SQUARE_CODES + SQUARE_CODES) hf (omega arith) (omega arith) e).none (code_of (Board from n promote)) (low promote) (high promote))
   where
     low : (b : Bool) → from * SQUARE_CODES ≤ code_of (Board from n b)
@@ -43,7 +43,7 @@ no_ends p capture promote from n hf hn e =
     high true = omega arith
     high false = omega arith
 
-pub ruleset no_piece = (no_ends)
+pub ruleset no_piece = (no_destinations)
 
 -- ---- the lowest end of both masks
 
@@ -101,7 +101,7 @@ keeps_from test place code next mask less to k fits up falls rises same none = r
   ];
 }
 
--- ---- the ends of a piece
+-- ---- the destinations of a piece
 
 pub either : (plain promoting n : ℕ) → bit_or plain promoting ≡ 0 → (has_bit plain n ≡ false) × (has_bit promoting n ≡ false)
 either plain promoting n none = or_parts (has_bit plain n) (has_bit promoting n) (sym (has_bit-or plain promoting n) ∙ (ap (λ m. has_bit m n) none ∙ has_bit-none n))
@@ -114,7 +114,7 @@ below plain promoting to least n h = or_parts (has_bit plain n) (has_bit promoti
 pub at_code : (from c : ℕ) → from * SQUARE_CODES ≤ c → c < from * SQUARE_CODES + SQUARE_CODES → (c ≡ code_of (Board from (c / 2 % 81) false)) ⊎ (c ≡ code_of (Board from (c / 2 % 81) true))
 at_code from c low high = elim (cases_eq (c % 2) 0) [ inl even ↦ inl (omega arith) | inr odd ↦ inr (omega arith) ]
 
--- the ends of a piece from a code on, whose codes pass a test
+-- the destinations of a piece from a code on, whose codes pass a test
 module _ (test : ℕ → Bool) (from code plain promoting : ℕ) (low : from * SQUARE_CODES ≤ code) (a : Keeps test (λ n. code_of (Board from n false)) code plain) (b : Keeps test (λ n. code_of (Board from n true)) code promoting) where
   fails_at : (c : ℕ) → code ≤ c → c < from * SQUARE_CODES + SQUARE_CODES → (c ≡ code_of (Board from (c / 2 % 81) false) → has_bit plain (c / 2 % 81) ≡ false) → (c ≡ code_of (Board from (c / 2 % 81) true) → has_bit promoting (c / 2 % 81) ≡ false) → test c ≡ false
   fails_at c above under x y = elim (at_code from c (omega arith) under) [
@@ -143,32 +143,32 @@ module _ (test : ℕ → Bool) (from code plain promoting : ℕ) (low : from * S
       ])
       (λ at. (below plain promoting to least (c / 2 % 81) (omega arith)).1)
 
-pub none_left : (p : Shogi) (capture : Bool) (from code plain promoting : ℕ) → KeepsBoard p capture from code plain promoting → bit_or plain promoting ≡ 0 → HasNoneWanted p capture code (from * SQUARE_CODES + SQUARE_CODES)
-none_left p capture from code plain promoting k none = record { none = fails_all (is_wanted p capture) from code plain promoting k.low k.plains k.promotings none }
+pub none_left : (p : Shogi) (capture : Bool) (from code plain promoting : ℕ) → KeepsBoard p capture from code plain promoting → bit_or plain promoting ≡ 0 → HasNoneMatching p capture code (from * SQUARE_CODES + SQUARE_CODES)
+none_left p capture from code plain promoting k none = record { none = fails_all (is_matching p capture) from code plain promoting k.low k.plains k.promotings none }
 
 pub keeps_square : (p : Shogi) (capture : Bool) (from plain promoting : ℕ) → plain < 2 ^ 81 → promoting < 2 ^ 81
-    → ((n : ℕ) → n < 81 → has_bit plain n ≡ is_wanted p capture (code_of (Board from n false))) → ((n : ℕ) → n < 81 → has_bit promoting n ≡ is_wanted p capture (code_of (Board from n true)))
+    → ((n : ℕ) → n < 81 → has_bit plain n ≡ is_matching p capture (code_of (Board from n false))) → ((n : ℕ) → n < 81 → has_bit promoting n ≡ is_matching p capture (code_of (Board from n true)))
     → KeepsBoard p capture from (from * SQUARE_CODES) plain promoting
 keeps_square p capture from plain promoting pf qf pb qb = record {
   low = omega arith;
   high = omega arith;
-  plains = keeps_first (is_wanted p capture) (λ n. code_of (Board from n false)) (from * SQUARE_CODES) plain pf pb (λ n. omega arith);
-  promotings = keeps_first (is_wanted p capture) (λ n. code_of (Board from n true)) (from * SQUARE_CODES) promoting qf qb (λ n. omega arith);
+  plains = keeps_first (is_matching p capture) (λ n. code_of (Board from n false)) (from * SQUARE_CODES) plain pf pb (λ n. omega arith);
+  promotings = keeps_first (is_matching p capture) (λ n. code_of (Board from n true)) (from * SQUARE_CODES) promoting qf qb (λ n. omega arith);
 }
 
-pub keeps_sort : (p : Shogi) (capture : Bool) (from targets sort plain promoting : ℕ) → from < 81 → ((n : ℕ) → n < 81 → has_bit targets n ≡ reaches p.cells from n) → ((n : ℕ) → n < 81 → has_bit sort n ≡ is_end capture p.side (piece_at p.cells n)) → plain < 2 ^ 81 → promoting < 2 ^ 81
-    → ((n : ℕ) → n < 81 → has_bit plain n ≡ (has_bit (bit_and targets sort) n && is_legal_code p (code_of (Board from n false)))) → ((n : ℕ) → n < 81 → has_bit promoting n ≡ (has_bit (bit_and targets sort) n && is_legal_code p (code_of (Board from n true))))
+pub keeps_matching : (p : Shogi) (capture : Bool) (from targets matching plain promoting : ℕ) → from < 81 → ((n : ℕ) → n < 81 → has_bit targets n ≡ reaches p.cells from n) → ((n : ℕ) → n < 81 → has_bit matching n ≡ is_destination capture p.side (piece_at p.cells n)) → plain < 2 ^ 81 → promoting < 2 ^ 81
+    → ((n : ℕ) → n < 81 → has_bit plain n ≡ (has_bit (bit_and targets matching) n && is_legal_code p (code_of (Board from n false)))) → ((n : ℕ) → n < 81 → has_bit promoting n ≡ (has_bit (bit_and targets matching) n && is_legal_code p (code_of (Board from n true))))
     → KeepsBoard p capture from (from * SQUARE_CODES) plain promoting
-keeps_sort p capture from targets sort plain promoting hf t s pf qf pb qb = keeps_square p capture from plain promoting pf qf (sort_ends p capture false from targets sort plain hf t s pb) (sort_ends p capture true from targets sort promoting hf t s qb)
+keeps_matching p capture from targets matching plain promoting hf t s pf qf pb qb = keeps_square p capture from plain promoting pf qf (matching_among p capture false from targets matching plain hf t s pb) (matching_among p capture true from targets matching promoting hf t s qb)
 
 pub record IsTaken (p : Shogi) (capture : Bool) (code : ℕ) (m : Move) : Type 0 where
-  pub next : wanted_from p capture code ≡ code_of m ∷ wanted_from p capture (code_of m + 1)
+  pub next : matching_from p capture code ≡ code_of m ∷ matching_from p capture (code_of m + 1)
   pub legal : is_legal p m ≡ true
 
-taken_from : (p : Shogi) (capture : Bool) (code : ℕ) (m : Move) → move_of (code_of m) ≡ Some m → code_of m < MOVE_CODE_COUNT → code ≤ code_of m → is_wanted p capture (code_of m) ≡ true → HasNoneWanted p capture code (code_of m) → IsTaken p capture code m
-taken_from p capture code m back small low wanted none = record {
-  next = wanted_jumps p capture code (code_of m) low (omega arith) none ∙ wanted_found p capture (code_of m) small wanted;
-  legal = (and_parts (is_legal p m) (is_asked capture (captures p (Some m))) (sym (wanted_move p capture m back) ∙ wanted)).0;
+taken_from : (p : Shogi) (capture : Bool) (code : ℕ) (m : Move) → move_of (code_of m) ≡ Some m → code_of m < MOVE_CODE_COUNT → code ≤ code_of m → is_matching p capture (code_of m) ≡ true → HasNoneMatching p capture code (code_of m) → IsTaken p capture code m
+taken_from p capture code m back small low matching none = record {
+  next = matching_jumps p capture code (code_of m) low (omega arith) none ∙ matching_found p capture (code_of m) small matching;
+  legal = (and_parts (is_legal p m) (matches capture (captures p (Some m))) (sym (matching_move p capture m back) ∙ matching)).0;
 }
 
 module _ (p : Shogi) (capture : Bool) (from code plain promoting to : ℕ) (k : KeepsBoard p capture from code plain promoting) (hf : from < 81) (ht : to < 81) (least : (n : ℕ) → has_bit (bit_or plain promoting) n ≡ true → to ≤ n) where
@@ -181,8 +181,8 @@ module _ (p : Shogi) (capture : Bool) (from code plain promoting to : ℕ) (k : 
   pub plain_taken : has_bit plain to ≡ true → IsTaken p capture code (Board from to false)
   plain_taken e =
       let low : from * SQUARE_CODES ≤ code = k.low in
-      let here : (code ≤ code_of (Board from to false)) × (is_wanted p capture (code_of (Board from to false)) ≡ true) = k.plains.set to ht e in
-      taken_from p capture code (Board from to false) (move_of-board from to false hf ht) (omega arith) here.0 here.1 (record { none = fails_to_plain (is_wanted p capture) from code plain promoting low k.plains k.promotings to ht least })
+      let here : (code ≤ code_of (Board from to false)) × (is_matching p capture (code_of (Board from to false)) ≡ true) = k.plains.set to ht e in
+      taken_from p capture code (Board from to false) (move_of-board from to false hf ht) (omega arith) here.0 here.1 (record { none = fails_to_plain (is_matching p capture) from code plain promoting low k.plains k.promotings to ht least })
 
   pub plain_kept : (next : ℕ) → has_bit plain to ≡ true → next < plain → ((i : ℕ) → has_bit next i ≡ (has_bit plain i && not (i == to))) → KeepsBoard p capture from (code_of (Board from to false) + 1) next promoting
   plain_kept next e less bits =
@@ -191,8 +191,8 @@ module _ (p : Shogi) (capture : Bool) (from code plain promoting to : ℕ) (k : 
       record {
         low = omega arith;
         high = omega arith;
-        plains = keeps_less (is_wanted p capture) (λ n. code_of (Board from n false)) code (code_of (Board from to false) + 1) plain next to k.plains (omega arith) less bits (λ n h set other. (let le : to ≤ n = plain_above n set in omega arith)) (omega arith);
-        promotings = keeps_later (is_wanted p capture) (λ n. code_of (Board from n true)) code (code_of (Board from to false) + 1) promoting k.promotings (omega arith) (λ n h set. (let le : to ≤ n = promoting_above n set in omega arith));
+        plains = keeps_less (is_matching p capture) (λ n. code_of (Board from n false)) code (code_of (Board from to false) + 1) plain next to k.plains (omega arith) less bits (λ n h set other. (let le : to ≤ n = plain_above n set in omega arith)) (omega arith);
+        promotings = keeps_later (is_matching p capture) (λ n. code_of (Board from n true)) code (code_of (Board from to false) + 1) promoting k.promotings (omega arith) (λ n h set. (let le : to ≤ n = promoting_above n set in omega arith));
       }
 
   pub promoting_set : bit_or plain promoting ≢ 0 → has_bit (bit_or plain promoting) to ≡ true → has_bit plain to ≡ false → has_bit promoting to ≡ true
@@ -201,8 +201,8 @@ module _ (p : Shogi) (capture : Bool) (from code plain promoting to : ℕ) (k : 
   pub promoting_taken : has_bit plain to ≡ false → has_bit promoting to ≡ true → IsTaken p capture code (Board from to true)
   promoting_taken out e =
       let low : from * SQUARE_CODES ≤ code = k.low in
-      let here : (code ≤ code_of (Board from to true)) × (is_wanted p capture (code_of (Board from to true)) ≡ true) = k.promotings.set to ht e in
-      taken_from p capture code (Board from to true) (move_of-board from to true hf ht) (omega arith) here.0 here.1 (record { none = fails_to_promoting (is_wanted p capture) from code plain promoting low k.plains k.promotings to ht least out })
+      let here : (code ≤ code_of (Board from to true)) × (is_matching p capture (code_of (Board from to true)) ≡ true) = k.promotings.set to ht e in
+      taken_from p capture code (Board from to true) (move_of-board from to true hf ht) (omega arith) here.0 here.1 (record { none = fails_to_promoting (is_matching p capture) from code plain promoting low k.plains k.promotings to ht least out })
 
   pub promoting_kept : (next : ℕ) → has_bit plain to ≡ false → has_bit promoting to ≡ true → next < promoting → ((i : ℕ) → has_bit next i ≡ (has_bit promoting i && not (i == to))) → KeepsBoard p capture from (code_of (Board from to true) + 1) plain next
   promoting_kept next out e less bits =
@@ -211,11 +211,11 @@ module _ (p : Shogi) (capture : Bool) (from code plain promoting to : ℕ) (k : 
       record {
         low = omega arith;
         high = omega arith;
-        plains = keeps_later (is_wanted p capture) (λ n. code_of (Board from n false)) code (code_of (Board from to true) + 1) plain k.plains (omega arith) (λ n h set. (
+        plains = keeps_later (is_matching p capture) (λ n. code_of (Board from n false)) code (code_of (Board from to true) + 1) plain k.plains (omega arith) (λ n h set. (
             let le : to ≤ n = plain_above n set in
             let ne : n ≢ to = λ same. both_ways (has_bit plain to) out (ap (has_bit plain) (sym same) ∙ set) in
             omega arith));
-        promotings = keeps_less (is_wanted p capture) (λ n. code_of (Board from n true)) code (code_of (Board from to true) + 1) promoting next to k.promotings (omega arith) less bits (λ n h set other. (let le : to ≤ n = promoting_above n set in omega arith)) (omega arith);
+        promotings = keeps_less (is_matching p capture) (λ n. code_of (Board from n true)) code (code_of (Board from to true) + 1) promoting next to k.promotings (omega arith) less bits (λ n h set other. (let le : to ≤ n = promoting_above n set in omega arith)) (omega arith);
       }
 
 -- ---- from one piece to the next
@@ -247,13 +247,13 @@ bits_above-below mask one low n i ones lows fits h down =
 
 -- the present piece has no move left
 pub on_first : (p : Shogi) (capture : Bool) (own left from code plain promoting : ℕ) → from < 81 → KeepsBoard p capture from code plain promoting → bit_or plain promoting ≡ 0
-    → ((n : ℕ) → n < 81 → has_bit own n ≡ is_piece_of p.side (piece_at p.cells n)) → ((n : ℕ) → n < 81 → from < n → has_bit left n ≡ has_bit own n) → HasWantedOn p capture code left
+    → ((n : ℕ) → n < 81 → has_bit own n ≡ is_piece_of p.side (piece_at p.cells n)) → ((n : ℕ) → n < 81 → from < n → has_bit left n ≡ has_bit own n) → HasMatchingOn p capture code left
 on_first p capture own left from code plain promoting hf k none bits above = record {
-  on = λ c low high wanted. elim (cases_lt from (c / SQUARE_CODES)) [
+  on = λ c low high matching. elim (cases_lt from (c / SQUARE_CODES)) [
     | inl up ↦ (let h : c / SQUARE_CODES < 81 = omega arith in
         above (c / SQUARE_CODES) h up ∙ (bits (c / SQUARE_CODES) h ∙ true_from_ne_false (is_piece_of p.side (piece_at p.cells (c / SQUARE_CODES))) (λ e.
-        both_ways (is_wanted p capture c) ((none_square p capture (c / SQUARE_CODES) (c / SQUARE_CODES * SQUARE_CODES) (c / SQUARE_CODES * SQUARE_CODES + SQUARE_CODES) h (omega arith) (omega arith) e).none c (omega arith) (omega arith)) wanted)))
-    | inr down ↦ absurd (both_ways (is_wanted p capture c) ((none_left p capture from code plain promoting k none).none c low (omega arith)) wanted)
+        both_ways (is_matching p capture c) ((none_square p capture (c / SQUARE_CODES) (c / SQUARE_CODES * SQUARE_CODES) (c / SQUARE_CODES * SQUARE_CODES + SQUARE_CODES) h (omega arith) (omega arith) e).none c (omega arith) (omega arith)) matching)))
+    | inr down ↦ absurd (both_ways (is_matching p capture c) ((none_left p capture from code plain promoting k none).none c low (omega arith)) matching)
   ];
 }
 
@@ -265,102 +265,102 @@ mine_first p own left from bits above below n h set = elim (cases_lt from n) [
 ]
 
 -- one more piece that has none
-pub on_less : (p : Shogi) (capture : Bool) (left less from code plain promoting : ℕ) → HasWantedOn p capture code left → KeepsBoard p capture from (from * SQUARE_CODES) plain promoting → bit_or plain promoting ≡ 0
-    → ((i : ℕ) → has_bit less i ≡ (has_bit left i && not (i == from))) → HasWantedOn p capture code less
+pub on_less : (p : Shogi) (capture : Bool) (left less from code plain promoting : ℕ) → HasMatchingOn p capture code left → KeepsBoard p capture from (from * SQUARE_CODES) plain promoting → bit_or plain promoting ≡ 0
+    → ((i : ℕ) → has_bit less i ≡ (has_bit left i && not (i == from))) → HasMatchingOn p capture code less
 on_less p capture left less from code plain promoting w k none bits = record {
-  on = λ c low high wanted. elim (cases_eq (c / SQUARE_CODES) from) [
-    | inl same ↦ absurd (both_ways (is_wanted p capture c) ((none_left p capture from (from * SQUARE_CODES) plain promoting k none).none c (omega arith) (omega arith)) wanted)
-    | inr other ↦ bits (c / SQUARE_CODES) ∙ and_from (has_bit left (c / SQUARE_CODES)) (not (c / SQUARE_CODES == from)) (w.on c low high wanted) (ap not (ne_eqb (c / SQUARE_CODES) from other))
+  on = λ c low high matching. elim (cases_eq (c / SQUARE_CODES) from) [
+    | inl same ↦ absurd (both_ways (is_matching p capture c) ((none_left p capture from (from * SQUARE_CODES) plain promoting k none).none c (omega arith) (omega arith)) matching)
+    | inr other ↦ bits (c / SQUARE_CODES) ∙ and_from (has_bit left (c / SQUARE_CODES)) (not (c / SQUARE_CODES == from)) (w.on c low high matching) (ap not (ne_eqb (c / SQUARE_CODES) from other))
   ];
 }
 
 -- up to the next piece, and to the end of the board
-pub on_none : (p : Shogi) (capture : Bool) (left next code : ℕ) → HasWantedOn p capture code left → next < 81 → ((n : ℕ) → has_bit left n ≡ true → next ≤ n) → HasNoneWanted p capture code (next * SQUARE_CODES)
+pub on_none : (p : Shogi) (capture : Bool) (left next code : ℕ) → HasMatchingOn p capture code left → next < 81 → ((n : ℕ) → has_bit left n ≡ true → next ≤ n) → HasNoneMatching p capture code (next * SQUARE_CODES)
 on_none p capture left next code w h least = record {
-  none = λ c low high. false_from_ne_true (is_wanted p capture c) (λ wanted. (let le : next ≤ c / SQUARE_CODES = least (c / SQUARE_CODES) (w.on c low (omega arith) wanted) in omega arith));
+  none = λ c low high. false_from_ne_true (is_matching p capture c) (λ matching. (let le : next ≤ c / SQUARE_CODES = least (c / SQUARE_CODES) (w.on c low (omega arith) matching) in omega arith));
 }
 
-pub on_end : (p : Shogi) (capture : Bool) (left code : ℕ) → HasWantedOn p capture code left → left ≡ 0 → HasNoneWanted p capture code FIRST_DROP
+pub on_end : (p : Shogi) (capture : Bool) (left code : ℕ) → HasMatchingOn p capture code left → left ≡ 0 → HasNoneMatching p capture code FIRST_DROP
 on_end p capture left code w none = record {
-  none = λ c low high. false_from_ne_true (is_wanted p capture c) (λ wanted. both_ways (has_bit left (c / SQUARE_CODES)) (ap (λ m. has_bit m (c / SQUARE_CODES)) none ∙ has_bit-none (c / SQUARE_CODES)) (w.on c low high wanted));
+  none = λ c low high. false_from_ne_true (is_matching p capture c) (λ matching. both_ways (has_bit left (c / SQUARE_CODES)) (ap (λ m. has_bit m (c / SQUARE_CODES)) none ∙ has_bit-none (c / SQUARE_CODES)) (w.on c low high matching));
 }
 
 -- ---- drops
 
-pub keeps_kind : (p : Shogi) (kind : Kind) (ends : ℕ) → ends < 2 ^ 81 → ((n : ℕ) → n < 81 → has_bit ends n ≡ is_wanted p false (code_of (Drop kind n))) → KeepsDrop p kind (FIRST_DROP + kind_number kind * 81) ends
-keeps_kind p kind ends fits bits = record {
+pub keeps_kind : (p : Shogi) (kind : Kind) (destinations : ℕ) → destinations < 2 ^ 81 → ((n : ℕ) → n < 81 → has_bit destinations n ≡ is_matching p false (code_of (Drop kind n))) → KeepsDrop p kind (FIRST_DROP + kind_number kind * 81) destinations
+keeps_kind p kind destinations fits bits = record {
   low = omega arith;
   high = omega arith;
-  drops = keeps_first (is_wanted p false) (λ n. code_of (Drop kind n)) (FIRST_DROP + kind_number kind * 81) ends fits bits (λ n. omega arith);
+  drops = keeps_first (is_matching p false) (λ n. code_of (Drop kind n)) (FIRST_DROP + kind_number kind * 81) destinations fits bits (λ n. omega arith);
 }
 
--- the ends of a kind from a code on, whose codes pass a test
-module _ (test : ℕ → Bool) (kind : Kind) (code ends : ℕ) (low : FIRST_DROP + kind_number kind * 81 ≤ code) (a : Keeps test (λ n. code_of (Drop kind n)) code ends) where
-  fails_drop : (c : ℕ) → code ≤ c → c < FIRST_DROP + 81 + kind_number kind * 81 → has_bit ends (c - FIRST_DROP - kind_number kind * 81) ≡ false → test c ≡ false
+-- the destinations of a kind from a code on, whose codes pass a test
+module _ (test : ℕ → Bool) (kind : Kind) (code destinations : ℕ) (low : FIRST_DROP + kind_number kind * 81 ≤ code) (a : Keeps test (λ n. code_of (Drop kind n)) code destinations) where
+  fails_drop : (c : ℕ) → code ≤ c → c < FIRST_DROP + 81 + kind_number kind * 81 → has_bit destinations (c - FIRST_DROP - kind_number kind * 81) ≡ false → test c ≡ false
   fails_drop c above under out =
       let at : c ≡ code_of (Drop kind (c - FIRST_DROP - kind_number kind * 81)) = omega arith in
       ap test at ∙ a.clear (c - FIRST_DROP - kind_number kind * 81) (omega arith) out (omega arith)
 
   -- there is none
-  pub fails_drops : ends ≡ 0 → (c : ℕ) → code ≤ c → c < FIRST_DROP + 81 + kind_number kind * 81 → test c ≡ false
+  pub fails_drops : destinations ≡ 0 → (c : ℕ) → code ≤ c → c < FIRST_DROP + 81 + kind_number kind * 81 → test c ≡ false
   fails_drops none c above under = fails_drop c above under (ap (λ (m : ℕ). has_bit m (c - FIRST_DROP - kind_number kind * 81)) none ∙ has_bit-none (c - FIRST_DROP - kind_number kind * 81))
 
   -- none comes before the lowest
-  pub fails_to_drop : (to : ℕ) → to < 81 → ((n : ℕ) → has_bit ends n ≡ true → to ≤ n) → (c : ℕ) → code ≤ c → c < code_of (Drop kind to) → test c ≡ false
+  pub fails_to_drop : (to : ℕ) → to < 81 → ((n : ℕ) → has_bit destinations n ≡ true → to ≤ n) → (c : ℕ) → code ≤ c → c < code_of (Drop kind to) → test c ≡ false
   fails_to_drop to ht least c above under =
       fails_drop c above (omega arith)
-      (false_from_ne_true (has_bit ends (c - FIRST_DROP - kind_number kind * 81)) (λ e. (let le : to ≤ c - FIRST_DROP - kind_number kind * 81 = least (c - FIRST_DROP - kind_number kind * 81) e in omega arith)))
+      (false_from_ne_true (has_bit destinations (c - FIRST_DROP - kind_number kind * 81)) (λ e. (let le : to ≤ c - FIRST_DROP - kind_number kind * 81 = least (c - FIRST_DROP - kind_number kind * 81) e in omega arith)))
 
-pub no_drop_left : (p : Shogi) (kind : Kind) (code : ℕ) → KeepsDrop p kind code 0 → HasNoneWanted p false code (FIRST_DROP + 81 + kind_number kind * 81)
-no_drop_left p kind code k = record { none = fails_drops (is_wanted p false) kind code 0 k.low k.drops refl }
+pub no_drop_left : (p : Shogi) (kind : Kind) (code : ℕ) → KeepsDrop p kind code 0 → HasNoneMatching p false code (FIRST_DROP + 81 + kind_number kind * 81)
+no_drop_left p kind code k = record { none = fails_drops (is_matching p false) kind code 0 k.low k.drops refl }
 
 -- one more kind that has none
-pub no_drop_more : (p : Shogi) (kind next : Kind) (code : ℕ) → HasNoneWanted p false code (FIRST_DROP + 81 + kind_number kind * 81) → kind_number next ≡ kind_number kind + 1 → KeepsDrop p next (FIRST_DROP + kind_number next * 81) 0 → HasNoneWanted p false code (FIRST_DROP + 81 + kind_number next * 81)
+pub no_drop_more : (p : Shogi) (kind next : Kind) (code : ℕ) → HasNoneMatching p false code (FIRST_DROP + 81 + kind_number kind * 81) → kind_number next ≡ kind_number kind + 1 → KeepsDrop p next (FIRST_DROP + kind_number next * 81) 0 → HasNoneMatching p false code (FIRST_DROP + 81 + kind_number next * 81)
 no_drop_more p kind next code before e k =
     let here : FIRST_DROP + 81 + kind_number kind * 81 ≡ FIRST_DROP + kind_number next * 81 = omega arith in
-    none_join p false code (FIRST_DROP + kind_number next * 81) (FIRST_DROP + 81 + kind_number next * 81) (subst (λ (x : ℕ). HasNoneWanted p false code x) here before) (no_drop_left p next (FIRST_DROP + kind_number next * 81) k)
+    none_join p false code (FIRST_DROP + kind_number next * 81) (FIRST_DROP + 81 + kind_number next * 81) (subst (λ (x : ℕ). HasNoneMatching p false code x) here before) (no_drop_left p next (FIRST_DROP + kind_number next * 81) k)
 
-pub no_drop_to : (p : Shogi) (kind next : Kind) (code : ℕ) → HasNoneWanted p false code (FIRST_DROP + 81 + kind_number kind * 81) → kind_number next ≡ kind_number kind + 1 → code ≤ FIRST_DROP + 81 + kind_number kind * 81 → wanted_from p false code ≡ wanted_from p false (FIRST_DROP + kind_number next * 81)
+pub no_drop_to : (p : Shogi) (kind next : Kind) (code : ℕ) → HasNoneMatching p false code (FIRST_DROP + 81 + kind_number kind * 81) → kind_number next ≡ kind_number kind + 1 → code ≤ FIRST_DROP + 81 + kind_number kind * 81 → matching_from p false code ≡ matching_from p false (FIRST_DROP + kind_number next * 81)
 no_drop_to p kind next code before e low =
     let seven : kind_number next < 7 = number_below next in
     let here : FIRST_DROP + 81 + kind_number kind * 81 ≡ FIRST_DROP + kind_number next * 81 = omega arith in
-    wanted_jumps p false code (FIRST_DROP + kind_number next * 81) (omega arith) (omega arith) (subst (λ (x : ℕ). HasNoneWanted p false code x) here before)
+    matching_jumps p false code (FIRST_DROP + kind_number next * 81) (omega arith) (omega arith) (subst (λ (x : ℕ). HasNoneMatching p false code x) here before)
 
-pub no_drop_end : (p : Shogi) (kind : Kind) (code : ℕ) → HasNoneWanted p false code (FIRST_DROP + 81 + kind_number kind * 81) → kind_number kind ≡ 6 → code ≤ FIRST_DROP + 81 + kind_number kind * 81 → wanted_from p false code ≡ []
-no_drop_end p kind code before e low =
+pub no_drop_destination : (p : Shogi) (kind : Kind) (code : ℕ) → HasNoneMatching p false code (FIRST_DROP + 81 + kind_number kind * 81) → kind_number kind ≡ 6 → code ≤ FIRST_DROP + 81 + kind_number kind * 81 → matching_from p false code ≡ []
+no_drop_destination p kind code before e low =
     let here : FIRST_DROP + 81 + kind_number kind * 81 ≡ MOVE_CODE_COUNT = omega arith in
-    wanted_jumps p false code MOVE_CODE_COUNT (omega arith) (omega arith) (subst (λ (x : ℕ). HasNoneWanted p false code x) here before) ∙ wanted_end p false MOVE_CODE_COUNT (omega arith)
+    matching_jumps p false code MOVE_CODE_COUNT (omega arith) (omega arith) (subst (λ (x : ℕ). HasNoneMatching p false code x) here before) ∙ matching_end p false MOVE_CODE_COUNT (omega arith)
 
-module _ (p : Shogi) (kind : Kind) (code ends to : ℕ) (k : KeepsDrop p kind code ends) (ht : to < 81) (set : has_bit ends to ≡ true) (least : (n : ℕ) → has_bit ends n ≡ true → to ≤ n) where
+module _ (p : Shogi) (kind : Kind) (code destinations to : ℕ) (k : KeepsDrop p kind code destinations) (ht : to < 81) (set : has_bit destinations to ≡ true) (least : (n : ℕ) → has_bit destinations n ≡ true → to ≤ n) where
   pub drop_taken : IsTaken p false code (Drop kind to)
   drop_taken =
       let seven : kind_number kind < 7 = number_below kind in
       let low : FIRST_DROP + kind_number kind * 81 ≤ code = k.low in
-      let here : (code ≤ code_of (Drop kind to)) × (is_wanted p false (code_of (Drop kind to)) ≡ true) = k.drops.set to ht set in
-      taken_from p false code (Drop kind to) (move_of-drop kind to ht) (omega arith) here.0 here.1 (record { none = fails_to_drop (is_wanted p false) kind code ends low k.drops to ht least })
+      let here : (code ≤ code_of (Drop kind to)) × (is_matching p false (code_of (Drop kind to)) ≡ true) = k.drops.set to ht set in
+      taken_from p false code (Drop kind to) (move_of-drop kind to ht) (omega arith) here.0 here.1 (record { none = fails_to_drop (is_matching p false) kind code destinations low k.drops to ht least })
 
-  pub drop_kept : (next : ℕ) → next < ends → ((i : ℕ) → has_bit next i ≡ (has_bit ends i && not (i == to))) → KeepsDrop p kind (code_of (Drop kind to) + 1) next
+  pub drop_kept : (next : ℕ) → next < destinations → ((i : ℕ) → has_bit next i ≡ (has_bit destinations i && not (i == to))) → KeepsDrop p kind (code_of (Drop kind to) + 1) next
   drop_kept next less bits =
       let low : FIRST_DROP + kind_number kind * 81 ≤ code = k.low in
       let here : code ≤ code_of (Drop kind to) = (k.drops.set to ht set).0 in
       record {
         low = omega arith;
         high = omega arith;
-        drops = keeps_less (is_wanted p false) (λ n. code_of (Drop kind n)) code (code_of (Drop kind to) + 1) ends next to k.drops (omega arith) less bits (λ n h e other. (let le : to ≤ n = least n e in omega arith)) (omega arith);
+        drops = keeps_less (is_matching p false) (λ n. code_of (Drop kind n)) code (code_of (Drop kind to) + 1) destinations next to k.drops (omega arith) less bits (λ n h e other. (let le : to ≤ n = least n e in omega arith)) (omega arith);
       }
 
 -- drops take nothing
-pub no_captures : (p : Shogi) → wanted_from p true FIRST_DROP ≡ []
-no_captures p = wanted_jumps p true FIRST_DROP MOVE_CODE_COUNT (omega arith) (omega arith) (none_drop p true FIRST_DROP MOVE_CODE_COUNT (omega arith) (omega arith) refl) ∙ wanted_end p true MOVE_CODE_COUNT (omega arith)
+pub no_captures : (p : Shogi) → matching_from p true FIRST_DROP ≡ []
+no_captures p = matching_jumps p true FIRST_DROP MOVE_CODE_COUNT (omega arith) (omega arith) (none_drop p true FIRST_DROP MOVE_CODE_COUNT (omega arith) (omega arith) refl) ∙ matching_end p true MOVE_CODE_COUNT (omega arith)
 
 filter_all : (test : ℕ → Bool) (xs : List ℕ) → ((n : ℕ) → is_in n xs ≡ true → test n ≡ true) → filter test xs ≡ xs
 filter_all test [] all = refl
 filter_all test (x ∷ xs) all = cond-true (test x) _ _ (all x (or_left (x == x) (is_in x xs) (eq-eqb x x refl))) ∙ ap (λ (ys : List ℕ). x ∷ ys) (filter_all test xs (λ n h. all n (or_right (n == x) (is_in n xs) h)))
 
-pub all_drops : (p : Shogi) (code : ℕ) → FIRST_DROP ≤ code → wanted_from p false code ≡ legal_from p code
-all_drops p code low = filter_all (is_of_sort p false) (legal_from p code) (λ n h.
+pub all_drops : (p : Shogi) (code : ℕ) → FIRST_DROP ≤ code → matching_from p false code ≡ legal_from p code
+all_drops p code low = filter_all (matches_kind p false) (legal_from p code) (λ n h.
     let above : code ≤ n = legal_in_above p code n h in
     let under : n < MOVE_CODE_COUNT = legal_code_below p n (legal_in p code n h) in
-    ap not (sort_of p n _ (drop_code n (omega arith) under)))
+    ap not (matches_kind_of p n _ (drop_code n (omega arith) under)))
 
-pub ruleset sweeping = (keeps_square, more_fits, wanted_jumps, and_fits)
+pub ruleset sweeping = (keeps_square, more_fits, matching_jumps, and_fits)

@@ -1,4 +1,4 @@
--- The legal moves are counted by the bits of their ends.
+-- The legal moves are counted by the bits of their destinations.
 use Rattle.std.proofs.Common.{◌≡◌, ℕ, ◌+◌, ◌*◌, ◌/◌, ◌%◌, ◌^◌, ◌<◌, ◌≤◌, Bool, true, false, not, cond, refl, sym, ap, ◌∙◌, arith, inl, inr, length, ◌∷◌}
 use Rattle.std.specs.Prelude.{zero, suc, ◌==◌, ◌&&◌, count_ones}
 use Rattle.std.specs.Int.{bit_at}
@@ -95,7 +95,7 @@ pairs p from (suc k) s h l =
     let qt = tally_same k (λ i. is_legal_code p (code_of (Board from (i + (s + 1)) true))) (λ i. is_legal_code p (code_of (Board from (i + 1 + s) true))) (λ i l. ap (λ (n : ℕ). is_legal_code p (code_of (Board from n true))) (omega arith)) in
     omega (arith, first, second, rest, onw, endw, pw, qw, pt, qt)
 
--- the moves of a piece are as many as the bits of its ends
+-- the moves of a piece are as many as the bits of its destinations
 pub counted_board : (p : Shogi) (from plain promoting : ℕ) → from < 81 → plain < 2 ^ 81 → promoting < 2 ^ 81
     → ((n : ℕ) → n < 81 → has_bit plain n ≡ is_legal_code p (code_of (Board from n false))) → ((n : ℕ) → n < 81 → has_bit promoting n ≡ is_legal_code p (code_of (Board from n true)))
     → length (legal_from p (from * SQUARE_CODES)) ≡ (count_ones plain + count_ones promoting) + length (legal_from p (from * SQUARE_CODES + SQUARE_CODES))
@@ -133,16 +133,16 @@ singles p kind (suc k) s l =
     let t = tally_same k (λ i. is_legal_code p (code_of (Drop kind (i + (s + 1))))) (λ i. is_legal_code p (code_of (Drop kind (i + 1 + s)))) (λ i l. ap (λ (n : ℕ). is_legal_code p (code_of (Drop kind n))) (omega arith)) in
     omega (arith, first, rest, onw, endw, hw, t)
 
-pub counted_drop : (p : Shogi) (kind : Kind) (ends : ℕ) → ends < 2 ^ 81 → ((n : ℕ) → n < 81 → has_bit ends n ≡ is_legal_code p (code_of (Drop kind n)))
-    → length (legal_from p (FIRST_DROP + kind_number kind * 81)) ≡ count_ones ends + length (legal_from p (FIRST_DROP + 81 + kind_number kind * 81))
-counted_drop p kind ends fits bits =
+pub counted_drop : (p : Shogi) (kind : Kind) (destinations : ℕ) → destinations < 2 ^ 81 → ((n : ℕ) → n < 81 → has_bit destinations n ≡ is_legal_code p (code_of (Drop kind n)))
+    → length (legal_from p (FIRST_DROP + kind_number kind * 81)) ≡ count_ones destinations + length (legal_from p (FIRST_DROP + 81 + kind_number kind * 81))
+counted_drop p kind destinations fits bits =
     let all = singles p kind 81 0 (omega arith) in
     let start : FIRST_DROP + kind_number kind * 81 + 0 ≡ FIRST_DROP + kind_number kind * 81 = omega arith in
     let startw = ap (λ (c : ℕ). length (legal_from p c)) start in
     let end : FIRST_DROP + kind_number kind * 81 + (0 + 81) ≡ FIRST_DROP + 81 + kind_number kind * 81 = omega arith in
     let endw = ap (λ (c : ℕ). length (legal_from p c)) end in
-    let a = ones_tally 81 ends fits in
-    let b = tally_same 81 (has_bit ends) (λ i. is_legal_code p (code_of (Drop kind (i + 0)))) (λ i l. bits i l ∙ ap (λ (n : ℕ). is_legal_code p (code_of (Drop kind n))) (omega arith)) in
+    let a = ones_tally 81 destinations fits in
+    let b = tally_same 81 (has_bit destinations) (λ i. is_legal_code p (code_of (Drop kind (i + 0)))) (λ i l. bits i l ∙ ap (λ (n : ℕ). is_legal_code p (code_of (Drop kind n))) (omega arith)) in
     omega (arith, all, startw, endw, a, b)
 
 -- a mask of squares has 81 bits at most

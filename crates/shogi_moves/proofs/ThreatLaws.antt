@@ -18,15 +18,15 @@ use Rattle.shogi_core.specs.Position.{Shogi, HandCounts}
 use Rattle.shogi_core.specs.Validity.{IsValid}
 use Rattle.shogi_core.proofs.Below.{some_below_at, all_below_at, all_below_yes}
 use Rattle.shogi_core.proofs.BitLaws.{has_bit-and}
-use Rattle.shogi_core.proofs.Exposed.{some_below_which}
+use Rattle.shogi_core.proofs.Uncovered.{some_below_which}
 use Rattle.shogi_core.proofs.LineBits.{has_bit-not}
 use Rattle.shogi_moves.specs.After.{after, cells_after, piece_moved, dropped}
 use Rattle.shogi_moves.specs.Legal.{is_legal}
 use Rattle.shogi_moves.specs.Replies.{Aligns, IsReplies, IsHarmless, UncoversNothing}
 use Rattle.shogi_moves.specs.Threats.{IsUnpinnable, IsThreat, EndsAside, LeavesThreat, MayTake}
 use Rattle.shogi_moves.proofs.DropChecks as drops
-use Rattle.shogi_moves.proofs.EndLaws.{legal_board}
-use Rattle.shogi_moves.proofs.GuardLaws.{look, other_side, quiet_board}
+use Rattle.shogi_moves.proofs.DestinationLaws.{legal_board}
+use Rattle.shogi_moves.proofs.CheckInfoLaws.{look, other_side, quiet_board}
 use Rattle.shogi_moves.proofs.ReplyLaws.{LeavesStanding, left_board, left_drop, legal_own, right_step, stays_unlined, unaligned}
 
 -- ---- what a piece reaches without the end of the move, it reaches after it

@@ -1,4 +1,4 @@
--- Captures and quiet moves, which capture nothing, by their codes.
+-- The two kinds of moves, captures and quiet moves, which capture nothing, by their codes. A move matches where it is of the kind (captures where `capture` is true).
 use Rattle.std.specs.Prelude.{ℕ, ◌≡◌, ◌≤◌, ◌<◌, ◌&&◌, Bool, true, false, not, Option, Some, None, is_some}
 use Rattle.shogi_core.specs.declared.moves.Move.{Move}
 use Rattle.shogi_core.specs.declared.moves.Move.TheVariants.{Board, Drop}
@@ -17,19 +17,19 @@ captures p (Some (Drop kind to)) = false
 unfoldable pub is_capture : Shogi → ℕ → Bool
 is_capture p code = captures p (move_of code)
 
--- captures, or quiet moves, as asked
-abbrev pub is_asked : Bool → Bool → Bool
-is_asked true takes = takes
-is_asked false takes = not takes
+-- a move that captures or does not is of that kind, captures or quiet moves
+abbrev pub matches : Bool → Bool → Bool
+matches true takes = takes
+matches false takes = not takes
 
--- the code is that of a move of the sort
-abbrev pub is_of_sort : Shogi → Bool → ℕ → Bool
-is_of_sort p capture code = is_asked capture (is_capture p code)
+-- the code is that of a move of the kind
+abbrev pub matches_kind : Shogi → Bool → ℕ → Bool
+matches_kind p capture code = matches capture (is_capture p code)
 
--- the code is that of a legal move of the sort
-abbrev pub is_wanted : Shogi → Bool → ℕ → Bool
-is_wanted p capture code = is_legal_code p code && is_of_sort p capture code
+-- the code is that of a legal move of the kind
+abbrev pub is_matching : Shogi → Bool → ℕ → Bool
+is_matching p capture code = is_legal_code p code && matches_kind p capture code
 
--- no code from the first up to the end is that of a legal move of the sort
-pub record HasNoneWanted (p : Shogi) (capture : Bool) (first end : ℕ) : Type 0 where
-  pub none : (code : ℕ) → first ≤ code → code < end → is_wanted p capture code ≡ false
+-- no code from the first up to the end is that of a legal move of the kind
+pub record HasNoneMatching (p : Shogi) (capture : Bool) (first end : ℕ) : Type 0 where
+  pub none : (code : ℕ) → first ≤ code → code < end → is_matching p capture code ≡ false

@@ -7,9 +7,9 @@ pub mod Captures
 pub use Rattle.shogi_core.specs.Attack
 pub use Rattle.shogi_core.specs.Codes
 pub use Rattle.shogi_core.specs.Validity
-pub mod Guards
+pub mod CheckInfo
 pub mod Walks
-pub mod Ends
+pub mod Destinations
 pub mod Sweeps
 pub mod Replies
 pub mod Threats

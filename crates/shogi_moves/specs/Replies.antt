@@ -16,7 +16,7 @@ use Rattle.shogi_core.specs.Movement.{Cells, piece_at, reaches, cell_reaches, ha
 use Rattle.shogi_core.specs.Pieces.{opponent_of}
 use Rattle.shogi_core.specs.Position.{Shogi, HandCounts, count_in_hand}
 use Rattle.shogi_moves.specs.After.{after, piece_moved}
-use Rattle.shogi_moves.specs.Ends.{is_end}
+use Rattle.shogi_moves.specs.Destinations.{is_destination}
 use Rattle.shogi_moves.specs.Legal.{is_legal, may_promote}
 use Rattle.shogi_moves.specs.LegalMoves.{legal_codes}
 
@@ -153,8 +153,8 @@ pub record IsFarMove (p : Shogi) (sight from n : ℕ) : Type 0 where
 -- each move of what stands on the square that takes nothing is answered and cannot promote
 pub record HasCertainQuiets (p : Shogi) (from : ℕ) : Type 0 where
   pub answered : (n : ℕ) → n < 81
-      → (reaches p.cells from n && is_end false p.side (piece_at p.cells n)) ≡ true
+      → (reaches p.cells from n && is_destination false p.side (piece_at p.cells n)) ≡ true
       → IsAnswered p (Board from n false)
   pub plain : (n : ℕ) → n < 81
-      → (reaches p.cells from n && is_end false p.side (piece_at p.cells n)) ≡ true
+      → (reaches p.cells from n && is_destination false p.side (piece_at p.cells n)) ≡ true
       → may_promote (piece_at p.cells from) from n ≡ false

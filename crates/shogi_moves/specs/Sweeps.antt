@@ -1,4 +1,4 @@
--- What is kept on the way through the moves of a sort: the ends still to come of the present piece.
+-- What is kept on the way through the moves of a kind: the destinations still to come of the present piece.
 use Rattle.std.specs.Prelude.{ℕ, ◌≡◌, ◌≢◌, ◌≤◌, ◌<◌, ◌+◌, ◌*◌, ◌/◌, ◌%◌, ◌^◌, ◌⊎◌, Bool, true, false, List, [], ◌∷◌, filter}
 use Rattle.shogi_core.specs.declared.moves.TheConstants.{FIRST_DROP, SQUARE_CODES}
 use Rattle.shogi_core.specs.declared.moves.Move.TheVariants.{Board, Drop}
@@ -10,19 +10,19 @@ use Rattle.shogi_core.specs.Position.{Shogi}
 use Rattle.shogi_moves.specs.declared.sweep.BoardSweep.{BoardSweep}
 use Rattle.shogi_moves.specs.declared.sweep.DropSweep.{DropSweep}
 use Rattle.shogi_moves.specs.After.{after_code}
-use Rattle.shogi_moves.specs.Captures.{is_of_sort, is_wanted}
-use Rattle.shogi_moves.specs.Guards.{IsGuardOf}
+use Rattle.shogi_moves.specs.Captures.{matches_kind, is_matching}
+use Rattle.shogi_moves.specs.CheckInfo.{IsCheckInfoOf}
 use Rattle.shogi_moves.specs.Legal.{is_legal_code}
 use Rattle.shogi_moves.specs.LegalMoves.{legal_from, legal_codes}
 
--- the legal moves of the sort from a code on
-abbrev pub wanted_from : Shogi → Bool → ℕ → List ℕ
-wanted_from p capture first = filter (is_of_sort p capture) (legal_from p first)
+-- the legal moves of the kind from a code on
+abbrev pub matching_from : Shogi → Bool → ℕ → List ℕ
+matching_from p capture first = filter (matches_kind p capture) (legal_from p first)
 
--- the mask has the ends at which the move of the piece is legal and of the sort, promoting or not
-abbrev pub AreWantedEnds : Shogi → Bool → ℕ → Bool → ℕ → Type 0
-AreWantedEnds p capture from promote mask =
-    HasBits mask (λ n. is_wanted p capture (code_of (Board from n promote)))
+-- the mask has the destinations at which the move of the piece is legal and of the kind, promoting or not
+abbrev pub AreMatchingDestinations : Shogi → Bool → ℕ → Bool → ℕ → Type 0
+AreMatchingDestinations p capture from promote mask =
+    HasBits mask (λ n. is_matching p capture (code_of (Board from n promote)))
 
 -- the mask has the squares whose codes pass, from a code on
 pub record Keeps (test : ℕ → Bool) (place : ℕ → ℕ) (code mask : ℕ) : Type 0 where
@@ -30,39 +30,39 @@ pub record Keeps (test : ℕ → Bool) (place : ℕ → ℕ) (code mask : ℕ) :
   pub set : (n : ℕ) → n < 81 → has_bit mask n ≡ true → (code ≤ place n) × (test (place n) ≡ true)
   pub clear : (n : ℕ) → n < 81 → has_bit mask n ≡ false → code ≤ place n → test (place n) ≡ false
 
--- the ends still to come of the piece on a square
+-- the destinations still to come of the piece on a square
 pub record KeepsBoard (p : Shogi) (capture : Bool) (from code plain promoting : ℕ) : Type 0 where
   pub low : from * SQUARE_CODES ≤ code
   pub high : code ≤ from * SQUARE_CODES + SQUARE_CODES
-  pub plains : Keeps (is_wanted p capture) (λ n. code_of (Board from n false)) code plain
-  pub promotings : Keeps (is_wanted p capture) (λ n. code_of (Board from n true)) code promoting
+  pub plains : Keeps (is_matching p capture) (λ n. code_of (Board from n false)) code plain
+  pub promotings : Keeps (is_matching p capture) (λ n. code_of (Board from n true)) code promoting
 
--- the ends still to come of a held kind
-pub record KeepsDrop (p : Shogi) (kind : Kind) (code ends : ℕ) : Type 0 where
+-- the destinations still to come of a held kind
+pub record KeepsDrop (p : Shogi) (kind : Kind) (code destinations : ℕ) : Type 0 where
   pub low : FIRST_DROP + kind_number kind * 81 ≤ code
   pub high : code ≤ FIRST_DROP + 81 + kind_number kind * 81
-  pub drops : Keeps (is_wanted p false) (λ n. code_of (Drop kind n)) code ends
+  pub drops : Keeps (is_matching p false) (λ n. code_of (Drop kind n)) code destinations
 
--- the moves of the sort from a code on are of pieces on squares of the mask, or drops
-pub record HasWantedOn (p : Shogi) (capture : Bool) (code mask : ℕ) : Type 0 where
-  pub on : (c : ℕ) → code ≤ c → c < FIRST_DROP → is_wanted p capture c ≡ true
+-- the moves of the kind from a code on are of pieces on squares of the mask, or drops
+pub record HasMatchingOn (p : Shogi) (capture : Bool) (code mask : ℕ) : Type 0 where
+  pub on : (c : ℕ) → code ≤ c → c < FIRST_DROP → is_matching p capture c ≡ true
       → has_bit mask (c / SQUARE_CODES) ≡ true
 
--- the ends still to come of the present piece or kind of a sweep, with what is known of the position
+-- the destinations still to come of the present piece or kind of a sweep, with what is known of the position
 pub record IsBoardSweep (p : Shogi) (capture : Bool) (s : BoardSweep) : Type 0 where
-  pub guard : IsGuardOf s.guard p
-  pub ends : KeepsBoard p capture s.from s.code s.ends.plain s.ends.promoting
+  pub info : IsCheckInfoOf s.info p
+  pub destinations : KeepsBoard p capture s.from s.code s.destinations.plain s.destinations.promoting
 
 pub record IsDropSweep (p : Shogi) (s : DropSweep) : Type 0 where
-  pub guard : IsGuardOf s.guard p
-  pub ends : KeepsDrop p s.kind s.code s.ends
+  pub info : IsCheckInfoOf s.info p
+  pub destinations : KeepsDrop p s.kind s.code s.destinations
 
 -- the code is that of a legal move on the board, from a code on, that takes nothing and does not promote, after which the other side has a legal move
 pub record IsCertainQuiet (p : Shogi) (first code : ℕ) : Type 0 where
   pub above : first ≤ code
   pub on_board : code < FIRST_DROP
   pub plain : code % 2 ≡ 0
-  pub quiet : is_wanted p false code ≡ true
+  pub quiet : is_matching p false code ≡ true
   pub replied : legal_codes (after_code p code) ≢ []
 
 -- the code is that of a legal drop of the kind, from a code on, after which the other side has a legal move
@@ -82,4 +82,4 @@ IsPassed fact (code ∷ codes) left = (code ∷ codes ≡ left) ⊎ (fact code �
 pub record IsPassedTo (p : Shogi) (code next : ℕ) : Type 0 where
   pub up : code ≤ next
   pub passed : (first : ℕ) → first ≤ code
-      → IsPassed (IsCertainQuiet p first) (wanted_from p false code) (wanted_from p false next)
+      → IsPassed (IsCertainQuiet p first) (matching_from p false code) (matching_from p false next)

@@ -3,19 +3,19 @@
 ghost use Rattle.std.specs.Prelude.{◌≡◌, ◌≤◌, ◌<◌, ◌^◌, ◌+◌, ◌-◌, ◌↔◌, IfSome, IsNone, length};
 ghost use Rattle.shogi_core.specs.declared.moves.TheConstants.{MOVE_CODE_COUNT, FIRST_DROP};
 ghost use Rattle.shogi_moves.specs.LegalMoves.{legal_from, legal_codes, perft};
-ghost use Rattle.shogi_moves.specs.Guards.{IsGuardOf};
+ghost use Rattle.shogi_moves.specs.CheckInfo.{IsCheckInfoOf};
 
 use crate::after::apply;
-use crate::ends::{drop_ends, enterable, legal_ends};
-use crate::guard::{Guard, guard_of};
+use crate::check_info::{CheckInfo, check_info_of};
+use crate::destinations::{drop_destinations, enterable, legal_destinations};
 use crate::sweep::next_kind;
 use crate::walk::Walk;
 use shogi_core::bits::{lowest, without_lowest};
 use shogi_core::{Kind, Position, Square};
 
 /// How many board moves are legal.
-fn count_board(p: &Position, guard: &Guard) -> u64
-    requires guard { IsGuardOf guard.now p.now }
+fn count_board(p: &Position, info: &CheckInfo) -> u64
+    requires info { IsCheckInfoOf info.now p.now }
     ensures count { result + length (legal_from p.now FIRST_DROP) ≡ length (legal_codes p.now) }
     ensures range { result ≤ FIRST_DROP }
 {
@@ -26,23 +26,23 @@ fn count_board(p: &Position, guard: &Guard) -> u64
     'pieces: while left != 0 {
         let square = lowest(left);
         let from = Square::of_index(square);
-        let ends = legal_ends(p, guard, from, board.targets(from) & squares);
-        total += (ends.plain.count_ones() + ends.promoting.count_ones()) as u64;
+        let destinations = legal_destinations(p, info, from, board.targets(from) & squares);
+        total += (destinations.plain.count_ones() + destinations.promoting.count_ones()) as u64;
         left = without_lowest(left, square);
     }
     total
 }
 
 /// How many drops are legal.
-fn count_drops(p: &Position, guard: &Guard) -> u64
-    requires guard { IsGuardOf guard.now p.now }
+fn count_drops(p: &Position, info: &CheckInfo) -> u64
+    requires info { IsCheckInfoOf info.now p.now }
     ensures count { result ≡ length (legal_from p.now FIRST_DROP) }
     ensures range { result ≤ MOVE_CODE_COUNT - FIRST_DROP }
 {
     let mut kind = Kind::Pawn;
-    let mut total = drop_ends(p, guard, kind).count_ones() as u64;
+    let mut total = drop_destinations(p, info, kind).count_ones() as u64;
     'kinds: while let Some(next) = next_kind(kind) {
-        total += drop_ends(p, guard, next).count_ones() as u64;
+        total += drop_destinations(p, info, next).count_ones() as u64;
         kind = next;
     }
     total
@@ -53,8 +53,8 @@ fn count_legal(p: &Position) -> u64
     ensures count { result ≡ perft p.now 1 }
     ensures range { result < 2 ^ 64 }
 {
-    let guard = guard_of(p);
-    count_board(p, &guard) + count_drops(p, &guard)
+    let info = check_info_of(p);
+    count_board(p, &info) + count_drops(p, &info)
 }
 
 /// How many sequences of n legal moves there are from the position, with `None` exactly where the

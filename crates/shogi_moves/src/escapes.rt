@@ -15,7 +15,7 @@ use shogi_core::{
 };
 
 /// Those of the squares that the side does not attack.
-#[tactic(auto, using(crate::proofs::EndLaws::sifting))]
+#[tactic(auto, using(crate::proofs::DestinationLaws::sifting))]
 fn unattacked(board: &Board, by: Color, squares: u128) -> u128
     requires { squares < 2 ^ 81 }
     ensures bits { HasBits result (λ n. has_bit squares n && not (is_attacked board.now by n)) }
@@ -33,8 +33,8 @@ fn unattacked(board: &Board, by: Color, squares: u128) -> u128
     kept
 }
 
-/// Squares next to the king of the side that is not to move, where it has just one, to which it may go as
-/// far as the pieces of the other side stand that are there now.
+/// Squares next to the king of the side that is not to move, where it has just one, to which it may
+/// go as far as the pieces of the other side stand that are there now.
 pub fn escape_squares(p: &Position) -> u128
     ensures { AreEscapes p.now result }
 {
@@ -76,8 +76,8 @@ fn within_reach(cell: Option<Piece>, to: Square) -> u128
     }
 }
 
-/// Whether the king of the side that is not to move has one of the squares left that is not closed and not
-/// where a move ends.
+/// Whether the king of the side that is not to move has one of the squares left that is not closed
+/// and not where a move ends.
 fn has_open(p: &Position, escapes: u128, closed: u128, to: Square) -> bool
     requires { AreEscapes p.now escapes }
     ensures { result ≡ true → HasOpenEscape p.now closed to }
@@ -91,8 +91,9 @@ fn has_open(p: &Position, escapes: u128, closed: u128, to: Square) -> bool
     escapes & !closed & !(1 << end) != 0
 }
 
-/// Whether one of the squares is surely left to the king after the legal move, should that give it check: the
-/// move does not end there, what moves does not reach it, and it is on no line with the square that it leaves.
+/// Whether one of the squares is surely left to the king after the legal move, should that give it
+/// check: the move does not end there, what moves does not reach it, and it is on no line with the
+/// square that it leaves.
 pub fn leaves_escape(p: &Position, escapes: u128, m: &Move) -> bool
     requires { AreEscapes p.now escapes }
     ensures { result ≡ true → IsAnswered p.now m.now }
@@ -113,14 +114,14 @@ pub fn leaves_escape(p: &Position, escapes: u128, m: &Move) -> bool
     }
 }
 
-/// Those of the squares to which what stands on a square may move without promotion so that one of the
-/// escapes is surely left to the king.
-pub fn escaped_ends(p: &Position, escapes: u128, from: Square, ends: u128) -> u128
+/// Those of the squares to which what stands on a square may move without promotion so that one of
+/// the escapes is surely left to the king.
+pub fn escaped_destinations(p: &Position, escapes: u128, from: Square, destinations: u128) -> u128
     requires { AreEscapes p.now escapes }
-    ensures among { (n : ℕ) → has_bit result n ≡ true → has_bit ends n ≡ true }
+    ensures among { (n : ℕ) → has_bit result n ≡ true → has_bit destinations n ≡ true }
     ensures answered { AreAnswered p.now from result }
 {
-    let mut left = ALL_SQUARES & ends;
+    let mut left = ALL_SQUARES & destinations;
     let mut kept = left;
     while left != 0 {
         let to = lowest(left);
@@ -137,14 +138,14 @@ pub fn escaped_ends(p: &Position, escapes: u128, from: Square, ends: u128) -> u1
     kept
 }
 
-/// Those of the squares on which a piece of the kind may be dropped so that one of the escapes is surely
-/// left to the king.
-pub fn escaped_drops(p: &Position, escapes: u128, kind: Kind, ends: u128) -> u128
+/// Those of the squares on which a piece of the kind may be dropped so that one of the escapes is
+/// surely left to the king.
+pub fn escaped_drops(p: &Position, escapes: u128, kind: Kind, destinations: u128) -> u128
     requires { AreEscapes p.now escapes }
-    ensures among { (n : ℕ) → has_bit result n ≡ true → has_bit ends n ≡ true }
+    ensures among { (n : ℕ) → has_bit result n ≡ true → has_bit destinations n ≡ true }
     ensures answered { AreDropsAnswered p.now kind result }
 {
-    let mut left = ALL_SQUARES & ends;
+    let mut left = ALL_SQUARES & destinations;
     let mut kept = left;
     while left != 0 {
         let to = lowest(left);

@@ -6,32 +6,34 @@ ghost use Rattle.shogi_core.specs.Attack.{in_check};
 ghost use Rattle.shogi_core.specs.Below.{some_below};
 ghost use Rattle.shogi_core.specs.Cell.{is_king};
 ghost use Rattle.shogi_core.specs.Movement.{piece_at};
-ghost use Rattle.shogi_moves.specs.Ends.{AreEnterable};
+ghost use Rattle.shogi_moves.specs.Destinations.{AreEnterable};
 ghost use Rattle.shogi_moves.specs.Escapes.{HasNoOtherKing};
-ghost use Rattle.shogi_moves.specs.Guards.{IsGuardOf};
+ghost use Rattle.shogi_moves.specs.CheckInfo.{IsCheckInfoOf};
 ghost use Rattle.shogi_moves.specs.Legal.{is_safe_code};
 ghost use Rattle.shogi_moves.specs.LegalMoves.{legal_from, legal_codes};
 
-use crate::ends::{drop_ends, enterable, is_king_safe, legal_ends, safe_drops};
-use crate::guard::{Guard, full_guard, rough_guard};
+use crate::check_info::{CheckInfo, full_check_info, rough_check_info};
+use crate::destinations::{
+    drop_destinations, enterable, is_king_safe, legal_destinations, safe_drops,
+};
 use crate::sweep::next_kind;
 use shogi_core::bits::{cleared, lowest, without_lowest};
 use shogi_core::{Kind, Position, Square};
 
-/// Whether the only king of the side to move may go to one of the squares, which it reaches and where
-/// no piece of its own stands.
+/// Whether the only king of the side to move may go to one of the squares, which it reaches and
+/// where no piece of its own stands.
 #[tactic(auto, using(crate::proofs::ExistenceLaws::king_move))]
-fn king_escapes(p: &Position, from: Square, ends: u128) -> bool
+fn king_escapes(p: &Position, from: Square, destinations: u128) -> bool
     requires king { is_king p.now.side (piece_at p.now.cells from) ≡ true }
     requires lone { HasNoOtherKing p.now.cells p.now.side from }
-    requires ends { AreEnterable p.now from ends }
-    requires fits { ends < 2 ^ 81 }
+    requires destinations { AreEnterable p.now from destinations }
+    requires fits { destinations < 2 ^ 81 }
     ensures { result ≡ true → legal_codes p.now ≢ [] }
 {
     from.validity();
     let mut lifted = *p.as_board();
     lifted.set(from, None);
-    let mut left = ends;
+    let mut left = destinations;
     while left != 0 {
         let to = lowest(left);
         if is_king_safe(p, &lifted, from, Square::of_index(to)) {
@@ -62,8 +64,8 @@ fn has_king_move(p: &Position) -> bool
 }
 
 /// Whether a piece on the board has a legal move.
-fn has_board_move(p: &Position, guard: &Guard) -> bool
-    requires { IsGuardOf guard.now p.now }
+fn has_board_move(p: &Position, info: &CheckInfo) -> bool
+    requires { IsCheckInfoOf info.now p.now }
     ensures some { result ≡ true → legal_codes p.now ≢ [] }
     ensures none { result ≡ false → legal_codes p.now ≡ legal_from p.now FIRST_DROP }
 {
@@ -73,8 +75,8 @@ fn has_board_move(p: &Position, guard: &Guard) -> bool
     'pieces: while left != 0 {
         let square = lowest(left);
         let from = Square::of_index(square);
-        let ends = legal_ends(p, guard, from, board.targets(from) & squares);
-        if ends.plain | ends.promoting != 0 {
+        let destinations = legal_destinations(p, info, from, board.targets(from) & squares);
+        if destinations.plain | destinations.promoting != 0 {
             return true;
         }
         left = without_lowest(left, square);
@@ -83,14 +85,14 @@ fn has_board_move(p: &Position, guard: &Guard) -> bool
 }
 
 /// Whether a held piece other than a pawn has a legal drop.
-fn has_piece_drop(p: &Position, guard: &Guard) -> bool
-    requires { IsGuardOf guard.now p.now }
+fn has_piece_drop(p: &Position, info: &CheckInfo) -> bool
+    requires { IsCheckInfoOf info.now p.now }
     ensures some { result ≡ true → legal_codes p.now ≢ [] }
     ensures none { result ≡ false → legal_from p.now (FIRST_DROP + 81) ≡ [] }
 {
     let mut kind = Kind::Pawn;
     'kinds: while let Some(next) = next_kind(kind) {
-        if safe_drops(p, guard, next) != 0 {
+        if safe_drops(p, info, next) != 0 {
             return true;
         }
         kind = next;
@@ -99,13 +101,13 @@ fn has_piece_drop(p: &Position, guard: &Guard) -> bool
 }
 
 /// Whether some move is legal other than the drop of a pawn.
-fn has_other_move(p: &Position, guard: &Guard) -> bool
-    requires { IsGuardOf guard.now p.now }
+fn has_other_move(p: &Position, info: &CheckInfo) -> bool
+    requires { IsCheckInfoOf info.now p.now }
     ensures some { result ≡ true → legal_codes p.now ≢ [] }
     ensures board { result ≡ false → legal_codes p.now ≡ legal_from p.now FIRST_DROP }
     ensures drops { result ≡ false → legal_from p.now (FIRST_DROP + 81) ≡ [] }
 {
-    has_board_move(p, guard) || has_piece_drop(p, guard)
+    has_board_move(p, info) || has_piece_drop(p, info)
 }
 
 /// Whether some move of a side in check is safe. The king, which most often has a way out, is asked
@@ -117,35 +119,35 @@ pub fn has_safe(p: &Position) -> bool
     if has_king_move(p) {
         return true;
     }
-    let guard = full_guard(p, true);
-    if has_other_move(p, &guard) {
+    let info = full_check_info(p, true);
+    if has_other_move(p, &info) {
         return true;
     }
-    safe_drops(p, &guard, Kind::Pawn) != 0
+    safe_drops(p, &info, Kind::Pawn) != 0
 }
 
 /// Whether a held pawn has a legal drop.
-fn has_pawn_drop(p: &Position, guard: &Guard) -> bool
-    requires { IsGuardOf guard.now p.now }
+fn has_pawn_drop(p: &Position, info: &CheckInfo) -> bool
+    requires { IsCheckInfoOf info.now p.now }
     ensures some { result ≡ true → legal_codes p.now ≢ [] }
     ensures none { result ≡ false
         → legal_from p.now FIRST_DROP ≡ legal_from p.now (FIRST_DROP + 81) }
 {
-    drop_ends(p, guard, Kind::Pawn) != 0
+    drop_destinations(p, info, Kind::Pawn) != 0
 }
 
 /// Whether some move is legal. Drops are looked for first where no check is to be answered: their
-/// ends need no look at the pieces on the board. Then the king, which most often has a way out.
+/// destinations need no look at the pieces on the board. Then the king, which most often has a way out.
 pub fn has_legal(p: &Position) -> bool
     ensures { IsTrue result ↔ (legal_codes p.now ≢ []) }
 {
-    let rough = rough_guard(p);
+    let rough = rough_check_info(p);
     if !rough.checked && has_piece_drop(p, &rough) {
         return true;
     }
     if has_king_move(p) {
         return true;
     }
-    let guard = full_guard(p, rough.checked);
-    has_other_move(p, &guard) || has_pawn_drop(p, &guard)
+    let info = full_check_info(p, rough.checked);
+    has_other_move(p, &info) || has_pawn_drop(p, &info)
 }

@@ -1,21 +1,22 @@
 //! Attacks, legal moves, the position after a move, and counting sequences of legal moves.
 //!
-//! A move is found in `ends`: the legal ends of a piece and the drops of a kind, as masks. `sweep` goes
-//! through them for the search, `next` and `walk` for everyone else, `existence` up to the first one.
-//! `movers` leaves out, before their ends are looked for, pieces that surely take nothing.
-//! A move is tested in `legal`, by the rules one after another, and made in `after`.
-//! A check is found by `Board::in_check` of `shogi_core`; what `guard` and `zones` keep spares most looks.
-//! Before a move is made `replies` tells that it can be answered, `escapes` that a king which it checks
-//! surely has a square to go to, and `threats` what the other side may take after most moves.
+//! A move is found in `destinations`: the legal destinations of a piece and the drops of a kind, as
+//! masks. `sweep` goes through them for the search, `next` and `walk` for everyone else, `existence`
+//! up to the first one. `movers` leaves out, before their destinations are looked for, pieces that
+//! surely take nothing. A move is tested in `legal`, by the rules one after another, and made in
+//! `after`. A check is found by `Board::in_check` of `shogi_core`; `check_info` keeps it, with the
+//! pieces of `Board::pinned`, so that few moves need another look. Whether a move gives check is asked
+//! of the position after it; that it gives none, or can be answered, `replies` and `escapes` tell of
+//! most moves before they are made, and `threats` what the other side may take after them.
 #![tactic(auto)]
 
 mod after;
 mod attack;
+mod check_info;
 mod count;
-mod ends;
+mod destinations;
 mod escapes;
 mod existence;
-mod guard;
 mod legal;
 mod movers;
 mod next;
@@ -27,10 +28,10 @@ mod zones;
 
 pub use after::{advance, apply};
 pub use attack::{in_check, is_attacked};
+pub use check_info::{CheckInfo, check_info_of};
 pub use count::perft;
 pub use escapes::{escape_squares, leaves_escape};
 pub use existence::has_legal;
-pub use guard::{Guard, guard_of};
 pub use legal::{is_legal, play};
 pub use next::next_legal;
 pub use replies::Replies;

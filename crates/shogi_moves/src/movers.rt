@@ -1,10 +1,11 @@
-//! The pieces that may have a move of a sort, found all at once.
+//! The pieces that may have a move of a kind, and those whose moves give the other side no check and cannot
+//! promote, found all at once.
 
 ghost use Rattle.std.specs.Prelude.{◌≡◌, ◌<◌, ◌^◌, ◌+◌, ◌⊎◌, ◌&&◌, ℕ, true, false};
 ghost use Rattle.shogi_core.specs.Bits.{has_bit};
 ghost use Rattle.shogi_core.specs.Lines.{is_near};
 ghost use Rattle.shogi_core.specs.Movement.{piece_at, reaches};
-ghost use Rattle.shogi_moves.specs.Ends.{is_end};
+ghost use Rattle.shogi_moves.specs.Destinations.{is_destination};
 ghost use Rattle.shogi_moves.specs.Replies.{IsFarMove};
 
 use crate::zones::{back_squares, zone_squares};
@@ -20,7 +21,8 @@ fn places_away(mask: u128, places: usize) -> u128
     mask >> places | mask << places
 }
 
-/// The squares next to one of the mask or a knight's jump away, and some more at the edges of the board.
+/// The squares next to one of the mask or a knight's jump away, and some more at the edges of the
+/// board.
 fn squares_near(mask: u128) -> u128
     requires { mask < 2 ^ 81 }
     ensures { (a b : ℕ) → a < 81 → b < 81 → has_bit mask b ≡ true
@@ -34,13 +36,14 @@ fn squares_near(mask: u128) -> u128
         | places_away(mask, 11)
 }
 
-/// Those of the pieces that may reach a square of the sort; to capture, a piece slides or stands near one of
-/// the other side's.
+/// Those of the pieces that may reach a square where such a move ends; to capture, a piece slides or stands
+/// near one of the other side's.
 pub fn movers(p: &Position, capture: bool, pieces: u128) -> u128
     requires { pieces < 2 ^ 81 }
     ensures within { (n : ℕ) → has_bit result n ≡ true → has_bit pieces n ≡ true }
     ensures none { (n t : ℕ) → n < 81 → t < 81 → has_bit pieces n ≡ true → has_bit result n ≡ false
-        → (reaches p.now.cells n t && is_end capture p.now.side (piece_at p.now.cells t)) ≡ false }
+        → (reaches p.now.cells n t
+        && is_destination capture p.now.side (piece_at p.now.cells t)) ≡ false }
     ensures fits { result < 2 ^ 81 }
 {
     if !capture {
@@ -50,8 +53,8 @@ pub fn movers(p: &Position, capture: bool, pieces: u128) -> u128
     pieces & (board.sliders() | squares_near(board.own(p.side().opponent())))
 }
 
-/// Where the kings of the other side stand on its two last ranks: those of the pieces of the side to move on
-/// the three ranks before it that do not slide and that the mask leaves out.
+/// Where the kings of the other side stand on its two last ranks: those of the pieces of the side
+/// to move on the three ranks before it that do not slide and that the mask leaves out.
 #[inline(always)]
 pub fn far_pieces(p: &Position, sight: u128) -> u128
     ensures { (a n : ℕ) → a < 81 → n < 81 → has_bit result a ≡ true

@@ -7,15 +7,15 @@ ghost use Rattle.shogi_core.specs.Cell.{is_piece_of};
 ghost use Rattle.shogi_core.specs.Codes.{code_of};
 ghost use Rattle.shogi_core.specs.Movement.{piece_at};
 ghost use Rattle.shogi_core.specs.Pieces.{kind_number};
-ghost use Rattle.shogi_moves.specs.Guards.{IsGuardOf};
+ghost use Rattle.shogi_moves.specs.CheckInfo.{IsCheckInfoOf};
 ghost use Rattle.shogi_moves.specs.Legal.{is_legal, is_legal_code};
 ghost use Rattle.shogi_moves.specs.LegalMoves.{legal_from, legal_above, legal_codes, IsLeastFrom};
 ghost use Rattle.shogi_moves.specs.Places.{code_past, IsAtSquare, IsAtKind};
 ghost use Rattle.shogi_moves.specs.Rising.{IsRising};
 ghost use Rattle.shogi_moves.specs.Sweeps.{Keeps};
 
-use crate::ends::{Ends, drop_ends, enterable, legal_ends};
-use crate::guard::{Guard, guard_of};
+use crate::check_info::{CheckInfo, check_info_of};
+use crate::destinations::{Destinations, drop_destinations, enterable, legal_destinations};
 use crate::sweep::bits_from;
 use shogi_core::bits::{has, lowest};
 use shogi_core::{FIRST_DROP, Kind, Move, Position, SQUARE_CODES, Square, is_piece_of};
@@ -28,9 +28,9 @@ pub fn code_above(m: &Move) -> u16
     m.code() + 1
 }
 
-/// The legal ends of one of the pieces of the side to move, those from a code on.
-fn ends_left(p: &Position, guard: &Guard, from: Square, code: u16) -> Ends
-    requires guard { IsGuardOf guard.now p.now }
+/// The legal destinations of one of the pieces of the side to move, those from a code on.
+fn destinations_left(p: &Position, info: &CheckInfo, from: Square, code: u16) -> Destinations
+    requires info { IsCheckInfoOf info.now p.now }
     requires own { is_piece_of p.now.side (piece_at p.now.cells from) ≡ true }
     requires code { IsAtSquare from code }
     ensures plain { Keeps (is_legal_code p.now) (λ n. code_of (moves.Board from n false))
@@ -40,16 +40,16 @@ fn ends_left(p: &Position, guard: &Guard, from: Square, code: u16) -> Ends
 {
     from.validity();
     let passed = (code - from.index() as u16 * SQUARE_CODES) as usize;
-    let ends = legal_ends(p, guard, from, p.as_board().targets(from) & enterable(p));
-    Ends {
-        plain: bits_from(ends.plain, (passed + 1) / 2),
-        promoting: bits_from(ends.promoting, passed / 2),
+    let destinations = legal_destinations(p, info, from, p.as_board().targets(from) & enterable(p));
+    Destinations {
+        plain: bits_from(destinations.plain, (passed + 1) / 2),
+        promoting: bits_from(destinations.promoting, passed / 2),
     }
 }
 
 /// The legal move of least code from the given one on, of what stands on the square.
-fn least_end(p: &Position, guard: &Guard, from: Square, code: u16) -> Option<Move>
-    requires guard { IsGuardOf guard.now p.now }
+fn least_destination(p: &Position, info: &CheckInfo, from: Square, code: u16) -> Option<Move>
+    requires info { IsCheckInfoOf info.now p.now }
     requires code { IsAtSquare from code }
     ensures next { IsLeastFrom p.now result code (from * SQUARE_CODES + SQUARE_CODES) }
     ensures legal { IfSome result (λ m. is_legal p.now m ≡ true) }
@@ -59,8 +59,8 @@ fn least_end(p: &Position, guard: &Guard, from: Square, code: u16) -> Option<Mov
     if !is_piece_of(p.at(from), p.side()) {
         return None;
     }
-    let ends = ends_left(p, guard, from, code);
-    let both = ends.plain | ends.promoting;
+    let destinations = destinations_left(p, info, from, code);
+    let both = destinations.plain | destinations.promoting;
     if both == 0 {
         return None;
     }
@@ -68,14 +68,14 @@ fn least_end(p: &Position, guard: &Guard, from: Square, code: u16) -> Option<Mov
     Some(Move::Board {
         from,
         to: Square::of_index(to),
-        promote: !has(ends.plain, to),
+        promote: !has(destinations.plain, to),
     })
 }
 
 /// The legal move of least code from the given one on, of a piece on the board.
-pub fn least_board(p: &Position, guard: &Guard, first: u16) -> Option<Move>
+pub fn least_board(p: &Position, info: &CheckInfo, first: u16) -> Option<Move>
     requires first { first ≤ FIRST_DROP }
-    requires guard { IsGuardOf guard.now p.now }
+    requires info { IsCheckInfoOf info.now p.now }
     ensures next { IsLeastFrom p.now result first FIRST_DROP }
     ensures legal { IfSome result (λ m. is_legal p.now m ≡ true) }
     ensures on_board { IfSome result (λ m. code_of m < FIRST_DROP) }
@@ -83,7 +83,7 @@ pub fn least_board(p: &Position, guard: &Guard, first: u16) -> Option<Move>
     let mut code = first;
     'squares: while code < FIRST_DROP {
         let square = code / SQUARE_CODES;
-        let found = least_end(p, guard, Square::of_index(square as usize), code);
+        let found = least_destination(p, info, Square::of_index(square as usize), code);
         if found.is_some() {
             return found;
         }
@@ -93,48 +93,48 @@ pub fn least_board(p: &Position, guard: &Guard, first: u16) -> Option<Move>
 }
 
 /// Where one of the held pieces may legally be dropped, those from a code on.
-fn drops_left(p: &Position, guard: &Guard, kind: Kind, code: u16) -> u128
-    requires guard { IsGuardOf guard.now p.now }
+fn drops_left(p: &Position, info: &CheckInfo, kind: Kind, code: u16) -> u128
+    requires info { IsCheckInfoOf info.now p.now }
     requires code { IsAtKind kind code }
     ensures { Keeps (is_legal_code p.now) (λ n. code_of (moves.Drop kind n)) code result }
 {
     let passed = (code - FIRST_DROP) as usize - kind.number() * 81;
-    bits_from(drop_ends(p, guard, kind), passed)
+    bits_from(drop_destinations(p, info, kind), passed)
 }
 
 /// The legal drop of the kind of least code from the given one on.
-fn least_drop(p: &Position, guard: &Guard, kind: Kind, code: u16) -> Option<Move>
-    requires guard { IsGuardOf guard.now p.now }
+fn least_drop(p: &Position, info: &CheckInfo, kind: Kind, code: u16) -> Option<Move>
+    requires info { IsCheckInfoOf info.now p.now }
     requires code { IsAtKind kind code }
     ensures next { IsLeastFrom p.now result code (FIRST_DROP + 81 + kind_number kind * 81) }
     ensures legal { IfSome result (λ m. is_legal p.now m ≡ true) }
 {
-    let ends = drops_left(p, guard, kind, code);
-    if ends == 0 {
+    let destinations = drops_left(p, info, kind, code);
+    if destinations == 0 {
         return None;
     }
-    let to = lowest(ends);
+    let to = lowest(destinations);
     Some(Move::Drop {
         kind,
         to: Square::of_index(to),
     })
 }
 
-/// The legal move of least code from that of the move on, among those from the same square or of the
-/// same kind.
-fn least_beside(p: &Position, guard: &Guard, m: &Move) -> Option<Move>
-    requires guard { IsGuardOf guard.now p.now }
+/// The legal move of least code from that of the move on, among those from the same square or of
+/// the same kind.
+fn least_beside(p: &Position, info: &CheckInfo, m: &Move) -> Option<Move>
+    requires info { IsCheckInfoOf info.now p.now }
     ensures next { IsLeastFrom p.now result (code_of m.now) (code_past m.now) }
     ensures legal { IfSome result (λ found. is_legal p.now found ≡ true) }
 {
     match m {
         Move::Board { from, to, .. } => {
             to.validity();
-            least_end(p, guard, *from, m.code())
+            least_destination(p, info, *from, m.code())
         }
         Move::Drop { kind, to } => {
             to.validity();
-            least_drop(p, guard, *kind, m.code())
+            least_drop(p, info, *kind, m.code())
         }
     }
 }
@@ -158,16 +158,16 @@ fn code_past(m: &Move) -> u16
 }
 
 /// The legal move of least code from the given one on: square by square, and then kind by kind.
-pub fn least_from(p: &Position, guard: &Guard, first: u16) -> Option<Move>
+pub fn least_from(p: &Position, info: &CheckInfo, first: u16) -> Option<Move>
     requires first { first ≤ MOVE_CODE_COUNT }
-    requires guard { IsGuardOf guard.now p.now }
+    requires info { IsCheckInfoOf info.now p.now }
     ensures next { MatchOption result (legal_from p.now first ≡ [])
         (λ m. legal_from p.now first ≡ code_of m ∷ legal_from p.now (code_of m + 1)) }
     ensures legal { IfSome result (λ m. is_legal p.now m ≡ true) }
 {
     let mut code = first;
     'codes: while let Some(m) = Move::of_code(code) {
-        let found = least_beside(p, guard, &m);
+        let found = least_beside(p, info, &m);
         if found.is_some() {
             return found;
         }
@@ -187,7 +187,7 @@ pub fn next_legal(p: &Position, after: Option<Move>) -> Option<Move>
     ensures rising { IsRising (legal_codes p.now) }
 {
     match after {
-        None => least_from(p, &guard_of(p), 0),
-        Some(m) => least_from(p, &guard_of(p), m.code() + 1),
+        None => least_from(p, &check_info_of(p), 0),
+        Some(m) => least_from(p, &check_info_of(p), m.code() + 1),
     }
 }

@@ -13,8 +13,8 @@ ghost use Rattle.shogi_moves.specs.Replies.{holds_free, is_open_step, is_spare, 
 ghost use Rattle.shogi_moves.specs.Threats.{IsThreat, LeavesThreat, MayTake};
 
 use crate::after::{dropped, piece_moved};
-use crate::ends::ends_of_sort;
-use crate::escapes::{escaped_drops, escaped_ends};
+use crate::destinations::matching_destinations;
+use crate::escapes::{escaped_destinations, escaped_drops};
 use crate::movers::far_pieces;
 use crate::zones::{dead_squares, promoting_squares};
 use shogi_core::bits::{ALL_SQUARES, cleared, has, lowest, without, without_lowest};
@@ -60,8 +60,8 @@ pub fn line_squares(p: &Position, side: Color) -> u128
     lines
 }
 
-/// Whether what stands on the square may stand in the way of a piece that slides to a king of the side:
-/// such a piece is on a line with the king and on an open line with the square.
+/// Whether what stands on the square may stand in the way of a piece that slides to a king of the
+/// side: such a piece is on a line with the king and on an open line with the square.
 fn may_uncover(p: &Position, side: Color, from: Square) -> bool
     ensures { result ≡ false → StaysCovered p.now.cells side from }
 {
@@ -122,8 +122,8 @@ fn attacks_king(p: &Position, side: Color, cell: Option<Piece>, to: Square) -> b
     }
 }
 
-/// The squares from which the piece would attack a king of the side: those that it would reach from there
-/// if it were of the other colour.
+/// The squares from which the piece would attack a king of the side: those that it would reach from
+/// there if it were of the other colour.
 fn check_squares(p: &Position, side: Color, cell: Option<Piece>) -> u128
     ensures { (n : ℕ) → n < 81 → has_bit result n ≡ false → IsHarmless p.now.cells side cell n }
 {
@@ -143,8 +143,8 @@ fn check_squares(p: &Position, side: Color, cell: Option<Piece>) -> u128
     checks
 }
 
-/// Whether the side holds a piece that it may drop on each empty square where it is in no check: one
-/// that is no pawn and goes on from everywhere.
+/// Whether the side holds a piece that it may drop on each empty square where it is in no check:
+/// one that is no pawn and goes on from everywhere.
 fn holds_free(p: &Position, side: Color) -> bool
     ensures { result ≡ holds_free p.now.hands side }
 {
@@ -168,8 +168,9 @@ impl Replies {
         true
     }
 
-    /// The squares to which a move of what stands on the square may uncover a check: none where no king
-    /// sees it, all where it may cover one, and else the lines of the king for a piece that slides.
+    /// The squares to which a move of what stands on the square may uncover a check: none where no
+    /// king sees it, all where it may cover one, and else the lines of the king for a piece that
+    /// slides.
     #[inline(always)]
     fn uncovering_squares(&self, p: &Position, from: Square) -> u128
         ensures { UncoversWithin p.now.cells (opponent_of p.now.side) self.now.sight from result }
@@ -214,8 +215,8 @@ impl Replies {
         }
     }
 
-    /// Whether it is certain that after the legal move the other side is in no check and has a legal move.
-    /// Then it may carry out each of its threats that the move leaves.
+    /// Whether it is certain that after the legal move the other side is in no check and has a
+    /// legal move. Then it may carry out each of its threats that the move leaves.
     #[inline(always)]
     pub fn is_certain(&self, p: &Position, m: &Move) -> bool
         requires kept { IsReplies p.now self.now.sight self.now.spare }
@@ -249,12 +250,12 @@ impl Replies {
     }
 
     /// Those of the squares on which what comes to stand may give check.
-    fn risky_squares(&self, p: &Position, cell: Option<Piece>, ends: u128) -> u128
+    fn checking_squares(&self, p: &Position, cell: Option<Piece>, destinations: u128) -> u128
         requires kept { IsReplies p.now self.now.sight self.now.spare }
-        ensures { (n : ℕ) → n < 81 → has_bit ends n ≡ true → has_bit result n ≡ false
+        ensures { (n : ℕ) → n < 81 → has_bit destinations n ≡ true → has_bit result n ≡ false
             → IsHarmless p.now.cells (opponent_of p.now.side) cell n }
     {
-        let seen = ends & self.sight;
+        let seen = destinations & self.sight;
         if seen == 0 {
             return 0;
         }
@@ -276,8 +277,8 @@ impl Replies {
         without(!closed, one)
     }
 
-    /// Pieces of the side to move of which each move that takes nothing leaves the other side a legal move
-    /// and cannot promote, since they are far from its kings and from the zone.
+    /// Pieces of the side to move of which each move that takes nothing leaves the other side a
+    /// legal move and cannot promote, since they are far from its kings and from the zone.
     pub fn far_pieces(&self, p: &Position) -> u128
         requires kept { IsReplies p.now self.now.sight self.now.spare }
         ensures { (n : ℕ) → n < 81 → has_bit result n ≡ true → HasCertainQuiets p.now n }
@@ -289,8 +290,8 @@ impl Replies {
         far_pieces(p, self.sight)
     }
 
-    /// Whether each move of what stands on the square that takes nothing surely leaves the other side a
-    /// legal move and cannot promote. Which of the moves are legal need not be known.
+    /// Whether each move of what stands on the square that takes nothing surely leaves the other
+    /// side a legal move and cannot promote. Which of the moves are legal need not be known.
     #[inline(always)]
     pub fn has_certain_quiets(&self, p: &Position, escapes: u128, far: u128, from: Square) -> bool
         requires kept { IsReplies p.now self.now.sight self.now.spare }
@@ -303,60 +304,69 @@ impl Replies {
         if has(far, from.index()) {
             return true;
         }
-        let among = p.as_board().targets(from) & ends_of_sort(p, false);
+        let among = p.as_board().targets(from) & matching_destinations(p, false);
         let promoting = promoting_squares(p.at(from), from);
-        among & (promoting | !self.certain_ends(p, escapes, from, among)) == 0
+        among & (promoting | !self.certain_destinations(p, escapes, from, among)) == 0
     }
 
-    /// Those of the squares to which what stands on a square may move without promotion so that the other
-    /// side surely has a legal move after it: it is in no check, or its king has one of the escapes left.
+    /// Those of the squares to which what stands on a square may move without promotion so that the
+    /// other side surely has a legal move after it: it is in no check, or its king has one of the
+    /// escapes left.
     #[inline(always)]
-    pub fn certain_ends(&self, p: &Position, escapes: u128, from: Square, ends: u128) -> u128
+    pub fn certain_destinations(
+        &self,
+        p: &Position,
+        escapes: u128,
+        from: Square,
+        destinations: u128,
+    ) -> u128
         requires escapes { AreEscapes p.now escapes }
         requires kept { IsReplies p.now self.now.sight self.now.spare }
-        ensures among { (n : ℕ) → has_bit result n ≡ true → has_bit ends n ≡ true }
+        ensures among { (n : ℕ) → has_bit result n ≡ true → has_bit destinations n ≡ true }
         ensures certain { AreAnswered p.now from result }
     {
         p.validity();
         from.validity();
-        if ends & self.sight == 0 && !has(self.sight, from.index()) {
-            return ends & self.open_squares(0);
+        if destinations & self.sight == 0 && !has(self.sight, from.index()) {
+            return destinations & self.open_squares(0);
         }
-        self.certain_among(p, escapes, from, ends)
+        self.certain_among(p, escapes, from, destinations)
     }
 
     /// The same, where a king sees some of the squares.
     #[inline(never)]
-    fn certain_among(&self, p: &Position, escapes: u128, from: Square, ends: u128) -> u128
+    fn certain_among(&self, p: &Position, escapes: u128, from: Square, destinations: u128) -> u128
         requires escapes { AreEscapes p.now escapes }
         requires kept { IsReplies p.now self.now.sight self.now.spare }
-        ensures among { (n : ℕ) → has_bit result n ≡ true → has_bit ends n ≡ true }
+        ensures among { (n : ℕ) → has_bit result n ≡ true → has_bit destinations n ≡ true }
         ensures certain { AreAnswered p.now from result }
     {
         p.validity();
         from.validity();
-        let closed = self.risky_squares(p, p.at(from), ends) | self.uncovering_squares(p, from);
-        let open = ends & self.open_squares(closed);
-        if open == ends || escapes == 0 {
+        let closed = self.checking_squares(p, p.at(from), destinations)
+            | self.uncovering_squares(p, from);
+        let open = destinations & self.open_squares(closed);
+        if open == destinations || escapes == 0 {
             return open;
         }
-        open | escaped_ends(p, escapes, from, ends & !open)
+        open | escaped_destinations(p, escapes, from, destinations & !open)
     }
 
-    /// Those of the squares on which a piece of the kind may be dropped so that the other side surely has a
-    /// legal move after it: it is in no check, or its king has one of the escapes left.
-    pub fn certain_drops(&self, p: &Position, escapes: u128, kind: Kind, ends: u128) -> u128
+    /// Those of the squares on which a piece of the kind may be dropped so that the other side
+    /// surely has a legal move after it: it is in no check, or its king has one of the escapes
+    /// left.
+    pub fn certain_drops(&self, p: &Position, escapes: u128, kind: Kind, destinations: u128) -> u128
         requires escapes { AreEscapes p.now escapes }
         requires kept { IsReplies p.now self.now.sight self.now.spare }
-        ensures among { (n : ℕ) → has_bit result n ≡ true → has_bit ends n ≡ true }
+        ensures among { (n : ℕ) → has_bit result n ≡ true → has_bit destinations n ≡ true }
         ensures certain { AreDropsAnswered p.now kind result }
     {
         p.validity();
-        let risky = self.risky_squares(p, dropped(p.side(), kind), ends);
-        let open = ends & self.open_squares(risky);
-        if open == ends || escapes == 0 {
+        let checking = self.checking_squares(p, dropped(p.side(), kind), destinations);
+        let open = destinations & self.open_squares(checking);
+        if open == destinations || escapes == 0 {
             return open;
         }
-        open | escaped_drops(p, escapes, kind, ends & !open)
+        open | escaped_drops(p, escapes, kind, destinations & !open)
     }
 }

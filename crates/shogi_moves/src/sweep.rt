@@ -1,4 +1,4 @@
-//! Ways through the legal moves of a sort, which keep the ends of the present piece.
+//! Ways through the legal moves of a kind, which keep the destinations of the present piece.
 
 ghost use Rattle.std.specs.Prelude.{◌≡◌, ◌≢◌, ◌<◌, ◌≤◌, ◌+◌, ◌*◌, ◌^◌, ◌∷◌, [], ℕ, true, false, IfSome, IsNone, MatchOption, bit_or};
 ghost use Rattle.shogi_core.specs.declared.moves.TheConstants.{FIRST_DROP};
@@ -7,54 +7,57 @@ ghost use Rattle.shogi_core.specs.Cell.{is_piece_of};
 ghost use Rattle.shogi_core.specs.Codes.{code_of};
 ghost use Rattle.shogi_core.specs.Pieces.{kind_number};
 ghost use Rattle.shogi_moves.specs.Escapes.{AreEscapes};
-ghost use Rattle.shogi_moves.specs.Guards.{IsGuardOf};
+ghost use Rattle.shogi_moves.specs.CheckInfo.{IsCheckInfoOf};
 ghost use Rattle.shogi_moves.specs.Legal.{is_legal};
 ghost use Rattle.shogi_moves.specs.Replies.{IsReplies};
-ghost use Rattle.shogi_moves.specs.Sweeps.{wanted_from, AreWantedEnds, IsBoardSweep, IsDropSweep, IsCertainQuiet, IsCertainDrop, IsPassed, IsPassedTo};
+ghost use Rattle.shogi_moves.specs.Sweeps.{matching_from, AreMatchingDestinations, IsBoardSweep, IsDropSweep, IsCertainQuiet, IsCertainDrop, IsPassed, IsPassedTo};
 ghost use Rattle.shogi_moves.specs.Walks.{IsNextOf};
 
-use crate::ends::{Ends, drop_ends, ends_of_sort, legal_ends};
-use crate::guard::{Guard, guard_of};
+use crate::check_info::{CheckInfo, check_info_of};
+use crate::destinations::{
+    Destinations, drop_destinations, legal_destinations, matching_destinations,
+};
 use crate::movers::movers;
 use crate::next::code_above;
 use crate::replies::Replies;
 use shogi_core::bits::{has, lowest, up_to_lowest, with, without_lowest};
 use shogi_core::{FIRST_DROP, Kind, Move, Position, SQUARE_CODES, Square, is_piece_of};
 
-/// What is still to come of the board moves of a sort, in the order of codes: the legal ends of
-/// the piece on one square, and all of those above it.
+/// What is still to come of the board moves of a kind, in the order of codes: the legal
+/// destinations of the piece on one square, and all of those above it.
 #[derive(Clone, Copy, Debug)]
 pub struct BoardSweep {
-    pub guard: Guard,
+    pub info: CheckInfo,
     pub from: Square,
-    pub ends: Ends,
+    pub destinations: Destinations,
     pub code: u16,
 }
 
 /// What is still to come of the drops, in the order of codes.
 #[derive(Clone, Copy, Debug)]
 pub struct DropSweep {
-    pub guard: Guard,
+    pub info: CheckInfo,
     pub kind: Kind,
-    pub ends: u128,
+    pub destinations: u128,
     pub code: u16,
 }
 
-/// The legal ends of what stands on the square; none where that is no piece of the side to move.
+/// The legal destinations of what stands on the square; none where that is no piece of the side to
+/// move.
 #[tactic(auto, using(crate::proofs::SweepLaws::no_piece))]
-fn ends_on(p: &Position, guard: &Guard, capture: bool, from: Square) -> Ends
-    requires guard { IsGuardOf guard.now p.now }
-    ensures plain { AreWantedEnds p.now capture from false result.plain }
-    ensures promoting { AreWantedEnds p.now capture from true result.promoting }
+fn destinations_on(p: &Position, info: &CheckInfo, capture: bool, from: Square) -> Destinations
+    requires info { IsCheckInfoOf info.now p.now }
+    ensures plain { AreMatchingDestinations p.now capture from false result.plain }
+    ensures promoting { AreMatchingDestinations p.now capture from true result.promoting }
     ensures plain_fits { result.plain < 2 ^ 81 }
     ensures promoting_fits { result.promoting < 2 ^ 81 }
 {
     from.validity();
     if is_piece_of(p.at(from), p.side()) {
-        let among = p.as_board().targets(from) & ends_of_sort(p, capture);
-        legal_ends(p, guard, from, among)
+        let among = p.as_board().targets(from) & matching_destinations(p, capture);
+        legal_destinations(p, info, from, among)
     } else {
-        Ends {
+        Destinations {
             plain: 0,
             promoting: 0,
         }
@@ -88,34 +91,38 @@ pub fn bits_from(mask: u128, n: usize) -> u128
 }
 
 impl BoardSweep {
-    /// Through all board moves of the sort.
+    /// Through all board moves of the kind.
     #[tactic(auto, using(crate::proofs::SweepLaws::sweeping))]
-    pub fn new(p: &Position, guard: Guard, capture: bool) -> BoardSweep
-        requires guard { IsGuardOf guard p.now }
+    pub fn new(p: &Position, info: CheckInfo, capture: bool) -> BoardSweep
+        requires info { IsCheckInfoOf info p.now }
         ensures kept { IsBoardSweep p.now capture result }
         ensures code { result.code ≡ 0 }
     {
         let from = Square::of_index(0);
         BoardSweep {
-            guard,
+            info,
             from,
-            ends: ends_on(p, &guard, capture, from),
+            destinations: destinations_on(p, &info, capture, from),
             code: 0,
         }
     }
 
-    /// The next of the ends of the present piece.
+    /// The next of the destinations of the present piece.
     #[inline(always)]
     #[tactic(auto, using(crate::proofs::SweepLaws::sweeping))]
     fn take(&mut self, p: &Position, capture: bool) -> Move
         requires kept { IsBoardSweep p.now capture self.old }
-        requires some { bit_or self.old.ends.plain self.old.ends.promoting ≢ 0 }
+        requires some { bit_or self.old.destinations.plain self.old.destinations.promoting ≢ 0 }
         ensures kept { IsBoardSweep p.now capture self.new }
-        ensures next { wanted_from p.now capture self.old.code
-            ≡ code_of result ∷ wanted_from p.now capture self.new.code }
+        ensures next { matching_from p.now capture self.old.code
+            ≡ code_of result ∷ matching_from p.now capture self.new.code }
         ensures legal { is_legal p.now result ≡ true }
     {
-        let (from, plain, promoting) = (self.from, self.ends.plain, self.ends.promoting);
+        let (from, plain, promoting) = (
+            self.from,
+            self.destinations.plain,
+            self.destinations.promoting,
+        );
         from.validity();
         let to = lowest(plain | promoting);
         let end = Square::of_index(to);
@@ -125,7 +132,7 @@ impl BoardSweep {
                 to: end,
                 promote: false,
             };
-            self.ends.plain = without_lowest(plain, to);
+            self.destinations.plain = without_lowest(plain, to);
             self.code = code_above(&m);
             return m;
         }
@@ -134,37 +141,39 @@ impl BoardSweep {
             to: end,
             promote: true,
         };
-        self.ends.promoting = without_lowest(promoting, to);
+        self.destinations.promoting = without_lowest(promoting, to);
         self.code = code_above(&m);
         m
     }
 
-    /// Goes on to the next piece that has a move of the sort, if there is one.
+    /// Goes on to the next piece that has a move of the kind, if there is one.
     #[inline(never)]
     #[tactic(auto, using(crate::proofs::SweepLaws::sweeping))]
     fn refill(&mut self, p: &Position, capture: bool) -> bool
         requires kept { IsBoardSweep p.now capture self.old }
-        requires none { bit_or self.old.ends.plain self.old.ends.promoting ≡ 0 }
+        requires none { bit_or self.old.destinations.plain self.old.destinations.promoting ≡ 0 }
         ensures kept { IsBoardSweep p.now capture self.new }
-        ensures some { result ≡ true → (bit_or self.new.ends.plain self.new.ends.promoting ≢ 0)
-            × (wanted_from p.now capture self.old.code ≡ wanted_from p.now capture self.new.code) }
+        ensures some { result ≡ true
+            → (bit_or self.new.destinations.plain self.new.destinations.promoting ≢ 0)
+            × (matching_from p.now capture self.old.code
+            ≡ matching_from p.now capture self.new.code) }
         ensures end { result ≡ false
-            → wanted_from p.now capture self.old.code ≡ wanted_from p.now capture FIRST_DROP }
+            → matching_from p.now capture self.old.code ≡ matching_from p.now capture FIRST_DROP }
     {
         p.validity();
-        let sort = ends_of_sort(p, capture);
+        let matching = matching_destinations(p, capture);
         let board = p.as_board();
         let pieces = bits_above(board.own(p.side()), self.from.index());
         let mut left = movers(p, capture, pieces);
         'squares: while left != 0 {
             let square = lowest(left);
             let from = Square::of_index(square);
-            let among = board.targets(from) & sort;
+            let among = board.targets(from) & matching;
             if among != 0 {
-                let ends = legal_ends(p, &self.guard, from, among);
-                if ends.plain | ends.promoting != 0 {
+                let destinations = legal_destinations(p, &self.info, from, among);
+                if destinations.plain | destinations.promoting != 0 {
                     self.from = from;
-                    self.ends = ends;
+                    self.destinations = destinations;
                     self.code = square as u16 * SQUARE_CODES;
                     return true;
                 }
@@ -174,17 +183,17 @@ impl BoardSweep {
         false
     }
 
-    /// The next of the moves, or `None` where no board move of the sort is left.
+    /// The next of the moves, or `None` where no board move of the kind is left.
     #[inline(always)]
     #[tactic(auto, using(crate::proofs::SweepLaws::sweeping))]
     pub fn next(&mut self, p: &Position, capture: bool) -> Option<Move>
         requires kept { IsBoardSweep p.now capture self.old }
         ensures kept { IsBoardSweep p.now capture self.new }
-        ensures next { IsNextOf result (wanted_from p.now capture self.old.code)
-            (wanted_from p.now capture self.new.code) (wanted_from p.now capture FIRST_DROP) }
+        ensures next { IsNextOf result (matching_from p.now capture self.old.code)
+            (matching_from p.now capture self.new.code) (matching_from p.now capture FIRST_DROP) }
         ensures legal { IfSome result (λ m. is_legal p.now m ≡ true) }
     {
-        if self.ends.plain | self.ends.promoting == 0 {
+        if self.destinations.plain | self.destinations.promoting == 0 {
             if !self.refill(p, capture) {
                 return None;
             }
@@ -192,36 +201,36 @@ impl BoardSweep {
         Some(self.take(p, capture))
     }
 
-    /// Passes the ends of the present piece, none of which is by promotion, up to the first after which it
-    /// is not certain that the other side has a legal move.
-    fn pass_ends(&mut self, p: &Position, replies: &Replies, escapes: u128)
+    /// Passes the destinations of the present piece, none of which is by promotion, up to the first
+    /// after which it is not certain that the other side has a legal move.
+    fn pass_destinations(&mut self, p: &Position, replies: &Replies, escapes: u128)
         requires kept { IsBoardSweep p.now false self.old }
-        requires plain { self.old.ends.promoting ≡ 0 }
+        requires plain { self.old.destinations.promoting ≡ 0 }
         requires replies { IsReplies p.now replies.now.sight replies.now.spare }
         requires escapes { AreEscapes p.now escapes }
         ensures kept { IsBoardSweep p.now false self.new }
-        ensures plain { self.new.ends.promoting ≡ 0 }
+        ensures plain { self.new.destinations.promoting ≡ 0 }
         ensures passed { IsPassedTo p.now self.old.code self.new.code }
     {
-        let (from, plain) = (self.from, self.ends.plain);
+        let (from, plain) = (self.from, self.destinations.plain);
         from.validity();
         let first = from.index() as u16 * SQUARE_CODES;
-        let uncertain = plain & !replies.certain_ends(p, escapes, from, plain);
+        let uncertain = plain & !replies.certain_destinations(p, escapes, from, plain);
         if uncertain == 0 {
-            self.ends.plain = 0;
+            self.destinations.plain = 0;
             self.code = first + SQUARE_CODES;
             return;
         }
         let to = lowest(uncertain);
-        self.ends.plain = bits_from(plain, to);
+        self.destinations.plain = bits_from(plain, to);
         self.code = first + 2 * to as u16;
     }
 
-    /// Passes all moves of the next pieces, as long as a piece can promote by none of them and it is certain
-    /// that the other side has a legal move after each.
+    /// Passes all moves of the next pieces, as long as a piece can promote by none of them and it
+    /// is certain that the other side has a legal move after each.
     fn pass_pieces(&mut self, p: &Position, replies: &Replies, escapes: u128)
         requires kept { IsBoardSweep p.now false self.old }
-        requires none { (self.old.ends.plain ≡ 0) × (self.old.ends.promoting ≡ 0) }
+        requires none { (self.old.destinations.plain ≡ 0) × (self.old.destinations.promoting ≡ 0) }
         requires replies { IsReplies p.now replies.now.sight replies.now.spare }
         requires escapes { AreEscapes p.now escapes }
         ensures kept { IsBoardSweep p.now false self.new }
@@ -242,21 +251,21 @@ impl BoardSweep {
         }
     }
 
-    /// Passes the next of the moves that take nothing, as long as they do not promote and it is certain
-    /// by a look at squares alone that the other side has a legal move after them.
+    /// Passes the next of the moves that take nothing, as long as they do not promote and it is
+    /// certain by a look at squares alone that the other side has a legal move after them.
     pub fn pass_quiets(&mut self, p: &Position, replies: &Replies, escapes: u128)
         requires kept { IsBoardSweep p.now false self.old }
         requires replies { IsReplies p.now replies.now.sight replies.now.spare }
         requires escapes { AreEscapes p.now escapes }
         ensures kept { IsBoardSweep p.now false self.new }
         ensures passed { IsPassed (IsCertainQuiet p.now self.old.code)
-            (wanted_from p.now false self.old.code) (wanted_from p.now false self.new.code) }
+            (matching_from p.now false self.old.code) (matching_from p.now false self.new.code) }
     {
-        if self.ends.promoting != 0 {
+        if self.destinations.promoting != 0 {
             return;
         }
-        self.pass_ends(p, replies, escapes);
-        if self.ends.plain == 0 {
+        self.pass_destinations(p, replies, escapes);
+        if self.destinations.plain == 0 {
             self.pass_pieces(p, replies, escapes);
         }
     }
@@ -281,34 +290,34 @@ pub fn next_kind(kind: Kind) -> Option<Kind>
 impl DropSweep {
     /// Through all drops.
     #[tactic(auto, using(crate::proofs::SweepLaws::keeps_kind))]
-    pub fn new(p: &Position, guard: Guard) -> DropSweep
-        requires guard { IsGuardOf guard p.now }
+    pub fn new(p: &Position, info: CheckInfo) -> DropSweep
+        requires info { IsCheckInfoOf info p.now }
         ensures kept { IsDropSweep p.now result }
         ensures code { result.code ≡ FIRST_DROP }
     {
         DropSweep {
-            guard,
+            info,
             kind: Kind::Pawn,
-            ends: drop_ends(p, &guard, Kind::Pawn),
+            destinations: drop_destinations(p, &info, Kind::Pawn),
             code: FIRST_DROP,
         }
     }
 
-    /// The next of the ends of the present kind.
+    /// The next of the destinations of the present kind.
     #[inline(always)]
     fn take(&mut self, p: &Position) -> Move
         requires kept { IsDropSweep p.now self.old }
-        requires some { self.old.ends ≢ 0 }
+        requires some { self.old.destinations ≢ 0 }
         ensures kept { IsDropSweep p.now self.new }
-        ensures next { wanted_from p.now false self.old.code
-            ≡ code_of result ∷ wanted_from p.now false self.new.code }
+        ensures next { matching_from p.now false self.old.code
+            ≡ code_of result ∷ matching_from p.now false self.new.code }
         ensures legal { is_legal p.now result ≡ true }
     {
-        let (kind, ends) = (self.kind, self.ends);
-        let to = lowest(ends);
+        let (kind, destinations) = (self.kind, self.destinations);
+        let to = lowest(destinations);
         let end = Square::of_index(to);
         let m = Move::Drop { kind, to: end };
-        self.ends = without_lowest(ends, to);
+        self.destinations = without_lowest(destinations, to);
         self.code = code_above(&m);
         m
     }
@@ -317,20 +326,20 @@ impl DropSweep {
     #[inline(never)]
     fn refill(&mut self, p: &Position) -> bool
         requires kept { IsDropSweep p.now self.old }
-        requires none { self.old.ends ≡ 0 }
+        requires none { self.old.destinations ≡ 0 }
         ensures kept { IsDropSweep p.now self.new }
-        ensures some { result ≡ true → (self.new.ends ≢ 0)
-            × (wanted_from p.now false self.old.code ≡ wanted_from p.now false self.new.code) }
-        ensures end { result ≡ false → wanted_from p.now false self.old.code ≡ [] }
+        ensures some { result ≡ true → (self.new.destinations ≢ 0)
+            × (matching_from p.now false self.old.code ≡ matching_from p.now false self.new.code) }
+        ensures end { result ≡ false → matching_from p.now false self.old.code ≡ [] }
         ensures same { result ≡ false → self.new.code ≡ self.old.code }
     {
-        let guard = self.guard;
+        let info = self.info;
         let mut kind = self.kind;
         'kinds: while let Some(next) = next_kind(kind) {
-            let ends = drop_ends(p, &guard, next);
-            if ends != 0 {
+            let destinations = drop_destinations(p, &info, next);
+            if destinations != 0 {
                 self.kind = next;
-                self.ends = ends;
+                self.destinations = destinations;
                 self.code = FIRST_DROP + next.number() as u16 * 81;
                 return true;
             }
@@ -344,12 +353,12 @@ impl DropSweep {
     pub fn next(&mut self, p: &Position) -> Option<Move>
         requires kept { IsDropSweep p.now self.old }
         ensures kept { IsDropSweep p.now self.new }
-        ensures next { IsNextOf result (wanted_from p.now false self.old.code)
-            (wanted_from p.now false self.new.code) [] }
-        ensures end { IsNone result → wanted_from p.now false self.new.code ≡ [] }
+        ensures next { IsNextOf result (matching_from p.now false self.old.code)
+            (matching_from p.now false self.new.code) [] }
+        ensures end { IsNone result → matching_from p.now false self.new.code ≡ [] }
         ensures legal { IfSome result (λ m. is_legal p.now m ≡ true) }
     {
-        if self.ends == 0 {
+        if self.destinations == 0 {
             if !self.refill(p) {
                 return None;
             }
@@ -357,26 +366,26 @@ impl DropSweep {
         Some(self.take(p))
     }
 
-    /// Passes the drops of the present kind, up to the first after which it is not certain by a look at
-    /// squares alone that the other side has a legal move.
+    /// Passes the drops of the present kind, up to the first after which it is not certain by a
+    /// look at squares alone that the other side has a legal move.
     pub fn pass_certain(&mut self, p: &Position, replies: &Replies, escapes: u128)
         requires kept { IsDropSweep p.now self.old }
         requires replies { IsReplies p.now replies.now.sight replies.now.spare }
         requires escapes { AreEscapes p.now escapes }
         ensures kept { IsDropSweep p.now self.new }
         ensures passed { IsPassed (IsCertainDrop p.now self.old.kind self.old.code)
-            (wanted_from p.now false self.old.code) (wanted_from p.now false self.new.code) }
+            (matching_from p.now false self.old.code) (matching_from p.now false self.new.code) }
     {
-        let ends = self.ends;
+        let destinations = self.destinations;
         let first = FIRST_DROP + self.kind.number() as u16 * 81;
-        let uncertain = ends & !replies.certain_drops(p, escapes, self.kind, ends);
+        let uncertain = destinations & !replies.certain_drops(p, escapes, self.kind, destinations);
         if uncertain == 0 {
-            self.ends = 0;
+            self.destinations = 0;
             self.code = first + 81;
             return;
         }
         let to = lowest(uncertain);
-        self.ends = bits_from(ends, to);
+        self.destinations = bits_from(destinations, to);
         self.code = first + to as u16;
     }
 }

@@ -5,7 +5,7 @@ ghost use Rattle.shogi_moves.specs.Legal.{is_legal};
 ghost use Rattle.shogi_moves.specs.LegalMoves.{legal_codes};
 ghost use Rattle.shogi_moves.specs.Walks.{TakesNext};
 
-use crate::guard::guard_of;
+use crate::check_info::check_info_of;
 use crate::next::{code_above, least_board};
 use crate::sweep::DropSweep;
 use shogi_core::{FIRST_DROP, Move, Position};
@@ -50,7 +50,7 @@ impl Walk {
         Walk {
             position: *p,
             code: 0,
-            drops: DropSweep::new(p, guard_of(p)),
+            drops: DropSweep::new(p, check_info_of(p)),
         }
     }
 
@@ -63,7 +63,7 @@ impl Walk {
         if self.code >= FIRST_DROP {
             return self.drops.next(&self.position);
         }
-        let found = least_board(&self.position, &self.drops.guard, self.code);
+        let found = least_board(&self.position, &self.drops.info, self.code);
         if let Some(m) = &found {
             self.code = code_above(m);
             return found;

@@ -1,4 +1,4 @@
-//! Squares by rank, as masks.
+//! Squares by rank and by file, as masks.
 
 ghost use Rattle.std.specs.Prelude.{◌≡◌, ◌<◌, ◌^◌, ◌/◌, ◌==◌, ◌&&◌, nat_lt};
 ghost use Rattle.shogi_core.specs.Bits.{HasBits};

@@ -6,7 +6,7 @@ pub mod MinimaxLaws
 pub mod Left
 pub mod Best
 pub mod Lines
-pub mod Picks
+pub mod MatchingOthers
 pub mod OrderLaws
 pub mod Entries
 pub mod Searches

@@ -19,37 +19,37 @@ use Rattle.shogi_search.specs.declared.move_picker.MovePicker.{MovePicker}
 use Rattle.shogi_search.specs.declared.move_picker.MovePicker.TheVariants.{HashMove, Start}
 use Rattle.shogi_search.specs.Minimax.{tree_size, sum_of_tree_sizes, best, best_code, move_of_some}
 use Rattle.shogi_search.specs.Window.{IsCovered}
-use Rattle.shogi_search.specs.Order.{picks, is_hash_move, todo}
+use Rattle.shogi_search.specs.Order.{matches_other, is_hash_move, todo}
 use Rattle.shogi_search.proofs.Best.{best_in}
 use Rattle.shogi_search.proofs.MinimaxLaws.{best-code}
 use Rattle.shogi_search.proofs.Valid.{board_of, drop_of}
-use Rattle.shogi_search.proofs.Picks.{AreApart, two_parts, three_parts, in_cases, in_head, in_tail, is_in-append_left, is_in-append_right, is_in-append_cases, is_in-filter, is_in-filter_from}
+use Rattle.shogi_search.proofs.MatchingOthers.{AreApart, two_parts, three_parts, in_cases, in_head, in_tail, is_in-append_left, is_in-append_right, is_in-append_cases, is_in-filter, is_in-filter_from}
 
 -- no move is both a capture and none
-apart : (p : Shogi) (hash_move : Option Move) → AreApart (picks p hash_move true) (picks p hash_move false)
+apart : (p : Shogi) (hash_move : Option Move) → AreApart (matches_other p hash_move true) (matches_other p hash_move false)
 apart p hash_move n a b =
     let x : is_capture p n ≡ true = (and_parts _ _ a).0 in
     let y : not (is_capture p n) ≡ true = (and_parts _ _ b).0 in
     let z : not (is_capture p n) ≡ false = not_from_true _ x in
     cc
 
-not_itself : (p : Shogi) (f : Move) (c : Bool) → picks p (Some f) c (code_of f) ≡ false
+not_itself : (p : Shogi) (f : Move) (c : Bool) → matches_other p (Some f) c (code_of f) ≡ false
 not_itself p f c = and_right _ _ (not_from_true _ (eq-eqb (code_of f) (code_of f) refl))
 
 -- a move that is not the first one is a capture or one of the rest
-in_parts : (p : Shogi) (hash_move : Option Move) (n : ℕ) → is_in n (legal_codes p) ≡ true → is_hash_move hash_move n ≡ false → is_in n (filter (picks p hash_move true) (legal_codes p) ++ filter (picks p hash_move false) (legal_codes p)) ≡ true
+in_parts : (p : Shogi) (hash_move : Option Move) (n : ℕ) → is_in n (legal_codes p) ≡ true → is_hash_move hash_move n ≡ false → is_in n (filter (matches_other p hash_move true) (legal_codes p) ++ filter (matches_other p hash_move false) (legal_codes p)) ≡ true
 in_parts p hash_move n i o =
     let ne : not (is_hash_move hash_move n) ≡ true = not_from_false _ o in
     elim (cases_Bool (is_capture p n)) [
-      | inl c ↦ is_in-append_left n _ _ (is_in-filter (picks p hash_move true) n (legal_codes p) (and_from _ _ c ne) i)
-      | inr c ↦ is_in-append_right n _ _ (is_in-filter (picks p hash_move false) n (legal_codes p) (and_from _ _ (not_from_false _ c) ne) i)
+      | inl c ↦ is_in-append_left n _ _ (is_in-filter (matches_other p hash_move true) n (legal_codes p) (and_from _ _ c ne) i)
+      | inr c ↦ is_in-append_right n _ _ (is_in-filter (matches_other p hash_move false) n (legal_codes p) (and_from _ _ (not_from_false _ c) ne) i)
     ]
 
-of_parts : (p : Shogi) (hash_move : Option Move) (n : ℕ) → is_in n (filter (picks p hash_move true) (legal_codes p) ++ filter (picks p hash_move false) (legal_codes p)) ≡ true → is_in n (legal_codes p) ≡ true
+of_parts : (p : Shogi) (hash_move : Option Move) (n : ℕ) → is_in n (filter (matches_other p hash_move true) (legal_codes p) ++ filter (matches_other p hash_move false) (legal_codes p)) ≡ true → is_in n (legal_codes p) ≡ true
 of_parts p hash_move n h =
-    is_in-append_cases n (filter (picks p hash_move true) (legal_codes p)) (filter (picks p hash_move false) (legal_codes p)) (is_in n (legal_codes p) ≡ true)
-    (λ i. is_in-filter_from (picks p hash_move true) n (legal_codes p) i)
-    (λ i. is_in-filter_from (picks p hash_move false) n (legal_codes p) i)
+    is_in-append_cases n (filter (matches_other p hash_move true) (legal_codes p)) (filter (matches_other p hash_move false) (legal_codes p)) (is_in n (legal_codes p) ≡ true)
+    (λ i. is_in-filter_from (matches_other p hash_move true) n (legal_codes p) i)
+    (λ i. is_in-filter_from (matches_other p hash_move false) n (legal_codes p) i)
     h
 
 pub record IsWhole (p : Shogi) (d : ℕ) (picker : MovePicker) : Type 0 where
@@ -63,19 +63,19 @@ whole_captures p d = record {
   each = λ n i. in_parts p None n i refl;
   counted =
       let g : ℕ → ℕ = λ (m : ℕ). tree_size (after_code p m) d in
-      omega (arith, two_parts g (picks p None true) (picks p None false) (apart p None) (legal_codes p), sum_by-append g (filter (picks p None true) (legal_codes p)) (filter (picks p None false) (legal_codes p)));
+      omega (arith, two_parts g (matches_other p None true) (matches_other p None false) (apart p None) (legal_codes p), sum_by-append g (filter (matches_other p None true) (legal_codes p)) (filter (matches_other p None false) (legal_codes p)));
 }
 
 whole_first : (p : Shogi) (d : ℕ) (f : Move) → is_in (code_of f) (legal_codes p) ≡ true → IsWhole p d (HashMove f)
 whole_first p d f i =
-    let A : List ℕ = filter (picks p (Some f) true) (legal_codes p) in
-    let B : List ℕ = filter (picks p (Some f) false) (legal_codes p) in
+    let A : List ℕ = filter (matches_other p (Some f) true) (legal_codes p) in
+    let B : List ℕ = filter (matches_other p (Some f) false) (legal_codes p) in
     record {
       among = λ n h. elim (in_cases n (code_of f) (A ++ B) h) [ inl e ↦ subst (λ (k : ℕ). is_in k (legal_codes p) ≡ true) (sym (eqb-true n (code_of f) e)) i | inr e ↦ of_parts p (Some f) n e ];
       each = λ n h. elim (cases_eq n (code_of f)) [ inl e ↦ in_head n (code_of f) (A ++ B) (eq-eqb n (code_of f) e) | inr ne ↦ in_tail n (code_of f) (A ++ B) (in_parts p (Some f) n h (ne_eqb n (code_of f) ne)) ];
       counted =
           let g : ℕ → ℕ = λ (m : ℕ). tree_size (after_code p m) d in
-          omega (arith, three_parts g (picks p (Some f) true) (picks p (Some f) false) (code_of f) (apart p (Some f)) (not_itself p f true) (not_itself p f false) (legal_codes p) i, sum_by-cons g (code_of f) (A ++ B), sum_by-append g A B);
+          omega (arith, three_parts g (matches_other p (Some f) true) (matches_other p (Some f) false) (code_of f) (apart p (Some f)) (not_itself p f true) (not_itself p f false) (legal_codes p) i, sum_by-cons g (code_of f) (A ++ B), sum_by-append g A B);
     }
 
 pub whole : (p : Shogi) (d : ℕ) (hash_move : Option Move) (picker : MovePicker) → ForSome hash_move (λ f. is_in (code_of f) (legal_codes p) ≡ true) → MatchOption hash_move (picker ≡ Start None) (λ f. picker ≡ HashMove f) → IsWhole p d picker

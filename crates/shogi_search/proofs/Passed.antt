@@ -17,9 +17,9 @@ use Rattle.shogi_core.proofs.CodesBack.{move_of-board, move_of-drop}
 use Rattle.shogi_moves.specs.After.{after, after_code}
 use Rattle.shogi_moves.specs.Legal.{is_legal}
 use Rattle.shogi_moves.specs.LegalMoves.{legal_codes}
-use Rattle.shogi_moves.specs.Captures.{is_wanted}
+use Rattle.shogi_moves.specs.Captures.{is_matching}
 use Rattle.shogi_moves.specs.Sweeps.{IsCertainQuiet, IsCertainDrop, IsPassed}
-use Rattle.shogi_moves.proofs.EndLaws.{wanted_move}
+use Rattle.shogi_moves.proofs.DestinationLaws.{matching_move}
 use Rattle.shogi_moves.proofs.LegalLaws.{is_legal_code_of, after_code_of}
 use Rattle.shogi_eval.specs.declared.eval.Eval.{Eval}
 use Rattle.shogi_eval.specs.Material.{material_of, taken_gain, promotion_gain}
@@ -87,7 +87,7 @@ quiet_worth p e d first c loss valid deep near h l k =
     let to_fits : to < 81 = omega arith in
     let is : c ≡ code_of (Board from to false) = omega (arith, k.plain) in
     let back : move_of (code_of (Board from to false)) ≡ Some (Board from to false) = move_of-board from to false from_fits to_fits in
-    let parts : (is_legal p (Board from to false) ≡ true) × (not (is_some (piece_at p.cells to)) ≡ true) = and_parts _ _ (sym (wanted_move p false (Board from to false) back) ∙ (ap (is_wanted p false) (sym is) ∙ k.quiet)) in
+    let parts : (is_legal p (Board from to false) ≡ true) × (not (is_some (piece_at p.cells to)) ≡ true) = and_parts _ _ (sym (matching_move p false (Board from to false) back) ∙ (ap (is_matching p false) (sym is) ∙ k.quiet)) in
     let made : after_code p c ≡ after p (Board from to false) = ap (after_code p) is ∙ after_code_of p (Board from to false) back in
     let law : material_of (after p (Board from to false)) e ≡ pos 0 -ℤ (material_of p e +ℤ pos (taken_gain e (piece_at p.cells to) + promotion_gain false (piece_at p.cells from))) = material_at_board p e (Board from to false) from to false refl valid from_fits to_fits parts.0 in
     let taken : taken_gain e (piece_at p.cells to) ≡ 0 = ap (taken_gain e) (nothing_taken (piece_at p.cells to) parts.1) in

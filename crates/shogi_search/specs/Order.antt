@@ -6,7 +6,7 @@ use Rattle.shogi_core.specs.declared.moves.Move.{Move}
 use Rattle.shogi_core.specs.declared.piece.Kind.{Kind}
 use Rattle.shogi_core.specs.Codes.{code_of}
 use Rattle.shogi_core.specs.Position.{Shogi}
-use Rattle.shogi_moves.specs.Captures.{is_of_sort}
+use Rattle.shogi_moves.specs.Captures.{matches_kind}
 use Rattle.shogi_moves.specs.LegalMoves.{legal_codes, legal_from}
 use Rattle.shogi_moves.specs.Rising.{is_in}
 use Rattle.shogi_moves.specs.Sweeps.{IsBoardSweep, IsDropSweep}
@@ -20,20 +20,25 @@ is_hash_move None code = false
 is_hash_move (Some f) code = code == code_of f
 
 -- the captures, or the rest, without the remembered move
-abbrev pub picks : Shogi → Option Move → Bool → ℕ → Bool
-picks p hash_move capture code = is_of_sort p capture code && not (is_hash_move hash_move code)
+abbrev pub matches_other : Shogi → Option Move → Bool → ℕ → Bool
+matches_other p hash_move capture code =
+    matches_kind p capture code && not (is_hash_move hash_move code)
 
--- the picks from a code on
-abbrev pub picks_from : Shogi → Option Move → Bool → ℕ → List ℕ
-picks_from p hash_move capture code = filter (picks p hash_move capture) (legal_from p code)
+-- the legal ones of these from a code on
+abbrev pub matching_others_from : Shogi → Option Move → Bool → ℕ → List ℕ
+matching_others_from p hash_move capture code =
+    filter (matches_other p hash_move capture) (legal_from p code)
 
 -- the moves that are still to be visited
 abbrev pub todo : Shogi → MovePicker → List ℕ
-todo p (HashMove f) = code_of f ∷ (picks_from p (Some f) true 0 ++ picks_from p (Some f) false 0)
-todo p (Start hash_move) = picks_from p hash_move true 0 ++ picks_from p hash_move false 0
-todo p (Captures hash_move s) = picks_from p hash_move true s.code ++ picks_from p hash_move false 0
-todo p (Quiets hash_move s) = picks_from p hash_move false s.code
-todo p (Drops hash_move s) = picks_from p hash_move false s.code
+todo p (HashMove f) =
+    code_of f ∷ (matching_others_from p (Some f) true 0 ++ matching_others_from p (Some f) false 0)
+todo p (Start hash_move) =
+    matching_others_from p hash_move true 0 ++ matching_others_from p hash_move false 0
+todo p (Captures hash_move s) =
+    matching_others_from p hash_move true s.code ++ matching_others_from p hash_move false 0
+todo p (Quiets hash_move s) = matching_others_from p hash_move false s.code
+todo p (Drops hash_move s) = matching_others_from p hash_move false s.code
 todo p Done = []
 
 -- a picker at its start, with the hash move to visit first where there is one
@@ -53,8 +58,8 @@ IsWithinTree p d picker = 1 + 2 * sum_of_tree_sizes p (d - 1) (todo p picker) < 
 abbrev pub todo_after : Shogi → MovePicker → List ℕ
 todo_after p (HashMove f) = todo p (HashMove f)
 todo_after p (Start hash_move) = todo p (Start hash_move)
-todo_after p (Captures hash_move s) = picks_from p hash_move false 0
-todo_after p (Quiets hash_move s) = picks_from p hash_move false FIRST_DROP
+todo_after p (Captures hash_move s) = matching_others_from p hash_move false 0
+todo_after p (Quiets hash_move s) = matching_others_from p hash_move false FIRST_DROP
 todo_after p (Drops hash_move s) = []
 todo_after p Done = []
 

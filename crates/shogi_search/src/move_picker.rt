@@ -5,14 +5,14 @@ ghost use Rattle.shogi_core.specs.declared.moves.TheConstants.{FIRST_DROP};
 ghost use Rattle.shogi_core.specs.declared.piece.Kind.{Kind};
 ghost use Rattle.shogi_core.specs.Codes.{code_of};
 ghost use Rattle.shogi_moves.specs.Escapes.{AreEscapes};
-ghost use Rattle.shogi_moves.specs.Guards.{IsGuardOf};
+ghost use Rattle.shogi_moves.specs.CheckInfo.{IsCheckInfoOf};
 ghost use Rattle.shogi_moves.specs.Replies.{IsReplies};
 ghost use Rattle.shogi_moves.specs.Sweeps.{IsBoardSweep, IsDropSweep, IsPassed, IsCertainQuiet, IsCertainDrop};
 ghost use Rattle.shogi_moves.specs.Walks.{IsNextOf, TakesNext};
-ghost use Rattle.shogi_search.specs.Order.{is_hash_move, picks_from, todo, todo_after, BeginsWith, IsKept, IsAtQuiets, IsAtDrops};
+ghost use Rattle.shogi_search.specs.Order.{is_hash_move, matching_others_from, todo, todo_after, BeginsWith, IsKept, IsAtQuiets, IsAtDrops};
 
 use shogi_core::{Kind, Move, Position};
-use shogi_moves::{BoardSweep, DropSweep, Guard, Replies, guard_of};
+use shogi_moves::{BoardSweep, CheckInfo, DropSweep, Replies, check_info_of};
 
 /// How far the visits of a node's moves have come: the hash move, and what is still to come of the
 /// captures, of the quiet board moves and of the drops.
@@ -38,7 +38,7 @@ fn is_hash_move(hash_move: &Option<Move>, m: &Move) -> bool
 
 /// The next pick of a sweep over the board.
 #[inline(always)]
-#[tactic(auto, using(crate::proofs::Picks::picked))]
+#[tactic(auto, using(crate::proofs::MatchingOthers::matching_others))]
 fn next_board(
     p: &Position,
     hash_move: &Option<Move>,
@@ -47,11 +47,11 @@ fn next_board(
 ) -> Option<Move>
     requires kept { IsBoardSweep p.now capture sweep.old }
     ensures kept { IsBoardSweep p.now capture sweep.new }
-    ensures next { IsNextOf result (picks_from p.now hash_move.now capture sweep.old.code)
-        (picks_from p.now hash_move.now capture sweep.new.code)
-        (picks_from p.now hash_move.now capture FIRST_DROP) }
+    ensures next { IsNextOf result (matching_others_from p.now hash_move.now capture sweep.old.code)
+        (matching_others_from p.now hash_move.now capture sweep.new.code)
+        (matching_others_from p.now hash_move.now capture FIRST_DROP) }
 {
-    'picks: while let Some(m) = sweep.next(p, capture) {
+    'moves: while let Some(m) = sweep.next(p, capture) {
         if !is_hash_move(hash_move, &m) {
             return Some(m);
         }
@@ -61,14 +61,14 @@ fn next_board(
 
 /// The next pick of a sweep over the drops.
 #[inline(always)]
-#[tactic(auto, using(crate::proofs::Picks::picked))]
+#[tactic(auto, using(crate::proofs::MatchingOthers::matching_others))]
 fn next_drop(p: &Position, hash_move: &Option<Move>, sweep: &mut DropSweep) -> Option<Move>
     requires kept { IsDropSweep p.now sweep.old }
     ensures kept { IsDropSweep p.now sweep.new }
-    ensures next { IsNextOf result (picks_from p.now hash_move.now false sweep.old.code)
-        (picks_from p.now hash_move.now false sweep.new.code) [] }
+    ensures next { IsNextOf result (matching_others_from p.now hash_move.now false sweep.old.code)
+        (matching_others_from p.now hash_move.now false sweep.new.code) [] }
 {
-    'picks: while let Some(m) = sweep.next(p) {
+    'moves: while let Some(m) = sweep.next(p) {
         if !is_hash_move(hash_move, &m) {
             return Some(m);
         }
@@ -92,13 +92,18 @@ impl MovePicker {
     }
 
     /// Begins with the drops.
-    fn enter_drops(&mut self, p: &Position, hash_move: Option<Move>, guard: Guard) -> Option<Move>
-        requires guard { IsGuardOf guard p.now }
-        ensures next { TakesNext result (picks_from p.now hash_move false FIRST_DROP)
+    fn enter_drops(
+        &mut self,
+        p: &Position,
+        hash_move: Option<Move>,
+        info: CheckInfo,
+    ) -> Option<Move>
+        requires info { IsCheckInfoOf info p.now }
+        ensures next { TakesNext result (matching_others_from p.now hash_move false FIRST_DROP)
             (todo p.now self.new) }
         ensures kept { IsKept p.now self.new }
     {
-        let mut sweep = DropSweep::new(p, guard);
+        let mut sweep = DropSweep::new(p, info);
         match next_drop(p, &hash_move, &mut sweep) {
             Some(m) => {
                 *self = MovePicker::Drops(hash_move, sweep);
@@ -112,43 +117,50 @@ impl MovePicker {
     }
 
     /// Begins with the quiet moves.
-    fn enter_quiets(&mut self, p: &Position, hash_move: Option<Move>, guard: Guard) -> Option<Move>
-        requires guard { IsGuardOf guard p.now }
-        ensures next { TakesNext result (picks_from p.now hash_move false 0) (todo p.now self.new) }
+    fn enter_quiets(
+        &mut self,
+        p: &Position,
+        hash_move: Option<Move>,
+        info: CheckInfo,
+    ) -> Option<Move>
+        requires info { IsCheckInfoOf info p.now }
+        ensures next { TakesNext result (matching_others_from p.now hash_move false 0)
+            (todo p.now self.new) }
         ensures kept { IsKept p.now self.new }
     {
-        let mut sweep = BoardSweep::new(p, guard, false);
+        let mut sweep = BoardSweep::new(p, info, false);
         match next_board(p, &hash_move, false, &mut sweep) {
             Some(m) => {
                 *self = MovePicker::Quiets(hash_move, sweep);
                 Some(m)
             }
-            None => self.enter_drops(p, hash_move, guard),
+            None => self.enter_drops(p, hash_move, info),
         }
     }
 
     /// Begins with the captures.
-    #[tactic(auto, using(crate::proofs::Picks::no_capture_left))]
+    #[tactic(auto, using(crate::proofs::MatchingOthers::no_capture_left))]
     fn enter_captures(&mut self, p: &Position, hash_move: Option<Move>) -> Option<Move>
         ensures next { TakesNext result
-            (picks_from p.now hash_move true 0 ++ picks_from p.now hash_move false 0)
+            (matching_others_from p.now hash_move true 0
+            ++ matching_others_from p.now hash_move false 0)
             (todo p.now self.new) }
         ensures kept { IsKept p.now self.new }
     {
-        let guard = guard_of(p);
-        let mut sweep = BoardSweep::new(p, guard, true);
+        let info = check_info_of(p);
+        let mut sweep = BoardSweep::new(p, info, true);
         match next_board(p, &hash_move, true, &mut sweep) {
             Some(m) => {
                 *self = MovePicker::Captures(hash_move, sweep);
                 Some(m)
             }
-            None => self.enter_quiets(p, hash_move, guard),
+            None => self.enter_quiets(p, hash_move, info),
         }
     }
 
     /// The next move of the sweep that is under way, which moves on where it stands.
     #[inline(always)]
-    #[tactic(auto, using(crate::proofs::Picks::no_capture_left))]
+    #[tactic(auto, using(crate::proofs::MatchingOthers::no_capture_left))]
     fn sweep_on(&mut self, p: &Position) -> Option<Move>
         requires kept { IsKept p.now self.old }
         ensures next { IsNextOf result (todo p.now self.old) (todo p.now self.new)
@@ -173,7 +185,9 @@ impl MovePicker {
         ensures { IfSome result (IsAtQuiets self.now) }
     {
         match self {
-            MovePicker::Quiets(None, sweep) if sweep.ends.promoting == 0 => Some(sweep.code),
+            MovePicker::Quiets(None, sweep) if sweep.destinations.promoting == 0 => Some(
+                sweep.code,
+            ),
             _ => None,
         }
     }
@@ -233,8 +247,8 @@ impl MovePicker {
                 Some(found)
             }
             MovePicker::Start(hash_move) => self.enter_captures(p, hash_move),
-            MovePicker::Captures(hash_move, sweep) => self.enter_quiets(p, hash_move, sweep.guard),
-            MovePicker::Quiets(hash_move, sweep) => self.enter_drops(p, hash_move, sweep.guard),
+            MovePicker::Captures(hash_move, sweep) => self.enter_quiets(p, hash_move, sweep.info),
+            MovePicker::Quiets(hash_move, sweep) => self.enter_drops(p, hash_move, sweep.info),
             MovePicker::Drops(_, _) | MovePicker::Done => {
                 *self = MovePicker::Done;
                 None

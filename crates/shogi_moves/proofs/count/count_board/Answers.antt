@@ -1,11 +1,11 @@
 use Rattle.std.proofs.Common.{true, false, arith}
-use Rattle.shogi_moves.proofs.EndLaws.{all_ends, all_ways}
+use Rattle.shogi_moves.proofs.DestinationLaws.{all_destinations, all_ways}
 use Rattle.shogi_moves.proofs.LegalLaws.{pieces_first}
 use Rattle.shogi_moves.proofs.TallyLaws.{piece_counted, board_counted}
 use Rattle.shogi_moves.proofs.count.count_board.Goals as goal
 
-pub legal_ends-ends-requires-clause-among : goal.legal_ends-ends-requires-clause-among
-legal_ends-ends-requires-clause-among c = λ n h. all_ways c.targets.result c.enterable-squares.result n _ _ (rw c.as_board-board.ensures at c.targets.ensures.bits n h) (c.enterable-squares.ensures n h)
+pub legal_destinations-destinations-requires-clause-among : goal.legal_destinations-destinations-requires-clause-among
+legal_destinations-destinations-requires-clause-among c = λ n h. all_ways c.targets.result c.enterable-squares.result n _ _ (rw c.as_board-board.ensures at c.targets.ensures.bits n h) (c.enterable-squares.ensures n h)
 
 pub pieces-init : goal.pieces-init
 pieces-init c = record {
@@ -20,10 +20,10 @@ pieces-init c = record {
 
 pub pieces-preserved : goal.pieces-preserved
 pieces-preserved c = record {
-  counted = piece_counted c.args.p.now c.pieces.left c.without_lowest-left.result c.pieces.total c.lowest-square.result c.legal_ends-ends.result.plain c.legal_ends-ends.result.promoting c.pieces.invariant.counted c.lowest-square.ensures.range c.lowest-square.ensures.set c.lowest-square.ensures.least c.without_lowest-left.ensures.bits
-      c.legal_ends-ends.ensures.plain_fits c.legal_ends-ends.ensures.promoting_fits
-      (all_ends c.args.p.now false c.lowest-square.result c.targets.result c.enterable-squares.result c.legal_ends-ends.result.plain c.lowest-square.ensures.range (rw (c.of_index-from.ensures, c.as_board-board.ensures) at c.targets.ensures.bits) c.enterable-squares.ensures (rw c.of_index-from.ensures at c.legal_ends-ends.ensures.plain))
-      (all_ends c.args.p.now true c.lowest-square.result c.targets.result c.enterable-squares.result c.legal_ends-ends.result.promoting c.lowest-square.ensures.range (rw (c.of_index-from.ensures, c.as_board-board.ensures) at c.targets.ensures.bits) c.enterable-squares.ensures (rw c.of_index-from.ensures at c.legal_ends-ends.ensures.promoting));
+  counted = piece_counted c.args.p.now c.pieces.left c.without_lowest-left.result c.pieces.total c.lowest-square.result c.legal_destinations-destinations.result.plain c.legal_destinations-destinations.result.promoting c.pieces.invariant.counted c.lowest-square.ensures.range c.lowest-square.ensures.set c.lowest-square.ensures.least c.without_lowest-left.ensures.bits
+      c.legal_destinations-destinations.ensures.plain_fits c.legal_destinations-destinations.ensures.promoting_fits
+      (all_destinations c.args.p.now false c.lowest-square.result c.targets.result c.enterable-squares.result c.legal_destinations-destinations.result.plain c.lowest-square.ensures.range (rw (c.of_index-from.ensures, c.as_board-board.ensures) at c.targets.ensures.bits) c.enterable-squares.ensures (rw c.of_index-from.ensures at c.legal_destinations-destinations.ensures.plain))
+      (all_destinations c.args.p.now true c.lowest-square.result c.targets.result c.enterable-squares.result c.legal_destinations-destinations.result.promoting c.lowest-square.ensures.range (rw (c.of_index-from.ensures, c.as_board-board.ensures) at c.targets.ensures.bits) c.enterable-squares.ensures (rw c.of_index-from.ensures at c.legal_destinations-destinations.ensures.promoting));
   fits = omega (arith, c.without_lowest-left.ensures.less, c.pieces.invariant.fits);
 }
 

@@ -1,7 +1,7 @@
 use Rattle.std.proofs.Common.{◌≡◌, ◌-◌, ◌^◌, ◌∙◌, ap, arith, bit_and}
 use Rattle.shogi_core.specs.Pieces.{opponent_of}
 use Rattle.shogi_core.specs.Position.{Shogi}
-use Rattle.shogi_moves.proofs.EndLaws.{lone_king}
+use Rattle.shogi_moves.proofs.DestinationLaws.{lone_king}
 use Rattle.shogi_moves.proofs.EscapeLaws.{found_escapes, no_escapes}
 use Rattle.shogi_moves.proofs.ExistenceLaws.{king_ways}
 use Rattle.shogi_moves.proofs.escapes.escape_squares.Goals as goal

@@ -8,13 +8,13 @@ use Rattle.shogi_moves.proofs.escapes.escaped_drops.Goals as goal
 
 pub loop-left-init : goal.loop-left-init
 loop-left-init c = record {
-  tried = tried_first ALL_SQUARES c.args.ends (λ n. IsAnswered c.args.p.now (Drop c.args.kind n));
-  left = and_fits ALL_SQUARES c.args.ends (omega arith);
-  fits = and_fits ALL_SQUARES c.args.ends (omega arith);
+  tried = tried_first ALL_SQUARES c.args.destinations (λ n. IsAnswered c.args.p.now (Drop c.args.kind n));
+  left = and_fits ALL_SQUARES c.args.destinations (omega arith);
+  fits = and_fits ALL_SQUARES c.args.destinations (omega arith);
 }
 
 pub cleared-kept-requires-clause-set : goal.cleared-kept-requires-clause-set
 cleared-kept-requires-clause-set c = c.loop-left.invariant.tried.within c.lowest-to.result c.lowest-to.ensures.set
 
 pub returns-clause-answered : goal.returns-clause-answered
-returns-clause-answered c = tried_done c.args.ends c.loop-left.left c.loop-left.kept (λ n. IsAnswered c.args.p.now (Drop c.args.kind n)) c.loop-left.invariant.tried (omega arith)
+returns-clause-answered c = tried_done c.args.destinations c.loop-left.left c.loop-left.kept (λ n. IsAnswered c.args.p.now (Drop c.args.kind n)) c.loop-left.invariant.tried (omega arith)

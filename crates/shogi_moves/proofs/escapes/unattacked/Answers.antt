@@ -1,6 +1,6 @@
 use Rattle.std.proofs.Common.{◌≡◌, not, arith}
 use Rattle.shogi_core.specs.Attack.{is_attacked}
-use Rattle.shogi_moves.proofs.EndLaws.{sift_done}
+use Rattle.shogi_moves.proofs.DestinationLaws.{sift_done}
 use Rattle.shogi_moves.proofs.escapes.unattacked.Goals as goal
 
 pub returns-clause-bits : goal.returns-clause-bits

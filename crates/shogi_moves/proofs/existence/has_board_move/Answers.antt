@@ -1,11 +1,11 @@
 use Rattle.std.proofs.Common.{◌+◌, ◌∙◌, true, false, refl, arith}
-use Rattle.shogi_moves.proofs.EndLaws.{all_ends, all_ways}
+use Rattle.shogi_moves.proofs.DestinationLaws.{all_destinations, all_ways}
 use Rattle.shogi_moves.proofs.ExistenceLaws.{piece_with, piece_without}
 use Rattle.shogi_moves.proofs.LegalLaws.{pieces_first, next_piece, pieces_after, no_piece_left}
 use Rattle.shogi_moves.proofs.existence.has_board_move.Goals as goal
 
-pub legal_ends-ends-requires-clause-among : goal.legal_ends-ends-requires-clause-among
-legal_ends-ends-requires-clause-among c = λ n h. all_ways c.targets.result c.enterable-squares.result n _ _ (rw c.as_board-board.ensures at c.targets.ensures.bits n h) (c.enterable-squares.ensures n h)
+pub legal_destinations-destinations-requires-clause-among : goal.legal_destinations-destinations-requires-clause-among
+legal_destinations-destinations-requires-clause-among c = λ n h. all_ways c.targets.result c.enterable-squares.result n _ _ (rw c.as_board-board.ensures at c.targets.ensures.bits n h) (c.enterable-squares.ensures n h)
 
 pub pieces-init : goal.pieces-init
 pieces-init c = record {
@@ -15,11 +15,11 @@ pieces-init c = record {
   fits = c.own-left.ensures.fits;
 }
 
-pub returns-then-ends-ne0-clause-some : goal.returns-then-ends-ne0-clause-some
-returns-then-ends-ne0-clause-some c = λ _. piece_with c.args.p.now c.lowest-square.result c.legal_ends-ends.result.plain c.legal_ends-ends.result.promoting c.legal_ends-ends.ensures.plain_fits c.legal_ends-ends.ensures.promoting_fits
-    (all_ends c.args.p.now false c.lowest-square.result c.targets.result c.enterable-squares.result c.legal_ends-ends.result.plain c.lowest-square.ensures.range (rw (c.of_index-from.ensures, c.as_board-board.ensures) at c.targets.ensures.bits) c.enterable-squares.ensures (rw c.of_index-from.ensures at c.legal_ends-ends.ensures.plain))
-    (all_ends c.args.p.now true c.lowest-square.result c.targets.result c.enterable-squares.result c.legal_ends-ends.result.promoting c.lowest-square.ensures.range (rw (c.of_index-from.ensures, c.as_board-board.ensures) at c.targets.ensures.bits) c.enterable-squares.ensures (rw c.of_index-from.ensures at c.legal_ends-ends.ensures.promoting))
-    c.if-ends-ne0.true
+pub returns-then-destinations-ne0-clause-some : goal.returns-then-destinations-ne0-clause-some
+returns-then-destinations-ne0-clause-some c = λ _. piece_with c.args.p.now c.lowest-square.result c.legal_destinations-destinations.result.plain c.legal_destinations-destinations.result.promoting c.legal_destinations-destinations.ensures.plain_fits c.legal_destinations-destinations.ensures.promoting_fits
+    (all_destinations c.args.p.now false c.lowest-square.result c.targets.result c.enterable-squares.result c.legal_destinations-destinations.result.plain c.lowest-square.ensures.range (rw (c.of_index-from.ensures, c.as_board-board.ensures) at c.targets.ensures.bits) c.enterable-squares.ensures (rw c.of_index-from.ensures at c.legal_destinations-destinations.ensures.plain))
+    (all_destinations c.args.p.now true c.lowest-square.result c.targets.result c.enterable-squares.result c.legal_destinations-destinations.result.promoting c.lowest-square.ensures.range (rw (c.of_index-from.ensures, c.as_board-board.ensures) at c.targets.ensures.bits) c.enterable-squares.ensures (rw c.of_index-from.ensures at c.legal_destinations-destinations.ensures.promoting))
+    c.if-destinations-ne0.true
 
 pub pieces-preserved : goal.pieces-preserved
 pieces-preserved c =
@@ -27,10 +27,10 @@ pieces-preserved c =
     record {
       first = c.lowest-square.result + 1;
       pieces = pieces_after c.args.p.now c.pieces.left c.without_lowest-left.result c.pieces.invariant.first c.lowest-square.result c.pieces.invariant.pieces reached.0 c.lowest-square.ensures.range c.lowest-square.ensures.least c.without_lowest-left.ensures.bits;
-      same = c.pieces.invariant.same ∙ (reached.2 ∙ piece_without c.args.p.now c.lowest-square.result c.legal_ends-ends.result.plain c.legal_ends-ends.result.promoting c.lowest-square.ensures.range
-          (all_ends c.args.p.now false c.lowest-square.result c.targets.result c.enterable-squares.result c.legal_ends-ends.result.plain c.lowest-square.ensures.range (rw (c.of_index-from.ensures, c.as_board-board.ensures) at c.targets.ensures.bits) c.enterable-squares.ensures (rw c.of_index-from.ensures at c.legal_ends-ends.ensures.plain))
-          (all_ends c.args.p.now true c.lowest-square.result c.targets.result c.enterable-squares.result c.legal_ends-ends.result.promoting c.lowest-square.ensures.range (rw (c.of_index-from.ensures, c.as_board-board.ensures) at c.targets.ensures.bits) c.enterable-squares.ensures (rw c.of_index-from.ensures at c.legal_ends-ends.ensures.promoting))
-          (omega (arith, c.if-ends-ne0.false)));
+      same = c.pieces.invariant.same ∙ (reached.2 ∙ piece_without c.args.p.now c.lowest-square.result c.legal_destinations-destinations.result.plain c.legal_destinations-destinations.result.promoting c.lowest-square.ensures.range
+          (all_destinations c.args.p.now false c.lowest-square.result c.targets.result c.enterable-squares.result c.legal_destinations-destinations.result.plain c.lowest-square.ensures.range (rw (c.of_index-from.ensures, c.as_board-board.ensures) at c.targets.ensures.bits) c.enterable-squares.ensures (rw c.of_index-from.ensures at c.legal_destinations-destinations.ensures.plain))
+          (all_destinations c.args.p.now true c.lowest-square.result c.targets.result c.enterable-squares.result c.legal_destinations-destinations.result.promoting c.lowest-square.ensures.range (rw (c.of_index-from.ensures, c.as_board-board.ensures) at c.targets.ensures.bits) c.enterable-squares.ensures (rw c.of_index-from.ensures at c.legal_destinations-destinations.ensures.promoting))
+          (omega (arith, c.if-destinations-ne0.false)));
       fits = omega (arith, c.without_lowest-left.ensures.less, c.pieces.invariant.fits);
     }
 

@@ -2,7 +2,7 @@ use Rattle.std.proofs.Common.{◌≡◌, ◌+◌, ◌*◌, ◌∙◌, arith, ap}
 use Rattle.shogi_core.specs.declared.moves.TheConstants.{FIRST_DROP}
 use Rattle.shogi_core.specs.Pieces.{kind_number}
 use Rattle.shogi_moves.specs.LegalMoves.{legal_from}
-use Rattle.shogi_moves.proofs.EndLaws.{legal_other}
+use Rattle.shogi_moves.proofs.DestinationLaws.{legal_other}
 use Rattle.shogi_moves.proofs.ExistenceLaws.{kind_with, kind_without, not_pawn}
 use Rattle.shogi_moves.proofs.LegalLaws.{legal_from_end}
 use Rattle.shogi_moves.proofs.existence.has_piece_drop.Goals as goal

@@ -1,10 +1,10 @@
 use Rattle.std.proofs.Common.{arith, bit_and}
 use Rattle.std.proofs.lemmas.Bool.{eqb-true}
-use Rattle.shogi_moves.proofs.EndLaws.{among_bits}
+use Rattle.shogi_moves.proofs.DestinationLaws.{among_bits}
 use Rattle.shogi_moves.proofs.Passes.{certain_quiets}
 use Rattle.shogi_moves.proofs.replies.Replies.has_certain_quiets.Goals as goal
 
 pub returns : goal.returns
-returns c = λ e. certain_quiets c.args.p.now c.args.from (bit_and c.targets.result c.ends_of_sort.result) c.promoting_squares-promoting.result c.certain_ends.result
-    (λ n h. among_bits c.targets.result c.ends_of_sort.result n _ _ (rw c.as_board.ensures at c.targets.ensures.bits n h) (c.ends_of_sort.ensures.bits n h))
-    (rw c.at.ensures at c.promoting_squares-promoting.ensures.bits) (omega arith) c.certain_ends.ensures.certain (eqb-true _ 0 e)
+returns c = λ e. certain_quiets c.args.p.now c.args.from (bit_and c.targets.result c.matching_destinations.result) c.promoting_squares-promoting.result c.certain_destinations.result
+    (λ n h. among_bits c.targets.result c.matching_destinations.result n _ _ (rw c.as_board.ensures at c.targets.ensures.bits n h) (c.matching_destinations.ensures.bits n h))
+    (rw c.at.ensures at c.promoting_squares-promoting.ensures.bits) (omega arith) c.certain_destinations.ensures.certain (eqb-true _ 0 e)

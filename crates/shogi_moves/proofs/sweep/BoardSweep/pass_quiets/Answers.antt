@@ -6,4 +6,4 @@ pub returns-then-self-ne0-clause-passed : goal.returns-then-self-ne0-clause-pass
 returns-then-self-ne0-clause-passed c = passed_none _ _ _ refl
 
 pub returns-then-self-eq0-clause-passed : goal.returns-then-self-eq0-clause-passed
-returns-then-self-eq0-clause-passed c = passed_on _ _ _ _ (c.pass_ends.ensures.passed.passed c.args.self.now.code (omega arith)) (c.pass_pieces.ensures.passed.passed c.args.self.now.code c.pass_ends.ensures.passed.up)
+returns-then-self-eq0-clause-passed c = passed_on _ _ _ _ (c.pass_destinations.ensures.passed.passed c.args.self.now.code (omega arith)) (c.pass_pieces.ensures.passed.passed c.args.self.now.code c.pass_destinations.ensures.passed.up)

@@ -2,12 +2,12 @@ use Rattle.std.proofs.Common.{◌≡◌, ◌<◌, ◌*◌, ◌∙◌, refl, sym,
 use Rattle.std.proofs.lemmas.Bool.{and_parts}
 use Rattle.shogi_core.specs.declared.moves.TheConstants.{FIRST_DROP, SQUARE_CODES}
 use Rattle.shogi_core.specs.Bits.{has_bit}
-use Rattle.shogi_moves.proofs.CaptureLaws.{wanted_jumps}
-use Rattle.shogi_moves.proofs.EndLaws.{nowhere, sort_ways}
+use Rattle.shogi_moves.proofs.CaptureLaws.{matching_jumps}
+use Rattle.shogi_moves.proofs.DestinationLaws.{nowhere, matching_ways}
 use Rattle.shogi_moves.proofs.MoverLaws.{on_movers}
-use Rattle.shogi_moves.proofs.SweepLaws.{keeps_sort, on_first, mine_first, on_less, on_none, on_end}
+use Rattle.shogi_moves.proofs.SweepLaws.{keeps_matching, on_first, mine_first, on_less, on_none, on_end}
 use Rattle.shogi_moves.proofs.sweep.BoardSweep.refill.Goals as goal
-use Rattle.shogi_moves.proofs.sweep.BoardSweep.refill.Goals.{then-among-ne0+else-ends-ne0, else-among-ne0}
+use Rattle.shogi_moves.proofs.sweep.BoardSweep.refill.Goals.{then-among-ne0+else-destinations-ne0, else-among-ne0}
 
 pub squares-init : goal.squares-init
 squares-init c =
@@ -15,45 +15,45 @@ squares-init c =
     record {
       kept = c.requires.kept;
       same = refl;
-      wanted = on_movers c.args.p.now c.args.capture c.bits_above-pieces.result c.movers-left.result c.args.self.now.code c.validity.ensures.cells_fit
-          (on_first c.args.p.now c.args.capture c.own.result c.bits_above-pieces.result c.args.self.now.from c.args.self.now.code c.args.self.now.ends.plain c.args.self.now.ends.promoting (omega (arith, c.index.ensures.range, c.index.ensures.index)) c.requires.kept.ends c.requires.none
+      matching = on_movers c.args.p.now c.args.capture c.bits_above-pieces.result c.movers-left.result c.args.self.now.code c.validity.ensures.cells_fit
+          (on_first c.args.p.now c.args.capture c.own.result c.bits_above-pieces.result c.args.self.now.from c.args.self.now.code c.args.self.now.destinations.plain c.args.self.now.destinations.promoting (omega (arith, c.index.ensures.range, c.index.ensures.index)) c.requires.kept.destinations c.requires.none
           (rw (c.side.ensures, c.as_board-board.ensures) at c.own.ensures.bits) (rw c.index.ensures.index at c.bits_above-pieces.ensures.above))
           (λ n h set. (mine n h set).1) c.movers-left.ensures.none;
       fits = c.movers-left.ensures.fits;
       mine = λ n h set. mine n h (c.movers-left.ensures.within n set);
     }
 
-pub legal_ends-ends-requires-clause-among : goal.legal_ends-ends-requires-clause-among
-legal_ends-ends-requires-clause-among c = λ n h. sort_ways c.args.p.now.side c.args.capture _ c.targets.result c.ends_of_sort-sort.result n _ (rw c.as_board-board.ensures at c.targets.ensures.bits n h) (c.ends_of_sort-sort.ensures.bits n h)
+pub legal_destinations-destinations-requires-clause-among : goal.legal_destinations-destinations-requires-clause-among
+legal_destinations-destinations-requires-clause-among c = λ n h. matching_ways c.args.p.now.side c.args.capture _ c.targets.result c.matching_destinations-matching.result n _ (rw c.as_board-board.ensures at c.targets.ensures.bits n h) (c.matching_destinations-matching.ensures.bits n h)
 
-pub returns-then-ends-ne0-clause-some : goal.returns-then-ends-ne0-clause-some
-returns-then-ends-ne0-clause-some c = λ _. (
-  c.if-ends-ne0.true,
+pub returns-then-destinations-ne0-clause-some : goal.returns-then-destinations-ne0-clause-some
+returns-then-destinations-ne0-clause-some c = λ _. (
+  c.if-destinations-ne0.true,
   let up : c.args.self.now.from < c.lowest-square.result = (c.squares.invariant.mine c.lowest-square.result c.lowest-square.ensures.range c.lowest-square.ensures.set).0 in
-      wanted_jumps c.args.p.now c.args.capture c.args.self.now.code (c.lowest-square.result * SQUARE_CODES) (omega (arith, up, c.requires.kept.ends.high)) (omega arith)
-      (on_none c.args.p.now c.args.capture c.squares.left c.lowest-square.result c.args.self.now.code c.squares.invariant.wanted c.lowest-square.ensures.range c.lowest-square.ensures.least),
+      matching_jumps c.args.p.now c.args.capture c.args.self.now.code (c.lowest-square.result * SQUARE_CODES) (omega (arith, up, c.requires.kept.destinations.high)) (omega arith)
+      (on_none c.args.p.now c.args.capture c.squares.left c.lowest-square.result c.args.self.now.code c.squares.invariant.matching c.lowest-square.ensures.range c.lowest-square.ensures.least),
 )
 
-pub returns-then-ends-ne0-clause-kept : goal.returns-then-ends-ne0-clause-kept
-returns-then-ends-ne0-clause-kept c = rw c.of_index-from.ensures (record {
-  guard = c.squares.invariant.kept.guard;
-  ends = keeps_sort c.args.p.now c.args.capture c.lowest-square.result c.targets.result c.ends_of_sort-sort.result c.legal_ends-ends.result.plain c.legal_ends-ends.result.promoting c.lowest-square.ensures.range (rw (c.of_index-from.ensures, c.as_board-board.ensures) at c.targets.ensures.bits) c.ends_of_sort-sort.ensures.bits c.legal_ends-ends.ensures.plain_fits c.legal_ends-ends.ensures.promoting_fits
-      (rw c.of_index-from.ensures at c.legal_ends-ends.ensures.plain) (rw c.of_index-from.ensures at c.legal_ends-ends.ensures.promoting);
+pub returns-then-destinations-ne0-clause-kept : goal.returns-then-destinations-ne0-clause-kept
+returns-then-destinations-ne0-clause-kept c = rw c.of_index-from.ensures (record {
+  info = c.squares.invariant.kept.info;
+  destinations = keeps_matching c.args.p.now c.args.capture c.lowest-square.result c.targets.result c.matching_destinations-matching.result c.legal_destinations-destinations.result.plain c.legal_destinations-destinations.result.promoting c.lowest-square.ensures.range (rw (c.of_index-from.ensures, c.as_board-board.ensures) at c.targets.ensures.bits) c.matching_destinations-matching.ensures.bits c.legal_destinations-destinations.ensures.plain_fits c.legal_destinations-destinations.ensures.promoting_fits
+      (rw c.of_index-from.ensures at c.legal_destinations-destinations.ensures.plain) (rw c.of_index-from.ensures at c.legal_destinations-destinations.ensures.promoting);
 })
 
 pub squares-preserved : goal.squares-preserved
 squares-preserved c = record {
   kept = c.squares.invariant.kept;
   same = c.squares.invariant.same;
-  wanted = elim c.if-among-ne0.branch [
-    | then-among-ne0+else-ends-ne0 w ↦ on_less c.args.p.now c.args.capture c.squares.left c.without_lowest-left.result c.lowest-square.result c.args.self.now.code _ _ c.squares.invariant.wanted
-        (keeps_sort c.args.p.now c.args.capture c.lowest-square.result c.targets.result c.ends_of_sort-sort.result w.legal_ends-ends.result.plain w.legal_ends-ends.result.promoting c.lowest-square.ensures.range (rw (c.of_index-from.ensures, c.as_board-board.ensures) at c.targets.ensures.bits) c.ends_of_sort-sort.ensures.bits w.legal_ends-ends.ensures.plain_fits w.legal_ends-ends.ensures.promoting_fits
-        (rw c.of_index-from.ensures at w.legal_ends-ends.ensures.plain) (rw c.of_index-from.ensures at w.legal_ends-ends.ensures.promoting))
-        (omega (arith, w.if-ends-ne0.false)) c.without_lowest-left.ensures.bits
+  matching = elim c.if-among-ne0.branch [
+    | then-among-ne0+else-destinations-ne0 w ↦ on_less c.args.p.now c.args.capture c.squares.left c.without_lowest-left.result c.lowest-square.result c.args.self.now.code _ _ c.squares.invariant.matching
+        (keeps_matching c.args.p.now c.args.capture c.lowest-square.result c.targets.result c.matching_destinations-matching.result w.legal_destinations-destinations.result.plain w.legal_destinations-destinations.result.promoting c.lowest-square.ensures.range (rw (c.of_index-from.ensures, c.as_board-board.ensures) at c.targets.ensures.bits) c.matching_destinations-matching.ensures.bits w.legal_destinations-destinations.ensures.plain_fits w.legal_destinations-destinations.ensures.promoting_fits
+        (rw c.of_index-from.ensures at w.legal_destinations-destinations.ensures.plain) (rw c.of_index-from.ensures at w.legal_destinations-destinations.ensures.promoting))
+        (omega (arith, w.if-destinations-ne0.false)) c.without_lowest-left.ensures.bits
     | else-among-ne0 w ↦ (
-        let none : bit_and c.targets.result c.ends_of_sort-sort.result ≡ 0 = omega (arith, w.if-among-ne0.false) in
-        on_less c.args.p.now c.args.capture c.squares.left c.without_lowest-left.result c.lowest-square.result c.args.self.now.code 0 0 c.squares.invariant.wanted
-        (keeps_sort c.args.p.now c.args.capture c.lowest-square.result c.targets.result c.ends_of_sort-sort.result 0 0 c.lowest-square.ensures.range (rw (c.of_index-from.ensures, c.as_board-board.ensures) at c.targets.ensures.bits) c.ends_of_sort-sort.ensures.bits (omega arith) (omega arith) (λ n h. nowhere _ n _ none) (λ n h. nowhere _ n _ none))
+        let none : bit_and c.targets.result c.matching_destinations-matching.result ≡ 0 = omega (arith, w.if-among-ne0.false) in
+        on_less c.args.p.now c.args.capture c.squares.left c.without_lowest-left.result c.lowest-square.result c.args.self.now.code 0 0 c.squares.invariant.matching
+        (keeps_matching c.args.p.now c.args.capture c.lowest-square.result c.targets.result c.matching_destinations-matching.result 0 0 c.lowest-square.ensures.range (rw (c.of_index-from.ensures, c.as_board-board.ensures) at c.targets.ensures.bits) c.matching_destinations-matching.ensures.bits (omega arith) (omega arith) (λ n h. nowhere _ n _ none) (λ n h. nowhere _ n _ none))
         refl c.without_lowest-left.ensures.bits)
   ];
   fits = omega (arith, c.without_lowest-left.ensures.less, c.squares.invariant.fits);
@@ -61,5 +61,5 @@ squares-preserved c = record {
 }
 
 pub returns-clause-end : goal.returns-clause-end
-returns-clause-end c = λ _. wanted_jumps c.args.p.now c.args.capture c.args.self.now.code FIRST_DROP (omega (arith, c.requires.kept.ends.high, c.index.ensures.range, c.index.ensures.index)) (omega arith)
-    (on_end c.args.p.now c.args.capture c.squares.left c.args.self.now.code c.squares.invariant.wanted (omega (arith, c.squares-test.false)))
+returns-clause-end c = λ _. matching_jumps c.args.p.now c.args.capture c.args.self.now.code FIRST_DROP (omega (arith, c.requires.kept.destinations.high, c.index.ensures.range, c.index.ensures.index)) (omega arith)
+    (on_end c.args.p.now c.args.capture c.squares.left c.args.self.now.code c.squares.invariant.matching (omega (arith, c.squares-test.false)))

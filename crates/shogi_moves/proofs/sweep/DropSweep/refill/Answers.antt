@@ -2,27 +2,27 @@ use Rattle.std.proofs.Common.{◌≡◌, ◌+◌, ◌*◌, arith, refl, subst, �
 use Rattle.shogi_core.specs.declared.moves.TheConstants.{FIRST_DROP}
 use Rattle.shogi_core.specs.Pieces.{kind_number}
 use Rattle.shogi_moves.specs.Sweeps.{KeepsDrop}
-use Rattle.shogi_moves.proofs.SweepLaws.{keeps_kind, no_drop_left, no_drop_more, no_drop_to, no_drop_end}
+use Rattle.shogi_moves.proofs.SweepLaws.{keeps_kind, no_drop_left, no_drop_more, no_drop_to, no_drop_destination}
 use Rattle.shogi_moves.proofs.sweep.DropSweep.refill.Goals as goal
 
 pub kinds-init : goal.kinds-init
 kinds-init c = record {
   kept = c.requires.kept;
   same = refl;
-  none = no_drop_left c.args.p.now c.args.self.now.kind c.args.self.now.code (subst (λ (x : ℕ). KeepsDrop c.args.p.now c.args.self.now.kind c.args.self.now.code x) c.requires.none c.requires.kept.ends);
-  past = c.requires.kept.ends.high;
+  none = no_drop_left c.args.p.now c.args.self.now.kind c.args.self.now.code (subst (λ (x : ℕ). KeepsDrop c.args.p.now c.args.self.now.kind c.args.self.now.code x) c.requires.none c.requires.kept.destinations);
+  past = c.requires.kept.destinations.high;
 }
 
-pub returns-then-ends-ne0-clause-some : goal.returns-then-ends-ne0-clause-some
-returns-then-ends-ne0-clause-some c = λ _. (
+pub returns-then-destinations-ne0-clause-some : goal.returns-then-destinations-ne0-clause-some
+returns-then-destinations-ne0-clause-some c = λ _. (
     let next : kind_number c.in-Some.next ≡ kind_number c.kinds.kind + 1 = c.in-Some.ensures in
-    (c.if-ends-ne0.true, rw c.number.ensures.number (no_drop_to c.args.p.now c.kinds.kind c.in-Some.next c.args.self.now.code c.kinds.invariant.none next c.kinds.invariant.past)))
+    (c.if-destinations-ne0.true, rw c.number.ensures.number (no_drop_to c.args.p.now c.kinds.kind c.in-Some.next c.args.self.now.code c.kinds.invariant.none next c.kinds.invariant.past)))
 
 pub kinds-preserved : goal.kinds-preserved
 kinds-preserved c =
     let next : kind_number c.in-Some.next ≡ kind_number c.kinds.kind + 1 = c.in-Some.ensures in
-    let none : c.drop_ends-ends.result ≡ 0 = omega (arith, c.if-ends-ne0.false) in
-    let here : KeepsDrop c.args.p.now c.in-Some.next (FIRST_DROP + kind_number c.in-Some.next * 81) c.drop_ends-ends.result = keeps_kind c.args.p.now c.in-Some.next c.drop_ends-ends.result c.drop_ends-ends.ensures.fits c.drop_ends-ends.ensures.bits in
+    let none : c.drop_destinations-destinations.result ≡ 0 = omega (arith, c.if-destinations-ne0.false) in
+    let here : KeepsDrop c.args.p.now c.in-Some.next (FIRST_DROP + kind_number c.in-Some.next * 81) c.drop_destinations-destinations.result = keeps_kind c.args.p.now c.in-Some.next c.drop_destinations-destinations.result c.drop_destinations-destinations.ensures.fits c.drop_destinations-destinations.ensures.bits in
     record {
       kept = c.kinds.invariant.kept;
       same = c.kinds.invariant.same;
@@ -33,4 +33,4 @@ kinds-preserved c =
 pub returns-clause-end : goal.returns-clause-end
 returns-clause-end c = λ _. (
     let last : kind_number c.kinds.kind ≡ 6 = c.in_default.ensures in
-    no_drop_end c.args.p.now c.kinds.kind c.args.self.now.code c.kinds.invariant.none last c.kinds.invariant.past)
+    no_drop_destination c.args.p.now c.kinds.kind c.args.self.now.code c.kinds.invariant.none last c.kinds.invariant.past)

@@ -1,7 +1,7 @@
 use Rattle.std.proofs.Common.{◌≡◌, ◌-◌, ◌+◌, ◌≤◌, ◌*◌, false}
 use Rattle.shogi_core.specs.declared.moves.TheConstants.{FIRST_DROP}
 use Rattle.shogi_core.specs.Pieces.{kind_number}
-use Rattle.shogi_moves.specs.Captures.{HasNoneWanted}
+use Rattle.shogi_moves.specs.Captures.{HasNoneMatching}
 use Rattle.shogi_moves.specs.Sweeps.{IsDropSweep}
 use Rattle.shogi_moves.proofs.sweep.DropSweep.refill.Given as goal
 
@@ -9,7 +9,7 @@ abbrev pub invariant-kinds : goal.invariant-kinds
 invariant-kinds l = record {
   kept : IsDropSweep l.p l.self;
   same : l.self.code ≡ l.fn.self.code;
-  none : HasNoneWanted l.p false l.fn.self.code (FIRST_DROP + 81 + kind_number l.kind * 81);
+  none : HasNoneMatching l.p false l.fn.self.code (FIRST_DROP + 81 + kind_number l.kind * 81);
   past : l.fn.self.code ≤ FIRST_DROP + 81 + kind_number l.kind * 81;
 }
 

@@ -1,0 +1,338 @@
+-- Moves that cannot leave the mover's king attacked.
+use Rattle.std.proofs.Common.{◌≡◌, ◌≢◌, ℕ, ◌<◌, ◌^◌, ◌⊎◌, Bool, true, false, refl, sym, ap, subst, ◌∙◌, arith, inl, inr, Option, Some, None, set, length, get_or-set_same, get_or-set_other, length-set, bit_or}
+use Rattle.std.specs.Prelude.{◌==◌, ◌&&◌, not, is_none}
+use Rattle.std.proofs.lemmas.Nat.{or_lt}
+use Rattle.std.proofs.lemmas.Bool.{cases_eq, false_from_ne_true, both_ways, and_parts, and_from, or_left, or_right, or_parts, not_from_false, not-true, ne_eqb}
+use Rattle.shogi_core.specs.declared.piece.Color.{Color}
+use Rattle.shogi_core.specs.declared.piece.Color.TheVariants.{Black, White}
+use Rattle.shogi_core.specs.declared.piece.Kind.{Kind}
+use Rattle.shogi_core.specs.declared.piece.Kind.TheVariants as kinds
+use Rattle.shogi_core.specs.declared.piece.Piece.{Piece}
+use Rattle.shogi_core.specs.declared.moves.Move.TheVariants.{Board, Drop}
+use Rattle.shogi_core.specs.Attack.{in_check, is_attacked, is_open_king}
+use Rattle.shogi_core.specs.Bits.{has_bit}
+use Rattle.shogi_core.specs.Cell.{is_piece_of, is_king, is_king_role}
+use Rattle.shogi_core.specs.Lines.{are_lined, is_line_to_king, is_lined_with_king}
+use Rattle.shogi_core.specs.Movement.{Cells, piece_at}
+use Rattle.shogi_core.specs.Pieces.{opponent_of, is_same_color, role_of}
+use Rattle.shogi_core.specs.Position.{Shogi}
+use Rattle.shogi_core.proofs.Below.{some_below_no}
+use Rattle.shogi_core.proofs.BitLaws.{has_bit-or, has_bit-none}
+use Rattle.shogi_core.proofs.Uncovered.{check_was, check_stays, attacked_was}
+use Rattle.shogi_core.proofs.SeenLaws.{lined_back}
+use Rattle.shogi_moves.specs.After.{cells_after, piece_moved, dropped}
+use Rattle.shogi_moves.specs.CheckInfo.{IsCheckInfo, CoversKingLines}
+use Rattle.shogi_moves.specs.Legal.{is_safe, is_pseudo_legal_drop}
+use Rattle.shogi_moves.proofs.MovedPieces.{is_king-piece_moved}
+
+-- ---- the squares that are on open lines with a king
+
+pub king_lines_first : (cells : Cells) (side : Color) (m : ℕ) → ((n : ℕ) → n < 81 → has_bit m n ≡ is_king side (piece_at cells n)) → CoversKingLines cells side m m
+king_lines_first cells side m bits = record {
+  kings = λ n h e. bits n h ∙ e;
+  lines = λ k n h l e out lined. absurd (both_ways (has_bit m k) out (bits k h ∙ e));
+}
+
+pub king_lines_more : (cells : Cells) (side : Color) (left next covered king line : ℕ) → CoversKingLines cells side left covered → ((i : ℕ) → has_bit next i ≡ (has_bit left i && not (i == king)))
+    → ((n : ℕ) → n < 81 → has_bit line n ≡ are_lined cells king n) → CoversKingLines cells side next (bit_or covered line)
+king_lines_more cells side left next covered king line h bits lined = record {
+  kings = λ n l e. has_bit-or covered line n ∙ or_left _ _ (h.kings n l e);
+  lines = λ k n l r e out on. has_bit-or covered line n ∙ elim (cases_eq k king) [
+    | inl same ↦ or_right (has_bit covered n) (has_bit line n) (lined n r ∙ subst (λ (j : ℕ). are_lined cells j n ≡ true) same on)
+    | inr other ↦ or_left _ _ (h.lines k n l r e (false_from_ne_true (has_bit left k) (λ set. both_ways (has_bit next k) out (bits k ∙ and_from _ _ set (not_from_false _ (ne_eqb k king other))))) on)
+  ];
+}
+
+-- ---- a piece that moves
+
+pub other_side : (side : Color) (cell : Option Piece) → is_piece_of side cell ≡ true → is_piece_of (opponent_of side) cell ≡ false
+other_side side None e = refl
+other_side side (Some piece) e = go side piece.color e
+  where
+    go : (a b : Color) → is_same_color a b ≡ true → is_same_color (opponent_of a) b ≡ false
+    go Black Black e = refl
+    go White White e = refl
+    go Black White e = absurd (cc)
+    go White Black e = absurd (cc)
+
+pub is_piece_of-piece_moved : (side : Color) (promote : Bool) (cell : Option Piece) → is_piece_of side (piece_moved promote cell) ≡ is_piece_of side cell
+is_piece_of-piece_moved side promote None = refl
+is_piece_of-piece_moved side promote (Some piece) = refl
+
+pub own_some : (side : Color) (cell : Option Piece) → is_piece_of side cell ≡ true → is_none cell ≡ false
+own_some side None e = absurd (cc)
+own_some side (Some piece) e = refl
+
+-- ---- a piece that is lifted off
+
+-- off the king's lines that opens no check
+lifted_unchecked : (cells : Cells) (side : Color) (n : ℕ) → length cells ≡ 81 → n < 81 → is_lined_with_king cells side n ≡ false → in_check cells side ≡ false → in_check (set cells n None) side ≡ false
+lifted_unchecked cells side n len h off safe =
+    check_was cells (set cells n None) (λ x. x ≡ n)
+    (λ x e. elim (cases_eq x n) [ inl here ↦ inr here | inr other ↦ inl (ap is_none (sym (get_or-set_other cells n x None None other)) ∙ e) ])
+    side
+    (λ a e. elim (cases_eq a n) [
+      | inl here ↦ absurd (let clash : false ≡ true = ap (is_piece_of (opponent_of side)) (sym (lifted_at a here)) ∙ e in cc)
+      | inr other ↦ sym (get_or-set_other cells n a None None other)
+    ])
+    (λ k e. elim (cases_eq k n) [
+      | inl here ↦ absurd (let clash : false ≡ true = ap (is_king side) (sym (lifted_at k here)) ∙ e in cc)
+      | inr other ↦ sym (get_or-set_other cells n k None None other)
+    ])
+    (λ x left. subst (λ (y : ℕ). is_lined_with_king cells side y ≡ false) (sym left) off)
+    safe
+  where
+    lifted_at : (x : ℕ) → x ≡ n → piece_at (set cells n None) x ≡ None
+    lifted_at x here = rw here (get_or-set_same cells n None None (omega arith))
+
+pub check_info_from : (p : Shogi) (checked : Bool) (pinned_or_king : ℕ) → length p.cells ≡ 81 → CoversKingLines p.cells p.side 0 pinned_or_king → pinned_or_king < 2 ^ 81 → checked ≡ in_check p.cells p.side → IsCheckInfo p checked pinned_or_king
+unfolding is_lined_with_king
+check_info_from p checked pinned_or_king len h fits e = record {
+  check = e;
+  kings = λ n l out. false_from_ne_true _ (λ king. both_ways (has_bit pinned_or_king n) out (h.kings n l king));
+  lines = λ _. off_lines;
+  free = λ c n l out own. lifted_unchecked p.cells p.side n len l (off_lines n l out) (sym e ∙ c);
+  fits = fits;
+}
+  where
+    off_lines : (n : ℕ) → n < 81 → has_bit pinned_or_king n ≡ false → is_lined_with_king p.cells p.side n ≡ false
+    off_lines n l out = some_below_no 81 (is_line_to_king p.cells p.side n) (λ k r. false_from_ne_true _ (λ line. (
+        let parts : (is_king p.side (piece_at p.cells k) ≡ true) × (are_lined p.cells n k ≡ true) = and_parts _ _ line in
+        both_ways (has_bit pinned_or_king n) out (h.lines k n r l parts.0 (has_bit-none k) (lined_back p.cells n k l parts.1)))))
+
+-- a piece of the side on a square more opens no line
+pub filled : (cells : Cells) (side : Color) (to : ℕ) (v : Option Piece) → length cells ≡ 81 → to < 81 → is_piece_of side v ≡ true → is_king side v ≡ false → in_check cells side ≡ false → in_check (set cells to v) side ≡ false
+filled cells side to v len ht own plain safe =
+    check_was cells (set cells to v) (λ x. ⊥)
+    (λ x e. elim (look x) [
+      | inl there ↦ absurd (both_ways (is_none v) (own_some side v own) (ap is_none (sym there) ∙ e))
+      | inr same ↦ inl (ap is_none (sym same) ∙ e)
+    ])
+    side
+    (λ x e. elim (look x) [
+      | inl there ↦ absurd (both_ways (is_piece_of (opponent_of side) v) (other_side side v own) (ap (is_piece_of (opponent_of side)) (sym there) ∙ e))
+      | inr same ↦ sym same
+    ])
+    (λ x e. elim (look x) [
+      | inl there ↦ absurd (both_ways (is_king side v) plain (ap (is_king side) (sym there) ∙ e))
+      | inr same ↦ sym same
+    ])
+    (λ x left. absurd left)
+    safe
+  where
+    look : (x : ℕ) → (piece_at (set cells to v) x ≡ v) ⊎ (piece_at (set cells to v) x ≡ piece_at cells x)
+    look x = elim (cases_eq x to) [
+      | inl there ↦ inl (rw there (get_or-set_same cells to v None (omega arith)))
+      | inr other ↦ inr (get_or-set_other cells to x v None other)
+    ]
+
+-- ---- where there is no check
+
+-- the kings, and pieces without which there might be one
+pub check_info_unpinned : (p : Shogi) (kings pinned : ℕ) → in_check p.cells p.side ≡ false → kings < 2 ^ 81 → pinned < 2 ^ 81 → ((n : ℕ) → n < 81 → has_bit kings n ≡ is_king p.side (piece_at p.cells n))
+    → ((n : ℕ) → n < 81 → has_bit pinned n ≡ false → is_piece_of p.side (piece_at p.cells n) ≡ true → in_check (set p.cells n None) p.side ≡ false)
+    → IsCheckInfo p false (bit_or kings pinned)
+check_info_unpinned p kings pinned safe low fits k free = record {
+  check = sym safe;
+  kings = λ n h out. sym (k n h) ∙ (apart n out).0;
+  lines = λ c. absurd (cc);
+  free = λ c n h out own. free n h (apart n out).1 own;
+  fits = or_lt 81 kings pinned low fits;
+}
+  where
+    apart : (n : ℕ) → has_bit (bit_or kings pinned) n ≡ false → (has_bit kings n ≡ false) × (has_bit pinned n ≡ false)
+    apart n out = or_parts (has_bit kings n) (has_bit pinned n) (sym (has_bit-or kings pinned n) ∙ out)
+
+pub ruleset without_check = (check_info_unpinned)
+
+module _ (cells : Cells) (side : Color) (from to : ℕ) (v : Option Piece) (len : length cells ≡ 81) (hf : from < 81) (ht : to < 81) where
+  after_it : Cells
+  after_it = set (set cells from None) to v
+
+  pub look : (x : ℕ) → ((x ≡ to) × (piece_at (set (set cells from None) to v) x ≡ v)) ⊎ (((x ≡ from) × (piece_at (set (set cells from None) to v) x ≡ None)) ⊎ (piece_at (set (set cells from None) to v) x ≡ piece_at cells x))
+  look x = elim (cases_eq x to) [
+    | inl there ↦ inl (there, rw there (get_or-set_same (set cells from None) to v None (omega (arith, length-set cells from None))))
+    | inr other ↦ elim (cases_eq x from) [
+      | inl here ↦ inr (inl (here, get_or-set_other (set cells from None) to x v None other ∙ rw here (get_or-set_same cells from None None (omega arith))))
+      | inr off ↦ inr (inr (get_or-set_other (set cells from None) to x v None other ∙ get_or-set_other cells from x None None off))
+    ]
+  ]
+
+  pub quiet_set : is_piece_of side v ≡ true → is_king side v ≡ false → is_lined_with_king cells side from ≡ false → in_check cells side ≡ false → in_check (set (set cells from None) to v) side ≡ false
+  quiet_set own plain free safe =
+      check_was cells (set (set cells from None) to v) (λ x. x ≡ from)
+      (λ x e. elim (look x) [
+        | inl there ↦ absurd (both_ways (is_none v) (own_some side v own) (ap is_none (sym there.1) ∙ e))
+        | inr rest ↦ elim rest [ inl here ↦ inr here.0 | inr same ↦ inl (ap is_none (sym same) ∙ e) ]
+      ])
+      side
+      (λ a e. elim (look a) [
+        | inl there ↦ absurd (both_ways (is_piece_of (opponent_of side) v) (other_side side v own) (ap (is_piece_of (opponent_of side)) (sym there.1) ∙ e))
+        | inr rest ↦ elim rest [ inl here ↦ absurd (let clash : false ≡ true = ap (is_piece_of (opponent_of side)) (sym here.1) ∙ e in cc) | inr same ↦ sym same ]
+      ])
+      (λ k e. elim (look k) [
+        | inl there ↦ absurd (both_ways (is_king side v) plain (ap (is_king side) (sym there.1) ∙ e))
+        | inr rest ↦ elim rest [ inl here ↦ absurd (let clash : false ≡ true = ap (is_king side) (sym here.1) ∙ e in cc) | inr same ↦ sym same ]
+      ])
+      (λ x left. subst (λ (y : ℕ). is_lined_with_king cells side y ≡ false) (sym left) free)
+      safe
+
+  -- a move that takes no attacker and ends on no open line with a king leaves the check
+  pub stays_set : is_piece_of side (piece_at cells from) ≡ true → is_king side (piece_at cells from) ≡ false → is_piece_of (opponent_of side) (piece_at cells to) ≡ false → is_king side (piece_at cells to) ≡ false → is_lined_with_king cells side to ≡ false
+      → in_check cells side ≡ true → in_check (set (set cells from None) to v) side ≡ true
+  stays_set own plain none bare off check =
+      check_stays cells (set (set cells from None) to v) to
+      (λ x e. elim (look x) [
+        | inl there ↦ inr there.0
+        | inr rest ↦ elim rest [ inl here ↦ inl (ap is_none here.1) | inr same ↦ inl (ap is_none same ∙ e) ]
+      ])
+      side
+      (λ a e. elim (look a) [
+        | inl there ↦ absurd (both_ways (is_piece_of (opponent_of side) (piece_at cells to)) none (subst (λ (y : ℕ). is_piece_of (opponent_of side) (piece_at cells y) ≡ true) there.0 e))
+        | inr rest ↦ elim rest [
+          | inl here ↦ absurd (both_ways (is_piece_of (opponent_of side) (piece_at cells from)) (other_side side (piece_at cells from) own) (subst (λ (y : ℕ). is_piece_of (opponent_of side) (piece_at cells y) ≡ true) here.0 e))
+          | inr same ↦ same
+        ]
+      ])
+      (λ k e. elim (look k) [
+        | inl there ↦ absurd (both_ways (is_king side (piece_at cells to)) bare (subst (λ (y : ℕ). is_king side (piece_at cells y) ≡ true) there.0 e))
+        | inr rest ↦ elim rest [
+          | inl here ↦ absurd (both_ways (is_king side (piece_at cells from)) plain (subst (λ (y : ℕ). is_king side (piece_at cells y) ≡ true) here.0 e))
+          | inr same ↦ same
+        ]
+      ])
+      off check
+
+  -- a king that is the only one is attacked after its move only where it would be with its square left empty
+  pub king_set : is_piece_of side v ≡ true → ((x : ℕ) → x < 81 → x ≢ from → is_king side (piece_at cells x) ≡ false) → is_attacked (set cells from None) (opponent_of side) to ≡ false → in_check (set (set cells from None) to v) side ≡ false
+  unfolding in_check
+  king_set own lone safe = some_below_no 81 (is_open_king (set (set cells from None) to v) side) (λ k l. false_from_ne_true (is_open_king (set (set cells from None) to v) side k) (λ e.
+      let parts : (is_king side (piece_at (set (set cells from None) to v) k) ≡ true) × (is_attacked (set (set cells from None) to v) (opponent_of side) k ≡ true) = and_parts _ _ e in
+      elim (cases_eq k to) [
+        | inl there ↦ both_ways (is_attacked (set (set cells from None) to v) (opponent_of side) to)
+            (attacked_was (set cells from None) (set (set cells from None) to v) (λ x. ⊥)
+            (λ x f. elim (cases_eq x to) [
+              | inl at ↦ absurd (both_ways (is_none v) (own_some side v own) (ap is_none (sym (filled_at x at)) ∙ f))
+              | inr other ↦ inl (ap is_none (sym (get_or-set_other (set cells from None) to x v None other)) ∙ f)
+            ])
+            (opponent_of side) to
+            (λ a f. elim (cases_eq a to) [
+              | inl at ↦ absurd (both_ways (is_piece_of (opponent_of side) v) (other_side side v own) (ap (is_piece_of (opponent_of side)) (sym (filled_at a at)) ∙ f))
+              | inr other ↦ sym (get_or-set_other (set cells from None) to a v None other)
+            ])
+            (λ x left. absurd left)
+            safe)
+            (subst (λ (y : ℕ). is_attacked (set (set cells from None) to v) (opponent_of side) y ≡ true) there parts.1)
+        | inr other ↦ elim (look k) [
+          | inl there ↦ other there.0
+          | inr rest ↦ elim rest [
+            | inl here ↦ (let clash : false ≡ true = ap (is_king side) (sym here.1) ∙ parts.0 in cc)
+            | inr same ↦ elim (cases_eq k from) [
+              | inl left ↦ (let gone : piece_at (set (set cells from None) to v) k ≡ None = get_or-set_other (set cells from None) to k v None other ∙ rw left (get_or-set_same cells from None None (omega arith)) in let clash : false ≡ true = ap (is_king side) (sym gone) ∙ parts.0 in cc)
+              | inr off ↦ both_ways (is_king side (piece_at cells k)) (lone k l off) (ap (is_king side) (sym same) ∙ parts.0)
+            ]
+          ]
+        ]
+      ]))
+    where
+      filled_at : (x : ℕ) → x ≡ to → piece_at (set (set cells from None) to v) x ≡ v
+      filled_at x at = rw at (get_or-set_same (set cells from None) to v None (omega (arith, length-set cells from None)))
+
+pub quiet_board : (cells : Cells) (side : Color) (from to : ℕ) (promote : Bool) → length cells ≡ 81 → from < 81 → to < 81 → is_piece_of side (piece_at cells from) ≡ true → is_king side (piece_at cells from) ≡ false
+    → is_lined_with_king cells side from ≡ false → in_check cells side ≡ false → in_check (cells_after cells side (Board from to promote)) side ≡ false
+quiet_board cells side from to promote len hf ht own plain free safe =
+    quiet_set cells side from to (piece_moved promote (piece_at cells from)) len hf ht (is_piece_of-piece_moved side promote (piece_at cells from) ∙ own) (is_king-piece_moved side promote (piece_at cells from) ∙ plain) free safe
+
+-- ---- a piece that is dropped
+
+pub dropped_of : (side : Color) (kind : Kind) → is_piece_of side (dropped side kind) ≡ true
+dropped_of Black kind = refl
+dropped_of White kind = refl
+
+dropped_plain : (side : Color) (kind : Kind) → is_king side (dropped side kind) ≡ false
+dropped_plain side kind = go (is_same_color side side) (role_plain kind)
+  where
+    role_plain : (kind : Kind) → is_king_role (role_of kind) ≡ false
+    role_plain kinds.Pawn = refl
+    role_plain _ = refl
+
+    go : (a : Bool) {b : Bool} → b ≡ false → (a && b) ≡ false
+    go true e = e
+    go false e = refl
+
+pub quiet_drop : (cells : Cells) (side : Color) (kind : Kind) (to : ℕ) → length cells ≡ 81 → to < 81 → in_check cells side ≡ false → in_check (cells_after cells side (Drop kind to)) side ≡ false
+quiet_drop cells side kind to len ht safe =
+    check_was cells (set cells to (dropped side kind)) (λ x. ⊥)
+    (λ x e. elim (look x) [
+      | inl there ↦ absurd (let clash : false ≡ true = ap is_none (sym there) ∙ e in cc)
+      | inr same ↦ inl (ap is_none (sym same) ∙ e)
+    ])
+    side
+    (λ a e. elim (look a) [
+      | inl there ↦ absurd (both_ways (is_piece_of (opponent_of side) (dropped side kind)) (other_side side (dropped side kind) (dropped_of side kind)) (ap (is_piece_of (opponent_of side)) (sym there) ∙ e))
+      | inr same ↦ sym same
+    ])
+    (λ k e. elim (look k) [
+      | inl there ↦ absurd (both_ways (is_king side (dropped side kind)) (dropped_plain side kind) (ap (is_king side) (sym there) ∙ e))
+      | inr same ↦ sym same
+    ])
+    (λ x left. absurd left)
+    safe
+  where
+    look : (x : ℕ) → (piece_at (set cells to (dropped side kind)) x ≡ dropped side kind) ⊎ (piece_at (set cells to (dropped side kind)) x ≡ piece_at cells x)
+    look x = elim (cases_eq x to) [
+      | inl there ↦ inl (rw there (get_or-set_same cells to (dropped side kind) None (omega arith)))
+      | inr other ↦ inr (get_or-set_other cells to x (dropped side kind) None other)
+    ]
+
+-- the same of a drop
+pub stays_drop : (cells : Cells) (side : Color) (kind : Kind) (to : ℕ) → is_none (piece_at cells to) ≡ true → is_lined_with_king cells side to ≡ false → in_check cells side ≡ true → in_check (cells_after cells side (Drop kind to)) side ≡ true
+stays_drop cells side kind to free off check =
+    check_stays cells (set cells to (dropped side kind)) to
+    (λ x e. elim (cases_eq x to) [
+      | inl there ↦ inr there
+      | inr other ↦ inl (ap is_none (get_or-set_other cells to x (dropped side kind) None other) ∙ e)
+    ])
+    side
+    (λ a e. elim (cases_eq a to) [
+      | inl there ↦ absurd (both_ways (is_piece_of (opponent_of side) (piece_at cells to)) (nobody (opponent_of side) (piece_at cells to) free) (subst (λ (y : ℕ). is_piece_of (opponent_of side) (piece_at cells y) ≡ true) there e))
+      | inr other ↦ get_or-set_other cells to a (dropped side kind) None other
+    ])
+    (λ k e. elim (cases_eq k to) [
+      | inl there ↦ absurd (both_ways (is_king side (piece_at cells to)) (no_crown (piece_at cells to) free) (subst (λ (y : ℕ). is_king side (piece_at cells y) ≡ true) there e))
+      | inr other ↦ get_or-set_other cells to k (dropped side kind) None other
+    ])
+    off check
+  where
+    nobody : (color : Color) (cell : Option Piece) → is_none cell ≡ true → is_piece_of color cell ≡ false
+    nobody color None e = refl
+    nobody color (Some piece) e = absurd (cc)
+
+    no_crown : (cell : Option Piece) → is_none cell ≡ true → is_king side cell ≡ false
+    no_crown None e = refl
+    no_crown (Some piece) e = absurd (cc)
+
+-- ---- what check info tells of a move
+
+-- an unpinned piece leaves no check, wherever it goes
+pub unpinned_safe : (p : Shogi) (checked : Bool) (pinned_or_king from to : ℕ) (promote : Bool) → IsCheckInfo p checked pinned_or_king → length p.cells ≡ 81 → from < 81 → to < 81 → is_piece_of p.side (piece_at p.cells from) ≡ true → checked ≡ false → has_bit pinned_or_king from ≡ false
+    → in_check (cells_after p.cells p.side (Board from to promote)) p.side ≡ false
+unpinned_safe p checked pinned_or_king from to promote g len hf ht own unpinned off =
+    filled (set p.cells from None) p.side to (piece_moved promote (piece_at p.cells from)) (length-set p.cells from None ∙ len) ht (is_piece_of-piece_moved p.side promote (piece_at p.cells from) ∙ own) (is_king-piece_moved p.side promote (piece_at p.cells from) ∙ g.kings from hf off) (g.free unpinned from hf off own)
+
+pub quiet_drop_safe : (p : Shogi) (checked : Bool) (pinned_or_king to : ℕ) (kind : Kind) → IsCheckInfo p checked pinned_or_king → length p.cells ≡ 81 → to < 81 → checked ≡ false
+    → is_pseudo_legal_drop p.cells p.hands p.side kind to ≡ is_safe p (Drop kind to)
+unfolding is_safe
+quiet_drop_safe p checked pinned_or_king to kind g len ht unpinned = go (is_pseudo_legal_drop p.cells p.hands p.side kind to)
+  where
+    go : (right : Bool) → right ≡ (right && not (in_check (cells_after p.cells p.side (Drop kind to)) p.side))
+    go false = refl
+    go true = sym (ap not (quiet_drop p.cells p.side kind to len ht (sym g.check ∙ unpinned)))
+
+pub king_lines_fit : (a b : ℕ) → a < 2 ^ 81 → b < 2 ^ 81 → bit_or a b < 2 ^ 81
+king_lines_fit a b h l = or_lt 81 a b h l
+
+pub ruleset covering_king_lines = (king_lines_first, king_lines_more, king_lines_fit)
+
+pub unpinned_parts : (a b : Bool) → (not a && not b) ≡ true → (a ≡ false) × (b ≡ false)
+unpinned_parts a b e = let parts : (not a ≡ true) × (not b ≡ true) = and_parts (not a) (not b) e in (not-true a parts.0, not-true b parts.1)

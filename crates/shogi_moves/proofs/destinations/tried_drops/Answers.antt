@@ -1,0 +1,10 @@
+use Rattle.std.proofs.Common.{◌≡◌, arith}
+use Rattle.shogi_core.specs.declared.moves.Move.TheVariants.{Drop}
+use Rattle.shogi_moves.specs.Destinations.{is_unchecked}
+use Rattle.shogi_moves.proofs.DestinationLaws.{sift_done}
+use Rattle.shogi_moves.proofs.destinations.tried_drops.Goals as goal
+
+pub returns-clause-bits : goal.returns-clause-bits
+returns-clause-bits c = λ n h. (
+    let none : c.loop-left.left ≡ 0 = omega arith in
+    sift_done c.args.destinations c.loop-left.kept (λ n. is_unchecked c.args.p.now (Drop c.args.kind n)) (rw none at c.loop-left.invariant.sifts) n h)

@@ -1,0 +1,30 @@
+-- What is known of checks in a position, so that most of its moves need no look at them.
+use Rattle.std.specs.Prelude.{ℕ, ◌≡◌, ◌<◌, ◌^◌, Bool, true, false}
+use Rattle.shogi_core.specs.declared.piece.Color.{Color}
+use Rattle.shogi_core.specs.Attack.{in_check, OthersAreUnpinned}
+use Rattle.shogi_core.specs.Bits.{has_bit}
+use Rattle.shogi_core.specs.Cell.{is_king}
+use Rattle.shogi_core.specs.Lines.{are_lined, is_lined_with_king}
+use Rattle.shogi_core.specs.Movement.{Cells, piece_at}
+use Rattle.shogi_core.specs.Position.{Shogi}
+use Rattle.shogi_moves.specs.declared.check_info.CheckInfo.{CheckInfo}
+
+-- whether the side to move is in check, and a mask with its king: in check it has the squares on open lines with the king, and else the side's own pieces without which there might be one
+pub record IsCheckInfo (p : Shogi) (checked : Bool) (pinned_or_king : ℕ) : Type 0 where
+  pub check : checked ≡ in_check p.cells p.side
+  pub kings : (n : ℕ) → n < 81 → has_bit pinned_or_king n ≡ false
+      → is_king p.side (piece_at p.cells n) ≡ false
+  pub lines : checked ≡ true → (n : ℕ) → n < 81 → has_bit pinned_or_king n ≡ false
+      → is_lined_with_king p.cells p.side n ≡ false
+  pub free : checked ≡ false → OthersAreUnpinned pinned_or_king p.cells p.side
+  pub fits : pinned_or_king < 2 ^ 81
+
+-- such a test and such a mask of the position
+abbrev pub IsCheckInfoOf : CheckInfo → Shogi → Type 0
+IsCheckInfoOf info p = IsCheckInfo p info.checked info.pinned_or_king
+
+-- the mask has the kings of a side, and the squares on open lines with those of them that are not left
+pub record CoversKingLines (cells : Cells) (side : Color) (left covered : ℕ) : Type 0 where
+  pub kings : (n : ℕ) → n < 81 → is_king side (piece_at cells n) ≡ true → has_bit covered n ≡ true
+  pub lines : (k n : ℕ) → k < 81 → n < 81 → is_king side (piece_at cells k) ≡ true
+      → has_bit left k ≡ false → are_lined cells k n ≡ true → has_bit covered n ≡ true

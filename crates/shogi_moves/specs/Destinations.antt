@@ -1,0 +1,50 @@
+-- Where a piece may end.
+use Rattle.std.specs.Prelude.{ℕ, ◌≡◌, ◌<◌, ◌&&◌, ◌||◌, Bool, true, false, not, Option, None, is_none, slice_set}
+use Rattle.shogi_core.specs.declared.piece.Color.{Color}
+use Rattle.shogi_core.specs.declared.piece.Piece.{Piece}
+use Rattle.shogi_core.specs.declared.moves.Move.{Move}
+use Rattle.shogi_core.specs.declared.moves.Move.TheVariants.{Board}
+use Rattle.shogi_core.specs.Attack.{in_check, is_attacked}
+use Rattle.shogi_core.specs.Bits.{HasBits, has_bit}
+use Rattle.shogi_core.specs.Cell.{is_piece_of}
+use Rattle.shogi_core.specs.Codes.{code_of}
+use Rattle.shogi_core.specs.Movement.{Cells, piece_at, reaches}
+use Rattle.shogi_core.specs.Pieces.{opponent_of}
+use Rattle.shogi_core.specs.Position.{Shogi}
+use Rattle.shogi_moves.specs.After.{cells_after}
+use Rattle.shogi_moves.specs.Legal.{is_legal_code}
+
+-- where captures end, and where the other moves do
+abbrev pub is_destination : Bool → Color → Option Piece → Bool
+is_destination true side cell = is_piece_of (opponent_of side) cell
+is_destination false side cell = is_none cell
+
+-- the move leaves the mover's king unattacked
+abbrev pub is_unchecked : Shogi → Move → Bool
+is_unchecked p m = not (in_check (cells_after p.cells p.side m) p.side)
+
+-- the mask has those of the destinations at which the piece leaves its king unattacked
+abbrev pub AreUncheckedDestinations : Shogi → ℕ → ℕ → ℕ → Type 0
+AreUncheckedDestinations p from destinations mask =
+    HasBits mask (λ n. has_bit destinations n && is_unchecked p (Board from n false))
+
+-- the mask has those of the destinations at which the move of the piece is legal, promoting or not
+abbrev pub AreLegalDestinations : Shogi → ℕ → Bool → ℕ → ℕ → Type 0
+AreLegalDestinations p from promote destinations mask =
+    HasBits mask (λ n. has_bit destinations n && is_legal_code p (code_of (Board from n promote)))
+
+-- the piece reaches each square of the mask, and none of the side to move stands there
+abbrev pub AreEnterable : Shogi → ℕ → ℕ → Type 0
+AreEnterable p from mask = (n : ℕ) → n < 81 → has_bit mask n ≡ true
+    → (reaches p.cells from n ≡ true) × (is_piece_of p.side (piece_at p.cells n) ≡ false)
+
+-- on that board the other side attacks the square just as it does once the king has left its own
+abbrev pub ShowsAttack : Shogi → Cells → ℕ → ℕ → Type 0
+ShowsAttack p seen king to =
+    is_attacked seen (opponent_of p.side) to
+    ≡ is_attacked (slice_set p.cells king None) (opponent_of p.side) to
+
+-- of the first squares, those are kept that pass or are still to be tried
+pub record Sifts (first left kept : ℕ) (test : ℕ → Bool) : Type 0 where
+  pub within : (n : ℕ) → has_bit left n ≡ true → has_bit first n ≡ true
+  pub bits : (n : ℕ) → n < 81 → has_bit kept n ≡ (has_bit first n && (test n || has_bit left n))

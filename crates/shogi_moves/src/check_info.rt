@@ -1,0 +1,92 @@
+//! What is known of checks in a position, so that most of its moves need no look at them.
+
+ghost use Rattle.std.specs.Prelude.{◌≡◌, ◌<◌, ◌^◌, ◌&&◌, not, false};
+ghost use Rattle.shogi_core.specs.Attack.{in_check, OthersAreUnpinned};
+ghost use Rattle.shogi_core.specs.Bits.{has_bit};
+ghost use Rattle.shogi_moves.specs.CheckInfo.{IsCheckInfoOf, CoversKingLines};
+
+use crate::attack::in_check;
+use shogi_core::bits::{ALL_SQUARES, has, lowest, without_lowest};
+use shogi_core::{Color, Position, Square};
+
+/// Whether the side to move is in check, and a mask with its king: in check also the squares on
+/// open lines with the king, and else the pieces that may be pinned.
+#[derive(Clone, Copy, Debug)]
+pub struct CheckInfo {
+    pub checked: bool,
+    pub pinned_or_king: u128,
+}
+
+/// The squares of kings of the side, and of open lines with them.
+#[tactic(auto, using(crate::proofs::CheckInfoLaws::covering_king_lines))]
+fn king_line_squares(p: &Position, side: Color) -> u128
+    ensures fits { result < 2 ^ 81 }
+    ensures all { CoversKingLines p.now.cells side 0 result }
+{
+    let board = p.as_board();
+    let mut left = board.kings(side);
+    let mut covered = left;
+    while left != 0 {
+        let king = lowest(left);
+        covered |= board.lined(Square::of_index(king));
+        left = without_lowest(left, king);
+    }
+    covered
+}
+
+/// What is kept of a position of which it is known whether the side to move is in check.
+#[tactic(auto, using(crate::proofs::CheckInfoLaws::check_info_from))]
+pub fn full_check_info(p: &Position, checked: bool) -> CheckInfo
+    requires { checked ≡ in_check p.now.cells p.now.side }
+    ensures { IsCheckInfoOf result p.now }
+{
+    p.validity();
+    CheckInfo {
+        checked,
+        pinned_or_king: king_line_squares(p, p.side()),
+    }
+}
+
+/// What is kept where there is no check: of the pieces of the side to move, the king and those that
+/// may be pinned.
+#[tactic(auto, using(crate::proofs::CheckInfoLaws::without_check))]
+fn unchecked_info(p: &Position, pinned: u128) -> CheckInfo
+    requires safe { in_check p.now.cells p.now.side ≡ false }
+    requires fits { pinned < 2 ^ 81 }
+    requires free { OthersAreUnpinned pinned p.now.cells p.now.side }
+    ensures { IsCheckInfoOf result p.now }
+{
+    CheckInfo {
+        checked: false,
+        pinned_or_king: p.as_board().kings(p.side()) | pinned,
+    }
+}
+
+/// What is kept of the position.
+pub fn check_info_of(p: &Position) -> CheckInfo
+    ensures { IsCheckInfoOf result p.now }
+{
+    match p.as_board().pinned(p.side()) {
+        None => full_check_info(p, true),
+        Some(pinned) => unchecked_info(p, pinned),
+    }
+}
+
+/// What is kept where no piece is looked for that may leave its square: each may be pinned.
+#[tactic(auto, using(crate::proofs::ExistenceLaws::check_info_rough))]
+pub fn rough_check_info(p: &Position) -> CheckInfo
+    ensures { IsCheckInfoOf result p.now }
+{
+    CheckInfo {
+        checked: in_check(p),
+        pinned_or_king: ALL_SQUARES,
+    }
+}
+
+/// Whether no move of the piece on the square can leave its king attacked.
+pub fn is_unpinned(info: &CheckInfo, from: Square) -> bool
+    ensures { result ≡ (not info.now.checked && not (has_bit info.now.pinned_or_king from)) }
+{
+    from.validity();
+    !info.checked && !has(info.pinned_or_king, from.index())
+}

@@ -1,0 +1,377 @@
+//! The legal destinations of the pieces of the side to move, and of its drops.
+
+ghost use Rattle.std.specs.Prelude.{◌≡◌, ◌<◌, ◌^◌, ◌&&◌, ℕ, not, true, false, None, slice_set};
+ghost use Rattle.shogi_core.specs.declared.moves.Move.TheVariants as moves;
+ghost use Rattle.shogi_core.specs.declared.piece.Kind.TheVariants as kinds;
+ghost use Rattle.shogi_moves.specs.Legal.{is_pseudo_legal_drop, is_safe, is_pawn_drop_mate, may_promote};
+ghost use Rattle.shogi_core.specs.Attack.{in_check};
+ghost use Rattle.shogi_core.specs.Bits.{HasBits, has_bit};
+ghost use Rattle.shogi_core.specs.Cell.{is_piece_of, is_king, is_immobile};
+ghost use Rattle.shogi_core.specs.Codes.{code_of};
+ghost use Rattle.shogi_core.specs.Movement.{piece_at};
+ghost use Rattle.shogi_moves.specs.Captures.{is_matching};
+ghost use Rattle.shogi_moves.specs.Destinations.{is_destination, is_unchecked, AreUncheckedDestinations, AreLegalDestinations, AreEnterable, ShowsAttack};
+ghost use Rattle.shogi_moves.specs.Escapes.{HasNoOtherKing};
+ghost use Rattle.shogi_moves.specs.CheckInfo.{IsCheckInfoOf};
+
+use crate::after::{dropped, is_checked_after};
+use crate::check_info::{CheckInfo, is_unpinned};
+use crate::legal::{is_pawn_drop_mate, is_pawn_kind};
+use crate::zones::{dead_squares, pawn_files, promoting_squares};
+use shogi_core::bits::{cleared, has, lowest, without_lowest};
+use shogi_core::{Board, Kind, Move, Piece, Position, Role, Square, step_squares};
+
+/// The legal destinations of a piece, without and with promotion.
+#[derive(Clone, Copy, Debug)]
+pub struct Destinations {
+    pub plain: u128,
+    pub promoting: u128,
+}
+
+/// The destinations of captures, or of the other moves.
+pub fn matching_destinations(p: &Position, capture: bool) -> u128
+    ensures bits { HasBits result (λ n. is_destination capture p.now.side
+        (piece_at p.now.cells n)) }
+    ensures fits { result < 2 ^ 81 }
+{
+    if capture {
+        p.as_board().own(p.side().opponent())
+    } else {
+        p.as_board().free()
+    }
+}
+
+/// Whether the move leaves the mover's king unattacked.
+fn is_unchecked(p: &Position, m: &Move) -> bool
+    ensures { result ≡ is_unchecked p.now m.now }
+{
+    !is_checked_after(p.as_board(), p.side(), m)
+}
+
+/// Those of the destinations that leave the king unattacked, each of them tried.
+#[tactic(auto, using(crate::proofs::DestinationLaws::sifting))]
+fn tried_destinations(p: &Position, from: Square, destinations: u128) -> u128
+    requires { destinations < 2 ^ 81 }
+    ensures bits { AreUncheckedDestinations p.now from destinations result }
+    ensures fits { result < 2 ^ 81 }
+{
+    let mut left = destinations;
+    let mut kept = destinations;
+    while left != 0 {
+        let to = lowest(left);
+        let m = Move::Board {
+            from,
+            to: Square::of_index(to),
+            promote: false,
+        };
+        if !is_unchecked(p, &m) {
+            kept = cleared(kept, to);
+        }
+        left = without_lowest(left, to);
+    }
+    kept
+}
+
+/// Whether the king is unattacked once the piece is lifted off its square: there is no check, and
+/// the piece is not pinned.
+fn is_free(p: &Position, from: Square) -> bool
+    ensures { result ≡ not (in_check (slice_set p.now.cells from None) p.now.side) }
+{
+    let mut board = *p.as_board();
+    board.set(from, None);
+    !board.in_check(p.side())
+}
+
+/// Whether the only king of the side to move may go from the one square to the other: nothing
+/// attacks that square, as seen on a board where the king stands in no piece's way.
+pub fn is_king_safe(p: &Position, seen: &Board, from: Square, to: Square) -> bool
+    requires king { is_king p.now.side (piece_at p.now.cells from) ≡ true }
+    requires seen { ShowsAttack p.now seen.now from to }
+    requires lone { HasNoOtherKing p.now.cells p.now.side from }
+    ensures { result ≡ is_unchecked p.now (moves.Board from to false) }
+{
+    p.validity();
+    from.validity();
+    to.validity();
+    !seen.is_attacked(p.side().opponent(), to)
+}
+
+/// Those of the destinations on which the only king of the side to move is unattacked, as seen on
+/// that board.
+#[tactic(auto, using(crate::proofs::DestinationLaws::sifting))]
+fn seen_king_destinations(p: &Position, seen: &Board, from: Square, destinations: u128) -> u128
+    requires king { is_king p.now.side (piece_at p.now.cells from) ≡ true }
+    requires seen { (n : ℕ) → n < 81 → ShowsAttack p.now seen.now from n }
+    requires lone { HasNoOtherKing p.now.cells p.now.side from }
+    requires fits { destinations < 2 ^ 81 }
+    ensures bits { AreUncheckedDestinations p.now from destinations result }
+    ensures fits { result < 2 ^ 81 }
+{
+    let mut left = destinations;
+    let mut kept = destinations;
+    while left != 0 {
+        let to = lowest(left);
+        if !is_king_safe(p, seen, from, Square::of_index(to)) {
+            kept = cleared(kept, to);
+        }
+        left = without_lowest(left, to);
+    }
+    kept
+}
+
+/// Those of the destinations on which the only king of the side to move is unattacked. Out of
+/// check, it stands in no piece's way; in check, the board is seen with the king lifted off its
+/// square.
+fn king_destinations(p: &Position, checked: bool, from: Square, destinations: u128) -> u128
+    requires king { is_king p.now.side (piece_at p.now.cells from) ≡ true }
+    requires checked { checked ≡ in_check p.now.cells p.now.side }
+    requires lone { HasNoOtherKing p.now.cells p.now.side from }
+    requires fits { destinations < 2 ^ 81 }
+    ensures bits { AreUncheckedDestinations p.now from destinations result }
+    ensures fits { result < 2 ^ 81 }
+{
+    p.validity();
+    from.validity();
+    if !checked {
+        return seen_king_destinations(p, p.as_board(), from, destinations);
+    }
+    let mut lifted = *p.as_board();
+    lifted.set(from, None);
+    seen_king_destinations(p, &lifted, from, destinations)
+}
+
+/// Those of the destinations that leave the king unattacked, for a piece that may leave it
+/// attacked.
+#[inline(never)]
+#[tactic(auto, using(crate::proofs::DestinationLaws::unpinned_destinations))]
+fn may_be_pinned_destinations(
+    p: &Position,
+    info: &CheckInfo,
+    from: Square,
+    destinations: u128,
+) -> u128
+    requires info { IsCheckInfoOf info.now p.now }
+    requires own { is_piece_of p.now.side (piece_at p.now.cells from) ≡ true }
+    requires fits { destinations < 2 ^ 81 }
+    ensures bits { AreUncheckedDestinations p.now from destinations result }
+    ensures fits { result < 2 ^ 81 }
+{
+    p.validity();
+    from.validity();
+    let board = p.as_board();
+    let kings = board.kings(p.side());
+    if has(kings, from.index()) {
+        if cleared(kings, from.index()) == 0 {
+            return king_destinations(p, info.checked, from, destinations);
+        }
+        return tried_destinations(p, from, destinations);
+    }
+    if info.checked {
+        let theirs = board.own(p.side().opponent());
+        return tried_destinations(p, from, destinations & (info.pinned_or_king | theirs));
+    }
+    if is_free(p, from) {
+        return destinations;
+    }
+    tried_destinations(p, from, destinations)
+}
+
+/// Those of the destinations that leave the king unattacked. Most pieces may end anywhere, and are
+/// told at once.
+#[tactic(auto, using(crate::proofs::DestinationLaws::unpinned_destinations))]
+fn safe_destinations(p: &Position, info: &CheckInfo, from: Square, destinations: u128) -> u128
+    requires info { IsCheckInfoOf info.now p.now }
+    requires own { is_piece_of p.now.side (piece_at p.now.cells from) ≡ true }
+    requires fits { destinations < 2 ^ 81 }
+    ensures bits { AreUncheckedDestinations p.now from destinations result }
+    ensures fits { result < 2 ^ 81 }
+{
+    p.validity();
+    from.validity();
+    if is_unpinned(info, from) {
+        return destinations;
+    }
+    may_be_pinned_destinations(p, info, from, destinations)
+}
+
+/// The destinations of a piece without and with promotion, by the rules on promotion. Most pieces
+/// neither begin nor end in the zone in which they promote, and are told at once.
+#[inline(always)]
+#[tactic(auto, using(crate::proofs::DestinationLaws::promoting))]
+fn with_promotions(cell: Option<Piece>, from: Square, destinations: u128) -> Destinations
+    requires { destinations < 2 ^ 81 }
+    ensures plain { HasBits result.plain (λ n. has_bit destinations n && not (is_immobile n cell)) }
+    ensures promoting { HasBits result.promoting
+        (λ n. has_bit destinations n && may_promote cell from n) }
+    ensures plain_fits { result.plain < 2 ^ 81 }
+    ensures promoting_fits { result.promoting < 2 ^ 81 }
+{
+    let zone = promoting_squares(cell, from);
+    if zone == 0 || destinations & zone == 0 {
+        return Destinations {
+            plain: destinations,
+            promoting: 0,
+        };
+    }
+    Destinations {
+        plain: destinations & !dead_squares(cell),
+        promoting: destinations & zone,
+    }
+}
+
+/// The squares on which no piece of the side to move stands.
+#[tactic(auto, using(crate::proofs::DestinationLaws::entering_bits))]
+pub fn enterable(p: &Position) -> u128
+    ensures { HasBits result (λ n. not (is_piece_of p.now.side (piece_at p.now.cells n))) }
+{
+    !p.as_board().own(p.side())
+}
+
+/// The legal destinations of one of the pieces of the side to move among squares that it reaches
+/// and on which no other one stands.
+#[inline(always)]
+#[tactic(auto, using(crate::proofs::DestinationLaws::legal_sets))]
+pub fn legal_destinations(p: &Position, info: &CheckInfo, from: Square, among: u128) -> Destinations
+    requires info { IsCheckInfoOf info.now p.now }
+    requires own { is_piece_of p.now.side (piece_at p.now.cells from) ≡ true }
+    requires among { AreEnterable p.now from among }
+    requires fits { among < 2 ^ 81 }
+    ensures plain { AreLegalDestinations p.now from false among result.plain }
+    ensures promoting { AreLegalDestinations p.now from true among result.promoting }
+    ensures plain_fits { result.plain < 2 ^ 81 }
+    ensures promoting_fits { result.promoting < 2 ^ 81 }
+{
+    p.validity();
+    from.validity();
+    if among == 0 {
+        return Destinations {
+            plain: 0,
+            promoting: 0,
+        };
+    }
+    let destinations = safe_destinations(p, info, from, among);
+    with_promotions(p.at(from), from, destinations)
+}
+
+/// Where one of the held pieces may be dropped by the rules on drops, apart from checks.
+#[tactic(auto, using(crate::proofs::DestinationLaws::dropping))]
+fn pseudo_legal_drops(p: &Position, kind: Kind) -> u128
+    ensures bits { HasBits result (is_pseudo_legal_drop p.now.cells p.now.hands p.now.side kind) }
+    ensures fits { result < 2 ^ 81 }
+{
+    let side = p.side();
+    if p.hand(side, kind) == 0 {
+        return 0;
+    }
+    let destinations = p.as_board().free() & !dead_squares(dropped(side, kind));
+    if is_pawn_kind(kind) {
+        destinations & !pawn_files(p, side)
+    } else {
+        destinations
+    }
+}
+
+/// Those of the destinations of a drop that leave the king unattacked, each of them tried.
+#[inline(never)]
+#[tactic(auto, using(crate::proofs::DestinationLaws::sifting))]
+fn tried_drops(p: &Position, kind: Kind, destinations: u128) -> u128
+    requires { destinations < 2 ^ 81 }
+    ensures bits { HasBits result
+        (λ n. has_bit destinations n && is_unchecked p.now (moves.Drop kind n)) }
+    ensures fits { result < 2 ^ 81 }
+{
+    let mut left = destinations;
+    let mut kept = destinations;
+    while left != 0 {
+        let to = lowest(left);
+        let m = Move::Drop {
+            kind,
+            to: Square::of_index(to),
+        };
+        if !is_unchecked(p, &m) {
+            kept = cleared(kept, to);
+        }
+        left = without_lowest(left, to);
+    }
+    kept
+}
+
+/// Where one of the held pieces may be dropped, apart from mate by a pawn.
+#[inline(always)]
+#[tactic(auto, using(crate::proofs::DestinationLaws::safe_dropping))]
+pub fn safe_drops(p: &Position, info: &CheckInfo, kind: Kind) -> u128
+    requires info { IsCheckInfoOf info.now p.now }
+    ensures bits { HasBits result (λ n. is_safe p.now (moves.Drop kind n)) }
+    ensures fits { result < 2 ^ 81 }
+{
+    p.validity();
+    let destinations = pseudo_legal_drops(p, kind);
+    if info.checked {
+        tried_drops(p, kind, destinations & info.pinned_or_king)
+    } else {
+        destinations
+    }
+}
+
+/// The squares from which a pawn of the side to move would attack a king of the other side.
+#[tactic(auto, using(crate::proofs::DropChecks::facing))]
+fn facing_squares(p: &Position) -> u128
+    ensures fits { result < 2 ^ 81 }
+    ensures far { (n : ℕ) → n < 81 → has_bit result n ≡ false
+        → not (is_pawn_drop_mate p.now (moves.Drop kinds.Pawn n)) ≡ true }
+{
+    p.validity();
+    let opponent = p.side().opponent();
+    let pawn = Piece {
+        color: opponent,
+        role: Role::Pawn,
+    };
+    let mut left = p.as_board().kings(opponent);
+    let mut faces = 0;
+    while left != 0 {
+        let king = lowest(left);
+        faces |= step_squares(pawn, king);
+        left = without_lowest(left, king);
+    }
+    faces
+}
+
+/// Those of the safe drops of a pawn that do not mate; those that face a king are tried.
+#[tactic(auto, using(crate::proofs::DestinationLaws::sifting))]
+fn non_mating_drops(p: &Position, destinations: u128) -> u128
+    requires fits { destinations < 2 ^ 81 }
+    requires safe { HasBits destinations (λ n. is_safe p.now (moves.Drop kinds.Pawn n)) }
+    ensures bits { HasBits result (λ n.
+        has_bit destinations n && not (is_pawn_drop_mate p.now (moves.Drop kinds.Pawn n))) }
+    ensures fits { result < 2 ^ 81 }
+{
+    let mut left = destinations & facing_squares(p);
+    let mut kept = destinations;
+    while left != 0 {
+        let to = lowest(left);
+        let m = Move::Drop {
+            kind: Kind::Pawn,
+            to: Square::of_index(to),
+        };
+        if is_pawn_drop_mate(p, &m) {
+            kept = cleared(kept, to);
+        }
+        left = without_lowest(left, to);
+    }
+    kept
+}
+
+/// Where one of the held pieces may legally be dropped.
+#[inline(always)]
+#[tactic(auto, using(crate::proofs::DestinationLaws::legal_dropping))]
+pub fn drop_destinations(p: &Position, info: &CheckInfo, kind: Kind) -> u128
+    requires info { IsCheckInfoOf info.now p.now }
+    ensures bits { HasBits result (λ n. is_matching p.now false (code_of (moves.Drop kind n))) }
+    ensures fits { result < 2 ^ 81 }
+{
+    let destinations = safe_drops(p, info, kind);
+    match kind {
+        Kind::Pawn => non_mating_drops(p, destinations),
+        _ => destinations,
+    }
+}
