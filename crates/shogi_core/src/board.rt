@@ -1,7 +1,7 @@
 //! The board: what stands on each square.
 
 ghost use Rattle.std.specs.Prelude.{◌≡◌, ◌<◌, ◌^◌, ℕ, length, slice_set, cond, ◌==◌, not, is_none};
-ghost use Rattle.shogi_core.specs.Bits.{HasBits, has_bit, mask_below};
+ghost use Rattle.shogi_core.specs.Bits.{HasBits, has_bit};
 ghost use Rattle.shogi_core.specs.Cell.{is_piece_of, is_king, is_slider};
 ghost use Rattle.shogi_core.specs.Masks.{own_of, kings_of, sliders_of, is_any_king};
 ghost use Rattle.shogi_core.specs.Movement.{piece_at};

@@ -1,10 +1,10 @@
 //! Slides by masks.
 
-ghost use Rattle.std.specs.Prelude.{◌≡◌, ◌≢◌, ◌<◌, ◌≤◌, ◌^◌, ◌&&◌, ℕ, not, true, false, is_none};
+ghost use Rattle.std.specs.Prelude.{◌<◌, ◌≤◌, ◌^◌};
 ghost use Rattle.shogi_core.specs.Bits.{HasBits};
 ghost use Rattle.shogi_core.specs.Lines.{are_aligned};
-ghost use Rattle.shogi_core.specs.Movement.{piece_at, slides};
-ghost use Rattle.shogi_core.specs.Rays.{ray_of, direction_at};
+ghost use Rattle.shogi_core.specs.Movement.{slides};
+ghost use Rattle.shogi_core.specs.Rays.{direction_at};
 
 use crate::bits::{highest, up_to_lowest};
 use crate::board::Board;

@@ -1,7 +1,7 @@
 //! The opening position.
 
 ghost use Rattle.std.specs.Prelude.{◌≡◌};
-ghost use Rattle.shogi_core.specs.Start.{start, start_cells};
+ghost use Rattle.shogi_core.specs.Start.{start};
 
 use crate::board::Board;
 use crate::hands::Hands;

@@ -1,6 +1,6 @@
 //! Where steps and jumps from each square lead.
 
-ghost use Rattle.std.specs.Prelude.{◌≡◌, ◌<◌, ◌^◌, ℕ};
+ghost use Rattle.std.specs.Prelude.{◌≡◌, ◌<◌, ◌^◌};
 ghost use Rattle.shogi_core.specs.Bits.{HasBits};
 ghost use Rattle.shogi_core.specs.Movement.{steps_of, has_step};
 ghost use Rattle.shogi_core.specs.Steps.{steps_at, color_number};

@@ -2,7 +2,7 @@
 
 ghost use Rattle.std.specs.Prelude.{◌≡◌, ◌<◌, ◌^◌, Some};
 ghost use Rattle.shogi_core.specs.Bits.{HasBits};
-ghost use Rattle.shogi_core.specs.Movement.{reaches, cell_reaches, has_slide, slides, straight, diagonal, forward, is_slide};
+ghost use Rattle.shogi_core.specs.Movement.{reaches, cell_reaches, has_slide, straight, diagonal, forward, is_slide};
 
 use crate::bits::has;
 use crate::board::Board;

@@ -260,9 +260,10 @@ dropped_plain side kind = go (is_same_color side side) (role_plain kind)
     go true e = e
     go false e = refl
 
-pub quiet_drop : (cells : Cells) (side : Color) (kind : Kind) (to : ℕ) → length cells ≡ 81 → to < 81 → in_check cells side ≡ false → in_check (cells_after cells side (Drop kind to)) side ≡ false
-quiet_drop cells side kind to len ht safe =
-    check_was cells (set cells to (dropped side kind)) (λ x. ⊥)
+-- from a board that is the same but for the square of the drop
+dropped_over : (old cells : Cells) (side : Color) (kind : Kind) (to : ℕ) → length cells ≡ 81 → to < 81 → ((x : ℕ) → x ≢ to → piece_at cells x ≡ piece_at old x) → in_check old side ≡ false → in_check (cells_after cells side (Drop kind to)) side ≡ false
+dropped_over old cells side kind to len ht beside safe =
+    check_was old (set cells to (dropped side kind)) (λ x. ⊥)
     (λ x e. elim (look x) [
       | inl there ↦ absurd (let clash : false ≡ true = ap is_none (sym there) ∙ e in cc)
       | inr same ↦ inl (ap is_none (sym same) ∙ e)
@@ -279,11 +280,27 @@ quiet_drop cells side kind to len ht safe =
     (λ x left. absurd left)
     safe
   where
-    look : (x : ℕ) → (piece_at (set cells to (dropped side kind)) x ≡ dropped side kind) ⊎ (piece_at (set cells to (dropped side kind)) x ≡ piece_at cells x)
+    look : (x : ℕ) → (piece_at (set cells to (dropped side kind)) x ≡ dropped side kind) ⊎ (piece_at (set cells to (dropped side kind)) x ≡ piece_at old x)
     look x = elim (cases_eq x to) [
       | inl there ↦ inl (rw there (get_or-set_same cells to (dropped side kind) None (omega arith)))
-      | inr other ↦ inr (get_or-set_other cells to x (dropped side kind) None other)
+      | inr other ↦ inr (get_or-set_other cells to x (dropped side kind) None other ∙ beside x other)
     ]
+
+pub quiet_drop : (cells : Cells) (side : Color) (kind : Kind) (to : ℕ) → length cells ≡ 81 → to < 81 → in_check cells side ≡ false → in_check (cells_after cells side (Drop kind to)) side ≡ false
+quiet_drop cells side kind to len ht safe = dropped_over cells cells side kind to len ht (λ x other. refl) safe
+
+-- whether a drop leaves a check, its kind does not tell
+pub same_drop : (cells : Cells) (side : Color) (a b : Kind) (to : ℕ) → length cells ≡ 81 → to < 81 → in_check (cells_after cells side (Drop a to)) side ≡ in_check (cells_after cells side (Drop b to)) side
+same_drop cells side a b to len ht = agree _ _ (over a b) (over b a)
+  where
+    over : (a b : Kind) → in_check (cells_after cells side (Drop a to)) side ≡ false → in_check (cells_after cells side (Drop b to)) side ≡ false
+    over a b safe = dropped_over (set cells to (dropped side a)) cells side b to len ht (λ x other. sym (get_or-set_other cells to x (dropped side a) None other)) safe
+
+    agree : (x y : Bool) → (x ≡ false → y ≡ false) → (y ≡ false → x ≡ false) → x ≡ y
+    agree true true f g = refl
+    agree false false f g = refl
+    agree true false f g = g refl
+    agree false true f g = sym (f refl)
 
 -- the same of a drop
 pub stays_drop : (cells : Cells) (side : Color) (kind : Kind) (to : ℕ) → is_none (piece_at cells to) ≡ true → is_lined_with_king cells side to ≡ false → in_check cells side ≡ true → in_check (cells_after cells side (Drop kind to)) side ≡ true
@@ -319,15 +336,6 @@ pub unpinned_safe : (p : Shogi) (checked : Bool) (pinned_or_king from to : ℕ) 
     → in_check (cells_after p.cells p.side (Board from to promote)) p.side ≡ false
 unpinned_safe p checked pinned_or_king from to promote g len hf ht own unpinned off =
     filled (set p.cells from None) p.side to (piece_moved promote (piece_at p.cells from)) (length-set p.cells from None ∙ len) ht (is_piece_of-piece_moved p.side promote (piece_at p.cells from) ∙ own) (is_king-piece_moved p.side promote (piece_at p.cells from) ∙ g.kings from hf off) (g.free unpinned from hf off own)
-
-pub quiet_drop_safe : (p : Shogi) (checked : Bool) (pinned_or_king to : ℕ) (kind : Kind) → IsCheckInfo p checked pinned_or_king → length p.cells ≡ 81 → to < 81 → checked ≡ false
-    → is_pseudo_legal_drop p.cells p.hands p.side kind to ≡ is_safe p (Drop kind to)
-unfolding is_safe
-quiet_drop_safe p checked pinned_or_king to kind g len ht unpinned = go (is_pseudo_legal_drop p.cells p.hands p.side kind to)
-  where
-    go : (right : Bool) → right ≡ (right && not (in_check (cells_after p.cells p.side (Drop kind to)) p.side))
-    go false = refl
-    go true = sym (ap not (quiet_drop p.cells p.side kind to len ht (sym g.check ∙ unpinned)))
 
 pub king_lines_fit : (a b : ℕ) → a < 2 ^ 81 → b < 2 ^ 81 → bit_or a b < 2 ^ 81
 king_lines_fit a b h l = or_lt 81 a b h l

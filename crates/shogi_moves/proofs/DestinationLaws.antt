@@ -25,11 +25,11 @@ use Rattle.shogi_core.proofs.CodesBack.{move_of-board, move_of-drop}
 use Rattle.shogi_core.proofs.LineBits.{has_bit-not, and_fits}
 use Rattle.shogi_moves.specs.After.{piece_moved, cells_after, dropped}
 use Rattle.shogi_moves.specs.Captures.{captures, matches, is_matching}
-use Rattle.shogi_moves.specs.Destinations.{is_destination, is_unchecked, Sifts}
+use Rattle.shogi_moves.specs.Destinations.{is_destination, is_unchecked, Sifts, AreDropSquares}
 use Rattle.shogi_moves.specs.CheckInfo.{IsCheckInfo}
 use Rattle.shogi_moves.specs.Legal.{is_safe, is_legal, is_legal_code, is_pseudo_legal_board_move, may_promote, is_promotable, in_promotion_zone, is_pseudo_legal_drop, is_pawn_kind, is_pawn_drop_mate}
 use Rattle.shogi_moves.proofs.CaptureLaws.{matches_kind_of}
-use Rattle.shogi_moves.proofs.CheckInfoLaws.{unpinned_safe, filled, stays_set, stays_drop, quiet_drop_safe, unpinned_parts}
+use Rattle.shogi_moves.proofs.CheckInfoLaws.{unpinned_safe, filled, quiet_drop, same_drop, stays_set, stays_drop, unpinned_parts}
 use Rattle.shogi_moves.proofs.LegalLaws.{is_legal_code_of}
 use Rattle.shogi_moves.proofs.MovedPieces.{is_king-piece_moved}
 
@@ -187,13 +187,6 @@ pub no_answer : (p : Shogi) (checked : Bool) (pinned_or_king others from n : ℕ
     → has_bit others n ≡ is_piece_of (opponent_of p.side) (piece_at p.cells n) → has_bit pinned_or_king n ≡ false → has_bit others n ≡ false → is_unchecked p (Board from n false) ≡ false
 no_answer p checked pinned_or_king others from n g c len hf hn own plain o out none =
     ap not (stays_set p.cells p.side from n (piece_moved false (piece_at p.cells from)) len hf hn own plain (sym o ∙ none) (g.kings n hn out) (g.lines c n hn out) (sym g.check ∙ c))
-
-pub no_answer_drop : (p : Shogi) (checked : Bool) (pinned_or_king destinations n : ℕ) (kind : Kind) → IsCheckInfo p checked pinned_or_king → checked ≡ true → n < 81 → has_bit destinations n ≡ is_pseudo_legal_drop p.cells p.hands p.side kind n → has_bit destinations n ≡ true → has_bit pinned_or_king n ≡ false → is_unchecked p (Drop kind n) ≡ false
-no_answer_drop p checked pinned_or_king destinations n kind g c hn r e out =
-    let three = and_parts _ _ (sym r ∙ e) in
-    let two = and_parts _ _ three.0 in
-    let one = and_parts _ _ two.0 in
-    ap not (stays_drop p.cells p.side kind n one.1 (g.lines c n hn out) (sym g.check ∙ c))
 
 pub ruleset unpinned_destinations = (unpinned_kept, free_kept, and_fits)
 
@@ -506,40 +499,62 @@ matching_board p capture promote from to len hf ht own =
 
 -- ---- drops
 
-four : (a b c d : Bool) → a ≡ true → ((b && c) && d) ≡ (((a && b) && c) && d)
-four a b c d e = rw e refl
+-- ---- the squares of drops
 
-first_fails : (a b c d : Bool) → a ≡ false → false ≡ (((a && b) && c) && d)
-first_fails a b c d e = rw e refl
+pub squares_free : (p : Shogi) (checked : Bool) (pinned_or_king free : ℕ) → IsCheckInfo p checked pinned_or_king → length p.cells ≡ 81 → checked ≡ false → ((n : ℕ) → n < 81 → has_bit free n ≡ is_none (piece_at p.cells n)) → free < 2 ^ 81 → AreDropSquares p free
+squares_free p checked pinned_or_king free g len quiet f fits = record {
+  bits = λ kind some n h.
+      f n h
+      ∙ (sym (alone (is_none (piece_at p.cells n))) ∙ ap (λ (u : Bool). is_none (piece_at p.cells n) && u) (sym (ap not (quiet_drop p.cells p.side kind n len h (sym g.check ∙ quiet)))));
+  fits = fits;
+}
 
-pub right_none : (p : Shogi) (kind : Kind) (n : ℕ) → count_in_hand p.hands p.side kind ≡ 0 → has_bit 0 n ≡ is_pseudo_legal_drop p.cells p.hands p.side kind n
-right_none p kind n e = has_bit-none n ∙ (rw e refl)
+pub squares_tried : (p : Shogi) (checked : Bool) (pinned_or_king free kept : ℕ) → IsCheckInfo p checked pinned_or_king → length p.cells ≡ 81 → checked ≡ true → ((n : ℕ) → n < 81 → has_bit free n ≡ is_none (piece_at p.cells n))
+    → ((n : ℕ) → n < 81 → has_bit kept n ≡ (has_bit (bit_and free pinned_or_king) n && is_unchecked p (Drop kinds.Pawn n))) → kept < 2 ^ 81 → AreDropSquares p kept
+squares_tried p checked pinned_or_king free kept g len check f k fits = record {
+  bits = λ kind some n h.
+      k n h
+      ∙ narrowed_drops free pinned_or_king n (is_unchecked p (Drop kinds.Pawn n)) (λ e out. ap not (stays_drop p.cells p.side kinds.Pawn n (sym (f n h) ∙ e) (g.lines check n h out) (sym g.check ∙ check)))
+      ∙ ap (λ (b : Bool). b && is_unchecked p (Drop kinds.Pawn n)) (f n h)
+      ∙ ap (λ (c : Bool). is_none (piece_at p.cells n) && not c) (same_drop p.cells p.side kinds.Pawn kind n len h);
+  fits = fits;
+}
 
-pub right_pawn : (p : Shogi) (kind : Kind) (free dead files n : ℕ) → n < 81 → 0 < count_in_hand p.hands p.side kind → is_pawn_kind kind ≡ true → has_bit free n ≡ is_none (piece_at p.cells n) → dead < 2 ^ 81 → has_bit dead n ≡ is_immobile n (dropped p.side kind)
-    → files < 2 ^ 81 → has_bit files n ≡ nat_lt 0 (pawns_on_file p.side (n / 9) p.cells)
-    → has_bit (bit_and (bit_and free (2 ^ 128 - 1 - dead)) (2 ^ 128 - 1 - files)) n ≡ is_pseudo_legal_drop p.cells p.hands p.side kind n
-right_pawn p kind free dead files n h some pawn f df d ff b =
-    has_bit-and (bit_and free (2 ^ 128 - 1 - dead)) (2 ^ 128 - 1 - files) n
-    ∙ (rw (has_bit-and free (2 ^ 128 - 1 - dead) n, has_bit-not dead n (omega arith) (omega arith), has_bit-not files n (omega arith) (omega arith), f, d, b, pawn)
-    (four (nat_lt 0 (count_in_hand p.hands p.side kind)) (is_none (piece_at p.cells n)) (not (is_immobile n (dropped p.side kind))) (not (nat_lt 0 (pawns_on_file p.side (n / 9) p.cells))) (lt-ltb 0 (count_in_hand p.hands p.side kind) some)))
+five : (a b u c d : Bool) → a ≡ true → (((b && u) && c) && d) ≡ ((((a && b) && c) && d) && u)
+five a b u c d e = rw e (go b u c d)
+  where
+    go : (b u c d : Bool) → (((b && u) && c) && d) ≡ (((b && c) && d) && u)
+    go false u c d = refl
+    go true true true true = refl
+    go true true true false = refl
+    go true true false d = refl
+    go true false true true = refl
+    go true false true false = refl
+    go true false false d = refl
 
-pub right_other : (p : Shogi) (kind : Kind) (free dead n : ℕ) → n < 81 → 0 < count_in_hand p.hands p.side kind → is_pawn_kind kind ≡ false → has_bit free n ≡ is_none (piece_at p.cells n) → dead < 2 ^ 81 → has_bit dead n ≡ is_immobile n (dropped p.side kind)
-    → has_bit (bit_and free (2 ^ 128 - 1 - dead)) n ≡ is_pseudo_legal_drop p.cells p.hands p.side kind n
-right_other p kind free dead n h some other f df d =
-    has_bit-and free (2 ^ 128 - 1 - dead) n
-    ∙ (rw (has_bit-not dead n (omega arith) (omega arith), f, d, other)
-    (sym (alone (is_none (piece_at p.cells n) && not (is_immobile n (dropped p.side kind)))) ∙ four (nat_lt 0 (count_in_hand p.hands p.side kind)) (is_none (piece_at p.cells n)) (not (is_immobile n (dropped p.side kind))) true (lt-ltb 0 (count_in_hand p.hands p.side kind) some)))
-
-pub ruleset dropping = (right_none, right_pawn, right_other, and_fits)
-
-pub safe_tried : (p : Shogi) (kind : Kind) (n a destinations : ℕ) → has_bit destinations n ≡ is_pseudo_legal_drop p.cells p.hands p.side kind n → has_bit a n ≡ (has_bit destinations n && is_unchecked p (Drop kind n)) → has_bit a n ≡ is_safe p (Drop kind n)
+pub drops_none : (p : Shogi) (kind : Kind) (n : ℕ) → count_in_hand p.hands p.side kind ≡ 0 → has_bit 0 n ≡ is_safe p (Drop kind n)
 unfolding is_safe
-safe_tried p kind n a destinations r e = e ∙ (rw r refl)
+drops_none p kind n e = has_bit-none n ∙ (rw e refl)
 
-pub safe_unpinned : (p : Shogi) (checked : Bool) (pinned_or_king n destinations : ℕ) (kind : Kind) → IsCheckInfo p checked pinned_or_king → length p.cells ≡ 81 → n < 81 → checked ≡ false → has_bit destinations n ≡ is_pseudo_legal_drop p.cells p.hands p.side kind n → has_bit destinations n ≡ is_safe p (Drop kind n)
-safe_unpinned p checked pinned_or_king n destinations kind g len h unpinned r = r ∙ quiet_drop_safe p checked pinned_or_king n kind g len h unpinned
+pub drops_pawn : (p : Shogi) (kind : Kind) (squares dead files n : ℕ) → n < 81 → 0 < count_in_hand p.hands p.side kind → is_pawn_kind kind ≡ true → AreDropSquares p squares → dead < 2 ^ 81 → has_bit dead n ≡ is_immobile n (dropped p.side kind)
+    → files < 2 ^ 81 → has_bit files n ≡ nat_lt 0 (pawns_on_file p.side (n / 9) p.cells)
+    → has_bit (bit_and (bit_and squares (2 ^ 128 - 1 - dead)) (2 ^ 128 - 1 - files)) n ≡ is_safe p (Drop kind n)
+unfolding is_safe
+drops_pawn p kind squares dead files n h some pawn s df d ff b =
+    has_bit-and (bit_and squares (2 ^ 128 - 1 - dead)) (2 ^ 128 - 1 - files) n
+    ∙ (rw (has_bit-and squares (2 ^ 128 - 1 - dead) n, has_bit-not dead n (omega arith) (omega arith), has_bit-not files n (omega arith) (omega arith), s.bits kind some n h, d, b, pawn)
+    (five (nat_lt 0 (count_in_hand p.hands p.side kind)) (is_none (piece_at p.cells n)) (is_unchecked p (Drop kind n)) (not (is_immobile n (dropped p.side kind))) (not (nat_lt 0 (pawns_on_file p.side (n / 9) p.cells))) (lt-ltb 0 (count_in_hand p.hands p.side kind) some)))
 
-pub ruleset safe_dropping = (safe_tried, safe_unpinned)
+pub drops_other : (p : Shogi) (kind : Kind) (squares dead n : ℕ) → n < 81 → 0 < count_in_hand p.hands p.side kind → is_pawn_kind kind ≡ false → AreDropSquares p squares → dead < 2 ^ 81 → has_bit dead n ≡ is_immobile n (dropped p.side kind)
+    → has_bit (bit_and squares (2 ^ 128 - 1 - dead)) n ≡ is_safe p (Drop kind n)
+unfolding is_safe
+drops_other p kind squares dead n h some other s df d =
+    has_bit-and squares (2 ^ 128 - 1 - dead) n
+    ∙ (rw (has_bit-not dead n (omega arith) (omega arith), s.bits kind some n h, d, other)
+    (sym (alone ((is_none (piece_at p.cells n) && is_unchecked p (Drop kind n)) && not (is_immobile n (dropped p.side kind))))
+    ∙ five (nat_lt 0 (count_in_hand p.hands p.side kind)) (is_none (piece_at p.cells n)) (is_unchecked p (Drop kind n)) (not (is_immobile n (dropped p.side kind))) true (lt-ltb 0 (count_in_hand p.hands p.side kind) some)))
+
+pub ruleset safe_dropping = (drops_none, drops_pawn, drops_other, and_fits)
 
 pub legal_drop : (p : Shogi) (kind : Kind) (n : ℕ) → n < 81 → is_matching p false (code_of (Drop kind n)) ≡ (is_safe p (Drop kind n) && not (is_pawn_drop_mate p (Drop kind n)))
 unfolding is_legal

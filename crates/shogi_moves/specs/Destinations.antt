@@ -1,16 +1,17 @@
 -- Where a piece may end.
-use Rattle.std.specs.Prelude.{ℕ, ◌≡◌, ◌<◌, ◌&&◌, ◌||◌, Bool, true, false, not, Option, None, is_none, slice_set}
+use Rattle.std.specs.Prelude.{ℕ, ◌≡◌, ◌<◌, ◌^◌, ◌&&◌, ◌||◌, Bool, true, false, not, Option, None, is_none, slice_set}
 use Rattle.shogi_core.specs.declared.piece.Color.{Color}
+use Rattle.shogi_core.specs.declared.piece.Kind.{Kind}
 use Rattle.shogi_core.specs.declared.piece.Piece.{Piece}
 use Rattle.shogi_core.specs.declared.moves.Move.{Move}
-use Rattle.shogi_core.specs.declared.moves.Move.TheVariants.{Board}
+use Rattle.shogi_core.specs.declared.moves.Move.TheVariants.{Board, Drop}
 use Rattle.shogi_core.specs.Attack.{in_check, is_attacked}
 use Rattle.shogi_core.specs.Bits.{HasBits, has_bit}
 use Rattle.shogi_core.specs.Cell.{is_piece_of}
 use Rattle.shogi_core.specs.Codes.{code_of}
 use Rattle.shogi_core.specs.Movement.{Cells, piece_at, reaches}
 use Rattle.shogi_core.specs.Pieces.{opponent_of}
-use Rattle.shogi_core.specs.Position.{Shogi}
+use Rattle.shogi_core.specs.Position.{Shogi, count_in_hand}
 use Rattle.shogi_moves.specs.After.{cells_after}
 use Rattle.shogi_moves.specs.Legal.{is_legal_code}
 
@@ -32,6 +33,12 @@ AreUncheckedDestinations p from destinations mask =
 abbrev pub AreLegalDestinations : Shogi → ℕ → Bool → ℕ → ℕ → Type 0
 AreLegalDestinations p from promote destinations mask =
     HasBits mask (λ n. has_bit destinations n && is_legal_code p (code_of (Board from n promote)))
+
+-- for each kind that the side to move holds, the mask has the empty squares on which it leaves the king unattacked
+pub record AreDropSquares (p : Shogi) (mask : ℕ) : Type 0 where
+  pub bits : (kind : Kind) → 0 < count_in_hand p.hands p.side kind
+      → HasBits mask (λ n. is_none (piece_at p.cells n) && is_unchecked p (Drop kind n))
+  pub fits : mask < 2 ^ 81
 
 -- the piece reaches each square of the mask, and none of the side to move stands there
 abbrev pub AreEnterable : Shogi → ℕ → ℕ → Type 0

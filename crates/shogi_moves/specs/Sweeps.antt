@@ -12,6 +12,7 @@ use Rattle.shogi_moves.specs.declared.sweep.DropSweep.{DropSweep}
 use Rattle.shogi_moves.specs.After.{after_code}
 use Rattle.shogi_moves.specs.Captures.{matches_kind, is_matching}
 use Rattle.shogi_moves.specs.CheckInfo.{IsCheckInfoOf}
+use Rattle.shogi_moves.specs.Destinations.{AreDropSquares}
 use Rattle.shogi_moves.specs.Legal.{is_legal_code}
 use Rattle.shogi_moves.specs.LegalMoves.{legal_from, legal_codes}
 
@@ -54,7 +55,7 @@ pub record IsBoardSweep (p : Shogi) (capture : Bool) (s : BoardSweep) : Type 0 w
   pub destinations : KeepsBoard p capture s.from s.code s.destinations.plain s.destinations.promoting
 
 pub record IsDropSweep (p : Shogi) (s : DropSweep) : Type 0 where
-  pub info : IsCheckInfoOf s.info p
+  pub squares : AreDropSquares p s.squares
   pub destinations : KeepsDrop p s.kind s.code s.destinations
 
 -- the code is that of a legal move on the board, from a code on, that takes nothing and does not promote, after which the other side has a legal move

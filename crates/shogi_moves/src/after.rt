@@ -1,11 +1,11 @@
 //! The position after a move.
 
-ghost use Rattle.std.specs.Prelude.{◌≡◌, ◌<◌, ◌≤◌, ◌-◌, ◌+◌, true, slice_set};
+ghost use Rattle.std.specs.Prelude.{◌≡◌, ◌<◌, ◌-◌, ◌+◌, true};
 ghost use Rattle.shogi_core.specs.declared.piece.Kind.{Kind};
 ghost use Rattle.shogi_core.specs.declared.moves.Move.TheVariants as moves;
 ghost use Rattle.shogi_core.specs.Attack.{in_check};
 ghost use Rattle.shogi_core.specs.Codes.{code_of};
-ghost use Rattle.shogi_core.specs.Position.{count_in_hand, place_of};
+ghost use Rattle.shogi_core.specs.Position.{count_in_hand};
 ghost use Rattle.shogi_core.specs.Validity.{IsValid};
 ghost use Rattle.shogi_moves.specs.After.{after, after_code, piece_moved, dropped, cells_after, with_captured};
 ghost use Rattle.shogi_moves.specs.Legal.{is_legal, is_safe};

@@ -7,7 +7,7 @@ ghost use Rattle.shogi_moves.specs.CheckInfo.{IsCheckInfoOf};
 
 use crate::after::apply;
 use crate::check_info::{CheckInfo, check_info_of};
-use crate::destinations::{drop_destinations, enterable, legal_destinations};
+use crate::destinations::{drop_destinations, drop_squares, enterable, legal_destinations};
 use crate::sweep::next_kind;
 use crate::walk::Walk;
 use shogi_core::bits::{lowest, without_lowest};
@@ -39,10 +39,11 @@ fn count_drops(p: &Position, info: &CheckInfo) -> u64
     ensures count { result ≡ length (legal_from p.now FIRST_DROP) }
     ensures range { result ≤ MOVE_CODE_COUNT - FIRST_DROP }
 {
+    let squares = drop_squares(p, info);
     let mut kind = Kind::Pawn;
-    let mut total = drop_destinations(p, info, kind).count_ones() as u64;
+    let mut total = drop_destinations(p, squares, kind).count_ones() as u64;
     'kinds: while let Some(next) = next_kind(kind) {
-        total += drop_destinations(p, info, next).count_ones() as u64;
+        total += drop_destinations(p, squares, next).count_ones() as u64;
         kind = next;
     }
     total

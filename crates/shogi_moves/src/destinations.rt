@@ -3,14 +3,15 @@
 ghost use Rattle.std.specs.Prelude.{◌≡◌, ◌<◌, ◌^◌, ◌&&◌, ℕ, not, true, false, None, slice_set};
 ghost use Rattle.shogi_core.specs.declared.moves.Move.TheVariants as moves;
 ghost use Rattle.shogi_core.specs.declared.piece.Kind.TheVariants as kinds;
-ghost use Rattle.shogi_moves.specs.Legal.{is_pseudo_legal_drop, is_safe, is_pawn_drop_mate, may_promote};
+ghost use Rattle.shogi_moves.specs.Legal.{is_safe, is_pawn_drop_mate, may_promote};
 ghost use Rattle.shogi_core.specs.Attack.{in_check};
 ghost use Rattle.shogi_core.specs.Bits.{HasBits, has_bit};
 ghost use Rattle.shogi_core.specs.Cell.{is_piece_of, is_king, is_immobile};
 ghost use Rattle.shogi_core.specs.Codes.{code_of};
 ghost use Rattle.shogi_core.specs.Movement.{piece_at};
+ghost use Rattle.shogi_core.specs.Position.{count_in_hand};
 ghost use Rattle.shogi_moves.specs.Captures.{is_matching};
-ghost use Rattle.shogi_moves.specs.Destinations.{is_destination, is_unchecked, AreUncheckedDestinations, AreLegalDestinations, AreEnterable, ShowsAttack};
+ghost use Rattle.shogi_moves.specs.Destinations.{is_destination, is_unchecked, AreUncheckedDestinations, AreLegalDestinations, AreEnterable, AreDropSquares, ShowsAttack};
 ghost use Rattle.shogi_moves.specs.Escapes.{HasNoOtherKing};
 ghost use Rattle.shogi_moves.specs.CheckInfo.{IsCheckInfoOf};
 
@@ -253,39 +254,21 @@ pub fn legal_destinations(p: &Position, info: &CheckInfo, from: Square, among: u
     with_promotions(p.at(from), from, destinations)
 }
 
-/// Where one of the held pieces may be dropped by the rules on drops, apart from checks.
-#[tactic(auto, using(crate::proofs::DestinationLaws::dropping))]
-fn pseudo_legal_drops(p: &Position, kind: Kind) -> u128
-    ensures bits { HasBits result (is_pseudo_legal_drop p.now.cells p.now.hands p.now.side kind) }
-    ensures fits { result < 2 ^ 81 }
-{
-    let side = p.side();
-    if p.hand(side, kind) == 0 {
-        return 0;
-    }
-    let destinations = p.as_board().free() & !dead_squares(dropped(side, kind));
-    if is_pawn_kind(kind) {
-        destinations & !pawn_files(p, side)
-    } else {
-        destinations
-    }
-}
-
-/// Those of the destinations of a drop that leave the king unattacked, each of them tried.
+/// Those of the squares on which a dropped pawn leaves the king unattacked, each of them tried.
 #[inline(never)]
 #[tactic(auto, using(crate::proofs::DestinationLaws::sifting))]
-fn tried_drops(p: &Position, kind: Kind, destinations: u128) -> u128
-    requires { destinations < 2 ^ 81 }
+fn tried_drops(p: &Position, squares: u128) -> u128
+    requires { squares < 2 ^ 81 }
     ensures bits { HasBits result
-        (λ n. has_bit destinations n && is_unchecked p.now (moves.Drop kind n)) }
+        (λ n. has_bit squares n && is_unchecked p.now (moves.Drop kinds.Pawn n)) }
     ensures fits { result < 2 ^ 81 }
 {
-    let mut left = destinations;
-    let mut kept = destinations;
+    let mut left = squares;
+    let mut kept = squares;
     while left != 0 {
         let to = lowest(left);
         let m = Move::Drop {
-            kind,
+            kind: Kind::Pawn,
             to: Square::of_index(to),
         };
         if !is_unchecked(p, &m) {
@@ -296,18 +279,51 @@ fn tried_drops(p: &Position, kind: Kind, destinations: u128) -> u128
     kept
 }
 
+/// Whether the side to move holds no piece.
+fn holds_none(p: &Position) -> bool
+    ensures { result ≡ true → (kind : Kind) → count_in_hand p.now.hands p.now.side kind ≡ 0 }
+{
+    let side = p.side();
+    p.hand(side, Kind::Pawn) == 0
+        && p.hand(side, Kind::Lance) == 0
+        && p.hand(side, Kind::Knight) == 0
+        && p.hand(side, Kind::Silver) == 0
+        && p.hand(side, Kind::Gold) == 0
+        && p.hand(side, Kind::Bishop) == 0
+        && p.hand(side, Kind::Rook) == 0
+}
+
+/// The empty squares on which a held piece leaves the king unattacked, whatever its kind.
+pub fn drop_squares(p: &Position, info: &CheckInfo) -> u128
+    requires info { IsCheckInfoOf info.now p.now }
+    ensures { AreDropSquares p.now result }
+{
+    p.validity();
+    let free = p.as_board().free();
+    if !info.checked {
+        return free;
+    }
+    if holds_none(p) {
+        return 0;
+    }
+    tried_drops(p, free & info.pinned_or_king)
+}
+
 /// Where one of the held pieces may be dropped, apart from mate by a pawn.
 #[inline(always)]
 #[tactic(auto, using(crate::proofs::DestinationLaws::safe_dropping))]
-pub fn safe_drops(p: &Position, info: &CheckInfo, kind: Kind) -> u128
-    requires info { IsCheckInfoOf info.now p.now }
+pub fn safe_drops(p: &Position, squares: u128, kind: Kind) -> u128
+    requires squares { AreDropSquares p.now squares }
     ensures bits { HasBits result (λ n. is_safe p.now (moves.Drop kind n)) }
     ensures fits { result < 2 ^ 81 }
 {
-    p.validity();
-    let destinations = pseudo_legal_drops(p, kind);
-    if info.checked {
-        tried_drops(p, kind, destinations & info.pinned_or_king)
+    let side = p.side();
+    if p.hand(side, kind) == 0 {
+        return 0;
+    }
+    let destinations = squares & !dead_squares(dropped(side, kind));
+    if is_pawn_kind(kind) {
+        destinations & !pawn_files(p, side)
     } else {
         destinations
     }
@@ -364,12 +380,12 @@ fn non_mating_drops(p: &Position, destinations: u128) -> u128
 /// Where one of the held pieces may legally be dropped.
 #[inline(always)]
 #[tactic(auto, using(crate::proofs::DestinationLaws::legal_dropping))]
-pub fn drop_destinations(p: &Position, info: &CheckInfo, kind: Kind) -> u128
-    requires info { IsCheckInfoOf info.now p.now }
+pub fn drop_destinations(p: &Position, squares: u128, kind: Kind) -> u128
+    requires squares { AreDropSquares p.now squares }
     ensures bits { HasBits result (λ n. is_matching p.now false (code_of (moves.Drop kind n))) }
     ensures fits { result < 2 ^ 81 }
 {
-    let destinations = safe_drops(p, info, kind);
+    let destinations = safe_drops(p, squares, kind);
     match kind {
         Kind::Pawn => non_mating_drops(p, destinations),
         _ => destinations,

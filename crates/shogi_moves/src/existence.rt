@@ -6,7 +6,7 @@ ghost use Rattle.shogi_core.specs.Attack.{in_check};
 ghost use Rattle.shogi_core.specs.Below.{some_below};
 ghost use Rattle.shogi_core.specs.Cell.{is_king};
 ghost use Rattle.shogi_core.specs.Movement.{piece_at};
-ghost use Rattle.shogi_moves.specs.Destinations.{AreEnterable};
+ghost use Rattle.shogi_moves.specs.Destinations.{AreDropSquares, AreEnterable};
 ghost use Rattle.shogi_moves.specs.Escapes.{HasNoOtherKing};
 ghost use Rattle.shogi_moves.specs.CheckInfo.{IsCheckInfoOf};
 ghost use Rattle.shogi_moves.specs.Legal.{is_safe_code};
@@ -14,7 +14,7 @@ ghost use Rattle.shogi_moves.specs.LegalMoves.{legal_from, legal_codes};
 
 use crate::check_info::{CheckInfo, full_check_info, rough_check_info};
 use crate::destinations::{
-    drop_destinations, enterable, is_king_safe, legal_destinations, safe_drops,
+    drop_destinations, drop_squares, enterable, is_king_safe, legal_destinations, safe_drops,
 };
 use crate::sweep::next_kind;
 use shogi_core::bits::{cleared, lowest, without_lowest};
@@ -85,14 +85,14 @@ fn has_board_move(p: &Position, info: &CheckInfo) -> bool
 }
 
 /// Whether a held piece other than a pawn has a legal drop.
-fn has_piece_drop(p: &Position, info: &CheckInfo) -> bool
-    requires { IsCheckInfoOf info.now p.now }
+fn has_piece_drop(p: &Position, squares: u128) -> bool
+    requires { AreDropSquares p.now squares }
     ensures some { result ≡ true → legal_codes p.now ≢ [] }
     ensures none { result ≡ false → legal_from p.now (FIRST_DROP + 81) ≡ [] }
 {
     let mut kind = Kind::Pawn;
     'kinds: while let Some(next) = next_kind(kind) {
-        if safe_drops(p, info, next) != 0 {
+        if safe_drops(p, squares, next) != 0 {
             return true;
         }
         kind = next;
@@ -107,7 +107,7 @@ fn has_other_move(p: &Position, info: &CheckInfo) -> bool
     ensures board { result ≡ false → legal_codes p.now ≡ legal_from p.now FIRST_DROP }
     ensures drops { result ≡ false → legal_from p.now (FIRST_DROP + 81) ≡ [] }
 {
-    has_board_move(p, info) || has_piece_drop(p, info)
+    has_board_move(p, info) || has_piece_drop(p, drop_squares(p, info))
 }
 
 /// Whether some move of a side in check is safe. The king, which most often has a way out, is asked
@@ -123,7 +123,7 @@ pub fn has_safe(p: &Position) -> bool
     if has_other_move(p, &info) {
         return true;
     }
-    safe_drops(p, &info, Kind::Pawn) != 0
+    safe_drops(p, drop_squares(p, &info), Kind::Pawn) != 0
 }
 
 /// Whether a held pawn has a legal drop.
@@ -133,16 +133,17 @@ fn has_pawn_drop(p: &Position, info: &CheckInfo) -> bool
     ensures none { result ≡ false
         → legal_from p.now FIRST_DROP ≡ legal_from p.now (FIRST_DROP + 81) }
 {
-    drop_destinations(p, info, Kind::Pawn) != 0
+    drop_destinations(p, drop_squares(p, info), Kind::Pawn) != 0
 }
 
 /// Whether some move is legal. Drops are looked for first where no check is to be answered: their
-/// destinations need no look at the pieces on the board. Then the king, which most often has a way out.
+/// destinations need no look at the pieces on the board. Then the king, which most often has a way
+/// out.
 pub fn has_legal(p: &Position) -> bool
     ensures { IsTrue result ↔ (legal_codes p.now ≢ []) }
 {
     let rough = rough_check_info(p);
-    if !rough.checked && has_piece_drop(p, &rough) {
+    if !rough.checked && has_piece_drop(p, drop_squares(p, &rough)) {
         return true;
     }
     if has_king_move(p) {

@@ -1,13 +1,14 @@
 //! Attacks, legal moves, the position after a move, and counting sequences of legal moves.
 //!
 //! A move is found in `destinations`: the legal destinations of a piece and the drops of a kind, as
-//! masks. `sweep` goes through them for the search, `next` and `walk` for everyone else, `existence`
-//! up to the first one. `movers` leaves out, before their destinations are looked for, pieces that
-//! surely take nothing. A move is tested in `legal`, by the rules one after another, and made in
-//! `after`. A check is found by `Board::in_check` of `shogi_core`; `check_info` keeps it, with the
-//! pieces of `Board::pinned`, so that few moves need another look. Whether a move gives check is asked
-//! of the position after it; that it gives none, or can be answered, `replies` and `escapes` tell of
-//! most moves before they are made, and `threats` what the other side may take after them.
+//! masks. `sweep` goes through them for the search, `next` and `walk` for everyone else,
+//! `existence` up to the first one. `movers` leaves out, before their destinations are looked for,
+//! pieces that surely take nothing. A move is tested in `legal`, by the rules one after another,
+//! and made in `after`. A check is found by `Board::in_check` of `shogi_core`; `check_info` keeps
+//! it, with the pieces of `Board::pinned`, so that few moves need another look. Whether a move
+//! gives check is asked of the position after it; that it gives none, or can be answered, `replies`
+//! and `escapes` tell of most moves before they are made, and `threats` what the other side may
+//! take after them.
 #![tactic(auto)]
 
 mod after;

@@ -1,5 +1,5 @@
-//! The pieces that may have a move of a kind, and those whose moves give the other side no check and cannot
-//! promote, found all at once.
+//! The pieces that may have a move of a kind, and those whose moves give the other side no check
+//! and cannot promote, found all at once.
 
 ghost use Rattle.std.specs.Prelude.{◌≡◌, ◌<◌, ◌^◌, ◌+◌, ◌⊎◌, ◌&&◌, ℕ, true, false};
 ghost use Rattle.shogi_core.specs.Bits.{has_bit};
@@ -36,8 +36,8 @@ fn squares_near(mask: u128) -> u128
         | places_away(mask, 11)
 }
 
-/// Those of the pieces that may reach a square where such a move ends; to capture, a piece slides or stands
-/// near one of the other side's.
+/// Those of the pieces that may reach a square where such a move ends; to capture, a piece slides
+/// or stands near one of the other side's.
 pub fn movers(p: &Position, capture: bool, pieces: u128) -> u128
     requires { pieces < 2 ^ 81 }
     ensures within { (n : ℕ) → has_bit result n ≡ true → has_bit pieces n ≡ true }

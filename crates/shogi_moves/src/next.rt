@@ -15,7 +15,9 @@ ghost use Rattle.shogi_moves.specs.Rising.{IsRising};
 ghost use Rattle.shogi_moves.specs.Sweeps.{Keeps};
 
 use crate::check_info::{CheckInfo, check_info_of};
-use crate::destinations::{Destinations, drop_destinations, enterable, legal_destinations};
+use crate::destinations::{
+    Destinations, drop_destinations, drop_squares, enterable, legal_destinations,
+};
 use crate::sweep::bits_from;
 use shogi_core::bits::{has, lowest};
 use shogi_core::{FIRST_DROP, Kind, Move, Position, SQUARE_CODES, Square, is_piece_of};
@@ -99,7 +101,7 @@ fn drops_left(p: &Position, info: &CheckInfo, kind: Kind, code: u16) -> u128
     ensures { Keeps (is_legal_code p.now) (λ n. code_of (moves.Drop kind n)) code result }
 {
     let passed = (code - FIRST_DROP) as usize - kind.number() * 81;
-    bits_from(drop_destinations(p, info, kind), passed)
+    bits_from(drop_destinations(p, drop_squares(p, info), kind), passed)
 }
 
 /// The legal drop of the kind of least code from the given one on.

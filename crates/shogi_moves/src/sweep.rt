@@ -13,9 +13,9 @@ ghost use Rattle.shogi_moves.specs.Replies.{IsReplies};
 ghost use Rattle.shogi_moves.specs.Sweeps.{matching_from, AreMatchingDestinations, IsBoardSweep, IsDropSweep, IsCertainQuiet, IsCertainDrop, IsPassed, IsPassedTo};
 ghost use Rattle.shogi_moves.specs.Walks.{IsNextOf};
 
-use crate::check_info::{CheckInfo, check_info_of};
+use crate::check_info::CheckInfo;
 use crate::destinations::{
-    Destinations, drop_destinations, legal_destinations, matching_destinations,
+    Destinations, drop_destinations, drop_squares, legal_destinations, matching_destinations,
 };
 use crate::movers::movers;
 use crate::next::code_above;
@@ -36,7 +36,7 @@ pub struct BoardSweep {
 /// What is still to come of the drops, in the order of codes.
 #[derive(Clone, Copy, Debug)]
 pub struct DropSweep {
-    pub info: CheckInfo,
+    pub squares: u128,
     pub kind: Kind,
     pub destinations: u128,
     pub code: u16,
@@ -295,10 +295,11 @@ impl DropSweep {
         ensures kept { IsDropSweep p.now result }
         ensures code { result.code ≡ FIRST_DROP }
     {
+        let squares = drop_squares(p, &info);
         DropSweep {
-            info,
+            squares,
             kind: Kind::Pawn,
-            destinations: drop_destinations(p, &info, Kind::Pawn),
+            destinations: drop_destinations(p, squares, Kind::Pawn),
             code: FIRST_DROP,
         }
     }
@@ -333,10 +334,10 @@ impl DropSweep {
         ensures end { result ≡ false → matching_from p.now false self.old.code ≡ [] }
         ensures same { result ≡ false → self.new.code ≡ self.old.code }
     {
-        let info = self.info;
+        let squares = self.squares;
         let mut kind = self.kind;
         'kinds: while let Some(next) = next_kind(kind) {
-            let destinations = drop_destinations(p, &info, next);
+            let destinations = drop_destinations(p, squares, next);
             if destinations != 0 {
                 self.kind = next;
                 self.destinations = destinations;

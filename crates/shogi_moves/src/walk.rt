@@ -5,7 +5,7 @@ ghost use Rattle.shogi_moves.specs.Legal.{is_legal};
 ghost use Rattle.shogi_moves.specs.LegalMoves.{legal_codes};
 ghost use Rattle.shogi_moves.specs.Walks.{TakesNext};
 
-use crate::check_info::check_info_of;
+use crate::check_info::{CheckInfo, check_info_of};
 use crate::next::{code_above, least_board};
 use crate::sweep::DropSweep;
 use shogi_core::{FIRST_DROP, Move, Position};
@@ -17,12 +17,14 @@ use std::marker::Model;
 pub struct Walk {
     position: Position,
     code: u16,
+    info: CheckInfo,
     drops: DropSweep,
 }
 
 impl Model for Walk {
     ghost use Rattle.std.specs.Prelude.{◌≡◌, ◌≤◌, ◌<◌, nat_lt, cond};
     ghost use Rattle.shogi_core.specs.declared.moves.TheConstants.{FIRST_DROP};
+    ghost use Rattle.shogi_moves.specs.CheckInfo.{IsCheckInfoOf};
     ghost use Rattle.shogi_moves.specs.LegalMoves.{legal_from};
     ghost use Rattle.shogi_moves.specs.Sweeps.{IsDropSweep};
     ghost use Rattle.shogi_moves.specs.Walks.{Remaining};
@@ -35,6 +37,7 @@ impl Model for Walk {
     } };
 
     ghost invariant = { λ w. record {
+      info : IsCheckInfoOf w.info w.position;
       kept : IsDropSweep w.position w.drops;
       code : w.code ≤ FIRST_DROP;
       begun : w.code < FIRST_DROP → w.drops.code ≡ FIRST_DROP;
@@ -47,10 +50,12 @@ impl Walk {
         ensures position { result.position ≡ p.now }
         ensures codes { result.codes ≡ legal_codes p.now }
     {
+        let info = check_info_of(p);
         Walk {
             position: *p,
             code: 0,
-            drops: DropSweep::new(p, check_info_of(p)),
+            info,
+            drops: DropSweep::new(p, info),
         }
     }
 
@@ -63,7 +68,7 @@ impl Walk {
         if self.code >= FIRST_DROP {
             return self.drops.next(&self.position);
         }
-        let found = least_board(&self.position, &self.drops.info, self.code);
+        let found = least_board(&self.position, &self.info, self.code);
         if let Some(m) = &found {
             self.code = code_above(m);
             return found;

@@ -1,6 +1,6 @@
 //! Squares by rank and by file, as masks.
 
-ghost use Rattle.std.specs.Prelude.{◌≡◌, ◌<◌, ◌^◌, ◌/◌, ◌==◌, ◌&&◌, nat_lt};
+ghost use Rattle.std.specs.Prelude.{◌≡◌, ◌<◌, ◌^◌, ◌/◌, ◌&&◌, nat_lt};
 ghost use Rattle.shogi_core.specs.Bits.{HasBits};
 ghost use Rattle.shogi_core.specs.Cell.{is_immobile, is_pawn};
 ghost use Rattle.shogi_core.specs.Validity.{pawns_on_file};

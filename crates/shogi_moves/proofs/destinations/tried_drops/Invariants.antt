@@ -1,11 +1,12 @@
 use Rattle.std.proofs.Common.{◌<◌, ◌^◌}
 use Rattle.shogi_core.specs.declared.moves.Move.TheVariants.{Drop}
+use Rattle.shogi_core.specs.declared.piece.Kind.TheVariants as kinds
 use Rattle.shogi_moves.specs.Destinations.{is_unchecked, Sifts}
 use Rattle.shogi_moves.proofs.destinations.tried_drops.Given as goal
 
 abbrev pub invariant-loop-left : goal.invariant-loop-left
 invariant-loop-left l = record {
-  sifts : Sifts l.destinations l.left l.kept (λ n. is_unchecked l.p (Drop l.kind n));
+  sifts : Sifts l.squares l.left l.kept (λ n. is_unchecked l.p (Drop kinds.Pawn n));
   left : l.left < 2 ^ 81;
   fits : l.kept < 2 ^ 81;
 }

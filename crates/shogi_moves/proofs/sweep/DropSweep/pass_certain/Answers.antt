@@ -5,7 +5,7 @@ use Rattle.shogi_moves.proofs.sweep.DropSweep.pass_certain.Goals as goal
 
 pub returns-then-uncertain-eq0-clause-kept : goal.returns-then-uncertain-eq0-clause-kept
 returns-then-uncertain-eq0-clause-kept c = record {
-  info = c.requires.kept.info;
+  squares = c.requires.kept.squares;
   destinations = subst (λ (x : ℕ). KeepsDrop c.args.p.now c.args.self.now.kind x 0) (omega (arith, c.number.ensures.number)) (no_drops_kept c.args.p.now c.args.self.now.kind);
 }
 
@@ -16,7 +16,7 @@ returns-then-uncertain-eq0-clause-passed c =
 
 pub returns-clause-kept : goal.returns-clause-kept
 returns-clause-kept c = record {
-  info = c.requires.kept.info;
+  squares = c.requires.kept.squares;
   destinations = subst (λ (x : ℕ). KeepsDrop c.args.p.now c.args.self.now.kind x c.bits_from-self.result) (omega (arith, c.number.ensures.number))
       (drops_kept c.args.p.now c.args.self.now.kind c.args.self.now.code c.args.self.now.destinations c.bits_from-self.result c.lowest-to.result c.requires.kept.destinations c.lowest-to.ensures.range (uncertain_destination c.args.self.now.destinations c.certain_drops.result c.lowest-to.result c.lowest-to.ensures.set) c.bits_from-self.ensures.fits c.bits_from-self.ensures.from c.bits_from-self.ensures.below);
 }

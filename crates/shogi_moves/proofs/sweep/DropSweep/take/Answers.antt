@@ -5,7 +5,7 @@ pub returns-clause-kept : goal.returns-clause-kept
 returns-clause-kept c =
     rw (c.code_above-self.ensures.code, c.of_index-end.ensures)
     (record {
-      info = c.requires.kept.info;
+      squares = c.requires.kept.squares;
       destinations = drop_kept c.args.p.now c.args.self.now.kind c.args.self.now.code c.args.self.now.destinations c.lowest-to.result c.requires.kept.destinations c.lowest-to.ensures.range c.lowest-to.ensures.set c.lowest-to.ensures.least c.without_lowest-self.result c.without_lowest-self.ensures.less c.without_lowest-self.ensures.bits;
     })
 
