@@ -1,12 +1,12 @@
 -- Numbers digit by digit.
-use Rattle.std.proofs.Common.{◌≡◌, ℕ, ◌+◌, ◌-◌, ◌*◌, ◌≤◌, ◌<◌, true, refl, sym, ◌∙◌, ap, arith, List, [], ◌∷◌, length, take, get_or, min, subst}
+use Rattle.std.proofs.Common.{◌≡◌, ℕ, ◌+◌, ◌-◌, ◌*◌, ◌≤◌, ◌<◌, true, sym, ◌∙◌, ap, arith, List, length, take, get_or, min, subst}
 use Rattle.std.specs.Prelude.{nat_le, nat_lt}
 use Rattle.std.proofs.lemmas.Bool.{and_parts, and_from, leb-true, le-ltb, lt-ltb, cond-true, cond-false}
 use Rattle.std.specs.List.{list_all}
 use Rattle.std.specs.Char.{is_ascii_digit, digit_value}
 use Rattle.std.proofs.lemmas.Int.Digits.{digits_value_more}
 use Rattle.std.proofs.lemmas.List.Folds.{list_all_more}
-use Rattle.shogi_sfen.specs.Numbers.{is_number, number_written}
+use Rattle.shogi_sfen.specs.Numbers.{number_written}
 
 pub number_written-more : (bs : List ℕ) (i : ℕ) → i < length bs → number_written (take (i + 1) bs) ≡ number_written (take i bs) * 10 + digit_value (get_or bs i 0)
 number_written-more bs i h = digits_value_more 10 bs i h
@@ -36,7 +36,3 @@ one_more bs most m i d h e digit value digits =
       value = min-more most (number_written (take i bs)) m (d - 48) value ∙ ap (min most) (sym more);
       digits = list_all_more is_ascii_digit bs i 0 h ∙ and_from (list_all is_ascii_digit (take i bs)) (is_ascii_digit (get_or bs i 0)) digits here;
     }
-
-pub is_number-all : (bs : List ℕ) → 0 < length bs → is_number bs ≡ list_all is_ascii_digit bs
-is_number-all [] h = absurd (omega arith)
-is_number-all (b ∷ bs) h = refl

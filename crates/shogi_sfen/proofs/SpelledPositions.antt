@@ -17,7 +17,7 @@ use Rattle.shogi_sfen.specs.BoardTexts.{board_of}
 use Rattle.shogi_sfen.specs.HandTexts.{hands_of}
 use Rattle.shogi_sfen.specs.Sfen.{side_of, judged, position_of_parts, position_at, end_of}
 use Rattle.shogi_sfen.specs.Written.{side_text}
-use Rattle.shogi_sfen.specs.Spelling.{SpellsBoard, SpellsHands, Spells, HasBoard, HasSide, HasHands}
+use Rattle.shogi_sfen.specs.Spelling.{SpellsBoard, SpellsHands, Spells, SpellsValid, SpellsInvalid, HasBoard, HasSide, HasHands, LacksBoard, LacksSide, LacksHands}
 use Rattle.shogi_sfen.proofs.TooManyHeld.{parts}
 use Rattle.shogi_sfen.proofs.SpelledBoards.{SpellsBoard-read, board_of-spelled}
 use Rattle.shogi_sfen.proofs.SpelledHands.{SpellsHands-read, hands_of-spelled}
@@ -91,28 +91,38 @@ judged-err : (o : Option PositionFault) (p : Shogi) (end : ℕ) (fault : Positio
 judged-err None p end fault e = cc
 judged-err (Some f) p end fault e = cc
 
-module _ (ws : List (List ℕ)) where
-  spells : (cells : Cells) (side : Color) (hands : HandCounts) → option_and_then board_of (slice_get ws 0) ≡ Some cells → option_and_then side_of (slice_get ws 1) ≡ Some side → option_and_then hands_of (slice_get ws 2) ≡ Some hands
-      → Spells ws (parts cells hands side)
-  spells cells side hands eb es eh = record { board = board_word (slice_get ws 0) cells eb; side = side_word (slice_get ws 1) side es; hands = hands_word (slice_get ws 2) hands eh }
+-- what the first three words are read as
+abbrev board_read : List ℕ → Option Cells
+board_read text = option_and_then board_of (slice_get (words text) 0)
 
-  valid : (p : Shogi) → Spells ws p → fault_of p ≡ None → IsValid p
-  valid p s e = record { cells_fit = board_fits (slice_get ws 0) p.cells s.board; hands_fit = hands_fit (slice_get ws 2) p.hands s.hands; no_fault = e }
+abbrev side_read : List ℕ → Option Color
+side_read text = option_and_then side_of (slice_get (words text) 1)
+
+abbrev hands_read : List ℕ → Option HandCounts
+hands_read text = option_and_then hands_of (slice_get (words text) 2)
+
+module _ (text : List ℕ) where
+  spells : (cells : Cells) (side : Color) (hands : HandCounts) → board_read text ≡ Some cells → side_read text ≡ Some side → hands_read text ≡ Some hands
+      → Spells text (parts cells hands side)
+  spells cells side hands eb es eh = record { board = board_word (slice_get (words text) 0) cells eb; side = side_word (slice_get (words text) 1) side es; hands = hands_word (slice_get (words text) 2) hands eh }
+
+  valid : (p : Shogi) → Spells text p → fault_of p ≡ None → IsValid p
+  valid p s e = record { cells_fit = board_fits (slice_get (words text) 0) p.cells s.board; hands_fit = hands_fit (slice_get (words text) 2) p.hands s.hands; no_fault = e }
 
   module _ (end : ℕ) where
-    found : (b : Option Cells) (s : Option Color) (h : Option HandCounts) (p : Shogi) (index : ℕ) → option_and_then board_of (slice_get ws 0) ≡ b → option_and_then side_of (slice_get ws 1) ≡ s → option_and_then hands_of (slice_get ws 2) ≡ h
-        → position_of_parts b s h end ≡ Ok (p, index) → Spells ws p × IsValid p
+    found : (b : Option Cells) (s : Option Color) (h : Option HandCounts) (p : Shogi) (index : ℕ) → board_read text ≡ b → side_read text ≡ s → hands_read text ≡ h
+        → position_of_parts b s h end ≡ Ok (p, index) → Spells text p × IsValid p
     found None s h p index eb es eh e = cc
     found (Some cells) None h p index eb es eh e = cc
     found (Some cells) (Some side) None p index eb es eh e = cc
     found (Some cells) (Some side) (Some hands) p index eb es eh e =
         let q : Shogi = parts cells hands side in
         let j = judged-ok (fault_of q) q p end index e in
-        let t : Spells ws q = spells cells side hands eb es eh in
-        subst (λ (x : Shogi). Spells ws x × IsValid x) j.1 (t, valid q t j.0)
+        let t : Spells text q = spells cells side hands eb es eh in
+        subst (λ (x : Shogi). Spells text x × IsValid x) j.1 (t, valid q t j.0)
 
-    faulty : (b : Option Cells) (s : Option Color) (h : Option HandCounts) (fault : PositionFault) → option_and_then board_of (slice_get ws 0) ≡ b → option_and_then side_of (slice_get ws 1) ≡ s → option_and_then hands_of (slice_get ws 2) ≡ h
-        → position_of_parts b s h end ≡ Err (Invalid fault) → (p : Shogi) × Spells ws p × (fault_of p ≡ Some fault)
+    faulty : (b : Option Cells) (s : Option Color) (h : Option HandCounts) (fault : PositionFault) → board_read text ≡ b → side_read text ≡ s → hands_read text ≡ h
+        → position_of_parts b s h end ≡ Err (Invalid fault) → (p : Shogi) × Spells text p × (fault_of p ≡ Some fault)
     faulty None s h fault eb es eh e = cc
     faulty (Some cells) None h fault eb es eh e = cc
     faulty (Some cells) (Some side) None fault eb es eh e = cc
@@ -120,89 +130,80 @@ module _ (ws : List (List ℕ)) where
         let q : Shogi = parts cells hands side in
         (q, spells cells side hands eb es eh, judged-err (fault_of q) q end fault e)
 
-    no_board : (b : Option Cells) (s : Option Color) (h : Option HandCounts) → option_and_then board_of (slice_get ws 0) ≡ b → position_of_parts b s h end ≡ Err BadBoard → HasBoard ws → ⊥
-    no_board None s h eb e = none_with (slice_get ws 0) SpellsBoard board_of (board_word-read (slice_get ws 0)) eb
+    no_board : (b : Option Cells) (s : Option Color) (h : Option HandCounts) → board_read text ≡ b → position_of_parts b s h end ≡ Err BadBoard → HasBoard text → ⊥
+    no_board None s h eb e = none_with (slice_get (words text) 0) SpellsBoard board_of (board_word-read (slice_get (words text) 0)) eb
     no_board (Some cells) None h eb e = cc
     no_board (Some cells) (Some side) None eb e = cc
     no_board (Some cells) (Some side) (Some hands) eb e = absurd (not_of_text (fault_of (parts cells hands side)) (parts cells hands side) end BadBoard (λ f g. cc) e)
 
-    no_board-told : (b : Option Cells) (s : Option Color) (h : Option HandCounts) → option_and_then board_of (slice_get ws 0) ≡ b → (HasBoard ws → ⊥) → position_of_parts b s h end ≡ Err BadBoard
+    no_board-told : (b : Option Cells) (s : Option Color) (h : Option HandCounts) → board_read text ≡ b → (HasBoard text → ⊥) → position_of_parts b s h end ≡ Err BadBoard
     no_board-told None s h eb n = refl
-    no_board-told (Some cells) s h eb n = absurd (n (some_with (slice_get ws 0) SpellsBoard cells (board_word (slice_get ws 0) cells eb)))
+    no_board-told (Some cells) s h eb n = absurd (n (some_with (slice_get (words text) 0) SpellsBoard cells (board_word (slice_get (words text) 0) cells eb)))
 
-    no_side : (b : Option Cells) (s : Option Color) (h : Option HandCounts) → option_and_then board_of (slice_get ws 0) ≡ b → option_and_then side_of (slice_get ws 1) ≡ s → position_of_parts b s h end ≡ Err BadSide
-        → HasBoard ws × (HasSide ws → ⊥)
+    no_side : (b : Option Cells) (s : Option Color) (h : Option HandCounts) → board_read text ≡ b → side_read text ≡ s → position_of_parts b s h end ≡ Err BadSide
+        → HasBoard text × (HasSide text → ⊥)
     no_side None s h eb es e = cc
     no_side (Some cells) None h eb es e = (
-      some_with (slice_get ws 0) SpellsBoard cells (board_word (slice_get ws 0) cells eb),
-      none_with (slice_get ws 1) (λ text side. text ≡ side_text side) side_of (side_word-read (slice_get ws 1)) es,
+      some_with (slice_get (words text) 0) SpellsBoard cells (board_word (slice_get (words text) 0) cells eb),
+      none_with (slice_get (words text) 1) (λ text side. text ≡ side_text side) side_of (side_word-read (slice_get (words text) 1)) es,
     )
     no_side (Some cells) (Some side) None eb es e = cc
     no_side (Some cells) (Some side) (Some hands) eb es e = absurd (not_of_text (fault_of (parts cells hands side)) (parts cells hands side) end BadSide (λ f g. cc) e)
 
-    no_side-told : (b : Option Cells) (s : Option Color) (h : Option HandCounts) → option_and_then board_of (slice_get ws 0) ≡ b → option_and_then side_of (slice_get ws 1) ≡ s → HasBoard ws → (HasSide ws → ⊥)
+    no_side-told : (b : Option Cells) (s : Option Color) (h : Option HandCounts) → board_read text ≡ b → side_read text ≡ s → HasBoard text → (HasSide text → ⊥)
         → position_of_parts b s h end ≡ Err BadSide
-    no_side-told None s h eb es has n = absurd (none_with (slice_get ws 0) SpellsBoard board_of (board_word-read (slice_get ws 0)) eb has)
+    no_side-told None s h eb es has n = absurd (none_with (slice_get (words text) 0) SpellsBoard board_of (board_word-read (slice_get (words text) 0)) eb has)
     no_side-told (Some cells) None h eb es has n = refl
-    no_side-told (Some cells) (Some side) h eb es has n = absurd (n (some_with (slice_get ws 1) (λ text side. text ≡ side_text side) side (side_word (slice_get ws 1) side es)))
+    no_side-told (Some cells) (Some side) h eb es has n = absurd (n (some_with (slice_get (words text) 1) (λ text side. text ≡ side_text side) side (side_word (slice_get (words text) 1) side es)))
 
-    no_hands : (b : Option Cells) (s : Option Color) (h : Option HandCounts) → option_and_then board_of (slice_get ws 0) ≡ b → option_and_then side_of (slice_get ws 1) ≡ s → option_and_then hands_of (slice_get ws 2) ≡ h
-        → position_of_parts b s h end ≡ Err BadHand → HasBoard ws × HasSide ws × (HasHands ws → ⊥)
+    no_hands : (b : Option Cells) (s : Option Color) (h : Option HandCounts) → board_read text ≡ b → side_read text ≡ s → hands_read text ≡ h
+        → position_of_parts b s h end ≡ Err BadHand → HasBoard text × HasSide text × (HasHands text → ⊥)
     no_hands None s h eb es eh e = cc
     no_hands (Some cells) None h eb es eh e = cc
     no_hands (Some cells) (Some side) None eb es eh e = (
-      some_with (slice_get ws 0) SpellsBoard cells (board_word (slice_get ws 0) cells eb),
-      some_with (slice_get ws 1) (λ text side. text ≡ side_text side) side (side_word (slice_get ws 1) side es),
-      none_with (slice_get ws 2) SpellsHands hands_of (hands_word-read (slice_get ws 2)) eh,
+      some_with (slice_get (words text) 0) SpellsBoard cells (board_word (slice_get (words text) 0) cells eb),
+      some_with (slice_get (words text) 1) (λ text side. text ≡ side_text side) side (side_word (slice_get (words text) 1) side es),
+      none_with (slice_get (words text) 2) SpellsHands hands_of (hands_word-read (slice_get (words text) 2)) eh,
     )
     no_hands (Some cells) (Some side) (Some hands) eb es eh e = absurd (not_of_text (fault_of (parts cells hands side)) (parts cells hands side) end BadHand (λ f g. cc) e)
 
-    no_hands-told : (b : Option Cells) (s : Option Color) (h : Option HandCounts) → option_and_then board_of (slice_get ws 0) ≡ b → option_and_then side_of (slice_get ws 1) ≡ s → option_and_then hands_of (slice_get ws 2) ≡ h
-        → HasBoard ws → HasSide ws → (HasHands ws → ⊥) → position_of_parts b s h end ≡ Err BadHand
-    no_hands-told None s h eb es eh has side n = absurd (none_with (slice_get ws 0) SpellsBoard board_of (board_word-read (slice_get ws 0)) eb has)
-    no_hands-told (Some cells) None h eb es eh has side n = absurd (none_with (slice_get ws 1) (λ text side. text ≡ side_text side) side_of (side_word-read (slice_get ws 1)) es side)
+    no_hands-told : (b : Option Cells) (s : Option Color) (h : Option HandCounts) → board_read text ≡ b → side_read text ≡ s → hands_read text ≡ h
+        → HasBoard text → HasSide text → (HasHands text → ⊥) → position_of_parts b s h end ≡ Err BadHand
+    no_hands-told None s h eb es eh has side n = absurd (none_with (slice_get (words text) 0) SpellsBoard board_of (board_word-read (slice_get (words text) 0)) eb has)
+    no_hands-told (Some cells) None h eb es eh has side n = absurd (none_with (slice_get (words text) 1) (λ text side. text ≡ side_text side) side_of (side_word-read (slice_get (words text) 1)) es side)
     no_hands-told (Some cells) (Some color) None eb es eh has side n = refl
-    no_hands-told (Some cells) (Some color) (Some hands) eb es eh has side n = absurd (n (some_with (slice_get ws 2) SpellsHands hands (hands_word (slice_get ws 2) hands eh)))
+    no_hands-told (Some cells) (Some color) (Some hands) eb es eh has side n = absurd (n (some_with (slice_get (words text) 2) SpellsHands hands (hands_word (slice_get (words text) 2) hands eh)))
 
 module _ (text : List ℕ) (r : Result (Shogi × ℕ) SfenFault) (told : r ≡ position_at text) where
-  abbrev b : Option Cells
-  b = option_and_then board_of (slice_get (words text) 0)
-
-  abbrev s : Option Color
-  s = option_and_then side_of (slice_get (words text) 1)
-
-  abbrev h : Option HandCounts
-  h = option_and_then hands_of (slice_get (words text) 2)
-
-  said : r ≡ position_of_parts b s h (end_of text)
+  said : r ≡ position_of_parts (board_read text) (side_read text) (hands_read text) (end_of text)
   unfolding position_at
   said = told
 
-  pub spelled-read : (p : Shogi) → Spells (words text) p → r ≡ judged (fault_of p) p (end_of text)
+  pub spelled-read : (p : Shogi) → Spells text p → r ≡ judged (fault_of p) p (end_of text)
   spelled-read p t =
-      said ∙ (ap (λ (o : Option Cells). position_of_parts o s h (end_of text)) (board_word-read (slice_get (words text) 0) p.cells t.board)
-      ∙ (ap (λ (o : Option Color). position_of_parts (Some p.cells) o h (end_of text)) (side_word-read (slice_get (words text) 1) p.side t.side)
+      said ∙ (ap (λ (o : Option Cells). position_of_parts o (side_read text) (hands_read text) (end_of text)) (board_word-read (slice_get (words text) 0) p.cells t.board)
+      ∙ (ap (λ (o : Option Color). position_of_parts (Some p.cells) o (hands_read text) (end_of text)) (side_word-read (slice_get (words text) 1) p.side t.side)
       ∙ ap (λ (o : Option HandCounts). position_of_parts (Some p.cells) (Some p.side) o (end_of text)) (hands_word-read (slice_get (words text) 2) p.hands t.hands)))
 
-  pub valid-read : (p : Shogi) → Spells (words text) p → IsValid p → r ≡ Ok (p, end_of text)
-  valid-read p t v = spelled-read p t ∙ ap (λ (o : Option PositionFault). judged o p (end_of text)) v.no_fault
+  pub valid-read : (p : Shogi) → SpellsValid text p → r ≡ Ok (p, end_of text)
+  valid-read p t = spelled-read p t.0 ∙ ap (λ (o : Option PositionFault). judged o p (end_of text)) t.1.no_fault
 
-  pub told-bad_board : (r ≡ Err BadBoard) ↔ (HasBoard (words text) → ⊥)
-  told-bad_board = (λ e. no_board (words text) (end_of text) b s h refl (sym said ∙ e), λ n. said ∙ no_board-told (words text) (end_of text) b s h refl n)
+  pub told-bad_board : (r ≡ Err BadBoard) ↔ LacksBoard text
+  told-bad_board = (λ e. no_board text (end_of text) (board_read text) (side_read text) (hands_read text) refl (sym said ∙ e), λ n. said ∙ no_board-told text (end_of text) (board_read text) (side_read text) (hands_read text) refl n)
 
-  pub told-bad_side : (r ≡ Err BadSide) ↔ (HasBoard (words text) × (HasSide (words text) → ⊥))
-  told-bad_side = (λ e. no_side (words text) (end_of text) b s h refl refl (sym said ∙ e), λ n. said ∙ no_side-told (words text) (end_of text) b s h refl refl n.0 n.1)
+  pub told-bad_side : (r ≡ Err BadSide) ↔ LacksSide text
+  told-bad_side = (λ e. no_side text (end_of text) (board_read text) (side_read text) (hands_read text) refl refl (sym said ∙ e), λ n. said ∙ no_side-told text (end_of text) (board_read text) (side_read text) (hands_read text) refl refl n.0 n.1)
 
-  pub told-bad_hand : (r ≡ Err BadHand) ↔ (HasBoard (words text) × HasSide (words text) × (HasHands (words text) → ⊥))
-  told-bad_hand = (λ e. no_hands (words text) (end_of text) b s h refl refl refl (sym said ∙ e), λ n. said ∙ no_hands-told (words text) (end_of text) b s h refl refl refl n.0 n.1 n.2)
+  pub told-bad_hand : (r ≡ Err BadHand) ↔ LacksHands text
+  told-bad_hand = (λ e. no_hands text (end_of text) (board_read text) (side_read text) (hands_read text) refl refl refl (sym said ∙ e), λ n. said ∙ no_hands-told text (end_of text) (board_read text) (side_read text) (hands_read text) refl refl refl n.0 n.1 n.2)
 
-  pub told-invalid : (fault : PositionFault) → (r ≡ Err (Invalid fault)) ↔ ((p : Shogi) × Spells (words text) p × (fault_of p ≡ Some fault))
+  pub told-invalid : (fault : PositionFault) → (r ≡ Err (Invalid fault)) ↔ SpellsInvalid text fault
   told-invalid fault = (
-    λ e. faulty (words text) (end_of text) b s h fault refl refl refl (sym said ∙ e),
+    λ e. faulty text (end_of text) (board_read text) (side_read text) (hands_read text) fault refl refl refl (sym said ∙ e),
     λ f. spelled-read f.0 f.1 ∙ ap (λ (o : Option PositionFault). judged o f.0 (end_of text)) f.2,
   )
 
 -- a position that is read is spelled, and valid
-pub read-spelled : (text : List ℕ) (r : Result (Shogi × ℕ) SfenFault) → r ≡ position_at text → IfOk r (λ got. Spells (words text) got.0 × IsValid got.0)
-read-spelled text (Ok got) told = found (words text) (end_of text) (b text (Ok got) told) (s text (Ok got) told) (h text (Ok got) told) got.0 got.1 refl refl refl (sym (said text (Ok got) told))
+pub read-spelled : (text : List ℕ) (r : Result (Shogi × ℕ) SfenFault) → r ≡ position_at text → IfOk r (λ got. SpellsValid text got.0)
+read-spelled text (Ok got) told = found text (end_of text) (board_read text) (side_read text) (hands_read text) got.0 got.1 refl refl refl (sym (said text (Ok got) told))
 read-spelled text (Err fault) told = tt

@@ -15,11 +15,11 @@ use Rattle.shogi_core.specs.declared.validity.PositionFault.{PositionFault}
 use Rattle.shogi_core.specs.Movement.{Cells}
 use Rattle.shogi_core.specs.Position.{Shogi, HandCounts, count_in_hand}
 use Rattle.shogi_core.specs.Validity.{IsValid}
-use Rattle.shogi_sfen.specs.Words.{is_blank, is_word_byte, has_bytes, words}
+use Rattle.shogi_sfen.specs.Words.{EndsWord, is_blank, is_word_byte, has_bytes, words}
 use Rattle.shogi_sfen.specs.Letters.{letter_of, cased_for}
 use Rattle.shogi_sfen.specs.BoardTexts.{board_of}
 use Rattle.shogi_sfen.specs.HandTexts.{hands_of}
-use Rattle.shogi_sfen.specs.Sfen.{side_of, judged, position_of_parts, position_at, end_of, EndsWord}
+use Rattle.shogi_sfen.specs.Sfen.{side_of, judged, position_of_parts, position_at, end_of}
 use Rattle.shogi_sfen.specs.Written.{cells_text, rank_cells, rank_text, board_text, count_digits, held_text, kinds_in_text, side_held_text, or_hyphen, hands_text, side_text, position_text}
 use Rattle.shogi_sfen.proofs.WriteLaws.{few_held}
 use Rattle.shogi_sfen.proofs.WrittenBack.{is_plain, plain_digit, plain_cells, board_of-board_text, hands_of-hands_text}

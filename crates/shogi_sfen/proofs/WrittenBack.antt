@@ -100,9 +100,6 @@ plain_cells (Some piece ∷ cells) run =
 pub no_slash : (text : List ℕ) → list_all is_plain text ≡ true → All (λ x. is_slash x ≡ false) text
 no_slash text e = λ k d below. not-true (is_slash (get_or text k d)) ((and_parts (not (is_slash (get_or text k d))) (not (is_blank (get_or text k d))) (AllPass-from_list_all is_plain text e k d below)).0)
 
-no_blank : (text : List ℕ) → list_all is_plain text ≡ true → All (λ x. is_blank x ≡ false) text
-no_blank text e = λ k d below. not-true (is_blank (get_or text k d)) ((and_parts (not (is_slash (get_or text k d))) (not (is_blank (get_or text k d))) (AllPass-from_list_all is_plain text e k d below)).1)
-
 module _ (cells : Cells) where
   -- the text of a rank
   abbrev pub part : ℕ → List ℕ

@@ -1,5 +1,5 @@
 -- A position as text (SFEN): a board, a side, hands, and a number that has no effect and may be absent.
-use Rattle.std.specs.Prelude.{◌≡◌, ℕ, ◌-◌, true, false, List, [], ◌∷◌, Option, Some, None, Result, Ok, Err, cond, codes, length, slice_get}
+use Rattle.std.specs.Prelude.{◌≡◌, ℕ, ◌-◌, false, List, ◌++◌, Option, Some, None, Result, Ok, Err, cond, codes, length, slice_get}
 use Rattle.std.specs.Option.{option_and_then, option_map_or}
 use Rattle.std.specs.Str.{bytes_eq}
 use Rattle.shogi_core.specs.declared.piece.Color.{Color}
@@ -8,7 +8,7 @@ use Rattle.shogi_core.specs.declared.validity.PositionFault.{PositionFault}
 use Rattle.shogi_core.specs.Movement.{Cells}
 use Rattle.shogi_core.specs.Position.{Shogi, HandCounts}
 use Rattle.shogi_core.specs.Validity.{fault_of, number_of_fault}
-use Rattle.shogi_sfen.specs.Words.{is_blank, words, after_word, rest_after}
+use Rattle.shogi_sfen.specs.Words.{EndsWord, words, after_word, rest_after}
 use Rattle.shogi_sfen.specs.Numbers.{is_number}
 use Rattle.shogi_sfen.specs.BoardTexts.{board_of}
 use Rattle.shogi_sfen.specs.HandTexts.{hands_of}
@@ -53,10 +53,10 @@ position_at text =
     (option_and_then side_of (slice_get ws 1)) (option_and_then hands_of (slice_get ws 2))
     (end_of text)
 
--- a word ends before these bytes: they are none, or begin with a space or a tab
-abbrev pub EndsWord : List ℕ → Type 0
-EndsWord [] = Unit {0}
-EndsWord (byte ∷ bytes) = is_blank byte ≡ true
+-- the text is read as the position up to its end, whatever follows its last word
+abbrev pub IsReadAs : List ℕ → Shogi → Type 0
+IsReadAs text position = (tail : List ℕ) → EndsWord tail
+    → position_at (text ++ tail) ≡ Ok (position, end_of (text ++ tail))
 
 -- the number by which the host names a fault (own choice)
 abbrev pub number_of_sfen_fault : SfenFault → ℕ

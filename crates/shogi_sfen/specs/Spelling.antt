@@ -1,14 +1,17 @@
 -- How positions are spelled (SFEN): all the texts of a rank, of a board and of hands, and the three words that spell a position. It says what the texts of a meaning are, and not how a text is read.
-use Rattle.std.specs.Prelude.{◌≡◌, ◌≢◌, ℕ, ◌<◌, ◌==◌, ◌&&◌, Bool, true, List, [], ◌∷◌, ◌++◌, cond, length, get_or, slice_get}
+use Rattle.std.specs.Prelude.{◌≡◌, ◌≢◌, ℕ, ◌<◌, ◌==◌, ◌&&◌, Bool, true, List, [], ◌∷◌, ◌++◌, Some, cond, length, get_or, slice_get}
 use Rattle.std.specs.List.{flat_map, sum_by, list_all, join_with_byte, AllByRecursion}
 use Rattle.std.specs.Option.{IsSomeAnd}
 use Rattle.std.specs.Char.{is_ascii_digit}
 use Rattle.shogi_core.specs.declared.piece.Color.{Color}
 use Rattle.shogi_core.specs.declared.piece.Kind.{Kind}
+use Rattle.shogi_core.specs.declared.validity.PositionFault.{PositionFault}
 use Rattle.shogi_core.specs.Movement.{Cells}
 use Rattle.shogi_core.specs.Pieces.{is_same_color, kind_number}
 use Rattle.shogi_core.specs.Position.{Shogi, HandCounts, count_in_hand}
+use Rattle.shogi_core.specs.Validity.{fault_of, IsValid}
 use Rattle.shogi_sfen.specs.declared.byte.TheConstants.{ZERO, SLASH}
+use Rattle.shogi_sfen.specs.Words.{EndsWord, words}
 use Rattle.shogi_sfen.specs.Numbers.{number_written}
 use Rattle.shogi_sfen.specs.declared.board_text.RankItem.{RankItem}
 use Rattle.shogi_sfen.specs.declared.board_text.TheConstants.{RANK_SQUARES, BOARD_SQUARES}
@@ -70,21 +73,48 @@ pub record SpellsHands (text : List ℕ) (hands : HandCounts) : Type 0 where
       → count_in_hand hands color kind ≡ sum_by (count_given color kind) items
   pub spelled : or_hyphen (flat_map hand_item_text items) ≡ text
 
--- of the words of a text (`words` of Words: what stands between spaces and tabs), the first three are a text of the position's board, one of its side to move, and one of its hands; what follows is not looked at
-pub record Spells (words : List (List ℕ)) (position : Shogi) : Type 0 where
-  pub board : IsSomeAnd (slice_get words 0) (λ text. SpellsBoard text position.cells)
-  pub side : IsSomeAnd (slice_get words 1) (λ text. text ≡ side_text position.side)
-  pub hands : IsSomeAnd (slice_get words 2) (λ text. SpellsHands text position.hands)
+-- of the words of a text (what stands between spaces and tabs), the first three are a text of the position's board, one of its side to move, and one of its hands; what follows is not looked at
+pub record Spells (text : List ℕ) (position : Shogi) : Type 0 where
+  pub board : IsSomeAnd (slice_get (words text) 0) (λ word. SpellsBoard word position.cells)
+  pub side : IsSomeAnd (slice_get (words text) 1) (λ word. word ≡ side_text position.side)
+  pub hands : IsSomeAnd (slice_get (words text) 2) (λ word. SpellsHands word position.hands)
+
+-- it spells the position, which is valid
+abbrev pub SpellsValid : List ℕ → Shogi → Type 0
+SpellsValid text position = Spells text position × IsValid position
+
+-- it spells a position that has the fault
+abbrev pub SpellsInvalid : List ℕ → PositionFault → Type 0
+SpellsInvalid text fault =
+    (position : Shogi) × Spells text position × (fault_of position ≡ Some fault)
+
+-- it spells the position, whatever follows its last word
+abbrev pub SpellsAtFront : List ℕ → Shogi → Type 0
+SpellsAtFront text position = (tail : List ℕ) → EndsWord tail → Spells (text ++ tail) position
 
 -- the first word is a board's text
-abbrev pub HasBoard : List (List ℕ) → Type 0
-HasBoard words = IsSomeAnd (slice_get words 0) (λ text. (cells : Cells) × SpellsBoard text cells)
+abbrev pub HasBoard : List ℕ → Type 0
+HasBoard text =
+    IsSomeAnd (slice_get (words text) 0) (λ word. (cells : Cells) × SpellsBoard word cells)
 
 -- the second word is a side's text
-abbrev pub HasSide : List (List ℕ) → Type 0
-HasSide words = IsSomeAnd (slice_get words 1) (λ text. (side : Color) × (text ≡ side_text side))
+abbrev pub HasSide : List ℕ → Type 0
+HasSide text =
+    IsSomeAnd (slice_get (words text) 1) (λ word. (side : Color) × (word ≡ side_text side))
 
 -- the third word is the text of some hands
-abbrev pub HasHands : List (List ℕ) → Type 0
-HasHands words =
-    IsSomeAnd (slice_get words 2) (λ text. (hands : HandCounts) × SpellsHands text hands)
+abbrev pub HasHands : List ℕ → Type 0
+HasHands text =
+    IsSomeAnd (slice_get (words text) 2) (λ word. (hands : HandCounts) × SpellsHands word hands)
+
+-- the first word is no board's text, or there is none
+abbrev pub LacksBoard : List ℕ → Type 0
+LacksBoard text = HasBoard text → ⊥
+
+-- the first word is a board's text, and the second no side's, or there is none
+abbrev pub LacksSide : List ℕ → Type 0
+LacksSide text = HasBoard text × (HasSide text → ⊥)
+
+-- the first two are those of a board and a side, and the third no hands', or there is none
+abbrev pub LacksHands : List ℕ → Type 0
+LacksHands text = HasBoard text × HasSide text × (HasHands text → ⊥)

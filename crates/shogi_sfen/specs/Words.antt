@@ -29,6 +29,11 @@ from_word text = drop (position_or_len is_word_byte text) text
 unfoldable pub after_word : List ℕ → List ℕ
 after_word text = drop (position_or_len is_blank (from_word text)) (from_word text)
 
+-- a word ends before these bytes: they are none, or begin with a space or a tab
+abbrev pub EndsWord : List ℕ → Type 0
+EndsWord [] = Unit {0}
+EndsWord (byte ∷ bytes) = is_blank byte ≡ true
+
 -- what stands after the first n words of a text
 abbrev pub rest_after : ℕ → List ℕ → List ℕ
 rest_after zero text = text

@@ -1,8 +1,9 @@
 //! A board read from text.
 
-ghost use Rattle.std.specs.Prelude.{◌≡◌, ◌≤◌, ◌<◌, ◌+◌, ◌++◌, None, Some, MatchOption, IfSome, length, replicate, position, drop};
+ghost use Rattle.std.specs.Prelude.{◌≡◌, ◌≤◌, ◌<◌, ◌+◌, ◌++◌, None, IfSome, length, replicate, position, drop};
 ghost use Rattle.std.specs.List.{slice_split, position_or_len};
-ghost use Rattle.shogi_sfen.specs.BoardTexts.{item_named, is_first_plus, rank_of, items_from, ranks_of, board_from, board_of, squares_of, is_slash};
+ghost use Rattle.std.specs.Option.{option_map};
+ghost use Rattle.shogi_sfen.specs.BoardTexts.{item_named, is_first_plus, rank_of, board_from, board_of, squares_of, is_slash};
 ghost use Rattle.shogi_sfen.specs.Ranks.{TakesItem};
 ghost use Rattle.shogi_sfen.specs.declared.board_text.TheConstants.{RANK_SQUARES, BOARD_SQUARES};
 
@@ -84,8 +85,7 @@ fn push_item(rank: &mut Rank, item: Option<RankItem>) -> bool
 /// The nine squares of a rank, if the bytes say one.
 #[tactic(auto, unfolding(crate::specs::BoardTexts::rank_of))]
 fn read_rank(part: &[u8]) -> Option<Rank>
-    ensures value { MatchOption result (rank_of part.now ≡ None)
-        (λ rank. rank_of part.now ≡ Some rank.items) }
+    ensures value { rank_of part.now ≡ option_map (λ rank. rank.items) result }
     ensures len { IfSome result (λ rank. length rank.items ≡ RANK_SQUARES) }
 {
     let mut rank = ArrayVec::new();
@@ -146,8 +146,8 @@ fn skip(text: &[u8], count: usize) -> &[u8]
 
 /// The squares of nine ranks, if the bytes say them.
 fn read_squares(word: &[u8]) -> Option<Squares>
-    ensures value { MatchOption result (squares_of (slice_split is_slash word.now) ≡ None)
-        (λ squares. squares_of (slice_split is_slash word.now) ≡ Some squares.items) }
+    ensures value { squares_of (slice_split is_slash word.now)
+        ≡ option_map (λ s. s.items) result }
     ensures len { IfSome result (λ squares. length squares.items ≡ BOARD_SQUARES) }
 {
     let mut squares = ArrayVec::new();

@@ -1,13 +1,12 @@
 //! Numbers as digits.
 
-ghost use Rattle.std.specs.Prelude.{◌≡◌, Some, None, min, if◌then◌else◌};
-ghost use Rattle.shogi_sfen.specs.Numbers.{is_number, number_written};
+ghost use Rattle.std.specs.Prelude.{◌≡◌};
+ghost use Rattle.shogi_sfen.specs.Numbers.{is_number, capped_number};
 
 /// The number that a word of digits writes, or `most` where it is greater; `None` where the word
 /// is empty or has another byte than a digit. Any number of digits is read.
 pub fn read_number(word: &[u8], most: u32) -> Option<u32>
-    ensures { result ≡ (if is_number word.now
-        then Some (min most (number_written word.now)) else None) }
+    ensures { result ≡ capped_number most word.now }
 {
     if word.is_empty() {
         return None;

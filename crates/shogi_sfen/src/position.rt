@@ -1,18 +1,16 @@
 //! A position read from text.
 
-ghost use Rattle.std.specs.Prelude.{◌≡◌, ◌≤◌, ◌↔◌, false, length, Some, Ok, Err, IfOk};
+ghost use Rattle.std.specs.Prelude.{◌≡◌, ◌≤◌, ◌↔◌, false, length, Ok, Err, IfOk};
 ghost use Rattle.std.specs.Option.{option_map, option_and_then, option_copied, option_map_or};
 ghost use Rattle.shogi_sfen.specs.Numbers.{is_number};
 ghost use Rattle.shogi_sfen.specs.BoardTexts.{board_of};
 ghost use Rattle.shogi_sfen.specs.HandTexts.{hands_of};
 ghost use Rattle.shogi_sfen.specs.CappedHands.{capped};
-ghost use Rattle.shogi_sfen.specs.Words.{words};
-ghost use Rattle.shogi_sfen.specs.Spelling.{Spells, HasBoard, HasSide, HasHands};
+ghost use Rattle.shogi_sfen.specs.Spelling.{SpellsValid, SpellsInvalid, LacksBoard, LacksSide, LacksHands};
 ghost use Rattle.shogi_sfen.specs.Sfen.{side_of, position_at, past_number, end_of, number_of_sfen_fault};
 ghost use Rattle.shogi_sfen.specs.declared.position.SfenFault.TheVariants.{BadBoard, BadSide, BadHand, Invalid};
 ghost use Rattle.shogi_core.specs.declared.validity.PositionFault.{PositionFault};
 ghost use Rattle.shogi_core.specs.Position.{Shogi};
-ghost use Rattle.shogi_core.specs.Validity.{fault_of, IsValid};
 
 use crate::board_text::{BOARD_SQUARES, read_board};
 use crate::hand_text::read_hands;
@@ -142,16 +140,13 @@ fn position_at(text: &[u8]) -> Result<(Position, usize), SfenFault>
 pub fn read_position(text: &[u8]) -> Result<(Position, usize), SfenFault>
     ensures value { result ≡ position_at text.now }
     ensures within { IfOk result (λ found. found.1 ≤ length text.now) }
-    ensures spelled { IfOk result (λ found. Spells (words text.now) found.0 × IsValid found.0) }
-    ensures read { (position : Shogi) → Spells (words text.now) position → IsValid position
-        → result ≡ Ok (position, end_of text.now) }
-    ensures bad_board { (result ≡ Err BadBoard) ↔ (HasBoard (words text.now) → ⊥) }
-    ensures bad_side { (result ≡ Err BadSide)
-        ↔ (HasBoard (words text.now) × (HasSide (words text.now) → ⊥)) }
-    ensures bad_hand { (result ≡ Err BadHand) ↔ (HasBoard (words text.now)
-        × HasSide (words text.now) × (HasHands (words text.now) → ⊥)) }
-    ensures invalid { (fault : PositionFault) → (result ≡ Err (Invalid fault)) ↔ (
-        (position : Shogi) × Spells (words text.now) position × (fault_of position ≡ Some fault)) }
+    ensures spelled { IfOk result (λ found. SpellsValid text.now found.0) }
+    ensures read { (p : Shogi) → SpellsValid text.now p → result ≡ Ok (p, end_of text.now) }
+    ensures bad_board { (result ≡ Err BadBoard) ↔ LacksBoard text.now }
+    ensures bad_side { (result ≡ Err BadSide) ↔ LacksSide text.now }
+    ensures bad_hand { (result ≡ Err BadHand) ↔ LacksHands text.now }
+    ensures invalid { (f : PositionFault)
+        → (result ≡ Err (Invalid f)) ↔ SpellsInvalid text.now f }
 {
     position_at(text)
 }

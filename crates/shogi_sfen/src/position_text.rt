@@ -1,15 +1,13 @@
 //! A position written as text.
 
-ghost use Rattle.std.specs.Prelude.{◌≡◌, ◌≤◌, ◌<◌, ◌+◌, ◌*◌, ◌++◌, ℕ, List, Ok, [], ◌∷◌, length};
-ghost use Rattle.std.specs.List.{flat_map, range_with_len};
+ghost use Rattle.std.specs.Prelude.{◌≡◌, ◌≤◌, ◌<◌, ◌+◌, ◌*◌, ◌++◌, [], ◌∷◌, length};
 ghost use Rattle.shogi_sfen.specs.Written.{run_text, cells_text, rank_cells, rank_text, board_text, side_text, held_text, side_held_text, hands_text, position_text};
 ghost use Rattle.shogi_sfen.specs.Letters.{piece_text};
 ghost use Rattle.shogi_sfen.specs.declared.board_text.TheConstants.{RANK_SQUARES};
 ghost use Rattle.shogi_sfen.specs.declared.position_text.TheConstants.{TEXT_BYTES};
 ghost use Rattle.shogi_core.specs.Position.{count_in_hand};
-ghost use Rattle.shogi_sfen.specs.Words.{words};
-ghost use Rattle.shogi_sfen.specs.Sfen.{position_at, end_of, EndsWord};
-ghost use Rattle.shogi_sfen.specs.Spelling.{Spells};
+ghost use Rattle.shogi_sfen.specs.Sfen.{IsReadAs};
+ghost use Rattle.shogi_sfen.specs.Spelling.{SpellsAtFront};
 ghost use Rattle.shogi_core.specs.declared.piece.Kind.{Kind};
 ghost use Rattle.shogi_core.specs.declared.piece.Color.{Color};
 
@@ -174,11 +172,8 @@ fn side_letter(side: Color) -> u8
 /// The one written text of the position (SFEN): board, side and hands, without a move number.
 pub fn write_position(position: &Position) -> ArrayVec<u8, TEXT_BYTES>
     ensures text { result.items ≡ position_text position.now }
-    ensures back { (tail : List ℕ) → EndsWord tail
-        → position_at (position_text position.now ++ tail)
-        ≡ Ok (position.now, end_of (position_text position.now ++ tail)) }
-    ensures spelled { (tail : List ℕ) → EndsWord tail
-        → Spells (words (position_text position.now ++ tail)) position.now }
+    ensures back { IsReadAs (position_text position.now) position.now }
+    ensures spelled { SpellsAtFront (position_text position.now) position.now }
 {
     // Told to the proof: the position is valid, so that no side holds 100 of a kind.
     position.validity();
