@@ -1,13 +1,13 @@
 //! A position on the way of a search.
 
-ghost use Rattle.std.specs.Prelude.{◌≡◌, ◌<◌, ◌≤ℤ◌, true, ◌-ℤ◌, pos, ℕ};
-ghost use Rattle.shogi_core.specs.declared.moves.Move.TheVariants as moves;
+ghost use Rattle.std.specs.Prelude.{◌≡◌, ◌≤ℤ◌, true, ◌-ℤ◌, pos};
 ghost use Rattle.shogi_eval.specs.declared.points.TheConstants.{POINTS_MAX};
 ghost use Rattle.shogi_core.specs.Codes.{code_of};
 ghost use Rattle.shogi_core.specs.Start.{start};
 ghost use Rattle.shogi_core.specs.Validity.{IsValid};
 ghost use Rattle.shogi_moves.specs.After.{after, after_code};
 ghost use Rattle.shogi_moves.specs.Legal.{is_legal};
+ghost use Rattle.shogi_eval.specs.Evaluated.{IsMaterialAfterDrops, material_after};
 ghost use Rattle.shogi_eval.specs.Material.{material_of};
 
 use crate::eval::Eval;
@@ -120,7 +120,7 @@ impl Node {
     #[inline(always)]
     pub fn score_after(&self, m: &Move) -> i32
         requires { is_legal self.now.position m.now ≡ true }
-        ensures { result ≡ material_of (after self.now.position m.now) self.now.eval }
+        ensures { result ≡ material_after self.now m.now }
     {
         score_after(&self.position, self.eval, self.score, m)
     }
@@ -128,8 +128,7 @@ impl Node {
     /// The material after a legal drop of the kind, on any square, from the side that is to move then.
     #[inline(always)]
     pub fn score_after_drop(&self, kind: Kind) -> i32
-        ensures { (to : ℕ) → to < 81 → is_legal self.now.position (moves.Drop kind to) ≡ true
-            → material_of (after self.now.position (moves.Drop kind to)) self.now.eval ≡ result }
+        ensures { IsMaterialAfterDrops self.now kind result }
     {
         let p = self.as_position();
         p.validity();

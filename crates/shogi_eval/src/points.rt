@@ -1,6 +1,6 @@
 //! The values of pieces, and the material of a position.
 
-ghost use Rattle.std.specs.Prelude.{◌≡◌, ◌≤◌, ◌<◌, ◌*◌, ◌^◌, ◌≤ℤ◌, ◌-ℤ◌, pos};
+ghost use Rattle.std.specs.Prelude.{◌≡◌, ◌≤◌, ◌<◌, ◌*◌, ◌≤ℤ◌, ◌-ℤ◌, pos};
 ghost use Rattle.shogi_eval.specs.declared.points.TheConstants.{PIECE_VALUE_MAX, POINTS_MAX};
 ghost use Rattle.shogi_eval.specs.Material.{value_of, value_in_hand, points_at, points_on_board, points_in_hand, points_of_kind, points_of, material_of};
 
