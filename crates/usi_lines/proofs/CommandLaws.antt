@@ -1,7 +1,7 @@
 -- The command of a line, by its first word, and the depth in it.
 use Rattle.std.proofs.Common.{◌≡◌, ℕ, Bool, cond, sym, ◌∙◌, ap, arith, List, [], ◌∷◌, Option, Some, None, max, min}
 use Rattle.std.specs.Prelude.{IfSome, codes, ◌&&◌}
-use Rattle.std.specs.Option.{option_map_or}
+use Rattle.std.specs.Option.{option_map, option_map_or}
 use Rattle.std.specs.Str.{bytes_eq}
 use Rattle.std.proofs.lemmas.Bool.{cond_both}
 use Rattle.shogi_eval.specs.declared.eval.Eval.{Eval}
@@ -25,7 +25,7 @@ command_of-some line name rest e r =
 
 -- what holds of each clamped number holds of one that is read
 clamped_read_fits : (least most : ℕ) (word : List ℕ) (P : ℕ → Type 0) → ((n : ℕ) → P (max least (min most n))) → IfSome (clamped_read least most word) P
-clamped_read_fits least most word P h = cond_both (is_number word) (Some (max least (min most (number_written word)))) None (λ (o : Option ℕ). IfSome o P) (λ e. h (number_written word)) (λ e. tt)
+clamped_read_fits least most word P h = cond_both (is_number word) (Some (min most (number_written word))) None (λ (o : Option ℕ). IfSome (option_map (max least) o) P) (λ e. h (number_written word)) (λ e. tt)
 
 depth_clamped : (n : ℕ) → IsDepth (max DEPTH_MIN (min DEPTH_MAX n))
 depth_clamped n = record { least = omega arith; most = omega arith }

@@ -31,7 +31,9 @@ depth_of (word ∷ more) = cond (bytes_eq word (codes "depth")) (depth_in_first 
 
 -- the word infinite wins over ponder
 abbrev pub hold_of : List (List ℕ) → Hold
-hold_of ws = cond (has_word (codes "infinite") ws) UntilStop (cond (has_word (codes "ponder") ws) UntilHit Nothing)
+hold_of ws =
+    cond (has_word (codes "infinite") ws) UntilStop
+    (cond (has_word (codes "ponder") ws) UntilHit Nothing)
 
 -- the word mate wins over all others
 abbrev pub go_of : List (List ℕ) → Command

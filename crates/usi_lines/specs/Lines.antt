@@ -21,7 +21,9 @@ is_too_long part = nat_lt LINE_MAX (length part)
 abbrev pub lines_of_parts : List (List ℕ) → List Line
 lines_of_parts [] = []
 lines_of_parts (part ∷ []) = cond (is_too_long part) (TooLong ∷ []) []
-lines_of_parts (part ∷ next ∷ more) = cond (is_too_long part) (TooLong ∷ []) (Text (strip_carriage_return part) ∷ lines_of_parts (next ∷ more))
+lines_of_parts (part ∷ next ∷ more) =
+    cond (is_too_long part) (TooLong ∷ [])
+    (Text (strip_carriage_return part) ∷ lines_of_parts (next ∷ more))
 
 -- the lines of a whole stream
 unfoldable pub lines : List ℕ → List Line

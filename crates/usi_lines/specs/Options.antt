@@ -1,10 +1,10 @@
 -- The options of a session: their ranges, and the values that a line may set (USI, setoption; that numbers are clamped is an own choice).
-use Rattle.std.specs.Prelude.{ℕ, ◌≤◌, ◌&&◌, List, [], ◌∷◌, Option, Some, None, cond, min, max, codes}
-use Rattle.std.specs.Option.{option_map_or}
+use Rattle.std.specs.Prelude.{ℕ, ◌≤◌, ◌&&◌, List, [], ◌∷◌, Option, Some, None, cond, max, codes}
+use Rattle.std.specs.Option.{option_map, option_map_or}
 use Rattle.std.specs.Str.{bytes_eq}
 use Rattle.shogi_eval.specs.declared.eval.Eval.{Eval}
 use Rattle.shogi_eval.specs.declared.eval.Eval.TheVariants.{Plain, Hand}
-use Rattle.shogi_sfen.specs.Numbers.{is_number, number_written}
+use Rattle.shogi_sfen.specs.Numbers.{capped_number}
 use Rattle.usi_lines.specs.declared.options.TheConstants.{DEPTH_MIN, DEPTH_MAX, MULTI_PV_MIN, MULTI_PV_MAX}
 use Rattle.usi_lines.specs.Commands.{Command, SetDepth, SetEval, SetLines, Go, Other}
 
@@ -20,7 +20,7 @@ pub record IsMultiPv (lines : ℕ) : Type 0 where
 
 -- a number, clamped to a range, where the word is one
 abbrev pub clamped_read : ℕ → ℕ → List ℕ → Option ℕ
-clamped_read least most word = cond (is_number word) (Some (max least (min most (number_written word)))) None
+clamped_read least most word = option_map (max least) (capped_number most word)
 
 -- a depth, clamped to its range, where the word is a number
 abbrev pub depth_read : List ℕ → Option ℕ
@@ -47,7 +47,8 @@ command_for name value =
 -- exactly the words `name NAME value VALUE`
 abbrev pub option_of : List (List ℕ) → Command
 option_of (before_name ∷ name ∷ before_value ∷ value ∷ []) =
-    cond (bytes_eq before_name (codes "name") && bytes_eq before_value (codes "value")) (command_for name value) Other
+    cond (bytes_eq before_name (codes "name") && bytes_eq before_value (codes "value"))
+    (command_for name value) Other
 option_of _ = Other
 
 -- each number in a command lies in its range: a row for each option that is a number

@@ -17,9 +17,8 @@ pub struct FirstLine<'a> {
 /// too long no bytes are left.
 pub fn first_line(bytes: &[u8]) -> Option<FirstLine<'_>>
     ensures none { IfNone result (lines bytes.now ≡ []) }
-    ensures first { IfSome result
-        (λ first. lines bytes.now ≡ line_of first.line ∷ lines first.rest.now) }
-    ensures shorter { IfSome result (λ first. length first.rest.now < length bytes.now) }
+    ensures first { IfSome result (λ f. lines bytes.now ≡ line_of f.line ∷ lines f.rest.now) }
+    ensures shorter { IfSome result (λ f. length f.rest.now < length bytes.now) }
 {
     let len = line_len(bytes);
     if len > LINE_MAX {
