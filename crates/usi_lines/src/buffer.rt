@@ -6,6 +6,7 @@ ghost use Rattle.usi_lines.specs.Seen.{line_of};
 ghost use Rattle.usi_lines.specs.declared.buffer.TheConstants.{ROOM_KEPT};
 
 use crate::line::{LINE_MAX, Line, line_len, without_return};
+use crate::room::give_back_room;
 use std::alloc::{AllocError, Allocator};
 use std::marker::Model;
 
@@ -49,19 +50,6 @@ impl<A: Allocator> Model for LineBuffer<A> {
         × (b.start ≡ vec_len b.bytes → vec_capacity b.bytes ≤ ROOM_KEPT) };
 }
 
-/// Gives room back where there is more than `ROOM_KEPT` and at most a quarter of it is in use.
-/// Twice what is in use is left, or all of the room where the smaller block cannot be allocated.
-/// Where nothing is in use none is left, and nothing is allocated.
-fn give_back_room<A: Allocator>(bytes: &mut Vec<u8, A>)
-    ensures items { bytes.new.items ≡ bytes.old.items }
-    ensures room { vec_len bytes.new ≡ 0 → vec_capacity bytes.new ≤ ROOM_KEPT }
-{
-    let len = bytes.len();
-    if bytes.capacity() > ROOM_KEPT && len <= bytes.capacity() / 4 {
-        bytes.shrink_to(2 * len);
-    }
-}
-
 /// Gives up the read bytes where they are more than half of the buffer, and room with them, and
 /// returns where the unread ones begin: fewer bytes are moved than were read.
 fn compact<A: Allocator>(bytes: &mut Vec<u8, A>, start: usize) -> usize
@@ -74,7 +62,7 @@ fn compact<A: Allocator>(bytes: &mut Vec<u8, A>, start: usize) -> usize
         return start;
     }
     bytes.drain(..start);
-    give_back_room(bytes);
+    give_back_room(bytes, ROOM_KEPT);
     0
 }
 

@@ -7,6 +7,7 @@ mod first;
 mod line;
 mod options;
 mod read;
+mod room;
 mod words;
 
 pub use buffer::{LineBuffer, LineFault};
@@ -15,3 +16,4 @@ pub use first::{FirstLine, first_line};
 pub use line::{LINE_FEED, LINE_MAX, Line, cut_line};
 pub use options::{DEPTH_MAX, DEPTH_MIN, MULTI_PV_MAX, MULTI_PV_MIN};
 pub use read::read_command;
+pub use room::give_back_room;

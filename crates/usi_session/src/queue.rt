@@ -1,26 +1,14 @@
 //! Bytes that wait until they are taken.
 
-ghost use Rattle.std.specs.Prelude.{◌≡◌, ◌≤◌, ◌++◌, [], OnOk, OnErr, drop, length, vec_len, vec_capacity};
+ghost use Rattle.std.specs.Prelude.{◌≡◌, ◌≤◌, ◌++◌, [], OnOk, OnErr, drop, length};
 ghost use Rattle.usi_session.specs.declared.queue.TheConstants.{ROOM_KEPT};
 
 use std::alloc::{AllocError, Allocator};
 use std::marker::Model;
+use usi_lines::give_back_room;
 
 /// The most room that is kept while nothing waits, in bytes.
 const ROOM_KEPT: usize = 4_096;
-
-/// Gives room back where there is more than `ROOM_KEPT` and at most a quarter of it is in use.
-/// Twice what is in use is left, or all of the room where the smaller block cannot be allocated.
-/// Where nothing is in use none is left, and nothing is allocated.
-fn give_back_room<A: Allocator>(bytes: &mut Vec<u8, A>)
-    ensures items { bytes.new.items ≡ bytes.old.items }
-    ensures room { vec_len bytes.new ≡ 0 → vec_capacity bytes.new ≤ ROOM_KEPT }
-{
-    let len = bytes.len();
-    if bytes.capacity() > ROOM_KEPT && len <= bytes.capacity() / 4 {
-        bytes.shrink_to(2 * len);
-    }
-}
 
 /// The bytes that were written and not yet taken. While none wait, it keeps at most `ROOM_KEPT`
 /// bytes of room.
@@ -82,7 +70,7 @@ impl<A: Allocator> Queue<A> {
         if self.taken > self.bytes.len() / 2 {
             self.bytes.drain(..self.taken);
             self.taken = 0;
-            give_back_room(&mut self.bytes);
+            give_back_room(&mut self.bytes, ROOM_KEPT);
         }
     }
 }
