@@ -20,6 +20,7 @@ use Rattle.shogi_core.specs.Movement.{Cells}
 use Rattle.shogi_core.specs.Pieces.{set_size}
 use Rattle.shogi_core.specs.Position.{HandCounts, Shogi, count_in_hand}
 use Rattle.shogi_core.specs.Same.{role_number}
+use Rattle.shogi_core.specs.Steps.{color_number}
 use Rattle.shogi_core.specs.Validity.{IsValid}
 use Rattle.shogi_core.specs.Words.{board_words, cell_number, cells_word, number_in_base_32, piece_number}
 use Rattle.shogi_core.proofs.Faults.{faultless_from}
@@ -28,7 +29,7 @@ use Rattle.shogi_eval.specs.declared.eval.Eval.{Eval}
 use Rattle.shogi_eval.specs.declared.eval.Eval.TheVariants.{Plain, Hand}
 use Rattle.shared_table.specs.Keys.{eval_number, is_same_key, key_of}
 use Rattle.shared_table.specs.KeyLaws.{key_same}
-use Rattle.shared_table.specs.Packed.{AreWords, cell_of_number, cells_in, counts_of, depth_in, digits_in_base_32, eval_of_number, eval_in, key_in, position_in, side_of_number, side_number, words_of}
+use Rattle.shared_table.specs.Packed.{AreWords, cell_of_number, cells_in, counts_of, depth_in, digits_in_base_32, eval_of_number, eval_in, key_in, position_in, side_of_number, words_of}
 
 black_back : (r : Role) → cell_of_number (role_number r + 1) ≡ Some (record { color = Black; role = r })
 black_back role.King = refl
@@ -112,11 +113,11 @@ listed xs n len =
 hands_back : (hands : HandCounts) → length hands ≡ 14 → counts_of hands Black ++ counts_of hands White ≡ hands
 hands_back hands len = listed hands 14 len
 
-side_back : (side : Color) (n : ℕ) → side_of_number ((side_number side + 2 * n) % 2) ≡ side
+side_back : (side : Color) (n : ℕ) → side_of_number ((color_number side + 2 * n) % 2) ≡ side
 side_back Black n = let e : (0 + 2 * n) % 2 ≡ 0 = omega arith in rw e refl
 side_back White n = let e : (1 + 2 * n) % 2 ≡ 1 = omega arith in rw e refl
 
-side_fits : (side : Color) → side_number side < 2
+side_fits : (side : Color) → color_number side < 2
 side_fits Black = omega arith
 side_fits White = omega arith
 
@@ -124,14 +125,14 @@ eval_fits : (eval : Eval) → eval_number eval < 2
 eval_fits Plain = omega arith
 eval_fits Hand = omega arith
 
-eval_back : (side : Color) (eval : Eval) (depth : ℕ) → eval_of_number ((side_number side + 2 * (eval_number eval + 2 * depth)) / 2 % 2) ≡ eval
+eval_back : (side : Color) (eval : Eval) (depth : ℕ) → eval_of_number ((color_number side + 2 * (eval_number eval + 2 * depth)) / 2 % 2) ≡ eval
 eval_back side eval depth = go eval refl
   where
-    go : (e : Eval) → eval ≡ e → eval_of_number ((side_number side + 2 * (eval_number e + 2 * depth)) / 2 % 2) ≡ e
-    go Plain is = let e : (side_number side + 2 * (0 + 2 * depth)) / 2 % 2 ≡ 0 = omega (arith, side_fits side) in rw e refl
-    go Hand is = let e : (side_number side + 2 * (1 + 2 * depth)) / 2 % 2 ≡ 1 = omega (arith, side_fits side) in rw e refl
+    go : (e : Eval) → eval ≡ e → eval_of_number ((color_number side + 2 * (eval_number e + 2 * depth)) / 2 % 2) ≡ e
+    go Plain is = let e : (color_number side + 2 * (0 + 2 * depth)) / 2 % 2 ≡ 0 = omega (arith, side_fits side) in rw e refl
+    go Hand is = let e : (color_number side + 2 * (1 + 2 * depth)) / 2 % 2 ≡ 1 = omega (arith, side_fits side) in rw e refl
 
-depth_back : (side : Color) (eval : Eval) (depth : ℕ) → (side_number side + 2 * (eval_number eval + 2 * depth)) / 4 ≡ depth
+depth_back : (side : Color) (eval : Eval) (depth : ℕ) → (color_number side + 2 * (eval_number eval + 2 * depth)) / 4 ≡ depth
 depth_back side eval depth = omega (arith, side_fits side, eval_fits eval)
 
 -- the parts of a board are the board
@@ -219,7 +220,7 @@ words_test a b v w = same_from_decides _ _ (words_tell a b v w) (key_same (key_i
 -- the words, one by one
 pub words_made : (p : Shogi) (eval : Eval) (depth : ℕ) (board : List ℕ) (hands : HandCounts) (side : Color) → board ≡ board_words p.cells → hands ≡ p.hands → side ≡ p.side
     → (a b c : ℕ) → a ≡ number_in_base_32 (counts_of hands Black) → b ≡ number_in_base_32 (counts_of hands White)
-    → c ≡ side_number side + 2 * (eval_number eval + 2 * depth)
+    → c ≡ color_number side + 2 * (eval_number eval + 2 * depth)
     → slice_index board 0 ∷ slice_index board 1 ∷ slice_index board 2 ∷ slice_index board 3 ∷ slice_index board 4 ∷ slice_index board 5 ∷ slice_index board 6
     ∷ a ∷ b ∷ c ∷ [] ≡ words_of (key_of p eval depth)
 unfolding words_of

@@ -10,7 +10,7 @@ use Rattle.shogi_search.specs.declared.memo.Entry.{Entry}
 use Rattle.shogi_search.specs.Minimax.{IsTrueEntry}
 use Rattle.shared_table.specs.KeyLaws.{key_same}
 use Rattle.shared_table.specs.Keys.{Key, is_same_key}
-use Rattle.shared_table.specs.Recent.{AreTrue, IsTable, Pair, entry_of, is_leaf, leaf_count, leaf_of, noted, probed, without}
+use Rattle.shared_table.specs.Recent.{AreTrue, IsNoted, IsTable, Pair, Table, entry_of, table_of, is_leaf, leaf_count, leaf_of, noted, probed, without}
 
 -- keys that pass the test are one
 one_key : (a b : Key) → is_same_key a b ≡ true → b ≡ a
@@ -174,10 +174,10 @@ pub put_or_not : {T E : Type 0} (key : Key) (entry : Entry) (old new : LruCache 
     → 0 < old.cap → length old.entries ≤ old.cap
     → OnOk r (new ≡ lru_cache (put_entries is_same_key old key entry) old.cap) → OnErr r (new ≡ old)
     → (IsSome (entry_of old.entries key) → IsOk r)
-    → (new ≡ lru_cache (noted old.cap key entry old.entries) old.cap) ⊎ ((entry_of old.entries key ≡ None) × (new ≡ old))
+    → IsNoted (table_of old) key entry (table_of new)
 put_or_not key entry old new (Ok x) room fits ok err succeeds =
-    inl (ok ∙ ap (λ (l : List Pair). lru_cache l old.cap) (put_is key entry old.entries old.cap room fits))
-put_or_not key entry old new (Err x) room fits ok err succeeds = inr (none (entry_of old.entries key) refl, err)
+    inl (ap table_of (ok ∙ ap (λ (l : List Pair). lru_cache l old.cap) (put_is key entry old.entries old.cap room fits)))
+put_or_not key entry old new (Err x) room fits ok err succeeds = inr (none (entry_of old.entries key) refl, ap table_of err)
   where
     none : (o : Option Entry) → entry_of old.entries key ≡ o → entry_of old.entries key ≡ None
     none None e = e
@@ -195,23 +195,24 @@ noted_pair capacity key entry pairs pair at =
 -- a note of a true entry keeps what holds of the table
 pub table_noted : (key : Key) (entry : Entry) (old new : LruCache Key Entry) (was is : ℕ)
     → IsTable old.entries old.cap was → IsTrueEntry key.position key.eval key.depth entry → is ≡ leaf_count new.entries
-    → (new ≡ lru_cache (noted old.cap key entry old.entries) old.cap) ⊎ ((entry_of old.entries key ≡ None) × (new ≡ old))
+    → IsNoted (table_of old) key entry (table_of new)
     → IsTable new.entries new.cap is
-table_noted key entry old new was is t true_entry counted (inr same) = record {
-  truth = rw same.1 t.truth;
-  counted = counted;
-  least = rw same.1 t.least;
-  most = rw same.1 t.most;
-}
-table_noted key entry old new was is t true_entry counted (inl same) = record {
-  truth = rw same (λ k e at. elim (noted_pair old.cap key entry old.entries (k, e) at) [
-    | inl here ↦ subst (λ (p : Pair). IsTrueEntry p.0.position p.0.eval p.0.depth p.1) (sym here) true_entry
-    | inr there ↦ t.truth k e there
-  ]);
-  counted = counted;
-  least = rw same t.least;
-  most = rw same t.most;
-}
+table_noted key entry old new was is t true_entry counted (inr same) =
+    let pairs : new.entries ≡ old.entries = ap (λ (x : Table). x.pairs) same.1 in
+    let capacity : new.cap ≡ old.cap = ap (λ (x : Table). x.capacity) same.1 in
+    record { truth = rw pairs t.truth; counted = counted; least = rw capacity t.least; most = rw capacity t.most }
+table_noted key entry old new was is t true_entry counted (inl same) =
+    let pairs : new.entries ≡ noted old.cap key entry old.entries = ap (λ (x : Table). x.pairs) same in
+    let capacity : new.cap ≡ old.cap = ap (λ (x : Table). x.capacity) same in
+    record {
+      truth = rw pairs (λ k e at. elim (noted_pair old.cap key entry old.entries (k, e) at) [
+        | inl here ↦ subst (λ (p : Pair). IsTrueEntry p.0.position p.0.eval p.0.depth p.1) (sym here) true_entry
+        | inr there ↦ t.truth k e there
+      ]);
+      counted = counted;
+      least = rw capacity t.least;
+      most = rw capacity t.most;
+    }
 
 tally_le : (b : Bool) → cond b 1 0 ≤ 1
 tally_le true = omega arith

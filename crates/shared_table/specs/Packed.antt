@@ -1,12 +1,14 @@
 -- The words of a key (own choice): ten numbers that say what stands on the squares, what is held, whose turn it is, the evaluation and the depth.
-use Rattle.std.specs.Prelude.{ℕ, ◌+◌, ◌*◌, ◌^◌, ◌/◌, ◌%◌, ◌<◌, ◌≡◌, zero, suc, List, [], ◌∷◌, ◌++◌, map, slice_index, slice_index_or, Option, None}
+use Rattle.std.specs.Prelude.{ℕ, ◌+◌, ◌*◌, ◌^◌, ◌/◌, ◌%◌, ◌<◌, ◌≡◌, zero, suc, List, [], ◌∷◌, ◌++◌, map, take, slice_index, slice_index_or, Option, None}
 use Rattle.std.specs.Hash as fed
 use Rattle.shogi_core.specs.declared.piece.Color.{Color}
 use Rattle.shogi_core.specs.declared.piece.Color.TheVariants.{Black, White}
+use Rattle.shogi_core.specs.declared.piece.Kind.TheVariants.{Pawn}
 use Rattle.shogi_core.specs.declared.piece.Piece.{Piece}
 use Rattle.shogi_core.specs.Movement.{Cells}
 use Rattle.shogi_core.specs.Pieces.{all_kinds}
-use Rattle.shogi_core.specs.Position.{Shogi, HandCounts, count_in_hand}
+use Rattle.shogi_core.specs.Position.{Shogi, HandCounts, count_in_hand, place_of}
+use Rattle.shogi_core.specs.Steps.{color_number}
 use Rattle.shogi_core.specs.Validity.{IsValid}
 use Rattle.shogi_core.specs.Words.{board_words, number_in_base_32}
 use Rattle.shogi_eval.specs.declared.eval.Eval.{Eval}
@@ -18,24 +20,25 @@ use Rattle.shared_table.specs.Keys.{Key, eval_number}
 abbrev pub counts_of : HandCounts → Color → List ℕ
 counts_of hands color = map (count_in_hand hands color) all_kinds
 
--- 0 for Black and 1 for White
-abbrev pub side_number : Color → ℕ
-side_number Black = 0
-side_number White = 1
-
 -- the words: the seven of the board; Black's counts and White's, each from 0 to 18 and so a digit; the side to move with the evaluation and the depth
 unfoldable pub words_of : Key → List ℕ
 words_of key =
     board_words key.position.cells
     ++ number_in_base_32 (counts_of key.position.hands Black)
     ∷ number_in_base_32 (counts_of key.position.hands White)
-    ∷ (side_number key.position.side + 2 * (eval_number key.eval + 2 * key.depth))
+    ∷ (color_number key.position.side + 2 * (eval_number key.eval + 2 * key.depth))
     ∷ []
 
 -- so many of the lowest digits of a number in base 32
 unfoldable pub digits_in_base_32 : ℕ → ℕ → List ℕ
 digits_in_base_32 zero number = []
 digits_in_base_32 (suc count) number = (number % 32) ∷ digits_in_base_32 count (number / 32)
+
+-- the counts of a side are those of the word, and what stands before them is kept
+abbrev pub SetsCounts : HandCounts → Color → ℕ → HandCounts → Type 0
+SetsCounts old color word new =
+    take (place_of color Pawn + 7) new
+    ≡ take (place_of color Pawn) old ++ digits_in_base_32 7 word
 
 -- what each number stands for
 abbrev pub cell_of_number : ℕ → Option Piece

@@ -1,8 +1,11 @@
 -- The entries of a table as a list, the most recently used first (own choice).
-use Rattle.std.specs.Prelude.{◌≡◌, ◌≤◌, ◌∷◌, ◌==◌, ℕ, Bool, cond, List, Option, Contains, take, [], ◌+◌}
+use Rattle.std.specs.Prelude.{◌≡◌, ◌≤◌, ◌⊎◌, ◌∷◌, ◌==◌, ℕ, Bool, cond, List, Option, None, Contains, take, [], ◌+◌}
 use Rattle.std.specs.Map.{lookup, remove_entry}
 use Rattle.std.specs.Option.{option_map_or}
-use Rattle.shared_table.specs.Keys.{Key, is_same_key}
+use Rattle.lru.specs.LruCache.{LruCache, lru_cache, promoted}
+use Rattle.shogi_core.specs.Position.{Shogi}
+use Rattle.shogi_eval.specs.declared.eval.Eval.{Eval}
+use Rattle.shared_table.specs.Keys.{Key, is_same_key, key_of}
 use Rattle.shared_table.specs.declared.table.TheConstants.{CAPACITY_MAX}
 use Rattle.shogi_search.specs.Minimax.{IsTrueEntry}
 use Rattle.shogi_search.specs.declared.memo.Entry.{Entry}
@@ -16,9 +19,17 @@ pub record Table : Type 0 where
   pub pairs : List Pair
   pub capacity : ℕ
 
+-- a cache as the table that it holds
+abbrev pub table_of : LruCache Key Entry → Table
+table_of cache = record { pairs = cache.entries; capacity = cache.cap }
+
 -- the entry under the key, or none
 abbrev pub entry_of : List Pair → Key → Option Entry
 entry_of pairs key = lookup (is_same_key key) pairs
+
+-- at this depth there is no entry, of any position under any evaluation
+abbrev pub HasNoneAt : List Pair → ℕ → Type 0
+HasNoneAt pairs depth = (p : Shogi) (e : Eval) → entry_of pairs (key_of p e depth) ≡ None
 
 -- the pairs without that of the key
 abbrev pub without : Key → List Pair → List Pair
@@ -37,9 +48,18 @@ noted capacity key entry pairs = take capacity ((key, entry) ∷ without key pai
 abbrev pub with_probe : Table → Key → Table
 with_probe table key = record table { pairs = probed key table.pairs }
 
+-- the same, as the cache does it
+abbrev pub recalled : Key → LruCache Key Entry → LruCache Key Entry
+recalled key cache = lru_cache (promoted (is_same_key key) cache.entries) cache.cap
+
 -- the table after a note of the entry under the key
 abbrev pub with_note : Table → Key → Entry → Table
 with_note table key entry = record table { pairs = noted table.capacity key entry table.pairs }
+
+-- the entry was noted under the key, or nothing changed where a new key found no memory
+abbrev pub IsNoted : Table → Key → Entry → Table → Type 0
+IsNoted old key entry new =
+    (new ≡ with_note old key entry) ⊎ ((entry_of old.pairs key ≡ None) × (new ≡ old))
 
 -- each entry is true of its position under its evaluation at its depth
 abbrev pub AreTrue : List Pair → Type 0

@@ -1,11 +1,10 @@
 //! The words of a key: how a position is packed, and had again.
 
 ghost use Rattle.std.specs.Prelude.{◌≡◌, ◌≤◌, ◌<◌, ◌+◌, ◌-◌, ◌*◌, ◌%◌, ◌^◌, ◌++◌, length, take};
-ghost use Rattle.shogi_core.specs.Position.{place_of};
+ghost use Rattle.shogi_core.specs.Steps.{color_number};
 ghost use Rattle.shogi_core.specs.Words.{number_in_base_32};
-ghost use Rattle.shogi_core.specs.declared.piece.Kind.TheVariants.{Pawn};
 ghost use Rattle.shared_table.specs.Keys.{eval_number};
-ghost use Rattle.shared_table.specs.Packed.{cell_of_number, cells_in, counts_of, digits_in_base_32, side_of_number, side_number};
+ghost use Rattle.shared_table.specs.Packed.{SetsCounts, cell_of_number, cells_in, counts_of, side_of_number};
 
 use shogi_core::{Color, Hands, KINDS, Kind, Piece, Role};
 use shogi_eval::Eval;
@@ -153,7 +152,7 @@ pub fn hand_word(hands: Hands, color: Color) -> u64
 
 /// The word of the side to move, the evaluation and the depth.
 pub fn last_word(side: Color, eval: Eval, depth: u8) -> u64
-    ensures { result ≡ side_number side + 2 * (eval_number eval + 2 * depth) }
+    ensures { result ≡ color_number side + 2 * (eval_number eval + 2 * depth) }
 {
     let side = match side {
         Color::Black => 0,
@@ -194,8 +193,7 @@ pub fn place_cells(cells: &mut [Option<Piece>; 81], from: usize, end: usize, wor
 /// The hands with the counts of a side that the word says.
 pub fn with_counts(hands: Hands, color: Color, word: u64) -> Hands
     requires { length hands ≡ 14 }
-    ensures counts { take (place_of color Pawn + 7) result
-        ≡ take (place_of color Pawn) hands ++ digits_in_base_32 7 word }
+    ensures counts { SetsCounts hands color word result }
     ensures length { length result ≡ 14 }
 {
     let mut counted = hands;

@@ -1,14 +1,11 @@
 //! The table: a bounded map whose entries are ordered by their last use.
 
-ghost use Rattle.std.specs.Prelude.{◌≡◌, ◌≤◌, ◌⊎◌, ◌==◌, ◌&&◌, not, cond, [], length, None, IfOk, false};
-ghost use Rattle.shogi_core.specs.Position.{Shogi};
-ghost use Rattle.shogi_eval.specs.declared.eval.Eval.{Eval};
-ghost use Rattle.lru.specs.LruCache.{lru_cache, promoted};
+ghost use Rattle.std.specs.Prelude.{◌≡◌, ◌≤◌, ◌==◌, ◌&&◌, not, cond, [], length, IfOk, false};
 ghost use Rattle.std.specs.List.{IsDistinct};
 ghost use Rattle.std.specs.Map.{keys_of};
 ghost use Rattle.std.specs.Map.Iter.{ShowsInOrder, deref_pair};
 ghost use Rattle.shared_table.specs.Keys.{is_same_key, key_of};
-ghost use Rattle.shared_table.specs.Recent.{AreTrue, entry_of, leaf_count, leaf_of, noted, with_note, with_probe};
+ghost use Rattle.shared_table.specs.Recent.{AreTrue, HasNoneAt, IsNoted, entry_of, leaf_count, leaf_of, recalled, table_of, with_probe};
 ghost use Rattle.shared_table.specs.declared.table.TheConstants.{CAPACITY_MAX};
 ghost use Rattle.shogi_search.specs.declared.bounds.TheConstants.{SEARCH_DEPTH_MAX};
 ghost use Rattle.shared_table.specs.declared.table.TableFault.TheVariants.{OutOfMemory};
@@ -51,11 +48,11 @@ pub struct SharedTable<S: BuildHasher, A: Allocator> {
 }
 
 impl<S: BuildHasher, A: Allocator> Model for SharedTable<S, A> {
-    ghost use Rattle.shared_table.specs.Recent.{IsTable, Table};
+    ghost use Rattle.shared_table.specs.Recent.{IsTable, Table, table_of};
 
     ghost Value = { Table };
 
-    ghost view = { λ t. record { pairs = t.cache.entries; capacity = t.cache.cap } };
+    ghost view = { λ t. table_of t.cache };
 
     ghost invariant = { λ t. IsTable t.cache.entries t.cache.cap t.leaves };
 }
@@ -124,8 +121,7 @@ impl<S: BuildHasher, A: Allocator + Clone> Memo for SharedTable<S, A> {
 
     /// Depth 0 only while an entry of that depth is held, and every other depth.
     fn keeps(&self, d: u8) -> bool
-        ensures none { result ≡ false
-            → (p : Shogi) (e : Eval) → entry_of self.now.pairs (key_of p e d) ≡ None }
+        ensures none { result ≡ false → HasNoneAt self.now.pairs d }
         ensures kept { result ≡ not (d == 0 && leaf_count self.now.pairs == 0) }
     {
         d > 0 || self.leaves > 0
@@ -147,8 +143,7 @@ impl<S: BuildHasher, A: Allocator + Clone> Memo for SharedTable<S, A> {
     fn note(&mut self, p: &Position, e: Eval, d: u8, entry: Entry)
         requires truth { IsTrueEntry p.now e d entry }
         requires depth { d ≤ SEARCH_DEPTH_MAX }
-        ensures noted { (self.new ≡ with_note self.old (key_of p.now e d) entry)
-            ⊎ ((entry_of self.old.pairs (key_of p.now e d) ≡ None) × (self.new ≡ self.old)) }
+        ensures noted { IsNoted self.old (key_of p.now e d) entry self.new }
         ensures capacity { self.new.capacity ≡ self.old.capacity }
     {
         let key = TableKey::of(p, e, d);
@@ -163,8 +158,7 @@ fn recall<S: BuildHasher, A: Allocator>(
     key: &TableKey,
 ) -> Option<Entry>
     ensures value { result ≡ entry_of cache.old.entries key.now }
-    ensures entries { cache.new
-        ≡ lru_cache (promoted (is_same_key key.now) cache.old.entries) cache.old.cap }
+    ensures cache { cache.new ≡ recalled key.now cache.old }
 {
     cache.get(key).copied()
 }
@@ -178,9 +172,7 @@ fn remember<S: BuildHasher, A: Allocator + Clone>(
     entry: Entry,
 ) -> usize
     requires { leaves ≡ leaf_count cache.old.entries }
-    ensures noted { (cache.new
-        ≡ lru_cache (noted cache.old.cap key entry cache.old.entries) cache.old.cap)
-        ⊎ ((entry_of cache.old.entries key ≡ None) × (cache.new ≡ cache.old)) }
+    ensures noted { IsNoted (table_of cache.old) key entry (table_of cache.new) }
     ensures leaves { result ≡ leaf_count cache.new.entries }
 {
     cache.len();

@@ -16,7 +16,7 @@ returns-then-self-eq0-clause-used g c =
 
 pub invariant_of-self : goal.invariant_of-self
 invariant_of-self g c =
-    rw c.recall.ensures.entries
+    rw c.recall.ensures.cache
     (table_probed c.of-key.result c.self.inside.cache.entries c.self.inside.cache.cap c.self.inside.leaves c.self.invariant)
 
 pub returns-clause-truth : goal.returns-clause-truth
@@ -26,5 +26,5 @@ returns-clause-truth g c =
 pub returns-clause-used : goal.returns-clause-used
 returns-clause-used g c =
     let table : List Pair → Table = λ l. record { pairs = l; capacity = c.self.inside.cache.cap } in
-    rw (c.recall.ensures.entries, c.of-key.ensures, ← c.self.view_is)
+    rw (c.recall.ensures.cache, c.of-key.ensures, ← c.self.view_is)
     (ap table (promoted_is (key_of c.args.p.now c.args.e c.args.d) c.self.inside.cache.entries))
