@@ -1,6 +1,6 @@
 -- The command line, and its answers at words that are written out.
 use Rattle.std.proofs.Common.{◌≡◌, ◌∷◌, ◌∙◌, true, ℕ, List, [], Result, Ok, Err, Option, Some, None, IfOk, IfErr, codes, refl, sym, ap, arith, subst, slice_index_or, inl, inr, lit≤, lit<}
-use Rattle.std.specs.Prelude.{MatchResult, string_bytes}
+use Rattle.std.specs.Prelude.{string_bytes}
 use Rattle.clap.specs.Words.{App, FailsBy, HasMatchesOf, IsAmong, Kinds, Row, Text, fault_of, is_simple, is_simple_and_free, kind_of, subcommand_of, subcommand_rows_of}
 use Rattle.clap.specs.Kinds.{HasKind}
 use Rattle.clap.proofs.OnLiterals.{clap_on_literals}
@@ -10,7 +10,7 @@ use Rattle.clap.specs.declared.error.kind.ErrorKind.{ErrorKind}
 use Rattle.clap.specs.declared.error.kind.ErrorKind.TheVariants as kinds
 use Rattle.clap.specs.declared.parser.matches.ArgMatches.{ArgMatches}
 use Rattle.clap.specs.declared.parser.matches.ValueSource.TheVariants.{DefaultValue}
-use Rattle.usi_words.specs.Answers.{AreHelpWords, AreVersionWords, Gives, GivesHelp, HasRanges, IsAnswerTo, IsAskedBy, IsJobOf, IsRefusedFor, IsReplayOf, IsStdioOf, HasMistake, IsMistake, IsNoJob, NamesJob}
+use Rattle.usi_words.specs.Answers.{AreHelpWords, AreVersionWords, Gives, GivesHelp, HasRanges, IsAnswerToParsed, IsAskedBy, IsRefusedFor, IsReplayOf, IsStdioOf, HasMistake, IsMistake, IsNoJob, NamesJob}
 use Rattle.usi_words.specs.CommandLine.{IsNumber, NamesNumber, command_line, command_of, faults_of}
 use Rattle.usi_words.specs.declared.words.Job.{Job}
 use Rattle.usi_words.specs.declared.words.Job.TheVariants.{Stdio, Replay, Serve, Help, Version}
@@ -117,7 +117,7 @@ no_version (Some command) job e (inr (inr is)) = rw e at is.1
 
 -- a job is one that the words ask for
 pub line_asked : (words : List Text) (parsed : Result ArgMatches Error) (r : Result Job WordsFault) → IsParsedLine words parsed
-    → MatchResult parsed (λ m. IsJobOf (subcommand_rows_of m) r) (λ e. IsAnswerTo (kind_of e) r)
+    → IsAnswerToParsed parsed r
     → IfOk r (IsAskedBy words)
 line_asked words (Ok m) (Ok (Stdio entries)) line is = (line.kinds, subst (λ (c : Option (Text × List Row)). NamesJob c (Stdio entries)) line.matches is)
 line_asked words (Ok m) (Ok (Replay slots entries slice)) line is = (line.kinds, subst (λ (c : Option (Text × List Row)). NamesJob c (Replay slots entries slice)) line.matches is)
@@ -139,7 +139,7 @@ line_asked words parsed (Err fault) line is = tt
 
 -- words that are not accepted have a mistake
 pub line_refused : (words : List Text) (parsed : Result ArgMatches Error) (r : Result Job WordsFault) → IsParsedLine words parsed
-    → MatchResult parsed (λ m. IsJobOf (subcommand_rows_of m) r) (λ e. IsAnswerTo (kind_of e) r)
+    → IsAnswerToParsed parsed r
     → IfErr r (IsRefusedFor words)
 line_refused words parsed (Ok job) line is = tt
 line_refused words parsed (Err OutOfMemory) line is = tt

@@ -1,8 +1,10 @@
 -- When each answer to the words comes.
-use Rattle.std.specs.Prelude.{◌≡◌, ◌≢◌, ◌⊎◌, ◌∷◌, ◌-◌, ◌^◌, ℕ, List, [], Option, Some, None, Result, Ok, Err, ⊤, codes, string_bytes}
-use Rattle.clap.specs.Words.{IsAmong, Row, Text}
+use Rattle.std.specs.Prelude.{◌≡◌, ◌≢◌, ◌⊎◌, ◌∷◌, ◌-◌, ◌^◌, ℕ, List, [], Option, Some, None, Result, Ok, Err, MatchResult, ⊤, codes, string_bytes}
+use Rattle.clap.specs.Words.{IsAmong, Row, Text, kind_of, subcommand_rows_of}
+use Rattle.clap.specs.declared.error.Error.{Error}
 use Rattle.clap.specs.declared.error.kind.ErrorKind.{ErrorKind}
 use Rattle.clap.specs.declared.error.kind.ErrorKind.TheVariants as kinds
+use Rattle.clap.specs.declared.parser.matches.ArgMatches.{ArgMatches}
 use Rattle.usi_words.specs.CommandLine.{IsFromOne, NamesNumber, NamesText, command_of, faults_of}
 use Rattle.usi_words.specs.Texts.{not_digits}
 use Rattle.usi_words.specs.declared.words.Job.{Job}
@@ -13,12 +15,14 @@ use Rattle.usi_words.specs.declared.words.WordsFault.TheVariants.{OutOfMemory, N
 -- the numbers of `serve` lie in their ranges
 abbrev pub HasServeRanges : ℕ → ℕ → ℕ → ℕ → Type 0
 HasServeRanges slots entries slice turns =
-    IsFromOne 1024 slots × IsFromOne 1000000 entries × IsFromOne 1000000000 slice × IsFromOne (2 ^ 64 - 1) turns
+    IsFromOne 1024 slots × IsFromOne 1000000 entries × IsFromOne 1000000000 slice
+    × IsFromOne (2 ^ 64 - 1) turns
 
 -- the numbers of the job lie in their ranges
 abbrev pub HasRanges : Job → Type 0
 HasRanges (Stdio entries) = IsFromOne 1000000 entries
-HasRanges (Replay slots entries slice) = IsFromOne 1024 slots × IsFromOne 1000000 entries × IsFromOne 1000000000 slice
+HasRanges (Replay slots entries slice) =
+    IsFromOne 1024 slots × IsFromOne 1000000 entries × IsFromOne 1000000000 slice
 HasRanges (Serve socket slots entries slice turns) = HasServeRanges slots entries slice turns
 HasRanges (Help text) = ⊤
 HasRanges Version = ⊤
@@ -31,13 +35,15 @@ IsStdioOf options _ = ⊥
 -- the job is `replay`, with the numbers that these options name
 abbrev pub IsReplayOf : List Row → Job → Type 0
 IsReplayOf options (Replay slots entries slice) =
-    NamesNumber (codes "slots") options slots × NamesNumber (codes "entries") options entries × NamesNumber (codes "slice") options slice
+    NamesNumber (codes "slots") options slots × NamesNumber (codes "entries") options entries
+    × NamesNumber (codes "slice") options slice
 IsReplayOf options _ = ⊥
 
 -- the numbers that these options of `serve` name
 abbrev pub NamesNumbers : List Row → ℕ → ℕ → ℕ → ℕ → Type 0
 NamesNumbers options slots entries slice turns =
-    NamesNumber (codes "slots") options slots × NamesNumber (codes "entries") options entries × NamesNumber (codes "slice") options slice × NamesNumber (codes "turns") options turns
+    NamesNumber (codes "slots") options slots × NamesNumber (codes "entries") options entries
+    × NamesNumber (codes "slice") options slice × NamesNumber (codes "turns") options turns
 
 -- they are these numbers, and lie in their ranges
 abbrev pub AreServeNumbers : List Row → ℕ → ℕ → ℕ → ℕ → Type 0
@@ -47,12 +53,14 @@ AreServeNumbers options slots entries slice turns =
 -- these options name no numbers of `serve` in their ranges
 abbrev pub HasNoNumbers : List Row → Type 0
 HasNoNumbers options =
-    (slots entries slice turns : ℕ) → HasServeRanges slots entries slice turns → NamesNumbers options slots entries slice turns → ⊥
+    (slots entries slice turns : ℕ) → HasServeRanges slots entries slice turns
+    → NamesNumbers options slots entries slice turns → ⊥
 
 -- the job is `serve`, with the path and the numbers that these options name
 abbrev pub IsServeOf : List Row → Job → Type 0
 IsServeOf options (Serve socket slots entries slice turns) =
-    NamesText (codes "socket") options (string_bytes socket) × NamesNumbers options slots entries slice turns
+    NamesText (codes "socket") options (string_bytes socket)
+    × NamesNumbers options slots entries slice turns
 IsServeOf options _ = ⊥
 
 -- the command names the job; without a command it is `stdio` with 4096 entries
@@ -119,6 +127,13 @@ GivesHelp (Ok job) = ⊥
 GivesHelp (Err OutOfMemory) = ⊤
 GivesHelp (Err (NotAccepted text)) = ⊥
 
+-- the words are a command alone
+abbrev pub AreStdioWords : List Text → Type 0
+AreStdioWords words = words ≡ codes "stdio" ∷ []
+
+abbrev pub AreReplayWords : List Text → Type 0
+AreReplayWords words = words ≡ codes "replay" ∷ []
+
 -- the words ask for help, or for the version, and for nothing else
 abbrev pub AreHelpWords : List Text → Type 0
 AreHelpWords words = (words ≡ codes "--help" ∷ []) ⊎ (words ≡ codes "-h" ∷ [])
@@ -139,6 +154,12 @@ IsAnswerTo kind (Ok Version) = kind ≡ kinds.DisplayVersion
 IsAnswerTo kind (Ok job) = ⊥
 IsAnswerTo kind (Err OutOfMemory) = ⊤
 IsAnswerTo kind (Err (NotAccepted text)) = IsMistake kind × (kind ≢ kinds.OutOfMemory)
+
+-- the answer to what `clap` made of the words
+abbrev pub IsAnswerToParsed : Result ArgMatches Error → Result Job WordsFault → Type 0
+IsAnswerToParsed parsed result =
+    MatchResult parsed (λ matches. IsJobOf (subcommand_rows_of matches) result)
+    (λ error. IsAnswerTo (kind_of error) result)
 
 -- where words are not accepted, this is what is said
 abbrev pub Says : List ℕ → WordsFault → Type 0

@@ -44,7 +44,9 @@ stdio_command = with_rule (new_app (codes "stdio")) entries_option
 
 -- the command `replay`
 abbrev pub replay_command : App
-replay_command = with_rule (with_rule (with_rule (new_app (codes "replay")) slots_option) entries_option) slice_option
+replay_command =
+    with_rule (with_rule (with_rule (new_app (codes "replay")) slots_option) entries_option)
+    slice_option
 
 -- the command `serve` with its first options
 abbrev pub socket_command : App
@@ -52,7 +54,8 @@ socket_command = with_rule (with_rule (new_app (codes "serve")) socket_option) s
 
 -- the command `serve`
 abbrev pub serve_command : App
-serve_command = with_rule (with_rule (with_rule socket_command entries_option) slice_option) turns_option
+serve_command =
+    with_rule (with_rule (with_rule socket_command entries_option) slice_option) turns_option
 
 -- the program without a command; it has a version, so `--version` and `-V` ask for it
 abbrev pub bare_line : App

@@ -1,8 +1,8 @@
 //! The words of the command line.
-ghost use Rattle.std.specs.Prelude.{◌≡◌, ◌∷◌, ◌<◌, ◌^◌, ℕ, false, [], IfErr, IfNone, IfOk, IfSome, MatchResult, codes, map};
+ghost use Rattle.std.specs.Prelude.{◌≡◌, ◌<◌, ◌^◌, ℕ, false, [], IfErr, IfNone, IfOk, IfSome, map};
 ghost use Rattle.clap.specs.Words.{app_of, kind_of, rule_of, subcommand_rows_of};
 ghost use Rattle.clap.specs.declared.builder.command.Command.TheViews.{out-Command as fields_of};
-ghost use Rattle.usi_words.specs.Answers.{AreHelpWords, AreServeNumbers, AreVersionWords, Gives, GivesHelp, HasNoNumbers, HasRanges, IsAnswerTo, IsAskedBy, IsJobIn, IsJobOf, IsRefusedFor, IsReplayOf, IsServeIn, IsStdioOf, NamesNoJob, NamesNoReplay, NamesNoServe, NamesNoStdio};
+ghost use Rattle.usi_words.specs.Answers.{AreHelpWords, AreReplayWords, AreServeNumbers, AreStdioWords, AreVersionWords, Gives, GivesHelp, HasNoNumbers, HasRanges, IsAnswerTo, IsAnswerToParsed, IsAskedBy, IsJobIn, IsJobOf, IsRefusedFor, IsReplayOf, IsServeIn, IsStdioOf, NamesNoJob, NamesNoReplay, NamesNoServe, NamesNoStdio};
 ghost use Rattle.usi_words.specs.CommandLine.{HasNone, HasNumber, IsNumber, command_line, entries_option, options_in, replay_command, replay_line, serve_command, slice_option, slots_option, socket_command, socket_option, stdio_command, stdio_line, turns_option};
 ghost use Rattle.usi_words.specs.declared.words.Job.TheVariants.{Stdio, Replay, Version};
 ghost use Rattle.usi_words.specs.declared.words.WordsFault.TheVariants.{OutOfMemory};
@@ -88,8 +88,8 @@ pub fn read_words<'a, S: AsStr>(alloc: Global, words: &'a [S]) -> Result<Job, Wo
     ensures asked { IfOk result (IsAskedBy (map S.text words.entry.now)) }
     ensures refused { IfErr result (IsRefusedFor (map S.text words.entry.now)) }
     ensures bare { words.entry.now ≡ [] → Gives (Stdio 4096) result }
-    ensures stdio { map S.text words.entry.now ≡ codes "stdio" ∷ [] → Gives (Stdio 4096) result }
-    ensures replay { map S.text words.entry.now ≡ codes "replay" ∷ []
+    ensures stdio { AreStdioWords (map S.text words.entry.now) → Gives (Stdio 4096) result }
+    ensures replay { AreReplayWords (map S.text words.entry.now)
         → Gives (Replay 64 4096 1000) result }
     ensures help { AreHelpWords (map S.text words.entry.now) → GivesHelp result }
     ensures version { AreVersionWords (map S.text words.entry.now) → Gives Version result }
@@ -118,9 +118,7 @@ fn answer_to(
     pointer: &str,
 ) -> Result<Job, WordsFault>
     ensures ranges { IfOk result HasRanges }
-    ensures parsed { MatchResult parsed.entry
-        (λ matches. IsJobOf (subcommand_rows_of matches) result)
-        (λ error. IsAnswerTo (kind_of error) result) }
+    ensures parsed { IsAnswerToParsed parsed.entry result }
 {
     match parsed {
         Ok(matches) => job_of(alloc, &matches),
