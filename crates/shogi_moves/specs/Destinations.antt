@@ -2,6 +2,7 @@
 use Rattle.std.specs.Prelude.{ℕ, ◌≡◌, ◌<◌, ◌^◌, ◌&&◌, ◌||◌, Bool, true, false, not, Option, None, is_none, slice_set}
 use Rattle.shogi_core.specs.declared.piece.Color.{Color}
 use Rattle.shogi_core.specs.declared.piece.Kind.{Kind}
+use Rattle.shogi_core.specs.declared.piece.Kind.TheVariants.{Pawn}
 use Rattle.shogi_core.specs.declared.piece.Piece.{Piece}
 use Rattle.shogi_core.specs.declared.moves.Move.{Move}
 use Rattle.shogi_core.specs.declared.moves.Move.TheVariants.{Board, Drop}
@@ -13,7 +14,7 @@ use Rattle.shogi_core.specs.Movement.{Cells, piece_at, reaches}
 use Rattle.shogi_core.specs.Pieces.{opponent_of}
 use Rattle.shogi_core.specs.Position.{Shogi, count_in_hand}
 use Rattle.shogi_moves.specs.After.{cells_after}
-use Rattle.shogi_moves.specs.Legal.{is_legal_code}
+use Rattle.shogi_moves.specs.Legal.{is_legal_code, is_pawn_drop_mate}
 
 -- where captures end, and where the other moves do
 abbrev pub is_destination : Bool → Color → Option Piece → Bool
@@ -33,6 +34,15 @@ AreUncheckedDestinations p from destinations mask =
 abbrev pub AreLegalDestinations : Shogi → ℕ → Bool → ℕ → ℕ → Type 0
 AreLegalDestinations p from promote destinations mask =
     HasBits mask (λ n. has_bit destinations n && is_legal_code p (code_of (Board from n promote)))
+
+-- the mask has those of the squares on which a dropped pawn leaves its king unattacked
+abbrev pub AreUncheckedDrops : Shogi → ℕ → ℕ → Type 0
+AreUncheckedDrops p squares mask =
+    HasBits mask (λ n. has_bit squares n && is_unchecked p (Drop Pawn n))
+
+-- a pawn dropped there mates
+abbrev pub is_mating_square : Shogi → ℕ → Bool
+is_mating_square p n = is_pawn_drop_mate p (Drop Pawn n)
 
 -- for each kind that the side to move holds, the mask has the empty squares on which it leaves the king unattacked
 pub record AreDropSquares (p : Shogi) (mask : ℕ) : Type 0 where
@@ -55,3 +65,14 @@ ShowsAttack p seen king to =
 pub record Sifts (first left kept : ℕ) (test : ℕ → Bool) : Type 0 where
   pub within : (n : ℕ) → has_bit left n ≡ true → has_bit first n ≡ true
   pub bits : (n : ℕ) → n < 81 → has_bit kept n ≡ (has_bit first n && (test n || has_bit left n))
+
+-- none of the pieces that a mask leaves out reaches a destination of the kind
+abbrev pub HasMovers : Shogi → Bool → ℕ → ℕ → Type 0
+HasMovers p capture pieces mask = (n t : ℕ) → n < 81 → t < 81
+    → has_bit pieces n ≡ true → has_bit mask n ≡ false
+    → (reaches p.cells n t && is_destination capture p.side (piece_at p.cells t)) ≡ false
+
+-- what is near a square of the first mask is in the second
+abbrev pub Spreads : (ℕ → ℕ → Type 0) → ℕ → ℕ → Type 0
+Spreads near mask spread = (a b : ℕ) → a < 81 → b < 81 → has_bit mask b ≡ true
+    → near b a → has_bit spread a ≡ true

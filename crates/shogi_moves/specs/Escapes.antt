@@ -1,10 +1,11 @@
 -- Squares to which the king of the side that is not to move may go, should a move give it check (own choice).
-use Rattle.std.specs.Prelude.{ℕ, ◌≡◌, ◌≢◌, ◌<◌, ◌^◌, true, false, None, slice_set}
+use Rattle.std.specs.Prelude.{ℕ, ◌≡◌, ◌≢◌, ◌<◌, ◌^◌, true, false, Option, None, slice_set}
 use Rattle.shogi_core.specs.declared.piece.Color.{Color}
+use Rattle.shogi_core.specs.declared.piece.Piece.{Piece}
 use Rattle.shogi_core.specs.Attack.{is_attacked}
 use Rattle.shogi_core.specs.Bits.{has_bit}
 use Rattle.shogi_core.specs.Cell.{is_king, is_piece_of}
-use Rattle.shogi_core.specs.Movement.{Cells, piece_at, reaches}
+use Rattle.shogi_core.specs.Movement.{Cells, piece_at, reaches, cell_reaches}
 use Rattle.shogi_core.specs.Pieces.{opponent_of}
 use Rattle.shogi_core.specs.Position.{Shogi}
 
@@ -19,6 +20,11 @@ pub record IsEscape (cells : Cells) (side : Color) (k e : ℕ) : Type 0 where
   pub reached : reaches cells k e ≡ true
   pub open_end : is_piece_of side (piece_at cells e) ≡ false
   pub safe : is_attacked (slice_set cells k None) (opponent_of side) e ≡ false
+
+-- off the mask, what stands on the square reaches nothing, whatever stands elsewhere
+abbrev pub ReachesWithin : Option Piece → ℕ → ℕ → Type 0
+ReachesWithin cell to mask = (cells : Cells) (n : ℕ) → n < 81 → has_bit mask n ≡ false
+    → cell_reaches cells cell to n ≡ false
 
 -- a mask of such squares of the side that is not to move
 pub record AreEscapes (p : Shogi) (mask : ℕ) : Type 0 where

@@ -1,5 +1,5 @@
 -- The legal moves of a position by their codes, and sequences of legal moves (their order is an own choice).
-use Rattle.std.specs.Prelude.{◌≡◌, ℕ, zero, suc, ◌+◌, List, ◌∷◌, Option, Some, None, MatchOption, filter, sum_by}
+use Rattle.std.specs.Prelude.{◌≡◌, ℕ, zero, suc, ◌+◌, List, [], ◌∷◌, Option, Some, None, MatchOption, filter, sum_by}
 use Rattle.shogi_core.specs.declared.moves.Move.{Move}
 use Rattle.shogi_core.specs.Codes.{code_of, codes_from}
 use Rattle.shogi_core.specs.Position.{Shogi}
@@ -22,6 +22,11 @@ legal_above p (Some m) = legal_from p (code_of m + 1)
 -- the move found is the legal one of least code from the first on; where none is found, there is none before the end
 abbrev pub IsLeastFrom : Shogi → Option Move → ℕ → ℕ → Type 0
 IsLeastFrom p found first end = MatchOption found (legal_from p first ≡ legal_from p end)
+    (λ m. legal_from p first ≡ code_of m ∷ legal_from p (code_of m + 1))
+
+-- the same, up to the last of all moves
+abbrev pub IsFirstFrom : Shogi → Option Move → ℕ → Type 0
+IsFirstFrom p found first = MatchOption found (legal_from p first ≡ [])
     (λ m. legal_from p first ≡ code_of m ∷ legal_from p (code_of m + 1))
 
 -- how many sequences of n legal moves there are

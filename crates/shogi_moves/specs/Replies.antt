@@ -158,3 +158,13 @@ pub record HasCertainQuiets (p : Shogi) (from : ℕ) : Type 0 where
   pub plain : (n : ℕ) → n < 81
       → (reaches p.cells from n && is_destination false p.side (piece_at p.cells n)) ≡ true
       → may_promote (piece_at p.cells from) from n ≡ false
+
+-- what stands on the squares of the mask makes such moves alone
+abbrev pub AreFarPieces : Shogi → ℕ → ℕ → Type 0
+AreFarPieces p sight mask = (a n : ℕ) → a < 81 → n < 81 → has_bit mask a ≡ true
+    → reaches p.cells a n ≡ true → IsFarMove p sight a n
+
+-- on those of the squares that are off the mask, the piece attacks no king of the side that is not to move
+abbrev pub ChecksAmong : Shogi → Option Piece → ℕ → ℕ → Type 0
+ChecksAmong p cell among mask = (n : ℕ) → n < 81 → has_bit among n ≡ true → has_bit mask n ≡ false
+    → IsHarmless p.cells (opponent_of p.side) cell n

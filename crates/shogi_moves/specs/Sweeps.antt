@@ -1,6 +1,7 @@
 -- What is kept on the way through the moves of a kind: the destinations still to come of the present piece.
-use Rattle.std.specs.Prelude.{ℕ, ◌≡◌, ◌≢◌, ◌≤◌, ◌<◌, ◌+◌, ◌*◌, ◌/◌, ◌%◌, ◌^◌, ◌⊎◌, Bool, true, false, List, [], ◌∷◌, filter}
+use Rattle.std.specs.Prelude.{ℕ, ◌≡◌, ◌≢◌, ◌≤◌, ◌<◌, ◌+◌, ◌*◌, ◌/◌, ◌%◌, ◌^◌, ◌⊎◌, Bool, true, false, List, [], ◌∷◌, filter, bit_or, Option}
 use Rattle.shogi_core.specs.declared.moves.TheConstants.{FIRST_DROP, SQUARE_CODES}
+use Rattle.shogi_core.specs.declared.moves.Move.{Move}
 use Rattle.shogi_core.specs.declared.moves.Move.TheVariants.{Board, Drop}
 use Rattle.shogi_core.specs.declared.piece.Kind.{Kind}
 use Rattle.shogi_core.specs.Bits.{HasBits, has_bit}
@@ -15,10 +16,15 @@ use Rattle.shogi_moves.specs.CheckInfo.{IsCheckInfoOf}
 use Rattle.shogi_moves.specs.Destinations.{AreDropSquares}
 use Rattle.shogi_moves.specs.Legal.{is_legal_code}
 use Rattle.shogi_moves.specs.LegalMoves.{legal_from, legal_codes}
+use Rattle.shogi_moves.specs.Walks.{IsNextOf}
 
 -- the legal moves of the kind from a code on
 abbrev pub matching_from : Shogi → Bool → ℕ → List ℕ
 matching_from p capture first = filter (matches_kind p capture) (legal_from p first)
+
+-- those of them that are drops
+abbrev pub matching_drops : Shogi → Bool → List ℕ
+matching_drops p capture = matching_from p capture FIRST_DROP
 
 -- the mask has the destinations at which the move of the piece is legal and of the kind, promoting or not
 abbrev pub AreMatchingDestinations : Shogi → Bool → ℕ → Bool → ℕ → Type 0
@@ -30,6 +36,11 @@ pub record Keeps (test : ℕ → Bool) (place : ℕ → ℕ) (code mask : ℕ) :
   pub fits : mask < 2 ^ 81
   pub set : (n : ℕ) → n < 81 → has_bit mask n ≡ true → (code ≤ place n) × (test (place n) ≡ true)
   pub clear : (n : ℕ) → n < 81 → has_bit mask n ≡ false → code ≤ place n → test (place n) ≡ false
+
+-- the mask has the destinations of a legal move of the piece, promoting or not, from a code on
+abbrev pub KeepsLegal : Shogi → ℕ → Bool → ℕ → ℕ → Type 0
+KeepsLegal p from promote code mask =
+    Keeps (is_legal_code p) (λ n. code_of (Board from n promote)) code mask
 
 -- the destinations still to come of the piece on a square
 pub record KeepsBoard (p : Shogi) (capture : Bool) (from code plain promoting : ℕ) : Type 0 where
@@ -58,6 +69,33 @@ pub record IsDropSweep (p : Shogi) (s : DropSweep) : Type 0 where
   pub squares : AreDropSquares p s.squares
   pub destinations : KeepsDrop p s.kind s.code s.destinations
 
+-- the moves that a sweep has still to give
+abbrev pub board_left : Shogi → Bool → BoardSweep → List ℕ
+board_left p capture s = matching_from p capture s.code
+
+abbrev pub drops_left : Shogi → DropSweep → List ℕ
+drops_left p s = matching_from p false s.code
+
+-- a destination of the present piece is left
+abbrev pub HasDestination : BoardSweep → Type 0
+HasDestination s = bit_or s.destinations.plain s.destinations.promoting ≢ 0
+
+-- the sweep goes on at a piece, or a kind, that has a move, and no move is left out
+abbrev pub GoesOnBoard : Shogi → Bool → BoardSweep → BoardSweep → Type 0
+GoesOnBoard p capture old new =
+    HasDestination new × (board_left p capture old ≡ board_left p capture new)
+
+abbrev pub GoesOnDrops : Shogi → DropSweep → DropSweep → Type 0
+GoesOnDrops p old new = (new.destinations ≢ 0) × (drops_left p old ≡ drops_left p new)
+
+-- the move found is the next one, and the others are left; where none is found, there is none of the sweep
+abbrev pub IsNextOnBoard : Shogi → Bool → Option Move → BoardSweep → BoardSweep → Type 0
+IsNextOnBoard p capture found old new =
+    IsNextOf found (board_left p capture old) (board_left p capture new) (matching_drops p capture)
+
+abbrev pub IsNextDrop : Shogi → Option Move → DropSweep → DropSweep → Type 0
+IsNextDrop p found old new = IsNextOf found (drops_left p old) (drops_left p new) []
+
 -- the code is that of a legal move on the board, from a code on, that takes nothing and does not promote, after which the other side has a legal move
 pub record IsCertainQuiet (p : Shogi) (first code : ℕ) : Type 0 where
   pub above : first ≤ code
@@ -84,3 +122,12 @@ pub record IsPassedTo (p : Shogi) (code next : ℕ) : Type 0 where
   pub up : code ≤ next
   pub passed : (first : ℕ) → first ≤ code
       → IsPassed (IsCertainQuiet p first) (matching_from p false code) (matching_from p false next)
+
+-- certain moves are passed, and the others are left
+abbrev pub PassesQuiets : Shogi → BoardSweep → BoardSweep → Type 0
+PassesQuiets p old new =
+    IsPassed (IsCertainQuiet p old.code) (board_left p false old) (board_left p false new)
+
+abbrev pub PassesDrops : Shogi → DropSweep → DropSweep → Type 0
+PassesDrops p old new =
+    IsPassed (IsCertainDrop p old.kind old.code) (drops_left p old) (drops_left p new)

@@ -7,6 +7,7 @@ use Rattle.shogi_core.specs.Cell.{is_piece_of, is_king, is_immobile}
 use Rattle.shogi_core.specs.Movement.{piece_at, reaches}
 use Rattle.shogi_core.specs.Pieces.{opponent_of}
 use Rattle.shogi_core.specs.Position.{Shogi}
+use Rattle.shogi_moves.specs.After.{after}
 use Rattle.shogi_moves.specs.Legal.{is_legal}
 use Rattle.shogi_moves.specs.Replies.{is_aligned_with_king}
 
@@ -39,3 +40,8 @@ LeavesThreat p a t (Drop kind to) = EndsAside p a to
 pub record MayTake (q : Shogi) (a t : ℕ) (cell : Option Piece) : Type 0 where
   pub legal : is_legal q (Board a t false) ≡ true
   pub stands : piece_at q.cells t ≡ cell
+
+-- after the move the other side may take by each threat that it leaves
+abbrev pub KeepsThreats : Shogi → Move → Type 0
+KeepsThreats p m = (a t : ℕ) → IsThreat p a t → LeavesThreat p a t m
+    → MayTake (after p m) a t (piece_at p.cells t)

@@ -3,7 +3,7 @@
 ghost use Rattle.std.specs.Prelude.{◌≡◌, ◌<◌, ◌^◌, ◌&&◌, ℕ, not, true, false, None, slice_set};
 ghost use Rattle.shogi_core.specs.declared.moves.Move.TheVariants as moves;
 ghost use Rattle.shogi_core.specs.declared.piece.Kind.TheVariants as kinds;
-ghost use Rattle.shogi_moves.specs.Legal.{is_safe, is_pawn_drop_mate, may_promote};
+ghost use Rattle.shogi_moves.specs.Legal.{is_safe, may_promote};
 ghost use Rattle.shogi_core.specs.Attack.{in_check};
 ghost use Rattle.shogi_core.specs.Bits.{HasBits, has_bit};
 ghost use Rattle.shogi_core.specs.Cell.{is_piece_of, is_king, is_immobile};
@@ -11,7 +11,7 @@ ghost use Rattle.shogi_core.specs.Codes.{code_of};
 ghost use Rattle.shogi_core.specs.Movement.{piece_at};
 ghost use Rattle.shogi_core.specs.Position.{count_in_hand};
 ghost use Rattle.shogi_moves.specs.Captures.{is_matching};
-ghost use Rattle.shogi_moves.specs.Destinations.{is_destination, is_unchecked, AreUncheckedDestinations, AreLegalDestinations, AreEnterable, AreDropSquares, ShowsAttack};
+ghost use Rattle.shogi_moves.specs.Destinations.{is_destination, is_unchecked, is_mating_square, AreUncheckedDestinations, AreUncheckedDrops, AreLegalDestinations, AreEnterable, AreDropSquares, ShowsAttack};
 ghost use Rattle.shogi_moves.specs.Escapes.{HasNoOtherKing};
 ghost use Rattle.shogi_moves.specs.CheckInfo.{IsCheckInfoOf};
 
@@ -199,24 +199,23 @@ fn safe_destinations(p: &Position, info: &CheckInfo, from: Square, destinations:
 /// neither begin nor end in the zone in which they promote, and are told at once.
 #[inline(always)]
 #[tactic(auto, using(crate::proofs::DestinationLaws::promoting))]
-fn with_promotions(cell: Option<Piece>, from: Square, destinations: u128) -> Destinations
-    requires { destinations < 2 ^ 81 }
-    ensures plain { HasBits result.plain (λ n. has_bit destinations n && not (is_immobile n cell)) }
-    ensures promoting { HasBits result.promoting
-        (λ n. has_bit destinations n && may_promote cell from n) }
+fn with_promotions(cell: Option<Piece>, from: Square, among: u128) -> Destinations
+    requires { among < 2 ^ 81 }
+    ensures plain { HasBits result.plain (λ n. has_bit among n && not (is_immobile n cell)) }
+    ensures promoting { HasBits result.promoting (λ n. has_bit among n && may_promote cell from n) }
     ensures plain_fits { result.plain < 2 ^ 81 }
     ensures promoting_fits { result.promoting < 2 ^ 81 }
 {
     let zone = promoting_squares(cell, from);
-    if zone == 0 || destinations & zone == 0 {
+    if zone == 0 || among & zone == 0 {
         return Destinations {
-            plain: destinations,
+            plain: among,
             promoting: 0,
         };
     }
     Destinations {
-        plain: destinations & !dead_squares(cell),
-        promoting: destinations & zone,
+        plain: among & !dead_squares(cell),
+        promoting: among & zone,
     }
 }
 
@@ -259,8 +258,7 @@ pub fn legal_destinations(p: &Position, info: &CheckInfo, from: Square, among: u
 #[tactic(auto, using(crate::proofs::DestinationLaws::sifting))]
 fn tried_drops(p: &Position, squares: u128) -> u128
     requires { squares < 2 ^ 81 }
-    ensures bits { HasBits result
-        (λ n. has_bit squares n && is_unchecked p.now (moves.Drop kinds.Pawn n)) }
+    ensures bits { AreUncheckedDrops p.now squares result }
     ensures fits { result < 2 ^ 81 }
 {
     let mut left = squares;
@@ -334,7 +332,7 @@ pub fn safe_drops(p: &Position, squares: u128, kind: Kind) -> u128
 fn facing_squares(p: &Position) -> u128
     ensures fits { result < 2 ^ 81 }
     ensures far { (n : ℕ) → n < 81 → has_bit result n ≡ false
-        → not (is_pawn_drop_mate p.now (moves.Drop kinds.Pawn n)) ≡ true }
+        → not (is_mating_square p.now n) ≡ true }
 {
     p.validity();
     let opponent = p.side().opponent();
@@ -357,8 +355,7 @@ fn facing_squares(p: &Position) -> u128
 fn non_mating_drops(p: &Position, destinations: u128) -> u128
     requires fits { destinations < 2 ^ 81 }
     requires safe { HasBits destinations (λ n. is_safe p.now (moves.Drop kinds.Pawn n)) }
-    ensures bits { HasBits result (λ n.
-        has_bit destinations n && not (is_pawn_drop_mate p.now (moves.Drop kinds.Pawn n))) }
+    ensures bits { HasBits result (λ n. has_bit destinations n && not (is_mating_square p.now n)) }
     ensures fits { result < 2 ^ 81 }
 {
     let mut left = destinations & facing_squares(p);

@@ -4,8 +4,7 @@ ghost use Rattle.std.specs.Prelude.{◌≡◌, ◌<◌, ◌^◌, ◌&&◌, ℕ, 
 ghost use Rattle.shogi_core.specs.declared.piece.Piece.{Piece};
 ghost use Rattle.shogi_core.specs.Attack.{is_attacked};
 ghost use Rattle.shogi_core.specs.Bits.{HasBits, has_bit};
-ghost use Rattle.shogi_core.specs.Movement.{Cells, cell_reaches};
-ghost use Rattle.shogi_moves.specs.Escapes.{AreEscapes, HasOpenEscape};
+ghost use Rattle.shogi_moves.specs.Escapes.{ReachesWithin, AreEscapes, HasOpenEscape};
 ghost use Rattle.shogi_moves.specs.Replies.{IsAnswered, AreAnswered, AreDropsAnswered};
 
 use crate::after::{dropped, piece_moved};
@@ -61,8 +60,7 @@ pub fn escape_squares(p: &Position) -> u128
 
 /// All squares that the piece may reach from the square, whatever stands on the others.
 fn within_reach(cell: Option<Piece>, to: Square) -> u128
-    ensures far { (cells : Cells) (n : ℕ) → n < 81 → has_bit result n ≡ false
-        → cell_reaches cells cell to n ≡ false }
+    ensures far { ReachesWithin cell to result }
     ensures fits { result < 2 ^ 81 }
 {
     let Some(piece) = cell else { return 0 };

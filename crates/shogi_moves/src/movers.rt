@@ -1,12 +1,11 @@
 //! The pieces that may have a move of a kind, and those whose moves give the other side no check
 //! and cannot promote, found all at once.
 
-ghost use Rattle.std.specs.Prelude.{◌≡◌, ◌<◌, ◌^◌, ◌+◌, ◌⊎◌, ◌&&◌, ℕ, true, false};
+ghost use Rattle.std.specs.Prelude.{◌≡◌, ◌<◌, ◌^◌, ◌+◌, ◌⊎◌, ℕ, true};
 ghost use Rattle.shogi_core.specs.Bits.{has_bit};
 ghost use Rattle.shogi_core.specs.Lines.{is_near};
-ghost use Rattle.shogi_core.specs.Movement.{piece_at, reaches};
-ghost use Rattle.shogi_moves.specs.Destinations.{is_destination};
-ghost use Rattle.shogi_moves.specs.Replies.{IsFarMove};
+ghost use Rattle.shogi_moves.specs.Destinations.{HasMovers, Spreads};
+ghost use Rattle.shogi_moves.specs.Replies.{AreFarPieces};
 
 use crate::zones::{back_squares, zone_squares};
 use shogi_core::Position;
@@ -15,8 +14,7 @@ use shogi_core::Position;
 fn places_away(mask: u128, places: usize) -> u128
     requires fits { mask < 2 ^ 81 }
     requires places { places < 12 }
-    ensures { (a b : ℕ) → a < 81 → b < 81 → has_bit mask b ≡ true
-        → (b ≡ a + places) ⊎ (a ≡ b + places) → has_bit result a ≡ true }
+    ensures { Spreads (λ b a. (b ≡ a + places) ⊎ (a ≡ b + places)) mask result }
 {
     mask >> places | mask << places
 }
@@ -25,8 +23,7 @@ fn places_away(mask: u128, places: usize) -> u128
 /// board.
 fn squares_near(mask: u128) -> u128
     requires { mask < 2 ^ 81 }
-    ensures { (a b : ℕ) → a < 81 → b < 81 → has_bit mask b ≡ true
-        → is_near b a ≡ true → has_bit result a ≡ true }
+    ensures { Spreads (λ b a. is_near b a ≡ true) mask result }
 {
     places_away(mask, 1)
         | places_away(mask, 7)
@@ -41,9 +38,7 @@ fn squares_near(mask: u128) -> u128
 pub fn movers(p: &Position, capture: bool, pieces: u128) -> u128
     requires { pieces < 2 ^ 81 }
     ensures within { (n : ℕ) → has_bit result n ≡ true → has_bit pieces n ≡ true }
-    ensures none { (n t : ℕ) → n < 81 → t < 81 → has_bit pieces n ≡ true → has_bit result n ≡ false
-        → (reaches p.now.cells n t
-        && is_destination capture p.now.side (piece_at p.now.cells t)) ≡ false }
+    ensures none { HasMovers p.now capture pieces result }
     ensures fits { result < 2 ^ 81 }
 {
     if !capture {
@@ -57,8 +52,7 @@ pub fn movers(p: &Position, capture: bool, pieces: u128) -> u128
 /// to move on the three ranks before it that do not slide and that the mask leaves out.
 #[inline(always)]
 pub fn far_pieces(p: &Position, sight: u128) -> u128
-    ensures { (a n : ℕ) → a < 81 → n < 81 → has_bit result a ≡ true
-        → reaches p.now.cells a n ≡ true → IsFarMove p.now sight a n }
+    ensures { AreFarPieces p.now sight result }
 {
     p.validity();
     let side = p.side();

@@ -9,10 +9,10 @@ ghost use Rattle.shogi_core.specs.Movement.{piece_at};
 ghost use Rattle.shogi_core.specs.Pieces.{kind_number};
 ghost use Rattle.shogi_moves.specs.CheckInfo.{IsCheckInfoOf};
 ghost use Rattle.shogi_moves.specs.Legal.{is_legal, is_legal_code};
-ghost use Rattle.shogi_moves.specs.LegalMoves.{legal_from, legal_above, legal_codes, IsLeastFrom};
+ghost use Rattle.shogi_moves.specs.LegalMoves.{legal_above, legal_codes, IsFirstFrom, IsLeastFrom};
 ghost use Rattle.shogi_moves.specs.Places.{code_past, IsAtSquare, IsAtKind};
 ghost use Rattle.shogi_moves.specs.Rising.{IsRising};
-ghost use Rattle.shogi_moves.specs.Sweeps.{Keeps};
+ghost use Rattle.shogi_moves.specs.Sweeps.{Keeps, KeepsLegal};
 
 use crate::check_info::{CheckInfo, check_info_of};
 use crate::destinations::{
@@ -35,10 +35,8 @@ fn destinations_left(p: &Position, info: &CheckInfo, from: Square, code: u16) ->
     requires info { IsCheckInfoOf info.now p.now }
     requires own { is_piece_of p.now.side (piece_at p.now.cells from) ≡ true }
     requires code { IsAtSquare from code }
-    ensures plain { Keeps (is_legal_code p.now) (λ n. code_of (moves.Board from n false))
-        code result.plain }
-    ensures promoting { Keeps (is_legal_code p.now) (λ n. code_of (moves.Board from n true))
-        code result.promoting }
+    ensures plain { KeepsLegal p.now from false code result.plain }
+    ensures promoting { KeepsLegal p.now from true code result.promoting }
 {
     from.validity();
     let passed = (code - from.index() as u16 * SQUARE_CODES) as usize;
@@ -163,8 +161,7 @@ fn code_past(m: &Move) -> u16
 pub fn least_from(p: &Position, info: &CheckInfo, first: u16) -> Option<Move>
     requires first { first ≤ MOVE_CODE_COUNT }
     requires info { IsCheckInfoOf info.now p.now }
-    ensures next { MatchOption result (legal_from p.now first ≡ [])
-        (λ m. legal_from p.now first ≡ code_of m ∷ legal_from p.now (code_of m + 1)) }
+    ensures next { IsFirstFrom p.now result first }
     ensures legal { IfSome result (λ m. is_legal p.now m ≡ true) }
 {
     let mut code = first;

@@ -3,14 +3,13 @@
 ghost use Rattle.std.specs.Prelude.{◌≡◌, ◌≢◌, ◌<◌, ◌^◌, ℕ, [], true, false};
 ghost use Rattle.shogi_core.specs.Below.{some_below};
 ghost use Rattle.shogi_core.specs.Bits.{has_bit};
-ghost use Rattle.shogi_core.specs.Movement.{piece_at};
 ghost use Rattle.shogi_core.specs.Pieces.{opponent_of};
 ghost use Rattle.shogi_moves.specs.After.{after};
 ghost use Rattle.shogi_moves.specs.Escapes.{AreEscapes};
 ghost use Rattle.shogi_moves.specs.Legal.{is_legal};
 ghost use Rattle.shogi_moves.specs.LegalMoves.{legal_codes};
-ghost use Rattle.shogi_moves.specs.Replies.{holds_free, is_open_step, is_spare, Sees, Aligns, IsReplies, IsHarmless, IsOpen, StaysCovered, UncoversWithin, AreAnswered, AreDropsAnswered, HasCertainQuiets};
-ghost use Rattle.shogi_moves.specs.Threats.{IsThreat, LeavesThreat, MayTake};
+ghost use Rattle.shogi_moves.specs.Replies.{ChecksAmong, holds_free, is_open_step, is_spare, Sees, Aligns, IsReplies, IsHarmless, IsOpen, StaysCovered, UncoversWithin, AreAnswered, AreDropsAnswered, HasCertainQuiets};
+ghost use Rattle.shogi_moves.specs.Threats.{KeepsThreats};
 
 use crate::after::{dropped, piece_moved};
 use crate::destinations::matching_destinations;
@@ -222,9 +221,7 @@ impl Replies {
         requires kept { IsReplies p.now self.now.sight self.now.spare }
         requires legal { is_legal p.now m.now ≡ true }
         ensures replied { result ≡ true → legal_codes (after p.now m.now) ≢ [] }
-        ensures threats { result ≡ true → (a t : ℕ) → IsThreat p.now a t
-            → LeavesThreat p.now a t m.now
-            → MayTake (after p.now m.now) a t (piece_at p.now.cells t) }
+        ensures threats { result ≡ true → KeepsThreats p.now m.now }
     {
         p.validity();
         match m {
@@ -252,8 +249,7 @@ impl Replies {
     /// Those of the squares on which what comes to stand may give check.
     fn checking_squares(&self, p: &Position, cell: Option<Piece>, destinations: u128) -> u128
         requires kept { IsReplies p.now self.now.sight self.now.spare }
-        ensures { (n : ℕ) → n < 81 → has_bit destinations n ≡ true → has_bit result n ≡ false
-            → IsHarmless p.now.cells (opponent_of p.now.side) cell n }
+        ensures { ChecksAmong p.now cell destinations result }
     {
         let seen = destinations & self.sight;
         if seen == 0 {

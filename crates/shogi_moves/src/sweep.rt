@@ -10,8 +10,7 @@ ghost use Rattle.shogi_moves.specs.Escapes.{AreEscapes};
 ghost use Rattle.shogi_moves.specs.CheckInfo.{IsCheckInfoOf};
 ghost use Rattle.shogi_moves.specs.Legal.{is_legal};
 ghost use Rattle.shogi_moves.specs.Replies.{IsReplies};
-ghost use Rattle.shogi_moves.specs.Sweeps.{matching_from, AreMatchingDestinations, IsBoardSweep, IsDropSweep, IsCertainQuiet, IsCertainDrop, IsPassed, IsPassedTo};
-ghost use Rattle.shogi_moves.specs.Walks.{IsNextOf};
+ghost use Rattle.shogi_moves.specs.Sweeps.{matching_drops, board_left, drops_left, AreMatchingDestinations, IsBoardSweep, IsDropSweep, HasDestination, GoesOnBoard, GoesOnDrops, IsNextOnBoard, IsNextDrop, IsPassedTo, PassesQuiets, PassesDrops};
 
 use crate::check_info::CheckInfo;
 use crate::destinations::{
@@ -112,10 +111,10 @@ impl BoardSweep {
     #[tactic(auto, using(crate::proofs::SweepLaws::sweeping))]
     fn take(&mut self, p: &Position, capture: bool) -> Move
         requires kept { IsBoardSweep p.now capture self.old }
-        requires some { bit_or self.old.destinations.plain self.old.destinations.promoting ≢ 0 }
+        requires some { HasDestination self.old }
         ensures kept { IsBoardSweep p.now capture self.new }
-        ensures next { matching_from p.now capture self.old.code
-            ≡ code_of result ∷ matching_from p.now capture self.new.code }
+        ensures next { board_left p.now capture self.old
+            ≡ code_of result ∷ board_left p.now capture self.new }
         ensures legal { is_legal p.now result ≡ true }
     {
         let (from, plain, promoting) = (
@@ -153,12 +152,9 @@ impl BoardSweep {
         requires kept { IsBoardSweep p.now capture self.old }
         requires none { bit_or self.old.destinations.plain self.old.destinations.promoting ≡ 0 }
         ensures kept { IsBoardSweep p.now capture self.new }
-        ensures some { result ≡ true
-            → (bit_or self.new.destinations.plain self.new.destinations.promoting ≢ 0)
-            × (matching_from p.now capture self.old.code
-            ≡ matching_from p.now capture self.new.code) }
+        ensures some { result ≡ true → GoesOnBoard p.now capture self.old self.new }
         ensures end { result ≡ false
-            → matching_from p.now capture self.old.code ≡ matching_from p.now capture FIRST_DROP }
+            → board_left p.now capture self.old ≡ matching_drops p.now capture }
     {
         p.validity();
         let matching = matching_destinations(p, capture);
@@ -189,8 +185,7 @@ impl BoardSweep {
     pub fn next(&mut self, p: &Position, capture: bool) -> Option<Move>
         requires kept { IsBoardSweep p.now capture self.old }
         ensures kept { IsBoardSweep p.now capture self.new }
-        ensures next { IsNextOf result (matching_from p.now capture self.old.code)
-            (matching_from p.now capture self.new.code) (matching_from p.now capture FIRST_DROP) }
+        ensures next { IsNextOnBoard p.now capture result self.old self.new }
         ensures legal { IfSome result (λ m. is_legal p.now m ≡ true) }
     {
         if self.destinations.plain | self.destinations.promoting == 0 {
@@ -258,8 +253,7 @@ impl BoardSweep {
         requires replies { IsReplies p.now replies.now.sight replies.now.spare }
         requires escapes { AreEscapes p.now escapes }
         ensures kept { IsBoardSweep p.now false self.new }
-        ensures passed { IsPassed (IsCertainQuiet p.now self.old.code)
-            (matching_from p.now false self.old.code) (matching_from p.now false self.new.code) }
+        ensures passed { PassesQuiets p.now self.old self.new }
     {
         if self.destinations.promoting != 0 {
             return;
@@ -310,8 +304,7 @@ impl DropSweep {
         requires kept { IsDropSweep p.now self.old }
         requires some { self.old.destinations ≢ 0 }
         ensures kept { IsDropSweep p.now self.new }
-        ensures next { matching_from p.now false self.old.code
-            ≡ code_of result ∷ matching_from p.now false self.new.code }
+        ensures next { drops_left p.now self.old ≡ code_of result ∷ drops_left p.now self.new }
         ensures legal { is_legal p.now result ≡ true }
     {
         let (kind, destinations) = (self.kind, self.destinations);
@@ -329,9 +322,8 @@ impl DropSweep {
         requires kept { IsDropSweep p.now self.old }
         requires none { self.old.destinations ≡ 0 }
         ensures kept { IsDropSweep p.now self.new }
-        ensures some { result ≡ true → (self.new.destinations ≢ 0)
-            × (matching_from p.now false self.old.code ≡ matching_from p.now false self.new.code) }
-        ensures end { result ≡ false → matching_from p.now false self.old.code ≡ [] }
+        ensures some { result ≡ true → GoesOnDrops p.now self.old self.new }
+        ensures end { result ≡ false → drops_left p.now self.old ≡ [] }
         ensures same { result ≡ false → self.new.code ≡ self.old.code }
     {
         let squares = self.squares;
@@ -354,9 +346,8 @@ impl DropSweep {
     pub fn next(&mut self, p: &Position) -> Option<Move>
         requires kept { IsDropSweep p.now self.old }
         ensures kept { IsDropSweep p.now self.new }
-        ensures next { IsNextOf result (matching_from p.now false self.old.code)
-            (matching_from p.now false self.new.code) [] }
-        ensures end { IsNone result → matching_from p.now false self.new.code ≡ [] }
+        ensures next { IsNextDrop p.now result self.old self.new }
+        ensures end { IsNone result → drops_left p.now self.new ≡ [] }
         ensures legal { IfSome result (λ m. is_legal p.now m ≡ true) }
     {
         if self.destinations == 0 {
@@ -374,8 +365,7 @@ impl DropSweep {
         requires replies { IsReplies p.now replies.now.sight replies.now.spare }
         requires escapes { AreEscapes p.now escapes }
         ensures kept { IsDropSweep p.now self.new }
-        ensures passed { IsPassed (IsCertainDrop p.now self.old.kind self.old.code)
-            (matching_from p.now false self.old.code) (matching_from p.now false self.new.code) }
+        ensures passed { PassesDrops p.now self.old self.new }
     {
         let destinations = self.destinations;
         let first = FIRST_DROP + self.kind.number() as u16 * 81;
