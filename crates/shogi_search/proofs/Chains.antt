@@ -146,8 +146,8 @@ pub left_same : (f g : Frame) → IsSame f g → g.picker ≡ f.picker → left_
 left_same f g s k v = omega (arith, moves_same f g s k, v)
 
 -- a leaf that is valued and not taken in yet
-pub left_heard : (f g : Frame) → IsSame f g → g.picker ≡ f.picker → left_of_frame g ≤ left_of_frame f + 1
-left_heard f g s k = omega (arith, moves_same f g s k, one g.waiting)
+pub left_valued : (f g : Frame) → IsSame f g → g.picker ≡ f.picker → left_of_frame g ≤ left_of_frame f + 1
+left_valued f g s k = omega (arith, moves_same f g s k, one g.waiting)
   where
     one : (waiting : Waiting) → left_of_waiting waiting ≤ 1
     one Next = omega arith

@@ -19,7 +19,7 @@ use Rattle.shogi_search.specs.Window.{IsCovered, threshold}
 use Rattle.shogi_search.specs.Order.{todo, IsKept}
 use Rattle.shogi_search.specs.declared.frame.Waiting.{Waiting}
 use Rattle.shogi_search.specs.declared.frame.Waiting.TheVariants.{Next, Asked, Leaf, Cut}
-use Rattle.shogi_search.specs.Visits.{moves_at, IsCurrent, IsOver, IsKnownWhile}
+use Rattle.shogi_search.specs.Visits.{moves_at, IsCurrent, WhereCurrent, IsOver, IsKnownWhile}
 use Rattle.shogi_search.proofs.MinimaxLaws.{tree_size-above, tree_size-leaf, best-leaf, value-above, value_within, Within}
 use Rattle.shogi_search.proofs.OrderLaws.{IsWhole, whole, whole_covered}
 use Rattle.shogi_search.proofs.Cover.{IsCovered-start}
@@ -36,6 +36,25 @@ pub record IsWaiting (f : ℕ → ℤ) (p : Shogi) (d m : ℕ) (rest : List ℕ)
 waits_at : (f : ℕ → ℤ) (p : Shogi) (d m : ℕ) (rest : List ℕ) (alpha best_value : ℤ) (b : Option ℕ) → IsCovered f (moves_at p d) (m ∷ rest) alpha best_value b → IsWaiting f p d m rest alpha best_value b
 waits_at f p zero m rest alpha best_value b c = let i : is_in m [] ≡ true = c.among m (or_left (m == m) (is_in m rest) (eq-eqb m m refl)) in absurd (cc)
 waits_at f p (suc d) m rest alpha best_value b c = record { deep = omega arith; is_listed = c.among m (or_left (m == m) (is_in m rest) (eq-eqb m m refl)); covered = c }
+
+-- some move is the current one, where something holds of it
+pub record HasCurrent (w : Waiting) (fact : Move → Type 0) : Type 0 where
+  pub current : Move
+  pub is : IsCurrent w current
+  pub has : fact current
+
+pub has_current : (w : Waiting) (fact : Move → Type 0) → WhereCurrent w fact → HasCurrent w fact
+has_current Next fact h = absurd h
+has_current (Asked m) fact h = record { current = m; is = refl; has = h }
+has_current (Leaf m v) fact h = record { current = m; is = refl; has = h }
+has_current (Cut v) fact h = absurd h
+
+-- what holds of this move holds of the current one
+pub of_current : (w : Waiting) (fact : Move → Type 0) (m : Move) → IsCurrent w m → fact m → WhereCurrent w fact
+of_current Next fact m e h = absurd e
+of_current (Asked k) fact m e h = subst fact (sym e) h
+of_current (Leaf k v) fact m e h = subst fact (sym e) h
+of_current (Cut v) fact m e h = absurd e
 
 -- the move that is asked for is the current one
 pub asked : (w : Waiting) (m : Move) → w ≡ Asked m → IsCurrent w m
@@ -89,17 +108,6 @@ new_node f p (suc d) alpha hash_move picker a b l =
     kept_at : (hash_move : Option Move) (picker : MovePicker) → MatchOption hash_move (picker ≡ Start None) (λ k. picker ≡ HashMove k) → IsKept p picker
     kept_at None picker e = subst (IsKept p) (sym e) tt
     kept_at (Some k) picker e = subst (IsKept p) (sym e) tt
-
-no_hash_move : (p : Shogi) → ForSome None (λ (k : Move). is_in (code_of k) (legal_codes p) ≡ true)
-no_hash_move p k e = absurd (cc)
-
--- the same without a hash move
-pub new_start : (f : ℕ → ℤ) (p : Shogi) (d : ℕ) (alpha : ℤ) (picker : MovePicker) → (d ≡ 0 → picker ≡ Done) → (0 < d → picker ≡ Start None) → IsNew f p d alpha picker
-new_start f p d alpha picker a b = new_node f p d alpha None picker a b (no_hash_move p)
-
--- the same where the best value so far is that of the window, as it is kept
-pub kept_value : (f : ℕ → ℤ) (p : Shogi) (d : ℕ) (alpha kept : ℤ) (picker : MovePicker) → kept ≡ alpha → IsNew f p d alpha picker → IsCovered f (moves_at p d) (todo p picker) alpha kept None
-kept_value f p d alpha kept picker e n = subst (λ (v : ℤ). IsCovered f (moves_at p d) (todo p picker) alpha v None) (sym e) n.covered
 
 -- a move that is worth so much
 pub cut : (p : Shogi) (eval : Eval) (d m : ℕ) (v : ℤ) → 0 < d → is_in m (legal_codes p) ≡ true → v ≤ℤ worth p eval (d - 1) m → v ≤ℤ value p eval d

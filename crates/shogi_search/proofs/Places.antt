@@ -15,10 +15,11 @@ use Rattle.shogi_search.specs.declared.stack.Stack.{Stack}
 use Rattle.shogi_search.specs.Minimax.{negated, IsTrueEntry, tree_size, sum_of_tree_sizes}
 use Rattle.shogi_search.specs.Entries.{IsCutoff}
 use Rattle.shogi_search.specs.Window.{threshold, code_at}
-use Rattle.shogi_search.specs.Stack.{IsAt, IsSame, IsChain, IsStack, OnTop, frames_of, parents_of, left_of_frame, left_of_stack, left_of_waiting, IsNext}
+use Rattle.shogi_search.specs.Frames.{position_after, threshold_of}
+use Rattle.shogi_search.specs.Stack.{IsAt, IsSame, IsChain, IsStack, OnTop, UsesSteps, frames_of, parents_of, left_of_frame, left_of_stack, left_of_waiting, left_with_child, steps_after}
 use Rattle.shogi_core.specs.Position.{Shogi}
-use Rattle.shogi_eval.specs.Evaluated.{Evaluated}
-use Rattle.shogi_search.specs.Order.{todo}
+use Rattle.shogi_eval.specs.declared.eval.Eval.{Eval}
+use Rattle.shogi_search.specs.Order.{todo, IsWithinTree}
 use Rattle.shogi_search.specs.Visits.{IsOver, IsFree}
 use Rattle.shogi_search.proofs.Nodes.{asked, waits}
 use Rattle.shogi_search.proofs.Entries.{same_window, same_truth}
@@ -147,14 +148,14 @@ cutoff_below s d m entry k h fits asks cutoff =
     same_window _ _ _ _ _ q.at_child.alpha_is q.at_child.beta_is (on_top s r.top (λ (top : Frame). IsCutoff top.alpha top.beta entry) r.is cutoff)
 
 -- the node below takes in what is known, and is on top
-pub gone_back : (s : Stack) (d g : Frame) → IsStack s → 0 < s.height → s.height < length s.frames → IsSame (get_or s.frames (s.height - 1) d) g → IsStack (with_frame s (s.height - 1) g)
-gone_back s d g k h fits same =
+pub stack_popped : (s : Stack) (d g : Frame) → IsStack s → 0 < s.height → s.height < length s.frames → IsSame (get_or s.frames (s.height - 1) d) g → IsStack (with_frame s (s.height - 1) g)
+stack_popped s d g k h fits same =
     let r : IsBelow s (get_or s.frames (s.height - 1) d) = below s d k h fits in
     let low : s.height ≤ SEARCH_DEPTH_MAX = k.height_fits in
     stack_with s (s.height - 1) g (omega arith) (omega arith) k.shallow (chain_same _ _ _ _ _ _ (get_or s.frames (s.height - 1) d) g r.popped.chain same)
 
-pub left_gone_back : (s : Stack) (d g : Frame) → IsStack s → 0 < s.height → s.height < length s.frames → IsSame (get_or s.frames (s.height - 1) d) g → g.picker ≡ (get_or s.frames (s.height - 1) d).picker → left_of_waiting g.waiting ≡ 0 → left_of_stack (with_frame s (s.height - 1) g) < left_of_stack s
-left_gone_back s d g k h fits same picker taken =
+pub left_popped : (s : Stack) (d g : Frame) → IsStack s → 0 < s.height → s.height < length s.frames → IsSame (get_or s.frames (s.height - 1) d) g → g.picker ≡ (get_or s.frames (s.height - 1) d).picker → left_of_waiting g.waiting ≡ 0 → left_of_stack (with_frame s (s.height - 1) g) < left_of_stack s
+left_popped s d g k h fits same picker taken =
     let l : left_of_frame g ≤ left_of_frame (get_or s.frames (s.height - 1) d) = left_same (get_or s.frames (s.height - 1) d) g same picker taken in
     let r : IsBelow s (get_or s.frames (s.height - 1) d) = below s d k h fits in
     omega (arith, left_with s (s.height - 1) g (omega arith), left_read s r.top r.is, left_above (parents_of s) (take (s.height - 1) s.frames) (get_or s.frames (s.height - 1) d) r.parents)
@@ -184,71 +185,34 @@ deep_of f m e = let w : _ = waits _ _ _ _ _ _ _ _ _ _ (asked f.waiting m e) f.kn
 pub room_asked : (s : Stack) (m : Move) → IsStack s → OnTop s (λ top. top.waiting ≡ Asked m) → s.height < 16
 room_asked s m k h = let t : HasTop s (λ top. top.waiting ≡ Asked m) = has_top s _ h in room s t.top t.is k (deep_of t.top m t.has)
 
--- a stack with one frame more
-abbrev pub grown : Stack → List Frame → Stack
-grown s fs = record { root = s.root; eval = s.eval; depth = s.depth; beta = s.beta; frames = fs; height = s.height + 1 }
+-- the child after the move that the node on top has asked for is entered above it
+pub stack_entered : (s : Stack) (f g : Frame) (m : Move) → IsTop s f → IsStack s → f.waiting ≡ Asked m → s.height + 1 < length s.frames → IsAt (position_after f m) f.node.eval (f.depth - 1) (negated f.beta) (negated (threshold_of f m)) g → IsStack (with_frame s (s.height + 1) g)
+stack_entered s f g m is k asks fits place =
+    let deep : 0 < f.depth = deep_of f m asks in
+    stack_with s (s.height + 1) g fits (omega (arith, room s f is k deep)) k.shallow
+    (pushed _ _ _ _ _ (frames_of s) (parents_of s) f g m (frames_are s f is) (on_top s f _ is k.chain) (record { deep = deep; asks = asks; at_child = place }))
 
--- the child is made above the top
-record IsGrown (s t : Stack) (m : Move) : Type 0 where
-  parent : Frame
-  is_parent : IsTop s parent
-  child : Frame
-  is_child : IsTop t child
-  next : IsNext parent child m
+-- a node is entered, and none of its moves is gone through
+pub left_entered : (s : Stack) (i : ℕ) (f : Frame) (p : Shogi) (e : Eval) (d : ℕ) (alpha beta : ℤ) → i < length s.frames → IsAt p e d alpha beta f → f.waiting ≡ Next → IsWithinTree p d f.picker → left_of_stack (with_frame s i f) < sum_by left_of_frame (take i s.frames) + 2 * tree_size p d
+left_entered s i f p e d alpha beta fits place next counted =
+    let none : left_of_waiting f.waiting ≡ 0 = ap left_of_waiting next in
+    let moves : sum_of_tree_sizes f.node.position (f.depth - 1) (todo f.node.position f.picker) ≡ sum_of_tree_sizes p (d - 1) (todo p f.picker) = ap (λ (x : Shogi). sum_of_tree_sizes x (f.depth - 1) (todo x f.picker)) place.position ∙ ap (λ (x : ℕ). sum_of_tree_sizes p (x - 1) (todo p f.picker)) place.depth in
+    omega (arith, none, moves, counted, left_with s i f fits)
 
-grows : (s t : Stack) (m : Move) → OnTop s (λ parent. OnTop t (λ child. IsNext parent child m)) → IsGrown s t m
-grows s t m h =
-    let p : HasTop s (λ parent. OnTop t (λ child. IsNext parent child m)) = has_top s _ h in
-    let q : HasTop t (λ child. IsNext p.top child m) = has_top t _ p.has in
-    record { parent = p.top; is_parent = p.is; child = q.top; is_child = q.is; next = q.has }
+pub left_child : (s : Stack) (f g : Frame) (m : Move) (e : Eval) (alpha beta : ℤ) → IsTop s f → s.height + 1 < length s.frames → IsAt (position_after f m) e (f.depth - 1) alpha beta g → g.waiting ≡ Next → IsWithinTree (position_after f m) (f.depth - 1) g.picker → UsesSteps s (with_frame s (s.height + 1) g) m 1
+left_child s f g m e alpha beta is fits place next counted =
+    of_top s f (λ (top : Frame). left_of_stack (with_frame s (s.height + 1) g) + 1 ≤ left_of_stack s + steps_after top m) is
+    (omega (arith, left_entered s (s.height + 1) g _ e _ alpha beta fits place next counted))
 
-pub stack_grown : (s : Stack) (fs : List Frame) (m : Move) → IsStack s → OnTop s (λ top. top.waiting ≡ Asked m) → take (s.height + 1) fs ≡ take (s.height + 1) s.frames → OnTop s (λ parent. IsSomeAnd (slice_get fs (s.height + 1)) (λ child. IsNext parent child m)) → IsStack (grown s fs)
-stack_grown s fs m k h same made =
-    let g : IsGrown s (grown s fs) m = grows s (grown s fs) m made in
-    let asks : g.parent.waiting ≡ Asked m = on_top s g.parent (λ (top : Frame). top.waiting ≡ Asked m) g.is_parent h in
-    record {
-      shallow = k.shallow;
-      height_fits = omega (arith, room_asked s m k h);
-      chain = of_top (grown s fs) g.child (IsChain s.root s.eval s.depth (negated INFINITY) s.beta (parents_of (grown s fs))) g.is_child
-          (pushed _ _ _ _ _ (parents_of (grown s fs)) (parents_of s) g.parent g.child m (same ∙ frames_are s g.parent g.is_parent) (on_top s g.parent _ g.is_parent k.chain) (record { deep = deep_of g.parent m asks; asks = asks; at_child = g.next.at_child }));
-    }
-
-pub left_grown : (s : Stack) (fs : List Frame) (m : Move) → take (s.height + 1) fs ≡ take (s.height + 1) s.frames → OnTop s (λ parent. IsSomeAnd (slice_get fs (s.height + 1)) (λ child. IsNext parent child m)) → OnTop s (λ top. left_of_stack (grown s fs) < left_of_stack s + 2 * tree_size (after_code top.node.position (code_of m)) (top.depth - 1))
-left_grown s fs m same made =
-    let g : IsGrown s (grown s fs) m = grows s (grown s fs) m made in
-    of_top s g.parent (λ (top : Frame). left_of_stack (grown s fs) < left_of_stack s + 2 * tree_size (after_code top.node.position (code_of m)) (top.depth - 1)) g.is_parent
-    (let below : sum_by left_of_frame (parents_of (grown s fs)) ≡ left_of_stack s = ap (sum_by left_of_frame) same in
-    omega (arith, below, left_read (grown s fs) g.child g.is_child, g.next.counted))
-
--- the child begins with its moves
-pub opens_grown : (s t : Stack) (m : Move) (f : Frame) → IsTop t f → OnTop s (λ parent. OnTop t (λ child. IsNext parent child m)) → f.alpha <ℤ f.beta
-opens_grown s t m f is made =
-    let p : HasTop s (λ parent. OnTop t (λ child. IsNext parent child m)) = has_top s _ made in
-    let n : IsNext p.top f m = on_top t f (λ (child : Frame). IsNext p.top child m) is p.has in
-    n.opens
-
-pub left_begun : (s t : Stack) (m : Move) (f g : Frame) → IsTop t f → IsSame f g → parents_of t ≡ frames_of s → OnTop s (λ parent. OnTop t (λ child. IsNext parent child m)) → g.waiting ≡ Next → 1 + 2 * sum_of_tree_sizes g.node.position (g.depth - 1) (todo g.node.position g.picker) < 2 * tree_size g.node.position g.depth → OnTop s (λ top. left_of_stack (with_frame t t.height g) < left_of_stack s + 2 * tree_size (after_code top.node.position (code_of m)) (top.depth - 1))
-left_begun s t m f g is same parents made next counted =
-    let p : HasTop s (λ parent. OnTop t (λ child. IsNext parent child m)) = has_top s _ made in
-    let n : IsNext p.top f m = on_top t f (λ (child : Frame). IsNext p.top child m) is p.has in
-    of_top s p.top (λ (top : Frame). left_of_stack (with_frame t t.height g) < left_of_stack s + 2 * tree_size (after_code top.node.position (code_of m)) (top.depth - 1)) p.is
-    (let below : sum_by left_of_frame (parents_of t) ≡ left_of_stack s = ap (sum_by left_of_frame) parents in
-    let none : left_of_waiting g.waiting ≡ 0 = ap left_of_waiting next in
-    let size : tree_size g.node.position g.depth ≡ tree_size (after_code p.top.node.position (code_of m)) (p.top.depth - 1) = ap (λ (x : Evaluated). tree_size x.position g.depth) same.0 ∙ (ap (tree_size f.node.position) (same.1.0 ∙ n.at_child.depth) ∙ ap (λ (x : Shogi). tree_size x (p.top.depth - 1)) n.at_child.position) in
-    omega (arith, below, left_with t t.height g (slice_get_within t.frames t.height f is), none, size, counted))
-
--- leaves are visited from the node on top
-pub left_visited : (s : Stack) (m : Move) (f g : Frame) (n : ℕ) → IsTop s f → f.depth ≡ 1 → left_of_frame g + n ≤ left_of_frame f + 2 * tree_size (after_code f.node.position (code_of m)) 0 → OnTop s (λ top. left_of_stack (with_frame s s.height g) + n ≤ left_of_stack s + 2 * tree_size (after_code top.node.position (code_of m)) (top.depth - 1))
-left_visited s m f g n is last l =
-    of_top s f (λ (top : Frame). left_of_stack (with_frame s s.height g) + n ≤ left_of_stack s + 2 * tree_size (after_code top.node.position (code_of m)) (top.depth - 1)) is
-    (let low : f.depth - 1 ≡ 0 = omega (arith, last) in
-    let size : tree_size (after_code f.node.position (code_of m)) (f.depth - 1) ≡ tree_size (after_code f.node.position (code_of m)) 0 = ap (tree_size (after_code f.node.position (code_of m))) low in
-    omega (arith, left_changed s f g is, l, size))
+-- the node on top has gone on with a move
+pub left_visited : (s : Stack) (m : Move) (f g : Frame) (n : ℕ) → IsTop s f → left_of_frame g + n ≤ left_with_child f m → UsesSteps s (with_frame s s.height g) m n
+left_visited s m f g n is l =
+    of_top s f (λ (top : Frame). left_of_stack (with_frame s s.height g) + n ≤ left_of_stack s + steps_after top m) is (omega (arith, left_changed s f g is, l))
 
 -- a move is asked for, and gone on with
-pub left_descended : (s t : Stack) (m : Move) (f g : Frame) (n : ℕ) → IsTop s f → 2 * tree_size (after_code g.node.position (code_of m)) (g.depth - 1) + left_of_frame g ≤ left_of_frame f → OnTop (with_frame s s.height g) (λ top. left_of_stack t + n ≤ left_of_stack (with_frame s s.height g) + 2 * tree_size (after_code top.node.position (code_of m)) (top.depth - 1)) → left_of_stack t + n ≤ left_of_stack s
+pub left_descended : (s t : Stack) (m : Move) (f g : Frame) (n : ℕ) → IsTop s f → steps_after g m + left_of_frame g ≤ left_of_frame f → UsesSteps (with_frame s s.height g) t m n → left_of_stack t + n ≤ left_of_stack s
 left_descended s t m f g n is less l =
-    let k : left_of_stack t + n ≤ left_of_stack (with_frame s s.height g) + 2 * tree_size (after_code g.node.position (code_of m)) (g.depth - 1) = on_top (with_frame s s.height g) g (λ (top : Frame). left_of_stack t + n ≤ left_of_stack (with_frame s s.height g) + 2 * tree_size (after_code top.node.position (code_of m)) (top.depth - 1)) (top_with s s.height g (slice_get_within s.frames s.height f is)) l in
+    let k : left_of_stack t + n ≤ left_of_stack (with_frame s s.height g) + steps_after g m = on_top (with_frame s s.height g) g (λ (top : Frame). left_of_stack t + n ≤ left_of_stack (with_frame s s.height g) + steps_after top m) (top_with s s.height g (slice_get_within s.frames s.height f is)) l in
     omega (arith, k, left_changed s f g is, less)
 
 -- no move is left to ask for
@@ -260,12 +224,3 @@ over_cut f v cut = subst (λ (w : Waiting). IsOver w (todo f.node.position f.pic
 
 pub free_next : (w : Waiting) → w ≡ Next → IsFree w
 free_next w e = subst IsFree (sym e) tt
-
--- the root is entered, and none of its moves is gone through
-pub left_root : (s : Stack) (f : Frame) (n : Evaluated) (p : Shogi) (d : ℕ) → 0 < length s.frames → f.waiting ≡ Next → f.node ≡ n → f.depth ≡ d → n.position ≡ p → 1 + 2 * sum_of_tree_sizes n.position (d - 1) (todo n.position f.picker) < 2 * tree_size n.position d → left_of_stack (with_frame s 0 f) < 2 * tree_size p d
-left_root s f n p d h next node depth position counted =
-    let none : left_of_waiting f.waiting ≡ 0 = ap left_of_waiting next in
-    let moves : sum_of_tree_sizes f.node.position (f.depth - 1) (todo f.node.position f.picker) ≡ sum_of_tree_sizes n.position (d - 1) (todo n.position f.picker) = ap (λ (x : Evaluated). sum_of_tree_sizes x.position (f.depth - 1) (todo x.position f.picker)) node ∙ ap (λ (x : ℕ). sum_of_tree_sizes n.position (x - 1) (todo n.position f.picker)) depth in
-    let size : tree_size n.position d ≡ tree_size p d = ap (λ (x : Shogi). tree_size x d) position in
-    let below : sum_by left_of_frame (take 0 s.frames) ≡ 0 = refl in
-    omega (arith, none, moves, size, below, counted, left_with s 0 f h)

@@ -1,5 +1,5 @@
 -- What clauses say of a node on the stack and of a move of it (own choice).
-use Rattle.std.specs.Prelude.{◌≡◌, ◌≢◌, ◌-◌, ℤ, [], Option, MatchOption}
+use Rattle.std.specs.Prelude.{◌≢◌, ◌-◌, ℤ, ◌≤ℤ◌, []}
 use Rattle.shogi_core.specs.declared.moves.Move.{Move}
 use Rattle.shogi_core.specs.Codes.{code_of}
 use Rattle.shogi_core.specs.Movement.{piece_at}
@@ -9,15 +9,13 @@ use Rattle.shogi_moves.specs.After.{after, after_code}
 use Rattle.shogi_moves.specs.LegalMoves.{legal_codes}
 use Rattle.shogi_moves.specs.Threats.{MayTake}
 use Rattle.shogi_search.specs.declared.frame.Frame.{Frame}
-use Rattle.shogi_search.specs.declared.frame.Waiting.{Waiting}
-use Rattle.shogi_search.specs.declared.frame.Waiting.TheVariants.{Next, Asked}
 use Rattle.shogi_search.specs.declared.memo.Entry.{Entry}
 use Rattle.shogi_search.specs.declared.threat.Threat.{Threat}
 use Rattle.shogi_search.specs.Entries.{IsCutoff}
 use Rattle.shogi_search.specs.Losses.{LosesAtMost}
 use Rattle.shogi_search.specs.Minimax.{value, worth, negated, IsTrueEntry}
 use Rattle.shogi_search.specs.Order.{todo}
-use Rattle.shogi_search.specs.Visits.{IsOver}
+use Rattle.shogi_search.specs.Visits.{IsOver, WhereCurrent}
 use Rattle.shogi_search.specs.Window.{threshold, code_at}
 
 -- the position after a move of the node
@@ -52,21 +50,17 @@ IsCutoffAfter f m entry = IsCutoff (negated f.beta) (negated (threshold_of f m))
 abbrev pub IsToBeLeft : Frame → Type 0
 IsToBeLeft f = IsOver f.waiting (todo f.node.position f.picker)
 
--- the best value and the best move so far are what they were
-abbrev pub KeepsBest : Frame → Frame → Type 0
-KeepsBest old new = (new.best_value ≡ old.best_value) × (new.best_move ≡ old.best_move)
-
--- it waits for the answer of this move, or to begin with its next one where there is none
-abbrev pub WaitsFor : Option Move → Waiting → Type 0
-WaitsFor asked waiting = MatchOption asked (waiting ≡ Next) (λ m. waiting ≡ Asked m)
+-- the current move is not worth more than it has to be
+abbrev pub FailsLow : Frame → Type 0
+FailsLow f = WhereCurrent f.waiting (λ m. worth_of f m ≤ℤ threshold_of f m)
 
 -- the other side has a legal move after the move
 abbrev pub HasReply : Frame → Move → Type 0
 HasReply f m = legal_codes (after f.node.position m) ≢ []
 
 -- the other side may carry out the threat after the move
-abbrev pub StandsAfter : Frame → Threat → Move → Type 0
-StandsAfter f threat m =
+abbrev pub Survives : Frame → Threat → Move → Type 0
+Survives f threat m =
     MayTake (after f.node.position m) threat.from threat.target
     (piece_at f.node.position.cells threat.target)
 

@@ -16,7 +16,7 @@ pub record Progress : Type 0 where
   pub eval : Eval
   pub depth : ℕ
   pub beta : ℤ
-  pub begun : Bool
+  pub started : Bool
   pub entered : List Entered
   pub left : ℕ
   pub steps : ℕ
@@ -33,7 +33,7 @@ untouched_below p e d beta = record {
   eval = e;
   depth = d;
   beta = beta;
-  begun = false;
+  started = false;
   entered = [];
   left = 2 * tree_size p d;
   steps = 0;

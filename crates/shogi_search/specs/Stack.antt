@@ -1,5 +1,5 @@
 -- The stack of a search in slices: the nodes that wait for a child, from the root on, and the node on top.
-use Rattle.std.specs.Prelude.{◌≡◌, ◌≤◌, ℕ, ◌+◌, ◌*◌, ◌-◌, ◌<◌, ◌<ℤ◌, ℤ, List, [], ◌∷◌, sum_by, take, slice_get, IsSomeAnd, Option, MatchOption}
+use Rattle.std.specs.Prelude.{◌≡◌, ◌≤◌, ℕ, ◌+◌, ◌*◌, ◌-◌, ◌<◌, ℤ, List, [], ◌∷◌, sum_by, take, slice_get, IsSomeAnd, IfNone, Option, MatchOption}
 use Rattle.shogi_core.specs.declared.moves.Move.{Move}
 use Rattle.shogi_core.specs.Codes.{code_of}
 use Rattle.shogi_core.specs.Position.{Shogi}
@@ -13,6 +13,7 @@ use Rattle.shogi_search.specs.declared.stack.Stack.{Stack}
 use Rattle.shogi_search.specs.Frames.{position_after, threshold_of}
 use Rattle.shogi_search.specs.Minimax.{negated, sum_of_tree_sizes, tree_size, IsTrueEntry}
 use Rattle.shogi_search.specs.Order.{todo}
+use Rattle.shogi_search.specs.Visits.{IsFree}
 use Rattle.shogi_search.specs.declared.bounds.TheConstants.{SEARCH_DEPTH_MAX, INFINITY}
 
 -- a frame stands for a position under an evaluation at a depth, under a window
@@ -26,6 +27,14 @@ pub record IsAt (p : Shogi) (e : Eval) (d : ℕ) (alpha beta : ℤ) (frame : Fra
 -- one frame has the place of another
 abbrev pub IsSame : Frame → Frame → Type 0
 IsSame f g = (g.node ≡ f.node) × ((g.depth ≡ f.depth) × ((g.alpha ≡ f.alpha) × (g.beta ≡ f.beta)))
+
+-- and it has the same moves to visit, waits for the same, and has the same best so far
+abbrev pub KeepsMoves : Frame → Frame → Type 0
+KeepsMoves old new =
+    IsSame old new
+    × ((new.picker ≡ old.picker)
+    × ((new.waiting ≡ old.waiting)
+    × ((new.best_value ≡ old.best_value) × (new.best_move ≡ old.best_move))))
 
 -- what holds of the move that a node has asked for
 abbrev pub WhereAsked : Waiting → (Move → Type 0) → Type 0
@@ -58,13 +67,9 @@ parents_of s = take s.height s.frames
 abbrev pub frames_of : Stack → List Frame
 frames_of s = take (s.height + 1) s.frames
 
--- what holds of the frame at a place
-abbrev pub AtPlace : List Frame → ℕ → (Frame → Type 0) → Type 0
-AtPlace frames place fact = IsSomeAnd (slice_get frames place) fact
-
 -- what holds of the node on top
 abbrev pub OnTop : Stack → (Frame → Type 0) → Type 0
-OnTop s fact = AtPlace s.frames s.height fact
+OnTop s fact = IsSomeAnd (slice_get s.frames s.height) fact
 
 -- what an entry says of the root holds
 abbrev pub IsTrueOfRoot : Stack → Entry → Type 0
@@ -99,28 +104,39 @@ HandsOver asked old new =
     MatchOption asked (left_of_frame new ≤ left_of_frame old)
     (λ m. steps_after new m + left_of_frame new ≤ left_of_frame old)
 
--- what is left of a frame, and the steps for a leaf after a move of it
-abbrev pub left_with_leaf : Frame → Move → ℕ
-left_with_leaf f m = left_of_frame f + 2 * tree_size (position_after f m) 0
+-- it waits for the answer of this move, or to begin with its next one where there is none
+abbrev pub WaitsFor : Option Move → Waiting → Type 0
+WaitsFor asked waiting = MatchOption asked (waiting ≡ Next) (λ m. waiting ≡ Asked m)
+
+-- the next move is asked for, where there is one
+abbrev pub AsksFor : Option Move → Frame → Frame → Type 0
+AsksFor asked old new =
+    IsSame old new
+    × (WaitsFor asked new.waiting
+    × (HandsOver asked old new × IfNone asked (todo new.node.position new.picker ≡ [])))
+
+-- the current move is gone through, and the others are still to be visited
+abbrev pub EndsVisit : Frame → Frame → Type 0
+EndsVisit old new =
+    IsSame old new
+    × ((new.picker ≡ old.picker)
+    × (IsFree new.waiting × (left_of_waiting new.waiting ≡ 0)))
+
+-- some moves to visit are passed before the next one is asked for
+abbrev pub PrunesRow : Frame → Frame → Type 0
+PrunesRow old new =
+    IsSame old new
+    × ((new.waiting ≡ Next) × (left_of_frame new ≤ left_of_frame old))
+
+-- what is left of a frame, and the steps for the tree after a move of it
+abbrev pub left_with_child : Frame → Move → ℕ
+left_with_child f m = left_of_frame f + steps_after f m
 
 -- what is left of the whole stack
 abbrev pub left_of_stack : Stack → ℕ
 left_of_stack s = sum_by left_of_frame (frames_of s)
 
--- less is left than was left of the stack and is handed over for a move of the node on top
-abbrev pub LeavesLess : Stack → Stack → Move → Type 0
-LeavesLess old new m =
-    OnTop old (λ top. left_of_stack new < left_of_stack old + steps_after top m)
-
--- one frame is made for the child after a move of another, and none of its moves is gone through
-pub record IsNext (f q : Frame) (m : Move) : Type 0 where
-  pub at_child :
-      IsAt (position_after f m) f.node.eval (f.depth - 1) (negated f.beta)
-      (negated (threshold_of f m)) q
-  pub next : q.waiting ≡ Next
-  pub opens : q.alpha <ℤ q.beta
-  pub counted : left_of_frame q < steps_after f m
-
--- the frame on top of the new stack is made for the child after a move of the one on top of the old stack
-abbrev pub MakesChild : Stack → Stack → Move → Type 0
-MakesChild old new m = OnTop old (λ parent. OnTop new (λ child. IsNext parent child m))
+-- with so many steps, no more is left than was left of the stack and is handed over for a move of the node on top
+abbrev pub UsesSteps : Stack → Stack → Move → ℕ → Type 0
+UsesSteps old new m made =
+    OnTop old (λ top. left_of_stack new + made ≤ left_of_stack old + steps_after top m)

@@ -17,12 +17,16 @@ abbrev pub moves_at : Shogi → ℕ → List ℕ
 moves_at p zero = []
 moves_at p (suc d) = legal_codes p
 
--- the node waits for the answer of this move
+-- what holds of the move that the node has asked for and not taken in
+abbrev pub WhereCurrent : Waiting → (Move → Type 0) → Type 0
+WhereCurrent Next fact = ⊥
+WhereCurrent (Asked m) fact = fact m
+WhereCurrent (Leaf m v) fact = fact m
+WhereCurrent (Cut v) fact = ⊥
+
+-- this move is that one
 abbrev pub IsCurrent : Waiting → Move → Type 0
-IsCurrent Next m = ⊥
-IsCurrent (Asked k) m = k ≡ m
-IsCurrent (Leaf k v) m = k ≡ m
-IsCurrent (Cut v) m = ⊥
+IsCurrent waiting m = WhereCurrent waiting (λ k. k ≡ m)
 
 -- between two steps no move is asked for
 abbrev pub IsFree : Waiting → Type 0

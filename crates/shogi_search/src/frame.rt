@@ -1,6 +1,6 @@
 //! A node of the tree while the search goes through its moves.
 
-ghost use Rattle.std.specs.Prelude.{◌≡◌, ◌≤◌, ◌<◌, ◌-◌, ◌+◌, ◌*◌, ◌≤ℤ◌, ◌<ℤ◌, pos, [], Some, None, true, false, IsTrue, IfSome, ◌↔◌, ◌≢◌, IfNone};
+ghost use Rattle.std.specs.Prelude.{◌≡◌, ◌≤◌, ◌<◌, ◌≤ℤ◌, ◌<ℤ◌, pos, [], true, false, IsTrue, IfSome, ◌↔◌, ◌≢◌};
 ghost use Rattle.std.specs.Option.{ForSome};
 ghost use Rattle.std.proofs.Props.{props};
 ghost use Rattle.shogi_core.specs.Validity.{IsValid};
@@ -14,7 +14,7 @@ ghost use Rattle.shogi_search.specs.Entries.{IsCutoff};
 ghost use Rattle.shogi_search.specs.Losses.{LosesAtMost, KindLosesAtMost};
 ghost use Rattle.shogi_search.specs.Threats.{IsThreatIn};
 ghost use Rattle.shogi_search.specs.Order.{todo, BeginsWith, IsListed, IsWithinTree, IsKept, IsKept-prop};
-ghost use Rattle.shogi_search.specs.Visits.{IsKnownWhile, IsKnownWhile-prop, IsCurrent, IsFree};
+ghost use Rattle.shogi_search.specs.Visits.{IsKnownWhile, IsKnownWhile-prop, IsCurrent, WhereCurrent, IsFree};
 ghost use Rattle.shogi_search.specs.Window.{code_at};
 ghost use Rattle.shogi_search.specs.declared.bounds.TheConstants.{SEARCH_DEPTH_MAX, INFINITY, MATE};
 
@@ -153,8 +153,8 @@ fn loss_of_drops(p: &Position, side: Color, e: Eval) -> i32
 }
 
 impl Frame {
-    ghost use Rattle.shogi_search.specs.Frames.{position_after, worth_of, threshold_of, leaf_value, IsTrueOf, IsTrueAfter, IsCutoffAfter, IsToBeLeft, KeepsBest, WaitsFor, HasReply, StandsAfter, RepliesLoseAtMost};
-    ghost use Rattle.shogi_search.specs.Stack.{IsSame, HandsOver, left_of_waiting, left_of_frame};
+    ghost use Rattle.shogi_search.specs.Frames.{worth_of, threshold_of, leaf_value, FailsLow, IsTrueOf, IsTrueAfter, IsCutoffAfter, IsToBeLeft, HasReply, Survives, RepliesLoseAtMost};
+    ghost use Rattle.shogi_search.specs.Stack.{IsAt, IsSame, KeepsMoves, EndsVisit, AsksFor, PrunesRow};
 
     /// The frame becomes that of a node that is entered, with the hash move to visit first; `ahead`
     /// asks for what tells of leaves without making them.
@@ -172,13 +172,9 @@ impl Frame {
         requires open { alpha <ℤ beta }
         requires most { beta ≤ℤ INFINITY }
         requires hash_move { ForSome hash_move (IsListed node.now.position) }
-        ensures node { self.new.node ≡ node.now }
-        ensures depth { self.new.depth ≡ depth }
-        ensures alpha { self.new.alpha ≡ alpha }
-        ensures beta { self.new.beta ≡ beta }
+        ensures place { IsAt node.now.position node.now.eval depth alpha beta self.new }
         ensures counted { IsWithinTree node.now.position depth self.new.picker }
         ensures waiting { self.new.waiting ≡ Waiting.Next }
-        ensures leaf { depth ≡ 0 → self.new.picker ≡ MovePicker.Done }
         ensures hash_move { 0 < depth → BeginsWith hash_move self.new.picker }
     {
         node.as_position().validity();
@@ -199,64 +195,6 @@ impl Frame {
         self.has_threat = false;
     }
 
-    /// The frame becomes that of the child after the current move of another one, under the window
-    /// that this one leaves it and with all of the child's moves to visit; nothing tells of leaves
-    /// without making them.
-    pub fn follow(&mut self, parent: &Frame, current: &Move)
-        requires current { IsCurrent parent.now.waiting current.now }
-        ensures position { self.new.node.position ≡ position_after parent.now current.now }
-        ensures eval { self.new.node.eval ≡ parent.now.node.eval }
-        ensures depth { self.new.depth ≡ parent.now.depth - 1 }
-        ensures alpha { self.new.alpha ≡ negated parent.now.beta }
-        ensures beta { self.new.beta ≡ negated (threshold_of parent.now current.now) }
-        ensures open { self.new.alpha <ℤ self.new.beta }
-        ensures counted { IsWithinTree self.new.node.position self.new.depth self.new.picker }
-        ensures waiting { self.new.waiting ≡ Waiting.Next }
-    {
-        let (alpha, beta) = parent.window(current);
-        current.validity();
-        self.node = parent.node;
-        self.node.advance(*current);
-        self.node.as_position().validity();
-        self.depth = parent.depth - 1;
-        self.alpha = alpha;
-        self.beta = beta;
-        self.best_value = alpha;
-        self.best_move = None;
-        self.has_move = false;
-        self.picker = MovePicker::new(self.depth, None);
-        self.waiting = Waiting::Next;
-        self.replies = Replies::unknown(self.node.as_position());
-        self.has_replies = false;
-        self.escapes = None;
-        self.is_unanswered = false;
-        self.threat = None;
-        self.has_threat = false;
-    }
-
-    /// Begins with the node's moves, the hash move first; `ahead` asks for what tells of leaves
-    /// without making them.
-    pub fn begin(&mut self, hash_move: Option<Move>, ahead: bool)
-        requires open { self.old.alpha <ℤ self.old.beta }
-        requires hash_move { ForSome hash_move (IsListed self.old.node.position) }
-        ensures same { IsSame self.old self.new }
-        ensures counted { IsWithinTree self.new.node.position self.new.depth self.new.picker }
-        ensures waiting { self.new.waiting ≡ Waiting.Next }
-        ensures hash_move { 0 < self.new.depth → BeginsWith hash_move self.new.picker }
-    {
-        self.best_value = self.alpha;
-        self.best_move = None;
-        self.has_move = false;
-        self.picker = MovePicker::new(self.depth, hash_move);
-        self.waiting = Waiting::Next;
-        self.replies = replies_of(&self.node, ahead);
-        self.has_replies = ahead;
-        self.escapes = None;
-        self.is_unanswered = false;
-        self.threat = None;
-        self.has_threat = false;
-    }
-
     /// Whether some move is legal, which the position is asked only where it is not known yet.
     fn can_move(&self) -> bool
         ensures { IsTrue result ↔ (legal_codes self.now.node.position ≢ []) }
@@ -265,7 +203,7 @@ impl Frame {
     }
 
     /// What is known of the node once it is cut off or all its moves are gone through.
-    pub fn close(&self) -> Entry
+    pub fn to_entry(&self) -> Entry
         requires over { IsToBeLeft self.now }
         ensures truth { IsTrueOf self.now result }
         ensures cutoff { IsCutoff self.now.alpha self.now.beta result }
@@ -294,12 +232,9 @@ impl Frame {
 
     /// Asks for the answer of the next move, where there is one.
     #[inline(always)]
-    fn ask_next(&mut self) -> Option<Move>
+    fn pick_move(&mut self) -> Option<Move>
         requires next { self.old.waiting ≡ Waiting.Next }
-        ensures over { IfNone result (todo self.new.node.position self.new.picker ≡ []) }
-        ensures waiting { WaitsFor result self.new.waiting }
-        ensures left { HandsOver result self.old self.new }
-        ensures same { IsSame self.old self.new }
+        ensures { AsksFor result self.old self.new }
     {
         match self.picker.next(self.node.as_position()) {
             Some(m) => {
@@ -312,21 +247,18 @@ impl Frame {
     }
 
     /// The same at depth 1 or 2, where the moves that surely are not worth enough are passed.
-    fn ask_worthy(&mut self) -> Option<Move>
+    fn worthy_move(&mut self) -> Option<Move>
         requires next { self.old.waiting ≡ Waiting.Next }
         requires deep { 0 < self.old.depth }
         requires near { self.old.depth ≤ 2 }
-        ensures over { IfNone result (todo self.new.node.position self.new.picker ≡ []) }
-        ensures waiting { WaitsFor result self.new.waiting }
-        ensures left { HandsOver result self.old self.new }
-        ensures same { IsSame self.old self.new }
+        ensures { AsksFor result self.old self.new }
     {
-        self.pass_rows();
-        'moves: while let Some(current) = self.ask_next() {
-            if !self.pass(&current) {
+        self.prune_rows();
+        'moves: while let Some(current) = self.pick_move() {
+            if !self.prune(&current) {
                 return Some(current);
             }
-            self.pass_rows();
+            self.prune_rows();
         }
         None
     }
@@ -334,17 +266,14 @@ impl Frame {
     /// Asks for the answer of the next move, where there is one. At depth 2, and at depth 1 where
     /// leaves are told without making them, the moves that surely are not worth enough are passed.
     #[inline(always)]
-    pub fn ask(&mut self) -> Option<Move>
+    pub fn next_move(&mut self) -> Option<Move>
         requires next { self.old.waiting ≡ Waiting.Next }
-        ensures over { IfNone result (todo self.new.node.position self.new.picker ≡ []) }
-        ensures waiting { WaitsFor result self.new.waiting }
-        ensures left { HandsOver result self.old self.new }
-        ensures same { IsSame self.old self.new }
+        ensures { AsksFor result self.old self.new }
     {
         if self.depth == 2 || self.depth == 1 && self.has_replies {
-            return self.ask_worthy();
+            return self.worthy_move();
         }
-        self.ask_next()
+        self.pick_move()
     }
 
     /// What the current move has to be worth more than.
@@ -371,7 +300,7 @@ impl Frame {
     }
 
     /// Whether this worth makes the current move the best one.
-    fn passes(&self, current: &Move, worth: i32) -> bool
+    fn is_better(&self, current: &Move, worth: i32) -> bool
         requires current { IsCurrent self.now.waiting current.now }
         ensures above { result ≡ true → threshold_of self.now current.now <ℤ worth }
         ensures below { result ≡ false → worth ≤ℤ threshold_of self.now current.now }
@@ -381,66 +310,50 @@ impl Frame {
 
     /// Takes in what is known of the current move.
     #[inline(always)]
-    pub fn take(&mut self, current: &Move, entry: &Entry)
+    pub fn back_up(&mut self, current: &Move, entry: &Entry)
         requires current { IsCurrent self.old.waiting current.now }
         requires truth { IsTrueAfter self.old current.now entry.now }
         requires cutoff { IsCutoffAfter self.old current.now entry.now }
-        ensures free { IsFree self.new.waiting }
-        ensures taken { left_of_waiting self.new.waiting ≡ 0 }
-        ensures picker { self.new.picker ≡ self.old.picker }
-        ensures same { IsSame self.old self.new }
+        ensures { EndsVisit self.old self.new }
     {
         match entry {
             Entry::Exact(v, _) => {
                 let worth = -*v;
                 if worth >= self.beta {
-                    self.cut_with(current, worth);
-                } else if self.passes(current, worth) {
-                    self.raise(current, worth);
+                    self.cut_off(worth);
+                } else if self.is_better(current, worth) {
+                    self.raise_alpha(current, worth);
                 } else {
-                    self.skip(current);
+                    self.fail_low();
                 }
             }
-            Entry::AtLeast(_) => self.skip(current),
-            Entry::AtMost(v) => self.cut_with(current, -*v),
+            Entry::AtLeast(_) => self.fail_low(),
+            Entry::AtMost(v) => self.cut_off(-*v),
         }
     }
 
-    /// The current move, which only the clauses need, is worth this much or more, which is enough.
-    fn cut_with(&mut self, current: &Move, value: i32)
-        requires current { IsCurrent self.old.waiting current.now }
-        requires worth { value ≤ℤ worth_of self.old current.now }
+    /// The current move is worth this much or more, which is enough.
+    fn cut_off(&mut self, value: i32)
+        requires worth { WhereCurrent self.old.waiting (λ m. value ≤ℤ worth_of self.old m) }
         requires beta { self.old.beta ≤ℤ value }
-        ensures free { IsFree self.new.waiting }
-        ensures taken { left_of_waiting self.new.waiting ≡ 0 }
-        ensures picker { self.new.picker ≡ self.old.picker }
-        ensures same { IsSame self.old self.new }
+        ensures { EndsVisit self.old self.new }
     {
-        let _ = current;
         self.waiting = Waiting::Cut(value);
     }
 
-    /// Passes the current move, which is not worth enough; only the clauses need to know it.
-    fn skip(&mut self, current: &Move)
-        requires current { IsCurrent self.old.waiting current.now }
-        requires below { worth_of self.old current.now ≤ℤ threshold_of self.old current.now }
-        ensures free { IsFree self.new.waiting }
+    /// The current move is not worth enough to become the best one.
+    fn fail_low(&mut self)
+        requires { FailsLow self.old }
+        ensures ended { EndsVisit self.old self.new }
         ensures next { self.new.waiting ≡ Waiting.Next }
-        ensures taken { left_of_waiting self.new.waiting ≡ 0 }
-        ensures picker { self.new.picker ≡ self.old.picker }
-        ensures same { IsSame self.old self.new }
     {
-        let _ = current;
         self.has_move = true;
         self.waiting = Waiting::Next;
     }
 
     /// Notes what tells of the other side's moves after the node's, where it is not noted yet.
     fn look_ahead(&mut self)
-        ensures waiting { self.new.waiting ≡ self.old.waiting }
-        ensures best { KeepsBest self.old self.new }
-        ensures picker { self.new.picker ≡ self.old.picker }
-        ensures same { IsSame self.old self.new }
+        ensures { KeepsMoves self.old self.new }
     {
         if !self.has_replies {
             self.replies = Replies::of(self.node.as_position());
@@ -451,10 +364,7 @@ impl Frame {
     /// The squares to which the other side's king may go, which are noted.
     fn look_for_escapes(&mut self) -> u128
         ensures escapes { AreEscapes self.old.node.position result }
-        ensures waiting { self.new.waiting ≡ self.old.waiting }
-        ensures best { KeepsBest self.old self.new }
-        ensures picker { self.new.picker ≡ self.old.picker }
-        ensures same { IsSame self.old self.new }
+        ensures kept { KeepsMoves self.old self.new }
     {
         if let Some(squares) = self.escapes {
             return squares;
@@ -481,10 +391,7 @@ impl Frame {
     fn is_answered(&mut self, current: &Move) -> bool
         requires current { IsCurrent self.old.waiting current.now }
         ensures some { result ≡ true → HasReply self.new current.now }
-        ensures waiting { self.new.waiting ≡ self.old.waiting }
-        ensures best { KeepsBest self.old self.new }
-        ensures picker { self.new.picker ≡ self.old.picker }
-        ensures same { IsSame self.old self.new }
+        ensures kept { KeepsMoves self.old self.new }
     {
         self.look_ahead();
         current.validity();
@@ -527,10 +434,7 @@ impl Frame {
     /// Looks for a threat of the other side, once a move was gone through and not good enough or
     /// where the material alone is not enough; before that none may be wanted.
     fn look_for_threat(&mut self)
-        ensures waiting { self.new.waiting ≡ self.old.waiting }
-        ensures best { KeepsBest self.old self.new }
-        ensures picker { self.new.picker ≡ self.old.picker }
-        ensures same { IsSame self.old self.new }
+        ensures { KeepsMoves self.old self.new }
     {
         if !self.has_threat && (self.has_move || self.node.score() < self.beta) {
             self.threat = greatest_threat(self.node.as_position(), self.node.eval());
@@ -545,8 +449,7 @@ impl Frame {
         requires current { IsCurrent self.now.waiting current.now }
         requires last { self.now.depth ≡ 2 }
         requires threat { IsThreatIn self.now.node.position self.now.node.eval threat.now }
-        ensures most { StandsAfter self.now threat.now current.now
-            → worth_of self.now current.now ≤ℤ result }
+        ensures most { Survives self.now threat.now current.now → worth_of self.now current.now ≤ℤ result }
     {
         current.validity();
         0 - self.node.score_after(current) - threat.gain as i32
@@ -554,7 +457,7 @@ impl Frame {
 
     /// Passes the current move of a node of depth 2, where it is certain without making it that it
     /// is not worth enough since a threat stands after it, and tells whether it did.
-    fn pass_under_threat(&mut self, current: &Move) -> bool
+    fn prune_under_threat(&mut self, current: &Move) -> bool
         requires asked { self.old.waiting ≡ Waiting.Asked current.now }
         requires last { self.old.depth ≡ 2 }
         ensures next { result ≡ true → self.new.waiting ≡ Waiting.Next }
@@ -569,7 +472,7 @@ impl Frame {
         if self.most_under_threat(current, &threat) > self.threshold(current) {
             return false;
         }
-        if !threat.stands_after(self.node.as_position(), self.node.eval(), current) {
+        if !threat.stands_after(current) {
             return false;
         }
         self.look_ahead();
@@ -578,14 +481,14 @@ impl Frame {
         if !certain {
             return false;
         }
-        self.skip(current);
+        self.fail_low();
         true
     }
 
     /// Passes the current move of a node of depth 1 or 2, where it is certain without making it
     /// that it is not worth enough, and returns whether it did.
     #[inline(always)]
-    fn pass(&mut self, current: &Move) -> bool
+    fn prune(&mut self, current: &Move) -> bool
         requires asked { self.old.waiting ≡ Waiting.Asked current.now }
         requires deep { 0 < self.old.depth }
         requires near { self.old.depth ≤ 2 }
@@ -599,26 +502,24 @@ impl Frame {
             if self.depth == 1 {
                 return false;
             }
-            return self.pass_under_threat(current);
+            return self.prune_under_threat(current);
         }
         if !self.is_answered(current) {
             self.is_unanswered = true;
             return false;
         }
-        self.skip(current);
+        self.fail_low();
         true
     }
 
     /// Passes the next moves of a node of depth 1 or 2 that take nothing and do not promote, while
     /// it is certain without making them that the other side has a legal move, where no such move
     /// is worth enough.
-    fn pass_quiets(&mut self)
+    fn prune_quiets(&mut self)
         requires next { self.old.waiting ≡ Waiting.Next }
         requires deep { 0 < self.old.depth }
         requires near { self.old.depth ≤ 2 }
-        ensures next { self.new.waiting ≡ Waiting.Next }
-        ensures left { left_of_frame self.new ≤ left_of_frame self.old }
-        ensures same { IsSame self.old self.new }
+        ensures { PrunesRow self.old self.new }
     {
         let Some(code) = self.picker.quiets() else {
             return;
@@ -633,13 +534,11 @@ impl Frame {
     }
 
     /// The same of the drops of the kind that is under way.
-    fn pass_drops(&mut self)
+    fn prune_drops(&mut self)
         requires next { self.old.waiting ≡ Waiting.Next }
         requires deep { 0 < self.old.depth }
         requires near { self.old.depth ≤ 2 }
-        ensures next { self.new.waiting ≡ Waiting.Next }
-        ensures left { left_of_frame self.new ≤ left_of_frame self.old }
-        ensures same { IsSame self.old self.new }
+        ensures { PrunesRow self.old self.new }
     {
         let Some((kind, code)) = self.picker.drops() else {
             return;
@@ -656,30 +555,25 @@ impl Frame {
     /// Passes the next moves of a node of depth 1 or 2 as these two do, once a move was gone
     /// through and not good enough.
     #[inline(always)]
-    fn pass_rows(&mut self)
+    fn prune_rows(&mut self)
         requires next { self.old.waiting ≡ Waiting.Next }
         requires deep { 0 < self.old.depth }
         requires near { self.old.depth ≤ 2 }
-        ensures next { self.new.waiting ≡ Waiting.Next }
-        ensures left { left_of_frame self.new ≤ left_of_frame self.old }
-        ensures same { IsSame self.old self.new }
+        ensures { PrunesRow self.old self.new }
     {
         if self.has_move {
-            self.pass_quiets();
-            self.pass_drops();
+            self.prune_quiets();
+            self.prune_drops();
         }
     }
 
     /// Passes the current move, which is the best so far.
-    fn raise(&mut self, current: &Move, value: i32)
+    fn raise_alpha(&mut self, current: &Move, value: i32)
         requires current { IsCurrent self.old.waiting current.now }
         requires is { worth_of self.old current.now ≡ value }
         requires above { threshold_of self.old current.now <ℤ value }
         requires open { value <ℤ self.old.beta }
-        ensures free { IsFree self.new.waiting }
-        ensures taken { left_of_waiting self.new.waiting ≡ 0 }
-        ensures picker { self.new.picker ≡ self.old.picker }
-        ensures same { IsSame self.old self.new }
+        ensures { EndsVisit self.old self.new }
     {
         self.best_value = value;
         self.best_move = Some(*current);
@@ -704,10 +598,7 @@ impl Frame {
     pub fn certain_leaf(&mut self, current: &Move) -> Option<i32>
         requires current { IsCurrent self.old.waiting current.now }
         ensures value { IfSome result (λ v. leaf_value self.new current.now ≡ v) }
-        ensures waiting { self.new.waiting ≡ self.old.waiting }
-        ensures best { KeepsBest self.old self.new }
-        ensures picker { self.new.picker ≡ self.old.picker }
-        ensures same { IsSame self.old self.new }
+        ensures kept { KeepsMoves self.old self.new }
     {
         if !self.is_unanswered && self.is_answered(current) {
             return Some(self.leaf_after(current));
@@ -723,7 +614,7 @@ impl Frame {
     }
 
     /// Keeps the value of the leaf to which the current move leads.
-    pub fn hear(&mut self, current: &Move, found: i32)
+    pub fn keep_leaf_value(&mut self, current: &Move, found: i32)
         requires current { IsCurrent self.old.waiting current.now }
         requires last { self.old.depth ≡ 1 }
         requires value { leaf_value self.old current.now ≡ found }

@@ -13,7 +13,7 @@ use crate::bounds::INFINITY;
 use crate::found::Found;
 use crate::frame::Frame;
 use crate::memo::{Entry, Memo};
-use crate::stack::{Stack, hash_move_of, is_cutoff, looks_ahead};
+use crate::stack::{Stack, hash_move_of, looks_ahead, probe};
 use shogi_core::Position;
 use shogi_eval::{Eval, Node};
 use std::marker::Model;
@@ -128,7 +128,7 @@ impl Search {
     /// any search it tells that each such node is worth its greatest searched move so far, or
     /// enough to be cut off.
     pub fn validity(&self)
-        ensures path { self.now.begun ≡ true → self.now.found ≡ None → HasPath self.now }
+        ensures path { self.now.started ≡ true → self.now.found ≡ None → HasPath self.now }
         ensures known { All IsKnownNode self.now.entered }
     {
         let _ = &self.started;
@@ -142,10 +142,10 @@ impl Search {
     }
 
     /// Enters the root.
-    fn enter<M: Memo>(&mut self, memo: &mut M)
-        requires fresh { self.old.begun ≡ false }
+    fn enter_root<M: Memo>(&mut self, memo: &mut M)
+        requires fresh { self.old.started ≡ false }
         requires open { self.old.found ≡ None }
-        ensures begun { self.new.begun ≡ true }
+        ensures begun { self.new.started ≡ true }
         ensures found { self.new.found ≡ None }
         ensures root { (self.new.root ≡ self.old.root) × (self.new.depth ≡ self.old.depth) }
         ensures eval { self.new.eval ≡ self.old.eval }
@@ -165,9 +165,9 @@ impl Search {
         self.steps = self.steps.saturating_add(1);
     }
 
-    /// Goes on below the root.
-    fn go_on<M: Memo>(&mut self, memo: &mut M, budget: u64) -> Option<Found>
-        requires begun { self.old.begun ≡ true }
+    /// Makes its steps below the root.
+    fn resume<M: Memo>(&mut self, memo: &mut M, budget: u64) -> Option<Found>
+        requires begun { self.old.started ≡ true }
         requires open { self.old.found ≡ None }
         ensures below { IfSome result (IsFoundBy self.old) }
         // Below the end of the whole window lies every value.
@@ -202,7 +202,7 @@ impl Search {
     }
 
     /// What is found where the memo's answer for the root says enough.
-    fn answered<M: Memo>(&self, memo: &mut M) -> Option<Found>
+    fn probe_root<M: Memo>(&self, memo: &mut M) -> Option<Found>
         ensures below { IfSome result (IsFoundBy self.now) }
         ensures steps { IfSome result (λ f. f.steps ≡ self.now.steps) }
         ensures enough { IsSome result ↔ IsAnsweredBy (M.answers memo.old) self.now }
@@ -210,11 +210,8 @@ impl Search {
     {
         let (root, e, depth) = (&self.stack.root, self.stack.eval, self.stack.depth);
         let beta = self.stack.beta;
-        let entry = memo.probe(root, e, depth)?;
-        if is_cutoff(&entry, -INFINITY, beta) {
-            return Some(found_of(&entry, root, e, depth, beta, self.steps));
-        }
-        None
+        let entry = probe(root, e, depth, -INFINITY, beta, memo)?;
+        Some(found_of(&entry, root, e, depth, beta, self.steps))
     }
 
     /// Goes on by so many steps, or fewer where it ends, and then tells what it found. After the
@@ -245,25 +242,25 @@ impl Search {
         ensures over { OnSome result (self.new.left ≡ 0) }
         ensures unfinished { IfNone result (0 < self.new.left) }
         // Before the first step an answer for the root that says enough ends it.
-        ensures enough { self.old.begun ≡ false → IsAnsweredBy (M.answers memo.old) self.old
+        ensures enough { self.old.started ≡ false → IsAnsweredBy (M.answers memo.old) self.old
             → IsSome result × (self.new.steps ≡ self.old.steps) }
-        ensures known { self.old.begun ≡ false → IsExactlyAnsweredBy (M.answers memo.old) self.old
+        ensures known { self.old.started ≡ false → IsExactlyAnsweredBy (M.answers memo.old) self.old
             → IsSome result × (self.new.steps ≡ self.old.steps) }
     {
         if self.found.is_some() {
             return self.found;
         }
         if self.started {
-            return self.go_on(memo, budget);
+            return self.resume(memo, budget);
         }
-        if let Some(found) = self.answered(memo) {
+        if let Some(found) = self.probe_root(memo) {
             self.found = Some(found);
             return self.found;
         }
         if budget == 0 {
             return None;
         }
-        self.enter(memo);
-        self.go_on(memo, budget - 1)
+        self.enter_root(memo);
+        self.resume(memo, budget - 1)
     }
 }

@@ -1,13 +1,13 @@
 //! The stack of a search that goes on in slices.
 
-ghost use Rattle.std.specs.Prelude.{◌≡◌, ◌≤◌, ◌<◌, ◌+◌, ◌*◌, ◌-◌, ◌^◌, true, false, None, Some, IfSome, IfNone, min, IsTrue, ◌↔◌, length, take};
+ghost use Rattle.std.specs.Prelude.{◌≡◌, ◌≤◌, ◌<◌, ◌+◌, ◌*◌, ◌-◌, ◌^◌, true, false, None, Some, IfSome, IfNone, IsSome, min, IsTrue, ◌↔◌};
 ghost use Rattle.std.specs.Option.{ForSome};
-ghost use Rattle.shogi_search.specs.Minimax.{negated};
-ghost use Rattle.shogi_search.specs.Entries.{IsCutoff, move_in};
+ghost use Rattle.shogi_search.specs.Minimax.{negated, IsTrueEntry};
+ghost use Rattle.shogi_search.specs.Entries.{IsCutoff, IsEnough, move_in};
 ghost use Rattle.shogi_search.specs.Order.{IsListed};
 ghost use Rattle.shogi_search.specs.Visits.{IsFree};
 ghost use Rattle.shogi_search.specs.Frames.{IsTrueOf, IsToBeLeft};
-ghost use Rattle.shogi_search.specs.Stack.{IsStack, IsSame, IsNext, AtPlace, OnTop, MakesChild, IsTrueOfRoot, KeepsGoal, LeavesLess, steps_after, left_with_leaf, frames_of, parents_of, left_of_frame, left_of_stack};
+ghost use Rattle.shogi_search.specs.Stack.{IsStack, IsSame, OnTop, IsTrueOfRoot, KeepsGoal, UsesSteps, left_with_child, left_of_frame, left_of_stack};
 ghost use Rattle.shogi_search.specs.declared.bounds.TheConstants.{INFINITY};
 
 use crate::frame::{Frame, Waiting, leaf};
@@ -29,7 +29,7 @@ pub struct Stack {
 }
 
 /// Whether an entry says enough for a window.
-pub fn is_cutoff(entry: &Entry, alpha: i32, beta: i32) -> bool
+fn is_cutoff(entry: &Entry, alpha: i32, beta: i32) -> bool
     ensures { IsTrue result ↔ IsCutoff alpha beta entry.now }
 {
     match entry {
@@ -37,6 +37,27 @@ pub fn is_cutoff(entry: &Entry, alpha: i32, beta: i32) -> bool
         Entry::AtLeast(v) => *v >= beta,
         Entry::AtMost(v) => *v <= alpha,
     }
+}
+
+/// The memo's answer for a position, where it says enough for a window.
+pub fn probe<M: Memo>(
+    p: &Position,
+    e: Eval,
+    depth: u8,
+    alpha: i32,
+    beta: i32,
+    memo: &mut M,
+) -> Option<Entry>
+    ensures truth { IfSome result (IsTrueEntry p.now e depth) }
+    ensures cutoff { IfSome result (IsCutoff alpha beta) }
+    ensures enough { IsSome result ↔ IsEnough alpha beta (M.answers memo.old p.now e depth) }
+    ensures capacity { M.capacity memo.new ≡ M.capacity memo.old }
+{
+    let entry = memo.probe(p, e, depth)?;
+    if is_cutoff(&entry, alpha, beta) {
+        return Some(entry);
+    }
+    None
 }
 
 /// The best move one ply less deep, where the memo has it.
@@ -70,7 +91,7 @@ fn make_leaf<M: Memo>(top: &mut Frame, current: &Move, memo: &mut M)
     requires asked { top.old.waiting ≡ Waiting.Asked current.now }
     requires last { top.old.depth ≡ 1 }
     ensures free { IsFree top.new.waiting }
-    ensures left { left_of_frame top.new < left_with_leaf top.old current.now }
+    ensures left { left_of_frame top.new < left_with_child top.old current.now }
     ensures same { IsSame top.old top.new }
     ensures capacity { M.capacity memo.new ≡ M.capacity memo.old }
 {
@@ -78,13 +99,11 @@ fn make_leaf<M: Memo>(top: &mut Frame, current: &Move, memo: &mut M)
     let mut node = top.node;
     current.validity();
     node.advance(*current);
-    if let Some(entry) = memo.probe(node.as_position(), node.eval(), 0) {
-        if is_cutoff(&entry, alpha, beta) {
-            top.take(current, &entry);
-            return;
-        }
+    if let Some(entry) = probe(node.as_position(), node.eval(), 0, alpha, beta, memo) {
+        top.back_up(current, &entry);
+        return;
     }
-    top.hear(current, leaf(&node));
+    top.keep_leaf_value(current, leaf(&node));
 }
 
 /// The same; where a leaf is certain to have a legal move, its value is told without making it, and
@@ -96,17 +115,17 @@ fn visit_leaf<M: Memo>(top: &mut Frame, current: &Move, memo: &mut M, room: u64)
     ensures free { IsFree top.new.waiting }
     ensures some { 0 < result }
     ensures most { result ≤ room }
-    ensures left { left_of_frame top.new + result ≤ left_with_leaf top.old current.now }
+    ensures left { left_of_frame top.new + result ≤ left_with_child top.old current.now }
     ensures same { IsSame top.old top.new }
     ensures capacity { M.capacity memo.new ≡ M.capacity memo.old }
 {
     if looks_ahead(top.depth, memo) {
         if let Some(value) = top.certain_leaf(current) {
             if room > 1 {
-                top.take(current, &Entry::Exact(value, None));
+                top.back_up(current, &Entry::Exact(value, None));
                 return 2;
             }
-            top.hear(current, value);
+            top.keep_leaf_value(current, value);
             return 1;
         }
     }
@@ -114,35 +133,9 @@ fn visit_leaf<M: Memo>(top: &mut Frame, current: &Move, memo: &mut M, room: u64)
     1
 }
 
-/// Makes the child after the current move of the frame at a place, in the place above it.
-fn make_child(frames: &mut [Frame], place: usize, current: &Move)
-    requires room { place + 1 < length frames.old }
-    requires asked { AtPlace frames.old place (λ f. f.waiting ≡ Waiting.Asked current.now) }
-    ensures below { take (place + 1) frames.new ≡ take (place + 1) frames.old }
-    ensures child { AtPlace frames.old place (λ parent.
-        AtPlace frames.new (place + 1) (λ child. IsNext parent child current.now)) }
-{
-    let (below, above) = frames.split_at_mut(place + 1);
-    above[0].follow(&below[place], current);
-}
-
 impl Stack {
-    /// Makes the child after the current move of the node on top, in the place above it.
-    fn push(&mut self, current: &Move)
-        requires stack { IsStack self.old }
-        requires asked { OnTop self.old (λ top. top.waiting ≡ Waiting.Asked current.now) }
-        ensures stack { IsStack self.new }
-        ensures parents { parents_of self.new ≡ frames_of self.old }
-        ensures child { MakesChild self.old self.new current.now }
-        ensures left { LeavesLess self.old self.new current.now }
-        ensures same { KeepsGoal self.old self.new }
-    {
-        make_child(&mut self.frames, self.height, current);
-        self.height += 1;
-    }
-
     /// The node below the top takes in what is known of the node on top, where there is one.
-    fn go_back(&mut self, entry: &Entry) -> bool
+    fn pop(&mut self, entry: &Entry) -> bool
         requires stack { IsStack self.old }
         requires truth { OnTop self.old (λ top. IsTrueOf top entry.now) }
         requires cutoff { OnTop self.old (λ top. IsCutoff top.alpha top.beta entry.now) }
@@ -163,34 +156,37 @@ impl Stack {
         let Waiting::Asked(current) = below.waiting else {
             unreachable!();
         };
-        below.take(&current, entry);
+        below.back_up(&current, entry);
         true
     }
 
-    /// Goes on with the current move of the node on top, and makes its child: by the memo's answer,
-    /// or into the child.
+    /// Goes on with the current move of the node on top: by the memo's answer, or into the child,
+    /// which is on top then.
     #[inline(never)]
     fn enter_child<M: Memo>(&mut self, current: &Move, memo: &mut M)
         requires stack { IsStack self.old }
         requires asked { OnTop self.old (λ top. top.waiting ≡ Waiting.Asked current.now) }
         ensures stack { IsStack self.new }
         ensures free { OnTop self.new (λ top. IsFree top.waiting) }
-        ensures left { LeavesLess self.old self.new current.now }
+        ensures left { UsesSteps self.old self.new current.now 1 }
         ensures same { KeepsGoal self.old self.new }
         ensures capacity { M.capacity memo.new ≡ M.capacity memo.old }
     {
-        self.push(current);
-        let child = &self.frames[self.height];
-        let (position, eval, depth) = (child.node.as_position(), child.node.eval(), child.depth);
-        if let Some(entry) = memo.probe(position, eval, depth) {
-            if is_cutoff(&entry, child.alpha, child.beta) {
-                let _ = self.go_back(&entry);
-                return;
-            }
+        let top = &self.frames[self.height];
+        let (alpha, beta) = top.window(current);
+        let depth = top.depth - 1;
+        let mut node = top.node;
+        current.validity();
+        node.advance(*current);
+        let (position, eval) = (node.as_position(), node.eval());
+        if let Some(entry) = probe(position, eval, depth, alpha, beta, memo) {
+            self.frames[self.height].back_up(current, &entry);
+            return;
         }
         let hash_move = hash_move_of(position, eval, depth, memo);
         let ahead = looks_ahead(depth, memo);
-        self.frames[self.height].begin(hash_move, ahead);
+        self.height += 1;
+        self.frames[self.height].enter(&node, depth, alpha, beta, hash_move, ahead);
     }
 
     /// The same for a node of any depth, where a child that is a leaf is told by its value. Gives
@@ -203,8 +199,7 @@ impl Stack {
         ensures free { OnTop self.new (λ top. IsFree top.waiting) }
         ensures some { 0 < result }
         ensures most { result ≤ room }
-        ensures left { OnTop self.old (λ top. left_of_stack self.new + result
-            ≤ left_of_stack self.old + steps_after top current.now) }
+        ensures left { UsesSteps self.old self.new current.now result }
         ensures same { KeepsGoal self.old self.new }
         ensures capacity { M.capacity memo.new ≡ M.capacity memo.old }
     {
@@ -230,12 +225,12 @@ impl Stack {
         ensures capacity { M.capacity memo.new ≡ M.capacity memo.old }
     {
         let top = &self.frames[self.height];
-        let entry = top.close();
+        let entry = top.to_entry();
         let (noted, answer) = (entry, entry);
         if top.depth > 0 {
             memo.note(top.node.as_position(), top.node.eval(), top.depth, noted);
         }
-        if self.go_back(&entry) {
+        if self.pop(&entry) {
             return None;
         }
         Some(answer)
@@ -261,7 +256,7 @@ impl Stack {
     {
         let top = &mut self.frames[self.height];
         if top.is_next() {
-            let Some(current) = top.ask() else {
+            let Some(current) = top.next_move() else {
                 *made += 1;
                 return self.leave(memo);
             };
@@ -272,7 +267,7 @@ impl Stack {
             Waiting::Next | Waiting::Asked(_) => unreachable!(),
             Waiting::Leaf(current, value) => {
                 *made += 1;
-                top.take(&current, &Entry::Exact(value, None));
+                top.back_up(&current, &Entry::Exact(value, None));
                 None
             }
             Waiting::Cut(_) => {

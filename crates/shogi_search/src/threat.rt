@@ -1,10 +1,9 @@
 //! A capture that the other side may make after most moves.
 
-ghost use Rattle.std.specs.Prelude.{◌≡◌, ◌≢◌, ◌<◌, ℕ, true, false};
+ghost use Rattle.std.specs.Prelude.{◌≡◌, ◌⊎◌, Some, true};
 ghost use Rattle.std.specs.Option.{ForSome};
-ghost use Rattle.shogi_core.specs.Bits.{has_bit};
-ghost use Rattle.shogi_moves.specs.Threats.{IsUnpinnable, EndsAside, LeavesThreat};
-ghost use Rattle.shogi_search.specs.Threats.{IsThreatIn};
+ghost use Rattle.shogi_moves.specs.Threats.{IsUnpinnable};
+ghost use Rattle.shogi_search.specs.Threats.{IsThreatIn, IsSparedAt, IsSparedBy};
 
 use shogi_core::bits::{has, lowest, without_lowest};
 use shogi_core::{Move, Position, Square};
@@ -22,13 +21,9 @@ pub struct Threat {
 }
 
 /// The threat that gains more, the first one where both gain the same.
-fn greater(p: &Position, e: Eval, first: Option<Threat>, other: Threat) -> Option<Threat>
-    requires first { ForSome first (IsThreatIn p.now e) }
-    requires other { IsThreatIn p.now e other }
-    ensures { ForSome result (IsThreatIn p.now e) }
+fn greater(first: Option<Threat>, other: Threat) -> Option<Threat>
+    ensures { (result ≡ first) ⊎ (result ≡ Some other) }
 {
-    let _ = p;
-    let _ = e;
     let Some(kept) = first else {
         return Some(other);
     };
@@ -57,7 +52,7 @@ fn greatest_from(p: &Position, e: Eval, from: Square, first: Option<Threat>) -> 
             reach,
             gain,
         };
-        best = greater(p, e, best, threat);
+        best = greater(best, threat);
         left = without_lowest(left, square);
     }
     best
@@ -80,27 +75,22 @@ pub fn greatest_threat(p: &Position, e: Eval) -> Option<Threat>
 impl Threat {
     /// Whether a move that ends on the square lets the attacker and its way to the target be.
     #[inline(always)]
-    fn is_aside(&self, p: &Position, e: Eval, to: Square) -> bool
-        requires threat { IsThreatIn p.now e self.now }
-        ensures { result ≡ true → EndsAside p.now self.now.from to }
+    fn is_aside(&self, to: Square) -> bool
+        ensures { result ≡ true → IsSparedAt self.now to }
     {
-        let _ = p;
-        let _ = e;
         to.validity();
         to.index() != self.from.index() && !has(self.reach, to.index())
     }
 
     /// Whether the move lets the attacker, the target and the way between them be.
     #[inline(always)]
-    pub fn stands_after(&self, p: &Position, e: Eval, m: &Move) -> bool
-        requires threat { IsThreatIn p.now e self.now }
-        ensures { result ≡ true → LeavesThreat p.now self.now.from self.now.target m.now }
+    pub fn stands_after(&self, m: &Move) -> bool
+        ensures { result ≡ true → IsSparedBy self.now m.now }
     {
         match m {
-            Move::Board { from, to, .. } => {
-                from.index() != self.target.index() && self.is_aside(p, e, *to)
-            }
-            Move::Drop { to, .. } => self.is_aside(p, e, *to),
+            Move::Board { from, to, .. } => from.index() != self.target.index()
+                && self.is_aside(*to),
+            Move::Drop { to, .. } => self.is_aside(*to),
         }
     }
 }

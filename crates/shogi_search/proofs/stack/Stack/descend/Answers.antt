@@ -11,4 +11,4 @@ pub returns-then-top-eq1-clause-free : goal.returns-then-top-eq1-clause-free
 returns-then-top-eq1-clause-free g c = on_with c.args.self.now c.args.self.now.height c.visit_leaf.new.top (λ (top : Frame). IsFree top.waiting) (omega (arith, c.requires.stack.height_fits)) c.visit_leaf.ensures.free
 
 pub returns-then-top-eq1-clause-left : goal.returns-then-top-eq1-clause-left
-returns-then-top-eq1-clause-left g c = left_visited c.args.self.now c.args.current.now _ c.visit_leaf.new.top c.visit_leaf.result (read_top c.args.self.now c.index-self-self.result (omega (arith, c.requires.stack.height_fits))) c.if-top-eq1.true c.visit_leaf.ensures.left
+returns-then-top-eq1-clause-left g c = left_visited c.args.self.now c.args.current.now _ c.visit_leaf.new.top c.visit_leaf.result (read_top c.args.self.now c.index-self-self.result (omega (arith, c.requires.stack.height_fits))) c.visit_leaf.ensures.left

@@ -1,36 +1,79 @@
-use Rattle.std.proofs.Common.{arith, get_or, ℤ, ◌≤ℤ◌, ◌<ℤ◌, FitsSigned, w32, rules}
-use Rattle.std.proofs.lemmas.Int.{ints, to_z-of_z}
+use Rattle.std.proofs.Common.{arith, get_or, rules, ◌≡◌, ◌-◌, ◌+◌, ◌∙◌}
+use Rattle.std.proofs.lemmas.Int.{ints}
+use Rattle.shogi_moves.proofs.LegalLaws.{listed_to_legal}
+use Rattle.shogi_search.specs.Frames.{position_after, threshold_of}
 use Rattle.shogi_search.specs.Minimax.{negated}
-use Rattle.shogi_search.proofs.Entries.{same_window}
-use Rattle.shogi_search.specs.declared.bounds.TheConstants.{INFINITY}
+use Rattle.shogi_search.specs.Stack.{IsAt}
 use Rattle.shogi_search.specs.Visits.{IsFree}
-use Rattle.shogi_search.specs.Entries.{IsCutoff}
 use Rattle.shogi_search.specs.declared.frame.Frame.{Frame}
-use Rattle.shogi_search.proofs.Places.{IsTop, read_top, of_top, on_with, changed, opens_grown, left_begun, free_next}
+use Rattle.shogi_search.specs.declared.frame.Waiting.TheVariants.{Asked}
+use Rattle.shogi_search.proofs.Chains.{left_same}
+use Rattle.shogi_search.proofs.Entries.{same_window}
+use Rattle.shogi_search.proofs.MinimaxLaws.{tree_size-positive}
+use Rattle.shogi_search.proofs.Nodes.{asked, waits}
+use Rattle.shogi_search.proofs.Places.{IsTop, read_top, on_top, on_with, changed, room_asked, stack_entered, left_child, left_visited, free_next}
 use Rattle.shogi_search.proofs.stack.Stack.enter_child.Goals as goal
 
-fits_window : (v : ℤ) → negated INFINITY ≤ℤ v → v ≤ℤ INFINITY → FitsSigned w32 v
-fits_window v least most = search rules
+pub advance-requires : goal.advance-requires
+advance-requires g c =
+    let f : Frame = get_or c.args.self.now.frames c.args.self.now.height c.index-self-self.result in
+    let is : IsTop c.args.self.now f = read_top c.args.self.now c.index-self-self.result (omega (arith, c.requires.stack.height_fits)) in
+    let asks : f.waiting ≡ Asked c.args.current.now = on_top c.args.self.now f (λ (top : Frame). top.waiting ≡ Asked c.args.current.now) is c.requires.asked in
+    let w : _ = waits _ _ _ _ _ _ _ _ _ _ (asked f.waiting c.args.current.now asks) f.known in
+    listed_to_legal _ _ c.validity.ensures.back w.is_listed
 
-pub go_back-requires-clause-cutoff : goal.go_back-requires-clause-cutoff
-go_back-requires-clause-cutoff g c =
-    let f : Frame = get_or c.push.new.self.frames c.push.new.self.height c.index-self-self.result in
-    let is : IsTop c.push.new.self f = read_top c.push.new.self c.index-self-self.result (omega (arith, c.push.ensures.stack.height_fits)) in
-    let opens : f.alpha <ℤ f.beta = opens_grown c.args.self.now c.push.new.self c.args.current.now f is c.push.ensures.child in
-    let least : negated INFINITY ≤ℤ f.alpha = f.least in
-    let most : f.beta ≤ℤ INFINITY = f.most in
-    let low : FitsSigned w32 f.alpha = fits_window f.alpha least (omega (arith, ints)) in
-    let high : FitsSigned w32 f.beta = fits_window f.beta (omega (arith, ints)) most in
-    of_top c.push.new.self f (λ (top : Frame). IsCutoff top.alpha top.beta c.in-Some.entry) is (same_window _ _ _ _ _ (to_z-of_z w32 f.alpha low) (to_z-of_z w32 f.beta high) (c.is_cutoff.ensures.0 c.if-is_cutoff.true))
+pub back_up-requires-clause-current : goal.back_up-requires-clause-current
+back_up-requires-clause-current g c =
+    let f : Frame = get_or c.args.self.now.frames c.args.self.now.height c.index-self-self-in-Some.result in
+    let is : IsTop c.args.self.now f = read_top c.args.self.now c.index-self-self-in-Some.result (omega (arith, c.requires.stack.height_fits)) in
+    let asks : f.waiting ≡ Asked c.args.current.now = on_top c.args.self.now f (λ (top : Frame). top.waiting ≡ Asked c.args.current.now) is c.requires.asked in
+    asked f.waiting c.args.current.now asks
 
-pub begin-requires-clause-open : goal.begin-requires-clause-open
-begin-requires-clause-open g c = opens_grown c.args.self.now c.push.new.self c.args.current.now _ (read_top c.push.new.self c.index-self-self-2.result (omega (arith, c.push.ensures.stack.height_fits))) c.push.ensures.child
+pub returns-in-Some-clause-stack : goal.returns-in-Some-clause-stack
+returns-in-Some-clause-stack g c = changed c.args.self.now _ c.back_up.new.self (read_top c.args.self.now c.index-self-self-in-Some.result (omega (arith, c.requires.stack.height_fits))) c.requires.stack c.back_up.ensures.0
+
+pub returns-in-Some-clause-free : goal.returns-in-Some-clause-free
+returns-in-Some-clause-free g c = on_with c.args.self.now c.args.self.now.height c.back_up.new.self (λ (top : Frame). IsFree top.waiting) (omega (arith, c.requires.stack.height_fits)) c.back_up.ensures.1.1.0
+
+pub returns-in-Some-clause-left : goal.returns-in-Some-clause-left
+returns-in-Some-clause-left g c =
+    let f : Frame = get_or c.args.self.now.frames c.args.self.now.height c.index-self-self-in-Some.result in
+    left_visited c.args.self.now c.args.current.now f c.back_up.new.self 1 (read_top c.args.self.now c.index-self-self-in-Some.result (omega (arith, c.requires.stack.height_fits)))
+    (omega (arith, left_same f c.back_up.new.self c.back_up.ensures.0 c.back_up.ensures.1.0 c.back_up.ensures.1.1.1, tree_size-positive (position_after f c.args.current.now) (f.depth - 1)))
+
+pub listed-2 : goal.listed-2
+listed-2 g c = omega (arith, room_asked c.args.self.now c.args.current.now c.requires.stack c.requires.asked)
+
+pub bounds-self-self-2 : goal.bounds-self-self-2
+bounds-self-self-2 g c = omega (arith, room_asked c.args.self.now c.args.current.now c.requires.stack c.requires.asked)
 
 pub returns-clause-stack : goal.returns-clause-stack
-returns-clause-stack g c = changed c.push.new.self _ c.begin.new.self (read_top c.push.new.self c.index-self-self-2.result (omega (arith, c.push.ensures.stack.height_fits))) c.push.ensures.stack c.begin.ensures.same
+returns-clause-stack g c =
+    let f : Frame = get_or c.args.self.now.frames c.args.self.now.height c.index-self-self.result in
+    let is : IsTop c.args.self.now f = read_top c.args.self.now c.index-self-self.result (omega (arith, c.requires.stack.height_fits)) in
+    let asks : f.waiting ≡ Asked c.args.current.now = on_top c.args.self.now f (λ (top : Frame). top.waiting ≡ Asked c.args.current.now) is c.requires.asked in
+    let window : IsAt (position_after f c.args.current.now) f.node.eval (f.depth - 1) (negated f.beta) (negated (threshold_of f c.args.current.now)) c.enter.new.self = record {
+      position = c.enter.ensures.place.position ∙ search rules;
+      eval = c.enter.ensures.place.eval ∙ search rules;
+      depth = c.enter.ensures.place.depth;
+      alpha_is = omega (arith, ints, c.enter.ensures.place.alpha_is, c.window-alpha.ensures.alpha, c.window-alpha.ensures.least, c.window-alpha.ensures.«open», c.window-alpha.ensures.most);
+      beta_is = omega (arith, ints, c.enter.ensures.place.beta_is, c.window-alpha.ensures.beta, c.window-alpha.ensures.least, c.window-alpha.ensures.«open», c.window-alpha.ensures.most);
+    } in
+    stack_entered c.args.self.now f c.enter.new.self c.args.current.now is c.requires.stack asks (omega (arith, room_asked c.args.self.now c.args.current.now c.requires.stack c.requires.asked)) window
 
 pub returns-clause-free : goal.returns-clause-free
-returns-clause-free g c = on_with c.push.new.self c.push.new.self.height c.begin.new.self (λ (top : Frame). IsFree top.waiting) (omega (arith, c.push.ensures.stack.height_fits)) (free_next _ c.begin.ensures.waiting)
+returns-clause-free g c = on_with c.args.self.now (c.args.self.now.height + 1) c.enter.new.self (λ (top : Frame). IsFree top.waiting) (omega (arith, room_asked c.args.self.now c.args.current.now c.requires.stack c.requires.asked)) (free_next _ c.enter.ensures.waiting)
 
 pub returns-clause-left : goal.returns-clause-left
-returns-clause-left g c = left_begun c.args.self.now c.push.new.self c.args.current.now _ c.begin.new.self (read_top c.push.new.self c.index-self-self-2.result (omega (arith, c.push.ensures.stack.height_fits))) c.begin.ensures.same c.push.ensures.parents c.push.ensures.child c.begin.ensures.waiting c.begin.ensures.counted
+returns-clause-left g c =
+    let f : Frame = get_or c.args.self.now.frames c.args.self.now.height c.index-self-self.result in
+    let is : IsTop c.args.self.now f = read_top c.args.self.now c.index-self-self.result (omega (arith, c.requires.stack.height_fits)) in
+    let asks : f.waiting ≡ Asked c.args.current.now = on_top c.args.self.now f (λ (top : Frame). top.waiting ≡ Asked c.args.current.now) is c.requires.asked in
+    let window : IsAt (position_after f c.args.current.now) f.node.eval (f.depth - 1) (negated f.beta) (negated (threshold_of f c.args.current.now)) c.enter.new.self = record {
+      position = c.enter.ensures.place.position ∙ search rules;
+      eval = c.enter.ensures.place.eval ∙ search rules;
+      depth = c.enter.ensures.place.depth;
+      alpha_is = omega (arith, ints, c.enter.ensures.place.alpha_is, c.window-alpha.ensures.alpha, c.window-alpha.ensures.least, c.window-alpha.ensures.«open», c.window-alpha.ensures.most);
+      beta_is = omega (arith, ints, c.enter.ensures.place.beta_is, c.window-alpha.ensures.beta, c.window-alpha.ensures.least, c.window-alpha.ensures.«open», c.window-alpha.ensures.most);
+    } in
+    left_child c.args.self.now f c.enter.new.self c.args.current.now _ _ _ is (omega (arith, room_asked c.args.self.now c.args.current.now c.requires.stack c.requires.asked)) window c.enter.ensures.waiting (search rules)

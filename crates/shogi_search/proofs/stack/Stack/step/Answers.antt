@@ -11,24 +11,24 @@ use Rattle.shogi_search.proofs.Places.{read_top, on_top, on_with, changed, over_
 use Rattle.shogi_search.proofs.stack.Stack.step.Goals as goal
 
 pub descend-requires-clause-stack : goal.descend-requires-clause-stack
-descend-requires-clause-stack g c = changed c.args.self.now _ c.ask.new.self (read_top c.args.self.now c.index-self-self.result (omega (arith, c.requires.stack.height_fits))) c.requires.stack c.ask.ensures.same
+descend-requires-clause-stack g c = changed c.args.self.now _ c.next_move.new.self (read_top c.args.self.now c.index-self-self.result (omega (arith, c.requires.stack.height_fits))) c.requires.stack c.next_move.ensures.0
 
 pub descend-requires-clause-asked : goal.descend-requires-clause-asked
-descend-requires-clause-asked g c = on_with c.args.self.now c.args.self.now.height c.ask.new.self (λ (top : Frame). top.waiting ≡ Asked c.in-Some.current) (omega (arith, c.requires.stack.height_fits)) c.in-Some.ensures.waiting
+descend-requires-clause-asked g c = on_with c.args.self.now c.args.self.now.height c.next_move.new.self (λ (top : Frame). top.waiting ≡ Asked c.in-Some.current) (omega (arith, c.requires.stack.height_fits)) c.in-Some.ensures.1.0
 
 pub leave-requires-clause-stack : goal.leave-requires-clause-stack
-leave-requires-clause-stack g c = changed c.args.self.now _ c.ask.new.self (read_top c.args.self.now c.index-self-self.result (omega (arith, c.requires.stack.height_fits))) c.requires.stack c.ask.ensures.same
+leave-requires-clause-stack g c = changed c.args.self.now _ c.next_move.new.self (read_top c.args.self.now c.index-self-self.result (omega (arith, c.requires.stack.height_fits))) c.requires.stack c.next_move.ensures.0
 
 pub leave-requires-clause-over : goal.leave-requires-clause-over
-leave-requires-clause-over g c = on_with c.args.self.now c.args.self.now.height c.ask.new.self (λ (top : Frame). IsOver top.waiting (todo top.node.position top.picker)) (omega (arith, c.requires.stack.height_fits)) (over_next c.ask.new.self c.in_default.ensures.waiting c.in_default.ensures.over)
+leave-requires-clause-over g c = on_with c.args.self.now c.args.self.now.height c.next_move.new.self (λ (top : Frame). IsOver top.waiting (todo top.node.position top.picker)) (omega (arith, c.requires.stack.height_fits)) (over_next c.next_move.new.self c.in_default.ensures.1.0 c.in_default.ensures.1.1.1)
 
 pub returns-then-is_next-clause-left : goal.returns-then-is_next-clause-left
 returns-then-is_next-clause-left g c =
     let fits : c.args.self.now.height < length c.args.self.now.frames = omega (arith, c.requires.stack.height_fits) in
-    omega (arith, left_descended c.args.self.now c.descend.new.self c.in-Some.current (get_or c.args.self.now.frames c.args.self.now.height c.index-self-self.result) c.ask.new.self c.descend.result (read_top c.args.self.now c.index-self-self.result fits) c.in-Some.ensures.left c.descend.ensures.left)
+    omega (arith, left_descended c.args.self.now c.descend.new.self c.in-Some.current (get_or c.args.self.now.frames c.args.self.now.height c.index-self-self.result) c.next_move.new.self c.descend.result (read_top c.args.self.now c.index-self-self.result fits) c.in-Some.ensures.1.1.0 c.descend.ensures.left)
 
-pub take-requires-clause-truth : goal.take-requires-clause-truth
-take-requires-clause-truth g c =
+pub back_up-requires-clause-truth : goal.back_up-requires-clause-truth
+back_up-requires-clause-truth g c =
     let known : _ = leaf_known _ _ _ _ _ _ _ _ _ c.in-Leaf.current c.in-Leaf.value c.in-Leaf.is (get_or c.args.self.now.frames c.args.self.now.height c.index-self-self.result).known in
     let leaf : _ = leaf_true (after_code (get_or c.args.self.now.frames c.args.self.now.height c.index-self-self.result).node.position (code_of c.in-Leaf.current)) (get_or c.args.self.now.frames c.args.self.now.height c.index-self-self.result).node.eval _ _ known.0 known.1 in
     (omega (arith, ints, leaf.0), leaf.1)
@@ -44,7 +44,7 @@ unreachable-requires g c =
     search rules
 
 pub returns-in-Leaf-clause-stack : goal.returns-in-Leaf-clause-stack
-returns-in-Leaf-clause-stack g c = changed c.args.self.now _ c.take.new.self (read_top c.args.self.now c.index-self-self.result (omega (arith, c.requires.stack.height_fits))) c.requires.stack c.take.ensures.same
+returns-in-Leaf-clause-stack g c = changed c.args.self.now _ c.back_up.new.self (read_top c.args.self.now c.index-self-self.result (omega (arith, c.requires.stack.height_fits))) c.requires.stack c.back_up.ensures.0
 
 pub returns-in-Leaf-clause-free : goal.returns-in-Leaf-clause-free
-returns-in-Leaf-clause-free g c = on_with c.args.self.now c.args.self.now.height c.take.new.self (λ (top : Frame). IsFree top.waiting) (omega (arith, c.requires.stack.height_fits)) c.take.ensures.free
+returns-in-Leaf-clause-free g c = on_with c.args.self.now c.args.self.now.height c.back_up.new.self (λ (top : Frame). IsFree top.waiting) (omega (arith, c.requires.stack.height_fits)) c.back_up.ensures.1.1.0

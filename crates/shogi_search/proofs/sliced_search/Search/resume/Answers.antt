@@ -5,7 +5,7 @@ use Rattle.shogi_search.proofs.Searches.{known_found}
 use Rattle.shogi_search.specs.declared.found.Found.{Found}
 use Rattle.shogi_search.specs.SlicedSearch.{left_in}
 use Rattle.shogi_search.proofs.Places.{left_positive}
-use Rattle.shogi_search.proofs.sliced_search.Search.go_on.Goals as goal
+use Rattle.shogi_search.proofs.sliced_search.Search.resume.Goals as goal
 
 unfinished : (result found : Option Found) (started : Bool) (whole rest : ℕ) → found ≡ None → started ≡ true → 0 < rest → IfNone result (0 < left_in found started whole rest)
 unfinished None None true whole rest e f h = h

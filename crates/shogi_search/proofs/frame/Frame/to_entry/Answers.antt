@@ -6,7 +6,7 @@ use Rattle.shogi_search.specs.Minimax.{lost_value}
 use Rattle.shogi_search.proofs.MinimaxLaws.{best-leaf}
 use Rattle.shogi_search.proofs.Left.{IsFound, found_best, found_low, found_lost}
 use Rattle.shogi_search.proofs.Nodes.{gone, gone_through}
-use Rattle.shogi_search.proofs.frame.Frame.close.Goals as goal
+use Rattle.shogi_search.proofs.frame.Frame.to_entry.Goals as goal
 
 pub returns-then-self-eq0-clause-truth : goal.returns-then-self-eq0-clause-truth
 returns-then-self-eq0-clause-truth c = rw c.if-self-eq0.true (omega (arith, ints), best-leaf c.args.self.now.node.position c.args.self.now.node.eval)

@@ -2,7 +2,7 @@ use Rattle.std.proofs.Common.{arith}
 use Rattle.std.proofs.lemmas.Int.{ints}
 use Rattle.shogi_search.proofs.Cover.{IsCovered-raise}
 use Rattle.shogi_search.proofs.Nodes.{waits, at_depth}
-use Rattle.shogi_search.proofs.frame.Frame.raise.Goals as goal
+use Rattle.shogi_search.proofs.frame.Frame.raise_alpha.Goals as goal
 
 pub invariant_of-self-clause-known : goal.invariant_of-self-clause-known
 invariant_of-self-clause-known c =

@@ -1,7 +1,7 @@
 use Rattle.std.proofs.Common.{arith}
 use Rattle.std.proofs.lemmas.Int.{ints}
 use Rattle.shogi_search.proofs.Nodes.{waits, at_depth}
-use Rattle.shogi_search.proofs.frame.Frame.hear.Goals as goal
+use Rattle.shogi_search.proofs.frame.Frame.keep_leaf_value.Goals as goal
 
 pub invariant_of-self-clause-known : goal.invariant_of-self-clause-known
 invariant_of-self-clause-known c =

@@ -1,7 +1,7 @@
 use Rattle.std.proofs.Common.{◌≡◌, ◌≤◌}
 use Rattle.shogi_search.specs.declared.frame.Waiting.TheVariants.{Next}
 use Rattle.shogi_search.specs.Stack.{IsSame, left_of_frame}
-use Rattle.shogi_search.proofs.frame.Frame.ask_worthy.Given as goal
+use Rattle.shogi_search.proofs.frame.Frame.worthy_move.Given as goal
 
 abbrev pub invariant-moves : goal.invariant-moves
 invariant-moves l = record {

@@ -1,8 +1,0 @@
-use Rattle.shogi_search.proofs.Cover.{IsCovered-skip}
-use Rattle.shogi_search.proofs.Nodes.{waits, at_depth}
-use Rattle.shogi_search.proofs.frame.Frame.skip.Goals as goal
-
-pub invariant_of-self-clause-known : goal.invariant_of-self-clause-known
-invariant_of-self-clause-known c =
-    let w : _ = waits _ _ _ _ _ _ _ _ _ _ c.requires.current c.args.self.now.known in
-    at_depth _ _ _ _ _ _ _ w.deep (IsCovered-skip _ _ _ _ _ _ _ w.covered c.requires.below)
