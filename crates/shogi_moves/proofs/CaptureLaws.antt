@@ -1,17 +1,27 @@
 -- Laws of runs of codes without a legal move of a kind.
 use Rattle.std.proofs.Common.{◌≡◌, ℕ, ◌+◌, ◌-◌, ◌*◌, ◌<◌, ◌≤◌, Bool, true, false, [], ◌∷◌, Some, filter, refl, sym, ◌∙◌, ap, arith, subst, inl, inr}
-use Rattle.std.specs.Prelude.{zero, suc, ◌&&◌}
+use Rattle.std.specs.Prelude.{zero, suc, ◌&&◌, ◌/◌}
 use Rattle.std.proofs.lemmas.Bool.{cond-true, cond-false, cases_Bool, cases_lt, and_right, and_parts}
 use Rattle.shogi_core.specs.declared.moves.TheConstants.{MOVE_CODE_COUNT, FIRST_DROP, SQUARE_CODES}
 use Rattle.shogi_core.specs.declared.moves.Move.{Move}
+use Rattle.shogi_core.specs.Bits.{has_bit}
 use Rattle.shogi_core.specs.Cell.{is_piece_of}
 use Rattle.shogi_core.specs.Codes.{move_of}
 use Rattle.shogi_core.specs.Movement.{piece_at}
 use Rattle.shogi_core.specs.Position.{Shogi}
-use Rattle.shogi_moves.specs.Captures.{captures, matches, is_capture, matches_kind, is_matching, HasNoneMatching}
+use Rattle.shogi_moves.specs.Captures.{captures, matches, is_capture, matches_kind, is_matching}
 use Rattle.shogi_moves.specs.Legal.{is_legal_code}
 use Rattle.shogi_moves.specs.LegalMoves.{legal_from}
 use Rattle.shogi_moves.proofs.LegalLaws.{drop_code, legal_from_found, legal_from_skips, legal_from_end, no_piece}
+
+-- the moves of the kind from a code on are of pieces on squares of the mask, or drops
+pub record HasMatchingOn (p : Shogi) (capture : Bool) (code mask : ℕ) : Type 0 where
+  pub on : (c : ℕ) → code ≤ c → c < FIRST_DROP → is_matching p capture c ≡ true
+      → has_bit mask (c / SQUARE_CODES) ≡ true
+
+-- no code from the first up to the end is that of a legal move of the kind
+pub record HasNoneMatching (p : Shogi) (capture : Bool) (first end : ℕ) : Type 0 where
+  pub none : (code : ℕ) → first ≤ code → code < end → is_matching p capture code ≡ false
 
 -- one test that fails, of two
 left_fails : (a b : Bool) → a ≡ false → (a && b) ≡ false

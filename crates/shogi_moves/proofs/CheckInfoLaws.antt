@@ -146,9 +146,6 @@ check_info_unpinned p kings pinned safe low fits k free = record {
 pub ruleset without_check = (check_info_unpinned)
 
 module _ (cells : Cells) (side : Color) (from to : ℕ) (v : Option Piece) (len : length cells ≡ 81) (hf : from < 81) (ht : to < 81) where
-  after_it : Cells
-  after_it = set (set cells from None) to v
-
   pub look : (x : ℕ) → ((x ≡ to) × (piece_at (set (set cells from None) to v) x ≡ v)) ⊎ (((x ≡ from) × (piece_at (set (set cells from None) to v) x ≡ None)) ⊎ (piece_at (set (set cells from None) to v) x ≡ piece_at cells x))
   look x = elim (cases_eq x to) [
     | inl there ↦ inl (there, rw there (get_or-set_same (set cells from None) to v None (omega (arith, length-set cells from None))))

@@ -17,8 +17,14 @@ use Rattle.shogi_core.specs.Pieces.{opponent_of}
 use Rattle.shogi_core.proofs.BitLaws.{has_bit-and, has_bit-none, has_bit-or}
 use Rattle.shogi_core.proofs.Uncovered.{same_way, same_way_is, list_any_kept}
 use Rattle.shogi_core.proofs.SeenLaws.{leads_back, slides_back}
-use Rattle.shogi_moves.specs.Replies.{ChecksWithin, IsHarmless, Sees}
+use Rattle.shogi_moves.specs.Replies.{IsHarmless, Sees}
 use Rattle.shogi_moves.proofs.ReplyLaws.{harmless_far}
+
+-- from a square that is not of the mask the piece attacks none of the kings of the side that are not left
+pub record ChecksWithin (cells : Cells) (side : Color) (cell : Option Piece)
+    (left checks : ℕ) : Type 0 where
+  pub harmless : (k n : ℕ) → k < 81 → n < 81 → is_king side (piece_at cells k) ≡ true
+      → has_bit left k ≡ false → has_bit checks n ≡ false → cell_reaches cells cell n k ≡ false
 
 -- ---- moves run both ways
 

@@ -25,13 +25,18 @@ use Rattle.shogi_core.proofs.CodesBack.{move_of-board, move_of-drop}
 use Rattle.shogi_core.proofs.LineBits.{has_bit-not, and_fits}
 use Rattle.shogi_moves.specs.After.{piece_moved, cells_after, dropped}
 use Rattle.shogi_moves.specs.Captures.{captures, matches, is_matching}
-use Rattle.shogi_moves.specs.Destinations.{is_destination, is_unchecked, Sifts, AreDropSquares}
+use Rattle.shogi_moves.specs.Destinations.{is_destination, is_unchecked, AreDropSquares}
 use Rattle.shogi_moves.specs.CheckInfo.{IsCheckInfo}
 use Rattle.shogi_moves.specs.Legal.{is_safe, is_legal, is_legal_code, is_pseudo_legal_board_move, may_promote, is_promotable, in_promotion_zone, is_pseudo_legal_drop, is_pawn_kind, is_pawn_drop_mate}
 use Rattle.shogi_moves.proofs.CaptureLaws.{matches_kind_of}
 use Rattle.shogi_moves.proofs.CheckInfoLaws.{unpinned_safe, filled, quiet_drop, same_drop, stays_set, stays_drop, unpinned_parts}
 use Rattle.shogi_moves.proofs.LegalLaws.{is_legal_code_of}
 use Rattle.shogi_moves.proofs.MovedPieces.{is_king-piece_moved}
+
+-- of the first squares, those are kept that pass or are still to be tried
+pub record Sifts (first left kept : ℕ) (test : ℕ → Bool) : Type 0 where
+  pub within : (n : ℕ) → has_bit left n ≡ true → has_bit first n ≡ true
+  pub bits : (n : ℕ) → n < 81 → has_bit kept n ≡ (has_bit first n && (test n || has_bit left n))
 
 -- ---- squares are tried one by one
 

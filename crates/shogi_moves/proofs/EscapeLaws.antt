@@ -207,33 +207,6 @@ pub record PassesTried (squares left kept : ℕ) (fact : ℕ → Type 0) : Type 
 pub tried_first : (all squares : ℕ) (fact : ℕ → Type 0) → PassesTried squares (bit_and all squares) (bit_and all squares) fact
 tried_first all squares fact = record { among = λ n e. (and_parts _ _ (sym (has_bit-and all squares n) ∙ e)).1; within = λ n e. e; passed = λ n h e. inl e }
 
-pub tried_kept : (squares left next kept to : ℕ) (fact : ℕ → Type 0) → PassesTried squares left kept fact → ((i : ℕ) → has_bit next i ≡ (has_bit left i && not (i == to))) → fact to → PassesTried squares next kept fact
-tried_kept squares left next kept to fact t bits holds = record {
-  among = t.among;
-  within = λ n e. t.within n (and_parts (has_bit left n) (not (n == to)) (sym (bits n) ∙ e)).0;
-  passed = λ n h e. elim (t.passed n h e) [
-    | inl still ↦ elim (cases_eq n to) [
-      | inl same ↦ inr (subst fact (sym same) holds)
-      | inr other ↦ inl (bits n ∙ and_from _ _ still (not_from_false _ (ne_eqb n to other)))
-    ]
-    | inr done ↦ inr done
-  ];
-}
-
-pub tried_dropped : (squares left next kept less to : ℕ) (fact : ℕ → Type 0) → PassesTried squares left kept fact → ((i : ℕ) → has_bit next i ≡ (has_bit left i && not (i == to))) → ((i : ℕ) → has_bit less i ≡ (has_bit kept i && not (i == to))) → PassesTried squares next less fact
-tried_dropped squares left next kept less to fact t bits gone = record {
-  among = λ n e. t.among n (and_parts (has_bit kept n) (not (n == to)) (sym (gone n) ∙ e)).0;
-  within = λ n e. (
-      let parts : (has_bit left n ≡ true) × (not (n == to) ≡ true) = and_parts (has_bit left n) (not (n == to)) (sym (bits n) ∙ e) in
-      gone n ∙ and_from _ _ (t.within n parts.0) parts.1);
-  passed = λ n h e. (
-      let parts : (has_bit kept n ≡ true) × (not (n == to) ≡ true) = and_parts (has_bit kept n) (not (n == to)) (sym (gone n) ∙ e) in
-      elim (t.passed n h parts.0) [
-        | inl still ↦ inl (bits n ∙ and_from _ _ still parts.1)
-        | inr done ↦ inr done
-      ]);
-}
-
 pub tried_done : (squares left kept : ℕ) (fact : ℕ → Type 0) → PassesTried squares left kept fact → left ≡ 0 → (n : ℕ) → n < 81 → has_bit kept n ≡ true → fact n
 tried_done squares left kept fact t none n h e = elim (t.passed n h e) [
   | inl still ↦ absurd (both_ways (has_bit left n) (ap (λ (m : ℕ). has_bit m n) none ∙ has_bit-none n) still)

@@ -26,7 +26,7 @@ use Rattle.shogi_moves.specs.Captures.{is_matching}
 use Rattle.shogi_moves.specs.Destinations.{is_destination}
 use Rattle.shogi_moves.specs.Legal.{in_promotion_zone, is_promotable, may_promote}
 use Rattle.shogi_moves.specs.Replies.{IsFarMove, is_on_back_rank}
-use Rattle.shogi_moves.specs.Sweeps.{HasMatchingOn}
+use Rattle.shogi_moves.proofs.CaptureLaws.{HasMatchingOn}
 use Rattle.shogi_moves.proofs.DestinationLaws.{matching_board}
 use Rattle.shogi_moves.proofs.Passes.{none_uncertain}
 use Rattle.shogi_moves.proofs.SweepLaws.{at_code}

@@ -21,8 +21,8 @@ use Rattle.shogi_moves.specs.Legal.{is_legal, is_legal_code, may_promote}
 use Rattle.shogi_moves.specs.LegalMoves.{legal_codes}
 use Rattle.shogi_moves.specs.Captures.{is_matching}
 use Rattle.shogi_moves.specs.Replies.{HasCertainQuiets, IsAnswered}
-use Rattle.shogi_moves.specs.Sweeps.{matching_from, Keeps, KeepsBoard, KeepsDrop, HasMatchingOn, IsCertainQuiet, IsCertainDrop, IsPassed}
-use Rattle.shogi_moves.proofs.CaptureLaws.{skip_one, matching_found}
+use Rattle.shogi_moves.specs.Sweeps.{matching_from, Keeps, KeepsBoard, KeepsDrop, IsCertainQuiet, IsCertainDrop, IsPassed}
+use Rattle.shogi_moves.proofs.CaptureLaws.{HasMatchingOn, skip_one, matching_found}
 use Rattle.shogi_moves.proofs.DestinationLaws.{matching_board}
 use Rattle.shogi_moves.proofs.LegalLaws.{is_legal_code_of, after_code_of}
 use Rattle.shogi_moves.proofs.SweepLaws.{at_code, keeps_from}

@@ -12,7 +12,7 @@ use Rattle.shogi_core.specs.declared.piece.Kind.TheVariants as kinds
 use Rattle.shogi_core.specs.declared.piece.Piece.{Piece}
 use Rattle.shogi_core.specs.declared.piece.Role.{Role}
 use Rattle.shogi_core.specs.declared.piece.Role.TheVariants.{King, Pawn, Lance, Knight, Silver, Gold, Bishop, Rook, PromotedPawn, PromotedLance, PromotedKnight, PromotedSilver, Horse, Dragon}
-use Rattle.shogi_core.specs.Attack.{in_check, is_sniping}
+use Rattle.shogi_core.specs.Attack.{in_check, is_sniping, cell_steps}
 use Rattle.shogi_core.specs.Below.{some_below}
 use Rattle.shogi_core.specs.Bits.{has_bit}
 use Rattle.shogi_core.specs.Cell.{is_piece_of, is_king, is_immobile, is_slider, is_sliding_role}
@@ -34,12 +34,20 @@ use Rattle.shogi_core.proofs.Snipers.{left_unpinned, stands_still}
 use Rattle.shogi_moves.specs.After.{after, cells_after, piece_moved, dropped, with_captured, with_one_more}
 use Rattle.shogi_moves.specs.Legal.{is_legal, is_safe, is_pseudo_legal_board_move, is_pseudo_legal_drop, is_pawn_kind, is_mated_by_drop}
 use Rattle.shogi_moves.specs.LegalMoves.{legal_codes}
-use Rattle.shogi_moves.specs.Replies.{cell_steps, is_free_kind, holds_free, is_line_of_king, is_aligned_with_king, is_open_step, is_spare, is_way, Sees, Aligns, IsReplies, IsHarmless, IsHarmlessFrom, StaysCovered, UncoversNothing, UncoversWithin, IsOpen, IsAnswered}
+use Rattle.shogi_moves.specs.Replies.{holds_free, is_line_of_king, is_aligned_with_king, is_open_step, is_spare, is_way, Sees, Aligns, IsReplies, IsHarmless, IsHarmlessFrom, StaysCovered, UncoversNothing, UncoversWithin, IsOpen, IsAnswered}
 use Rattle.shogi_moves.proofs.DropChecks as drops
 use Rattle.shogi_moves.proofs.DestinationLaws.{legal_board, legal_drop, drop_matching, still}
 use Rattle.shogi_moves.proofs.ExistenceLaws.{some_legal}
 use Rattle.shogi_moves.proofs.CheckInfoLaws.{look, other_side, own_some, is_piece_of-piece_moved, dropped_of, quiet_board, quiet_drop}
 use Rattle.shogi_moves.proofs.LegalLaws.{is_legal_code_of}
+
+-- a kind that goes on from every square, and is no pawn
+abbrev pub is_free_kind : Kind → Bool
+is_free_kind kinds.Silver = true
+is_free_kind kinds.Gold = true
+is_free_kind kinds.Bishop = true
+is_free_kind kinds.Rook = true
+is_free_kind _ = false
 
 -- ---- what a king sees
 
@@ -275,17 +283,11 @@ harmless_unaligned cells side lines from (Some piece) n a h out off k l e = fals
   | inr slide ↦ both_ways (has_bit lines n) out (a.squares k n l h e (has_bit-none k) (lined_aligned (set cells from None) k n (slide_seen (set cells from None) piece n k h slide)))
 ])
 
-pub uncovers_off_sight : (cells : Cells) (side : Color) (sight from mask : ℕ) → has_bit sight from ≡ false → UncoversWithin cells side sight from mask
-uncovers_off_sight cells side sight from mask out promote n h off far = inl out
-
 pub uncovers_anywhere : (cells : Cells) (side : Color) (sight from mask : ℕ) → ((n : ℕ) → n < 81 → has_bit mask n ≡ true) → UncoversWithin cells side sight from mask
 uncovers_anywhere cells side sight from mask all promote n h off far = absurd (both_ways (has_bit mask n) off (all n h))
 
 pub uncovers_by_lines : (cells : Cells) (side : Color) (sight from lines : ℕ) → StaysCovered cells side from → Aligns cells side 0 lines → UncoversWithin cells side sight from lines
 uncovers_by_lines cells side sight from lines covered a promote n h off far = inr (harmless_unaligned cells side lines from (piece_moved promote (piece_at cells from)) n a h off far, covered)
-
-pub uncovers_nowhere : (cells : Cells) (side : Color) (sight from mask : ℕ) → StaysCovered cells side from → is_slider (piece_at cells from) ≡ false → UncoversWithin cells side sight from mask
-uncovers_nowhere cells side sight from mask covered still promote n h off far = inr (harmless_still cells side from promote n still far, covered)
 
 -- ---- after a board move, and after a drop
 

@@ -18,13 +18,13 @@ use Rattle.shogi_core.proofs.Below.{some_below_at, some_below_no}
 use Rattle.shogi_core.proofs.LineBits.{has_bit-not, and_fits}
 use Rattle.shogi_core.proofs.CodesBack.{move_of-board, move_of-drop}
 use Rattle.shogi_core.proofs.Faults.{number_below}
-use Rattle.shogi_moves.specs.Captures.{captures, matches, matches_kind, is_matching, HasNoneMatching}
+use Rattle.shogi_moves.specs.Captures.{captures, matches, matches_kind, is_matching}
 use Rattle.shogi_moves.specs.Destinations.{is_destination}
 use Rattle.shogi_moves.specs.Legal.{is_legal, is_legal_code}
 use Rattle.shogi_moves.specs.LegalMoves.{legal_from}
 use Rattle.shogi_moves.specs.Rising.{is_in}
-use Rattle.shogi_moves.specs.Sweeps.{matching_from, Keeps, KeepsBoard, KeepsDrop, HasMatchingOn}
-use Rattle.shogi_moves.proofs.CaptureLaws.{matches_kind_of, none_square, none_drop, none_join, matching_jumps, matching_found, matching_end}
+use Rattle.shogi_moves.specs.Sweeps.{matching_from, Keeps, KeepsBoard, KeepsDrop}
+use Rattle.shogi_moves.proofs.CaptureLaws.{HasMatchingOn, HasNoneMatching, matches_kind_of, none_square, none_drop, none_join, matching_jumps, matching_found, matching_end}
 use Rattle.shogi_moves.proofs.DestinationLaws.{matching_move, matching_among}
 use Rattle.shogi_moves.proofs.LegalLaws.{drop_code, legal_in, legal_in_above, legal_code_below}
 use Rattle.shogi_moves.proofs.ZoneLaws.{more_fits}

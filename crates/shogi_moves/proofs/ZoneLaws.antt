@@ -71,12 +71,6 @@ pub ruleset promoting_bits = (no_squares, promotes_never, promotes_all, promotes
 
 -- ---- files
 
-is_right_at : ℕ → Bool
-is_right_at i = has_bit (get_or FILES (i / 81) 0) (i % 81)
-
-is_file_at : ℕ → Bool
-is_file_at i = i % 81 / 9 == i / 81
-
 files_right_at : (i : ℕ) → i < 729 → has_bit (get_or FILES (i / 81) 0) (i % 81) ≡ (i % 81 / 9 == i / 81)
 unfolding has_bit
 files_right_at i h = agree_below_at (λ i. has_bit (get_or FILES (i / 81) 0) (i % 81)) (λ i. i % 81 / 9 == i / 81) 729 i refl h

@@ -29,7 +29,3 @@ matches_kind p capture code = matches capture (is_capture p code)
 -- the code is that of a legal move of the kind
 abbrev pub is_matching : Shogi → Bool → ℕ → Bool
 is_matching p capture code = is_legal_code p code && matches_kind p capture code
-
--- no code from the first up to the end is that of a legal move of the kind
-pub record HasNoneMatching (p : Shogi) (capture : Bool) (first end : ℕ) : Type 0 where
-  pub none : (code : ℕ) → first ≤ code → code < end → is_matching p capture code ≡ false

@@ -61,11 +61,6 @@ ShowsAttack p seen king to =
     is_attacked seen (opponent_of p.side) to
     ≡ is_attacked (slice_set p.cells king None) (opponent_of p.side) to
 
--- of the first squares, those are kept that pass or are still to be tried
-pub record Sifts (first left kept : ℕ) (test : ℕ → Bool) : Type 0 where
-  pub within : (n : ℕ) → has_bit left n ≡ true → has_bit first n ≡ true
-  pub bits : (n : ℕ) → n < 81 → has_bit kept n ≡ (has_bit first n && (test n || has_bit left n))
-
 -- none of the pieces that a mask leaves out reaches a destination of the kind
 abbrev pub HasMovers : Shogi → Bool → ℕ → ℕ → Type 0
 HasMovers p capture pieces mask = (n t : ℕ) → n < 81 → t < 81

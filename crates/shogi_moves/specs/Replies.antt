@@ -7,7 +7,7 @@ use Rattle.shogi_core.specs.declared.piece.Color.TheVariants.{Black, White}
 use Rattle.shogi_core.specs.declared.piece.Kind.{Kind}
 use Rattle.shogi_core.specs.declared.piece.Kind.TheVariants.{Silver, Gold, Bishop, Rook}
 use Rattle.shogi_core.specs.declared.piece.Piece.{Piece}
-use Rattle.shogi_core.specs.Attack.{is_sniping}
+use Rattle.shogi_core.specs.Attack.{is_sniping, cell_steps}
 use Rattle.shogi_core.specs.Below.{some_below}
 use Rattle.shogi_core.specs.Bits.{has_bit}
 use Rattle.shogi_core.specs.Cell.{is_piece_of, is_king, is_immobile}
@@ -19,11 +19,6 @@ use Rattle.shogi_moves.specs.After.{after, piece_moved}
 use Rattle.shogi_moves.specs.Destinations.{is_destination}
 use Rattle.shogi_moves.specs.Legal.{is_legal, may_promote}
 use Rattle.shogi_moves.specs.LegalMoves.{legal_codes}
-
--- a step or a jump of what stands on a leads to t
-abbrev pub cell_steps : Option Piece → ℕ → ℕ → Bool
-cell_steps None a t = false
-cell_steps (Some piece) a t = has_step piece a t
 
 -- the piece on a may step to t: none of its own stands there, and it can move again from there without promotion
 abbrev pub is_open_step : Cells → Color → ℕ → ℕ → Bool
@@ -47,14 +42,6 @@ is_spare cells side a =
     && not (is_king side (piece_at cells a))
     && not (is_aligned_with_king cells side a)
     && some_below 81 (is_open_step cells side a)
-
--- a kind that goes on from every square, and is no pawn
-abbrev pub is_free_kind : Kind → Bool
-is_free_kind Silver = true
-is_free_kind Gold = true
-is_free_kind Bishop = true
-is_free_kind Rook = true
-is_free_kind _ = false
 
 -- the side holds a piece of such a kind, which it may drop on each empty square where it is in no check
 abbrev pub holds_free : HandCounts → Color → Bool
@@ -107,12 +94,6 @@ UncoversWithin cells side sight from mask = (promote : Bool) (n : ℕ) → n < 8
     → has_bit mask n ≡ false
     → IsHarmless cells side (piece_moved promote (piece_at cells from)) n
     → UncoversNothing cells side sight from (piece_moved promote (piece_at cells from)) n
-
--- from a square that is not of the mask the piece attacks none of the kings of the side that are not left
-pub record ChecksWithin (cells : Cells) (side : Color) (cell : Option Piece)
-    (left checks : ℕ) : Type 0 where
-  pub harmless : (k n : ℕ) → k < 81 → n < 81 → is_king side (piece_at cells k) ≡ true
-      → has_bit left k ≡ false → has_bit checks n ≡ false → cell_reaches cells cell n k ≡ false
 
 -- such a mask for the side that is not to move, and some of the squares that give it a move
 pub record IsReplies (p : Shogi) (sight spare : ℕ) : Type 0 where

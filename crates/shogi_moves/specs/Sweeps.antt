@@ -55,11 +55,6 @@ pub record KeepsDrop (p : Shogi) (kind : Kind) (code destinations : ℕ) : Type 
   pub high : code ≤ FIRST_DROP + 81 + kind_number kind * 81
   pub drops : Keeps (is_matching p false) (λ n. code_of (Drop kind n)) code destinations
 
--- the moves of the kind from a code on are of pieces on squares of the mask, or drops
-pub record HasMatchingOn (p : Shogi) (capture : Bool) (code mask : ℕ) : Type 0 where
-  pub on : (c : ℕ) → code ≤ c → c < FIRST_DROP → is_matching p capture c ≡ true
-      → has_bit mask (c / SQUARE_CODES) ≡ true
-
 -- the destinations still to come of the present piece or kind of a sweep, with what is known of the position
 pub record IsBoardSweep (p : Shogi) (capture : Bool) (s : BoardSweep) : Type 0 where
   pub info : IsCheckInfoOf s.info p

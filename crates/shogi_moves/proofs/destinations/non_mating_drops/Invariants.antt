@@ -2,7 +2,7 @@ use Rattle.std.proofs.Common.{◌<◌, ◌^◌, not}
 use Rattle.shogi_core.specs.declared.moves.Move.TheVariants.{Drop}
 use Rattle.shogi_core.specs.declared.piece.Kind.TheVariants as kinds
 use Rattle.shogi_moves.specs.Legal.{is_pawn_drop_mate}
-use Rattle.shogi_moves.specs.Destinations.{Sifts}
+use Rattle.shogi_moves.proofs.DestinationLaws.{Sifts}
 use Rattle.shogi_moves.proofs.destinations.non_mating_drops.Given as goal
 
 abbrev pub invariant-loop-left : goal.invariant-loop-left

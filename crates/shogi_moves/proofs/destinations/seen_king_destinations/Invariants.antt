@@ -1,6 +1,7 @@
 use Rattle.std.proofs.Common.{◌<◌, ◌^◌, false}
 use Rattle.shogi_core.specs.declared.moves.Move.TheVariants.{Board}
-use Rattle.shogi_moves.specs.Destinations.{is_unchecked, Sifts}
+use Rattle.shogi_moves.specs.Destinations.{is_unchecked}
+use Rattle.shogi_moves.proofs.DestinationLaws.{Sifts}
 use Rattle.shogi_moves.proofs.destinations.seen_king_destinations.Given as goal
 
 abbrev pub invariant-loop-left : goal.invariant-loop-left

@@ -1,7 +1,8 @@
 use Rattle.std.proofs.Common.{◌<◌, ◌^◌}
 use Rattle.shogi_core.specs.declared.moves.Move.TheVariants.{Drop}
 use Rattle.shogi_core.specs.declared.piece.Kind.TheVariants as kinds
-use Rattle.shogi_moves.specs.Destinations.{is_unchecked, Sifts}
+use Rattle.shogi_moves.specs.Destinations.{is_unchecked}
+use Rattle.shogi_moves.proofs.DestinationLaws.{Sifts}
 use Rattle.shogi_moves.proofs.destinations.tried_drops.Given as goal
 
 abbrev pub invariant-loop-left : goal.invariant-loop-left

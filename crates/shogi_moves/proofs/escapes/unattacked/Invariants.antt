@@ -1,6 +1,6 @@
 use Rattle.std.proofs.Common.{◌<◌, ◌^◌, not}
 use Rattle.shogi_core.specs.Attack.{is_attacked}
-use Rattle.shogi_moves.specs.Destinations.{Sifts}
+use Rattle.shogi_moves.proofs.DestinationLaws.{Sifts}
 use Rattle.shogi_moves.proofs.escapes.unattacked.Given as goal
 
 abbrev pub invariant-loop-left : goal.invariant-loop-left

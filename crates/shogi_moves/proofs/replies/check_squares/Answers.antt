@@ -1,7 +1,6 @@
 use Rattle.std.proofs.Common.{sym, subst, arith, bit_or, Option}
 use Rattle.shogi_core.specs.declared.piece.Piece.{Piece}
-use Rattle.shogi_moves.specs.Replies.{ChecksWithin}
-use Rattle.shogi_moves.proofs.CheckLaws.{checks_first, checks_more, checks_done}
+use Rattle.shogi_moves.proofs.CheckLaws.{ChecksWithin, checks_first, checks_more, checks_done}
 use Rattle.shogi_moves.proofs.replies.check_squares.Goals as goal
 
 pub loop-left-init : goal.loop-left-init

@@ -1,5 +1,5 @@
 use Rattle.std.proofs.Common.{◌<◌, ◌^◌}
-use Rattle.shogi_moves.specs.Replies.{ChecksWithin}
+use Rattle.shogi_moves.proofs.CheckLaws.{ChecksWithin}
 use Rattle.shogi_moves.proofs.replies.check_squares.Given as goal
 
 abbrev pub invariant-loop-left : goal.invariant-loop-left

@@ -2,7 +2,8 @@ use Rattle.std.proofs.Common.{◌≡◌, ◌<◌, ◌^◌, ℕ, true, false}
 use Rattle.shogi_core.specs.Bits.{has_bit}
 use Rattle.shogi_core.specs.Cell.{is_piece_of}
 use Rattle.shogi_core.specs.Movement.{piece_at}
-use Rattle.shogi_moves.specs.Sweeps.{IsBoardSweep, HasMatchingOn, IsPassedTo}
+use Rattle.shogi_moves.specs.Sweeps.{IsBoardSweep, IsPassedTo}
+use Rattle.shogi_moves.proofs.CaptureLaws.{HasMatchingOn}
 use Rattle.shogi_moves.proofs.sweep.BoardSweep.pass_pieces.Given as goal
 
 abbrev pub invariant-squares : goal.invariant-squares

@@ -2,7 +2,8 @@ use Rattle.std.proofs.Common.{◌≡◌, ◌<◌, ◌^◌, ℕ, true}
 use Rattle.shogi_core.specs.Bits.{has_bit}
 use Rattle.shogi_core.specs.Cell.{is_piece_of}
 use Rattle.shogi_core.specs.Movement.{piece_at}
-use Rattle.shogi_moves.specs.Sweeps.{IsBoardSweep, HasMatchingOn}
+use Rattle.shogi_moves.specs.Sweeps.{IsBoardSweep}
+use Rattle.shogi_moves.proofs.CaptureLaws.{HasMatchingOn}
 use Rattle.shogi_moves.proofs.sweep.BoardSweep.refill.Given as goal
 
 abbrev pub invariant-squares : goal.invariant-squares

@@ -1,7 +1,7 @@
 use Rattle.std.proofs.Common.{◌≡◌, ◌-◌, ◌+◌, ◌≤◌, ◌*◌, false}
 use Rattle.shogi_core.specs.declared.moves.TheConstants.{FIRST_DROP}
 use Rattle.shogi_core.specs.Pieces.{kind_number}
-use Rattle.shogi_moves.specs.Captures.{HasNoneMatching}
+use Rattle.shogi_moves.proofs.CaptureLaws.{HasNoneMatching}
 use Rattle.shogi_moves.specs.Sweeps.{IsDropSweep}
 use Rattle.shogi_moves.proofs.sweep.DropSweep.refill.Given as goal
 
