@@ -71,3 +71,7 @@ HasMovers p capture pieces mask = (n t : ℕ) → n < 81 → t < 81
 abbrev pub Spreads : (ℕ → ℕ → Type 0) → ℕ → ℕ → Type 0
 Spreads near mask spread = (a b : ℕ) → a < 81 → b < 81 → has_bit mask b ≡ true
     → near b a → has_bit spread a ≡ true
+
+-- each square of the mask is one of the squares
+abbrev pub IsWithin : ℕ → ℕ → Type 0
+IsWithin mask squares = (n : ℕ) → has_bit mask n ≡ true → has_bit squares n ≡ true

@@ -202,7 +202,8 @@ fn safe_destinations(p: &Position, info: &CheckInfo, from: Square, destinations:
 fn with_promotions(cell: Option<Piece>, from: Square, among: u128) -> Destinations
     requires { among < 2 ^ 81 }
     ensures plain { HasBits result.plain (λ n. has_bit among n && not (is_immobile n cell)) }
-    ensures promoting { HasBits result.promoting (λ n. has_bit among n && may_promote cell from n) }
+    ensures promoting { HasBits result.promoting
+        (λ n. has_bit among n && may_promote cell from n) }
     ensures plain_fits { result.plain < 2 ^ 81 }
     ensures promoting_fits { result.promoting < 2 ^ 81 }
 {
@@ -279,7 +280,8 @@ fn tried_drops(p: &Position, squares: u128) -> u128
 
 /// Whether the side to move holds no piece.
 fn holds_none(p: &Position) -> bool
-    ensures { result ≡ true → (kind : Kind) → count_in_hand p.now.hands p.now.side kind ≡ 0 }
+    ensures { result ≡ true
+        → (kind : Kind) → count_in_hand p.now.hands p.now.side kind ≡ 0 }
 {
     let side = p.side();
     p.hand(side, Kind::Pawn) == 0

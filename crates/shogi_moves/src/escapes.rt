@@ -4,6 +4,7 @@ ghost use Rattle.std.specs.Prelude.{◌≡◌, ◌<◌, ◌^◌, ◌&&◌, ℕ, 
 ghost use Rattle.shogi_core.specs.declared.piece.Piece.{Piece};
 ghost use Rattle.shogi_core.specs.Attack.{is_attacked};
 ghost use Rattle.shogi_core.specs.Bits.{HasBits, has_bit};
+ghost use Rattle.shogi_moves.specs.Destinations.{IsWithin};
 ghost use Rattle.shogi_moves.specs.Escapes.{ReachesWithin, AreEscapes, HasOpenEscape};
 ghost use Rattle.shogi_moves.specs.Replies.{IsAnswered, AreAnswered, AreDropsAnswered};
 
@@ -116,7 +117,7 @@ pub fn leaves_escape(p: &Position, escapes: u128, m: &Move) -> bool
 /// the escapes is surely left to the king.
 pub fn escaped_destinations(p: &Position, escapes: u128, from: Square, destinations: u128) -> u128
     requires { AreEscapes p.now escapes }
-    ensures among { (n : ℕ) → has_bit result n ≡ true → has_bit destinations n ≡ true }
+    ensures among { IsWithin result destinations }
     ensures answered { AreAnswered p.now from result }
 {
     let mut left = ALL_SQUARES & destinations;
@@ -140,7 +141,7 @@ pub fn escaped_destinations(p: &Position, escapes: u128, from: Square, destinati
 /// surely left to the king.
 pub fn escaped_drops(p: &Position, escapes: u128, kind: Kind, destinations: u128) -> u128
     requires { AreEscapes p.now escapes }
-    ensures among { (n : ℕ) → has_bit result n ≡ true → has_bit destinations n ≡ true }
+    ensures among { IsWithin result destinations }
     ensures answered { AreDropsAnswered p.now kind result }
 {
     let mut left = ALL_SQUARES & destinations;

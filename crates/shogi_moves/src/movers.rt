@@ -4,7 +4,7 @@
 ghost use Rattle.std.specs.Prelude.{◌≡◌, ◌<◌, ◌^◌, ◌+◌, ◌⊎◌, ℕ, true};
 ghost use Rattle.shogi_core.specs.Bits.{has_bit};
 ghost use Rattle.shogi_core.specs.Lines.{is_near};
-ghost use Rattle.shogi_moves.specs.Destinations.{HasMovers, Spreads};
+ghost use Rattle.shogi_moves.specs.Destinations.{HasMovers, Spreads, IsWithin};
 ghost use Rattle.shogi_moves.specs.Replies.{AreFarPieces};
 
 use crate::zones::{back_squares, zone_squares};
@@ -37,7 +37,7 @@ fn squares_near(mask: u128) -> u128
 /// or stands near one of the other side's.
 pub fn movers(p: &Position, capture: bool, pieces: u128) -> u128
     requires { pieces < 2 ^ 81 }
-    ensures within { (n : ℕ) → has_bit result n ≡ true → has_bit pieces n ≡ true }
+    ensures within { IsWithin result pieces }
     ensures none { HasMovers p.now capture pieces result }
     ensures fits { result < 2 ^ 81 }
 {

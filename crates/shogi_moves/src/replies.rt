@@ -5,6 +5,7 @@ ghost use Rattle.shogi_core.specs.Below.{some_below};
 ghost use Rattle.shogi_core.specs.Bits.{has_bit};
 ghost use Rattle.shogi_core.specs.Pieces.{opponent_of};
 ghost use Rattle.shogi_moves.specs.After.{after};
+ghost use Rattle.shogi_moves.specs.Destinations.{IsWithin};
 ghost use Rattle.shogi_moves.specs.Escapes.{AreEscapes};
 ghost use Rattle.shogi_moves.specs.Legal.{is_legal};
 ghost use Rattle.shogi_moves.specs.LegalMoves.{legal_codes};
@@ -124,7 +125,8 @@ fn attacks_king(p: &Position, side: Color, cell: Option<Piece>, to: Square) -> b
 /// The squares from which the piece would attack a king of the side: those that it would reach from
 /// there if it were of the other colour.
 fn check_squares(p: &Position, side: Color, cell: Option<Piece>) -> u128
-    ensures { (n : ℕ) → n < 81 → has_bit result n ≡ false → IsHarmless p.now.cells side cell n }
+    ensures { (n : ℕ) → n < 81 → has_bit result n ≡ false
+        → IsHarmless p.now.cells side cell n }
 {
     let Some(piece) = cell else { return 0 };
     let back = Piece {
@@ -261,7 +263,8 @@ impl Replies {
     /// The squares that are not closed and leave the other side one that gives it a move.
     fn open_squares(&self, closed: u128) -> u128
         requires { self.now.spare < 2 ^ 81 }
-        ensures { (n : ℕ) → n < 81 → has_bit result n ≡ true → IsOpen closed self.now.spare n }
+        ensures { (n : ℕ) → n < 81 → has_bit result n ≡ true
+            → IsOpen closed self.now.spare n }
     {
         if self.spare == 0 {
             return 0;
@@ -292,7 +295,8 @@ impl Replies {
     pub fn has_certain_quiets(&self, p: &Position, escapes: u128, far: u128, from: Square) -> bool
         requires kept { IsReplies p.now self.now.sight self.now.spare }
         requires escapes { AreEscapes p.now escapes }
-        requires far { (n : ℕ) → n < 81 → has_bit far n ≡ true → HasCertainQuiets p.now n }
+        requires far { (n : ℕ) → n < 81 → has_bit far n ≡ true
+            → HasCertainQuiets p.now n }
         ensures { result ≡ true → HasCertainQuiets p.now from }
     {
         p.validity();
@@ -318,7 +322,7 @@ impl Replies {
     ) -> u128
         requires escapes { AreEscapes p.now escapes }
         requires kept { IsReplies p.now self.now.sight self.now.spare }
-        ensures among { (n : ℕ) → has_bit result n ≡ true → has_bit destinations n ≡ true }
+        ensures among { IsWithin result destinations }
         ensures certain { AreAnswered p.now from result }
     {
         p.validity();
@@ -334,7 +338,7 @@ impl Replies {
     fn certain_among(&self, p: &Position, escapes: u128, from: Square, destinations: u128) -> u128
         requires escapes { AreEscapes p.now escapes }
         requires kept { IsReplies p.now self.now.sight self.now.spare }
-        ensures among { (n : ℕ) → has_bit result n ≡ true → has_bit destinations n ≡ true }
+        ensures among { IsWithin result destinations }
         ensures certain { AreAnswered p.now from result }
     {
         p.validity();
@@ -354,7 +358,7 @@ impl Replies {
     pub fn certain_drops(&self, p: &Position, escapes: u128, kind: Kind, destinations: u128) -> u128
         requires escapes { AreEscapes p.now escapes }
         requires kept { IsReplies p.now self.now.sight self.now.spare }
-        ensures among { (n : ℕ) → has_bit result n ≡ true → has_bit destinations n ≡ true }
+        ensures among { IsWithin result destinations }
         ensures certain { AreDropsAnswered p.now kind result }
     {
         p.validity();

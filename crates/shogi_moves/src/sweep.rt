@@ -225,7 +225,8 @@ impl BoardSweep {
     /// is certain that the other side has a legal move after each.
     fn pass_pieces(&mut self, p: &Position, replies: &Replies, escapes: u128)
         requires kept { IsBoardSweep p.now false self.old }
-        requires none { (self.old.destinations.plain ≡ 0) × (self.old.destinations.promoting ≡ 0) }
+        requires none { (self.old.destinations.plain ≡ 0)
+            × (self.old.destinations.promoting ≡ 0) }
         requires replies { IsReplies p.now replies.now.sight replies.now.spare }
         requires escapes { AreEscapes p.now escapes }
         ensures kept { IsBoardSweep p.now false self.new }

@@ -11,7 +11,8 @@ use shogi_core::{Position, Square};
 /// The pieces of the side that is not to move, without its kings, that stand on no line with a king
 /// of their own, whatever stands between. So no move can pin one.
 pub fn unpinnable_pieces(p: &Position) -> u128
-    ensures unpinnable { (a : ℕ) → a < 81 → has_bit result a ≡ true → IsUnpinnable p.now a }
+    ensures unpinnable { (a : ℕ) → a < 81 → has_bit result a ≡ true
+        → IsUnpinnable p.now a }
     ensures fits { result < 2 ^ 81 }
 {
     let side = p.side().opponent();
