@@ -1,8 +1,7 @@
 //! The pieces that may have a move of a kind, and those whose moves give the other side no check
 //! and cannot promote, found all at once.
 
-ghost use Rattle.std.specs.Prelude.{◌≡◌, ◌<◌, ◌^◌, ◌+◌, ◌⊎◌, ℕ, true};
-ghost use Rattle.shogi_core.specs.Bits.{has_bit};
+ghost use Rattle.std.specs.Prelude.{◌≡◌, ◌<◌, ◌^◌, ◌+◌, ◌⊎◌, true};
 ghost use Rattle.shogi_core.specs.Lines.{is_near};
 ghost use Rattle.shogi_moves.specs.Destinations.{HasMovers, Spreads, IsWithin};
 ghost use Rattle.shogi_moves.specs.Replies.{AreFarPieces};
