@@ -14,7 +14,7 @@ use crate::state::HeldBestmove;
 use crate::text::{write_info, write_numbered_info};
 use shogi_core::Move;
 use shogi_moves::{apply, next_legal};
-use shogi_search::{Found, Memo, Ranks, Search};
+use shogi_search::{Found, Memo, NoMemo, Ranks, Search};
 use std::alloc::{AllocError, Allocator};
 use std::marker::Model;
 use usi_lines::Hold;
@@ -258,7 +258,13 @@ impl<A: Allocator> GoCommand<A> {
         ensures capacity { M.capacity memo.new ≡ M.capacity memo.old }
     {
         let before = self.search.steps();
-        let found = self.search.advance(memo, budget)?;
+        let leaf = self.depths_done == 0 && self.root_move.is_some();
+        let found = if leaf {
+            // A memory that keeps a leaf is asked for each leaf from then on.
+            self.search.advance(&mut NoMemo, budget)?
+        } else {
+            self.search.advance(memo, budget)?
+        };
         let after = found.steps;
         match self.root_move {
             None => walk_on(&mut self.walk, &mut self.search, &found),

@@ -7,6 +7,7 @@ use Rattle.shogi_search.specs.Ranked.{Ranking}
 use Rattle.usi_session.specs.declared.question.Question.{Question}
 use Rattle.usi_session.specs.declared.state.HeldBestmove.{HeldBestmove}
 use Rattle.usi_session.specs.Walked.{Walked, IsUnder, IsAtDepth}
+use Rattle.usi_session.proofs.go_command.GoCommand.advance.Goals.{then-leaf+in_ok-found, else-leaf+in_ok-found-2}
 use Rattle.usi_session.proofs.go_command.GoCommand.advance.Goals as goal
 
 -- a search that was cut is continued for the same
@@ -37,8 +38,16 @@ invariant_of-self g c =
 pub returns-clause-most : goal.returns-clause-most
 returns-clause-most g c =
     let s = c.self.inside in
-    let u : c.deref_mut.result.now ≡ s.search.value = search rules in
     let first : c.steps-before.result ≡ s.search.value.steps = search rules in
-    let last : c.in_ok-found.found.steps ≡ c.advance.new.self.steps = search rules in
-    let made : c.saturating_sub.result ≡ c.in_ok-found.found.steps - c.steps-before.result = search rules in
-    omega (arith, first, last, made, c.advance.ensures.most, ap (λ (x : Progress). x.steps) u)
+    elim c.if-leaf.branch [
+      | then-leaf+in_ok-found w ↦ (
+          let u : w.deref_mut.result.now ≡ s.search.value = search rules in
+          let last : w.in_ok-found.found.steps ≡ w.advance.new.self.steps = search rules in
+          let made : c.saturating_sub.result ≡ w.in_ok-found.found.steps - c.steps-before.result = search rules in
+          omega (arith, first, last, made, w.advance.ensures.most, ap (λ (x : Progress). x.steps) u))
+      | else-leaf+in_ok-found-2 w ↦ (
+          let u : w.deref_mut-else-leaf.result.now ≡ s.search.value = search rules in
+          let last : w.in_ok-found-2.found.steps ≡ w.advance-else-leaf.new.self.steps = search rules in
+          let made : c.saturating_sub.result ≡ w.in_ok-found-2.found.steps - c.steps-before.result = search rules in
+          omega (arith, first, last, made, w.advance-else-leaf.ensures.most, ap (λ (x : Progress). x.steps) u))
+    ]
