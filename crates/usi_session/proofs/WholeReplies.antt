@@ -17,7 +17,7 @@ use Rattle.usi_session.specs.declared.position_command.Refusal.TheVariants as re
 use Rattle.usi_session.specs.declared.state.HeldBestmove.{HeldBestmove}
 use Rattle.usi_session.specs.declared.state.State.{State}
 use Rattle.usi_session.specs.Options.{option_lines}
-use Rattle.usi_session.specs.Texts.{usi_reply, score_text, moves_text, valued_pv_text, info_text, numbered_info_text, info_line, bestmove_line, bad_position_line, illegal_move_line}
+use Rattle.usi_session.specs.Texts.{usi_reply, score_text, moves_text, info_for, info_text, numbered_info_text, info_line, bestmove_line, bad_position_line, illegal_move_line}
 use Rattle.usi_session.specs.PositionCommand.{position_of_startpos, position_of_sfen}
 use Rattle.usi_session.specs.GoInfos.{listed, pv_by, numbered_line, numbered_lines, depth_lines, info_lines, go_infos, go_infos_where}
 use Rattle.usi_session.specs.Answer.{answer, answer_position, write_or_hold, answer_stop, answer_ponderhit_held, answer_ponderhit, held_line, bestmove_at}
@@ -44,7 +44,7 @@ lf = record { ends = λ before. refl }
 after : (xs : List ℕ) {ys : List ℕ} → EndsInLf ys → EndsInLf (xs ++ ys)
 after xs {ys} e = record { ends = λ before. last_byte-then before xs ys ∙ e.ends (last_byte before xs) }
 
-valued_pv_ends : (which : List ℕ) (depth : ℕ) (value : ℤ) (moves : List Move) → EndsInLf (valued_pv_text which depth value moves)
+valued_pv_ends : (which : List ℕ) (depth : ℕ) (value : ℤ) (moves : List Move) → EndsInLf (info_for which depth value moves)
 valued_pv_ends which depth value moves =
     after (codes "info depth " ++ (decimal depth ++ (which ++ codes " score "))) (after (score_text depth value)
     (after (codes " pv") (after (moves_text moves) lf)))

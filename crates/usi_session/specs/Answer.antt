@@ -1,5 +1,5 @@
 -- The answer to a command in a state: the bytes that are written, and the state after it (USI; what keeps and what drops a held `bestmove` is an own choice).
-use Rattle.std.specs.Prelude.{◌≡◌, ℕ, List, [], ◌++◌, Option, Some, None, Result, Ok, Err, true, false, unwrap_or}
+use Rattle.std.specs.Prelude.{◌≡◌, ℕ, List, [], ◌++◌, Option, Some, None, Result, Ok, Err, OnOk, Vec, true, false, unwrap_or}
 use Rattle.shogi_core.specs.Position.{Shogi}
 use Rattle.shogi_core.specs.declared.moves.Move.{Move}
 use Rattle.shogi_core.specs.Start.{start}
@@ -37,6 +37,12 @@ pub record IsGiven (answer : Answer) (before after : List ℕ) (state : State) :
   pub bytes : after ≡ before ++ answer.bytes
   pub state_is : state ≡ answer.state
 
+-- where it succeeds, the answer was given
+abbrev pub Gives : {A E : Type 0} → Result (Unit {0}) E → Answer → Vec ℕ A → Vec ℕ A → State
+    → Type 0
+Gives result answer before after state =
+    OnOk result (IsGiven answer before.items after.items state)
+
 -- the state, with no bestmove held any more
 abbrev pub without_bestmove : State → State
 without_bestmove state = record state { held = None }
@@ -65,6 +71,10 @@ abbrev pub write_or_hold : State → List ℕ → HeldBestmove → Hold → Answ
 write_or_hold state infos held Nothing = answer_with (without_bestmove state) (infos ++ held_line held)
 write_or_hold state infos held UntilStop = answer_with (record state { held = Some held }) infos
 write_or_hold state infos held UntilHit = answer_with (record state { held = Some held }) infos
+
+-- a bestmove alone, written or held as it says
+abbrev pub answer_bestmove : State → HeldBestmove → Answer
+answer_bestmove state held = write_or_hold state [] held held.until
 
 -- `go` at a depth, by the evaluation and with at most as many lines as the options say: the whole depth is searched, also under `go infinite`, and what was held is dropped
 abbrev pub answer_go : State → ℕ → Hold → Answer

@@ -31,6 +31,11 @@ due session further = session.queued ++ owed session.state session.running_go (a
 abbrev pub state_due : SessionView → List ℕ → State
 state_due session further = state_from (rest_of_go_if session.state session.running_go).state (ahead session.input further)
 
+-- this of a session, by what further bytes are fed, is what it was for the chunk and then these
+abbrev pub IsSameAfter : {A : Type 0} → (SessionView → List ℕ → A) → List ℕ → SessionView
+    → SessionView → Type 0
+IsSameAfter what chunk old new = (x : List ℕ) → what new x ≡ what old (chunk ++ x)
+
 -- the steps that may still be made: for the running `go`, and for each `go` in these lines
 abbrev pub load_ahead : State → Option RunningGo → List Line → ℕ
 load_ahead state running_go ahead = load_of_if running_go + costs_from (rest_of_go_if state running_go).state ahead
@@ -52,6 +57,11 @@ is_pending session = not session.state.is_over && (is_some session.running_go ||
 abbrev pub IsMidSearch : Option RunningGo → Type 0
 IsMidSearch None = ⊥
 IsMidSearch (Some go) = (is_searching go ≡ true) × (0 < go.steps_left)
+
+-- where something is still pending, so many steps were made as the budget allows, and a search is running
+abbrev pub HasSpent : SessionView → ℕ → ℕ → Type 0
+HasSpent session budget made =
+    is_pending session ≡ true → (made ≡ budget) × IsMidSearch session.running_go
 
 -- the pv of the current line is whole
 abbrev pub IsPvWhole : Option RunningGo → Type 0

@@ -1,17 +1,21 @@
 -- A running `go`: what it still owes, and the steps that it may still make (own choice).
-use Rattle.std.specs.Prelude.{◌≡◌, ◌≤◌, ℕ, zero, suc, ◌+◌, ◌-◌, ◌*◌, ◌==◌, List, [], ◌++◌, length, drop, Bool, true, false, OnSome, ◌||◌, ◌&&◌, cond, nat_lt, Option, Some, None, is_some}
+use Rattle.std.specs.Prelude.{◌≡◌, ◌≤◌, ℕ, zero, suc, ◌+◌, ◌-◌, ◌*◌, ◌==◌, List, [], ◌++◌, length, drop, Bool, true, false, OnSome, ◌||◌, ◌&&◌, cond, nat_lt, Option, Some, None, is_some, Result, IfOk, Vec}
 use Rattle.shogi_core.specs.declared.moves.Move.{Move}
 use Rattle.shogi_core.specs.Position.{Shogi}
 use Rattle.shogi_moves.specs.LegalMoves.{legal_above}
 use Rattle.shogi_search.specs.Minimax.{best, pv_cost, then_pv_cost, sum_of_tree_sizes}
+use Rattle.usi_lines.specs.Commands.{Command}
+use Rattle.usi_lines.specs.Lines.{Line}
+use Rattle.usi_lines.specs.declared.command.Hold.{Hold}
 use Rattle.usi_lines.specs.declared.options.TheConstants.{DEPTH_MAX, MULTI_PV_MAX}
 use Rattle.usi_session.specs.declared.question.Question.{Question}
 use Rattle.usi_session.specs.declared.state.HeldBestmove.{HeldBestmove}
 use Rattle.usi_session.specs.declared.state.State.{State}
 use Rattle.usi_session.specs.Texts.{info_line}
 use Rattle.usi_session.specs.GoInfos.{listed, numbered_lines, depth_lines}
-use Rattle.usi_session.specs.Costs.{depth_cost, pvs_cost}
-use Rattle.usi_session.specs.Answer.{Answer, bestmove_at, write_or_hold, answer_with}
+use Rattle.usi_session.specs.Costs.{cost_of_command, cost_to, depth_cost, go_cost, pvs_cost}
+use Rattle.usi_session.specs.Answer.{Answer, answer, answer_go, bestmove_at, write_or_hold, answer_with}
+use Rattle.usi_session.specs.Replies.{answer_to}
 
 -- what was asked; how many depths are done, so that the current depth is the next one, and a move of it has as many plies after it; how many lines of the current depth are done;
 -- with several lines the root move after which the position is searched for what the move is worth, and none where a pv is walked;
@@ -201,6 +205,26 @@ pub record IsBegun (answer : Answer) (cost : ℕ) (before after : List ℕ) (sta
   pub load : load_of_if running_go ≤ cost
   pub reports : reports_of_if running_go ≤ most_reports
   pub quiet : OnSome running_go (after ≡ before)
+
+-- where it succeeds, a `go` was started or answered at once
+abbrev pub BeginsGo : {A E : Type 0} → State → ℕ → Hold → Vec ℕ A → Vec ℕ A → State
+    → Result (Option RunningGo) E → Type 0
+BeginsGo old depth hold before after new result =
+    IfOk result
+    (IsBegun (answer_go old depth hold) (go_cost old depth) before.items after.items new)
+
+-- where it succeeds, a command was answered, or its `go` was started
+abbrev pub Answers : {A E : Type 0} → State → Command → Vec ℕ A → Vec ℕ A → State
+    → Result (Option RunningGo) E → Type 0
+Answers old command before after new result =
+    IfOk result
+    (IsBegun (answer old command) (cost_of_command old command) before.items after.items new)
+
+-- the same of a line
+abbrev pub AnswersLine : {A E : Type 0} → State → Line → Vec ℕ A → Vec ℕ A → State
+    → Result (Option RunningGo) E → Type 0
+AnswersLine old line before after new result =
+    IfOk result (IsBegun (answer_to old line) (cost_to old line) before.items after.items new)
 
 -- a session that ends has no running `go`
 abbrev pub EndsIdle : State → State → Option RunningGo → Type 0

@@ -1,5 +1,5 @@
 -- The lines that a session writes, each with its LF (USI, the replies of an engine; names, options and the texts after `info string` are an own choice).
-use Rattle.std.specs.Prelude.{ℕ, ℤ, pos, negsuc, ◌+◌, ◌-◌, List, [], ◌++◌, codes, flat_map, Option, Some, None, nat_lt, cond, decimal}
+use Rattle.std.specs.Prelude.{◌≡◌, ℕ, ℤ, pos, negsuc, ◌+◌, ◌-◌, List, [], ◌++◌, codes, flat_map, Option, Some, None, Result, OnOk, Vec, nat_lt, cond, decimal}
 use Rattle.shogi_core.specs.declared.moves.Move.{Move}
 use Rattle.shogi_core.specs.Position.{Shogi}
 use Rattle.shogi_eval.specs.declared.eval.Eval.{Eval}
@@ -7,6 +7,10 @@ use Rattle.shogi_search.specs.Minimax.{value, pv}
 use Rattle.shogi_sfen.specs.MoveTexts.{text_of}
 use Rattle.usi_session.specs.Options.{option_lines}
 use Rattle.usi_session.specs.declared.text.TheConstants.{MATE_MIN}
+
+-- where it succeeds, the text was appended
+abbrev pub Writes : {A E : Type 0} → Result (Unit {0}) E → Vec ℕ A → Vec ℕ A → List ℕ → Type 0
+Writes result before after text = OnOk result (after.items ≡ before.items ++ text)
 
 -- what `usi` is answered with
 abbrev pub usi_reply : List ℕ
@@ -57,18 +61,18 @@ abbrev pub pv_text : List Move → List ℕ
 pv_text moves = codes " pv" ++ (moves_text moves ++ codes "\n")
 
 -- a value and a pv at a depth, after the words for which
-abbrev pub valued_pv_text : List ℕ → ℕ → ℤ → List Move → List ℕ
-valued_pv_text which depth value moves =
+abbrev pub info_for : List ℕ → ℕ → ℤ → List Move → List ℕ
+info_for which depth value moves =
     head_text depth which ++ (score_text depth value ++ pv_text moves)
 
 -- a value and a pv at a depth
 abbrev pub info_text : ℕ → ℤ → List Move → List ℕ
-info_text depth value moves = valued_pv_text [] depth value moves
+info_text depth value moves = info_for [] depth value moves
 
 -- a value and a pv at a depth, for the pv of this number among several
 abbrev pub numbered_info_text : ℕ → ℕ → ℤ → List Move → List ℕ
 numbered_info_text depth number value moves =
-    valued_pv_text (codes " multipv " ++ decimal number) depth value moves
+    info_for (codes " multipv " ++ decimal number) depth value moves
 
 -- what is said of a position at a depth: its value and its pv
 abbrev pub info_line : Shogi → Eval → ℕ → List ℕ

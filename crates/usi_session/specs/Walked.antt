@@ -1,6 +1,6 @@
 -- A walk along a pv, ply by ply, and what a running `go` knows of the depth that it is at
 -- (own choice).
-use Rattle.std.specs.Prelude.{ℕ, ℤ, List, [], ◌∷◌, Option, None, Some, ◌≡◌, ◌≢◌, ◌+◌, ◌-◌, ◌<◌, ◌++◌, ◌==◌, cond, slice_get, unwrap_or}
+use Rattle.std.specs.Prelude.{ℕ, ℤ, List, [], ◌∷◌, Option, None, Some, ◌≡◌, ◌≢◌, ◌+◌, ◌-◌, ◌<◌, ◌≤◌, ◌++◌, ◌==◌, cond, slice_get, unwrap_or}
 use Rattle.shogi_core.specs.Codes.{code_of}
 use Rattle.shogi_core.specs.Position.{Shogi}
 use Rattle.shogi_core.specs.declared.moves.Move.{Move}
@@ -16,7 +16,7 @@ use Rattle.usi_lines.specs.Options.{IsDepth, IsMultiPv}
 use Rattle.usi_session.specs.declared.question.Question.{Question}
 use Rattle.usi_session.specs.declared.state.HeldBestmove.{HeldBestmove}
 use Rattle.usi_session.specs.GoInfos.{pv_by}
-use Rattle.usi_session.specs.RunningGo.{RunningGo, listed_at, bestmove_to, lines_cost, load_of}
+use Rattle.usi_session.specs.RunningGo.{RunningGo, listed_at, bestmove_to, lines_cost, load_of, load_after_root_move}
 
 -- the evaluation, the position after the moves so far, the plies that are left, and the whole pv
 -- with its value
@@ -106,6 +106,12 @@ running_go_of question depths_done lines_done root_move walk search = record {
 abbrev pub load_at : Question → ℕ → Option Move → Walked → Progress → ℕ
 load_at question depths_done root_move walk search =
     load_of (running_go_of question depths_done 0 root_move walk search)
+
+-- where the search of a root move has ended, no more is left than the searches after it cost
+abbrev pub LeavesLoad : Question → ℕ → Move → Option Move → Walked → Progress → Type 0
+LeavesLoad question depths_done ended root_move walk search =
+    load_at question depths_done root_move walk search
+    ≤ load_after_root_move question depths_done ended
 
 -- a search that is not at its end, for values below a bound
 pub record IsUnder (search : Progress) (position : Shogi) (eval : Eval) (depth : ℕ) (beta : ℤ)

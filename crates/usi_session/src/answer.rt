@@ -1,14 +1,12 @@
 //! The answers to commands.
 
-ghost use Rattle.std.specs.Prelude.{◌≡◌, ◌≤◌, IfOk, OnOk, []};
+ghost use Rattle.std.specs.Prelude.{◌≡◌, ◌≤◌, IfOk, OnOk};
 ghost use Rattle.usi_lines.specs.Seen.{meaning_of, line_of};
 ghost use Rattle.usi_lines.specs.declared.options.TheConstants.{DEPTH_MIN, DEPTH_MAX};
 ghost use Rattle.usi_lines.specs.Options.{IsInRange};
 ghost use Rattle.usi_session.specs.Options.{AreInRange};
-ghost use Rattle.usi_session.specs.Answer.{answer, answer_position, answer_go, write_or_hold, answer_stop, answer_ponderhit, IsGiven};
-ghost use Rattle.usi_session.specs.Costs.{cost_of_command, cost_to, go_cost};
-ghost use Rattle.usi_session.specs.Replies.{answer_to};
-ghost use Rattle.usi_session.specs.RunningGo.{EndsIdle, IsBegun};
+ghost use Rattle.usi_session.specs.Answer.{Gives, answer_position, answer_bestmove, answer_stop, answer_ponderhit};
+ghost use Rattle.usi_session.specs.RunningGo.{Answers, AnswersLine, BeginsGo, EndsIdle};
 
 use crate::go_command::GoCommand;
 use crate::position_command::{Refusal, position_of_sfen, position_of_startpos};
@@ -28,8 +26,7 @@ fn answer_position<A: Allocator>(
     state: &mut State,
     outcome: Result<Position, Refusal>,
 ) -> Result<(), AllocError>
-    ensures { OnOk result
-        (IsGiven (answer_position state.old outcome) out.old.items out.new.items state.new) }
+    ensures { Gives result (answer_position state.old outcome) out.old out.new state.new }
 {
     match outcome {
         Ok(position) => {
@@ -47,8 +44,7 @@ pub fn write_or_hold<A: Allocator>(
     state: &mut State,
     bestmove: HeldBestmove,
 ) -> Result<(), AllocError>
-    ensures { let given = write_or_hold state.old [] bestmove bestmove.until in
-        OnOk result (IsGiven given out.old.items out.new.items state.new) }
+    ensures { Gives result (answer_bestmove state.old bestmove) out.old out.new state.new }
 {
     match bestmove.until {
         Hold::Nothing => {
@@ -71,9 +67,7 @@ fn answer_go<A: Allocator + Copy>(
     requires options { AreInRange state.old.options }
     requires least { DEPTH_MIN ≤ depth }
     requires most { depth ≤ DEPTH_MAX }
-    ensures begun { IfOk result
-        (IsBegun (answer_go state.old depth hold) (go_cost state.old depth)
-        out.old.items out.new.items state.new) }
+    ensures begun { BeginsGo state.old depth hold out.old out.new state.new result }
     ensures options { OnOk result (state.new.options ≡ state.old.options) }
     ensures alive { OnOk result (state.new.is_over ≡ state.old.is_over) }
 {
@@ -99,8 +93,7 @@ fn answer_go<A: Allocator + Copy>(
 
 /// Writes the held bestmove, if there is one, and holds nothing any more.
 fn answer_stop<A: Allocator>(out: &mut Vec<u8, A>, state: &mut State) -> Result<(), AllocError>
-    ensures { let given = answer_stop state.old state.old.held in
-        OnOk result (IsGiven given out.old.items out.new.items state.new) }
+    ensures { Gives result (answer_stop state.old state.old.held) out.old out.new state.new }
 {
     let Some(held) = &state.held else {
         return Ok(());
@@ -112,8 +105,7 @@ fn answer_stop<A: Allocator>(out: &mut Vec<u8, A>, state: &mut State) -> Result<
 
 /// Writes the bestmove that is held until `ponderhit`.
 fn answer_ponderhit<A: Allocator>(out: &mut Vec<u8, A>, state: &mut State) -> Result<(), AllocError>
-    ensures { let given = answer_ponderhit state.old state.old.held in
-        OnOk result (IsGiven given out.old.items out.new.items state.new) }
+    ensures { Gives result (answer_ponderhit state.old state.old.held) out.old out.new state.new }
 {
     let Some(held) = &state.held else {
         return Ok(());
@@ -133,9 +125,7 @@ pub fn answer<A: Allocator + Copy>(
 ) -> Result<Option<GoCommand<A>>, AllocError>
     requires options { AreInRange state.old.options }
     requires range { IsInRange (meaning_of command) }
-    ensures begun { let asked = meaning_of command.entry in IfOk result
-        (IsBegun (answer state.old asked) (cost_of_command state.old asked)
-        out.old.items out.new.items state.new) }
+    ensures begun { Answers state.old (meaning_of command.entry) out.old out.new state.new result }
     ensures over { IfOk result (EndsIdle state.old state.new) }
     ensures options { OnOk result (AreInRange state.new.options) }
 {
@@ -180,9 +170,7 @@ pub fn answer_line<A: Allocator + Copy>(
     line: Line<'_>,
 ) -> Result<Option<GoCommand<A>>, AllocError>
     requires options { AreInRange state.old.options }
-    ensures begun { let asked = line_of line.entry in IfOk result
-        (IsBegun (answer_to state.old asked) (cost_to state.old asked)
-        out.old.items out.new.items state.new) }
+    ensures begun { AnswersLine state.old (line_of line.entry) out.old out.new state.new result }
     ensures over { IfOk result (EndsIdle state.old state.new) }
     ensures options { OnOk result (AreInRange state.new.options) }
 {

@@ -4,8 +4,8 @@ ghost use Rattle.std.specs.Prelude.{◌≡◌, ◌≢◌, ◌≤◌, ◌<◌, �
 ghost use Rattle.shogi_search.specs.Minimax.{value, best};
 ghost use Rattle.usi_session.specs.Answer.{bestmove_of};
 ghost use Rattle.usi_session.specs.GoInfos.{move_to_play, move_to_ponder};
-ghost use Rattle.usi_session.specs.RunningGo.{listed_at, infos_left, infos_after, deeper_infos, is_last, is_last_of_depth, is_searching, bestmove_to, cost_of_depths, load_of, load_after_root_move, reports_of, HasDone, IsSameButForSearch, WritesLine};
-ghost use Rattle.usi_session.specs.Walked.{IsQuestionInRange, IsFirst, IsRankedTo, IsRankedUpTo, IsRanked, BeginsLine, IsSearchedAlong, IsFoundOfChild, IsAtFirstLine, first_root_move, first_search, child_search, cost_after, walk_cost, load_at};
+ghost use Rattle.usi_session.specs.RunningGo.{listed_at, infos_left, infos_after, deeper_infos, is_last, is_last_of_depth, is_searching, bestmove_to, cost_of_depths, load_of, reports_of, HasDone, IsSameButForSearch, WritesLine};
+ghost use Rattle.usi_session.specs.Walked.{IsQuestionInRange, IsFirst, IsRankedTo, IsRankedUpTo, IsRanked, BeginsLine, IsSearchedAlong, IsFoundOfChild, IsAtFirstLine, first_root_move, first_search, child_search, cost_after, walk_cost, LeavesLoad};
 ghost use Rattle.usi_session.specs.WholeLines.{GrowsByLines};
 
 use crate::pv_walk::PvWalk;
@@ -194,8 +194,7 @@ fn rank_on(
     requires over { search.old.left ≡ 0 }
     requires below { IsFoundOfChild question.now depths_done root_move ranks.old found.now }
     ensures at_depth { IsAtFirstLine question.now depths_done result ranks.new walk.new search.new }
-    ensures cost { load_at question.now depths_done result walk.new search.new
-        ≤ load_after_root_move question.now depths_done root_move }
+    ensures cost { LeavesLoad question.now depths_done root_move result walk.new search.new }
 {
     let visited = root_move;
     rank(question, depths_done, root_move, found, ranks);
@@ -346,8 +345,8 @@ impl<A: Allocator> GoCommand<A> {
     fn next_line(&mut self)
         requires whole { is_searching self.old ≡ false }
         requires more { is_last_of_depth self.old ≡ false }
-        ensures done { let lines_done = self.old.lines_done + 1 in
-            HasDone self.old.question self.old.depths_done lines_done self.new }
+        ensures done { HasDone self.old.question self.old.depths_done (self.old.lines_done + 1)
+            self.new }
         ensures load { load_of self.new ≤ load_of self.old }
         ensures fewer { reports_of self.new < reports_of self.old }
     {

@@ -1,6 +1,7 @@
 //! The options of a session: what they are set to, and how they are offered.
 
-ghost use Rattle.std.specs.Prelude.{◌≡◌, ◌++◌, OnOk, decimal};
+ghost use Rattle.std.specs.Prelude.{◌≡◌, ◌++◌, decimal};
+ghost use Rattle.usi_session.specs.Texts.{Writes};
 ghost use Rattle.usi_session.specs.Options.{default_options, option_lines, eval_line, spin_name, spin_range, spin_line};
 
 use crate::text::write_parts;
@@ -45,7 +46,7 @@ fn write_number<A: Allocator>(
     word: &[u8],
     number: u8,
 ) -> Result<(), AllocError>
-    ensures { OnOk result (out.new.items ≡ out.old.items ++ (word.now ++ decimal number)) }
+    ensures { Writes result out.old out.new (word.now ++ decimal number) }
 {
     let mut buffer = Buffer::new();
     let digits = buffer.format(number).as_bytes();
@@ -54,7 +55,7 @@ fn write_number<A: Allocator>(
 
 /// The name of an option that is a number.
 fn write_name<A: Allocator>(out: &mut Vec<u8, A>, name: &[u8]) -> Result<(), AllocError>
-    ensures { OnOk result (out.new.items ≡ out.old.items ++ spin_name name.now) }
+    ensures { Writes result out.old out.new (spin_name name.now) }
 {
     write_parts(out, &[b"option name ", name, b" type spin"])
 }
@@ -62,7 +63,7 @@ fn write_name<A: Allocator>(out: &mut Vec<u8, A>, name: &[u8]) -> Result<(), All
 /// The range of an option that is a number, to the end of its line.
 #[tactic(auto, using(crate::proofs::Appends::after_three))]
 fn write_range<A: Allocator>(out: &mut Vec<u8, A>, least: u8, most: u8) -> Result<(), AllocError>
-    ensures { OnOk result (out.new.items ≡ out.old.items ++ spin_range least most) }
+    ensures { Writes result out.old out.new (spin_range least most) }
 {
     write_number(out, b" min ", least)?;
     write_number(out, b" max ", most)?;
@@ -79,7 +80,7 @@ fn write_spin<A: Allocator>(
     least: u8,
     most: u8,
 ) -> Result<(), AllocError>
-    ensures { OnOk result (out.new.items ≡ out.old.items ++ spin_line name.now default least most) }
+    ensures { Writes result out.old out.new (spin_line name.now default least most) }
 {
     write_name(out, name)?;
     write_number(out, b" default ", default)?;
@@ -89,7 +90,7 @@ fn write_spin<A: Allocator>(
 
 /// Offers the evaluations (USI, option).
 fn write_eval<A: Allocator>(out: &mut Vec<u8, A>) -> Result<(), AllocError>
-    ensures { OnOk result (out.new.items ≡ out.old.items ++ eval_line) }
+    ensures { Writes result out.old out.new eval_line }
 {
     out.extend_from_slice(b"option name Eval type combo default Plain var Plain var Hand\n")
 }
@@ -97,7 +98,7 @@ fn write_eval<A: Allocator>(out: &mut Vec<u8, A>) -> Result<(), AllocError>
 /// Offers the options: a row for each.
 #[tactic(auto, using(crate::proofs::Appends::after_three))]
 pub fn write_options<A: Allocator>(out: &mut Vec<u8, A>) -> Result<(), AllocError>
-    ensures { OnOk result (out.new.items ≡ out.old.items ++ option_lines) }
+    ensures { Writes result out.old out.new option_lines }
 {
     write_spin(out, b"Depth", DEPTH_DEFAULT, DEPTH_MIN, DEPTH_MAX)?;
     write_eval(out)?;

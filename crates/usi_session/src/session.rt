@@ -1,11 +1,11 @@
 //! One USI session.
 
-ghost use Rattle.std.specs.Prelude.{◌≡◌, ◌≤◌, ◌++◌, ℕ, List, [], true, false, OnOk, OnErr, IfOk, OnSome, IfSome, IfNone, None, length, take, drop, ◌<◌, ◌+◌};
-ghost use Rattle.usi_session.specs.Due.{SessionView, due, state_due, load, turns, is_pending, wants_input, new_session, IsMidSearch, IsPvWhole};
+ghost use Rattle.std.specs.Prelude.{◌≡◌, ◌≤◌, ◌++◌, ℕ, List, true, false, OnOk, OnErr, IfOk, OnSome, IfSome, IfNone, None, length, take, drop, ◌<◌, ◌+◌};
+ghost use Rattle.usi_session.specs.Due.{due, state_due, load, turns, is_pending, wants_input, new_session, HasSpent, IsMidSearch, IsPvWhole, IsSameAfter};
 ghost use Rattle.usi_session.specs.Replies.{replies, state_from};
 ghost use Rattle.usi_session.specs.Answer.{initial_state};
 ghost use Rattle.usi_session.specs.WholeLines.{GrowsByLines};
-ghost use Rattle.usi_lines.specs.Lines.{ahead, lines};
+ghost use Rattle.usi_lines.specs.Lines.{lines};
 ghost use Rattle.usi_session.specs.declared.limits.TheConstants.{CHUNK_MAX};
 
 use crate::answer::{answer_line, write_or_hold};
@@ -82,9 +82,8 @@ impl<A: Allocator + Copy> Session<A> {
     pub fn feed(&mut self, chunk: &[u8]) -> Result<(), SessionFault>
         requires wants { wants_input self.old ≡ true }
         requires most { length chunk.now ≤ CHUNK_MAX }
-        ensures due { OnOk result ((x : List ℕ) → due self.new x ≡ due self.old (chunk.now ++ x)) }
-        ensures after { OnOk result
-            ((x : List ℕ) → state_due self.new x ≡ state_due self.old (chunk.now ++ x)) }
+        ensures due { OnOk result (IsSameAfter due chunk.now self.old self.new) }
+        ensures after { OnOk result (IsSameAfter state_due chunk.now self.old self.new) }
         ensures queued { self.new.queued ≡ self.old.queued }
         ensures state { self.new.state ≡ self.old.state }
         ensures running_go { self.new.running_go ≡ self.old.running_go }
@@ -190,8 +189,7 @@ impl<A: Allocator + Copy> Session<A> {
         ensures after { (x : List ℕ) → state_due self.new x ≡ state_due self.old x }
         ensures most { IfOk result (λ n. n ≤ budget) }
         ensures made { IfOk result (λ n. n + load self.new ≤ load self.old) }
-        ensures spent { IfOk result (λ n. is_pending self.new ≡ true
-            → (n ≡ budget) × IsMidSearch self.new.running_go) }
+        ensures spent { IfOk result (HasSpent self.new budget) }
         ensures enough { load self.old ≤ budget → OnOk result (is_pending self.new ≡ false) }
         ensures grown { GrowsByLines self.old.queued self.new.queued }
         ensures capacity { M.capacity memo.new ≡ M.capacity memo.old }

@@ -1,7 +1,7 @@
 //! The lines that a session writes.
 
-ghost use Rattle.std.specs.Prelude.{◌≡◌, ◌++◌, ◌+◌, OnOk, flat_map};
-ghost use Rattle.usi_session.specs.Texts.{usi_reply, mate_not_implemented_reply, bad_position_line, illegal_move_line, size_text, score_text, moves_text, head_text, pv_text, valued_pv_text, info_text, numbered_info_text, bestmove_line};
+ghost use Rattle.std.specs.Prelude.{◌++◌, flat_map};
+ghost use Rattle.usi_session.specs.Texts.{Writes, usi_reply, mate_not_implemented_reply, bad_position_line, illegal_move_line, size_text, score_text, moves_text, head_text, pv_text, info_for, info_text, numbered_info_text, bestmove_line};
 
 use crate::options::write_options;
 use itoa::Buffer;
@@ -15,7 +15,7 @@ const MATE_MIN: u32 = MATE as u32;
 
 /// Appends the parts, one after another.
 pub fn write_parts<A: Allocator>(out: &mut Vec<u8, A>, parts: &[&[u8]]) -> Result<(), AllocError>
-    ensures { OnOk result (out.new.items ≡ out.old.items ++ flat_map (λ part. part.now) parts.now) }
+    ensures { Writes result out.old out.new (flat_map (λ part. part.now) parts.now) }
 {
     for part in parts {
         out.extend_from_slice(part)?;
@@ -26,7 +26,7 @@ pub fn write_parts<A: Allocator>(out: &mut Vec<u8, A>, parts: &[&[u8]]) -> Resul
 /// Names the program and its options (USI, usi).
 #[tactic(auto, using(crate::proofs::Appends::after_three))]
 pub fn write_usi<A: Allocator>(out: &mut Vec<u8, A>) -> Result<(), AllocError>
-    ensures { OnOk result (out.new.items ≡ out.old.items ++ usi_reply) }
+    ensures { Writes result out.old out.new usi_reply }
 {
     out.extend_from_slice(b"id name Shared Shogi Host\nid author Shared Shogi Host Team\n")?;
     write_options(out)?;
@@ -36,14 +36,14 @@ pub fn write_usi<A: Allocator>(out: &mut Vec<u8, A>) -> Result<(), AllocError>
 
 /// Says that there is no mate solver (USI, checkmate).
 pub fn write_mate_not_implemented<A: Allocator>(out: &mut Vec<u8, A>) -> Result<(), AllocError>
-    ensures { OnOk result (out.new.items ≡ out.old.items ++ mate_not_implemented_reply) }
+    ensures { Writes result out.old out.new mate_not_implemented_reply }
 {
     out.extend_from_slice(b"checkmate notimplemented\n")
 }
 
 /// Says that a `position` line names no position: 0 for its form, 1 to 8 for its first fault.
 pub fn write_bad_position<A: Allocator>(out: &mut Vec<u8, A>, fault: u8) -> Result<(), AllocError>
-    ensures { OnOk result (out.new.items ≡ out.old.items ++ bad_position_line fault) }
+    ensures { Writes result out.old out.new (bad_position_line fault) }
 {
     let mut buffer = Buffer::new();
     let digits = buffer.format(fault).as_bytes();
@@ -55,7 +55,7 @@ pub fn write_illegal_move<A: Allocator>(
     out: &mut Vec<u8, A>,
     number: usize,
 ) -> Result<(), AllocError>
-    ensures { OnOk result (out.new.items ≡ out.old.items ++ illegal_move_line number) }
+    ensures { Writes result out.old out.new (illegal_move_line number) }
 {
     let mut buffer = Buffer::new();
     let digits = buffer.format(number).as_bytes();
@@ -69,7 +69,7 @@ fn write_size<A: Allocator>(
     depth: u8,
     size: u32,
 ) -> Result<(), AllocError>
-    ensures { OnOk result (out.new.items ≡ out.old.items ++ size_text sign.now depth size) }
+    ensures { Writes result out.old out.new (size_text sign.now depth size) }
 {
     let mut buffer = Buffer::new();
     if size < MATE_MIN {
@@ -83,7 +83,7 @@ fn write_size<A: Allocator>(
 
 /// A value of a depth, with its sign (USI, info, score).
 fn write_score<A: Allocator>(out: &mut Vec<u8, A>, depth: u8, value: i32) -> Result<(), AllocError>
-    ensures { OnOk result (out.new.items ≡ out.old.items ++ score_text depth value) }
+    ensures { Writes result out.old out.new (score_text depth value) }
 {
     let sign: &[u8] = if value < 0 { b"-" } else { b"" };
     write_size(out, sign, depth, value.unsigned_abs())
@@ -91,7 +91,7 @@ fn write_score<A: Allocator>(out: &mut Vec<u8, A>, depth: u8, value: i32) -> Res
 
 /// Each move after a space.
 fn write_moves<A: Allocator>(out: &mut Vec<u8, A>, moves: &[Move]) -> Result<(), AllocError>
-    ensures { OnOk result (out.new.items ≡ out.old.items ++ moves_text moves.now) }
+    ensures { Writes result out.old out.new (moves_text moves.now) }
 {
     for m in moves {
         let text = write_move(*m);
@@ -107,8 +107,7 @@ fn write_head<A: Allocator>(
     word: &[u8],
     number: &[u8],
 ) -> Result<(), AllocError>
-    ensures { OnOk result
-        (out.new.items ≡ out.old.items ++ head_text depth (word.now ++ number.now)) }
+    ensures { Writes result out.old out.new (head_text depth (word.now ++ number.now)) }
 {
     let mut buffer = Buffer::new();
     let digits = buffer.format(depth).as_bytes();
@@ -117,7 +116,7 @@ fn write_head<A: Allocator>(
 
 /// The pv of an info line, to its end.
 fn write_pv<A: Allocator>(out: &mut Vec<u8, A>, moves: &[Move]) -> Result<(), AllocError>
-    ensures { OnOk result (out.new.items ≡ out.old.items ++ pv_text moves.now) }
+    ensures { Writes result out.old out.new (pv_text moves.now) }
 {
     out.extend_from_slice(b" pv")?;
     write_moves(out, moves)?;
@@ -127,7 +126,7 @@ fn write_pv<A: Allocator>(out: &mut Vec<u8, A>, moves: &[Move]) -> Result<(), Al
 
 /// Says a value and a pv at a depth, after a word and digits for which.
 #[tactic(auto, using(crate::proofs::Appends::after_three))]
-fn write_valued_pv<A: Allocator>(
+fn write_info_for<A: Allocator>(
     out: &mut Vec<u8, A>,
     word: &[u8],
     number: &[u8],
@@ -135,8 +134,8 @@ fn write_valued_pv<A: Allocator>(
     value: i32,
     moves: &[Move],
 ) -> Result<(), AllocError>
-    ensures { let which = word.now ++ number.now in
-        OnOk result (out.new.items ≡ out.old.items ++ valued_pv_text which depth value moves.now) }
+    ensures { Writes result out.old out.new
+        (info_for (word.now ++ number.now) depth value moves.now) }
 {
     write_head(out, depth, word, number)?;
     write_score(out, depth, value)?;
@@ -151,9 +150,9 @@ pub fn write_info<A: Allocator>(
     value: i32,
     moves: &[Move],
 ) -> Result<(), AllocError>
-    ensures { OnOk result (out.new.items ≡ out.old.items ++ info_text depth value moves.now) }
+    ensures { Writes result out.old out.new (info_text depth value moves.now) }
 {
-    write_valued_pv(out, b"", b"", depth, value, moves)
+    write_info_for(out, b"", b"", depth, value, moves)
 }
 
 /// A value and a pv at a depth, for the pv of this number among several, from 1 (USI, info,
@@ -165,12 +164,11 @@ pub fn write_numbered_info<A: Allocator>(
     value: i32,
     moves: &[Move],
 ) -> Result<(), AllocError>
-    ensures { OnOk result
-        (out.new.items ≡ out.old.items ++ numbered_info_text depth number value moves.now) }
+    ensures { Writes result out.old out.new (numbered_info_text depth number value moves.now) }
 {
     let mut buffer = Buffer::new();
     let digits = buffer.format(number).as_bytes();
-    write_valued_pv(out, b" multipv ", digits, depth, value, moves)
+    write_info_for(out, b" multipv ", digits, depth, value, moves)
 }
 
 /// Names the move to play, with the reply to ponder on (USI, bestmove).
@@ -179,7 +177,7 @@ pub fn write_bestmove<A: Allocator>(
     best: &Option<Move>,
     ponder: &Option<Move>,
 ) -> Result<(), AllocError>
-    ensures { OnOk result (out.new.items ≡ out.old.items ++ bestmove_line best.now ponder.now) }
+    ensures { Writes result out.old out.new (bestmove_line best.now ponder.now) }
 {
     let Some(best) = best else {
         return out.extend_from_slice(b"bestmove resign\n");
