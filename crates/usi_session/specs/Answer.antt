@@ -12,6 +12,7 @@ use Rattle.usi_session.specs.declared.position_command.Refusal.{Refusal}
 use Rattle.usi_session.specs.declared.position_command.Refusal.TheVariants as refusals
 use Rattle.usi_session.specs.declared.state.HeldBestmove.{HeldBestmove}
 use Rattle.usi_session.specs.declared.state.State.{State}
+use Rattle.usi_session.specs.declared.options.Options.{Options}
 use Rattle.usi_session.specs.Options.{default_options}
 use Rattle.usi_session.specs.PositionCommand.{position_of_startpos, position_of_sfen}
 use Rattle.usi_session.specs.GoInfos.{move_to_play, move_to_ponder, go_infos}
@@ -50,8 +51,10 @@ without_bestmove state = record state { held = None }
 -- `position`: the position that was reached is taken; after a refusal the state stays, and one line says why
 abbrev pub answer_position : State → Result Shogi Refusal → Answer
 answer_position state (Ok position) = answer_with (record state { position = position }) []
-answer_position state (Err (refusals.BadPosition fault)) = answer_with state (bad_position_line fault)
-answer_position state (Err (refusals.IllegalMove number)) = answer_with state (illegal_move_line number)
+answer_position state (Err (refusals.BadPosition fault)) =
+    answer_with state (bad_position_line fault)
+answer_position state (Err (refusals.IllegalMove number)) =
+    answer_with state (illegal_move_line number)
 
 -- the bestmove of a pv, and what it is to be held until; also one that is written at once
 abbrev pub bestmove_of : List Move → Hold → HeldBestmove
@@ -68,7 +71,8 @@ held_line held = bestmove_line held.best held.ponder
 
 -- the info lines are written, and then the bestmove, at once under `Nothing`; else it is held. One that was held before is dropped
 abbrev pub write_or_hold : State → List ℕ → HeldBestmove → Hold → Answer
-write_or_hold state infos held Nothing = answer_with (without_bestmove state) (infos ++ held_line held)
+write_or_hold state infos held Nothing =
+    answer_with (without_bestmove state) (infos ++ held_line held)
 write_or_hold state infos held UntilStop = answer_with (record state { held = Some held }) infos
 write_or_hold state infos held UntilHit = answer_with (record state { held = Some held }) infos
 
@@ -98,13 +102,17 @@ abbrev pub answer_ponderhit : State → Option HeldBestmove → Answer
 answer_ponderhit state None = answer_with state []
 answer_ponderhit state (Some held) = answer_ponderhit_held state held held.until
 
+-- the options are these from now on
+abbrev pub set_options : State → Options → Answer
+set_options state options = answer_with (record state { options = options }) []
+
 -- the answer to each command. A held bestmove stays after `usi`, `isready`, `setoption`, `position`, a line that is no command, and `ponderhit` where it is held until `stop`; each other command writes it or drops it
 abbrev pub answer : State → Command → Answer
 answer state Usi = answer_with state usi_reply
 answer state IsReady = answer_with state ready_reply
-answer state (SetDepth depth) = answer_with (record state { options = record state.options { depth = depth } }) []
-answer state (SetEval eval) = answer_with (record state { options = record state.options { eval = eval } }) []
-answer state (SetLines multi_pv) = answer_with (record state { options = record state.options { multi_pv = multi_pv } }) []
+answer state (SetDepth depth) = set_options state (record state.options { depth = depth })
+answer state (SetEval eval) = set_options state (record state.options { eval = eval })
+answer state (SetLines multi_pv) = set_options state (record state.options { multi_pv = multi_pv })
 answer state NewGame = answer_with (record state { position = start; held = None }) []
 answer state (Startpos rest) = answer_position state (position_of_startpos rest)
 answer state (Sfen rest) = answer_position state (position_of_sfen rest)

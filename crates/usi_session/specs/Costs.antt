@@ -14,7 +14,8 @@ use Rattle.usi_session.specs.Replies.{answer_line}
 
 -- the most search steps along the pvs of these moves, each with so many plies after the move
 abbrev pub pvs_cost : Shogi → Eval → ℕ → List ℕ → ℕ
-pvs_cost position eval plies codes = sum_by (λ code. pv_cost (after_code position code) eval plies) codes
+pvs_cost position eval plies codes =
+    sum_by (λ code. pv_cost (after_code position code) eval plies) codes
 
 -- the most search steps of a depth: those along its pv, or with several lines those of the search after each legal move, and those along each pv listed
 abbrev pub depth_cost : Shogi → Eval → ℕ → ℕ → ℕ
@@ -50,4 +51,5 @@ cost_of_line state line = cond state.is_over 0 (cost_to state line)
 -- the costs of the lines, one after another, from a state on
 unfoldable pub costs_from : State → List Line → ℕ
 costs_from state [] = 0
-costs_from state (line ∷ rest) = cost_of_line state line + costs_from (answer_line state line).state rest
+costs_from state (line ∷ rest) =
+    cost_of_line state line + costs_from (answer_line state line).state rest

@@ -21,15 +21,18 @@ owed_after answer ahead = answer.bytes ++ replies_from answer.state ahead
 
 -- nothing, where the session is over
 abbrev pub owed : State → Option RunningGo → List Line → List ℕ
-owed state running_go ahead = cond state.is_over [] (owed_after (rest_of_go_if state running_go) ahead)
+owed state running_go ahead =
+    cond state.is_over [] (owed_after (rest_of_go_if state running_go) ahead)
 
 -- what is owed once these further bytes were fed: the queued bytes, the rest of the running `go`, and the replies to the lines ahead
 abbrev pub due : SessionView → List ℕ → List ℕ
-due session further = session.queued ++ owed session.state session.running_go (ahead session.input further)
+due session further =
+    session.queued ++ owed session.state session.running_go (ahead session.input further)
 
 -- the state once these further bytes were fed and all was answered
 abbrev pub state_due : SessionView → List ℕ → State
-state_due session further = state_from (rest_of_go_if session.state session.running_go).state (ahead session.input further)
+state_due session further =
+    state_from (rest_of_go_if session.state session.running_go).state (ahead session.input further)
 
 -- this of a session, by what further bytes are fed, is what it was for the chunk and then these
 abbrev pub IsSameAfter : {A : Type 0} → (SessionView → List ℕ → A) → List ℕ → SessionView
@@ -38,7 +41,8 @@ IsSameAfter what chunk old new = (x : List ℕ) → what new x ≡ what old (chu
 
 -- the steps that may still be made: for the running `go`, and for each `go` in these lines
 abbrev pub load_ahead : State → Option RunningGo → List Line → ℕ
-load_ahead state running_go ahead = load_of_if running_go + costs_from (rest_of_go_if state running_go).state ahead
+load_ahead state running_go ahead =
+    load_of_if running_go + costs_from (rest_of_go_if state running_go).state ahead
 
 -- the load of a session: the steps that may still be made for the running `go` and for the unread lines
 abbrev pub load : SessionView → ℕ
@@ -49,16 +53,20 @@ abbrev pub has_line : List Line → Bool
 has_line [] = false
 has_line (line ∷ rest) = true
 
+-- a running `go` or an unread line
+abbrev pub has_work : SessionView → Bool
+has_work session = is_some session.running_go || has_line (ahead session.input [])
+
 -- alive, with a running `go` or an unread line
 abbrev pub is_pending : SessionView → Bool
-is_pending session = not session.state.is_over && (is_some session.running_go || has_line (ahead session.input []))
+is_pending session = not session.state.is_over && has_work session
 
 -- a `go` is running, and a search of it is not at its end
 abbrev pub IsMidSearch : Option RunningGo → Type 0
 IsMidSearch None = ⊥
 IsMidSearch (Some go) = (is_searching go ≡ true) × (0 < go.steps_left)
 
--- where something is still pending, so many steps were made as the budget allows, and a search is running
+-- where something is still pending, the budget was used up and a search is running
 abbrev pub HasSpent : SessionView → ℕ → ℕ → Type 0
 HasSpent session budget made =
     is_pending session ≡ true → (made ≡ budget) × IsMidSearch session.running_go
@@ -70,12 +78,21 @@ IsPvWhole (Some go) = is_searching go ≡ false
 
 -- more than the turns that may still be taken: each makes a step less left, reports a line, or answers one
 abbrev pub turns : SessionView → ℕ
-turns session = load session + ((most_reports + 1) * length (ahead session.input []) + reports_of_if session.running_go)
+turns session =
+    load session
+    + ((most_reports + 1) * length (ahead session.input []) + reports_of_if session.running_go)
 
 -- alive, nothing pending, and fewer than 65,536 bytes queued
 abbrev pub wants_input : SessionView → Bool
-wants_input session = not session.state.is_over && not (is_some session.running_go || has_line (ahead session.input [])) && nat_lt (length session.queued) QUEUE_FULL
+wants_input session =
+    not session.state.is_over && not (has_work session)
+    && nat_lt (length session.queued) QUEUE_FULL
 
 -- nothing read, nothing queued
 abbrev pub new_session : SessionView
-new_session = record { state = initial_state; running_go = None; queued = []; input = record { unread = []; closed = false } }
+new_session = record {
+  state = initial_state;
+  running_go = None;
+  queued = [];
+  input = record { unread = []; closed = false };
+}

@@ -28,18 +28,21 @@ pv_by position eval depth code = then_pv (λ next. pv next eval (depth - 1)) pos
 -- what is said of a listed move at a depth: its number, what it is worth, and its pv
 abbrev pub numbered_line : Shogi → Eval → ℕ → ℕ → ℕ → List ℕ
 numbered_line position eval depth number code =
-    numbered_info_text depth number (worth position eval (depth - 1) code) (pv_by position eval depth code)
+    numbered_info_text depth number (worth position eval (depth - 1) code)
+    (pv_by position eval depth code)
 
 -- what is said of each of these moves at a depth, numbered from a number on
 unfoldable pub numbered_lines : Shogi → Eval → ℕ → ℕ → List ℕ → List ℕ
 numbered_lines position eval depth number [] = []
 numbered_lines position eval depth number (code ∷ rest) =
-    numbered_line position eval depth number code ++ numbered_lines position eval depth (number + 1) rest
+    numbered_line position eval depth number code
+    ++ numbered_lines position eval depth (number + 1) rest
 
 -- what is said of a position at a depth: its value and its pv, or with several lines each of the best moves
 abbrev pub depth_lines : Shogi → Eval → ℕ → ℕ → List ℕ
 depth_lines position eval multi_pv depth =
-    cond (multi_pv == 1) (info_line position eval depth) (numbered_lines position eval depth 1 (listed position eval multi_pv depth))
+    cond (multi_pv == 1) (info_line position eval depth)
+    (numbered_lines position eval depth 1 (listed position eval multi_pv depth))
 
 -- what is said of a position at each depth from 1 to the given one
 unfoldable pub info_lines : Shogi → Eval → ℕ → ℕ → List ℕ
@@ -54,4 +57,5 @@ go_infos_where position eval multi_pv depth (code ∷ codes) = info_lines positi
 
 -- what is said of a position before the bestmove
 abbrev pub go_infos : Shogi → Eval → ℕ → ℕ → List ℕ
-go_infos position eval multi_pv depth = go_infos_where position eval multi_pv depth (legal_codes position)
+go_infos position eval multi_pv depth =
+    go_infos_where position eval multi_pv depth (legal_codes position)

@@ -21,11 +21,13 @@ spin_name name = codes "option name " ++ (name ++ codes " type spin")
 
 -- the range of such an option, to the end of its line
 abbrev pub spin_range : ℕ → ℕ → List ℕ
-spin_range least most = (codes " min " ++ decimal least) ++ ((codes " max " ++ decimal most) ++ codes "\n")
+spin_range least most =
+    (codes " min " ++ decimal least) ++ ((codes " max " ++ decimal most) ++ codes "\n")
 
 -- the line that offers an option that is a number
 abbrev pub spin_line : List ℕ → ℕ → ℕ → ℕ → List ℕ
-spin_line name default least most = spin_name name ++ ((codes " default " ++ decimal default) ++ spin_range least most)
+spin_line name default least most =
+    spin_name name ++ ((codes " default " ++ decimal default) ++ spin_range least most)
 
 -- the line that offers the evaluation
 abbrev pub eval_line : List ℕ

@@ -16,7 +16,8 @@ use Rattle.usi_session.specs.declared.position_command.Refusal.TheVariants.{BadP
 -- the position after a move if it is legal, and none otherwise
 unfoldable pub after_legal : Shogi → Option Move → Option Shogi
 after_legal position None = None
-after_legal position (Some played) = cond (is_legal position played) (Some (after position played)) None
+after_legal position (Some played) =
+    cond (is_legal position played) (Some (after position played)) None
 
 -- the moves that follow a legal one, or the number of the word that is none
 abbrev pub then_moves : (Shogi → Result Shogi Refusal) → ℕ → Option Shogi → Result Shogi Refusal
@@ -27,12 +28,14 @@ then_moves more number (Some next) = more next
 unfoldable pub after_moves : ℕ → Shogi → List (List ℕ) → Result Shogi Refusal
 after_moves number position [] = Ok position
 after_moves number position (word ∷ rest) =
-    then_moves (λ next. after_moves (number + 1) next rest) number (after_legal position (move_of_text word))
+    then_moves (λ next. after_moves (number + 1) next rest) number
+    (after_legal position (move_of_text word))
 
 -- what follows a position: nothing, or the word `moves` and then moves
 abbrev pub after_words : Shogi → List (List ℕ) → Result Shogi Refusal
 after_words position [] = Ok position
-after_words position (word ∷ rest) = cond (bytes_eq word (codes "moves")) (after_moves 1 position rest) (Err (BadPosition 0))
+after_words position (word ∷ rest) =
+    cond (bytes_eq word (codes "moves")) (after_moves 1 position rest) (Err (BadPosition 0))
 
 -- `position startpos ..`, after the word `startpos`
 abbrev pub position_of_startpos : List ℕ → Result Shogi Refusal

@@ -22,7 +22,8 @@ answer_line state line = answer_unless state.is_over state line
 -- the answers to the lines, one after another, from a state on
 unfoldable pub replies_from : State → List Line → List ℕ
 replies_from state [] = []
-replies_from state (line ∷ rest) = (answer_line state line).bytes ++ replies_from (answer_line state line).state rest
+replies_from state (line ∷ rest) =
+    (answer_line state line).bytes ++ replies_from (answer_line state line).state rest
 
 -- the state after the lines
 unfoldable pub state_from : State → List Line → State

@@ -15,7 +15,8 @@ Writes result before after text = OnOk result (after.items ≡ before.items ++ t
 -- what `usi` is answered with
 abbrev pub usi_reply : List ℕ
 usi_reply =
-    codes "id name Shared Shogi Host\nid author Shared Shogi Host Team\n" ++ (option_lines ++ codes "usiok\n")
+    codes "id name Shared Shogi Host\nid author Shared Shogi Host Team\n"
+    ++ (option_lines ++ codes "usiok\n")
 
 -- what `isready` is answered with
 abbrev pub ready_reply : List ℕ
