@@ -15,4 +15,5 @@ module _ (A : RattleType) (alloc : Ghosts A.Denot) (s : MutBor OpenSessions) (id
 
   -- where a session was lent, the id has it as it was left once the borrow ends; else the slots stay as they are
   abbrev pub lends_if_found : Option (MutBor SessionView) → Fml
-  lends_if_found r = LendsIf (the_row A alloc) (session_row A alloc) s r (with_session s.now id) s.now
+  lends_if_found r =
+      LendsIf (the_row A alloc) (session_row A alloc) s r (with_session s.now id) s.now

@@ -9,4 +9,5 @@ use Rattle.session_slots.specs.contracts.slot.Slot.{the_row}
 module _ (A : RattleType) (alloc : Ghosts A.Denot) where
   -- once the borrow ends, the slot has the session as it was left
   abbrev pub lends_session : MutBor OpenSession → MutBor SessionView → Fml
-  lends_session s r = Lends (the_row A alloc) (session_row A alloc) s r (λ t. record s.now { session = t })
+  lends_session s r =
+      Lends (the_row A alloc) (session_row A alloc) s r (λ t. record s.now { session = t })

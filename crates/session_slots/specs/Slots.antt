@@ -29,7 +29,9 @@ count s = count_by is_some s.slots
 
 -- after a write to the session of an id
 abbrev pub with_session : OpenSessions → SessionId → SessionView → OpenSessions
-with_session s id session = record s { slots = slice_set s.slots id.slot (Some (record { generation = id.generation; session = session })) }
+with_session s id session =
+    let opened : OpenSession = record { generation = id.generation; session = session } in
+    record s { slots = slice_set s.slots id.slot (Some opened) }
 
 -- each other id finds what it found
 abbrev pub OthersKept : OpenSessions → OpenSessions → SessionId → Type 0

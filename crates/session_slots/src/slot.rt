@@ -1,7 +1,7 @@
 //! A session in its slot.
 
 ghost use Rattle.std.specs.Prelude.{◌≡◌};
-ghost use Rattle.std.specs.Borrow.{Lends, sem};
+ghost use Rattle.std.specs.Borrow.{sem};
 
 use std::alloc::Allocator;
 use std::marker::Model;
