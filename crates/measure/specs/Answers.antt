@@ -25,7 +25,9 @@ IsCount p n None = 2 ^ 64 ≤ perft p n
 
 -- the value and the best move under the plain evaluation at a depth, after at most two steps for each node of the tree
 abbrev pub IsFound : Shogi → ℕ → Found → Type 0
-IsFound p n found = (found.value ≡ value p Plain n) × (found.best ≡ best p Plain n) × (found.steps ≤ 2 * tree_size p n)
+IsFound p n found =
+    (found.value ≡ value p Plain n) × (found.best ≡ best p Plain n)
+    × (found.steps ≤ 2 * tree_size p n)
 
 -- the reply to the work at a position, to the depth asked for
 abbrev pub IsReply : Work → Shogi → ℕ → Reply → Type 0
@@ -45,9 +47,11 @@ count_text (Some count) = decimal count
 
 -- an answer without its time
 abbrev pub reply_text : Reply → List ℕ
-reply_text (Perft depth count) = codes "perft " ++ (decimal depth ++ (codes " " ++ count_text count))
+reply_text (Perft depth count) =
+    codes "perft " ++ (decimal depth ++ (codes " " ++ count_text count))
 reply_text (Search depth found) =
-    codes "search " ++ (decimal depth ++ (codes " " ++ (signed_decimal found.value ++ (codes " " ++ (best_text found.best ++ (codes " " ++ decimal found.steps))))))
+    codes "search " ++ (decimal depth ++ (codes " " ++ (signed_decimal found.value
+    ++ (codes " " ++ (best_text found.best ++ (codes " " ++ decimal found.steps))))))
 
 -- the first fault of an SFEN
 abbrev pub fault_text : SfenFault → List ℕ

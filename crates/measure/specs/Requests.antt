@@ -37,7 +37,8 @@ of_sfen text (Err fault) = Err (BadPosition fault)
 -- the position of a text with these words: the opening position where there are none, `startpos`, or an SFEN
 abbrev pub place_by : List (List ℕ) → List ℕ → Result Shogi Refusal
 place_by [] text = Ok start
-place_by (word ∷ more) text = cond (bytes_eq word (codes "startpos")) (alone start more) (of_sfen text (position_at text))
+place_by (word ∷ more) text =
+    cond (bytes_eq word (codes "startpos")) (alone start more) (of_sfen text (position_at text))
 
 -- the position that ends a line
 unfoldable pub place_of : List ℕ → Result Shogi Refusal
@@ -61,12 +62,14 @@ search_by (Some depth) (Some entries) place = placed (Search entries) depth plac
 
 -- what follows `perft`: a depth from 0 to 16, and a position
 unfoldable pub perft_of : List ℕ → Result Request Refusal
-perft_of text = perft_by (number_to SEARCH_DEPTH_MAX (slice_get (words text) 0)) (place_of (after_word text))
+perft_of text =
+    perft_by (number_to SEARCH_DEPTH_MAX (slice_get (words text) 0)) (place_of (after_word text))
 
 -- what follows `search`: a depth from 0 to 16, entries from 0 to 1,000,000, and a position
 unfoldable pub search_of : List ℕ → Result Request Refusal
 search_of text =
-    search_by (number_to SEARCH_DEPTH_MAX (slice_get (words text) 0)) (number_to CAPACITY_MAX (slice_get (words text) 1)) (place_of (after_word (after_word text)))
+    search_by (number_to SEARCH_DEPTH_MAX (slice_get (words text) 0))
+    (number_to CAPACITY_MAX (slice_get (words text) 1)) (place_of (after_word (after_word text)))
 
 -- a request by the words of its line, and the bytes after the first
 abbrev pub request_by : List (List ℕ) → List ℕ → Result Request Refusal
