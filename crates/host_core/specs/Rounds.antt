@@ -7,6 +7,7 @@ use Rattle.host_core.specs.Events.{Outcome, Worked, Refused, Work}
 use Rattle.host_core.specs.Made.{Step}
 use Rattle.host_core.specs.Runs.{IsRun}
 use Rattle.host_core.specs.Steps.{HostState}
+use Rattle.host_core.specs.declared.round.Round.{Round}
 
 -- the id of an open session in this slot
 abbrev pub id_in : ℕ → OpenSession → SessionId
@@ -55,3 +56,9 @@ pub record RoundTo (old : HostState) (budget slot worked refused : ℕ)
   pub ids : List SessionId
   pub so_far : IsRound old budget ids worked refused now
   pub rest : ids ++ pending_from slot (drop slot now.slots.slots) ≡ pending_ids old
+
+-- a round that had come to the slot has come to the next one
+abbrev pub PassesSlot : ℕ → ℕ → Round → HostState → Round → HostState → Type 0
+PassesSlot budget slot before now after next =
+    (old : HostState) → RoundTo old budget slot before.worked before.refused now
+    → RoundTo old budget (slot + 1) after.worked after.refused next

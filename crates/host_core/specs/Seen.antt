@@ -1,5 +1,5 @@
 -- Events and outcomes of the code as those of the definitions.
-use Rattle.std.specs.Prelude.{ℕ, List, Result, Ok, Err, take}
+use Rattle.std.specs.Prelude.{ℕ, List, Result, Ok, Err, IfOk, Vec, take}
 use Rattle.session_slots.specs.declared.id.SessionId.{SessionId}
 use Rattle.session_slots.specs.Slots.{find}
 use Rattle.host_core.specs.declared.event.Event as code_event
@@ -30,6 +30,11 @@ outcome_of (outcome.Refused fault) = events.Refused fault
 abbrev pub answered : {A : Type 0} → List code_event.Event → List (code_outcome.Outcome A)
     → List Step
 answered {A} es os = steps_of event_of (outcome_of {A = A}) es os
+
+-- it holds of the events with their outcomes, where there are outcomes
+abbrev pub OfSteps : {A Z E : Type 0} → List code_event.Event
+    → Result (Vec (code_outcome.Outcome A) Z) E → (List Step → Type 0) → Type 0
+OfSteps es result P = IfOk result (λ outcomes. P (answered es outcomes.items))
 
 -- what a call gave, as an outcome, or its fault as a refusal
 abbrev pub as_outcome : {X : Type 0} → (X → events.Outcome) → Result X HostFault → events.Outcome

@@ -2,8 +2,7 @@
 
 ghost use Rattle.std.specs.Prelude.{◌≡◌, ◌≤◌, ◌<◌, ◌+◌, ◌-◌, ◌^◌, IfSome, IfNone, IsSome, [], drop};
 ghost use Rattle.session_slots.specs.Slots.{find};
-ghost use Rattle.host_core.specs.Rounds.{pending_from, pending_ids, IsRound, RoundTo};
-ghost use Rattle.host_core.specs.Steps.{HostState};
+ghost use Rattle.host_core.specs.Rounds.{pending_from, pending_ids, IsRound, PassesSlot};
 ghost use Rattle.host_core.specs.Still.{AreSettled, IsNext};
 
 use crate::host::Host;
@@ -42,9 +41,7 @@ impl<S: BuildHasher, A: Allocator + Copy> Host<S, A> {
         requires open { IsSome (find self.old.slots id) }
         requires not_last { id.slot < 2 ^ 64 - 1 }
         requires most { round.worked + round.refused ≤ id.slot }
-        ensures goes_on { (start : HostState)
-            → RoundTo start budget id.slot round.worked round.refused self.old
-            → RoundTo start budget (id.slot + 1) result.worked result.refused self.new }
+        ensures goes_on { PassesSlot budget id.slot round self.old result self.new }
         ensures most { result.worked + result.refused ≤ id.slot + 1 }
     {
         if !self.pending(id) {

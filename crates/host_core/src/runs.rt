@@ -1,12 +1,12 @@
 //! Events and runs of events, by the calls of a host.
 
-ghost use Rattle.std.specs.Prelude.{◌≡◌, ◌≤◌, IfOk, OnErr, Err, true, length, vec_len};
+ghost use Rattle.std.specs.Prelude.{◌≡◌, ◌≤◌, IfOk, OnErr, Err, length, vec_len};
 ghost use Rattle.session_slots.specs.Slots.{IsBelow};
 ghost use Rattle.shared_table.specs.Recent.{AreTrue};
 ghost use Rattle.host_core.specs.Headline.{PrefixOfReplies, AllReplies, GoesOn, EndsByOwn, OverByOwn, EndsOn};
-ghost use Rattle.host_core.specs.Kept.{KeepsOthers, is_refused};
+ghost use Rattle.host_core.specs.Kept.{KeepsOthers, KeepsRefused};
 ghost use Rattle.host_core.specs.Runs.{IsRun};
-ghost use Rattle.host_core.specs.Seen.{event_of, outcome_of, answered};
+ghost use Rattle.host_core.specs.Seen.{OfSteps, event_of, outcome_of};
 ghost use Rattle.host_core.specs.Steps.{Stepped};
 ghost use Rattle.host_core.specs.declared.event.HostFault.TheVariants.{OutOfMemory};
 
@@ -49,8 +49,7 @@ impl<S: BuildHasher, A: Allocator + Copy> Host<S, A> {
     pub fn step(&mut self, event: Event<'_>) -> Outcome<A>
         ensures stepped { Stepped self.old (event_of event.entry) (outcome_of result) self.new }
         ensures others { KeepsOthers self.old (event_of event.entry) (outcome_of result) self.new }
-        ensures refused { is_refused (event_of event.entry) (outcome_of result) ≡ true
-            → self.new ≡ self.old }
+        ensures refused { KeepsRefused self.old (event_of event.entry) (outcome_of result) self.new }
         ensures truth { AreTrue self.new.table.pairs }
         ensures fits { length self.new.table.pairs ≤ self.new.table.capacity }
         ensures below { IsBelow self.old.slots }
@@ -69,21 +68,14 @@ impl<S: BuildHasher, A: Allocator + Copy> Host<S, A> {
     /// that was open before goes on from what it owed. With nothing pending a session is over where the
     /// bytes stored for it end it, by `quit` or a line that is too long, and nowhere else.
     pub fn run(&mut self, events: &[Event<'_>]) -> Result<Vec<Outcome<A>, A>, HostFault>
-        ensures chain { IfOk result (λ outcomes.
-            IsRun self.old (answered events.now outcomes.items) self.new) }
         ensures each { IfOk result (λ outcomes. vec_len outcomes ≡ length events.now) }
-        ensures prefix { IfOk result (λ outcomes.
-            PrefixOfReplies (answered events.now outcomes.items) self.new) }
-        ensures all { IfOk result (λ outcomes.
-            AllReplies (answered events.now outcomes.items) self.new) }
-        ensures before { IfOk result (λ outcomes.
-            GoesOn self.old (answered events.now outcomes.items) self.new) }
-        ensures ends { IfOk result (λ outcomes.
-            EndsByOwn (answered events.now outcomes.items) self.new) }
-        ensures over { IfOk result (λ outcomes.
-            OverByOwn (answered events.now outcomes.items) self.new) }
-        ensures ends_on { IfOk result (λ outcomes.
-            EndsOn self.old (answered events.now outcomes.items) self.new) }
+        ensures chain { OfSteps events.now result (λ steps. IsRun self.old steps self.new) }
+        ensures prefix { OfSteps events.now result (λ steps. PrefixOfReplies steps self.new) }
+        ensures all { OfSteps events.now result (λ steps. AllReplies steps self.new) }
+        ensures before { OfSteps events.now result (λ steps. GoesOn self.old steps self.new) }
+        ensures ends { OfSteps events.now result (λ steps. EndsByOwn steps self.new) }
+        ensures over { OfSteps events.now result (λ steps. OverByOwn steps self.new) }
+        ensures ends_on { OfSteps events.now result (λ steps. EndsOn self.old steps self.new) }
         ensures capacity { self.new.table.capacity ≡ self.old.table.capacity }
         ensures fault { OnErr result (result ≡ Err OutOfMemory) }
         ensures err { OnErr result (self.new ≡ self.old) }

@@ -1,10 +1,10 @@
 //! What one session answers to the events that name it.
 
-ghost use Rattle.std.specs.Prelude.{◌≡◌, false, take, MatchResult, IsErrOf};
+ghost use Rattle.std.specs.Prelude.{◌≡◌, false, take, IsErrOf};
 ghost use Rattle.usi_session.specs.Due.{is_pending};
 ghost use Rattle.host_core.specs.Events.{Gave};
 ghost use Rattle.host_core.specs.Seen.{as_outcome, done_of, passed_of};
-ghost use Rattle.host_core.specs.Sessions.{Feeds, Takes, WorkedOn, Stopped};
+ghost use Rattle.host_core.specs.Sessions.{Feeds, GoesOnBy, Takes};
 ghost use Rattle.host_core.specs.declared.event.HostFault.TheVariants.{OutOfMemory};
 
 use crate::bytes::Bytes;
@@ -33,8 +33,7 @@ pub fn work<A: Allocator + Copy, M: Memo>(
     memo: &mut M,
     budget: u64,
 ) -> Result<u64, AllocError>
-    ensures works { MatchResult result (λ steps. WorkedOn session.old budget steps session.new)
-        (λ _. Stopped session.old session.new) }
+    ensures works { GoesOnBy session.old budget result session.new }
     ensures idle { is_pending session.old ≡ false → memo.new ≡ memo.old }
     ensures capacity { M.capacity memo.new ≡ M.capacity memo.old }
 {
