@@ -2,12 +2,11 @@
 use Rattle.std.proofs.Common.{◌≡◌, ℕ, Bool, true, false, List, [], ◌∷◌, ◌++◌, Option, Some, None, Result, Ok, Err, refl, sym, ap, ◌∙◌, append-nil, inl, inr}
 use Rattle.std.proofs.lemmas.Bool.{cases_eq}
 use Rattle.std.specs.Prelude.{IsSome}
-use Rattle.std.specs.Io.KnownBytes.{Keeps, Appends, Consumes, IsAtEnd}
+use Rattle.std.specs.Io.KnownBytes.{Keeps, Appends, Consumes}
 use Rattle.std.proofs.KnownBytes.{Keeps-refl, Keeps-trans, Appends-trans, Consumes-trans}
-use Rattle.wires.specs.declared.wire.Got.{Got}
 use Rattle.wires.specs.declared.wire.Got.TheVariants.{Nothing, Ended}
 use Rattle.wires.specs.declared.wire.WireFault.{WireFault}
-use Rattle.wires.specs.Told.{Told, Stays, IsRaised, OnlyRises, KeepsPeer, KeepsAll, KeepsOthers, TellsFailure, Reads, Writes, Shuts, bytes_read, bytes_written}
+use Rattle.wires.specs.Told.{Told, Stays, IsRaised, OnlyRises, KeepsPeer, KeepsAll, KeepsOthers, TellsFailure, Reads, Writes, Shuts, bytes_written}
 use Rattle.wires.specs.Moves.{Moves, AllMove, GaveBytes, IsEmptied}
 
 -- ---- flags
@@ -112,15 +111,6 @@ nothing_keeps a b number buf r = kept_each a b number (record { unread = Keeps-n
 pub ended_keeps : (a b : Told) (number : ℕ) (buf : List ℕ) → Reads a b number (Ok Ended) buf → KeepsAll a b
 ended_keeps a b number buf r = kept_each a b number (record { unread = Keeps-none _ _ r.consumed; written = r.written; shut = r.shut; failed = r.failed }) r.others
 
--- the end of the reads leaves nothing
-pub ended_empties : (a b : Told) (number : ℕ) (buf : List ℕ) → Reads a b number (Ok Ended) buf → IsEmptied (a.unread number) (b.unread number)
-ended_empties a b number buf r = emptied (a.unread number) (b.unread number) r.consumed r.ended
-  where
-    emptied : (x y : Option (List ℕ)) → Consumes x y [] → IsAtEnd y → IsEmptied x y
-    emptied None y p q = tt
-    emptied (Some xs) None p q = absurd p
-    emptied (Some xs) (Some ys) p q = ap (λ (l : List ℕ). Some l) q
-
 -- ---- what moves
 
 pub kept_move : (a b : Told) (n : ℕ) → KeepsPeer a b n → Moves a b n
@@ -156,16 +146,6 @@ moves_each a b number m o n =
 pub told_failure : {T : Type 0} (r : Result T WireFault) (a b : Option Bool) → TellsFailure r a b → OnlyRises a b
 told_failure (Ok x) a b t = stays_rise a b t
 told_failure (Err e) a b t = raised_rise a b t
-
-pub reads_move : (a b : Told) (number : ℕ) (r : Result Got WireFault) (buf : List ℕ) → Reads a b number r buf → AllMove a b
-reads_move a b number r buf p = moves_each a b number (record {
-  gave = bytes_read r buf;
-  unread = p.consumed;
-  took = [];
-  written = Appends-none _ _ p.written;
-  shut = stays_rise _ _ p.shut;
-  failed = told_failure r _ _ p.failed;
-}) p.others
 
 pub writes_move : (a b : Told) (number : ℕ) (r : Result ℕ WireFault) (buf : List ℕ) → Writes a b number r buf → AllMove a b
 writes_move a b number r buf p = moves_each a b number (record {

@@ -1,12 +1,12 @@
 -- A wire in memory: what it is seen as, what it tells, and what its calls answer and leave (own choice).
-use Rattle.std.specs.Prelude.{◌+◌, ◌-◌, ◌^◌, ◌==◌, ◌||◌, ◌&&◌, not, cond, min, ℕ, Bool, true, false, List, [], ◌∷◌, ◌++◌, length, map, take, drop, Vec, slice_set, slice_index_or, nat_lt, Option, Some, None, Result, Ok, Err, IsSome}
+use Rattle.std.specs.Prelude.{◌≡◌, ◌+◌, ◌-◌, ◌^◌, ◌==◌, ◌||◌, ◌&&◌, not, cond, min, ℕ, Bool, true, false, List, [], ◌∷◌, ◌++◌, length, map, take, drop, Vec, slice_set, slice_index_or, nat_lt, Option, Some, None, Result, Ok, Err, IsSome}
 use Rattle.std.specs.Option.{option_map}
 use Rattle.std.specs.List.{slice_get, flat_map}
 use Rattle.wires.specs.declared.wire.Got.{Got}
 use Rattle.wires.specs.declared.wire.Got.TheVariants.{Bytes, Nothing, Ended}
 use Rattle.wires.specs.declared.wire.WireFault.{WireFault}
 use Rattle.wires.specs.declared.wire.WireFault.TheVariants.{Device, OutOfMemory}
-use Rattle.wires.specs.Told.{Told}
+use Rattle.wires.specs.Told.{Told, bytes_read}
 
 -- a peer: what its reads give from here on, chunk by chunk; what its writes took; the most bytes that a write takes;
 -- whether it was shut, and whether a read or a write of it has failed
@@ -31,6 +31,10 @@ pub record WireState : Type 0 where
 abbrev pub bytes_left : List (List ℕ) → List ℕ
 bytes_left chunks = flat_map (λ chunk. chunk) chunks
 
+-- the bytes that reads of the peer give from here on
+abbrev pub unread_of : PeerState → List ℕ
+unread_of peer = bytes_left peer.chunks
+
 -- the bytes of each of these
 abbrev pub contents_of : {A : Type 0} → List (Vec ℕ A) → List (List ℕ)
 contents_of chunks = map (λ chunk. chunk.items) chunks
@@ -38,7 +42,7 @@ contents_of chunks = map (λ chunk. chunk.items) chunks
 -- what is told of each connection, which has its place as its number
 abbrev pub told_of : List PeerState → Told
 told_of peers = record {
-  unread = λ number. option_map (λ peer. bytes_left peer.chunks) (slice_get peers number);
+  unread = λ number. option_map unread_of (slice_get peers number);
   written = λ number. option_map (λ peer. peer.written) (slice_get peers number);
   is_shut = λ number. option_map (λ peer. peer.is_shut) (slice_get peers number);
   has_failed = λ number. option_map (λ peer. peer.has_failed) (slice_get peers number);
@@ -107,6 +111,10 @@ left_from (chunk ∷ rest) room = drop room chunk ∷ rest
 -- the bytes that the peer gives to a read into so much room
 abbrev pub given_by : ℕ → PeerState → List ℕ
 given_by room peer = given_from (past_empty peer.chunks) room
+
+-- the buffer begins with what the peer gives to a read into it
+abbrev pub Gives : Result Got WireFault → List ℕ → List ℕ → PeerState → Type 0
+Gives result old new peer = bytes_read result new ≡ given_by (length old) peer
 
 -- the peer has given what a read into so much room finds
 abbrev pub giving : ℕ → PeerState → PeerState

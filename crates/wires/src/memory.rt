@@ -1,8 +1,8 @@
 //! A wire in memory.
 
 ghost use Rattle.std.specs.Prelude.{◌≡◌, ◌<◌, ◌≤◌, ◌↔◌, true, false, nat_lt, [], length, cond, min, Some, Ok, Err, IfOk, IfErr, OnErr, OnOk};
-ghost use Rattle.wires.specs.Told.{GivesNumber, KeepsAll, HasCause, HasRisen, Reads, Writes, bytes_read};
-ghost use Rattle.wires.specs.Memory.{IsKnown, WireState, contents_of, told_by, with_peer, changed, narrowing, failing, called, failed, is_open, fails_for, peer_of, width_of, given_by, accept_answer, after_accept, read_answer, after_failing, after_read, after_write, after_shut};
+ghost use Rattle.wires.specs.Told.{GivesNumber, KeepsAll, HasCause, HasRisen, Reads, Writes};
+ghost use Rattle.wires.specs.Memory.{Gives, IsKnown, contents_of, told_by, with_peer, changed, narrowing, failing, called, failed, is_open, fails_for, peer_of, width_of, accept_answer, after_accept, read_answer, after_failing, after_read, after_write, after_shut};
 ghost use Rattle.wires.specs.declared.wire.WireFault.TheVariants.{Device, OutOfMemory};
 
 use crate::peer::Peer;
@@ -198,8 +198,7 @@ impl<A: Allocator + Copy> Wire for MemoryWire<A> {
     fn read(&mut self, number: u64, buf: &mut [u8]) -> Result<Got, WireFault>
         ensures answer { result ≡ read_answer self.old number (length buf.old) }
         ensures after { self.new ≡ after_read self.old number (length buf.old) }
-        ensures given { OnOk result
-            (bytes_read result buf.new ≡ given_by (length buf.old) (peer_of self.old number)) }
+        ensures given { OnOk result (Gives result buf.old buf.new (peer_of self.old number)) }
         ensures bound { self.new.accepted ≡ self.old.accepted }
         ensures read { Reads (told_by self.old) (told_by self.new) number result buf.new }
         ensures cause { HasCause self.old.failed self.new.failed result }

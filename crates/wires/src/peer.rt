@@ -2,7 +2,7 @@
 
 ghost use Rattle.std.specs.Prelude.{◌≡◌, ◌≤◌, ◌++◌, length, min, take, drop, Some, Ok, Err, IfOk, IfErr, OnErr};
 ghost use Rattle.wires.specs.Told.{IsWithin, EndsAt, TellsFailure, bytes_read, bytes_written};
-ghost use Rattle.wires.specs.Memory.{bytes_left, contents_of, new_peer, failing, shutting, narrowing, taking, past_empty, got_from, given_by, giving};
+ghost use Rattle.wires.specs.Memory.{Gives, unread_of, contents_of, new_peer, failing, shutting, narrowing, taking, past_empty, got_from, giving};
 ghost use Rattle.wires.specs.declared.wire.WireFault.TheVariants.{OutOfMemory};
 
 use crate::wire::{Got, WireFault};
@@ -120,10 +120,10 @@ impl<A: Allocator + Copy> Peer<A> {
     fn give(&mut self, buf: &mut [u8]) -> Got
         ensures got { result ≡ got_from (past_empty self.old.chunks) (length buf.old) }
         ensures len { length buf.new ≡ length buf.old }
-        ensures given { bytes_read (Ok result) buf.new ≡ given_by (length buf.old) self.old }
+        ensures given { Gives (Ok result) buf.old buf.new self.old }
         ensures left { self.new ≡ giving (length buf.old) self.old }
         ensures within { IsWithin (Ok result) (length buf.new) }
-        ensures ended { EndsAt (Ok result) (Some (bytes_left self.new.chunks)) }
+        ensures ended { EndsAt (Ok result) (Some (unread_of self.new)) }
     {
         skip_empty(&mut self.chunks);
         let Some(first) = self.chunks.first_mut() else {
@@ -137,12 +137,12 @@ impl<A: Allocator + Copy> Peer<A> {
     pub fn read(&mut self, buf: &mut [u8]) -> Got
         ensures got { result ≡ got_from (past_empty self.old.chunks) (length buf.old) }
         ensures len { length buf.new ≡ length buf.old }
-        ensures given { bytes_read (Ok result) buf.new ≡ given_by (length buf.old) self.old }
+        ensures given { Gives (Ok result) buf.old buf.new self.old }
         ensures left { self.new ≡ giving (length buf.old) self.old }
         ensures within { IsWithin (Ok result) (length buf.new) }
-        ensures consumed { bytes_left self.old.chunks
-            ≡ bytes_read (Ok result) buf.new ++ bytes_left self.new.chunks }
-        ensures ended { EndsAt (Ok result) (Some (bytes_left self.new.chunks)) }
+        ensures consumed { unread_of self.old
+            ≡ bytes_read (Ok result) buf.new ++ unread_of self.new }
+        ensures ended { EndsAt (Ok result) (Some (unread_of self.new)) }
     {
         self.give(buf)
     }
