@@ -61,7 +61,8 @@ abbrev pub slices_of : SessionView → ℕ
 slices_of s = 2 * load s + cond (is_pending s) 1 0
 
 -- a chunk was fed and answered in full, and the answers were written
-pub record IsFedAndWorkedOff (before after : SessionView) (chunk : List ℕ) (old new : Option (List ℕ)) : Type 0 where
+pub record IsFedAndWorkedOff (before after : SessionView) (chunk : List ℕ)
+    (old new : Option (List ℕ)) : Type 0 where
   pub made : List ℕ
   pub written : Appends old new made
   pub owed : (x : List ℕ) → due before (chunk ++ x) ≡ made ++ due after x
