@@ -28,8 +28,9 @@ struct Kept {
 pub struct Notes {
     kept: Vec<Kept>,
     most: usize,
-    /// Whether each leaf is asked for. Else one that surely has a legal move is valued at once.
-    keeps_leaves: bool,
+    /// Whether each node is asked for and noted. Else a leaf that surely has a legal move is valued at
+    /// once, and of the nodes of depth 1 the root alone is asked for and noted.
+    asks_all: bool,
     /// Nodes entered, nodes left, and children that a note answered.
     pub steps: u64,
     /// Questions and notes.
@@ -38,11 +39,11 @@ pub struct Notes {
 
 impl Notes {
     /// Room for so many; with room for none nothing is remembered.
-    pub fn new(alloc: Global, most: usize, keeps_leaves: bool) -> Notes {
+    pub fn new(alloc: Global, most: usize, asks_all: bool) -> Notes {
         Notes {
             kept: Vec::new(alloc),
             most,
-            keeps_leaves,
+            asks_all,
             steps: 0,
             calls: 0,
         }
@@ -458,7 +459,7 @@ fn is_cutoff(entry: &Known, alpha: i32, beta: i32) -> bool {
     }
 }
 
-/// Enters a node, goes through its moves, and leaves it.
+/// Enters a node, goes through its moves, and leaves it; notes all below it.
 fn visit(
     alloc: Global,
     p: &Position,
@@ -492,7 +493,7 @@ fn visit(
             if branch.turn != turn {
                 continue;
             }
-            let is_told = depth == 1 && branch.is_answered && !notes.keeps_leaves;
+            let is_told = depth == 1 && branch.is_answered && !notes.asks_all;
             let is_left_out = match depth {
                 1 => is_told && i32::saturating_sub(0, material(&branch.position, e)) <= threshold,
                 2 => outlook.leaves_out(p, branch, e, beta, threshold),
@@ -502,14 +503,22 @@ fn visit(
                 outlook.has_weak = true;
             } else {
                 let (under, over) = (beta.saturating_neg(), threshold.saturating_neg());
-                let answer = if is_told {
-                    None
-                } else {
+                let is_asked = !is_told && (below != 1 || notes.asks_all);
+                let answer = if is_asked {
                     notes.answer(&branch.position, e, below, under, over)?
+                } else {
+                    None
                 };
                 let entry = match answer {
                     Some(entry) => entry,
-                    None => visit(alloc, &branch.position, e, below, under, over, notes)?,
+                    None => {
+                        let entry = visit(alloc, &branch.position, e, below, under, over, notes)?;
+                        if below > 0 && is_asked {
+                            let noted = entry;
+                            notes.note(&branch.position, e, below, noted)?;
+                        }
+                        entry
+                    }
                 };
                 let (worth, exact) = match entry {
                     Known::Exact(v, _) => (v.saturating_neg(), true),
@@ -517,10 +526,7 @@ fn visit(
                     Known::AtLeast(v) => (v.saturating_neg(), false),
                 };
                 if worth >= beta {
-                    let cut = Known::AtLeast(worth);
-                    let noted = cut;
-                    notes.note(p, e, depth, noted)?;
-                    return Ok(cut);
+                    return Ok(Known::AtLeast(worth));
                 }
                 if exact && worth > threshold {
                     best_value = worth;
@@ -531,10 +537,7 @@ fn visit(
             }
         }
     }
-    let entry = closed(best_value, best, depth, branches.is_empty());
-    let noted = entry;
-    notes.note(p, e, depth, noted)?;
-    Ok(entry)
+    Ok(closed(best_value, best, depth, branches.is_empty()))
 }
 
 /// What is known of a node that nothing cut off.
@@ -570,7 +573,12 @@ pub fn search_plainly_below(
     let known = notes.ask(p, e, depth)?;
     let entry = match known {
         Some(entry) if is_cutoff(&entry, -INFINITY, beta) => entry,
-        _ => visit(alloc, p, e, depth, -INFINITY, beta, notes)?,
+        _ => {
+            let entry = visit(alloc, p, e, depth, -INFINITY, beta, notes)?;
+            let noted = entry;
+            notes.note(p, e, depth, noted)?;
+            entry
+        }
     };
     match entry {
         Known::Exact(value, best) => Ok(Some((value, best))),

@@ -32,7 +32,7 @@ impl<M: Memo> Recorder<M> {
         }
     }
 
-    /// One that is asked only at the depths that the other memory keeps anything at.
+    /// One that is asked only at the depths that serve the other memory.
     pub fn sparing(alloc: Global, memo: M) -> Recorder<M> {
         Recorder {
             memo,
@@ -52,6 +52,10 @@ impl<M: Memo> Memo for Recorder<M> {
 
     fn keeps(&self, d: u8) -> bool {
         self.asks_all || self.memo.keeps(d)
+    }
+
+    fn serves(&self, d: u8) -> bool {
+        self.asks_all || self.memo.serves(d)
     }
 
     fn probe(&mut self, p: &Position, e: Eval, d: u8) -> Option<Entry> {

@@ -91,35 +91,34 @@ fn steps_over_children(alloc: Global, root: &Position, depth: u8) -> Result<u64,
     Ok(search(root, Eval::Plain, depth + 1, &mut table).steps)
 }
 
-// So many moves of the root are legal, and over known children all of these are answered, but at depth 2 so
-// many: the others are left out.
+// So many moves of the root are legal, and over known children all of these are answered. At depth 2 the
+// table is not asked for them.
 fn assert_answered(
     rt: &impl Abort,
     alloc: Global,
     root: &Position,
     count: usize,
-    at_two: usize,
     depths: u8,
 ) -> Result<(), Fail>
     requires { depths ≤ 8 }
 {
     same!(rt; children(alloc, root)?.len(), count);
     for depth in 0..depths {
-        let answered = if depth == 1 { at_two } else { count };
-        let steps = steps_over_children(alloc, root, depth)?;
-        same!(rt; steps, (answered as u64).saturating_add(2), depth);
+        let wanted = if depth == 1 {
+            search(root, Eval::Plain, 2, &mut NoMemo).steps
+        } else {
+            (count as u64).saturating_add(2)
+        };
+        same!(rt; steps_over_children(alloc, root, depth)?, wanted, depth);
     }
     Ok(())
 }
 
-// No move of the opening position takes a piece, and each surely has a reply: so at depth 2 the first
-// child is answered, and the others are left out. So it is with two pawns, where the king surely has a step.
-// Behind its own pieces it has none, and no other reply is sure.
 #[test]
 fn children_searched_before(rt: HostRuntime) -> Result<(), Fail> {
-    assert_answered(&rt, rt.alloc(), &Position::start(), 30, 1, 4)?;
-    assert_answered(&rt, rt.alloc(), &position(TWO_PAWNS)?, 5, 1, 8)?;
-    assert_answered(&rt, rt.alloc(), &position(HEMMED_IN)?, 5, 5, 4)
+    assert_answered(&rt, rt.alloc(), &Position::start(), 30, 4)?;
+    assert_answered(&rt, rt.alloc(), &position(TWO_PAWNS)?, 5, 8)?;
+    assert_answered(&rt, rt.alloc(), &position(HEMMED_IN)?, 5, 4)
 }
 
 /// What a search one ply deeper left of the positions after each move: how many entries there are,
@@ -149,19 +148,18 @@ fn left_of(alloc: Global, root: &Position, depth: u8) -> Result<(usize, usize), 
 fn children_left_in_the_table(rt: HostRuntime) -> Result<(), Fail> {
     let start = Position::start();
     same!(rt; left_of(rt.alloc(), &start, 2)?, (30, 2));
-    // Two plies before the end the first child is searched, and the others are left out.
-    for (depth, entries) in [(1u8, 1usize), (3, 30)] {
-        same!(rt; left_of(rt.alloc(), &start, depth)?.0, entries, depth);
-    }
+    same!(rt; left_of(rt.alloc(), &start, 3)?.0, 30);
     let pawns = position(TWO_PAWNS)?;
-    same!(rt; left_of(rt.alloc(), &pawns, 1)?.0, 1);
     for depth in 2..8u8 {
         same!(rt; left_of(rt.alloc(), &pawns, depth)?.0, 5, depth);
     }
-    // Where no reply is sure, each child is searched.
     let hemmed_in = position(HEMMED_IN)?;
-    for depth in 1..4u8 {
+    for depth in 2..4u8 {
         same!(rt; left_of(rt.alloc(), &hemmed_in, depth)?.0, 5, depth);
+    }
+    // Of the nodes of depth 1 only a root is noted.
+    for root in [start, pawns, hemmed_in] {
+        same!(rt; left_of(rt.alloc(), &root, 1)?.0, 0);
     }
     Ok(())
 }

@@ -127,6 +127,13 @@ impl<S: BuildHasher, A: Allocator + Clone> Memo for SharedTable<S, A> {
         d > 0 || self.leaves > 0
     }
 
+    /// From depth 2 on: a node of depth 1 is searched about as fast as it is looked up.
+    fn serves(&self, d: u8) -> bool
+        ensures { IsTrue result ↔ (2 ≤ d) }
+    {
+        d >= 2
+    }
+
     fn probe(&mut self, p: &Position, e: Eval, d: u8) -> Option<Entry>
         ensures answer { result ≡ entry_of self.old.pairs (key_of p.now e d) }
         ensures truth { IfSome result (IsTrueEntry p.now e d) }

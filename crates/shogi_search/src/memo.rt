@@ -36,6 +36,12 @@ pub trait Memo {
         true
     }
 
+    /// Whether a search asks for the nodes of the depth below its root, and notes them. That costs or
+    /// saves time, and changes nothing else.
+    fn serves(&self, d: u8) -> bool {
+        self.keeps(d)
+    }
+
     /// What is known of the position under the evaluation at the depth.
     fn probe(&mut self, p: &Position, e: Eval, d: u8) -> Option<Entry>
         ensures answer { result ≡ answers self.old p.now e d }

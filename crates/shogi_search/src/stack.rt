@@ -60,6 +60,25 @@ pub fn probe<M: Memo>(
     None
 }
 
+/// The same for a node below the root, where its depth serves the memo.
+fn probe_child<M: Memo>(
+    p: &Position,
+    e: Eval,
+    depth: u8,
+    alpha: i32,
+    beta: i32,
+    memo: &mut M,
+) -> Option<Entry>
+    ensures truth { IfSome result (IsTrueEntry p.now e depth) }
+    ensures cutoff { IfSome result (IsCutoff alpha beta) }
+    ensures capacity { M.capacity memo.new ≡ M.capacity memo.old }
+{
+    if !memo.serves(depth) {
+        return None;
+    }
+    probe(p, e, depth, alpha, beta, memo)
+}
+
 /// The best move one ply less deep, where the memo has it.
 #[tactic(auto, using(crate::proofs::OrderLaws::best_listed))]
 pub fn hash_move_of<M: Memo>(p: &Position, e: Eval, depth: u8, memo: &mut M) -> Option<Move>
@@ -179,7 +198,7 @@ impl Stack {
         current.validity();
         node.advance(*current);
         let (position, eval) = (node.as_position(), node.eval());
-        if let Some(entry) = probe(position, eval, depth, alpha, beta, memo) {
+        if let Some(entry) = probe_child(position, eval, depth, alpha, beta, memo) {
             self.frames[self.height].back_up(current, &entry);
             return;
         }
@@ -227,7 +246,7 @@ impl Stack {
         let top = &self.frames[self.height];
         let entry = top.to_entry();
         let (noted, answer) = (entry, entry);
-        if top.depth > 0 {
+        if top.depth > 0 && (self.height == 0 || memo.serves(top.depth)) {
             memo.note(top.node.as_position(), top.node.eval(), top.depth, noted);
         }
         if self.pop(&entry) {
