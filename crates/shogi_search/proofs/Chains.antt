@@ -155,12 +155,6 @@ left_valued f g s k = omega (arith, moves_same f g s k, one g.waiting)
     one (Leaf m v) = omega arith
     one (Cut v) = omega arith
 
--- and that is taken in
-pub left_taken : (f g : Frame) (m : Move) (v : ℤ) → f.waiting ≡ Leaf m v → IsSame f g → g.picker ≡ f.picker → left_of_waiting g.waiting ≡ 0 → left_of_frame g < left_of_frame f
-left_taken f g m v i s k none =
-    let one : left_of_waiting f.waiting ≡ 1 = ap left_of_waiting i in
-    omega (arith, moves_same f g s k, one, none)
-
 -- what is left of the frames below and of one more
 pub left_above : (all fs : List Frame) (f : Frame) → all ≡ fs ++ f ∷ [] → sum_by left_of_frame all ≡ sum_by left_of_frame fs + left_of_frame f
 left_above all fs f e = ap (sum_by left_of_frame) e ∙ sum_by-append left_of_frame fs (f ∷ []) ∙ grind (arith)

@@ -1,5 +1,5 @@
 -- The node on top of a stack, among its frames.
-use Rattle.std.proofs.Common.{◌≡◌, ◌<◌, ◌≤◌, ◌+◌, ◌-◌, ◌*◌, ◌<ℤ◌, ℤ, ℕ, zero, suc, List, [], ◌∷◌, ◌++◌, length, take, set, get_or, Option, Some, None, refl, sym, ap, ◌∙◌, arith, subst}
+use Rattle.std.proofs.Common.{◌≡◌, ◌<◌, ◌≤◌, ◌+◌, ◌-◌, ◌*◌, ℤ, ℕ, zero, suc, List, [], ◌∷◌, ◌++◌, length, take, set, get_or, Option, Some, None, refl, sym, ap, ◌∙◌, arith, subst}
 use Rattle.std.specs.Prelude.{sum_by, slice_get, IsSomeAnd}
 use Rattle.std.proofs.lemmas.List.{take-set, length-take-le}
 use Rattle.std.proofs.lemmas.Option.{slice_get_read, slice_get_within, slice_get-get_or, get_or_from_slice_get}
@@ -16,7 +16,7 @@ use Rattle.shogi_search.specs.Minimax.{negated, IsTrueEntry, tree_size, sum_of_t
 use Rattle.shogi_search.specs.Entries.{IsCutoff}
 use Rattle.shogi_search.specs.Window.{threshold, code_at}
 use Rattle.shogi_search.specs.Frames.{position_after, threshold_of}
-use Rattle.shogi_search.specs.Stack.{IsAt, IsSame, IsChain, IsStack, OnTop, UsesSteps, frames_of, parents_of, left_of_frame, left_of_stack, left_of_waiting, left_with_child, steps_after}
+use Rattle.shogi_search.specs.Stack.{IsAt, IsSame, IsChain, IsStack, OnTop, UsesSteps, frames_of, parents_of, left_of_frame, steps_left, left_of_waiting, left_with_child, steps_after}
 use Rattle.shogi_core.specs.Position.{Shogi}
 use Rattle.shogi_eval.specs.declared.eval.Eval.{Eval}
 use Rattle.shogi_search.specs.Order.{todo, IsWithinTree}
@@ -82,7 +82,7 @@ top_with s i f h = set_there s.frames i f h
 pub on_with : (s : Stack) (i : ℕ) (f : Frame) (fact : Frame → Type 0) → i < length s.frames → fact f → OnTop (with_frame s i f) fact
 on_with s i f fact h k = of_top (with_frame s i f) f fact (top_with s i f h) k
 
-pub left_with : (s : Stack) (i : ℕ) (f : Frame) → i < length s.frames → left_of_stack (with_frame s i f) ≡ sum_by left_of_frame (take i s.frames) + left_of_frame f
+pub left_with : (s : Stack) (i : ℕ) (f : Frame) → i < length s.frames → steps_left (with_frame s i f) ≡ sum_by left_of_frame (take i s.frames) + left_of_frame f
 left_with s i f h = left_above (frames_of (with_frame s i f)) (take i s.frames) f (frames_are (with_frame s i f) f (top_with s i f h) ∙ ap (λ (fs : List Frame). fs ++ f ∷ []) (take-set s.frames i f))
 
 pub stack_with : (s : Stack) (i : ℕ) (f : Frame) → i < length s.frames → i ≤ SEARCH_DEPTH_MAX → s.depth ≤ SEARCH_DEPTH_MAX → IsChain s.root s.eval s.depth (negated INFINITY) s.beta (take i s.frames) f → IsStack (with_frame s i f)
@@ -97,14 +97,14 @@ stack_with s i f h fits shallow c = record {
 pub read_top : (s : Stack) (d : Frame) → s.height < length s.frames → IsTop s (get_or s.frames s.height d)
 read_top s d h = slice_get-get_or s.frames s.height d h
 
-pub left_read : (s : Stack) (f : Frame) → IsTop s f → left_of_stack s ≡ sum_by left_of_frame (parents_of s) + left_of_frame f
+pub left_read : (s : Stack) (f : Frame) → IsTop s f → steps_left s ≡ sum_by left_of_frame (parents_of s) + left_of_frame f
 left_read s f e = left_above (frames_of s) (parents_of s) f (frames_are s f e)
 
 -- the node on top is changed in its place
 pub changed : (s : Stack) (f g : Frame) → IsTop s f → IsStack s → IsSame f g → IsStack (with_frame s s.height g)
 changed s f g e k same = stack_with s s.height g (slice_get_within s.frames s.height f e) k.height_fits k.shallow (chain_same _ _ _ _ _ _ f g (on_top s f _ e k.chain) same)
 
-pub left_changed : (s : Stack) (f g : Frame) → IsTop s f → left_of_stack (with_frame s s.height g) + left_of_frame f ≡ left_of_stack s + left_of_frame g
+pub left_changed : (s : Stack) (f g : Frame) → IsTop s f → steps_left (with_frame s s.height g) + left_of_frame f ≡ steps_left s + left_of_frame g
 left_changed s f g e = omega (arith, left_with s s.height g (slice_get_within s.frames s.height f e), left_read s f e)
 
 -- there is room above a node that waits for a child
@@ -154,7 +154,7 @@ stack_popped s d g k h fits same =
     let low : s.height ≤ SEARCH_DEPTH_MAX = k.height_fits in
     stack_with s (s.height - 1) g (omega arith) (omega arith) k.shallow (chain_same _ _ _ _ _ _ (get_or s.frames (s.height - 1) d) g r.popped.chain same)
 
-pub left_popped : (s : Stack) (d g : Frame) → IsStack s → 0 < s.height → s.height < length s.frames → IsSame (get_or s.frames (s.height - 1) d) g → g.picker ≡ (get_or s.frames (s.height - 1) d).picker → left_of_waiting g.waiting ≡ 0 → left_of_stack (with_frame s (s.height - 1) g) < left_of_stack s
+pub left_popped : (s : Stack) (d g : Frame) → IsStack s → 0 < s.height → s.height < length s.frames → IsSame (get_or s.frames (s.height - 1) d) g → g.picker ≡ (get_or s.frames (s.height - 1) d).picker → left_of_waiting g.waiting ≡ 0 → steps_left (with_frame s (s.height - 1) g) < steps_left s
 left_popped s d g k h fits same picker taken =
     let l : left_of_frame g ≤ left_of_frame (get_or s.frames (s.height - 1) d) = left_same (get_or s.frames (s.height - 1) d) g same picker taken in
     let r : IsBelow s (get_or s.frames (s.height - 1) d) = below s d k h fits in
@@ -174,7 +174,7 @@ root_cutoff s entry k z cutoff =
     same_window _ _ _ _ _ a.alpha_is a.beta_is (on_top s t.top (λ (top : Frame). IsCutoff top.alpha top.beta entry) t.is cutoff)
 
 -- something is left of a stack
-pub left_positive : (s : Stack) → IsStack s → 0 < left_of_stack s
+pub left_positive : (s : Stack) → IsStack s → 0 < steps_left s
 left_positive s k =
     let t : HasTop s (IsChain s.root s.eval s.depth (negated INFINITY) s.beta (parents_of s)) = has_top s _ k.chain in
     omega (arith, left_read s t.top t.is)
@@ -193,7 +193,7 @@ stack_entered s f g m is k asks fits place =
     (pushed _ _ _ _ _ (frames_of s) (parents_of s) f g m (frames_are s f is) (on_top s f _ is k.chain) (record { deep = deep; asks = asks; at_child = place }))
 
 -- a node is entered, and none of its moves is gone through
-pub left_entered : (s : Stack) (i : ℕ) (f : Frame) (p : Shogi) (e : Eval) (d : ℕ) (alpha beta : ℤ) → i < length s.frames → IsAt p e d alpha beta f → f.waiting ≡ Next → IsWithinTree p d f.picker → left_of_stack (with_frame s i f) < sum_by left_of_frame (take i s.frames) + 2 * tree_size p d
+pub left_entered : (s : Stack) (i : ℕ) (f : Frame) (p : Shogi) (e : Eval) (d : ℕ) (alpha beta : ℤ) → i < length s.frames → IsAt p e d alpha beta f → f.waiting ≡ Next → IsWithinTree p d f.picker → steps_left (with_frame s i f) < sum_by left_of_frame (take i s.frames) + 2 * tree_size p d
 left_entered s i f p e d alpha beta fits place next counted =
     let none : left_of_waiting f.waiting ≡ 0 = ap left_of_waiting next in
     let moves : sum_of_tree_sizes f.node.position (f.depth - 1) (todo f.node.position f.picker) ≡ sum_of_tree_sizes p (d - 1) (todo p f.picker) = ap (λ (x : Shogi). sum_of_tree_sizes x (f.depth - 1) (todo x f.picker)) place.position ∙ ap (λ (x : ℕ). sum_of_tree_sizes p (x - 1) (todo p f.picker)) place.depth in
@@ -201,18 +201,18 @@ left_entered s i f p e d alpha beta fits place next counted =
 
 pub left_child : (s : Stack) (f g : Frame) (m : Move) (e : Eval) (alpha beta : ℤ) → IsTop s f → s.height + 1 < length s.frames → IsAt (position_after f m) e (f.depth - 1) alpha beta g → g.waiting ≡ Next → IsWithinTree (position_after f m) (f.depth - 1) g.picker → UsesSteps s (with_frame s (s.height + 1) g) m 1
 left_child s f g m e alpha beta is fits place next counted =
-    of_top s f (λ (top : Frame). left_of_stack (with_frame s (s.height + 1) g) + 1 ≤ left_of_stack s + steps_after top m) is
+    of_top s f (λ (top : Frame). steps_left (with_frame s (s.height + 1) g) + 1 ≤ steps_left s + steps_after top m) is
     (omega (arith, left_entered s (s.height + 1) g _ e _ alpha beta fits place next counted))
 
 -- the node on top has gone on with a move
 pub left_visited : (s : Stack) (m : Move) (f g : Frame) (n : ℕ) → IsTop s f → left_of_frame g + n ≤ left_with_child f m → UsesSteps s (with_frame s s.height g) m n
 left_visited s m f g n is l =
-    of_top s f (λ (top : Frame). left_of_stack (with_frame s s.height g) + n ≤ left_of_stack s + steps_after top m) is (omega (arith, left_changed s f g is, l))
+    of_top s f (λ (top : Frame). steps_left (with_frame s s.height g) + n ≤ steps_left s + steps_after top m) is (omega (arith, left_changed s f g is, l))
 
 -- a move is asked for, and gone on with
-pub left_descended : (s t : Stack) (m : Move) (f g : Frame) (n : ℕ) → IsTop s f → steps_after g m + left_of_frame g ≤ left_of_frame f → UsesSteps (with_frame s s.height g) t m n → left_of_stack t + n ≤ left_of_stack s
+pub left_descended : (s t : Stack) (m : Move) (f g : Frame) (n : ℕ) → IsTop s f → steps_after g m + left_of_frame g ≤ left_of_frame f → UsesSteps (with_frame s s.height g) t m n → steps_left t + n ≤ steps_left s
 left_descended s t m f g n is less l =
-    let k : left_of_stack t + n ≤ left_of_stack (with_frame s s.height g) + steps_after g m = on_top (with_frame s s.height g) g (λ (top : Frame). left_of_stack t + n ≤ left_of_stack (with_frame s s.height g) + steps_after top m) (top_with s s.height g (slice_get_within s.frames s.height f is)) l in
+    let k : steps_left t + n ≤ steps_left (with_frame s s.height g) + steps_after g m = on_top (with_frame s s.height g) g (λ (top : Frame). steps_left t + n ≤ steps_left (with_frame s s.height g) + steps_after top m) (top_with s s.height g (slice_get_within s.frames s.height f is)) l in
     omega (arith, k, left_changed s f g is, less)
 
 -- no move is left to ask for

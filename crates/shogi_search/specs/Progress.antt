@@ -1,5 +1,5 @@
 -- A search that goes on in slices, as its caller sees it (own choice).
-use Rattle.std.specs.Prelude.{◌≡◌, ℕ, ℤ, ◌*◌, ◌≤ℤ◌, ◌<ℤ◌, Bool, false, List, [], Option, None, Some}
+use Rattle.std.specs.Prelude.{◌≡◌, ℕ, ℤ, ◌*◌, ◌≤ℤ◌, ◌<ℤ◌, Bool, false, List, [], Option, None, Some, IsSome}
 use Rattle.std.specs.Option.{ForSome}
 use Rattle.shogi_core.specs.Position.{Shogi}
 use Rattle.shogi_eval.specs.declared.eval.Eval.{Eval}
@@ -57,6 +57,25 @@ IsAnsweredBy answers search =
 -- and that is the value itself
 abbrev pub IsExactlyAnsweredBy : (Shogi → Eval → ℕ → Option Entry) → Progress → Type 0
 IsExactlyAnsweredBy answers search = IsExactly (answers search.root search.eval search.depth)
+
+-- before the first step, an answer for its root that says enough ends it
+abbrev pub EndsWhereAnswered :
+    (Shogi → Eval → ℕ → Option Entry) → Option Found → Progress → Progress → Type 0
+EndsWhereAnswered answers result old new =
+    old.started ≡ false → IsAnsweredBy answers old → IsSome result × (new.steps ≡ old.steps)
+
+-- and so does the value itself
+abbrev pub EndsWhereKnown :
+    (Shogi → Eval → ℕ → Option Entry) → Option Found → Progress → Progress → Type 0
+EndsWhereKnown answers result old new =
+    old.started ≡ false → IsExactlyAnsweredBy answers old
+    → IsSome result × (new.steps ≡ old.steps)
+
+-- its root, its evaluation, its depth and its bound are what they were
+abbrev pub KeepsQuestion : Progress → Progress → Type 0
+KeepsQuestion old new =
+    (new.root ≡ old.root)
+    × ((new.eval ≡ old.eval) × ((new.depth ≡ old.depth) × (new.beta ≡ old.beta)))
 
 -- what is found of a position below a bound: the value and the best move where it is less, and else no more than the value; a best move that is told is the best move
 pub record IsFoundBelow (p : Shogi) (e : Eval) (d : ℕ) (beta : ℤ) (f : Found) : Type 0 where

@@ -13,7 +13,7 @@ use Rattle.shogi_search.specs.Entered.{Entered}
 use Rattle.shogi_search.specs.Order.{todo}
 use Rattle.shogi_search.specs.Progress.{Progress, IsFoundBelow}
 use Rattle.shogi_search.specs.Visits.{IsFree}
-use Rattle.shogi_search.specs.Stack.{IsStack, OnTop, frames_of, left_of_stack}
+use Rattle.shogi_search.specs.Stack.{IsStack, OnTop, frames_of, steps_left}
 use Rattle.shogi_search.specs.Window.{code_at}
 use Rattle.shogi_search.specs.declared.bounds.TheConstants.{SEARCH_DEPTH_MAX, INFINITY}
 
@@ -76,7 +76,7 @@ progress_of s = record {
   beta = s.stack.beta;
   started = s.started;
   entered = entered_in s.found s.started (map entered_of (frames_of s.stack));
-  left = left_in s.found s.started (steps_of_tree s.stack) (left_of_stack s.stack);
+  left = left_in s.found s.started (steps_of_tree s.stack) (steps_left s.stack);
   steps = s.steps;
   found = s.found;
 }
@@ -95,5 +95,5 @@ pub record IsSearch (s : Inside) : Type 0 where
   pub chain : s.found ≡ None → s.started ≡ true → IsStack s.stack
   pub free : s.found ≡ None → s.started ≡ true → OnTop s.stack (λ top. IsFree top.waiting)
   pub counted :
-      s.steps + left_in s.found s.started (steps_of_tree s.stack) (left_of_stack s.stack)
+      s.steps + left_in s.found s.started (steps_of_tree s.stack) (steps_left s.stack)
       ≤ steps_of_tree s.stack

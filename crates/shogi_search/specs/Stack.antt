@@ -133,10 +133,10 @@ abbrev pub left_with_child : Frame → Move → ℕ
 left_with_child f m = left_of_frame f + steps_after f m
 
 -- what is left of the whole stack
-abbrev pub left_of_stack : Stack → ℕ
-left_of_stack s = sum_by left_of_frame (frames_of s)
+abbrev pub steps_left : Stack → ℕ
+steps_left s = sum_by left_of_frame (frames_of s)
 
 -- with so many steps, no more is left than was left of the stack and is handed over for a move of the node on top
 abbrev pub UsesSteps : Stack → Stack → Move → ℕ → Type 0
 UsesSteps old new m made =
-    OnTop old (λ top. left_of_stack new + made ≤ left_of_stack old + steps_after top m)
+    OnTop old (λ top. steps_left new + made ≤ steps_left old + steps_after top m)

@@ -6,7 +6,7 @@ ghost use Rattle.std.specs.Option.{ForSome};
 ghost use Rattle.shogi_search.specs.Minimax.{tree_size, IsTrueEntry, negated};
 ghost use Rattle.shogi_search.specs.Entered.{IsKnownNode};
 ghost use Rattle.shogi_search.specs.Entries.{IsCutoff};
-ghost use Rattle.shogi_search.specs.Progress.{untouched, untouched_below, left_of, HasPath, IsAnsweredBy, IsExactlyAnsweredBy, IsFoundBelow, IsFoundBy, FindsValue, FindsBest};
+ghost use Rattle.shogi_search.specs.Progress.{untouched, untouched_below, left_of, HasPath, IsAnsweredBy, EndsWhereAnswered, EndsWhereKnown, KeepsQuestion, IsFoundBelow, IsFoundBy, FindsValue, FindsBest};
 ghost use Rattle.shogi_search.specs.declared.bounds.TheConstants.{SEARCH_DEPTH_MAX, INFINITY};
 
 use crate::bounds::INFINITY;
@@ -147,9 +147,7 @@ impl Search {
         requires open { self.old.found ≡ None }
         ensures begun { self.new.started ≡ true }
         ensures found { self.new.found ≡ None }
-        ensures root { (self.new.root ≡ self.old.root) × (self.new.depth ≡ self.old.depth) }
-        ensures eval { self.new.eval ≡ self.old.eval }
-        ensures beta { self.new.beta ≡ self.old.beta }
+        ensures same { KeepsQuestion self.old self.new }
         ensures capacity { M.capacity memo.new ≡ M.capacity memo.old }
         ensures steps { self.new.steps ≡ min (self.old.steps + 1) (2 ^ 64 - 1) }
         ensures left { left_of self.new < left_of self.old }
@@ -175,9 +173,7 @@ impl Search {
         ensures best { IfSome result (FindsBest self.old) }
         ensures counted { IfSome result (λ f. f.steps ≡ self.new.steps) }
         ensures range { IfSome result (λ f. f.steps ≤ 2 * tree_size self.old.root self.old.depth) }
-        ensures root { (self.new.root ≡ self.old.root) × (self.new.depth ≡ self.old.depth) }
-        ensures eval { self.new.eval ≡ self.old.eval }
-        ensures beta { self.new.beta ≡ self.old.beta }
+        ensures same { KeepsQuestion self.old self.new }
         ensures capacity { M.capacity memo.new ≡ M.capacity memo.old }
         ensures found { self.new.found ≡ result }
         ensures over { OnSome result (self.new.left ≡ 0) }
@@ -236,16 +232,14 @@ impl Search {
         ensures most { self.new.steps ≤ self.old.steps + budget }
         ensures fell { self.new.steps + left_of self.new ≤ self.old.steps + left_of self.old }
 
-        ensures again { ForSome self.old.found (λ f.
-            (result ≡ Some f) × (self.new ≡ self.old) × (memo.new ≡ memo.old)) }
+        ensures again { ForSome self.old.found (λ f. (result ≡ Some f) × (self.new ≡ self.old)) }
+        ensures idle { IsSome self.old.found → memo.new ≡ memo.old }
         // Once it has ended nothing is left, and until then something is.
         ensures over { OnSome result (self.new.left ≡ 0) }
         ensures unfinished { IfNone result (0 < self.new.left) }
         // Before the first step an answer for the root that says enough ends it.
-        ensures enough { self.old.started ≡ false → IsAnsweredBy (M.answers memo.old) self.old
-            → IsSome result × (self.new.steps ≡ self.old.steps) }
-        ensures known { self.old.started ≡ false → IsExactlyAnsweredBy (M.answers memo.old) self.old
-            → IsSome result × (self.new.steps ≡ self.old.steps) }
+        ensures enough { EndsWhereAnswered (M.answers memo.old) result self.old self.new }
+        ensures known { EndsWhereKnown (M.answers memo.old) result self.old self.new }
     {
         if self.found.is_some() {
             return self.found;

@@ -7,7 +7,7 @@ ghost use Rattle.shogi_search.specs.Entries.{IsCutoff, IsEnough, move_in};
 ghost use Rattle.shogi_search.specs.Order.{IsListed};
 ghost use Rattle.shogi_search.specs.Visits.{IsFree};
 ghost use Rattle.shogi_search.specs.Frames.{IsTrueOf, IsToBeLeft};
-ghost use Rattle.shogi_search.specs.Stack.{IsStack, IsSame, OnTop, IsTrueOfRoot, KeepsGoal, UsesSteps, left_with_child, left_of_frame, left_of_stack};
+ghost use Rattle.shogi_search.specs.Stack.{IsStack, IsSame, OnTop, IsTrueOfRoot, KeepsGoal, UsesSteps, left_with_child, left_of_frame, steps_left};
 ghost use Rattle.shogi_search.specs.declared.bounds.TheConstants.{INFINITY};
 
 use crate::frame::{Frame, Waiting, leaf};
@@ -160,10 +160,10 @@ impl Stack {
         requires cutoff { OnTop self.old (λ top. IsCutoff top.alpha top.beta entry.now) }
         ensures stack { IsStack self.new }
         ensures free { result ≡ true → OnTop self.new (λ top. IsFree top.waiting) }
-        ensures left { result ≡ true → left_of_stack self.new < left_of_stack self.old }
+        ensures left { result ≡ true → steps_left self.new < steps_left self.old }
         ensures truth { result ≡ false → IsTrueOfRoot self.old entry.now }
         ensures cutoff { result ≡ false → IsCutoff (negated INFINITY) self.old.beta entry.now }
-        ensures most { left_of_stack self.new ≤ left_of_stack self.old }
+        ensures most { steps_left self.new ≤ steps_left self.old }
         ensures none { result ≡ false → self.new ≡ self.old }
         ensures same { KeepsGoal self.old self.new }
     {
@@ -237,7 +237,7 @@ impl Stack {
         requires over { OnTop self.old (λ top. IsToBeLeft top) }
         ensures stack { IfNone result (IsStack self.new) }
         ensures free { IfNone result (OnTop self.new (λ top. IsFree top.waiting)) }
-        ensures left { IfNone result (left_of_stack self.new < left_of_stack self.old) }
+        ensures left { IfNone result (steps_left self.new < steps_left self.old) }
         ensures truth { IfSome result (IsTrueOfRoot self.old) }
         ensures cutoff { IfSome result (IsCutoff (negated INFINITY) self.old.beta) }
         ensures same { KeepsGoal self.old self.new }
@@ -267,7 +267,7 @@ impl Stack {
         ensures most { made.new ≤ budget }
         ensures one { IfSome result (λ _. made.new ≡ made.old + 1) }
         ensures left { IfNone result
-            (left_of_stack self.new + made.new ≤ left_of_stack self.old + made.old) }
+            (steps_left self.new + made.new ≤ steps_left self.old + made.old) }
         ensures truth { IfSome result (IsTrueOfRoot self.old) }
         ensures cutoff { IfSome result (IsCutoff (negated INFINITY) self.old.beta) }
         ensures same { KeepsGoal self.old self.new }
@@ -302,11 +302,11 @@ impl Stack {
         requires free { OnTop self.old (λ top. IsFree top.waiting) }
         ensures stack { IfNone result (IsStack self.new) }
         ensures free { IfNone result (OnTop self.new (λ top. IsFree top.waiting)) }
-        ensures left { IfNone result (left_of_stack self.new + budget ≤ left_of_stack self.old) }
+        ensures left { IfNone result (steps_left self.new + budget ≤ steps_left self.old) }
         ensures all { IfNone result (steps.new ≡ min (steps.old + budget) (2 ^ 64 - 1)) }
         ensures rises { steps.old ≤ steps.new }
         ensures most { steps.new ≤ steps.old + budget }
-        ensures fell { IfSome result (λ _. steps.new ≤ steps.old + left_of_stack self.old) }
+        ensures fell { IfSome result (λ _. steps.new ≤ steps.old + steps_left self.old) }
         ensures truth { IfSome result (IsTrueOfRoot self.old) }
         ensures cutoff { IfSome result (IsCutoff (negated INFINITY) self.old.beta) }
         ensures same { KeepsGoal self.old self.new }

@@ -1,6 +1,6 @@
 use Rattle.std.proofs.Common.{◌≡◌, ◌≤◌, ◌+◌, ◌-◌}
 use Rattle.shogi_search.specs.Visits.{IsFree}
-use Rattle.shogi_search.specs.Stack.{IsStack, KeepsGoal, OnTop, left_of_stack}
+use Rattle.shogi_search.specs.Stack.{IsStack, KeepsGoal, OnTop, steps_left}
 use Rattle.shogi_search.proofs.stack.Stack.run.Given as goal
 
 abbrev pub invariant-steps : goal.invariant-steps
@@ -8,7 +8,7 @@ invariant-steps g l = record {
   stack : IsStack l.self;
   free : OnTop l.self (λ top. IsFree top.waiting);
   same : KeepsGoal l.fn.self l.self;
-  left : left_of_stack l.self + l.made ≤ left_of_stack l.fn.self;
+  left : steps_left l.self + l.made ≤ steps_left l.fn.self;
   within : l.made ≤ l.budget;
   counted : l.steps ≡ l.fn.steps;
   capacity : g.M.Memo.capacity l.memo ≡ g.M.Memo.capacity l.fn.memo;
