@@ -9,7 +9,10 @@ use Rattle.shogi_core.specs.Position.{Shogi}
 use Rattle.shogi_moves.specs.Captures.{matches_kind}
 use Rattle.shogi_moves.specs.LegalMoves.{legal_codes, legal_from}
 use Rattle.shogi_moves.specs.Rising.{is_in}
-use Rattle.shogi_moves.specs.Sweeps.{IsBoardSweep, IsDropSweep}
+use Rattle.shogi_moves.specs.Sweeps.{IsBoardSweep, IsDropSweep, IsPassed, IsCertainQuiet, IsCertainDrop}
+use Rattle.shogi_moves.specs.Walks.{IsNextOf, TakesNext}
+use Rattle.shogi_moves.specs.declared.sweep.BoardSweep.{BoardSweep}
+use Rattle.shogi_moves.specs.declared.sweep.DropSweep.{DropSweep}
 use Rattle.shogi_search.specs.Minimax.{sum_of_tree_sizes, tree_size}
 use Rattle.shogi_search.specs.declared.move_picker.MovePicker.{MovePicker}
 use Rattle.shogi_search.specs.declared.move_picker.MovePicker.TheVariants.{HashMove, Start, Captures, Quiets, Drops, Done}
@@ -63,6 +66,36 @@ todo_after p (Quiets hash_move s) = matching_others_from p hash_move false FIRST
 todo_after p (Drops hash_move s) = []
 todo_after p Done = []
 
+-- the moves that take nothing, without the remembered one
+abbrev pub quiets_to_come : Shogi → Option Move → List ℕ
+quiets_to_come p hash_move = matching_others_from p hash_move false 0
+
+-- the drops among them
+abbrev pub drops_to_come : Shogi → Option Move → List ℕ
+drops_to_come p hash_move = matching_others_from p hash_move false FIRST_DROP
+
+-- the next pick of a sweep over the board, where there is one
+abbrev pub TakesBoardPick :
+    Shogi → Option Move → Bool → Option Move → BoardSweep → BoardSweep → Type 0
+TakesBoardPick p hash_move capture picked old new =
+    IsNextOf picked (matching_others_from p hash_move capture old.code)
+    (matching_others_from p hash_move capture new.code)
+    (matching_others_from p hash_move capture FIRST_DROP)
+
+-- the next pick of a sweep over the drops, where there is one
+abbrev pub TakesDropPick : Shogi → Option Move → Option Move → DropSweep → DropSweep → Type 0
+TakesDropPick p hash_move picked old new =
+    IsNextOf picked (matching_others_from p hash_move false old.code)
+    (matching_others_from p hash_move false new.code) []
+
+-- the next move of the sweep that is under way, where there is one
+abbrev pub TakesFromSweep : Shogi → Option Move → MovePicker → MovePicker → Type 0
+TakesFromSweep p picked old new = IsNextOf picked (todo p old) (todo p new) (todo_after p new)
+
+-- the first of the codes, where there is one, and those after it are still to be visited
+abbrev pub TakesFirst : Shogi → Option Move → List ℕ → MovePicker → Type 0
+TakesFirst p picked codes new = TakesNext picked codes (todo p new)
+
 -- the moves that take nothing are under way, from a code on, and no remembered move is left out of them
 abbrev pub IsAtQuiets : MovePicker → ℕ → Type 0
 IsAtQuiets (HashMove f) code = ⊥
@@ -82,6 +115,17 @@ IsAtDrops (Quiets hash_move s) kind code = ⊥
 IsAtDrops (Drops None s) kind code = (s.kind ≡ kind) × (s.code ≡ code)
 IsAtDrops (Drops (Some f) s) kind code = ⊥
 IsAtDrops Done kind code = ⊥
+
+-- where the moves that take nothing are under way, some of them are passed that surely have a reply
+abbrev pub PassesQuiets : Shogi → MovePicker → MovePicker → Type 0
+PassesQuiets p old new =
+    (code : ℕ) → IsAtQuiets old code → IsPassed (IsCertainQuiet p code) (todo p old) (todo p new)
+
+-- and so are drops, where those of a kind are under way
+abbrev pub PassesDrops : Shogi → MovePicker → MovePicker → Type 0
+PassesDrops p old new =
+    (kind : Kind) (code : ℕ) → IsAtDrops old kind code
+    → IsPassed (IsCertainDrop p kind code) (todo p old) (todo p new)
 
 -- what the picker holds beside the codes is true of the position
 abbrev pub IsKept : Shogi → MovePicker → Type 0

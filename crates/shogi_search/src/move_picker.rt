@@ -1,15 +1,12 @@
 //! The move picker: in which order a node's moves are visited.
 
-ghost use Rattle.std.specs.Prelude.{◌≡◌, ◌<◌, ◌++◌, ℕ, [], Some, None, IfSome, true, false};
-ghost use Rattle.shogi_core.specs.declared.moves.TheConstants.{FIRST_DROP};
-ghost use Rattle.shogi_core.specs.declared.piece.Kind.{Kind};
+ghost use Rattle.std.specs.Prelude.{◌≡◌, Some, None, IfSome, true, false};
 ghost use Rattle.shogi_core.specs.Codes.{code_of};
 ghost use Rattle.shogi_moves.specs.Escapes.{AreEscapes};
 ghost use Rattle.shogi_moves.specs.CheckInfo.{IsCheckInfoOf};
 ghost use Rattle.shogi_moves.specs.Replies.{IsReplies};
-ghost use Rattle.shogi_moves.specs.Sweeps.{IsBoardSweep, IsDropSweep, IsPassed, IsCertainQuiet, IsCertainDrop};
-ghost use Rattle.shogi_moves.specs.Walks.{IsNextOf, TakesNext};
-ghost use Rattle.shogi_search.specs.Order.{is_hash_move, matching_others_from, todo, todo_after, BeginsWith, IsKept, IsAtQuiets, IsAtDrops};
+ghost use Rattle.shogi_moves.specs.Sweeps.{IsBoardSweep, IsDropSweep};
+ghost use Rattle.shogi_search.specs.Order.{drops_to_come, is_hash_move, quiets_to_come, todo, todo_after, BeginsWith, IsAtDrops, IsAtQuiets, IsKept, PassesDrops, PassesQuiets, TakesBoardPick, TakesDropPick, TakesFirst, TakesFromSweep};
 
 use shogi_core::{Kind, Move, Position};
 use shogi_moves::{BoardSweep, CheckInfo, DropSweep, Replies, check_info_of};
@@ -47,9 +44,7 @@ fn next_board(
 ) -> Option<Move>
     requires kept { IsBoardSweep p.now capture sweep.old }
     ensures kept { IsBoardSweep p.now capture sweep.new }
-    ensures next { IsNextOf result (matching_others_from p.now hash_move.now capture sweep.old.code)
-        (matching_others_from p.now hash_move.now capture sweep.new.code)
-        (matching_others_from p.now hash_move.now capture FIRST_DROP) }
+    ensures next { TakesBoardPick p.now hash_move.now capture result sweep.old sweep.new }
 {
     'moves: while let Some(m) = sweep.next(p, capture) {
         if !is_hash_move(hash_move, &m) {
@@ -65,8 +60,7 @@ fn next_board(
 fn next_drop(p: &Position, hash_move: &Option<Move>, sweep: &mut DropSweep) -> Option<Move>
     requires kept { IsDropSweep p.now sweep.old }
     ensures kept { IsDropSweep p.now sweep.new }
-    ensures next { IsNextOf result (matching_others_from p.now hash_move.now false sweep.old.code)
-        (matching_others_from p.now hash_move.now false sweep.new.code) [] }
+    ensures next { TakesDropPick p.now hash_move.now result sweep.old sweep.new }
 {
     'moves: while let Some(m) = sweep.next(p) {
         if !is_hash_move(hash_move, &m) {
@@ -99,8 +93,7 @@ impl MovePicker {
         info: CheckInfo,
     ) -> Option<Move>
         requires info { IsCheckInfoOf info p.now }
-        ensures next { TakesNext result (matching_others_from p.now hash_move false FIRST_DROP)
-            (todo p.now self.new) }
+        ensures next { TakesFirst p.now result (drops_to_come p.now hash_move) self.new }
         ensures kept { IsKept p.now self.new }
     {
         let mut sweep = DropSweep::new(p, info);
@@ -124,8 +117,7 @@ impl MovePicker {
         info: CheckInfo,
     ) -> Option<Move>
         requires info { IsCheckInfoOf info p.now }
-        ensures next { TakesNext result (matching_others_from p.now hash_move false 0)
-            (todo p.now self.new) }
+        ensures next { TakesFirst p.now result (quiets_to_come p.now hash_move) self.new }
         ensures kept { IsKept p.now self.new }
     {
         let mut sweep = BoardSweep::new(p, info, false);
@@ -141,10 +133,7 @@ impl MovePicker {
     /// Begins with the captures.
     #[tactic(auto, using(crate::proofs::MatchingOthers::no_capture_left))]
     fn enter_captures(&mut self, p: &Position, hash_move: Option<Move>) -> Option<Move>
-        ensures next { TakesNext result
-            (matching_others_from p.now hash_move true 0
-            ++ matching_others_from p.now hash_move false 0)
-            (todo p.now self.new) }
+        ensures next { TakesFirst p.now result (todo p.now (MovePicker.Start hash_move)) self.new }
         ensures kept { IsKept p.now self.new }
     {
         let info = check_info_of(p);
@@ -161,10 +150,9 @@ impl MovePicker {
     /// The next move of the sweep that is under way, which moves on where it stands.
     #[inline(always)]
     #[tactic(auto, using(crate::proofs::MatchingOthers::no_capture_left))]
-    fn sweep_on(&mut self, p: &Position) -> Option<Move>
+    fn next_in_sweep(&mut self, p: &Position) -> Option<Move>
         requires kept { IsKept p.now self.old }
-        ensures next { IsNextOf result (todo p.now self.old) (todo p.now self.new)
-            (todo_after p.now self.new) }
+        ensures next { TakesFromSweep p.now result self.old self.new }
         ensures kept { IsKept p.now self.new }
     {
         if let MovePicker::Drops(hash_move, sweep) = self {
@@ -199,8 +187,7 @@ impl MovePicker {
         requires replies { IsReplies p.now replies.now.sight replies.now.spare }
         requires escapes { AreEscapes p.now escapes }
         ensures kept { IsKept p.now self.new }
-        ensures passed { (code : ℕ) → IsAtQuiets self.old code
-            → IsPassed (IsCertainQuiet p.now code) (todo p.now self.old) (todo p.now self.new) }
+        ensures passed { PassesQuiets p.now self.old self.new }
     {
         if let MovePicker::Quiets(None, sweep) = self {
             sweep.pass_quiets(p, replies, escapes);
@@ -225,8 +212,7 @@ impl MovePicker {
         requires replies { IsReplies p.now replies.now.sight replies.now.spare }
         requires escapes { AreEscapes p.now escapes }
         ensures kept { IsKept p.now self.new }
-        ensures passed { (kind : Kind) → (code : ℕ) → IsAtDrops self.old kind code
-            → IsPassed (IsCertainDrop p.now kind code) (todo p.now self.old) (todo p.now self.new) }
+        ensures passed { PassesDrops p.now self.old self.new }
     {
         if let MovePicker::Drops(None, sweep) = self {
             sweep.pass_certain(p, replies, escapes);
@@ -235,9 +221,9 @@ impl MovePicker {
 
     /// The first move after the sweep that is under way.
     #[inline(never)]
-    fn go_on(&mut self, p: &Position) -> Option<Move>
+    fn next_after_sweep(&mut self, p: &Position) -> Option<Move>
         requires kept { IsKept p.now self.old }
-        ensures next { TakesNext result (todo_after p.now self.old) (todo p.now self.new) }
+        ensures next { TakesFirst p.now result (todo_after p.now self.old) self.new }
         ensures kept { IsKept p.now self.new }
     {
         match *self {
@@ -260,13 +246,13 @@ impl MovePicker {
     #[inline(always)]
     pub fn next(&mut self, p: &Position) -> Option<Move>
         requires kept { IsKept p.now self.old }
-        ensures next { TakesNext result (todo p.now self.old) (todo p.now self.new) }
+        ensures next { TakesFirst p.now result (todo p.now self.old) self.new }
         ensures kept { IsKept p.now self.new }
     {
-        let found = self.sweep_on(p);
+        let found = self.next_in_sweep(p);
         if found.is_some() {
             return found;
         }
-        self.go_on(p)
+        self.next_after_sweep(p)
     }
 }
