@@ -23,8 +23,8 @@ use Rattle.wires.specs.Moves.{AllMove}
 use Rattle.socket_loop.specs.Turns.{Fits, Accepted, AreNumbered, HasSession, IsOneOf, IsTurnedAway, IsAway, IsNew, Accepts, Admits, openings, told_to}
 use Rattle.wires.proofs.Peers.{kept_same, kept_then, all_kept, moves_then, away_moves, stays_raised, rises_then, stays_rise, told_failure, raised_rises, Consumes-none, Appends-none, Keeps-Appends}
 use Rattle.wires.specs.Asked.{Call, Accept, Asks}
-use Rattle.socket_loop.specs.Calls.{AllAccepted, AcceptsSome, OneAdmitted, AsksAccepts, AsksAll, GivesNobody}
-use Rattle.socket_loop.proofs.Calls.{asks_accept, asks_full, asks_no_accept, asks_on, asks_stop}
+use Rattle.socket_loop.specs.Calls.{AllAccepted, OneAdmitted, AsksAll, GivesNobody}
+use Rattle.socket_loop.proofs.Calls.{AsksAccepts, asks_accept, asks_full, asks_no_accept, asks_on, asks_stop}
 use Rattle.socket_loop.proofs.Left.{once_insert}
 use Rattle.socket_loop.proofs.Runs.{run-one, run-two, run-append, own-append, taken-append, openings-append, closes_neither, closes_either, all_append, next_rises, step_rises, opened_left, opened_right}
 
@@ -474,6 +474,15 @@ accepts_more ls ms ns f m number t o a b c d h i j p u v k q = accepts_then ls m
 
 length_one : (xs : List Accepted) (x : Accepted) → length (xs ++ (x ∷ [])) ≡ length xs + 1
 length_one xs x = length-append xs (x ∷ [])
+
+-- so many connections were accepted, with their calls
+pub record AcceptsSome (count : ℕ) (moved : Bool) (links : List Link) (from : ℕ) (old : Told)
+    (before : HostState) (met : List Link) (to : ℕ) (new : Told) (after : HostState)
+    (old_calls new_calls : Option (List Call)) : Type 0 where
+  pub accepts : Accepts links from old before met to new after
+  pub none : moved ≡ false → accepts.accepted ≡ []
+  pub counted : length accepts.accepted ≡ count
+  pub asked : Fits links from before → AsksAccepts met accepts.accepted old_calls new_calls
 
 pub some_start : (moved : Bool) (ls : List Link) (from : ℕ) (a : Told) (h : HostState) (calls : Option (List Call)) → AcceptsSome 0 moved ls from a h ls from a h calls calls
 unfolding accepts_start accepts_none

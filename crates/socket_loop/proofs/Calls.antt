@@ -15,7 +15,7 @@ use Rattle.wires.specs.Asked.{Call, Accept, Read, Write, Shut, Asks, IsCalled}
 use Rattle.socket_loop.specs.declared.connection.Link.{Link}
 use Rattle.socket_loop.specs.Links.{links_of, IsAmong, IsApart}
 use Rattle.socket_loop.specs.Parts.{IsClosing}
-use Rattle.socket_loop.specs.Calls.{IsOf, IsVisit, Visits, is_to_read, is_to_write, is_to_shut, reads_of, writes_of, ends_of, AreVisitedTo, AsksTo, AsksEach, IsAdmittedAs, IsAdmitted, AreAccepted, AsksAdmission, AsksAccepts, AsksAll, GivesNobody, shuts_of}
+use Rattle.socket_loop.specs.Calls.{IsOf, IsVisit, Visits, is_to_read, is_to_write, is_to_shut, reads_of, writes_of, ends_of, AreVisitedTo, AsksTo, AsksEach, IsAdmittedAs, IsAdmitted, AreAccepted, AsksAdmission, AsksAll, GivesNobody, shuts_of}
 use Rattle.host_core.specs.declared.event.HostFault.{HostFault}
 use Rattle.host_core.specs.declared.event.HostFault.TheVariants.{Full, OutOfMemory, UnknownSession, NotReady}
 use Rattle.socket_loop.specs.Turns.{Accepted, IsOneOf, KeepsMade}
@@ -36,20 +36,12 @@ asks_unheld met l a b apart asked = record { calls = Shut l.number ∷ []; admit
 
 -- ---- one connection
 
-pub shuts_none : (old new : Connection) → new.is_shut ≡ old.is_shut → shuts_of old new ≡ []
-shuts_none old new e = neither new.is_shut old.is_shut e
-  where
-    neither : (x y : Bool) → x ≡ y → cond (x && not y) (Shut old.link.number ∷ []) [] ≡ []
-    neither true true e = refl
-    neither true false e = absurd (cc)
-    neither false y e = refl
-
-pub shuts_one : (old new : Connection) → old.is_shut ≡ false → new.is_shut ≡ true → shuts_of old new ≡ Shut old.link.number ∷ []
+shuts_one : (old new : Connection) → old.is_shut ≡ false → new.is_shut ≡ true → shuts_of old new ≡ Shut old.link.number ∷ []
 shuts_one old new e f = rw (e, f) refl
 
--- a call that is not due
-pub asks_not_due : (a : Option (List Call)) (due : Bool) (calls : List Call) → due ≡ false → Asks a a (cond due calls [])
-asks_not_due a due calls e = rw e (asks_none a)
+-- it was shut
+pub asks_shut : (a b : Option (List Call)) (old new : Connection) → old.is_shut ≡ false → new.is_shut ≡ true → Asks a b (Shut old.link.number ∷ []) → Asks a b (shuts_of old new)
+asks_shut a b old new e f p = rw (shuts_one old new e f) p
 
 -- a call that is due, and what followed it
 pub asks_due : (a b c : Option (List Call)) (due : Bool) (first : Call) (more : List Call) → due ≡ true → Asks a b (first ∷ []) → Asks b c more → Asks a c (cond due (first ∷ more) [])
@@ -164,6 +156,13 @@ asks_end n m due kind h i xs ys rest a b e f same p =
     rw (f, take-append_seam ys rest, sym (e ∙ as_many)) p
 
 -- ---- new connections
+
+-- these were accepted
+pub record AsksAccepts (met : List Link) (items : List Accepted) (old new : Option (List Call))
+    : Type 0 where
+  pub calls : List Call
+  pub accepted : AreAccepted met items calls
+  pub asked : Asks old new calls
 
 accepted_next : (met : List Link) (items : List Accepted) (calls : List Call) (item : Accepted) (more : List Call) → AreAccepted met items calls → IsAdmitted met item more → AreAccepted met (items ++ (item ∷ [])) (calls ++ (Accept (Ok (Some item.number)) ∷ more))
 accepted_next met [] calls item more p m = rw p (more, ([], (ap (λ (l : List Call). Accept (Ok (Some item.number)) ∷ l) (sym (append-nil more)), (m, refl))))

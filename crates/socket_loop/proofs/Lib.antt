@@ -14,3 +14,4 @@ pub mod Lives
 pub mod Endings
 pub mod Left
 pub mod Loads
+pub mod Each

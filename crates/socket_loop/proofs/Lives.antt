@@ -85,30 +85,6 @@ Keeps-Consumes (Some x) None c bs p q = absurd p
 Keeps-Consumes (Some x) (Some y) None bs p q = absurd q
 Keeps-Consumes (Some x) (Some y) (Some z) bs p q = sym p ∙ q
 
--- nothing happened before
-abbrev pub served_before : (owes : List ℕ → List ℕ) (a b c : Told) (n : ℕ) (now : Option SessionView) → KeepsPeer a b n → Served owes b c n now → Served owes a c n now
-served_before owes a b c n now k s = record {
-  read = s.read;
-  lost = s.lost;
-  written = s.written;
-  consumed = Keeps-Consumes _ _ _ (s.read ++ s.lost) k.unread s.consumed;
-  appended = Keeps-Appends _ _ _ s.written k.written s.appended;
-  ends = s.ends;
-  whole = s.whole;
-}
-
--- nothing happened after
-abbrev pub served_kept : (owes : List ℕ → List ℕ) (a b c : Told) (n : ℕ) (now : Option SessionView) → Served owes a b n now → KeepsPeer b c n → Served owes a c n now
-served_kept owes a b c n now s k = record {
-  read = s.read;
-  lost = s.lost;
-  written = s.written;
-  consumed = Consumes-kept _ _ _ (s.read ++ s.lost) s.consumed k.unread;
-  appended = Appends-kept _ _ _ s.written s.appended k.written;
-  ends = s.ends;
-  whole = s.whole;
-}
-
 -- ---- a prefix, and all
 
 pub prefix_written : (owes : List ℕ → List ℕ) (read written : List ℕ) (now : Option SessionView) → EndsFrom owes read written now → IsPrefixOf written (owes read)

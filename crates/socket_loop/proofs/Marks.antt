@@ -1,12 +1,12 @@
 -- Connections whose reads have ended, and connections that were shut.
-use Rattle.std.proofs.Common.{◌≡◌, ◌⊎◌, ℕ, zero, suc, ◌<◌, Bool, true, false, List, [], ◌∷◌, length, get_or, set, refl, sym, ap, ◌∙◌, arith, inl, inr}
+use Rattle.std.proofs.Common.{◌≡◌, ◌⊎◌, ℕ, zero, suc, ◌<◌, ◌≤◌, Bool, true, false, List, [], ◌∷◌, length, get_or, set, refl, sym, ap, ◌∙◌, arith, inl, inr}
 use Rattle.std.specs.Prelude.{filter, insert, not}
 use Rattle.std.proofs.lemmas.Bool.{both_ways, cond_both}
 use Rattle.socket_loop.specs.declared.connection.Link.{Link}
 use Rattle.socket_loop.specs.declared.connection.Connection.{Connection}
 use Rattle.wires.specs.Told.{Told, IsRaised}
 use Rattle.socket_loop.specs.Links.{IsAmong, IsHeld, IsMarked, links_of, reads_ended, was_shut}
-use Rattle.socket_loop.specs.Parts.{KeepsAllMarks, AddsNoMark, Grows}
+use Rattle.socket_loop.specs.Parts.{KeepsAllMarks, AddsNoMark, Grows, HoldsMore}
 use Rattle.wires.specs.Moves.{AllMove, IsEmptied}
 use Rattle.wires.proofs.Peers.{emptied_move, move_emptied, raised_rises, rises_raised}
 
@@ -134,4 +134,16 @@ pub grows_insert : (held : List Connection) (place : ℕ) (c : Connection) → c
 grows_insert held place c e f = record {
   kept = λ x m. insert_held held place c x m;
   unmarked = λ x m. elim (held_insert held place c x m) [ inl same ↦ inr (rw same (e, f)) | inr old ↦ inl old ];
+}
+
+pub more_same : (held : List Connection) (f : ℕ) → HoldsMore held f held f
+more_same held f = record { grows = grows_same held; marks = adds_same held; rising = λ r. r; faults = omega arith }
+
+-- the count may rise between the two
+pub more_then : (xs ys zs : List Connection) (a b c d : ℕ) → HoldsMore xs a ys b → b ≤ c → HoldsMore ys c zs d → HoldsMore xs a zs d
+more_then xs ys zs a b c d p between q = record {
+  grows = grows_then xs ys zs p.grows q.grows;
+  marks = adds_then xs ys zs p.marks q.marks;
+  rising = λ r. q.rising (p.rising r);
+  faults = (let u : a ≤ b = p.faults in let v : c ≤ d = q.faults in omega arith);
 }

@@ -17,14 +17,14 @@ use Rattle.host_core.proofs.OneSession.{kept, opened_ends}
 use Rattle.socket_loop.specs.declared.connection.Link.{Link}
 use Rattle.socket_loop.specs.declared.connection.Connection.{Connection}
 use Rattle.wires.specs.Told.{Told, KeepsPeer}
-use Rattle.socket_loop.specs.Links.{IsTied, IsAmong, IsApart, IsMarked, IsRising, links_of, reads_ended, was_shut}
+use Rattle.socket_loop.specs.Links.{IsTied, IsAmong, IsApart, IsMarked, IsRising, links_of, reads_ended, unshut_of, was_shut}
 use Rattle.socket_loop.specs.Parts.{IsGone, closes, Carried, Carries, ServesLinks, IsInput, IsOutput, IsEnd, KeepsAllMarks, AddsNoMark, Grows}
 use Rattle.wires.specs.Moves.{IsEmptied, AllMove}
 use Rattle.wires.specs.Asked.{Call}
-use Rattle.socket_loop.specs.Calls.{AllAccepted, AsksAll, AsksEach, AsksTurn, reads_of, writes_of, ends_of}
-use Rattle.socket_loop.specs.Turns.{FitsOne, Fits, Accepted, HasSession, Joins, IsTurnedAway, IsNew, Accepts, IsTurn, IsLetGo, Served, GoesOnServing, ServesNew}
+use Rattle.socket_loop.specs.Calls.{AllAccepted, AsksAll, AsksEach, AsksTurn, Turns, reads_of, writes_of, ends_of}
+use Rattle.socket_loop.specs.Turns.{FitsOne, Fits, Accepted, HasSession, Joins, IsTurnedAway, IsNew, Accepts, HasMoved, IsQuiet, IsTurn, IsLetGo, Served, GoesOnServing, ServesNew}
 use Rattle.socket_loop.specs.Scenes.{Scene}
-use Rattle.wires.proofs.Peers.{kept_then, moves_then, emptied_move, raised_rises, rises_then, stays_rise, known_move}
+use Rattle.wires.proofs.Peers.{kept_then, moves_then, emptied_move, raised_rises, rises_then, stays_rise}
 use Rattle.socket_loop.proofs.Runs.{run-append, next_rises, opened_left, starves-admissions, alone_then}
 use Rattle.socket_loop.proofs.Parts.{carried_nothing, carried_then, carries_then, carries_round}
 use Rattle.socket_loop.proofs.Marks.{marks_none, marks_then, marked_filter, remove_shut}
@@ -107,7 +107,7 @@ starts_one ls f t x g marks a b h m first steps l r c up (inr new) = inr (served
 -- ---- all parts
 
 -- accept, read, work, write, shut
-pub turned : (slice : ℕ) (p q r s w : Bool) (held accepted_ read_ written_ last : List Connection) (f t : ℕ) (a b c d e : Told) (h i j k l m : HostState) (worked refused : ℕ) (calls asked_calls last_calls : Option (List Call)) (u v : ℕ) → Fits (links_of held) f h
+turned : (slice : ℕ) (p q r s w : Bool) (held accepted_ read_ written_ last : List Connection) (f t : ℕ) (a b c d e : Told) (h i j k l m : HostState) (worked refused : ℕ) (calls asked_calls last_calls : Option (List Call)) (u v : ℕ) → Fits (links_of held) f h
     → AllAccepted p (links_of held) f a h (links_of accepted_) t b i calls asked_calls → ((n : ℕ) → AddsNoMark held accepted_ n)
     → ServesLinks IsInput written_ t (links_of accepted_) b i c j → KeepsAllMarks t b accepted_ c read_
     → IsRound j slice (pending_ids j) worked refused k
@@ -248,12 +248,17 @@ asks_turn slice moved before after met read written last i j k l admissions item
   left = left;
 }
 
-pub goes_on : (slice : ℕ) (moved : Bool) (before after : Scene) → IsTurn slice moved before after → GoesOnServing before after
+goes_on : (slice : ℕ) (moved : Bool) (before after : Scene) → IsTurn slice moved before after → GoesOnServing before after
 goes_on slice moved before after turn = λ l s among found.
     served (due s) turn.marks after.bound before.told after.told before.host after.host turn.steps l (turn.carried l (turn.stay l among)) (kept before.host after.host l.id turn.steps s found turn.chain).ends
 
-pub starts : (slice : ℕ) (moved : Bool) (before after : Scene) → IsTurn slice moved before after → ServesNew before (links_of after.held) after
+starts : (slice : ℕ) (moved : Bool) (before after : Scene) → IsTurn slice moved before after → ServesNew before (links_of after.held) after
 starts slice moved before after turn = λ l among. turn.starts l (turn.left l among)
+
+-- all of a turn, by its calls
+pub turns : (slice : ℕ) (moved : Bool) (before after : Scene) → AsksTurn slice moved before after → (moved ≡ true → HasMoved before after) → IsQuiet moved before.told (unshut_of before.held) after.told after.held → Turns slice moved before after
+turns slice moved before after asked moves quiet =
+    record { asked = asked; moves = moves; quiet = quiet; goes_on = goes_on slice moved before after asked.turn; starts = starts slice moved before after asked.turn }
 
 -- ---- what is let go
 
@@ -275,6 +280,3 @@ turn_fits held met last f t a b h i m fit accepts rises same = fits_left (λ x. 
 
 pub serves_rises : (kind : Event → Type 0) (marks : List Connection) (bound : ℕ) (ls : List Link) (a b : Told) (h i : HostState) → ServesLinks kind marks bound ls a h b i → h.slots.next ≤ i.slots.next
 serves_rises kind marks bound ls a b h i s = next_rises h i s.steps s.carries.chain
-
-pub turn_knows : (slice : ℕ) (moved : Bool) (before after : Scene) → IsTurn slice moved before after → (n : ℕ) → IsSome (before.told.written n) → IsSome (after.told.written n)
-turn_knows slice moved before after turn = known_move before.told after.told turn.all

@@ -26,11 +26,19 @@ use Rattle.wires.specs.declared.wire.Got.TheVariants.{Bytes}
 use Rattle.wires.specs.declared.wire.WireFault.{WireFault}
 use Rattle.wires.specs.Told.{Told, KeepsPeer, Stays, IsRaised, Reads, Writes, Shuts}
 use Rattle.socket_loop.specs.Links.{Ties, IsMarked, reads_ended}
-use Rattle.socket_loop.specs.Parts.{IsGone, IsClosing, AreAll, IsInput, IsOutput, IsEnd, closes, starves, Cause, Carried, ServesLinks, is_done, is_finished_with}
+use Rattle.socket_loop.specs.Parts.{IsGone, IsClosing, AreAll, IsInput, IsOutput, IsEnd, closes, starves, Cause, Carried, ServesLinks, is_finished_with}
 use Rattle.wires.specs.Moves.{GaveBytes}
 use Rattle.wires.proofs.Peers.{kept_same, kept_then, moves_then, writes_move, shuts_move, gave_move, stays_rise, raised_rise, stays_raised, raised_rises, stays-refl, rises-refl, Consumes-none, Keeps-nothing, Appends-none}
 use Rattle.socket_loop.proofs.Runs.{run-one, run-two, step_rises}
 use Rattle.socket_loop.proofs.Parts.{carried_nothing}
+
+-- the event was done
+abbrev pub is_done : Outcome → Bool
+is_done Done = true
+is_done (Opened id) = false
+is_done (Worked steps) = false
+is_done (Gave bytes) = false
+is_done (Refused fault) = false
 
 id_apart : (a b : SessionId) (c : Bool) → is_same_id a b ≡ c → (a ≡ b → ⊥) → is_same_id a b ≡ false
 id_apart a b true e f = absurd (f (same_id a b e))
@@ -47,9 +55,6 @@ at_id a b xs e = ap (λ (c : Bool). cond c xs []) (this_id a b e)
 
 off_id : (a b : SessionId) (xs : List ℕ) → (a ≡ b → ⊥) → cond (is_same_id a b) xs [] ≡ []
 off_id a b xs f = ap (λ (c : Bool). cond c xs []) (other_id a b f)
-
-or_false : (x : Bool) → x ≡ true → (x || false) ≡ true
-or_false x e = or_left x false e
 
 closes_this : (h : Link) (id : SessionId) → h.id ≡ id → (is_same_id h.id id || false) ≡ true
 closes_this h id e = or_left (is_same_id h.id id) false (this_id h.id id e)

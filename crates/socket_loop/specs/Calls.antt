@@ -17,8 +17,8 @@ use Rattle.usi_session.specs.declared.limits.TheConstants.{CHUNK_MAX}
 use Rattle.wires.specs.Asked.{Call, Accept, Read, Write, Shut, Asks, IsCalled}
 use Rattle.socket_loop.specs.Links.{links_of, unshut_of, IsApart, IsRising}
 use Rattle.socket_loop.specs.Scenes.{Scene}
-use Rattle.socket_loop.specs.Parts.{AreAll, Grows, IsInput, IsOutput, IsEnd, is_finished}
-use Rattle.socket_loop.specs.Turns.{host_full, Accepted, Accepts, Admits, Fits, HasSession, IsOpening, IsTurn, KeepsMade}
+use Rattle.socket_loop.specs.Parts.{AreAll, Grows, HoldsMore, IsInput, IsOutput, IsEnd, is_finished}
+use Rattle.socket_loop.specs.Turns.{host_full, Accepted, Accepts, Admits, Fits, GoesOnServing, HasMoved, HasSession, IsOpening, IsQuiet, IsTurn, KeepsMade, ServesNew}
 
 -- ---- one connection
 
@@ -154,12 +154,6 @@ pub record OneAdmitted (links : List Link) (told : Told) (before : HostState) (n
   pub admits : Admits links told before number outcome to met new after
   pub asked : IsApart links number → AsksAdmission met number outcome old_calls new_calls
 
--- a new connection of this number was admitted
-abbrev pub AdmitsOne : ℕ → Scene → Scene → Type 0
-AdmitsOne number before after =
-    OneAdmitted (links_of before.held) before.told before.host number before.bound
-    (links_of after.held) after.told after.host before.asked after.asked
-
 -- a new connection whose session was opened before, by an `Open` in any host, was admitted
 abbrev pub AdmitsOpened : Link → Scene → Scene → Type 0
 AdmitsOpened link before after =
@@ -174,12 +168,19 @@ AsksForOpened link before after =
     IsApart (links_of before.held) link.number
     → AsksAdmission (links_of after.held) link.number (Opened link.id) before.asked after.asked
 
--- these were accepted
-pub record AsksAccepts (met : List Link) (items : List Accepted) (old new : Option (List Call))
-    : Type 0 where
-  pub calls : List Call
-  pub accepted : AreAccepted met items calls
-  pub asked : Asks old new calls
+-- a new connection was admitted whose session was opened before
+pub record HoldsOne (link : Link) (before after : Scene) : Type 0 where
+  pub admits : AdmitsOpened link before after
+  pub asked : AsksForOpened link before after
+  pub more : HoldsMore before.held before.failed after.held after.failed
+  pub bound : after.bound ≡ before.bound
+
+-- a new connection of this number was admitted
+pub record AdmitsOne (number : ℕ) (before after : Scene) : Type 0 where
+  pub admits : OneAdmitted (links_of before.held) before.told before.host number before.bound
+      (links_of after.held) after.told after.host before.asked after.asked
+  pub more : HoldsMore before.held before.failed after.held after.failed
+  pub bound : after.bound ≡ before.bound
 
 -- connections were accepted until one accept gave nobody, or ACCEPTS of them were
 pub record AsksAll (met : List Link) (items : List Accepted) (old new : Option (List Call))
@@ -193,15 +194,6 @@ pub record AsksAll (met : List Link) (items : List Accepted) (old new : Option (
       × (GivesNobody answer × (last ≡ Accept answer ∷ []))))
   pub asked : Asks old new (first ++ last)
 
--- so many connections were accepted, with their calls
-pub record AcceptsSome (count : ℕ) (moved : Bool) (links : List Link) (from : ℕ) (old : Told)
-    (before : HostState) (met : List Link) (to : ℕ) (new : Told) (after : HostState)
-    (old_calls new_calls : Option (List Call)) : Type 0 where
-  pub accepts : Accepts links from old before met to new after
-  pub none : moved ≡ false → accepts.accepted ≡ []
-  pub counted : length accepts.accepted ≡ count
-  pub asked : Fits links from before → AsksAccepts met accepts.accepted old_calls new_calls
-
 -- connections were accepted, with all calls
 pub record AllAccepted (moved : Bool) (links : List Link) (from : ℕ) (old : Told)
     (before : HostState) (met : List Link) (to : ℕ) (new : Told) (after : HostState)
@@ -210,11 +202,13 @@ pub record AllAccepted (moved : Bool) (links : List Link) (from : ℕ) (old : To
   pub none : moved ≡ false → accepts.accepted ≡ []
   pub asked : Fits links from before → AsksAll met accepts.accepted old_calls new_calls
 
--- the same of the connections that are held
-abbrev pub AcceptsAll : Bool → Scene → Scene → Type 0
-AcceptsAll moved before after =
-    AllAccepted moved (links_of before.held) before.bound before.told before.host
-    (links_of after.held) after.bound after.told after.host before.asked after.asked
+-- connections were accepted, if any; where none was, all that is told stays
+pub record AcceptsAll (moved : Bool) (before after : Scene) : Type 0 where
+  pub accepts : AllAccepted moved (links_of before.held) before.bound before.told before.host
+      (links_of after.held) after.bound after.told after.host before.asked after.asked
+  pub quiet : IsQuiet moved before.told before.held after.told after.held
+  pub accepted : moved ≡ true → before.bound < after.bound
+  pub more : HoldsMore before.held before.failed after.held after.failed
 
 -- ---- a turn
 
@@ -238,3 +232,11 @@ pub record AsksTurn (slice : ℕ) (moved : Bool) (before after : Scene) : Type 0
   pub last : List Connection
   pub ends : AsksEach ends_of IsEnd passed turn.marks last asked_writes after.asked after.host
   pub left : after.held ≡ unshut_of last
+
+-- a turn, its calls, and what it did: where it moved and where it did not, and which bytes it served
+pub record Turns (slice : ℕ) (moved : Bool) (before after : Scene) : Type 0 where
+  pub asked : AsksTurn slice moved before after
+  pub moves : moved ≡ true → HasMoved before after
+  pub quiet : IsQuiet moved before.told (unshut_of before.held) after.told after.held
+  pub goes_on : GoesOnServing before after
+  pub starts : ServesNew before (links_of after.held) after

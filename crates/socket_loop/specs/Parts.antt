@@ -1,19 +1,19 @@
 -- Parts of a turn: what they do to the host and to the connections of a wire (own choice).
-use Rattle.std.specs.Prelude.{◌≡◌, ◌<◌, ◌≢◌, ◌⊎◌, ⊤, ℕ, List, [], ◌∷◌, ◌++◌, Option, None, Some, Bool, true, false, ◌&&◌, ◌||◌, not, ◌==◌, length}
+use Rattle.std.specs.Prelude.{◌≡◌, ◌<◌, ◌≤◌, ◌≢◌, ◌⊎◌, ⊤, ℕ, List, [], ◌∷◌, ◌++◌, Option, None, Some, Bool, true, false, ◌&&◌, ◌||◌, not, ◌==◌, length}
 use Rattle.std.specs.Io.KnownBytes.{Appends, Consumes}
 use Rattle.session_slots.specs.declared.id.SessionId.{SessionId}
 use Rattle.session_slots.specs.Slots.{find}
 use Rattle.usi_session.specs.Due.{SessionView, is_pending}
 use Rattle.host_core.specs.declared.event.HostFault.TheVariants.{OutOfMemory}
 use Rattle.host_core.specs.Steps.{HostState}
-use Rattle.host_core.specs.Events.{Outcome, Event, Opened, Done, Worked, Gave, Refused, Open, Feed, Work, Take, Close}
+use Rattle.host_core.specs.Events.{Outcome, Event, Refused, Open, Feed, Work, Take, Close}
 use Rattle.host_core.specs.Made.{Step, own, taken, is_same_id}
 use Rattle.host_core.specs.Runs.{IsStep, IsRun}
 use Rattle.socket_loop.specs.declared.connection.Link.{Link}
 use Rattle.socket_loop.specs.declared.connection.Connection.{Connection}
 use Rattle.wires.specs.Told.{Told, KeepsPeer, Stays, IsRaised}
 use Rattle.wires.specs.Moves.{AllMove, IsEmptied}
-use Rattle.socket_loop.specs.Links.{IsTied, IsApart, IsStrange, IsHeld, IsMarked, links_of, reads_ended, was_shut}
+use Rattle.socket_loop.specs.Links.{IsTied, IsApart, IsStrange, IsHeld, IsMarked, IsRising, links_of, reads_ended, was_shut}
 use Rattle.socket_loop.specs.Scenes.{Scene}
 
 -- ---- steps of a host
@@ -27,14 +27,6 @@ pub record IsGone (host : HostState) (id : SessionId) : Type 0 where
 pub record IsClosing (old : HostState) (id : SessionId) (new : HostState) : Type 0 where
   pub outcome : Outcome
   pub step : IsStep old (record { event = Close id; outcome = outcome }) new
-
--- the event was done
-abbrev pub is_done : Outcome → Bool
-is_done Done = true
-is_done (Opened id) = false
-is_done (Worked steps) = false
-is_done (Gave bytes) = false
-is_done (Refused fault) = false
 
 -- each event of the steps is one of these
 abbrev pub AreAll : (Event → Type 0) → List Step → Type 0
@@ -218,3 +210,12 @@ pub record Grows (held now : List Connection) : Type 0 where
 pub record AddsNoMark (held now : List Connection) (number : ℕ) : Type 0 where
   pub ended : IsMarked reads_ended now number → IsMarked reads_ended held number
   pub shut : IsMarked was_shut now number → IsMarked was_shut held number
+
+-- each connection is held as it was, and each further one is unmarked; the slots rise where they rose; a count of faults
+-- never falls
+pub record HoldsMore (held : List Connection) (before : ℕ) (now : List Connection) (after : ℕ)
+    : Type 0 where
+  pub grows : Grows held now
+  pub marks : (number : ℕ) → AddsNoMark held now number
+  pub rising : IsRising (links_of held) → IsRising (links_of now)
+  pub faults : before ≤ after

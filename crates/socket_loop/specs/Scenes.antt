@@ -4,6 +4,7 @@ use Rattle.host_core.specs.Steps.{HostState}
 use Rattle.socket_loop.specs.declared.connection.Connection.{Connection}
 use Rattle.wires.specs.Asked.{Call}
 use Rattle.wires.specs.Told.{Told}
+use Rattle.wires.specs.declared.wire.Wire.{Ghosts}
 
 -- some connections, what their wire gave, tells, was asked for and counts, and the host of their sessions
 pub record Scene : Type 0 where
@@ -14,14 +15,13 @@ pub record Scene : Type 0 where
   pub failed : ℕ
   pub host : HostState
 
--- the scene of a wire of which these tell
-abbrev pub scene : {W : Type 0} → (W → ℕ) → (W → Told) → (W → Option (List Call)) → (W → ℕ)
-    → List Connection → W → HostState → Scene
-scene bound told asked failed held wire host = record {
+-- the scene of these connections, this wire and this host
+abbrev pub scene : {W : Type 0} → Ghosts W → List Connection → W → HostState → Scene
+scene wires held wire host = record {
   held = held;
-  bound = bound wire;
-  told = told wire;
-  asked = asked wire;
-  failed = failed wire;
+  bound = wires.bound wire;
+  told = wires.told wire;
+  asked = wires.asked wire;
+  failed = wires.failed wire;
   host = host;
 }

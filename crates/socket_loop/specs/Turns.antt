@@ -20,12 +20,20 @@ use Rattle.wires.specs.Told.{Told, KeepsPeer, KeepsOthers, KeepsAll, IsRaised, O
 use Rattle.socket_loop.specs.Links.{AreOnce, IsTied, IsAmong, IsApart, IsStrange, IsMarked, links_of, reads_ended, unshut_of, was_shut}
 use Rattle.socket_loop.specs.Parts.{AreAll, IsAdmission, IsInput, IsOutput, IsEnd, Carried, IsGone, LeavesAlone, closes, is_finished}
 use Rattle.wires.specs.Moves.{AllMove, IsEmptied, Transfers}
-use Rattle.socket_loop.specs.Scenes.{Scene}
+use Rattle.socket_loop.specs.Scenes.{Scene, scene}
+use Rattle.wires.specs.declared.wire.Wire.{Ghosts}
 
 -- the budget of each round, and the connections
 pub record LoopState : Type 0 where
   pub slice : ℕ
   pub held : List Connection
+
+-- from a loop, a host and a wire to these later on, by their scenes; the budget stays
+pub record Over {W : Type 0} (wires : Ghosts W) (Relates : Scene → Scene → Type 0)
+    (old : LoopState) (before : HostState) (from : W) (new : LoopState) (after : HostState) (to : W)
+    : Type 0 where
+  pub slice : new.slice ≡ old.slice
+  pub scenes : Relates (scene wires old.held from before) (scene wires new.held to after)
 
 -- ---- the condition of a turn
 

@@ -1,18 +1,20 @@
 -- What is promised of a visit: of one connection, and of each that is held (own choice).
-use Rattle.std.specs.Prelude.{◌≡◌, ◌≤◌, ◌<◌, ◌⊎◌, ℕ, List, [], ◌∷◌, Bool, true, None}
+use Rattle.std.specs.Prelude.{◌≡◌, ◌≤◌, ◌<◌, ◌⊎◌, ℕ, List, [], ◌∷◌, length, Bool, true, false, None}
+use Rattle.std.specs.Io.KnownBytes.{Keeps}
 use Rattle.session_slots.specs.Slots.{find}
 use Rattle.host_core.specs.Events.{Event}
 use Rattle.host_core.specs.Steps.{HostState}
 use Rattle.socket_loop.specs.declared.connection.Link.{Link}
 use Rattle.socket_loop.specs.declared.connection.Connection.{Connection}
-use Rattle.wires.specs.Asked.{Call}
-use Rattle.wires.specs.Moves.{GaveBytes, Transfers}
+use Rattle.wires.specs.Asked.{Call, Asks}
+use Rattle.wires.specs.Moves.{GaveBytes, IsEmptied, Transfers}
 use Rattle.wires.specs.Told.{Told, IsRaised, Stays}
-use Rattle.socket_loop.specs.Links.{links_of}
-use Rattle.socket_loop.specs.Scenes.{Scene}
-use Rattle.socket_loop.specs.Parts.{IsInput, KeepsAllMarks, ServesLinks}
-use Rattle.socket_loop.specs.Turns.{AllKeepMade, EndsOrShuts, IsQuiet, KeepsMade, Stirs}
-use Rattle.socket_loop.specs.Calls.{AsksEach, Visits}
+use Rattle.wires.specs.declared.wire.Wire.{Ghosts}
+use Rattle.socket_loop.specs.Links.{links_of, reads_ended, AreOnce, IsMarked}
+use Rattle.socket_loop.specs.Scenes.{Scene, scene}
+use Rattle.socket_loop.specs.Parts.{IsEnd, IsInput, IsOutput, KeepsAllMarks, Serves, ServesLinks}
+use Rattle.socket_loop.specs.Turns.{AllKeepMade, AreLeft, EndsOrShuts, IsQuiet, KeepsMade, Stirs}
+use Rattle.socket_loop.specs.Calls.{AsksTo, Visits, ends_of, reads_of, shuts_of, writes_of}
 
 -- a connection was visited with steps of this kind: it is linked as before, and its marks stay; where it is shut now and
 -- was not before, its session is open no more, and the wire tells that it is shut
@@ -31,14 +33,21 @@ pub record IsVisited (kind : Event → Type 0) (old new : Connection) (before af
   pub faults : before.failed ≤ after.failed
   pub next : before.host.slots.next ≤ after.host.slots.next
 
--- it was visited; where that moved it gave or took at least one byte, ended or was shut, and else all that is told stays,
--- and it is as it was
-pub record VisitsOne (kind : Event → Type 0) (moved : Bool) (old new : Connection)
-    (before after : Scene) : Type 0 where
+-- it was visited, with the calls that are due; where that moved it gave or took at least one byte, ended or was shut, and
+-- else all that is told stays, and it is as it was
+pub record VisitsOne (due : HostState → Connection → Connection → List Call) (kind : Event → Type 0)
+    (moved : Bool) (old new : Connection) (before after : Scene) : Type 0 where
   pub visit : IsVisited kind old new before after
+  pub asked : Asks before.asked after.asked (due before.host old new)
   pub quiet : IsQuiet moved before.told old after.told new
   pub stirs : moved ≡ true
       → Transfers before.told after.told old.link.number ⊎ EndsOrShuts old new
+
+-- from a connection, a host and a wire to these later on, by their scenes
+abbrev pub OverOne : {W : Type 0} → Ghosts W → (Connection → Connection → Scene → Scene → Type 0)
+    → Connection → HostState → W → Connection → HostState → W → Type 0
+OverOne wires Relates old before from new after to =
+    Relates old new (scene wires (old ∷ []) from before) (scene wires (new ∷ []) to after)
 
 -- where the connection gave these bytes before, and no call of it failed then, its bytes are carried from there
 abbrev pub ServesGiven : Link → List ℕ → Scene → Scene → Type 0
@@ -48,12 +57,44 @@ ServesGiven link chunk before after =
     → Stays (earlier.has_failed link.number) (before.told.has_failed link.number)
     → ServesLinks IsInput marks before.bound (link ∷ []) earlier before.host after.told after.host
 
--- each connection was visited, one after the other, with the calls that are due; where that moved one of them gave or
--- took at least one byte, ended or was shut, and else all that is told stays, and they are as they were
-pub record VisitsEach (due : HostState → Connection → Connection → List Call)
+-- a connection was fed these bytes, or shut where memory was refused for them
+pub record FeedsOne (chunk : List ℕ) (old new : Connection) (before after : Scene) : Type 0 where
+  pub visit : IsVisited IsInput old new before after
+  pub asked : old.is_shut ≡ false → Asks before.asked after.asked (shuts_of old new)
+  pub serves : ServesGiven old.link chunk before after
+  pub unread : Keeps (before.told.unread old.link.number) (after.told.unread old.link.number)
+
+-- where the reads of a connection have ended, they had ended before, or nothing is left to be read
+abbrev pub EndsEmptied : Connection → Connection → Told → Told → Type 0
+EndsEmptied old new before after =
+    new.has_ended ≡ true
+    → (old.has_ended ≡ true)
+    ⊎ IsEmptied (before.unread old.link.number) (after.unread old.link.number)
+
+-- it was visited, with the calls that are due, and its bytes are carried
+pub record ServesOne (due : HostState → Connection → Connection → List Call) (kind : Event → Type 0)
+    (moved : Bool) (old new : Connection) (before after : Scene) : Type 0 where
+  pub visited : VisitsOne due kind moved old new before after
+  pub serves : (marks : List Connection) → Serves kind marks before after
+
+abbrev pub ReadsOne : Bool → Connection → Connection → Scene → Scene → Type 0
+ReadsOne moved old new before after = ServesOne reads_of IsInput moved old new before after
+
+abbrev pub WritesOne : Bool → Connection → Connection → Scene → Scene → Type 0
+WritesOne moved old new before after = ServesOne writes_of IsOutput moved old new before after
+
+-- it was shut where it was finished with, by these marks
+pub record EndsOne (moved : Bool) (old new : Connection) (before after : Scene) : Type 0 where
+  pub visited : VisitsOne ends_of IsEnd moved old new before after
+  pub serves : (marks : List Connection)
+      → (old.has_ended ≡ true → IsMarked reads_ended marks old.link.number)
+      → Serves IsEnd marks before after
+
+-- the first connections were visited, one after the other, with the calls that are due; where that moved one of them gave
+-- or took at least one byte, ended or was shut, and else all that is told stays, and they are as they were
+pub record VisitsTo (n : ℕ) (due : HostState → Connection → Connection → List Call)
     (kind : Event → Type 0) (moved : Bool) (before after : Scene) : Type 0 where
-  pub asked : AsksEach due kind before.host before.held after.held before.asked after.asked
-      after.host
+  pub asked : AsksTo n due kind before.host before.held after.held before.asked after.asked after.host
   pub quiet : IsQuiet moved before.told before.held after.told after.held
   pub stirs : moved ≡ true → Stirs before.told before.held after.told after.held
   pub marks : KeepsAllMarks before.bound before.told before.held after.told after.held
@@ -61,3 +102,27 @@ pub record VisitsEach (due : HostState → Connection → Connection → List Ca
   pub links : links_of after.held ≡ links_of before.held
   pub bound : after.bound ≡ before.bound
   pub faults : before.failed ≤ after.failed
+
+abbrev pub VisitsEach : (HostState → Connection → Connection → List Call) → (Event → Type 0) → Bool
+    → Scene → Scene → Type 0
+VisitsEach due kind moved before after = VisitsTo (length before.held) due kind moved before after
+
+-- each was visited, with the calls that are due, and the bytes of each are carried
+pub record ServesEach (due : HostState → Connection → Connection → List Call)
+    (kind : Event → Type 0) (moved : Bool) (before after : Scene) : Type 0 where
+  pub visited : VisitsEach due kind moved before after
+  pub serves : (marks : List Connection) → Serves kind marks before after
+
+abbrev pub ReadsEach : Bool → Scene → Scene → Type 0
+ReadsEach moved before after = ServesEach reads_of IsInput moved before after
+
+abbrev pub WritesEach : Bool → Scene → Scene → Type 0
+WritesEach moved before after = ServesEach writes_of IsOutput moved before after
+
+-- each was shut that was finished with, and no other; no reads end
+pub record EndsEach (moved : Bool) (before after : Scene) : Type 0 where
+  pub visited : VisitsEach ends_of IsEnd moved before after
+  pub serves : Serves IsEnd before.held before after
+  pub ended : (number : ℕ) → IsMarked reads_ended after.held number
+      → IsMarked reads_ended before.held number
+  pub left : AreOnce (links_of before.held) → AreLeft after.host after.held

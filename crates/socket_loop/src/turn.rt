@@ -1,15 +1,12 @@
 //! A loop that serves the sessions of a host to the connections of a wire.
 
-ghost use Rattle.std.specs.Prelude.{true, false, ◌≡◌, ◌≤◌, ◌<◌, ℕ, List, [], ◌∷◌, length};
-ghost use Rattle.socket_loop.specs.Links.{links_of, place_for, reads_ended, unshut_of, AreOnce, IsMarked, IsRising};
-ghost use Rattle.socket_loop.specs.Scenes.{scene};
-ghost use Rattle.socket_loop.specs.Parts.{Serves, Grows, IsInput, IsOutput, IsEnd, AddsNoMark};
-ghost use Rattle.socket_loop.specs.Turns.{any_pending, host_full, AreLeft, NoneFinished, Fits, GoesOnServing, HasMoved, IsAway, IsQuiet, IsTurn, ServesNew};
-ghost use Rattle.socket_loop.specs.Visits.{VisitsEach};
+ghost use Rattle.std.specs.Prelude.{false, ◌≡◌, ◌≤◌, [], ◌∷◌, length};
+ghost use Rattle.socket_loop.specs.Links.{links_of, place_for, unshut_of, AreOnce, IsRising};
+ghost use Rattle.socket_loop.specs.Turns.{any_pending, host_full, NoneFinished, Fits, IsAway, Over};
+ghost use Rattle.socket_loop.specs.Visits.{EndsEach, ReadsEach, WritesEach};
 ghost use Rattle.wires.specs.Moves.{StaysKnown};
 ghost use Rattle.wires.specs.Asked.{Write, Shut, Asks};
-ghost use Rattle.socket_loop.specs.Calls.{AcceptsAll, AdmitsOne, AdmitsOpened, AsksForOpened, AsksTurn, reads_of, writes_of, ends_of};
-ghost use Rattle.socket_loop.specs.declared.connection.Connection.{Connection};
+ghost use Rattle.socket_loop.specs.Calls.{AcceptsAll, AdmitsOne, HoldsOne, Turns};
 ghost use Rattle.socket_loop.specs.declared.turn.TheConstants.{ACCEPTS};
 
 use crate::connection::{Connection, Link};
@@ -93,20 +90,10 @@ impl<A: Allocator + Copy> Loop<A> {
 
     /// Holds a new connection with its session; where memory is refused, both end.
     fn hold<W: Wire, S: BuildHasher>(&mut self, host: &mut Host<S, A>, wire: &mut W, link: Link)
-        ensures asked { AsksForOpened link
-            (scene W.bound W.told W.asked W.failed self.old.held wire.old host.old)
-            (scene W.bound W.told W.asked W.failed self.new.held wire.new host.new) }
-        ensures admits { AdmitsOpened link
-            (scene W.bound W.told W.asked W.failed self.old.held wire.old host.old)
-            (scene W.bound W.told W.asked W.failed self.new.held wire.new host.new) }
-        ensures marks { (number : ℕ) → AddsNoMark self.old.held self.new.held number }
-        ensures grows { Grows self.old.held self.new.held }
-        ensures bound { W.bound wire.new ≡ W.bound wire.old }
-        ensures faults { W.failed wire.old ≤ W.failed wire.new }
-        ensures rising { IsRising (links_of self.old.held) → IsRising (links_of self.new.held) }
-        ensures slice { self.new.slice ≡ self.old.slice }
+        ensures { Over W.Wire (HoldsOne link)
+            self.old host.old wire.old self.new host.new wire.new }
     {
-        let mut connection = Connection {
+        let connection = Connection {
             link,
             has_ended: false,
             is_shut: false,
@@ -115,21 +102,14 @@ impl<A: Allocator + Copy> Loop<A> {
         if self.held.insert(place, connection).is_ok() {
             return;
         }
-        shut_down(&mut connection, host, wire);
+        shut_down(link, host, wire);
     }
 
     /// Opens a session for a new connection. Where the host is full it is told so and shut; where there
     /// is no memory for a session it is shut without a word.
     fn admit<W: Wire, S: BuildHasher>(&mut self, host: &mut Host<S, A>, wire: &mut W, number: u64)
-        ensures admits { AdmitsOne number
-            (scene W.bound W.told W.asked W.failed self.old.held wire.old host.old)
-            (scene W.bound W.told W.asked W.failed self.new.held wire.new host.new) }
-        ensures marks { (number : ℕ) → AddsNoMark self.old.held self.new.held number }
-        ensures grows { Grows self.old.held self.new.held }
-        ensures bound { W.bound wire.new ≡ W.bound wire.old }
-        ensures faults { W.failed wire.old ≤ W.failed wire.new }
-        ensures rising { IsRising (links_of self.old.held) → IsRising (links_of self.new.held) }
-        ensures slice { self.new.slice ≡ self.old.slice }
+        ensures { Over W.Wire (AdmitsOne number)
+            self.old host.old wire.old self.new host.new wire.new }
     {
         match host.open() {
             Ok(id) => self.hold(host, wire, Link { number, id }),
@@ -140,17 +120,8 @@ impl<A: Allocator + Copy> Loop<A> {
 
     /// Accepts new connections, at most `ACCEPTS`. True where one was accepted.
     fn accept_all<W: Wire, S: BuildHasher>(&mut self, host: &mut Host<S, A>, wire: &mut W) -> bool
-        ensures quiet { IsQuiet result (W.told wire.old) self.old.held
-            (W.told wire.new) self.new.held }
-        ensures accepts { AcceptsAll result
-            (scene W.bound W.told W.asked W.failed self.old.held wire.old host.old)
-            (scene W.bound W.told W.asked W.failed self.new.held wire.new host.new) }
-        ensures marks { (number : ℕ) → AddsNoMark self.old.held self.new.held number }
-        ensures grows { Grows self.old.held self.new.held }
-        ensures accepted { result ≡ true → W.bound wire.old < W.bound wire.new }
-        ensures faults { W.failed wire.old ≤ W.failed wire.new }
-        ensures rising { IsRising (links_of self.old.held) → IsRising (links_of self.new.held) }
-        ensures slice { self.new.slice ≡ self.old.slice }
+        ensures { Over W.Wire (AcceptsAll result)
+            self.old host.old wire.old self.new host.new wire.new }
     {
         let mut moved = false;
         for _ in 0..ACCEPTS {
@@ -165,13 +136,8 @@ impl<A: Allocator + Copy> Loop<A> {
 
     /// One read for each connection whose session wants input. True where something moved.
     fn read_all<W: Wire, S: BuildHasher>(&mut self, host: &mut Host<S, A>, wire: &mut W) -> bool
-        ensures visited { VisitsEach reads_of IsInput result
-            (scene W.bound W.told W.asked W.failed self.old.held wire.old host.old)
-            (scene W.bound W.told W.asked W.failed self.new.held wire.new host.new) }
-        ensures serves { (marks : List Connection) → Serves IsInput marks
-            (scene W.bound W.told W.asked W.failed self.old.held wire.old host.old)
-            (scene W.bound W.told W.asked W.failed self.new.held wire.new host.new) }
-        ensures slice { self.new.slice ≡ self.old.slice }
+        ensures { Over W.Wire (ReadsEach result)
+            self.old host.old wire.old self.new host.new wire.new }
     {
         let mut moved = false;
         let mut chunk = [0u8; CHUNK_MAX];
@@ -184,13 +150,8 @@ impl<A: Allocator + Copy> Loop<A> {
 
     /// One write for each connection with queued bytes. True where something moved.
     fn write_all<W: Wire, S: BuildHasher>(&mut self, host: &mut Host<S, A>, wire: &mut W) -> bool
-        ensures visited { VisitsEach writes_of IsOutput result
-            (scene W.bound W.told W.asked W.failed self.old.held wire.old host.old)
-            (scene W.bound W.told W.asked W.failed self.new.held wire.new host.new) }
-        ensures serves { (marks : List Connection) → Serves IsOutput marks
-            (scene W.bound W.told W.asked W.failed self.old.held wire.old host.old)
-            (scene W.bound W.told W.asked W.failed self.new.held wire.new host.new) }
-        ensures slice { self.new.slice ≡ self.old.slice }
+        ensures { Over W.Wire (WritesEach result)
+            self.old host.old wire.old self.new host.new wire.new }
     {
         let mut moved = false;
         for connection in self.held.iter_mut() {
@@ -202,16 +163,8 @@ impl<A: Allocator + Copy> Loop<A> {
 
     /// Shuts each connection that is finished with. True where one was shut.
     fn close_all<W: Wire, S: BuildHasher>(&mut self, host: &mut Host<S, A>, wire: &mut W) -> bool
-        ensures visited { VisitsEach ends_of IsEnd result
-            (scene W.bound W.told W.asked W.failed self.old.held wire.old host.old)
-            (scene W.bound W.told W.asked W.failed self.new.held wire.new host.new) }
-        ensures serves { Serves IsEnd self.old.held
-            (scene W.bound W.told W.asked W.failed self.old.held wire.old host.old)
-            (scene W.bound W.told W.asked W.failed self.new.held wire.new host.new) }
-        ensures ended { (number : ℕ) → IsMarked reads_ended self.new.held number
-            → IsMarked reads_ended self.old.held number }
-        ensures left { AreOnce (links_of self.old.held) → AreLeft host.new self.new.held }
-        ensures slice { self.new.slice ≡ self.old.slice }
+        ensures { Over W.Wire (EndsEach result)
+            self.old host.old wire.old self.new host.new wire.new }
     {
         let mut moved = false;
         for connection in self.held.iter_mut() {
@@ -240,28 +193,26 @@ impl<A: Allocator + Copy> Loop<A> {
         is_pending
     }
 
-    /// The five parts of a turn.
-    fn take_turn<W: Wire, S: BuildHasher>(&mut self, host: &mut Host<S, A>, wire: &mut W) -> Turn
+    /// Accepts, reads, works, writes and shuts, in this order. Each connection is accepted from this
+    /// wire and each session opened in this host, from the first turn on.
+    ///
+    /// Over a wire that tells its bytes: what was written to a connection in the turn is what its
+    /// session owes to what was read from it, but for what the session owes still; where the
+    /// connection was shut it is a prefix of that, and where the host was full a prefix of
+    /// `info string host full`. A connection is shut only for a cause of its own: a read or a write of
+    /// it failed, a feed of its session was refused for memory, or it was finished with.
+    pub fn turn<W: Wire, S: BuildHasher>(&mut self, host: &mut Host<S, A>, wire: &mut W) -> Turn
         requires fits { Fits (links_of self.old.held) (W.bound wire.old) host.old }
-        ensures asked { AsksTurn self.old.slice result.moved
-            (scene W.bound W.told W.asked W.failed self.old.held wire.old host.old)
-            (scene W.bound W.told W.asked W.failed self.new.held wire.new host.new) }
-        ensures moved { result.moved ≡ true → HasMoved
-            (scene W.bound W.told W.asked W.failed self.old.held wire.old host.old)
-            (scene W.bound W.told W.asked W.failed self.new.held wire.new host.new) }
+        ensures turned { Over W.Wire (Turns self.old.slice result.moved)
+            self.old host.old wire.old self.new host.new wire.new }
         ensures pending { result.moved ≡ false
             → any_pending host.new (links_of self.new.held) ≡ false }
-        ensures quiet { IsQuiet result.moved (W.told wire.old) (unshut_of self.old.held)
-            (W.told wire.new) self.new.held }
-        ensures turned { IsTurn self.old.slice result.moved
-            (scene W.bound W.told W.asked W.failed self.old.held wire.old host.old)
-            (scene W.bound W.told W.asked W.failed self.new.held wire.new host.new) }
+        ensures known { StaysKnown (W.told wire.old) (W.told wire.new) }
         ensures fits { Fits (links_of self.new.held) (W.bound wire.new) host.new }
         ensures faults { W.failed wire.old ≤ W.failed wire.new }
         ensures once { AreOnce (links_of self.old.held) → AreOnce (links_of self.new.held) }
         ensures finished { AreOnce (links_of self.old.held) → NoneFinished host.new self.new.held }
         ensures rising { IsRising (links_of self.old.held) → IsRising (links_of self.new.held) }
-        ensures slice { self.new.slice ≡ self.old.slice }
     {
         let has_accepted = self.accept_all(host, wire);
         let has_read = self.read_all(host, wire);
@@ -273,46 +224,5 @@ impl<A: Allocator + Copy> Loop<A> {
         Turn {
             moved: has_accepted | has_read | has_written | has_shut | is_pending,
         }
-    }
-
-    /// Accepts, reads, works, writes and shuts, in this order. Each connection is accepted from this
-    /// wire and each session opened in this host, from the first turn on.
-    ///
-    /// Over a wire that tells its bytes: what was written to a connection in the turn is what its
-    /// session owes to what was read from it, but for what the session owes still; where the
-    /// connection was shut it is a prefix of that, and where the host was full a prefix of
-    /// `info string host full`. A connection is shut only for a cause of its own: a read or a write of
-    /// it failed, a feed of its session was refused for memory, or it was finished with.
-    pub fn turn<W: Wire, S: BuildHasher>(&mut self, host: &mut Host<S, A>, wire: &mut W) -> Turn
-        requires fits { Fits (links_of self.old.held) (W.bound wire.old) host.old }
-        ensures asked { AsksTurn self.old.slice result.moved
-            (scene W.bound W.told W.asked W.failed self.old.held wire.old host.old)
-            (scene W.bound W.told W.asked W.failed self.new.held wire.new host.new) }
-        ensures moved { result.moved ≡ true → HasMoved
-            (scene W.bound W.told W.asked W.failed self.old.held wire.old host.old)
-            (scene W.bound W.told W.asked W.failed self.new.held wire.new host.new) }
-        ensures pending { result.moved ≡ false
-            → any_pending host.new (links_of self.new.held) ≡ false }
-        ensures quiet { IsQuiet result.moved (W.told wire.old) (unshut_of self.old.held)
-            (W.told wire.new) self.new.held }
-        ensures turned { IsTurn self.old.slice result.moved
-            (scene W.bound W.told W.asked W.failed self.old.held wire.old host.old)
-            (scene W.bound W.told W.asked W.failed self.new.held wire.new host.new) }
-        ensures goes_on { GoesOnServing
-            (scene W.bound W.told W.asked W.failed self.old.held wire.old host.old)
-            (scene W.bound W.told W.asked W.failed self.new.held wire.new host.new) }
-        ensures starts { ServesNew
-            (scene W.bound W.told W.asked W.failed self.old.held wire.old host.old)
-            (links_of self.new.held)
-            (scene W.bound W.told W.asked W.failed self.new.held wire.new host.new) }
-        ensures known { StaysKnown (W.told wire.old) (W.told wire.new) }
-        ensures fits { Fits (links_of self.new.held) (W.bound wire.new) host.new }
-        ensures faults { W.failed wire.old ≤ W.failed wire.new }
-        ensures once { AreOnce (links_of self.old.held) → AreOnce (links_of self.new.held) }
-        ensures finished { AreOnce (links_of self.old.held) → NoneFinished host.new self.new.held }
-        ensures rising { IsRising (links_of self.old.held) → IsRising (links_of self.new.held) }
-        ensures slice { self.new.slice ≡ self.old.slice }
-    {
-        self.take_turn(host, wire)
     }
 }

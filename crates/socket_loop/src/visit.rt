@@ -1,22 +1,17 @@
 //! What a turn does with one connection.
 
-ghost use Rattle.std.specs.Prelude.{◌≡◌, ◌<◌, ◌≤◌, ◌⊎◌, [], ◌∷◌, List, None, length, true, false};
-ghost use Rattle.std.specs.Io.KnownBytes.{Keeps};
+ghost use Rattle.std.specs.Prelude.{◌≡◌, ◌<◌, ◌≤◌, [], ◌∷◌, None, length, true, false};
 ghost use Rattle.host_core.specs.ById.{wants_input_of};
 ghost use Rattle.session_slots.specs.Slots.{find};
 ghost use Rattle.usi_session.specs.declared.limits.TheConstants.{CHUNK_MAX};
-ghost use Rattle.socket_loop.specs.Links.{IsMarked, reads_ended};
-ghost use Rattle.socket_loop.specs.Scenes.{scene};
-ghost use Rattle.socket_loop.specs.Parts.{Serves, IsClosing, IsEnd, IsGone, IsInput, IsOutput, is_finished};
-ghost use Rattle.wires.specs.Moves.{IsEmptied};
+ghost use Rattle.socket_loop.specs.Parts.{IsClosing, IsGone, is_finished};
 ghost use Rattle.wires.specs.Told.{Shuts};
 ghost use Rattle.wires.specs.Asked.{Shut, Asks};
-ghost use Rattle.socket_loop.specs.Calls.{shuts_of, reads_of, writes_of, ends_of, is_to_read, is_to_write, is_to_shut};
+ghost use Rattle.socket_loop.specs.Calls.{is_to_read, is_to_write, is_to_shut};
 ghost use Rattle.socket_loop.specs.Turns.{IsLeft};
-ghost use Rattle.socket_loop.specs.Visits.{IsVisited, ServesGiven, VisitsOne};
-ghost use Rattle.socket_loop.specs.declared.connection.Connection.{Connection};
+ghost use Rattle.socket_loop.specs.Visits.{EndsEmptied, EndsOne, FeedsOne, OverOne, ReadsOne, WritesOne};
 
-use crate::connection::Connection;
+use crate::connection::{Connection, Link};
 use host_core::Host;
 use std::alloc::Allocator;
 use std::hash::BuildHasher;
@@ -25,29 +20,21 @@ use wires::{Got, Wire};
 
 /// Shuts a connection and closes its session.
 pub fn shut_down<W: Wire, S: BuildHasher, A: Allocator + Copy>(
-    connection: &mut Connection,
+    link: Link,
     host: &mut Host<S, A>,
     wire: &mut W,
 )
-    ensures shuts { Shuts (W.bound wire.old) (W.told wire.old) (W.told wire.new)
-        connection.old.link.number }
-    ensures asked { Asks (W.asked wire.old) (W.asked wire.new)
-        (Shut connection.old.link.number ∷ []) }
-    ensures closed { IsClosing host.old connection.old.link.id host.new }
-    ensures gone { connection.old.link.id.generation < host.old.slots.next
-        → IsGone host.new connection.old.link.id }
-    ensures none { find host.new.slots connection.old.link.id ≡ None }
-    ensures link { connection.new.link ≡ connection.old.link }
-    ensures ended { connection.new.has_ended ≡ connection.old.has_ended }
-    ensures shut { connection.new.is_shut ≡ true }
+    ensures shuts { Shuts (W.bound wire.old) (W.told wire.old) (W.told wire.new) link.number }
+    ensures asked { Asks (W.asked wire.old) (W.asked wire.new) (Shut link.number ∷ []) }
+    ensures closed { IsClosing host.old link.id host.new }
+    ensures gone { link.id.generation < host.old.slots.next → IsGone host.new link.id }
+    ensures none { find host.new.slots link.id ≡ None }
     ensures bound { W.bound wire.new ≡ W.bound wire.old }
     ensures faults { W.failed wire.old ≤ W.failed wire.new }
     ensures next { host.old.slots.next ≤ host.new.slots.next }
 {
-    let link = connection.link;
     wire.shut(link.number);
     let _closed = host.close(link.id);
-    connection.is_shut = true;
 }
 
 /// Feeds a session what its connection gave; where memory is refused, both end.
@@ -60,22 +47,15 @@ fn feed_from<W: Wire, S: BuildHasher, A: Allocator + Copy>(
     requires wants { wants_input_of (find host.old.slots connection.old.link.id) ≡ true }
     requires few { length chunk.now ≤ CHUNK_MAX }
     requires some { 1 ≤ length chunk.now }
-    ensures visited { IsVisited IsInput connection.old connection.new
-        (scene W.bound W.told W.asked W.failed (connection.old ∷ []) wire.old host.old)
-        (scene W.bound W.told W.asked W.failed (connection.new ∷ []) wire.new host.new) }
-    ensures asked { connection.old.is_shut ≡ false
-        → Asks (W.asked wire.old) (W.asked wire.new) (shuts_of connection.old connection.new) }
-    ensures serves { ServesGiven connection.old.link chunk.now
-        (scene W.bound W.told W.asked W.failed (connection.old ∷ []) wire.old host.old)
-        (scene W.bound W.told W.asked W.failed (connection.new ∷ []) wire.new host.new) }
-    ensures unread { Keeps ((W.told wire.old).unread connection.old.link.number)
-        ((W.told wire.new).unread connection.old.link.number) }
+    ensures fed { OverOne W.Wire (FeedsOne chunk.now)
+        connection.old host.old wire.old connection.new host.new wire.new }
     ensures ended { connection.new.has_ended ≡ connection.old.has_ended }
 {
     if host.feed(connection.link.id, chunk).is_ok() {
         return;
     }
-    shut_down(connection, host, wire);
+    shut_down(connection.link, host, wire);
+    connection.is_shut = true;
 }
 
 /// Whether a connection is to be read.
@@ -101,18 +81,10 @@ pub fn read_from<W: Wire, S: BuildHasher, A: Allocator + Copy>(
     wire: &mut W,
     chunk: &mut [u8; CHUNK_MAX],
 ) -> bool
-    ensures asked { Asks (W.asked wire.old) (W.asked wire.new)
-        (reads_of host.old connection.old connection.new) }
-    ensures visited { VisitsOne IsInput result connection.old connection.new
-        (scene W.bound W.told W.asked W.failed (connection.old ∷ []) wire.old host.old)
-        (scene W.bound W.told W.asked W.failed (connection.new ∷ []) wire.new host.new) }
+    ensures reads { OverOne W.Wire (ReadsOne result)
+        connection.old host.old wire.old connection.new host.new wire.new }
     ensures still { is_to_read host.old connection.old ≡ false → result ≡ false }
-    ensures serves { (marks : List Connection) → Serves IsInput marks
-        (scene W.bound W.told W.asked W.failed (connection.old ∷ []) wire.old host.old)
-        (scene W.bound W.told W.asked W.failed (connection.new ∷ []) wire.new host.new) }
-    ensures ended { connection.new.has_ended ≡ true → (connection.old.has_ended ≡ true)
-        ⊎ IsEmptied ((W.told wire.old).unread connection.old.link.number)
-        ((W.told wire.new).unread connection.old.link.number) }
+    ensures ended { EndsEmptied connection.old connection.new (W.told wire.old) (W.told wire.new) }
 {
     let link = connection.link;
     if !is_to_read(connection, host) {
@@ -130,7 +102,8 @@ pub fn read_from<W: Wire, S: BuildHasher, A: Allocator + Copy>(
             true
         }
         Err(_) => {
-            shut_down(connection, host, wire);
+            shut_down(link, host, wire);
+            connection.is_shut = true;
             true
         }
     }
@@ -144,15 +117,9 @@ pub fn write_to<W: Wire, S: BuildHasher, A: Allocator + Copy>(
     host: &mut Host<S, A>,
     wire: &mut W,
 ) -> bool
-    ensures asked { Asks (W.asked wire.old) (W.asked wire.new)
-        (writes_of host.old connection.old connection.new) }
-    ensures visited { VisitsOne IsOutput result connection.old connection.new
-        (scene W.bound W.told W.asked W.failed (connection.old ∷ []) wire.old host.old)
-        (scene W.bound W.told W.asked W.failed (connection.new ∷ []) wire.new host.new) }
+    ensures writes { OverOne W.Wire (WritesOne result)
+        connection.old host.old wire.old connection.new host.new wire.new }
     ensures still { is_to_write host.old connection.old ≡ false → result ≡ false }
-    ensures serves { (marks : List Connection) → Serves IsOutput marks
-        (scene W.bound W.told W.asked W.failed (connection.old ∷ []) wire.old host.old)
-        (scene W.bound W.told W.asked W.failed (connection.new ∷ []) wire.new host.new) }
     ensures ended { connection.new.has_ended ≡ connection.old.has_ended }
 {
     let link = connection.link;
@@ -171,7 +138,8 @@ pub fn write_to<W: Wire, S: BuildHasher, A: Allocator + Copy>(
             0 < n
         }
         Err(_) => {
-            shut_down(connection, host, wire);
+            shut_down(link, host, wire);
+            connection.is_shut = true;
             true
         }
     }
@@ -199,25 +167,18 @@ pub fn close_if_finished<W: Wire, S: BuildHasher, A: Allocator + Copy>(
     host: &mut Host<S, A>,
     wire: &mut W,
 ) -> bool
-    ensures asked { Asks (W.asked wire.old) (W.asked wire.new)
-        (ends_of host.old connection.old connection.new) }
-    ensures visited { VisitsOne IsEnd result connection.old connection.new
-        (scene W.bound W.told W.asked W.failed (connection.old ∷ []) wire.old host.old)
-        (scene W.bound W.told W.asked W.failed (connection.new ∷ []) wire.new host.new) }
+    ensures ends { OverOne W.Wire (EndsOne result)
+        connection.old host.old wire.old connection.new host.new wire.new }
     ensures finished { result ≡ is_to_shut host.old connection.old }
     ensures shuts { result ≡ true → connection.new.is_shut ≡ true }
     ensures unchanged { result ≡ false → host.new ≡ host.old }
     ensures left { IsLeft host.new connection.new }
-    ensures serves { (marks : List Connection)
-        → (connection.old.has_ended ≡ true → IsMarked reads_ended marks connection.old.link.number)
-        → Serves IsEnd marks
-        (scene W.bound W.told W.asked W.failed (connection.old ∷ []) wire.old host.old)
-        (scene W.bound W.told W.asked W.failed (connection.new ∷ []) wire.new host.new) }
     ensures ended { connection.new.has_ended ≡ connection.old.has_ended }
 {
     if connection.is_shut || !is_finished(connection, host) {
         return false;
     }
-    shut_down(connection, host, wire);
+    shut_down(connection.link, host, wire);
+    connection.is_shut = true;
     true
 }

@@ -505,11 +505,6 @@ lives_turns slice (suc n) a b fit p =
     let so_far : LivesOn a p.0 = lives_turns slice n a p.0 fit p.1 in
     let next : IsTurnAndWait slice p.0 b = p.2 in
     record {
-      lives = lives_wait a next.middle b (lives_turn slice next.turn.moved a p.0 next.middle so_far.lives next.turn.turned) next.wait;
+      lives = lives_wait a next.middle b (lives_turn slice next.turn.moved a p.0 next.middle so_far.lives next.turn.turned.asked.turn) next.wait;
       fits = rw (next.wait.held, next.wait.bound, next.wait.host) next.turn.fits;
     }
-
-pub lives_stopped : (slice most : ℕ) (a b : Scene) (fault : WireFault) → Fits (links_of a.held) a.bound a.host → Stops slice most a b fault → Lives a b
-lives_stopped slice most a b fault fit s =
-    let so_far : LivesOn a s.between = lives_turns slice s.count a s.between fit s.turns in
-    lives_wait a s.last b (lives_turn slice s.turn.moved a s.between s.last so_far.lives s.turn.turned) s.wait

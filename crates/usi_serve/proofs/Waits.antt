@@ -18,7 +18,7 @@ nexts : (slice n : ℕ) (a b : Scene) → AreTurns slice n a b → a.host.slots.
 nexts slice zero a b e = (let same : b.host.slots.next ≡ a.host.slots.next = ap (λ (s : Scene). s.host.slots.next) e in omega arith)
 nexts slice (suc n) a b p =
     let u : a.host.slots.next ≤ p.0.host.slots.next = nexts slice n a p.0 p.1 in
-    let v : p.0.host.slots.next ≤ p.2.middle.host.slots.next = next_rises p.0.host p.2.middle.host p.2.turn.turned.steps p.2.turn.turned.chain in
+    let v : p.0.host.slots.next ≤ p.2.middle.host.slots.next = next_rises p.0.host p.2.middle.host p.2.turn.turned.asked.turn.steps p.2.turn.turned.asked.turn.chain in
     let w : b.host.slots.next ≡ p.2.middle.host.slots.next = ap (λ (h : HostState). h.slots.next) p.2.wait.host in
     omega arith
 
@@ -39,7 +39,7 @@ made_by slice n s t b id (Some u) e p near = more_made slice n s t u b id (is_pe
 
 next_made : (slice n : ℕ) (a m b : Scene) (s : SessionView) (id : SessionId) (so_far : AreTurns slice n a m) (last : IsTurnAndWait slice m b) → id.generation < m.host.slots.next → IsNearer slice n s m id → IsThroughOnce slice (suc n) a b (m, so_far, last) id ⊎ IsNearer slice (suc n) s b id
 next_made slice n a m b s id so_far last lt k =
-    elim (near_turn slice last.turn.moved m last.middle last.turn.turned id k.session lt k.finds k.pending) [
+    elim (near_turn slice last.turn.moved m last.middle last.turn.turned.asked.turn id k.session lt k.finds k.pending) [
       | inl refused ↦ inl (inr (inr refused))
       | inr near ↦ elim (made_by slice n s k.session b id (find b.host.slots id) refl k.made (rw last.wait.host near)) [
         | inl none ↦ inl (inr (inl none))

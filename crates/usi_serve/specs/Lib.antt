@@ -1,4 +1,5 @@
 pub mod Serving
 pub mod Life
 pub mod Patience
+pub mod Promises
 pub mod Alone

@@ -14,7 +14,7 @@ use Rattle.usi_serve.specs.Serving.{AreTurns, IsTurnAndWait}
 abbrev pub IsThrough : (slice : ℕ) (before after : Scene) → IsTurnAndWait slice before after
     → SessionId → Type 0
 IsThrough slice before after turn id =
-    (pending_of (find after.host.slots id) ≡ false) ⊎ (refuses id turn.turn.turned.steps ≡ true)
+    (pending_of (find after.host.slots id) ≡ false) ⊎ (refuses id turn.turn.turned.asked.turn.steps ≡ true)
 
 -- after one of the turns it is so
 abbrev pub IsThroughOnce : (slice n : ℕ) (before after : Scene) → AreTurns slice n before after

@@ -1,24 +1,19 @@
 -- A loop that takes turns and waits after each of them (own choice).
-use Rattle.std.specs.Prelude.{◌≡◌, ◌≤◌, ◌<◌, ℕ, zero, suc, [], ◌∷◌, Bool, true, false, Err, not}
+use Rattle.std.specs.Prelude.{◌≡◌, ◌≤◌, ◌<◌, ℕ, zero, suc, [], ◌∷◌, Bool, false, Err, not}
 use Rattle.wires.specs.declared.wire.WireFault.{WireFault}
 use Rattle.wires.specs.Asked.{Wait, Asks}
 use Rattle.wires.specs.Told.{HasCause, KeepsAll}
 use Rattle.wires.specs.Moves.{StaysKnown}
-use Rattle.socket_loop.specs.Links.{links_of, unshut_of, AreOnce, IsRising}
+use Rattle.socket_loop.specs.Links.{links_of, AreOnce, IsRising}
 use Rattle.socket_loop.specs.Scenes.{Scene}
-use Rattle.socket_loop.specs.Turns.{any_pending, Fits, GoesOnServing, HasMoved, IsQuiet, IsTurn, NoneFinished, ServesNew}
-use Rattle.socket_loop.specs.Calls.{AsksTurn}
+use Rattle.socket_loop.specs.Turns.{any_pending, Fits, NoneFinished}
+use Rattle.socket_loop.specs.Calls.{Turns}
 
 -- a turn: all that is promised of one
 pub record IsTurnTo (slice : ℕ) (before after : Scene) : Type 0 where
   pub moved : Bool
-  pub turned : IsTurn slice moved before after
-  pub asked : AsksTurn slice moved before after
-  pub moves : moved ≡ true → HasMoved before after
+  pub turned : Turns slice moved before after
   pub pending : moved ≡ false → any_pending after.host (links_of after.held) ≡ false
-  pub quiet : IsQuiet moved before.told (unshut_of before.held) after.told after.held
-  pub goes_on : GoesOnServing before after
-  pub starts : ServesNew before (links_of after.held) after
   pub known : StaysKnown before.told after.told
   pub fits : Fits (links_of after.held) after.bound after.host
   pub faults : before.failed ≤ after.failed

@@ -9,8 +9,8 @@ use Rattle.usi_serve.proofs.serving.serve.Given as goal
 abbrev pub invariant-loop : goal.invariant-loop
 invariant-loop g l = record {
   so_far : AreTurns l.fn.connections.slice l.counter
-      (scene g.W.Wire.bound g.W.Wire.told g.W.Wire.asked g.W.Wire.failed l.fn.connections.held l.fn.wire l.fn.host)
-      (scene g.W.Wire.bound g.W.Wire.told g.W.Wire.asked g.W.Wire.failed l.connections.held l.wire l.host);
+      (scene g.W.Wire l.fn.connections.held l.fn.wire l.fn.host)
+      (scene g.W.Wire l.connections.held l.wire l.host);
   fits : Fits (links_of l.connections.held) (g.W.Wire.bound l.wire) l.host;
   slice : l.connections.slice ≡ l.fn.connections.slice;
 }

@@ -1,50 +1,37 @@
-use Rattle.std.proofs.Common.{rules, arith, ◌≡◌, ◌∙◌, sym, inl, drop, length}
+use Rattle.std.proofs.Common.{rules, ◌≡◌, ◌∙◌, sym, inl, [], drop, length}
 use Rattle.socket_loop.specs.Parts.{IsEnd}
+use Rattle.socket_loop.specs.Scenes.{scene}
 use Rattle.socket_loop.specs.Links.{reads_ended}
-use Rattle.wires.proofs.Peers.{kept_same}
-use Rattle.socket_loop.proofs.Parts.{serves_same, serves_next, links_set}
-use Rattle.socket_loop.proofs.Marks.{marks_same, marks_then, marks_visit, marked_at, ended_visit}
-use Rattle.socket_loop.proofs.Stirs.{all_made_same, all_made_then, all_made_set, stirs_next}
-use Rattle.socket_loop.proofs.Quiet.{quiet_next, either_false}
 use Rattle.socket_loop.specs.Calls.{ends_of}
-use Rattle.socket_loop.proofs.Calls.{all_taken, asks_start, asks_next, asks_end, visit_ends}
+use Rattle.socket_loop.proofs.Parts.{serves_same, serves_next}
+use Rattle.socket_loop.proofs.Marks.{marked_at, ended_visit}
+use Rattle.socket_loop.proofs.Calls.{all_taken, visit_ends}
+use Rattle.socket_loop.proofs.Each.{visits_start, visits_next, visits_end}
 use Rattle.socket_loop.proofs.Left.{left_next, left_end}
 use Rattle.socket_loop.proofs.turn.Loop.close_all.Goals as goal
 
 pub loop-connection-init : goal.loop-connection-init
 loop-connection-init g c =
     let same : c.deref_mut-connection-items.result.now ≡ c.args.self.now.held = search rules in
-    record { so_far = serves_same _ _ _ _ _ _; ended = rw same (λ n m. m); left = λ once. tt; marks = rw same (marks_same _ _ _); made = rw same (all_made_same _); stirs = λ e. absurd (cc); links = search rules; quiet = λ q. (kept_same _, search rules); asked = rw same (asks_start ends_of IsEnd _ _ _); bound = search rules; faults = omega arith }
+    record { visits = rw same (visits_start ends_of IsEnd (scene g.W.Wire c.args.self.now.held c.args.wire.now c.args.host.now)); serves = serves_same _ _ _ _ _ _; ended = rw same (λ n m. m); left = λ once. tt }
 
 pub loop-connection-preserved : goal.loop-connection-preserved
 loop-connection-preserved g c = record {
-  so_far = serves_next IsEnd c.args.self.now.held _ c.loop-connection.connection-items _ c.loop-connection.connection-index _ _ _ _ _ _ _ (search rules) c.loop-connection.invariant.links c.loop-connection.invariant.so_far (rw c.loop-connection.invariant.bound at (c.close_if_finished-has_moved.ensures.serves c.args.self.now.held (λ e. c.loop-connection.invariant.ended _ (marked_at reads_ended c.loop-connection.connection-items c.loop-connection.connection-index _ (search rules) e))));
-  ended = ended_visit _ c.loop-connection.connection-items c.loop-connection.connection-index _ _ (search rules) c.close_if_finished-has_moved.ensures.visited.visit.link c.close_if_finished-has_moved.ensures.ended c.loop-connection.invariant.ended;
-  left = left_next IsEnd _ c.loop-connection.connection-items c.loop-connection.connection-index _ _ _ _ (search rules) c.loop-connection.invariant.links c.loop-connection.invariant.left c.close_if_finished-has_moved.ensures.visited.visit.steps c.close_if_finished-has_moved.ensures.left;
-  marks = marks_then _ _ _ _ _ c.loop-connection.connection-items _ c.loop-connection.invariant.so_far.carries.all (c.close_if_finished-has_moved.ensures.serves c.args.self.now.held (λ e. c.loop-connection.invariant.ended _ (marked_at reads_ended c.loop-connection.connection-items c.loop-connection.connection-index _ (search rules) e))).carries.all c.loop-connection.invariant.marks
-      (marks_visit _ _ _ c.loop-connection.connection-items c.loop-connection.connection-index _ _ (search rules) c.close_if_finished-has_moved.ensures.visited.visit.link (λ e. inl (sym c.close_if_finished-has_moved.ensures.ended ∙ e)) (rw c.loop-connection.invariant.bound at c.close_if_finished-has_moved.ensures.visited.visit.shut));
-  made = all_made_then _ c.loop-connection.connection-items _ c.loop-connection.invariant.made (all_made_set c.loop-connection.connection-items c.loop-connection.connection-index _ _ c.close_if_finished-has_moved.ensures.visited.visit.made);
-  stirs = stirs_next c.loop-connection.moved _ _ _ _ _ c.loop-connection.connection-items c.loop-connection.connection-index _ _ (search rules) c.loop-connection.invariant.links c.loop-connection.invariant.so_far.carries.all (c.close_if_finished-has_moved.ensures.serves c.args.self.now.held (λ e. c.loop-connection.invariant.ended _ (marked_at reads_ended c.loop-connection.connection-items c.loop-connection.connection-index _ (search rules) e))).carries.all c.loop-connection.invariant.made c.close_if_finished-has_moved.ensures.visited.visit.made c.loop-connection.invariant.stirs c.close_if_finished-has_moved.ensures.visited.stirs;
-  links = links_set c.loop-connection.connection-items c.loop-connection.connection-index _ _ c.close_if_finished-has_moved.ensures.visited.visit.link ∙ c.loop-connection.invariant.links;
-  quiet = quiet_next c.loop-connection.moved _ _ _ _ _ c.loop-connection.connection-items c.loop-connection.connection-index _ _ _ (either_false c.loop-connection.moved _) c.loop-connection.invariant.quiet c.close_if_finished-has_moved.ensures.visited.quiet;
-  asked = asks_next c.loop-connection.connection-index ends_of IsEnd _ _ _ c.args.self.now.held c.loop-connection.connection-items c.close_if_finished-has_moved.new.connection _ _ _ _ (search rules) c.loop-connection.invariant.asked (visit_ends c.loop-connection.host c.close_if_finished-has_moved.new.host _ _ c.close_if_finished-has_moved.ensures.visited.visit.link c.close_if_finished-has_moved.ensures.visited.visit.made c.close_if_finished-has_moved.ensures.ended c.close_if_finished-has_moved.ensures.visited.visit.closed (λ e. c.close_if_finished-has_moved.ensures.shuts (c.close_if_finished-has_moved.ensures.finished ∙ e)) (λ e. (c.close_if_finished-has_moved.ensures.visited.quiet (c.close_if_finished-has_moved.ensures.finished ∙ e)).1)) c.close_if_finished-has_moved.ensures.visited.visit.steps c.close_if_finished-has_moved.ensures.asked;
-  bound = search rules;
-  faults = omega arith;
+  visits = visits_next c.loop-connection.connection-index ends_of IsEnd c.loop-connection.moved _ (scene g.W.Wire c.args.self.now.held c.args.wire.now c.args.host.now) (scene g.W.Wire c.loop-connection.connection-items c.loop-connection.wire c.loop-connection.host) (scene g.W.Wire [] c.close_if_finished-has_moved.new.wire c.close_if_finished-has_moved.new.host) c.close_if_finished-has_moved.new.connection _ (search rules) c.loop-connection.invariant.visits
+      c.loop-connection.invariant.serves.carries.all (c.close_if_finished-has_moved.ensures.ends.serves c.args.self.now.held (λ e. c.loop-connection.invariant.ended _ (marked_at reads_ended c.loop-connection.connection-items c.loop-connection.connection-index _ (search rules) e))).carries.all c.close_if_finished-has_moved.ensures.ends.visited (λ e. inl (sym c.close_if_finished-has_moved.ensures.ended ∙ e))
+      (visit_ends c.loop-connection.host c.close_if_finished-has_moved.new.host _ _ c.close_if_finished-has_moved.ensures.ends.visited.visit.link c.close_if_finished-has_moved.ensures.ends.visited.visit.made c.close_if_finished-has_moved.ensures.ended c.close_if_finished-has_moved.ensures.ends.visited.visit.closed (λ e. c.close_if_finished-has_moved.ensures.shuts (c.close_if_finished-has_moved.ensures.finished ∙ e)) (λ e. (c.close_if_finished-has_moved.ensures.ends.visited.quiet (c.close_if_finished-has_moved.ensures.finished ∙ e)).1));
+  serves = serves_next IsEnd c.args.self.now.held _ c.loop-connection.connection-items _ c.loop-connection.connection-index _ _ _ _ _ _ _ (search rules) c.loop-connection.invariant.visits.links c.loop-connection.invariant.serves (rw c.loop-connection.invariant.visits.bound at (c.close_if_finished-has_moved.ensures.ends.serves c.args.self.now.held (λ e. c.loop-connection.invariant.ended _ (marked_at reads_ended c.loop-connection.connection-items c.loop-connection.connection-index _ (search rules) e))));
+  ended = ended_visit _ c.loop-connection.connection-items c.loop-connection.connection-index _ _ (search rules) c.close_if_finished-has_moved.ensures.ends.visited.visit.link c.close_if_finished-has_moved.ensures.ended c.loop-connection.invariant.ended;
+  left = left_next IsEnd _ c.loop-connection.connection-items c.loop-connection.connection-index _ _ _ _ (search rules) c.loop-connection.invariant.visits.links c.loop-connection.invariant.left c.close_if_finished-has_moved.ensures.ends.visited.visit.steps c.close_if_finished-has_moved.ensures.left;
 }
 
-pub returns-clause-visited : goal.returns-clause-visited
-returns-clause-visited g c =
-    let taken = all_taken c.self.inside.held.len c.loop-connection.connection-items (drop (length c.loop-connection.connection-items) c.self.inside.held.items) (search rules) in
-    record {
-      asked = asks_end c.loop-connection.connection-index c.self.inside.held.len ends_of IsEnd _ _ c.args.self.now.held c.loop-connection.connection-items _ _ _ (search rules) (search rules) c.loop-connection.invariant.links c.loop-connection.invariant.asked;
-      quiet = rw taken c.loop-connection.invariant.quiet;
-      stirs = rw taken c.loop-connection.invariant.stirs;
-      marks = rw taken c.loop-connection.invariant.marks;
-      made = rw taken c.loop-connection.invariant.made;
-      links = rw taken c.loop-connection.invariant.links;
-      bound = search rules;
-      faults = omega arith;
-    }
-
-pub returns-clause-left : goal.returns-clause-left
-returns-clause-left g c = left_end c.loop-connection.connection-index c.self.inside.held.len c.args.self.now.held c.loop-connection.connection-items _ c.loop-connection.host (search rules) (search rules) c.loop-connection.invariant.left
+pub returns : goal.returns
+returns g c = record {
+  slice = search rules;
+  scenes = record {
+    visited = visits_end c.loop-connection.connection-index c.self.inside.held.len ends_of IsEnd c.loop-connection.moved (scene g.W.Wire c.args.self.now.held c.args.wire.now c.args.host.now) (scene g.W.Wire c.loop-connection.connection-items c.loop-connection.wire c.loop-connection.host) (drop (length c.loop-connection.connection-items) c.self.inside.held.items) (search rules) (search rules) c.loop-connection.invariant.visits;
+    serves = c.loop-connection.invariant.serves;
+    ended = rw (all_taken c.self.inside.held.len c.loop-connection.connection-items (drop (length c.loop-connection.connection-items) c.self.inside.held.items) (search rules)) c.loop-connection.invariant.ended;
+    left = left_end c.loop-connection.connection-index c.self.inside.held.len c.args.self.now.held c.loop-connection.connection-items _ c.loop-connection.host (search rules) (search rules) c.loop-connection.invariant.left;
+  };
+}

@@ -1,22 +1,17 @@
-use Rattle.std.proofs.Common.{◌≡◌, take, ◌≤◌, true, ℕ}
+use Rattle.std.proofs.Common.{take, ℕ}
 use Rattle.socket_loop.specs.Links.{links_of, AreOnce, IsMarked, reads_ended}
-use Rattle.socket_loop.specs.Parts.{ServesLinks, IsEnd, KeepsAllMarks}
-use Rattle.socket_loop.specs.Calls.{AsksTo, ends_of}
-use Rattle.socket_loop.specs.Turns.{AllKeepMade, AreLeft, IsQuiet, Stirs}
+use Rattle.socket_loop.specs.Turns.{AreLeft}
+use Rattle.socket_loop.specs.Parts.{Serves, IsEnd}
+use Rattle.socket_loop.specs.Scenes.{scene}
+use Rattle.socket_loop.specs.Calls.{ends_of}
+use Rattle.socket_loop.specs.Visits.{VisitsTo}
 use Rattle.socket_loop.proofs.turn.Loop.close_all.Given as goal
 
 -- the connections so far were visited, and each is linked as before
 abbrev pub invariant-loop-connection : goal.invariant-loop-connection
 invariant-loop-connection g l = record {
-  so_far : ServesLinks IsEnd l.fn.self.held (g.W.Wire.bound l.fn.wire) (links_of l.fn.self.held) (g.W.Wire.told l.fn.wire) l.fn.host (g.W.Wire.told l.wire) l.host;
+  visits : VisitsTo l.connection-index ends_of IsEnd l.moved (scene g.W.Wire l.fn.self.held l.fn.wire l.fn.host) (scene g.W.Wire l.connection-items l.wire l.host);
+  serves : Serves IsEnd l.fn.self.held (scene g.W.Wire l.fn.self.held l.fn.wire l.fn.host) (scene g.W.Wire l.connection-items l.wire l.host);
   ended : (number : ℕ) → IsMarked reads_ended l.connection-items number → IsMarked reads_ended l.fn.self.held number;
   left : AreOnce (links_of l.fn.self.held) → AreLeft l.host (take l.connection-index l.connection-items);
-  marks : KeepsAllMarks (g.W.Wire.bound l.fn.wire) (g.W.Wire.told l.fn.wire) l.fn.self.held (g.W.Wire.told l.wire) l.connection-items;
-  made : AllKeepMade l.fn.self.held l.connection-items;
-  stirs : l.moved ≡ true → Stirs (g.W.Wire.told l.fn.wire) l.fn.self.held (g.W.Wire.told l.wire) l.connection-items;
-  links : links_of l.connection-items ≡ links_of l.fn.self.held;
-  quiet : IsQuiet l.moved (g.W.Wire.told l.fn.wire) l.fn.self.held (g.W.Wire.told l.wire) l.connection-items;
-  asked : AsksTo l.connection-index ends_of IsEnd l.fn.host l.fn.self.held l.connection-items (g.W.Wire.asked l.fn.wire) (g.W.Wire.asked l.wire) l.host;
-  bound : g.W.Wire.bound l.wire ≡ g.W.Wire.bound l.fn.wire;
-  faults : g.W.Wire.failed l.fn.wire ≤ g.W.Wire.failed l.wire;
 }
