@@ -6,7 +6,7 @@
 #[macro_export]
 macro_rules! holds {
     ($rt:expr; $cond:expr $(,)?) => {
-        crate::assertions::assert_holds(&$rt, $cond, stringify!($cond), &"")
+        crate::assertions::assert_holds(&$rt, $cond, stringify!($cond), &())
     };
     ($rt:expr; $cond:expr, $note:expr $(,)?) => {
         crate::assertions::assert_holds(&$rt, $cond, stringify!($cond), &$note)
@@ -17,7 +17,7 @@ macro_rules! holds {
 #[macro_export]
 macro_rules! same {
     ($rt:expr; $left:expr, $right:expr $(,)?) => {
-        crate::assertions::assert_same(&$rt, &$left, &$right, &stringify!($left))
+        crate::assertions::assert_same(&$rt, &$left, &$right, &())
     };
     ($rt:expr; $left:expr, $right:expr, $note:expr $(,)?) => {
         crate::assertions::assert_same(&$rt, &$left, &$right, &$note)
