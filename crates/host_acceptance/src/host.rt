@@ -34,7 +34,7 @@ fn assert_gave<R: Abort>(rt: &R, outcome: &Outcome<Global>, text: &str) -> Resul
     let Outcome::Gave(bytes) = outcome else {
         return Err("the bytes are queued".into());
     };
-    same!(rt; std::str::from_utf8(bytes.as_slice())?, text);
+    same!(*rt; std::str::from_utf8(bytes.as_slice())?, text);
     Ok(())
 }
 
@@ -68,7 +68,7 @@ impl TestHost {
     pub fn tells<R: Abort>(&mut self, rt: &R, wanted: &[(Event<'_>, Told)]) {
         for row in wanted.iter() {
             let (event, told) = *row;
-            same!(rt; told_by(&self.host.step(event)), told, event);
+            same!(*rt; told_by(&self.host.step(event)), told, event);
         }
     }
 
@@ -84,7 +84,7 @@ impl TestHost {
         for outcome in outcomes.as_slice() {
             all.push(told_by(outcome))?;
         }
-        same!(rt; all.as_slice(), wanted);
+        same!(*rt; all.as_slice(), wanted);
         Ok(())
     }
 
@@ -101,7 +101,7 @@ impl TestHost {
 
     /// Ends the test where the queued bytes of a session are others.
     pub fn output_is<R: Abort>(&self, rt: &R, id: SessionId, bytes: &[u8]) {
-        holds!(rt; self.host.output(id) == Some(bytes), id);
+        holds!(*rt; self.host.output(id) == Some(bytes), id);
     }
 
     /// The id of a session that is opened.

@@ -23,7 +23,7 @@ fn assert_two_sessions<R: Abort>(rt: &R, host: &mut TestHost) -> Result<SessionI
     let go = b"go depth 1\n".as_slice();
     let events = [Event::Feed(a, go), Event::Work(a, 62)];
     host.run_tells(rt, &events, &[Told::Done, Told::Worked(4)])?;
-    holds!(rt; !host.pending(a) && host.wants_input(a));
+    holds!(*rt; !host.pending(a) && host.wants_input(a));
 
     let b = host.opened()?;
     let events = [Event::Open, Event::Feed(b, go), Event::Work(b, 0)];
@@ -224,9 +224,9 @@ fn a_full_queue_wants_no_input(rt: HostRuntime) -> Result<(), Fail> {
 // At depth 4 the best move is 7g7f, of value 0.
 fn assert_at_depth_four<R: Abort>(rt: &R, said: &[u8]) -> Result<(), Fail> {
     let said = std::str::from_utf8(said)?;
-    holds!(rt; said.starts_with(INFO_THREE));
-    holds!(rt; said.contains("info depth 4 score cp 0 pv 7g7f "));
-    holds!(rt; said.contains("\nbestmove 7g7f ponder "));
+    holds!(*rt; said.starts_with(INFO_THREE));
+    holds!(*rt; said.contains("info depth 4 score cp 0 pv 7g7f "));
+    holds!(*rt; said.contains("\nbestmove 7g7f ponder "));
     Ok(())
 }
 
@@ -292,7 +292,7 @@ fn feed<R: Abort>(
 
 fn work<R: Abort>(rt: &R, host: &mut TestHost, ids: &[SessionId]) {
     for (number, id) in ids.iter().enumerate() {
-        holds!(rt; host.pending(*id), number);
+        holds!(*rt; host.pending(*id), number);
         host.tells(rt, &[(Event::Work(*id, 0), Told::Worked(0))]);
     }
 }

@@ -22,7 +22,7 @@ fn replayed(
     assert!(rt; entries >= 1 && entries <= 1_000_000 && slice >= 1);
     let mut reader = script;
     let mut writer = Vec::new(alloc);
-    same!(rt; replay(alloc, &mut reader, &mut writer, slots, entries, slice), Ok(()));
+    same!(*rt; replay(alloc, &mut reader, &mut writer, slots, entries, slice), Ok(()));
     Ok(writer)
 }
 
@@ -30,8 +30,8 @@ fn replayed(
 fn assert_bad(rt: &impl Abort, alloc: Global, script: &[u8], line: u64) {
     let mut reader = script;
     let mut writer = Vec::new(alloc);
-    same!(rt; replay(alloc, &mut reader, &mut writer, 1, 4096, 1000), Err(ReplayFault::BadScript { line }), std::str::from_utf8(script).ok());
-    holds!(rt; writer.is_empty());
+    same!(*rt; replay(alloc, &mut reader, &mut writer, 1, 4096, 1000), Err(ReplayFault::BadScript { line }), std::str::from_utf8(script).ok());
+    holds!(*rt; writer.is_empty());
 }
 
 // All letters are names. With 25 slots the last one is refused.
@@ -127,12 +127,12 @@ fn assert_front(rt: &impl Abort, alloc: Global, mut writer: FailingWriter) -> Re
     let written = writer.written();
     match ended {
         Ok(()) => {
-            same!(rt; std::str::from_utf8(written)?, output.as_str());
+            same!(*rt; std::str::from_utf8(written)?, output.as_str());
             Ok(true)
         }
         Err(fault) => {
-            same!(rt; fault, ReplayFault::WriteFailed);
-            holds!(rt; output.as_bytes().starts_with(written));
+            same!(*rt; fault, ReplayFault::WriteFailed);
+            holds!(*rt; output.as_bytes().starts_with(written));
             Ok(false)
         }
     }

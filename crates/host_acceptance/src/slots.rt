@@ -13,20 +13,20 @@ fn assert_one_closed<R: Abort>(
 ) -> Result<(SessionId, SessionId), Fail> {
     let first = slots.open()?;
     let second = slots.open()?;
-    same!(rt; (first.generation, second.generation), (0, 1));
-    same!(rt; slots.open(), Err(SlotFault::Full));
+    same!(*rt; (first.generation, second.generation), (0, 1));
+    same!(*rt; slots.open(), Err(SlotFault::Full));
 
-    holds!(rt; slots.close(first).is_some());
-    holds!(rt; slots.close(first).is_none());
-    same!(rt; slots.next_open(None), Some(second));
+    holds!(*rt; slots.close(first).is_some());
+    holds!(*rt; slots.close(first).is_none());
+    same!(*rt; slots.next_open(None), Some(second));
     Ok((first, second))
 }
 
 fn assert_in_order<R: Abort>(rt: &R, slots: &Slots<Global>, third: SessionId, second: SessionId) {
-    same!(rt; slots.next_open(None), Some(third));
-    same!(rt; slots.next_open(Some(third.slot)), Some(second));
-    same!(rt; slots.next_open(Some(second.slot)), None);
-    same!(rt; slots.next_open(Some(usize::MAX)), None);
+    same!(*rt; slots.next_open(None), Some(third));
+    same!(*rt; slots.next_open(Some(third.slot)), Some(second));
+    same!(*rt; slots.next_open(Some(second.slot)), None);
+    same!(*rt; slots.next_open(Some(usize::MAX)), None);
 }
 
 fn assert_third<R: Abort>(
@@ -36,14 +36,14 @@ fn assert_third<R: Abort>(
     second: SessionId,
 ) -> Result<(), Fail> {
     let third = slots.open()?;
-    same!(rt; (third.slot, third.generation), (first.slot, 2));
-    holds!(rt; slots.get(first).is_none() && slots.get_mut(first).is_none());
-    holds!(rt; slots.get(second).is_some() && slots.get_mut(third).is_some());
+    same!(*rt; (third.slot, third.generation), (first.slot, 2));
+    holds!(*rt; slots.get(first).is_none() && slots.get_mut(first).is_none());
+    holds!(*rt; slots.get(second).is_some() && slots.get_mut(third).is_some());
     let none = SessionId {
         slot: 7,
         generation: 1,
     };
-    holds!(rt; slots.get(none).is_none());
+    holds!(*rt; slots.get(none).is_none());
     assert_in_order(rt, slots, third, second);
     Ok(())
 }

@@ -11,7 +11,7 @@ use test_support::{holds, same};
 fn assert_turns<R: Abort>(rt: &R, host: &mut TestHost) -> Result<(), Fail> {
     let a = host.opened()?;
     let b = host.opened()?;
-    holds!(rt; host.wants_input(a) && host.wants_input(b));
+    holds!(*rt; host.wants_input(a) && host.wants_input(b));
     let events = [
         Event::Feed(a, b"go depth 1\n"),
         Event::Feed(b, b"isready\nquit\n"),
@@ -20,16 +20,16 @@ fn assert_turns<R: Abort>(rt: &R, host: &mut TestHost) -> Result<(), Fail> {
     ];
     let wanted = [Told::Done, Told::Done, Told::Worked(3), Told::Worked(0)];
     host.run_tells(rt, &events, &wanted)?;
-    holds!(rt; host.pending(a) && !host.pending(b) && host.is_over(b));
+    holds!(*rt; host.pending(a) && !host.pending(b) && host.is_over(b));
     host.output_is(rt, a, b"");
 
     let round = host.round(1);
-    same!(rt; (round.worked, round.refused), (1, 0));
-    holds!(rt; !host.pending(a));
+    same!(*rt; (round.worked, round.refused), (1, 0));
+    holds!(*rt; !host.pending(a));
     let text = b"info depth 1 score cp 0 pv 1g1f\nbestmove 1g1f\n".as_slice();
     host.output_is(rt, a, text);
     host.takes(rt, b, "readyok\n")?;
-    same!(rt; host.pass(a, text.len()), Ok(()));
+    same!(*rt; host.pass(a, text.len()), Ok(()));
     host.output_is(rt, a, b"");
     Ok(())
 }

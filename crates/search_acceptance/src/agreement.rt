@@ -17,9 +17,9 @@ use test_support::{holds, same};
 
 // The search finds the value and the best move of plain minimax, in no more steps.
 fn assert_same(rt: &impl Abort, found: &Found, plain: &Found, at: usize, depth: u8) {
-    same!(rt; (at, depth, found.value), (at, depth, plain.value));
-    holds!(rt; found.best == plain.best, at);
-    holds!(rt; found.steps <= plain.steps, at);
+    same!(*rt; (at, depth, found.value), (at, depth, plain.value));
+    holds!(*rt; found.best == plain.best, at);
+    holds!(*rt; found.steps <= plain.steps, at);
 }
 
 // The same over no memo, over one that forgets, and over that one again. Tells whether it then
@@ -63,8 +63,8 @@ fn walk(rt: &impl Abort, moves: &[&str]) {
         }
         p = played(rt, &p, text);
     }
-    holds!(rt; !has_legal(&p), "the end of the game");
-    holds!(rt; known && forgotten, "each second note is forgotten");
+    holds!(*rt; !has_legal(&p), "the end of the game");
+    holds!(*rt; known && forgotten, "each second note is forgotten");
 }
 
 #[test]
@@ -85,7 +85,7 @@ fn third_game(rt: HostRuntime) {
 // A position with so many legal moves, at depths 1 and 2.
 fn assert_wide(rt: &impl Abort, sfen: &str, moves: u64) -> Result<(), Fail> {
     let p = position(sfen)?;
-    same!(rt; perft(&p, 1), Some(moves));
+    same!(*rt; perft(&p, 1), Some(moves));
     for depth in 1..3u8 {
         for e in [Eval::Plain, Eval::Hand] {
             assert_agrees(rt, &p, e, 0, depth, &mut Forgetful::new());

@@ -41,14 +41,14 @@ fn bounds_of(value: i32) -> [i32; 7] {
 // than the bound and no more than the value.
 fn assert_below(rt: &impl Abort, found: &Found, plain: &Found, beta: i32) {
     if plain.value < beta {
-        same!(rt; found.value, plain.value, beta);
-        holds!(rt; found.best == plain.best, beta);
+        same!(*rt; found.value, plain.value, beta);
+        holds!(*rt; found.best == plain.best, beta);
     } else {
-        holds!(rt; beta <= found.value, beta);
-        holds!(rt; found.value <= plain.value, "no more than the value");
-        holds!(rt; found.best.is_none() || found.best == plain.best);
+        holds!(*rt; beta <= found.value, beta);
+        holds!(*rt; found.value <= plain.value, "no more than the value");
+        holds!(*rt; found.best.is_none() || found.best == plain.best);
     }
-    holds!(rt; found.steps <= plain.steps, beta);
+    holds!(*rt; found.steps <= plain.steps, beta);
 }
 
 // The search below a bound, made a step at a time.
@@ -87,7 +87,7 @@ fn assert_bound(
     assert!(rt; -INFINITY < beta && beta <= INFINITY);
     let found = search_below(p, e, depth, beta, &mut NoMemo);
     assert_below(rt, &found, plain, beta);
-    holds!(rt; in_steps(p, e, depth, beta, &mut NoMemo) == Some(found));
+    holds!(*rt; in_steps(p, e, depth, beta, &mut NoMemo) == Some(found));
     assert_below(rt, &search_below(p, e, depth, beta, memo), plain, beta);
 
     let mut table = table_of(alloc, 1000)?;
@@ -96,7 +96,7 @@ fn assert_bound(
     let again = search_below(p, e, depth, beta, &mut table);
     assert_below(rt, &again, plain, beta);
     let whole = search(p, e, depth, &mut table);
-    holds!(rt; whole.value == plain.value && whole.best == plain.best);
+    holds!(*rt; whole.value == plain.value && whole.best == plain.best);
     Ok(())
 }
 
@@ -169,9 +169,9 @@ fn assert_counts<M: Memo + Drop>(
         let found = search_below(p, Eval::Plain, depth, beta, &mut recorder);
         steps = steps.saturating_add(found.steps);
         let plain = search_plainly_below(alloc, p, Eval::Plain, depth, beta, &mut notes)?;
-        holds!(rt; plain == Some((found.value, found.best.map(|m| m.code()))), beta);
-        same!(rt; steps, notes.steps, beta);
-        same!(rt; recorder.calls().len(), notes.calls, beta);
+        holds!(*rt; plain == Some((found.value, found.best.map(|m| m.code()))), beta);
+        same!(*rt; steps, notes.steps, beta);
+        same!(*rt; recorder.calls().len(), notes.calls, beta);
     }
     Ok(())
 }

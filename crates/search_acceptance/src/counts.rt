@@ -55,9 +55,9 @@ fn assert_counts<M: Memo + Drop>(
         let found = search(p, e, depth, &mut recorder);
         steps = steps.saturating_add(found.steps);
         let plain = search_plainly(alloc, p, e, depth, &mut notes)?;
-        holds!(rt; plain == Some((found.value, found.best.map(|m| m.code()))), depth);
-        same!(rt; steps, notes.steps, depth);
-        same!(rt; recorder.calls().len(), notes.calls, depth);
+        holds!(*rt; plain == Some((found.value, found.best.map(|m| m.code()))), depth);
+        same!(*rt; steps, notes.steps, depth);
+        same!(*rt; recorder.calls().len(), notes.calls, depth);
     }
     Ok(())
 }
@@ -157,9 +157,9 @@ const PLAYED: [&str; 6] = [
 fn assert_minimax(rt: &impl Abort, alloc: Global, p: &Position, e: Eval) -> Result<(), Fail> {
     let plain = minimax(p, e, 4);
     let found = search(p, e, 4, &mut NoMemo);
-    holds!(rt; found.value == plain.value && found.best == plain.best);
+    holds!(*rt; found.value == plain.value && found.best == plain.best);
     let found = search(p, e, 4, &mut table_of(alloc, 1000)?);
-    holds!(rt; found.value == plain.value && found.best == plain.best);
+    holds!(*rt; found.value == plain.value && found.best == plain.best);
     Ok(())
 }
 

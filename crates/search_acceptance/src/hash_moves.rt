@@ -66,11 +66,11 @@ const FACING: &str = "lnsgkgsnl/1r5b1/pppppp1pp/6p2/9/2P6/PP1PPPPPP/1B5R1/LNSGKG
 
 // Each call asks for one of these positions at this depth.
 fn assert_asked(rt: &impl Abort, calls: &[Call], wanted: &[(Position, u8)]) {
-    holds!(rt; calls.len() >= wanted.len());
+    holds!(*rt; calls.len() >= wanted.len());
     for ((position, depth), call) in wanted.iter().zip(calls) {
-        holds!(rt; call.position == *position && call.eval == Eval::Plain, depth);
-        same!(rt; call.depth, *depth);
-        holds!(rt; call.noted.is_none(), depth);
+        holds!(*rt; call.position == *position && call.eval == Eval::Plain, depth);
+        same!(*rt; call.depth, *depth);
+        holds!(*rt; call.noted.is_none(), depth);
     }
 }
 

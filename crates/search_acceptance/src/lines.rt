@@ -77,8 +77,8 @@ fn assert_line(rt: &impl Abort, worths: &[(u16, i32)], line: usize, listed: (u16
             is_worth = *worth == listed.1;
         }
     }
-    holds!(rt; is_worth, line);
-    same!(rt; ahead, line, line);
+    holds!(*rt; is_worth, line);
+    same!(*rt; ahead, line, line);
 }
 
 // The list of a position at a depth has the first of its moves, ranked by plain minimax.
@@ -101,7 +101,7 @@ fn assert_ranked<M: Memo>(
         let plain = minimax(&branch.position, Eval::Plain, depth);
         worths.push((branch.code, plain.value.saturating_neg()))?;
     }
-    same!(rt; ranks.list().len(), worths.len().min(lines));
+    same!(*rt; ranks.list().len(), worths.len().min(lines));
     for (line, (m, value)) in ranks.list().iter().enumerate() {
         assert_line(rt, worths.as_slice(), line, (m.code(), *value));
     }
@@ -166,8 +166,8 @@ fn assert_steps(
         let found = search(&branch.position, Eval::Plain, depth, &mut NoMemo);
         whole = whole.saturating_add(found.steps);
     }
-    same!(rt; steps, notes.steps, lines);
-    holds!(rt; steps < whole, steps);
+    same!(*rt; steps, notes.steps, lines);
+    holds!(*rt; steps < whole, steps);
     Ok(())
 }
 

@@ -30,10 +30,10 @@ fn assert_agrees(
 {
     let found = search(p, e, depth, &mut NoMemo);
     let plain = minimax(p, e, depth);
-    holds!(rt; found.value == plain.value && found.best == plain.best, depth);
+    holds!(*rt; found.value == plain.value && found.best == plain.best, depth);
     let mut notes = Notes::new(alloc, 0, false);
     search_plainly(alloc, p, e, depth, &mut notes)?;
-    same!(rt; found.steps, notes.steps, depth);
+    same!(*rt; found.steps, notes.steps, depth);
     Ok(())
 }
 
@@ -54,7 +54,7 @@ fn assert_found(
             assert_agrees(rt, alloc, &p, e, depth)?;
         }
         let found = search(&p, e, 2, &mut NoMemo);
-        holds!(rt; found.value == value && found.best == read_move(text.as_bytes()), sfen);
+        holds!(*rt; found.value == value && found.best == read_move(text.as_bytes()), sfen);
     }
     Ok(())
 }

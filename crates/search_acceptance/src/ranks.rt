@@ -39,9 +39,9 @@ fn offer(rt: &impl Abort, ranks: &mut Ranks, m: Move, value: i32) {
 // The list has the moves of these codes with these values, in this order.
 fn assert_list(rt: &impl Abort, ranks: &Ranks, wanted: &[(u16, i32)]) {
     let list = ranks.list();
-    same!(rt; list.len(), wanted.len());
+    same!(*rt; list.len(), wanted.len());
     for ((m, value), wanted) in list.iter().zip(wanted) {
-        same!(rt; (m.code(), *value), *wanted);
+        same!(*rt; (m.code(), *value), *wanted);
     }
 }
 
@@ -111,7 +111,7 @@ fn assert_thresholds(rt: &impl Abort, lines: usize, offers: &[(u16, i32)], wante
     requires most { lines ≤ MULTI_PV_MAX }
 {
     let mut ranks = Ranks::new(lines);
-    same!(rt; ranks.threshold(), None);
+    same!(*rt; ranks.threshold(), None);
     let mut left = wanted.iter();
     for (at, (code, value)) in offers.iter().enumerate() {
         let m = Move::of_code(*code).expect(rt, "a move");
@@ -121,7 +121,7 @@ fn assert_thresholds(rt: &impl Abort, lines: usize, offers: &[(u16, i32)], wante
         } else {
             left.next().copied()
         };
-        holds!(rt; ranks.threshold() == wanted, at);
+        holds!(*rt; ranks.threshold() == wanted, at);
     }
 }
 

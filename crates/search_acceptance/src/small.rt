@@ -31,11 +31,11 @@ fn assert_line(rt: &impl Abort, start: &Position, e: Eval, depth: u8, value: i32
     let mut p = *start;
     let mut left = depth;
     assert!(rt; left <= 16);
-    same!(rt; search(&p, e, left, &mut NoMemo).value, value, depth);
+    same!(*rt; search(&p, e, left, &mut NoMemo).value, value, depth);
     for code in codes {
         assert!(rt; left > 0 && left <= 16);
         let best = search(&p, e, left, &mut NoMemo).best;
-        same!(rt; best.map(|m| m.code()), Some(*code), left);
+        same!(*rt; best.map(|m| m.code()), Some(*code), left);
         if let Some(m) = search(&p, e, left, &mut NoMemo).best {
             p = apply(&p, m);
         }

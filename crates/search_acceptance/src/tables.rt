@@ -102,14 +102,14 @@ fn assert_answered(
 ) -> Result<(), Fail>
     requires { depths ≤ 8 }
 {
-    same!(rt; children(alloc, root)?.len(), count);
+    same!(*rt; children(alloc, root)?.len(), count);
     for depth in 0..depths {
         let wanted = if depth == 1 {
             search(root, Eval::Plain, 2, &mut NoMemo).steps
         } else {
             (count as u64).saturating_add(2)
         };
-        same!(rt; steps_over_children(alloc, root, depth)?, wanted, depth);
+        same!(*rt; steps_over_children(alloc, root, depth)?, wanted, depth);
     }
     Ok(())
 }

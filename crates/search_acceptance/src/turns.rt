@@ -19,7 +19,7 @@ use test_support::{holds, same};
 const OPENING: [(u8, i32, u16); 4] = [(1, 0, 982), (2, 0, 982), (3, 200, 9838), (4, 0, 9838)];
 
 fn assert_found(rt: &impl Abort, found: &Found, value: i32, code: u16) {
-    same!(rt; (found.value, found.best.map(|m| m.code())), (value, Some(code)));
+    same!(*rt; (found.value, found.best.map(|m| m.code())), (value, Some(code)));
 }
 
 /// Goes on by turns, a step each, until both have ended: the first over the memory, the second over it
@@ -51,7 +51,7 @@ fn assert_turns<M: Memo>(rt: &impl Abort, memo: &mut M, depth: u8, value: i32, c
     let (one, two) = by_turns(&mut first, &mut second, memo).expect(rt, "an end");
     assert_found(rt, &one, value, code);
     assert_found(rt, &two, value, code);
-    same!(rt; (one.steps, two.steps), (first.steps(), second.steps()));
+    same!(*rt; (one.steps, two.steps), (first.steps(), second.steps()));
 }
 
 #[test]
@@ -155,13 +155,13 @@ fn assert_last_call<M: Memo + Drop>(
     let found = step_by_step(&mut search, &mut recorder).ok_or("an end")?;
     let calls = recorder.calls().len();
     let last = recorder.calls().last().copied().ok_or("a call")?;
-    holds!(rt; last.position == start && last.eval == Eval::Plain && last.depth == depth);
-    holds!(rt; last.noted == Some(Entry::Exact(found.value, found.best)));
+    holds!(*rt; last.position == start && last.eval == Eval::Plain && last.depth == depth);
+    holds!(*rt; last.noted == Some(Entry::Exact(found.value, found.best)));
     for budget in [0, 1, 1000, u64::MAX] {
-        holds!(rt; search.advance(&mut recorder, budget) == Some(found));
-        same!(rt; recorder.calls().len(), calls, budget);
+        holds!(*rt; search.advance(&mut recorder, budget) == Some(found));
+        same!(*rt; recorder.calls().len(), calls, budget);
     }
-    same!(rt; search.steps(), found.steps);
+    same!(*rt; search.steps(), found.steps);
     Ok(found)
 }
 

@@ -69,7 +69,7 @@ fn lines_of_a_stream_that_is_all_there(rt: HostRuntime) -> Result<(), Fail> {
 }
 
 fn reads(rt: &impl Abort, line: &[u8], command: Command<'_>) {
-    same!(rt; read_command(line), command);
+    same!(*rt; read_command(line), command);
 }
 
 #[test]
@@ -175,7 +175,7 @@ fn positions_of_lines(rt: HostRuntime) {
 }
 
 fn goes(rt: &impl Abort, line: &[u8], depth: Option<u8>, hold: Hold) {
-    same!(rt; read_command(line), Command::Go { depth, hold });
+    same!(*rt; read_command(line), Command::Go { depth, hold });
 }
 
 #[test]

@@ -75,17 +75,17 @@ fn assert_cut_anywhere(
         let mut session = fed(alloc, row.sent)?;
         session.work(&mut NoMemo, cut)?;
         if !session.pending() {
-            holds!(rt; told > 1 && session.output() == answer.as_bytes());
+            holds!(*rt; told > 1 && session.output() == answer.as_bytes());
             return Ok(());
         }
         let queued = session.output().len();
-        holds!(rt; answer.as_bytes().starts_with(session.output()), cut);
+        holds!(*rt; answer.as_bytes().starts_with(session.output()), cut);
         told = told.max(lines_in(session.output()));
         session.take(queued)?;
         session.work(&mut small_table(alloc)?, u64::MAX)?;
-        holds!(rt; !session.pending(), cut);
+        holds!(*rt; !session.pending(), cut);
         let rest = answer.as_bytes().get(queued..).unwrap_or(b"");
-        holds!(rt; session.output() == rest, cut);
+        holds!(*rt; session.output() == rest, cut);
     }
     Err(Fail::from("it never ends"))
 }

@@ -157,7 +157,7 @@ fn assert_ranked<M: Memo>(
     session.feed(sent.as_str().as_bytes())?;
     session.work(memo, u64::MAX)?;
     let answer = plain_answer(alloc, p, e, lines, depth)?;
-    same!(rt; std::str::from_utf8(session.output())?, answer.as_str(), sent);
+    same!(*rt; std::str::from_utf8(session.output())?, answer.as_str(), sent);
     Ok(())
 }
 
@@ -254,7 +254,7 @@ fn play_to_the_mate(rt: &impl Abort, alloc: Global, seen: &mut Seen) -> Result<(
             assert_asked(rt, alloc, &mut table, &p, Eval::Plain, lines, seen)?;
         }
     }
-    same!(rt; perft(&p, 1), Some(0));
+    same!(*rt; perft(&p, 1), Some(0));
     Ok(())
 }
 
@@ -272,7 +272,7 @@ fn assert_games(rt: &impl Abort, alloc: Global, seeds: [u64; 2]) -> Result<(), F
     for seed in seeds {
         play_game(rt, alloc, seed, &mut seen)?;
     }
-    holds!(rt; seen.positions >= 34);
+    holds!(*rt; seen.positions >= 34);
     Ok(())
 }
 

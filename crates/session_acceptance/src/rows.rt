@@ -10,6 +10,6 @@ use test_support::same;
 pub fn assert_answer(rt: &impl Abort, alloc: Global, row: &Row, said: &[u8]) -> Result<(), Fail> {
     let answer = joined(alloc, row.answer)?;
     let sent = row.sent;
-    same!(rt; std::str::from_utf8(said)?, answer.as_str(), sent);
+    same!(*rt; std::str::from_utf8(said)?, answer.as_str(), sent);
     Ok(())
 }

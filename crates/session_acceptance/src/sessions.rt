@@ -13,7 +13,7 @@ fn take_all(rt: &impl Abort, session: &mut TestSession, said: &mut Vec<u8>) -> R
     said.extend_from_slice(session.output())?;
     let queued = session.output().len();
     session.take(queued)?;
-    holds!(rt; session.output().is_empty());
+    holds!(*rt; session.output().is_empty());
     Ok(())
 }
 
@@ -26,12 +26,12 @@ fn talk<M: Memo>(
     said: &mut Vec<u8>,
 ) -> Result<(), Fail> {
     if !session.wants_input() {
-        holds!(rt; session.is_over());
+        holds!(*rt; session.is_over());
         return Ok(());
     }
     session.feed(chunk)?;
     session.work(memo, u64::MAX)?;
-    holds!(rt; !session.pending());
+    holds!(*rt; !session.pending());
     take_all(rt, session, said)
 }
 
@@ -73,8 +73,8 @@ fn the_longest_line(rt: HostRuntime) -> Result<(), Fail> {
 
 // How many bytes are queued, and whether input is wanted.
 fn assert_queued(rt: &impl Abort, session: &TestSession, queued: usize, wants_input: bool) {
-    same!(rt; session.output().len(), queued);
-    same!(rt; session.wants_input(), wants_input);
+    same!(*rt; session.output().len(), queued);
+    same!(*rt; session.wants_input(), wants_input);
 }
 
 // A session that was fed 1,024 times `usi`, and nothing more.

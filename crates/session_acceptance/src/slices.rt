@@ -32,9 +32,9 @@ fn work_slice<M: Memo>(
     budget: u64,
 ) -> Result<u64, Fail> {
     let made = session.work(memo, budget)?;
-    holds!(rt; made <= budget);
+    holds!(*rt; made <= budget);
     if session.pending() {
-        same!(rt; made, budget, "still pending");
+        same!(*rt; made, budget, "still pending");
     }
     Ok(made)
 }
@@ -69,17 +69,17 @@ fn assert_worked<M: Memo>(
     let steps = worked(rt, &mut session, memo, budget)?;
     let answer = joined(alloc, row.answer)?;
     let sent = row.sent;
-    same!(rt; std::str::from_utf8(session.output())?, answer.as_str(), sent);
+    same!(*rt; std::str::from_utf8(session.output())?, answer.as_str(), sent);
     Ok(steps)
 }
 
 // With each budget from 1 to 70 the row takes the same steps, and no more than the load.
 fn assert_every_budget(rt: &impl Abort, alloc: Global, row: &Row, load: u64) -> Result<(), Fail> {
     let whole = assert_worked(rt, alloc, &mut NoMemo, row, u64::MAX)?;
-    holds!(rt; whole <= load, whole);
+    holds!(*rt; whole <= load, whole);
     for budget in 1..71u64 {
         let steps = assert_worked(rt, alloc, &mut NoMemo, row, budget)?;
-        same!(rt; steps, whole, budget);
+        same!(*rt; steps, whole, budget);
     }
     Ok(())
 }
@@ -139,7 +139,7 @@ fn taken_front(
     cut: u64,
 ) -> Result<usize, Fail> {
     let queued = session.output().len();
-    holds!(rt; answer.as_bytes().starts_with(session.output()), cut);
+    holds!(*rt; answer.as_bytes().starts_with(session.output()), cut);
     session.take(queued)?;
     Ok(queued)
 }
@@ -154,9 +154,9 @@ fn finish(alloc: Global, session: &mut TestSession) -> Result<(), Fail> {
 
 // What was taken and what is queued are the answer.
 fn assert_rest(rt: &impl Abort, session: &TestSession, answer: &str, taken: usize, cut: u64) {
-    holds!(rt; !session.pending(), cut);
-    holds!(rt; answer.as_bytes().ends_with(session.output()), cut);
-    same!(rt; taken.saturating_add(session.output().len()), answer.len(), cut);
+    holds!(*rt; !session.pending(), cut);
+    holds!(*rt; answer.as_bytes().ends_with(session.output()), cut);
+    same!(*rt; taken.saturating_add(session.output().len()), answer.len(), cut);
 }
 
 // The search is cut after each number of steps, once over each memo.
@@ -198,7 +198,7 @@ fn assert_done(
     session: &TestSession,
     row: &Row,
 ) -> Result<(), Fail> {
-    holds!(rt; !session.pending());
+    holds!(*rt; !session.pending());
     assert_answer(rt, alloc, row, session.output())
 }
 

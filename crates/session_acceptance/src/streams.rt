@@ -15,7 +15,7 @@ fn assert_written(rt: &impl Abort, alloc: Global, sent: &[u8], answer: &str) -> 
     let mut reader = sent;
     let mut writer = Vec::new(alloc);
     stdio(alloc, &mut reader, &mut writer, 4096)?;
-    same!(rt; std::str::from_utf8(writer.as_slice())?, answer);
+    same!(*rt; std::str::from_utf8(writer.as_slice())?, answer);
     Ok(())
 }
 
@@ -37,7 +37,7 @@ fn a_line_that_is_too_long(rt: HostRuntime) -> Result<(), Fail> {
 fn assert_answers(rt: &impl Abort, alloc: Global, read: &[u8], written: &[u8]) -> Result<(), Fail> {
     let (mut reader, mut wanted) = (read, Vec::new(alloc));
     stdio(alloc, &mut reader, &mut wanted, 1)?;
-    holds!(rt; written == wanted.as_slice());
+    holds!(*rt; written == wanted.as_slice());
     Ok(())
 }
 
@@ -53,7 +53,7 @@ fn assert_read(rt: &impl Abort, alloc: Global, reads: usize) -> Result<bool, Fai
             Ok(true)
         }
         Err(fault) => {
-            same!(rt; fault, StdioFault::ReadFailed, reads);
+            same!(*rt; fault, StdioFault::ReadFailed, reads);
             assert_answers(rt, alloc, reader.given(), writer.as_slice())?;
             Ok(false)
         }
@@ -78,7 +78,7 @@ fn each_read_fails_in_turn(rt: HostRuntime) -> Result<(), Fail> {
 // The bytes are a front of the answer of the row.
 fn assert_starts(rt: &impl Abort, alloc: Global, row: &Row, written: &[u8]) -> Result<(), Fail> {
     let whole = joined(alloc, row.answer)?;
-    holds!(rt; whole.as_bytes().starts_with(written));
+    holds!(*rt; whole.as_bytes().starts_with(written));
     Ok(())
 }
 
@@ -92,7 +92,7 @@ fn assert_front(rt: &impl Abort, alloc: Global, mut writer: FailingWriter) -> Re
             Ok(true)
         }
         Err(fault) => {
-            same!(rt; fault, StdioFault::WriteFailed);
+            same!(*rt; fault, StdioFault::WriteFailed);
             assert_starts(rt, alloc, &row, writer.written())?;
             Ok(false)
         }

@@ -39,11 +39,11 @@ fn a_read_that_fails(rt: HostRuntime) -> Result<(), Fail> {
 // What a connection was written in the end, where one call of the wire may have failed.
 fn check_one(rt: &impl Abort, scene: &Scene, number: u64, n: u64) {
     let written = scene.written(number);
-    holds!(rt; scene.is_shut(number), n);
+    holds!(*rt; scene.is_shut(number), n);
     if scene.has_failed(number) {
-        holds!(rt; ANSWER.starts_with(written), n);
+        holds!(*rt; ANSWER.starts_with(written), n);
     } else {
-        holds!(rt; written == ANSWER, n);
+        holds!(*rt; written == ANSWER, n);
     }
 }
 

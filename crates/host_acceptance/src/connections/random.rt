@@ -108,13 +108,13 @@ fn check(
 ) -> Result<bool, Fail> {
     let written = scene.written(client.number);
     let alone = said_alone(alloc, client.sent.as_slice())?;
-    holds!(rt; scene.is_shut(client.number) || !client.takes, seed);
+    holds!(*rt; scene.is_shut(client.number) || !client.takes, seed);
     if written == alone.as_slice() {
         return Ok(true);
     }
     let was_cut = scene.has_failed(client.number) || !client.takes;
     let is_front = alone.as_slice().starts_with(written);
-    holds!(rt; was_cut && is_front || HOST_FULL.starts_with(written), seed);
+    holds!(*rt; was_cut && is_front || HOST_FULL.starts_with(written), seed);
     Ok(false)
 }
 
@@ -156,7 +156,7 @@ fn served_whole(rt: &impl Abort, alloc: Global, seed: u64) -> Result<usize, Fail
     let mut random = Random { state: seed };
     let mut scene = empty(alloc, &mut random)?;
     let clients = connect_some(alloc, &mut scene, &mut random)?;
-    holds!(rt; comes_to_rest(&mut scene), seed);
+    holds!(*rt; comes_to_rest(&mut scene), seed);
     let mut whole = 0usize;
     for client in clients.as_slice() {
         if check(rt, alloc, &scene, client, seed)? {

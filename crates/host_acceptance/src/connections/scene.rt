@@ -169,14 +169,14 @@ impl Scene {
     /// Ends the test where the connection was written something else, or was shut where it is not to be, or
     /// the other way round.
     pub fn is_written<R: Abort>(&self, rt: &R, number: u64, written: &[u8], is_shut: bool) {
-        holds!(rt; self.written(number) == written, number);
-        same!(rt; self.is_shut(number), is_shut, number);
+        holds!(*rt; self.written(number) == written, number);
+        same!(*rt; self.is_shut(number), is_shut, number);
     }
 
     // Turns, of which each moves or not.
     fn moves<R: Abort>(&mut self, rt: &R, wanted: &[bool]) {
         for (turn, moved) in wanted.iter().enumerate() {
-            same!(rt; self.turn(), *moved, turn);
+            same!(*rt; self.turn(), *moved, turn);
         }
     }
 
@@ -193,9 +193,9 @@ impl Scene {
             Step::Written(number, written, is_shut) => {
                 self.is_written(rt, number, written, is_shut);
             }
-            Step::Failed(number, failed) => same!(rt; self.has_failed(number), failed, number),
-            Step::Unread(number, left) => same!(rt; self.unread(number), left, number),
-            Step::Faults(count) => same!(rt; self.faults(), count),
+            Step::Failed(number, failed) => same!(*rt; self.has_failed(number), failed, number),
+            Step::Unread(number, left) => same!(*rt; self.unread(number), left, number),
+            Step::Faults(count) => same!(*rt; self.faults(), count),
         }
         Ok(())
     }
