@@ -71,9 +71,9 @@ impl<'a> Scene<'a> {
         if !self.wire.is_known(number) {
             return false;
         }
-        holds!(rt; self.wire.is_shut(number));
+        holds!(*rt; self.wire.is_shut(number));
         let written = self.wire.written(number);
-        holds!(rt; INFO_AND_BEST_ONE.as_bytes().starts_with(written));
+        holds!(*rt; INFO_AND_BEST_ONE.as_bytes().starts_with(written));
         written == INFO_AND_BEST_ONE.as_bytes()
     }
 }
@@ -116,7 +116,7 @@ fn serve_two(
 fn assert_serves(rt: &impl Abort, scene: &mut Scene<'_>) -> Result<(), Fail> {
     let last = scene.connect()?;
     scene.turn_times(8);
-    holds!(rt; scene.is_served(rt, last));
+    holds!(*rt; scene.is_served(rt, last));
     Ok(())
 }
 
@@ -147,10 +147,10 @@ fn refusals(rt: &impl Abort, alloc: Global, owner: Owner, stays_gone: bool) -> R
     let mut shut = 0usize;
     for n in 1..REQUESTS {
         let (refused, early) = serve(rt, alloc, owner, n, stays_gone)?;
-        holds!(rt; stays_gone || early <= 1, n);
+        holds!(*rt; stays_gone || early <= 1, n);
         shut = shut.saturating_add(early);
         if !refused {
-            holds!(rt; n > 1 && early == 0 && shut > 0);
+            holds!(*rt; n > 1 && early == 0 && shut > 0);
             return Ok(n.saturating_sub(1));
         }
     }

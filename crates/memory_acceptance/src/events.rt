@@ -1,18 +1,15 @@
 //! Each request of a host refused in turn, and the event that was refused sent again.
 
-use host_core::{Event, Host, HostFault, Outcome};
+use crate::host::{TestHost, gave, is_done, is_refused, opened};
+use crate::refusals::{Memory, Trial, refuse_each};
+use host_core::{Event, HostFault, Outcome};
 use session_slots::SessionId;
 use std::alloc::Global;
-use std::hash::{BuildHasherDefault, FoldHasher};
 use std::process::Abort;
 use std::test::Fail;
 use test_support::rows::{INFO_AND_BEST_ONE, joined};
 use test_support::tables::opening;
 use test_support::{FailingAllocator, holds, same};
-
-type Memory = FailingAllocator<Global>;
-
-type FailingHost<'a> = Host<BuildHasherDefault<FoldHasher>, &'a Memory>;
 
 // More requests than a run makes.
 const REQUESTS: u64 = 10_000;
@@ -25,20 +22,18 @@ const ROUNDS: u64 = 100_000;
 struct Served<'a> {
     memory: &'a Memory,
     stays_gone: bool,
-    host: FailingHost<'a>,
+    host: TestHost<&'a Memory>,
     refused: u64,
 }
 
 impl<'a> Served<'a> {
     /// A host of three slots. Where memory is refused it is made again.
     fn new(memory: &'a Memory, stays_gone: bool) -> Result<Served<'a>, Fail> {
-        let first = Host::new(memory, 3, 4096, BuildHasherDefault::<FoldHasher>::new());
-        let refused = u64::from(first.is_err());
-        let host = match first {
-            Ok(host) => host,
+        let (host, refused) = match TestHost::new(memory, 3, 4096) {
+            Ok(host) => (host, 0),
             Err(_) => {
                 memory.refuse_nothing();
-                Host::new(memory, 3, 4096, BuildHasherDefault::<FoldHasher>::new())?
+                (TestHost::new(memory, 3, 4096)?, 1)
             }
         };
         Ok(Served {
@@ -49,16 +44,16 @@ impl<'a> Served<'a> {
         })
     }
 
-    /// Sends the event. Where it is refused for memory it is sent again, while memory stays gone too.
+    /// Sends the event. Where it is refused for memory it is sent again, while memory stays gone
+    /// too.
     fn send(&mut self, rt: &impl Abort, event: Event<'_>) -> Outcome<&'a Memory> {
         let first = self.host.step(event);
-        let Outcome::Refused(HostFault::OutOfMemory) = first else {
+        if !is_refused(&first) {
             return first;
-        };
+        }
         self.refused = self.refused.saturating_add(1);
         if self.stays_gone {
-            let second = self.host.step(event);
-            holds!(rt; matches!(second, Outcome::Refused(HostFault::OutOfMemory)));
+            holds!(*rt; is_refused(&self.host.step(event)));
         }
         self.memory.refuse_nothing();
         self.host.step(event)
@@ -66,11 +61,14 @@ impl<'a> Served<'a> {
 
     /// The id of the session that is opened, with this generation: a refusal uses none.
     fn open(&mut self, rt: &impl Abort, generation: u64) -> Result<SessionId, Fail> {
-        let Outcome::Opened(id) = self.send(rt, Event::Open) else {
-            return Err("a session is opened".into());
-        };
-        same!(rt; id.generation, generation);
+        let id = opened(&self.send(rt, Event::Open))?;
+        same!(*rt; id.generation, generation);
         Ok(id)
+    }
+
+    /// Whether these bytes are queued for the session.
+    fn has(&self, id: SessionId, bytes: &[u8]) -> bool {
+        self.host.output(id) == Some(bytes)
     }
 
     /// Whether what is queued for the session is a front of the answer.
@@ -82,115 +80,120 @@ impl<'a> Served<'a> {
     }
 
     fn feed(&mut self, rt: &impl Abort, id: SessionId, chunk: &[u8]) {
-        let fed = self.send(rt, Event::Feed(id, chunk));
-        holds!(rt; matches!(fed, Outcome::Done));
+        holds!(*rt; is_done(&self.send(rt, Event::Feed(id, chunk))));
     }
 
     /// One step of the session, if it is pending. What is queued stays a front of the answer.
     fn work(&mut self, rt: &impl Abort, id: SessionId, whole: &str) {
         let before = self.refused;
-        let worked = self.send(rt, Event::Work(id, 1));
-        holds!(rt; matches!(worked, Outcome::Worked(_)));
-        holds!(rt; self.refused == before || self.has_front(id, whole));
+        holds!(*rt; is_done(&self.send(rt, Event::Work(id, 1))));
+        holds!(*rt; self.refused == before || self.has_front(id, whole));
     }
 
     /// Takes the whole answer.
-    fn take(&mut self, rt: &impl Abort, id: SessionId, whole: &str) -> Result<(), Fail> {
-        let Outcome::Gave(bytes) = self.send(rt, Event::Take(id, whole.len())) else {
-            return Err("the bytes are given".into());
-        };
-        same!(rt; std::str::from_utf8(bytes.as_slice())?, whole);
-        holds!(rt; self.host.output(id) == Some(b"".as_slice()));
+    fn take(&mut self, rt: &impl Abort, id: SessionId, whole: &str) {
+        let taken = self.send(rt, Event::Take(id, whole.len()));
+        holds!(*rt; gave(&taken, whole.as_bytes()));
+        holds!(*rt; self.has(id, b""));
+    }
+
+    /// Steps of two sessions by turns until both have answered.
+    fn work_off(&mut self, rt: &impl Abort, first: (SessionId, &str), second: (SessionId, &str)) {
+        for _ in 0..ROUNDS {
+            if !self.host.pending(first.0) && !self.host.pending(second.0) {
+                break;
+            }
+            self.work(rt, first.0, first.1);
+            self.work(rt, second.0, second.1);
+        }
+    }
+
+    /// Two sessions, at depths 1 and 3, work by turns, step by step.
+    fn answer_both(&mut self, rt: &impl Abort, sent: &str, three: &str) -> Result<(), Fail> {
+        let first = self.open(rt, 0)?;
+        let second = self.open(rt, 1)?;
+        self.feed(rt, first, b"setoption name Depth value 1\ngo\n");
+        self.feed(rt, second, sent.as_bytes());
+        self.work_off(rt, (first, INFO_AND_BEST_ONE), (second, three));
+        self.take(rt, first, INFO_AND_BEST_ONE);
+        self.take(rt, second, three);
         Ok(())
     }
 }
 
-// Two sessions, at depths 1 and 3, work by turns, step by step.
-fn assert_both_answered(
-    rt: &impl Abort,
-    alloc: Global,
-    served: &mut Served<'_>,
-) -> Result<(), Fail> {
-    let row = opening();
-    let three = joined(alloc, row.answer)?;
-    let first = served.open(rt, 0)?;
-    let second = served.open(rt, 1)?;
-    served.feed(rt, first, b"setoption name Depth value 1\ngo\n");
-    served.feed(rt, second, row.sent.as_bytes());
-    for _ in 0..ROUNDS {
-        if !served.host.pending(first) && !served.host.pending(second) {
-            break;
-        }
-        served.work(rt, first, INFO_AND_BEST_ONE);
-        served.work(rt, second, three.as_str());
-    }
-    served.take(rt, first, INFO_AND_BEST_ONE)?;
-    served.take(rt, second, three.as_str())
+/// Two sessions of a host.
+#[derive(Clone, Copy)]
+struct Both {
+    stays_gone: bool,
 }
 
-// How many requests a run makes: the n-th one of each run is refused, until a run has no n-th one. With all
-// the memory there no event is refused.
-fn refusals(rt: &impl Abort, alloc: Global, stays_gone: bool) -> Result<u64, Fail> {
-    let mut seen = 0u64;
-    for n in 1..REQUESTS {
-        let memory = FailingAllocator::new(alloc);
-        if stays_gone {
-            memory.refuse_from(n);
-        } else {
-            memory.refuse_at(n);
-        }
-        let mut served = Served::new(&memory, stays_gone)?;
-        assert_both_answered(rt, alloc, &mut served)?;
-        if memory.refused() == 0 {
-            holds!(rt; seen > 0 && served.refused == 0);
-            return Ok(n.saturating_sub(1));
-        }
-        seen = seen.saturating_add(served.refused);
+impl Trial for Both {
+    fn run<R: Abort>(&self, rt: &R, alloc: Global, memory: &Memory) -> Result<u64, Fail> {
+        let row = opening();
+        let three = joined(alloc, row.answer)?;
+        let mut served = Served::new(memory, self.stays_gone)?;
+        served.answer_both(rt, row.sent, three.as_str())?;
+        Ok(served.refused)
     }
-    Err(Fail::from("there are always more requests"))
 }
 
-// A request that an event does not need, as one for an entry of the table, is refused without a word.
+// How many requests a run makes.
+fn requests(rt: &impl Abort, alloc: Global, stays_gone: bool) -> Result<u64, Fail> {
+    let met = refuse_each(rt, alloc, &Both { stays_gone }, stays_gone)?;
+    holds!(*rt; met.refusals > 0 && met.requests > 10, met);
+    Ok(met.requests)
+}
+
+// A request that an event does not need, as one for an entry of the table, is refused without a
+// word.
 #[test]
 fn each_request_of_a_host_is_refused_in_turn(rt: HostRuntime) -> Result<(), Fail> {
-    let met = refusals(&rt, rt.alloc(), false)?;
-    holds!(rt; met > 10, met);
+    let met = requests(&rt, rt.alloc(), false)?;
     println!(rt; "a host by steps, one: {met} requests")?;
     Ok(())
 }
 
 #[test]
 fn memory_of_a_host_stays_gone_and_comes_back(rt: HostRuntime) -> Result<(), Fail> {
-    let met = refusals(&rt, rt.alloc(), true)?;
-    holds!(rt; met > 10, met);
+    let met = requests(&rt, rt.alloc(), true)?;
     println!(rt; "a host by steps, all from one on: {met} requests")?;
     Ok(())
 }
 
-// Runs the events, of which the n-th request is refused. Where the run itself is refused nothing has changed,
-// and else the work that was refused is sent again. Tells whether a request was refused.
-fn assert_run(rt: &impl Abort, alloc: Global, n: u64) -> Result<bool, Fail> {
-    let memory = FailingAllocator::new(alloc);
-    let mut served = Served::new(&memory, false)?;
-    let id = served.open(rt, 0)?;
-    served.feed(rt, id, b"isready\n");
-    served.work(rt, id, "readyok\n");
-    memory.refuse_at(n);
-    let run = served.host.run(&[
-        Event::Feed(id, b"go depth 1\n"),
-        Event::Work(id, u64::MAX),
-        Event::Close(id),
-    ]);
-    if let Err(fault) = run {
-        same!(rt; fault, HostFault::OutOfMemory);
-        holds!(rt; n == 1 && !served.host.pending(id));
-        holds!(rt; served.host.output(id) == Some(b"readyok\n".as_slice()));
-        memory.refuse_nothing();
-        served.take(rt, id, "readyok\n")?;
-    } else {
-        holds!(rt; n > 1 && served.host.output(id).is_none());
+impl<'a> Served<'a> {
+    /// Runs the events, of which the n-th request is refused. Where the run itself is refused
+    /// nothing has changed, and else the work that was refused is sent again.
+    fn run(&mut self, rt: &impl Abort, n: u64) -> Result<(), Fail> {
+        let id = self.open(rt, 0)?;
+        self.feed(rt, id, b"isready\n");
+        self.work(rt, id, "readyok\n");
+        self.memory.refuse_at(n);
+        let fault = self.host.run(&[
+            Event::Feed(id, b"go depth 1\n"),
+            Event::Work(id, u64::MAX),
+            Event::Close(id),
+        ]);
+        self.assert_run(rt, id, n, fault);
+        self.open(rt, 1)?;
+        Ok(())
     }
-    served.open(rt, 1)?;
+
+    fn assert_run(&mut self, rt: &impl Abort, id: SessionId, n: u64, fault: Option<HostFault>) {
+        if fault.is_none() {
+            holds!(*rt; n > 1 && self.host.output(id).is_none());
+            return;
+        }
+        same!(*rt; fault, Some(HostFault::OutOfMemory));
+        holds!(*rt; n == 1 && !self.host.pending(id) && self.has(id, b"readyok\n"));
+        self.memory.refuse_nothing();
+        self.take(rt, id, "readyok\n");
+    }
+}
+
+// Whether the n-th request of a run was refused.
+fn is_run_refused(rt: &impl Abort, alloc: Global, n: u64) -> Result<bool, Fail> {
+    let memory = FailingAllocator::new(alloc);
+    Served::new(&memory, false)?.run(rt, n)?;
     Ok(memory.refused() > 0)
 }
 
@@ -198,7 +201,7 @@ fn assert_run(rt: &impl Abort, alloc: Global, n: u64) -> Result<bool, Fail> {
 fn a_run_that_is_refused_answers_no_event(rt: HostRuntime) -> Result<(), Fail> {
     let mut met = 0u64;
     for n in 1..REQUESTS {
-        if !assert_run(&rt, rt.alloc(), n)? {
+        if !is_run_refused(&rt, rt.alloc(), n)? {
             break;
         }
         met = met.saturating_add(1);

@@ -1,19 +1,14 @@
 //! A table that is filled with 1,000,000 positions, and one that may not grow beyond the half.
 
+use crate::refusals::Memory;
+use crate::tables::assert_answers;
 use shared_table::{SharedTable, TableFault};
 use shogi_core::{Color, Hands, Kind, Piece, Position, PositionFault, Role};
 use shogi_eval::Eval;
 use shogi_search::{Entry, Memo, NoMemo, search};
-use std::alloc::Global;
 use std::hash::{BuildHasherDefault, FoldHasher};
-use std::process::Abort;
 use std::test::Fail;
-use test_support::rows::joined;
-use test_support::tables::opening;
 use test_support::{FailingAllocator, holds, same};
-use usi_session::Session;
-
-type Memory = FailingAllocator<Global>;
 
 type FailingTable<'a> = SharedTable<BuildHasherDefault<FoldHasher>, &'a Memory>;
 
@@ -60,22 +55,6 @@ fn fill(table: &mut FailingTable<'_>, count: usize) {
             table.note(&p, Eval::Plain, 0, Entry::Exact(found.value, found.best));
         }
     }
-}
-
-// A session over the table answers the opening position at depth 3 as it should.
-fn assert_answers(
-    rt: &impl Abort,
-    alloc: Global,
-    table: &mut FailingTable<'_>,
-) -> Result<(), Fail> {
-    let row = opening();
-    let answer = joined(alloc, row.answer)?;
-    let mut session = Session::new(alloc);
-    assert!(rt; session.wants_input() && row.sent.len() <= 4096);
-    session.feed(row.sent.as_bytes())?;
-    session.work(table, u64::MAX)?;
-    same!(rt; std::str::from_utf8(session.output())?, answer.as_str());
-    Ok(())
 }
 
 #[test]

@@ -1,25 +1,23 @@
 //! Memory that is refused at one place after another.
 
-use host_core::{Event, Host, HostFault, Outcome};
+use crate::host::{TestHost, gave, is_done, is_refused, opened};
+use crate::session::{TestSession, table_of};
+use host_core::{Event, HostFault, Outcome};
 use linked_list_allocator::LocalHeap;
 use session_slots::SessionId;
-use shared_table::SharedTable;
+use shogi_search::Memo;
 use std::alloc::{AllocError, Global};
-use std::hash::{BuildHasherDefault, FoldHasher};
 use std::process::Abort;
 use std::test::Fail;
 use test_support::rows::{INFO_AND_BEST_ONE, Row, joined};
 use test_support::tables::{cut, sliced};
 use test_support::{holds, same};
-use usi_session::Session;
 
 // Room for the current search, which is the largest block, and for what is read and queued.
 const HEAP: usize = 65_536;
 
 // Memory for two sessions with a search under way each, and for the table.
 const HOST_HEAP: usize = 131_072;
-
-type HeapHost<'a> = Host<BuildHasherDefault<FoldHasher>, &'a LocalHeap>;
 
 // The most slices that a test works.
 const SLICES: u64 = 10_000;
@@ -31,75 +29,136 @@ struct Refused {
     work: bool,
 }
 
-// A ballast leaves the session so many bytes. At the first refusal it is dropped, and what was refused is
-// sent again: what is queued stays a front of the answer, and in the end it is all of it. None where the
-// ballast itself found no room.
+/// A session, and a ballast that takes memory away from it.
+#[derive(Drop)]
+struct Scarce<'a> {
+    session: TestSession<&'a LocalHeap>,
+    ballast: Option<Vec<u8, &'a LocalHeap>>,
+    refused: Refused,
+}
+
+impl<'a> Scarce<'a> {
+    /// The ballast leaves so many bytes. None where it found no room itself.
+    fn new(heap: &'a LocalHeap, left: usize) -> Option<Scarce<'a>> {
+        match Vec::with_capacity(heap, HEAP.saturating_sub(left)) {
+            Ok(block) => Some(Scarce {
+                session: TestSession::new(heap),
+                ballast: Some(block),
+                refused: Refused {
+                    feed: false,
+                    work: false,
+                },
+            }),
+            Err(_) => None,
+        }
+    }
+
+    /// Feeds the session. Where that is refused the ballast is dropped, and it is fed again.
+    fn feed(&mut self, rt: &impl Abort, sent: &str) -> Result<(), Fail> {
+        if self.session.feed(rt, sent.as_bytes()).is_err() {
+            self.refused.feed = true;
+            self.ballast = None;
+            holds!(*rt; self.session.output().is_empty() && self.session.wants_input());
+            self.session.feed(rt, sent.as_bytes())?;
+        }
+        Ok(())
+    }
+
+    /// Works a slice. Where that is refused the ballast is dropped, and what is queued is a front
+    /// of the answer.
+    fn work<M: Memo>(&mut self, rt: &impl Abort, table: &mut M, budget: u64, whole: &str) {
+        if self.session.work(table, budget).is_err() {
+            holds!(*rt; self.ballast.is_some(), "refused with all the memory there");
+            self.refused.work = true;
+            self.ballast = None;
+            holds!(*rt; self.session.pending());
+            holds!(*rt; whole.as_bytes().starts_with(self.session.output()));
+        }
+    }
+
+    fn work_off<M: Memo>(&mut self, rt: &impl Abort, table: &mut M, budget: u64, whole: &str) {
+        for _ in 0..SLICES {
+            if !self.session.pending() {
+                break;
+            }
+            self.work(rt, table, budget, whole);
+        }
+        holds!(*rt; self.session.output() == whole.as_bytes(), whole);
+    }
+}
+
+// At the first refusal the ballast is dropped, and what was refused is sent again: what is queued
+// stays a front of the answer, and in the end it is all of it. None where the ballast itself found
+// no room.
 fn assert_goes_on(
     rt: &impl Abort,
     alloc: Global,
-    heap: &LocalHeap,
     row: &Row,
     left: usize,
     budget: u64,
 ) -> Result<Option<Refused>, Fail> {
-    let hasher = BuildHasherDefault::<FoldHasher>::new();
-    let mut table = SharedTable::new(alloc, 1, hasher)?;
+    let heap = LocalHeap::new(alloc, HEAP)?;
     let whole = joined(alloc, row.answer)?;
-    let (mut feed, mut work) = (false, false);
-    let Ok(block) = Vec::<u8, &LocalHeap>::with_capacity(heap, HEAP.saturating_sub(left)) else {
+    let mut table = table_of(alloc, 1)?;
+    let Some(mut scarce) = Scarce::new(&heap, left) else {
         return Ok(None);
     };
-    let mut ballast = Some(block);
-    let mut session = Session::new(heap);
-    assert!(rt; session.wants_input() && row.sent.as_bytes().len() <= 4096);
-    if session.feed(row.sent.as_bytes()).is_err() {
-        feed = true;
-        ballast = None;
-        holds!(rt; session.output().is_empty() && session.wants_input());
-        session.feed(row.sent.as_bytes())?;
-    }
-    for _ in 0..SLICES {
-        if !session.pending() {
-            break;
-        }
-        if session.work(&mut table, budget).is_err() {
-            holds!(rt; ballast.is_some(), "refused with all the memory there");
-            work = true;
-            ballast = None;
-            holds!(rt; session.pending() && whole.as_bytes().starts_with(session.output()), left);
-        }
-    }
-    same!(rt; std::str::from_utf8(session.output())?, whole.as_str(), left);
-    Ok(Some(Refused { feed, work }))
+    scarce.feed(rt, row.sent)?;
+    scarce.work_off(rt, &mut table, budget, whole.as_str());
+    Ok(Some(scarce.refused))
 }
 
-// From no memory on: the feed is refused, then the current search, then one reply after another, then
-// nothing.
+// From no memory on, by so many bytes.
+fn assert_from_nothing(
+    rt: &impl Abort,
+    alloc: Global,
+    row: &Row,
+    budget: u64,
+    step: usize,
+) -> Result<(), Fail>
+    requires { 1 ≤ step }
+{
+    let (mut fed, mut worked, mut never) = (false, false, false);
+    for blocks in 0..HEAP / step {
+        let left = blocks.saturating_mul(step);
+        if let Some(Refused { feed, work }) = assert_goes_on(rt, alloc, row, left, budget)? {
+            fed |= feed;
+            worked |= work;
+            never |= !feed && !work;
+        }
+    }
+    holds!(*rt; fed && worked && never, fed);
+    Ok(())
+}
+
+// The feed is refused, then the current search, then one reply after another, then nothing.
 #[test]
 fn a_session_goes_on_after_a_refusal(rt: HostRuntime) -> Result<(), Fail> {
     let [_, deeper, _] = sliced();
-    for (row, budget, step) in [(cut(), u64::MAX, 512usize), (deeper, 1, 128)] {
-        let (mut fed, mut worked, mut never) = (false, false, false);
-        for blocks in 0..HEAP / step {
-            let heap = LocalHeap::new(rt.alloc(), HEAP)?;
-            let left = blocks.saturating_mul(step);
-            let refused = assert_goes_on(&rt, rt.alloc(), &heap, &row, left, budget)?;
-            if let Some(Refused { feed, work }) = refused {
-                fed |= feed;
-                worked |= work;
-                never |= !feed && !work;
-            }
-        }
-        holds!(rt; fed && worked && never, fed);
-    }
-    Ok(())
+    assert_from_nothing(&rt, rt.alloc(), &cut(), u64::MAX, 512)?;
+    assert_from_nothing(&rt, rt.alloc(), &deeper, 1, 128)
 }
 
 /// Vectors that take memory away from a host.
 type Ballast<'a> = Vec<Vec<u8, &'a LocalHeap>>;
 
-/// Takes all the memory that is there, in vectors of falling sizes, and then drops so many of the last
-/// ones.
+// Takes blocks of a size until there are none.
+fn take_all<'a>(
+    heap: &'a LocalHeap,
+    ballast: &mut Ballast<'a>,
+    size: usize,
+) -> Result<(), AllocError> {
+    for _ in 0..HOST_HEAP / 32 {
+        let Ok(taken) = Vec::with_capacity(heap, size) else {
+            break;
+        };
+        ballast.push(taken)?;
+    }
+    Ok(())
+}
+
+/// Takes all the memory that is there, in vectors of falling sizes, and then drops so many of the
+/// last ones.
 fn ballast_but<'a>(
     alloc: Global,
     heap: &'a LocalHeap,
@@ -108,12 +167,7 @@ fn ballast_but<'a>(
     let mut ballast = Vec::new(alloc);
     let mut size = HOST_HEAP;
     for _ in 0..13 {
-        for _ in 0..HOST_HEAP / 32 {
-            let Ok(taken) = Vec::with_capacity(heap, size) else {
-                break;
-            };
-            ballast.push(taken)?;
-        }
+        take_all(heap, &mut ballast, size)?;
         size /= 2;
     }
     for _ in 0..dropped {
@@ -122,25 +176,72 @@ fn ballast_but<'a>(
     Ok(ballast)
 }
 
-/// Steps, and steps again without the ballast where memory was refused.
-fn step_twice<'a>(
-    host: &mut HeapHost<'a>,
-    event: Event<'_>,
-    ballast: &mut Ballast<'a>,
-) -> Outcome<&'a LocalHeap> {
-    let first = host.step(event);
-    let Outcome::Refused(HostFault::OutOfMemory) = first else {
-        return first;
-    };
-    ballast.clear();
-    host.step(event)
+/// A host with little memory.
+#[derive(Drop)]
+struct Starved<'a> {
+    host: TestHost<&'a LocalHeap>,
+    ballast: Ballast<'a>,
 }
 
-fn opened(outcome: Outcome<&LocalHeap>) -> Result<SessionId, Fail> {
-    let Outcome::Opened(id) = outcome else {
-        return Err("a session is opened".into());
-    };
-    Ok(id)
+impl<'a> Starved<'a> {
+    fn new(alloc: Global, heap: &'a LocalHeap, entries: usize) -> Result<Starved<'a>, Fail> {
+        Ok(Starved {
+            host: TestHost::new(heap, 2, entries)?,
+            ballast: Vec::new(alloc),
+        })
+    }
+
+    /// Takes the memory but so many blocks. With none left a run answers no event.
+    fn starve(
+        &mut self,
+        rt: &impl Abort,
+        (alloc, heap): (Global, &'a LocalHeap),
+        dropped: usize,
+        events: &[Event<'_>],
+    ) -> Result<(), Fail> {
+        self.ballast = ballast_but(alloc, heap, dropped)?;
+        if dropped == 0 {
+            same!(*rt; self.host.run(events), Some(HostFault::OutOfMemory));
+        }
+        Ok(())
+    }
+
+    /// Steps, and steps again without the ballast where memory was refused.
+    fn step(&mut self, event: Event<'_>) -> Outcome<&'a LocalHeap> {
+        let first = self.host.step(event);
+        if !is_refused(&first) {
+            return first;
+        }
+        self.ballast.clear();
+        self.host.step(event)
+    }
+
+    fn open(&mut self, rt: &impl Abort, generation: u64) -> Result<SessionId, Fail> {
+        let id = opened(&self.step(Event::Open))?;
+        same!(*rt; id.generation, generation);
+        Ok(id)
+    }
+
+    /// A step that is done or gives what `go depth 1` says.
+    fn does(&mut self, rt: &impl Abort, event: Event<'_>) {
+        let outcome = self.step(event);
+        holds!(*rt; is_done(&outcome) || gave(&outcome, INFO_AND_BEST_ONE.as_bytes()), event);
+    }
+
+    /// Whether the ballast was dropped, or is there still.
+    fn is_fed(&self) -> bool {
+        self.ballast.is_empty()
+    }
+}
+
+// Two sessions are opened with so many blocks. Tells whether memory was refused.
+fn assert_opened(rt: &impl Abort, alloc: Global, dropped: usize) -> Result<bool, Fail> {
+    let heap = LocalHeap::new(alloc, HOST_HEAP)?;
+    let mut starved = Starved::new(alloc, &heap, 1)?;
+    starved.starve(rt, (alloc, &heap), dropped, &[Event::Open])?;
+    starved.open(rt, 0)?;
+    starved.open(rt, 1)?;
+    Ok(starved.is_fed())
 }
 
 // A refused opening uses no generation, and a run that finds no memory for its outcomes answers no
@@ -149,63 +250,55 @@ fn opened(outcome: Outcome<&LocalHeap>) -> Result<SessionId, Fail> {
 fn sessions_are_opened_after_a_refusal(rt: HostRuntime) -> Result<(), Fail> {
     let (mut refused, mut never) = (false, false);
     for dropped in 0..24 {
-        let heap = LocalHeap::new(rt.alloc(), HOST_HEAP)?;
-        let hasher = BuildHasherDefault::<FoldHasher>::new();
-        let mut host = Host::new(&heap, 2, 1, hasher)?;
-        let mut ballast = ballast_but(rt.alloc(), &heap, dropped)?;
-        if dropped == 0 {
-            holds!(rt; matches!(host.run(&[Event::Open]), Err(HostFault::OutOfMemory)));
+        if assert_opened(&rt, rt.alloc(), dropped)? {
+            refused = true;
+        } else {
+            never = true;
         }
-        for generation in 0..2 {
-            let id = opened(step_twice(&mut host, Event::Open, &mut ballast))?;
-            same!(rt; id.generation, generation, dropped);
-        }
-        refused = refused || ballast.is_empty();
-        never = never || !ballast.is_empty();
     }
     holds!(rt; refused && never, refused);
     Ok(())
 }
 
+// From an event on so many blocks are left. Tells whether memory was refused.
+fn assert_answered(
+    rt: &impl Abort,
+    alloc: Global,
+    scarce_from: usize,
+    dropped: usize,
+) -> Result<bool, Fail> {
+    let heap = LocalHeap::new(alloc, HOST_HEAP)?;
+    let mut starved = Starved::new(alloc, &heap, 4)?;
+    let (a, b) = (starved.open(rt, 0)?, starved.open(rt, 1)?);
+    let lines = b"setoption name Depth value 1\ngo\nquit\n".as_slice();
+    let feeds = [Event::Feed(a, b"go depth 1\n"), Event::Feed(b, lines)];
+    let works = [Event::Work(a, 40), Event::Work(b, 40)];
+    let takes = [Event::Take(a, 46), Event::Take(b, 46)];
+    let parts = [feeds, works, works, works, takes];
+    for (number, part) in parts.iter().enumerate() {
+        if number == scarce_from {
+            let closes = [Event::Close(a), Event::Close(b)];
+            starved.starve(rt, (alloc, &heap), dropped, &closes)?;
+        }
+        for event in part {
+            starved.does(rt, *event);
+        }
+    }
+    holds!(*rt; !starved.host.pending(a) && starved.host.is_over(b));
+    Ok(starved.is_fed())
+}
+
 // From whichever event on memory is scarce, both sessions say what they would have said.
 #[test]
 fn two_sessions_go_on_after_a_refusal(rt: HostRuntime) -> Result<(), Fail> {
-    for scarce_from in 0..3 {
+    for scarce_from in [0, 2, 4] {
         let (mut refused, mut never) = (false, false);
         for dropped in 0..24 {
-            let heap = LocalHeap::new(rt.alloc(), HOST_HEAP)?;
-            let hasher = BuildHasherDefault::<FoldHasher>::new();
-            let mut host = Host::new(&heap, 2, 4, hasher)?;
-            let a = opened(host.step(Event::Open))?;
-            let b = opened(host.step(Event::Open))?;
-            let feeds = [
-                Event::Feed(a, b"go depth 1\n"),
-                Event::Feed(b, b"setoption name Depth value 1\ngo\nquit\n"),
-            ];
-            let works = [Event::Work(a, 40), Event::Work(b, 40)];
-            let takes = [Event::Take(a, 46), Event::Take(b, 46)];
-            let mut ballast = Vec::new(rt.alloc());
-            let parts = [feeds, works, works, works, takes];
-            for (number, part) in parts.iter().enumerate() {
-                if number == scarce_from * 2 {
-                    ballast = ballast_but(rt.alloc(), &heap, dropped)?;
-                    if dropped == 0 {
-                        let run = host.run(&[Event::Close(a), Event::Close(b)]);
-                        holds!(rt; matches!(run, Err(HostFault::OutOfMemory)));
-                    }
-                }
-                for event in part {
-                    match step_twice(&mut host, *event, &mut ballast) {
-                        Outcome::Done | Outcome::Worked(_) => {}
-                        Outcome::Gave(bytes) =>
-                            same!(rt; std::str::from_utf8(bytes.as_slice())?, INFO_AND_BEST_ONE, dropped),
-                        _ => return Err("nothing is refused twice".into()),
-                    }
-                }
+            if assert_answered(&rt, rt.alloc(), scarce_from, dropped)? {
+                refused = true;
+            } else {
+                never = true;
             }
-            holds!(rt; !host.pending(a) && host.is_over(b));
-            refused = refused || ballast.is_empty();
-            never = never || !ballast.is_empty();
         }
         holds!(rt; refused && never, refused);
     }

@@ -10,15 +10,21 @@ mod events;
 #[cfg(test)]
 mod full;
 #[cfg(test)]
+mod host;
+#[cfg(test)]
 mod hosts;
 #[cfg(test)]
 mod multipv;
+#[cfg(test)]
+mod refusals;
 #[cfg(test)]
 mod requests;
 #[cfg(test)]
 mod room;
 #[cfg(test)]
 mod scripts;
+#[cfg(test)]
+mod session;
 #[cfg(test)]
 mod sockets;
 #[cfg(test)]

@@ -1,88 +1,66 @@
 //! Each request refused in turn while a `go` with several lines is answered.
 
-use host_core::{Event, Host, HostFault, Outcome};
+use crate::host::{TestHost, is_done, is_refused, opened};
+use crate::refusals::{Memory, Trial, refuse_each};
+use crate::session::{TestSession, table_of};
+use host_core::{Event, Outcome};
 use session_slots::SessionId;
-use shared_table::SharedTable;
+use shogi_search::Memo;
 use std::alloc::Global;
-use std::hash::{BuildHasherDefault, FoldHasher};
 use std::process::Abort;
 use std::test::Fail;
 use test_support::rows::{Row, joined};
 use test_support::tables::{more_lines_than_moves, three_of_a_mate, two_plies};
-use test_support::{FailingAllocator, holds, same};
-use usi_session::Session;
-use usi_stdio::{StdioFault, stdio};
-
-type Memory = FailingAllocator<Global>;
-
-type FailingHost<'a> = Host<BuildHasherDefault<FoldHasher>, &'a Memory>;
-
-// More requests than a run makes.
-const REQUESTS: u64 = 10_000;
+use test_support::{holds, same};
 
 // More slices than the searches take.
 const SLICES: u64 = 100_000;
 
-// Which requests a run is refused: one of them, or that one and all after it.
-fn memory_of(alloc: Global, n: u64, stays_gone: bool) -> Memory {
-    let memory = FailingAllocator::new(alloc);
-    if stays_gone {
-        memory.refuse_from(n);
-    } else {
-        memory.refuse_at(n);
-    }
-    memory
+/// A row in a session of its own, in slices of so many steps.
+#[derive(Clone, Copy)]
+struct Slices {
+    row: Row,
+    budget: u64,
 }
 
-// A session over this memory: what it is refused is sent again, with all the memory there. What is queued stays
-// a front of the answer, and in the end it is all of it.
-fn assert_session(
+// What the session is refused is sent again, with all the memory there. What is queued stays a
+// front of the answer, and in the end it is all of it.
+fn answer<M: Memo>(
     rt: &impl Abort,
-    alloc: Global,
+    session: &mut TestSession<&Memory>,
     memory: &Memory,
-    row: &Row,
-    budget: u64,
+    table: &mut M,
+    run: &Slices,
+    whole: &str,
 ) -> Result<(), Fail> {
-    let hasher = BuildHasherDefault::<FoldHasher>::new();
-    let mut table = SharedTable::new(alloc, 64, hasher)?;
-    let whole = joined(alloc, row.answer)?;
-    let mut session = Session::new(memory);
-    assert!(rt; session.wants_input() && row.sent.as_bytes().len() <= 4096);
-    if session.feed(row.sent.as_bytes()).is_err() {
+    let sent = run.row.sent.as_bytes();
+    if session.feed(rt, sent).is_err() {
         memory.refuse_nothing();
-        holds!(rt; session.output().is_empty() && session.wants_input());
-        session.feed(row.sent.as_bytes())?;
+        holds!(*rt; session.output().is_empty() && session.wants_input());
+        session.feed(rt, sent)?;
     }
     for _ in 0..SLICES {
         if !session.pending() {
             break;
         }
-        if session.work(&mut table, budget).is_err() {
-            holds!(rt; memory.refused() > 0 && session.pending());
-            holds!(rt; whole.as_bytes().starts_with(session.output()));
+        if session.work(table, run.budget).is_err() {
+            holds!(*rt; memory.refused() > 0 && session.pending());
+            holds!(*rt; whole.as_bytes().starts_with(session.output()));
             memory.refuse_nothing();
         }
     }
-    same!(rt; std::str::from_utf8(session.output())?, whole.as_str());
+    same!(*rt; std::str::from_utf8(session.output())?, whole);
     Ok(())
 }
 
-// The n-th request of each run is refused, until a run has no n-th one.
-fn session_refusals(
-    rt: &impl Abort,
-    alloc: Global,
-    row: &Row,
-    budget: u64,
-    stays_gone: bool,
-) -> Result<u64, Fail> {
-    for n in 1..REQUESTS {
-        let memory = memory_of(alloc, n, stays_gone);
-        assert_session(rt, alloc, &memory, row, budget)?;
-        if memory.refused() == 0 {
-            return Ok(n.saturating_sub(1));
-        }
+impl Trial for Slices {
+    fn run<R: Abort>(&self, rt: &R, alloc: Global, memory: &Memory) -> Result<u64, Fail> {
+        let whole = joined(alloc, self.row.answer)?;
+        let mut table = table_of(alloc, 64)?;
+        let mut session = TestSession::new(memory);
+        answer(rt, &mut session, memory, &mut table, self, whole.as_str())?;
+        Ok(0)
     }
-    Err(Fail::from("there are always more requests"))
 }
 
 #[test]
@@ -90,126 +68,89 @@ fn each_request_of_a_session_is_refused_in_turn(rt: HostRuntime) -> Result<(), F
     for row in [more_lines_than_moves(), three_of_a_mate(), two_plies()] {
         for budget in [50, u64::MAX] {
             for stays_gone in [false, true] {
-                let met = session_refusals(&rt, rt.alloc(), &row, budget, stays_gone)?;
-                holds!(rt; met > 5, met);
+                let met = refuse_each(&rt, rt.alloc(), &Slices { row, budget }, stays_gone)?;
+                holds!(rt; met.requests > 5, met);
             }
         }
     }
     Ok(())
 }
 
-// The streams over this memory: out of memory with a front of the answer, or all of it.
-fn assert_streams(
-    rt: &impl Abort,
-    alloc: Global,
-    memory: &Memory,
-    row: &Row,
-    entries: usize,
-) -> Result<bool, Fail> {
-    assert!(rt; entries >= 1 && entries <= 1_000_000);
-    let whole = joined(alloc, row.answer)?;
-    let mut reader = row.sent.as_bytes();
-    let mut writer = Vec::new(alloc);
-    let ended = stdio(memory, &mut reader, &mut writer, entries);
-    match ended {
-        Ok(()) => {
-            same!(rt; std::str::from_utf8(writer.as_slice())?, whole.as_str());
-            Ok(true)
-        }
-        Err(fault) => {
-            same!(rt; fault, StdioFault::OutOfMemory);
-            holds!(rt; memory.refused() > 0, "refused with all the memory there");
-            holds!(rt; whole.as_bytes().starts_with(writer.as_slice()));
-            Ok(false)
-        }
-    }
+/// A host over this memory.
+#[derive(Drop)]
+struct Served<'a> {
+    memory: &'a Memory,
+    host: TestHost<&'a Memory>,
 }
 
-#[test]
-fn each_request_of_the_streams_is_refused_in_turn(rt: HostRuntime) -> Result<(), Fail> {
-    let (short, mate) = (two_plies(), three_of_a_mate());
-    for (row, entries) in [(short, 1), (short, 4096), (mate, 4096)] {
-        let (mut ended_early, mut last) = (0u64, 0u64);
-        for n in 1..REQUESTS {
-            let memory = memory_of(rt.alloc(), n, false);
-            if !assert_streams(&rt, rt.alloc(), &memory, &row, entries)? {
-                ended_early = ended_early.saturating_add(1);
-            }
-            if memory.refused() == 0 {
-                last = n;
+impl<'a> Served<'a> {
+    /// Sends the event, and where it is refused for memory once more, with all the memory there.
+    fn send(&mut self, event: Event<'_>) -> Outcome<&'a Memory> {
+        let first = self.host.step(event);
+        if !is_refused(&first) {
+            return first;
+        }
+        self.memory.refuse_nothing();
+        self.host.step(event)
+    }
+
+    fn does(&mut self, rt: &impl Abort, event: Event<'_>) {
+        holds!(*rt; is_done(&self.send(event)), event);
+    }
+
+    fn open(&mut self) -> Result<SessionId, Fail> {
+        opened(&self.send(Event::Open))
+    }
+
+    fn work_off(&mut self, rt: &impl Abort, first: SessionId, second: SessionId) {
+        for _ in 0..SLICES {
+            if !self.host.pending(first) && !self.host.pending(second) {
                 break;
             }
-        }
-        holds!(rt; ended_early > 5 && last > 5, ended_early);
-    }
-    Ok(())
-}
-
-// Sends the event, and where it is refused for memory once more, with all the memory there.
-fn send<'a>(
-    host: &mut FailingHost<'a>,
-    memory: &'a Memory,
-    event: Event<'_>,
-) -> Outcome<&'a Memory> {
-    let first = host.step(event);
-    let Outcome::Refused(HostFault::OutOfMemory) = first else {
-        return first;
-    };
-    memory.refuse_nothing();
-    host.step(event)
-}
-
-fn opened(outcome: Outcome<&Memory>) -> Result<SessionId, Fail> {
-    let Outcome::Opened(id) = outcome else {
-        return Err("a session is opened".into());
-    };
-    Ok(id)
-}
-
-// Two sessions with numbers of lines of their own work by turns over one table.
-fn assert_host(rt: &impl Abort, alloc: Global, memory: &Memory) -> Result<(), Fail> {
-    let hasher = BuildHasherDefault::<FoldHasher>::new();
-    let Ok(mut host) = Host::new(memory, 2, 64, hasher) else {
-        holds!(rt; memory.refused() > 0);
-        return Ok(());
-    };
-    let rows = [more_lines_than_moves(), three_of_a_mate()];
-    let first = opened(send(&mut host, memory, Event::Open))?;
-    let second = opened(send(&mut host, memory, Event::Open))?;
-    let ids = [first, second];
-    for (id, row) in ids.into_iter().zip(rows) {
-        let fed = send(&mut host, memory, Event::Feed(id, row.sent.as_bytes()));
-        holds!(rt; matches!(fed, Outcome::Done));
-    }
-    for _ in 0..SLICES {
-        if !host.pending(first) && !host.pending(second) {
-            break;
-        }
-        for id in ids {
-            let worked = send(&mut host, memory, Event::Work(id, 20));
-            holds!(rt; matches!(worked, Outcome::Worked(_)));
+            self.does(rt, Event::Work(first, 20));
+            self.does(rt, Event::Work(second, 20));
         }
     }
-    for (id, row) in ids.into_iter().zip(rows) {
+
+    fn has_answered(&self, alloc: Global, id: SessionId, row: &Row) -> Result<bool, Fail> {
         let answer = joined(alloc, row.answer)?;
-        holds!(rt; host.output(id) == Some(answer.as_bytes()), row.sent);
+        Ok(self.host.output(id) == Some(answer.as_bytes()))
     }
-    Ok(())
+
+    // Two sessions with numbers of lines of their own work by turns over one table.
+    fn answers_both(&mut self, rt: &impl Abort, alloc: Global) -> Result<(), Fail> {
+        let (one, other) = (more_lines_than_moves(), three_of_a_mate());
+        let (first, second) = (self.open()?, self.open()?);
+        self.does(rt, Event::Feed(first, one.sent.as_bytes()));
+        self.does(rt, Event::Feed(second, other.sent.as_bytes()));
+        self.work_off(rt, first, second);
+        holds!(*rt; self.has_answered(alloc, first, &one)?);
+        holds!(*rt; self.has_answered(alloc, second, &other)?);
+        Ok(())
+    }
+}
+
+/// A host with two sessions.
+#[derive(Clone, Copy)]
+struct Both;
+
+impl Trial for Both {
+    fn run<R: Abort>(&self, rt: &R, alloc: Global, memory: &Memory) -> Result<u64, Fail> {
+        match TestHost::new(memory, 2, 64) {
+            Ok(host) => {
+                Served { memory, host }.answers_both(rt, alloc)?;
+                Ok(0)
+            }
+            Err(_) => Ok(1),
+        }
+    }
 }
 
 #[test]
 fn each_request_of_a_host_is_refused_in_turn(rt: HostRuntime) -> Result<(), Fail> {
     for stays_gone in [false, true] {
-        let mut last = 0u64;
-        for n in 1..REQUESTS {
-            let memory = memory_of(rt.alloc(), n, stays_gone);
-            assert_host(&rt, rt.alloc(), &memory)?;
-            if memory.refused() == 0 {
-                last = n;
-                break;
-            }
-        }
-        holds!(rt; last > 10, last);
+        let met = refuse_each(&rt, rt.alloc(), &Both, stays_gone)?;
+        holds!(rt; met.requests > 9, met);
     }
     Ok(())
 }

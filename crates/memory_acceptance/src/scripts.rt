@@ -1,132 +1,138 @@
 //! Memory that is refused to a script.
 
+use crate::refusals::{Memory, Trial, refuse_each};
 use linked_list_allocator::LocalHeap;
-use std::alloc::Global;
+use std::alloc::{Allocator, Global};
 use std::process::Abort;
 use std::test::Fail;
 use test_support::fakes::FailingReader;
 use test_support::rows::joined;
 use test_support::scripts::Script;
 use test_support::tables::{two_ready, two_sessions};
-use test_support::{FailingAllocator, holds, same};
+use test_support::{holds, same};
 use usi_replay::{ReplayFault, replay};
 
-// More requests than a run makes.
-const REQUESTS: u64 = 10_000;
+/// A script that is read in reads of at most so many bytes, over a table of so many entries, in
+/// slices of so many steps.
+#[derive(Clone, Copy)]
+struct Replay {
+    script: Script,
+    most: usize,
+    entries: usize,
+    slice: u64,
+}
 
-// Heaps of growing sizes, from nothing on: out of memory with nothing written, or all of the output.
-fn assert_refusals(
+// Plays the script over this memory: out of memory with nothing written, or all of the output.
+// Tells whether it was written.
+fn is_played<A: Allocator + Copy>(
     rt: &impl Abort,
     alloc: Global,
-    script: &Script,
+    memory: A,
+    run: &Replay,
+) -> Result<bool, Fail> {
+    let output = joined(alloc, run.script.output)?;
+    let mut reader = FailingReader::new(run.script.text.as_bytes(), run.most, usize::MAX);
+    let mut writer = Vec::new(alloc);
+    let (slots, entries) = (
+        run.script.slots.clamp(1, 1024),
+        run.entries.clamp(1, 1_000_000),
+    );
+    let ended = replay(
+        memory,
+        &mut reader,
+        &mut writer,
+        slots,
+        entries,
+        run.slice.max(1),
+    );
+    Ok(is_whole(rt, ended, writer.as_slice(), output.as_bytes()))
+}
+
+fn is_whole(
+    rt: &impl Abort,
+    ended: Result<(), ReplayFault>,
+    written: &[u8],
+    output: &[u8],
+) -> bool {
+    match ended {
+        Ok(()) => {
+            holds!(*rt; written == output);
+            true
+        }
+        Err(fault) => {
+            same!(*rt; fault, ReplayFault::OutOfMemory);
+            holds!(*rt; written.is_empty());
+            false
+        }
+    }
+}
+
+// Heaps of growing sizes, from nothing on.
+fn assert_heaps(
+    rt: &impl Abort,
+    alloc: Global,
+    script: Script,
     entries: usize,
     step: usize,
 ) -> Result<(), Fail> {
-    let slots = script.slots;
-    assert!(rt; entries >= 1 && entries <= 1_000_000 && slots >= 1 && slots <= 1024);
-    let output = joined(alloc, script.output)?;
+    let run = Replay {
+        script,
+        most: 16,
+        entries,
+        slice: 1000,
+    };
     let (mut refused, mut passed) = (false, false);
     for blocks in 0..200usize {
-        let size = blocks.saturating_mul(step);
-        let heap = LocalHeap::new(alloc, size)?;
-        let mut reader = FailingReader::new(script.text.as_bytes(), 16, usize::MAX);
-        let mut writer = Vec::new(alloc);
-        match replay(&heap, &mut reader, &mut writer, slots, entries, 1000) {
-            Ok(()) => {
-                passed = true;
-                same!(rt; std::str::from_utf8(writer.as_slice())?, output.as_str(), size);
-            }
-            Err(fault) => {
-                refused = true;
-                same!(rt; fault, ReplayFault::OutOfMemory, size);
-                holds!(rt; writer.is_empty(), size);
-            }
+        let heap = LocalHeap::new(alloc, blocks.saturating_mul(step))?;
+        if is_played(rt, alloc, &heap, &run)? {
+            passed = true;
+        } else {
+            refused = true;
         }
     }
-    holds!(rt; refused && passed, refused);
+    holds!(*rt; refused && passed, refused);
     Ok(())
 }
 
 #[test]
 fn refused_memory_of_a_script(rt: HostRuntime) -> Result<(), Fail> {
-    assert_refusals(&rt, rt.alloc(), &two_ready(), 4, 64)?;
-    let searches = two_sessions();
-    assert_refusals(&rt, rt.alloc(), &searches, 1, 640)?;
-    assert_refusals(&rt, rt.alloc(), &searches, 4096, 4096)
+    assert_heaps(&rt, rt.alloc(), two_ready(), 4, 64)?;
+    assert_heaps(&rt, rt.alloc(), two_sessions(), 1, 640)?;
+    assert_heaps(&rt, rt.alloc(), two_sessions(), 4096, 4096)
 }
 
-// Plays the script over this memory: out of memory with nothing written, or all of the output.
-fn assert_played(
-    rt: &impl Abort,
-    alloc: Global,
-    memory: &FailingAllocator<Global>,
-    script: &Script,
-    entries: usize,
-) -> Result<bool, Fail> {
-    let slots = script.slots;
-    assert!(rt; entries >= 1 && entries <= 1_000_000 && slots >= 1 && slots <= 1024);
-    let output = joined(alloc, script.output)?;
-    let mut reader = script.text.as_bytes();
-    let mut writer = Vec::new(alloc);
-    let ended = replay(memory, &mut reader, &mut writer, slots, entries, 1);
-    match ended {
-        Ok(()) => {
-            same!(rt; std::str::from_utf8(writer.as_slice())?, output.as_str());
-            Ok(true)
-        }
-        Err(fault) => {
-            same!(rt; fault, ReplayFault::OutOfMemory);
-            holds!(rt; memory.refused() > 0, "refused with all the memory there");
-            holds!(rt; writer.is_empty());
-            Ok(false)
-        }
+impl Trial for Replay {
+    fn run<R: Abort>(&self, rt: &R, alloc: Global, memory: &Memory) -> Result<u64, Fail> {
+        Ok(u64::from(!is_played(rt, alloc, memory, self)?))
     }
 }
 
-// How many requests were refused in the runs: the n-th one of each run, and where memory stays gone each one
-// after it, until a run has no n-th request.
-fn refusals(
-    rt: &impl Abort,
-    alloc: Global,
-    script: &Script,
-    entries: usize,
-    stays_gone: bool,
-) -> Result<u64, Fail> {
-    let mut ended_early = 0u64;
-    for n in 1..REQUESTS {
-        let memory = FailingAllocator::new(alloc);
-        if stays_gone {
-            memory.refuse_from(n);
-        } else {
-            memory.refuse_at(n);
-        }
-        if !assert_played(rt, alloc, &memory, script, entries)? {
-            ended_early = ended_early.saturating_add(1);
-        }
-        if memory.refused() == 0 {
-            holds!(rt; ended_early > 0);
-            return Ok(n.saturating_sub(1));
-        }
-    }
-    Err(Fail::from("there are always more requests"))
+// How many requests a run makes, over a table of one entry and over one of 4,096.
+fn requests(rt: &impl Abort, alloc: Global, stays_gone: bool) -> Result<(u64, u64), Fail> {
+    let mut run = Replay {
+        script: two_sessions(),
+        most: usize::MAX,
+        entries: 1,
+        slice: 1,
+    };
+    let few = refuse_each(rt, alloc, &run, stays_gone)?;
+    run.entries = 4096;
+    let many = refuse_each(rt, alloc, &run, stays_gone)?;
+    holds!(*rt; few.refusals > 0 && many.refusals > 0);
+    holds!(*rt; few.requests > 0 && many.requests > few.requests, few);
+    Ok((few.requests, many.requests))
 }
 
 #[test]
 fn each_request_of_a_script_is_refused_in_turn(rt: HostRuntime) -> Result<(), Fail> {
-    let script = two_sessions();
-    let few = refusals(&rt, rt.alloc(), &script, 1, false)?;
-    let many = refusals(&rt, rt.alloc(), &script, 4096, false)?;
-    holds!(rt; few > 0 && many > few, few);
+    let (few, many) = requests(&rt, rt.alloc(), false)?;
     println!(rt; "replay, one: {few} requests with a table of 1 entry, {many} of 4,096")?;
     Ok(())
 }
 
 #[test]
 fn memory_of_a_script_stays_gone(rt: HostRuntime) -> Result<(), Fail> {
-    let script = two_sessions();
-    let few = refusals(&rt, rt.alloc(), &script, 1, true)?;
-    let many = refusals(&rt, rt.alloc(), &script, 4096, true)?;
-    holds!(rt; few > 0 && many > few, few);
+    let (few, many) = requests(&rt, rt.alloc(), true)?;
     println!(rt;
         "replay, all from one on: {few} requests with a table of 1 entry, {many} of 4,096"
     )?;

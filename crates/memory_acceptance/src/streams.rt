@@ -1,20 +1,75 @@
 //! Memory that is refused to the program's streams.
 
+use crate::refusals::{Memory, Met, Trial, refuse_each};
 use linked_list_allocator::LocalHeap;
-use std::alloc::Global;
+use std::alloc::{Allocator, Global};
 use std::process::Abort;
 use std::test::Fail;
 use test_support::fakes::FailingReader;
 use test_support::rows::{Row, joined};
-use test_support::tables::opening;
-use test_support::{FailingAllocator, holds, same};
+use test_support::tables::{opening, three_of_a_mate, two_plies};
+use test_support::{holds, same};
 use usi_stdio::{StdioFault, stdio};
 
-// More requests than a run makes.
-const REQUESTS: u64 = 10_000;
+/// What is sent, in reads of at most so many bytes, and what is answered over a table of so many
+/// entries.
+#[derive(Clone, Copy)]
+struct Run<'a> {
+    sent: &'a [u8],
+    most: usize,
+    whole: &'a [u8],
+    entries: usize,
+}
 
-// Heaps of growing sizes, from nothing on: out of memory with a front of the answer, or all of it. The
-// largest block is the current search, and the small ones come before and after it.
+// The streams over this memory: out of memory with a front of the answer, or all of it. Tells
+// whether all of it was written.
+fn is_written<A: Allocator + Copy>(
+    rt: &impl Abort,
+    alloc: Global,
+    memory: A,
+    run: &Run<'_>,
+) -> bool {
+    let mut reader = FailingReader::new(run.sent, run.most, usize::MAX);
+    let mut writer = Vec::new(alloc);
+    let ended = stdio(
+        memory,
+        &mut reader,
+        &mut writer,
+        run.entries.clamp(1, 1_000_000),
+    );
+    is_whole(rt, ended, writer.as_slice(), run.whole)
+}
+
+fn is_whole(rt: &impl Abort, ended: Result<(), StdioFault>, written: &[u8], whole: &[u8]) -> bool {
+    match ended {
+        Ok(()) => {
+            holds!(*rt; written == whole);
+            true
+        }
+        Err(fault) => {
+            same!(*rt; fault, StdioFault::OutOfMemory);
+            holds!(*rt; whole.starts_with(written));
+            false
+        }
+    }
+}
+
+// Heaps of growing sizes, from nothing on. The largest block is the current search, and the small
+// ones come before and after it.
+fn assert_heaps(rt: &impl Abort, alloc: Global, run: &Run<'_>, step: usize) -> Result<(), Fail> {
+    let (mut refused, mut passed) = (false, false);
+    for blocks in 0..200usize {
+        let heap = LocalHeap::new(alloc, blocks.saturating_mul(step))?;
+        if is_written(rt, alloc, &heap, run) {
+            passed = true;
+        } else {
+            refused = true;
+        }
+    }
+    holds!(*rt; refused && passed, refused);
+    Ok(())
+}
+
 fn assert_refusals(
     rt: &impl Abort,
     alloc: Global,
@@ -22,30 +77,16 @@ fn assert_refusals(
     entries: usize,
     step: usize,
 ) -> Result<(), Fail> {
-    assert!(rt; entries >= 1 && entries <= 1000000);
     let mut whole = Vec::new(alloc);
     let mut reader = sent.as_bytes();
-    stdio(alloc, &mut reader, &mut whole, entries)?;
-    let (mut refused, mut passed) = (false, false);
-    for blocks in 0..200usize {
-        let size = blocks.saturating_mul(step);
-        let heap = LocalHeap::new(alloc, size)?;
-        let mut reader = FailingReader::new(sent.as_bytes(), 16, usize::MAX);
-        let mut writer = Vec::new(alloc);
-        match stdio(&heap, &mut reader, &mut writer, entries) {
-            Ok(()) => {
-                passed = true;
-                same!(rt; writer, whole, size);
-            }
-            Err(fault) => {
-                refused = true;
-                same!(rt; fault, StdioFault::OutOfMemory, size);
-                holds!(rt; whole.starts_with(writer.as_slice()), size);
-            }
-        }
-    }
-    holds!(rt; refused && passed, refused);
-    Ok(())
+    stdio(alloc, &mut reader, &mut whole, entries.clamp(1, 1_000_000))?;
+    let run = Run {
+        sent: sent.as_bytes(),
+        most: 16,
+        whole: whole.as_slice(),
+        entries,
+    };
+    assert_heaps(rt, alloc, &run, step)
 }
 
 #[test]
@@ -59,81 +100,74 @@ fn refused_memory(rt: HostRuntime) -> Result<(), Fail> {
     assert_refusals(&rt, rt.alloc(), deep, 4096, 4096)
 }
 
-// Runs the row over this memory: out of memory with a front of the answer, or all of it.
-fn assert_run(
-    rt: &impl Abort,
-    alloc: Global,
-    memory: &FailingAllocator<Global>,
-    row: &Row,
+/// A row over a table of so many entries.
+#[derive(Clone, Copy)]
+struct Streams {
+    row: Row,
     entries: usize,
-) -> Result<bool, Fail> {
-    assert!(rt; entries >= 1 && entries <= 1_000_000);
-    let whole = joined(alloc, row.answer)?;
-    let mut reader = row.sent.as_bytes();
-    let mut writer = Vec::new(alloc);
-    let ended = stdio(memory, &mut reader, &mut writer, entries);
-    match ended {
-        Ok(()) => {
-            same!(rt; std::str::from_utf8(writer.as_slice())?, whole.as_str());
-            Ok(true)
-        }
-        Err(fault) => {
-            same!(rt; fault, StdioFault::OutOfMemory);
-            holds!(rt; memory.refused() > 0, "refused with all the memory there");
-            holds!(rt; whole.as_bytes().starts_with(writer.as_slice()));
-            Ok(false)
-        }
+}
+
+impl Trial for Streams {
+    fn run<R: Abort>(&self, rt: &R, alloc: Global, memory: &Memory) -> Result<u64, Fail> {
+        let whole = joined(alloc, self.row.answer)?;
+        let run = Run {
+            sent: self.row.sent.as_bytes(),
+            most: usize::MAX,
+            whole: whole.as_bytes(),
+            entries: self.entries,
+        };
+        Ok(u64::from(!is_written(rt, alloc, memory, &run)))
     }
 }
 
-// How many requests were refused in the runs: the n-th one of each run, and where memory stays gone each one
-// after it, until a run has no n-th request.
-fn refusals(
+fn met_by(
     rt: &impl Abort,
     alloc: Global,
-    row: &Row,
+    row: Row,
     entries: usize,
     stays_gone: bool,
-) -> Result<u64, Fail> {
-    let mut ended_early = 0u64;
-    for n in 1..REQUESTS {
-        let memory = FailingAllocator::new(alloc);
-        if stays_gone {
-            memory.refuse_from(n);
-        } else {
-            memory.refuse_at(n);
-        }
-        if !assert_run(rt, alloc, &memory, row, entries)? {
-            ended_early = ended_early.saturating_add(1);
-        }
-        if memory.refused() == 0 {
-            holds!(rt; ended_early > 0);
-            return Ok(n.saturating_sub(1));
-        }
-    }
-    Err(Fail::from("there are always more requests"))
+) -> Result<Met, Fail> {
+    refuse_each(rt, alloc, &Streams { row, entries }, stays_gone)
 }
 
-// A table of one entry asks for memory at the start alone; a larger one grows, and a growth that is refused
-// costs what it would have kept.
+// How many requests a run makes, over a table of one entry and over one of 4,096.
+fn requests(rt: &impl Abort, alloc: Global, stays_gone: bool) -> Result<(u64, u64), Fail> {
+    let few = met_by(rt, alloc, opening(), 1, stays_gone)?;
+    let many = met_by(rt, alloc, opening(), 4096, stays_gone)?;
+    holds!(*rt; few.refusals > 0 && many.refusals > 0);
+    holds!(*rt; few.requests > 0 && many.requests > few.requests, few);
+    Ok((few.requests, many.requests))
+}
+
+// A table of one entry asks for memory at the start alone; a larger one grows, and a growth that is
+// refused costs what it would have kept.
 #[test]
 fn each_request_of_the_streams_is_refused_in_turn(rt: HostRuntime) -> Result<(), Fail> {
-    let row = opening();
-    let few = refusals(&rt, rt.alloc(), &row, 1, false)?;
-    let many = refusals(&rt, rt.alloc(), &row, 4096, false)?;
-    holds!(rt; few > 0 && many > few, few);
+    let (few, many) = requests(&rt, rt.alloc(), false)?;
     println!(rt; "stdio, one: {few} requests with a table of 1 entry, {many} of 4,096")?;
     Ok(())
 }
 
 #[test]
 fn memory_of_the_streams_stays_gone(rt: HostRuntime) -> Result<(), Fail> {
-    let row = opening();
-    let few = refusals(&rt, rt.alloc(), &row, 1, true)?;
-    let many = refusals(&rt, rt.alloc(), &row, 4096, true)?;
-    holds!(rt; few > 0 && many > few, few);
+    let (few, many) = requests(&rt, rt.alloc(), true)?;
     println!(rt;
         "stdio, all from one on: {few} requests with a table of 1 entry, {many} of 4,096"
     )?;
+    Ok(())
+}
+
+#[test]
+fn each_request_of_streams_with_several_lines_is_refused_in_turn(
+    rt: HostRuntime,
+) -> Result<(), Fail> {
+    for (row, entries) in [
+        (two_plies(), 1),
+        (two_plies(), 4096),
+        (three_of_a_mate(), 4096),
+    ] {
+        let met = met_by(&rt, rt.alloc(), row, entries, false)?;
+        holds!(rt; met.refusals > 5 && met.requests > 4, met);
+    }
     Ok(())
 }
