@@ -29,7 +29,8 @@ pub struct Notes {
     kept: Vec<Kept>,
     most: usize,
     /// Whether each node is asked for and noted. Else a leaf that surely has a legal move is valued at
-    /// once, and of the nodes of depth 1 the root alone is asked for and noted.
+    /// once, and of the nodes of depth 1, and of all where nothing is kept, the root alone is asked for
+    /// and noted.
     asks_all: bool,
     /// Nodes entered, nodes left, and children that a note answered.
     pub steps: u64,
@@ -47,6 +48,11 @@ impl Notes {
             steps: 0,
             calls: 0,
         }
+    }
+
+    /// Whether a child of the depth is asked for, and noted unless it is a leaf.
+    fn serves(&self, depth: u8) -> bool {
+        self.asks_all || depth == 0 || (depth > 1 && self.most > 0)
     }
 
     /// Where the note of the position under the evaluation at the depth is.
@@ -503,7 +509,7 @@ fn visit(
                 outlook.has_weak = true;
             } else {
                 let (under, over) = (beta.saturating_neg(), threshold.saturating_neg());
-                let is_asked = !is_told && (below != 1 || notes.asks_all);
+                let is_asked = !is_told && notes.serves(below);
                 let answer = if is_asked {
                     notes.answer(&branch.position, e, below, under, over)?
                 } else {
