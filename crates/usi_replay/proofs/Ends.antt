@@ -8,7 +8,7 @@ use Rattle.usi_session.specs.Replies.{replies}
 use Rattle.host_core.specs.Steps.{HostState}
 use Rattle.host_core.specs.Steps.{new_host}
 use Rattle.usi_replay.specs.Script.{Opening, section, output, or_else, openings_after_line, read_from, read_script, meaning}
-use Rattle.usi_replay.specs.Playback.{Transcript, no_transcript, no_opening, open_id, transcript_section, HasAllReplies, HasMade, IsTranscriptOf, AreTranscripts, IsPlayback, KeepsPlayback, IsReadTo, LeadsTo, Plays}
+use Rattle.usi_replay.specs.Playback.{Transcript, play, no_transcript, no_opening, open_id, transcript_section, HasAllReplies, HasMade, IsTranscriptOf, AreTranscripts, IsPlayback, KeepsPlayback, IsReadTo, LeadsTo, Plays}
 use Rattle.usi_replay.specs.Replayed.{IsOutputOf}
 use Rattle.usi_replay.proofs.Transcripts.{transcripts_get, transcripts_len}
 use Rattle.usi_lines.specs.declared.line.TheConstants.{LINE_FEED}
@@ -34,7 +34,7 @@ WritesTo old es now fs i out = (slots : ℕ) (os : List Opening) → IsPlayback 
 pub writes_start : (h : HostState) (es : List Transcript) → WritesTo h es h es 0 []
 writes_start h es slots os p = (p, refl)
 
-pub writes_next : (old mid new : HostState) (es fs gs : List Transcript) (i : ℕ) (out more : List ℕ) (x : Transcript) → WritesTo old es mid fs i out → KeepsPlayback mid fs new gs → ((slots : ℕ) (os : List Opening) → IsPlayback slots mid os fs → open_id (get_or gs i no_transcript) ≢ None → HasAllReplies (get_or os i no_opening) (get_or gs i no_transcript)) → i < length gs → get_or gs i no_transcript ≡ x → more ≡ out ++ transcript_section x → WritesTo old es new gs (i + 1) more
+pub writes_next : (old mid new : HostState) (es fs gs : List Transcript) (i : ℕ) (out more : List ℕ) (x : Transcript) → WritesTo old es mid fs i out → KeepsPlayback (play mid fs) (play new gs) → ((slots : ℕ) (os : List Opening) → IsPlayback slots mid os fs → open_id (get_or gs i no_transcript) ≢ None → HasAllReplies (get_or os i no_opening) (get_or gs i no_transcript)) → i < length gs → get_or gs i no_transcript ≡ x → more ≡ out ++ transcript_section x → WritesTo old es new gs (i + 1) more
 writes_next old mid new es fs gs i out more x w played all lt item e slots os p =
     let q = w slots os p in
     let r : IsPlayback slots new os gs = played slots os q.0 in
@@ -69,7 +69,7 @@ read_end : (slots number : ℕ) (os : List Opening) → read_from slots number [
 unfolding read_from
 read_end slots number os = refl
 
-pub read_next : (slots : ℕ) (h new : HostState) (es fs : List Transcript) (bytes : List ℕ) (number : ℕ) (rest left : List ℕ) (line : Line) → IsReadTo slots h es bytes number rest → lines rest ≡ line ∷ lines left → Plays true h es (meaning line) new fs → IsReadTo slots new fs bytes (number + 1) left
+pub read_next : (slots : ℕ) (h new : HostState) (es fs : List Transcript) (bytes : List ℕ) (number : ℕ) (rest left : List ℕ) (line : Line) → IsReadTo slots h es bytes number rest → lines rest ≡ line ∷ lines left → Plays {E = Bool} (Ok true) (play h es) (meaning line) (play new fs) → IsReadTo slots new fs bytes (number + 1) left
 read_next slots h new es fs bytes number rest left line r e d =
     let q : LeadsTo true slots (openings_after_line slots line r.openings) new fs = d slots r.openings r.play in
     record {
@@ -78,7 +78,7 @@ read_next slots h new es fs bytes number rest left line r e d =
       comes = r.comes ∙ (ap (λ (ls : List Line). read_from slots (number + 1) ls r.openings) e ∙ read_good slots (number + 1) line (lines left) r.openings q.0 q.1);
     }
 
-pub read_fails : (slots : ℕ) (h new : HostState) (es fs : List Transcript) (bytes : List ℕ) (number : ℕ) (rest left : List ℕ) (line : Line) → IsReadTo slots h es bytes number rest → lines rest ≡ line ∷ lines left → Plays false h es (meaning line) new fs → read_script slots bytes ≡ Err (number + 1)
+pub read_fails : (slots : ℕ) (h new : HostState) (es fs : List Transcript) (bytes : List ℕ) (number : ℕ) (rest left : List ℕ) (line : Line) → IsReadTo slots h es bytes number rest → lines rest ≡ line ∷ lines left → Plays {E = Bool} (Ok false) (play h es) (meaning line) (play new fs) → read_script slots bytes ≡ Err (number + 1)
 read_fails slots h new es fs bytes number rest left line r e d =
     r.comes ∙ (ap (λ (ls : List Line). read_from slots (number + 1) ls r.openings) e ∙ read_bad slots (number + 1) line (lines left) r.openings (d slots r.openings r.play))
 

@@ -10,7 +10,7 @@ use Rattle.host_core.specs.Events.{Outcome}
 use Rattle.usi_session.specs.Due.{SessionView}
 use Rattle.usi_replay.specs.Script.{Opening, is_under, has_session, is_used, change, change_into, closed_opening, new_opening}
 use Rattle.usi_replay.specs.Sessions.{IsOpenedAs, IsClosedAs}
-use Rattle.usi_replay.specs.Playback.{Transcript, no_transcript, no_opening, open_id, is_transcript_under, Owes, HasAllReplies, HasMade, IsTranscriptOf, floor_after, AreTranscripts, IsPlayback, KeepsPlayback}
+use Rattle.usi_replay.specs.Playback.{Transcript, play, no_transcript, no_opening, open_id, is_transcript_under, Owes, HasAllReplies, HasMade, IsTranscriptOf, floor_after, AreTranscripts, IsPlayback, KeepsPlayback}
 use Rattle.usi_replay.proofs.Transcripts.{transcripts_get, transcripts_len, transcripts_set, transcripts_text, transcripts_open, transcripts_refused, held_set, held_freed, held_last, HasOpenId, has_open_id, made_live, id_none, none_made, made_none, item_is}
 
 -- a name's place among what is kept is its place among the `+` lines
@@ -187,7 +187,7 @@ pub freed_by : (mid new : HostState) (fs : List Transcript) (i : ℕ) (l : Optio
 freed_by mid new fs i None slots os lt used l c all p = rw c (freed_refused mid fs i slots os lt used l p)
 freed_by mid new fs i (Some at) slots os lt used l c all p = freed_live mid new at fs i slots os lt l c (all (λ e. (let f : Some at ≡ None = sym l ∙ e in cc))) p
 
-pub freed_played : (old mid new : HostState) (es fs : List Transcript) (i : ℕ) (x y : Transcript) → KeepsPlayback old es mid fs → ((slots : ℕ) (os : List Opening) → IsPlayback slots old os es → open_id (get_or fs i no_transcript) ≢ None → HasAllReplies (get_or os i no_opening) (get_or fs i no_transcript)) → i < length fs → (get_or fs i no_transcript).in_use ≡ true → x ≡ get_or fs i x → y ≡ get_or fs i y → IsClosedAs mid (open_id x) new
+pub freed_played : (old mid new : HostState) (es fs : List Transcript) (i : ℕ) (x y : Transcript) → KeepsPlayback (play old es) (play mid fs) → ((slots : ℕ) (os : List Opening) → IsPlayback slots old os es → open_id (get_or fs i no_transcript) ≢ None → HasAllReplies (get_or os i no_opening) (get_or fs i no_transcript)) → i < length fs → (get_or fs i no_transcript).in_use ≡ true → x ≡ get_or fs i x → y ≡ get_or fs i y → IsClosedAs mid (open_id x) new
     → (slots : ℕ) (os : List Opening) → IsPlayback slots old os es → IsPlayback slots new (set os i (closed_opening (get_or os i no_opening))) (set fs i (record y { in_use = false }))
 freed_played old mid new es fs i x y played all lt used e f c slots os p =
     let a : get_or fs i no_transcript ≡ x = item_is fs i x lt e in

@@ -12,7 +12,7 @@ use Rattle.host_core.specs.Steps.{HostState}
 use Rattle.host_core.specs.ById.{pending_of}
 use Rattle.usi_replay.specs.Script.{Opening, has_session}
 use Rattle.usi_replay.specs.Sessions.{OwesTheSame, KeepsDue, KeepsAllBut, IsCollected, IsFed}
-use Rattle.usi_replay.specs.Playback.{Transcript, no_transcript, no_opening, open_id, Owes, HasMade, IsTranscriptOf, floor_after, IsAbove, AreTranscripts, IsPlayback, KeepsPlayback, HasAllReplies, with_more, IsSent}
+use Rattle.usi_replay.specs.Playback.{Transcript, play, no_transcript, no_opening, open_id, Owes, HasMade, IsTranscriptOf, floor_after, IsAbove, AreTranscripts, IsPlayback, KeepsPlayback, HasAllReplies, with_more, IsSent}
 use Rattle.usi_lines.specs.declared.line.TheConstants.{LINE_FEED}
 
 -- sessions that went on owe the same
@@ -230,7 +230,7 @@ taken_of old mid new id o before after t i =
     let m = made_live mid o before id l (of_due old mid o before t.due i) in
     of_live new o after id (live_after old mid new id before after t) (ap (λ (k : Transcript). k.name) t.rest ∙ i.name_is) (ap (λ (k : Transcript). k.in_use) t.rest ∙ i.used_is) m.0 (owes_handed (find mid.slots id) (find new.slots id) before.made o.text after.made t.handed m.1)
 
-pub taken_played : (old mid new : HostState) (id : SessionId) (es : List Transcript) (i : ℕ) (after : Transcript) → i < length es → IsTaken old mid new id (get_or es i no_transcript) after → KeepsPlayback old es new (set es i after)
+pub taken_played : (old mid new : HostState) (id : SessionId) (es : List Transcript) (i : ℕ) (after : Transcript) → i < length es → IsTaken old mid new id (get_or es i no_transcript) after → KeepsPlayback (play old es) (play new (set es i after))
 taken_played old mid new id es i after lt t slots os p =
     let l : HasOpenId (get_or es i no_transcript) id = has_open_id (get_or es i no_transcript) id t.open_id_is in
     let of : IsTranscriptOf new (get_or os i no_opening) after = taken_of old mid new id (get_or os i no_opening) (get_or es i no_transcript) after t (transcripts_get old 0 os es i p.transcripts lt) in
@@ -265,7 +265,7 @@ fed_by (Some s) (Some t) made text chunk h o = λ x. ap (λ xs. made ++ xs) (h x
 held_same : (o p : Opening) → o.in_use ≡ p.in_use → o.refused ≡ p.refused → has_session o ≡ has_session p
 held_same o p e f = rw (e, f) refl
 
-pub fed_live : (old new : HostState) (id : SessionId) (es : List Transcript) (i : ℕ) (x : Transcript) (chunk : List ℕ) → i < length es → x ≡ get_or es i x → open_id x ≡ Some id → KeepsAllBut old new id → IsFed (find old.slots id) (find new.slots id) chunk → IsSent old es new es i chunk
+pub fed_live : (old new : HostState) (id : SessionId) (es : List Transcript) (i : ℕ) (x : Transcript) (chunk : List ℕ) → i < length es → x ≡ get_or es i x → open_id x ≡ Some id → KeepsAllBut old new id → IsFed (find old.slots id) (find new.slots id) chunk → IsSent (play old es) (play new es) i chunk
 fed_live old new id es i x chunk lt e l others fed slots os p =
     let a : get_or es i no_transcript ≡ x = item_is es i x lt e in
     let li : HasOpenId (get_or es i no_transcript) id = has_open_id (get_or es i no_transcript) id (ap open_id a ∙ l) in
@@ -291,7 +291,7 @@ none_made h id used refused text made e m = rw e at m
 pub made_none : (h : HostState) (id : Option SessionId) (used refused : Bool) (text made : List ℕ) → id ≡ None → refused ≡ true → HasMade h id used refused text made
 made_none h id used refused text made e m = rw e m
 
-pub fed_refused : (h : HostState) (es : List Transcript) (i : ℕ) (x : Transcript) (chunk : List ℕ) → i < length es → x ≡ get_or es i x → (get_or es i no_transcript).in_use ≡ true → open_id x ≡ None → IsSent h es h es i chunk
+pub fed_refused : (h : HostState) (es : List Transcript) (i : ℕ) (x : Transcript) (chunk : List ℕ) → i < length es → x ≡ get_or es i x → (get_or es i no_transcript).in_use ≡ true → open_id x ≡ None → IsSent (play h es) (play h es) i chunk
 fed_refused h es i x chunk lt e used l slots os p =
     let a : get_or es i no_transcript ≡ x = item_is es i x lt e in
     let none : (get_or es i no_transcript).id ≡ None = id_none (get_or es i no_transcript).in_use (get_or es i no_transcript).id used (ap open_id a ∙ l) in
@@ -307,10 +307,10 @@ fed_refused h es i x chunk lt e used l slots os p =
     }
 
 -- one chunk after another
-pub played_fed : (old mid new : HostState) (es fs gs : List Transcript) (i : ℕ) (chunk : List ℕ) → KeepsPlayback old es mid fs → IsSent mid fs new gs i chunk → IsSent old es new gs i chunk
+pub played_fed : (old mid new : HostState) (es fs gs : List Transcript) (i : ℕ) (chunk : List ℕ) → KeepsPlayback (play old es) (play mid fs) → IsSent (play mid fs) (play new gs) i chunk → IsSent (play old es) (play new gs) i chunk
 played_fed old mid new es fs gs i chunk a b slots os p = b slots os (a slots os p)
 
-pub fed_played : (old mid new : HostState) (es fs gs : List Transcript) (i : ℕ) (chunk : List ℕ) → IsSent old es mid fs i chunk → KeepsPlayback mid fs new gs → IsSent old es new gs i chunk
+pub fed_played : (old mid new : HostState) (es fs gs : List Transcript) (i : ℕ) (chunk : List ℕ) → IsSent (play old es) (play mid fs) i chunk → KeepsPlayback (play mid fs) (play new gs) → IsSent (play old es) (play new gs) i chunk
 fed_played old mid new es fs gs i chunk a b slots os p = b slots (set os i (with_more chunk (get_or os i no_opening))) (a slots os p)
 
 set_twice : (os : List Opening) (i : ℕ) (a b : Opening) → set (set os i a) i b ≡ set os i b
@@ -325,14 +325,14 @@ more_more os i xs ys lt =
     let text : with_more ys (with_more xs o) ≡ with_more (xs ++ ys) o = ap (λ (t : List ℕ). (let r : Opening = record o { text = t } in r)) (append_assoc o.text xs ys) in
     set_twice os i (with_more xs o) (with_more ys (get_or (set os i (with_more xs o)) i no_opening)) ∙ ap (set os i) (ap (with_more ys) same ∙ text)
 
-pub fed_more : (old mid new : HostState) (es fs gs : List Transcript) (i : ℕ) (xs ys all : List ℕ) → i < length es → all ≡ xs ++ ys → IsSent old es mid fs i xs → IsSent mid fs new gs i ys → IsSent old es new gs i all
+pub fed_more : (old mid new : HostState) (es fs gs : List Transcript) (i : ℕ) (xs ys all : List ℕ) → i < length es → all ≡ xs ++ ys → IsSent (play old es) (play mid fs) i xs → IsSent (play mid fs) (play new gs) i ys → IsSent (play old es) (play new gs) i all
 fed_more old mid new es fs gs i xs ys all lt e a b slots os p =
     let q : IsPlayback slots mid (set os i (with_more xs (get_or os i no_opening))) fs = a slots os p in
     let n : length os ≡ length es = transcripts_len old 0 os es p.transcripts in
     let r : IsPlayback slots new (set (set os i (with_more xs (get_or os i no_opening))) i (with_more ys (get_or (set os i (with_more xs (get_or os i no_opening))) i no_opening))) gs = b slots (set os i (with_more xs (get_or os i no_opening))) q in
     rw e (rw (more_more os i xs ys (omega arith)) at r)
 
-pub fed_none : (h : HostState) (es : List Transcript) (i : ℕ) → IsSent h es h es i []
+pub fed_none : (h : HostState) (es : List Transcript) (i : ℕ) → IsSent (play h es) (play h es) i []
 fed_none h es i slots os p =
     let o : Opening = get_or os i no_opening in
     let same : with_more [] o ≡ o = ap (λ (t : List ℕ). (let r : Opening = record o { text = t } in r)) (append-nil o.text) in
@@ -342,24 +342,24 @@ fed_none h es i slots os p =
 pub record IsFedTo (old : HostState) (es : List Transcript) (now : HostState) (fs : List Transcript) (i : ℕ) (text rest : List ℕ) : Type 0 where
   pub done : List ℕ
   pub split : text ≡ done ++ rest
-  pub fed : IsSent old es now fs i done
+  pub fed : IsSent (play old es) (play now fs) i done
 
 pub fed_start : (h : HostState) (es : List Transcript) (i : ℕ) (text : List ℕ) → IsFedTo h es h es i text text
 fed_start h es i text = record { done = []; split = refl; fed = fed_none h es i }
 
-pub fed_next : (old mid new : HostState) (es fs gs : List Transcript) (i : ℕ) (text rest chunk left : List ℕ) → i < length es → IsFedTo old es mid fs i text rest → IsSent mid fs new gs i chunk → rest ≡ chunk ++ left → IsFedTo old es new gs i text left
+pub fed_next : (old mid new : HostState) (es fs gs : List Transcript) (i : ℕ) (text rest chunk left : List ℕ) → i < length es → IsFedTo old es mid fs i text rest → IsSent (play mid fs) (play new gs) i chunk → rest ≡ chunk ++ left → IsFedTo old es new gs i text left
 fed_next old mid new es fs gs i text rest chunk left lt f b e = record {
   done = f.done ++ chunk;
   split = f.split ∙ (ap (λ xs. f.done ++ xs) e ∙ sym (append_assoc f.done chunk left));
   fed = fed_more old mid new es fs gs i f.done chunk (f.done ++ chunk) lt refl f.fed b;
 }
 
-pub fed_whole : (old mid new end : HostState) (es fs gs hs : List Transcript) (i : ℕ) (text rest : List ℕ) → i < length es → IsFedTo old es mid fs i text rest → rest ≡ [] → IsSent mid fs new gs i (LINE_FEED ∷ []) → KeepsPlayback new gs end hs → IsSent old es end hs i (text ++ LINE_FEED ∷ [])
+pub fed_whole : (old mid new end : HostState) (es fs gs hs : List Transcript) (i : ℕ) (text rest : List ℕ) → i < length es → IsFedTo old es mid fs i text rest → rest ≡ [] → IsSent (play mid fs) (play new gs) i (LINE_FEED ∷ []) → KeepsPlayback (play new gs) (play end hs) → IsSent (play old es) (play end hs) i (text ++ LINE_FEED ∷ [])
 fed_whole old mid new end es fs gs hs i text rest lt f none b last =
     let same : text ≡ f.done = f.split ∙ (ap (λ xs. f.done ++ xs) none ∙ append-nil f.done) in
     fed_played old new end es gs hs i (text ++ LINE_FEED ∷ []) (fed_more old mid new es fs gs i f.done (LINE_FEED ∷ []) (text ++ LINE_FEED ∷ []) lt (rw same refl) f.fed b) last
 
-pub rounds_played : (old new : HostState) (es : List Transcript) → KeepsDue old new → KeepsPlayback old es new es
+pub rounds_played : (old new : HostState) (es : List Transcript) → KeepsDue old new → KeepsPlayback (play old es) (play new es)
 rounds_played old new es k slots os p = record {
   transcripts = transcripts_due old new 0 os es k p.transcripts;
   count_is = k.count_is ∙ p.count_is;

@@ -1,5 +1,5 @@
 -- A script that is being replayed: what is kept, beside the `+` lines so far.
-use Rattle.std.specs.Prelude.{◌≡◌, ◌≢◌, ℕ, ◌+◌, ◌≤◌, List, [], ◌∷◌, ◌++◌, Bool, true, false, ◌&&◌, ◌==◌, cond, Option, Some, None, count_by, codes, is_some, length, get_or, set}
+use Rattle.std.specs.Prelude.{◌≡◌, ◌≢◌, ℕ, ◌+◌, ◌≤◌, List, [], ◌∷◌, ◌++◌, Bool, true, false, ◌&&◌, ◌==◌, cond, Option, Some, None, Result, IfOk, count_by, codes, is_some, length, get_or, set}
 use Rattle.session_slots.specs.declared.id.SessionId.{SessionId}
 use Rattle.session_slots.specs.Slots.{find, count}
 use Rattle.usi_session.specs.Due.{SessionView, due}
@@ -22,6 +22,14 @@ no_transcript = record { name = 0; in_use = false; id = None; made = [] }
 
 abbrev pub no_opening : Opening
 no_opening = record { name = 0; in_use = false; refused = false; text = [] }
+
+-- the host of a script, and what is kept of its `+` lines
+pub record Play : Type 0 where
+  pub host : HostState
+  pub transcripts : List Transcript
+
+abbrev pub play : HostState → List Transcript → Play
+play h ts = record { host = h; transcripts = ts }
 
 -- the name is in use for it
 abbrev pub is_transcript_under : ℕ → Transcript → Bool
@@ -74,46 +82,58 @@ pub record IsPlayback (slots : ℕ) (h : HostState) (os : List Opening)
   pub few : h.slots.next ≤ length ts
 
 -- it goes on without a further line
-abbrev pub KeepsPlayback : HostState → List Transcript → HostState → List Transcript → Type 0
-KeepsPlayback h ts new us =
-    (slots : ℕ) (os : List Opening) → IsPlayback slots h os ts → IsPlayback slots new os us
+abbrev pub KeepsPlayback : Play → Play → Type 0
+KeepsPlayback old new =
+    (slots : ℕ) (os : List Opening) → IsPlayback slots old.host os old.transcripts
+    → IsPlayback slots new.host os new.transcripts
+
+-- the `+` line of this place has its name in use
+abbrev pub is_used_at : Play → ℕ → Bool
+is_used_at p i = (get_or p.transcripts i no_transcript).in_use
+
+-- or not, as before
+abbrev pub KeepsUse : Play → Play → ℕ → Type 0
+KeepsUse old new i = is_used_at new i ≡ is_used_at old i
 
 -- a `+` line with more texts
 abbrev pub with_more : List ℕ → Opening → Opening
 with_more chunk o = record o { text = o.text ++ chunk }
 
 -- bytes were sent to the `+` line of this place
-abbrev pub IsSent : HostState → List Transcript → HostState → List Transcript → ℕ → List ℕ → Type 0
-IsSent h ts new us i chunk =
-    (slots : ℕ) (os : List Opening) → IsPlayback slots h os ts
-    → IsPlayback slots new (set os i (with_more chunk (get_or os i no_opening))) us
+abbrev pub IsSent : Play → Play → ℕ → List ℕ → Type 0
+IsSent old new i chunk =
+    (slots : ℕ) (os : List Opening) → IsPlayback slots old.host os old.transcripts
+    → IsPlayback slots new.host (set os i (with_more chunk (get_or os i no_opening)))
+    new.transcripts
 
 -- all that the session replies was kept
 abbrev pub HasAllReplies : Opening → Transcript → Type 0
 HasAllReplies o t = t.made ≡ replies o.text
 
 -- all that the session of this place replies is kept, while it is open
-abbrev pub CollectsAll : HostState → List Transcript → List Transcript → ℕ → Type 0
-CollectsAll h ts us i =
-    (slots : ℕ) (os : List Opening) → IsPlayback slots h os ts
-    → open_id (get_or us i no_transcript) ≢ None
-    → HasAllReplies (get_or os i no_opening) (get_or us i no_transcript)
+abbrev pub CollectsAll : Play → Play → ℕ → Type 0
+CollectsAll old new i =
+    (slots : ℕ) (os : List Opening) → IsPlayback slots old.host os old.transcripts
+    → open_id (get_or new.transcripts i no_transcript) ≢ None
+    → HasAllReplies (get_or os i no_opening) (get_or new.transcripts i no_transcript)
 
 -- the name of the `+` line of this place is free
-abbrev pub IsClosedAt : HostState → List Transcript → HostState → List Transcript → ℕ → Type 0
-IsClosedAt h ts new us i =
-    (slots : ℕ) (os : List Opening) → IsPlayback slots h os ts
-    → IsPlayback slots new (set os i (closed_opening (get_or os i no_opening))) us
+abbrev pub IsClosedAt : Play → Play → ℕ → Type 0
+IsClosedAt old new i =
+    (slots : ℕ) (os : List Opening) → IsPlayback slots old.host os old.transcripts
+    → IsPlayback slots new.host (set os i (closed_opening (get_or os i no_opening)))
+    new.transcripts
 
 -- one `+` line more
-abbrev pub IsOpenedUnder : HostState → List Transcript → HostState → List Transcript → ℕ → Type 0
-IsOpenedUnder h ts new us name =
-    (slots : ℕ) (os : List Opening) → IsPlayback slots h os ts
-    → IsPlayback slots new (os ++ new_opening slots name os ∷ []) us
+abbrev pub IsOpenedUnder : Play → Play → ℕ → Type 0
+IsOpenedUnder old new name =
+    (slots : ℕ) (os : List Opening) → IsPlayback slots old.host os old.transcripts
+    → IsPlayback slots new.host (os ++ new_opening slots name os ∷ []) new.transcripts
 
 -- the output of the `+` lines
-abbrev pub IsWhole : HostState → List Transcript → List ℕ → Type 0
-IsWhole h ts out = (slots : ℕ) (os : List Opening) → IsPlayback slots h os ts → out ≡ output os
+abbrev pub IsWhole : Play → List ℕ → Type 0
+IsWhole p out =
+    (slots : ℕ) (os : List Opening) → IsPlayback slots p.host os p.transcripts → out ≡ output os
 
 -- what is written for it
 abbrev pub transcript_section : Transcript → List ℕ
@@ -133,9 +153,9 @@ LeadsTo true slots after new ts =
     (next : List Opening) × (after ≡ Some next) × IsPlayback slots new next ts
 LeadsTo false slots after new ts = after ≡ None
 
--- what a line did, and whether it was good
-abbrev pub Plays : Bool → HostState → List Transcript → ScriptLine → HostState → List Transcript
-    → Type 0
-Plays good old ts line new us =
-    (slots : ℕ) (os : List Opening) → IsPlayback slots old os ts
-    → LeadsTo good slots (openings_after slots line os) new us
+-- what a line did, and whether it was good; nothing, where memory ran out
+abbrev pub Plays : {E : Type 0} → Result Bool E → Play → ScriptLine → Play → Type 0
+Plays result old line new =
+    IfOk result (λ good. (slots : ℕ) (os : List Opening)
+    → IsPlayback slots old.host os old.transcripts
+    → LeadsTo good slots (openings_after slots line os) new.host new.transcripts)

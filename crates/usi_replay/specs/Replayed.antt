@@ -1,5 +1,5 @@
 -- What `replay` does with its reader and its writer (own choice).
-use Rattle.std.specs.Prelude.{◌≡◌, ℕ, List, Option, Result, Ok, Err}
+use Rattle.std.specs.Prelude.{◌≡◌, ℕ, List, Option, Result, Ok, Err, MatchResult, Vec}
 use Rattle.std.specs.Io.KnownBytes.{Appends, Consumes, IsAtEnd, Keeps}
 use Rattle.usi_stdio.specs.Stdio.{WritesPrefix}
 use Rattle.usi_replay.specs.declared.fault.ReplayFault.{ReplayFault}
@@ -62,3 +62,8 @@ IsAnswerFault slots bytes OutOfMemory = Unit {0}
 IsAnswerFault slots bytes ReadFailed = ⊥
 IsAnswerFault slots bytes WriteFailed = ⊥
 IsAnswerFault slots bytes (BadScript line) = read_script slots bytes ≡ Err line
+
+-- the output of a script, or why there is none
+abbrev pub IsAnswerOf : {Z : Type 0} → ℕ → List ℕ → Result (Vec ℕ Z) ReplayFault → Type 0
+IsAnswerOf slots bytes result =
+    MatchResult result (λ out. IsOutputOf slots bytes out.items) (IsAnswerFault slots bytes)

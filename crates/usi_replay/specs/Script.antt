@@ -78,9 +78,13 @@ new_opening slots name os = record {
 abbrev pub closed_opening : Opening → Opening
 closed_opening o = record o { in_use = false }
 
+-- a text, and the LF that ends it
+abbrev pub ended : List ℕ → List ℕ
+ended text = text ++ LINE_FEED ∷ []
+
 -- a `+` line that is sent a text, and an LF
 abbrev pub sent_opening : List ℕ → Opening → Opening
-sent_opening text o = record o { text = o.text ++ (text ++ LINE_FEED ∷ []) }
+sent_opening text o = record o { text = o.text ++ ended text }
 
 -- the `+` lines after one line more; nothing, where it is bad: also a `+` of a name in use, and a text or `-` of a name that is not in use
 abbrev pub openings_after : ℕ → ScriptLine → List Opening → Option (List Opening)

@@ -1,12 +1,14 @@
 -- What the steps of a replay do to the sessions of its host.
-use Rattle.std.specs.Prelude.{◌≡◌, ◌≢◌, ℕ, List, ◌++◌, Option, Some, None}
+use Rattle.std.specs.Prelude.{◌≡◌, ◌≢◌, ◌<◌, ℕ, List, ◌++◌, Option, Some, None, true}
 use Rattle.session_slots.specs.declared.id.SessionId.{SessionId}
 use Rattle.session_slots.specs.Slots.{find, count}
 use Rattle.usi_session.specs.Due.{SessionView, due}
 use Rattle.usi_stdio.specs.Stdio.{slices_of}
+use Rattle.host_core.specs.ById.{pending_of}
 use Rattle.host_core.specs.Steps.{HostState, IsOpened, IsClosed}
 use Rattle.host_core.specs.Events.{Outcome, Opened, Refused}
 use Rattle.host_core.specs.declared.event.HostFault.TheVariants.{Full}
+use Rattle.usi_replay.specs.Playback.{Transcript}
 
 -- there is no session in either, or one in both that owes the same
 abbrev pub OwesTheSame : Option SessionView → Option SessionView → Type 0
@@ -26,6 +28,12 @@ abbrev pub works_left : Option SessionView → ℕ
 works_left None = 0
 works_left (Some t) = slices_of t
 
+-- each session that was pending may still need fewer works
+abbrev pub NeedFewerWorks : HostState → HostState → Type 0
+NeedFewerWorks old new =
+    (id : SessionId) → pending_of (find old.slots id) ≡ true
+    → works_left (find new.slots id) < works_left (find old.slots id)
+
 -- all other sessions are what they were
 pub record KeepsAllBut (old new : HostState) (id : SessionId) : Type 0 where
   pub others : (other : SessionId) → other ≢ id → find new.slots other ≡ find old.slots other
@@ -39,6 +47,11 @@ IsCollected None now made more = (now ≡ None) × (more ≡ made)
 IsCollected (Some s) None made more = ⊥
 IsCollected (Some s) (Some t) made more =
     (more ≡ made ++ s.queued) × ((x : List ℕ) → due s x ≡ s.queued ++ due t x)
+
+-- what was queued for the id was added to what its transcript had made
+abbrev pub IsHandedOver : HostState → HostState → SessionId → Transcript → Transcript → Type 0
+IsHandedOver old new id before after =
+    IsCollected (find old.slots id) (find new.slots id) before.made after.made
 
 -- the session owes what it owed for these bytes and for what follows; a session that is over owes nothing for them
 abbrev pub IsFed : Option SessionView → Option SessionView → List ℕ → Type 0

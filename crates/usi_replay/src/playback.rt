@@ -1,11 +1,11 @@
 //! A script that is being replayed over a host.
 
-ghost use Rattle.std.specs.Prelude.{◌≡◌, ◌≤◌, ◌<◌, ◌++◌, ◌∷◌, [], IfOk, OnOk, length, get_or, true};
+ghost use Rattle.std.specs.Prelude.{◌≡◌, ◌≤◌, ◌<◌, ◌++◌, IfOk, OnOk, length, true};
 ghost use Rattle.std.specs.List.{position_or_len};
 ghost use Rattle.usi_lines.specs.Seen.{line_of};
-ghost use Rattle.usi_replay.specs.Script.{Open, Close, Send, meaning};
-ghost use Rattle.usi_replay.specs.Playback.{KeepsPlayback, CollectsAll, IsSent, IsClosedAt, IsOpenedUnder, IsWhole, Plays, transcript_section, is_transcript_under, no_transcript};
-ghost use Rattle.usi_lines.specs.declared.line.TheConstants.{LINE_FEED};
+ghost use Rattle.usi_replay.specs.Seen.{play_of};
+ghost use Rattle.usi_replay.specs.Script.{Open, Close, Send, ended, meaning};
+ghost use Rattle.usi_replay.specs.Playback.{KeepsPlayback, KeepsUse, CollectsAll, IsSent, IsClosedAt, IsOpenedUnder, IsWhole, Plays, is_transcript_under, is_used_at, transcript_section};
 
 use crate::script_line::{ScriptLine, meaning};
 use crate::sessions;
@@ -57,12 +57,9 @@ impl<S: BuildHasher, A: Allocator + Copy> Playback<S, A> {
     fn collect(&mut self, place: usize) -> Result<(), AllocError>
         requires within { place < length self.old.transcripts.items }
         requires least { 1 ≤ self.old.slice }
-        ensures kept { OnOk result (KeepsPlayback self.old.host self.old.transcripts.items
-            self.new.host self.new.transcripts.items) }
-        ensures all { OnOk result (CollectsAll self.old.host self.old.transcripts.items
-            self.new.transcripts.items place) }
-        ensures used { OnOk result ((get_or self.new.transcripts.items place no_transcript).in_use
-            ≡ (get_or self.old.transcripts.items place no_transcript).in_use) }
+        ensures kept { OnOk result (KeepsPlayback (play_of self.old) (play_of self.new)) }
+        ensures all { OnOk result (CollectsAll (play_of self.old) (play_of self.new) place) }
+        ensures used { OnOk result (KeepsUse (play_of self.old) (play_of self.new) place) }
         ensures len { length self.new.transcripts.items ≡ length self.old.transcripts.items }
         ensures slice { self.new.slice ≡ self.old.slice }
     {
@@ -79,11 +76,9 @@ impl<S: BuildHasher, A: Allocator + Copy> Playback<S, A> {
     fn feed(&mut self, place: usize, chunk: &[u8]) -> Result<(), AllocError>
         requires within { place < length self.old.transcripts.items }
         requires least { 1 ≤ self.old.slice }
-        requires used { (get_or self.old.transcripts.items place no_transcript).in_use ≡ true }
-        ensures fed { OnOk result (IsSent self.old.host self.old.transcripts.items
-            self.new.host self.new.transcripts.items place chunk.now) }
-        ensures used { OnOk result ((get_or self.new.transcripts.items place no_transcript).in_use
-            ≡ true) }
+        requires used { is_used_at (play_of self.old) place ≡ true }
+        ensures fed { OnOk result (IsSent (play_of self.old) (play_of self.new) place chunk.now) }
+        ensures used { OnOk result (is_used_at (play_of self.new) place ≡ true) }
         ensures len { length self.new.transcripts.items ≡ length self.old.transcripts.items }
         ensures slice { self.new.slice ≡ self.old.slice }
     {
@@ -99,9 +94,9 @@ impl<S: BuildHasher, A: Allocator + Copy> Playback<S, A> {
     fn send(&mut self, place: usize, text: &[u8]) -> Result<(), AllocError>
         requires within { place < length self.old.transcripts.items }
         requires least { 1 ≤ self.old.slice }
-        requires used { (get_or self.old.transcripts.items place no_transcript).in_use ≡ true }
-        ensures fed { OnOk result (IsSent self.old.host self.old.transcripts.items
-            self.new.host self.new.transcripts.items place (text.now ++ LINE_FEED ∷ [])) }
+        requires used { is_used_at (play_of self.old) place ≡ true }
+        ensures fed { OnOk result
+            (IsSent (play_of self.old) (play_of self.new) place (ended text.now)) }
         ensures slice { self.new.slice ≡ self.old.slice }
     {
         let mut rest = text;
@@ -119,9 +114,8 @@ impl<S: BuildHasher, A: Allocator + Copy> Playback<S, A> {
     fn close(&mut self, place: usize) -> Result<(), AllocError>
         requires within { place < length self.old.transcripts.items }
         requires least { 1 ≤ self.old.slice }
-        requires used { (get_or self.old.transcripts.items place no_transcript).in_use ≡ true }
-        ensures closed { OnOk result (IsClosedAt self.old.host self.old.transcripts.items
-            self.new.host self.new.transcripts.items place) }
+        requires used { is_used_at (play_of self.old) place ≡ true }
+        ensures closed { OnOk result (IsClosedAt (play_of self.old) (play_of self.new) place) }
         ensures slice { self.new.slice ≡ self.old.slice }
     {
         self.collect(place)?;
@@ -133,8 +127,7 @@ impl<S: BuildHasher, A: Allocator + Copy> Playback<S, A> {
     /// Opens a session under a name that is free, or notes that it was refused, and makes one round.
     fn open(&mut self, name: u8) -> Result<(), AllocError>
         requires { 1 ≤ self.old.slice }
-        ensures opened { OnOk result (IsOpenedUnder self.old.host self.old.transcripts.items
-            self.new.host self.new.transcripts.items name) }
+        ensures opened { OnOk result (IsOpenedUnder (play_of self.old) (play_of self.new) name) }
         ensures slice { self.new.slice ≡ self.old.slice }
     {
         self.transcripts.reserve(1)?;
@@ -148,8 +141,7 @@ impl<S: BuildHasher, A: Allocator + Copy> Playback<S, A> {
     /// Does `+` and a name; no where the name is in use.
     fn open_line(&mut self, name: u8) -> Result<bool, AllocError>
         requires { 1 ≤ self.old.slice }
-        ensures done { IfOk result (λ good. Plays good self.old.host self.old.transcripts.items
-            (Open name) self.new.host self.new.transcripts.items) }
+        ensures done { Plays result (play_of self.old) (Open name) (play_of self.new) }
         ensures slice { self.new.slice ≡ self.old.slice }
     {
         if self.place_of(name) < self.transcripts.len() {
@@ -162,8 +154,7 @@ impl<S: BuildHasher, A: Allocator + Copy> Playback<S, A> {
     /// Does `-` and a name; no where the name is not in use.
     fn close_line(&mut self, name: u8) -> Result<bool, AllocError>
         requires { 1 ≤ self.old.slice }
-        ensures done { IfOk result (λ good. Plays good self.old.host self.old.transcripts.items
-            (Close name) self.new.host self.new.transcripts.items) }
+        ensures done { Plays result (play_of self.old) (Close name) (play_of self.new) }
         ensures slice { self.new.slice ≡ self.old.slice }
     {
         let place = self.place_of(name);
@@ -177,8 +168,7 @@ impl<S: BuildHasher, A: Allocator + Copy> Playback<S, A> {
     /// Does a name and a text; no where the name is not in use.
     fn send_line(&mut self, name: u8, text: &[u8]) -> Result<bool, AllocError>
         requires { 1 ≤ self.old.slice }
-        ensures done { IfOk result (λ good. Plays good self.old.host self.old.transcripts.items
-            (Send name text.now) self.new.host self.new.transcripts.items) }
+        ensures done { Plays result (play_of self.old) (Send name text.now) (play_of self.new) }
         ensures slice { self.new.slice ≡ self.old.slice }
     {
         let place = self.place_of(name);
@@ -192,8 +182,8 @@ impl<S: BuildHasher, A: Allocator + Copy> Playback<S, A> {
     /// Does what a line of the script means; no where the line is bad.
     pub fn play_line(&mut self, line: Line<'_>) -> Result<bool, AllocError>
         requires { 1 ≤ self.old.slice }
-        ensures done { IfOk result (λ good. Plays good self.old.host self.old.transcripts.items
-            (meaning (line_of line.entry)) self.new.host self.new.transcripts.items) }
+        ensures done { Plays result (play_of self.old) (meaning (line_of line.entry))
+            (play_of self.new) }
         ensures slice { self.new.slice ≡ self.old.slice }
     {
         match meaning(line) {
@@ -208,7 +198,7 @@ impl<S: BuildHasher, A: Allocator + Copy> Playback<S, A> {
     /// Rounds until nothing is pending; the output of the whole script.
     pub fn finish(&mut self) -> Result<Vec<u8, A>, AllocError>
         requires { 1 ≤ self.old.slice }
-        ensures { IfOk result (λ out. IsWhole self.old.host self.old.transcripts.items out.items) }
+        ensures { IfOk result (λ out. IsWhole (play_of self.old) out.items) }
     {
         let mut out = Vec::new(self.alloc);
         for i in 0..self.transcripts.len() {

@@ -1,10 +1,9 @@
 //! The sessions of a host: worked off, fed, opened and closed.
 
-ghost use Rattle.std.specs.Prelude.{◌≡◌, ◌≤◌, ◌<◌, true, false, IfOk, OnOk};
+ghost use Rattle.std.specs.Prelude.{◌≡◌, ◌≤◌, false, IfOk, OnOk};
 ghost use Rattle.session_slots.specs.Slots.{find};
-ghost use Rattle.session_slots.specs.declared.id.SessionId.{SessionId};
 ghost use Rattle.host_core.specs.ById.{pending_of};
-ghost use Rattle.usi_replay.specs.Sessions.{KeepsDue, KeepsAllBut, IsCollected, IsFed, IsOpenedAs, IsClosedAs, works_left};
+ghost use Rattle.usi_replay.specs.Sessions.{KeepsDue, KeepsAllBut, IsHandedOver, IsFed, IsOpenedAs, IsClosedAs, NeedFewerWorks};
 
 use crate::transcript::Transcript;
 use host_core::{Host, HostFault};
@@ -19,8 +18,7 @@ pub fn work_round<S: BuildHasher, A: Allocator + Copy>(
 ) -> Result<(), AllocError>
     requires { 1 ≤ slice }
     ensures due { OnOk result (KeepsDue host.old host.new) }
-    ensures fewer { OnOk result ((id : SessionId) → pending_of (find host.old.slots id) ≡ true
-        → works_left (find host.new.slots id) < works_left (find host.old.slots id)) }
+    ensures fewer { OnOk result (NeedFewerWorks host.old host.new) }
 {
     if host.round(slice).refused != 0 {
         return Err(AllocError);
@@ -51,8 +49,8 @@ pub fn take_output<S: BuildHasher, A: Allocator + Copy>(
     transcript: &mut Transcript<A>,
 ) -> Result<(), AllocError>
     ensures others { OnOk result (KeepsAllBut host.old host.new id) }
-    ensures collected { OnOk result (IsCollected (find host.old.slots id) (find host.new.slots id)
-        transcript.old.made transcript.new.made) }
+    ensures collected { OnOk result
+        (IsHandedOver host.old host.new id transcript.old transcript.new) }
     ensures rest { OnOk result (transcript.new
         ≡ record transcript.old { made = transcript.new.made }) }
 {

@@ -1,7 +1,7 @@
 //! A script over a reader and a writer.
 
-ghost use Rattle.std.specs.Prelude.{◌≡◌, ◌≤◌, MatchResult, OnOk, IfOk, IfErr};
-ghost use Rattle.usi_replay.specs.Replayed.{IsReplayed, IsFault, IsAllRead, IsReadFault, IsOutputOf, IsAnswerFault};
+ghost use Rattle.std.specs.Prelude.{◌≤◌, OnOk, IfOk, IfErr};
+ghost use Rattle.usi_replay.specs.Replayed.{IsReplayed, IsFault, IsAllRead, IsReadFault, IsAnswerOf};
 ghost use Rattle.session_slots.specs.declared.limits.TheConstants.{SESSIONS_MAX};
 ghost use Rattle.shared_table.specs.declared.table.TheConstants.{CAPACITY_MAX};
 
@@ -51,8 +51,7 @@ fn output_of<A: Allocator + Copy>(
     requires least_entries { 1 ≤ entries }
     requires most_entries { entries ≤ CAPACITY_MAX }
     requires least_slice { 1 ≤ slice }
-    ensures { MatchResult result (λ out. IsOutputOf slots script.now out.items)
-        (IsAnswerFault slots script.now) }
+    ensures { IsAnswerOf slots script.now result }
 {
     let hasher = BuildHasherDefault::<FoldHasher>::new();
     let Ok(host) = Host::new(alloc, slots, entries, hasher) else {
