@@ -2,7 +2,7 @@
 use Rattle.std.proofs.Common.{◌≡◌, ◌⊎◌, ℕ, ◌<◌, Bool, List, [], ◌∷◌, ◌++◌, Option, Some, None, refl, sym, ap, ◌∙◌, subst, append_assoc, append-nil, inl, inr}
 use Rattle.std.specs.Prelude.{IsSome}
 use Rattle.std.specs.Io.KnownBytes.{Keeps, Appends, Consumes}
-use Rattle.std.proofs.KnownBytes.{Appends-trans, Appends-kept, Consumes-trans, Consumes-kept}
+use Rattle.std.proofs.KnownBytes.{Appends-trans, Consumes-trans}
 use Rattle.session_slots.specs.declared.id.SessionId.{SessionId}
 use Rattle.session_slots.specs.Slots.{find}
 use Rattle.usi_session.specs.Due.{SessionView, due}
@@ -20,7 +20,7 @@ use Rattle.wires.specs.Told.{Told, KeepsPeer}
 use Rattle.socket_loop.specs.Links.{IsAmong, IsStrange}
 use Rattle.socket_loop.specs.Parts.{Carried, LeavesAlone}
 use Rattle.socket_loop.specs.Turns.{Served}
-use Rattle.wires.proofs.Peers.{Consumes-none, Appends-none, Keeps-Appends}
+use Rattle.wires.proofs.Peers.{Consumes-none, Appends-none}
 use Rattle.socket_loop.proofs.Parts.{lost_order}
 use Rattle.socket_loop.proofs.Turning.{not_lost}
 

@@ -1,4 +1,4 @@
-use Rattle.std.proofs.Common.{rules, arith, refl, [], ◌∷◌}
+use Rattle.std.proofs.Common.{rules, refl, [], ◌∷◌}
 use Rattle.host_core.specs.declared.event.HostFault.TheVariants.{Full}
 use Rattle.host_core.specs.Events.{Opened, Refused}
 use Rattle.socket_loop.specs.Links.{links_of}
