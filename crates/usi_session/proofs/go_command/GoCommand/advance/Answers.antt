@@ -23,10 +23,10 @@ invariant_of-self g c =
     let s = c.self.inside in
     let t = c.advance.new.self in
     let u : c.deref_mut.result.now ≡ s.search.value = search rules in
-    let root : t.root ≡ s.search.value.root = c.advance.ensures.same.0 ∙ ap (λ (x : Progress). x.root) u in
-    let eval : t.eval ≡ s.search.value.eval = c.advance.ensures.same.1.0 ∙ ap (λ (x : Progress). x.eval) u in
-    let depth : t.depth ≡ s.search.value.depth = c.advance.ensures.same.1.1.0 ∙ ap (λ (x : Progress). x.depth) u in
-    let beta : t.beta ≡ s.search.value.beta = c.advance.ensures.same.1.1.1 ∙ ap (λ (x : Progress). x.beta) u in
+    let root : t.root ≡ s.search.value.root = c.advance.ensures.root.0 ∙ ap (λ (x : Progress). x.root) u in
+    let eval : t.eval ≡ s.search.value.eval = c.advance.ensures.eval ∙ ap (λ (x : Progress). x.eval) u in
+    let depth : t.depth ≡ s.search.value.depth = c.advance.ensures.root.1 ∙ ap (λ (x : Progress). x.depth) u in
+    let beta : t.beta ≡ s.search.value.beta = c.advance.ensures.beta ∙ ap (λ (x : Progress). x.beta) u in
     record {
       range = c.self.invariant.range;
       first_is = c.self.invariant.first_is;
