@@ -4,7 +4,7 @@ ghost use Rattle.std.specs.Prelude.{◌<◌};
 
 use crate::found::Found;
 use crate::row::Row;
-use host_core::{Event, Host, Outcome};
+use host_core::Host;
 use session_slots::SessionId;
 use std::alloc::{AllocError, Global};
 use std::hash::{BuildHasherDefault, FoldHasher};
@@ -44,24 +44,19 @@ impl Server {
     }
 
     fn open(&mut self) -> Option<SessionId> {
-        match self.host.step(Event::Open) {
-            Outcome::Opened(id) => Some(id),
-            _ => None,
-        }
+        self.host.open().ok()
     }
 
     /// Stores the bytes, and tells whether they were stored.
     fn feed(&mut self, id: SessionId, chunk: &[u8]) -> bool {
-        matches!(self.host.step(Event::Feed(id, chunk)), Outcome::Done)
+        self.host.feed(id, chunk).is_ok()
     }
 
     /// Works one slice, and tells whether it made at most its budget, and all of it where something is left.
     fn work(&mut self, id: SessionId, budget: u64) -> bool {
-        match self.host.step(Event::Work(id, budget)) {
-            Outcome::Worked(steps) => {
-                steps <= budget && (steps == budget || !self.host.pending(id))
-            }
-            _ => false,
+        match self.host.work(id, budget) {
+            Ok(steps) => steps <= budget && (steps == budget || !self.host.pending(id)),
+            Err(_) => false,
         }
     }
 
@@ -74,14 +69,14 @@ impl Server {
     /// Takes so many of the queued bytes, and all of them where there are fewer.
     fn take(&mut self, id: SessionId, most: usize, taken: &mut Vec<u8>) -> Result<(), AllocError> {
         let queued = self.host.output(id).unwrap_or(b"").len();
-        if let Outcome::Gave(bytes) = self.host.step(Event::Take(id, queued.min(most))) {
+        if let Ok(bytes) = self.host.take(id, queued.min(most)) {
             taken.extend_from_slice(bytes.as_slice())?;
         }
         Ok(())
     }
 
     fn close(&mut self, id: SessionId) -> bool {
-        matches!(self.host.step(Event::Close(id)), Outcome::Done)
+        self.host.close(id).is_ok()
     }
 
     fn is_over(&self, id: SessionId) -> bool {
@@ -236,7 +231,7 @@ fn next_client<'a>(
 }
 
 /// So many events for so many clients over so many entries, as the seed draws them. Some clients leave in
-/// the middle of their answer, of which they have a front.
+/// the middle of their answer, of which they have a prefix.
 fn run_random(
     alloc: Global,
     rows: &[Row],
@@ -261,12 +256,12 @@ fn run_random(
         };
         act(&mut server, client, &mut random, found)?;
         let answer = client.row.answer.as_bytes();
-        let is_front = answer.starts_with(client.taken.as_slice());
+        let is_prefix = answer.starts_with(client.taken.as_slice());
         found.holds(
             client.row,
             "in random order",
-            "no front of the answer\n",
-            is_front,
+            "no prefix of the answer\n",
+            is_prefix,
         )?;
         let done = is_served(&mut server, client, found)?;
         if done {
