@@ -1,5 +1,7 @@
 //! Memory that is refused at one place after another.
 
+ghost use Rattle.std.specs.Prelude.{◌≤◌};
+
 use crate::host::{TestHost, gave, is_done, is_refused, opened};
 use crate::session::{TestSession, table_of};
 use host_core::{Event, HostFault, Outcome};
