@@ -13,7 +13,7 @@ use Rattle.shogi_core.specs.Pieces.{all_kinds, set_size, kind_number}
 use Rattle.shogi_core.specs.Position.{Shogi, HandCounts}
 use Rattle.shogi_core.specs.Cell.{is_immobile_on, is_king}
 use Rattle.shogi_core.specs.Validity.{fault_of, count_of, has_too_many, has_two_kings, has_two_pawns, has_two_pawns_on, pawns_on_file}
-use Rattle.shogi_core.specs.Faultless.{IsFaultless}
+use Rattle.shogi_core.proofs.Faultless.{IsFaultless}
 use Rattle.shogi_core.proofs.Below.{some_below_not, some_below_no}
 
 -- the tests of a first fault, one by one

@@ -1,4 +1,4 @@
--- The test of positions tells equal ones.
+-- The test of positions decides equality.
 use Rattle.std.proofs.Common.{◌≡◌, ◌&&◌, ◌==◌, ℕ, Bool, true, false, Option, Some, None, refl, sym, ap, ap₂, [], ◌∷◌, ◌∙◌}
 use Rattle.std.specs.List.{slice_index_or}
 use Rattle.std.specs.Option.{option_eq}
@@ -15,7 +15,7 @@ use Rattle.shogi_core.specs.declared.piece.Piece.{Piece}
 use Rattle.shogi_core.specs.declared.piece.Role.{Role}
 use Rattle.shogi_core.specs.declared.piece.Role.TheVariants as role
 
--- two tests joined tell what the parts tell
+-- two tests joined decide what the parts decide
 pub both_decide : (a b : Bool) (P Q R : Type 0) → Decides a P → Decides b Q → (P → Q → R) → (R → P × Q) → Decides (a && b) R
 both_decide true true P Q R p q join split = ((λ _. join (p.0 refl) (q.0 refl)), (λ _. refl))
 both_decide true false P Q R p q join split = ((λ e. cc), (λ r. q.1 (split r).1))
@@ -66,12 +66,12 @@ parts_decide a b cells hands side x y z =
     (λ c p. ap₂ (λ (f : HandCounts → Color → Shogi) (h : HandCounts). f h a.side) (ap position_of c) p.0 ∙ ap (position_of b.cells b.hands) p.1)
     (λ e. (ap (λ (x : Shogi). x.cells) e, (ap (λ (x : Shogi). x.hands) e, ap (λ (x : Shogi). x.side) e)))
 
--- the test of positions tells equal ones
+-- the test of positions decides equality
 pub position_same : (a b : Shogi) → Decides (is_same_position a b) (a ≡ b)
 unfolding is_same_position
 position_same a b = parts_decide a b _ _ _ (slice_eq-Decides cell_same a.cells b.cells _ refl) (slice_eq-Decides Decides-eqb a.hands b.hands _ refl) (color_same a.side b.side)
 
--- an optional value is told from another where the values are
+-- optional values are compared as their values are
 pub option_same : {T : Type 0} {E : T → T → Bool} → ((a b : T) → Decides (E a b) (a ≡ b)) → (a b : Option T) → Decides (option_eq E a b) (a ≡ b)
 option_same same None None = ((λ _. refl), (λ _. refl))
 option_same same None (Some b) = ((λ e. cc), (λ e. cc))

@@ -1,6 +1,6 @@
 -- The table of steps holds the squares to which they lead.
 use Rattle.std.proofs.Common.{◌≡◌, ℕ, ◌+◌, ◌*◌, ◌/◌, ◌%◌, ◌^◌, ◌<◌, Bool, true, refl, ◌∙◌, arith, get_or, List}
-use Rattle.std.specs.Prelude.{◌==◌}
+use Rattle.std.specs.Prelude.{◌==◌, cond}
 use Rattle.std.proofs.lemmas.Bool.{agree_below_at, eqb-true}
 use Rattle.shogi_core.specs.declared.offset.Offset.{Offset}
 use Rattle.shogi_core.specs.declared.piece.Color.{Color}
@@ -8,8 +8,16 @@ use Rattle.shogi_core.specs.declared.piece.Color.TheVariants.{Black, White}
 use Rattle.shogi_core.specs.Bits.{mask_below, has_bit}
 use Rattle.shogi_core.specs.Movement.{away}
 use Rattle.shogi_core.proofs.BitLaws.{has_bit-mask, mask_fits}
-use Rattle.shogi_core.specs.Steps.{steps_at, color_number, color_at, is_step, steps_mask}
+use Rattle.shogi_core.specs.Steps.{steps_at, color_number, is_step}
 use Rattle.shogi_core.specs.declared.step_table.TheConstants.{STEPS}
+
+-- the side of a number
+abbrev color_at : ℕ → Color
+color_at n = cond (n == 0) Black White
+
+-- the squares to which the steps lead
+unfoldable pub steps_mask : Color → List Offset → ℕ → ℕ
+steps_mask color os a = mask_below 81 (is_step color os a)
 
 abbrev is_right_at : ℕ → Bool
 is_right_at i = get_or STEPS i 0 == steps_mask (color_at (i / 81 % 2)) (steps_at (i / 162)) (i % 81)

@@ -7,7 +7,6 @@ pub mod Attack
 pub mod Position
 pub mod Same
 pub mod Validity
-pub mod Faultless
 pub mod Start
 pub mod Codes
 pub mod Bits

@@ -4,7 +4,6 @@ use Rattle.std.specs.List.{list_any}
 use Rattle.shogi_core.specs.declared.offset.Offset.{Offset}
 use Rattle.shogi_core.specs.declared.piece.Color.{Color}
 use Rattle.shogi_core.specs.declared.piece.Color.TheVariants.{Black, White}
-use Rattle.shogi_core.specs.Bits.{mask_below}
 use Rattle.shogi_core.specs.Movement.{jump_left, jump_right, leads, for_side, straight, diagonal, forward, gold_steps}
 
 -- the kinds of steps
@@ -20,14 +19,6 @@ abbrev pub color_number : Color → ℕ
 color_number Black = 0
 color_number White = 1
 
--- the side of a number
-abbrev pub color_at : ℕ → Color
-color_at n = cond (n == 0) Black White
-
 -- one of the steps leads from a to b
 abbrev pub is_step : Color → List Offset → ℕ → ℕ → Bool
 is_step color os a b = list_any (λ o. leads 1 (for_side color o) a b) os
-
--- the squares to which the steps lead
-unfoldable pub steps_mask : Color → List Offset → ℕ → ℕ
-steps_mask color os a = mask_below 81 (is_step color os a)

@@ -134,7 +134,7 @@ fn is_shot_apart(board: &Board, by: Color, square: usize, direction: usize, snip
     is_shot_on(board, by, square, direction, snipers)
 }
 
-/// The same, told at once where there is no sniper in the direction.
+/// The same, answered at once where there is no sniper in the direction.
 #[tactic(auto, using(crate::proofs::Shots::shooting))]
 fn is_shot_along(board: &Board, by: Color, square: usize, direction: usize, snipers: u128) -> bool
     requires direction { direction < 8 }
@@ -233,7 +233,7 @@ fn shot_or_pin(
     false
 }
 
-/// The same, told at once where there is no sniper in the direction.
+/// The same, answered at once where there is no sniper in the direction.
 #[tactic(auto, using(crate::proofs::Shots::shooting))]
 fn shot_or_pin_along(
     board: &Board,

@@ -30,7 +30,7 @@ mod validity;
 mod words;
 
 pub use board::Board;
-pub use cell::{is_immobile, is_piece_of};
+pub use cell::{is_immobile, is_pawn, is_piece_of};
 pub use hands::Hands;
 pub use lines::aligned_squares;
 pub use moves::{FIRST_DROP, MOVE_CODE_COUNT, Move, SQUARE_CODES};

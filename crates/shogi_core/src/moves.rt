@@ -73,7 +73,7 @@ impl Move {
         }
     }
 
-    /// Tells a proof that the code is that of this move and no other, and does nothing.
+    /// Gives proofs that the code is that of this move and no other, and does nothing.
     #[tactic(auto, using(crate::proofs::CodesBack::codes_back))]
     pub fn validity(&self)
         ensures range { code_of self.now < MOVE_CODE_COUNT }

@@ -154,7 +154,7 @@ impl Position {
         self == other
     }
 
-    /// Tells a proof that the position is valid, and does nothing.
+    /// Gives proofs that the position is valid, and does nothing.
     pub fn validity(&self)
         ensures { IsValid self.now }
     {

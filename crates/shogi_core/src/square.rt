@@ -61,7 +61,7 @@ impl Square {
 }
 
 impl Square {
-    /// Tells a proof that the index is below 81, and does nothing.
+    /// Gives proofs that the index is below 81, and does nothing.
     pub fn validity(&self)
         ensures { self.now < 81 }
     {

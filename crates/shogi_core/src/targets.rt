@@ -68,7 +68,7 @@ fn slider_slides(board: &Board, piece: Piece, from: usize) -> u128
     }
 }
 
-/// The squares that slides of the piece reach. Most pieces do not slide, and are told at once.
+/// The squares that slides of the piece reach. Most pieces do not slide, and reach none.
 #[tactic(auto, using(crate::proofs::TargetLaws::no_slides))]
 fn piece_slides(board: &Board, piece: Piece, from: usize) -> u128
     requires { from < 81 }

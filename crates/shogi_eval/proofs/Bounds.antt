@@ -15,7 +15,7 @@ use Rattle.shogi_core.specs.Movement.{Cells}
 use Rattle.shogi_core.specs.Pieces.{is_of_kind, opponent_of}
 use Rattle.shogi_core.specs.Position.{Shogi, HandCounts, count_in_hand}
 use Rattle.shogi_core.specs.Validity.{IsValid, count_of}
-use Rattle.shogi_core.specs.Faultless.{IsFaultless}
+use Rattle.shogi_core.proofs.Faultless.{IsFaultless}
 use Rattle.shogi_core.proofs.Faults.{faultless_from}
 use Rattle.shogi_eval.specs.declared.eval.Eval.{Eval}
 use Rattle.shogi_eval.specs.declared.eval.Eval.TheVariants.{Plain, Hand}

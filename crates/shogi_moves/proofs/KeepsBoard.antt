@@ -5,7 +5,7 @@ use Rattle.std.proofs.lemmas.Bool.{and_parts, both_ways, cases_Bool, cases_eq, n
 use Rattle.shogi_core.specs.declared.moves.Move.TheVariants.{Board}
 use Rattle.shogi_core.specs.Movement.{Cells, piece_at, reaches}
 use Rattle.shogi_core.specs.Position.{Shogi, HandCounts}
-use Rattle.shogi_core.specs.Faultless.{IsFaultless}
+use Rattle.shogi_core.proofs.Faultless.{IsFaultless}
 use Rattle.shogi_core.proofs.Faults.{faultless_from}
 use Rattle.shogi_moves.specs.Legal.{is_safe, is_pseudo_legal_board_move}
 use Rattle.shogi_core.specs.declared.piece.Color.{Color}

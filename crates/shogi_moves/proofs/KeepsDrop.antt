@@ -5,7 +5,7 @@ use Rattle.std.proofs.lemmas.Bool.{and_right, and_parts, both_ways, cases_Bool, 
 use Rattle.shogi_core.specs.declared.moves.Move.TheVariants.{Drop}
 use Rattle.shogi_core.specs.Movement.{Cells, piece_at}
 use Rattle.shogi_core.specs.Position.{Shogi, HandCounts, count_in_hand, place_of}
-use Rattle.shogi_core.specs.Faultless.{IsFaultless}
+use Rattle.shogi_core.proofs.Faultless.{IsFaultless}
 use Rattle.shogi_core.proofs.Faults.{number_below, faultless_from}
 use Rattle.shogi_moves.specs.Legal.{is_safe, is_pseudo_legal_drop, is_pawn_kind}
 use Rattle.shogi_core.specs.declared.piece.Color.{Color}

@@ -8,12 +8,12 @@ use Rattle.shogi_core.proofs.position.Position.is_same.Goals as goal
 
 pub returns-clause-test : goal.returns-clause-test
 returns-clause-test c =
-    let told : Decides c.eq.result (c.args.self.now ≡ c.args.other.now) = rw c.eq.ensures
+    let decided : Decides c.eq.result (c.args.self.now ≡ c.args.other.now) = rw c.eq.ensures
     (parts_decide c.args.self.now c.args.other.now _ _ _
     (slice_eq-Decides (option_same (λ x y. grind (arith, common_steps))) c.args.self.now.cells c.args.other.now.cells _ refl)
     (slice_eq-Decides Decides-eqb c.args.self.now.hands c.args.other.now.hands _ refl)
     (grind (arith, common_steps))) in
-    same_from_decides c.eq.result _ told (position_same c.args.self.now c.args.other.now)
+    same_from_decides c.eq.result _ decided (position_same c.args.self.now c.args.other.now)
 
 pub returns-clause-same : goal.returns-clause-same
 returns-clause-same c = rw (returns-clause-test c) (position_same c.args.self.now c.args.other.now)
