@@ -286,7 +286,7 @@ dropped_over old cells side kind to len ht beside safe =
 pub quiet_drop : (cells : Cells) (side : Color) (kind : Kind) (to : ℕ) → length cells ≡ 81 → to < 81 → in_check cells side ≡ false → in_check (cells_after cells side (Drop kind to)) side ≡ false
 quiet_drop cells side kind to len ht safe = dropped_over cells cells side kind to len ht (λ x other. refl) safe
 
--- whether a drop leaves a check, its kind does not tell
+-- whether a drop leaves a check does not depend on its kind
 pub same_drop : (cells : Cells) (side : Color) (a b : Kind) (to : ℕ) → length cells ≡ 81 → to < 81 → in_check (cells_after cells side (Drop a to)) side ≡ in_check (cells_after cells side (Drop b to)) side
 same_drop cells side a b to len ht = agree _ _ (over a b) (over b a)
   where
@@ -326,7 +326,7 @@ stays_drop cells side kind to free off check =
     no_crown None e = refl
     no_crown (Some piece) e = absurd (cc)
 
--- ---- what check info tells of a move
+-- ---- what follows from check info for a move
 
 -- an unpinned piece leaves no check, wherever it goes
 pub unpinned_safe : (p : Shogi) (checked : Bool) (pinned_or_king from to : ℕ) (promote : Bool) → IsCheckInfo p checked pinned_or_king → length p.cells ≡ 81 → from < 81 → to < 81 → is_piece_of p.side (piece_at p.cells from) ≡ true → checked ≡ false → has_bit pinned_or_king from ≡ false

@@ -34,7 +34,7 @@ is_pawn_role-role_of : (kind : Kind) → is_pawn_role (role_of kind) ≡ is_pawn
 is_pawn_role-role_of kinds.Pawn = refl
 is_pawn_role-role_of _ = refl
 
--- colours that are told the same are one
+-- colours that compare as the same are one
 same_color : (a b : Color) → is_same_color a b ≡ true → a ≡ b
 same_color Black Black e = refl
 same_color Black White e = cc

@@ -41,7 +41,7 @@ use Rattle.shogi_moves.proofs.ExistenceLaws.{some_legal}
 use Rattle.shogi_moves.proofs.CheckInfoLaws.{look, other_side, own_some, is_piece_of-piece_moved, dropped_of, quiet_board, quiet_drop}
 use Rattle.shogi_moves.proofs.LegalLaws.{is_legal_code_of}
 
--- a kind that goes on from every square, and is no pawn
+-- a kind that has a move from every square, and is no pawn
 abbrev pub is_free_kind : Kind → Bool
 is_free_kind kinds.Silver = true
 is_free_kind kinds.Gold = true

@@ -1,4 +1,4 @@
--- What is kept of a position to tell that after most of its moves the other side is in no check and has a legal move.
+-- What is kept of a position to decide that after most of its moves the other side is in no check and has a legal move.
 use Rattle.std.specs.Prelude.{ℕ, ◌%◌, ◌≡◌, ◌≢◌, ◌<◌, ◌^◌, ◌⊎◌, ◌&&◌, ◌||◌, Bool, true, false, not, nat_lt, Option, Some, None, is_none, [], slice_set}
 use Rattle.shogi_core.specs.declared.moves.Move.{Move}
 use Rattle.shogi_core.specs.declared.moves.Move.TheVariants.{Board, Drop}

@@ -75,13 +75,13 @@ drops_left p s = matching_from p false s.code
 abbrev pub HasDestination : BoardSweep → Type 0
 HasDestination s = bit_or s.destinations.plain s.destinations.promoting ≢ 0
 
--- the sweep goes on at a piece, or a kind, that has a move, and no move is left out
-abbrev pub GoesOnBoard : Shogi → Bool → BoardSweep → BoardSweep → Type 0
-GoesOnBoard p capture old new =
+-- the sweep continues at a piece, or a kind, that has a move, and no move is left out
+abbrev pub ContinuesBoard : Shogi → Bool → BoardSweep → BoardSweep → Type 0
+ContinuesBoard p capture old new =
     HasDestination new × (board_left p capture old ≡ board_left p capture new)
 
-abbrev pub GoesOnDrops : Shogi → DropSweep → DropSweep → Type 0
-GoesOnDrops p old new = (new.destinations ≢ 0) × (drops_left p old ≡ drops_left p new)
+abbrev pub ContinuesDrops : Shogi → DropSweep → DropSweep → Type 0
+ContinuesDrops p old new = (new.destinations ≢ 0) × (drops_left p old ≡ drops_left p new)
 
 -- the move found is the next one, and the others are left; where none is found, there is none of the sweep
 abbrev pub IsNextOnBoard : Shogi → Bool → Option Move → BoardSweep → BoardSweep → Type 0

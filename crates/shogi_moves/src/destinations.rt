@@ -177,8 +177,8 @@ fn may_be_pinned_destinations(
     tried_destinations(p, from, destinations)
 }
 
-/// Those of the destinations that leave the king unattacked. Most pieces may end anywhere, and are
-/// told at once.
+/// Those of the destinations that leave the king unattacked. Most pieces may end anywhere, and keep
+/// them all.
 #[tactic(auto, using(crate::proofs::DestinationLaws::unpinned_destinations))]
 fn safe_destinations(p: &Position, info: &CheckInfo, from: Square, destinations: u128) -> u128
     requires info { IsCheckInfoOf info.now p.now }
@@ -196,7 +196,7 @@ fn safe_destinations(p: &Position, info: &CheckInfo, from: Square, destinations:
 }
 
 /// The destinations of a piece without and with promotion, by the rules on promotion. Most pieces
-/// neither begin nor end in the zone in which they promote, and are told at once.
+/// neither begin nor end in the zone in which they promote, and have none with promotion.
 #[inline(always)]
 #[tactic(auto, using(crate::proofs::DestinationLaws::promoting))]
 fn with_promotions(cell: Option<Piece>, from: Square, among: u128) -> Destinations

@@ -7,7 +7,7 @@
 //! and made in `after`. A check is found by `Board::in_check` of `shogi_core`; `check_info` keeps
 //! it, with the pieces of `Board::pinned`, so that few moves need another look. Whether a move
 //! gives check is asked of the position after it; that it gives none, or can be answered, `replies`
-//! and `escapes` tell of most moves before they are made, and `threats` what the other side may
+//! and `escapes` answer for most moves before they are made, and `threats` what the other side may
 //! take after them.
 #![tactic(auto)]
 

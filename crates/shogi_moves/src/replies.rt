@@ -20,7 +20,7 @@ use crate::zones::{dead_squares, promoting_squares};
 use shogi_core::bits::{ALL_SQUARES, cleared, has, lowest, without, without_lowest};
 use shogi_core::{Color, Kind, Move, Piece, Position, Square, aligned_squares, step_squares};
 
-/// What is kept of a position to tell that after most of its moves the other side is in no check
+/// What is kept of a position to decide that after most of its moves the other side is in no check
 /// and has a legal move: what its king sees, and pieces of it that have an open step, or the empty
 /// squares where it holds a piece that may be dropped on each of them.
 #[derive(Clone, Copy, Debug)]
@@ -145,7 +145,7 @@ fn check_squares(p: &Position, side: Color, cell: Option<Piece>) -> u128
 }
 
 /// Whether the side holds a piece that it may drop on each empty square where it is in no check:
-/// one that is no pawn and goes on from everywhere.
+/// one that is no pawn and has a move from everywhere.
 fn holds_free(p: &Position, side: Color) -> bool
     ensures { result ≡ holds_free p.now.hands side }
 {

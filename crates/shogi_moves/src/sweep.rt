@@ -10,7 +10,7 @@ ghost use Rattle.shogi_moves.specs.Escapes.{AreEscapes};
 ghost use Rattle.shogi_moves.specs.CheckInfo.{IsCheckInfoOf};
 ghost use Rattle.shogi_moves.specs.Legal.{is_legal};
 ghost use Rattle.shogi_moves.specs.Replies.{IsReplies};
-ghost use Rattle.shogi_moves.specs.Sweeps.{matching_drops, board_left, drops_left, AreMatchingDestinations, IsBoardSweep, IsDropSweep, HasDestination, GoesOnBoard, GoesOnDrops, IsNextOnBoard, IsNextDrop, IsPassedTo, PassesQuiets, PassesDrops};
+ghost use Rattle.shogi_moves.specs.Sweeps.{matching_drops, board_left, drops_left, AreMatchingDestinations, IsBoardSweep, IsDropSweep, HasDestination, ContinuesBoard, ContinuesDrops, IsNextOnBoard, IsNextDrop, IsPassedTo, PassesQuiets, PassesDrops};
 
 use crate::check_info::CheckInfo;
 use crate::destinations::{
@@ -145,14 +145,14 @@ impl BoardSweep {
         m
     }
 
-    /// Goes on to the next piece that has a move of the kind, if there is one.
+    /// Continues with the next piece that has a move of the kind, if there is one.
     #[inline(never)]
     #[tactic(auto, using(crate::proofs::SweepLaws::sweeping))]
     fn refill(&mut self, p: &Position, capture: bool) -> bool
         requires kept { IsBoardSweep p.now capture self.old }
         requires none { bit_or self.old.destinations.plain self.old.destinations.promoting ≡ 0 }
         ensures kept { IsBoardSweep p.now capture self.new }
-        ensures some { result ≡ true → GoesOnBoard p.now capture self.old self.new }
+        ensures some { result ≡ true → ContinuesBoard p.now capture self.old self.new }
         ensures end { result ≡ false
             → board_left p.now capture self.old ≡ matching_drops p.now capture }
     {
@@ -317,13 +317,13 @@ impl DropSweep {
         m
     }
 
-    /// Goes on to the next kind that has a legal drop, if there is one.
+    /// Continues with the next kind that has a legal drop, if there is one.
     #[inline(never)]
     fn refill(&mut self, p: &Position) -> bool
         requires kept { IsDropSweep p.now self.old }
         requires none { self.old.destinations ≡ 0 }
         ensures kept { IsDropSweep p.now self.new }
-        ensures some { result ≡ true → GoesOnDrops p.now self.old self.new }
+        ensures some { result ≡ true → ContinuesDrops p.now self.old self.new }
         ensures end { result ≡ false → drops_left p.now self.old ≡ [] }
         ensures same { result ≡ false → self.new.code ≡ self.old.code }
     {

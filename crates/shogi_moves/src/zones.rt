@@ -2,14 +2,14 @@
 
 ghost use Rattle.std.specs.Prelude.{◌≡◌, ◌<◌, ◌^◌, ◌/◌, ◌&&◌, nat_lt};
 ghost use Rattle.shogi_core.specs.Bits.{HasBits};
-ghost use Rattle.shogi_core.specs.Cell.{is_immobile, is_pawn};
+ghost use Rattle.shogi_core.specs.Cell.{is_immobile};
 ghost use Rattle.shogi_core.specs.Validity.{pawns_on_file};
 ghost use Rattle.shogi_moves.specs.Legal.{in_promotion_zone, may_promote};
 ghost use Rattle.shogi_moves.specs.Replies.{is_on_back_rank};
 
 use crate::legal::{in_promotion_zone, is_promotable};
 use shogi_core::bits::{ALL_SQUARES, lowest, without_lowest};
-use shogi_core::{Color, Piece, Position, Role, Square};
+use shogi_core::{Color, Piece, Position, Role, Square, is_pawn};
 
 // Ranks from rank 1 and up to rank 9.
 const FIRST_RANK: u128 = 4731607904558235517441;
@@ -92,16 +92,6 @@ const FILES: [u128; 9] = [
     4713143110832790437888,
     2413129272746388704198656,
 ];
-
-/// Whether it is an unpromoted pawn of the side.
-fn is_pawn(cell: Option<Piece>, side: Color) -> bool
-    ensures { result ≡ is_pawn side cell }
-{
-    match cell {
-        None => false,
-        Some(piece) => side.is_same(piece.color) && matches!(piece.role, Role::Pawn),
-    }
-}
 
 /// The squares of the files on which an unpromoted pawn of the side stands.
 #[inline(never)]
