@@ -11,7 +11,7 @@ use std::alloc::Allocator;
 use std::hash::BuildHasher;
 use wires::Wire;
 
-/// Turns until nothing moves, and at most so often. Tells whether it is still.
+/// Turns until nothing moves, and at most so often. Returns whether it is still.
 pub fn turn_until_still<W: Wire, S: BuildHasher, A: Allocator + Copy>(
     turns: &mut Loop<A>,
     host: &mut Host<S, A>,
@@ -20,7 +20,7 @@ pub fn turn_until_still<W: Wire, S: BuildHasher, A: Allocator + Copy>(
 ) -> bool
     requires fits { Fits (links_of turns.old.held) (W.bound wire.old) host.old }
     ensures settled { result ≡ true → any_pending host.new (links_of turns.new.held) ≡ false }
-    ensures known { StaysKnown (W.told wire.old) (W.told wire.new) }
+    ensures known { StaysKnown (W.report wire.old) (W.report wire.new) }
     ensures fits { Fits (links_of turns.new.held) (W.bound wire.new) host.new }
 {
     'turns: for _ in 0..most {

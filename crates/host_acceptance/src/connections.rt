@@ -12,4 +12,4 @@ mod random;
 #[cfg(test)]
 mod scene;
 #[cfg(test)]
-mod telling;
+mod recording;

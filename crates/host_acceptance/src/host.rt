@@ -9,9 +9,9 @@ use std::process::Abort;
 use std::test::Fail;
 use test_support::{holds, same};
 
-/// What an outcome tells, with bytes as their number.
+/// An outcome, with bytes as their number.
 #[derive(Clone, Copy, Debug, PartialEq, Eq)]
-pub enum Told {
+pub enum Brief {
     Opened(SessionId),
     Done,
     Worked(u64),
@@ -19,13 +19,13 @@ pub enum Told {
     Refused(HostFault),
 }
 
-fn told_by(outcome: &Outcome<Global>) -> Told {
+fn brief_of(outcome: &Outcome<Global>) -> Brief {
     match outcome {
-        Outcome::Opened(id) => Told::Opened(*id),
-        Outcome::Done => Told::Done,
-        Outcome::Worked(steps) => Told::Worked(*steps),
-        Outcome::Gave(bytes) => Told::Gave(bytes.as_slice().len()),
-        Outcome::Refused(fault) => Told::Refused(*fault),
+        Outcome::Opened(id) => Brief::Opened(*id),
+        Outcome::Done => Brief::Done,
+        Outcome::Worked(steps) => Brief::Worked(*steps),
+        Outcome::Gave(bytes) => Brief::Gave(bytes.as_slice().len()),
+        Outcome::Refused(fault) => Brief::Refused(*fault),
     }
 }
 
@@ -64,25 +64,25 @@ impl TestHost {
         })
     }
 
-    /// Makes events one at a time, and ends the test where one tells something else than is wanted.
-    pub fn tells<R: Abort>(&mut self, rt: &R, wanted: &[(Event<'_>, Told)]) {
+    /// Makes events one at a time, and ends the test where one is answered otherwise than expected.
+    pub fn expect<R: Abort>(&mut self, rt: &R, wanted: &[(Event<'_>, Brief)]) {
         for row in wanted.iter() {
-            let (event, told) = *row;
-            same!(*rt; told_by(&self.host.step(event)), told, event);
+            let (event, brief) = *row;
+            same!(*rt; brief_of(&self.host.step(event)), brief, event);
         }
     }
 
     /// The same by one run, of events that stand beside what is wanted of them.
-    pub fn run_tells<R: Abort>(
+    pub fn expect_run<R: Abort>(
         &mut self,
         rt: &R,
         events: &[Event<'_>],
-        wanted: &[Told],
+        wanted: &[Brief],
     ) -> Result<(), Fail> {
         let outcomes = self.host.run(events)?;
         let mut all = Vec::new(self.alloc);
         for outcome in outcomes.as_slice() {
-            all.push(told_by(outcome))?;
+            all.push(brief_of(outcome))?;
         }
         same!(*rt; all.as_slice(), wanted);
         Ok(())

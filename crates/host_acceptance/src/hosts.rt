@@ -1,6 +1,6 @@
 //! Rows through a host of many sessions.
 
-use crate::host::{TestHost, Told};
+use crate::host::{TestHost, Brief};
 use host_core::{Event, HostFault};
 use session_slots::SessionId;
 use std::alloc::Global;
@@ -10,11 +10,11 @@ use test_support::rows::{INFO_AND_BEST_ONE, INFO_THREE, joined};
 use test_support::tables::opening;
 use test_support::{holds, same};
 
-const FULL: Told = Told::Refused(HostFault::Full);
+const FULL: Brief = Brief::Refused(HostFault::Full);
 
-const UNKNOWN: Told = Told::Refused(HostFault::UnknownSession);
+const UNKNOWN: Brief = Brief::Refused(HostFault::UnknownSession);
 
-const NOT_READY: Told = Told::Refused(HostFault::NotReady);
+const NOT_READY: Brief = Brief::Refused(HostFault::NotReady);
 
 // From the opening position `go depth 1` enters and leaves 31 positions, and its answer has 46 bytes.
 // What the first session searched, the second finds in the table.
@@ -22,15 +22,15 @@ fn assert_two_sessions<R: Abort>(rt: &R, host: &mut TestHost) -> Result<SessionI
     let a = host.opened()?;
     let go = b"go depth 1\n".as_slice();
     let events = [Event::Feed(a, go), Event::Work(a, 62)];
-    host.run_tells(rt, &events, &[Told::Done, Told::Worked(4)])?;
+    host.expect_run(rt, &events, &[Brief::Done, Brief::Worked(4)])?;
     holds!(*rt; !host.pending(a) && host.wants_input(a));
 
     let b = host.opened()?;
     let events = [Event::Open, Event::Feed(b, go), Event::Work(b, 0)];
-    host.run_tells(rt, &events, &[FULL, Told::Done, Told::Worked(0)])?;
+    host.expect_run(rt, &events, &[FULL, Brief::Done, Brief::Worked(0)])?;
     host.output_is(rt, b, INFO_AND_BEST_ONE.as_bytes());
     let takes = [Event::Take(b, 47), Event::Take(b, 46), Event::Take(b, 1)];
-    host.run_tells(rt, &takes, &[NOT_READY, Told::Gave(46), NOT_READY])?;
+    host.expect_run(rt, &takes, &[NOT_READY, Brief::Gave(46), NOT_READY])?;
     Ok(a)
 }
 
@@ -40,11 +40,11 @@ fn two_slots_and_three_sessions(rt: HostRuntime) -> Result<(), Fail> {
     let answer = joined(rt.alloc(), row.answer)?;
     let mut host = TestHost::new(rt.alloc(), 2, 4096)?;
     let a = assert_two_sessions(&rt, &mut host)?;
-    host.tells(&rt, &[(Event::Close(a), Told::Done)]);
+    host.expect(&rt, &[(Event::Close(a), Brief::Done)]);
     let c = host.opened()?;
     same!(rt; (c.slot, c.generation), (a.slot, 2));
     let events = [Event::Feed(a, b""), Event::Feed(c, b"go\n")];
-    host.run_tells(&rt, &events, &[UNKNOWN, Told::Done])?;
+    host.expect_run(&rt, &events, &[UNKNOWN, Brief::Done])?;
     holds!(rt; host.steps_of(c, u64::MAX).is_some() && !host.pending(c));
     host.output_is(&rt, c, answer.as_bytes());
     Ok(())
@@ -55,11 +55,11 @@ fn two_slots_and_three_sessions(rt: HostRuntime) -> Result<(), Fail> {
 fn bytes_are_taken_in_order(rt: HostRuntime) -> Result<(), Fail> {
     let mut host = TestHost::new(rt.alloc(), 1, 1)?;
     let id = host.opened()?;
-    host.tells(
+    host.expect(
         &rt,
         &[
-            (Event::Feed(id, b"isready\ngo mate 1\n"), Told::Done),
-            (Event::Work(id, 0), Told::Worked(0)),
+            (Event::Feed(id, b"isready\ngo mate 1\n"), Brief::Done),
+            (Event::Work(id, 0), Brief::Worked(0)),
         ],
     );
     for part in ["ready", "", "ok\ncheck", "mate notimplemented\n"] {
@@ -69,23 +69,23 @@ fn bytes_are_taken_in_order(rt: HostRuntime) -> Result<(), Fail> {
     Ok(())
 }
 
-// One step less than the search has, and it goes on; with the last one it is told.
+// One step less than the search has, and it continues; with the last one it is answered.
 #[test]
 fn one_step_less_than_the_search(rt: HostRuntime) -> Result<(), Fail> {
     let mut host = TestHost::new(rt.alloc(), 1, 1)?;
     let id = host.opened()?;
-    host.tells(
+    host.expect(
         &rt,
         &[
             (Event::Open, FULL),
-            (Event::Feed(id, b"go infinite depth 1\n"), Told::Done),
+            (Event::Feed(id, b"go infinite depth 1\n"), Brief::Done),
         ],
     );
     holds!(rt; host.pending(id) && !host.wants_input(id));
-    host.tells(&rt, &[(Event::Work(id, 3), Told::Worked(3))]);
+    host.expect(&rt, &[(Event::Work(id, 3), Brief::Worked(3))]);
     holds!(rt; host.pending(id));
     host.output_is(&rt, id, b"");
-    host.tells(&rt, &[(Event::Work(id, 3), Told::Worked(1))]);
+    host.expect(&rt, &[(Event::Work(id, 3), Brief::Worked(1))]);
     holds!(rt; !host.pending(id));
     same!(rt; host.output(id).map(|bytes| bytes.len()), Some(32));
     Ok(())
@@ -99,16 +99,16 @@ fn a_new_session_in_an_old_slot(rt: HostRuntime) -> Result<(), Fail> {
     let first = host.opened()?;
     let held =
         b"setoption name Depth value 1\nsetoption name Eval value Hand\nsetoption name MultiPV value 2\nposition startpos moves 7g7f\ngo infinite\n";
-    host.tells(&rt, &[(Event::Feed(first, held), Told::Done)]);
+    host.expect(&rt, &[(Event::Feed(first, held), Brief::Done)]);
     holds!(rt; host.steps_of(first, u64::MAX).is_some());
-    host.tells(&rt, &[(Event::Close(first), Told::Done)]);
+    host.expect(&rt, &[(Event::Close(first), Brief::Done)]);
 
     // It has neither the options nor the position, nor the `bestmove` that was held.
     let second = host.opened()?;
     same!(rt; (second.slot, second.generation), (first.slot, 1));
     host.output_is(&rt, second, b"");
     holds!(rt; host.output(first).is_none());
-    host.tells(&rt, &[(Event::Feed(second, b"stop\ngo\n"), Told::Done)]);
+    host.expect(&rt, &[(Event::Feed(second, b"stop\ngo\n"), Brief::Done)]);
     holds!(rt; host.steps_of(second, u64::MAX).is_some());
     host.output_is(&rt, second, answer.as_bytes());
     Ok(())
@@ -118,7 +118,7 @@ fn a_new_session_in_an_old_slot(rt: HostRuntime) -> Result<(), Fail> {
 fn ids_of_no_session(rt: HostRuntime) -> Result<(), Fail> {
     let mut host = TestHost::new(rt.alloc(), 2, 64)?;
     let closed = host.opened()?;
-    host.tells(&rt, &[(Event::Close(closed), Told::Done)]);
+    host.expect(&rt, &[(Event::Close(closed), Brief::Done)]);
     let open = host.opened()?;
     let never = SessionId {
         slot: open.slot,
@@ -129,7 +129,7 @@ fn ids_of_no_session(rt: HostRuntime) -> Result<(), Fail> {
         generation: open.generation,
     };
     for id in [closed, never, elsewhere] {
-        host.tells(
+        host.expect(
             &rt,
             &[
                 (Event::Feed(id, b"usi\n"), UNKNOWN),
@@ -153,18 +153,18 @@ fn a_session_that_is_not_ready(rt: HostRuntime) -> Result<(), Fail> {
     let longest = chunk.as_slice().get(1..).unwrap_or(b"");
     let mut host = TestHost::new(rt.alloc(), 1, 64)?;
     let id = host.opened()?;
-    host.tells(
+    host.expect(
         &rt,
         &[
             (Event::Feed(id, chunk.as_slice()), NOT_READY),
-            (Event::Feed(id, longest), Told::Done),
-            (Event::Feed(id, b"\nisready\n"), Told::Done),
+            (Event::Feed(id, longest), Brief::Done),
+            (Event::Feed(id, b"\nisready\n"), Brief::Done),
             (Event::Feed(id, b"usi\n"), NOT_READY),
-            (Event::Work(id, 0), Told::Worked(0)),
+            (Event::Work(id, 0), Brief::Worked(0)),
         ],
     );
     host.output_is(&rt, id, b"readyok\n");
-    host.tells(&rt, &[(Event::Take(id, 9), NOT_READY)]);
+    host.expect(&rt, &[(Event::Take(id, 9), NOT_READY)]);
     same!(rt; host.pass(id, 9), Err(HostFault::NotReady));
     same!(rt; host.pass(id, 6), Ok(()));
     host.output_is(&rt, id, b"k\n");
@@ -176,17 +176,17 @@ fn a_session_that_is_not_ready(rt: HostRuntime) -> Result<(), Fail> {
 fn a_session_that_is_over(rt: HostRuntime) -> Result<(), Fail> {
     let mut host = TestHost::new(rt.alloc(), 1, 64)?;
     let id = host.opened()?;
-    host.tells(&rt, &[(Event::Feed(id, b"quit\nusi\n"), Told::Done)]);
+    host.expect(&rt, &[(Event::Feed(id, b"quit\nusi\n"), Brief::Done)]);
     holds!(rt; host.pending(id) && !host.is_over(id));
-    host.tells(&rt, &[(Event::Work(id, 0), Told::Worked(0))]);
+    host.expect(&rt, &[(Event::Work(id, 0), Brief::Worked(0))]);
     holds!(rt; host.is_over(id) && !host.pending(id));
-    host.tells(
+    host.expect(
         &rt,
         &[
             (Event::Feed(id, b""), NOT_READY),
-            (Event::Work(id, 9), Told::Worked(0)),
+            (Event::Work(id, 9), Brief::Worked(0)),
             (Event::Open, FULL),
-            (Event::Close(id), Told::Done),
+            (Event::Close(id), Brief::Done),
         ],
     );
     same!(rt; host.opened()?.generation, 1);
@@ -203,21 +203,21 @@ fn a_full_queue_wants_no_input(rt: HostRuntime) -> Result<(), Fail> {
     }
     let mut host = TestHost::new(rt.alloc(), 1, 1)?;
     let id = host.opened()?;
-    host.tells(
+    host.expect(
         &rt,
         &[
-            (Event::Feed(id, chunk.as_slice()), Told::Done),
-            (Event::Work(id, 0), Told::Worked(0)),
+            (Event::Feed(id, chunk.as_slice()), Brief::Done),
+            (Event::Work(id, 0), Brief::Worked(0)),
         ],
     );
     same!(rt; host.output(id).map(|bytes| bytes.len()), Some(234_496));
     holds!(rt; !host.wants_input(id));
     same!(rt; host.pass(id, 234_496 - 65_536), Ok(()));
     holds!(rt; !host.wants_input(id));
-    host.tells(&rt, &[(Event::Feed(id, b"usi\n"), NOT_READY)]);
+    host.expect(&rt, &[(Event::Feed(id, b"usi\n"), NOT_READY)]);
     same!(rt; host.pass(id, 1), Ok(()));
     holds!(rt; host.wants_input(id));
-    host.tells(&rt, &[(Event::Feed(id, b"usi\n"), Told::Done)]);
+    host.expect(&rt, &[(Event::Feed(id, b"usi\n"), Brief::Done)]);
     Ok(())
 }
 
@@ -235,15 +235,15 @@ fn assert_at_depth_four<R: Abort>(rt: &R, said: &[u8]) -> Result<(), Fail> {
 fn a_search_is_shared(rt: HostRuntime) -> Result<(), Fail> {
     let mut host = TestHost::new(rt.alloc(), 2, 100_000)?;
     let first = host.opened()?;
-    host.tells(&rt, &[(Event::Feed(first, b"go depth 4\n"), Told::Done)]);
+    host.expect(&rt, &[(Event::Feed(first, b"go depth 4\n"), Brief::Done)]);
     holds!(rt; host.steps_of(first, u64::MAX) > Some(4));
 
     let second = host.opened()?;
-    host.tells(
+    host.expect(
         &rt,
         &[
-            (Event::Feed(second, b"go depth 4\n"), Told::Done),
-            (Event::Work(second, 0), Told::Worked(0)),
+            (Event::Feed(second, b"go depth 4\n"), Brief::Done),
+            (Event::Work(second, 0), Brief::Worked(0)),
         ],
     );
     holds!(rt; !host.pending(first) && !host.pending(second));
@@ -285,7 +285,7 @@ fn feed<R: Abort>(
 ) -> Result<(), Fail> {
     for (number, id) in ids.iter().enumerate() {
         let line = line_of(alloc, number)?;
-        host.tells(rt, &[(Event::Feed(*id, line.as_bytes()), Told::Done)]);
+        host.expect(rt, &[(Event::Feed(*id, line.as_bytes()), Brief::Done)]);
     }
     Ok(())
 }
@@ -293,7 +293,7 @@ fn feed<R: Abort>(
 fn work<R: Abort>(rt: &R, host: &mut TestHost, ids: &[SessionId]) {
     for (number, id) in ids.iter().enumerate() {
         holds!(*rt; host.pending(*id), number);
-        host.tells(rt, &[(Event::Work(*id, 0), Told::Worked(0))]);
+        host.expect(rt, &[(Event::Work(*id, 0), Brief::Worked(0))]);
     }
 }
 
@@ -316,10 +316,10 @@ fn assert_answers<R: Abort>(
 fn as_many_sessions_as_there_may_be(rt: HostRuntime) -> Result<(), Fail> {
     let mut host = TestHost::new(rt.alloc(), 1024, 4096)?;
     let ids = opened(rt.alloc(), &mut host, 1024)?;
-    host.tells(&rt, &[(Event::Open, FULL)]);
+    host.expect(&rt, &[(Event::Open, FULL)]);
     feed(&rt, rt.alloc(), &mut host, ids.as_slice())?;
     work(&rt, &mut host, ids.as_slice());
     assert_answers(&rt, rt.alloc(), &host, ids.as_slice())?;
-    host.tells(&rt, &[(Event::Open, FULL)]);
+    host.expect(&rt, &[(Event::Open, FULL)]);
     Ok(())
 }

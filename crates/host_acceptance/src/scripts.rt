@@ -93,7 +93,7 @@ fn a_thousand_sessions(rt: HostRuntime) -> Result<(), Fail> {
     Ok(())
 }
 
-// Each read failing in turn, the one that tells the end too: nothing was written.
+// Each read failing in turn, the one that finds the end too: nothing was written.
 #[test]
 fn each_read_of_a_script_fails_in_turn(rt: HostRuntime) -> Result<(), Fail> {
     let script = two_sessions();
@@ -118,8 +118,8 @@ fn each_read_of_a_script_fails_in_turn(rt: HostRuntime) -> Result<(), Fail> {
     Ok(())
 }
 
-// How a writer ends a replay: all was written, or a front and a fault.
-fn assert_front(rt: &impl Abort, alloc: Global, mut writer: FailingWriter) -> Result<bool, Fail> {
+// How a writer ends a replay: all was written, or a prefix and a fault.
+fn assert_prefix(rt: &impl Abort, alloc: Global, mut writer: FailingWriter) -> Result<bool, Fail> {
     let script = refused_and_again();
     let mut reader = script.text.as_bytes();
     let output = joined(alloc, script.output)?;
@@ -143,7 +143,7 @@ fn each_write_of_an_output_fails_in_turn(rt: HostRuntime) -> Result<(), Fail> {
     let (mut failed, mut passed) = (false, false);
     for writes in 0..10usize {
         let writer = FailingWriter::new(rt.alloc(), 32, writes, usize::MAX);
-        if assert_front(&rt, rt.alloc(), writer)? {
+        if assert_prefix(&rt, rt.alloc(), writer)? {
             passed = true;
         } else {
             failed = true;
@@ -151,10 +151,10 @@ fn each_write_of_an_output_fails_in_turn(rt: HostRuntime) -> Result<(), Fail> {
     }
     holds!(rt; failed && passed, failed);
     let unflushed = FailingWriter::new(rt.alloc(), 4096, usize::MAX, 0);
-    holds!(rt; !assert_front(&rt, rt.alloc(), unflushed)?);
+    holds!(rt; !assert_prefix(&rt, rt.alloc(), unflushed)?);
     let narrow = FailingWriter::new(rt.alloc(), 1, usize::MAX, 1);
-    holds!(rt; assert_front(&rt, rt.alloc(), narrow)?);
+    holds!(rt; assert_prefix(&rt, rt.alloc(), narrow)?);
     let stalled = FailingWriter::new(rt.alloc(), 0, usize::MAX, usize::MAX);
-    holds!(rt; !assert_front(&rt, rt.alloc(), stalled)?);
+    holds!(rt; !assert_prefix(&rt, rt.alloc(), stalled)?);
     Ok(())
 }

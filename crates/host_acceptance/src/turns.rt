@@ -1,6 +1,6 @@
 //! Two sessions of a host by turns.
 
-use crate::host::{TestHost, Told};
+use crate::host::{TestHost, Brief};
 use host_core::Event;
 use std::process::Abort;
 use std::test::Fail;
@@ -18,8 +18,8 @@ fn assert_turns<R: Abort>(rt: &R, host: &mut TestHost) -> Result<(), Fail> {
         Event::Work(a, 3),
         Event::Work(b, 0),
     ];
-    let wanted = [Told::Done, Told::Done, Told::Worked(3), Told::Worked(0)];
-    host.run_tells(rt, &events, &wanted)?;
+    let wanted = [Brief::Done, Brief::Done, Brief::Worked(3), Brief::Worked(0)];
+    host.expect_run(rt, &events, &wanted)?;
     holds!(*rt; host.pending(a) && !host.pending(b) && host.is_over(b));
     host.output_is(rt, a, b"");
 

@@ -260,7 +260,7 @@ fn help_has_what_a_user_needs(rt: HostRuntime) {
     holds!(rt; are_helps(alloc, &short, &long, &asked, &serve, &host));
 }
 
-// With `rt try --test --fail-alloc N`, want of memory is the only other answer.
+// With `rt try --test --fail-alloc N`, `OutOfMemory` is the only other answer.
 #[test]
 fn only_memory_changes_an_answer(rt: HostRuntime) {
     let rows: [(&[&str], &str); 7] = [

@@ -1,4 +1,4 @@
--- A chain of steps that goes on by one step.
+-- A chain of steps continued by one step.
 use Rattle.std.proofs.Common.{◌≡◌, ℕ, ◌+◌, ◌<◌, List, [], ◌∷◌, ◌++◌, length, get_or, take, refl, sym, ap, ◌∙◌, arith}
 use Rattle.std.proofs.lemmas.List.{take_more, length-take-le}
 use Rattle.session_slots.specs.Slots.{IsBelow}

@@ -3,7 +3,7 @@ use Rattle.std.specs.Prelude.{ℕ, List}
 use Rattle.session_slots.specs.declared.id.SessionId.{SessionId}
 use Rattle.host_core.specs.declared.event.HostFault.{HostFault}
 
--- to open a session, or of the session of an id: to store bytes for it, to go on by so many steps, to take so many queued bytes, to close it
+-- to open a session, or of the session of an id: to store bytes for it, to continue by so many steps, to take so many queued bytes, to close it
 pub data Event : Type 0 where
   Open : Event
   Feed : (id : SessionId) (chunk : List ℕ) → Event

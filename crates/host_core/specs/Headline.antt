@@ -39,9 +39,9 @@ abbrev pub EndsFrom : (List ℕ → List ℕ) → List ℕ → List ℕ → Opti
 EndsFrom owed own taken None = IsPrefixOf taken (owed own)
 EndsFrom owed own taken (Some t) = (x : List ℕ) → taken ++ due t x ≡ owed (own ++ x)
 
--- a session that was open before goes on from what it owed
-abbrev pub GoesOn : HostState → List Step → HostState → Type 0
-GoesOn old steps end =
+-- a session that was open before continues from what it owed
+abbrev pub Continues : HostState → List Step → HostState → Type 0
+Continues old steps end =
     (id : SessionId) (s : SessionView) → find old.slots id ≡ Some s
     → EndsFrom (due s) (own id steps) (taken id steps) (find end.slots id)
 

@@ -39,9 +39,9 @@ pub record Stopped (old new : SessionView) : Type 0 where
   pub made : load new ≤ load old
 
 -- what a call of `work` left: it went on by so many steps, or was out of memory on the way
-abbrev pub GoesOnBy : {E : Type 0} → SessionView → ℕ → Result ℕ E → SessionView → Type 0
-GoesOnBy old budget (Ok steps) new = WorkedOn old budget steps new
-GoesOnBy old budget (Err fault) new = Stopped old new
+abbrev pub ContinuesBy : {E : Type 0} → SessionView → ℕ → Result ℕ E → SessionView → Type 0
+ContinuesBy old budget (Ok steps) new = WorkedOn old budget steps new
+ContinuesBy old budget (Err fault) new = Stopped old new
 
 -- the first bytes of its queue were taken
 pub record Taken (old : SessionView) (n : ℕ) (bytes : List ℕ) (new : SessionView) : Type 0 where

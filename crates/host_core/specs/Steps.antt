@@ -72,7 +72,7 @@ pub record KeepsTable (old : HostState) (id : SessionId) (new : HostState) : Typ
   pub capacity_is : new.table.capacity ≡ old.table.capacity
   pub idle : pending_of (find old.slots id) ≡ false → new.table ≡ old.table
 
--- the session of the id goes on
+-- the session of the id continues
 abbrev pub IsWorked : ℕ → HostState → SessionId → Outcome → HostState → Type 0
 IsWorked budget old id outcome new =
     OnSession (Works budget) old id (find old.slots id) outcome new × KeepsTable old id new

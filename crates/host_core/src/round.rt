@@ -41,7 +41,7 @@ impl<S: BuildHasher, A: Allocator + Copy> Host<S, A> {
         requires open { IsSome (find self.old.slots id) }
         requires not_last { id.slot < 2 ^ 64 - 1 }
         requires most { round.worked + round.refused ≤ id.slot }
-        ensures goes_on { PassesSlot budget id.slot round self.old result self.new }
+        ensures continues { PassesSlot budget id.slot round self.old result self.new }
         ensures most { result.worked + result.refused ≤ id.slot + 1 }
     {
         if !self.pending(id) {

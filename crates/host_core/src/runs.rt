@@ -3,7 +3,7 @@
 ghost use Rattle.std.specs.Prelude.{◌≡◌, ◌≤◌, IfOk, OnErr, Err, length, vec_len};
 ghost use Rattle.session_slots.specs.Slots.{IsBelow};
 ghost use Rattle.shared_table.specs.Recent.{AreTrue};
-ghost use Rattle.host_core.specs.Headline.{PrefixOfReplies, AllReplies, GoesOn, EndsByOwn, OverByOwn, EndsOn};
+ghost use Rattle.host_core.specs.Headline.{PrefixOfReplies, AllReplies, Continues, EndsByOwn, OverByOwn, EndsOn};
 ghost use Rattle.host_core.specs.Kept.{KeepsOthers, KeepsRefused};
 ghost use Rattle.host_core.specs.Runs.{IsRun};
 ghost use Rattle.host_core.specs.Seen.{OfSteps, event_of, outcome_of};
@@ -65,14 +65,14 @@ impl<S: BuildHasher, A: Allocator + Copy> Host<S, A> {
     ///
     /// For each session that an event opened, the bytes made for it are a prefix of the replies to the
     /// bytes stored for it, and all of them where it is open at the end with nothing pending. A session
-    /// that was open before goes on from what it owed. With nothing pending a session is over where the
+    /// that was open before continues from what it owed. With nothing pending a session is over where the
     /// bytes stored for it end it, by `quit` or a line that is too long, and nowhere else.
     pub fn run(&mut self, events: &[Event<'_>]) -> Result<Vec<Outcome<A>, A>, HostFault>
         ensures each { IfOk result (λ outcomes. vec_len outcomes ≡ length events.now) }
         ensures chain { OfSteps events.now result (λ steps. IsRun self.old steps self.new) }
         ensures prefix { OfSteps events.now result (λ steps. PrefixOfReplies steps self.new) }
         ensures all { OfSteps events.now result (λ steps. AllReplies steps self.new) }
-        ensures before { OfSteps events.now result (λ steps. GoesOn self.old steps self.new) }
+        ensures before { OfSteps events.now result (λ steps. Continues self.old steps self.new) }
         ensures ends { OfSteps events.now result (λ steps. EndsByOwn steps self.new) }
         ensures over { OfSteps events.now result (λ steps. OverByOwn steps self.new) }
         ensures ends_on { OfSteps events.now result (λ steps. EndsOn self.old steps self.new) }

@@ -4,7 +4,7 @@ ghost use Rattle.std.specs.Prelude.{◌≡◌, false, take, IsErrOf};
 ghost use Rattle.usi_session.specs.Due.{is_pending};
 ghost use Rattle.host_core.specs.Events.{Gave};
 ghost use Rattle.host_core.specs.Seen.{as_outcome, done_of, passed_of};
-ghost use Rattle.host_core.specs.Sessions.{Feeds, GoesOnBy, Takes};
+ghost use Rattle.host_core.specs.Sessions.{Feeds, ContinuesBy, Takes};
 ghost use Rattle.host_core.specs.declared.event.HostFault.TheVariants.{OutOfMemory};
 
 use crate::bytes::Bytes;
@@ -26,14 +26,14 @@ pub fn feed<A: Allocator + Copy>(session: &mut Session<A>, chunk: &[u8]) -> Resu
     }
 }
 
-/// Goes on by at most so many steps. With nothing pending, the session and the memo are left as they are.
+/// Continues by at most so many steps. With nothing pending, the session and the memo are left as they are.
 #[tactic(auto, using(usi_session::proofs::WholeReplies::grows_by_none))]
 pub fn work<A: Allocator + Copy, M: Memo>(
     session: &mut Session<A>,
     memo: &mut M,
     budget: u64,
 ) -> Result<u64, AllocError>
-    ensures works { GoesOnBy session.old budget result session.new }
+    ensures works { ContinuesBy session.old budget result session.new }
     ensures idle { is_pending session.old ≡ false → memo.new ≡ memo.old }
     ensures capacity { M.capacity memo.new ≡ M.capacity memo.old }
 {

@@ -29,7 +29,7 @@ abbrev pub alone : Shogi → List (List ℕ) → Result Shogi Refusal
 alone p [] = Ok p
 alone p (word ∷ more) = Err FurtherWords
 
--- the position at the front of a text, where no word stands after its end, or its fault
+-- the position at the start of a text, where no word stands after its end, or its fault
 abbrev pub of_sfen : List ℕ → Result (Shogi × ℕ) SfenFault → Result Shogi Refusal
 of_sfen text (Ok (p, end)) = alone p (words (drop end text))
 of_sfen text (Err fault) = Err (BadPosition fault)

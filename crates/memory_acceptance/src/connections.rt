@@ -66,7 +66,7 @@ impl<'a> Scene<'a> {
         }
     }
 
-    /// Whether the connection was written its whole answer; else it was written a front of it. It is shut.
+    /// Whether the connection was written its whole answer; else it was written a prefix of it. It is shut.
     fn is_served(&self, rt: &impl Abort, number: u64) -> bool {
         if !self.wire.is_known(number) {
             return false;
@@ -78,14 +78,14 @@ impl<'a> Scene<'a> {
     }
 }
 
-/// Whose memory is refused: that of the host and its loop, or that of the wire.
+/// Whose allocations fail: those of the host and its loop, or that of the wire.
 #[derive(Clone, Copy)]
 enum Owner {
     Host,
     Wire,
 }
 
-// Serves two connections while requests are refused, and tells how many of the two were shut early.
+// Serves two connections while requests are refused; returns how many of the two were shut early.
 fn serve_two(
     rt: &impl Abort,
     scene: &mut Scene<'_>,
@@ -120,7 +120,7 @@ fn assert_serves(rt: &impl Abort, scene: &mut Scene<'_>) -> Result<(), Fail> {
     Ok(())
 }
 
-// The two, and a third one once memory is there again. Tells whether a request was refused, and how many of
+// The two, and a third one once memory is there again. Returns whether a request was refused, and how many of
 // the two were shut early.
 fn serve(
     rt: &impl Abort,

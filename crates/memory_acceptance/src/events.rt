@@ -27,7 +27,7 @@ struct Served<'a> {
 }
 
 impl<'a> Served<'a> {
-    /// A host of three slots. Where memory is refused it is made again.
+    /// A host of three slots. Where allocation fails it is made again.
     fn new(memory: &'a Memory, stays_gone: bool) -> Result<Served<'a>, Fail> {
         let (host, refused) = match TestHost::new(memory, 3, 4096) {
             Ok(host) => (host, 0),
@@ -71,8 +71,8 @@ impl<'a> Served<'a> {
         self.host.output(id) == Some(bytes)
     }
 
-    /// Whether what is queued for the session is a front of the answer.
-    fn has_front(&self, id: SessionId, whole: &str) -> bool {
+    /// Whether what is queued for the session is a prefix of the answer.
+    fn has_prefix(&self, id: SessionId, whole: &str) -> bool {
         match self.host.output(id) {
             Some(queued) => whole.as_bytes().starts_with(queued),
             None => false,
@@ -83,11 +83,11 @@ impl<'a> Served<'a> {
         holds!(*rt; is_done(&self.send(rt, Event::Feed(id, chunk))));
     }
 
-    /// One step of the session, if it is pending. What is queued stays a front of the answer.
+    /// One step of the session, if it is pending. What is queued stays a prefix of the answer.
     fn work(&mut self, rt: &impl Abort, id: SessionId, whole: &str) {
         let before = self.refused;
         holds!(*rt; is_done(&self.send(rt, Event::Work(id, 1))));
-        holds!(*rt; self.refused == before || self.has_front(id, whole));
+        holds!(*rt; self.refused == before || self.has_prefix(id, whole));
     }
 
     /// Takes the whole answer.

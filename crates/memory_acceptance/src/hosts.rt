@@ -90,9 +90,9 @@ impl<'a> Scarce<'a> {
 }
 
 // At the first refusal the ballast is dropped, and what was refused is sent again: what is queued
-// stays a front of the answer, and in the end it is all of it. None where the ballast itself found
+// stays a prefix of the answer, and in the end it is all of it. None where the ballast itself found
 // no room.
-fn assert_goes_on(
+fn assert_continues(
     rt: &impl Abort,
     alloc: Global,
     row: &Row,
@@ -123,7 +123,7 @@ fn assert_from_nothing(
     let (mut fed, mut worked, mut never) = (false, false, false);
     for blocks in 0..HEAP / step {
         let left = blocks.saturating_mul(step);
-        if let Some(Refused { feed, work }) = assert_goes_on(rt, alloc, row, left, budget)? {
+        if let Some(Refused { feed, work }) = assert_continues(rt, alloc, row, left, budget)? {
             fed |= feed;
             worked |= work;
             never |= !feed && !work;
@@ -135,7 +135,7 @@ fn assert_from_nothing(
 
 // The feed is refused, then the current search, then one reply after another, then nothing.
 #[test]
-fn a_session_goes_on_after_a_refusal(rt: HostRuntime) -> Result<(), Fail> {
+fn a_session_continues_after_a_refusal(rt: HostRuntime) -> Result<(), Fail> {
     let [_, deeper, _] = sliced();
     assert_from_nothing(&rt, rt.alloc(), &cut(), u64::MAX, 512)?;
     assert_from_nothing(&rt, rt.alloc(), &deeper, 1, 128)
@@ -236,7 +236,7 @@ impl<'a> Starved<'a> {
     }
 }
 
-// Two sessions are opened with so many blocks. Tells whether memory was refused.
+// Two sessions are opened with so many blocks. Returns whether memory was refused.
 fn assert_opened(rt: &impl Abort, alloc: Global, dropped: usize) -> Result<bool, Fail> {
     let heap = LocalHeap::new(alloc, HOST_HEAP)?;
     let mut starved = Starved::new(alloc, &heap, 1)?;
@@ -262,7 +262,7 @@ fn sessions_are_opened_after_a_refusal(rt: HostRuntime) -> Result<(), Fail> {
     Ok(())
 }
 
-// From an event on so many blocks are left. Tells whether memory was refused.
+// From an event on so many blocks are left. Returns whether memory was refused.
 fn assert_answered(
     rt: &impl Abort,
     alloc: Global,
@@ -292,7 +292,7 @@ fn assert_answered(
 
 // From whichever event on memory is scarce, both sessions say what they would have said.
 #[test]
-fn two_sessions_go_on_after_a_refusal(rt: HostRuntime) -> Result<(), Fail> {
+fn two_sessions_continue_after_a_refusal(rt: HostRuntime) -> Result<(), Fail> {
     for scarce_from in [0, 2, 4] {
         let (mut refused, mut never) = (false, false);
         for dropped in 0..24 {

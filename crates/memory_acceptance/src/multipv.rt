@@ -24,7 +24,7 @@ struct Slices {
 }
 
 // What the session is refused is sent again, with all the memory there. What is queued stays a
-// front of the answer, and in the end it is all of it.
+// prefix of the answer, and in the end it is all of it.
 fn answer<M: Memo>(
     rt: &impl Abort,
     session: &mut TestSession<&Memory>,

@@ -13,7 +13,7 @@ const REQUESTS: u64 = 10_000;
 
 /// What is run again and again.
 pub trait Trial {
-    /// Runs over this memory, and tells how often it was refused what it needs.
+    /// Runs over this memory; returns how often it was refused what it needs.
     fn run<R: Abort>(&self, rt: &R, alloc: Global, memory: &Memory) -> Result<u64, Fail>;
 }
 

@@ -53,7 +53,7 @@ fn assert_grows(rt: &impl Abort, memory: &Memory, bytes: &mut Bytes<'_>) {
     same!(*rt; memory.refused(), 1);
 }
 
-// A vector that is refused memory keeps what it holds, and grows once memory is there.
+// A vector whose allocation fails keeps what it holds, and grows once memory is there.
 #[test]
 fn a_vector_grows_after_a_refusal(rt: HostRuntime) -> Result<(), Fail> {
     let memory = FailingAllocator::new(rt.alloc());
@@ -61,7 +61,7 @@ fn a_vector_grows_after_a_refusal(rt: HostRuntime) -> Result<(), Fail> {
     Ok(())
 }
 
-// The room is given back but for ten bytes, unless memory is refused.
+// The room is given back but for ten bytes, unless allocation fails.
 fn shrink(bytes: &mut Bytes<'_>) {
     bytes.shrink_to(10);
 }

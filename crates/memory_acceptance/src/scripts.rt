@@ -23,7 +23,7 @@ struct Replay {
 }
 
 // Plays the script over this memory: out of memory with nothing written, or all of the output.
-// Tells whether it was written.
+// Returns whether it was written.
 fn is_played<A: Allocator + Copy>(
     rt: &impl Abort,
     alloc: Global,

@@ -18,7 +18,7 @@ pub fn table_of(alloc: Global, entries: usize) -> Result<TestTable, TableFault> 
     SharedTable::new(alloc, entries.clamp(1, 1_000_000), hasher)
 }
 
-/// A session, of which a fault is want of memory.
+/// A session, of which a fault is out of memory.
 #[derive(Drop)]
 pub struct TestSession<A: Allocator + Copy> {
     session: Session<A>,

@@ -24,7 +24,7 @@ const READY: &[u8] = b"readyok\n";
 // More requests than a run makes.
 const REQUESTS: u64 = 1000;
 
-/// A host and a loop with all memory, over a wire whose memory is refused.
+/// A host and a loop with all memory, over a wire whose allocations fail.
 #[derive(Drop)]
 struct Scene<'a> {
     host: Host<BuildHasherDefault<FoldHasher>, Global>,
@@ -95,7 +95,7 @@ impl Client {
         })
     }
 
-    /// Looks at what it was told by now.
+    /// Looks at what it has received by now.
     fn look(&mut self) -> Result<Fate, Fail> {
         if self.fate == Fate::Waits {
             let mut buf = [0u8; 64];
@@ -111,7 +111,7 @@ impl Client {
     }
 }
 
-// Turns and waits until no client waits. Tells how many were shut.
+// Turns and waits until no client waits. Returns how many were shut.
 fn serve_all(scene: &mut Scene<'_>, clients: &mut [Client]) -> Result<usize, Fail> {
     for _ in 0..16 {
         let moved = scene.turn();
@@ -132,7 +132,7 @@ fn serve_all(scene: &mut Scene<'_>, clients: &mut [Client]) -> Result<usize, Fai
     Err(Fail::from("a client is neither answered nor shut"))
 }
 
-// Three clients wait, and the n-th request of the wire is refused. Tells whether there was one, and how many
+// Three clients wait, and the n-th request of the wire is refused. Returns whether there was one, and how many
 // clients were shut.
 fn refused_at(rt: &HostRuntime, n: u64) -> Result<(bool, usize), Fail> {
     let memory = FailingAllocator::new(rt.alloc());

@@ -21,7 +21,7 @@ struct Run<'a> {
     entries: usize,
 }
 
-// The streams over this memory: out of memory with a front of the answer, or all of it. Tells
+// The streams over this memory: out of memory with a prefix of the answer, or all of it. Returns
 // whether all of it was written.
 fn is_written<A: Allocator + Copy>(
     rt: &impl Abort,

@@ -26,7 +26,7 @@ impl Found {
         self.differences.as_slice()
     }
 
-    /// What was said to the row is its answer. `how` tells in what way it was run.
+    /// What was said to the row is its answer. `how` says in what way it was run.
     pub fn said(&mut self, row: &Row, how: &str, said: &[u8]) -> Result<(), AllocError> {
         self.is(row, how, row.answer.as_bytes(), said)
     }

@@ -47,12 +47,12 @@ impl Server {
         self.host.open().ok()
     }
 
-    /// Stores the bytes, and tells whether they were stored.
+    /// Stores the bytes; returns whether they were stored.
     fn feed(&mut self, id: SessionId, chunk: &[u8]) -> bool {
         self.host.feed(id, chunk).is_ok()
     }
 
-    /// Works one slice, and tells whether it made at most its budget, and all of it where something is left.
+    /// Works one slice; returns whether it made at most its budget, and all of it where something is left.
     fn work(&mut self, id: SessionId, budget: u64) -> bool {
         match self.host.work(id, budget) {
             Ok(steps) => steps <= budget && (steps == budget || !self.host.pending(id)),

@@ -20,7 +20,7 @@ const DIALOGUES: [&str; 3] = ["dialogues.txt", "positions.txt", "several_lines.t
 /// The file whose rows are scripts.
 const SCRIPTS: &str = "scripts.txt";
 
-/// The rows of a file. A line that is none of a row is told.
+/// The rows of a file. A line that is none of a row is reported.
 fn rows_of(rt: &HostRuntime, name: &str) -> io::Result<Vec<Row>> {
     let text = fs::read_to_string(rt, name)?;
     let (rows, unread) = read_rows(rt.alloc(), text.as_str())?;
@@ -31,7 +31,7 @@ fn rows_of(rt: &HostRuntime, name: &str) -> io::Result<Vec<Row>> {
 }
 
 /// What differs, and how many rows there are.
-fn tell(rt: &HostRuntime, name: &str, rows: usize, found: &Found) -> io::Result<()> {
+fn report(rt: &HostRuntime, name: &str, rows: usize, found: &Found) -> io::Result<()> {
     for difference in found.differences() {
         println!(rt; "{name}, {difference}")?;
     }
@@ -45,14 +45,14 @@ fn run_dialogues(rt: &HostRuntime, name: &str) -> io::Result<()> {
     session::run(alloc, rows.as_slice(), &mut found)?;
     host::run(alloc, rows.as_slice(), &mut found)?;
     script::run_dialogues(alloc, rows.as_slice(), &mut found)?;
-    tell(rt, name, rows.len(), &found)
+    report(rt, name, rows.len(), &found)
 }
 
 fn run_scripts(rt: &HostRuntime, name: &str) -> io::Result<()> {
     let (alloc, rows) = (rt.alloc(), rows_of(rt, name)?);
     let mut found = Found::new(alloc);
     script::run(alloc, rows.as_slice(), &mut found)?;
-    tell(rt, name, rows.len(), &found)
+    report(rt, name, rows.len(), &found)
 }
 
 fn main(rt: HostRuntime) -> io::Result<()> {

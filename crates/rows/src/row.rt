@@ -56,7 +56,7 @@ impl Row {
         }
     }
 
-    /// Reads a line, and tells whether it is one of a row.
+    /// Reads a line; returns whether it is one of a row.
     fn read_line(&mut self, line: &str) -> Result<bool, AllocError> {
         if let Some(text) = line.strip_prefix("<") {
             push_text(&mut self.sent, text.strip_prefix(" ").unwrap_or(text))?;

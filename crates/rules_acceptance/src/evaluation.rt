@@ -187,7 +187,7 @@ fn board_of_a_bishop(
 // White's bishop on 3c takes a dragon on 7g and promotes: White holds a rook, and Black's pawn in
 // hand, gold and king stay.
 #[test]
-fn a_node_goes_on_to_the_next(rt: HostRuntime) -> Result<(), Fail> {
+fn a_node_continues_with_the_next(rt: HostRuntime) -> Result<(), Fail> {
     let pawn = Hands::none().with(Color::Black, Kind::Pawn, 1);
     let before = board_of_a_bishop((3, 3, Role::Bishop), Some((7, 7)))?;
     let before = Position::new(before, pawn, Color::White)?;

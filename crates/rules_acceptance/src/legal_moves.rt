@@ -196,7 +196,7 @@ fn captures(rt: HostRuntime) -> Result<(), Fail> {
     Ok(())
 }
 
-/// Whether it is told without making the move that it leaves a reply.
+/// Whether it is decided without making the move that it leaves a reply.
 fn leaves_reply(board: &[u8], text: &[u8; 5]) -> Result<bool, Fail> {
     let p = position(board, b"", Black)?;
     let m = read(text);
@@ -246,7 +246,7 @@ fn moves_of_a_slider_off_a_line_of_a_king(rt: HostRuntime) -> Result<(), Fail> {
     Ok(())
 }
 
-/// Whether it is told without making the move that it leaves the other king a way out.
+/// Whether it is decided without making the move that it leaves the other king a way out.
 fn leaves_way_out(board: &[u8], hand: &[u8], text: &[u8; 5]) -> Result<bool, Fail> {
     let p = position(board, hand, Black)?;
     let m = read(text);

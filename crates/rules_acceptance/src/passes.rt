@@ -38,7 +38,7 @@ fn first_quiet(board: &[u8]) -> Result<Option<Move>, Fail> {
 }
 
 /// The horse goes to 1a first, on a rank with the king. Where the king is hemmed in by its own
-/// pieces, its only free square is on the file that the horse leaves, so nothing tells of that
+/// pieces, its only free square is on the file that the horse leaves, so nothing shows that
 /// move. Where it is free, it is off the horse's lines on 4b and 6b, and a way out is left by the
 /// checks on 3c and 5d as well; no move of the own king gives check.
 #[test]
@@ -59,7 +59,7 @@ fn first_drop(board: &[u8]) -> Result<Option<Move>, Fail> {
 }
 
 /// On 5b a pawn gives check to the king on 5a, and on no other square. A king that is hemmed in can
-/// take it, of which nothing tells; one that is free may step aside.
+/// take it, which nothing shows; one that is free may step aside.
 #[test]
 fn drops_of_a_pawn(rt: HostRuntime) -> Result<(), Fail> {
     let hemmed_in = b"3lkl3/3p1p3/9/9/7p1/9/9/9/K8";

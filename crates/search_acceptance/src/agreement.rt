@@ -22,7 +22,7 @@ fn assert_same(rt: &impl Abort, found: &Found, plain: &Found, at: usize, depth: 
     holds!(*rt; found.steps <= plain.steps, at);
 }
 
-// The same over no memo, over one that forgets, and over that one again. Tells whether it then
+// The same over no memo, over one that forgets, and over that one again. Returns whether it then
 // knew the root.
 fn assert_agrees(
     rt: &impl Abort,

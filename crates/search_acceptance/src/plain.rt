@@ -411,7 +411,7 @@ fn is_left(p: &Position, threat: &Threat, branch: &Branch) -> bool {
         && !p.reaches(threat.from, branch.to)
 }
 
-/// What tells that moves of a node two plies before the end are not worth enough: whether one of them
+/// What shows that moves of a node two plies before the end are not worth enough: whether one of them
 /// was not, and the greatest threat of the other side, once it was looked for.
 #[derive(Clone, Copy, Debug)]
 struct Outlook {
@@ -499,9 +499,9 @@ fn visit(
             if branch.turn != turn {
                 continue;
             }
-            let is_told = depth == 1 && branch.is_answered && !notes.asks_all;
+            let is_known = depth == 1 && branch.is_answered && !notes.asks_all;
             let is_left_out = match depth {
-                1 => is_told && i32::saturating_sub(0, material(&branch.position, e)) <= threshold,
+                1 => is_known && i32::saturating_sub(0, material(&branch.position, e)) <= threshold,
                 2 => outlook.leaves_out(p, branch, e, beta, threshold),
                 _ => false,
             };
@@ -509,7 +509,7 @@ fn visit(
                 outlook.has_weak = true;
             } else {
                 let (under, over) = (beta.saturating_neg(), threshold.saturating_neg());
-                let is_asked = !is_told && notes.serves(below);
+                let is_asked = !is_known && notes.serves(below);
                 let answer = if is_asked {
                     notes.answer(&branch.position, e, below, under, over)?
                 } else {

@@ -1,4 +1,4 @@
-//! Searches that go on in slices: two by turns, and the calls of one that makes a step at a time.
+//! Searches in slices: two by turns, and the calls of one that makes a step at a time.
 
 ghost use Rattle.std.specs.Prelude.{◌≤◌};
 ghost use Rattle.shogi_search.specs.declared.bounds.TheConstants.{SEARCH_DEPTH_MAX};
@@ -22,7 +22,7 @@ fn assert_found(rt: &impl Abort, found: &Found, value: i32, code: u16) {
     same!(*rt; (found.value, found.best.map(|m| m.code())), (value, Some(code)));
 }
 
-/// Goes on by turns, a step each, until both have ended: the first over the memory, the second over it
+/// Advances by turns, a step each, until both have ended: the first over the memory, the second over it
 /// and over none at alternate calls.
 fn by_turns<M: Memo>(
     first: &mut Search,

@@ -60,7 +60,7 @@ fn lines_in(bytes: &[u8]) -> usize {
     lines
 }
 
-// The search is cut after so many steps, at each multiple of a number, and goes on over another memory:
+// The search is cut after so many steps, at each multiple of a number, and continues over another memory:
 // what it has said by then and what it says afterwards are the answer.
 fn assert_cut_anywhere(
     rt: &impl Abort,
@@ -69,18 +69,18 @@ fn assert_cut_anywhere(
     multiple: u64,
 ) -> Result<(), Fail> {
     let answer = joined(alloc, row.answer)?;
-    let mut told = 0usize;
+    let mut reported = 0usize;
     for number in 0..SLICES {
         let cut = number.saturating_mul(multiple);
         let mut session = fed(alloc, row.sent)?;
         session.work(&mut NoMemo, cut)?;
         if !session.pending() {
-            holds!(*rt; told > 1 && session.output() == answer.as_bytes());
+            holds!(*rt; reported > 1 && session.output() == answer.as_bytes());
             return Ok(());
         }
         let queued = session.output().len();
         holds!(*rt; answer.as_bytes().starts_with(session.output()), cut);
-        told = told.max(lines_in(session.output()));
+        reported = reported.max(lines_in(session.output()));
         session.take(queued)?;
         session.work(&mut small_table(alloc)?, u64::MAX)?;
         holds!(*rt; !session.pending(), cut);

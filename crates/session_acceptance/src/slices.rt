@@ -131,8 +131,8 @@ fn a_budget_of_nothing(rt: HostRuntime) -> Result<(), Fail> {
     Ok(())
 }
 
-// Takes what is queued, which is a front of the answer, and tells how many bytes it has.
-fn taken_front(
+// Takes what is queued, which is a prefix of the answer; returns how many bytes it has.
+fn taken_prefix(
     rt: &impl Abort,
     session: &mut TestSession,
     answer: &str,
@@ -168,7 +168,7 @@ fn go_infinite_and_stop_cut_anywhere(rt: HostRuntime) -> Result<(), Fail> {
     for cut in 0..320u64 {
         let mut session = fed(rt.alloc(), sent)?;
         session.work(&mut NoMemo, cut)?;
-        let taken = taken_front(&rt, &mut session, answer, cut)?;
+        let taken = taken_prefix(&rt, &mut session, answer, cut)?;
         finish(rt.alloc(), &mut session)?;
         assert_rest(&rt, &session, answer, taken, cut);
     }

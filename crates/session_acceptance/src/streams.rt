@@ -42,7 +42,7 @@ fn assert_answers(rt: &impl Abort, alloc: Global, read: &[u8], written: &[u8]) -
 }
 
 // A reader that fails after so many reads: what was written answers the bytes that were read, and they
-// alone. Tells whether all was written.
+// alone. Returns whether all was written.
 fn assert_read(rt: &impl Abort, alloc: Global, reads: usize) -> Result<bool, Fail> {
     let row = stored();
     let mut reader = FailingReader::new(row.sent.as_bytes(), 5, reads);
@@ -75,15 +75,15 @@ fn each_read_fails_in_turn(rt: HostRuntime) -> Result<(), Fail> {
     Ok(())
 }
 
-// The bytes are a front of the answer of the row.
+// The bytes are a prefix of the answer of the row.
 fn assert_starts(rt: &impl Abort, alloc: Global, row: &Row, written: &[u8]) -> Result<(), Fail> {
     let whole = joined(alloc, row.answer)?;
     holds!(*rt; whole.as_bytes().starts_with(written));
     Ok(())
 }
 
-// How a writer ends a run: all was written, or a front and a fault.
-fn assert_front(rt: &impl Abort, alloc: Global, mut writer: FailingWriter) -> Result<bool, Fail> {
+// How a writer ends a run: all was written, or a prefix and a fault.
+fn assert_prefix(rt: &impl Abort, alloc: Global, mut writer: FailingWriter) -> Result<bool, Fail> {
     let row = stored();
     let mut reader = FailingReader::new(row.sent.as_bytes(), 5, usize::MAX);
     match stdio(alloc, &mut reader, &mut writer, 1) {
@@ -104,7 +104,7 @@ fn each_write_fails_in_turn(rt: HostRuntime) -> Result<(), Fail> {
     let (mut failed, mut passed) = (false, false);
     for writes in 0..40usize {
         let writer = FailingWriter::new(rt.alloc(), 7, writes, usize::MAX);
-        if assert_front(&rt, rt.alloc(), writer)? {
+        if assert_prefix(&rt, rt.alloc(), writer)? {
             passed = true;
         } else {
             failed = true;
@@ -119,7 +119,7 @@ fn each_flush_fails_in_turn(rt: HostRuntime) -> Result<(), Fail> {
     let (mut failed, mut passed) = (false, false);
     for flushes in 0..20usize {
         let writer = FailingWriter::new(rt.alloc(), 4096, usize::MAX, flushes);
-        if assert_front(&rt, rt.alloc(), writer)? {
+        if assert_prefix(&rt, rt.alloc(), writer)? {
             passed = true;
         } else {
             failed = true;
@@ -132,9 +132,9 @@ fn each_flush_fails_in_turn(rt: HostRuntime) -> Result<(), Fail> {
 #[test]
 fn writers_of_one_byte_and_of_none(rt: HostRuntime) -> Result<(), Fail> {
     let narrow = FailingWriter::new(rt.alloc(), 1, usize::MAX, usize::MAX);
-    holds!(rt; assert_front(&rt, rt.alloc(), narrow)?);
+    holds!(rt; assert_prefix(&rt, rt.alloc(), narrow)?);
     let stalled = FailingWriter::new(rt.alloc(), 0, usize::MAX, usize::MAX);
-    holds!(rt; !assert_front(&rt, rt.alloc(), stalled)?);
+    holds!(rt; !assert_prefix(&rt, rt.alloc(), stalled)?);
     Ok(())
 }
 

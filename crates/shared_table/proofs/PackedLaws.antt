@@ -208,14 +208,14 @@ words_are p eval depth valid fits = record {
 }
 
 -- words are the same exactly where their keys are
-pub words_tell : (a b : List ℕ) → AreWords a → AreWords b → Decides (pointwise nat_eq a b) (key_in a ≡ key_in b)
-words_tell a b v w =
+pub words_decide : (a b : List ℕ) → AreWords a → AreWords b → Decides (pointwise nat_eq a b) (key_in a ≡ key_in b)
+words_decide a b v w =
     let same = slice_eq-Decides Decides-eqb a b _ refl in
     ((λ e. ap key_in (same.0 e)), (λ e. same.1 (sym v.same ∙ (ap words_of e ∙ w.same))))
 
 -- so the test of words is that of keys
 pub words_test : (a b : List ℕ) → AreWords a → AreWords b → pointwise nat_eq a b ≡ is_same_key (key_in a) (key_in b)
-words_test a b v w = same_from_decides _ _ (words_tell a b v w) (key_same (key_in a) (key_in b))
+words_test a b v w = same_from_decides _ _ (words_decide a b v w) (key_same (key_in a) (key_in b))
 
 -- the words, one by one
 pub words_made : (p : Shogi) (eval : Eval) (depth : ℕ) (board : List ℕ) (hands : HandCounts) (side : Color) → board ≡ board_words p.cells → hands ≡ p.hands → side ≡ p.side

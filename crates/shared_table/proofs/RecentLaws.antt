@@ -169,7 +169,7 @@ no_leaf_found key pairs none leaf = rw (lookup-entry (is_same_key key) pairs) (g
 pub probed_none : (key : Key) (pairs : List Pair) → None ≡ entry_of pairs key → probed key pairs ≡ pairs
 probed_none key pairs none = rw (← none) refl
 
--- what `lru` answers to a put is what the table means by a note, or nothing changed for want of memory
+-- what `lru` answers to a put is what the table means by a note, or nothing changed since an allocation failed
 pub put_or_not : {T E : Type 0} (key : Key) (entry : Entry) (old new : LruCache Key Entry) (r : Result T E)
     → 0 < old.cap → length old.entries ≤ old.cap
     → OnOk r (new ≡ lru_cache (put_entries is_same_key old key entry) old.cap) → OnErr r (new ≡ old)

@@ -1,4 +1,4 @@
--- The test of keys tells equal ones.
+-- The test of keys decides equality.
 use Rattle.std.proofs.Common.{◌≡◌, ◌∙◌, ◌==◌, ap, ap₂, refl}
 use Rattle.std.specs.Cmp.{IsEquivalence, IsPartialEquivalence, decided, partial_equiv_from_equiv}
 use Rattle.std.specs.Bool.{Decides}
@@ -9,14 +9,14 @@ use Rattle.shogi_eval.specs.declared.eval.Eval.{Eval}
 use Rattle.shogi_eval.specs.declared.eval.Eval.TheVariants.{Plain, Hand}
 use Rattle.shared_table.specs.Keys.{Key, eval_number, is_same_key, key_of}
 
--- their numbers tell the evaluations
+-- evaluations are equal where their numbers are
 eval_same : (a b : Eval) → Decides (eval_number a == eval_number b) (a ≡ b)
 eval_same Plain Plain = ((λ _. refl), (λ _. refl))
 eval_same Plain Hand = ((λ e. cc), (λ e. cc))
 eval_same Hand Plain = ((λ e. cc), (λ e. cc))
 eval_same Hand Hand = ((λ _. refl), (λ _. refl))
 
--- the test of keys tells equal ones
+-- the test of keys decides equality
 pub key_same : (a b : Key) → Decides (is_same_key a b) (a ≡ b)
 unfolding is_same_key
 key_same a b =

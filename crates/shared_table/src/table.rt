@@ -71,8 +71,8 @@ impl<S: BuildHasher + Drop, A: Allocator + Clone> SharedTable<S, A> {
 }
 
 impl<S: BuildHasher, A: Allocator> SharedTable<S, A> {
-    /// Tells that no key is held twice, that there are at most as many entries as the capacity, which
-    /// is from 1 to 1,000,000, and that each entry is true.
+    /// Gives proofs that no key is held twice, that there are at most as many entries as the
+    /// capacity, which is from 1 to 1,000,000, and that each entry is true.
     pub fn validity(&self)
         ensures keys { IsDistinct is_same_key (keys_of self.now.pairs) }
         ensures fits { length self.now.pairs ≤ self.now.capacity }

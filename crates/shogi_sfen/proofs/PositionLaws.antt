@@ -79,7 +79,7 @@ pub word_len : (o : Option (List ℕ)) → IfSome (option_and_then hands_of o) (
 word_len None = tt
 word_len (Some word) = hands_of-len word
 
--- what `Position::new` told
+-- what `Position::new` answered
 pub new_err : (o : Option PositionFault) (p : Shogi) (fault : PositionFault) (end : ℕ) → MatchOption o ((let r : Result Shogi PositionFault = Err fault in r) ≡ Ok p) (λ f. (let r : Result Shogi PositionFault = Err fault in r) ≡ Err f) → Err (Invalid fault) ≡ judged o p end
 new_err None p fault end h = cc
 new_err (Some f) p fault end h = let same : fault ≡ f = cc in ap (λ (x : PositionFault). Err (Invalid x)) same
@@ -127,5 +127,5 @@ parts_end (Some cells) (Some side) (Some hands) e q end h = judged_end (fault_of
 -- a position ends within its text
 pub end_within : (text : List ℕ) (r : Result (Shogi × ℕ) SfenFault) → r ≡ position_at text → IfOk r (λ got. got.1 ≤ length text)
 unfolding position_at
-end_within text (Ok got) told = let same : end_of text ≡ got.1 = parts_end _ _ _ _ got.0 got.1 (sym told) in omega arith
-end_within text (Err fault) told = tt
+end_within text (Ok got) answer = let same : end_of text ≡ got.1 = parts_end _ _ _ _ got.0 got.1 (sym answer) in omega arith
+end_within text (Err fault) answer = tt

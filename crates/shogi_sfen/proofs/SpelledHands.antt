@@ -235,6 +235,6 @@ hands_of-spelled text hands s =
     (λ color kind.
     let none : count_in_hand no_hands color kind ≡ 0 = held-holding (λ color kind. 0) color kind in
     let all : count_in_hand r.hands color kind ≡ count_in_hand no_hands color kind + sum_by (count_given color kind) s.items = r.sums color kind in
-    let told : count_in_hand hands color kind ≡ sum_by (count_given color kind) s.items = s.sums color kind in
+    let answer : count_in_hand hands color kind ≡ sum_by (count_given color kind) s.items = s.sums color kind in
     omega arith) in
     ap hands_of (sym s.spelled) ∙ (finished (flat_map hand_item_text s.items) r.hands r.read ∙ ap Some same)

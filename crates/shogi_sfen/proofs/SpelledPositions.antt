@@ -136,9 +136,9 @@ module _ (text : List ℕ) where
     no_board (Some cells) (Some side) None eb e = cc
     no_board (Some cells) (Some side) (Some hands) eb e = absurd (not_of_text (fault_of (parts cells hands side)) (parts cells hands side) end BadBoard (λ f g. cc) e)
 
-    no_board-told : (b : Option Cells) (s : Option Color) (h : Option HandCounts) → board_read text ≡ b → (HasBoard text → ⊥) → position_of_parts b s h end ≡ Err BadBoard
-    no_board-told None s h eb n = refl
-    no_board-told (Some cells) s h eb n = absurd (n (some_with (slice_get (words text) 0) SpellsBoard cells (board_word (slice_get (words text) 0) cells eb)))
+    no_board-answer : (b : Option Cells) (s : Option Color) (h : Option HandCounts) → board_read text ≡ b → (HasBoard text → ⊥) → position_of_parts b s h end ≡ Err BadBoard
+    no_board-answer None s h eb n = refl
+    no_board-answer (Some cells) s h eb n = absurd (n (some_with (slice_get (words text) 0) SpellsBoard cells (board_word (slice_get (words text) 0) cells eb)))
 
     no_side : (b : Option Cells) (s : Option Color) (h : Option HandCounts) → board_read text ≡ b → side_read text ≡ s → position_of_parts b s h end ≡ Err BadSide
         → HasBoard text × (HasSide text → ⊥)
@@ -150,11 +150,11 @@ module _ (text : List ℕ) where
     no_side (Some cells) (Some side) None eb es e = cc
     no_side (Some cells) (Some side) (Some hands) eb es e = absurd (not_of_text (fault_of (parts cells hands side)) (parts cells hands side) end BadSide (λ f g. cc) e)
 
-    no_side-told : (b : Option Cells) (s : Option Color) (h : Option HandCounts) → board_read text ≡ b → side_read text ≡ s → HasBoard text → (HasSide text → ⊥)
+    no_side-answer : (b : Option Cells) (s : Option Color) (h : Option HandCounts) → board_read text ≡ b → side_read text ≡ s → HasBoard text → (HasSide text → ⊥)
         → position_of_parts b s h end ≡ Err BadSide
-    no_side-told None s h eb es has n = absurd (none_with (slice_get (words text) 0) SpellsBoard board_of (board_word-read (slice_get (words text) 0)) eb has)
-    no_side-told (Some cells) None h eb es has n = refl
-    no_side-told (Some cells) (Some side) h eb es has n = absurd (n (some_with (slice_get (words text) 1) (λ text side. text ≡ side_text side) side (side_word (slice_get (words text) 1) side es)))
+    no_side-answer None s h eb es has n = absurd (none_with (slice_get (words text) 0) SpellsBoard board_of (board_word-read (slice_get (words text) 0)) eb has)
+    no_side-answer (Some cells) None h eb es has n = refl
+    no_side-answer (Some cells) (Some side) h eb es has n = absurd (n (some_with (slice_get (words text) 1) (λ text side. text ≡ side_text side) side (side_word (slice_get (words text) 1) side es)))
 
     no_hands : (b : Option Cells) (s : Option Color) (h : Option HandCounts) → board_read text ≡ b → side_read text ≡ s → hands_read text ≡ h
         → position_of_parts b s h end ≡ Err BadHand → HasBoard text × HasSide text × (HasHands text → ⊥)
@@ -167,17 +167,17 @@ module _ (text : List ℕ) where
     )
     no_hands (Some cells) (Some side) (Some hands) eb es eh e = absurd (not_of_text (fault_of (parts cells hands side)) (parts cells hands side) end BadHand (λ f g. cc) e)
 
-    no_hands-told : (b : Option Cells) (s : Option Color) (h : Option HandCounts) → board_read text ≡ b → side_read text ≡ s → hands_read text ≡ h
+    no_hands-answer : (b : Option Cells) (s : Option Color) (h : Option HandCounts) → board_read text ≡ b → side_read text ≡ s → hands_read text ≡ h
         → HasBoard text → HasSide text → (HasHands text → ⊥) → position_of_parts b s h end ≡ Err BadHand
-    no_hands-told None s h eb es eh has side n = absurd (none_with (slice_get (words text) 0) SpellsBoard board_of (board_word-read (slice_get (words text) 0)) eb has)
-    no_hands-told (Some cells) None h eb es eh has side n = absurd (none_with (slice_get (words text) 1) (λ text side. text ≡ side_text side) side_of (side_word-read (slice_get (words text) 1)) es side)
-    no_hands-told (Some cells) (Some color) None eb es eh has side n = refl
-    no_hands-told (Some cells) (Some color) (Some hands) eb es eh has side n = absurd (n (some_with (slice_get (words text) 2) SpellsHands hands (hands_word (slice_get (words text) 2) hands eh)))
+    no_hands-answer None s h eb es eh has side n = absurd (none_with (slice_get (words text) 0) SpellsBoard board_of (board_word-read (slice_get (words text) 0)) eb has)
+    no_hands-answer (Some cells) None h eb es eh has side n = absurd (none_with (slice_get (words text) 1) (λ text side. text ≡ side_text side) side_of (side_word-read (slice_get (words text) 1)) es side)
+    no_hands-answer (Some cells) (Some color) None eb es eh has side n = refl
+    no_hands-answer (Some cells) (Some color) (Some hands) eb es eh has side n = absurd (n (some_with (slice_get (words text) 2) SpellsHands hands (hands_word (slice_get (words text) 2) hands eh)))
 
-module _ (text : List ℕ) (r : Result (Shogi × ℕ) SfenFault) (told : r ≡ position_at text) where
+module _ (text : List ℕ) (r : Result (Shogi × ℕ) SfenFault) (answer : r ≡ position_at text) where
   said : r ≡ position_of_parts (board_read text) (side_read text) (hands_read text) (end_of text)
   unfolding position_at
-  said = told
+  said = answer
 
   pub spelled-read : (p : Shogi) → Spells text p → r ≡ judged (fault_of p) p (end_of text)
   spelled-read p t =
@@ -188,22 +188,22 @@ module _ (text : List ℕ) (r : Result (Shogi × ℕ) SfenFault) (told : r ≡ p
   pub valid-read : (p : Shogi) → SpellsValid text p → r ≡ Ok (p, end_of text)
   valid-read p t = spelled-read p t.0 ∙ ap (λ (o : Option PositionFault). judged o p (end_of text)) t.1.no_fault
 
-  pub told-bad_board : (r ≡ Err BadBoard) ↔ LacksBoard text
-  told-bad_board = (λ e. no_board text (end_of text) (board_read text) (side_read text) (hands_read text) refl (sym said ∙ e), λ n. said ∙ no_board-told text (end_of text) (board_read text) (side_read text) (hands_read text) refl n)
+  pub answer-bad_board : (r ≡ Err BadBoard) ↔ LacksBoard text
+  answer-bad_board = (λ e. no_board text (end_of text) (board_read text) (side_read text) (hands_read text) refl (sym said ∙ e), λ n. said ∙ no_board-answer text (end_of text) (board_read text) (side_read text) (hands_read text) refl n)
 
-  pub told-bad_side : (r ≡ Err BadSide) ↔ LacksSide text
-  told-bad_side = (λ e. no_side text (end_of text) (board_read text) (side_read text) (hands_read text) refl refl (sym said ∙ e), λ n. said ∙ no_side-told text (end_of text) (board_read text) (side_read text) (hands_read text) refl refl n.0 n.1)
+  pub answer-bad_side : (r ≡ Err BadSide) ↔ LacksSide text
+  answer-bad_side = (λ e. no_side text (end_of text) (board_read text) (side_read text) (hands_read text) refl refl (sym said ∙ e), λ n. said ∙ no_side-answer text (end_of text) (board_read text) (side_read text) (hands_read text) refl refl n.0 n.1)
 
-  pub told-bad_hand : (r ≡ Err BadHand) ↔ LacksHands text
-  told-bad_hand = (λ e. no_hands text (end_of text) (board_read text) (side_read text) (hands_read text) refl refl refl (sym said ∙ e), λ n. said ∙ no_hands-told text (end_of text) (board_read text) (side_read text) (hands_read text) refl refl refl n.0 n.1 n.2)
+  pub answer-bad_hand : (r ≡ Err BadHand) ↔ LacksHands text
+  answer-bad_hand = (λ e. no_hands text (end_of text) (board_read text) (side_read text) (hands_read text) refl refl refl (sym said ∙ e), λ n. said ∙ no_hands-answer text (end_of text) (board_read text) (side_read text) (hands_read text) refl refl refl n.0 n.1 n.2)
 
-  pub told-invalid : (fault : PositionFault) → (r ≡ Err (Invalid fault)) ↔ SpellsInvalid text fault
-  told-invalid fault = (
+  pub answer-invalid : (fault : PositionFault) → (r ≡ Err (Invalid fault)) ↔ SpellsInvalid text fault
+  answer-invalid fault = (
     λ e. faulty text (end_of text) (board_read text) (side_read text) (hands_read text) fault refl refl refl (sym said ∙ e),
     λ f. spelled-read f.0 f.1 ∙ ap (λ (o : Option PositionFault). judged o f.0 (end_of text)) f.2,
   )
 
 -- a position that is read is spelled, and valid
 pub read-spelled : (text : List ℕ) (r : Result (Shogi × ℕ) SfenFault) → r ≡ position_at text → IfOk r (λ got. SpellsValid text got.0)
-read-spelled text (Ok got) told = found text (end_of text) (board_read text) (side_read text) (hands_read text) got.0 got.1 refl refl refl (sym (said text (Ok got) told))
-read-spelled text (Err fault) told = tt
+read-spelled text (Ok got) answer = found text (end_of text) (board_read text) (side_read text) (hands_read text) got.0 got.1 refl refl refl (sym (said text (Ok got) answer))
+read-spelled text (Err fault) answer = tt

@@ -84,8 +84,8 @@ unfolding AreItemsOf behind
 rank_read text cells None e f = cc
 rank_read text cells (Some items) e f =
     let both = cond_some (length (flat_map item_cells items) == 9) (flat_map item_cells items) cells f in
-    let told = items_read text false items e in
-    record { items = items; each = told.0; cells_said = both.1; nine = ap length (sym both.1) ∙ eqb-true (length (flat_map item_cells items)) 9 both.0; spelled = told.1 }
+    let answer = items_read text false items e in
+    record { items = items; each = answer.0; cells_said = both.1; nine = ap length (sym both.1) ∙ eqb-true (length (flat_map item_cells items)) 9 both.0; spelled = answer.1 }
 
 -- a rank that is read is spelled
 pub SpellsRank-read : (text : List ℕ) (cells : Cells) → rank_of text ≡ Some cells → SpellsRank text cells

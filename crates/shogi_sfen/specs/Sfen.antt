@@ -45,7 +45,7 @@ past_number text =
 abbrev pub end_of : List ℕ → ℕ
 end_of text = length text - length (past_number (rest_after 3 text))
 
--- the position at the front of a text and the index after it, or the first fault
+-- the position at the start of a text and the index after it, or the first fault
 unfoldable pub position_at : List ℕ → Result (Shogi × ℕ) SfenFault
 position_at text =
     let ws = words text in

@@ -89,8 +89,8 @@ SpellsInvalid text fault =
     (position : Shogi) × Spells text position × (fault_of position ≡ Some fault)
 
 -- it spells the position, whatever follows its last word
-abbrev pub SpellsAtFront : List ℕ → Shogi → Type 0
-SpellsAtFront text position = (tail : List ℕ) → EndsWord tail → Spells (text ++ tail) position
+abbrev pub SpellsAtStart : List ℕ → Shogi → Type 0
+SpellsAtStart text position = (tail : List ℕ) → EndsWord tail → Spells (text ++ tail) position
 
 -- the first word is a board's text
 abbrev pub HasBoard : List ℕ → Type 0

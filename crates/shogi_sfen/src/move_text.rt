@@ -92,7 +92,7 @@ pub fn write_move(m: Move) -> ArrayVec<u8, 5>
     ensures text { result.items ≡ text_of m }
     ensures back { move_of_text (text_of m) ≡ Some m }
 {
-    // Told to the proof: the move has a code, so that it is one of those whose text is looked for.
+    // For the proof: the move has a code, so that it is one of those whose text is looked for.
     m.validity();
     let mut text = ArrayVec::new();
     match m {

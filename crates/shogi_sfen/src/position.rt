@@ -111,7 +111,7 @@ fn after_number(text: &[u8]) -> &[u8]
     }
 }
 
-/// The position at the front of a text, or its first fault, word by word.
+/// The position at the start of a text, or its first fault, word by word.
 fn position_at(text: &[u8]) -> Result<(Position, usize), SfenFault>
     ensures { result ≡ position_at text.now }
 {
@@ -133,9 +133,9 @@ fn position_at(text: &[u8]) -> Result<(Position, usize), SfenFault>
     Ok((position, text.len() - after.len()))
 }
 
-/// The position at the front of a text (SFEN): a board, a side, hands, and a number that has no
+/// The position at the start of a text (SFEN): a board, a side, hands, and a number that has no
 /// effect and may be absent; and the index right after the last of these words. The first fault is
-/// told, in the order of `SfenFault`; a missing word is the fault of its place, and a count in hand
+/// named, in the order of `SfenFault`; a missing word is the fault of its place, and a count in hand
 /// that no set has is `TooMany`, however long it is.
 pub fn read_position(text: &[u8]) -> Result<(Position, usize), SfenFault>
     ensures value { result ≡ position_at text.now }

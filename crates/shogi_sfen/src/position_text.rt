@@ -7,7 +7,7 @@ ghost use Rattle.shogi_sfen.specs.declared.board_text.TheConstants.{RANK_SQUARES
 ghost use Rattle.shogi_sfen.specs.declared.position_text.TheConstants.{TEXT_BYTES};
 ghost use Rattle.shogi_core.specs.Position.{count_in_hand};
 ghost use Rattle.shogi_sfen.specs.Sfen.{IsReadAs};
-ghost use Rattle.shogi_sfen.specs.Spelling.{SpellsAtFront};
+ghost use Rattle.shogi_sfen.specs.Spelling.{SpellsAtStart};
 ghost use Rattle.shogi_core.specs.declared.piece.Kind.{Kind};
 ghost use Rattle.shogi_core.specs.declared.piece.Color.{Color};
 
@@ -173,9 +173,9 @@ fn side_letter(side: Color) -> u8
 pub fn write_position(position: &Position) -> ArrayVec<u8, TEXT_BYTES>
     ensures text { result.items ≡ position_text position.now }
     ensures back { IsReadAs (position_text position.now) position.now }
-    ensures spelled { SpellsAtFront (position_text position.now) position.now }
+    ensures spelled { SpellsAtStart (position_text position.now) position.now }
 {
-    // Told to the proof: the position is valid, so that no side holds 100 of a kind.
+    // For the proof: the position is valid, so that no side holds 100 of a kind.
     position.validity();
     let mut text = ArrayVec::new();
     push_board(&mut text, &position.board());

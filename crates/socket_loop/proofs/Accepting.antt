@@ -16,39 +16,39 @@ use Rattle.host_core.proofs.Ids.{same_id, is_same_id-refl}
 use Rattle.socket_loop.specs.declared.connection.Link.{Link}
 use Rattle.socket_loop.specs.declared.connection.Connection.{Connection}
 use Rattle.wires.specs.declared.wire.WireFault.{WireFault}
-use Rattle.wires.specs.Told.{Told, KeepsPeer, KeepsAll, Writes, Shuts, bytes_written, GivesNumber}
+use Rattle.wires.specs.Report.{Report, KeepsPeer, KeepsAll, Writes, Shuts, bytes_written, GivesNumber}
 use Rattle.socket_loop.specs.Links.{Ties, IsTied, IsAmong, IsApart, links_of}
 use Rattle.socket_loop.specs.Parts.{AreAll, IsAdmission, IsClosing, closes}
 use Rattle.wires.specs.Moves.{AllMove}
-use Rattle.socket_loop.specs.Turns.{Fits, Accepted, AreNumbered, HasSession, IsOneOf, IsTurnedAway, IsAway, IsNew, Accepts, Admits, openings, told_to}
-use Rattle.wires.proofs.Peers.{kept_same, kept_then, all_kept, moves_then, away_moves, stays_raised, rises_then, stays_rise, told_failure, raised_rises, Consumes-none, Appends-none, Keeps-Appends}
+use Rattle.socket_loop.specs.Turns.{Fits, Accepted, AreNumbered, HasSession, IsOneOf, IsRejected, IsAway, IsNew, Accepts, Admits, openings, rejection_text}
+use Rattle.wires.proofs.Peers.{kept_same, kept_then, all_kept, moves_then, away_moves, stays_raised, rises_then, stays_rise, reported_failure, raised_rises, Consumes-none, Appends-none, Keeps-Appends}
 use Rattle.wires.specs.Asked.{Call, Accept, Asks}
 use Rattle.socket_loop.specs.Calls.{AllAccepted, OneAdmitted, AsksAll, GivesNobody}
 use Rattle.socket_loop.proofs.Calls.{AsksAccepts, asks_accept, asks_full, asks_no_accept, asks_on, asks_stop}
 use Rattle.socket_loop.proofs.Left.{once_insert}
 use Rattle.socket_loop.proofs.Runs.{run-one, run-two, run-append, own-append, taken-append, openings-append, closes_neither, closes_either, all_append, next_rises, step_rises, opened_left, opened_right}
 
--- ---- turned away
+-- ---- rejected
 
-written_front : (r : Result ℕ WireFault) (bytes : List ℕ) → IsPrefixOf (bytes_written r bytes) bytes
-written_front (Ok n) bytes = (drop n bytes, take-append-drop n bytes)
-written_front (Err e) bytes = (bytes, refl)
+written_prefix : (r : Result ℕ WireFault) (bytes : List ℕ) → IsPrefixOf (bytes_written r bytes) bytes
+written_prefix (Ok n) bytes = (drop n bytes, take-append-drop n bytes)
+written_prefix (Err e) bytes = (bytes, refl)
 
 -- a text was written, as far as it went, and the connection shut
-pub away : (a b c : Told) (bound number : ℕ) (r : Result ℕ WireFault) (bytes text : List ℕ) → bytes ≡ text → Writes a b number r bytes → Shuts bound b c number → IsAway bound text a c number
+pub away : (a b c : Report) (bound number : ℕ) (r : Result ℕ WireFault) (bytes text : List ℕ) → bytes ≡ text → Writes a b number r bytes → Shuts bound b c number → IsAway bound text a c number
 away a b c bound number r bytes text e w s = record {
   unread = Keeps-trans _ _ _ w.unread s.unread;
   bytes = bytes_written r bytes;
-  prefix = subst (λ (xs : List ℕ). IsPrefixOf (bytes_written r bytes) xs) e (written_front r bytes);
+  prefix = subst (λ (xs : List ℕ). IsPrefixOf (bytes_written r bytes) xs) e (written_prefix r bytes);
   appended = Appends-kept _ _ _ _ w.appended s.written;
   shut = λ lt. stays_raised _ _ _ w.shut (s.shut lt);
   only_rises = rises_then _ _ _ (stays_rise _ _ w.shut) s.only_rises;
-  failed = rises_then _ _ _ (told_failure r _ _ w.failed) (stays_rise _ _ s.failed);
+  failed = rises_then _ _ _ (reported_failure r _ _ w.failed) (stays_rise _ _ s.failed);
   others = λ other differs. kept_then a b c other (w.others other differs) (s.others other differs);
 }
 
 -- it was shut without a word
-pub away_mute : (a b : Told) (bound number : ℕ) (text : List ℕ) → Shuts bound a b number → IsAway bound text a b number
+pub away_mute : (a b : Report) (bound number : ℕ) (text : List ℕ) → Shuts bound a b number → IsAway bound text a b number
 away_mute a b bound number text s = record {
   unread = s.unread;
   bytes = [];
@@ -60,7 +60,7 @@ away_mute a b bound number text s = record {
   others = s.others;
 }
 
-away_move : (a b : Told) (bound number : ℕ) (text : List ℕ) → IsAway bound text a b number → AllMove a b
+away_move : (a b : Report) (bound number : ℕ) (text : List ℕ) → IsAway bound text a b number → AllMove a b
 away_move a b bound number text w = away_moves a b number [] w.bytes w.only_rises w.failed (Consumes-none _ _ w.unread) w.appended w.others
 
 -- ---- nothing new is held
@@ -71,7 +71,7 @@ fits_more ls from to h i r n f = λ l m.
     let v : l.id.generation < h.slots.next = (f l m).opened in
     record { tied = (f l m).tied; number = omega arith; opened = omega arith }
 
-pub accepts_none : (ls : List Link) (from to : ℕ) (a b : Told) (h : HostState) → from ≤ to → KeepsAll a b → Accepts ls from a h ls to b h
+pub accepts_none : (ls : List Link) (from to : ℕ) (a b : Report) (h : HostState) → from ≤ to → KeepsAll a b → Accepts ls from a h ls to b h
 accepts_none ls from to a b h rises k = record {
   steps = [];
   kinds = tt;
@@ -95,10 +95,10 @@ accepts_none ls from to a b h rises k = record {
   once = λ fit o. o;
 }
 
-pub accepts_start : (ls : List Link) (from : ℕ) (a : Told) (h : HostState) → Accepts ls from a h ls from a h
+pub accepts_start : (ls : List Link) (from : ℕ) (a : Report) (h : HostState) → Accepts ls from a h ls from a h
 accepts_start ls from a h = accepts_none ls from from a a h (omega arith) (kept_same a)
 
-away_one : (a b c : Told) (from number to : ℕ) (o : Outcome) → KeepsAll a b → from ≤ number → number < to → IsAway to (told_to o) b c number → IsTurnedAway from to (record { number = number; outcome = o } ∷ []) a c number
+away_one : (a b c : Report) (from number to : ℕ) (o : Outcome) → KeepsAll a b → from ≤ number → number < to → IsAway to (rejection_text o) b c number → IsRejected from to (record { number = number; outcome = o } ∷ []) a c number
 away_one a b c from number to o k least most w = record {
   least = least;
   most = most;
@@ -112,7 +112,7 @@ away_one a b c from number to o k least most w = record {
   failed = rises_then _ _ _ (stays_rise _ _ (k number).failed) w.failed;
 }
 
-away_each : (a b c : Told) (from number to n : ℕ) (o : Outcome) → KeepsAll a b → from ≤ number → number < to → IsAway to (told_to o) b c number → KeepsPeer a c n ⊎ IsTurnedAway from to (record { number = number; outcome = o } ∷ []) a c n
+away_each : (a b c : Report) (from number to n : ℕ) (o : Outcome) → KeepsAll a b → from ≤ number → number < to → IsAway to (rejection_text o) b c number → KeepsPeer a c n ⊎ IsRejected from to (record { number = number; outcome = o } ∷ []) a c n
 away_each a b c from number to n o k least most w =
     elim (cases_eq n number) [
       | inl same ↦ inr (rw same (away_one a b c from number to o k least most w))
@@ -139,8 +139,8 @@ closes_apart_at a b false e f = refl
 closes_apart : (a b : SessionId) → (a ≡ b → ⊥) → (is_same_id a b || false) ≡ false
 closes_apart a b f = closes_apart_at a b (is_same_id a b) refl f
 
--- a new connection was turned away
-admits_none : (ls : List Link) (a b : Told) (h i : HostState) (number to : ℕ) (o : Outcome) (steps : List Step) → AreAll IsAdmission steps → IsRun h steps i → ((id : SessionId) → own id steps ≡ []) → ((id : SessionId) → taken id steps ≡ []) → openings steps ≡ o ∷ [] → ((id : SessionId) → closes id steps ≡ true → id.generation < i.slots.next) → ((id : SessionId) → id.generation < h.slots.next → closes id steps ≡ false) → IsAway to (told_to o) a b number → Admits ls a h number o to ls b i
+-- a new connection was rejected
+admits_none : (ls : List Link) (a b : Report) (h i : HostState) (number to : ℕ) (o : Outcome) (steps : List Step) → AreAll IsAdmission steps → IsRun h steps i → ((id : SessionId) → own id steps ≡ []) → ((id : SessionId) → taken id steps ≡ []) → openings steps ≡ o ∷ [] → ((id : SessionId) → closes id steps ≡ true → id.generation < i.slots.next) → ((id : SessionId) → id.generation < h.slots.next → closes id steps ≡ false) → IsAway to (rejection_text o) a b number → Admits ls a h number o to ls b i
 admits_none ls a b h i number to o steps kinds r no_own no_taken answers below old_stay w = λ from old kept least most.
     record {
       items_are = refl;
@@ -156,7 +156,7 @@ admits_none ls a b h i number to o steps kinds r no_own no_taken answers below o
         answers = answers;
         kept = λ n l. kept_then old a b n (kept n) (w.others n (λ e. (let f : n ≡ number = e in absurd (omega arith))));
         each = λ n. away_each old a b from number to n o kept least most w;
-        all = moves_then old a b (all_kept old a kept) (away_move a b to number (told_to o) w);
+        all = moves_then old a b (all_kept old a kept) (away_move a b to number (rejection_text o) w);
         closed_below = below;
         spared = λ fit l m. old_stay l.id (fit l m).opened;
         spared_old = old_stay;
@@ -172,11 +172,11 @@ admits_none ls a b h i number to o steps kinds r no_own no_taken answers below o
     }
 
 -- its session was not opened
-pub admits_away : (ls : List Link) (a b : Told) (h i : HostState) (number to : ℕ) (o : Outcome) → IsAway to (told_to o) a b number → IsStep h (record { event = Open; outcome = o }) i → Admits ls a h number o to ls b i
+pub admits_away : (ls : List Link) (a b : Report) (h i : HostState) (number to : ℕ) (o : Outcome) → IsAway to (rejection_text o) a b number → IsStep h (record { event = Open; outcome = o }) i → Admits ls a h number o to ls b i
 admits_away ls a b h i number to o w s = admits_none ls a b h i number to o (record { event = Open; outcome = o } ∷ []) (tt, tt) (run-one h i _ s) (λ x. refl) (λ x. refl) refl (λ x e. absurd (cc)) (λ x lt. refl) w
 
 -- there was no memory to hold it
-pub admits_closed : (ls : List Link) (a b : Told) (h m i : HostState) (number to : ℕ) (id : SessionId) → Shuts to a b number → IsStep h (record { event = Open; outcome = Opened id }) m → IsClosing m id i → Admits ls a h number (Opened id) to ls b i
+pub admits_closed : (ls : List Link) (a b : Report) (h m i : HostState) (number to : ℕ) (id : SessionId) → Shuts to a b number → IsStep h (record { event = Open; outcome = Opened id }) m → IsClosing m id i → Admits ls a h number (Opened id) to ls b i
 admits_closed ls a b h m i number to id s opening close =
     admits_none ls a b h i number to (Opened id) (record { event = Open; outcome = Opened id } ∷ record { event = Close id; outcome = close.outcome } ∷ []) (tt, (tt, tt)) (run-two h m i _ _ opening close.step) (λ x. refl) (λ x. refl) refl
     (λ x e. (
@@ -269,7 +269,7 @@ fits_new held place c from to h i least most g n f = λ l m.
 opened_true : (id : SessionId) → is_opened id (record { event = Open; outcome = Opened id } ∷ []) ≡ true
 opened_true id = ap (λ (b : Bool). b || false) (is_same_id-refl id)
 
-pub admits_new : (held : List Connection) (place : ℕ) (c : Connection) (a : Told) (h i : HostState) (to : ℕ) → IsStep h (record { event = Open; outcome = Opened c.link.id }) i → Admits (links_of held) a h c.link.number (Opened c.link.id) to (links_of (insert held place c)) a i
+pub admits_new : (held : List Connection) (place : ℕ) (c : Connection) (a : Report) (h i : HostState) (to : ℕ) → IsStep h (record { event = Open; outcome = Opened c.link.id }) i → Admits (links_of held) a h c.link.number (Opened c.link.id) to (links_of (insert held place c)) a i
 admits_new held place c a h i to s = λ from old kept least most.
     let o : Opens h.slots i.slots c.link.id = s.stepped.opens in
     record {
@@ -341,8 +341,8 @@ numbered_below f m (y ∷ ys) x p (inl same) =
     omega arith
 numbered_below f m (y ∷ ys) x p (inr one) = numbered_below (y.number + 1) m ys x p.1 one
 
--- turned away, and nothing after that
-turned_then : (f m t : ℕ) (x y : List Accepted) (a b c : Told) (n : ℕ) → m ≤ t → IsTurnedAway f m x a b n → KeepsPeer b c n → IsTurnedAway f t (x ++ y) a c n
+-- rejected, and nothing after that
+turned_then : (f m t : ℕ) (x y : List Accepted) (a b c : Report) (n : ℕ) → m ≤ t → IsRejected f m x a b n → KeepsPeer b c n → IsRejected f t (x ++ y) a c n
 turned_then f m t x y a b c n v w k =
     let u : n < m = w.most in
     record {
@@ -358,8 +358,8 @@ turned_then f m t x y a b c n v w k =
       failed = rises_then _ _ _ w.failed (stays_rise _ _ k.failed);
     }
 
--- nothing, and then turned away
-then_away : (f m t : ℕ) (x y : List Accepted) (a b c : Told) (n : ℕ) → f ≤ m → KeepsPeer a b n → IsTurnedAway m t y b c n → IsTurnedAway f t (x ++ y) a c n
+-- nothing, and then rejected
+then_away : (f m t : ℕ) (x y : List Accepted) (a b c : Report) (n : ℕ) → f ≤ m → KeepsPeer a b n → IsRejected m t y b c n → IsRejected f t (x ++ y) a c n
 then_away f m t x y a b c n v k w =
     let u : m ≤ n = w.least in
     record {
@@ -375,31 +375,31 @@ then_away f m t x y a b c n v k w =
       failed = rises_then _ _ _ (stays_rise _ _ k.failed) w.failed;
     }
 
-each_then : (f m t : ℕ) (x y : List Accepted) (a b c : Told) (n : ℕ) → f ≤ m → m ≤ t → KeepsPeer a b n ⊎ IsTurnedAway f m x a b n → KeepsPeer b c n ⊎ IsTurnedAway m t y b c n → (n < m → KeepsPeer b c n) → KeepsPeer a c n ⊎ IsTurnedAway f t (x ++ y) a c n
+each_then : (f m t : ℕ) (x y : List Accepted) (a b c : Report) (n : ℕ) → f ≤ m → m ≤ t → KeepsPeer a b n ⊎ IsRejected f m x a b n → KeepsPeer b c n ⊎ IsRejected m t y b c n → (n < m → KeepsPeer b c n) → KeepsPeer a c n ⊎ IsRejected f t (x ++ y) a c n
 each_then f m t x y a b c n u v (inl k) (inl q) s = inl (kept_then a b c n k q)
 each_then f m t x y a b c n u v (inl k) (inr w) s = inr (then_away f m t x y a b c n u k w)
 each_then f m t x y a b c n u v (inr w) q s = inr (turned_then f m t x y a b c n v w (s w.most))
 
-kept_before : (f m : ℕ) (x : List Accepted) (a b : Told) (n : ℕ) → m ≤ n → KeepsPeer a b n ⊎ IsTurnedAway f m x a b n → KeepsPeer a b n
+kept_before : (f m : ℕ) (x : List Accepted) (a b : Report) (n : ℕ) → m ≤ n → KeepsPeer a b n ⊎ IsRejected f m x a b n → KeepsPeer a b n
 kept_before f m x a b n u (inl k) = k
 kept_before f m x a b n u (inr w) = (let y : n < m = w.most in absurd (omega arith))
 
-new_then : (g f m t : ℕ) (x y : List Accepted) (a b c : Told) (s r : List Step) (l : Link) → m ≤ t → IsNew f m x g a b s l → (l.number < m → KeepsPeer b c l.number) → IsNew f t (x ++ y) g a c (s ++ r) l
+new_then : (g f m t : ℕ) (x y : List Accepted) (a b c : Report) (s r : List Step) (l : Link) → m ≤ t → IsNew f m x g a b s l → (l.number < m → KeepsPeer b c l.number) → IsNew f t (x ++ y) g a c (s ++ r) l
 new_then g f m t x y a b c s r l v n k =
     let u : l.number < m = n.most in
     record { least = n.least; most = omega arith; answered = one_left x y _ n.answered; opened = opened_left l.id s r n.opened; fresh = n.fresh; kept = kept_then a b c l.number n.kept (k u) }
 
-then_new : (g k f m t : ℕ) (x y : List Accepted) (a b c : Told) (s r : List Step) (l : Link) → g ≤ k → f ≤ m → KeepsPeer a b l.number ⊎ IsTurnedAway f m x a b l.number → IsNew m t y k b c r l → IsNew f t (x ++ y) g a c (s ++ r) l
+then_new : (g k f m t : ℕ) (x y : List Accepted) (a b c : Report) (s r : List Step) (l : Link) → g ≤ k → f ≤ m → KeepsPeer a b l.number ⊎ IsRejected f m x a b l.number → IsNew m t y k b c r l → IsNew f t (x ++ y) g a c (s ++ r) l
 then_new g k f m t x y a b c s r l w u e n =
     let v : m ≤ l.number = n.least in
     let z : k ≤ l.id.generation = n.fresh in
     record { least = omega arith; most = n.most; answered = one_right x y _ n.answered; opened = opened_right l.id s r n.opened; fresh = omega arith; kept = kept_then a b c l.number (kept_before f m x a b l.number v e) n.kept }
 
-are_then : (ls : List Link) (g f m t : ℕ) (x y : List Accepted) (a b c : Told) (s r : List Step) (l : Link) → m ≤ t → IsAmong ls l ⊎ IsNew f m x g a b s l → (l.number < m → KeepsPeer b c l.number) → IsAmong ls l ⊎ IsNew f t (x ++ y) g a c (s ++ r) l
+are_then : (ls : List Link) (g f m t : ℕ) (x y : List Accepted) (a b c : Report) (s r : List Step) (l : Link) → m ≤ t → IsAmong ls l ⊎ IsNew f m x g a b s l → (l.number < m → KeepsPeer b c l.number) → IsAmong ls l ⊎ IsNew f t (x ++ y) g a c (s ++ r) l
 are_then ls g f m t x y a b c s r l v (inl old) k = inl old
 are_then ls g f m t x y a b c s r l v (inr n) k = inr (new_then g f m t x y a b c s r l v n k)
 
-pub accepts_then : (ls ms ns : List Link) (f m t : ℕ) (a b c : Told) (h i j : HostState) → Accepts ls f a h ms m b i → Accepts ms m b i ns t c j → Accepts ls f a h ns t c j
+pub accepts_then : (ls ms ns : List Link) (f m t : ℕ) (a b c : Report) (h i j : HostState) → Accepts ls f a h ms m b i → Accepts ms m b i ns t c j → Accepts ls f a h ns t c j
 accepts_then ls ms ns f m t a b c h i j p q =
     let u : f ≤ m = p.rises in
     let v : m ≤ t = q.rises in
@@ -445,13 +445,13 @@ accepts_then ls ms ns f m t a b c h i j p q =
     still_apart p_ q_ n l lt apart (inl mid) = each_apart ms n l apart mid
     still_apart p_ q_ n l lt apart (inr new) = λ e. (let y : m ≤ l.number = new.least in let z : l.number ≡ n = e in absurd (omega arith))
 
-    first_accounted : (p_ : Accepts ls f a h ms m b i) (q_ : Accepts ms m b i ns t c j) (new : Accepted) → HasSession ms new ⊎ (IsTurnedAway f m p_.accepted a b new.number × IsApart ms new.number)
-        → HasSession ns new ⊎ (IsTurnedAway f t (p_.accepted ++ q_.accepted) a c new.number × IsApart ns new.number)
+    first_accounted : (p_ : Accepts ls f a h ms m b i) (q_ : Accepts ms m b i ns t c j) (new : Accepted) → HasSession ms new ⊎ (IsRejected f m p_.accepted a b new.number × IsApart ms new.number)
+        → HasSession ns new ⊎ (IsRejected f t (p_.accepted ++ q_.accepted) a c new.number × IsApart ns new.number)
     first_accounted p_ q_ new (inl s) = inl (s.0, (q_.stay s.0 s.1.0, s.1.1))
     first_accounted p_ q_ new (inr s) = inr (turned_then f m t p_.accepted q_.accepted a b c new.number q_.rises s.0 (q_.kept new.number s.0.most), apart_each ns new.number (λ l among. still_apart p_ q_ new.number l s.0.most s.1 (q_.are l among)))
 
-    second_accounted : (p_ : Accepts ls f a h ms m b i) (q_ : Accepts ms m b i ns t c j) (new : Accepted) → f ≤ m → HasSession ns new ⊎ (IsTurnedAway m t q_.accepted b c new.number × IsApart ns new.number)
-        → HasSession ns new ⊎ (IsTurnedAway f t (p_.accepted ++ q_.accepted) a c new.number × IsApart ns new.number)
+    second_accounted : (p_ : Accepts ls f a h ms m b i) (q_ : Accepts ms m b i ns t c j) (new : Accepted) → f ≤ m → HasSession ns new ⊎ (IsRejected m t q_.accepted b c new.number × IsApart ns new.number)
+        → HasSession ns new ⊎ (IsRejected f t (p_.accepted ++ q_.accepted) a c new.number × IsApart ns new.number)
     second_accounted p_ q_ new lt (inl s) = inl s
     second_accounted p_ q_ new lt (inr s) = inr (then_away f m t p_.accepted q_.accepted a b c new.number lt (kept_before f m p_.accepted a b new.number s.0.least (p_.each new.number)) s.0, s.1)
 
@@ -463,11 +463,11 @@ accepts_then ls ms ns f m t a b c h i j p q =
         absurd (omega arith)))
 
 -- no connection waits, or the wire fails
-pub accepts_stop : (ls ms : List Link) (f m : ℕ) (t : ℕ) (a b c : Told) (h i : HostState) → Accepts ls f a h ms m b i → m ≤ t → KeepsAll b c → Accepts ls f a h ms t c i
+pub accepts_stop : (ls ms : List Link) (f m : ℕ) (t : ℕ) (a b c : Report) (h i : HostState) → Accepts ls f a h ms m b i → m ≤ t → KeepsAll b c → Accepts ls f a h ms t c i
 accepts_stop ls ms f m t a b c h i p u k = accepts_then ls ms ms f m t a b c h i i p (accepts_none ms m t b c i u k)
 
 -- a connection was accepted, and admitted
-pub accepts_more : (ls ms ns : List Link) (f m number t : ℕ) (o : Outcome) (a b c d : Told) (h i j : HostState) → Accepts ls f a h ms m b i → m ≤ number → number < t → KeepsAll b c → Admits ms c i number o t ns d j → Accepts ls f a h ns t d j
+pub accepts_more : (ls ms ns : List Link) (f m number t : ℕ) (o : Outcome) (a b c d : Report) (h i j : HostState) → Accepts ls f a h ms m b i → m ≤ number → number < t → KeepsAll b c → Admits ms c i number o t ns d j → Accepts ls f a h ns t d j
 accepts_more ls ms ns f m number t o a b c d h i j p u v k q = accepts_then ls ms ns f m t a b d h i j p (q m b k u v).accepts
 
 -- ---- with the calls
@@ -476,20 +476,20 @@ length_one : (xs : List Accepted) (x : Accepted) → length (xs ++ (x ∷ [])) �
 length_one xs x = length-append xs (x ∷ [])
 
 -- so many connections were accepted, with their calls
-pub record AcceptsSome (count : ℕ) (moved : Bool) (links : List Link) (from : ℕ) (old : Told)
-    (before : HostState) (met : List Link) (to : ℕ) (new : Told) (after : HostState)
+pub record AcceptsSome (count : ℕ) (moved : Bool) (links : List Link) (from : ℕ) (old : Report)
+    (before : HostState) (met : List Link) (to : ℕ) (new : Report) (after : HostState)
     (old_calls new_calls : Option (List Call)) : Type 0 where
   pub accepts : Accepts links from old before met to new after
   pub none : moved ≡ false → accepts.accepted ≡ []
   pub counted : length accepts.accepted ≡ count
   pub asked : Fits links from before → AsksAccepts met accepts.accepted old_calls new_calls
 
-pub some_start : (moved : Bool) (ls : List Link) (from : ℕ) (a : Told) (h : HostState) (calls : Option (List Call)) → AcceptsSome 0 moved ls from a h ls from a h calls calls
+pub some_start : (moved : Bool) (ls : List Link) (from : ℕ) (a : Report) (h : HostState) (calls : Option (List Call)) → AcceptsSome 0 moved ls from a h ls from a h calls calls
 unfolding accepts_start accepts_none
 some_start moved ls from a h calls = record { accepts = accepts_start ls from a h; none = λ e. refl; counted = refl; asked = λ fit. asks_no_accept ls calls }
 
 -- no connection waits, or the wire fails
-pub some_stop : (n : ℕ) (moved : Bool) (ls ms : List Link) (f m : ℕ) (t : ℕ) (a b c : Told) (h i : HostState) (old mid new : Option (List Call)) (answer : Result (Option ℕ) WireFault) → n < 16 → AcceptsSome n moved ls f a h ms m b i old mid → m ≤ t → KeepsAll b c → Asks mid new (Accept answer ∷ []) → GivesNobody answer → AllAccepted moved ls f a h ms t c i old new
+pub some_stop : (n : ℕ) (moved : Bool) (ls ms : List Link) (f m : ℕ) (t : ℕ) (a b c : Report) (h i : HostState) (old mid new : Option (List Call)) (answer : Result (Option ℕ) WireFault) → n < 16 → AcceptsSome n moved ls f a h ms m b i old mid → m ≤ t → KeepsAll b c → Asks mid new (Accept answer ∷ []) → GivesNobody answer → AllAccepted moved ls f a h ms t c i old new
 unfolding accepts_stop accepts_then accepts_none
 some_stop n moved ls ms f m t a b c h i old mid new answer lt p u k q g =
     let count : length p.accepts.accepted < 16 = (let e : length p.accepts.accepted ≡ n = p.counted in omega arith) in
@@ -500,10 +500,10 @@ some_stop n moved ls ms f m t a b c h i old mid new answer lt p u k q g =
     }
 
 -- as many were accepted as may be
-pub some_full : (n : ℕ) (moved : Bool) (ls ms : List Link) (f m : ℕ) (a b : Told) (h i : HostState) (old new : Option (List Call)) → n ≡ 16 → AcceptsSome n moved ls f a h ms m b i old new → AllAccepted moved ls f a h ms m b i old new
+pub some_full : (n : ℕ) (moved : Bool) (ls ms : List Link) (f m : ℕ) (a b : Report) (h i : HostState) (old new : Option (List Call)) → n ≡ 16 → AcceptsSome n moved ls f a h ms m b i old new → AllAccepted moved ls f a h ms m b i old new
 some_full n moved ls ms f m a b h i old new e p = record { accepts = p.accepts; none = p.none; asked = λ fit. asks_full ms p.accepts.accepted old new (p.counted ∙ e) (p.asked fit) }
 
-pub some_more : (n : ℕ) (moved : Bool) (ls ms ns : List Link) (f m number t : ℕ) (a b c d : Told) (h i j : HostState) (old mid asked new : Option (List Call)) → AcceptsSome n moved ls f a h ms m b i old mid → m ≤ number → number < t → KeepsAll b c → Asks mid asked (Accept (Ok (Some number)) ∷ []) → OneAdmitted ms c i number t ns d j asked new → AcceptsSome (n + 1) true ls f a h ns t d j old new
+pub some_more : (n : ℕ) (moved : Bool) (ls ms ns : List Link) (f m number t : ℕ) (a b c d : Report) (h i j : HostState) (old mid asked new : Option (List Call)) → AcceptsSome n moved ls f a h ms m b i old mid → m ≤ number → number < t → KeepsAll b c → Asks mid asked (Accept (Ok (Some number)) ∷ []) → OneAdmitted ms c i number t ns d j asked new → AcceptsSome (n + 1) true ls f a h ns t d j old new
 unfolding accepts_more accepts_then
 some_more n moved ls ms ns f m number t a b c d h i j old mid asked new p u v k q r =
     let item : Accepted = record { number = number; outcome = r.outcome } in

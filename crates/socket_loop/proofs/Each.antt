@@ -31,16 +31,16 @@ visit_none due kind s x none = record {
     next = omega arith;
   };
   asked = rw none (asks_none s.asked);
-  quiet = λ q. (kept_same s.told, refl);
+  quiet = λ q. (kept_same s.report, refl);
   stirs = λ e. absurd (cc);
 }
 
 pub visits_start : (due : HostState → Connection → Connection → List Call) (kind : Event → Type 0) (s : Scene) → VisitsTo 0 due kind false s s
 visits_start due kind s = record {
   asked = asks_start due kind s.host s.held s.asked;
-  quiet = λ q. (kept_same s.told, refl);
+  quiet = λ q. (kept_same s.report, refl);
   stirs = λ e. absurd (cc);
-  marks = marks_same s.bound s.told s.held;
+  marks = marks_same s.bound s.report s.held;
   made = all_made_same s.held;
   links = refl;
   bound = refl;
@@ -48,15 +48,15 @@ visits_start due kind s = record {
 }
 
 -- one more was visited
-pub visits_next : (n : ℕ) (due : HostState → Connection → Connection → List Call) (kind : Event → Type 0) (moved has : Bool) (start mid after : Scene) (y d : Connection) → n < length mid.held → VisitsTo n due kind moved start mid → AllMove start.told mid.told → AllMove mid.told after.told
+pub visits_next : (n : ℕ) (due : HostState → Connection → Connection → List Call) (kind : Event → Type 0) (moved has : Bool) (start mid after : Scene) (y d : Connection) → n < length mid.held → VisitsTo n due kind moved start mid → AllMove start.report mid.report → AllMove mid.report after.report
     → VisitsOne due kind has (get_or mid.held n d) y (record mid { held = get_or mid.held n d ∷ [] }) (record after { held = y ∷ [] })
-    → (y.has_ended ≡ true → ((get_or mid.held n d).has_ended ≡ true) ⊎ IsEmptied (mid.told.unread (get_or mid.held n d).link.number) (after.told.unread (get_or mid.held n d).link.number))
+    → (y.has_ended ≡ true → ((get_or mid.held n d).has_ended ≡ true) ⊎ IsEmptied (mid.report.unread (get_or mid.held n d).link.number) (after.report.unread (get_or mid.held n d).link.number))
     → IsVisit after.host (due mid.host (get_or mid.held n d) y) (get_or mid.held n d) y → VisitsTo (n + 1) due kind (moved || has) start (record after { held = set mid.held n y })
 visits_next n due kind moved has start mid after y d lt p first second v ended visit = record {
   asked = asks_next n due kind start.host mid.host after.host start.held mid.held y d start.asked mid.asked after.asked lt p.asked visit v.visit.steps v.asked;
-  quiet = quiet_next moved has (moved || has) start.told mid.told after.told mid.held n d y start.held (either_false moved has) p.quiet v.quiet;
-  stirs = stirs_next moved has start.told mid.told after.told start.held mid.held n d y lt p.links first second p.made v.visit.made p.stirs v.stirs;
-  marks = marks_then start.bound start.told mid.told after.told start.held mid.held (set mid.held n y) first second p.marks (marks_visit start.bound mid.told after.told mid.held n d y lt v.visit.link ended (rw p.bound at v.visit.shut));
+  quiet = quiet_next moved has (moved || has) start.report mid.report after.report mid.held n d y start.held (either_false moved has) p.quiet v.quiet;
+  stirs = stirs_next moved has start.report mid.report after.report start.held mid.held n d y lt p.links first second p.made v.visit.made p.stirs v.stirs;
+  marks = marks_then start.bound start.report mid.report after.report start.held mid.held (set mid.held n y) first second p.marks (marks_visit start.bound mid.report after.report mid.held n d y lt v.visit.link ended (rw p.bound at v.visit.shut));
   made = all_made_then start.held mid.held (set mid.held n y) p.made (all_made_set mid.held n d y v.visit.made);
   links = links_set mid.held n d y v.visit.link ∙ p.links;
   bound = v.visit.bound ∙ p.bound;

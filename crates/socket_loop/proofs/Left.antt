@@ -72,7 +72,7 @@ left_end n m held xs rest h e f so_far once =
     take_all [] = refl
     take_all (y ∷ ys) = ap (λ (zs : List Connection). y ∷ zs) (take_all ys)
 
--- those that were shut are let go
+-- those that were shut are removed
 none_at : (b : Bool) (h : HostState) (x : Connection) (xs : List Connection) → x.is_shut ≡ b → AreLeft h (x ∷ xs) → NoneFinished h (filter (λ y. not y.is_shut) xs) → NoneFinished h (filter (λ y. not y.is_shut) (x ∷ xs))
 none_at true h x xs e left more = rw e more
 none_at false h x xs e left more = rw e (elim left.0 [ inl shut ↦ absurd (both_ways x.is_shut e shut) | inr open_ ↦ (open_, more) ])

@@ -16,7 +16,7 @@ use Rattle.host_core.proofs.OneSession.{kept, gone, IsGone as IsOut}
 use Rattle.host_core.proofs.Overs.{kept_over, over_more, over_none}
 use Rattle.socket_loop.specs.declared.connection.Link.{Link}
 use Rattle.socket_loop.specs.declared.connection.Connection.{Connection}
-use Rattle.wires.specs.Told.{Told, KeepsPeer}
+use Rattle.wires.specs.Report.{Report, KeepsPeer}
 use Rattle.socket_loop.specs.Links.{IsAmong, IsStrange}
 use Rattle.socket_loop.specs.Parts.{Carried, LeavesAlone}
 use Rattle.socket_loop.specs.Turns.{Served}
@@ -57,7 +57,7 @@ then_whole h m id steps lost more None e lt r p q some = none_some (find m.slots
 then_whole h m id steps lost more (Some t) e lt r p q some = rw (p refl, q some) refl
 
 -- a connection was served, and then its session stored and gave bytes
-abbrev pub served_then : (owes : List ℕ → List ℕ) (a b c : Told) (h m : HostState) (n : ℕ) (id : SessionId) (steps : List Step) (lost : List ℕ) → id.generation < h.slots.next → IsRun h steps m → Served owes a b n (find h.slots id)
+abbrev pub served_then : (owes : List ℕ → List ℕ) (a b c : Report) (h m : HostState) (n : ℕ) (id : SessionId) (steps : List Step) (lost : List ℕ) → id.generation < h.slots.next → IsRun h steps m → Served owes a b n (find h.slots id)
     → Consumes (b.unread n) (c.unread n) (own id steps ++ lost) → Appends (b.written n) (c.written n) (taken id steps) → (IsSome (find m.slots id) → lost ≡ []) → Served owes a c n (find m.slots id)
 served_then owes a b c h m n id steps lost lt r s u w whole = record {
   read = s.read ++ own id steps;
@@ -70,12 +70,12 @@ served_then owes a b c h m n id steps lost lt r s u w whole = record {
 }
 
 -- it was met
-abbrev pub served_on : (owes : List ℕ → List ℕ) (marks : List Connection) (bound : ℕ) (a b c : Told) (h m : HostState) (steps : List Step) (l : Link) → l.id.generation < h.slots.next → IsRun h steps m → Served owes a b l.number (find h.slots l.id) → Carried marks bound b h steps c m l → Served owes a c l.number (find m.slots l.id)
+abbrev pub served_on : (owes : List ℕ → List ℕ) (marks : List Connection) (bound : ℕ) (a b c : Report) (h m : HostState) (steps : List Step) (l : Link) → l.id.generation < h.slots.next → IsRun h steps m → Served owes a b l.number (find h.slots l.id) → Carried marks bound b h steps c m l → Served owes a c l.number (find m.slots l.id)
 served_on owes marks bound a b c h m steps l lt r s k =
     served_then owes a b c h m l.number l.id steps k.lost lt r s k.consumed k.appended (λ some. not_lost m l.id k.lost k.whole some)
 
 -- it was not met
-abbrev pub served_aside : (owes : List ℕ → List ℕ) (a b c : Told) (h m : HostState) (n : ℕ) (id : SessionId) (steps : List Step) → id.generation < h.slots.next → IsRun h steps m → Served owes a b n (find h.slots id) → LeavesAlone id steps → KeepsPeer b c n → Served owes a c n (find m.slots id)
+abbrev pub served_aside : (owes : List ℕ → List ℕ) (a b c : Report) (h m : HostState) (n : ℕ) (id : SessionId) (steps : List Step) → id.generation < h.slots.next → IsRun h steps m → Served owes a b n (find h.slots id) → LeavesAlone id steps → KeepsPeer b c n → Served owes a c n (find m.slots id)
 served_aside owes a b c h m n id steps lt r s alone k =
     served_then owes a b c h m n id steps [] lt r s (rw alone.stored (Consumes-none _ _ k.unread)) (rw alone.passed (Appends-none _ _ k.written)) (λ some. refl)
 

@@ -4,7 +4,7 @@ use Rattle.std.specs.Prelude.{filter, insert, not}
 use Rattle.std.proofs.lemmas.Bool.{both_ways, cond_both}
 use Rattle.socket_loop.specs.declared.connection.Link.{Link}
 use Rattle.socket_loop.specs.declared.connection.Connection.{Connection}
-use Rattle.wires.specs.Told.{Told, IsRaised}
+use Rattle.wires.specs.Report.{Report, IsRaised}
 use Rattle.socket_loop.specs.Links.{IsAmong, IsHeld, IsMarked, links_of, reads_ended, was_shut}
 use Rattle.socket_loop.specs.Parts.{KeepsAllMarks, AddsNoMark, Grows, HoldsMore}
 use Rattle.wires.specs.Moves.{AllMove, IsEmptied}
@@ -41,13 +41,13 @@ adds_then xs ys zs p q n = record { ended = λ m. (p n).ended ((q n).ended m); s
 pub adds_insert : (held : List Connection) (place : ℕ) (c : Connection) → c.has_ended ≡ false → c.is_shut ≡ false → (n : ℕ) → AddsNoMark held (insert held place c) n
 adds_insert held place c e f n = record { ended = λ m. marked_insert reads_ended held place c n e m; shut = λ m. marked_insert was_shut held place c n f m }
 
-pub marks_none : (bound : ℕ) (a b : Told) (held now : List Connection) → ((n : ℕ) → AddsNoMark held now n) → KeepsAllMarks bound a held b now
+pub marks_none : (bound : ℕ) (a b : Report) (held now : List Connection) → ((n : ℕ) → AddsNoMark held now n) → KeepsAllMarks bound a held b now
 marks_none bound a b held now p = λ n. record { ended = λ m. inl ((p n).ended m); shut = λ m. inl ((p n).shut m) }
 
-pub marks_same : (bound : ℕ) (a : Told) (held : List Connection) → KeepsAllMarks bound a held a held
+pub marks_same : (bound : ℕ) (a : Report) (held : List Connection) → KeepsAllMarks bound a held a held
 marks_same bound a held = marks_none bound a a held held (adds_same held)
 
-pub marks_then : (bound : ℕ) (a b c : Told) (xs ys zs : List Connection) → AllMove a b → AllMove b c → KeepsAllMarks bound a xs b ys → KeepsAllMarks bound b ys c zs → KeepsAllMarks bound a xs c zs
+pub marks_then : (bound : ℕ) (a b c : Report) (xs ys zs : List Connection) → AllMove a b → AllMove b c → KeepsAllMarks bound a xs b ys → KeepsAllMarks bound b ys c zs → KeepsAllMarks bound a xs c zs
 marks_then bound a b c xs ys zs j k p q = λ n. record {
   ended = λ m. elim ((q n).ended m) [
     | inl mid ↦ elim ((p n).ended mid) [ inl old ↦ inl old | inr empty ↦ inr (emptied_move a b c n empty k) ]
@@ -60,7 +60,7 @@ marks_then bound a b c xs ys zs j k p q = λ n. record {
 }
 
 -- one connection was visited
-pub marks_visit : (bound : ℕ) (b c : Told) (items : List Connection) (i : ℕ) (d y : Connection) → i < length items → y.link ≡ (get_or items i d).link
+pub marks_visit : (bound : ℕ) (b c : Report) (items : List Connection) (i : ℕ) (d y : Connection) → i < length items → y.link ≡ (get_or items i d).link
     → (y.has_ended ≡ true → ((get_or items i d).has_ended ≡ true) ⊎ IsEmptied (b.unread (get_or items i d).link.number) (c.unread (get_or items i d).link.number))
     → (y.is_shut ≡ true → ((get_or items i d).is_shut ≡ true) ⊎ ((get_or items i d).link.number < bound → IsRaised (b.is_shut (get_or items i d).link.number) (c.is_shut (get_or items i d).link.number)))
     → KeepsAllMarks bound b items c (set items i y)
@@ -85,7 +85,7 @@ remove_shut_at true x xs l e more (inr m) = rw e (elim (more m) [ inl stays ↦ 
 remove_shut_at false x xs l e more (inl same) = rw e (inl (inl same))
 remove_shut_at false x xs l e more (inr m) = rw e (elim (more m) [ inl stays ↦ inl (inr stays) | inr went ↦ inr (inr went) ])
 
--- what is let go was shut
+-- what is removed was shut
 pub remove_shut : (held : List Connection) (l : Link) → IsAmong (links_of held) l → IsAmong (links_of (filter (λ x. not x.is_shut) held)) l ⊎ IsMarked was_shut held l.number
 remove_shut [] l m = absurd m
 remove_shut (x ∷ xs) l m = remove_shut_at x.is_shut x xs l refl (remove_shut xs l) m

@@ -15,7 +15,7 @@ use Rattle.host_core.proofs.Chains.{run-start}
 use Rattle.host_core.proofs.OneSession.{gone, IsGone as IsOut}
 use Rattle.socket_loop.specs.declared.connection.Link.{Link}
 use Rattle.socket_loop.specs.declared.connection.Connection.{Connection}
-use Rattle.wires.specs.Told.{Told, KeepsPeer, KeepsAll}
+use Rattle.wires.specs.Report.{Report, KeepsPeer, KeepsAll}
 use Rattle.socket_loop.specs.Links.{IsTied, IsApart, IsStrange, links_of}
 use Rattle.socket_loop.specs.Parts.{IsGone, closes, starves, Finished, Cause, IsSpared, IsShutDown, Carried, Carries, ServesLinks}
 use Rattle.wires.specs.Moves.{AllMove}
@@ -54,17 +54,17 @@ finished_right m h i j s t l c r f = record {
   finished = f.finished;
 }
 
-cause_left : (m : List Connection) (a b c : Told) (h i j : HostState) (s t : List Step) (l : Link) → AllMove b c → IsRun i t j → Cause m a h s b i l → Cause m a h (s ++ t) c j l
+cause_left : (m : List Connection) (a b c : Report) (h i j : HostState) (s t : List Step) (l : Link) → AllMove b c → IsRun i t j → Cause m a h s b i l → Cause m a h (s ++ t) c j l
 cause_left m a b c h i j s t l k q (inl failed) = inl (raised_rises _ _ _ failed (k l.number).failed)
 cause_left m a b c h i j s t l k q (inr (inl starved)) = inr (inl (starves_left l.id s t starved))
 cause_left m a b c h i j s t l k q (inr (inr f)) = inr (inr (finished_left m h i j s t l q f))
 
-cause_right : (m : List Connection) (a b c : Told) (h i j : HostState) (s t : List Step) (l : Link) → closes l.id s ≡ false → AllMove a b → IsRun h s i → Cause m b i t c j l → Cause m a h (s ++ t) c j l
+cause_right : (m : List Connection) (a b c : Report) (h i j : HostState) (s t : List Step) (l : Link) → closes l.id s ≡ false → AllMove a b → IsRun h s i → Cause m b i t c j l → Cause m a h (s ++ t) c j l
 cause_right m a b c h i j s t l u k r (inl failed) = inl (rises_raised _ _ _ (k l.number).failed failed)
 cause_right m a b c h i j s t l u k r (inr (inl starved)) = inr (inl (starves_right l.id s t starved))
 cause_right m a b c h i j s t l u k r (inr (inr f)) = inr (inr (finished_right m h i j s t l u r f))
 
-ends_then : (m : List Connection) (n : ℕ) (a b c : Told) (h i j : HostState) (s t : List Step) (l : Link) → AllMove a b → AllMove b c → IsRun h s i → IsRun i t j → IsSpared a s b l ⊎ IsShutDown m n a h s b i l → IsSpared b t c l ⊎ IsShutDown m n b i t c j l
+ends_then : (m : List Connection) (n : ℕ) (a b c : Report) (h i j : HostState) (s t : List Step) (l : Link) → AllMove a b → AllMove b c → IsRun h s i → IsRun i t j → IsSpared a s b l ⊎ IsShutDown m n a h s b i l → IsSpared b t c l ⊎ IsShutDown m n b i t c j l
     → IsSpared a (s ++ t) c l ⊎ IsShutDown m n a h (s ++ t) c j l
 ends_then m n a b c h i j s t l x y r w (inl p) (inl q) =
     inl (record { shut = stays_then _ _ _ p.shut q.shut; closed = closes_neither l.id s t p.closed q.closed; failed = stays_then _ _ _ p.failed q.failed; fed = starves_neither l.id s t p.fed q.fed })
@@ -76,7 +76,7 @@ ends_then m n a b c h i j s t l x y r w (inr p) q =
 -- ---- one connection
 
 -- nothing of it happened
-pub carried_nothing : (m : List Connection) (n : ℕ) (a b : Told) (h i : HostState) (s : List Step) (l : Link) → own l.id s ≡ [] → taken l.id s ≡ [] → closes l.id s ≡ false → starves l.id s ≡ false → KeepsPeer a b l.number → Carried m n a h s b i l
+pub carried_nothing : (m : List Connection) (n : ℕ) (a b : Report) (h i : HostState) (s : List Step) (l : Link) → own l.id s ≡ [] → taken l.id s ≡ [] → closes l.id s ≡ false → starves l.id s ≡ false → KeepsPeer a b l.number → Carried m n a h s b i l
 carried_nothing m n a b h i s l o g e f k = record {
   lost = [];
   consumed = rw o (Consumes-none _ _ k.unread);
@@ -118,7 +118,7 @@ lost_then : (h i : HostState) (id : SessionId) (steps : List Step) (lost : List 
 lost_then h i id steps lost r (inl e) = inl e
 lost_then h i id steps lost r (inr g) = inr (out_gone h i id steps r g.0).no_own
 
-pub carried_then : (m : List Connection) (n : ℕ) (a b c : Told) (h i j : HostState) (l : Link) (s t : List Step) → AllMove a b → AllMove b c → IsRun h s i → IsRun i t j → Carried m n a h s b i l → Carried m n b i t c j l → Carried m n a h (s ++ t) c j l
+pub carried_then : (m : List Connection) (n : ℕ) (a b c : Report) (h i j : HostState) (l : Link) (s t : List Step) → AllMove a b → AllMove b c → IsRun h s i → IsRun i t j → Carried m n a h s b i l → Carried m n b i t c j l → Carried m n a h (s ++ t) c j l
 carried_then m n a b c h i j l s t before after r q x y = record {
   lost = x.lost ++ y.lost;
   consumed = rw (own-append l.id s t)
@@ -132,7 +132,7 @@ carried_then m n a b c h i j l s t before after r q x y = record {
 
 -- ---- many connections
 
-pub carries_then : (m : List Connection) (n : ℕ) (ls : List Link) (s t : List Step) (a b c : Told) (h i j : HostState) → Carries m n ls a h s b i → Carries m n ls b i t c j → Carries m n ls a h (s ++ t) c j
+pub carries_then : (m : List Connection) (n : ℕ) (ls : List Link) (s t : List Step) (a b c : Report) (h i j : HostState) → Carries m n ls a h s b i → Carries m n ls b i t c j → Carries m n ls a h (s ++ t) c j
 carries_then m n ls s t a b c h i j p q = record {
   chain = run-append h i j s t p.chain q.chain;
   carried = λ l tied. carried_then m n a b c h i j l s t p.all q.all p.chain q.chain (p.carried l tied) (q.carried l tied);
@@ -142,7 +142,7 @@ carries_then m n ls s t a b c h i j p q = record {
 }
 
 -- no session gets or gives bytes, or is closed
-pub carries_quiet : (m : List Connection) (n : ℕ) (ls : List Link) (steps : List Step) (a b : Told) (h i : HostState) → IsRun h steps i → KeepsAll a b → ((id : SessionId) → own id steps ≡ []) → ((id : SessionId) → taken id steps ≡ []) → ((id : SessionId) → closes id steps ≡ false) → ((id : SessionId) → starves id steps ≡ false) → Carries m n ls a h steps b i
+pub carries_quiet : (m : List Connection) (n : ℕ) (ls : List Link) (steps : List Step) (a b : Report) (h i : HostState) → IsRun h steps i → KeepsAll a b → ((id : SessionId) → own id steps ≡ []) → ((id : SessionId) → taken id steps ≡ []) → ((id : SessionId) → closes id steps ≡ false) → ((id : SessionId) → starves id steps ≡ false) → Carries m n ls a h steps b i
 carries_quiet m n ls steps a b h i r k o g e f = record {
   chain = r;
   carried = λ l tied. carried_nothing m n a b h i steps l (o l.id) (g l.id) (e l.id) (f l.id) (k l.number);
@@ -151,7 +151,7 @@ carries_quiet m n ls steps a b h i r k o g e f = record {
   all = all_kept a b k;
 }
 
-pub carries_round : (m : List Connection) (n : ℕ) (ls : List Link) (a : Told) (h i : HostState) (budget : ℕ) (ids : List SessionId) (worked refused : ℕ) → (r : IsRound h budget ids worked refused i) → Carries m n ls a h (works budget ids r.outcomes) a i
+pub carries_round : (m : List Connection) (n : ℕ) (ls : List Link) (a : Report) (h i : HostState) (budget : ℕ) (ids : List SessionId) (worked refused : ℕ) → (r : IsRound h budget ids worked refused i) → Carries m n ls a h (works budget ids r.outcomes) a i
 carries_round m n ls a h i budget ids worked refused r =
     carries_quiet m n ls (works budget ids r.outcomes) a a h i r.run (kept_same a) (λ id. own-works id budget ids r.outcomes) (λ id. taken-works id budget ids r.outcomes) (λ id. closes-works id budget ids r.outcomes) (λ id. starves-works id budget ids r.outcomes)
 
@@ -170,7 +170,7 @@ strange_at [] i d id h t = absurd (omega arith)
 strange_at (k ∷ ks) zero d id h t = (t.0, tt)
 strange_at (k ∷ ks) (suc i) d id h t = strange_at ks i d id (omega arith) t.1
 
-carries_at : (m : List Connection) (n : ℕ) (ls : List Link) (i : ℕ) (d : Link) (s : List Step) (a b : Told) (h j : HostState) → i < length ls → Carries m n (get_or ls i d ∷ []) a h s b j → Carries m n ls a h s b j
+carries_at : (m : List Connection) (n : ℕ) (ls : List Link) (i : ℕ) (d : Link) (s : List Step) (a b : Report) (h j : HostState) → i < length ls → Carries m n (get_or ls i d ∷ []) a h s b j → Carries m n ls a h s b j
 carries_at m n ls i d s a b h j lt w = record {
   chain = w.chain;
   carried = λ l tied. w.carried l (tied_at ls i d l lt tied);
@@ -179,27 +179,27 @@ carries_at m n ls i d s a b h j lt w = record {
   all = w.all;
 }
 
-pub serves_then : (kind : Event → Type 0) (m : List Connection) (n : ℕ) (ls : List Link) (a b c : Told) (h i j : HostState) → ServesLinks kind m n ls a h b i → ServesLinks kind m n ls b i c j → ServesLinks kind m n ls a h c j
+pub serves_then : (kind : Event → Type 0) (m : List Connection) (n : ℕ) (ls : List Link) (a b c : Report) (h i j : HostState) → ServesLinks kind m n ls a h b i → ServesLinks kind m n ls b i c j → ServesLinks kind m n ls a h c j
 serves_then kind m n ls a b c h i j p q = record {
   steps = p.steps ++ q.steps;
   kinds = all_append kind p.steps q.steps p.kinds q.kinds;
   carries = carries_then m n ls p.steps q.steps a b c h i j p.carries q.carries;
 }
 
-serves_at : (kind : Event → Type 0) (m : List Connection) (n : ℕ) (ls : List Link) (i : ℕ) (d : Link) (a b : Told) (h j : HostState) → i < length ls → ServesLinks kind m n (get_or ls i d ∷ []) a h b j → ServesLinks kind m n ls a h b j
+serves_at : (kind : Event → Type 0) (m : List Connection) (n : ℕ) (ls : List Link) (i : ℕ) (d : Link) (a b : Report) (h j : HostState) → i < length ls → ServesLinks kind m n (get_or ls i d ∷ []) a h b j → ServesLinks kind m n ls a h b j
 serves_at kind m n ls i d a b h j lt s = record { steps = s.steps; kinds = s.kinds; carries = carries_at m n ls i d s.steps a b h j lt s.carries }
 
-pub serves_wire : (kind : Event → Type 0) (m : List Connection) (n : ℕ) (ls : List Link) (a b : Told) (h : HostState) → KeepsAll a b → ServesLinks kind m n ls a h b h
+pub serves_wire : (kind : Event → Type 0) (m : List Connection) (n : ℕ) (ls : List Link) (a b : Report) (h : HostState) → KeepsAll a b → ServesLinks kind m n ls a h b h
 serves_wire kind m n ls a b h k = record { steps = []; kinds = tt; carries = carries_quiet m n ls [] a b h h (run-start h) k (λ id. refl) (λ id. refl) (λ id. refl) (λ id. refl) }
 
-pub serves_same : (kind : Event → Type 0) (m : List Connection) (n : ℕ) (ls : List Link) (a : Told) (h : HostState) → ServesLinks kind m n ls a h a h
+pub serves_same : (kind : Event → Type 0) (m : List Connection) (n : ℕ) (ls : List Link) (a : Report) (h : HostState) → ServesLinks kind m n ls a h a h
 serves_same kind m n ls a h = serves_wire kind m n ls a a h (kept_same a)
 
 links_at : (items : List Connection) (i : ℕ) (d : Connection) (e : Link) → i < length items → get_or (links_of items) i e ≡ (get_or items i d).link
 links_at items i d e lt = get_or-map (λ (c : Connection). c.link) items i d e lt
 
 -- the connection at an index was served
-pub serves_next : (kind : Event → Type 0) (m : List Connection) (n : ℕ) (items : List Connection) (ls : List Link) (i : ℕ) (d : Connection) (a b c : Told) (h j k : HostState) → i < length items → links_of items ≡ ls → ServesLinks kind m n ls a h b j → ServesLinks kind m n ((get_or items i d).link ∷ []) b j c k → ServesLinks kind m n ls a h c k
+pub serves_next : (kind : Event → Type 0) (m : List Connection) (n : ℕ) (items : List Connection) (ls : List Link) (i : ℕ) (d : Connection) (a b c : Report) (h j k : HostState) → i < length items → links_of items ≡ ls → ServesLinks kind m n ls a h b j → ServesLinks kind m n ((get_or items i d).link ∷ []) b j c k → ServesLinks kind m n ls a h c k
 serves_next kind m n items ls i d a b c h j k lt e s t =
     let e_ : Link = d.link in
     let at : ServesLinks kind m n (get_or (links_of items) i e_ ∷ []) b j c k = subst (λ (x : Link). ServesLinks kind m n (x ∷ []) b j c k) (sym (links_at items i d e_ lt)) t in

@@ -39,7 +39,7 @@ kept_at : (b : Bool) (test : Connection → Bool) (x : Connection) (xs : List Co
 kept_at true test x xs e from later = rw e (from, later)
 kept_at false test x xs e from later = rw e later
 
--- where some are let go, the others are rising still
+-- where some are removed, the others are rising still
 pub rising_filter : (test : Connection → Bool) (xs : List Connection) → IsRising (links_of xs) → IsRising (links_of (filter test xs))
 rising_filter test [] p = tt
 rising_filter test (x ∷ xs) p = kept_at (test x) test x xs refl (from_filter x.link.id.slot test xs p.0) (rising_filter test xs p.1)

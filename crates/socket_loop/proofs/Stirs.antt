@@ -4,7 +4,7 @@ use Rattle.std.specs.Prelude.{filter, not, ◌||◌}
 use Rattle.std.proofs.lemmas.Bool.{or_cases, both_ways}
 use Rattle.host_core.specs.Steps.{HostState}
 use Rattle.socket_loop.specs.declared.connection.Connection.{Connection}
-use Rattle.wires.specs.Told.{Told, KeepsAll}
+use Rattle.wires.specs.Report.{Report, KeepsAll}
 use Rattle.socket_loop.specs.Links.{links_of, IsAmong}
 use Rattle.wires.specs.Moves.{AllMove, Transfers}
 use Rattle.wires.proofs.Peers.{all_kept}
@@ -69,11 +69,11 @@ one_set (x ∷ xs) (suc i) d y lt p = inr (one_set xs i d y (omega arith) p)
 
 -- ---- one part after the other
 
-pub stirs_then : (a b c : Told) (xs ys zs : List Connection) → Stirs a xs b ys → AllMove b c → AllKeepMade ys zs → Stirs a xs c zs
+pub stirs_then : (a b c : Report) (xs ys zs : List Connection) → Stirs a xs b ys → AllMove b c → AllKeepMade ys zs → Stirs a xs c zs
 stirs_then a b c xs ys zs (inl p) m k = inl (p.0, (p.1.0, transfers_then a b c p.0.number p.1.1 m))
 stirs_then a b c xs ys zs (inr p) m k = inr (one_then xs ys zs p k)
 
-pub then_stirs : (a b c : Told) (xs ys zs : List Connection) → links_of ys ≡ links_of xs → AllMove a b → AllKeepMade xs ys → Stirs b ys c zs → Stirs a xs c zs
+pub then_stirs : (a b c : Report) (xs ys zs : List Connection) → links_of ys ≡ links_of xs → AllMove a b → AllKeepMade xs ys → Stirs b ys c zs → Stirs a xs c zs
 then_stirs a b c xs ys zs same m k (inl p) = inl (p.0, (rw same at p.1.0, then_transfers a b c p.0.number m p.1.1))
 then_stirs a b c xs ys zs same m k (inr p) = inr (then_one xs ys zs k p)
 
@@ -83,7 +83,7 @@ among_at (x ∷ xs) zero d lt = inl refl
 among_at (x ∷ xs) (suc i) d lt = inr (among_at xs i d (omega arith))
 
 -- one connection was visited
-pub stirs_next : (moved has : Bool) (a b c : Told) (xs items : List Connection) (i : ℕ) (d y : Connection) → i < length items → links_of items ≡ links_of xs → AllMove a b → AllMove b c → AllKeepMade xs items → KeepsMade (get_or items i d) y → (moved ≡ true → Stirs a xs b items)
+pub stirs_next : (moved has : Bool) (a b c : Report) (xs items : List Connection) (i : ℕ) (d y : Connection) → i < length items → links_of items ≡ links_of xs → AllMove a b → AllMove b c → AllKeepMade xs items → KeepsMade (get_or items i d) y → (moved ≡ true → Stirs a xs b items)
     → (has ≡ true → Transfers b c (get_or items i d).link.number ⊎ EndsOrShuts (get_or items i d) y) → (moved || has) ≡ true → Stirs a xs c (set items i y)
 stirs_next moved has a b c xs items i d y lt same j k made here p q e = elim (or_cases moved has e) [
   | inl before ↦ stirs_then a b c xs items (set items i y) (p before) k (all_made_set items i d y here)
@@ -95,7 +95,7 @@ stirs_next moved has a b c xs items i d y lt same j k made here p q e = elim (or
     visit (inr r) = inr (one_set items i d y lt r)
 
 -- the parts after the accepting
-pub parts_stir : (q r s : Bool) (b c d e : Told) (ys zs ws vs : List Connection) → links_of zs ≡ links_of ys → links_of ws ≡ links_of zs → AllMove b c → AllMove c d → AllMove d e → AllKeepMade ys zs → AllKeepMade zs ws → AllKeepMade ws vs → (q ≡ true → Stirs b ys c zs) → (r ≡ true → Stirs c zs d ws) → (s ≡ true → Stirs d ws e vs) → ((q || r) || s) ≡ true → Stirs b ys e vs
+pub parts_stir : (q r s : Bool) (b c d e : Report) (ys zs ws vs : List Connection) → links_of zs ≡ links_of ys → links_of ws ≡ links_of zs → AllMove b c → AllMove c d → AllMove d e → AllKeepMade ys zs → AllKeepMade zs ws → AllKeepMade ws vs → (q ≡ true → Stirs b ys c zs) → (r ≡ true → Stirs c zs d ws) → (s ≡ true → Stirs d ws e vs) → ((q || r) || s) ≡ true → Stirs b ys e vs
 parts_stir q r s b c d e ys zs ws vs one two j k l m n o f g h any = elim (or_cases (q || r) s any) [
   | inl first ↦ stirs_then b d e ys ws vs (elim (or_cases q r first) [
     | inl read ↦ stirs_then b c d ys zs ws (f read) k n
@@ -104,7 +104,7 @@ parts_stir q r s b c d e ys zs ws vs one two j k l m n o f g h any = elim (or_ca
   | inr last ↦ then_stirs b c e ys zs vs one j m (then_stirs c d e zs ws vs two k n (h last))
 ]
 
-moved_parts : (p q r s : Bool) (from to : ℕ) (a b c d e : Told) (held ys zs ws vs now : List Connection) (host : HostState) → (p ≡ true → from < to) → IsQuiet p a held b ys → links_of zs ≡ links_of ys → links_of ws ≡ links_of zs → AllMove b c → AllMove c d → AllMove d e → AllKeepMade ys zs → AllKeepMade zs ws → AllKeepMade ws vs
+moved_parts : (p q r s : Bool) (from to : ℕ) (a b c d e : Report) (held ys zs ws vs now : List Connection) (host : HostState) → (p ≡ true → from < to) → IsQuiet p a held b ys → links_of zs ≡ links_of ys → links_of ws ≡ links_of zs → AllMove b c → AllMove c d → AllMove d e → AllKeepMade ys zs → AllKeepMade zs ws → AllKeepMade ws vs
     → (q ≡ true → Stirs b ys c zs) → (r ≡ true → Stirs c zs d ws) → (s ≡ true → Stirs d ws e vs) → links_of vs ≡ links_of ys → now ≡ filter (λ x. not x.is_shut) vs → (((p || q) || r) || s) ≡ true
     → (from < to) ⊎ (StirsHeld a held e now ⊎ (any_pending host (links_of now) ≡ true))
 moved_parts true q r s from to a b c d e held ys zs ws vs now host accepted quiet one two j k l m n o f g h links left any = inl (accepted refl)
@@ -118,7 +118,7 @@ moved_parts false q r s from to a b c d e held ys zs ws vs now host accepted qui
     }))
 
 -- a turn that moved
-pub moved_turn : (p q r s t : Bool) (from to : ℕ) (a b c d e : Told) (held ys zs ws vs now : List Connection) (host : HostState) → (p ≡ true → from < to) → IsQuiet p a held b ys → links_of zs ≡ links_of ys → links_of ws ≡ links_of zs → AllMove b c → AllMove c d → AllMove d e → AllKeepMade ys zs → AllKeepMade zs ws → AllKeepMade ws vs
+pub moved_turn : (p q r s t : Bool) (from to : ℕ) (a b c d e : Report) (held ys zs ws vs now : List Connection) (host : HostState) → (p ≡ true → from < to) → IsQuiet p a held b ys → links_of zs ≡ links_of ys → links_of ws ≡ links_of zs → AllMove b c → AllMove c d → AllMove d e → AllKeepMade ys zs → AllKeepMade zs ws → AllKeepMade ws vs
     → (q ≡ true → Stirs b ys c zs) → (r ≡ true → Stirs c zs d ws) → (s ≡ true → Stirs d ws e vs) → links_of vs ≡ links_of ys → now ≡ filter (λ x. not x.is_shut) vs → t ≡ any_pending host (links_of now) → ((((p || q) || r) || s) || t) ≡ true
     → (from < to) ⊎ (StirsHeld a held e now ⊎ (any_pending host (links_of now) ≡ true))
 moved_turn p q r s t from to a b c d e held ys zs ws vs now host accepted quiet one two j k l m n o f g h links left pending any = elim (or_cases (((p || q) || r) || s) t any) [

@@ -16,13 +16,13 @@ use Rattle.host_core.specs.Headline.{EndsFrom}
 use Rattle.host_core.proofs.OneSession.{kept, opened_ends}
 use Rattle.socket_loop.specs.declared.connection.Link.{Link}
 use Rattle.socket_loop.specs.declared.connection.Connection.{Connection}
-use Rattle.wires.specs.Told.{Told, KeepsPeer}
+use Rattle.wires.specs.Report.{Report, KeepsPeer}
 use Rattle.socket_loop.specs.Links.{IsTied, IsAmong, IsApart, IsMarked, IsRising, links_of, reads_ended, unshut_of, was_shut}
 use Rattle.socket_loop.specs.Parts.{IsGone, closes, Carried, Carries, ServesLinks, IsInput, IsOutput, IsEnd, KeepsAllMarks, AddsNoMark, Grows}
 use Rattle.wires.specs.Moves.{IsEmptied, AllMove}
 use Rattle.wires.specs.Asked.{Call}
 use Rattle.socket_loop.specs.Calls.{AllAccepted, AsksAll, AsksEach, AsksTurn, Turns, reads_of, writes_of, ends_of}
-use Rattle.socket_loop.specs.Turns.{FitsOne, Fits, Accepted, HasSession, Joins, IsTurnedAway, IsNew, Accepts, HasMoved, IsQuiet, IsTurn, IsLetGo, Served, GoesOnServing, ServesNew}
+use Rattle.socket_loop.specs.Turns.{FitsOne, Fits, Accepted, HasSession, Joins, IsRejected, IsNew, Accepts, HasMoved, IsQuiet, IsTurn, IsRemoved, Served, ContinuesServing, ServesNew}
 use Rattle.socket_loop.specs.Scenes.{Scene}
 use Rattle.wires.proofs.Peers.{kept_then, moves_then, emptied_move, raised_rises, rises_then, stays_rise}
 use Rattle.socket_loop.proofs.Runs.{run-append, next_rises, opened_left, starves-admissions, alone_then}
@@ -31,7 +31,7 @@ use Rattle.socket_loop.proofs.Marks.{marks_none, marks_then, marked_filter, remo
 use Rattle.socket_loop.proofs.Quiet.{either_false}
 use Rattle.socket_loop.proofs.Shutting.{ShutsAll}
 
-away_kept : (f t : ℕ) (x : List Accepted) (a b c : Told) (n : ℕ) → IsTurnedAway f t x a b n → KeepsPeer b c n → IsTurnedAway f t x a c n
+away_kept : (f t : ℕ) (x : List Accepted) (a b c : Report) (n : ℕ) → IsRejected f t x a b n → KeepsPeer b c n → IsRejected f t x a c n
 away_kept f t x a b c n w q = record {
   least = w.least;
   most = w.most;
@@ -45,26 +45,26 @@ away_kept f t x a b c n w q = record {
   failed = rises_then _ _ _ w.failed (stays_rise _ _ q.failed);
 }
 
-each_kept : (f t : ℕ) (x : List Accepted) (a b c : Told) (n : ℕ) → KeepsPeer a b n ⊎ IsTurnedAway f t x a b n → KeepsPeer b c n → KeepsPeer a c n ⊎ IsTurnedAway f t x a c n
+each_kept : (f t : ℕ) (x : List Accepted) (a b c : Report) (n : ℕ) → KeepsPeer a b n ⊎ IsRejected f t x a b n → KeepsPeer b c n → KeepsPeer a c n ⊎ IsRejected f t x a c n
 each_kept f t x a b c n (inl k) q = inl (kept_then a b c n k q)
 each_kept f t x a b c n (inr w) q = inr (away_kept f t x a b c n w q)
 
-met_keeps : (ls : List Link) (f t : ℕ) (x : List Accepted) (g : ℕ) (a b : Told) (h : HostState) (s : List Step) (l : Link) → Fits ls f h → ((n : ℕ) → n < f → KeepsPeer a b n) → IsAmong ls l ⊎ IsNew f t x g a b s l → KeepsPeer a b l.number
+met_keeps : (ls : List Link) (f t : ℕ) (x : List Accepted) (g : ℕ) (a b : Report) (h : HostState) (s : List Step) (l : Link) → Fits ls f h → ((n : ℕ) → n < f → KeepsPeer a b n) → IsAmong ls l ⊎ IsNew f t x g a b s l → KeepsPeer a b l.number
 met_keeps ls f t x g a b h s l fit k (inl old) = k l.number (fit l old).number
 met_keeps ls f t x g a b h s l fit k (inr new) = new.kept
 
 -- a connection that was accepted joins
-met_are : (ls : List Link) (f t : ℕ) (x : List Accepted) (g last : ℕ) (a b : Told) (s : List Step) (l : Link) → l.id.generation < last → closes l.id s ≡ false → IsAmong ls l ⊎ IsNew f t x g a b s l → IsAmong ls l ⊎ Joins f t x g last s l
+met_are : (ls : List Link) (f t : ℕ) (x : List Accepted) (g last : ℕ) (a b : Report) (s : List Step) (l : Link) → l.id.generation < last → closes l.id s ≡ false → IsAmong ls l ⊎ IsNew f t x g a b s l → IsAmong ls l ⊎ Joins f t x g last s l
 met_are ls f t x g last a b s l lt unclosed (inl old) = inl old
 met_are ls f t x g last a b s l lt unclosed (inr new) = inr (record { least = new.least; most = new.most; answered = new.answered; opened = new.opened; unclosed = unclosed; fresh = new.fresh; below = lt })
 
 -- a connection that is held no more was shut, or was marked as shut before
-went : (t : ℕ) (a e : Told) (held last : List Connection) (m : HostState) (l : Link) → KeepsAllMarks t a held e last → (IsMarked was_shut last l.number → IsMarked was_shut held l.number ⊎ IsGone m l.id) → IsAmong (links_of (filter (λ x. not x.is_shut) last)) l ⊎ IsMarked was_shut last l.number
-    → IsAmong (links_of (filter (λ x. not x.is_shut) last)) l ⊎ (IsMarked was_shut held l.number ⊎ IsLetGo t a e m l)
+went : (t : ℕ) (a e : Report) (held last : List Connection) (m : HostState) (l : Link) → KeepsAllMarks t a held e last → (IsMarked was_shut last l.number → IsMarked was_shut held l.number ⊎ IsGone m l.id) → IsAmong (links_of (filter (λ x. not x.is_shut) last)) l ⊎ IsMarked was_shut last l.number
+    → IsAmong (links_of (filter (λ x. not x.is_shut) last)) l ⊎ (IsMarked was_shut held l.number ⊎ IsRemoved t a e m l)
 went t a e held last m l marks shutting (inl stays) = inl stays
 went t a e held last m l marks shutting (inr shut) = inr (elim ((marks l.number).shut shut) [
   | inl was ↦ inl was
-  | inr told ↦ elim (shutting shut) [ inl was ↦ inl was | inr closed ↦ inr (record { shut = told; closed = closed }) ]
+  | inr report ↦ elim (shutting shut) [ inl was ↦ inl was | inr closed ↦ inr (record { shut = report; closed = closed }) ]
 ])
 
 -- none of those that are left is marked as shut
@@ -96,26 +96,26 @@ pub not_lost : (host : HostState) (id : SessionId) (lost : List ℕ) {P : Type 0
 not_lost host id lost (inl e) some = e
 not_lost host id lost (inr g) some = some_none (find host.slots id) lost g.0.none some
 
-served : (owes : List ℕ → List ℕ) (marks : List Connection) (bound : ℕ) (a b : Told) (h m : HostState) (steps : List Step) (l : Link) → Carried marks bound a h steps b m l → EndsFrom owes (own l.id steps) (taken l.id steps) (find m.slots l.id) → Served owes a b l.number (find m.slots l.id)
+served : (owes : List ℕ → List ℕ) (marks : List Connection) (bound : ℕ) (a b : Report) (h m : HostState) (steps : List Step) (l : Link) → Carried marks bound a h steps b m l → EndsFrom owes (own l.id steps) (taken l.id steps) (find m.slots l.id) → Served owes a b l.number (find m.slots l.id)
 served owes marks bound a b h m steps l c ends =
     record { read = own l.id steps; lost = c.lost; written = taken l.id steps; consumed = c.consumed; appended = c.appended; ends = ends; whole = λ some. not_lost m l.id c.lost c.whole some }
 
-starts_one : (ls : List Link) (f t : ℕ) (x : List Accepted) (g : ℕ) (marks : List Connection) (a b : Told) (h m : HostState) (first steps : List Step) (l : Link) → IsRun h steps m → Carried marks t a h steps b m l → ((is_opened l.id first ≡ true) → is_opened l.id steps ≡ true) → IsAmong ls l ⊎ Joins f t x g m.slots.next first l → IsAmong ls l ⊎ Served replies a b l.number (find m.slots l.id)
+starts_one : (ls : List Link) (f t : ℕ) (x : List Accepted) (g : ℕ) (marks : List Connection) (a b : Report) (h m : HostState) (first steps : List Step) (l : Link) → IsRun h steps m → Carried marks t a h steps b m l → ((is_opened l.id first ≡ true) → is_opened l.id steps ≡ true) → IsAmong ls l ⊎ Joins f t x g m.slots.next first l → IsAmong ls l ⊎ Served replies a b l.number (find m.slots l.id)
 starts_one ls f t x g marks a b h m first steps l r c up (inl old) = inl old
 starts_one ls f t x g marks a b h m first steps l r c up (inr new) = inr (served replies marks t a b h m steps l c (opened_ends h m l.id steps (up new.opened) r))
 
 -- ---- all parts
 
 -- accept, read, work, write, shut
-turned : (slice : ℕ) (p q r s w : Bool) (held accepted_ read_ written_ last : List Connection) (f t : ℕ) (a b c d e : Told) (h i j k l m : HostState) (worked refused : ℕ) (calls asked_calls last_calls : Option (List Call)) (u v : ℕ) → Fits (links_of held) f h
+turned : (slice : ℕ) (p q r s w : Bool) (held accepted_ read_ written_ last : List Connection) (f t : ℕ) (a b c d e : Report) (h i j k l m : HostState) (worked refused : ℕ) (calls asked_calls last_calls : Option (List Call)) (u v : ℕ) → Fits (links_of held) f h
     → AllAccepted p (links_of held) f a h (links_of accepted_) t b i calls asked_calls → ((n : ℕ) → AddsNoMark held accepted_ n)
     → ServesLinks IsInput written_ t (links_of accepted_) b i c j → KeepsAllMarks t b accepted_ c read_
     → IsRound j slice (pending_ids j) worked refused k
     → ServesLinks IsOutput written_ t (links_of accepted_) c k d l → KeepsAllMarks t c read_ d written_
     → ServesLinks IsEnd written_ t (links_of accepted_) d l e m → KeepsAllMarks t d written_ e last → ((n : ℕ) → IsMarked reads_ended last n → IsMarked reads_ended written_ n)
     → links_of last ≡ links_of accepted_ → ShutsAll held accepted_ last m → IsTurn slice ((((p || q) || r) || s) || w)
-    (record { held = held; bound = f; told = a; asked = calls; failed = u; host = h })
-    (record { held = filter (λ x. not x.is_shut) last; bound = t; told = e; asked = last_calls; failed = v; host = m })
+    (record { held = held; bound = f; report = a; asked = calls; failed = u; host = h })
+    (record { held = filter (λ x. not x.is_shut) last; bound = t; report = e; asked = last_calls; failed = v; host = m })
 turned slice p q r s w held accepted_ read_ written_ last f t a b c d e h i j k l m worked refused calls asked_calls last_calls u v fit some adds reads reads_mark round writes writes_mark shuts shuts_mark stay_ended same shutting =
     let ms : List Link = links_of accepted_ in
     let accepts : Accepts (links_of held) f a h ms t b i = some.accepts in
@@ -190,8 +190,8 @@ turned slice p q r s w held accepted_ read_ written_ last f t a b c d e h i j k 
         let z : l.slots.next ≤ m.slots.next = next_rises l m shuts.steps shuts.carries.chain in
         omega arith
 
-    over_accounted : (x : Accepted) → ((n : ℕ) → IsApart (links_of accepted_) n → KeepsPeer b e n) → HasSession (links_of accepted_) x ⊎ (IsTurnedAway f t some.accepts.accepted a b x.number × IsApart (links_of accepted_) x.number)
-        → HasSession (links_of accepted_) x ⊎ IsTurnedAway f t some.accepts.accepted a e x.number
+    over_accounted : (x : Accepted) → ((n : ℕ) → IsApart (links_of accepted_) n → KeepsPeer b e n) → HasSession (links_of accepted_) x ⊎ (IsRejected f t some.accepts.accepted a b x.number × IsApart (links_of accepted_) x.number)
+        → HasSession (links_of accepted_) x ⊎ IsRejected f t some.accepts.accepted a e x.number
     over_accounted x keep (inl met) = inl met
     over_accounted x keep (inr away) = inr (away_kept f t some.accepts.accepted a b e x.number away.0 (keep x.number away.1))
 
@@ -209,15 +209,15 @@ pub record TurnWith (slice : ℕ) (moved : Bool) (before after : Scene) (admissi
   pub marks_are : turn.marks ≡ marks
   pub accepted_are : turn.accepted ≡ accepted
 
-pub turn_with : (slice : ℕ) (p q r s w : Bool) (held accepted_ read_ written_ last : List Connection) (f t : ℕ) (a b c d e : Told) (h i j k l m : HostState) (worked refused : ℕ) (calls asked_calls last_calls : Option (List Call)) (u v : ℕ) → Fits (links_of held) f h
+pub turn_with : (slice : ℕ) (p q r s w : Bool) (held accepted_ read_ written_ last : List Connection) (f t : ℕ) (a b c d e : Report) (h i j k l m : HostState) (worked refused : ℕ) (calls asked_calls last_calls : Option (List Call)) (u v : ℕ) → Fits (links_of held) f h
     → (x : AllAccepted p (links_of held) f a h (links_of accepted_) t b i calls asked_calls) → ((n : ℕ) → AddsNoMark held accepted_ n)
     → ServesLinks IsInput written_ t (links_of accepted_) b i c j → KeepsAllMarks t b accepted_ c read_
     → IsRound j slice (pending_ids j) worked refused k
     → ServesLinks IsOutput written_ t (links_of accepted_) c k d l → KeepsAllMarks t c read_ d written_
     → ServesLinks IsEnd written_ t (links_of accepted_) d l e m → KeepsAllMarks t d written_ e last → ((n : ℕ) → IsMarked reads_ended last n → IsMarked reads_ended written_ n)
     → links_of last ≡ links_of accepted_ → ShutsAll held accepted_ last m → TurnWith slice ((((p || q) || r) || s) || w)
-    (record { held = held; bound = f; told = a; asked = calls; failed = u; host = h })
-    (record { held = filter (λ x. not x.is_shut) last; bound = t; told = e; asked = last_calls; failed = v; host = m })
+    (record { held = held; bound = f; report = a; asked = calls; failed = u; host = h })
+    (record { held = filter (λ x. not x.is_shut) last; bound = t; report = e; asked = last_calls; failed = v; host = m })
     x.accepts.steps (links_of accepted_) j k written_ x.accepts.accepted
 unfolding turned
 turn_with slice p q r s w held accepted_ read_ written_ last f t a b c d e h i j k l m worked refused calls asked_calls last_calls u v fit some adds reads reads_mark round writes writes_mark shuts shuts_mark stay_ended same shutting =
@@ -248,19 +248,19 @@ asks_turn slice moved before after met read written last i j k l admissions item
   left = left;
 }
 
-goes_on : (slice : ℕ) (moved : Bool) (before after : Scene) → IsTurn slice moved before after → GoesOnServing before after
-goes_on slice moved before after turn = λ l s among found.
-    served (due s) turn.marks after.bound before.told after.told before.host after.host turn.steps l (turn.carried l (turn.stay l among)) (kept before.host after.host l.id turn.steps s found turn.chain).ends
+continues : (slice : ℕ) (moved : Bool) (before after : Scene) → IsTurn slice moved before after → ContinuesServing before after
+continues slice moved before after turn = λ l s among found.
+    served (due s) turn.marks after.bound before.report after.report before.host after.host turn.steps l (turn.carried l (turn.stay l among)) (kept before.host after.host l.id turn.steps s found turn.chain).ends
 
 starts : (slice : ℕ) (moved : Bool) (before after : Scene) → IsTurn slice moved before after → ServesNew before (links_of after.held) after
 starts slice moved before after turn = λ l among. turn.starts l (turn.left l among)
 
 -- all of a turn, by its calls
-pub turns : (slice : ℕ) (moved : Bool) (before after : Scene) → AsksTurn slice moved before after → (moved ≡ true → HasMoved before after) → IsQuiet moved before.told (unshut_of before.held) after.told after.held → Turns slice moved before after
+pub turns : (slice : ℕ) (moved : Bool) (before after : Scene) → AsksTurn slice moved before after → (moved ≡ true → HasMoved before after) → IsQuiet moved before.report (unshut_of before.held) after.report after.held → Turns slice moved before after
 turns slice moved before after asked moves quiet =
-    record { asked = asked; moves = moves; quiet = quiet; goes_on = goes_on slice moved before after asked.turn; starts = starts slice moved before after asked.turn }
+    record { asked = asked; moves = moves; quiet = quiet; continues = continues slice moved before after asked.turn; starts = starts slice moved before after asked.turn }
 
--- ---- what is let go
+-- ---- what is removed
 
 tied_filter : (p : Connection → Bool) (held : List Connection) (l : Link) → IsTied (links_of held) l → IsTied (links_of (filter p held)) l
 tied_filter p [] l t = t
@@ -275,8 +275,8 @@ fits_left p held t h i rises fit = λ l m.
     let below : l.id.generation < h.slots.next = one.opened in
     record { tied = tied_filter p held l one.tied; number = one.number; opened = omega arith }
 
-pub turn_fits : (held met last : List Connection) (f t : ℕ) (a b : Told) (h i m : HostState) → Fits (links_of held) f h → Accepts (links_of held) f a h (links_of met) t b i → i.slots.next ≤ m.slots.next → links_of last ≡ links_of met → Fits (links_of (filter (λ x. not x.is_shut) last)) t m
+pub turn_fits : (held met last : List Connection) (f t : ℕ) (a b : Report) (h i m : HostState) → Fits (links_of held) f h → Accepts (links_of held) f a h (links_of met) t b i → i.slots.next ≤ m.slots.next → links_of last ≡ links_of met → Fits (links_of (filter (λ x. not x.is_shut) last)) t m
 turn_fits held met last f t a b h i m fit accepts rises same = fits_left (λ x. not x.is_shut) last t i m rises (rw same (accepts.fits fit))
 
-pub serves_rises : (kind : Event → Type 0) (marks : List Connection) (bound : ℕ) (ls : List Link) (a b : Told) (h i : HostState) → ServesLinks kind marks bound ls a h b i → h.slots.next ≤ i.slots.next
+pub serves_rises : (kind : Event → Type 0) (marks : List Connection) (bound : ℕ) (ls : List Link) (a b : Report) (h i : HostState) → ServesLinks kind marks bound ls a h b i → h.slots.next ≤ i.slots.next
 serves_rises kind marks bound ls a b h i s = next_rises h i s.steps s.carries.chain

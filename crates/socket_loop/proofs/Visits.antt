@@ -24,7 +24,7 @@ use Rattle.socket_loop.specs.declared.connection.Link.{Link}
 use Rattle.socket_loop.specs.declared.connection.Connection.{Connection}
 use Rattle.wires.specs.declared.wire.Got.TheVariants.{Bytes}
 use Rattle.wires.specs.declared.wire.WireFault.{WireFault}
-use Rattle.wires.specs.Told.{Told, KeepsPeer, Stays, IsRaised, Reads, Writes, Shuts}
+use Rattle.wires.specs.Report.{Report, KeepsPeer, Stays, IsRaised, Reads, Writes, Shuts}
 use Rattle.socket_loop.specs.Links.{Ties, IsMarked, reads_ended}
 use Rattle.socket_loop.specs.Parts.{IsGone, IsClosing, AreAll, IsInput, IsOutput, IsEnd, closes, starves, Cause, Carried, ServesLinks, is_finished_with}
 use Rattle.wires.specs.Moves.{GaveBytes}
@@ -62,26 +62,26 @@ closes_this h id e = or_left (is_same_id h.id id) false (this_id h.id id e)
 closes_other : (h : Link) (id : SessionId) → (h.id ≡ id → ⊥) → (is_same_id h.id id || false) ≡ false
 closes_other h id f = ap (λ (b : Bool). b || false) (other_id h.id id f)
 
-gave_others : (a b : Told) (h : Link) (bytes : List ℕ) (x : ℕ) → GaveBytes a b h.number bytes → h.number ≢ x → KeepsPeer a b x
+gave_others : (a b : Report) (h : Link) (bytes : List ℕ) (x : ℕ) → GaveBytes a b h.number bytes → h.number ≢ x → KeepsPeer a b x
 gave_others a b h bytes x g apart = g.others x (λ e. apart (sym e))
 
 -- ---- reads
 
-pub gave : (a b : Told) (number n : ℕ) (buf : List ℕ) → Reads a b number (Ok (Bytes n)) buf → GaveBytes a b number (take n buf)
+pub gave : (a b : Report) (number n : ℕ) (buf : List ℕ) → Reads a b number (Ok (Bytes n)) buf → GaveBytes a b number (take n buf)
 gave a b number n buf r = record { consumed = r.consumed; written = r.written; shut = r.shut; failed = stays_rise _ _ r.failed; others = r.others }
 
 -- a read that failed gave nothing
-pub read_fault : (a b : Told) (number : ℕ) (e : WireFault) (buf : List ℕ) → Reads a b number (Err e) buf → GaveBytes a b number []
+pub read_fault : (a b : Report) (number : ℕ) (e : WireFault) (buf : List ℕ) → Reads a b number (Err e) buf → GaveBytes a b number []
 read_fault a b number e buf r = record { consumed = r.consumed; written = r.written; shut = r.shut; failed = raised_rise _ _ r.failed; others = r.others }
 
 -- a write that failed took nothing
-pub write_fault : (a b : Told) (number : ℕ) (e : WireFault) (buf : List ℕ) → Writes a b number (Err e) buf → GaveBytes a b number []
+pub write_fault : (a b : Report) (number : ℕ) (e : WireFault) (buf : List ℕ) → Writes a b number (Err e) buf → GaveBytes a b number []
 write_fault a b number e buf w = record { consumed = Consumes-none _ _ w.unread; written = Keeps-nothing _ _ w.appended; shut = w.shut; failed = raised_rise _ _ w.failed; others = w.others }
 
-pub gave_nothing : (a : Told) (number : ℕ) → GaveBytes a a number []
+pub gave_nothing : (a : Report) (number : ℕ) → GaveBytes a a number []
 gave_nothing a number = record { consumed = Consumes-nil _; written = Keeps-refl _; shut = stays-refl _; failed = rises-refl _; others = λ x apart. kept_same a x }
 
-carried_fed : (m : List Connection) (bound : ℕ) (h : Link) (a b : Told) (before after : HostState) (chunk : List ℕ) (l : Link) → Ties h l → GaveBytes a b h.number chunk → Stays (a.has_failed h.number) (b.has_failed h.number) → Carried m bound a before (record { event = Feed h.id chunk; outcome = Done } ∷ []) b after l
+carried_fed : (m : List Connection) (bound : ℕ) (h : Link) (a b : Report) (before after : HostState) (chunk : List ℕ) (l : Link) → Ties h l → GaveBytes a b h.number chunk → Stays (a.has_failed h.number) (b.has_failed h.number) → Carried m bound a before (record { event = Feed h.id chunk; outcome = Done } ∷ []) b after l
 carried_fed m bound h a b before after chunk l t g none =
     elim (cases_eq h.number l.number) [
       | inl same ↦
@@ -104,7 +104,7 @@ carried_fed m bound h a b before after chunk l t g none =
     ]
 
 -- what was read was stored
-pub serves_fed : (m : List Connection) (bound : ℕ) (h : Link) (a b : Told) (before after : HostState) (chunk : List ℕ) (o : Outcome) → is_done o ≡ true → GaveBytes a b h.number chunk → Stays (a.has_failed h.number) (b.has_failed h.number) → IsStep before (record { event = Feed h.id chunk; outcome = o }) after → ServesLinks IsInput m bound (h ∷ []) a before b after
+pub serves_fed : (m : List Connection) (bound : ℕ) (h : Link) (a b : Report) (before after : HostState) (chunk : List ℕ) (o : Outcome) → is_done o ≡ true → GaveBytes a b h.number chunk → Stays (a.has_failed h.number) (b.has_failed h.number) → IsStep before (record { event = Feed h.id chunk; outcome = o }) after → ServesLinks IsInput m bound (h ∷ []) a before b after
 serves_fed m bound h a b before after chunk Done e g none s = record {
   steps = record { event = Feed h.id chunk; outcome = Done } ∷ [];
   kinds = (tt, tt);
@@ -134,7 +134,7 @@ record Closing (id : SessionId) (steps : List Step) : Type 0 where
   pub no_other : (other : SessionId) → (id ≡ other → ⊥) → closes other steps ≡ false
   pub no_hunger : (other : SessionId) → (id ≡ other → ⊥) → starves other steps ≡ false
 
-shut_ends : (m : List Connection) (bound : ℕ) (h : Link) (a b c : Told) (before after : HostState) (steps : List Step) (chunk : List ℕ) (l : Link) → Ties h l → GaveBytes a b h.number chunk → Shuts bound b c h.number → Closing h.id steps → (chunk ≡ []) ⊎ (IsGone after h.id × (starves h.id steps ≡ true)) → (starves h.id steps ≡ true → chunk ≢ []) → Cause m a before steps c after h → Carried m bound a before steps c after l
+shut_ends : (m : List Connection) (bound : ℕ) (h : Link) (a b c : Report) (before after : HostState) (steps : List Step) (chunk : List ℕ) (l : Link) → Ties h l → GaveBytes a b h.number chunk → Shuts bound b c h.number → Closing h.id steps → (chunk ≡ []) ⊎ (IsGone after h.id × (starves h.id steps ≡ true)) → (starves h.id steps ≡ true → chunk ≢ []) → Cause m a before steps c after h → Carried m bound a before steps c after l
 shut_ends m bound h a b c before after steps chunk l t g s closing whole fed why =
     elim (cases_eq h.number l.number) [
       | inl same ↦
@@ -157,7 +157,7 @@ shut_ends m bound h a b c before after steps chunk l t g s closing whole fed why
           carried_nothing m bound a c before after steps l (closing.no_own l.id) (closing.no_taken l.id) (closing.no_other l.id (λ e. apart (t.by_id e))) (closing.no_hunger l.id (λ e. apart (t.by_id e))) kept
     ]
 
-serves_closing : (kind : Event → Type 0) (m : List Connection) (bound : ℕ) (h : Link) (a b c : Told) (before after : HostState) (steps : List Step) (chunk : List ℕ) → AreAll kind steps → IsRun before steps after → GaveBytes a b h.number chunk → Shuts bound b c h.number → Closing h.id steps → (chunk ≡ []) ⊎ (IsGone after h.id × (starves h.id steps ≡ true)) → (starves h.id steps ≡ true → chunk ≢ []) → Cause m a before steps c after h → ServesLinks kind m bound (h ∷ []) a before c after
+serves_closing : (kind : Event → Type 0) (m : List Connection) (bound : ℕ) (h : Link) (a b c : Report) (before after : HostState) (steps : List Step) (chunk : List ℕ) → AreAll kind steps → IsRun before steps after → GaveBytes a b h.number chunk → Shuts bound b c h.number → Closing h.id steps → (chunk ≡ []) ⊎ (IsGone after h.id × (starves h.id steps ≡ true)) → (starves h.id steps ≡ true → chunk ≢ []) → Cause m a before steps c after h → ServesLinks kind m bound (h ∷ []) a before c after
 serves_closing kind m bound h a b c before after steps chunk kinds chain g s closing whole fed why = record {
   steps = steps;
   kinds = kinds;
@@ -173,16 +173,16 @@ serves_closing kind m bound h a b c before after steps chunk kinds chain g s clo
 closing_alone : (h : Link) (o : Outcome) → Closing h.id (record { event = Close h.id; outcome = o } ∷ [])
 closing_alone h o = record { no_own = λ x. refl; no_taken = λ x. refl; this = λ x e. closes_this h x e; no_other = λ x f. closes_other h x f; no_hunger = λ x f. refl }
 
-failed_through : (a b c : Told) (bound : ℕ) (number : ℕ) → IsRaised (a.has_failed number) (b.has_failed number) → Shuts bound b c number → IsRaised (a.has_failed number) (c.has_failed number)
+failed_through : (a b c : Report) (bound : ℕ) (number : ℕ) → IsRaised (a.has_failed number) (b.has_failed number) → Shuts bound b c number → IsRaised (a.has_failed number) (c.has_failed number)
 failed_through a b c bound number e s = raised_rises _ _ _ e (stays_rise _ _ s.failed)
 
 -- a read or a write failed, and the connection was shut
-pub serves_fault : (kind : Event → Type 0) (m : List Connection) (bound : ℕ) (h : Link) (a b c : Told) (before after : HostState) → kind (Close h.id) → GaveBytes a b h.number [] → IsRaised (a.has_failed h.number) (b.has_failed h.number) → Shuts bound b c h.number → IsClosing before h.id after → ServesLinks kind m bound (h ∷ []) a before c after
+pub serves_fault : (kind : Event → Type 0) (m : List Connection) (bound : ℕ) (h : Link) (a b c : Report) (before after : HostState) → kind (Close h.id) → GaveBytes a b h.number [] → IsRaised (a.has_failed h.number) (b.has_failed h.number) → Shuts bound b c h.number → IsClosing before h.id after → ServesLinks kind m bound (h ∷ []) a before c after
 serves_fault kind m bound h a b c before after can g e s close =
     serves_closing kind m bound h a b c before after (record { event = Close h.id; outcome = close.outcome } ∷ []) [] (can, tt) (run-one before after _ close.step) g s (closing_alone h close.outcome) (inl refl) (λ e. absurd (cc)) (inl (failed_through a b c bound h.number e s))
 
 -- it was finished with, and the connection was shut
-pub serves_finished : (m : List Connection) (bound : ℕ) (h : Link) (a c : Told) (before after : HostState) (has_ended : Bool) → (has_ended ≡ true → IsMarked reads_ended m h.number) → is_finished_with has_ended (find before.slots h.id) ≡ true → Shuts bound a c h.number → IsClosing before h.id after → ServesLinks IsEnd m bound (h ∷ []) a before c after
+pub serves_finished : (m : List Connection) (bound : ℕ) (h : Link) (a c : Report) (before after : HostState) (has_ended : Bool) → (has_ended ≡ true → IsMarked reads_ended m h.number) → is_finished_with has_ended (find before.slots h.id) ≡ true → Shuts bound a c h.number → IsClosing before h.id after → ServesLinks IsEnd m bound (h ∷ []) a before c after
 serves_finished m bound h a c before after has_ended marked finished s close =
     serves_closing IsEnd m bound h a a c before after (record { event = Close h.id; outcome = close.outcome } ∷ []) [] (tt, tt) (run-one before after _ close.step) (gave_nothing a h.number) s (closing_alone h close.outcome) (inl refl) (λ e. absurd (cc))
     (inr (inr (record { earlier = []; outcome = close.outcome; later = []; steps_are = refl; moment = before; run = run-start before; onward = run-one before after _ close.step; first = refl; has_ended = has_ended; marked = marked; finished = finished })))
@@ -200,7 +200,7 @@ refused_for_memory before after id chunk (Refused OutOfMemory) (Some t) e w few 
 refused_for_memory before after id chunk (Refused NotReady) (Some t) e w few p d = absurd (p.went.0 (w, few))
 
 -- what was read was refused for memory, and the connection was shut
-pub serves_starved : (m : List Connection) (bound : ℕ) (h : Link) (a b c : Told) (before mid after : HostState) (chunk : List ℕ) (o : Outcome) → wants_input_of (find before.slots h.id) ≡ true → length chunk ≤ CHUNK_MAX → 1 ≤ length chunk → is_done o ≡ false → GaveBytes a b h.number chunk → Shuts bound b c h.number → IsStep before (record { event = Feed h.id chunk; outcome = o }) mid → IsClosing mid h.id after → IsGone after h.id → ServesLinks IsInput m bound (h ∷ []) a before c after
+pub serves_starved : (m : List Connection) (bound : ℕ) (h : Link) (a b c : Report) (before mid after : HostState) (chunk : List ℕ) (o : Outcome) → wants_input_of (find before.slots h.id) ≡ true → length chunk ≤ CHUNK_MAX → 1 ≤ length chunk → is_done o ≡ false → GaveBytes a b h.number chunk → Shuts bound b c h.number → IsStep before (record { event = Feed h.id chunk; outcome = o }) mid → IsClosing mid h.id after → IsGone after h.id → ServesLinks IsInput m bound (h ∷ []) a before c after
 serves_starved m bound h a b c before mid after chunk o wants few some d g s step close out =
     let is : o ≡ Refused OutOfMemory = refused_for_memory before mid h.id chunk o (find before.slots h.id) refl wants few step.stepped.0 d in
     starved (rw is at step)
@@ -243,7 +243,7 @@ is_open (Some t) bytes p = refl
 pub has_session : (host : HostState) (id : SessionId) (bytes : Bor (List ℕ)) → IsQueue (find host.slots id) (Some bytes) → IsSome (find host.slots id)
 has_session host id bytes p = is_open (find host.slots id) bytes p
 
-carried_passed : (m : List Connection) (bound : ℕ) (h : Link) (a b : Told) (before after : HostState) (n : ℕ) (bytes : List ℕ) (l : Link) → Ties h l → Writes a b h.number (Ok n) bytes → Carried m bound a before (record { event = Take h.id n; outcome = Gave (take n bytes) } ∷ []) b after l
+carried_passed : (m : List Connection) (bound : ℕ) (h : Link) (a b : Report) (before after : HostState) (n : ℕ) (bytes : List ℕ) (l : Link) → Ties h l → Writes a b h.number (Ok n) bytes → Carried m bound a before (record { event = Take h.id n; outcome = Gave (take n bytes) } ∷ []) b after l
 carried_passed m bound h a b before after n bytes l t w =
     elim (cases_eq h.number l.number) [
       | inl same ↦
@@ -275,7 +275,7 @@ passed_done before after id n bytes (Err OutOfMemory) (Some t) e some q few p no
 passed_done before after id n bytes (Err NotReady) (Some t) e some q few p none = (let l : length t.queued ≡ length bytes = ap length q in let m : length t.queued < n = p.went.0 in absurd (omega arith))
 
 -- what was written was passed
-pub serves_passed : {U : Type 0} (m : List Connection) (bound : ℕ) (h : Link) (a b : Told) (before after : HostState) (n : ℕ) (bytes : Bor (List ℕ)) (r : Result U HostFault) → IsQueue (find before.slots h.id) (Some bytes) → n ≤ length bytes.now → Writes a b h.number (Ok n) bytes.now → IsBelow before.slots
+pub serves_passed : {U : Type 0} (m : List Connection) (bound : ℕ) (h : Link) (a b : Report) (before after : HostState) (n : ℕ) (bytes : Bor (List ℕ)) (r : Result U HostFault) → IsQueue (find before.slots h.id) (Some bytes) → n ≤ length bytes.now → Writes a b h.number (Ok n) bytes.now → IsBelow before.slots
     → Stepped before (Take h.id n) (passed_of (take n (queued_of (find before.slots h.id))) r) after → (IsErrOf r OutOfMemory → ⊥) → ServesLinks IsOutput m bound (h ∷ []) a before b after
 serves_passed m bound h a b before after n bytes r queue few w below p none =
     let is : passed_of (take n (queued_of (find before.slots h.id))) r ≡ Gave (take n bytes.now) = passed_done before after h.id n bytes.now r (find before.slots h.id) refl (has_session before h.id bytes queue) (has_queue before h.id bytes queue) few p.0 none in

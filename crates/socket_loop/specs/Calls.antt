@@ -7,7 +7,7 @@ use Rattle.host_core.specs.Steps.{HostState}
 use Rattle.host_core.specs.ById.{wants_input_of, queued_of}
 use Rattle.host_core.specs.Events.{Event, Outcome, Opened, Refused, Open, Feed, Work, Take, Close}
 use Rattle.host_core.specs.Made.{Step}
-use Rattle.wires.specs.Told.{Told}
+use Rattle.wires.specs.Report.{Report}
 use Rattle.host_core.specs.Runs.{IsRun}
 use Rattle.wires.specs.declared.wire.WireFault.{WireFault}
 use Rattle.socket_loop.specs.declared.connection.Link.{Link}
@@ -18,7 +18,7 @@ use Rattle.wires.specs.Asked.{Call, Accept, Read, Write, Shut, Asks, IsCalled}
 use Rattle.socket_loop.specs.Links.{links_of, unshut_of, IsApart, IsRising}
 use Rattle.socket_loop.specs.Scenes.{Scene}
 use Rattle.socket_loop.specs.Parts.{AreAll, Grows, HoldsMore, IsInput, IsOutput, IsEnd, is_finished}
-use Rattle.socket_loop.specs.Turns.{host_full, Accepted, Accepts, Admits, Fits, GoesOnServing, HasMoved, HasSession, IsOpening, IsQuiet, IsTurn, KeepsMade, ServesNew}
+use Rattle.socket_loop.specs.Turns.{host_full, Accepted, Accepts, Admits, Fits, ContinuesServing, HasMoved, HasSession, IsOpening, IsQuiet, IsTurn, KeepsMade, ServesNew}
 
 -- ---- one connection
 
@@ -112,7 +112,7 @@ AsksEach due kind before xs ys old new after =
 
 -- ---- new connections
 
--- the calls after a connection was accepted, by how the host answered its `Open`, where these are met then: none where it has its session, and else a shut, or, where the host is full, one write that tells so, and a shut
+-- the calls after a connection was accepted, by how the host answered its `Open`, where these are met then: none where it has its session, and else a shut, or, where the host is full, one write that says so, and a shut
 abbrev pub IsAdmittedAs : List Link → Accepted → Outcome → List Call → Type 0
 IsAdmittedAs met item (Opened id) calls =
     (HasSession met item × (calls ≡ []))
@@ -147,11 +147,11 @@ pub record AsksAdmission (met : List Link) (number : ℕ) (outcome : Outcome)
   pub asked : Asks old new calls
 
 -- a connection was admitted, with its calls
-pub record OneAdmitted (links : List Link) (told : Told) (before : HostState) (number to : ℕ)
-    (met : List Link) (new : Told) (after : HostState) (old_calls new_calls : Option (List Call))
+pub record OneAdmitted (links : List Link) (report : Report) (before : HostState) (number to : ℕ)
+    (met : List Link) (new : Report) (after : HostState) (old_calls new_calls : Option (List Call))
     : Type 0 where
   pub outcome : Outcome
-  pub admits : Admits links told before number outcome to met new after
+  pub admits : Admits links report before number outcome to met new after
   pub asked : IsApart links number → AsksAdmission met number outcome old_calls new_calls
 
 -- a new connection whose session was opened before, by an `Open` in any host, was admitted
@@ -159,8 +159,8 @@ abbrev pub AdmitsOpened : Link → Scene → Scene → Type 0
 AdmitsOpened link before after =
     (start : HostState)
     → IsOpening start (Ok link.id) before.host
-    → Admits (links_of before.held) before.told start link.number (Opened link.id) before.bound
-    (links_of after.held) after.told after.host
+    → Admits (links_of before.held) before.report start link.number (Opened link.id) before.bound
+    (links_of after.held) after.report after.host
 
 -- the calls for it, where its number is new
 abbrev pub AsksForOpened : Link → Scene → Scene → Type 0
@@ -177,8 +177,8 @@ pub record HoldsOne (link : Link) (before after : Scene) : Type 0 where
 
 -- a new connection of this number was admitted
 pub record AdmitsOne (number : ℕ) (before after : Scene) : Type 0 where
-  pub admits : OneAdmitted (links_of before.held) before.told before.host number before.bound
-      (links_of after.held) after.told after.host before.asked after.asked
+  pub admits : OneAdmitted (links_of before.held) before.report before.host number before.bound
+      (links_of after.held) after.report after.host before.asked after.asked
   pub more : HoldsMore before.held before.failed after.held after.failed
   pub bound : after.bound ≡ before.bound
 
@@ -195,18 +195,18 @@ pub record AsksAll (met : List Link) (items : List Accepted) (old new : Option (
   pub asked : Asks old new (first ++ last)
 
 -- connections were accepted, with all calls
-pub record AllAccepted (moved : Bool) (links : List Link) (from : ℕ) (old : Told)
-    (before : HostState) (met : List Link) (to : ℕ) (new : Told) (after : HostState)
+pub record AllAccepted (moved : Bool) (links : List Link) (from : ℕ) (old : Report)
+    (before : HostState) (met : List Link) (to : ℕ) (new : Report) (after : HostState)
     (old_calls new_calls : Option (List Call)) : Type 0 where
   pub accepts : Accepts links from old before met to new after
   pub none : moved ≡ false → accepts.accepted ≡ []
   pub asked : Fits links from before → AsksAll met accepts.accepted old_calls new_calls
 
--- connections were accepted, if any; where none was, all that is told stays
+-- connections were accepted, if any; where none was, all that is reported stays
 pub record AcceptsAll (moved : Bool) (before after : Scene) : Type 0 where
-  pub accepts : AllAccepted moved (links_of before.held) before.bound before.told before.host
-      (links_of after.held) after.bound after.told after.host before.asked after.asked
-  pub quiet : IsQuiet moved before.told before.held after.told after.held
+  pub accepts : AllAccepted moved (links_of before.held) before.bound before.report before.host
+      (links_of after.held) after.bound after.report after.host before.asked after.asked
+  pub quiet : IsQuiet moved before.report before.held after.report after.held
   pub accepted : moved ≡ true → before.bound < after.bound
   pub more : HoldsMore before.held before.failed after.held after.failed
 
@@ -237,6 +237,6 @@ pub record AsksTurn (slice : ℕ) (moved : Bool) (before after : Scene) : Type 0
 pub record Turns (slice : ℕ) (moved : Bool) (before after : Scene) : Type 0 where
   pub asked : AsksTurn slice moved before after
   pub moves : moved ≡ true → HasMoved before after
-  pub quiet : IsQuiet moved before.told (unshut_of before.held) after.told after.held
-  pub goes_on : GoesOnServing before after
+  pub quiet : IsQuiet moved before.report (unshut_of before.held) after.report after.held
+  pub continues : ContinuesServing before after
   pub starts : ServesNew before (links_of after.held) after

@@ -11,7 +11,7 @@ use Rattle.host_core.specs.Made.{Step, own, taken, is_same_id}
 use Rattle.host_core.specs.Runs.{IsStep, IsRun}
 use Rattle.socket_loop.specs.declared.connection.Link.{Link}
 use Rattle.socket_loop.specs.declared.connection.Connection.{Connection}
-use Rattle.wires.specs.Told.{Told, KeepsPeer, Stays, IsRaised}
+use Rattle.wires.specs.Report.{Report, KeepsPeer, Stays, IsRaised}
 use Rattle.wires.specs.Moves.{AllMove, IsEmptied}
 use Rattle.socket_loop.specs.Links.{IsTied, IsApart, IsStrange, IsHeld, IsMarked, IsRising, links_of, reads_ended, was_shut}
 use Rattle.socket_loop.specs.Scenes.{Scene}
@@ -130,28 +130,28 @@ pub record Finished (marks : List Connection) (before : HostState) (steps : List
   pub finished : is_finished_with has_ended (find moment.slots link.id) ≡ true
 
 -- why a connection is shut: a read or a write of it failed, a `Feed` of its session was refused for memory, or it was finished with
-abbrev pub Cause : List Connection → Told → HostState → List Step → Told → HostState → Link → Type 0
+abbrev pub Cause : List Connection → Report → HostState → List Step → Report → HostState → Link → Type 0
 Cause marks old before steps new after link =
     IsRaised (old.has_failed link.number) (new.has_failed link.number)
     ⊎ ((starves link.id steps ≡ true) ⊎ Finished marks before steps after link)
 
 -- a connection is not shut, and its session is not closed; no call of it failed, and no `Feed` of its session was refused for memory
-pub record IsSpared (old : Told) (steps : List Step) (new : Told) (link : Link) : Type 0 where
+pub record IsSpared (old : Report) (steps : List Step) (new : Report) (link : Link) : Type 0 where
   pub shut : Stays (old.is_shut link.number) (new.is_shut link.number)
   pub closed : closes link.id steps ≡ false
   pub failed : Stays (old.has_failed link.number) (new.has_failed link.number)
   pub fed : starves link.id steps ≡ false
 
 -- a connection is shut and its session is closed, for a cause of its own
-pub record IsShutDown (marks : List Connection) (bound : ℕ) (old : Told) (before : HostState)
-    (steps : List Step) (new : Told) (after : HostState) (link : Link) : Type 0 where
+pub record IsShutDown (marks : List Connection) (bound : ℕ) (old : Report) (before : HostState)
+    (steps : List Step) (new : Report) (after : HostState) (link : Link) : Type 0 where
   pub shut : link.number < bound → IsRaised (old.is_shut link.number) (new.is_shut link.number)
   pub closed : closes link.id steps ≡ true
   pub cause : Cause marks old before steps new after link
 
 -- a connection gave the bytes that were stored for its session and took those that were taken from it; it lost bytes exactly where a `Feed` was refused for memory, and its session is gone then; it is shut only for a cause of its own
-pub record Carried (marks : List Connection) (bound : ℕ) (old : Told) (before : HostState)
-    (steps : List Step) (new : Told) (after : HostState) (link : Link) : Type 0 where
+pub record Carried (marks : List Connection) (bound : ℕ) (old : Report) (before : HostState)
+    (steps : List Step) (new : Report) (after : HostState) (link : Link) : Type 0 where
   pub lost : List ℕ
   pub consumed : Consumes (old.unread link.number) (new.unread link.number)
       (own link.id steps ++ lost)
@@ -163,8 +163,8 @@ pub record Carried (marks : List Connection) (bound : ℕ) (old : Told) (before 
 -- ---- many connections
 
 -- the steps of the host carry the bytes of each of these connections, and of no other
-pub record Carries (marks : List Connection) (bound : ℕ) (links : List Link) (old : Told)
-    (before : HostState) (steps : List Step) (new : Told) (after : HostState) : Type 0 where
+pub record Carries (marks : List Connection) (bound : ℕ) (links : List Link) (old : Report)
+    (before : HostState) (steps : List Step) (new : Report) (after : HostState) : Type 0 where
   pub chain : IsRun before steps after
   pub carried : (link : Link) → IsTied links link
       → Carried marks bound old before steps new after link
@@ -174,7 +174,7 @@ pub record Carries (marks : List Connection) (bound : ℕ) (links : List Link) (
 
 -- some steps of this kind, with these connections
 pub record ServesLinks (kind : Event → Type 0) (marks : List Connection) (bound : ℕ)
-    (links : List Link) (old : Told) (before : HostState) (new : Told) (after : HostState)
+    (links : List Link) (old : Report) (before : HostState) (new : Report) (after : HostState)
     : Type 0 where
   pub steps : List Step
   pub kinds : AreAll kind steps
@@ -183,13 +183,13 @@ pub record ServesLinks (kind : Event → Type 0) (marks : List Connection) (boun
 -- the same of the connections that are held
 abbrev pub Serves : (Event → Type 0) → List Connection → Scene → Scene → Type 0
 Serves kind marks before after =
-    ServesLinks kind marks before.bound (links_of before.held) before.told before.host after.told
+    ServesLinks kind marks before.bound (links_of before.held) before.report before.host after.report
     after.host
 
 -- ---- marks
 
--- where the reads of a connection have ended, they had ended before, or nothing is left; where it was shut, it was shut before, or the wire tells so
-pub record KeepsMarks (bound : ℕ) (old : Told) (held : List Connection) (new : Told)
+-- where the reads of a connection have ended, they had ended before, or nothing is left; where it was shut, it was shut before, or the wire reports so
+pub record KeepsMarks (bound : ℕ) (old : Report) (held : List Connection) (new : Report)
     (now : List Connection) (number : ℕ) : Type 0 where
   pub ended : IsMarked reads_ended now number
       → IsMarked reads_ended held number ⊎ IsEmptied (old.unread number) (new.unread number)
@@ -197,7 +197,7 @@ pub record KeepsMarks (bound : ℕ) (old : Told) (held : List Connection) (new :
       → IsMarked was_shut held number
       ⊎ (number < bound → IsRaised (old.is_shut number) (new.is_shut number))
 
-abbrev pub KeepsAllMarks : ℕ → Told → List Connection → Told → List Connection → Type 0
+abbrev pub KeepsAllMarks : ℕ → Report → List Connection → Report → List Connection → Type 0
 KeepsAllMarks bound old held new now = (number : ℕ) → KeepsMarks bound old held new now number
 
 -- each connection is held as it was, and each further one is unmarked

@@ -3,14 +3,14 @@ use Rattle.std.specs.Prelude.{ℕ, List, Option}
 use Rattle.host_core.specs.Steps.{HostState}
 use Rattle.socket_loop.specs.declared.connection.Connection.{Connection}
 use Rattle.wires.specs.Asked.{Call}
-use Rattle.wires.specs.Told.{Told}
+use Rattle.wires.specs.Report.{Report}
 use Rattle.wires.specs.declared.wire.Wire.{Ghosts}
 
--- some connections, what their wire gave, tells, was asked for and counts, and the host of their sessions
+-- some connections, what their wire gave, reports, was asked for and counts, and the host of their sessions
 pub record Scene : Type 0 where
   pub held : List Connection
   pub bound : ℕ
-  pub told : Told
+  pub report : Report
   pub asked : Option (List Call)
   pub failed : ℕ
   pub host : HostState
@@ -20,7 +20,7 @@ abbrev pub scene : {W : Type 0} → Ghosts W → List Connection → W → HostS
 scene wires held wire host = record {
   held = held;
   bound = wires.bound wire;
-  told = wires.told wire;
+  report = wires.report wire;
   asked = wires.asked wire;
   failed = wires.failed wire;
   host = host;

@@ -16,7 +16,7 @@ use Rattle.host_core.specs.Rounds.{IsRound, works, pending_ids}
 use Rattle.host_core.specs.Headline.{EndsFrom, IsPrefixOf}
 use Rattle.socket_loop.specs.declared.connection.Link.{Link}
 use Rattle.socket_loop.specs.declared.connection.Connection.{Connection}
-use Rattle.wires.specs.Told.{Told, KeepsPeer, KeepsOthers, KeepsAll, IsRaised, OnlyRises}
+use Rattle.wires.specs.Report.{Report, KeepsPeer, KeepsOthers, KeepsAll, IsRaised, OnlyRises}
 use Rattle.socket_loop.specs.Links.{AreOnce, IsTied, IsAmong, IsApart, IsStrange, IsMarked, links_of, reads_ended, unshut_of, was_shut}
 use Rattle.socket_loop.specs.Parts.{AreAll, IsAdmission, IsInput, IsOutput, IsEnd, Carried, IsGone, LeavesAlone, closes, is_finished}
 use Rattle.wires.specs.Moves.{AllMove, IsEmptied, Transfers}
@@ -78,13 +78,13 @@ openings (step ∷ rest) = openings_by step.event step.outcome ++ openings rest
 abbrev pub host_full : List ℕ
 host_full = codes "info string host full\n"
 
--- what a connection is told that got no session: that the host is full, where it is, and nothing for want of memory
-abbrev pub told_to : Outcome → List ℕ
-told_to (Refused Full) = host_full
-told_to _ = []
+-- what is written to a connection that got no session: that the host is full, where it is, and nothing where memory ran out
+abbrev pub rejection_text : Outcome → List ℕ
+rejection_text (Refused Full) = host_full
+rejection_text _ = []
 
 -- a connection was written a prefix of a text, and shut
-pub record IsAway (bound : ℕ) (text : List ℕ) (old new : Told) (number : ℕ) : Type 0 where
+pub record IsAway (bound : ℕ) (text : List ℕ) (old new : Report) (number : ℕ) : Type 0 where
   pub unread : Keeps (old.unread number) (new.unread number)
   pub bytes : List ℕ
   pub prefix : IsPrefixOf bytes text
@@ -94,8 +94,8 @@ pub record IsAway (bound : ℕ) (text : List ℕ) (old new : Told) (number : ℕ
   pub failed : OnlyRises (old.has_failed number) (new.has_failed number)
   pub others : KeepsOthers old new number
 
--- a new connection was turned away: it was written a prefix of what it is told, and shut
-pub record IsTurnedAway (from to : ℕ) (accepted : List Accepted) (old new : Told) (number : ℕ)
+-- a new connection was rejected: it was written a prefix of what it is due, and shut
+pub record IsRejected (from to : ℕ) (accepted : List Accepted) (old new : Report) (number : ℕ)
     : Type 0 where
   pub least : from ≤ number
   pub most : number < to
@@ -103,13 +103,13 @@ pub record IsTurnedAway (from to : ℕ) (accepted : List Accepted) (old new : To
   pub answered : IsOneOf accepted (record { number = number; outcome = outcome })
   pub unread : Keeps (old.unread number) (new.unread number)
   pub bytes : List ℕ
-  pub prefix : IsPrefixOf bytes (told_to outcome)
+  pub prefix : IsPrefixOf bytes (rejection_text outcome)
   pub appended : Appends (old.written number) (new.written number) bytes
   pub shut : IsRaised (old.is_shut number) (new.is_shut number)
   pub failed : OnlyRises (old.has_failed number) (new.has_failed number)
 
 -- a new connection has a session, of this generation or a later one
-pub record IsNew (from to : ℕ) (accepted : List Accepted) (next : ℕ) (old new : Told)
+pub record IsNew (from to : ℕ) (accepted : List Accepted) (next : ℕ) (old new : Report)
     (steps : List Step) (link : Link) : Type 0 where
   pub least : from ≤ link.number
   pub most : link.number < to
@@ -124,9 +124,9 @@ HasSession met new =
     (link : Link)
     × (IsAmong met link × ((link.number ≡ new.number) × (new.outcome ≡ Opened link.id)))
 
--- new connections were accepted: each number keeps what is told of it, or was turned away
-pub record Accepts (links : List Link) (from : ℕ) (old : Told) (before : HostState)
-    (met : List Link) (to : ℕ) (new : Told) (after : HostState) : Type 0 where
+-- new connections were accepted: each number keeps what is reported of it, or was rejected
+pub record Accepts (links : List Link) (from : ℕ) (old : Report) (before : HostState)
+    (met : List Link) (to : ℕ) (new : Report) (after : HostState) : Type 0 where
   pub steps : List Step
   pub kinds : AreAll IsAdmission steps
   pub chain : IsRun before steps after
@@ -137,7 +137,7 @@ pub record Accepts (links : List Link) (from : ℕ) (old : Told) (before : HostS
   pub numbered : AreNumbered from accepted to
   pub answers : openings steps ≡ map (λ new. new.outcome) accepted
   pub kept : (number : ℕ) → number < from → KeepsPeer old new number
-  pub each : (number : ℕ) → KeepsPeer old new number ⊎ IsTurnedAway from to accepted old new number
+  pub each : (number : ℕ) → KeepsPeer old new number ⊎ IsRejected from to accepted old new number
   pub all : AllMove old new
   pub closed_below : (id : SessionId) → closes id steps ≡ true → id.generation < after.slots.next
   pub spared : Fits links from before → (link : Link) → IsAmong met link
@@ -145,7 +145,7 @@ pub record Accepts (links : List Link) (from : ℕ) (old : Told) (before : HostS
   pub spared_old : (id : SessionId) → id.generation < before.slots.next → closes id steps ≡ false
   pub accounted : Fits links from before → (new_one : Accepted) → IsOneOf accepted new_one
       → HasSession met new_one
-      ⊎ (IsTurnedAway from to accepted old new new_one.number × IsApart met new_one.number)
+      ⊎ (IsRejected from to accepted old new new_one.number × IsApart met new_one.number)
   pub stay : (link : Link) → IsAmong links link → IsAmong met link
   pub are : (link : Link) → IsAmong met link
       → IsAmong links link ⊎ IsNew from to accepted before.slots.next old new steps link
@@ -161,23 +161,23 @@ abbrev pub IsOpening : HostState → Result SessionId HostFault → HostState �
 IsOpening old result new = IsStep old (record { event = Open; outcome = opening_of result }) new
 
 -- these connections were accepted
-pub record AcceptsThese (items : List Accepted) (links : List Link) (from : ℕ) (old : Told)
-    (before : HostState) (met : List Link) (to : ℕ) (new : Told) (after : HostState) : Type 0 where
+pub record AcceptsThese (items : List Accepted) (links : List Link) (from : ℕ) (old : Report)
+    (before : HostState) (met : List Link) (to : ℕ) (new : Report) (after : HostState) : Type 0 where
   pub accepts : Accepts links from old before met to new after
   pub items_are : accepts.accepted ≡ items
 
--- of a new connection, from any state of the wire that told the same
-abbrev pub Admits : List Link → Told → HostState → ℕ → Outcome → ℕ → List Link → Told → HostState
+-- of a new connection, from any state of the wire that reported the same
+abbrev pub Admits : List Link → Report → HostState → ℕ → Outcome → ℕ → List Link → Report → HostState
     → Type 0
-Admits links told before number outcome to met new after =
-    (from : ℕ) (old : Told) → KeepsAll old told → from ≤ number → number < to
+Admits links report before number outcome to met new after =
+    (from : ℕ) (old : Report) → KeepsAll old report → from ≤ number → number < to
     → AcceptsThese (record { number = number; outcome = outcome } ∷ []) links from old before met to
     new after
 
 -- ---- a turn
 
 -- what was read from a connection, and written to it: all that its session owes to what was read, but for what it owes still; or, where it is closed, a prefix of it
-pub record Served (owes : List ℕ → List ℕ) (old new : Told) (number : ℕ) (now : Option SessionView)
+pub record Served (owes : List ℕ → List ℕ) (old new : Report) (number : ℕ) (now : Option SessionView)
     : Type 0 where
   pub read : List ℕ
   pub lost : List ℕ
@@ -188,12 +188,12 @@ pub record Served (owes : List ℕ → List ℕ) (old new : Told) (number : ℕ)
   pub whole : IsSome now → lost ≡ []
 
 -- each connection that was held before, with its session open
-abbrev pub GoesOnServing : Scene → Scene → Type 0
-GoesOnServing before after =
+abbrev pub ContinuesServing : Scene → Scene → Type 0
+ContinuesServing before after =
     (link : Link) (s : SessionView)
     → IsAmong (links_of before.held) link
     → find before.host.slots link.id ≡ Some s
-    → Served (due s) before.told after.told link.number (find after.host.slots link.id)
+    → Served (due s) before.report after.report link.number (find after.host.slots link.id)
 
 -- each of these connections that is not one of those before
 abbrev pub ServesNew : Scene → List Link → Scene → Type 0
@@ -201,7 +201,7 @@ ServesNew before met after =
     (link : Link)
     → IsAmong met link
     → IsAmong (links_of before.held) link
-    ⊎ Served replies before.told after.told link.number (find after.host.slots link.id)
+    ⊎ Served replies before.report after.report link.number (find after.host.slots link.id)
 
 -- a connection was accepted in the turn, with a session of this generation or a later one, and below that one, which the admissions opened and left open
 pub record Joins (from to : ℕ) (accepted : List Accepted) (next last : ℕ) (admissions : List Step)
@@ -215,7 +215,7 @@ pub record Joins (from to : ℕ) (accepted : List Accepted) (next last : ℕ) (a
   pub below : link.id.generation < last
 
 -- a connection is shut, and its session is open no more
-pub record IsLetGo (bound : ℕ) (old new : Told) (after : HostState) (link : Link) : Type 0 where
+pub record IsRemoved (bound : ℕ) (old new : Report) (after : HostState) (link : Link) : Type 0 where
   pub shut : link.number < bound → IsRaised (old.is_shut link.number) (new.is_shut link.number)
   pub closed : IsGone after link.id
 
@@ -249,7 +249,7 @@ pub record IsTurn (slice : ℕ) (moved : Bool) (before after : Scene) : Type 0 w
   pub marks : List Connection
   pub marked : (number : ℕ) → IsMarked reads_ended marks number
       → IsMarked reads_ended before.held number
-      ⊎ IsEmptied (before.told.unread number) (after.told.unread number)
+      ⊎ IsEmptied (before.report.unread number) (after.report.unread number)
   pub ended : (number : ℕ) → IsMarked reads_ended after.held number
       → IsMarked reads_ended marks number
   pub unshut : (number : ℕ) → IsMarked was_shut after.held number → ⊥
@@ -263,20 +263,20 @@ pub record IsTurn (slice : ℕ) (moved : Bool) (before after : Scene) : Type 0 w
   pub starts : ServesNew before met after
   pub accounted : (new_one : Accepted) → IsOneOf accepted new_one
       → HasSession met new_one
-      ⊎ IsTurnedAway before.bound after.bound accepted before.told after.told new_one.number
+      ⊎ IsRejected before.bound after.bound accepted before.report after.report new_one.number
   pub left : (link : Link) → IsAmong (links_of after.held) link → IsAmong met link
   pub gone : (link : Link) → IsAmong met link
       → IsAmong (links_of after.held) link
       ⊎ (IsMarked was_shut before.held link.number
-      ⊎ IsLetGo after.bound before.told after.told after.host link)
+      ⊎ IsRemoved after.bound before.report after.report after.host link)
   pub carried : (link : Link) → IsAmong met link
-      → Carried marks after.bound before.told before.host steps after.told after.host link
+      → Carried marks after.bound before.report before.host steps after.report after.host link
   pub others : (number : ℕ) → IsApart met number
-      → KeepsPeer before.told after.told number
-      ⊎ IsTurnedAway before.bound after.bound accepted before.told after.told number
+      → KeepsPeer before.report after.report number
+      ⊎ IsRejected before.bound after.bound accepted before.report after.report number
   pub foreign : (id : SessionId) → id.generation < before.host.slots.next → IsStrange met id
       → LeavesAlone id steps
-  pub all : AllMove before.told after.told
+  pub all : AllMove before.report after.report
 
 -- the connection was shut, or is not finished with
 abbrev pub IsLeft : HostState → Connection → Type 0
@@ -291,8 +291,8 @@ abbrev pub NoneFinished : HostState → List Connection → Type 0
 NoneFinished host [] = ⊤
 NoneFinished host (first ∷ rest) = (is_finished host first ≡ false) × NoneFinished host rest
 
--- where nothing moved, all that is told stays, and the connections are as they were
-abbrev pub IsQuiet : {X : Type 0} → Bool → Told → X → Told → X → Type 0
+-- where nothing moved, all that is reported stays, and the connections are as they were
+abbrev pub IsQuiet : {X : Type 0} → Bool → Report → X → Report → X → Type 0
 IsQuiet moved old held new now = moved ≡ false → KeepsAll old new × (now ≡ held)
 
 -- ---- what moves
@@ -321,13 +321,13 @@ OneEndsOrShuts (x ∷ xs) [] = ⊥
 OneEndsOrShuts (x ∷ xs) (y ∷ ys) = EndsOrShuts x y ⊎ OneEndsOrShuts xs ys
 
 -- one of these connections gave or took at least one byte, or ended, or was shut
-abbrev pub Stirs : Told → List Connection → Told → List Connection → Type 0
+abbrev pub Stirs : Report → List Connection → Report → List Connection → Type 0
 Stirs old held new now =
     ((link : Link) × (IsAmong (links_of held) link × Transfers old new link.number))
     ⊎ OneEndsOrShuts held now
 
 -- one of these connections gave or took at least one byte, or ended, or was shut, where those that were shut are held no more
-pub record StirsHeld (old : Told) (held : List Connection) (new : Told) (now : List Connection)
+pub record StirsHeld (old : Report) (held : List Connection) (new : Report) (now : List Connection)
     : Type 0 where
   pub last : List Connection
   pub links : links_of last ≡ links_of held
@@ -343,5 +343,5 @@ any_pending host (link ∷ rest) = pending_of (find host.slots link.id) || any_p
 abbrev pub HasMoved : Scene → Scene → Type 0
 HasMoved before after =
     (before.bound < after.bound)
-    ⊎ (StirsHeld before.told before.held after.told after.held
+    ⊎ (StirsHeld before.report before.held after.report after.held
     ⊎ (any_pending after.host (links_of after.held) ≡ true))

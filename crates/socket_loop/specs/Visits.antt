@@ -8,7 +8,7 @@ use Rattle.socket_loop.specs.declared.connection.Link.{Link}
 use Rattle.socket_loop.specs.declared.connection.Connection.{Connection}
 use Rattle.wires.specs.Asked.{Call, Asks}
 use Rattle.wires.specs.Moves.{GaveBytes, IsEmptied, Transfers}
-use Rattle.wires.specs.Told.{Told, IsRaised, Stays}
+use Rattle.wires.specs.Report.{Report, IsRaised, Stays}
 use Rattle.wires.specs.declared.wire.Wire.{Ghosts}
 use Rattle.socket_loop.specs.Links.{links_of, reads_ended, AreOnce, IsMarked}
 use Rattle.socket_loop.specs.Scenes.{Scene, scene}
@@ -17,7 +17,7 @@ use Rattle.socket_loop.specs.Turns.{AllKeepMade, AreLeft, EndsOrShuts, IsQuiet, 
 use Rattle.socket_loop.specs.Calls.{AsksTo, Visits, ends_of, reads_of, shuts_of, writes_of}
 
 -- a connection was visited with steps of this kind: it is linked as before, and its marks stay; where it is shut now and
--- was not before, its session is open no more, and the wire tells that it is shut
+-- was not before, its session is open no more, and the wire reports that it is shut
 pub record IsVisited (kind : Event → Type 0) (old new : Connection) (before after : Scene)
     : Type 0 where
   pub steps : Visits kind old.link.id before.host after.host
@@ -28,20 +28,20 @@ pub record IsVisited (kind : Event → Type 0) (old new : Connection) (before af
   pub shut : new.is_shut ≡ true
       → (old.is_shut ≡ true)
       ⊎ (old.link.number < before.bound
-      → IsRaised (before.told.is_shut old.link.number) (after.told.is_shut old.link.number))
+      → IsRaised (before.report.is_shut old.link.number) (after.report.is_shut old.link.number))
   pub bound : after.bound ≡ before.bound
   pub faults : before.failed ≤ after.failed
   pub next : before.host.slots.next ≤ after.host.slots.next
 
 -- it was visited, with the calls that are due; where that moved it gave or took at least one byte, ended or was shut, and
--- else all that is told stays, and it is as it was
+-- else all that is reported stays, and it is as it was
 pub record VisitsOne (due : HostState → Connection → Connection → List Call) (kind : Event → Type 0)
     (moved : Bool) (old new : Connection) (before after : Scene) : Type 0 where
   pub visit : IsVisited kind old new before after
   pub asked : Asks before.asked after.asked (due before.host old new)
-  pub quiet : IsQuiet moved before.told old after.told new
+  pub quiet : IsQuiet moved before.report old after.report new
   pub stirs : moved ≡ true
-      → Transfers before.told after.told old.link.number ⊎ EndsOrShuts old new
+      → Transfers before.report after.report old.link.number ⊎ EndsOrShuts old new
 
 -- from a connection, a host and a wire to these later on, by their scenes
 abbrev pub OverOne : {W : Type 0} → Ghosts W → (Connection → Connection → Scene → Scene → Type 0)
@@ -52,20 +52,20 @@ OverOne wires Relates old before from new after to =
 -- where the connection gave these bytes before, and no call of it failed then, its bytes are carried from there
 abbrev pub ServesGiven : Link → List ℕ → Scene → Scene → Type 0
 ServesGiven link chunk before after =
-    (marks : List Connection) (earlier : Told)
-    → GaveBytes earlier before.told link.number chunk
-    → Stays (earlier.has_failed link.number) (before.told.has_failed link.number)
-    → ServesLinks IsInput marks before.bound (link ∷ []) earlier before.host after.told after.host
+    (marks : List Connection) (earlier : Report)
+    → GaveBytes earlier before.report link.number chunk
+    → Stays (earlier.has_failed link.number) (before.report.has_failed link.number)
+    → ServesLinks IsInput marks before.bound (link ∷ []) earlier before.host after.report after.host
 
 -- a connection was fed these bytes, or shut where memory was refused for them
 pub record FeedsOne (chunk : List ℕ) (old new : Connection) (before after : Scene) : Type 0 where
   pub visit : IsVisited IsInput old new before after
   pub asked : old.is_shut ≡ false → Asks before.asked after.asked (shuts_of old new)
   pub serves : ServesGiven old.link chunk before after
-  pub unread : Keeps (before.told.unread old.link.number) (after.told.unread old.link.number)
+  pub unread : Keeps (before.report.unread old.link.number) (after.report.unread old.link.number)
 
 -- where the reads of a connection have ended, they had ended before, or nothing is left to be read
-abbrev pub EndsEmptied : Connection → Connection → Told → Told → Type 0
+abbrev pub EndsEmptied : Connection → Connection → Report → Report → Type 0
 EndsEmptied old new before after =
     new.has_ended ≡ true
     → (old.has_ended ≡ true)
@@ -91,13 +91,13 @@ pub record EndsOne (moved : Bool) (old new : Connection) (before after : Scene) 
       → Serves IsEnd marks before after
 
 -- the first connections were visited, one after the other, with the calls that are due; where that moved one of them gave
--- or took at least one byte, ended or was shut, and else all that is told stays, and they are as they were
+-- or took at least one byte, ended or was shut, and else all that is reported stays, and they are as they were
 pub record VisitsTo (n : ℕ) (due : HostState → Connection → Connection → List Call)
     (kind : Event → Type 0) (moved : Bool) (before after : Scene) : Type 0 where
   pub asked : AsksTo n due kind before.host before.held after.held before.asked after.asked after.host
-  pub quiet : IsQuiet moved before.told before.held after.told after.held
-  pub stirs : moved ≡ true → Stirs before.told before.held after.told after.held
-  pub marks : KeepsAllMarks before.bound before.told before.held after.told after.held
+  pub quiet : IsQuiet moved before.report before.held after.report after.held
+  pub stirs : moved ≡ true → Stirs before.report before.held after.report after.held
+  pub marks : KeepsAllMarks before.bound before.report before.held after.report after.held
   pub made : AllKeepMade before.held after.held
   pub links : links_of after.held ≡ links_of before.held
   pub bound : after.bound ≡ before.bound

@@ -15,6 +15,6 @@ pub struct Connection {
     pub link: Link,
     /// Its reads have ended.
     pub has_ended: bool,
-    /// It was shut, and is let go at the end of the turn.
+    /// It was shut, and is removed at the end of the turn.
     pub is_shut: bool,
 }

@@ -64,11 +64,11 @@ fn drop_shut<A: Allocator>(held: &mut Vec<Connection, A>)
     held.retain(|connection| !connection.is_shut);
 }
 
-/// Tells a connection that the host is full, in one write, and shuts it.
+/// Writes to a connection, in one write, that the host is full, and shuts it.
 fn reject<W: Wire>(wire: &mut W, number: u64)
     ensures asked { Asks (W.asked wire.old) (W.asked wire.new)
         (Write number host_full ∷ Shut number ∷ []) }
-    ensures away { IsAway (W.bound wire.old) host_full (W.told wire.old) (W.told wire.new) number }
+    ensures away { IsAway (W.bound wire.old) host_full (W.report wire.old) (W.report wire.new) number }
     ensures bound { W.bound wire.new ≡ W.bound wire.old }
     ensures faults { W.failed wire.old ≤ W.failed wire.new }
 {
@@ -88,7 +88,7 @@ impl<A: Allocator + Copy> Loop<A> {
         }
     }
 
-    /// Holds a new connection with its session; where memory is refused, both end.
+    /// Holds a new connection with its session; where allocation fails, both end.
     fn hold<W: Wire, S: BuildHasher>(&mut self, host: &mut Host<S, A>, wire: &mut W, link: Link)
         ensures { Over W.Wire (HoldsOne link)
             self.old host.old wire.old self.new host.new wire.new }
@@ -105,7 +105,7 @@ impl<A: Allocator + Copy> Loop<A> {
         shut_down(link, host, wire);
     }
 
-    /// Opens a session for a new connection. Where the host is full it is told so and shut; where there
+    /// Opens a session for a new connection. Where the host is full it is written so and shut; where there
     /// is no memory for a session it is shut without a word.
     fn admit<W: Wire, S: BuildHasher>(&mut self, host: &mut Host<S, A>, wire: &mut W, number: u64)
         ensures { Over W.Wire (AdmitsOne number)
@@ -196,7 +196,7 @@ impl<A: Allocator + Copy> Loop<A> {
     /// Accepts, reads, works, writes and shuts, in this order. Each connection is accepted from this
     /// wire and each session opened in this host, from the first turn on.
     ///
-    /// Over a wire that tells its bytes: what was written to a connection in the turn is what its
+    /// Over a wire that reports its bytes: what was written to a connection in the turn is what its
     /// session owes to what was read from it, but for what the session owes still; where the
     /// connection was shut it is a prefix of that, and where the host was full a prefix of
     /// `info string host full`. A connection is shut only for a cause of its own: a read or a write of
@@ -207,7 +207,7 @@ impl<A: Allocator + Copy> Loop<A> {
             self.old host.old wire.old self.new host.new wire.new }
         ensures pending { result.moved ≡ false
             → any_pending host.new (links_of self.new.held) ≡ false }
-        ensures known { StaysKnown (W.told wire.old) (W.told wire.new) }
+        ensures known { StaysKnown (W.report wire.old) (W.report wire.new) }
         ensures fits { Fits (links_of self.new.held) (W.bound wire.new) host.new }
         ensures faults { W.failed wire.old ≤ W.failed wire.new }
         ensures once { AreOnce (links_of self.old.held) → AreOnce (links_of self.new.held) }

@@ -5,7 +5,7 @@ ghost use Rattle.host_core.specs.ById.{wants_input_of};
 ghost use Rattle.session_slots.specs.Slots.{find};
 ghost use Rattle.usi_session.specs.declared.limits.TheConstants.{CHUNK_MAX};
 ghost use Rattle.socket_loop.specs.Parts.{IsClosing, IsGone, is_finished};
-ghost use Rattle.wires.specs.Told.{Shuts};
+ghost use Rattle.wires.specs.Report.{Shuts};
 ghost use Rattle.wires.specs.Asked.{Shut, Asks};
 ghost use Rattle.socket_loop.specs.Calls.{is_to_read, is_to_write, is_to_shut};
 ghost use Rattle.socket_loop.specs.Turns.{IsLeft};
@@ -24,7 +24,7 @@ pub fn shut_down<W: Wire, S: BuildHasher, A: Allocator + Copy>(
     host: &mut Host<S, A>,
     wire: &mut W,
 )
-    ensures shuts { Shuts (W.bound wire.old) (W.told wire.old) (W.told wire.new) link.number }
+    ensures shuts { Shuts (W.bound wire.old) (W.report wire.old) (W.report wire.new) link.number }
     ensures asked { Asks (W.asked wire.old) (W.asked wire.new) (Shut link.number ∷ []) }
     ensures closed { IsClosing host.old link.id host.new }
     ensures gone { link.id.generation < host.old.slots.next → IsGone host.new link.id }
@@ -37,7 +37,7 @@ pub fn shut_down<W: Wire, S: BuildHasher, A: Allocator + Copy>(
     let _closed = host.close(link.id);
 }
 
-/// Feeds a session what its connection gave; where memory is refused, both end.
+/// Feeds a session what its connection gave; where allocation fails, both end.
 fn feed_from<W: Wire, S: BuildHasher, A: Allocator + Copy>(
     connection: &mut Connection,
     host: &mut Host<S, A>,
@@ -84,7 +84,7 @@ pub fn read_from<W: Wire, S: BuildHasher, A: Allocator + Copy>(
     ensures reads { OverOne W.Wire (ReadsOne result)
         connection.old host.old wire.old connection.new host.new wire.new }
     ensures still { is_to_read host.old connection.old ≡ false → result ≡ false }
-    ensures ended { EndsEmptied connection.old connection.new (W.told wire.old) (W.told wire.new) }
+    ensures ended { EndsEmptied connection.old connection.new (W.report wire.old) (W.report wire.new) }
 {
     let link = connection.link;
     if !is_to_read(connection, host) {

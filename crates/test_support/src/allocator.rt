@@ -3,7 +3,7 @@
 use crate::requests::Requests;
 use std::alloc::{AllocError, Allocator};
 
-/// Hands each request on to the inner allocator, but for those that it is told to refuse. A `&` to it is an
+/// Hands each request on to the inner allocator, but for those that it has to refuse. A `&` to it is an
 /// allocator too. A block that grows is a new request.
 pub struct FailingAllocator<B: Allocator> {
     inner: B,

@@ -149,7 +149,7 @@ impl Watch {
     }
 }
 
-/// Takes all bytes, and tells the watch how many.
+/// Takes all bytes, and reports to the watch how many.
 #[derive(Drop)]
 pub struct WatchedWriter<'a> {
     watch: &'a Watch,

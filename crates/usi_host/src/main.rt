@@ -48,7 +48,7 @@ fn complain(rt: &HostRuntime, text: &str, status: u8) -> ExitCode {
 }
 
 /// Writes a text that was asked for to standard output.
-fn tell(rt: &HostRuntime, text: &str) -> ExitCode {
+fn print_out(rt: &HostRuntime, text: &str) -> ExitCode {
     match print!(rt; "{text}") {
         Ok(()) => ExitCode::SUCCESS,
         Err(_) => complain(rt, "usi_host: write failed\n", FAULT),
@@ -150,8 +150,8 @@ fn main(rt: HostRuntime) -> ExitCode {
             Ok(()) => ExitCode::SUCCESS,
             Err(fault) => complain(&rt, fault.complaint(), fault.status()),
         },
-        Ok(Job::Help { text }) => tell(&rt, text.as_str()),
-        Ok(Job::Version) => tell(&rt, version_text()),
+        Ok(Job::Help { text }) => print_out(&rt, text.as_str()),
+        Ok(Job::Version) => print_out(&rt, version_text()),
         Err(fault) => complain(&rt, complaint(&fault), status(&fault)),
     }
 }

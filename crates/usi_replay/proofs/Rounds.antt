@@ -107,7 +107,7 @@ run_keeps budget (id ∷ ids) [] old new r = keeps_start old new r
 run_keeps budget (id ∷ ids) (o ∷ os) old new r =
     keeps_chain old r.0 new (work_keeps budget old r.0 id o (find old.slots id) refl r.1.stepped.0) (run_keeps budget ids os r.0 new r.2)
 
--- a round only makes sessions go on
+-- a round only makes sessions continue
 pub round_keeps : (old new : HostState) (budget worked refused : ℕ) (ids : List SessionId) → IsRound old budget ids worked refused new → KeepsDue old new
 round_keeps old new budget worked refused ids r = run_keeps budget ids r.outcomes old new r.run
 

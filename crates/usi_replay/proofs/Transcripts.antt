@@ -88,7 +88,7 @@ member_above h low (o ∷ os) (k ∷ es) (suc i) at t lt e =
     let m : floor_after low k.id ≤ at.generation = member_above h (floor_after low k.id) os es i at t.2 (omega arith) e in
     omega arith
 
--- one `+` line goes on, and no other
+-- one `+` line continues, and no other
 pub transcripts_set : (old new : HostState) (at : SessionId) (low : ℕ) (os : List Opening) (es : List Transcript) (i : ℕ) (o : Opening) (e : Transcript) → KeepsOnly old new at → AreTranscripts old low os es → i < length es → (get_or es i no_transcript).id ≡ Some at → e.id ≡ Some at → IsTranscriptOf new o e → AreTranscripts new low (set os i o) (set es i e)
 unfolding AreTranscripts
 transcripts_set old new at low [] [] i o e k t lt was is of = absurd (omega arith)

@@ -81,7 +81,7 @@ pub record IsPlayback (slots : ℕ) (h : HostState) (os : List Opening)
   pub max_is : h.slots.max ≡ slots
   pub few : h.slots.next ≤ length ts
 
--- it goes on without a further line
+-- it continues without a further line
 abbrev pub KeepsPlayback : Play → Play → Type 0
 KeepsPlayback old new =
     (slots : ℕ) (os : List Opening) → IsPlayback slots old.host os old.transcripts

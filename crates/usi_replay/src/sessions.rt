@@ -11,7 +11,7 @@ use session_slots::SessionId;
 use std::alloc::{AllocError, Allocator};
 use std::hash::BuildHasher;
 
-/// One round: every pending session goes on by at most so many steps.
+/// One round: every pending session continues by at most so many steps.
 pub fn work_round<S: BuildHasher, A: Allocator + Copy>(
     host: &mut Host<S, A>,
     slice: u64,

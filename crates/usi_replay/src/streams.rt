@@ -82,7 +82,7 @@ fn output_of<A: Allocator + Copy>(
 }
 
 /// Replays a script of many sessions over one host of at most `slots` sessions, from 1 to 1,024, that
-/// share a table of `entries` entries, from 1 to 1,000,000. In each round every pending session goes on
+/// share a table of `entries` entries, from 1 to 1,000,000. In each round every pending session continues
 /// by at most `slice` steps of search, at least 1. The lines of a script are those of a USI stream; an
 /// unfinished last line is ignored (own choice, as the whole form of scripts):
 ///

@@ -11,9 +11,9 @@ use Rattle.host_core.specs.Events.{Close, Outcome, Opened, Done, Worked, Gave, R
 use Rattle.host_core.specs.Headline.{EndsFrom, IsPrefixOf, OverFrom}
 use Rattle.socket_loop.specs.declared.connection.Link.{Link}
 use Rattle.wires.specs.declared.wire.WireFault.{WireFault}
-use Rattle.wires.specs.Told.{KeepsPeer}
+use Rattle.wires.specs.Report.{KeepsPeer}
 use Rattle.socket_loop.specs.Links.{Ties, IsAmong, IsApart, IsMarked, links_of, reads_ended, was_shut}
-use Rattle.socket_loop.specs.Turns.{FitsOne, Fits, IsTurn, IsLetGo, IsTurnedAway, Joins, Served, host_full, told_to}
+use Rattle.socket_loop.specs.Turns.{FitsOne, Fits, IsTurn, IsRemoved, IsRejected, Joins, Served, host_full, rejection_text}
 use Rattle.socket_loop.proofs.Accepting.{apart_each, each_apart, fresh_tied, tied_of, ties_apart}
 use Rattle.socket_loop.proofs.Lives.{served_on, served_aside, then_ends, over_then, Keeps-Consumes, prefix_written, all_written, strange_each}
 use Rattle.wires.proofs.Peers.{kept_same, kept_then, all_kept, moves_then, emptied_move, move_emptied, rises_raised, Keeps-Appends, stays_raised, raised_rises, stays_rise}
@@ -52,7 +52,7 @@ find_number (x ∷ xs) n = elim (cases_eq x.number n) [
 
 -- ---- what is answered
 
-answered : (duty : Duty) (a b : Scene) (l : Link) → (s : Served duty.owes a.told b.told l.number (find b.host.slots l.id)) → OverFrom duty.ends s.read (find b.host.slots l.id) → (find b.host.slots l.id ≡ None → HasEnded duty a b l.number s.read s.lost s.written) → IsHeldOrGone a b l → FitsOne (links_of b.held) b.bound b.host l → IsAnswered duty a b l
+answered : (duty : Duty) (a b : Scene) (l : Link) → (s : Served duty.owes a.report b.report l.number (find b.host.slots l.id)) → OverFrom duty.ends s.read (find b.host.slots l.id) → (find b.host.slots l.id ≡ None → HasEnded duty a b l.number s.read s.lost s.written) → IsHeldOrGone a b l → FitsOne (links_of b.held) b.bound b.host l → IsAnswered duty a b l
 answered duty a b l s o e k f = record {
   served = s;
   prefix = prefix_written duty.owes s.read s.written (find b.host.slots l.id) s.ends;
@@ -109,11 +109,11 @@ life_of a b n l same s = subst (λ (x : ℕ). Life a b x) same (inr (inr (l.id, 
 pub lives_start : (s : Scene) → Fits (links_of s.held) s.bound s.host → Lives s s
 lives_start s fit = record {
   rises = omega arith;
-  all = all_kept s.told s.told (kept_same s.told);
+  all = all_kept s.report s.report (kept_same s.report);
   marked = λ n m. inl m;
   unmarked = λ n m. m;
   each = λ n. elim (find_number (links_of s.held) n) [
-    | inl apart ↦ inl (record { kept = kept_same s.told n; unheld = apart })
+    | inl apart ↦ inl (record { kept = kept_same s.report n; unheld = apart })
     | inr there ↦ life_of s s n there.link there.same (life_start_held s there.link there.among (fit there.link there.among))
   ];
   held = λ l among. life_start_held s l among (fit l among);
@@ -125,7 +125,7 @@ prefix_none : (bytes : List ℕ) → IsPrefixOf bytes [] → IsPrefixOf bytes ho
 prefix_none [] f = (host_full, refl)
 prefix_none (x ∷ bytes) f = (let e : x ∷ (bytes ++ f.0) ≡ [] = f.1 in absurd (cc))
 
-prefix_full : (o : Outcome) (bytes : List ℕ) → IsPrefixOf bytes (told_to o) → IsPrefixOf bytes host_full
+prefix_full : (o : Outcome) (bytes : List ℕ) → IsPrefixOf bytes (rejection_text o) → IsPrefixOf bytes host_full
 prefix_full (Refused Full) bytes f = f
 prefix_full (Refused OutOfMemory) bytes f = prefix_none bytes f
 prefix_full (Refused UnknownSession) bytes f = prefix_none bytes f
@@ -181,16 +181,16 @@ strange_met slice moved b c t k l f p among (inr new) e =
     let z : k.id.generation ≡ l.id.generation = ap (λ (x : SessionId). x.generation) e in
     absurd (omega arith)
 
-reads_on : (a b c : Scene) (n : ℕ) → AllMove b.told c.told → ReadsEnded a b n → ReadsEnded a c n
+reads_on : (a b c : Scene) (n : ℕ) → AllMove b.report c.report → ReadsEnded a b n → ReadsEnded a c n
 reads_on a b c n move (inl was) = inl was
-reads_on a b c n move (inr empty) = inr (emptied_move a.told b.told c.told n empty move)
+reads_on a b c n move (inr empty) = inr (emptied_move a.report b.report c.report n empty move)
 
-why_on : (duty : Duty) (a b c : Scene) (n : ℕ) (read written more_read more_written : List ℕ) → AllMove b.told c.told → more_read ≡ [] → more_written ≡ [] → ReadsEnded a b n ⊎ EndsItself duty read written → ReadsEnded a c n ⊎ EndsItself duty (read ++ more_read) (written ++ more_written)
+why_on : (duty : Duty) (a b c : Scene) (n : ℕ) (read written more_read more_written : List ℕ) → AllMove b.report c.report → more_read ≡ [] → more_written ≡ [] → ReadsEnded a b n ⊎ EndsItself duty read written → ReadsEnded a c n ⊎ EndsItself duty (read ++ more_read) (written ++ more_written)
 why_on duty a b c n read written more_read more_written move e f (inl was) = inl (reads_on a b c n move was)
 why_on duty a b c n read written more_read more_written move e f (inr w) = inr (rw (e, f, append-nil read, append-nil written) w)
 
 -- it had ended before
-ended_before : (duty : Duty) (a b c : Scene) (n : ℕ) (read lost written more_read more_lost more_written : List ℕ) → AllMove b.told c.told → more_read ≡ [] → more_written ≡ [] → lost ++ more_lost ≡ [] → HasEnded duty a b n read lost written → HasEnded duty a c n (read ++ more_read) (lost ++ more_lost) (written ++ more_written)
+ended_before : (duty : Duty) (a b c : Scene) (n : ℕ) (read lost written more_read more_lost more_written : List ℕ) → AllMove b.report c.report → more_read ≡ [] → more_written ≡ [] → lost ++ more_lost ≡ [] → HasEnded duty a b n read lost written → HasEnded duty a c n (read ++ more_read) (lost ++ more_lost) (written ++ more_written)
 ended_before duty a b c n read lost written more_read more_lost more_written move e f g (inl failed) = inl (raised_rises _ _ _ failed (move n).failed)
 ended_before duty a b c n read lost written more_read more_lost more_written move e f g (inr (inl some)) = absurd (some (some_lost lost more_lost g))
 ended_before duty a b c n read lost written more_read more_lost more_written move e f g (inr (inr k)) =
@@ -215,17 +215,17 @@ kept_aside slice moved a b c t l p f (inr (inr g)) = inr (inr (record {
   closed = (gone b.host c.host l.id t.steps g.closed f.opened t.chain).none;
 }))
 
-answered_aside : (slice : ℕ) (moved : Bool) (a b c : Scene) (t : IsTurn slice moved b c) (duty : Duty) (l : Link) → IsApart t.met l.number → KeepsPeer b.told c.told l.number → IsAnswered duty a b l → IsAnswered duty a c l
+answered_aside : (slice : ℕ) (moved : Bool) (a b c : Scene) (t : IsTurn slice moved b c) (duty : Duty) (l : Link) → IsApart t.met l.number → KeepsPeer b.report c.report l.number → IsAnswered duty a b l → IsAnswered duty a c l
 answered_aside slice moved a b c t duty l p k x =
     let alone : LeavesAlone l.id t.steps = t.foreign l.id x.fits.opened (strange_each t.met l.id (λ j m. strange_met slice moved b c t j l x.fits p m (t.are j m))) in
     answered duty a c l
-    (served_aside duty.owes a.told b.told c.told b.host c.host l.number l.id t.steps x.fits.opened t.chain x.served alone k)
+    (served_aside duty.owes a.report b.report c.report b.host c.host l.number l.id t.steps x.fits.opened t.chain x.served alone k)
     (over_then duty.ends b.host c.host l.id t.steps x.served.read (find b.host.slots l.id) refl x.fits.opened t.chain x.over)
     (λ none. ended_or duty a c l.number _ _ _ (λ g. ended_aside slice moved a b c t duty l x (find b.host.slots l.id) refl alone g none))
     (kept_aside slice moved a b c t l p x.fits x.kept)
     (fits_kept slice moved b c t l x.fits)
 
-served_apart : (slice : ℕ) (moved : Bool) (a b c : Scene) (t : IsTurn slice moved b c) (l : Link) → IsApart t.met l.number → KeepsPeer b.told c.told l.number → IsServed a b l → IsServed a c l
+served_apart : (slice : ℕ) (moved : Bool) (a b c : Scene) (t : IsTurn slice moved b c) (l : Link) → IsApart t.met l.number → KeepsPeer b.report c.report l.number → IsServed a b l → IsServed a c l
 served_apart slice moved a b c t l p k (inl s) = inl (s.0, answered_aside slice moved a b c t (duty_of (find a.host.slots l.id)) l p k s.1)
 served_apart slice moved a b c t l p k (inr s) = inr (s.0, answered_aside slice moved a b c t new_duty l p k s.1)
 
@@ -233,8 +233,8 @@ served_fits : (a b : Scene) (l : Link) → IsServed a b l → FitsOne (links_of 
 served_fits a b l (inl s) = s.1.fits
 served_fits a b l (inr s) = s.1.fits
 
-life_apart : (slice : ℕ) (moved : Bool) (a b c : Scene) (t : IsTurn slice moved b c) (n : ℕ) → a.bound ≤ b.bound → IsApart t.met n → KeepsPeer b.told c.told n ⊎ IsTurnedAway b.bound c.bound t.accepted b.told c.told n → Life a b n → Life a c n
-life_apart slice moved a b c t n le p (inl k) (inl u) = inl (record { kept = kept_then a.told b.told c.told n u.kept k; unheld = still_apart t.met (links_of c.held) n t.left p })
+life_apart : (slice : ℕ) (moved : Bool) (a b c : Scene) (t : IsTurn slice moved b c) (n : ℕ) → a.bound ≤ b.bound → IsApart t.met n → KeepsPeer b.report c.report n ⊎ IsRejected b.bound c.bound t.accepted b.report c.report n → Life a b n → Life a c n
+life_apart slice moved a b c t n le p (inl k) (inl u) = inl (record { kept = kept_then a.report b.report c.report n u.kept k; unheld = still_apart t.met (links_of c.held) n t.left p })
 life_apart slice moved a b c t n le p (inr w) (inl u) =
     let v : b.bound ≤ n = w.least in
     inr (inl (record {
@@ -276,11 +276,11 @@ life_apart slice moved a b c t n le p (inr away) (inr (inr s)) =
 reads_met : (slice : ℕ) (moved : Bool) (a b c : Scene) (t : IsTurn slice moved b c) (n : ℕ) → Lives a b → IsMarked reads_ended t.marks n → ReadsEnded a c n
 reads_met slice moved a b c t n lives m = elim (t.marked n m) [
   | inl was ↦ reads_on a b c n t.all (lives.marked n was)
-  | inr empty ↦ inr (move_emptied a.told b.told c.told n lives.all empty)
+  | inr empty ↦ inr (move_emptied a.report b.report c.report n lives.all empty)
 ]
 
--- one that was met is held, or was let go
-kept_met : (slice : ℕ) (moved : Bool) (a b c : Scene) (t : IsTurn slice moved b c) (l : Link) → Lives a b → l.number < c.bound → IsAmong (links_of c.held) l ⊎ (IsMarked was_shut b.held l.number ⊎ IsLetGo c.bound b.told c.told c.host l) → IsHeldOrGone a c l
+-- one that was met is held, or was removed
+kept_met : (slice : ℕ) (moved : Bool) (a b c : Scene) (t : IsTurn slice moved b c) (l : Link) → Lives a b → l.number < c.bound → IsAmong (links_of c.held) l ⊎ (IsMarked was_shut b.held l.number ⊎ IsRemoved c.bound b.report c.report c.host l) → IsHeldOrGone a c l
 kept_met slice moved a b c t l lives lt (inl held) = inl held
 kept_met slice moved a b c t l lives lt (inr (inl marked)) = inr (inl (lives.unmarked l.number marked))
 kept_met slice moved a b c t l lives lt (inr (inr g)) = inr (inr (record { shut = rises_raised _ _ _ (lives.all l.number).shut (g.shut lt); closed = g.closed.none }))
@@ -295,7 +295,7 @@ ending_why : (duty : Duty) (slice : ℕ) (moved : Bool) (a b c : Scene) (t : IsT
 ending_why duty slice moved a b c t n has_ended read written lives f (inl e) = inl (reads_met slice moved a b c t n lives (f e))
 ending_why duty slice moved a b c t n has_ended read written lives f (inr w) = inr (record { over = w.over; no_more = w.no_more })
 
-ended_cause : (slice : ℕ) (moved : Bool) (a b c : Scene) (t : IsTurn slice moved b c) (duty : Duty) (l : Link) (x : IsAnswered duty a b l) (s : SessionView) (k : Carried t.marks c.bound b.told b.host t.steps c.told c.host l) → Lives a b → find b.host.slots l.id ≡ Some s → x.served.lost ++ k.lost ≡ [] → Cause t.marks b.told b.host t.steps c.told c.host l
+ended_cause : (slice : ℕ) (moved : Bool) (a b c : Scene) (t : IsTurn slice moved b c) (duty : Duty) (l : Link) (x : IsAnswered duty a b l) (s : SessionView) (k : Carried t.marks c.bound b.report b.host t.steps c.report c.host l) → Lives a b → find b.host.slots l.id ≡ Some s → x.served.lost ++ k.lost ≡ [] → Cause t.marks b.report b.host t.steps c.report c.host l
     → HasEnded duty a c l.number (x.served.read ++ own l.id t.steps) (x.served.lost ++ k.lost) (x.served.written ++ taken l.id t.steps)
 ended_cause slice moved a b c t duty l x s k lives e g (inl failed) = inl (rises_raised _ _ _ (lives.all l.number).failed failed)
 ended_cause slice moved a b c t duty l x s k lives e g (inr (inl starved)) =
@@ -310,13 +310,13 @@ ended_cause slice moved a b c t duty l x s k lives e g (inr (inr f)) =
     let end : Ending duty.owes duty.ends l.id x.served.read x.served.written t.steps f.has_ended = ending duty.owes duty.ends t.marks b.host c.host t.steps l x.served.read x.served.written f there.session there.is left over in
     inr (inr (record { none_lost = g; all = end.all; why = ending_why duty slice moved a b c t l.number f.has_ended (x.served.read ++ own l.id t.steps) (x.served.written ++ taken l.id t.steps) lives f.marked end.why }))
 
-ended_ends : (slice : ℕ) (moved : Bool) (a b c : Scene) (t : IsTurn slice moved b c) (duty : Duty) (l : Link) (x : IsAnswered duty a b l) (s : SessionView) (k : Carried t.marks c.bound b.told b.host t.steps c.told c.host l) → Lives a b → find b.host.slots l.id ≡ Some s → x.served.lost ++ k.lost ≡ [] → find c.host.slots l.id ≡ None → IsSpared b.told t.steps c.told l ⊎ IsShutDown t.marks c.bound b.told b.host t.steps c.told c.host l
+ended_ends : (slice : ℕ) (moved : Bool) (a b c : Scene) (t : IsTurn slice moved b c) (duty : Duty) (l : Link) (x : IsAnswered duty a b l) (s : SessionView) (k : Carried t.marks c.bound b.report b.host t.steps c.report c.host l) → Lives a b → find b.host.slots l.id ≡ Some s → x.served.lost ++ k.lost ≡ [] → find c.host.slots l.id ≡ None → IsSpared b.report t.steps c.report l ⊎ IsShutDown t.marks c.bound b.report b.host t.steps c.report c.host l
     → HasEnded duty a c l.number (x.served.read ++ own l.id t.steps) (x.served.lost ++ k.lost) (x.served.written ++ taken l.id t.steps)
 ended_ends slice moved a b c t duty l x s k lives e g none (inl spared) =
     absurd (not_none (find c.host.slots l.id) (stays_open b.host c.host l.id t.steps t.chain spared.closed (some_of (find b.host.slots l.id) s e)) none)
 ended_ends slice moved a b c t duty l x s k lives e g none (inr d) = ended_cause slice moved a b c t duty l x s k lives e g d.cause
 
-ended_on : (slice : ℕ) (moved : Bool) (a b c : Scene) (t : IsTurn slice moved b c) (duty : Duty) (l : Link) (x : IsAnswered duty a b l) (k : Carried t.marks c.bound b.told b.host t.steps c.told c.host l) (found_ : Option SessionView) → Lives a b → find b.host.slots l.id ≡ found_ → x.served.lost ++ k.lost ≡ [] → find c.host.slots l.id ≡ None
+ended_on : (slice : ℕ) (moved : Bool) (a b c : Scene) (t : IsTurn slice moved b c) (duty : Duty) (l : Link) (x : IsAnswered duty a b l) (k : Carried t.marks c.bound b.report b.host t.steps c.report c.host l) (found_ : Option SessionView) → Lives a b → find b.host.slots l.id ≡ found_ → x.served.lost ++ k.lost ≡ [] → find c.host.slots l.id ≡ None
     → HasEnded duty a c l.number (x.served.read ++ own l.id t.steps) (x.served.lost ++ k.lost) (x.served.written ++ taken l.id t.steps)
 ended_on slice moved a b c t duty l x k None lives e g none =
     let out : IsOut l.id t.steps c.host = gone b.host c.host l.id t.steps e x.fits.opened t.chain in
@@ -325,9 +325,9 @@ ended_on slice moved a b c t duty l x k (Some s) lives e g none = ended_ends sli
 
 answered_on : (slice : ℕ) (moved : Bool) (a b c : Scene) (t : IsTurn slice moved b c) (duty : Duty) (l : Link) → Lives a b → IsAmong t.met l → IsAnswered duty a b l → IsAnswered duty a c l
 answered_on slice moved a b c t duty l lives among x =
-    let k : Carried t.marks c.bound b.told b.host t.steps c.told c.host l = t.carried l among in
+    let k : Carried t.marks c.bound b.report b.host t.steps c.report c.host l = t.carried l among in
     answered duty a c l
-    (served_on duty.owes t.marks c.bound a.told b.told c.told b.host c.host t.steps l x.fits.opened t.chain x.served k)
+    (served_on duty.owes t.marks c.bound a.report b.report c.report b.host c.host t.steps l x.fits.opened t.chain x.served k)
     (over_then duty.ends b.host c.host l.id t.steps x.served.read (find b.host.slots l.id) refl x.fits.opened t.chain x.over)
     (λ none. ended_or duty a c l.number _ _ _ (λ g. ended_on slice moved a b c t duty l x k (find b.host.slots l.id) lives refl g none))
     (kept_met slice moved a b c t l lives (met_below slice moved b c t l x.fits) (t.gone l among))
@@ -361,7 +361,7 @@ opened_earlier slice moved b c t l new f =
     let same : t.admissions ++ (t.inputs ++ rest) ≡ f.earlier ++ (last ∷ f.later) = sym (append_assoc t.admissions t.inputs rest) ∙ (sym t.steps_are ∙ f.steps_are) in
     opened_before l.id t.admissions (t.inputs ++ rest) f.earlier f.later last same new.unclosed (is_same_id-refl l.id) new.opened
 
-new_cause : (slice : ℕ) (moved : Bool) (a b c : Scene) (t : IsTurn slice moved b c) (l : Link) (k : Carried t.marks c.bound b.told b.host t.steps c.told c.host l) → Lives a b → Joins b.bound c.bound t.accepted b.host.slots.next c.host.slots.next t.admissions l → k.lost ≡ [] → Cause t.marks b.told b.host t.steps c.told c.host l
+new_cause : (slice : ℕ) (moved : Bool) (a b c : Scene) (t : IsTurn slice moved b c) (l : Link) (k : Carried t.marks c.bound b.report b.host t.steps c.report c.host l) → Lives a b → Joins b.bound c.bound t.accepted b.host.slots.next c.host.slots.next t.admissions l → k.lost ≡ [] → Cause t.marks b.report b.host t.steps c.report c.host l
     → HasEnded new_duty a c l.number (own l.id t.steps) k.lost (taken l.id t.steps)
 new_cause slice moved a b c t l k lives new g (inl failed) = inl (rises_raised _ _ _ (lives.all l.number).failed failed)
 new_cause slice moved a b c t l k lives new g (inr (inl starved)) = absurd (k.fed starved g)
@@ -373,15 +373,15 @@ new_cause slice moved a b c t l k lives new g (inr (inr f)) =
     let end : Ending replies is_over_after l.id [] [] t.steps f.has_ended = ending replies is_over_after t.marks b.host c.host t.steps l [] [] f there.session there.is left over in
     inr (inr (record { none_lost = g; all = end.all; why = ending_why new_duty slice moved a b c t l.number f.has_ended (own l.id t.steps) (taken l.id t.steps) lives f.marked end.why }))
 
-new_ends : (slice : ℕ) (moved : Bool) (a b c : Scene) (t : IsTurn slice moved b c) (l : Link) (k : Carried t.marks c.bound b.told b.host t.steps c.told c.host l) → Lives a b → Joins b.bound c.bound t.accepted b.host.slots.next c.host.slots.next t.admissions l → k.lost ≡ [] → find c.host.slots l.id ≡ None → IsSpared b.told t.steps c.told l ⊎ IsShutDown t.marks c.bound b.told b.host t.steps c.told c.host l
+new_ends : (slice : ℕ) (moved : Bool) (a b c : Scene) (t : IsTurn slice moved b c) (l : Link) (k : Carried t.marks c.bound b.report b.host t.steps c.report c.host l) → Lives a b → Joins b.bound c.bound t.accepted b.host.slots.next c.host.slots.next t.admissions l → k.lost ≡ [] → find c.host.slots l.id ≡ None → IsSpared b.report t.steps c.report l ⊎ IsShutDown t.marks c.bound b.report b.host t.steps c.report c.host l
     → HasEnded new_duty a c l.number (own l.id t.steps) k.lost (taken l.id t.steps)
 new_ends slice moved a b c t l k lives new g none (inl spared) =
     absurd (not_none (find c.host.slots l.id) (opened_stays b.host c.host l.id t.steps t.chain spared.closed (opened_all slice moved b c t l new)) none)
 new_ends slice moved a b c t l k lives new g none (inr d) = new_cause slice moved a b c t l k lives new g d.cause
 
-new_answered : (slice : ℕ) (moved : Bool) (a b c : Scene) (t : IsTurn slice moved b c) (l : Link) → Lives a b → IsAmong t.met l → Joins b.bound c.bound t.accepted b.host.slots.next c.host.slots.next t.admissions l → KeepsPeer a.told b.told l.number → IsAnswered new_duty a c l
+new_answered : (slice : ℕ) (moved : Bool) (a b c : Scene) (t : IsTurn slice moved b c) (l : Link) → Lives a b → IsAmong t.met l → Joins b.bound c.bound t.accepted b.host.slots.next c.host.slots.next t.admissions l → KeepsPeer a.report b.report l.number → IsAnswered new_duty a c l
 new_answered slice moved a b c t l lives among new kept_ =
-    let k : Carried t.marks c.bound b.told b.host t.steps c.told c.host l = t.carried l among in
+    let k : Carried t.marks c.bound b.report b.host t.steps c.report c.host l = t.carried l among in
     answered new_duty a c l
     (record {
       read = own l.id t.steps;
@@ -421,7 +421,7 @@ lives_turn slice moved a b c lives t =
     let v : b.bound ≤ c.bound = t.rises in
     record {
       rises = omega arith;
-      all = moves_then a.told b.told c.told lives.all t.all;
+      all = moves_then a.report b.report c.report lives.all t.all;
       marked = λ n m. reads_met slice moved a b c t n lives (t.ended n m);
       unmarked = λ n m. absurd (t.unshut n m);
       each = λ n. elim (find_number t.met n) [
@@ -433,7 +433,7 @@ lives_turn slice moved a b c lives t =
 
 -- ---- a wait
 
-ended_wait : (duty : Duty) (a b c : Scene) (n : ℕ) (read lost written : List ℕ) → AllMove b.told c.told → HasEnded duty a b n read lost written → HasEnded duty a c n read lost written
+ended_wait : (duty : Duty) (a b c : Scene) (n : ℕ) (read lost written : List ℕ) → AllMove b.report c.report → HasEnded duty a b n read lost written → HasEnded duty a c n read lost written
 ended_wait duty a b c n read lost written move (inl failed) = inl (raised_rises _ _ _ failed (move n).failed)
 ended_wait duty a b c n read lost written move (inr (inl some)) = inr (inl some)
 ended_wait duty a b c n read lost written move (inr (inr k)) =
@@ -442,12 +442,12 @@ ended_wait duty a b c n read lost written move (inr (inr k)) =
 kept_wait : {moved : Bool} (a b c : Scene) (l : Link) → IsWait moved b c → IsHeldOrGone a b l → IsHeldOrGone a c l
 kept_wait a b c l w (inl held) = inl (rw w.held held)
 kept_wait a b c l w (inr (inl marked)) = inr (inl marked)
-kept_wait a b c l w (inr (inr g)) = inr (inr (record { shut = raised_rises _ _ _ g.shut (stays_rise _ _ (w.told l.number).shut); closed = rw w.host g.closed }))
+kept_wait a b c l w (inr (inr g)) = inr (inr (record { shut = raised_rises _ _ _ g.shut (stays_rise _ _ (w.report l.number).shut); closed = rw w.host g.closed }))
 
 answered_wait : {moved : Bool} (a b c : Scene) (duty : Duty) (l : Link) → IsWait moved b c → IsAnswered duty a b l → IsAnswered duty a c l
 answered_wait a b c duty l w x =
-    let s : Served duty.owes a.told b.told l.number (find b.host.slots l.id) = x.served in
-    let k : KeepsPeer b.told c.told l.number = w.told l.number in
+    let s : Served duty.owes a.report b.report l.number (find b.host.slots l.id) = x.served in
+    let k : KeepsPeer b.report c.report l.number = w.report l.number in
     answered duty a c l
     (record {
       read = s.read;
@@ -459,7 +459,7 @@ answered_wait a b c duty l w x =
       whole = rw w.host s.whole;
     })
     (rw w.host x.over)
-    (λ none. ended_wait duty a b c l.number s.read s.lost s.written (all_kept b.told c.told w.told) (x.ended (rw w.host at none)))
+    (λ none. ended_wait duty a b c l.number s.read s.lost s.written (all_kept b.report c.report w.report) (x.ended (rw w.host at none)))
     (kept_wait a b c l w x.kept)
     (rw (w.held, w.bound, w.host) x.fits)
 
@@ -468,9 +468,9 @@ served_wait a b c l w (inl s) = inl (s.0, answered_wait a b c (duty_of (find a.h
 served_wait a b c l w (inr s) = inr (s.0, answered_wait a b c new_duty l w s.1)
 
 life_wait : {moved : Bool} (a b c : Scene) (n : ℕ) → IsWait moved b c → Life a b n → Life a c n
-life_wait a b c n w (inl u) = inl (record { kept = kept_then a.told b.told c.told n u.kept (w.told n); unheld = rw w.held u.unheld })
+life_wait a b c n w (inl u) = inl (record { kept = kept_then a.report b.report c.report n u.kept (w.report n); unheld = rw w.held u.unheld })
 life_wait a b c n w (inr (inl x)) =
-    let k : KeepsPeer b.told c.told n = w.told n in
+    let k : KeepsPeer b.report c.report n = w.report n in
     inr (inl (record {
       least = x.least;
       most = rw w.bound x.most;
@@ -486,8 +486,8 @@ life_wait a b c n w (inr (inr s)) = inr (inr (s.0, served_wait a b c (record { n
 pub lives_wait : {moved : Bool} (a b c : Scene) → Lives a b → IsWait moved b c → Lives a c
 lives_wait a b c lives w = record {
   rises = rw w.bound lives.rises;
-  all = moves_then a.told b.told c.told lives.all (all_kept b.told c.told w.told);
-  marked = λ n m. reads_on a b c n (all_kept b.told c.told w.told) (lives.marked n (rw w.held at m));
+  all = moves_then a.report b.report c.report lives.all (all_kept b.report c.report w.report);
+  marked = λ n m. reads_on a b c n (all_kept b.report c.report w.report) (lives.marked n (rw w.held at m));
   unmarked = λ n m. lives.unmarked n (rw w.held at m);
   each = λ n. life_wait a b c n w (lives.each n);
   held = λ l among. served_wait a b c l w (lives.held l (rw w.held at among));

@@ -8,7 +8,7 @@ use Rattle.usi_session.specs.Replies.{replies, is_over_after}
 use Rattle.host_core.specs.ById.{queued_of, pending_of}
 use Rattle.host_core.specs.Headline.{IsPrefixOf, IsSettled, OverFrom, is_over_due}
 use Rattle.socket_loop.specs.declared.connection.Link.{Link}
-use Rattle.wires.specs.Told.{KeepsPeer, IsRaised}
+use Rattle.wires.specs.Report.{KeepsPeer, IsRaised}
 use Rattle.socket_loop.specs.Links.{links_of, reads_ended, was_shut, IsAmong, IsApart, IsMarked}
 use Rattle.wires.specs.Moves.{AllMove, IsEmptied}
 use Rattle.socket_loop.specs.Turns.{FitsOne, Served, host_full}
@@ -23,16 +23,16 @@ pub record Duty : Type 0 where
 abbrev pub new_duty : Duty
 new_duty = record { owes = replies; ends = is_over_after }
 
--- of a session that goes on: what it owes; nothing, where none is open
+-- of a session that continues: what it owes; nothing, where none is open
 abbrev pub duty_of : Option SessionView → Duty
 duty_of None = record { owes = λ bytes. []; ends = λ bytes. true }
 duty_of (Some session) = record { owes = due session; ends = is_over_due session }
 
--- the reads of a connection had ended before, or nothing is left to be read from it, where that is told
+-- the reads of a connection had ended before, or nothing is left to be read from it, where that is reported
 abbrev pub ReadsEnded : Scene → Scene → ℕ → Type 0
 ReadsEnded before after number =
     IsMarked reads_ended before.held number
-    ⊎ IsEmptied (before.told.unread number) (after.told.unread number)
+    ⊎ IsEmptied (before.report.unread number) (after.report.unread number)
 
 -- the bytes that were read end the session, by `quit` or a line that is too long, and nothing is owed to whatever else may be read
 pub record EndsItself (duty : Duty) (read written : List ℕ) : Type 0 where
@@ -49,23 +49,23 @@ pub record IsComplete (duty : Duty) (before after : Scene) (number : ℕ) (read 
 -- why a connection was shut: a call of it failed; or bytes were lost that were read, as memory was refused for them; or it was complete
 abbrev pub HasEnded : Duty → Scene → Scene → ℕ → List ℕ → List ℕ → List ℕ → Type 0
 HasEnded duty before after number read lost written =
-    IsRaised (before.told.has_failed number) (after.told.has_failed number)
+    IsRaised (before.report.has_failed number) (after.report.has_failed number)
     ⊎ ((lost ≢ []) ⊎ IsComplete duty before after number read lost written)
 
 -- it was shut, and its session is open no more
-pub record WasLetGo (before after : Scene) (link : Link) : Type 0 where
-  pub shut : IsRaised (before.told.is_shut link.number) (after.told.is_shut link.number)
+pub record WasRemoved (before after : Scene) (link : Link) : Type 0 where
+  pub shut : IsRaised (before.report.is_shut link.number) (after.report.is_shut link.number)
   pub closed : find after.host.slots link.id ≡ None
 
--- it is held, or it was let go; but one that was marked as shut before may be held no more as it is
+-- it is held, or it was removed; but one that was marked as shut before may be held no more as it is
 abbrev pub IsHeldOrGone : Scene → Scene → Link → Type 0
 IsHeldOrGone before after link =
     IsAmong (links_of after.held) link
-    ⊎ (IsMarked was_shut before.held link.number ⊎ WasLetGo before after link)
+    ⊎ (IsMarked was_shut before.held link.number ⊎ WasRemoved before after link)
 
 -- the bytes that were read from a connection and those that were written to it: what was written is a prefix of what is owed to what was read, and all of it where its session is open with nothing pending and nothing queued; its session is over, once all is answered, exactly where these bytes end it; where it is closed, it has ended for a cause of its own
 pub record IsAnswered (duty : Duty) (before after : Scene) (link : Link) : Type 0 where
-  pub served : Served duty.owes before.told after.told link.number (find after.host.slots link.id)
+  pub served : Served duty.owes before.report after.report link.number (find after.host.slots link.id)
   pub prefix : IsPrefixOf served.written (duty.owes served.read)
   pub all : IsSettled (find after.host.slots link.id)
       → queued_of (find after.host.slots link.id) ≡ [] → served.written ≡ duty.owes served.read
@@ -82,33 +82,33 @@ IsServed before after link =
     × IsAnswered (duty_of (find before.host.slots link.id)) before after link)
     ⊎ ((before.bound ≤ link.number) × IsAnswered new_duty before after link)
 
--- it was not held and is not, and all that is told of it stays
+-- it was not held and is not, and all that is reported of it stays
 pub record IsUntouched (before after : Scene) (number : ℕ) : Type 0 where
-  pub kept : KeepsPeer before.told after.told number
+  pub kept : KeepsPeer before.report after.report number
   pub unheld : IsApart (links_of after.held) number
 
--- it was accepted since, and turned away: it was read nothing from, written a prefix of `info string host full`, and shut
-pub record WasTurnedAway (before after : Scene) (number : ℕ) : Type 0 where
+-- it was accepted since, and rejected: it was read nothing from, written a prefix of `info string host full`, and shut
+pub record WasRejected (before after : Scene) (number : ℕ) : Type 0 where
   pub least : before.bound ≤ number
   pub most : number < after.bound
-  pub unread : Keeps (before.told.unread number) (after.told.unread number)
+  pub unread : Keeps (before.report.unread number) (after.report.unread number)
   pub bytes : List ℕ
   pub prefix : IsPrefixOf bytes host_full
-  pub appended : Appends (before.told.written number) (after.told.written number) bytes
-  pub shut : IsRaised (before.told.is_shut number) (after.told.is_shut number)
+  pub appended : Appends (before.report.written number) (after.report.written number) bytes
+  pub shut : IsRaised (before.report.is_shut number) (after.report.is_shut number)
   pub unheld : IsApart (links_of after.held) number
 
--- what became of the connection of a number from one scene to a later one: nothing; or it was turned away; or it was served, with one session
+-- what became of the connection of a number from one scene to a later one: nothing; or it was rejected; or it was served, with one session
 abbrev pub Life : Scene → Scene → ℕ → Type 0
 Life before after number =
     IsUntouched before after number
-    ⊎ (WasTurnedAway before after number
+    ⊎ (WasRejected before after number
     ⊎ ((id : SessionId) × IsServed before after (record { number = number; id = id })))
 
 -- what became of each connection; those that are held now were served
 pub record Lives (before after : Scene) : Type 0 where
   pub rises : before.bound ≤ after.bound
-  pub all : AllMove before.told after.told
+  pub all : AllMove before.report after.report
   pub marked : (number : ℕ) → IsMarked reads_ended after.held number
       → ReadsEnded before after number
   pub unmarked : (number : ℕ) → IsMarked was_shut after.held number
@@ -122,4 +122,4 @@ EndsByBytes before after =
     (duty : Duty) (link : Link) (answered : IsAnswered duty before after link)
     → duty.ends answered.served.read ≡ true → pending_of (find after.host.slots link.id) ≡ false
     → queued_of (find after.host.slots link.id) ≡ []
-    → IsMarked was_shut before.held link.number ⊎ WasLetGo before after link
+    → IsMarked was_shut before.held link.number ⊎ WasRemoved before after link

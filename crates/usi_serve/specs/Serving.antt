@@ -2,7 +2,7 @@
 use Rattle.std.specs.Prelude.{◌≡◌, ◌≤◌, ◌<◌, ℕ, zero, suc, [], ◌∷◌, Bool, false, Err, not}
 use Rattle.wires.specs.declared.wire.WireFault.{WireFault}
 use Rattle.wires.specs.Asked.{Wait, Asks}
-use Rattle.wires.specs.Told.{HasCause, KeepsAll}
+use Rattle.wires.specs.Report.{HasCause, KeepsAll}
 use Rattle.wires.specs.Moves.{StaysKnown}
 use Rattle.socket_loop.specs.Links.{links_of, AreOnce, IsRising}
 use Rattle.socket_loop.specs.Scenes.{Scene}
@@ -14,18 +14,18 @@ pub record IsTurnTo (slice : ℕ) (before after : Scene) : Type 0 where
   pub moved : Bool
   pub turned : Turns slice moved before after
   pub pending : moved ≡ false → any_pending after.host (links_of after.held) ≡ false
-  pub known : StaysKnown before.told after.told
+  pub known : StaysKnown before.report after.report
   pub fits : Fits (links_of after.held) after.bound after.host
   pub faults : before.failed ≤ after.failed
   pub rising : IsRising (links_of before.held) → IsRising (links_of after.held)
   pub once : AreOnce (links_of before.held) → AreOnce (links_of after.held)
   pub finished : AreOnce (links_of before.held) → NoneFinished after.host after.held
 
--- a wait after a turn: the connections, the host and all that is told stay, and the one call that is asked for is a wait, which lasts until something may be ready exactly where the turn did not move
+-- a wait after a turn: the connections, the host and all that is reported stay, and the one call that is asked for is a wait, which lasts until something may be ready exactly where the turn did not move
 pub record IsWait (moved : Bool) (before after : Scene) : Type 0 where
   pub held : after.held ≡ before.held
   pub bound : after.bound ≡ before.bound
-  pub told : KeepsAll before.told after.told
+  pub report : KeepsAll before.report after.report
   pub asked : Asks before.asked after.asked (Wait (not moved) ∷ [])
   pub faults : before.failed ≤ after.failed
   pub host : after.host ≡ before.host

@@ -58,7 +58,7 @@ impl<A: Allocator> Kept<A> {
     }
 
     /// Gives the first line with its LF, or all bytes where no line has ended, at the front of the
-    /// buffer; where the buffer is too short for it, as many as fit. Tells how many bytes were given.
+    /// buffer; where the buffer is too short for it, as many as fit. Returns how many bytes were given.
     pub fn give_line(&mut self, buf: &mut [u8]) -> usize
         ensures given { take result buf.new ≡ take (length buf.old) (one_line self.old) }
         ensures line { IsOneLine (take result buf.new) }

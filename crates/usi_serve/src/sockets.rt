@@ -2,7 +2,7 @@
 
 ghost use Rattle.std.specs.Prelude.{◌≡◌, ◌<◌, ◌≤◌, ◌+◌, ◌-◌, ◌^◌, length, IfOk, OnOk, OnErr, true, [], Err};
 ghost use Rattle.usi_serve.specs.declared.sockets.TheConstants.{PLACES};
-ghost use Rattle.wires.specs.Told.{GivesNumber, HasCause, HasRisen, Reads, bytes_read, nothing_told};
+ghost use Rattle.wires.specs.Report.{GivesNumber, HasCause, HasRisen, Reads, bytes_read, nothing_reported};
 ghost use Rattle.wires.specs.declared.wire.WireFault.TheVariants.{Device};
 ghost use Rattle.usi_lines.specs.OneLine.{IsOneLine};
 
@@ -23,48 +23,48 @@ const EVENTS: usize = 1025;
 const LISTENER: Token = Token(usize::MAX);
 
 /// After so many milliseconds a call is made again that failed or was interrupted, where no event may
-/// tell when.
+/// say when.
 const PATIENCE: u64 = 500;
 
 /// Each number has one of so many places: its remainder. Numbers are chosen so that the places of open
 /// connections differ, and a connection is found without a search.
 const PLACES: u64 = 1_048_576;
 
-/// A connection, and what the last calls and polls told of it.
+/// A connection, and what the last calls and polls showed of it.
 #[derive(Drop)]
 struct Peer<A: Allocator> {
     number: u64,
     stream: UnixStream,
     // What was read and is not given yet.
     kept: Kept<A>,
-    // The last read of the system found something, or a poll has told of the stream since.
+    // The last read of the system found something, or a poll has named the stream since.
     may_give: bool,
     // The same of the last write.
     may_take: bool,
 }
 
-/// The connections of a Unix socket. It tells nothing of their bytes. `accept`, `read` and `write` ask
+/// The connections of a Unix socket. It reports nothing of their bytes. `accept`, `read` and `write` ask
 /// the system and never wait for it; only `wait` does.
 ///
 /// A read gives one line at most, so that a turn answers one line of each connection. What else came
 /// with it is kept, and given by the next reads before the system is asked again. Room for it is asked
-/// for before the bytes are read: where memory is refused the read fails, and no byte is lost.
+/// for before the bytes are read: where allocation fails the read fails, and no byte is lost.
 ///
 /// A listener or a stream that has said that it has nothing, or no room, is not asked again before a
-/// poll has told of it. Each `accept` polls, without waiting, so no event waits for a `wait`.
+/// poll has named it. Each `accept` polls, without waiting, so no event waits for a `wait`.
 #[derive(Drop)]
 pub struct MioWire<A: Allocator> {
     alloc: A,
     poll: Poll,
     events: Events<A>,
     listener: UnixListener,
-    // The last accept found somebody or failed, or a poll has told of the listener since.
+    // The last accept found somebody or failed, or a poll has named the listener since.
     may_accept: bool,
     // By the place of each one's number.
     peers: Vec<Option<Peer<A>>, A>,
     // A read has left something to be given, and no wait has returned at once since.
     has_more: bool,
-    // A call failed or was interrupted, and no event may tell when to make it again.
+    // A call failed or was interrupted, and no event may say when to make it again.
     is_unsure: bool,
     // The number of the next connection is this one or a greater one.
     next: u64,
@@ -161,7 +161,7 @@ impl<A: Allocator + Copy> MioWire<A> {
     }
 
     /// Accepts who waits first at the listener. After a failure others may still wait there, and no
-    /// event tells of them.
+    /// event names them.
     fn take_in(&mut self) -> Result<Option<u64>, WireFault>
         requires { self.old.next ≤ 2 ^ 64 - 1 - PLACES }
         ensures number { GivesNumber self.old.next self.new.next result }
@@ -258,7 +258,7 @@ impl<A: Allocator + Copy> Wire for MioWire<A> {
     fn read(&mut self, number: u64, buf: &mut [u8]) -> Result<Got, WireFault>
         ensures line { IsOneLine (bytes_read result buf.new) }
         ensures bound { self.new.next ≡ self.old.next }
-        ensures read { Reads nothing_told nothing_told number result buf.new }
+        ensures read { Reads nothing_reported nothing_reported number result buf.new }
         ensures cause { HasCause self.old.failed self.new.failed result }
     {
         let Some(peer) = peer_of(&mut self.peers, number) else {

@@ -72,8 +72,8 @@ fn a_session_over_a_socket(rt: HostRuntime) -> Result<(), Fail> {
     Ok(())
 }
 
-// Whether what a client is told now is this.
-fn is_told(client: &mut UnixStream, answer: &[u8]) -> Result<bool, Fail> {
+// Whether what a client receives now is this.
+fn receives(client: &mut UnixStream, answer: &[u8]) -> Result<bool, Fail> {
     let mut buf = [0u8; 256];
     let n = client.read(&mut buf)?;
     Ok(buf.split_at(n).0 == answer)
@@ -94,12 +94,12 @@ fn a_turn_answers_one_line_of_each(rt: HostRuntime) -> Result<(), Fail> {
     holds(&rt, has_moved(&mut connections, &mut host, &mut wire));
     holds(
         &rt,
-        is_told(&mut many, b"readyok\n")? && is_told(&mut one, b"readyok\n")?,
+        receives(&mut many, b"readyok\n")? && receives(&mut one, b"readyok\n")?,
     );
     holds(&rt, has_moved(&mut connections, &mut host, &mut wire));
-    holds(&rt, is_told(&mut many, USI)?);
+    holds(&rt, receives(&mut many, USI)?);
     holds(&rt, has_moved(&mut connections, &mut host, &mut wire));
-    holds(&rt, is_told(&mut many, ANSWER)?);
+    holds(&rt, receives(&mut many, ANSWER)?);
     holds(&rt, has_moved(&mut connections, &mut host, &mut wire));
     holds(&rt, !has_moved(&mut connections, &mut host, &mut wire));
     Ok(())

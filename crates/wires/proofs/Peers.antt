@@ -1,4 +1,4 @@
--- What a wire tells, call after call.
+-- What a wire reports, call after call.
 use Rattle.std.proofs.Common.{◌≡◌, ℕ, Bool, true, false, List, [], ◌∷◌, ◌++◌, Option, Some, None, Result, Ok, Err, refl, sym, ap, ◌∙◌, append-nil, inl, inr}
 use Rattle.std.proofs.lemmas.Bool.{cases_eq}
 use Rattle.std.specs.Prelude.{IsSome}
@@ -6,7 +6,7 @@ use Rattle.std.specs.Io.KnownBytes.{Keeps, Appends, Consumes}
 use Rattle.std.proofs.KnownBytes.{Keeps-refl, Keeps-trans, Appends-trans, Consumes-trans}
 use Rattle.wires.specs.declared.wire.Got.TheVariants.{Nothing, Ended}
 use Rattle.wires.specs.declared.wire.WireFault.{WireFault}
-use Rattle.wires.specs.Told.{Told, Stays, IsRaised, OnlyRises, KeepsPeer, KeepsAll, KeepsOthers, TellsFailure, Reads, Writes, Shuts, bytes_written}
+use Rattle.wires.specs.Report.{Report, Stays, IsRaised, OnlyRises, KeepsPeer, KeepsAll, KeepsOthers, ReportsFailure, Reads, Writes, Shuts, bytes_written}
 use Rattle.wires.specs.Moves.{Moves, AllMove, GaveBytes, IsEmptied}
 
 -- ---- flags
@@ -85,12 +85,12 @@ Keeps-Appends (Some x) None c bs p q = absurd p
 Keeps-Appends (Some x) (Some y) None bs p q = absurd q
 Keeps-Appends (Some x) (Some y) (Some z) bs p q = q ∙ ap (λ l. l ++ bs) p
 
--- ---- all that is told of a connection
+-- ---- all that is reported of a connection
 
-pub kept_same : (a : Told) (n : ℕ) → KeepsPeer a a n
+pub kept_same : (a : Report) (n : ℕ) → KeepsPeer a a n
 kept_same a n = record { unread = Keeps-refl _; written = Keeps-refl _; shut = stays-refl _; failed = stays-refl _ }
 
-pub kept_then : (a b c : Told) (n : ℕ) → KeepsPeer a b n → KeepsPeer b c n → KeepsPeer a c n
+pub kept_then : (a b c : Report) (n : ℕ) → KeepsPeer a b n → KeepsPeer b c n → KeepsPeer a c n
 kept_then a b c n p q = record {
   unread = Keeps-trans _ _ _ p.unread q.unread;
   written = Keeps-trans _ _ _ p.written q.written;
@@ -98,22 +98,22 @@ kept_then a b c n p q = record {
   failed = stays_then _ _ _ p.failed q.failed;
 }
 
-kept_each : (a b : Told) (number : ℕ) → KeepsPeer a b number → KeepsOthers a b number → KeepsAll a b
+kept_each : (a b : Report) (number : ℕ) → KeepsPeer a b number → KeepsOthers a b number → KeepsAll a b
 kept_each a b number k o n =
     elim (cases_eq n number) [
       | inl same ↦ rw same k
       | inr apart ↦ o n apart
     ]
 
-pub nothing_keeps : (a b : Told) (number : ℕ) (buf : List ℕ) → Reads a b number (Ok Nothing) buf → KeepsAll a b
+pub nothing_keeps : (a b : Report) (number : ℕ) (buf : List ℕ) → Reads a b number (Ok Nothing) buf → KeepsAll a b
 nothing_keeps a b number buf r = kept_each a b number (record { unread = Keeps-none _ _ r.consumed; written = r.written; shut = r.shut; failed = r.failed }) r.others
 
-pub ended_keeps : (a b : Told) (number : ℕ) (buf : List ℕ) → Reads a b number (Ok Ended) buf → KeepsAll a b
+pub ended_keeps : (a b : Report) (number : ℕ) (buf : List ℕ) → Reads a b number (Ok Ended) buf → KeepsAll a b
 ended_keeps a b number buf r = kept_each a b number (record { unread = Keeps-none _ _ r.consumed; written = r.written; shut = r.shut; failed = r.failed }) r.others
 
 -- ---- what moves
 
-pub kept_move : (a b : Told) (n : ℕ) → KeepsPeer a b n → Moves a b n
+pub kept_move : (a b : Report) (n : ℕ) → KeepsPeer a b n → Moves a b n
 kept_move a b n k = record {
   gave = [];
   unread = Consumes-none _ _ k.unread;
@@ -123,10 +123,10 @@ kept_move a b n k = record {
   failed = stays_rise _ _ k.failed;
 }
 
-pub all_kept : (a b : Told) → KeepsAll a b → AllMove a b
+pub all_kept : (a b : Report) → KeepsAll a b → AllMove a b
 all_kept a b k = λ n. kept_move a b n (k n)
 
-pub moves_then : (a b c : Told) → AllMove a b → AllMove b c → AllMove a c
+pub moves_then : (a b c : Report) → AllMove a b → AllMove b c → AllMove a c
 moves_then a b c p q = λ n. record {
   gave = (p n).gave ++ (q n).gave;
   unread = Consumes-trans _ _ _ (p n).gave (q n).gave (p n).unread (q n).unread;
@@ -136,28 +136,28 @@ moves_then a b c p q = λ n. record {
   failed = rises_then _ _ _ (p n).failed (q n).failed;
 }
 
-moves_each : (a b : Told) (number : ℕ) → Moves a b number → KeepsOthers a b number → AllMove a b
+moves_each : (a b : Report) (number : ℕ) → Moves a b number → KeepsOthers a b number → AllMove a b
 moves_each a b number m o n =
     elim (cases_eq n number) [
       | inl same ↦ rw same m
       | inr apart ↦ kept_move a b n (o n apart)
     ]
 
-pub told_failure : {T : Type 0} (r : Result T WireFault) (a b : Option Bool) → TellsFailure r a b → OnlyRises a b
-told_failure (Ok x) a b t = stays_rise a b t
-told_failure (Err e) a b t = raised_rise a b t
+pub reported_failure : {T : Type 0} (r : Result T WireFault) (a b : Option Bool) → ReportsFailure r a b → OnlyRises a b
+reported_failure (Ok x) a b t = stays_rise a b t
+reported_failure (Err e) a b t = raised_rise a b t
 
-pub writes_move : (a b : Told) (number : ℕ) (r : Result ℕ WireFault) (buf : List ℕ) → Writes a b number r buf → AllMove a b
+pub writes_move : (a b : Report) (number : ℕ) (r : Result ℕ WireFault) (buf : List ℕ) → Writes a b number r buf → AllMove a b
 writes_move a b number r buf p = moves_each a b number (record {
   gave = [];
   unread = Consumes-none _ _ p.unread;
   took = bytes_written r buf;
   written = p.appended;
   shut = stays_rise _ _ p.shut;
-  failed = told_failure r _ _ p.failed;
+  failed = reported_failure r _ _ p.failed;
 }) p.others
 
-pub shuts_move : (bound : ℕ) (a b : Told) (number : ℕ) → Shuts bound a b number → AllMove a b
+pub shuts_move : (bound : ℕ) (a b : Report) (number : ℕ) → Shuts bound a b number → AllMove a b
 shuts_move bound a b number p = moves_each a b number (record {
   gave = [];
   unread = Consumes-none _ _ p.unread;
@@ -167,7 +167,7 @@ shuts_move bound a b number p = moves_each a b number (record {
   failed = stays_rise _ _ p.failed;
 }) p.others
 
-pub gave_move : (a b : Told) (number : ℕ) (bytes : List ℕ) → GaveBytes a b number bytes → AllMove a b
+pub gave_move : (a b : Report) (number : ℕ) (bytes : List ℕ) → GaveBytes a b number bytes → AllMove a b
 gave_move a b number bytes p = moves_each a b number (record {
   gave = bytes;
   unread = p.consumed;
@@ -177,7 +177,7 @@ gave_move a b number bytes p = moves_each a b number (record {
   failed = p.failed;
 }) p.others
 
-pub away_moves : (a b : Told) (number : ℕ) (gave took : List ℕ) → OnlyRises (a.is_shut number) (b.is_shut number) → OnlyRises (a.has_failed number) (b.has_failed number) → Consumes (a.unread number) (b.unread number) gave → Appends (a.written number) (b.written number) took → KeepsOthers a b number → AllMove a b
+pub away_moves : (a b : Report) (number : ℕ) (gave took : List ℕ) → OnlyRises (a.is_shut number) (b.is_shut number) → OnlyRises (a.has_failed number) (b.has_failed number) → Consumes (a.unread number) (b.unread number) gave → Appends (a.written number) (b.written number) took → KeepsOthers a b number → AllMove a b
 away_moves a b number gave took shut failed unread written others = moves_each a b number (record { gave = gave; unread = unread; took = took; written = written; shut = shut; failed = failed }) others
 
 -- ---- what is left to be read
@@ -194,7 +194,7 @@ emptied_at (Some x) b c bytes p q = left c (rw p at q)
     left None r = absurd r
     left (Some ys) r = ap (λ (l : List ℕ). Some l) (empty_both bytes ys r)
 
-pub emptied_move : (a b c : Told) (n : ℕ) → IsEmptied (a.unread n) (b.unread n) → AllMove b c → IsEmptied (a.unread n) (c.unread n)
+pub emptied_move : (a b c : Report) (n : ℕ) → IsEmptied (a.unread n) (b.unread n) → AllMove b c → IsEmptied (a.unread n) (c.unread n)
 emptied_move a b c n p m = emptied_at _ _ _ (m n).gave p (m n).unread
 
 move_emptied_at : (a b c : Option (List ℕ)) (bytes : List ℕ) → Consumes a b bytes → IsEmptied b c → IsEmptied a c
@@ -202,7 +202,7 @@ move_emptied_at None b c bytes p q = tt
 move_emptied_at (Some x) None c bytes p q = absurd p
 move_emptied_at (Some x) (Some y) c bytes p q = q
 
-pub move_emptied : (a b c : Told) (n : ℕ) → AllMove a b → IsEmptied (b.unread n) (c.unread n) → IsEmptied (a.unread n) (c.unread n)
+pub move_emptied : (a b c : Report) (n : ℕ) → AllMove a b → IsEmptied (b.unread n) (c.unread n) → IsEmptied (a.unread n) (c.unread n)
 move_emptied a b c n m p = move_emptied_at _ _ _ (m n).gave (m n).unread p
 
 -- ---- what is known
@@ -212,5 +212,5 @@ known_at None b bytes p s = absurd (cc)
 known_at (Some x) None bytes p s = absurd p
 known_at (Some x) (Some y) bytes p s = refl
 
-pub known_move : (a b : Told) → AllMove a b → (n : ℕ) → IsSome (a.written n) → IsSome (b.written n)
+pub known_move : (a b : Report) → AllMove a b → (n : ℕ) → IsSome (a.written n) → IsSome (b.written n)
 known_move a b m n s = known_at _ _ (m n).took (m n).written s

@@ -3,7 +3,7 @@ use Rattle.std.proofs.Common.{◌≡◌, ℕ, ◌+◌, ◌<◌, ◌≤◌, List,
 use Rattle.std.proofs.lemmas.List.{length-take-le, length-append}
 use Rattle.std.specs.Io.KnownBytes.{Keeps, Appends, Consumes}
 use Rattle.wires.specs.declared.wire.Got.TheVariants.{Bytes}
-use Rattle.wires.specs.Told.{Told, Reads, Writes}
+use Rattle.wires.specs.Report.{Report, Reads, Writes}
 use Rattle.wires.specs.Moves.{AllMove, IsShorter, IsLonger, Transfers}
 
 shorter_by : (a b : Option (List ℕ)) (bytes : List ℕ) → 1 ≤ length bytes → Consumes a b bytes → IsShorter a b
@@ -18,7 +18,7 @@ shorter_kept (Some x) (Some y) None p k = absurd k
 shorter_kept (Some x) (Some y) (Some z) p k = (let e : length z ≡ length y = ap length k in omega arith)
 
 -- a read that gave bytes
-pub read_shorter : (a b c : Told) (number n : ℕ) (buf : List ℕ) → Reads a b number (Ok (Bytes n)) buf → Keeps (b.unread number) (c.unread number) → IsShorter (a.unread number) (c.unread number)
+pub read_shorter : (a b c : Report) (number n : ℕ) (buf : List ℕ) → Reads a b number (Ok (Bytes n)) buf → Keeps (b.unread number) (c.unread number) → IsShorter (a.unread number) (c.unread number)
 read_shorter a b c number n buf r k =
     let least : 1 ≤ n = r.within.0 in
     let most : n ≤ length buf = r.within.1 in
@@ -31,7 +31,7 @@ longer_by (Some x) None bytes lt c = absurd c
 longer_by (Some x) (Some y) bytes lt c = (let e : length y ≡ length x + length bytes = ap length c ∙ length-append x bytes in omega arith)
 
 -- a write that took bytes
-pub write_longer : (a b : Told) (number n : ℕ) (buf : List ℕ) → 0 < n → Writes a b number (Ok n) buf → IsLonger (a.written number) (b.written number)
+pub write_longer : (a b : Report) (number n : ℕ) (buf : List ℕ) → 0 < n → Writes a b number (Ok n) buf → IsLonger (a.written number) (b.written number)
 write_longer a b number n buf some w =
     let most : n ≤ length buf = w.within in
     let e : length (take n buf) ≡ n = length-take-le n buf most in
@@ -61,10 +61,10 @@ then_longer (Some x) None c bytes p q = absurd p
 then_longer (Some x) (Some y) None bytes p q = absurd q
 then_longer (Some x) (Some y) (Some z) bytes p q = (let e : length y ≡ length x + length bytes = ap length p ∙ length-append x bytes in omega arith)
 
-pub transfers_then : (a b c : Told) (n : ℕ) → Transfers a b n → AllMove b c → Transfers a c n
+pub transfers_then : (a b c : Report) (n : ℕ) → Transfers a b n → AllMove b c → Transfers a c n
 transfers_then a b c n (inl p) m = inl (shorter_then _ _ _ (m n).gave p (m n).unread)
 transfers_then a b c n (inr p) m = inr (longer_then _ _ _ (m n).took p (m n).written)
 
-pub then_transfers : (a b c : Told) (n : ℕ) → AllMove a b → Transfers b c n → Transfers a c n
+pub then_transfers : (a b c : Report) (n : ℕ) → AllMove a b → Transfers b c n → Transfers a c n
 then_transfers a b c n m (inl p) = inl (then_shorter _ _ _ (m n).gave (m n).unread p)
 then_transfers a b c n m (inr p) = inr (then_longer _ _ _ (m n).took (m n).written p)

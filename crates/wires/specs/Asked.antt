@@ -10,7 +10,7 @@ pub data Call : Type 0 where
   Shut : (number : ℕ) → Call
   Wait : (idle : Bool) → Call
 
--- a wire that tells which calls it was asked for was asked for these since, in this order
+-- a wire that reports which calls it was asked for was asked for these since, in this order
 abbrev pub Asks : Option (List Call) → Option (List Call) → List Call → Type 0
 Asks None new calls = ⊤
 Asks (Some before) new calls = new ≡ Some (before ++ calls)

@@ -1,4 +1,4 @@
-pub mod Told
+pub mod Report
 pub mod Asked
 pub mod Moves
 pub mod Memory

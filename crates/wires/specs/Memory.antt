@@ -1,4 +1,4 @@
--- A wire in memory: what it is seen as, what it tells, and what its calls answer and leave (own choice).
+-- A wire in memory: what it is seen as, what it reports, and what its calls answer and leave (own choice).
 use Rattle.std.specs.Prelude.{◌≡◌, ◌+◌, ◌-◌, ◌^◌, ◌==◌, ◌||◌, ◌&&◌, not, cond, min, ℕ, Bool, true, false, List, [], ◌∷◌, ◌++◌, length, map, take, drop, Vec, slice_set, slice_index_or, nat_lt, Option, Some, None, Result, Ok, Err, IsSome}
 use Rattle.std.specs.Option.{option_map}
 use Rattle.std.specs.List.{slice_get, flat_map}
@@ -6,7 +6,7 @@ use Rattle.wires.specs.declared.wire.Got.{Got}
 use Rattle.wires.specs.declared.wire.Got.TheVariants.{Bytes, Nothing, Ended}
 use Rattle.wires.specs.declared.wire.WireFault.{WireFault}
 use Rattle.wires.specs.declared.wire.WireFault.TheVariants.{Device, OutOfMemory}
-use Rattle.wires.specs.Told.{Told, bytes_read}
+use Rattle.wires.specs.Report.{Report, bytes_read}
 
 -- a peer: what its reads give from here on, chunk by chunk; what its writes took; the most bytes that a write takes;
 -- whether it was shut, and whether a read or a write of it has failed
@@ -25,7 +25,7 @@ pub record WireState : Type 0 where
   pub failed : ℕ
   pub fails_in : ℕ
 
--- ---- what it tells
+-- ---- what it reports
 
 -- the bytes of the chunks
 abbrev pub bytes_left : List (List ℕ) → List ℕ
@@ -39,21 +39,21 @@ unread_of peer = bytes_left peer.chunks
 abbrev pub contents_of : {A : Type 0} → List (Vec ℕ A) → List (List ℕ)
 contents_of chunks = map (λ chunk. chunk.items) chunks
 
--- what is told of each connection, which has its place as its number
-abbrev pub told_of : List PeerState → Told
-told_of peers = record {
+-- what is reported of each connection, which has its place as its number
+abbrev pub report_of : List PeerState → Report
+report_of peers = record {
   unread = λ number. option_map unread_of (slice_get peers number);
   written = λ number. option_map (λ peer. peer.written) (slice_get peers number);
   is_shut = λ number. option_map (λ peer. peer.is_shut) (slice_get peers number);
   has_failed = λ number. option_map (λ peer. peer.has_failed) (slice_get peers number);
 }
 
-abbrev pub told_by : WireState → Told
-told_by wire = told_of wire.peers
+abbrev pub report_by : WireState → Report
+report_by wire = report_of wire.peers
 
 -- the wire has a connection of this number
-abbrev pub IsKnown : Told → ℕ → Type 0
-IsKnown told number = IsSome (told.written number)
+abbrev pub IsKnown : Report → ℕ → Type 0
+IsKnown report number = IsSome (report.written number)
 
 -- ---- a peer
 

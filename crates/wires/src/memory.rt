@@ -1,8 +1,8 @@
 //! A wire in memory.
 
 ghost use Rattle.std.specs.Prelude.{◌≡◌, ◌<◌, ◌≤◌, ◌↔◌, true, false, nat_lt, [], length, cond, min, Some, Ok, Err, IfOk, IfErr, OnErr, OnOk};
-ghost use Rattle.wires.specs.Told.{GivesNumber, KeepsAll, HasCause, HasRisen, Reads, Writes};
-ghost use Rattle.wires.specs.Memory.{Gives, IsKnown, contents_of, told_by, with_peer, changed, narrowing, failing, called, failed, is_open, fails_for, peer_of, width_of, accept_answer, after_accept, read_answer, after_failing, after_read, after_write, after_shut};
+ghost use Rattle.wires.specs.Report.{GivesNumber, KeepsAll, HasCause, HasRisen, Reads, Writes};
+ghost use Rattle.wires.specs.Memory.{Gives, IsKnown, contents_of, report_by, with_peer, changed, narrowing, failing, called, failed, is_open, fails_for, peer_of, width_of, accept_answer, after_accept, read_answer, after_failing, after_read, after_write, after_shut};
 ghost use Rattle.wires.specs.declared.wire.WireFault.TheVariants.{Device, OutOfMemory};
 
 use crate::peer::Peer;
@@ -10,7 +10,7 @@ use crate::wire::{Got, Wire, WireFault};
 use std::alloc::Allocator;
 use std::marker::Model;
 
-/// A wire whose connections are peers that were made beforehand. It tells all that is read and
+/// A wire whose connections are peers that were made beforehand. It reports all that is read and
 /// written, which are shut, and of which a call has failed.
 #[derive(Drop)]
 pub struct MemoryWire<A: Allocator + Copy> {
@@ -53,7 +53,7 @@ impl<A: Allocator + Copy> MemoryWire<A> {
     pub fn connect(&mut self, chunks: Vec<Vec<u8, A>, A>) -> Result<u64, WireFault>
         ensures ok { IfOk result (λ number. number ≡ length self.old.peers) }
         ensures connected { OnOk result (self.new ≡ with_peer (contents_of chunks.items) self.old) }
-        ensures known { IfOk result (λ number. IsKnown (told_by self.new) number) }
+        ensures known { IfOk result (λ number. IsKnown (report_by self.new) number) }
         ensures fault { IfErr result (λ fault. fault ≡ OutOfMemory) }
         ensures err { OnErr result (self.new ≡ self.old) }
     {
@@ -65,7 +65,7 @@ impl<A: Allocator + Copy> MemoryWire<A> {
 
     /// From now on each write of the connection takes at most `most` bytes; 0 stalls it.
     pub fn narrow(&mut self, number: u64, most: usize)
-        requires { IsKnown (told_by self.old) number }
+        requires { IsKnown (report_by self.old) number }
         ensures { self.new ≡ changed (narrowing most) number self.old }
     {
         self.peers[number as usize].narrow(most);
@@ -83,14 +83,14 @@ impl<A: Allocator + Copy> MemoryWire<A> {
     /// Whether `connect` gave this number.
     pub fn is_known(&self, number: u64) -> bool
         ensures test { result ≡ nat_lt number (length self.now.peers) }
-        ensures known { result ≡ true → IsKnown (told_by self.now) number }
+        ensures known { result ≡ true → IsKnown (report_by self.now) number }
     {
         number < self.peers.len() as u64
     }
 
     /// What reads of the connection give from here on.
     pub fn chunks(&self, number: u64) -> &[Vec<u8, A>]
-        requires { IsKnown (told_by self.now) number }
+        requires { IsKnown (report_by self.now) number }
         ensures { contents_of result.now ≡ (peer_of self.now number).chunks }
     {
         self.peers[number as usize].chunks()
@@ -98,24 +98,24 @@ impl<A: Allocator + Copy> MemoryWire<A> {
 
     /// What was written to the connection.
     pub fn written(&self, number: u64) -> &[u8]
-        requires { IsKnown (told_by self.now) number }
-        ensures { (told_by self.now).written number ≡ Some result.now }
+        requires { IsKnown (report_by self.now) number }
+        ensures { (report_by self.now).written number ≡ Some result.now }
     {
         self.peers[number as usize].written()
     }
 
     /// Whether the connection was shut.
     pub fn is_shut(&self, number: u64) -> bool
-        requires { IsKnown (told_by self.now) number }
-        ensures { (told_by self.now).is_shut number ≡ Some result }
+        requires { IsKnown (report_by self.now) number }
+        ensures { (report_by self.now).is_shut number ≡ Some result }
     {
         self.peers[number as usize].is_shut()
     }
 
     /// Whether a read or a write of the connection has failed.
     pub fn has_failed(&self, number: u64) -> bool
-        requires { IsKnown (told_by self.now) number }
-        ensures { (told_by self.now).has_failed number ≡ Some result }
+        requires { IsKnown (report_by self.now) number }
+        ensures { (report_by self.now).has_failed number ≡ Some result }
     {
         self.peers[number as usize].has_failed()
     }
@@ -148,7 +148,7 @@ impl<A: Allocator + Copy> MemoryWire<A> {
         }
     }
 
-    // Counts a read or a write, and tells whether it fails: it is the one to fail, or the connection is
+    // Counts a read or a write, and returns whether it fails: it is the one to fail, or the connection is
     // not open.
     fn fails_for(&mut self, number: u64) -> bool
         ensures test { result ≡ fails_for self.old number }
@@ -167,9 +167,9 @@ impl<A: Allocator + Copy> MemoryWire<A> {
 }
 
 impl<A: Allocator + Copy> Wire for MemoryWire<A> {
-    ghost use Rattle.wires.specs.Memory.{told_by};
+    ghost use Rattle.wires.specs.Memory.{report_by};
 
-    ghost told = { told_by };
+    ghost report = { report_by };
 
     ghost bound = { λ wire. wire.accepted };
 
@@ -179,7 +179,7 @@ impl<A: Allocator + Copy> Wire for MemoryWire<A> {
         ensures answer { result ≡ accept_answer self.old }
         ensures after { self.new ≡ after_accept self.old }
         ensures number { GivesNumber self.old.accepted self.new.accepted result }
-        ensures kept { KeepsAll (told_by self.old) (told_by self.new) }
+        ensures kept { KeepsAll (report_by self.old) (report_by self.new) }
         ensures cause { HasCause self.old.failed self.new.failed result }
     {
         let fails = self.fails_in == 1;
@@ -200,7 +200,7 @@ impl<A: Allocator + Copy> Wire for MemoryWire<A> {
         ensures after { self.new ≡ after_read self.old number (length buf.old) }
         ensures given { OnOk result (Gives result buf.old buf.new (peer_of self.old number)) }
         ensures bound { self.new.accepted ≡ self.old.accepted }
-        ensures read { Reads (told_by self.old) (told_by self.new) number result buf.new }
+        ensures read { Reads (report_by self.old) (report_by self.new) number result buf.new }
         ensures cause { HasCause self.old.failed self.new.failed result }
     {
         if self.fails_for(number) {
@@ -214,7 +214,7 @@ impl<A: Allocator + Copy> Wire for MemoryWire<A> {
         ensures taken { IfOk result (λ n. n ≡ min (width_of self.old number) (length buf.now)) }
         ensures after { self.new ≡ after_write self.old number buf.now result }
         ensures bound { self.new.accepted ≡ self.old.accepted }
-        ensures written { Writes (told_by self.old) (told_by self.new) number result buf.now }
+        ensures written { Writes (report_by self.old) (report_by self.new) number result buf.now }
         ensures cause { HasCause self.old.failed self.new.failed result }
     {
         if self.fails_for(number) {

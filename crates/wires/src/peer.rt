@@ -1,7 +1,7 @@
 //! One connection of a wire in memory.
 
 ghost use Rattle.std.specs.Prelude.{◌≡◌, ◌≤◌, ◌++◌, length, min, take, drop, Some, Ok, Err, IfOk, IfErr, OnErr};
-ghost use Rattle.wires.specs.Told.{IsWithin, EndsAt, TellsFailure, bytes_read, bytes_written};
+ghost use Rattle.wires.specs.Report.{IsWithin, EndsAt, ReportsFailure, bytes_read, bytes_written};
 ghost use Rattle.wires.specs.Memory.{Gives, unread_of, contents_of, new_peer, failing, shutting, narrowing, taking, past_empty, got_from, giving};
 ghost use Rattle.wires.specs.declared.wire.WireFault.TheVariants.{OutOfMemory};
 
@@ -46,7 +46,7 @@ fn skip_empty<A: Allocator + Copy>(chunks: &mut Vec<Vec<u8, A>, A>)
 }
 
 // Moves bytes from the front of a chunk to the front of the buffer.
-fn take_front<A: Allocator + Copy>(chunk: &mut Vec<u8, A>, buf: &mut [u8]) -> usize
+fn take_prefix<A: Allocator + Copy>(chunk: &mut Vec<u8, A>, buf: &mut [u8]) -> usize
     ensures count { result ≡ min (length chunk.old.items) (length buf.old) }
     ensures len { length buf.new ≡ length buf.old }
     ensures given { take result buf.new ≡ take (length buf.old) chunk.old.items }
@@ -129,7 +129,7 @@ impl<A: Allocator + Copy> Peer<A> {
         let Some(first) = self.chunks.first_mut() else {
             return Got::Ended;
         };
-        let n = take_front(first, buf);
+        let n = take_prefix(first, buf);
         if n == 0 { Got::Nothing } else { Got::Bytes(n) }
     }
 
@@ -155,7 +155,7 @@ impl<A: Allocator + Copy> Peer<A> {
         ensures fault { IfErr result (λ fault. fault ≡ OutOfMemory) }
         ensures within { IfOk result (λ n. n ≤ length bytes.now) }
         ensures appended { self.new.written ≡ self.old.written ++ bytes_written result bytes.now }
-        ensures failed { TellsFailure result (Some self.old.has_failed) (Some self.new.has_failed) }
+        ensures failed { ReportsFailure result (Some self.old.has_failed) (Some self.new.has_failed) }
         ensures chunks { self.new.chunks ≡ self.old.chunks }
         ensures shut { self.new.is_shut ≡ self.old.is_shut }
     {

@@ -2,12 +2,12 @@
 
 ghost use Rattle.std.specs.Prelude.{◌≡◌, ◌≤◌, ℕ, List, [], ◌∷◌, length, Option, None};
 ghost use Rattle.wires.specs.Asked.{Call, Accept, Read, Write, Shut, Wait, Asks};
-ghost use Rattle.wires.specs.Told.{GivesNumber, Told, nothing_told, KeepsAll, Reads, Writes, Shuts, HasCause};
+ghost use Rattle.wires.specs.Report.{GivesNumber, Report, nothing_reported, KeepsAll, Reads, Writes, Shuts, HasCause};
 ghost use Rattle.wires.specs.declared.wire.WireFault.TheVariants.{OutOfMemory};
 
 use std::alloc::{AllocError, AllocFailed};
 
-/// Why a call of a wire failed: the device below it, which the wire counts, or want of memory.
+/// Why a call of a wire failed: the device below it, which the wire counts, or out of memory.
 #[derive(Clone, Copy, Debug, PartialEq, Eq)]
 pub enum WireFault {
     Device,
@@ -44,10 +44,10 @@ pub enum Got {
 /// Connections under numbers. Each call touches at most one of them, and one that fails moves no
 /// byte. On a number that `accept` never gave, or that was shut, `read` and `write` answer `Device`.
 pub trait Wire {
-    /// What it tells of its connections. A wire may tell nothing.
-    ghost told: { Self → Told } = { λ _. nothing_told };
+    /// What it reports of its connections. A wire may report nothing.
+    ghost report: { Self → Report } = { λ _. nothing_reported };
 
-    /// The calls of `accept`, `read`, `write` and `shut` that it was asked for. It may tell none.
+    /// The calls of `accept`, `read`, `write` and `shut` that it was asked for. It may report none.
     ghost asked: { Self → Option (List Call) } = { λ _. None };
 
     /// The numbers that `accept` gave are below this one.
@@ -60,20 +60,20 @@ pub trait Wire {
     fn accept(&mut self) -> Result<Option<u64>, WireFault>
         ensures number { GivesNumber (bound self.old) (bound self.new) result }
         ensures asked { Asks (asked self.old) (asked self.new) (Accept result ∷ []) }
-        ensures kept { KeepsAll (told self.old) (told self.new) }
+        ensures kept { KeepsAll (report self.old) (report self.new) }
         ensures cause { HasCause (failed self.old) (failed self.new) result };
 
     /// Reads what is there into the front of the buffer, which is not empty.
     fn read(&mut self, number: u64, buf: &mut [u8]) -> Result<Got, WireFault>
         ensures bound { bound self.new ≡ bound self.old }
-        ensures read { Reads (told self.old) (told self.new) number result buf.new }
+        ensures read { Reads (report self.old) (report self.new) number result buf.new }
         ensures asked { Asks (asked self.old) (asked self.new) (Read number (length buf.old) ∷ []) }
         ensures cause { HasCause (failed self.old) (failed self.new) result };
 
     /// Writes what it takes, from the front, and answers how many bytes; 0 where it takes none now.
     fn write(&mut self, number: u64, buf: &[u8]) -> Result<usize, WireFault>
         ensures bound { bound self.new ≡ bound self.old }
-        ensures written { Writes (told self.old) (told self.new) number result buf.now }
+        ensures written { Writes (report self.old) (report self.new) number result buf.now }
         ensures asked { Asks (asked self.old) (asked self.new) (Write number buf.now ∷ []) }
         ensures cause { HasCause (failed self.old) (failed self.new) result };
 
@@ -81,14 +81,14 @@ pub trait Wire {
     fn shut(&mut self, number: u64)
         ensures bound { bound self.new ≡ bound self.old }
         ensures asked { Asks (asked self.old) (asked self.new) (Shut number ∷ []) }
-        ensures shut { Shuts (bound self.old) (told self.old) (told self.new) number }
+        ensures shut { Shuts (bound self.old) (report self.old) (report self.new) number }
         ensures faults { failed self.old ≤ failed self.new };
 
     /// Returns once something may be ready; at once where `idle` is false.
     fn wait(&mut self, idle: bool) -> Result<(), WireFault>
         ensures bound { bound self.new ≡ bound self.old }
         ensures asked { Asks (asked self.old) (asked self.new) (Wait idle ∷ []) }
-        ensures kept { KeepsAll (told self.old) (told self.new) }
+        ensures kept { KeepsAll (report self.old) (report self.new) }
         ensures cause { HasCause (failed self.old) (failed self.new) result };
 
     /// How many calls have failed.

@@ -4,10 +4,10 @@ use crate::connections::scene::{ANSWER, GO_AND_QUIT, HOST_FULL, READY, Scene, St
 use std::test::Fail;
 use test_support::holds;
 
-// The first turn accepts both, tells the second that the host is full, and reads the first chunk; the
+// The first turn accepts both, reports to the second that the host is full, and reads the first chunk; the
 // second turn reads the rest, answers, and shuts.
 #[test]
-fn one_is_served_and_one_is_turned_away(rt: HostRuntime) -> Result<(), Fail> {
+fn one_is_served_and_one_is_rejected(rt: HostRuntime) -> Result<(), Fail> {
     let steps = [
         Step::Connect(GO_AND_QUIT),
         Step::Connect(&[]),
@@ -45,7 +45,7 @@ fn one_byte_a_write(rt: HostRuntime) -> Result<(), Fail> {
 
 // A peer that finds the host full may take the text in no more than one write.
 #[test]
-fn a_full_host_is_told_in_one_write(rt: HostRuntime) -> Result<(), Fail> {
+fn a_full_host_is_reported_in_one_write(rt: HostRuntime) -> Result<(), Fail> {
     let steps = [
         Step::Connect(&[b"isready\n"]),
         Step::Connect(&[]),
@@ -57,7 +57,7 @@ fn a_full_host_is_told_in_one_write(rt: HostRuntime) -> Result<(), Fail> {
     Scene::new(rt.alloc(), 1, 1000)?.plays(&rt, &steps)
 }
 
-// With rounds of one step the search goes on for turns after the peer has ended. Each of them moves.
+// With rounds of one step the search continues for turns after the peer has ended. Each of them moves.
 #[test]
 fn a_peer_that_ends_is_answered_first(rt: HostRuntime) -> Result<(), Fail> {
     let mut scene = Scene::new(rt.alloc(), 1, 1)?;

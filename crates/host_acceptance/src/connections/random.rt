@@ -97,8 +97,8 @@ fn said_alone(alloc: Global, bytes: &[u8]) -> Result<Vec<u8>, Fail> {
     Ok(said)
 }
 
-// A connection has a front of what a session of its own says, and all of it where it was served to its
-// end; or it was told that the host is full.
+// A connection has a prefix of what a session of its own says, and all of it where it was served to its
+// end; or it was written that the host is full.
 fn check(
     rt: &impl Abort,
     alloc: Global,
@@ -113,8 +113,8 @@ fn check(
         return Ok(true);
     }
     let was_cut = scene.has_failed(client.number) || !client.takes;
-    let is_front = alone.as_slice().starts_with(written);
-    holds!(*rt; was_cut && is_front || HOST_FULL.starts_with(written), seed);
+    let is_prefix = alone.as_slice().starts_with(written);
+    holds!(*rt; was_cut && is_prefix || HOST_FULL.starts_with(written), seed);
     Ok(false)
 }
 
@@ -141,7 +141,7 @@ fn connect_some(
     Ok(clients)
 }
 
-/// Turns until two of them do not move. Tells whether there were two.
+/// Turns until two of them do not move. Returns whether there were two.
 fn comes_to_rest(scene: &mut Scene) -> bool {
     for _ in 0..5000 {
         if !scene.turn() && !scene.turn() {

@@ -15,7 +15,7 @@ use wires::{MemoryWire, Wire};
 
 /// What `go depth 1` from the opening position is answered.
 pub const ANSWER: &[u8] = b"info depth 1 score cp 0 pv 1g1f\nbestmove 1g1f\n";
-/// What a connection is told that finds the host full.
+/// What is written to a connection that finds the host full.
 pub const HOST_FULL: &[u8] = b"info string host full\n";
 /// What `isready` is answered.
 pub const READY: &[u8] = b"readyok\n";
@@ -200,7 +200,7 @@ impl Scene {
         Ok(())
     }
 
-    /// Plays the steps, and ends the test where one tells something else than is wanted.
+    /// Plays the steps, and ends the test where one is answered otherwise than expected.
     pub fn plays<R: Abort>(&mut self, rt: &R, steps: &[Step<'_>]) -> Result<(), Fail> {
         for step in steps {
             self.plays_one(rt, *step)?;

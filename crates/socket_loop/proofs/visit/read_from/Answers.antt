@@ -53,7 +53,7 @@ returns-in-Ok-Bytes-clause-reads g c = record {
     visit = record { steps = c.feed_from.ensures.fed.visit.steps; link = search rules; made = search rules; closed = search rules; shut = λ e. shut_after _ _ _ c.in-Ok-Bytes.ensures.read.shut (rw c.in-Ok-Bytes.ensures.bound at c.feed_from.ensures.fed.visit.shut e); bound = search rules; faults = omega arith; next = omega arith };
     asked = asks_due _ _ _ (is_to_read c.args.host.now c.args.connection.now) (Read c.args.connection.now.link.number CHUNK_MAX) _ (search rules) (search rules) (c.feed_from.ensures.fed.asked (search rules));
     quiet = search rules;
-    stirs = λ e. inl (inl (read_shorter _ (g.W.Wire.told c.read.new.self) (g.W.Wire.told c.feed_from.new.wire) c.args.connection.now.link.number c.in-Ok-Bytes.n c.read.new.buf (rw c.in-Ok-Bytes.field-0-is at c.in-Ok-Bytes.ensures.read) c.feed_from.ensures.fed.unread));
+    stirs = λ e. inl (inl (read_shorter _ (g.W.Wire.report c.read.new.self) (g.W.Wire.report c.feed_from.new.wire) c.args.connection.now.link.number c.in-Ok-Bytes.n c.read.new.buf (rw c.in-Ok-Bytes.field-0-is at c.in-Ok-Bytes.ensures.read) c.feed_from.ensures.fed.unread));
   };
-  serves = λ marks. rw c.in-Ok-Bytes.ensures.bound at (c.feed_from.ensures.fed.serves marks (g.W.Wire.told c.args.wire.now) (search rules) (search rules));
+  serves = λ marks. rw c.in-Ok-Bytes.ensures.bound at (c.feed_from.ensures.fed.serves marks (g.W.Wire.report c.args.wire.now) (search rules) (search rules));
 }

@@ -8,7 +8,7 @@ loop-id-init g c = record { so_far = round_start c.args.self.now c.args.budget; 
 pub loop-id-preserved : goal.loop-id-preserved
 loop-id-preserved g c =
     record {
-      so_far = c.round_at-round.ensures.goes_on c.args.self.now (round_settled c.args.self.now c.args.budget c.loop-id.from c.in-Some.id.slot _ _ c.loop-id.self c.loop-id.invariant.so_far c.in-Some.ensures.next.1);
+      so_far = c.round_at-round.ensures.continues c.args.self.now (round_settled c.args.self.now c.args.budget c.loop-id.from c.in-Some.id.slot _ _ c.loop-id.self c.loop-id.invariant.so_far c.in-Some.ensures.next.1);
       few = search rules;
     }
 

@@ -3,13 +3,13 @@ use Rattle.host_core.specs.Events.{Worked, Refused}
 use Rattle.host_core.proofs.Rounds.{round_settled, is_settled, round_more}
 use Rattle.host_core.proofs.host.Host.round_at.Goals as goal
 
-pub returns-then-not-pending-clause-goes_on : goal.returns-then-not-pending-clause-goes_on
-returns-then-not-pending-clause-goes_on g c = λ start r. round_settled start c.args.budget c.args.id.slot _ _ _ c.args.self.now r (is_settled c.args.self.now c.args.id c.requires.open (search rules))
+pub returns-then-not-pending-clause-continues : goal.returns-then-not-pending-clause-continues
+returns-then-not-pending-clause-continues g c = λ start r. round_settled start c.args.budget c.args.id.slot _ _ _ c.args.self.now r (is_settled c.args.self.now c.args.id c.requires.open (search rules))
 
-pub returns-in-Ok-clause-goes_on : goal.returns-in-Ok-clause-goes_on
-returns-in-Ok-clause-goes_on g c = λ start r.
+pub returns-in-Ok-clause-continues : goal.returns-in-Ok-clause-continues
+returns-in-Ok-clause-continues g c = λ start r.
     round_more start c.args.budget c.args.id _ _ c.args.self.now c.work.new.self (Worked c.in-Ok.field-0) (c.args.round.worked + 1) c.args.round.refused r (search rules) c.work.ensures.below (search rules) refl (omega arith)
 
-pub returns-in-Err-clause-goes_on : goal.returns-in-Err-clause-goes_on
-returns-in-Err-clause-goes_on g c = λ start r.
+pub returns-in-Err-clause-continues : goal.returns-in-Err-clause-continues
+returns-in-Err-clause-continues g c = λ start r.
     round_more start c.args.budget c.args.id _ _ c.args.self.now c.work.new.self (Refused c.in-Err.field-0) c.args.round.worked (c.args.round.refused + 1) r (search rules) c.work.ensures.below (search rules) (omega arith) refl

@@ -1,4 +1,4 @@
--- The counter is told, and the inner allocator, from which the block is, takes it back.
+-- The counter is kept, and the inner allocator, from which the block is, takes it back.
 use Rattle.std.proofs.Common.{◌≡◌, ◌^◌, ℕ, List, [], ◌∷◌, refl, ap, w64}
 use mir.Syntax.{Fn, Args, a_type, dnil, dcons}
 use mir.Val.{Val, vunit, vint, vptr}

@@ -1,4 +1,4 @@
-use Rattle.wires.specs.Told.{bytes_read}
+use Rattle.wires.specs.Report.{bytes_read}
 use Rattle.std.proofs.Common.{Ok, length}
 use Rattle.wires.proofs.Chunks.{all_left}
 use Rattle.wires.proofs.peer.Peer.read.Goals as goal

@@ -1,4 +1,4 @@
--- What a wire tells of its connections, and what each of its calls does to that (own choice).
+-- What a wire reports of its connections, and what each of its calls does to that (own choice).
 use Rattle.std.specs.Prelude.{◌≡◌, ◌≢◌, ◌-◌, ◌≤◌, ◌<◌, ◌^◌, ◌⊎◌, ℕ, List, [], length, take, ⊤, Bool, true, false, Option, None, Some, Result, Ok, Err, IfOk, IsErrOf}
 use Rattle.std.specs.Io.KnownBytes.{Keeps, Appends, Consumes, IsAtEnd}
 use Rattle.wires.specs.declared.wire.Got.{Got}
@@ -7,53 +7,53 @@ use Rattle.wires.specs.declared.wire.WireFault.{WireFault}
 use Rattle.wires.specs.declared.wire.WireFault.TheVariants.{Device}
 
 -- of each connection, by its number: the bytes that reads will give from here on, the bytes that writes took, whether it
--- was shut, and whether a read or a write of it has failed; `None` where the wire does not tell
-pub record Told : Type 0 where
+-- was shut, and whether a read or a write of it has failed; `None` where the wire does not report it
+pub record Report : Type 0 where
   pub unread : ℕ → Option (List ℕ)
   pub written : ℕ → Option (List ℕ)
   pub is_shut : ℕ → Option Bool
   pub has_failed : ℕ → Option Bool
 
--- a wire that tells nothing
-abbrev pub nothing_told : Told
-nothing_told =
+-- a wire that reports nothing
+abbrev pub nothing_reported : Report
+nothing_reported =
     record { unread = λ _. None; written = λ _. None; is_shut = λ _. None; has_failed = λ _. None }
 
--- a flag that is told stays
+-- a flag that is reported stays
 abbrev pub Stays : Option Bool → Option Bool → Type 0
 Stays None new = ⊤
 Stays (Some flag) new = new ≡ Some flag
 
--- a flag that is told is true now
+-- a flag that is reported is true now
 abbrev pub IsRaised : Option Bool → Option Bool → Type 0
 IsRaised None new = ⊤
 IsRaised (Some flag) new = new ≡ Some true
 
--- a flag that is told is told still, and stays true once it is
+-- a flag that is reported is reported still, and stays true once it is
 abbrev pub OnlyRises : Option Bool → Option Bool → Type 0
 OnlyRises None new = ⊤
 OnlyRises (Some flag) None = ⊥
 OnlyRises (Some true) (Some now) = now ≡ true
 OnlyRises (Some false) (Some now) = ⊤
 
--- what is told of a connection stays
-pub record KeepsPeer (old new : Told) (number : ℕ) : Type 0 where
+-- what is reported of a connection stays
+pub record KeepsPeer (old new : Report) (number : ℕ) : Type 0 where
   pub unread : Keeps (old.unread number) (new.unread number)
   pub written : Keeps (old.written number) (new.written number)
   pub shut : Stays (old.is_shut number) (new.is_shut number)
   pub failed : Stays (old.has_failed number) (new.has_failed number)
 
--- what is told of every connection stays
-abbrev pub KeepsAll : Told → Told → Type 0
+-- what is reported of every connection stays
+abbrev pub KeepsAll : Report → Report → Type 0
 KeepsAll old new = (number : ℕ) → KeepsPeer old new number
 
-abbrev pub KeepsOthers : Told → Told → ℕ → Type 0
+abbrev pub KeepsOthers : Report → Report → ℕ → Type 0
 KeepsOthers old new number = (other : ℕ) → other ≢ number → KeepsPeer old new other
 
--- a call that failed is told of its connection
-abbrev pub TellsFailure : {T : Type 0} → Result T WireFault → Option Bool → Option Bool → Type 0
-TellsFailure (Ok value) old new = Stays old new
-TellsFailure (Err fault) old new = IsRaised old new
+-- a call that failed is reported of its connection
+abbrev pub ReportsFailure : {T : Type 0} → Result T WireFault → Option Bool → Option Bool → Type 0
+ReportsFailure (Ok value) old new = Stays old new
+ReportsFailure (Err fault) old new = IsRaised old new
 
 -- the bytes that a read gave
 abbrev pub bytes_read : Result Got WireFault → List ℕ → List ℕ
@@ -77,14 +77,14 @@ EndsAt (Ok Nothing) left = ⊤
 EndsAt (Err fault) left = ⊤
 
 -- a read gave the next bytes of its connection, or failed and moved none; nothing else changed
-pub record Reads (old new : Told) (number : ℕ) (result : Result Got WireFault) (buf : List ℕ)
+pub record Reads (old new : Report) (number : ℕ) (result : Result Got WireFault) (buf : List ℕ)
     : Type 0 where
   pub within : IsWithin result (length buf)
   pub consumed : Consumes (old.unread number) (new.unread number) (bytes_read result buf)
   pub ended : EndsAt result (new.unread number)
   pub written : Keeps (old.written number) (new.written number)
   pub shut : Stays (old.is_shut number) (new.is_shut number)
-  pub failed : TellsFailure result (old.has_failed number) (new.has_failed number)
+  pub failed : ReportsFailure result (old.has_failed number) (new.has_failed number)
   pub others : KeepsOthers old new number
 
 -- the bytes that a write took
@@ -93,17 +93,17 @@ bytes_written (Ok n) buf = take n buf
 bytes_written (Err fault) buf = []
 
 -- a write took the first bytes, or failed and took none; nothing else changed
-pub record Writes (old new : Told) (number : ℕ) (result : Result ℕ WireFault) (buf : List ℕ)
+pub record Writes (old new : Report) (number : ℕ) (result : Result ℕ WireFault) (buf : List ℕ)
     : Type 0 where
   pub within : IfOk result (λ n. n ≤ length buf)
   pub appended : Appends (old.written number) (new.written number) (bytes_written result buf)
   pub unread : Keeps (old.unread number) (new.unread number)
   pub shut : Stays (old.is_shut number) (new.is_shut number)
-  pub failed : TellsFailure result (old.has_failed number) (new.has_failed number)
+  pub failed : ReportsFailure result (old.has_failed number) (new.has_failed number)
   pub others : KeepsOthers old new number
 
 -- a connection is shut, where its number is below this bound, and kept what was written; nothing else changed
-pub record Shuts (bound : ℕ) (old new : Told) (number : ℕ) : Type 0 where
+pub record Shuts (bound : ℕ) (old new : Report) (number : ℕ) : Type 0 where
   pub shut : number < bound → IsRaised (old.is_shut number) (new.is_shut number)
   pub only_rises : OnlyRises (old.is_shut number) (new.is_shut number)
   pub written : Keeps (old.written number) (new.written number)

@@ -1,10 +1,10 @@
-//! A wire that tells which calls it was asked for, and the calls of turns over it.
+//! A wire that records which calls it was asked for, and the calls of turns over it.
 
 ghost use Rattle.std.specs.Prelude.{◌≡◌, map, ◌++◌, ◌∷◌, [], Some};
 ghost use Rattle.socket_loop.specs.Links.{links_of};
 ghost use Rattle.socket_loop.specs.Turns.{Fits};
 ghost use Rattle.socket_loop.specs.Calls.{AsksTurn};
-ghost use Rattle.wires.specs.Memory.{told_by};
+ghost use Rattle.wires.specs.Memory.{report_by};
 ghost use Rattle.host_acceptance.specs.Calls.{call_of};
 
 use crate::connections::call::Call;
@@ -20,14 +20,14 @@ use wires::{Got, MemoryWire, Wire, WireFault};
 
 /// A wire in memory that keeps each call. Where there is no memory to keep one, the process ends.
 #[derive(Drop)]
-struct TellingWire<'r, R: Abort> {
+struct RecordingWire<'r, R: Abort> {
     rt: &'r R,
     alloc: Global,
     wire: MemoryWire<Global>,
     calls: Vec<Call<Global>, Global>,
 }
 
-impl<'r, R: Abort> TellingWire<'r, R> {
+impl<'r, R: Abort> RecordingWire<'r, R> {
     fn keep(&mut self, call: Call<Global>)
         ensures calls { self.new.calls.items ≡ self.old.calls.items ++ (call ∷ []) }
         ensures wire { self.new.wire ≡ self.old.wire }
@@ -47,12 +47,12 @@ impl<'r, R: Abort> TellingWire<'r, R> {
     }
 }
 
-impl<'r, R: Abort> Wire for TellingWire<'r, R> {
+impl<'r, R: Abort> Wire for RecordingWire<'r, R> {
     ghost use Rattle.std.specs.Prelude.{map, Some};
-    ghost use Rattle.wires.specs.Memory.{told_by};
+    ghost use Rattle.wires.specs.Memory.{report_by};
     ghost use Rattle.host_acceptance.specs.Calls.{call_of};
 
-    ghost told = { λ w. told_by w.wire };
+    ghost report = { λ w. report_by w.wire };
 
     ghost asked = { λ w. Some (map call_of w.calls.items) };
 
@@ -96,14 +96,14 @@ impl<'r, R: Abort> Wire for TellingWire<'r, R> {
 fn turn_over<R: Abort>(
     turns: &mut Loop<Global>,
     host: &mut SeedlessHost,
-    wire: &mut TellingWire<'_, R>,
+    wire: &mut RecordingWire<'_, R>,
 ) -> bool
     requires fits { Fits (links_of turns.old.held) wire.old.wire.accepted host.old }
-    ensures told { AsksTurn turns.old.slice result
+    ensures asked { AsksTurn turns.old.slice result
         (record {
           held = turns.old.held;
           bound = wire.old.wire.accepted;
-          told = told_by wire.old.wire;
+          report = report_by wire.old.wire;
           asked = Some (map call_of wire.old.calls.items);
           failed = wire.old.wire.failed;
           host = host.old;
@@ -111,7 +111,7 @@ fn turn_over<R: Abort>(
         (record {
           held = turns.new.held;
           bound = wire.new.wire.accepted;
-          told = told_by wire.new.wire;
+          report = report_by wire.new.wire;
           asked = Some (map call_of wire.new.calls.items);
           failed = wire.new.wire.failed;
           host = host.new;
@@ -159,7 +159,7 @@ const CALLS: [Due; 11] = [
 ];
 
 /// A wire with two peers, of whom the second one sends nothing.
-fn with_two_peers<R: Abort>(rt: &R, alloc: Global) -> Result<TellingWire<'_, R>, Fail> {
+fn with_two_peers<R: Abort>(rt: &R, alloc: Global) -> Result<RecordingWire<'_, R>, Fail> {
     let mut wire = MemoryWire::new(alloc);
     for chunks in [GO_AND_QUIT, &[]] {
         let mut all = Vec::new(alloc);
@@ -168,7 +168,7 @@ fn with_two_peers<R: Abort>(rt: &R, alloc: Global) -> Result<TellingWire<'_, R>,
         }
         wire.connect(all).map_err(|_| "memory for a peer")?;
     }
-    Ok(TellingWire {
+    Ok(RecordingWire {
         rt,
         alloc,
         wire,
