@@ -3,7 +3,7 @@
 ghost use Rattle.std.specs.Prelude.{◌≡◌, ◌≢◌, ◌<◌, ◌≤◌, ◌^◌, ℕ, true, false, None, IfSome, IsNone, is_none};
 ghost use Rattle.shogi_core.specs.Attack.{is_attacked, is_open_king, in_check, is_sniper, is_sniping, cell_steps, cell_slides_back, is_step_from, is_shot_along, is_shot, IsOpenLine, HasPinned, HasPinnedAlong, OthersAreUnpinned};
 ghost use Rattle.shogi_core.specs.Below.{some_below};
-ghost use Rattle.shogi_core.specs.Bits.{HasBits, has_bit};
+ghost use Rattle.shogi_core.specs.Bits.{HasBits, IsMaskOf, has_bit};
 ghost use Rattle.shogi_core.specs.Cell.{is_king};
 ghost use Rattle.shogi_core.specs.Lines.{are_lined, is_seen};
 ghost use Rattle.shogi_core.specs.Pieces.{opponent_of};
@@ -31,8 +31,7 @@ fn is_open_king(board: &Board, color: Color, square: Square) -> bool
 #[tactic(auto, using(crate::proofs::SeenLaws::seen))]
 fn lined_squares(board: &Board, from: usize) -> u128
     requires { from < 81 }
-    ensures fits { result < 2 ^ 81 }
-    ensures bits { HasBits result (are_lined board.now from) }
+    ensures squares { IsMaskOf result (are_lined board.now from) }
 {
     straight_squares(board, Color::Black, from) | diagonal_squares(board, Color::Black, from)
 }
@@ -41,8 +40,7 @@ fn lined_squares(board: &Board, from: usize) -> u128
 #[tactic(auto, using(crate::proofs::SeenLaws::seen))]
 fn seen_squares(board: &Board, from: usize) -> u128
     requires { from < 81 }
-    ensures fits { result < 2 ^ 81 }
-    ensures bits { HasBits result (is_seen board.now from) }
+    ensures squares { IsMaskOf result (is_seen board.now from) }
 {
     lined_squares(board, from) | jump_squares(from)
 }
@@ -51,8 +49,7 @@ fn seen_squares(board: &Board, from: usize) -> u128
 #[tactic(auto, using(crate::proofs::SeenLaws::snipers))]
 fn sniper_squares(board: &Board, by: Color, from: usize) -> u128
     requires { from < 81 }
-    ensures fits { result < 2 ^ 81 }
-    ensures bits { HasBits result (is_sniper board.now by from) }
+    ensures squares { IsMaskOf result (is_sniper board.now by from) }
 {
     board.own(by) & board.sliders() & aligned_squares(from)
 }
@@ -301,8 +298,7 @@ impl Board {
     /// The squares on open lines with the square: on its file, its rank or a diagonal, with no
     /// piece between.
     pub fn lined(&self, square: Square) -> u128
-        ensures fits { result < 2 ^ 81 }
-        ensures bits { HasBits result (are_lined self.now square) }
+        ensures squares { IsMaskOf result (are_lined self.now square) }
     {
         square.validity();
         lined_squares(self, square.index())
@@ -311,8 +307,7 @@ impl Board {
     /// The squares from which a piece could reach the square: those on open lines with it, and a
     /// knight's jump away.
     pub fn seen(&self, square: Square) -> u128
-        ensures fits { result < 2 ^ 81 }
-        ensures bits { HasBits result (is_seen self.now square) }
+        ensures squares { IsMaskOf result (is_seen self.now square) }
     {
         square.validity();
         seen_squares(self, square.index())
@@ -353,8 +348,7 @@ impl Board {
     /// side, whatever stands between.
     #[tactic(auto, using(crate::proofs::Snipers::sniping))]
     pub fn snipers(&self, side: Color) -> u128
-        ensures fits { result < 2 ^ 81 }
-        ensures bits { HasBits result (is_sniping self.now side) }
+        ensures squares { IsMaskOf result (is_sniping self.now side) }
     {
         let mut left = self.kings(side);
         let mut found = 0;

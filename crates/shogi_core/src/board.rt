@@ -1,7 +1,7 @@
 //! The board: what stands on each square.
 
 ghost use Rattle.std.specs.Prelude.{◌≡◌, ◌<◌, ◌^◌, ℕ, length, slice_set, cond, ◌==◌, not, is_none};
-ghost use Rattle.shogi_core.specs.Bits.{HasBits, has_bit};
+ghost use Rattle.shogi_core.specs.Bits.{HasBits, IsMaskOf, has_bit};
 ghost use Rattle.shogi_core.specs.Cell.{is_piece_of, is_king, is_slider};
 ghost use Rattle.shogi_core.specs.Masks.{own_of, kings_of, sliders_of, is_any_king};
 ghost use Rattle.shogi_core.specs.Movement.{piece_at};
@@ -157,8 +157,7 @@ impl Board {
     #[tactic(auto, using(crate::proofs::MaskLaws::own_bits))]
     pub fn own(&self, color: Color) -> u128
         ensures mask { result ≡ own_of self.now color }
-        ensures bits { HasBits result (λ n. is_piece_of color (piece_at self.now n)) }
-        ensures fits { result < 2 ^ 81 }
+        ensures squares { IsMaskOf result (λ n. is_piece_of color (piece_at self.now n)) }
     {
         match color {
             Color::Black => self.black,
@@ -177,8 +176,7 @@ impl Board {
     /// The empty squares.
     #[tactic(auto, using(crate::proofs::LineBits::free_bits))]
     pub fn free(&self) -> u128
-        ensures bits { HasBits result (λ n. is_none (piece_at self.now n)) }
-        ensures fits { result < 2 ^ 81 }
+        ensures squares { IsMaskOf result (λ n. is_none (piece_at self.now n)) }
     {
         !self.occupied() & ALL_SQUARES
     }
@@ -186,8 +184,7 @@ impl Board {
     /// The squares on which kings of the side stand.
     #[tactic(auto, using(crate::proofs::MaskLaws::king_bits))]
     pub fn kings(&self, color: Color) -> u128
-        ensures bits { HasBits result (λ n. is_king color (piece_at self.now n)) }
-        ensures fits { result < 2 ^ 81 }
+        ensures squares { IsMaskOf result (λ n. is_king color (piece_at self.now n)) }
     {
         self.kings & self.own(color)
     }
@@ -195,8 +192,7 @@ impl Board {
     /// The squares on which pieces stand that slide, of either side.
     #[tactic(auto, using(crate::proofs::MaskLaws::own_bits))]
     pub fn sliders(&self) -> u128
-        ensures bits { HasBits result (λ n. is_slider (piece_at self.now n)) }
-        ensures fits { result < 2 ^ 81 }
+        ensures squares { IsMaskOf result (λ n. is_slider (piece_at self.now n)) }
     {
         self.sliders
     }

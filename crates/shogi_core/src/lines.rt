@@ -1,7 +1,7 @@
 //! Slides by masks.
 
-ghost use Rattle.std.specs.Prelude.{◌<◌, ◌≤◌, ◌^◌};
-ghost use Rattle.shogi_core.specs.Bits.{HasBits};
+ghost use Rattle.std.specs.Prelude.{◌<◌, ◌≤◌};
+ghost use Rattle.shogi_core.specs.Bits.{IsMaskOf};
 ghost use Rattle.shogi_core.specs.Lines.{are_aligned};
 ghost use Rattle.shogi_core.specs.Movement.{slides};
 ghost use Rattle.shogi_core.specs.Rays.{direction_at};
@@ -31,8 +31,7 @@ pub const UP_RIGHT: usize = 7;
 /// The squares on lines with the square, whatever stands between.
 pub fn aligned_squares(from: usize) -> u128
     requires { from < 81 }
-    ensures fits { result < 2 ^ 81 }
-    ensures bits { HasBits result (are_aligned from) }
+    ensures squares { IsMaskOf result (are_aligned from) }
 {
     ALIGNED[from]
 }
@@ -42,8 +41,7 @@ pub fn aligned_squares(from: usize) -> u128
 fn rising_squares(board: &Board, direction: usize, from: usize) -> u128
     requires direction { direction < 4 }
     requires from { from < 81 }
-    ensures fits { result < 2 ^ 81 }
-    ensures bits { HasBits result (slides board.now (direction_at direction) from) }
+    ensures squares { IsMaskOf result (slides board.now (direction_at direction) from) }
 {
     let line = ray(direction, from);
     line & up_to_lowest(line & board.occupied())
@@ -54,8 +52,7 @@ fn rising_squares(board: &Board, direction: usize, from: usize) -> u128
 fn falling_squares(board: &Board, direction: usize, from: usize) -> u128
     requires direction { (4 ≤ direction) × (direction < 8) }
     requires from { from < 81 }
-    ensures fits { result < 2 ^ 81 }
-    ensures bits { HasBits result (slides board.now (direction_at direction) from) }
+    ensures squares { IsMaskOf result (slides board.now (direction_at direction) from) }
 {
     let line = ray(direction, from);
     // No such line leads on from the square of index 0.
@@ -67,8 +64,7 @@ fn falling_squares(board: &Board, direction: usize, from: usize) -> u128
 pub fn slide_squares(board: &Board, direction: usize, from: usize) -> u128
     requires direction { direction < 8 }
     requires from { from < 81 }
-    ensures fits { result < 2 ^ 81 }
-    ensures bits { HasBits result (slides board.now (direction_at direction) from) }
+    ensures squares { IsMaskOf result (slides board.now (direction_at direction) from) }
 {
     if direction < 4 {
         rising_squares(board, direction, from)

@@ -1,7 +1,7 @@
 //! Where steps and jumps from each square lead.
 
-ghost use Rattle.std.specs.Prelude.{◌≡◌, ◌<◌, ◌^◌};
-ghost use Rattle.shogi_core.specs.Bits.{HasBits};
+ghost use Rattle.std.specs.Prelude.{◌≡◌, ◌<◌};
+ghost use Rattle.shogi_core.specs.Bits.{IsMaskOf};
 ghost use Rattle.shogi_core.specs.Movement.{steps_of, has_step};
 ghost use Rattle.shogi_core.specs.Steps.{steps_at, color_number};
 ghost use Rattle.shogi_core.specs.Lines.{is_jump, is_near};
@@ -34,8 +34,7 @@ fn color_number(color: Color) -> usize
 /// The squares to which a step or a jump of the piece leads.
 pub fn step_squares(piece: Piece, from: usize) -> u128
     requires { from < 81 }
-    ensures fits { result < 2 ^ 81 }
-    ensures bits { HasBits result (has_step piece from) }
+    ensures squares { IsMaskOf result (has_step piece from) }
 {
     STEPS[(steps_kind(piece.role) * 2 + color_number(piece.color)) * 81 + from]
 }
@@ -44,8 +43,7 @@ pub fn step_squares(piece: Piece, from: usize) -> u128
 #[tactic(auto, using(crate::proofs::TargetLaws::no_bits))]
 pub fn jump_squares(from: usize) -> u128
     requires { from < 81 }
-    ensures fits { result < 2 ^ 81 }
-    ensures bits { HasBits result (is_jump from) }
+    ensures squares { IsMaskOf result (is_jump from) }
 {
     let black = Piece {
         color: Color::Black,
@@ -62,8 +60,7 @@ pub fn jump_squares(from: usize) -> u128
 #[tactic(auto, using(crate::proofs::TargetLaws::no_bits))]
 pub fn near_squares(from: usize) -> u128
     requires { from < 81 }
-    ensures fits { result < 2 ^ 81 }
-    ensures bits { HasBits result (is_near from) }
+    ensures squares { IsMaskOf result (is_near from) }
 {
     let king = Piece {
         color: Color::Black,

@@ -1,7 +1,7 @@
 //! The squares that a piece reaches, as a mask.
 
-ghost use Rattle.std.specs.Prelude.{◌≡◌, ◌<◌, ◌^◌, Some};
-ghost use Rattle.shogi_core.specs.Bits.{HasBits};
+ghost use Rattle.std.specs.Prelude.{◌≡◌, ◌<◌, Some};
+ghost use Rattle.shogi_core.specs.Bits.{IsMaskOf};
 ghost use Rattle.shogi_core.specs.Movement.{reaches, cell_reaches, has_slide, straight, diagonal, forward, is_slide};
 
 use crate::bits::has;
@@ -17,8 +17,7 @@ use crate::steps::step_squares;
 #[tactic(auto, using(crate::proofs::TargetLaws::four_ways))]
 pub fn straight_squares(board: &Board, color: Color, from: usize) -> u128
     requires { from < 81 }
-    ensures fits { result < 2 ^ 81 }
-    ensures bits { HasBits result (is_slide board.now color straight from) }
+    ensures squares { IsMaskOf result (is_slide board.now color straight from) }
 {
     slide_squares(board, UP, from)
         | slide_squares(board, DOWN, from)
@@ -30,8 +29,7 @@ pub fn straight_squares(board: &Board, color: Color, from: usize) -> u128
 #[tactic(auto, using(crate::proofs::TargetLaws::four_ways))]
 pub fn diagonal_squares(board: &Board, color: Color, from: usize) -> u128
     requires { from < 81 }
-    ensures fits { result < 2 ^ 81 }
-    ensures bits { HasBits result (is_slide board.now color diagonal from) }
+    ensures squares { IsMaskOf result (is_slide board.now color diagonal from) }
 {
     slide_squares(board, UP_LEFT, from)
         | slide_squares(board, UP_RIGHT, from)
@@ -43,8 +41,7 @@ pub fn diagonal_squares(board: &Board, color: Color, from: usize) -> u128
 #[tactic(auto, using(crate::proofs::TargetLaws::one_way))]
 fn forward_squares(board: &Board, color: Color, from: usize) -> u128
     requires { from < 81 }
-    ensures fits { result < 2 ^ 81 }
-    ensures bits { HasBits result (is_slide board.now color forward from) }
+    ensures squares { IsMaskOf result (is_slide board.now color forward from) }
 {
     match color {
         Color::Black => slide_squares(board, UP, from),
@@ -57,8 +54,7 @@ fn forward_squares(board: &Board, color: Color, from: usize) -> u128
 #[tactic(auto, using(crate::proofs::TargetLaws::no_bits))]
 fn slider_slides(board: &Board, piece: Piece, from: usize) -> u128
     requires { from < 81 }
-    ensures fits { result < 2 ^ 81 }
-    ensures bits { HasBits result (has_slide board.now piece from) }
+    ensures squares { IsMaskOf result (has_slide board.now piece from) }
 {
     match piece.role {
         Role::Lance => forward_squares(board, piece.color, from),
@@ -72,8 +68,7 @@ fn slider_slides(board: &Board, piece: Piece, from: usize) -> u128
 #[tactic(auto, using(crate::proofs::TargetLaws::no_slides))]
 fn piece_slides(board: &Board, piece: Piece, from: usize) -> u128
     requires { from < 81 }
-    ensures fits { result < 2 ^ 81 }
-    ensures bits { HasBits result (has_slide board.now piece from) }
+    ensures squares { IsMaskOf result (has_slide board.now piece from) }
 {
     if piece.role.is_sliding() {
         slider_slides(board, piece, from)
@@ -87,8 +82,7 @@ impl Board {
     /// does.
     #[tactic(auto, using(crate::proofs::TargetLaws::no_bits))]
     pub fn targets_of(&self, piece: Piece, from: Square) -> u128
-        ensures bits { HasBits result (cell_reaches self.now (Some piece) from) }
-        ensures fits { result < 2 ^ 81 }
+        ensures squares { IsMaskOf result (cell_reaches self.now (Some piece) from) }
     {
         let index = from.index();
         step_squares(piece, index) | piece_slides(self, piece, index)
@@ -98,8 +92,7 @@ impl Board {
     /// empty.
     #[tactic(auto, using(crate::proofs::TargetLaws::no_bits), unfolding(crate::specs::Movement::reaches))]
     pub fn targets(&self, from: Square) -> u128
-        ensures bits { HasBits result (reaches self.now from) }
-        ensures fits { result < 2 ^ 81 }
+        ensures squares { IsMaskOf result (reaches self.now from) }
     {
         from.validity();
         match self.at(from) {

@@ -8,9 +8,9 @@ use Rattle.shogi_core.proofs.attack.is_stepped_on.Goals as goal
 
 pub loop-left-init : goal.loop-left-init
 loop-left-init c = record {
-  covers = steps_first c.args.board.now c.args.by c.args.square c.own.result c.near_squares.result c.own.ensures.bits c.near_squares.ensures.bits;
-  own = λ n h e. sym (c.own.ensures.bits n h) ∙ steps_own c.own.result c.near_squares.result n e;
-  fits = and_fits c.own.result c.near_squares.result c.own.ensures.fits;
+  covers = steps_first c.args.board.now c.args.by c.args.square c.own.result c.near_squares.result c.own.ensures.squares.0 c.near_squares.ensures.squares.0;
+  own = λ n h e. sym (c.own.ensures.squares.0 n h) ∙ steps_own c.own.result c.near_squares.result n e;
+  fits = and_fits c.own.result c.near_squares.result c.own.ensures.squares.1;
 }
 
 pub returns-then-steps_to : goal.returns-then-steps_to

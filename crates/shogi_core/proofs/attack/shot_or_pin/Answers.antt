@@ -21,7 +21,7 @@ returns-then-not-has-clause-shot c = first_harmless c.args.board.now (opponent_o
 
 pub returns-then-not-has-clause-all : goal.returns-then-not-has-clause-all
 returns-then-not-has-clause-all c = λ _ n a l h pin. others_not_pinned c.args.board.now c.args.side c.args.square c.args.direction c.args.snipers c.requires.snipers
-    c.in-Some.first c.in-Some.ensures.range c.in-Some.ensures.reached c.in-Some.ensures.piece (sym (c.own.ensures.bits c.in-Some.first c.in-Some.ensures.range) ∙ sym c.if-not-has.ensures) c.args.pinned.now n a pin
+    c.in-Some.first c.in-Some.ensures.range c.in-Some.ensures.reached c.in-Some.ensures.piece (sym (c.own.ensures.squares.0 c.in-Some.first c.in-Some.ensures.range) ∙ sym c.if-not-has.ensures) c.args.pinned.now n a pin
 
 pub returns-in_default-first_piece-clause-shot : goal.returns-in_default-first_piece-clause-shot
 returns-in_default-first_piece-clause-shot c = first_harmless c.args.board.now (opponent_of c.args.side) c.args.square c.requires.square c.args.snipers c.requires.snipers

@@ -5,9 +5,9 @@ use Rattle.shogi_moves.proofs.destinations.drop_squares.Goals as goal
 pub returns-then-not-info : goal.returns-then-not-info
 returns-then-not-info c =
     let quiet : c.args.info.now.checked ≡ false = search rules in
-    squares_free c.args.p.now c.args.info.now.checked c.args.info.now.pinned_or_king c.free-free.result c.requires.info c.validity.ensures.cells_fit quiet (rw c.as_board.ensures at c.free-free.ensures.bits) c.free-free.ensures.fits
+    squares_free c.args.p.now c.args.info.now.checked c.args.info.now.pinned_or_king c.free-free.result c.requires.info c.validity.ensures.cells_fit quiet (rw c.as_board.ensures at c.free-free.ensures.squares.0) c.free-free.ensures.squares.1
 
 pub returns : goal.returns
 returns c =
     let check : c.args.info.now.checked ≡ true = search rules in
-    squares_tried c.args.p.now c.args.info.now.checked c.args.info.now.pinned_or_king c.free-free.result c.tried_drops.result c.requires.info c.validity.ensures.cells_fit check (rw c.as_board.ensures at c.free-free.ensures.bits) c.tried_drops.ensures.bits c.tried_drops.ensures.fits
+    squares_tried c.args.p.now c.args.info.now.checked c.args.info.now.pinned_or_king c.free-free.result c.tried_drops.result c.requires.info c.validity.ensures.cells_fit check (rw c.as_board.ensures at c.free-free.ensures.squares.0) c.tried_drops.ensures.bits c.tried_drops.ensures.fits

@@ -7,5 +7,5 @@ use Rattle.shogi_moves.proofs.escapes.has_open.Goals as goal
 pub returns : goal.returns
 returns c = λ e.
     let side : c.opponent.result ≡ opponent_of c.args.p.now.side = c.opponent.ensures ∙ ap opponent_of c.side.ensures in
-    found_open c.args.p.now c.args.escapes c.args.closed c.kings-kings.result c.args.to c.index-end.result c.requires c.ranges.closed.fits c.kings-kings.ensures.fits c.index-end.ensures.range c.index-end.ensures.index
-    (rw (side, c.as_board.ensures) at c.kings-kings.ensures.bits) c.if-kings-eq0.false (sym c.has.ensures ∙ c.if-has.false) (λ none. both_ways _ (not-true _ e) (eq-eqb _ 0 none))
+    found_open c.args.p.now c.args.escapes c.args.closed c.kings-kings.result c.args.to c.index-end.result c.requires c.ranges.closed.fits c.kings-kings.ensures.squares.1 c.index-end.ensures.range c.index-end.ensures.index
+    (rw (side, c.as_board.ensures) at c.kings-kings.ensures.squares.0) c.if-kings-eq0.false (sym c.has.ensures ∙ c.if-has.false) (λ none. both_ways _ (not-true _ e) (eq-eqb _ 0 none))

@@ -6,7 +6,7 @@ use Rattle.shogi_moves.proofs.existence.has_king_move.Goals as goal
 pub king_escapes-requires-clause-lone : goal.king_escapes-requires-clause-lone
 king_escapes-requires-clause-lone c =
     let none : c.cleared.result ≡ 0 = omega (arith, c.if-cleared-ne0.false) in
-    rw c.of_index-from.ensures (lone_king c.args.p.now c.kings-kings.result c.cleared.result c.lowest-king.result (rw (c.side.ensures, c.as_board-board.ensures) at c.kings-kings.ensures.bits) c.cleared.ensures.bits none)
+    rw c.of_index-from.ensures (lone_king c.args.p.now c.kings-kings.result c.cleared.result c.lowest-king.result (rw (c.side.ensures, c.as_board-board.ensures) at c.kings-kings.ensures.squares.0) c.cleared.ensures.bits none)
 
 pub king_escapes-requires-clause-destinations : goal.king_escapes-requires-clause-destinations
-king_escapes-requires-clause-destinations c = king_ways c.args.p.now c.of_index-from.result c.targets.result c.own-own.result c.own-own.ensures.fits (rw c.as_board-board.ensures at c.targets.ensures.bits) (rw (c.side-2.ensures, c.as_board-board.ensures) at c.own-own.ensures.bits)
+king_escapes-requires-clause-destinations c = king_ways c.args.p.now c.of_index-from.result c.targets.result c.own-own.result c.own-own.ensures.squares.1 (rw c.as_board-board.ensures at c.targets.ensures.squares.0) (rw (c.side-2.ensures, c.as_board-board.ensures) at c.own-own.ensures.squares.0)

@@ -6,9 +6,9 @@ use Rattle.shogi_moves.proofs.replies.spare_pieces.Goals as goal
 
 pub loop-left-init : goal.loop-left-init
 loop-left-init c = record {
-  sifted = sifted_first c.args.p.now.cells c.args.side c.args.lines c.own.result (omega arith) (rw c.as_board.ensures at c.own.ensures.bits);
-  left = and_fits c.own.result (2 ^ 128 - 1 - c.args.lines) c.own.ensures.fits;
-  fits = and_fits c.own.result (2 ^ 128 - 1 - c.args.lines) c.own.ensures.fits;
+  sifted = sifted_first c.args.p.now.cells c.args.side c.args.lines c.own.result (omega arith) (rw c.as_board.ensures at c.own.ensures.squares.0);
+  left = and_fits c.own.result (2 ^ 128 - 1 - c.args.lines) c.own.ensures.squares.1;
+  fits = and_fits c.own.result (2 ^ 128 - 1 - c.args.lines) c.own.ensures.squares.1;
   few = omega arith;
 }
 

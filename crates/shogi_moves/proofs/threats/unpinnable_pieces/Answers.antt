@@ -14,5 +14,5 @@ returns-clause-unpinnable c = λ a h e.
     found_unpinnable c.args.p.now c.line_squares.result c.own.result a
     (subst (λ (s : Color). Aligns c.args.p.now.cells s 0 c.line_squares.result) side c.line_squares.ensures)
     (omega arith)
-    (subst (λ (s : Color). (n : ℕ) → n < 81 → has_bit c.own.result n ≡ is_piece_of s (piece_at c.args.p.now.cells n)) side (rw c.as_board.ensures at c.own.ensures.bits))
+    (subst (λ (s : Color). (n : ℕ) → n < 81 → has_bit c.own.result n ≡ is_piece_of s (piece_at c.args.p.now.cells n)) side (rw c.as_board.ensures at c.own.ensures.squares.0))
     h e

@@ -10,10 +10,10 @@ use Rattle.shogi_core.proofs.board.Board.pinned.Goals as goal
 
 pub loop-left-init : goal.loop-left-init
 loop-left-init c = record {
-  covers = kings_first c.args.self.now c.args.side c.kings-left.result c.kings-left.ensures.bits;
-  all = pins_first c.args.self.now c.args.side c.kings-left.result c.kings-left.ensures.bits;
-  mine = λ n h e. sym (c.kings-left.ensures.bits n h) ∙ e;
-  left = c.kings-left.ensures.fits;
+  covers = kings_first c.args.self.now c.args.side c.kings-left.result c.kings-left.ensures.squares.0;
+  all = pins_first c.args.self.now c.args.side c.kings-left.result c.kings-left.ensures.squares.0;
+  mine = λ n h e. sym (c.kings-left.ensures.squares.0 n h) ∙ e;
+  left = c.kings-left.ensures.squares.1;
 }
 
 pub loop-left-preserved : goal.loop-left-preserved

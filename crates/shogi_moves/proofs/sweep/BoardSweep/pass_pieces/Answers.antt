@@ -10,9 +10,9 @@ squares-init c = record {
   none = c.requires.none;
   passed = record { up = omega arith; passed = λ first low. passed_none _ _ _ refl };
   matching = on_first c.args.p.now false c.own.result c.bits_above-left.result c.args.self.now.from c.args.self.now.code c.args.self.now.destinations.plain c.args.self.now.destinations.promoting (omega (arith, c.index.ensures.range, c.index.ensures.index)) c.requires.kept.destinations (rw (c.requires.none.0, c.requires.none.1) refl)
-      (rw (c.side.ensures, c.as_board.ensures) at c.own.ensures.bits) (rw c.index.ensures.index at c.bits_above-left.ensures.above);
+      (rw (c.side.ensures, c.as_board.ensures) at c.own.ensures.squares.0) (rw c.index.ensures.index at c.bits_above-left.ensures.above);
   fits = c.bits_above-left.ensures.fits;
-  mine = mine_first c.args.p.now c.own.result c.bits_above-left.result c.args.self.now.from (rw (c.side.ensures, c.as_board.ensures) at c.own.ensures.bits) (rw c.index.ensures.index at c.bits_above-left.ensures.above) (rw c.index.ensures.index at c.bits_above-left.ensures.below);
+  mine = mine_first c.args.p.now c.own.result c.bits_above-left.result c.args.self.now.from (rw (c.side.ensures, c.as_board.ensures) at c.own.ensures.squares.0) (rw c.index.ensures.index at c.bits_above-left.ensures.above) (rw c.index.ensures.index at c.bits_above-left.ensures.below);
 }
 
 pub squares-preserved : goal.squares-preserved
