@@ -7,7 +7,7 @@ use Rattle.shogi_core.specs.declared.piece.Piece.{Piece}
 use Rattle.shogi_core.specs.declared.moves.Move.{Move}
 use Rattle.shogi_core.specs.declared.moves.Move.TheVariants.{Board, Drop}
 use Rattle.shogi_core.specs.Attack.{in_check, is_attacked}
-use Rattle.shogi_core.specs.Bits.{HasBits, has_bit}
+use Rattle.shogi_core.specs.Bits.{HasBits, IsMaskOf, has_bit}
 use Rattle.shogi_core.specs.Cell.{is_piece_of}
 use Rattle.shogi_core.specs.Codes.{code_of}
 use Rattle.shogi_core.specs.Movement.{Cells, piece_at, reaches}
@@ -28,7 +28,7 @@ is_unchecked p m = not (in_check (cells_after p.cells p.side m) p.side)
 -- the mask has those of the destinations at which the piece leaves its king unattacked
 abbrev pub AreUncheckedDestinations : Shogi → ℕ → ℕ → ℕ → Type 0
 AreUncheckedDestinations p from destinations mask =
-    HasBits mask (λ n. has_bit destinations n && is_unchecked p (Board from n false))
+    IsMaskOf mask (λ n. has_bit destinations n && is_unchecked p (Board from n false))
 
 -- the mask has those of the destinations at which the move of the piece is legal, promoting or not
 abbrev pub AreLegalDestinations : Shogi → ℕ → Bool → ℕ → ℕ → Type 0
@@ -38,7 +38,7 @@ AreLegalDestinations p from promote destinations mask =
 -- the mask has those of the squares on which a dropped pawn leaves its king unattacked
 abbrev pub AreUncheckedDrops : Shogi → ℕ → ℕ → Type 0
 AreUncheckedDrops p squares mask =
-    HasBits mask (λ n. has_bit squares n && is_unchecked p (Drop Pawn n))
+    IsMaskOf mask (λ n. has_bit squares n && is_unchecked p (Drop Pawn n))
 
 -- a pawn dropped there mates
 abbrev pub is_mating_square : Shogi → ℕ → Bool

@@ -5,7 +5,7 @@ ghost use Rattle.shogi_core.specs.declared.moves.Move.TheVariants as moves;
 ghost use Rattle.shogi_core.specs.declared.piece.Kind.TheVariants as kinds;
 ghost use Rattle.shogi_moves.specs.Legal.{is_safe, may_promote};
 ghost use Rattle.shogi_core.specs.Attack.{in_check};
-ghost use Rattle.shogi_core.specs.Bits.{HasBits, has_bit};
+ghost use Rattle.shogi_core.specs.Bits.{HasBits, IsMaskOf, has_bit};
 ghost use Rattle.shogi_core.specs.Cell.{is_piece_of, is_king, is_immobile};
 ghost use Rattle.shogi_core.specs.Codes.{code_of};
 ghost use Rattle.shogi_core.specs.Movement.{piece_at};
@@ -31,9 +31,8 @@ pub struct Destinations {
 
 /// The destinations of captures, or of the other moves.
 pub fn matching_destinations(p: &Position, capture: bool) -> u128
-    ensures bits { HasBits result (λ n. is_destination capture p.now.side
+    ensures squares { IsMaskOf result (λ n. is_destination capture p.now.side
         (piece_at p.now.cells n)) }
-    ensures fits { result < 2 ^ 81 }
 {
     if capture {
         p.as_board().own(p.side().opponent())
@@ -53,8 +52,7 @@ fn is_unchecked(p: &Position, m: &Move) -> bool
 #[tactic(auto, using(crate::proofs::DestinationLaws::sifting))]
 fn tried_destinations(p: &Position, from: Square, destinations: u128) -> u128
     requires { destinations < 2 ^ 81 }
-    ensures bits { AreUncheckedDestinations p.now from destinations result }
-    ensures fits { result < 2 ^ 81 }
+    ensures squares { AreUncheckedDestinations p.now from destinations result }
 {
     let mut left = destinations;
     let mut kept = destinations;
@@ -105,8 +103,7 @@ fn seen_king_destinations(p: &Position, seen: &Board, from: Square, destinations
     requires seen { (n : ℕ) → n < 81 → ShowsAttack p.now seen.now from n }
     requires lone { HasNoOtherKing p.now.cells p.now.side from }
     requires fits { destinations < 2 ^ 81 }
-    ensures bits { AreUncheckedDestinations p.now from destinations result }
-    ensures fits { result < 2 ^ 81 }
+    ensures squares { AreUncheckedDestinations p.now from destinations result }
 {
     let mut left = destinations;
     let mut kept = destinations;
@@ -128,8 +125,7 @@ fn king_destinations(p: &Position, checked: bool, from: Square, destinations: u1
     requires checked { checked ≡ in_check p.now.cells p.now.side }
     requires lone { HasNoOtherKing p.now.cells p.now.side from }
     requires fits { destinations < 2 ^ 81 }
-    ensures bits { AreUncheckedDestinations p.now from destinations result }
-    ensures fits { result < 2 ^ 81 }
+    ensures squares { AreUncheckedDestinations p.now from destinations result }
 {
     p.validity();
     from.validity();
@@ -154,8 +150,7 @@ fn may_be_pinned_destinations(
     requires info { IsCheckInfoOf info.now p.now }
     requires own { is_piece_of p.now.side (piece_at p.now.cells from) ≡ true }
     requires fits { destinations < 2 ^ 81 }
-    ensures bits { AreUncheckedDestinations p.now from destinations result }
-    ensures fits { result < 2 ^ 81 }
+    ensures squares { AreUncheckedDestinations p.now from destinations result }
 {
     p.validity();
     from.validity();
@@ -184,8 +179,7 @@ fn safe_destinations(p: &Position, info: &CheckInfo, from: Square, destinations:
     requires info { IsCheckInfoOf info.now p.now }
     requires own { is_piece_of p.now.side (piece_at p.now.cells from) ≡ true }
     requires fits { destinations < 2 ^ 81 }
-    ensures bits { AreUncheckedDestinations p.now from destinations result }
-    ensures fits { result < 2 ^ 81 }
+    ensures squares { AreUncheckedDestinations p.now from destinations result }
 {
     p.validity();
     from.validity();
@@ -259,8 +253,7 @@ pub fn legal_destinations(p: &Position, info: &CheckInfo, from: Square, among: u
 #[tactic(auto, using(crate::proofs::DestinationLaws::sifting))]
 fn tried_drops(p: &Position, squares: u128) -> u128
     requires { squares < 2 ^ 81 }
-    ensures bits { AreUncheckedDrops p.now squares result }
-    ensures fits { result < 2 ^ 81 }
+    ensures squares { AreUncheckedDrops p.now squares result }
 {
     let mut left = squares;
     let mut kept = squares;
@@ -314,8 +307,7 @@ pub fn drop_squares(p: &Position, info: &CheckInfo) -> u128
 #[tactic(auto, using(crate::proofs::DestinationLaws::safe_dropping))]
 pub fn safe_drops(p: &Position, squares: u128, kind: Kind) -> u128
     requires squares { AreDropSquares p.now squares }
-    ensures bits { HasBits result (λ n. is_safe p.now (moves.Drop kind n)) }
-    ensures fits { result < 2 ^ 81 }
+    ensures squares { IsMaskOf result (λ n. is_safe p.now (moves.Drop kind n)) }
 {
     let side = p.side();
     if p.hand(side, kind) == 0 {
@@ -357,8 +349,7 @@ fn facing_squares(p: &Position) -> u128
 fn non_mating_drops(p: &Position, destinations: u128) -> u128
     requires fits { destinations < 2 ^ 81 }
     requires safe { HasBits destinations (λ n. is_safe p.now (moves.Drop kinds.Pawn n)) }
-    ensures bits { HasBits result (λ n. has_bit destinations n && not (is_mating_square p.now n)) }
-    ensures fits { result < 2 ^ 81 }
+    ensures squares { IsMaskOf result (λ n. has_bit destinations n && not (is_mating_square p.now n)) }
 {
     let mut left = destinations & facing_squares(p);
     let mut kept = destinations;
@@ -381,8 +372,7 @@ fn non_mating_drops(p: &Position, destinations: u128) -> u128
 #[tactic(auto, using(crate::proofs::DestinationLaws::legal_dropping))]
 pub fn drop_destinations(p: &Position, squares: u128, kind: Kind) -> u128
     requires squares { AreDropSquares p.now squares }
-    ensures bits { HasBits result (λ n. is_matching p.now false (code_of (moves.Drop kind n))) }
-    ensures fits { result < 2 ^ 81 }
+    ensures squares { IsMaskOf result (λ n. is_matching p.now false (code_of (moves.Drop kind n))) }
 {
     let destinations = safe_drops(p, squares, kind);
     match kind {

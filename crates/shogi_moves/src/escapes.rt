@@ -3,7 +3,7 @@
 ghost use Rattle.std.specs.Prelude.{◌≡◌, ◌<◌, ◌^◌, ◌&&◌, not, true, false, Option};
 ghost use Rattle.shogi_core.specs.declared.piece.Piece.{Piece};
 ghost use Rattle.shogi_core.specs.Attack.{is_attacked};
-ghost use Rattle.shogi_core.specs.Bits.{HasBits, has_bit};
+ghost use Rattle.shogi_core.specs.Bits.{IsMaskOf, has_bit};
 ghost use Rattle.shogi_moves.specs.Destinations.{IsWithin};
 ghost use Rattle.shogi_moves.specs.Escapes.{ReachesWithin, AreEscapes, HasOpenEscape};
 ghost use Rattle.shogi_moves.specs.Replies.{IsAnswered, AreAnswered, AreDropsAnswered};
@@ -18,8 +18,7 @@ use shogi_core::{
 #[tactic(auto, using(crate::proofs::DestinationLaws::sifting))]
 fn unattacked(board: &Board, by: Color, squares: u128) -> u128
     requires { squares < 2 ^ 81 }
-    ensures bits { HasBits result (λ n. has_bit squares n && not (is_attacked board.now by n)) }
-    ensures fits { result < 2 ^ 81 }
+    ensures squares { IsMaskOf result (λ n. has_bit squares n && not (is_attacked board.now by n)) }
 {
     let mut left = squares;
     let mut kept = squares;

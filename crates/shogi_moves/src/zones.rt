@@ -1,7 +1,7 @@
 //! Squares by rank and by file, as masks.
 
-ghost use Rattle.std.specs.Prelude.{◌≡◌, ◌<◌, ◌^◌, ◌/◌, ◌&&◌, nat_lt};
-ghost use Rattle.shogi_core.specs.Bits.{HasBits};
+ghost use Rattle.std.specs.Prelude.{◌≡◌, ◌/◌, ◌&&◌, nat_lt};
+ghost use Rattle.shogi_core.specs.Bits.{IsMaskOf};
 ghost use Rattle.shogi_core.specs.Cell.{is_immobile};
 ghost use Rattle.shogi_core.specs.Validity.{pawns_on_file};
 ghost use Rattle.shogi_moves.specs.Legal.{in_promotion_zone, may_promote};
@@ -27,8 +27,7 @@ const LAST_THREE_RANKS: u128 = 2119760341242089511813568;
 /// The squares on which the piece could never move again.
 #[tactic(auto, using(crate::proofs::ZoneLaws::dead_bits))]
 pub fn dead_squares(cell: Option<Piece>) -> u128
-    ensures bits { HasBits result (λ n. is_immobile n cell) }
-    ensures fits { result < 2 ^ 81 }
+    ensures squares { IsMaskOf result (λ n. is_immobile n cell) }
 {
     let Some(piece) = cell else { return 0 };
     match (piece.color, piece.role) {
@@ -43,8 +42,7 @@ pub fn dead_squares(cell: Option<Piece>) -> u128
 /// The squares of the zone in which the side promotes.
 #[tactic(auto, using(crate::proofs::ZoneLaws::zone_bits))]
 pub fn zone_squares(color: Color) -> u128
-    ensures bits { HasBits result (in_promotion_zone color) }
-    ensures fits { result < 2 ^ 81 }
+    ensures squares { IsMaskOf result (in_promotion_zone color) }
 {
     match color {
         Color::Black => FIRST_THREE_RANKS,
@@ -55,8 +53,7 @@ pub fn zone_squares(color: Color) -> u128
 /// The squares of the two ranks that are last before the side.
 #[tactic(auto, using(crate::proofs::ZoneLaws::back_bits))]
 pub fn back_squares(color: Color) -> u128
-    ensures bits { HasBits result (is_on_back_rank color) }
-    ensures fits { result < 2 ^ 81 }
+    ensures squares { IsMaskOf result (is_on_back_rank color) }
 {
     match color {
         Color::Black => FIRST_TWO_RANKS,
@@ -67,8 +64,7 @@ pub fn back_squares(color: Color) -> u128
 /// The squares on which the piece may promote.
 #[tactic(auto, using(crate::proofs::ZoneLaws::promoting_bits))]
 pub fn promoting_squares(cell: Option<Piece>, from: Square) -> u128
-    ensures bits { HasBits result (may_promote cell from) }
-    ensures fits { result < 2 ^ 81 }
+    ensures squares { IsMaskOf result (may_promote cell from) }
 {
     let Some(piece) = cell else { return 0 };
     if !is_promotable(piece.role) {
@@ -97,8 +93,7 @@ const FILES: [u128; 9] = [
 #[inline(never)]
 #[tactic(auto, using(crate::proofs::PawnFiles::pawn_files))]
 pub fn pawn_files(p: &Position, side: Color) -> u128
-    ensures bits { HasBits result (λ n. nat_lt 0 (pawns_on_file side (n / 9) p.now.cells)) }
-    ensures fits { result < 2 ^ 81 }
+    ensures squares { IsMaskOf result (λ n. nat_lt 0 (pawns_on_file side (n / 9) p.now.cells)) }
 {
     p.validity();
     let mut left = p.as_board().own(side);

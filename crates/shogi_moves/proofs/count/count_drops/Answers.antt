@@ -10,8 +10,8 @@ use Rattle.shogi_moves.proofs.count.count_drops.Goals as goal
 
 pub kinds-init : goal.kinds-init
 kinds-init c = record {
-  whole = omega (arith, counted_drop c.args.p.now kinds.Pawn c.drop_destinations.result c.drop_destinations.ensures.fits (λ n h. c.drop_destinations.ensures.bits n h ∙ drop_matching c.args.p.now kinds.Pawn n h));
-  range = ones_most c.drop_destinations.result c.drop_destinations.ensures.fits;
+  whole = omega (arith, counted_drop c.args.p.now kinds.Pawn c.drop_destinations.result c.drop_destinations.ensures.squares.1 (λ n h. c.drop_destinations.ensures.squares.0 n h ∙ drop_matching c.args.p.now kinds.Pawn n h));
+  range = ones_most c.drop_destinations.result c.drop_destinations.ensures.squares.1;
 }
 
 pub kinds-preserved : goal.kinds-preserved
@@ -19,10 +19,10 @@ kinds-preserved c =
     let next : kind_number c.in-Some.next ≡ kind_number c.kinds.kind + 1 = c.in-Some.ensures in
     let here : FIRST_DROP + 81 + kind_number c.kinds.kind * 81 ≡ FIRST_DROP + kind_number c.in-Some.next * 81 = omega arith in
     let herew = ap (λ (x : ℕ). length (legal_from c.args.p.now x)) here in
-    let more = counted_drop c.args.p.now c.in-Some.next c.drop_destinations-in-Some.result c.drop_destinations-in-Some.ensures.fits (λ n h. c.drop_destinations-in-Some.ensures.bits n h ∙ drop_matching c.args.p.now c.in-Some.next n h) in
+    let more = counted_drop c.args.p.now c.in-Some.next c.drop_destinations-in-Some.result c.drop_destinations-in-Some.ensures.squares.1 (λ n h. c.drop_destinations-in-Some.ensures.squares.0 n h ∙ drop_matching c.args.p.now c.in-Some.next n h) in
     record {
       whole = omega (arith, c.kinds.invariant.whole, herew, more);
-      range = omega (arith, c.kinds.invariant.range, ones_most c.drop_destinations-in-Some.result c.drop_destinations-in-Some.ensures.fits);
+      range = omega (arith, c.kinds.invariant.range, ones_most c.drop_destinations-in-Some.result c.drop_destinations-in-Some.ensures.squares.1);
     }
 
 pub returns-clause-count : goal.returns-clause-count

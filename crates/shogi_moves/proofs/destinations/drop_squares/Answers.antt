@@ -10,4 +10,4 @@ returns-then-not-info c =
 pub returns : goal.returns
 returns c =
     let check : c.args.info.now.checked ≡ true = search rules in
-    squares_tried c.args.p.now c.args.info.now.checked c.args.info.now.pinned_or_king c.free-free.result c.tried_drops.result c.requires.info c.validity.ensures.cells_fit check (rw c.as_board.ensures at c.free-free.ensures.squares.0) c.tried_drops.ensures.bits c.tried_drops.ensures.fits
+    squares_tried c.args.p.now c.args.info.now.checked c.args.info.now.pinned_or_king c.free-free.result c.tried_drops.result c.requires.info c.validity.ensures.cells_fit check (rw c.as_board.ensures at c.free-free.ensures.squares.0) c.tried_drops.ensures.squares.0 c.tried_drops.ensures.squares.1

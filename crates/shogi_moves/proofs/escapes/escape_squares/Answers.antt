@@ -21,4 +21,4 @@ returns c =
     (rw (c.of_index-from.ensures, c.as_board-board.ensures) at c.set.ensures)
     (lone_king (record { cells = c.args.p.now.cells; hands = c.args.p.now.hands; side = opponent_of c.args.p.now.side }) c.kings-kings.result c.cleared.result c.lowest-king.result (rw (side, c.as_board-board.ensures) at c.kings-kings.ensures.squares.0) c.cleared.ensures.bits none)
     (king_ways (record { cells = c.args.p.now.cells; hands = c.args.p.now.hands; side = opponent_of c.args.p.now.side }) c.lowest-king.result c.targets.result c.own.result c.own.ensures.squares.1 (rw (c.of_index-from.ensures, c.as_board-board.ensures) at c.targets.ensures.squares.0) (rw (side, c.as_board-board.ensures) at c.own.ensures.squares.0))
-    (rw (c.opponent.ensures, side) at c.unattacked.ensures.bits) c.unattacked.ensures.fits
+    (rw (c.opponent.ensures, side) at c.unattacked.ensures.squares.0) c.unattacked.ensures.squares.1

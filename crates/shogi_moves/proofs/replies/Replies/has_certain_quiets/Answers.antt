@@ -6,5 +6,5 @@ use Rattle.shogi_moves.proofs.replies.Replies.has_certain_quiets.Goals as goal
 
 pub returns : goal.returns
 returns c = λ e. certain_quiets c.args.p.now c.args.from (bit_and c.targets.result c.matching_destinations.result) c.promoting_squares-promoting.result c.certain_destinations.result
-    (λ n h. among_bits c.targets.result c.matching_destinations.result n _ _ (rw c.as_board.ensures at c.targets.ensures.squares.0 n h) (c.matching_destinations.ensures.bits n h))
-    (rw c.at.ensures at c.promoting_squares-promoting.ensures.bits) (omega arith) c.certain_destinations.ensures.certain (eqb-true _ 0 e)
+    (λ n h. among_bits c.targets.result c.matching_destinations.result n _ _ (rw c.as_board.ensures at c.targets.ensures.squares.0 n h) (c.matching_destinations.ensures.squares.0 n h))
+    (rw c.at.ensures at c.promoting_squares-promoting.ensures.squares.0) (omega arith) c.certain_destinations.ensures.certain (eqb-true _ 0 e)

@@ -22,7 +22,7 @@ pub kinds-preserved : goal.kinds-preserved
 kinds-preserved c =
     let next : kind_number c.in-Some.next ≡ kind_number c.kinds.kind + 1 = c.in-Some.ensures in
     let none : c.drop_destinations-destinations.result ≡ 0 = omega (arith, c.if-destinations-ne0.false) in
-    let here : KeepsDrop c.args.p.now c.in-Some.next (FIRST_DROP + kind_number c.in-Some.next * 81) c.drop_destinations-destinations.result = keeps_kind c.args.p.now c.in-Some.next c.drop_destinations-destinations.result c.drop_destinations-destinations.ensures.fits c.drop_destinations-destinations.ensures.bits in
+    let here : KeepsDrop c.args.p.now c.in-Some.next (FIRST_DROP + kind_number c.in-Some.next * 81) c.drop_destinations-destinations.result = keeps_kind c.args.p.now c.in-Some.next c.drop_destinations-destinations.result c.drop_destinations-destinations.ensures.squares.1 c.drop_destinations-destinations.ensures.squares.0 in
     record {
       kept = c.kinds.invariant.kept;
       same = c.kinds.invariant.same;
