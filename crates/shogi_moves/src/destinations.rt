@@ -349,7 +349,8 @@ fn facing_squares(p: &Position) -> u128
 fn non_mating_drops(p: &Position, destinations: u128) -> u128
     requires fits { destinations < 2 ^ 81 }
     requires safe { HasBits destinations (λ n. is_safe p.now (moves.Drop kinds.Pawn n)) }
-    ensures squares { IsMaskOf result (λ n. has_bit destinations n && not (is_mating_square p.now n)) }
+    ensures squares { IsMaskOf result
+        (λ n. has_bit destinations n && not (is_mating_square p.now n)) }
 {
     let mut left = destinations & facing_squares(p);
     let mut kept = destinations;

@@ -155,7 +155,8 @@ impl<A: Allocator + Copy> Peer<A> {
         ensures fault { IfErr result (λ fault. fault ≡ OutOfMemory) }
         ensures within { IfOk result (λ n. n ≤ length bytes.now) }
         ensures appended { self.new.written ≡ self.old.written ++ bytes_written result bytes.now }
-        ensures failed { ReportsFailure result (Some self.old.has_failed) (Some self.new.has_failed) }
+        ensures failed { ReportsFailure result
+            (Some self.old.has_failed) (Some self.new.has_failed) }
         ensures chunks { self.new.chunks ≡ self.old.chunks }
         ensures shut { self.new.is_shut ≡ self.old.is_shut }
     {
