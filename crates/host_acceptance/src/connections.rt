@@ -10,6 +10,6 @@ mod peers;
 #[cfg(test)]
 mod random;
 #[cfg(test)]
-mod scene;
-#[cfg(test)]
 mod recording;
+#[cfg(test)]
+mod scene;

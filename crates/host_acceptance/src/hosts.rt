@@ -1,6 +1,6 @@
 //! Rows through a host of many sessions.
 
-use crate::host::{TestHost, Brief};
+use crate::host::{Brief, TestHost};
 use host_core::{Event, HostFault};
 use session_slots::SessionId;
 use std::alloc::Global;

@@ -1,6 +1,6 @@
 //! Two sessions of a host by turns.
 
-use crate::host::{TestHost, Brief};
+use crate::host::{Brief, TestHost};
 use host_core::Event;
 use std::process::Abort;
 use std::test::Fail;

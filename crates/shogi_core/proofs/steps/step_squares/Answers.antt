@@ -10,5 +10,6 @@ returns c =
     record {
       squares = (
         λ b h. rw c.color_number.ensures.number (ap (λ (m : ℕ). has_bit m b) e ∙ has_bit-steps c.args.piece.color (steps_of c.args.piece.role) c.args.from b h),
-        rw c.color_number.ensures.number (subst (λ (m : ℕ). m < 2 ^ 81) (sym e) (steps_fit c.args.piece.color (steps_of c.args.piece.role) c.args.from)));
+        rw c.color_number.ensures.number (subst (λ (m : ℕ). m < 2 ^ 81) (sym e) (steps_fit c.args.piece.color (steps_of c.args.piece.role) c.args.from)),
+      );
     }

@@ -9,8 +9,13 @@ pub king_destinations-requires-clause-lone : goal.king_destinations-requires-cla
 king_destinations-requires-clause-lone c = lone_king c.args.p.now c.kings-kings.result c.cleared.result c.args.from (rw (c.side.ensures, c.as_board-board.ensures) at c.kings-kings.ensures.squares.0) (rw c.index-then-has.ensures.index at c.cleared.ensures.bits) c.if-cleared-eq0.true
 
 pub returns-then-info : goal.returns-then-info
-returns-then-info c = record { squares = (λ n h. (
-    let off : has_bit c.kings-kings.result c.args.from ≡ false = search rules in
-    c.tried_destinations-then-info.ensures.squares.0 n h
-    ∙ narrowed c.args.destinations c.args.info.now.pinned_or_king c.own-theirs.result n (is_unchecked c.args.p.now (Board c.args.from n false))
-    (λ out none. no_answer c.args.p.now c.args.info.now.checked c.args.info.now.pinned_or_king c.own-theirs.result c.args.from n c.requires.info c.if-info.true c.validity.ensures.cells_fit (omega arith) h c.requires.own (sym (rw (c.side.ensures, c.as_board-board.ensures) at c.kings-kings.ensures.squares.0 c.args.from (omega arith)) ∙ off) (rw (c.opponent.ensures, c.side-then-info.ensures, c.as_board-board.ensures) at c.own-theirs.ensures.squares.0 n h) out none)), c.tried_destinations-then-info.ensures.squares.1) }
+returns-then-info c = record {
+  squares = (
+    λ n h. (
+        let off : has_bit c.kings-kings.result c.args.from ≡ false = search rules in
+        c.tried_destinations-then-info.ensures.squares.0 n h
+        ∙ narrowed c.args.destinations c.args.info.now.pinned_or_king c.own-theirs.result n (is_unchecked c.args.p.now (Board c.args.from n false))
+        (λ out none. no_answer c.args.p.now c.args.info.now.checked c.args.info.now.pinned_or_king c.own-theirs.result c.args.from n c.requires.info c.if-info.true c.validity.ensures.cells_fit (omega arith) h c.requires.own (sym (rw (c.side.ensures, c.as_board-board.ensures) at c.kings-kings.ensures.squares.0 c.args.from (omega arith)) ∙ off) (rw (c.opponent.ensures, c.side-then-info.ensures, c.as_board-board.ensures) at c.own-theirs.ensures.squares.0 n h) out none)),
+    c.tried_destinations-then-info.ensures.squares.1,
+  );
+}

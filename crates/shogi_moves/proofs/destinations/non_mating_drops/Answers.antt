@@ -7,9 +7,14 @@ use Rattle.shogi_moves.proofs.DestinationLaws.{sift_done, sift_some}
 use Rattle.shogi_moves.proofs.destinations.non_mating_drops.Goals as goal
 
 pub returns : goal.returns
-returns c = record { squares = (λ n h. (
-    let none : c.loop-left.left ≡ 0 = omega arith in
-    sift_done c.args.destinations c.loop-left.kept (λ n. not (is_pawn_drop_mate c.args.p.now (Drop kinds.Pawn n))) (rw none at c.loop-left.invariant.sifts) n h), c.loop-left.invariant.fits) }
+returns c = record {
+  squares = (
+    λ n h. (
+        let none : c.loop-left.left ≡ 0 = omega arith in
+        sift_done c.args.destinations c.loop-left.kept (λ n. not (is_pawn_drop_mate c.args.p.now (Drop kinds.Pawn n))) (rw none at c.loop-left.invariant.sifts) n h),
+    c.loop-left.invariant.fits,
+  );
+}
 
 pub loop-left-init : goal.loop-left-init
 loop-left-init c = record {
