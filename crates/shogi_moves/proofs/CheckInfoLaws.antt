@@ -22,7 +22,6 @@ use Rattle.shogi_core.proofs.Uncovered.{check_was, check_stays, attacked_was}
 use Rattle.shogi_core.proofs.SeenLaws.{lined_back}
 use Rattle.shogi_moves.specs.After.{cells_after, piece_moved, dropped}
 use Rattle.shogi_moves.specs.CheckInfo.{IsCheckInfo, CoversKingLines}
-use Rattle.shogi_moves.specs.Legal.{is_safe, is_pseudo_legal_drop}
 use Rattle.shogi_moves.proofs.MovedPieces.{is_king-piece_moved}
 
 -- ---- the squares that are on open lines with a king

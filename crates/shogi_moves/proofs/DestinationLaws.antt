@@ -12,7 +12,7 @@ use Rattle.shogi_core.specs.declared.piece.Color.TheVariants.{Black, White}
 use Rattle.shogi_core.specs.declared.piece.Role.{Role}
 use Rattle.shogi_core.specs.declared.piece.Role.TheVariants.{Pawn, Lance, Knight, Silver, Gold, Bishop, Rook, King, PromotedPawn, PromotedLance, PromotedKnight, PromotedSilver, Horse, Dragon}
 use Rattle.shogi_core.specs.declared.piece.Piece.{Piece}
-use Rattle.shogi_core.specs.Attack.{in_check}
+use Rattle.shogi_core.specs.Attack.{in_check, is_sniping}
 use Rattle.shogi_core.specs.Bits.{has_bit}
 use Rattle.shogi_core.specs.Cell.{is_piece_of, is_immobile, is_immobile_role, is_king, is_king_role}
 use Rattle.shogi_core.specs.Codes.{move_of, code_of}
@@ -27,9 +27,10 @@ use Rattle.shogi_moves.specs.After.{piece_moved, cells_after, dropped}
 use Rattle.shogi_moves.specs.Captures.{captures, matches, is_matching}
 use Rattle.shogi_moves.specs.Destinations.{is_destination, is_unchecked, AreDropSquares}
 use Rattle.shogi_moves.specs.CheckInfo.{IsCheckInfo}
-use Rattle.shogi_moves.specs.Legal.{is_safe, is_legal, is_legal_code, is_pseudo_legal_board_move, may_promote, is_promotable, in_promotion_zone, is_pseudo_legal_drop, is_pawn_kind, is_pawn_drop_mate}
+use Rattle.shogi_moves.specs.Legal.{is_safe, is_legal, is_legal_code, is_pseudo_legal_board_move, may_promote, is_promotable, in_promotion_zone, is_pawn_kind, is_pawn_drop_mate}
 use Rattle.shogi_moves.proofs.CaptureLaws.{matches_kind_of}
 use Rattle.shogi_moves.proofs.CheckInfoLaws.{unpinned_safe, filled, quiet_drop, same_drop, stays_set, stays_drop, unpinned_parts}
+use Rattle.shogi_moves.proofs.DropChecks.{check_stays_near}
 use Rattle.shogi_moves.proofs.LegalLaws.{is_legal_code_of}
 use Rattle.shogi_moves.proofs.MovedPieces.{is_king-piece_moved}
 
@@ -524,6 +525,19 @@ squares_tried p checked pinned_or_king free kept g len check f k fits = record {
       ∙ ap (λ (c : Bool). is_none (piece_at p.cells n) && not c) (same_drop p.cells p.side kinds.Pawn kind n len h);
   fits = fits;
 }
+
+-- a check by no piece that slides is answered by no drop
+pub squares_none : (p : Shogi) (checked : Bool) (pinned_or_king snipers : ℕ) → IsCheckInfo p checked pinned_or_king → checked ≡ true → ((n : ℕ) → n < 81 → has_bit snipers n ≡ is_sniping p.cells p.side n) → snipers ≡ 0 → AreDropSquares p 0
+squares_none p checked pinned_or_king snipers g check s none = record {
+  bits = λ kind some n h.
+      has_bit-none n
+      ∙ sym (refused (is_none (piece_at p.cells n)) (is_unchecked p (Drop kind n)) (λ free. ap not (check_stays_near p.cells p.side kind n free (λ a ha. sym (s a ha) ∙ (ap (λ (m : ℕ). has_bit m a) none ∙ has_bit-none a)) (sym g.check ∙ check))));
+  fits = omega arith;
+}
+  where
+    refused : (a b : Bool) → (a ≡ true → b ≡ false) → (a && b) ≡ false
+    refused true b h = h refl
+    refused false b h = refl
 
 five : (a b u c d : Bool) → a ≡ true → (((b && u) && c) && d) ≡ ((((a && b) && c) && d) && u)
 five a b u c d e = rw e (go b u c d)

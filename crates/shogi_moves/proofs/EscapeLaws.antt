@@ -1,16 +1,17 @@
 -- A king that is given check may go to a square that stays out of reach.
 use Rattle.std.proofs.Common.{◌≡◌, ◌≢◌, ◌⊎◌, ℕ, ◌-◌, ◌*◌, ◌%◌, ◌^◌, ◌<◌, Bool, true, false, not, Option, Some, None, [], refl, sym, ap, subst, ◌∙◌, arith, inl, inr, set, length, length-set, get_or-set_same, get_or-set_other, bit_and, bit_or}
-use Rattle.std.specs.Prelude.{◌&&◌, ◌==◌, is_none}
+use Rattle.std.specs.Prelude.{◌&&◌, ◌||◌, ◌==◌, is_none}
 use Rattle.std.specs.List.{list_any}
 use Rattle.std.specs.Int.{trailing_zeros, w128}
-use Rattle.std.proofs.lemmas.Bool.{cases_eq, false_from_ne_true, both_ways, and_parts, and_from, or_parts, or_cases, or_left, not-true, not_from_false, ne_eqb}
+use Rattle.std.proofs.lemmas.Bool.{cases_eq, false_from_ne_true, both_ways, and_parts, or_parts, or_cases, or_left, not-true, eqb-true}
 use Rattle.shogi_core.specs.declared.moves.Move.TheVariants.{Board, Drop}
 use Rattle.shogi_core.specs.declared.piece.Color.{Color}
 use Rattle.shogi_core.specs.declared.piece.Kind.{Kind}
+use Rattle.shogi_core.specs.declared.piece.Kind.TheVariants as kinds
 use Rattle.shogi_core.specs.declared.piece.Piece.{Piece}
 use Rattle.shogi_core.specs.declared.piece.Role.{Role}
 use Rattle.shogi_core.specs.declared.piece.Role.TheVariants as roles
-use Rattle.shogi_core.specs.Attack.{is_attacked}
+use Rattle.shogi_core.specs.Attack.{is_attacked, in_check}
 use Rattle.shogi_core.specs.Bits.{has_bit}
 use Rattle.shogi_core.specs.Cell.{is_piece_of, is_king, is_king_role}
 use Rattle.shogi_core.specs.Lines.{are_aligned, are_lined}
@@ -19,17 +20,20 @@ use Rattle.shogi_core.specs.Pieces.{opponent_of}
 use Rattle.shogi_core.specs.Position.{Shogi, HandCounts}
 use Rattle.shogi_core.specs.Validity.{IsValid}
 use Rattle.shogi_core.proofs.BitLaws.{has_bit-and, has_bit-none, has_bit-or}
+use Rattle.shogi_core.proofs.Faults.{faultless_from}
 use Rattle.shogi_core.proofs.Uncovered.{attacked_was_but, reach_was}
 use Rattle.shogi_core.proofs.LineBits.{lowest_set, and_fits, has_bit-not}
 use Rattle.shogi_core.proofs.SeenLaws.{lined_aligned, lined_back, slide_seen}
 use Rattle.shogi_moves.specs.After.{after, cells_after, piece_moved, dropped}
-use Rattle.shogi_moves.specs.Escapes.{IsEscape, AreEscapes, HasOpenEscape}
+use Rattle.shogi_moves.specs.Destinations.{is_mating_square}
+use Rattle.shogi_moves.specs.Escapes.{IsEscape, IsKingStep, AreKingSteps, AreEscapes, HasOpenEscape}
 use Rattle.shogi_moves.specs.Legal.{is_legal}
 use Rattle.shogi_moves.specs.LegalMoves.{legal_codes}
 use Rattle.shogi_moves.proofs.DropChecks as drops
-use Rattle.shogi_moves.proofs.ExistenceLaws.{king_move}
+use Rattle.shogi_moves.proofs.ExistenceLaws.{king_move, safe_from_legal}
 use Rattle.shogi_moves.proofs.CheckInfoLaws.{look, other_side, own_some, is_piece_of-piece_moved, dropped_of, king_set}
-use Rattle.shogi_moves.proofs.KingLaws.{king_own}
+use Rattle.shogi_moves.proofs.KingLaws.{king_own, in_no_way}
+use Rattle.shogi_moves.proofs.MovedPieces.{opponent_twice}
 use Rattle.shogi_moves.proofs.ReplyLaws.{another, crowned, legal_own}
 
 -- ---- a king reaches the same squares on every board
@@ -94,13 +98,13 @@ module _ (p : Shogi) (new : Cells) (hands : HandCounts) (Left : ℕ → Type 0) 
   still_lone : (x : ℕ) → x < 81 → x ≢ k → is_king (opponent_of p.side) (piece_at new x) ≡ false
   still_lone x h other = elim (see x) [
     | inl at ↦ ap (is_king (opponent_of p.side)) at.1 ∙ crowned (opponent_of p.side) cell (other_side p.side cell mine)
-    | inr rest ↦ elim rest [ inl gone ↦ ap (is_king (opponent_of p.side)) gone.1 | inr same ↦ ap (is_king (opponent_of p.side)) same ∙ escape.lone x h other ]
+    | inr rest ↦ elim rest [ inl gone ↦ ap (is_king (opponent_of p.side)) gone.1 | inr same ↦ ap (is_king (opponent_of p.side)) same ∙ escape.step.lone x h other ]
   ]
 
   still_open : is_piece_of (opponent_of p.side) (piece_at new e) ≡ false
   still_open = elim (see e) [
     | inl at ↦ absurd (elsewhere.1 at.0)
-    | inr rest ↦ elim rest [ inl gone ↦ ap (is_piece_of (opponent_of p.side)) gone.1 | inr same ↦ ap (is_piece_of (opponent_of p.side)) same ∙ escape.open_end ]
+    | inr rest ↦ elim rest [ inl gone ↦ ap (is_piece_of (opponent_of p.side)) gone.1 | inr same ↦ ap (is_piece_of (opponent_of p.side)) same ∙ escape.step.open_end ]
   ]
 
   crowned_still : is_king (opponent_of p.side) (piece_at new k) ≡ true
@@ -108,7 +112,7 @@ module _ (p : Shogi) (new : Cells) (hands : HandCounts) (Left : ℕ → Type 0) 
 
   still_reached : reaches new k e ≡ true
   unfolding reaches
-  still_reached = ap (λ (x : Option Piece). cell_reaches new x k e) there ∙ king_reach p.cells new (opponent_of p.side) (piece_at p.cells k) k e crown escape.reached
+  still_reached = ap (λ (x : Option Piece). cell_reaches new x k e) there ∙ king_reach p.cells new (opponent_of p.side) (piece_at p.cells k) k e crown escape.step.reached
 
   escaped : legal_codes (record { cells = new; hands = hands; side = opponent_of p.side }) ≢ []
   escaped = king_move (record { cells = new; hands = hands; side = opponent_of p.side }) k e hk he crowned_still (still_reached, still_open)
@@ -169,32 +173,58 @@ found_open p escapes closed kings to end h fits kings_fit he same bits some off 
       elsewhere = (λ at. both_ways (has_bit kings end) off (subst (λ (x : ℕ). has_bit kings x ≡ true) (at ∙ sym same) low.1), λ at. a.3 (at ∙ sym same));
     }
 
--- the squares next to the only king that are not attacked without it
-pub found_escapes : (p : Shogi) (king squares mask : ℕ) (lifted : Cells) → lifted ≡ set p.cells king None → ((x : ℕ) → x < 81 → x ≢ king → is_king (opponent_of p.side) (piece_at p.cells x) ≡ false)
-    → ((n : ℕ) → n < 81 → has_bit squares n ≡ true → (reaches p.cells king n ≡ true) × (is_piece_of (opponent_of p.side) (piece_at p.cells n) ≡ false))
-    → ((n : ℕ) → n < 81 → has_bit mask n ≡ (has_bit squares n && not (is_attacked lifted (opponent_of (opponent_of p.side)) n))) → mask < 2 ^ 81 → AreEscapes p mask
-found_escapes p king squares mask lifted is lone ways bits fits = record {
-  escapes = λ k e hk crown he in_mask. elim (cases_eq k king) [
-    | inl same ↦ subst (λ (x : ℕ). IsEscape p.cells (opponent_of p.side) x e) (sym same) (
-        let parts : (has_bit squares e ≡ true) × (not (is_attacked lifted (opponent_of (opponent_of p.side)) e) ≡ true) = and_parts _ _ (sym (bits e he) ∙ in_mask) in
-        let way = ways e he parts.0 in
-        record {
-          lone = lone;
-          reached = way.0;
-          open_end = way.1;
-          safe = ap (λ (cells : Cells). is_attacked cells (opponent_of (opponent_of p.side)) e) (sym is) ∙ not-true _ parts.1;
-        })
+-- the squares to which the only king steps, and where none of its side stands
+pub found_steps : (p : Shogi) (king mask : ℕ) → ((x : ℕ) → x < 81 → x ≢ king → is_king (opponent_of p.side) (piece_at p.cells x) ≡ false)
+    → ((n : ℕ) → n < 81 → has_bit mask n ≡ true → (reaches p.cells king n ≡ true) × (is_piece_of (opponent_of p.side) (piece_at p.cells n) ≡ false)) → mask < 2 ^ 81 → AreKingSteps p mask
+found_steps p king mask lone ways fits = record {
+  steps = λ k e hk crown he in_mask. elim (cases_eq k king) [
+    | inl same ↦ subst (λ (x : ℕ). IsKingStep p.cells (opponent_of p.side) x e) (sym same) (
+        let way = ways e he in_mask in
+        record { lone = lone; reached = way.0; open_end = way.1 })
     | inr other ↦ absurd (both_ways (is_king (opponent_of p.side) (piece_at p.cells k)) (lone k hk other) crown)
   ];
   fits = fits;
 }
 
 -- no squares
-pub no_escapes : (p : Shogi) (mask : ℕ) → mask ≡ 0 → AreEscapes p mask
-no_escapes p mask none = record {
-  escapes = λ k e hk crown he in_mask. absurd (both_ways (has_bit mask e) (ap (λ (m : ℕ). has_bit m e) none ∙ has_bit-none e) in_mask);
-  fits = omega (arith, none);
+pub no_steps : (p : Shogi) → AreKingSteps p 0
+no_steps p = record {
+  steps = λ k e hk crown he in_mask. absurd (both_ways (has_bit 0 e) (has_bit-none e) in_mask);
+  fits = omega arith;
 }
+
+-- those of them that are not attacked: the king is in no check, and so stands in no piece's way
+pub found_escapes : (p : Shogi) (steps mask : ℕ) → IsValid p → AreKingSteps p steps → ((n : ℕ) → n < 81 → has_bit mask n ≡ true → (has_bit steps n ≡ true) × (is_attacked p.cells p.side n ≡ false)) → mask < 2 ^ 81 → AreEscapes p mask
+found_escapes p steps mask v s found fits = record {
+  escapes = λ k e hk crown he in_mask. (
+      let here = found e he in_mask in
+      record {
+        step = s.steps k e hk crown he here.0;
+        safe = sym (in_no_way p.cells (opponent_of p.side) k v.cells_fit hk crown (faultless_from p v.no_fault).shut e he) ∙ (ap (λ (color : Color). is_attacked p.cells color e) (opponent_twice p.side) ∙ here.1);
+      });
+  fits = fits;
+}
+
+-- one of some squares
+pub one_square : (squares bit square n : ℕ) → ((i : ℕ) → has_bit bit i ≡ (has_bit 0 i || (i == square))) → has_bit (bit_and squares bit) n ≡ true → (has_bit squares n ≡ true) × (n ≡ square)
+one_square squares bit square n bits e =
+    let parts : (has_bit squares n ≡ true) × (has_bit bit n ≡ true) = and_parts _ _ (sym (has_bit-and squares bit n) ∙ e) in (
+      parts.0,
+      elim (or_cases (has_bit 0 n) (n == square) (sym (bits n) ∙ parts.1)) [
+        | inl none ↦ absurd (both_ways (has_bit 0 n) (has_bit-none n) none)
+        | inr same ↦ eqb-true n square same
+      ],
+    )
+
+-- a pawn after whose drop such a square is left does not mate
+pub escaped_pawn : (p : Shogi) (to reach : ℕ) → IsValid p → to < 81 → HasOpenEscape p reach to → ((cells : Cells) (n : ℕ) → n < 81 → has_bit reach n ≡ false → cell_reaches cells (dropped p.side kinds.Pawn) to n ≡ false) → is_mating_square p to ≡ false
+escaped_pawn p to reach v ht h far =
+    let some = safe_from_legal (after p (Drop kinds.Pawn to)) (escaped_drop p kinds.Pawn to reach v ht h far) in
+    unmated (in_check (after p (Drop kinds.Pawn to)).cells (after p (Drop kinds.Pawn to)).side) _ some
+  where
+    unmated : (check some : Bool) → some ≡ true → (check && not some) ≡ false
+    unmated true some e = rw e refl
+    unmated false some e = refl
 
 -- ---- squares are tried one by one
 

@@ -1,5 +1,5 @@
 -- The files on which a side has an unpromoted pawn.
-use Rattle.std.proofs.Common.{◌≡◌, ℕ, ◌<◌, ◌+◌, ◌-◌, ◌*◌, ◌/◌, ◌%◌, ◌≤◌, ◌⊎◌, min, Bool, true, false, not, List, [], ◌∷◌, Option, None, Some, refl, sym, ap, ◌∙◌, arith, get_or, subst, length, take, drop, bit_or, inl, inr}
+use Rattle.std.proofs.Common.{◌≡◌, ℕ, ◌<◌, ◌+◌, ◌-◌, ◌*◌, ◌/◌, ◌%◌, ◌≤◌, ◌⊎◌, min, Bool, true, false, not, List, [], ◌∷◌, Option, None, Some, refl, sym, ap, ◌∙◌, arith, get_or, subst, length, take, drop, bit_and, bit_or, ◌^◌, inl, inr}
 use Rattle.std.specs.Prelude.{zero, suc, cond, count_by, ◌==◌, ◌&&◌, nat_lt}
 use Rattle.std.proofs.lemmas.Bool.{both_ways, cases_Bool, cases_eq, eq-eqb, ne_eqb, false_from_ne_true, lt-ltb, le-ltb, eqb-true, and_from, and_parts, not_from_false, or_left, or_right, or_cases}
 use Rattle.std.proofs.lemmas.List.Sums.{sum_by-cons}
@@ -7,11 +7,14 @@ use Rattle.std.proofs.lemmas.List.{get_or-drop, get_or-take, length-drop, length
 use Rattle.shogi_core.specs.declared.piece.Color.{Color}
 use Rattle.shogi_core.specs.Bits.{has_bit}
 use Rattle.shogi_core.specs.declared.piece.Piece.{Piece}
-use Rattle.shogi_core.specs.Cell.{is_pawn, is_pawn_role, is_piece_of}
+use Rattle.shogi_core.specs.declared.piece.Role.{Role}
+use Rattle.shogi_core.specs.declared.piece.Role.TheVariants as roles
+use Rattle.shogi_core.specs.Cell.{is_king, is_king_role, is_pawn, is_pawn_role, is_piece_of, is_slider, is_sliding_role}
 use Rattle.shogi_core.specs.Movement.{Cells, piece_at}
 use Rattle.shogi_core.specs.Pieces.{is_same_color}
 use Rattle.shogi_core.specs.Validity.{pawns_on_file}
-use Rattle.shogi_core.proofs.BitLaws.{has_bit-none, has_bit-or}
+use Rattle.shogi_core.proofs.BitLaws.{has_bit-and, has_bit-none, has_bit-or}
+use Rattle.shogi_core.proofs.LineBits.{has_bit-not}
 use Rattle.shogi_moves.specs.declared.zones.TheConstants.{FILES}
 use Rattle.shogi_moves.proofs.ZoneLaws.{files_right, files_fit, more_fits}
 
@@ -68,10 +71,25 @@ pawn_own : (side : Color) (cell : Option Piece) → is_pawn side cell ≡ true �
 pawn_own side None e = e
 pawn_own side (Some piece) e = (and_parts (is_same_color side piece.color) (is_pawn_role piece.role) e).0
 
-pub pawns_first : (cells : Cells) (side : Color) (own : ℕ) → ((n : ℕ) → n < 81 → has_bit own n ≡ is_piece_of side (piece_at cells n)) → HasPawnFiles cells side own 0
-pawns_first cells side own bits = record {
+-- it does not slide, and is no king
+pawn_steps : (side : Color) (cell : Option Piece) → is_pawn side cell ≡ true → (is_slider cell ≡ false) × (is_king side cell ≡ false)
+pawn_steps side None e = absurd (cc)
+pawn_steps side (Some piece) e = go (is_same_color side piece.color) piece.role (and_parts (is_same_color side piece.color) (is_pawn_role piece.role) e).1
+  where
+    go : (mine : Bool) (role : Role) → is_pawn_role role ≡ true → (is_sliding_role role ≡ false) × ((mine && is_king_role role) ≡ false)
+    go true roles.Pawn h = (refl, refl)
+    go false roles.Pawn h = (refl, refl)
+    go mine _ h = absurd (cc)
+
+pub pawns_first : (cells : Cells) (side : Color) (own sliders kings : ℕ) → bit_or sliders kings < 2 ^ 128 → ((n : ℕ) → n < 81 → has_bit own n ≡ is_piece_of side (piece_at cells n)) → ((n : ℕ) → n < 81 → has_bit sliders n ≡ is_slider (piece_at cells n))
+    → ((n : ℕ) → n < 81 → has_bit kings n ≡ is_king side (piece_at cells n)) → HasPawnFiles cells side (bit_and own (2 ^ 128 - 1 - bit_or sliders kings)) 0
+pawns_first cells side own sliders kings fits owns slides crowns = record {
   sound = λ n h e. absurd (both_ways (has_bit 0 n) (has_bit-none n) e);
-  complete = λ s h e. inl (bits s h ∙ pawn_own side (piece_at cells s) e);
+  complete = λ s h e. inl (
+      let step = pawn_steps side (piece_at cells s) e in
+      let off : has_bit (bit_or sliders kings) s ≡ false = has_bit-or sliders kings s ∙ rw (slides s h, crowns s h, step.0, step.1) refl in
+      has_bit-and own (2 ^ 128 - 1 - bit_or sliders kings) s
+      ∙ and_from _ _ (owns s h ∙ pawn_own side (piece_at cells s) e) (has_bit-not (bit_or sliders kings) s fits (omega arith) ∙ ap not off));
 }
 
 pub pawns_more : (cells : Cells) (side : Color) (left next mask square : ℕ) → length cells ≡ 81 → HasPawnFiles cells side left mask → square < 81 → is_pawn side (piece_at cells square) ≡ true
@@ -115,4 +133,4 @@ pawns_done cells side mask h n low = elim (cases_Bool (has_bit mask n)) [
       none ∙ sym (le-ltb 0 (pawns_on_file side (n / 9) cells) (omega (arith, nowhere))))
 ]
 
-pub ruleset pawn_files = (pawns_first, pawns_more, pawns_passed, pawns_done, files_fit, more_fits)
+pub ruleset pawn_files = (pawns_more, pawns_passed, pawns_done, files_fit, more_fits)

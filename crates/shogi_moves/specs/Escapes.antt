@@ -14,11 +14,15 @@ abbrev pub HasNoOtherKing : Cells → Color → ℕ → Type 0
 HasNoOtherKing cells side king =
     (x : ℕ) → x < 81 → x ≢ king → is_king side (piece_at cells x) ≡ false
 
--- the king of the side on k is its only one and steps to e, where none of its own stands and which the other side does not attack once the king has left its square
-pub record IsEscape (cells : Cells) (side : Color) (k e : ℕ) : Type 0 where
+-- the king of the side on k is its only one and steps to e, where none of its own stands
+pub record IsKingStep (cells : Cells) (side : Color) (k e : ℕ) : Type 0 where
   pub lone : HasNoOtherKing cells side k
   pub reached : reaches cells k e ≡ true
   pub open_end : is_piece_of side (piece_at cells e) ≡ false
+
+-- it so steps to e, which the other side does not attack once the king has left its square
+pub record IsEscape (cells : Cells) (side : Color) (k e : ℕ) : Type 0 where
+  pub step : IsKingStep cells side k e
   pub safe : is_attacked (slice_set cells k None) (opponent_of side) e ≡ false
 
 -- off the mask, what stands on the square reaches nothing, whatever stands elsewhere
@@ -26,7 +30,13 @@ abbrev pub ReachesWithin : Option Piece → ℕ → ℕ → Type 0
 ReachesWithin cell to mask = (cells : Cells) (n : ℕ) → n < 81 → has_bit mask n ≡ false
     → cell_reaches cells cell to n ≡ false
 
--- a mask of such squares of the side that is not to move
+-- a mask of squares to which the king of the side that is not to move so steps
+pub record AreKingSteps (p : Shogi) (mask : ℕ) : Type 0 where
+  pub steps : (k e : ℕ) → k < 81 → is_king (opponent_of p.side) (piece_at p.cells k) ≡ true
+      → e < 81 → has_bit mask e ≡ true → IsKingStep p.cells (opponent_of p.side) k e
+  pub fits : mask < 2 ^ 81
+
+-- a mask of escapes of that side
 pub record AreEscapes (p : Shogi) (mask : ℕ) : Type 0 where
   pub escapes : (k e : ℕ) → k < 81 → is_king (opponent_of p.side) (piece_at p.cells k) ≡ true
       → e < 81 → has_bit mask e ≡ true → IsEscape p.cells (opponent_of p.side) k e

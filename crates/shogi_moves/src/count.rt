@@ -5,7 +5,7 @@ ghost use Rattle.shogi_core.specs.declared.moves.TheConstants.{MOVE_CODE_COUNT, 
 ghost use Rattle.shogi_moves.specs.LegalMoves.{legal_from, legal_codes, perft};
 ghost use Rattle.shogi_moves.specs.CheckInfo.{IsCheckInfoOf};
 
-use crate::after::apply;
+use crate::after::advance;
 use crate::check_info::{CheckInfo, check_info_of};
 use crate::destinations::{drop_destinations, drop_squares, enterable, legal_destinations};
 use crate::sweep::next_kind;
@@ -75,7 +75,9 @@ pub fn perft(p: &Position, n: u8) -> Option<u64>
     let mut total: u64 = 0;
     let mut walk = Walk::new(p);
     'moves: while let Some(m) = walk.next() {
-        let count = perft(&apply(p, m), n - 1)?;
+        let mut next = *p;
+        advance(&mut next, m);
+        let count = perft(&next, n - 1)?;
         total = total.checked_add(count)?;
     }
     Some(total)

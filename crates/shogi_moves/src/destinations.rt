@@ -17,6 +17,7 @@ ghost use Rattle.shogi_moves.specs.CheckInfo.{IsCheckInfoOf};
 
 use crate::after::{dropped, is_checked_after};
 use crate::check_info::{CheckInfo, is_unpinned};
+use crate::escapes::leaves_pawn_escape;
 use crate::legal::{is_pawn_drop_mate, is_pawn_kind};
 use crate::zones::{dead_squares, pawn_files, promoting_squares};
 use shogi_core::bits::{cleared, has, lowest, without_lowest};
@@ -286,17 +287,22 @@ fn holds_none(p: &Position) -> bool
         && p.hand(side, Kind::Rook) == 0
 }
 
-/// The empty squares on which a held piece leaves the king unattacked, whatever its kind.
+/// The empty squares on which a held piece leaves the king unattacked, whatever its kind. Only a
+/// check by a piece that slides is answered by a drop.
 pub fn drop_squares(p: &Position, info: &CheckInfo) -> u128
     requires info { IsCheckInfoOf info.now p.now }
     ensures { AreDropSquares p.now result }
 {
     p.validity();
-    let free = p.as_board().free();
+    let board = p.as_board();
+    let free = board.free();
     if !info.checked {
         return free;
     }
     if holds_none(p) {
+        return 0;
+    }
+    if board.snipers(p.side()) == 0 {
         return 0;
     }
     tried_drops(p, free & info.pinned_or_king)
@@ -344,6 +350,22 @@ fn facing_squares(p: &Position) -> u128
     faces
 }
 
+/// Whether the safe drop of a pawn mates. Most often a square is surely left to the king, and the
+/// drop need not be made.
+fn is_mating_drop(p: &Position, to: Square) -> bool
+    requires { is_safe p.now (moves.Drop kinds.Pawn to) ≡ true }
+    ensures { result ≡ is_mating_square p.now to }
+{
+    if leaves_pawn_escape(p, to) {
+        return false;
+    }
+    let m = Move::Drop {
+        kind: Kind::Pawn,
+        to,
+    };
+    is_pawn_drop_mate(p, &m)
+}
+
 /// Those of the safe drops of a pawn that do not mate; those that face a king are tried.
 #[tactic(auto, using(crate::proofs::DestinationLaws::sifting))]
 fn non_mating_drops(p: &Position, destinations: u128) -> u128
@@ -356,11 +378,7 @@ fn non_mating_drops(p: &Position, destinations: u128) -> u128
     let mut kept = destinations;
     while left != 0 {
         let to = lowest(left);
-        let m = Move::Drop {
-            kind: Kind::Pawn,
-            to: Square::of_index(to),
-        };
-        if is_pawn_drop_mate(p, &m) {
+        if is_mating_drop(p, Square::of_index(to)) {
             kept = cleared(kept, to);
         }
         left = without_lowest(left, to);

@@ -1,15 +1,15 @@
 //! Squares to which the king of the side that is not to move may go, should a move give it check.
 
-ghost use Rattle.std.specs.Prelude.{◌≡◌, ◌<◌, ◌^◌, ◌&&◌, not, true, false, Option};
+ghost use Rattle.std.specs.Prelude.{◌≡◌, ◌<◌, ◌^◌, ◌&&◌, ℕ, not, true, false, Option};
 ghost use Rattle.shogi_core.specs.declared.piece.Piece.{Piece};
 ghost use Rattle.shogi_core.specs.Attack.{is_attacked};
 ghost use Rattle.shogi_core.specs.Bits.{IsMaskOf, has_bit};
-ghost use Rattle.shogi_moves.specs.Destinations.{IsWithin};
-ghost use Rattle.shogi_moves.specs.Escapes.{ReachesWithin, AreEscapes, HasOpenEscape};
+ghost use Rattle.shogi_moves.specs.Destinations.{IsWithin, is_mating_square};
+ghost use Rattle.shogi_moves.specs.Escapes.{ReachesWithin, AreKingSteps, AreEscapes, HasOpenEscape};
 ghost use Rattle.shogi_moves.specs.Replies.{IsAnswered, AreAnswered, AreDropsAnswered};
 
 use crate::after::{dropped, piece_moved};
-use shogi_core::bits::{ALL_SQUARES, cleared, has, lowest, without_lowest};
+use shogi_core::bits::{ALL_SQUARES, cleared, has, lowest, with, without_lowest};
 use shogi_core::{
     Board, Color, Kind, Move, Piece, Position, Square, aligned_squares, step_squares,
 };
@@ -32,12 +32,30 @@ fn unattacked(board: &Board, by: Color, squares: u128) -> u128
     kept
 }
 
-/// Squares next to the king of the side that is not to move, where it has just one, to which it may
-/// go as far as the pieces of the other side stand that are there now.
-pub fn escape_squares(p: &Position) -> u128
-    ensures { AreEscapes p.now result }
+/// One of the squares that the side does not attack, if there is one.
+fn first_unattacked(board: &Board, by: Color, squares: u128) -> u128
+    requires { squares < 2 ^ 81 }
+    ensures squares { (n : ℕ) → n < 81 → has_bit result n ≡ true → has_bit squares n ≡ true }
+    ensures safe { (n : ℕ) → n < 81 → has_bit result n ≡ true
+        → is_attacked board.now by n ≡ false }
+    ensures fits { result < 2 ^ 81 }
 {
-    p.validity();
+    let mut left = squares;
+    while left != 0 {
+        let square = lowest(left);
+        if !board.is_attacked(by, Square::of_index(square)) {
+            return squares & with(0, square);
+        }
+        left = without_lowest(left, square);
+    }
+    0
+}
+
+/// Squares next to the king of the side that is not to move, where it has just one and none of its
+/// own pieces stands.
+fn king_steps(p: &Position) -> u128
+    ensures { AreKingSteps p.now result }
+{
     let board = p.as_board();
     let side = p.side().opponent();
     let kings = board.kings(side);
@@ -48,14 +66,25 @@ pub fn escape_squares(p: &Position) -> u128
     if cleared(kings, king) != 0 {
         return 0;
     }
-    let from = Square::of_index(king);
-    let mut lifted = *board;
-    lifted.set(from, None);
-    unattacked(
-        &lifted,
-        side.opponent(),
-        board.targets(from) & !board.own(side),
-    )
+    board.targets(Square::of_index(king)) & !board.own(side)
+}
+
+/// Squares next to the king of the side that is not to move, where it has just one, to which it may
+/// go as far as the pieces of the other side stand that are there now. That king is in no check, and
+/// so stands in no piece's way.
+pub fn escape_squares(p: &Position) -> u128
+    ensures { AreEscapes p.now result }
+{
+    p.validity();
+    unattacked(p.as_board(), p.side(), king_steps(p))
+}
+
+/// One of those squares among the ones of the mask, if there is one.
+fn first_escape(p: &Position, among: u128) -> u128
+    ensures { AreEscapes p.now result }
+{
+    p.validity();
+    first_unattacked(p.as_board(), p.side(), king_steps(p) & among)
 }
 
 /// All squares that the piece may reach from the square, whatever stands on the others.
@@ -110,6 +139,17 @@ pub fn leaves_escape(p: &Position, escapes: u128, m: &Move) -> bool
             has_open(p, escapes, reach, *to)
         }
     }
+}
+
+/// Whether one of the squares is surely left to the king after the drop of a pawn, which then does
+/// not mate.
+pub fn leaves_pawn_escape(p: &Position, to: Square) -> bool
+    ensures { result ≡ true → is_mating_square p.now to ≡ false }
+{
+    p.validity();
+    to.validity();
+    let reach = within_reach(dropped(p.side(), Kind::Pawn), to);
+    has_open(p, first_escape(p, !(reach | 1 << to.index())), reach, to)
 }
 
 /// Those of the squares to which what stands on a square may move without promotion so that one of

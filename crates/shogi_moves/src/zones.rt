@@ -89,14 +89,16 @@ const FILES: [u128; 9] = [
     2413129272746388704198656,
 ];
 
-/// The squares of the files on which an unpromoted pawn of the side stands.
+/// The squares of the files on which an unpromoted pawn of the side stands. Pieces that slide, and
+/// kings, need no look.
 #[inline(never)]
 #[tactic(auto, using(crate::proofs::PawnFiles::pawn_files))]
 pub fn pawn_files(p: &Position, side: Color) -> u128
     ensures squares { IsMaskOf result (λ n. nat_lt 0 (pawns_on_file side (n / 9) p.now.cells)) }
 {
     p.validity();
-    let mut left = p.as_board().own(side);
+    let board = p.as_board();
+    let mut left = board.own(side) & !(board.sliders() | board.kings(side));
     let mut mask = 0;
     while left != 0 {
         let square = lowest(left);

@@ -7,7 +7,7 @@ use Rattle.shogi_moves.proofs.count.+perft.Goals as goal
 -- the move's share joins what is counted
 pub moves-preserved : goal.moves-preserved
 moves-preserved t c =
-    let step = perft_by-left c.args.p.now (c.args.n - 1) (code_of c.in-Some.m) c.moves.walk.codes c.next.new.self.codes c.apply.result c.in-Some.ensures.next c.apply.ensures.by_code in
+    let step = perft_by-left c.args.p.now (c.args.n - 1) (code_of c.in-Some.m) c.moves.walk.codes c.next.new.self.codes c.advance.new.p c.in-Some.ensures.next c.advance.ensures.by_code in
     record {
       whole = omega (arith, c.in_ok-total.ensures, c.in_ok-count.ensures.count);
       same = search rules;
@@ -17,13 +17,13 @@ moves-preserved t c =
 -- where one move's share passes the greatest number, the whole does
 pub returns-in_err-count-clause-none : goal.returns-in_err-count-clause-none
 returns-in_err-count-clause-none t c =
-    let step = perft_by-left c.args.p.now (c.args.n - 1) (code_of c.in-Some.m) c.moves.walk.codes c.next.new.self.codes c.apply.result c.in-Some.ensures.next c.apply.ensures.by_code in
-    let share : 2 ^ 64 ≤ perft c.apply.result (c.args.n - 1) = c.in_err-count.ensures.none.0 refl in
+    let step = perft_by-left c.args.p.now (c.args.n - 1) (code_of c.in-Some.m) c.moves.walk.codes c.next.new.self.codes c.advance.new.p c.in-Some.ensures.next c.advance.ensures.by_code in
+    let share : 2 ^ 64 ≤ perft c.advance.new.p (c.args.n - 1) = c.in_err-count.ensures.none.0 refl in
     ((λ none. omega arith), (λ many. search rules))
 
 pub returns-in_err-total-clause-none : goal.returns-in_err-total-clause-none
 returns-in_err-total-clause-none t c =
-    let step = perft_by-left c.args.p.now (c.args.n - 1) (code_of c.in-Some.m) c.moves.walk.codes c.next.new.self.codes c.apply.result c.in-Some.ensures.next c.apply.ensures.by_code in
+    let step = perft_by-left c.args.p.now (c.args.n - 1) (code_of c.in-Some.m) c.moves.walk.codes c.next.new.self.codes c.advance.new.p c.in-Some.ensures.next c.advance.ensures.by_code in
     ((λ none. omega (arith, c.in_err-total.ensures, c.in_ok-count.ensures.count)), (λ many. search rules))
 
 pub returns-clause-none : goal.returns-clause-none

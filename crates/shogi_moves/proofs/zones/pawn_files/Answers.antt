@@ -1,10 +1,20 @@
 use Rattle.std.proofs.Common.{◌≡◌, ◌∙◌, ◌/◌, sym, arith}
 use Rattle.shogi_core.specs.Cell.{is_pawn}
 use Rattle.shogi_core.specs.Movement.{piece_at}
-use Rattle.shogi_moves.proofs.PawnFiles.{pawns_more, pawns_passed}
+use Rattle.std.proofs.lemmas.Nat.{or_lt}
+use Rattle.shogi_core.proofs.LineBits.{and_fits}
+use Rattle.shogi_moves.proofs.PawnFiles.{pawns_first, pawns_more, pawns_passed}
 use Rattle.shogi_moves.proofs.ZoneLaws.{files_fit, more_fits}
 use Rattle.shogi_moves.proofs.zones.pawn_files.Goals as goal
 use Rattle.shogi_moves.proofs.zones.pawn_files.Goals.{then-is_pawn, else-is_pawn}
+
+pub loop-left-init : goal.loop-left-init
+loop-left-init c = record {
+  files = pawns_first c.args.p.now.cells c.args.side c.own.result c.sliders.result c.kings.result (or_lt 128 c.sliders.result c.kings.result (omega (arith, c.sliders.ensures.squares.1)) (omega (arith, c.kings.ensures.squares.1)))
+      (rw c.as_board-board.ensures at c.own.ensures.squares.0) (rw c.as_board-board.ensures at c.sliders.ensures.squares.0) (rw c.as_board-board.ensures at c.kings.ensures.squares.0);
+  left = and_fits c.own.result _ c.own.ensures.squares.1;
+  fits = omega arith;
+}
 
 pub loop-left-preserved : goal.loop-left-preserved
 loop-left-preserved c =
