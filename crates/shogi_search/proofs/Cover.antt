@@ -65,13 +65,6 @@ ended_first f all alpha best_value b r h =
 pub ended_low : (otherwise : ℤ) (f : ℕ → ℤ) (m : ℕ) (ms : List ℕ) (alpha best_value : ℤ) → IsCovered f (m ∷ ms) [] alpha best_value None → greatest_or otherwise f (m ∷ ms) ≤ℤ best_value
 ended_low otherwise f m ms alpha best_value h = greatest_or-least otherwise f (m ∷ ms) m best_value (or_left _ _ (eq-eqb m m refl)) (λ n i. h.below n i refl)
 
--- the same steps where the list to do is only known to begin with the move
-pub skip_next : (f : ℕ → ℤ) (all todo rest : List ℕ) (alpha best_value : ℤ) (b : Option ℕ) (m : ℕ) → todo ≡ m ∷ rest → IsCovered f all todo alpha best_value b → f m ≤ℤ threshold best_value b m → IsCovered f all rest alpha best_value b
-skip_next f all todo rest alpha best_value b m e h le = IsCovered-skip f all rest alpha best_value b m (subst (λ (xs : List ℕ). IsCovered f all xs alpha best_value b) e h) le
-
-pub raise_next : (f : ℕ → ℤ) (all todo rest : List ℕ) (alpha best_value v : ℤ) (b : Option ℕ) (m : ℕ) → todo ≡ m ∷ rest → IsCovered f all todo alpha best_value b → f m ≡ v → threshold best_value b m <ℤ v → IsCovered f all rest alpha v (Some m)
-raise_next f all todo rest alpha best_value v b m e h q lt = IsCovered-raise f all rest alpha best_value v b m (subst (λ (xs : List ℕ). IsCovered f all xs alpha best_value b) e h) q lt
-
 pub at_end : (f : ℕ → ℤ) (all todo : List ℕ) (alpha best_value : ℤ) (b b' : Option ℕ) → todo ≡ [] → b ≡ b' → IsCovered f all todo alpha best_value b → IsCovered f all [] alpha best_value b'
 at_end f all todo alpha best_value b b' e q h =
     subst (λ (x : Option ℕ). IsCovered f all [] alpha best_value x) q (subst (λ (xs : List ℕ). IsCovered f all xs alpha best_value b) e h)

@@ -67,7 +67,7 @@ exact_found p eval d e v beta m f ok h t q a b =
     let w : Within d (value p eval d) = value_within d p eval ok in
     let same : value p eval d ≡ v = k.0 in
     let first : best p eval d ≡ f.best = k.1 ∙ sym b in
-    record { value_is = λ _. a ∙ sym same; best_is = λ _. sym first; lower = omega (arith, ints); told = λ n q. first ∙ q; least = omega (arith, ints); most = omega (arith, ints) }
+    record { value_is = λ _. a ∙ sym same; best_is = λ _. sym first; lower = omega (arith, ints); best_is_true = λ n q. first ∙ q; least = omega (arith, ints); most = omega (arith, ints) }
 
 -- and what a true bound that is at or above the window
 pub at_least_found : (p : Shogi) (eval : Eval) (d : ℕ) (e : Entry) (v beta : ℤ) (f : Found) → IsValid p → d ≤ SEARCH_DEPTH_MAX → negated INFINITY <ℤ beta → IsTrueEntry p eval d e → IsCutoff (negated INFINITY) beta e → e ≡ AtLeast v → f.value ≡ v → f.best ≡ None → IsFoundBelow p eval d beta f
@@ -79,7 +79,7 @@ at_least_found p eval d e v beta f ok h above t s q a b =
       value_is = λ lt. absurd (omega (arith, ints));
       best_is = λ lt. absurd (omega (arith, ints));
       lower = omega (arith, ints);
-      told = λ n q. (let none : None ≡ Some n = sym b ∙ q in absurd (cc));
+      best_is_true = λ n q. (let none : None ≡ Some n = sym b ∙ q in absurd (cc));
       least = omega (arith, ints);
       most = omega (arith, ints);
     }

@@ -5,9 +5,6 @@ use Rattle.std.proofs.lemmas.Bool.{or_cases, eqb-true, or_left, or_right, eq-eqb
 use Rattle.shogi_search.specs.Minimax.{greatest, greatest_or}
 use Rattle.shogi_moves.specs.Rising.{is_in, IsRising}
 
-at_head : (f : ℕ → ℤ) (m n : ℕ) → n ≡ m → f n ≡ f m
-at_head f m n e = ap f e
-
 -- the greatest is at least each
 pub greatest_above : (f : ℕ → ℤ) (m : ℕ) (ms : List ℕ) (n : ℕ) → is_in n (m ∷ ms) ≡ true → f n ≤ℤ greatest f m ms
 greatest_above f m [] n h = elim (or_cases _ _ h) [ inl e ↦ (let q : f n ≡ f m = ap f (eqb-true n m e) in omega (arith, ints)) | inr e ↦ absurd (cc) ]

@@ -1,19 +1,16 @@
 -- What is known of a position when the search leaves it.
-use Rattle.std.proofs.Common.{◌≡◌, ◌<◌, ◌≤◌, ◌-◌, ℕ, ℤ, ◌≤ℤ◌, List, [], ◌∷◌, Option, Some, None, refl, ap, ◌∙◌, arith, find}
+use Rattle.std.proofs.Common.{◌≡◌, ◌<◌, ◌-◌, ℕ, ℤ, ◌≤ℤ◌, List, [], ◌∷◌, Option, Some, None, refl, ap, ◌∙◌, find}
 use Rattle.std.specs.Ordering.{int_eq}
-use Rattle.std.proofs.lemmas.Int.{ints}
 use Rattle.shogi_core.specs.declared.moves.Move.{Move}
 use Rattle.shogi_core.specs.Codes.{code_of, move_of}
 use Rattle.shogi_core.specs.Position.{Shogi}
-use Rattle.shogi_core.specs.Validity.{IsValid}
 use Rattle.shogi_moves.specs.LegalMoves.{legal_codes}
 use Rattle.shogi_moves.specs.Rising.{IsRising}
 use Rattle.shogi_eval.specs.declared.eval.Eval.{Eval}
-use Rattle.shogi_search.specs.Minimax.{value, best, best_code, worth, lost_value, greatest_or, negated}
+use Rattle.shogi_search.specs.Minimax.{value, best, best_code, worth, lost_value, greatest_or}
 use Rattle.shogi_search.specs.Window.{IsCovered, code_at}
 use Rattle.shogi_search.proofs.Cover.{ended_exact, ended_first, ended_low, at_end}
-use Rattle.shogi_search.proofs.MinimaxLaws.{value-above, best_code-above, best-code, value_within, Within}
-use Rattle.shogi_search.specs.declared.bounds.TheConstants.{SEARCH_DEPTH_MAX, INFINITY}
+use Rattle.shogi_search.proofs.MinimaxLaws.{value-above, best_code-above, best-code}
 
 -- the value and the best move
 pub record IsFound (p : Shogi) (eval : Eval) (d : ℕ) (v : ℤ) (m : Option Move) : Type 0 where
@@ -47,20 +44,6 @@ low_of otherwise f (m ∷ ms) alpha best_value ne c = ended_low otherwise f m ms
 pub left_low : (p : Shogi) (eval : Eval) (d : ℕ) (alpha best_value : ℤ) → 0 < d → (legal_codes p ≡ [] → ⊥) → IsCovered (worth p eval (d - 1)) (legal_codes p) [] alpha best_value None → value p eval d ≤ℤ best_value
 left_low p eval d alpha best_value h ne c = rw (value-above p eval d h) (low_of (lost_value d) (worth p eval (d - 1)) (legal_codes p) alpha best_value ne c)
 
-none_of : (p : Shogi) (eval : Eval) (d : ℕ) (alpha best_value : ℤ) → 0 < d → d ≤ SEARCH_DEPTH_MAX → IsValid p → best_value ≡ alpha → alpha ≡ negated INFINITY → (ms : List ℕ) → legal_codes p ≡ ms → IsCovered (worth p eval (d - 1)) (legal_codes p) [] alpha best_value None → legal_codes p ≡ []
-none_of p eval d alpha best_value h h' v q r [] e c = e
-none_of p eval d alpha best_value h h' v q r (m ∷ ms) e c =
-    let ne : legal_codes p ≡ [] → ⊥ = λ z. cc in
-    let l : value p eval d ≤ℤ best_value = left_low p eval d alpha best_value h ne c in
-    let w : Within d (value p eval d) = value_within d p eval v in
-    absurd (omega (arith, ints))
-
--- without a best move above a value that no position has, no move is legal
-pub found_none : (p : Shogi) (eval : Eval) (d : ℕ) (best_value : ℤ) (todo : List ℕ) (best_so_far : Option Move) → 0 < d → d ≤ SEARCH_DEPTH_MAX → IsValid p → todo ≡ [] → best_so_far ≡ None → IsCovered (worth p eval (d - 1)) (legal_codes p) todo (negated INFINITY) best_value (code_at best_so_far) → IsFound p eval d (lost_value d) None
-found_none p eval d best_value todo best_so_far h h' v e q c =
-    let n : IsCovered (worth p eval (d - 1)) (legal_codes p) [] (negated INFINITY) best_value None = at_end _ _ _ _ _ _ _ e (ap code_at q) c in
-    left_lost p eval d h (none_of p eval d (negated INFINITY) best_value h h' v n.reached refl (legal_codes p) refl n)
-
 -- without a best move and with a legal one
 pub found_low : (p : Shogi) (eval : Eval) (d : ℕ) (alpha best_value : ℤ) (todo : List ℕ) (best_so_far : Option Move) → 0 < d → todo ≡ [] → best_so_far ≡ None → (legal_codes p ≡ [] → ⊥) → IsCovered (worth p eval (d - 1)) (legal_codes p) todo alpha best_value (code_at best_so_far) → (value p eval d ≤ℤ best_value) × (best_value ≡ alpha)
 found_low p eval d alpha best_value todo best_so_far h e q ne c =
@@ -71,6 +54,6 @@ no_moves : (ms : List ℕ) → ((ms ≡ [] → ⊥) → ⊥) → ms ≡ []
 no_moves [] nn = refl
 no_moves (m ∷ ms) nn = absurd (nn (λ z. cc))
 
--- without a legal move, as a test tells
+-- without a legal move, as a test shows
 pub found_lost : (p : Shogi) (eval : Eval) (d : ℕ) → 0 < d → ((legal_codes p ≡ [] → ⊥) → ⊥) → IsFound p eval d (lost_value d) None
 found_lost p eval d h nn = left_lost p eval d h (no_moves (legal_codes p) nn)

@@ -36,9 +36,3 @@ pv_cost-suc p eval k = refl
 pub pv_cost-above : (p : Shogi) (eval : Eval) (k : ℕ) → 0 < k → pv_cost p eval k ≡ 2 * tree_size p k + then_pv_cost (λ q. pv_cost q eval (k - 1)) p (best p eval k)
 pv_cost-above p eval zero h = absurd (omega arith)
 pv_cost-above p eval (suc k) h = let e : suc k - 1 ≡ k = omega arith in rw e (pv_cost-suc p eval k)
-
-pub pv_cost-some : (p : Shogi) (eval : Eval) (k : ℕ) (m : Move) → 0 < k → best p eval k ≡ Some m → pv_cost p eval k ≡ 2 * tree_size p k + pv_cost (after p m) eval (k - 1)
-pv_cost-some p eval k m h e = rw (pv_cost-above p eval k h, e) refl
-
-pub pv_cost-none : (p : Shogi) (eval : Eval) (k : ℕ) → 0 < k → best p eval k ≡ None → pv_cost p eval k ≡ 2 * tree_size p k
-pv_cost-none p eval k h e = rw (pv_cost-above p eval k h, e) (omega arith)

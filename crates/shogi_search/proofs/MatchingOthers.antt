@@ -31,7 +31,7 @@ filter-both p hash_move capture (m ∷ xs) = elim (cases_Bool (matches_kind p ca
       ∙ ap (filter (λ n. not (is_hash_move hash_move n))) (sym gone))
 ]
 
--- the next of a sort is a pick, or it is the remembered move and is passed, or there is none
+-- the next one that matches is a pick, or it is the remembered move and is passed, or there is none
 pub other-found : (p : Shogi) (hash_move : Option Move) (capture : Bool) (m : ℕ) (xs rest : List ℕ) → filter (matches_kind p capture) xs ≡ m ∷ filter (matches_kind p capture) rest → is_hash_move hash_move m ≡ false → filter (matches_other p hash_move capture) xs ≡ m ∷ filter (matches_other p hash_move capture) rest
 other-found p hash_move capture m xs rest e h =
     filter-both p hash_move capture xs ∙ ap (filter (λ n. not (is_hash_move hash_move n))) e ∙ cond-true _ _ _ (ap not h) ∙ ap (λ (ys : List ℕ). m ∷ ys) (sym (filter-both p hash_move capture rest))
@@ -43,7 +43,7 @@ other-passed p hash_move capture m xs rest e h =
 pub other-none : (p : Shogi) (hash_move : Option Move) (capture : Bool) (xs : List ℕ) → filter (matches_kind p capture) xs ≡ [] → filter (matches_other p hash_move capture) xs ≡ []
 other-none p hash_move capture xs e = filter-both p hash_move capture xs ∙ ap (filter (λ n. not (is_hash_move hash_move n))) e
 
--- a sort that goes on from another code goes on so without the remembered move
+-- what matches from one code on as from another does so without the remembered move
 pub other-same : (p : Shogi) (hash_move : Option Move) (capture : Bool) (xs ys : List ℕ) → filter (matches_kind p capture) xs ≡ filter (matches_kind p capture) ys → filter (matches_other p hash_move capture) xs ≡ filter (matches_other p hash_move capture) ys
 other-same p hash_move capture xs ys e = filter-both p hash_move capture xs ∙ ap (filter (λ n. not (is_hash_move hash_move n))) e ∙ sym (filter-both p hash_move capture ys)
 
@@ -56,7 +56,7 @@ captures_end p hash_move code ys e = ap (λ (xs : List ℕ). xs ++ ys) (e ∙ no
 
 pub ruleset no_capture_left = (captures_end)
 
--- where no move is remembered, what is found of a sort is the next pick
+-- where no move is remembered, what is found is the next pick
 pub other-next : (p : Shogi) (hash_move : Option Move) (capture : Bool) (first code : ℕ) (found : Option Move) → hash_move ≡ None → IfSome found (λ m. matching_from p capture first ≡ code_of m ∷ matching_from p capture code) → IfSome found (λ m. matching_others_from p hash_move capture first ≡ code_of m ∷ matching_others_from p hash_move capture code)
 other-next p hash_move capture first code None e found = found
 other-next p hash_move capture first code (Some m) e found = other-found p hash_move capture (code_of m) (legal_from p first) (legal_from p code) found (ap (λ f. is_hash_move f (code_of m)) e)

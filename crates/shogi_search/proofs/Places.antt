@@ -2,7 +2,7 @@
 use Rattle.std.proofs.Common.{◌≡◌, ◌<◌, ◌≤◌, ◌+◌, ◌-◌, ◌*◌, ℤ, ℕ, zero, suc, List, [], ◌∷◌, ◌++◌, length, take, set, get_or, Option, Some, None, refl, sym, ap, ◌∙◌, arith, subst}
 use Rattle.std.specs.Prelude.{sum_by, slice_get, IsSomeAnd}
 use Rattle.std.proofs.lemmas.List.{take-set, length-take-le}
-use Rattle.std.proofs.lemmas.Option.{slice_get_read, slice_get_within, slice_get-get_or, get_or_from_slice_get}
+use Rattle.std.proofs.lemmas.Option.{slice_get_within, slice_get-get_or, get_or_from_slice_get}
 use Rattle.std.proofs.Math.Seq.{take-suc}
 use Rattle.shogi_core.specs.declared.moves.Move.{Move}
 use Rattle.shogi_core.specs.Codes.{code_of}
@@ -30,10 +30,6 @@ use Rattle.shogi_search.specs.declared.bounds.TheConstants.{SEARCH_DEPTH_MAX, IN
 abbrev pub IsTop : Stack → Frame → Type 0
 IsTop s f = slice_get s.frames s.height ≡ Some f
 
--- what is read at the height is on top
-pub top_read : (s : Stack) (f : Frame) → s.height < length s.frames → f ≡ get_or s.frames s.height f → IsTop s f
-top_read s f h e = slice_get_read s.frames (length s.frames) s.height f refl h e
-
 -- what holds of the node on top holds of that frame, and back
 pub on_top : (s : Stack) (f : Frame) (fact : Frame → Type 0) → IsTop s f → OnTop s fact → fact f
 on_top s f fact e h = subst (λ (o : Option Frame). IsSomeAnd o fact) e h
@@ -53,10 +49,6 @@ has_some (Some f) fact h = (f, (refl, h))
 
 pub has_top : (s : Stack) (fact : Frame → Type 0) → OnTop s fact → HasTop s fact
 has_top s fact h = let k : _ = has_some (slice_get s.frames s.height) fact h in record { top = k.0; is = k.1.0; has = k.1.1 }
-
--- what holds of the node on top may be exchanged for what follows from it
-pub top_map : (s : Stack) (fact other : Frame → Type 0) → ((f : Frame) → IsTop s f → fact f → other f) → OnTop s fact → OnTop s other
-top_map s fact other g h = let t : HasTop s fact = has_top s fact h in of_top s t.top other t.is (g t.top t.is t.has)
 
 take_next : (xs : List Frame) (i : ℕ) (f : Frame) → slice_get xs i ≡ Some f → take (i + 1) xs ≡ take i xs ++ f ∷ []
 take_next xs i f e =
@@ -159,19 +151,6 @@ left_popped s d g k h fits same picker taken =
     let l : left_of_frame g ≤ left_of_frame (get_or s.frames (s.height - 1) d) = left_same (get_or s.frames (s.height - 1) d) g same picker taken in
     let r : IsBelow s (get_or s.frames (s.height - 1) d) = below s d k h fits in
     omega (arith, left_with s (s.height - 1) g (omega arith), left_read s r.top r.is, left_above (parents_of s) (take (s.height - 1) s.frames) (get_or s.frames (s.height - 1) d) r.parents)
-
--- without a node below it, the top is the root
-pub root_truth : (s : Stack) (entry : Entry) → IsStack s → s.height ≡ 0 → OnTop s (λ top. IsTrueEntry top.node.position top.node.eval top.depth entry) → IsTrueEntry s.root s.eval s.depth entry
-root_truth s entry k z truth =
-    let t : HasTop s (IsChain s.root s.eval s.depth (negated INFINITY) s.beta (parents_of s)) = has_top s _ k.chain in
-    let a : IsAt s.root s.eval s.depth (negated INFINITY) s.beta t.top = subst (λ (n : ℕ). IsChain s.root s.eval s.depth (negated INFINITY) s.beta (take n s.frames) t.top) z t.has in
-    same_truth _ _ _ _ _ _ _ a.position a.eval a.depth (on_top s t.top (λ (top : Frame). IsTrueEntry top.node.position top.node.eval top.depth entry) t.is truth)
-
-pub root_cutoff : (s : Stack) (entry : Entry) → IsStack s → s.height ≡ 0 → OnTop s (λ top. IsCutoff top.alpha top.beta entry) → IsCutoff (negated INFINITY) s.beta entry
-root_cutoff s entry k z cutoff =
-    let t : HasTop s (IsChain s.root s.eval s.depth (negated INFINITY) s.beta (parents_of s)) = has_top s _ k.chain in
-    let a : IsAt s.root s.eval s.depth (negated INFINITY) s.beta t.top = subst (λ (n : ℕ). IsChain s.root s.eval s.depth (negated INFINITY) s.beta (take n s.frames) t.top) z t.has in
-    same_window _ _ _ _ _ a.alpha_is a.beta_is (on_top s t.top (λ (top : Frame). IsCutoff top.alpha top.beta entry) t.is cutoff)
 
 -- something is left of a stack
 pub left_positive : (s : Stack) → IsStack s → 0 < steps_left s

@@ -22,7 +22,7 @@ use Rattle.shogi_search.specs.Ranked.{is_better, insert_code, ranked, ranked_cod
 same_int : (v w : ℤ) → v ≤ℤ w → w ≤ℤ v → v ≡ w
 same_int v w a b = omega (arith, ints)
 
--- what the test tells
+-- what the test shows
 pub better_cases : (v w : ℤ) (m n : ℕ) → is_better v m w n ≡ true → (w <ℤ v) ⊎ ((v ≡ w) × (m < n))
 better_cases v w m n h = elim (or_cases (int_lt w v) (int_eq v w && nat_lt m n) h) [
   | inl l ↦ inl (omega (arith, ints))
@@ -83,7 +83,7 @@ rank_first f m n ns h = cond-true (before f m n) (m ∷ n ∷ ns) (n ∷ insert_
 rank_after : (f : ℕ → ℤ) (m n : ℕ) (ns : List ℕ) → before f m n ≡ false → insert_code f m (n ∷ ns) ≡ n ∷ insert_code f m ns
 rank_after f m n ns h = cond-false (before f m n) (m ∷ n ∷ ns) (n ∷ insert_code f m ns) h
 
--- two codes at the front of a list, in either order
+-- two codes at the head of a list, in either order
 rank_two : (f : ℕ → ℤ) (m n k : ℕ) (ks : List ℕ) → before f m n ≡ true → before f m k ≡ true → before f n k ≡ true → insert_code f m (n ∷ k ∷ ks) ≡ insert_code f n (m ∷ k ∷ ks)
 rank_two f m n k ks h a b = rank_first f m n (k ∷ ks) h ∙ sym (rank_after f n m (k ∷ ks) (better_not (f m) (f n) m n h) ∙ ap (λ (l : List ℕ). m ∷ l) (rank_first f n k ks b))
 

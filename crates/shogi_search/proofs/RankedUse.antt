@@ -101,7 +101,7 @@ line_of f (y ∷ ys) (k ∷ ks) (suc n) (suc i) x h e =
     let r : IsLineOf f ks n i x = line_of f ys ks n i x rest e in
     record { short = (let s : i < n = r.short in omega arith); code_is = r.code_is; worth_is = r.worth_is }
 
--- the codes at the front of a rising list are less than the next one
+-- the codes of a prefix of a rising list are less than the next one
 rising_front : (xs : List ℕ) (m : ℕ) (ys : List ℕ) → IsRising (xs ++ m ∷ ys) → (n : ℕ) → is_in n xs ≡ true → n < m
 rising_front [] m ys r n i = absurd (cc)
 rising_front (x ∷ xs) m ys r n i = elim (or_cases (n == x) (is_in n xs) i) [

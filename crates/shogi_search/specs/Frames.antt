@@ -50,9 +50,13 @@ IsCutoffAfter f m entry = IsCutoff (negated f.beta) (negated (threshold_of f m))
 abbrev pub IsToBeLeft : Frame → Type 0
 IsToBeLeft f = IsOver f.waiting (todo f.node.position f.picker)
 
+-- the move is worth no more than this to its mover
+abbrev pub IsWorthAtMost : Frame → Move → ℤ → Type 0
+IsWorthAtMost f m most = worth_of f m ≤ℤ most
+
 -- the current move is not worth more than it has to be
 abbrev pub FailsLow : Frame → Type 0
-FailsLow f = WhereCurrent f.waiting (λ m. worth_of f m ≤ℤ threshold_of f m)
+FailsLow f = WhereCurrent f.waiting (λ m. IsWorthAtMost f m (threshold_of f m))
 
 -- the other side has a legal move after the move
 abbrev pub HasReply : Frame → Move → Type 0
@@ -63,6 +67,10 @@ abbrev pub Survives : Frame → Threat → Move → Type 0
 Survives f threat m =
     MayTake (after f.node.position m) threat.from threat.target
     (piece_at f.node.position.cells threat.target)
+
+-- and where it may, the move is worth no more than this
+abbrev pub IsMostUnderThreat : Frame → Threat → Move → ℤ → Type 0
+IsMostUnderThreat f threat m most = Survives f threat m → IsWorthAtMost f m most
 
 -- no drop of the other side takes more than this from its material
 abbrev pub RepliesLoseAtMost : Frame → ℤ → Type 0

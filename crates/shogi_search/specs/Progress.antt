@@ -1,4 +1,4 @@
--- A search that goes on in slices, as its caller sees it (own choice).
+-- A search in slices, as its caller sees it (own choice).
 use Rattle.std.specs.Prelude.{◌≡◌, ℕ, ℤ, ◌*◌, ◌≤ℤ◌, ◌<ℤ◌, Bool, false, List, [], Option, None, Some, IsSome}
 use Rattle.std.specs.Option.{ForSome}
 use Rattle.shogi_core.specs.Position.{Shogi}
@@ -77,12 +77,12 @@ KeepsQuestion old new =
     (new.root ≡ old.root)
     × ((new.eval ≡ old.eval) × ((new.depth ≡ old.depth) × (new.beta ≡ old.beta)))
 
--- what is found of a position below a bound: the value and the best move where it is less, and else no more than the value; a best move that is told is the best move
+-- what is found of a position below a bound: the value and the best move where it is less, and else no more than the value; a best move that is found is the best move
 pub record IsFoundBelow (p : Shogi) (e : Eval) (d : ℕ) (beta : ℤ) (f : Found) : Type 0 where
   pub value_is : f.value <ℤ beta → f.value ≡ value p e d
   pub best_is : f.value <ℤ beta → f.best ≡ best p e d
   pub lower : f.value ≤ℤ value p e d
-  pub told : ForSome f.best (λ m. best p e d ≡ Some m)
+  pub best_is_true : ForSome f.best (λ m. best p e d ≡ Some m)
   pub least : negated INFINITY <ℤ f.value
   pub most : f.value <ℤ INFINITY
 

@@ -1,4 +1,4 @@
--- A capture by the side that is not to move, as it is kept to tell that a move cannot be worth enough (own choice).
+-- A capture by the side that is not to move, as it is kept to show that a move cannot be worth enough (own choice).
 use Rattle.std.specs.Prelude.{◌≡◌, ◌<◌, ◌≤◌, ℕ}
 use Rattle.shogi_core.specs.Bits.{has_bit}
 use Rattle.shogi_core.specs.declared.moves.Move.{Move}

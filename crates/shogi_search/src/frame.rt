@@ -54,7 +54,7 @@ pub struct Frame {
     pub picker: MovePicker,
     pub waiting: Waiting,
     pub replies: Replies,
-    /// Set once the replies tell of the position.
+    /// Set once the replies are those of the position.
     pub has_replies: bool,
     /// Squares to which the other side's king may go, once they were looked for.
     pub escapes: Option<u128>,
@@ -97,7 +97,7 @@ pub fn leaf(node: &Node) -> i32
     if can_move(node) { node.score() } else { -MATE }
 }
 
-/// What tells of the leaves after the moves, if that is asked for.
+/// What shows which moves surely have a reply, if that is asked for.
 fn replies_of(node: &Node, ahead: bool) -> Replies
     ensures { IsReplies node.now.position result.sight result.spare }
 {
@@ -153,11 +153,11 @@ fn loss_of_drops(p: &Position, side: Color, e: Eval) -> i32
 }
 
 impl Frame {
-    ghost use Rattle.shogi_search.specs.Frames.{worth_of, threshold_of, leaf_value, FailsLow, IsTrueOf, IsTrueAfter, IsCutoffAfter, IsToBeLeft, HasReply, Survives, RepliesLoseAtMost};
+    ghost use Rattle.shogi_search.specs.Frames.{worth_of, threshold_of, leaf_value, FailsLow, IsTrueOf, IsTrueAfter, IsCutoffAfter, IsToBeLeft, HasReply, IsWorthAtMost, IsMostUnderThreat, RepliesLoseAtMost};
     ghost use Rattle.shogi_search.specs.Stack.{IsAt, IsSame, KeepsMoves, EndsVisit, AsksFor, PrunesRow};
 
-    /// The frame becomes that of a node that is entered, with the hash move to visit first; `ahead`
-    /// asks for what tells of leaves without making them.
+    /// The frame becomes that of a node that is entered, with the move to visit first; `ahead` asks
+    /// for what shows, without making a leaf, that it has a legal move.
     pub fn enter(
         &mut self,
         node: &Node,
@@ -214,11 +214,10 @@ impl Frame {
         if self.depth == 0 {
             return Entry::Exact(leaf(&self.node), None);
         }
-        let best = self.best_move;
         match self.best_move {
             Some(m) => {
                 m.validity();
-                Entry::Exact(self.best_value, best)
+                Entry::Exact(self.best_value, self.best_move)
             }
             None => {
                 if self.can_move() {
@@ -264,7 +263,7 @@ impl Frame {
     }
 
     /// Asks for the answer of the next move, where there is one. At depth 2, and at depth 1 where
-    /// leaves are told without making them, the moves that surely are not worth enough are passed.
+    /// leaves are valued without making them, the moves that surely are not worth enough are passed.
     #[inline(always)]
     pub fn next_move(&mut self) -> Option<Move>
         requires next { self.old.waiting ≡ Waiting.Next }
@@ -320,7 +319,7 @@ impl Frame {
             Entry::Exact(v, _) => {
                 let worth = -*v;
                 if worth >= self.beta {
-                    self.cut_off(worth);
+                    self.cut_off(current, worth);
                 } else if self.is_better(current, worth) {
                     self.raise_alpha(current, worth);
                 } else {
@@ -328,16 +327,19 @@ impl Frame {
                 }
             }
             Entry::AtLeast(_) => self.fail_low(),
-            Entry::AtMost(v) => self.cut_off(-*v),
+            Entry::AtMost(v) => self.cut_off(current, -*v),
         }
     }
 
-    /// The current move is worth this much or more, which is enough.
-    fn cut_off(&mut self, value: i32)
-        requires worth { WhereCurrent self.old.waiting (λ m. value ≤ℤ worth_of self.old m) }
+    /// The current move is worth this much or more, which is enough. It is kept, and no longer the
+    /// best one before it.
+    fn cut_off(&mut self, current: &Move, value: i32)
+        requires current { IsCurrent self.old.waiting current.now }
+        requires worth { value ≤ℤ worth_of self.old current.now }
         requires beta { self.old.beta ≤ℤ value }
         ensures { EndsVisit self.old self.new }
     {
+        self.best_move = Some(*current);
         self.waiting = Waiting::Cut(value);
     }
 
@@ -351,7 +353,7 @@ impl Frame {
         self.waiting = Waiting::Next;
     }
 
-    /// Notes what tells of the other side's moves after the node's, where it is not noted yet.
+    /// Notes what shows which moves surely have a reply, where it is not noted yet.
     fn look_ahead(&mut self)
         ensures { KeepsMoves self.old self.new }
     {
@@ -425,14 +427,14 @@ impl Frame {
         requires current { IsCurrent self.now.waiting current.now }
         requires deep { 0 < self.now.depth }
         requires near { self.now.depth ≤ 2 }
-        ensures most { HasReply self.now current.now → worth_of self.now current.now ≤ℤ result }
+        ensures most { HasReply self.now current.now → IsWorthAtMost self.now current.now result }
     {
         current.validity();
         self.loss_after() - self.node.score_after(current)
     }
 
     /// Looks for a threat of the other side, once a move was gone through and not good enough or
-    /// where the material alone is not enough; before that none may be wanted.
+    /// where the material alone is not enough; before that none may be needed.
     fn look_for_threat(&mut self)
         ensures { KeepsMoves self.old self.new }
     {
@@ -449,14 +451,14 @@ impl Frame {
         requires current { IsCurrent self.now.waiting current.now }
         requires last { self.now.depth ≡ 2 }
         requires threat { IsThreatIn self.now.node.position self.now.node.eval threat.now }
-        ensures most { Survives self.now threat.now current.now → worth_of self.now current.now ≤ℤ result }
+        ensures most { IsMostUnderThreat self.now threat.now current.now result }
     {
         current.validity();
         0 - self.node.score_after(current) - threat.gain as i32
     }
 
     /// Passes the current move of a node of depth 2, where it is certain without making it that it
-    /// is not worth enough since a threat stands after it, and tells whether it did.
+    /// is not worth enough since a threat stands after it, and returns whether it did.
     fn prune_under_threat(&mut self, current: &Move) -> bool
         requires asked { self.old.waiting ≡ Waiting.Asked current.now }
         requires last { self.old.depth ≡ 2 }

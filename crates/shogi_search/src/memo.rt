@@ -26,7 +26,7 @@ pub enum Entry {
 pub trait Memo {
     ghost answers: { Self → Shogi → Eval → ℕ → Option Entry };
 
-    /// How much it keeps at most, where it tells that. No call changes it.
+    /// How much it keeps at most, where it states that. No call changes it.
     ghost capacity: { Self → ℕ } = { λ _. 0 };
 
     /// Whether anything may ever be answered at the depth, under any evaluation.

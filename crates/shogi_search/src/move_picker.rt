@@ -167,7 +167,7 @@ impl MovePicker {
         None
     }
 
-    /// The code to go on from where the moves that take nothing are under way, and none of them is
+    /// The code to continue from where the moves that take nothing are under way, and none of them is
     /// left out.
     pub fn quiets(&self) -> Option<u16>
         ensures { IfSome result (IsAtQuiets self.now) }
@@ -194,7 +194,7 @@ impl MovePicker {
         }
     }
 
-    /// The kind whose drops are under way, where none of them is left out, and the code to go on
+    /// The kind whose drops are under way, where none of them is left out, and the code to continue
     /// from.
     pub fn drops(&self) -> Option<(Kind, u16)>
         ensures { IfSome result (λ drops. IsAtDrops self.now drops.0 drops.1) }

@@ -1,4 +1,4 @@
-//! A search that goes on in slices.
+//! A search in slices.
 
 ghost use Rattle.std.specs.Prelude.{◌≡◌, ◌≤◌, ◌<◌, ◌+◌, ◌*◌, ◌-◌, ◌^◌, ◌≤ℤ◌, ◌<ℤ◌, true, false, Some, None, IfSome, IfNone, OnSome, IsSome, ◌↔◌, min};
 ghost use Rattle.std.specs.List.{All};
@@ -13,7 +13,7 @@ use crate::bounds::INFINITY;
 use crate::found::Found;
 use crate::frame::Frame;
 use crate::memo::{Entry, Memo};
-use crate::stack::{Stack, hash_move_of, looks_ahead, probe};
+use crate::stack::{Stack, first_move_of, hash_move_of, looks_ahead, probe};
 use shogi_core::Position;
 use shogi_eval::{Eval, Node};
 use std::marker::Model;
@@ -99,15 +99,18 @@ impl Search {
         }
     }
 
-    /// Begins anew, as `start` does, in the room of this search.
+    /// Begins anew, as `start` does, in the room of this search, of which nothing is kept.
     pub fn restart(&mut self, p: &Position, e: Eval, d: u8)
         requires { d ≤ SEARCH_DEPTH_MAX }
         ensures { self.new ≡ untouched p.now e d }
     {
         self.restart_below(p, e, d, INFINITY);
+        self.stack.frames[0] = Frame::default();
     }
 
-    /// Begins anew, as `start_below` does, in the room of this search.
+    /// Begins anew, as `start_below` does, in the room of this search. Where the memo has no move to
+    /// visit first, that is the move that was the best of this search's root or cut it off, if it is
+    /// legal: what refutes one move of a position often refutes the next one.
     pub fn restart_below(&mut self, p: &Position, e: Eval, d: u8, beta: i32)
         requires shallow { d ≤ SEARCH_DEPTH_MAX }
         requires open { negated INFINITY <ℤ beta }
@@ -123,9 +126,9 @@ impl Search {
         self.found = None;
     }
 
-    /// Tells what is known of a search that has entered its root and not ended: which nodes it has
+    /// States what is known of a search that has entered its root and not ended: which nodes it has
     /// entered and not left, each the child of the one before, and what they are worth so far. Of
-    /// any search it tells that each such node is worth its greatest searched move so far, or
+    /// any search it states that each such node is worth its greatest searched move so far, or
     /// enough to be cut off.
     pub fn validity(&self)
         ensures path { self.now.started ≡ true → self.now.found ≡ None → HasPath self.now }
@@ -152,13 +155,15 @@ impl Search {
         ensures steps { self.new.steps ≡ min (self.old.steps + 1) (2 ^ 64 - 1) }
         ensures left { left_of self.new < left_of self.old }
     {
+        let other = self.stack.frames[0].best_move;
         let (root, e, depth) = (&self.stack.root, self.stack.eval, self.stack.depth);
         let hash_move = hash_move_of(root, e, depth, memo);
+        let first = first_move_of(root, hash_move, other);
         let ahead = looks_ahead(depth, memo);
         let node = Node::of(*root, e);
         self.stack.height = 0;
         let beta = self.stack.beta;
-        self.stack.frames[0].enter(&node, depth, -INFINITY, beta, hash_move, ahead);
+        self.stack.frames[0].enter(&node, depth, -INFINITY, beta, first, ahead);
         self.started = true;
         self.steps = self.steps.saturating_add(1);
     }
@@ -189,9 +194,8 @@ impl Search {
         let entry = self.stack.run(memo, budget, &mut self.steps)?;
         let (root, e, depth) = (&self.stack.root, self.stack.eval, self.stack.depth);
         let beta = self.stack.beta;
-        let noted = entry;
         if depth == 0 {
-            memo.note(root, e, depth, noted);
+            memo.note(root, e, depth, entry);
         }
         self.found = Some(found_of(&entry, root, e, depth, beta, self.steps));
         self.found
@@ -210,8 +214,8 @@ impl Search {
         Some(found_of(&entry, root, e, depth, beta, self.steps))
     }
 
-    /// Goes on by so many steps, or fewer where it ends, and then tells what it found. After the
-    /// end it tells the same again, without a step or a call of the memo.
+    /// Continues by so many steps, or fewer where it ends, and then returns what it found. After the
+    /// end it returns the same again, without a step or a call of the memo.
     pub fn advance<M: Memo>(&mut self, memo: &mut M, budget: u64) -> Option<Found>
         ensures below { IfSome result (IsFoundBy self.old) }
         // Below the end of the whole window lies every value.

@@ -1,4 +1,4 @@
-//! The stack of a search that goes on in slices.
+//! The stack of a search in slices.
 
 ghost use Rattle.std.specs.Prelude.{◌≡◌, ◌≤◌, ◌<◌, ◌+◌, ◌*◌, ◌-◌, ◌^◌, true, false, None, Some, IfSome, IfNone, IsSome, min, IsTrue, ◌↔◌};
 ghost use Rattle.std.specs.Option.{ForSome};
@@ -14,6 +14,7 @@ use crate::frame::{Frame, Waiting, leaf};
 use crate::memo::{Entry, Memo};
 use shogi_core::{Move, Position};
 use shogi_eval::{Eval, Node};
+use shogi_moves::is_legal;
 
 /// The root of a search, its evaluation, its depth and the end of its window, and the nodes that
 /// are entered and not yet left, from the root on: the one on top stands at the height, and those
@@ -96,6 +97,23 @@ pub fn hash_move_of<M: Memo>(p: &Position, e: Eval, depth: u8, memo: &mut M) -> 
     }
 }
 
+/// The move to visit first at the root: the hash move, or where there is none this other one, if it
+/// is legal.
+pub fn first_move_of(p: &Position, hash_move: Option<Move>, other: Option<Move>) -> Option<Move>
+    requires { ForSome hash_move (IsListed p.now) }
+    ensures listed { ForSome result (IsListed p.now) }
+    ensures hash_move { IfSome hash_move (λ m. result ≡ Some m) }
+    ensures other { hash_move ≡ None → IfSome result (λ m. other ≡ Some m) }
+    ensures legal { hash_move ≡ None → IfSome other (λ m. IsListed p.now m → result ≡ Some m) }
+{
+    if hash_move.is_some() {
+        return hash_move;
+    }
+    let m = other?;
+    let tried = m;
+    if is_legal(p, tried) { Some(m) } else { None }
+}
+
 /// Whether a node's children are leaves that the memo need not be asked for.
 pub fn looks_ahead<M: Memo>(depth: u8, memo: &M) -> bool
     ensures { result ≡ true → depth ≡ 1 }
@@ -103,7 +121,7 @@ pub fn looks_ahead<M: Memo>(depth: u8, memo: &M) -> bool
     depth == 1 && !memo.keeps(0)
 }
 
-/// Goes on with the current move of a node of depth 1, and makes its child, a leaf: by the memo's
+/// Continues with the current move of a node of depth 1, and makes its child, a leaf: by the memo's
 /// answer, or by the leaf's value, which the next step takes in.
 #[inline(never)]
 fn make_leaf<M: Memo>(top: &mut Frame, current: &Move, memo: &mut M)
@@ -125,7 +143,7 @@ fn make_leaf<M: Memo>(top: &mut Frame, current: &Move, memo: &mut M)
     top.keep_leaf_value(current, leaf(&node));
 }
 
-/// The same; where a leaf is certain to have a legal move, its value is told without making it, and
+/// The same; where a leaf is certain to have a legal move, it is valued without making it, and
 /// taken in at once where there is room for that step too. Gives the number of steps.
 fn visit_leaf<M: Memo>(top: &mut Frame, current: &Move, memo: &mut M, room: u64) -> u64
     requires asked { top.old.waiting ≡ Waiting.Asked current.now }
@@ -179,7 +197,7 @@ impl Stack {
         true
     }
 
-    /// Goes on with the current move of the node on top: by the memo's answer, or into the child,
+    /// Continues with the current move of the node on top: by the memo's answer, or into the child,
     /// which is on top then.
     #[inline(never)]
     fn enter_child<M: Memo>(&mut self, current: &Move, memo: &mut M)
@@ -208,8 +226,8 @@ impl Stack {
         self.frames[self.height].enter(&node, depth, alpha, beta, hash_move, ahead);
     }
 
-    /// The same for a node of any depth, where a child that is a leaf is told by its value. Gives
-    /// the number of steps.
+    /// The same for a node of any depth, where a child that is a leaf is valued. Gives the number of
+    /// steps.
     fn descend<M: Memo>(&mut self, current: &Move, memo: &mut M, room: u64) -> u64
         requires stack { IsStack self.old }
         requires asked { OnTop self.old (λ top. top.waiting ≡ Waiting.Asked current.now) }
@@ -245,14 +263,13 @@ impl Stack {
     {
         let top = &self.frames[self.height];
         let entry = top.to_entry();
-        let (noted, answer) = (entry, entry);
         if top.depth > 0 && (self.height == 0 || memo.serves(top.depth)) {
-            memo.note(top.node.as_position(), top.node.eval(), top.depth, noted);
+            memo.note(top.node.as_position(), top.node.eval(), top.depth, entry);
         }
         if self.pop(&entry) {
             return None;
         }
-        Some(answer)
+        Some(entry)
     }
 
     /// Makes one step, or the two of a leaf, and counts them; gives what is known of the root where

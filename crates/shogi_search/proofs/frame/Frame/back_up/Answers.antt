@@ -29,16 +29,16 @@ overflow_sub-v c =
     omega (arith, ints, c.args.self.now.«open»)
 
 pub cut_off-requires-clause-worth : goal.cut_off-requires-clause-worth
-cut_off-requires-clause-worth c = of_current c.args.self.now.waiting _ c.args.current.now c.requires.current (
+cut_off-requires-clause-worth c =
     let w : _ = waits _ _ _ _ _ _ _ _ _ _ c.requires.current c.args.self.now.known in
     let e : IsWorth c.args.self.now.node.position c.args.self.now.node.eval (c.args.self.now.depth - 1) (code_of c.args.current.now) c.in-Exact.v = exact_says _ _ _ _ _ _ _ c.args.self.now.valid w.is_listed c.args.self.now.shallow c.in-Exact.is c.requires.truth in
-    omega (arith, ints, e.is))
+    omega (arith, ints, e.is)
 
 pub cut_off-requires-in-AtMost-clause-worth : goal.cut_off-requires-in-AtMost-clause-worth
-cut_off-requires-in-AtMost-clause-worth c = of_current c.args.self.now.waiting _ c.args.current.now c.requires.current (
+cut_off-requires-in-AtMost-clause-worth c =
     let w : _ = waits _ _ _ _ _ _ _ _ _ _ c.requires.current c.args.self.now.known in
     let e : IsAtLeast c.args.self.now.node.position c.args.self.now.node.eval (c.args.self.now.depth - 1) (code_of c.args.current.now) c.args.self.now.beta c.in-AtMost.v = at_most_says _ _ _ _ _ _ _ _ c.args.self.now.valid w.is_listed c.args.self.now.shallow c.in-AtMost.is c.requires.truth c.requires.cutoff in
-    omega (arith, ints, e.worth_is))
+    omega (arith, ints, e.worth_is)
 
 pub cut_off-requires-in-AtMost-clause-beta : goal.cut_off-requires-in-AtMost-clause-beta
 cut_off-requires-in-AtMost-clause-beta c =

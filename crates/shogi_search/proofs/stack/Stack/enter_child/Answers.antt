@@ -8,7 +8,6 @@ use Rattle.shogi_search.specs.Visits.{IsFree}
 use Rattle.shogi_search.specs.declared.frame.Frame.{Frame}
 use Rattle.shogi_search.specs.declared.frame.Waiting.TheVariants.{Asked}
 use Rattle.shogi_search.proofs.Chains.{left_same}
-use Rattle.shogi_search.proofs.Entries.{same_window}
 use Rattle.shogi_search.proofs.MinimaxLaws.{tree_size-positive}
 use Rattle.shogi_search.proofs.Nodes.{asked, waits}
 use Rattle.shogi_search.proofs.Places.{IsTop, read_top, on_top, on_with, changed, room_asked, stack_entered, left_child, left_visited, free_next}
