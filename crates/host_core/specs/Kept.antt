@@ -28,6 +28,6 @@ is_refused (Take at n) (Refused fault) = true
 is_refused (Close at) (Refused fault) = true
 is_refused _ _ = false
 
--- a refusal leaves the host as it was, but for `Work`
-abbrev pub KeepsRefused : HostState → Event → Outcome → HostState → Type 0
-KeepsRefused old event outcome new = is_refused event outcome ≡ true → new ≡ old
+-- where the event was refused the host is as it was, but for `Work`
+abbrev pub IfRefused : HostState → Event → Outcome → HostState → Type 0
+IfRefused old event outcome new = is_refused event outcome ≡ true → new ≡ old

@@ -4,7 +4,7 @@ ghost use Rattle.std.specs.Prelude.{◌≡◌, ◌≤◌, IfOk, OnErr, Err, leng
 ghost use Rattle.session_slots.specs.Slots.{IsBelow};
 ghost use Rattle.shared_table.specs.Recent.{AreTrue};
 ghost use Rattle.host_core.specs.Headline.{PrefixOfReplies, AllReplies, Continues, EndsByOwn, OverByOwn, EndsOn};
-ghost use Rattle.host_core.specs.Kept.{KeepsOthers, KeepsRefused};
+ghost use Rattle.host_core.specs.Kept.{IfRefused, KeepsOthers};
 ghost use Rattle.host_core.specs.Runs.{IsRun};
 ghost use Rattle.host_core.specs.Seen.{OfSteps, event_of, outcome_of};
 ghost use Rattle.host_core.specs.Steps.{Stepped};
@@ -49,7 +49,7 @@ impl<S: BuildHasher, A: Allocator + Copy> Host<S, A> {
     pub fn step(&mut self, event: Event<'_>) -> Outcome<A>
         ensures stepped { Stepped self.old (event_of event.entry) (outcome_of result) self.new }
         ensures others { KeepsOthers self.old (event_of event.entry) (outcome_of result) self.new }
-        ensures refused { KeepsRefused self.old (event_of event.entry) (outcome_of result) self.new }
+        ensures refused { IfRefused self.old (event_of event.entry) (outcome_of result) self.new }
         ensures truth { AreTrue self.new.table.pairs }
         ensures fits { length self.new.table.pairs ≤ self.new.table.capacity }
         ensures below { IsBelow self.old.slots }
