@@ -1,7 +1,9 @@
 -- What `replay` does with its reader and its writer (own choice).
 use Rattle.std.specs.Prelude.{◌≡◌, ℕ, List, Option, Result, Ok, Err, MatchResult, Vec}
 use Rattle.std.specs.Io.KnownBytes.{Appends, Consumes, IsAtEnd, Keeps}
-use Rattle.usi_stdio.specs.Stdio.{WritesPrefix}
+use Rattle.std.specs.declared.io.traits.Read as read
+use Rattle.std.specs.declared.io.traits.Write as write
+use Rattle.usi_stdio.specs.Stdio.{TakesPrefix}
 use Rattle.usi_replay.specs.declared.fault.ReplayFault.{ReplayFault}
 use Rattle.usi_replay.specs.declared.fault.ReplayFault.TheVariants.{OutOfMemory, ReadFailed, WriteFailed, BadScript}
 use Rattle.usi_replay.specs.Script.{Opening, read_script, output}
@@ -29,7 +31,7 @@ pub record IsReplayed (slots : ℕ) (before after old new : Option (List ℕ)) :
 pub record IsReplayedInPart (slots : ℕ) (before after old new : Option (List ℕ)) : Type 0 where
   pub openings : List Opening
   pub read : IsScript slots before after (Ok openings)
-  pub written : WritesPrefix old new (output openings)
+  pub written : TakesPrefix old new (output openings)
 
 -- the first bad line has this number, and nothing was written
 pub record IsBadAt (slots : ℕ) (before after old new : Option (List ℕ)) (line : ℕ) : Type 0 where
@@ -67,3 +69,24 @@ IsAnswerFault slots bytes (BadScript line) = read_script slots bytes ≡ Err lin
 abbrev pub IsAnswerOf : {Z : Type 0} → ℕ → List ℕ → Result (Vec ℕ Z) ReplayFault → Type 0
 IsAnswerOf slots bytes result =
     MatchResult result (λ out. IsOutputOf slots bytes out.items) (IsAnswerFault slots bytes)
+
+-- ---- the same of a reader and a writer of the code
+
+-- the reader gave these bytes, and they are all that it had
+abbrev pub GivesAll : {R : Type 0} → read.Ghosts R → (before after : R) → List ℕ → Type 0
+GivesAll readers before after bytes =
+    IsAllRead (readers.remaining before) (readers.remaining after) bytes
+
+-- the script's output was written
+abbrev pub Replays : {R W : Type 0} → ℕ → read.Ghosts R → write.Ghosts W
+    → (before after : R) (old new : W) → Type 0
+Replays slots readers writers before after old new =
+    IsReplayed slots (readers.remaining before) (readers.remaining after)
+    (writers.contents old) (writers.contents new)
+
+-- what a fault leaves: only a write that failed leaves anything written
+abbrev pub Leaves : {R W : Type 0} → ℕ → read.Ghosts R → write.Ghosts W
+    → (before after : R) (old new : W) → ReplayFault → Type 0
+Leaves slots readers writers before after old new fault =
+    IsFault slots (readers.remaining before) (readers.remaining after)
+    (writers.contents old) (writers.contents new) fault

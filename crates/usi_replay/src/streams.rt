@@ -1,7 +1,7 @@
 //! A script over a reader and a writer.
 
 ghost use Rattle.std.specs.Prelude.{◌≤◌, OnOk, IfOk, IfErr};
-ghost use Rattle.usi_replay.specs.Replayed.{IsReplayed, IsFault, IsAllRead, IsReadFault, IsAnswerOf};
+ghost use Rattle.usi_replay.specs.Replayed.{GivesAll, IsAnswerOf, IsReadFault, Leaves, Replays};
 ghost use Rattle.session_slots.specs.declared.limits.TheConstants.{SESSIONS_MAX};
 ghost use Rattle.shared_table.specs.declared.table.TheConstants.{CAPACITY_MAX};
 
@@ -17,8 +17,7 @@ use usi_stdio::write_out;
 
 /// Reads all that comes.
 fn read_all<A: Allocator, R: Read>(alloc: A, reader: &mut R) -> Result<Vec<u8, A>, ReplayFault>
-    ensures read { IfOk result (λ bytes.
-        IsAllRead (R.remaining reader.old) (R.remaining reader.new) bytes.items) }
+    ensures read { IfOk result (λ bytes. GivesAll R.Read reader.old reader.new bytes.items) }
     ensures fault { IfErr result IsReadFault }
 {
     let mut bytes = Vec::new(alloc);
@@ -104,8 +103,8 @@ fn output_of<A: Allocator + Copy>(
 /// a write or the flush failed or a write took nothing; then a prefix of the output was written.
 pub fn replay<A: Allocator + Copy, R: Read, W: Write>(
     alloc: A,
-    reader: &mut R,
-    writer: &mut W,
+    input: &mut R,
+    output: &mut W,
     slots: usize,
     entries: usize,
     slice: u64,
@@ -115,15 +114,14 @@ pub fn replay<A: Allocator + Copy, R: Read, W: Write>(
     requires least_entries { 1 ≤ entries }
     requires most_entries { entries ≤ CAPACITY_MAX }
     requires least_slice { 1 ≤ slice }
-    ensures replayed { OnOk result (IsReplayed slots
-        (R.remaining reader.old) (R.remaining reader.new)
-        (W.contents writer.old) (W.contents writer.new)) }
-    ensures fault { IfErr result (IsFault slots (R.remaining reader.old) (R.remaining reader.new)
-        (W.contents writer.old) (W.contents writer.new)) }
+    ensures ok { OnOk result
+        (Replays slots R.Read W.Write input.old input.new output.old output.new) }
+    ensures err { IfErr result
+        (Leaves slots R.Read W.Write input.old input.new output.old output.new) }
 {
-    let script = read_all(alloc, reader)?;
+    let script = read_all(alloc, input)?;
     let out = output_of(alloc, script.as_slice(), slots, entries, slice)?;
-    if write_out(writer, out.as_slice()).is_err() {
+    if write_out(output, out.as_slice()).is_err() {
         return Err(ReplayFault::WriteFailed);
     }
     Ok(())

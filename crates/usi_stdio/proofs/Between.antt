@@ -8,7 +8,7 @@ use Rattle.usi_session.specs.Answer.{initial_state}
 use Rattle.usi_session.specs.Due.{SessionView, due, state_due, wants_input, new_session}
 use Rattle.usi_session.specs.Replies.{replies, state_from, is_over_after}
 use Rattle.usi_session.proofs.Settled.{due-over, due-wanting, state_due-over, state_due-wanting, wants_after, new_wants, initial_state_alive}
-use Rattle.usi_stdio.specs.Stdio.{WritesPrefix, StopsInTime, IsAnswered, IsAnsweredInPart, IsFedAndWorkedOff}
+use Rattle.usi_stdio.specs.Stdio.{TakesPrefix, StopsInTime, IsAnswered, IsCutShort, Answers}
 use Rattle.usi_session.specs.declared.limits.TheConstants.{CHUNK_MAX}
 
 -- between two reads: what was written and what is owed are the replies, and the session may be fed
@@ -39,7 +39,7 @@ stops_between before mid old part s b =
     rw (append-nil b.read) at all
 
 -- nothing was read or written
-pub part_start : (before old : Option (List ℕ)) → IsAnsweredInPart before before old old
+pub part_start : (before old : Option (List ℕ)) → IsCutShort before before old old
 part_start before old = record {
   read = [];
   consumed = Consumes-nil before;
@@ -61,15 +61,15 @@ between_start before old s new owed left = record {
 }
 
 -- a chunk was read, fed, worked off and written
-worked : (before mid after old part new : Option (List ℕ)) (s t : SessionView) (chunk : List ℕ) (b : IsBetween before mid old part s) → IsFedAndWorkedOff s t chunk part new → (w : IsFedAndWorkedOff s t chunk part new) → (x : List ℕ) → (b.made ++ w.made) ++ due t x ≡ replies ((b.read ++ chunk) ++ x)
+worked : (before mid after old part new : Option (List ℕ)) (s t : SessionView) (chunk : List ℕ) (b : IsBetween before mid old part s) → Answers s t chunk part new → (w : Answers s t chunk part new) → (x : List ℕ) → (b.made ++ w.made) ++ due t x ≡ replies ((b.read ++ chunk) ++ x)
 worked before mid after old part new s t chunk b _ w x =
     append_assoc b.made w.made (due t x) ∙ (ap (λ xs. b.made ++ xs) (sym (w.owed x)) ∙ (b.owed (chunk ++ x) ∙ ap replies (sym (append_assoc b.read chunk x))))
 
-left_more : (before mid old part new : Option (List ℕ)) (s t : SessionView) (chunk : List ℕ) → (b : IsBetween before mid old part s) → (w : IsFedAndWorkedOff s t chunk part new) → (x : List ℕ) → state_due t x ≡ state_from initial_state (lines ((b.read ++ chunk) ++ x))
+left_more : (before mid old part new : Option (List ℕ)) (s t : SessionView) (chunk : List ℕ) → (b : IsBetween before mid old part s) → (w : Answers s t chunk part new) → (x : List ℕ) → state_due t x ≡ state_from initial_state (lines ((b.read ++ chunk) ++ x))
 left_more before mid old part new s t chunk b w x =
     w.left x ∙ (b.left (chunk ++ x) ∙ ap (λ xs. state_from initial_state (lines xs)) (sym (append_assoc b.read chunk x)))
 
-pub between_more : (before mid after old part new : Option (List ℕ)) (s t : SessionView) (chunk : List ℕ) → IsBetween before mid old part s → Consumes mid after chunk → IsFedAndWorkedOff s t chunk part new → t.state.is_over ≡ false → IsBetween before after old new t
+pub between_more : (before mid after old part new : Option (List ℕ)) (s t : SessionView) (chunk : List ℕ) → IsBetween before mid old part s → Consumes mid after chunk → Answers s t chunk part new → t.state.is_over ≡ false → IsBetween before after old new t
 between_more before mid after old part new s t chunk b consumed w alive = record {
   read = b.read ++ chunk;
   consumed = Consumes-trans before mid after b.read chunk b.consumed consumed;
@@ -97,7 +97,7 @@ answered_at_end before mid after old new s none b e consumed ended = record {
 }
 
 -- the session is over
-pub answered_over : (before mid after old part new : Option (List ℕ)) (s t : SessionView) (chunk : List ℕ) → IsBetween before mid old part s → Consumes mid after chunk → IsFedAndWorkedOff s t chunk part new → t.state.is_over ≡ true → length chunk ≤ CHUNK_MAX → IsAnswered before after old new
+pub answered_over : (before mid after old part new : Option (List ℕ)) (s t : SessionView) (chunk : List ℕ) → IsBetween before mid old part s → Consumes mid after chunk → Answers s t chunk part new → t.state.is_over ≡ true → length chunk ≤ CHUNK_MAX → IsAnswered before after old new
 answered_over before mid after old part new s t chunk b consumed w over most =
     let all : b.made ++ w.made ≡ replies (b.read ++ chunk) =
     sym (append-nil (b.made ++ w.made)) ∙ (ap (λ xs. (b.made ++ w.made) ++ xs) (sym (due-over t [] over ∙ w.empty)) ∙ (worked before mid after old part new s t chunk b w w [] ∙ ap replies (append-nil (b.read ++ chunk)))) in
@@ -111,7 +111,7 @@ answered_over before mid after old part new s t chunk b consumed w over most =
     }
 
 -- no further read is tried
-pub part_between : (before mid old new : Option (List ℕ)) (s : SessionView) → IsBetween before mid old new s → IsAnsweredInPart before mid old new
+pub part_between : (before mid old new : Option (List ℕ)) (s : SessionView) → IsBetween before mid old new s → IsCutShort before mid old new
 part_between before mid old new s b = record {
   read = b.read;
   consumed = b.consumed;
@@ -120,7 +120,7 @@ part_between before mid old new s b = record {
 }
 
 -- a read failed
-pub part_read : (before mid after old new : Option (List ℕ)) (s : SessionView) → IsBetween before mid old new s → Keeps mid after → IsAnsweredInPart before after old new
+pub part_read : (before mid after old new : Option (List ℕ)) (s : SessionView) → IsBetween before mid old new s → Keeps mid after → IsCutShort before after old new
 part_read before mid after old new s b kept = record {
   read = b.read;
   consumed = Consumes-kept before mid after b.read b.consumed kept;
@@ -129,7 +129,7 @@ part_read before mid after old new s b kept = record {
 }
 
 -- allocation failed for a chunk, or a write of its answers
-pub part_chunk : (before mid after old part new : Option (List ℕ)) (s : SessionView) (chunk : List ℕ) → IsBetween before mid old part s → Consumes mid after chunk → WritesPrefix part new (due s chunk) → length chunk ≤ CHUNK_MAX → IsAnsweredInPart before after old new
+pub part_chunk : (before mid after old part new : Option (List ℕ)) (s : SessionView) (chunk : List ℕ) → IsBetween before mid old part s → Consumes mid after chunk → TakesPrefix part new (due s chunk) → length chunk ≤ CHUNK_MAX → IsCutShort before after old new
 part_chunk before mid after old part new s chunk b consumed (left, w) most = record {
   stops = stops_at before mid old part s chunk b most;
   read = b.read ++ chunk;

@@ -6,7 +6,7 @@ use Rattle.std.proofs.KnownBytes.{Appends-nil, Appends-trans}
 use Rattle.usi_session.specs.declared.limits.TheConstants.{CHUNK_MAX}
 use Rattle.usi_session.specs.Due.{SessionView, due, state_due, is_pending, wants_input}
 use Rattle.usi_session.proofs.Settled.{due-over, state_due-over_same, wanting-settled}
-use Rattle.usi_stdio.specs.Stdio.{WritesPrefix, IsFedAndWorkedOff}
+use Rattle.usi_stdio.specs.Stdio.{TakesPrefix, Answers}
 
 -- of a chunk this rest is left: the answers to what came before it were written, and what is owed with it is owed still
 pub record IsAnsweredTo (rest : List ℕ) (before now : SessionView) (chunk : List ℕ) (old new : Option (List ℕ)) : Type 0 where
@@ -35,7 +35,7 @@ behind : (rest line after x : List ℕ) → rest ≡ line ++ after → rest ++ x
 behind rest line after x split = ap (λ xs. xs ++ x) split ∙ append_assoc line after x
 
 -- one line more
-pub lines_more : (before mid now : SessionView) (chunk rest line after : List ℕ) (old part new : Option (List ℕ)) → IsAnsweredTo rest before mid chunk old part → rest ≡ line ++ after → IsFedAndWorkedOff mid now line part new → IsAnsweredTo after before now chunk old new
+pub lines_more : (before mid now : SessionView) (chunk rest line after : List ℕ) (old part new : Option (List ℕ)) → IsAnsweredTo rest before mid chunk old part → rest ≡ line ++ after → Answers mid now line part new → IsAnsweredTo after before now chunk old new
 lines_more before mid now chunk rest line after old part new a split w = record {
   made = a.made ++ w.made;
   written = Appends-trans old part new a.made w.made a.written w.written;
@@ -47,7 +47,7 @@ lines_more before mid now chunk rest line after old part new a split w = record 
 }
 
 -- no line is left
-pub lines_done : (before now : SessionView) (chunk rest : List ℕ) (old new : Option (List ℕ)) → IsAnsweredTo rest before now chunk old new → rest ≡ [] → IsFedAndWorkedOff before now chunk old new
+pub lines_done : (before now : SessionView) (chunk rest : List ℕ) (old new : Option (List ℕ)) → IsAnsweredTo rest before now chunk old new → rest ≡ [] → Answers before now chunk old new
 lines_done before now chunk rest old new a none = record {
   made = a.made;
   written = a.written;
@@ -58,7 +58,7 @@ lines_done before now chunk rest old new a none = record {
 }
 
 -- the session is over: the lines that are left change nothing
-pub lines_over : (before now : SessionView) (chunk rest : List ℕ) (old new : Option (List ℕ)) → IsAnsweredTo rest before now chunk old new → now.state.is_over ≡ true → IsFedAndWorkedOff before now chunk old new
+pub lines_over : (before now : SessionView) (chunk rest : List ℕ) (old new : Option (List ℕ)) → IsAnsweredTo rest before now chunk old new → now.state.is_over ≡ true → Answers before now chunk old new
 lines_over before now chunk rest old new a over = record {
   made = a.made;
   written = a.written;
@@ -69,7 +69,7 @@ lines_over before now chunk rest old new a over = record {
 }
 
 -- a line was cut short by a fault
-pub lines_prefix : (before mid : SessionView) (chunk rest line after : List ℕ) (old part new : Option (List ℕ)) → IsAnsweredTo rest before mid chunk old part → rest ≡ line ++ after → ((x : List ℕ) → WritesPrefix part new (due mid (line ++ x))) → WritesPrefix old new (due before chunk)
+pub lines_prefix : (before mid : SessionView) (chunk rest line after : List ℕ) (old part new : Option (List ℕ)) → IsAnsweredTo rest before mid chunk old part → rest ≡ line ++ after → ((x : List ℕ) → TakesPrefix part new (due mid (line ++ x))) → TakesPrefix old new (due before chunk)
 lines_prefix before mid chunk rest line after old part new a split front = (
   (front after).0,
   record {

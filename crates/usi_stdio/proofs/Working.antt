@@ -2,10 +2,10 @@
 use Rattle.std.proofs.Common.{◌≡◌, ℕ, List, [], ◌++◌, Option, refl, sym, ap, ◌∙◌, append_assoc, Result, OnErr, Ok, Err}
 use Rattle.std.proofs.KnownBytes.{Appends-trans}
 use Rattle.usi_session.specs.Due.{SessionView, due}
-use Rattle.usi_stdio.specs.Stdio.{WritesPrefix, IsWorkedOn}
+use Rattle.usi_stdio.specs.Stdio.{TakesPrefix, IsWorkedOn}
 
 -- a prefix of a prefix
-pub prefix_of_more : (old new : Option (List ℕ)) (bytes more all : List ℕ) → WritesPrefix old new bytes → all ≡ bytes ++ more → WritesPrefix old new all
+pub prefix_of_more : (old new : Option (List ℕ)) (bytes more all : List ℕ) → TakesPrefix old new bytes → all ≡ bytes ++ more → TakesPrefix old new all
 prefix_of_more old new bytes more all (left, w) e = (
   left ++ more,
   record {
@@ -20,12 +20,12 @@ pub due-queued : (s : SessionView) (x : List ℕ) → due s x ≡ s.queued ++ du
 due-queued s x = refl
 
 -- a prefix of what is queued is a prefix of what is owed, whatever bytes follow
-pub prefix_of_due : (old new : Option (List ℕ)) (before mid : SessionView) → ((x : List ℕ) → due mid x ≡ due before x) → WritesPrefix old new mid.queued → (x : List ℕ) → WritesPrefix old new (due before x)
+pub prefix_of_due : (old new : Option (List ℕ)) (before mid : SessionView) → ((x : List ℕ) → due mid x ≡ due before x) → TakesPrefix old new mid.queued → (x : List ℕ) → TakesPrefix old new (due before x)
 prefix_of_due old new before mid kept front x =
     prefix_of_more old new mid.queued (due (record mid { queued = [] }) x) (due before x) front (sym (kept x) ∙ due-queued mid x)
 
 -- a prefix of what is owed once a line was fed is a prefix of what was owed with it
-pub prefix_of_fed : (old new : Option (List ℕ)) (before mid : SessionView) (line : List ℕ) → ((x : List ℕ) → due mid x ≡ due before (line ++ x)) → ((x : List ℕ) → WritesPrefix old new (due mid x)) → (x : List ℕ) → WritesPrefix old new (due before (line ++ x))
+pub prefix_of_fed : (old new : Option (List ℕ)) (before mid : SessionView) (line : List ℕ) → ((x : List ℕ) → due mid x ≡ due before (line ++ x)) → ((x : List ℕ) → TakesPrefix old new (due mid x)) → (x : List ℕ) → TakesPrefix old new (due before (line ++ x))
 prefix_of_fed old new before mid line fed front x = ((front x).0, record { done = (front x).1.done; appended = (front x).1.appended; split = sym (fed x) ∙ (front x).1.split })
 
 -- one slice more
@@ -39,7 +39,7 @@ worked_more before mid after old part new a b = record {
 }
 
 -- the slice was cut short by a fault
-pub worked_prefix : (before mid : SessionView) (old part new : Option (List ℕ)) → IsWorkedOn before mid old part → ((x : List ℕ) → WritesPrefix part new (due mid x)) → (x : List ℕ) → WritesPrefix old new (due before x)
+pub worked_prefix : (before mid : SessionView) (old part new : Option (List ℕ)) → IsWorkedOn before mid old part → ((x : List ℕ) → TakesPrefix part new (due mid x)) → (x : List ℕ) → TakesPrefix old new (due before x)
 worked_prefix before mid old part new a front x = (
   (front x).0,
   record {

@@ -1,1 +1,2 @@
 pub mod Stdio
+pub mod Streams

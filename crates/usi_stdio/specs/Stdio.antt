@@ -12,13 +12,13 @@ pub record WritesBut (old new : Option (List ℕ)) (bytes left : List ℕ) : Typ
   pub split : bytes ≡ done ++ left
 
 -- the writer took a prefix of the bytes
-abbrev pub WritesPrefix : Option (List ℕ) → Option (List ℕ) → List ℕ → Type 0
-WritesPrefix old new bytes = (left : List ℕ) × WritesBut old new bytes left
+abbrev pub TakesPrefix : Option (List ℕ) → Option (List ℕ) → List ℕ → Type 0
+TakesPrefix old new bytes = (left : List ℕ) × WritesBut old new bytes left
 
 -- a prefix of what is owed was written, whatever bytes follow these
-abbrev pub WritesPrefixOfDue : Option (List ℕ) → Option (List ℕ) → SessionView → List ℕ → Type 0
-WritesPrefixOfDue old new session bytes =
-    (x : List ℕ) → WritesPrefix old new (due session (bytes ++ x))
+abbrev pub TakesPrefixOfDue : Option (List ℕ) → Option (List ℕ) → SessionView → List ℕ → Type 0
+TakesPrefixOfDue old new session bytes =
+    (x : List ℕ) → TakesPrefix old new (due session (bytes ++ x))
 
 -- the session was not over before the last chunk: once it is over, nothing further is read
 pub record StopsInTime (read : List ℕ) : Type 0 where
@@ -37,10 +37,10 @@ pub record IsAnswered (before after old new : Option (List ℕ)) : Type 0 where
   pub stops : StopsInTime read
 
 -- a prefix of the replies to what was read was written
-pub record IsAnsweredInPart (before after old new : Option (List ℕ)) : Type 0 where
+pub record IsCutShort (before after old new : Option (List ℕ)) : Type 0 where
   pub read : List ℕ
   pub consumed : Consumes before after read
-  pub written : WritesPrefix old new (replies read)
+  pub written : TakesPrefix old new (replies read)
   pub stops : StopsInTime read
 
 -- all that was queued was written and taken, and nothing else changed
@@ -60,8 +60,8 @@ pub record IsWorkedOn (before after : SessionView) (old new : Option (List ℕ))
 abbrev pub slices_of : SessionView → ℕ
 slices_of s = 2 * load s + cond (is_pending s) 1 0
 
--- a chunk was fed and answered in full, and the answers were written
-pub record IsFedAndWorkedOff (before after : SessionView) (chunk : List ℕ)
+-- these bytes were fed and answered in full, and the answers were written
+pub record Answers (before after : SessionView) (chunk : List ℕ)
     (old new : Option (List ℕ)) : Type 0 where
   pub made : List ℕ
   pub written : Appends old new made

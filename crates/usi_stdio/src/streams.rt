@@ -1,8 +1,9 @@
 //! One session over a reader and a writer.
 
 ghost use Rattle.std.specs.Prelude.{◌≡◌, ◌<◌, ◌≤◌, [], true, false, length, take, IfOk, OnOk, OnErr, Err};
-ghost use Rattle.std.specs.Io.KnownBytes.{Appends, Consumes, IsAtEnd, Keeps};
-ghost use Rattle.usi_stdio.specs.Stdio.{WritesPrefix, WritesPrefixOfDue, IsAnswered, IsAnsweredInPart, IsWritten, IsWorkedOn, IsFedAndWorkedOff, slices_of};
+ghost use Rattle.std.specs.Io.KnownBytes.{Appends, IsAtEnd, Keeps};
+ghost use Rattle.usi_stdio.specs.Stdio.{slices_of};
+ghost use Rattle.usi_stdio.specs.Streams.{Answers, Gives, IsAnswered, IsCutShort, IsWorkedOn, IsWritten, TakesPrefix, TakesPrefixOfDue};
 ghost use Rattle.usi_stdio.specs.declared.streams.StdioFault.TheVariants.{WriteFailed};
 ghost use Rattle.usi_lines.specs.OneLine.{IsOneLine};
 ghost use Rattle.usi_session.specs.Due.{due, is_pending, wants_input};
@@ -56,8 +57,7 @@ impl From<TableFault> for StdioFault {
 /// prefix of the bytes was written.
 pub fn write_out<W: Write>(writer: &mut W, bytes: &[u8]) -> Result<(), StdioFault>
     ensures ok { OnOk result (Appends (W.contents writer.old) (W.contents writer.new) bytes.now) }
-    ensures err { OnErr result
-        (WritesPrefix (W.contents writer.old) (W.contents writer.new) bytes.now) }
+    ensures err { OnErr result (TakesPrefix W.Write writer.old writer.new bytes.now) }
     ensures fault { OnErr result (result ≡ Err WriteFailed) }
 {
     let mut rest = bytes;
@@ -80,9 +80,9 @@ fn write_queued<A: Allocator + Copy, W: Write>(
     writer: &mut W,
 ) -> Result<(), StdioFault>
     ensures ok { OnOk result
-        (IsWritten session.old session.new (W.contents writer.old) (W.contents writer.new)) }
+        (IsWritten W.Write session.old session.new writer.old writer.new) }
     ensures err { OnErr result
-        (WritesPrefix (W.contents writer.old) (W.contents writer.new) session.old.queued) }
+        (TakesPrefix W.Write writer.old writer.new session.old.queued) }
 {
     let queued = session.output().len();
     if queued == 0 {
@@ -102,10 +102,10 @@ fn work_slice<A: Allocator + Copy, M: Memo, W: Write>(
     requires pending { is_pending session.old ≡ true }
     requires empty { session.old.queued ≡ [] }
     ensures ok { OnOk result
-        (IsWorkedOn session.old session.new (W.contents writer.old) (W.contents writer.new)) }
+        (IsWorkedOn W.Write session.old session.new writer.old writer.new) }
     ensures fewer { OnOk result (slices_of session.new < slices_of session.old) }
     ensures err { OnErr result
-        (WritesPrefixOfDue (W.contents writer.old) (W.contents writer.new) session.old []) }
+        (TakesPrefixOfDue W.Write writer.old writer.new session.old []) }
 {
     session.work(memo, SLICE)?;
     write_queued(session, writer)
@@ -119,10 +119,10 @@ fn work_off<A: Allocator + Copy, M: Memo, W: Write>(
 ) -> Result<(), StdioFault>
     requires { session.old.queued ≡ [] }
     ensures ok { OnOk result
-        (IsWorkedOn session.old session.new (W.contents writer.old) (W.contents writer.new)) }
+        (IsWorkedOn W.Write session.old session.new writer.old writer.new) }
     ensures settled { OnOk result (is_pending session.new ≡ false) }
     ensures err { OnErr result
-        (WritesPrefixOfDue (W.contents writer.old) (W.contents writer.new) session.old []) }
+        (TakesPrefixOfDue W.Write writer.old writer.new session.old []) }
 {
     'slices: while session.pending() {
         work_slice(session, memo, writer)?;
@@ -134,8 +134,7 @@ fn work_off<A: Allocator + Copy, M: Memo, W: Write>(
 fn read_chunk<R: Read>(reader: &mut R, chunk: &mut [u8]) -> Result<usize, StdioFault>
     requires { 0 < length chunk.old }
     ensures most { IfOk result (λ n. n ≤ length chunk.new) }
-    ensures given { IfOk result (λ n.
-        Consumes (R.remaining reader.old) (R.remaining reader.new) (take n chunk.new)) }
+    ensures given { IfOk result (λ n. Gives R.Read reader.old reader.new (take n chunk.new)) }
     ensures ended { IfOk result (λ n. n ≡ 0 → IsAtEnd (R.remaining reader.new)) }
     ensures err { OnErr result (Keeps (R.remaining reader.old) (R.remaining reader.new)) }
 {
@@ -156,10 +155,10 @@ fn answer_line<A: Allocator + Copy, M: Memo, W: Write>(
     requires empty { session.old.queued ≡ [] }
     requires most { length line.now ≤ CHUNK_MAX }
     requires one { IsOneLine line.now }
-    ensures ok { OnOk result (IsFedAndWorkedOff
-        session.old session.new line.now (W.contents writer.old) (W.contents writer.new)) }
-    ensures err { OnErr result (WritesPrefixOfDue
-        (W.contents writer.old) (W.contents writer.new) session.old line.now) }
+    ensures ok { OnOk result
+        (Answers W.Write session.old session.new line.now writer.old writer.new) }
+    ensures err { OnErr result
+        (TakesPrefixOfDue W.Write writer.old writer.new session.old line.now) }
 {
     session.feed(line)?;
     work_off(session, memo, writer)
@@ -176,10 +175,10 @@ fn answer_chunk<A: Allocator + Copy, M: Memo, W: Write>(
     requires wants { wants_input session.old ≡ true }
     requires empty { session.old.queued ≡ [] }
     requires most { length chunk.now ≤ CHUNK_MAX }
-    ensures ok { OnOk result (IsFedAndWorkedOff
-        session.old session.new chunk.now (W.contents writer.old) (W.contents writer.new)) }
-    ensures err { OnErr result (WritesPrefix
-        (W.contents writer.old) (W.contents writer.new) (due session.old chunk.now)) }
+    ensures ok { OnOk result
+        (Answers W.Write session.old session.new chunk.now writer.old writer.new) }
+    ensures err { OnErr result
+        (TakesPrefix W.Write writer.old writer.new (due session.old chunk.now)) }
 {
     let mut rest = chunk;
     'lines: while !rest.is_empty() && !session.is_over() {
@@ -201,29 +200,27 @@ fn answer_chunk<A: Allocator + Copy, M: Memo, W: Write>(
 /// a prefix of the replies to what was read.
 pub fn stdio<A: Allocator + Copy, R: Read, W: Write>(
     alloc: A,
-    reader: &mut R,
-    writer: &mut W,
+    input: &mut R,
+    output: &mut W,
     entries: usize,
 ) -> Result<(), StdioFault>
     requires least { 1 ≤ entries }
     requires most { entries ≤ CAPACITY_MAX }
-    ensures answered { OnOk result (IsAnswered
-        (R.remaining reader.old) (R.remaining reader.new)
-        (W.contents writer.old) (W.contents writer.new)) }
-    ensures fault { OnErr result (IsAnsweredInPart
-        (R.remaining reader.old) (R.remaining reader.new)
-        (W.contents writer.old) (W.contents writer.new)) }
+    ensures ok { OnOk result
+        (IsAnswered R.Read W.Write input.old input.new output.old output.new) }
+    ensures err { OnErr result
+        (IsCutShort R.Read W.Write input.old input.new output.old output.new) }
 {
     let mut table = SharedTable::new(alloc, entries, BuildHasherDefault::<FoldHasher>::new())?;
     let mut session = Session::new(alloc);
     let mut chunk = [0u8; CHUNK_MAX];
     'chunks: for _ in 0..u64::MAX {
-        let n = read_chunk(reader, &mut chunk)?;
+        let n = read_chunk(input, &mut chunk)?;
         if n == 0 {
             return Ok(());
         }
         let (given, _) = chunk.split_at(n);
-        answer_chunk(&mut session, &mut table, writer, given)?;
+        answer_chunk(&mut session, &mut table, output, given)?;
         if session.is_over() {
             return Ok(());
         }
