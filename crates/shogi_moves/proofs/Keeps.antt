@@ -15,6 +15,7 @@ use Rattle.shogi_core.specs.Validity.{IsValid, fault_of}
 use Rattle.shogi_moves.specs.After.{after}
 use Rattle.shogi_moves.proofs.KeepsBoard.{faultless_after_board}
 use Rattle.shogi_moves.proofs.KeepsDrop.{faultless_after_drop, safe_drop}
+use Rattle.shogi_moves.proofs.LegalLaws.{after_code_of}
 
 set_size_fits : (kind : Kind) → set_size kind ≤ 18
 set_size_fits kinds.Pawn = omega arith
@@ -40,3 +41,5 @@ no_fault_after_drop p kind to safe valid hto = faultless_to (after p (Drop kind 
 pub is_safe_from_legal : (p : Shogi) (m : Move) → is_legal p m ≡ true → is_safe p m ≡ true
 unfolding is_legal
 is_safe_from_legal p m e = (and_parts (is_safe p m) _ e).0
+
+pub ruleset making = (is_safe_from_legal, after_code_of)

@@ -168,4 +168,6 @@ legal_to_listed p m back e = in_legal p 0 (code_of m) (omega arith) (is_legal_co
 pub listed_to_legal : (p : Shogi) (m : Move) → move_of (code_of m) ≡ Some m → is_in (code_of m) (legal_codes p) ≡ true → is_legal p m ≡ true
 listed_to_legal p m back h = sym (is_legal_code_of p (code_of m) m back) ∙ legal_in p 0 (code_of m) h
 
+pub ruleset listing = (legal_to_listed, listed_to_legal)
+
 pub ruleset steps = (legal_from_found, legal_from_skips, legal_from_end)

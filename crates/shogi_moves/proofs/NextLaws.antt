@@ -12,7 +12,7 @@ use Rattle.shogi_core.specs.Codes.{move_of, code_of}
 use Rattle.shogi_core.specs.Movement.{piece_at}
 use Rattle.shogi_core.specs.Pieces.{kind_number}
 use Rattle.shogi_core.specs.Position.{Shogi}
-use Rattle.shogi_core.proofs.BitLaws.{has_bit-or}
+use Rattle.shogi_core.proofs.BitLaws.{has_bit-none, has_bit-or}
 use Rattle.shogi_core.proofs.CodesBack.{move_of-board, move_of-drop}
 use Rattle.shogi_core.proofs.Faults.{number_below}
 use Rattle.shogi_moves.specs.Captures.{is_matching}
@@ -37,6 +37,11 @@ least_at p code m back small low legal none = record {
 -- no piece of the side to move stands on the square
 pub nobody : (p : Shogi) (from code : ℕ) → from < 81 → from * SQUARE_CODES ≤ code → code ≤ from * SQUARE_CODES + SQUARE_CODES → is_piece_of p.side (piece_at p.cells from) ≡ false → legal_from p code ≡ legal_from p (from * SQUARE_CODES + SQUARE_CODES)
 nobody p from code hf low high e = run_without p code (from * SQUARE_CODES + SQUARE_CODES) high (omega arith) (λ c above under. no_piece p from c hf e (omega arith) under)
+
+-- it has no destination
+pub nowhere : (p : Shogi) (promote : Bool) (from n : ℕ) → from < 81 → n < 81 → is_piece_of p.side (piece_at p.cells from) ≡ false → has_bit 0 n ≡ is_legal_code p (code_of (Board from n promote))
+nowhere p true from n hf h e = has_bit-none n ∙ sym (no_piece p from (code_of (Board from n true)) hf e (omega arith) (omega arith))
+nowhere p false from n hf h e = has_bit-none n ∙ sym (no_piece p from (code_of (Board from n false)) hf e (omega arith) (omega arith))
 
 -- the destinations from a code on, of all destinations
 pub destinations_from : (p : Shogi) (promote : Bool) (from code destinations less to : ℕ) → less < 2 ^ 81 → destinations < 2 ^ 81 → ((n : ℕ) → n < 81 → has_bit destinations n ≡ is_legal_code p (code_of (Board from n promote))) → from * SQUARE_CODES ≤ code

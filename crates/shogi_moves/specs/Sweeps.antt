@@ -4,10 +4,11 @@ use Rattle.shogi_core.specs.declared.moves.TheConstants.{FIRST_DROP, SQUARE_CODE
 use Rattle.shogi_core.specs.declared.moves.Move.{Move}
 use Rattle.shogi_core.specs.declared.moves.Move.TheVariants.{Board, Drop}
 use Rattle.shogi_core.specs.declared.piece.Kind.{Kind}
-use Rattle.shogi_core.specs.Bits.{HasBits, has_bit}
+use Rattle.shogi_core.specs.Bits.{HasBits, IsMaskOf, has_bit}
 use Rattle.shogi_core.specs.Codes.{code_of}
 use Rattle.shogi_core.specs.Pieces.{kind_number}
 use Rattle.shogi_core.specs.Position.{Shogi}
+use Rattle.shogi_moves.specs.declared.next.KeptDestinations.{KeptDestinations}
 use Rattle.shogi_moves.specs.declared.sweep.BoardSweep.{BoardSweep}
 use Rattle.shogi_moves.specs.declared.sweep.DropSweep.{DropSweep}
 use Rattle.shogi_moves.specs.After.{after_code}
@@ -42,6 +43,13 @@ abbrev pub KeepsLegal : Shogi → ℕ → Bool → ℕ → ℕ → Type 0
 KeepsLegal p from promote code mask =
     Keeps (is_legal_code p) (λ n. code_of (Board from n promote)) code mask
 
+-- the masks kept for a square have the destinations of the legal moves of what stands there
+pub record AreKept (p : Shogi) (kept : KeptDestinations) : Type 0 where
+  pub plain : IsMaskOf kept.destinations.plain
+      (λ n. is_legal_code p (code_of (Board kept.from n false)))
+  pub promoting : IsMaskOf kept.destinations.promoting
+      (λ n. is_legal_code p (code_of (Board kept.from n true)))
+
 -- the destinations still to come of the piece on a square
 pub record KeepsBoard (p : Shogi) (capture : Bool) (from code plain promoting : ℕ) : Type 0 where
   pub low : from * SQUARE_CODES ≤ code
@@ -58,7 +66,8 @@ pub record KeepsDrop (p : Shogi) (kind : Kind) (code destinations : ℕ) : Type 
 -- the destinations still to come of the present piece or kind of a sweep, with what is known of the position
 pub record IsBoardSweep (p : Shogi) (capture : Bool) (s : BoardSweep) : Type 0 where
   pub info : IsCheckInfoOf s.info p
-  pub destinations : KeepsBoard p capture s.from s.code s.destinations.plain s.destinations.promoting
+  pub destinations : KeepsBoard p capture s.from s.code
+      s.destinations.plain s.destinations.promoting
 
 pub record IsDropSweep (p : Shogi) (s : DropSweep) : Type 0 where
   pub squares : AreDropSquares p s.squares

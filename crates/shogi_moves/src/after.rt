@@ -126,7 +126,7 @@ pub fn apply_safe(p: &Position, m: &Move) -> Position
 }
 
 /// Makes a legal move where the position stands: it is then that of `apply`.
-#[tactic(auto, using(crate::proofs::Keeps::is_safe_from_legal, crate::proofs::LegalLaws::after_code_of))]
+#[tactic(auto, using(crate::proofs::Keeps::making))]
 pub fn advance(p: &mut Position, m: Move)
     requires { is_legal p.old m ≡ true }
     ensures after { p.new ≡ after p.old m }

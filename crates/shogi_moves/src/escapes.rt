@@ -70,8 +70,8 @@ fn king_steps(p: &Position) -> u128
 }
 
 /// Squares next to the king of the side that is not to move, where it has just one, to which it may
-/// go as far as the pieces of the other side stand that are there now. That king is in no check, and
-/// so stands in no piece's way.
+/// go as far as the pieces of the other side stand that are there now. That king is in no check, so
+/// it stands in no piece's way.
 pub fn escape_squares(p: &Position) -> u128
     ensures { AreEscapes p.now result }
 {

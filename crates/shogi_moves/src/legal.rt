@@ -128,7 +128,7 @@ pub fn is_legal_move(p: &Position, m: &Move) -> bool
 /// Whether the move is legal (JSA playing rules): it is one of the side to move, obeys the rules
 /// on moves, promotion and drops, leaves the mover's king unattacked, and does not mate by the
 /// drop of a pawn.
-#[tactic(auto, using(crate::proofs::LegalLaws::legal_to_listed, crate::proofs::LegalLaws::listed_to_legal))]
+#[tactic(auto, using(crate::proofs::LegalLaws::listing))]
 pub fn is_legal(p: &Position, m: Move) -> bool
     ensures value { result ≡ is_legal p.now m }
     ensures listed { IsTrue result ↔ (is_in (code_of m) (legal_codes p.now) ≡ true) }

@@ -12,7 +12,7 @@ ghost use Rattle.shogi_moves.specs.Legal.{is_legal, is_legal_code};
 ghost use Rattle.shogi_moves.specs.LegalMoves.{legal_above, legal_codes, IsFirstFrom, IsLeastFrom};
 ghost use Rattle.shogi_moves.specs.Places.{code_past, IsAtSquare, IsAtKind};
 ghost use Rattle.shogi_moves.specs.Rising.{IsRising};
-ghost use Rattle.shogi_moves.specs.Sweeps.{Keeps, KeepsLegal};
+ghost use Rattle.shogi_moves.specs.Sweeps.{AreKept, Keeps, KeepsLegal};
 
 use crate::check_info::{CheckInfo, check_info_of};
 use crate::destinations::{
@@ -30,36 +30,84 @@ pub fn code_above(m: &Move) -> u16
     m.code() + 1
 }
 
-/// The legal destinations of one of the pieces of the side to move, those from a code on.
-fn destinations_left(p: &Position, info: &CheckInfo, from: Square, code: u16) -> Destinations
+/// The legal destinations of what stands on a square, kept from one move of it to the next.
+#[derive(Clone, Copy, Debug)]
+pub struct KeptDestinations {
+    pub from: Square,
+    pub destinations: Destinations,
+}
+
+/// Those of what stands on the square: none, where that is no piece of the side to move.
+pub fn kept_at(p: &Position, info: &CheckInfo, from: Square) -> KeptDestinations
     requires info { IsCheckInfoOf info.now p.now }
-    requires own { is_piece_of p.now.side (piece_at p.now.cells from) ≡ true }
-    requires code { IsAtSquare from code }
-    ensures plain { KeepsLegal p.now from false code result.plain }
-    ensures promoting { KeepsLegal p.now from true code result.promoting }
+    ensures from { result.from ≡ from }
+    ensures kept { AreKept p.now result }
 {
     from.validity();
-    let passed = (code - from.index() as u16 * SQUARE_CODES) as usize;
+    if !is_piece_of(p.at(from), p.side()) {
+        return KeptDestinations {
+            from,
+            destinations: Destinations {
+                plain: 0,
+                promoting: 0,
+            },
+        };
+    }
     let destinations = legal_destinations(p, info, from, p.as_board().targets(from) & enterable(p));
+    KeptDestinations { from, destinations }
+}
+
+/// Keeps those of what stands on the square, if it is another than before.
+fn keep(p: &Position, info: &CheckInfo, from: Square, kept: &mut KeptDestinations)
+    requires info { IsCheckInfoOf info.now p.now }
+    requires kept { AreKept p.now kept.old }
+    ensures from { kept.new.from ≡ from }
+    ensures kept { AreKept p.now kept.new }
+{
+    if kept.from.index() != from.index() {
+        *kept = kept_at(p, info, from);
+    }
+}
+
+/// The kept destinations whose moves are from a code on.
+fn destinations_left(p: &Position, kept: &KeptDestinations, code: u16) -> Destinations
+    requires kept { AreKept p.now kept.now }
+    requires code { IsAtSquare kept.now.from code }
+    ensures plain { KeepsLegal p.now kept.now.from false code result.plain }
+    ensures promoting { KeepsLegal p.now kept.now.from true code result.promoting }
+{
+    let _ = p;
+    kept.from.validity();
+    let passed = (code - kept.from.index() as u16 * SQUARE_CODES) as usize;
     Destinations {
-        plain: bits_from(destinations.plain, (passed + 1) / 2),
-        promoting: bits_from(destinations.promoting, passed / 2),
+        plain: bits_from(kept.destinations.plain, (passed + 1) / 2),
+        promoting: bits_from(kept.destinations.promoting, passed / 2),
     }
 }
 
 /// The legal move of least code from the given one on, of what stands on the square.
-fn least_destination(p: &Position, info: &CheckInfo, from: Square, code: u16) -> Option<Move>
+#[inline(always)]
+fn least_destination(
+    p: &Position,
+    info: &CheckInfo,
+    from: Square,
+    code: u16,
+    kept: &mut KeptDestinations,
+) -> Option<Move>
     requires info { IsCheckInfoOf info.now p.now }
     requires code { IsAtSquare from code }
+    requires kept { AreKept p.now kept.old }
     ensures next { IsLeastFrom p.now result code (from * SQUARE_CODES + SQUARE_CODES) }
     ensures legal { IfSome result (λ m. is_legal p.now m ≡ true) }
     ensures on_board { IfSome result (λ m. code_of m < FIRST_DROP) }
+    ensures kept { AreKept p.now kept.new }
 {
     from.validity();
     if !is_piece_of(p.at(from), p.side()) {
         return None;
     }
-    let destinations = destinations_left(p, info, from, code);
+    keep(p, info, from, kept);
+    let destinations = destinations_left(p, kept, code);
     let both = destinations.plain | destinations.promoting;
     if both == 0 {
         return None;
@@ -73,17 +121,24 @@ fn least_destination(p: &Position, info: &CheckInfo, from: Square, code: u16) ->
 }
 
 /// The legal move of least code from the given one on, of a piece on the board.
-pub fn least_board(p: &Position, info: &CheckInfo, first: u16) -> Option<Move>
+pub fn least_board(
+    p: &Position,
+    info: &CheckInfo,
+    first: u16,
+    kept: &mut KeptDestinations,
+) -> Option<Move>
     requires first { first ≤ FIRST_DROP }
     requires info { IsCheckInfoOf info.now p.now }
+    requires kept { AreKept p.now kept.old }
     ensures next { IsLeastFrom p.now result first FIRST_DROP }
     ensures legal { IfSome result (λ m. is_legal p.now m ≡ true) }
     ensures on_board { IfSome result (λ m. code_of m < FIRST_DROP) }
+    ensures kept { AreKept p.now kept.new }
 {
     let mut code = first;
     'squares: while code < FIRST_DROP {
         let square = code / SQUARE_CODES;
-        let found = least_destination(p, info, Square::of_index(square as usize), code);
+        let found = least_destination(p, info, Square::of_index(square as usize), code, kept);
         if found.is_some() {
             return found;
         }
@@ -130,7 +185,7 @@ fn least_beside(p: &Position, info: &CheckInfo, m: &Move) -> Option<Move>
     match m {
         Move::Board { from, to, .. } => {
             to.validity();
-            least_destination(p, info, *from, m.code())
+            least_destination(p, info, *from, m.code(), &mut kept_at(p, info, *from))
         }
         Move::Drop { kind, to } => {
             to.validity();

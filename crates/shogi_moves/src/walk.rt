@@ -6,9 +6,9 @@ ghost use Rattle.shogi_moves.specs.LegalMoves.{legal_codes};
 ghost use Rattle.shogi_moves.specs.Walks.{TakesNext};
 
 use crate::check_info::{CheckInfo, check_info_of};
-use crate::next::{code_above, least_board};
+use crate::next::{KeptDestinations, code_above, kept_at, least_board};
 use crate::sweep::DropSweep;
-use shogi_core::{FIRST_DROP, Move, Position};
+use shogi_core::{FIRST_DROP, Move, Position, Square};
 use std::marker::Model;
 
 /// The legal moves of a position that are still to come, in the order of codes; seen as the
@@ -18,6 +18,7 @@ pub struct Walk {
     position: Position,
     code: u16,
     info: CheckInfo,
+    destinations: KeptDestinations,
     drops: DropSweep,
 }
 
@@ -26,7 +27,7 @@ impl Model for Walk {
     ghost use Rattle.shogi_core.specs.declared.moves.TheConstants.{FIRST_DROP};
     ghost use Rattle.shogi_moves.specs.CheckInfo.{IsCheckInfoOf};
     ghost use Rattle.shogi_moves.specs.LegalMoves.{legal_from};
-    ghost use Rattle.shogi_moves.specs.Sweeps.{IsDropSweep};
+    ghost use Rattle.shogi_moves.specs.Sweeps.{AreKept, IsDropSweep};
     ghost use Rattle.shogi_moves.specs.Walks.{Remaining};
 
     ghost Value = { Remaining };
@@ -38,6 +39,7 @@ impl Model for Walk {
 
     ghost invariant = { λ w. record {
       info : IsCheckInfoOf w.info w.position;
+      destinations : AreKept w.position w.destinations;
       kept : IsDropSweep w.position w.drops;
       code : w.code ≤ FIRST_DROP;
       begun : w.code < FIRST_DROP → w.drops.code ≡ FIRST_DROP;
@@ -55,6 +57,7 @@ impl Walk {
             position: *p,
             code: 0,
             info,
+            destinations: kept_at(p, &info, Square::of_index(0)),
             drops: DropSweep::new(p, info),
         }
     }
@@ -68,7 +71,12 @@ impl Walk {
         if self.code >= FIRST_DROP {
             return self.drops.next(&self.position);
         }
-        let found = least_board(&self.position, &self.info, self.code);
+        let found = least_board(
+            &self.position,
+            &self.info,
+            self.code,
+            &mut self.destinations,
+        );
         if let Some(m) = &found {
             self.code = code_above(m);
             return found;
