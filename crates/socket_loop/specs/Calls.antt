@@ -9,6 +9,7 @@ use Rattle.host_core.specs.Events.{Event, Outcome, Opened, Refused, Open, Feed, 
 use Rattle.host_core.specs.Made.{Step}
 use Rattle.wires.specs.Report.{Report}
 use Rattle.host_core.specs.Runs.{IsRun}
+use Rattle.wires.specs.declared.wire.Wire.{Ghosts}
 use Rattle.wires.specs.declared.wire.WireFault.{WireFault}
 use Rattle.socket_loop.specs.declared.connection.Link.{Link}
 use Rattle.socket_loop.specs.declared.connection.Connection.{Connection}
@@ -18,7 +19,7 @@ use Rattle.wires.specs.Asked.{Call, Accept, Read, Write, Shut, Asks, IsCalled}
 use Rattle.socket_loop.specs.Links.{links_of, unshut_of, IsApart, IsRising}
 use Rattle.socket_loop.specs.Scenes.{Scene}
 use Rattle.socket_loop.specs.Parts.{AreAll, Grows, HoldsMore, IsInput, IsOutput, IsEnd, is_finished}
-use Rattle.socket_loop.specs.Turns.{host_full, Accepted, Accepts, Admits, Fits, ContinuesServing, HasMoved, HasSession, IsOpening, IsQuiet, IsTurn, KeepsMade, ServesNew}
+use Rattle.socket_loop.specs.Turns.{host_full, Accepted, Accepts, Admits, Fits, ContinuesServing, HasMoved, HasSession, IsOpening, IsQuiet, IsTurn, KeepsMade, LoopState, Over, ServesNew}
 
 -- ---- one connection
 
@@ -240,3 +241,9 @@ pub record Turns (slice : ℕ) (moved : Bool) (before after : Scene) : Type 0 wh
   pub quiet : IsQuiet moved before.report (unshut_of before.held) after.report after.held
   pub continues : ContinuesServing before after
   pub starts : ServesNew before (links_of after.held) after
+
+-- a loop took a turn, with its own budget, over a wire and with a host
+abbrev pub Turned : {W : Type 0} → Ghosts W → Bool → LoopState → HostState → W
+    → LoopState → HostState → W → Type 0
+Turned wires moved old before from new after to =
+    Over wires (Turns old.slice moved) old before from new after to

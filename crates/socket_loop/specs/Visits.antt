@@ -43,12 +43,6 @@ pub record VisitsOne (due : HostState → Connection → Connection → List Cal
   pub stirs : moved ≡ true
       → Transfers before.report after.report old.link.number ⊎ EndsOrShuts old new
 
--- from a connection, a host and a wire to these later on, by their scenes
-abbrev pub OverOne : {W : Type 0} → Ghosts W → (Connection → Connection → Scene → Scene → Type 0)
-    → Connection → HostState → W → Connection → HostState → W → Type 0
-OverOne wires Relates old before from new after to =
-    Relates old new (scene wires (old ∷ []) from before) (scene wires (new ∷ []) to after)
-
 -- where the connection gave these bytes before, and no call of it failed then, its bytes are carried from there
 abbrev pub ServesGiven : Link → List ℕ → Scene → Scene → Type 0
 ServesGiven link chunk before after =
@@ -89,6 +83,32 @@ pub record EndsOne (moved : Bool) (old new : Connection) (before after : Scene) 
   pub serves : (marks : List Connection)
       → (old.has_ended ≡ true → IsMarked reads_ended marks old.link.number)
       → Serves IsEnd marks before after
+
+-- ---- the same of a connection, a host and a wire of the code
+
+-- from a connection, a host and a wire to these later on, by their scenes
+abbrev pub OverOne : {W : Type 0} → Ghosts W → (Connection → Connection → Scene → Scene → Type 0)
+    → Connection → HostState → W → Connection → HostState → W → Type 0
+OverOne wires Relates old before from new after to =
+    Relates old new (scene wires (old ∷ []) from before) (scene wires (new ∷ []) to after)
+
+abbrev pub Feeds : {W : Type 0} → Ghosts W → List ℕ → Connection → HostState → W
+    → Connection → HostState → W → Type 0
+Feeds wires chunk = OverOne wires (FeedsOne chunk)
+
+abbrev pub Reads : {W : Type 0} → Ghosts W → Bool → Connection → HostState → W
+    → Connection → HostState → W → Type 0
+Reads wires moved = OverOne wires (ReadsOne moved)
+
+abbrev pub Writes : {W : Type 0} → Ghosts W → Bool → Connection → HostState → W
+    → Connection → HostState → W → Type 0
+Writes wires moved = OverOne wires (WritesOne moved)
+
+abbrev pub Ends : {W : Type 0} → Ghosts W → Bool → Connection → HostState → W
+    → Connection → HostState → W → Type 0
+Ends wires moved = OverOne wires (EndsOne moved)
+
+-- ---- one connection after the other
 
 -- the first connections were visited, one after the other, with the calls that are due; where that moved one of them gave
 -- or took at least one byte, ended or was shut, and else all that is reported stays, and they are as they were

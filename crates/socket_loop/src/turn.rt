@@ -5,8 +5,9 @@ ghost use Rattle.socket_loop.specs.Links.{links_of, place_for, unshut_of, AreOnc
 ghost use Rattle.socket_loop.specs.Turns.{any_pending, host_full, NoneFinished, Fits, IsAway, Over};
 ghost use Rattle.socket_loop.specs.Visits.{EndsEach, ReadsEach, WritesEach};
 ghost use Rattle.wires.specs.Moves.{StaysKnown};
-ghost use Rattle.wires.specs.Asked.{Write, Shut, Asks};
-ghost use Rattle.socket_loop.specs.Calls.{AcceptsAll, AdmitsOne, HoldsOne, Turns};
+ghost use Rattle.wires.specs.Asked.{Write, Shut};
+ghost use Rattle.wires.specs.Wires.{IsAsked};
+ghost use Rattle.socket_loop.specs.Calls.{AcceptsAll, AdmitsOne, HoldsOne, Turned};
 ghost use Rattle.socket_loop.specs.declared.turn.TheConstants.{ACCEPTS};
 
 use crate::connection::{Connection, Link};
@@ -66,8 +67,7 @@ fn drop_shut<A: Allocator>(held: &mut Vec<Connection, A>)
 
 /// Writes to a connection, in one write, that the host is full, and shuts it.
 fn reject<W: Wire>(wire: &mut W, number: u64)
-    ensures asked { Asks (W.asked wire.old) (W.asked wire.new)
-        (Write number host_full ∷ Shut number ∷ []) }
+    ensures asked { IsAsked W.Wire wire.old wire.new (Write number host_full ∷ Shut number ∷ []) }
     ensures away { IsAway (W.bound wire.old) host_full (W.report wire.old) (W.report wire.new) number }
     ensures bound { W.bound wire.new ≡ W.bound wire.old }
     ensures faults { W.failed wire.old ≤ W.failed wire.new }
@@ -203,7 +203,7 @@ impl<A: Allocator + Copy> Loop<A> {
     /// it failed, a feed of its session was refused for memory, or it was finished with.
     pub fn turn<W: Wire, S: BuildHasher>(&mut self, host: &mut Host<S, A>, wire: &mut W) -> Turn
         requires fits { Fits (links_of self.old.held) (W.bound wire.old) host.old }
-        ensures turned { Over W.Wire (Turns self.old.slice result.moved)
+        ensures turned { Turned W.Wire result.moved
             self.old host.old wire.old self.new host.new wire.new }
         ensures pending { result.moved ≡ false
             → any_pending host.new (links_of self.new.held) ≡ false }

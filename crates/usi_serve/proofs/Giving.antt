@@ -2,7 +2,7 @@
 use Rattle.std.proofs.Common.{◌≡◌, ℕ, ◌+◌, ◌≤◌, List, ◌++◌, length, take, drop, sym, ap, ◌∙◌, arith}
 use Rattle.std.proofs.lemmas.List.{take_at, take-append-le, take-append-drop, length-take-le, drop-drop}
 
--- the front of a line stands at the front of the buffer
+-- a prefix of a line stands at the start of the buffer
 pub given_prefix : (line copied back : List ℕ) (n : ℕ) → copied ≡ take n line → n ≤ length line → take n (copied ++ back) ≡ take n line
 given_prefix line copied back n e within =
     let len : length copied ≡ n = ap length e ∙ length-take-le n line within in

@@ -1,8 +1,8 @@
 //! Turn after turn.
 
 ghost use Rattle.socket_loop.specs.Links.{links_of};
-ghost use Rattle.socket_loop.specs.Turns.{Fits, Over};
-ghost use Rattle.usi_serve.specs.Promises.{ServesTurns};
+ghost use Rattle.socket_loop.specs.Turns.{Fits};
+ghost use Rattle.usi_serve.specs.Promises.{Served};
 
 use host_core::Host;
 use socket_loop::Loop;
@@ -15,17 +15,17 @@ use wires::{Wire, WireFault};
 /// Each connection of the loop is accepted from this wire and each session opened in this host.
 pub fn serve<W: Wire, S: BuildHasher, A: Allocator + Copy>(
     host: &mut Host<S, A>,
-    connections: &mut Loop<A>,
+    peers: &mut Loop<A>,
     wire: &mut W,
     turns: u64,
 ) -> Result<(), WireFault>
-    requires fits { Fits (links_of connections.old.held) (W.bound wire.old) host.old }
-    ensures served { Over W.Wire (ServesTurns connections.old.slice turns result)
-        connections.old host.old wire.old connections.new host.new wire.new }
-    ensures fits { Fits (links_of connections.new.held) (W.bound wire.new) host.new }
+    requires fits { Fits (links_of peers.old.held) (W.bound wire.old) host.old }
+    ensures all { Served W.Wire turns result
+        peers.old host.old wire.old peers.new host.new wire.new }
+    ensures fits { Fits (links_of peers.new.held) (W.bound wire.new) host.new }
 {
     for _ in 0..turns {
-        let turn = connections.turn(host, wire);
+        let turn = peers.turn(host, wire);
         wire.wait(!turn.moved)?;
     }
     Ok(())

@@ -83,7 +83,7 @@ narrowing most peer = record peer { width = most }
 abbrev pub taking : List ℕ → PeerState → PeerState
 taking bytes peer = record peer { written = peer.written ++ bytes }
 
--- the chunks, without the empty ones in front
+-- the chunks, without the empty ones at the start
 abbrev pub past_empty : List (List ℕ) → List (List ℕ)
 past_empty [] = []
 past_empty ([] ∷ rest) = past_empty rest

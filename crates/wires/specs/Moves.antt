@@ -3,7 +3,7 @@ use Rattle.std.specs.Prelude.{◌<◌, ◌≡◌, ◌⊎◌, ⊤, ℕ, List, [],
 use Rattle.std.specs.Io.KnownBytes.{Keeps, Appends, Consumes}
 use Rattle.wires.specs.Report.{Report, KeepsOthers, Stays, OnlyRises}
 
--- bytes of any connection leave at the front and are written at the end, and its flags only rise
+-- bytes of any connection leave at the start and are written at the end, and its flags only rise
 pub record Moves (old new : Report) (number : ℕ) : Type 0 where
   pub gave : List ℕ
   pub unread : Consumes (old.unread number) (new.unread number) gave

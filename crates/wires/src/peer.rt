@@ -36,7 +36,7 @@ impl<A: Allocator + Copy> Model for Peer<A> {
     } };
 }
 
-// Passes over the empty chunks in front.
+// Passes over the empty chunks at the start.
 fn skip_empty<A: Allocator + Copy>(chunks: &mut Vec<Vec<u8, A>, A>)
     ensures { contents_of chunks.new.items ≡ past_empty (contents_of chunks.old.items) }
 {
@@ -45,7 +45,7 @@ fn skip_empty<A: Allocator + Copy>(chunks: &mut Vec<Vec<u8, A>, A>)
     }
 }
 
-// Moves bytes from the front of a chunk to the front of the buffer.
+// Moves bytes from the start of a chunk to the start of the buffer.
 fn take_prefix<A: Allocator + Copy>(chunk: &mut Vec<u8, A>, buf: &mut [u8]) -> usize
     ensures count { result ≡ min (length chunk.old.items) (length buf.old) }
     ensures len { length buf.new ≡ length buf.old }
@@ -147,7 +147,7 @@ impl<A: Allocator + Copy> Peer<A> {
         self.give(buf)
     }
 
-    /// Takes the front of the bytes, or fails and takes nothing where memory runs out.
+    /// Takes a prefix of the bytes, or fails and takes nothing where memory runs out.
     pub fn take(&mut self, bytes: &[u8]) -> Result<usize, WireFault>
         ensures count { IfOk result (λ n. n ≡ min self.old.width (length bytes.now)) }
         ensures ok { IfOk result (λ n. self.new ≡ taking (take n bytes.now) self.old) }

@@ -33,7 +33,7 @@ impl<T: Drop> From<AllocFailed<T>> for WireFault {
 /// What a read found.
 #[derive(Clone, Copy, Debug, PartialEq, Eq)]
 pub enum Got {
-    /// So many bytes, at least 1, at the front of the buffer.
+    /// So many bytes, at least 1, at the start of the buffer.
     Bytes(usize),
     /// Nothing now.
     Nothing,
@@ -63,14 +63,14 @@ pub trait Wire {
         ensures kept { KeepsAll (report self.old) (report self.new) }
         ensures cause { HasCause (failed self.old) (failed self.new) result };
 
-    /// Reads what is there into the front of the buffer, which is not empty.
+    /// Reads what is there into the start of the buffer, which is not empty.
     fn read(&mut self, number: u64, buf: &mut [u8]) -> Result<Got, WireFault>
         ensures bound { bound self.new ≡ bound self.old }
         ensures read { Reads (report self.old) (report self.new) number result buf.new }
         ensures asked { Asks (asked self.old) (asked self.new) (Read number (length buf.old) ∷ []) }
         ensures cause { HasCause (failed self.old) (failed self.new) result };
 
-    /// Writes what it takes, from the front, and answers how many bytes; 0 where it takes none now.
+    /// Writes what it takes, a prefix, and answers how many bytes; 0 where it takes none now.
     fn write(&mut self, number: u64, buf: &[u8]) -> Result<usize, WireFault>
         ensures bound { bound self.new ≡ bound self.old }
         ensures written { Writes (report self.old) (report self.new) number result buf.now }

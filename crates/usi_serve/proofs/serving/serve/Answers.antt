@@ -8,7 +8,7 @@ use Rattle.usi_serve.proofs.Waits.{in_time}
 use Rattle.usi_serve.proofs.serving.serve.Goals as goal
 
 pub loop-init : goal.loop-init
-loop-init g c = record { so_far = turns_none c.args.connections.now.slice _; fits = c.requires.fits; slice = search rules }
+loop-init g c = record { so_far = turns_none c.args.peers.now.slice _; fits = c.requires.fits; slice = search rules }
 
 pub loop-preserved : goal.loop-preserved
 loop-preserved g c = record {
@@ -32,10 +32,10 @@ loop-preserved g c = record {
 }
 
 -- the wait is what failed, after one more turn
-pub returns-in_err-wait-clause-served : goal.returns-in_err-wait-clause-served
-returns-in_err-wait-clause-served g c =
+pub returns-in_err-wait-clause-all : goal.returns-in_err-wait-clause-all
+returns-in_err-wait-clause-all g c =
     let middle = scene g.W.Wire c.turn-turn.new.self.held c.turn-turn.new.wire c.turn-turn.new.host in
-    let turn : IsTurnTo c.args.connections.now.slice (scene g.W.Wire c.loop.connections.held c.loop.wire c.loop.host) middle =
+    let turn : IsTurnTo c.args.peers.now.slice (scene g.W.Wire c.loop.peers.held c.loop.wire c.loop.host) middle =
     record {
       moved = c.turn-turn.result.moved;
       turned = rw c.loop.invariant.slice at c.turn-turn.ensures.turned.scenes;
@@ -59,8 +59,8 @@ returns-in_err-wait-clause-served g c =
       };
     }
 
-pub returns-clause-served : goal.returns-clause-served
-returns-clause-served g c =
+pub returns-clause-all : goal.returns-clause-all
+returns-clause-all g c =
     let all : c.loop.counter ≡ c.args.turns = omega arith in
     record {
       slice = c.loop.invariant.slice;
