@@ -17,7 +17,7 @@ pub fn answered<A: Allocator + Copy>(
 ) -> Result<Option<Session<A>>, SessionFault>
     requires { length bytes.now ≤ 4096 }
     ensures { IfOk result
-        (λ answered. IfSome answered (λ session. session.queued ≡ replies bytes.now)) }
+        (λ found. IfSome found (λ session. session.queued ≡ replies bytes.now)) }
 {
     let mut session = Session::new(alloc);
     session.feed(bytes)?;

@@ -1,7 +1,7 @@
 //! A use of `usi_stdio`.
 
 ghost use Rattle.std.specs.Prelude.{OnOk};
-ghost use Rattle.usi_stdio.specs.Stdio.{IsAnswered};
+ghost use Rattle.usi_stdio.specs.Streams.{IsAnswered};
 
 use std::alloc::Allocator;
 use std::io::{Read, Write};
@@ -10,12 +10,11 @@ use usi_stdio::{StdioFault, stdio};
 /// One session over a table of 4,096 entries.
 pub fn answer_all<A: Allocator + Copy, R: Read, W: Write>(
     alloc: A,
-    reader: &mut R,
-    writer: &mut W,
+    input: &mut R,
+    output: &mut W,
 ) -> Result<(), StdioFault>
     ensures { OnOk result
-        (IsAnswered (R.remaining reader.old) (R.remaining reader.new)
-        (W.contents writer.old) (W.contents writer.new)) }
+        (IsAnswered R.Read W.Write input.old input.new output.old output.new) }
 {
-    stdio(alloc, reader, writer, 4096)
+    stdio(alloc, input, output, 4096)
 }

@@ -1,20 +1,17 @@
 //! A use of `wires`.
 
-ghost use Rattle.std.specs.Prelude.{◌<◌, [], ◌∷◌};
-ghost use Rattle.std.specs.Io.KnownBytes.{Appends};
-ghost use Rattle.wires.specs.Asked.{Asks, Shut, Write};
-ghost use Rattle.wires.specs.Report.{IsRaised, bytes_written};
+ghost use Rattle.std.specs.Prelude.{[], ◌∷◌};
+ghost use Rattle.wires.specs.Asked.{Shut, Write};
+ghost use Rattle.wires.specs.Report.{bytes_written};
+ghost use Rattle.wires.specs.Wires.{IsAsked, IsShut, IsWritten};
 
 use wires::{Wire, WireFault};
 
 /// Writes a text to a connection, as much of it as one write takes, and shuts it.
 pub fn write_and_shut<W: Wire>(wire: &mut W, number: u64, text: &[u8]) -> Result<usize, WireFault>
-    ensures asked { Asks (W.asked wire.old) (W.asked wire.new)
-        (Write number text.now ∷ Shut number ∷ []) }
-    ensures written { Appends ((W.report wire.old).written number)
-        ((W.report wire.new).written number) (bytes_written result text.now) }
-    ensures shut { number < W.bound wire.old
-        → IsRaised ((W.report wire.old).is_shut number) ((W.report wire.new).is_shut number) }
+    ensures asked { IsAsked W.Wire wire.old wire.new (Write number text.now ∷ Shut number ∷ []) }
+    ensures written { IsWritten W.Wire wire.old wire.new number (bytes_written result text.now) }
+    ensures shut { IsShut W.Wire wire.old wire.new number }
 {
     let taken = wire.write(number, text);
     wire.shut(number);
