@@ -92,6 +92,7 @@ impl Search {
                 beta,
                 frames: [Frame::default(); 17],
                 height: 0,
+                keeps_replies: false,
             },
             started: false,
             steps: 0,
@@ -99,18 +100,19 @@ impl Search {
         }
     }
 
-    /// Begins anew, as `start` does, in the room of this search, of which nothing is kept.
+    /// Begins anew, as `start` does, in the room of this search.
     pub fn restart(&mut self, p: &Position, e: Eval, d: u8)
         requires { d ≤ SEARCH_DEPTH_MAX }
         ensures { self.new ≡ untouched p.now e d }
     {
         self.restart_below(p, e, d, INFINITY);
-        self.stack.frames[0] = Frame::default();
+        self.stack.keeps_replies = false;
     }
 
-    /// Begins anew, as `start_below` does, in the room of this search. Where the memo has no move to
-    /// visit first, that is the move that was the best of this search's root or cut it off, if it is
-    /// legal: what refutes one move of a position often refutes the next one.
+    /// Begins anew, as `start_below` does, in the room of this search. A node of depth 2 or more for
+    /// which the memo has no move to visit first has the best move of the node that was searched
+    /// before in its place, or the move that cut that one off, if it is legal. For the root that was
+    /// the root of this search.
     pub fn restart_below(&mut self, p: &Position, e: Eval, d: u8, beta: i32)
         requires shallow { d ≤ SEARCH_DEPTH_MAX }
         requires open { negated INFINITY <ℤ beta }
@@ -121,6 +123,7 @@ impl Search {
         self.stack.eval = e;
         self.stack.depth = d;
         self.stack.beta = beta;
+        self.stack.keeps_replies = true;
         self.started = false;
         self.steps = 0;
         self.found = None;
@@ -155,13 +158,13 @@ impl Search {
         ensures steps { self.new.steps ≡ min (self.old.steps + 1) (2 ^ 64 - 1) }
         ensures left { left_of self.new < left_of self.old }
     {
-        let other = self.stack.frames[0].best_move;
+        self.stack.height = 0;
+        let other = self.stack.kept_reply(self.stack.depth);
         let (root, e, depth) = (&self.stack.root, self.stack.eval, self.stack.depth);
         let hash_move = hash_move_of(root, e, depth, memo);
         let first = first_move_of(root, hash_move, other);
         let ahead = looks_ahead(depth, memo);
         let node = Node::of(*root, e);
-        self.stack.height = 0;
         let beta = self.stack.beta;
         self.stack.frames[0].enter(&node, depth, -INFINITY, beta, first, ahead);
         self.started = true;

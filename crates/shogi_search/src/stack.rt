@@ -8,7 +8,7 @@ ghost use Rattle.shogi_search.specs.Order.{IsListed};
 ghost use Rattle.shogi_search.specs.Visits.{IsFree};
 ghost use Rattle.shogi_search.specs.Frames.{IsTrueOf, IsToBeLeft};
 ghost use Rattle.shogi_search.specs.Stack.{IsStack, IsSame, OnTop, IsTrueOfRoot, KeepsGoal, UsesSteps, left_with_child, left_of_frame, steps_left};
-ghost use Rattle.shogi_search.specs.declared.bounds.TheConstants.{INFINITY};
+ghost use Rattle.shogi_search.specs.declared.bounds.TheConstants.{SEARCH_DEPTH_MAX, INFINITY};
 
 use crate::frame::{Frame, Waiting, leaf};
 use crate::memo::{Entry, Memo};
@@ -27,6 +27,10 @@ pub struct Stack {
     pub beta: i32,
     pub frames: [Frame; 17],
     pub height: usize,
+    /// Set where a node of depth 2 or more that has no hash move visits first the best move of the
+    /// node that stood in its place before, or the move that cut that one off: what refutes one move
+    /// of a position often refutes the next one.
+    pub keeps_replies: bool,
 }
 
 /// Whether an entry says enough for a window.
@@ -97,8 +101,7 @@ pub fn hash_move_of<M: Memo>(p: &Position, e: Eval, depth: u8, memo: &mut M) -> 
     }
 }
 
-/// The move to visit first at the root: the hash move, or where there is none this other one, if it
-/// is legal.
+/// The move to visit first: the hash move, or where there is none this other one, if it is legal.
 pub fn first_move_of(p: &Position, hash_move: Option<Move>, other: Option<Move>) -> Option<Move>
     requires { ForSome hash_move (IsListed p.now) }
     ensures listed { ForSome result (IsListed p.now) }
@@ -171,6 +174,21 @@ fn visit_leaf<M: Memo>(top: &mut Frame, current: &Move, memo: &mut M, room: u64)
 }
 
 impl Stack {
+    /// The best move of the node that stood in the place of the one on top before, or the move that
+    /// cut it off, where such moves are kept for the next node and its depth is 2 or more.
+    pub fn kept_reply(&self, depth: u8) -> Option<Move>
+        requires room { self.now.height ≤ SEARCH_DEPTH_MAX }
+        ensures none { self.now.keeps_replies ≡ false → result ≡ None }
+        ensures shallow { depth < 2 → result ≡ None }
+        ensures some { IfSome result (λ m. OnTop self.now (λ top. top.best_move ≡ Some m)) }
+    {
+        if self.keeps_replies && depth > 1 {
+            self.frames[self.height].best_move
+        } else {
+            None
+        }
+    }
+
     /// The node below the top takes in what is known of the node on top, where there is one.
     fn pop(&mut self, entry: &Entry) -> bool
         requires stack { IsStack self.old }
@@ -223,7 +241,8 @@ impl Stack {
         let hash_move = hash_move_of(position, eval, depth, memo);
         let ahead = looks_ahead(depth, memo);
         self.height += 1;
-        self.frames[self.height].enter(&node, depth, alpha, beta, hash_move, ahead);
+        let first = first_move_of(position, hash_move, self.kept_reply(depth));
+        self.frames[self.height].enter(&node, depth, alpha, beta, first, ahead);
     }
 
     /// The same for a node of any depth, where a child that is a leaf is valued. Gives the number of

@@ -14,7 +14,7 @@ use crate::state::HeldBestmove;
 use crate::text::{write_info, write_numbered_info};
 use shogi_core::Move;
 use shogi_moves::{apply, next_legal};
-use shogi_search::{Found, Memo, NoMemo, Ranks, Search};
+use shogi_search::{Found, INFINITY, Memo, NoMemo, Ranks, Search};
 use std::alloc::{AllocError, Allocator};
 use std::marker::Model;
 use usi_lines::Hold;
@@ -98,7 +98,7 @@ fn search_first(question: &Question, first: Move, depths_done: u8, search: &mut 
     }
     first.validity();
     let next = apply(&question.position, first);
-    search.restart(&next, question.eval, depths_done);
+    search.restart_below(&next, question.eval, depths_done, INFINITY);
 }
 
 /// A walk along the pv of the line of this number, from 0, that has made its first move.

@@ -43,6 +43,9 @@ returns-in-Some-clause-left g c =
 pub listed-2 : goal.listed-2
 listed-2 g c = omega (arith, room_asked c.args.self.now c.args.current.now c.requires.stack c.requires.asked)
 
+pub kept_reply-requires : goal.kept_reply-requires
+kept_reply-requires g c = record { room = omega (arith, room_asked c.args.self.now c.args.current.now c.requires.stack c.requires.asked) }
+
 pub bounds-self-self-2 : goal.bounds-self-self-2
 bounds-self-self-2 g c = omega (arith, room_asked c.args.self.now c.args.current.now c.requires.stack c.requires.asked)
 
