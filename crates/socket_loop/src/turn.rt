@@ -68,7 +68,8 @@ fn drop_shut<A: Allocator>(held: &mut Vec<Connection, A>)
 /// Writes to a connection, in one write, that the host is full, and shuts it.
 fn reject<W: Wire>(wire: &mut W, number: u64)
     ensures asked { IsAsked W.Wire wire.old wire.new (Write number host_full ∷ Shut number ∷ []) }
-    ensures away { IsAway (W.bound wire.old) host_full (W.report wire.old) (W.report wire.new) number }
+    ensures away { IsAway (W.bound wire.old) host_full
+        (W.report wire.old) (W.report wire.new) number }
     ensures bound { W.bound wire.new ≡ W.bound wire.old }
     ensures faults { W.failed wire.old ≤ W.failed wire.new }
 {
