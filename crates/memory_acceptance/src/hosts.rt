@@ -208,7 +208,7 @@ impl<'a> Starved<'a> {
         Ok(())
     }
 
-    /// Steps, and steps again without the ballast where memory was refused.
+    /// Steps, and steps again without the ballast where an allocation failed.
     fn step(&mut self, event: Event<'_>) -> Outcome<&'a LocalHeap> {
         let first = self.host.step(event);
         if !is_refused(&first) {
@@ -236,7 +236,7 @@ impl<'a> Starved<'a> {
     }
 }
 
-// Two sessions are opened with so many blocks. Returns whether memory was refused.
+// Two sessions are opened with so many blocks. Returns whether an allocation failed.
 fn assert_opened(rt: &impl Abort, alloc: Global, dropped: usize) -> Result<bool, Fail> {
     let heap = LocalHeap::new(alloc, HOST_HEAP)?;
     let mut starved = Starved::new(alloc, &heap, 1)?;
@@ -262,7 +262,7 @@ fn sessions_are_opened_after_a_refusal(rt: HostRuntime) -> Result<(), Fail> {
     Ok(())
 }
 
-// From an event on so many blocks are left. Returns whether memory was refused.
+// From an event on so many blocks are left. Returns whether an allocation failed.
 fn assert_answered(
     rt: &impl Abort,
     alloc: Global,

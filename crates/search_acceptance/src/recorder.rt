@@ -41,7 +41,7 @@ impl<M: Memo> Recorder<M> {
         }
     }
 
-    /// The calls, the first one first; where memory was refused, one is missing.
+    /// The calls, the first one first; where an allocation failed, one is missing.
     pub fn calls(&self) -> &[Call] {
         self.calls.as_slice()
     }

@@ -214,7 +214,7 @@ asks_stop met items a b c answer lt p q g = record {
 pub asks_full : (met : List Link) (items : List Accepted) (a b : Option (List Call)) → length items ≡ 16 → AsksAccepts met items a b → AsksAll met items a b
 asks_full met items a b e p = record { first = p.calls; last = []; accepted = p.accepted; ends = inl (e, refl); asked = rw (append-nil p.calls) p.asked }
 
--- memory was refused for a session
+-- an allocation failed for a session
 pub refused_admitted : (met : List Link) (number : ℕ) (fault : HostFault) → (fault ≡ Full → ⊥) → IsAdmitted met (record { number = number; outcome = Refused fault }) (Shut number ∷ [])
 refused_admitted met number Full f = absurd (f refl)
 refused_admitted met number OutOfMemory f = refl

@@ -51,7 +51,7 @@ ServesGiven link chunk before after =
     → Stays (earlier.has_failed link.number) (before.report.has_failed link.number)
     → ServesLinks IsInput marks before.bound (link ∷ []) earlier before.host after.report after.host
 
--- a connection was fed these bytes, or shut where memory was refused for them
+-- a connection was fed these bytes, or shut where an allocation failed
 pub record FeedsOne (chunk : List ℕ) (old new : Connection) (before after : Scene) : Type 0 where
   pub visit : IsVisited IsInput old new before after
   pub asked : old.is_shut ≡ false → Asks before.asked after.asked (shuts_of old new)

@@ -46,7 +46,7 @@ pub record IsComplete (duty : Duty) (before after : Scene) (number : ℕ) (read 
   pub all : written ≡ duty.owes read
   pub why : ReadsEnded before after number ⊎ EndsItself duty read written
 
--- why a connection was shut: a call of it failed; or bytes were lost that were read, as memory was refused for them; or it was complete
+-- why a connection was shut: a call of it failed; or bytes were lost that were read, as an allocation failed; or it was complete
 abbrev pub HasEnded : Duty → Scene → Scene → ℕ → List ℕ → List ℕ → List ℕ → Type 0
 HasEnded duty before after number read lost written =
     IsRaised (before.report.has_failed number) (after.report.has_failed number)
