@@ -7,3 +7,4 @@ pub mod Seen
 pub use Rattle.shogi_sfen.specs.Words
 pub use Rattle.shogi_sfen.specs.Numbers
 pub use Rattle.shogi_sfen.specs.MoveTexts
+pub mod Room

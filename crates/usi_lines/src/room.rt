@@ -1,6 +1,7 @@
 //! Room that a buffer gives back.
 
-ghost use Rattle.std.specs.Prelude.{◌≡◌, ◌≤◌, ◌<◌, ◌*◌, min, vec_len, vec_capacity};
+ghost use Rattle.std.specs.Prelude.{◌≡◌, vec_len, vec_capacity};
+ghost use Rattle.usi_lines.specs.Room.{GivesRoom};
 
 use std::alloc::Allocator;
 
@@ -9,12 +10,8 @@ use std::alloc::Allocator;
 /// Where nothing is in use none is left, and nothing is allocated.
 pub fn give_back_room<A: Allocator>(bytes: &mut Vec<u8, A>, kept: usize)
     ensures items { bytes.new.items ≡ bytes.old.items }
-    ensures room { vec_len bytes.new ≡ 0 → vec_capacity bytes.new ≤ kept }
-    ensures most { vec_capacity bytes.new ≤ vec_capacity bytes.old }
-    ensures least { min (2 * vec_len bytes.old) (vec_capacity bytes.old) ≤ vec_capacity bytes.new }
-    ensures few { vec_capacity bytes.old ≤ kept → vec_capacity bytes.new ≡ vec_capacity bytes.old }
-    ensures in_use { vec_capacity bytes.old < 4 * vec_len bytes.old
-        → vec_capacity bytes.new ≡ vec_capacity bytes.old }
+    ensures room { GivesRoom kept
+        (vec_len bytes.new) (vec_capacity bytes.old) (vec_capacity bytes.new) }
 {
     let len = bytes.len();
     if bytes.capacity() > kept && len <= bytes.capacity() / 4 {
