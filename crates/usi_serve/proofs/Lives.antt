@@ -10,7 +10,6 @@ use Rattle.host_core.specs.declared.event.HostFault.TheVariants.{Full, OutOfMemo
 use Rattle.host_core.specs.Events.{Close, Outcome, Opened, Done, Worked, Gave, Refused}
 use Rattle.host_core.specs.Headline.{EndsFrom, IsPrefixOf, OverFrom}
 use Rattle.socket_loop.specs.declared.connection.Link.{Link}
-use Rattle.wires.specs.declared.wire.WireFault.{WireFault}
 use Rattle.wires.specs.Report.{KeepsPeer}
 use Rattle.socket_loop.specs.Links.{Ties, IsAmong, IsApart, IsMarked, links_of, reads_ended, was_shut}
 use Rattle.socket_loop.specs.Turns.{FitsOne, Fits, IsTurn, IsRemoved, IsRejected, Joins, Served, host_full, rejection_text}
@@ -29,7 +28,7 @@ use Rattle.host_core.proofs.Ids.{is_same_id-refl}
 use Rattle.host_core.proofs.OneSession.{gone, opened_ends, IsGone as IsOut}
 use Rattle.host_core.proofs.Overs.{opened_over}
 use Rattle.socket_loop.specs.Scenes.{Scene}
-use Rattle.usi_serve.specs.Serving.{AreTurns, IsTurnAndWait, IsWait, Stops}
+use Rattle.usi_serve.specs.Serving.{AreTurns, IsTurnAndWait, IsWait}
 use Rattle.usi_serve.specs.Life.{Duty, new_duty, duty_of, ReadsEnded, EndsItself, HasEnded, IsAnswered, IsHeldOrGone, IsServed, Life, Lives}
 
 -- ---- numbers
