@@ -6,7 +6,7 @@ ghost use Rattle.shogi_search.specs.declared.bounds.TheConstants.{SEARCH_DEPTH_M
 
 use crate::forgetful::Forgetful;
 use crate::games;
-use crate::plain::{Notes, minimax, search_plainly_below};
+use crate::plain::{Notes, branches_of, minimax, search_plainly_below};
 use crate::positions::{played, position};
 use crate::recorder::Recorder;
 use crate::tables::{TWO_PAWNS, table_of};
@@ -188,6 +188,52 @@ fn steps_below_a_bound(rt: HostRuntime) -> Result<(), Fail> {
             let notes = Notes::new(rt.alloc(), capacity, false);
             assert_counts(&rt, rt.alloc(), &p, depth, table, notes)?;
         }
+    }
+    Ok(())
+}
+
+// The children of a position by rising code, one search in the room of another, each below the least value
+// so far: each finds what the plain one finds, in as many steps and with as many calls.
+fn assert_children<M: Memo + Drop>(
+    rt: &impl Abort,
+    alloc: Global,
+    p: &Position,
+    depth: u8,
+    memo: M,
+    mut notes: Notes,
+) -> Result<(), Fail>
+    requires { depth ≤ SEARCH_DEPTH_MAX }
+{
+    let mut recorder = Recorder::sparing(alloc, memo);
+    let mut search = Search::start(p, Eval::Plain, 0);
+    let mut steps: u64 = 0;
+    let mut beta = INFINITY;
+    let branches = branches_of(alloc, p, None)?;
+    for branch in branches.as_slice() {
+        let next = branch.position;
+        assert!(rt; -INFINITY < beta && beta <= INFINITY);
+        search.restart_below(&next, Eval::Plain, depth, beta);
+        let found = search.advance(&mut recorder, u64::MAX).ok_or("an end")?;
+        steps = steps.saturating_add(found.steps);
+        let plain = search_plainly_below(alloc, &next, Eval::Plain, depth, beta, &mut notes)?;
+        holds!(*rt; plain == Some((found.value, found.best.map(|m| m.code()))), beta);
+        same!(*rt; steps, notes.steps, beta);
+        same!(*rt; recorder.calls().len(), notes.calls, beta);
+        beta = i32::min(beta, found.value);
+    }
+    Ok(())
+}
+
+// What refuted one move is visited first after the next one.
+#[test]
+fn steps_of_one_search_after_another(rt: HostRuntime) -> Result<(), Fail> {
+    for (p, depth) in [(Position::start(), 3u8), (position(TWO_PAWNS)?, 4)] {
+        assert!(rt; depth <= 16);
+        let notes = Notes::with_replies(rt.alloc(), 0);
+        assert_children(&rt, rt.alloc(), &p, depth, NoMemo, notes)?;
+        let table = table_of(rt.alloc(), 1000)?;
+        let notes = Notes::with_replies(rt.alloc(), 1000);
+        assert_children(&rt, rt.alloc(), &p, depth, table, notes)?;
     }
     Ok(())
 }

@@ -32,6 +32,11 @@ pub struct Notes {
     /// once, and of the nodes of depth 1, and of all where nothing is kept, the root alone is asked for
     /// and noted.
     asks_all: bool,
+    /// Whether the move that was best at a node, or cut it off, is visited first at the next node of the
+    /// depth, where nothing else is remembered.
+    keeps_replies: bool,
+    /// That move of the last node of each depth, by its code.
+    replies: [Option<u16>; 17],
     /// Nodes entered, nodes left, and children that a note answered.
     pub steps: u64,
     /// Questions and notes.
@@ -45,8 +50,32 @@ impl Notes {
             kept: Vec::new(alloc),
             most,
             asks_all,
+            keeps_replies: false,
+            replies: [None; 17],
             steps: 0,
             calls: 0,
+        }
+    }
+
+    /// The same, and what refutes one move is tried against the next one.
+    pub fn with_replies(alloc: Global, most: usize) -> Notes {
+        let mut notes = Notes::new(alloc, most, false);
+        notes.keeps_replies = true;
+        notes
+    }
+
+    /// The move that is visited first at a node of the depth where no other is remembered.
+    fn reply_at(&self, depth: u8) -> Option<u16> {
+        match self.replies.get(usize::from(depth)) {
+            Some(reply) if self.keeps_replies => *reply,
+            _ => None,
+        }
+    }
+
+    /// Takes the best move of a node of the depth, or the one that cut it off.
+    fn keep_reply(&mut self, depth: u8, reply: Option<u16>) {
+        if depth < 17 {
+            self.replies[usize::from(depth)] = reply;
         }
     }
 
@@ -485,6 +514,9 @@ fn visit(
         if let Some(Known::Exact(_, best)) = notes.ask(p, e, below)? {
             hash_move = best;
         }
+        if hash_move.is_none() {
+            hash_move = notes.reply_at(depth);
+        }
     }
     let branches = branches_of(alloc, p, hash_move)?;
     let (mut best_value, mut best) = (alpha, None);
@@ -532,6 +564,7 @@ fn visit(
                     Known::AtLeast(v) => (v.saturating_neg(), false),
                 };
                 if worth >= beta {
+                    notes.keep_reply(depth, Some(branch.code));
                     return Ok(Known::AtLeast(worth));
                 }
                 if exact && worth > threshold {
@@ -543,6 +576,7 @@ fn visit(
             }
         }
     }
+    notes.keep_reply(depth, best);
     Ok(closed(best_value, best, depth, branches.is_empty()))
 }
 
