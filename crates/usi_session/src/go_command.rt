@@ -93,7 +93,7 @@ fn search_first(question: &Question, first: Move, depths_done: u8, search: &mut 
     ensures { search.new ≡ first_search question.now first depths_done }
 {
     if question.multi_pv == 1 {
-        search.restart(&question.position, question.eval, depths_done + 1);
+        search.restart_below(&question.position, question.eval, depths_done + 1, INFINITY);
         return;
     }
     first.validity();
