@@ -6,7 +6,7 @@ ghost use Rattle.shogi_search.specs.declared.bounds.TheConstants.{SEARCH_DEPTH_M
 
 use crate::forgetful::Forgetful;
 use crate::games;
-use crate::plain::{Notes, branches_of, minimax, search_plainly_below};
+use crate::plain::{Notes, branches_of, minimax, search_on, search_plainly_below};
 use crate::positions::{played, position};
 use crate::recorder::Recorder;
 use crate::tables::{TWO_PAWNS, table_of};
@@ -215,7 +215,7 @@ fn assert_children<M: Memo + Drop>(
         search.restart_below(&next, Eval::Plain, depth, beta);
         let found = search.advance(&mut recorder, u64::MAX).ok_or("an end")?;
         steps = steps.saturating_add(found.steps);
-        let plain = search_plainly_below(alloc, &next, Eval::Plain, depth, beta, &mut notes)?;
+        let plain = search_on(alloc, &next, Eval::Plain, depth, beta, &mut notes)?;
         holds!(*rt; plain == Some((found.value, found.best.map(|m| m.code()))), beta);
         same!(*rt; steps, notes.steps, beta);
         same!(*rt; recorder.calls().len(), notes.calls, beta);
@@ -229,11 +229,52 @@ fn assert_children<M: Memo + Drop>(
 fn steps_of_one_search_after_another(rt: HostRuntime) -> Result<(), Fail> {
     for (p, depth) in [(Position::start(), 3u8), (position(TWO_PAWNS)?, 4)] {
         assert!(rt; depth <= 16);
-        let notes = Notes::with_replies(rt.alloc(), 0);
+        let notes = Notes::new(rt.alloc(), 0, false);
         assert_children(&rt, rt.alloc(), &p, depth, NoMemo, notes)?;
         let table = table_of(rt.alloc(), 1000)?;
-        let notes = Notes::with_replies(rt.alloc(), 1000);
+        let notes = Notes::new(rt.alloc(), 1000, false);
         assert_children(&rt, rt.alloc(), &p, depth, table, notes)?;
+    }
+    Ok(())
+}
+
+// One search in the room of another, each a ply deeper, as a `go` makes them: each takes the steps and the
+// calls of the plain one.
+fn assert_deeper<M: Memo + Drop>(
+    rt: &impl Abort,
+    alloc: Global,
+    p: &Position,
+    deepest: u8,
+    memo: M,
+    mut notes: Notes,
+) -> Result<(), Fail>
+    requires { deepest ≤ SEARCH_DEPTH_MAX }
+{
+    let mut recorder = Recorder::sparing(alloc, memo);
+    let mut search = Search::start(p, Eval::Plain, 0);
+    let mut steps: u64 = 0;
+    for depth in 1..=deepest {
+        search.restart(p, Eval::Plain, depth);
+        let found = search.advance(&mut recorder, u64::MAX).ok_or("an end")?;
+        steps = steps.saturating_add(found.steps);
+        let plain = search_on(alloc, p, Eval::Plain, depth, INFINITY, &mut notes)?;
+        holds!(*rt; plain == Some((found.value, found.best.map(|m| m.code()))), depth);
+        same!(*rt; steps, notes.steps, depth);
+        same!(*rt; recorder.calls().len(), notes.calls, depth);
+    }
+    Ok(())
+}
+
+#[test]
+fn steps_of_one_search_after_another_that_is_less_deep(rt: HostRuntime) -> Result<(), Fail> {
+    for (p, deepest) in [(Position::start(), 4u8), (position(TWO_PAWNS)?, 6)] {
+        assert!(rt; deepest <= 16);
+        for capacity in [1usize, 30, 1000] {
+            assert!(rt; capacity >= 1 && capacity <= 1000000);
+            let table = table_of(rt.alloc(), capacity)?;
+            let notes = Notes::new(rt.alloc(), capacity, false);
+            assert_deeper(&rt, rt.alloc(), &p, deepest, table, notes)?;
+        }
     }
     Ok(())
 }

@@ -32,10 +32,10 @@ pub struct Notes {
     /// once, and of the nodes of depth 1, and of all where nothing is kept, the root alone is asked for
     /// and noted.
     asks_all: bool,
-    /// Whether the move that was best at a node, or cut it off, is visited first at the next node of the
-    /// depth, where nothing else is remembered.
-    keeps_replies: bool,
-    /// That move of the last node of each depth, by its code.
+    /// The depth of the search.
+    whole: u8,
+    /// The move that was best at the last node so many plies from the root, or cut it off, by its code.
+    /// The next node there visits it first, where nothing else is remembered.
     replies: [Option<u16>; 17],
     /// Nodes entered, nodes left, and children that a note answered.
     pub steps: u64,
@@ -50,32 +50,31 @@ impl Notes {
             kept: Vec::new(alloc),
             most,
             asks_all,
-            keeps_replies: false,
+            whole: 0,
             replies: [None; 17],
             steps: 0,
             calls: 0,
         }
     }
 
-    /// The same, and what refutes one move is tried against the next one.
-    pub fn with_replies(alloc: Global, most: usize) -> Notes {
-        let mut notes = Notes::new(alloc, most, false);
-        notes.keeps_replies = true;
-        notes
+    /// How many plies a node of the depth is from the root.
+    fn plies_to(&self, depth: u8) -> usize {
+        usize::from(self.whole.saturating_sub(depth))
     }
 
     /// The move that is visited first at a node of the depth where no other is remembered.
     fn reply_at(&self, depth: u8) -> Option<u16> {
-        match self.replies.get(usize::from(depth)) {
-            Some(reply) if self.keeps_replies => *reply,
-            _ => None,
+        match self.replies.get(self.plies_to(depth)) {
+            Some(reply) => *reply,
+            None => None,
         }
     }
 
     /// Takes the best move of a node of the depth, or the one that cut it off.
     fn keep_reply(&mut self, depth: u8, reply: Option<u16>) {
-        if depth < 17 {
-            self.replies[usize::from(depth)] = reply;
+        let place = self.plies_to(depth);
+        if place < 17 {
+            self.replies[place] = reply;
         }
     }
 
@@ -610,6 +609,20 @@ pub fn search_plainly_below(
     beta: i32,
     notes: &mut Notes,
 ) -> Result<Option<(i32, Option<u16>)>, AllocError> {
+    notes.replies = [None; 17];
+    search_on(alloc, p, e, depth, beta, notes)
+}
+
+/// The same after another search: what refuted a move in that one is tried first in this one.
+pub fn search_on(
+    alloc: Global,
+    p: &Position,
+    e: Eval,
+    depth: u8,
+    beta: i32,
+    notes: &mut Notes,
+) -> Result<Option<(i32, Option<u16>)>, AllocError> {
+    notes.whole = depth;
     let known = notes.ask(p, e, depth)?;
     let entry = match known {
         Some(entry) if is_cutoff(&entry, -INFINITY, beta) => entry,

@@ -66,7 +66,7 @@ set_there (x ∷ xs) (suc i) f h = set_there xs i f (omega arith)
 
 -- a stack whose top is this frame, at this place among its frames
 abbrev pub with_frame : Stack → ℕ → Frame → Stack
-with_frame s i f = record { root = s.root; eval = s.eval; depth = s.depth; beta = s.beta; frames = set s.frames i f; height = i; keeps_replies = s.keeps_replies }
+with_frame s i f = record { root = s.root; eval = s.eval; depth = s.depth; beta = s.beta; frames = set s.frames i f; height = i }
 
 pub top_with : (s : Stack) (i : ℕ) (f : Frame) → i < length s.frames → IsTop (with_frame s i f) f
 top_with s i f h = set_there s.frames i f h

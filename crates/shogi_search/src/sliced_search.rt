@@ -20,7 +20,9 @@ use std::marker::Model;
 
 /// A search of a position under an evaluation at a depth, for its value below a bound. It makes its
 /// steps in slices, and each slice may be given another memo. A step enters a node, leaves a node,
-/// or has a child answered by the memo.
+/// or has a child answered by the memo. A node of depth 2 or more for which the memo has no move to
+/// visit first visits first the best move of the node that was searched before in its place, or the
+/// move that cut that one off, if it is legal.
 #[derive(Drop)]
 pub struct Search {
     stack: Stack,
@@ -75,8 +77,8 @@ impl Search {
         Search::start_below(p, e, d, INFINITY)
     }
 
-    /// The same, which finds the value and the best move only where the value is less than `beta`,
-    /// from -30,999 to 31,000. Otherwise it finds a number from `beta` on that is no more than the
+    /// The same below `beta`, from -30,999 to 31,000: it finds the value and the best move only where
+    /// the value is less than `beta`, and otherwise a number from `beta` on that is no more than the
     /// value.
     pub fn start_below(p: &Position, e: Eval, d: u8, beta: i32) -> Self
         requires shallow { d ≤ SEARCH_DEPTH_MAX }
@@ -92,7 +94,6 @@ impl Search {
                 beta,
                 frames: [Frame::default(); 17],
                 height: 0,
-                keeps_replies: false,
             },
             started: false,
             steps: 0,
@@ -106,13 +107,11 @@ impl Search {
         ensures { self.new ≡ untouched p.now e d }
     {
         self.restart_below(p, e, d, INFINITY);
-        self.stack.keeps_replies = false;
     }
 
-    /// Begins anew, as `start_below` does, in the room of this search. A node of depth 2 or more for
-    /// which the memo has no move to visit first has the best move of the node that was searched
-    /// before in its place, or the move that cut that one off, if it is legal. For the root that was
-    /// the root of this search.
+    /// Begins anew, as `start_below` does, in the room of this search. What refuted a move in the
+    /// search before is tried first in this one, so that it may take other steps than one that is
+    /// started.
     pub fn restart_below(&mut self, p: &Position, e: Eval, d: u8, beta: i32)
         requires shallow { d ≤ SEARCH_DEPTH_MAX }
         requires open { negated INFINITY <ℤ beta }
@@ -123,7 +122,6 @@ impl Search {
         self.stack.eval = e;
         self.stack.depth = d;
         self.stack.beta = beta;
-        self.stack.keeps_replies = true;
         self.started = false;
         self.steps = 0;
         self.found = None;

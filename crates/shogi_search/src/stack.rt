@@ -27,10 +27,6 @@ pub struct Stack {
     pub beta: i32,
     pub frames: [Frame; 17],
     pub height: usize,
-    /// Set where a node of depth 2 or more that has no hash move visits first the best move of the
-    /// node that stood in its place before, or the move that cut that one off: what refutes one move
-    /// of a position often refutes the next one.
-    pub keeps_replies: bool,
 }
 
 /// Whether an entry says enough for a window.
@@ -175,14 +171,14 @@ fn visit_leaf<M: Memo>(top: &mut Frame, current: &Move, memo: &mut M, room: u64)
 
 impl Stack {
     /// The best move of the node that stood in the place of the one on top before, or the move that
-    /// cut it off, where such moves are kept for the next node and its depth is 2 or more.
+    /// cut it off, for a node of depth 2 or more: what refutes one move of a position often refutes
+    /// the next one.
     pub fn kept_reply(&self, depth: u8) -> Option<Move>
         requires room { self.now.height ≤ SEARCH_DEPTH_MAX }
-        ensures none { self.now.keeps_replies ≡ false → result ≡ None }
         ensures shallow { depth < 2 → result ≡ None }
         ensures some { IfSome result (λ m. OnTop self.now (λ top. top.best_move ≡ Some m)) }
     {
-        if self.keeps_replies && depth > 1 {
+        if depth > 1 {
             self.frames[self.height].best_move
         } else {
             None
