@@ -11,7 +11,7 @@ use Rattle.shogi_core.specs.Position.{Shogi}
 use Rattle.shogi_moves.specs.Captures.{matches_kind}
 use Rattle.shogi_moves.specs.LegalMoves.{legal_from}
 use Rattle.shogi_moves.specs.Rising.{is_in}
-use Rattle.shogi_moves.specs.Sweeps.{matching_from}
+use Rattle.shogi_moves.specs.Sweeps.{matching_from, IsPassed}
 use Rattle.shogi_moves.proofs.SweepLaws.{no_captures}
 use Rattle.shogi_search.specs.Order.{is_hash_move, matches_other, matching_others_from}
 
@@ -46,6 +46,27 @@ other-none p hash_move capture xs e = filter-both p hash_move capture xs ∙ ap 
 -- what matches from one code on as from another does so without the remembered move
 pub other-same : (p : Shogi) (hash_move : Option Move) (capture : Bool) (xs ys : List ℕ) → filter (matches_kind p capture) xs ≡ filter (matches_kind p capture) ys → filter (matches_other p hash_move capture) xs ≡ filter (matches_other p hash_move capture) ys
 other-same p hash_move capture xs ys e = filter-both p hash_move capture xs ∙ ap (filter (λ n. not (is_hash_move hash_move n))) e ∙ sym (filter-both p hash_move capture ys)
+
+-- what is passed of a list is passed of what a test keeps of it
+passed_none : (fact : ℕ → Type 0) (xs : List ℕ) → IsPassed fact xs xs
+passed_none fact [] = refl
+passed_none fact (m ∷ xs) = inl refl
+
+passed_filter : (fact : ℕ → Type 0) (t : ℕ → Bool) (xs ys : List ℕ) → IsPassed fact xs ys → IsPassed fact (filter t xs) (filter t ys)
+passed_filter fact t [] ys h = ap (filter t) h
+passed_filter fact t (m ∷ xs) ys h = elim h [
+  | inl same ↦ subst (λ (zs : List ℕ). IsPassed fact (filter t (m ∷ xs)) (filter t zs)) same (passed_none fact (filter t (m ∷ xs)))
+  | inr more ↦ cond_both (t m) (m ∷ filter t xs) (filter t xs) (λ (zs : List ℕ). IsPassed fact zs (filter t ys)) (λ _. inr (more.0, passed_filter fact t xs ys more.1)) (λ _. passed_filter fact t xs ys more.1)
+]
+
+pub passed_others : (fact : ℕ → Type 0) (p : Shogi) (hash_move : Option Move) (first code : ℕ) → IsPassed fact (matching_from p false first) (matching_from p false code) → IsPassed fact (matching_others_from p hash_move false first) (matching_others_from p hash_move false code)
+passed_others fact p hash_move first code h =
+    let t : ℕ → Bool = λ (n : ℕ). not (is_hash_move hash_move n) in
+    subst (λ (xs : List ℕ). IsPassed fact xs (matching_others_from p hash_move false code)) (sym (filter-both p hash_move false (legal_from p first)))
+    (subst (λ (ys : List ℕ). IsPassed fact (filter t (matching_from p false first)) ys) (sym (filter-both p hash_move false (legal_from p code)))
+    (passed_filter fact t (matching_from p false first) (matching_from p false code) h))
+
+pub ruleset passing_others = (passed_others)
 
 -- drops take nothing
 pub no_drop_taken : (p : Shogi) (hash_move : Option Move) → matching_others_from p hash_move true FIRST_DROP ≡ []

@@ -96,24 +96,22 @@ TakesFromSweep p picked old new = IsNextOf picked (todo p old) (todo p new) (tod
 abbrev pub TakesFirst : Shogi → Option Move → List ℕ → MovePicker → Type 0
 TakesFirst p picked codes new = TakesNext picked codes (todo p new)
 
--- the moves that take nothing are under way, from a code on, and no remembered move is left out of them
+-- the moves that take nothing are under way, from a code on
 abbrev pub IsAtQuiets : MovePicker → ℕ → Type 0
 IsAtQuiets (HashMove f) code = ⊥
 IsAtQuiets (Start hash_move) code = ⊥
 IsAtQuiets (Captures hash_move s) code = ⊥
-IsAtQuiets (Quiets None s) code = s.code ≡ code
-IsAtQuiets (Quiets (Some f) s) code = ⊥
+IsAtQuiets (Quiets hash_move s) code = s.code ≡ code
 IsAtQuiets (Drops hash_move s) code = ⊥
 IsAtQuiets Done code = ⊥
 
--- the drops of a kind are under way, from a code on, and no remembered move is left out of them
+-- the drops of a kind are under way, from a code on
 abbrev pub IsAtDrops : MovePicker → Kind → ℕ → Type 0
 IsAtDrops (HashMove f) kind code = ⊥
 IsAtDrops (Start hash_move) kind code = ⊥
 IsAtDrops (Captures hash_move s) kind code = ⊥
 IsAtDrops (Quiets hash_move s) kind code = ⊥
-IsAtDrops (Drops None s) kind code = (s.kind ≡ kind) × (s.code ≡ code)
-IsAtDrops (Drops (Some f) s) kind code = ⊥
+IsAtDrops (Drops hash_move s) kind code = (s.kind ≡ kind) × (s.code ≡ code)
 IsAtDrops Done kind code = ⊥
 
 -- where the moves that take nothing are under way, some of them are passed that surely have a reply

@@ -167,21 +167,20 @@ impl MovePicker {
         None
     }
 
-    /// The code to continue from where the moves that take nothing are under way, and none of them is
-    /// left out.
+    /// The code to continue from where the moves that take nothing are under way, and the present
+    /// piece can promote by none of them.
     pub fn quiets(&self) -> Option<u16>
         ensures { IfSome result (IsAtQuiets self.now) }
     {
         match self {
-            MovePicker::Quiets(None, sweep) if sweep.destinations.promoting == 0 => Some(
-                sweep.code,
-            ),
+            MovePicker::Quiets(_, sweep) if sweep.destinations.promoting == 0 => Some(sweep.code),
             _ => None,
         }
     }
 
     /// Passes the next moves to visit, as long as they take nothing, do not promote, and the other
     /// side surely has a legal move after them.
+    #[tactic(auto, using(crate::proofs::MatchingOthers::passing_others))]
     pub fn pass_quiets(&mut self, p: &Position, replies: &Replies, escapes: u128)
         requires kept { IsKept p.now self.old }
         requires replies { IsReplies p.now replies.now.sight replies.now.spare }
@@ -189,24 +188,24 @@ impl MovePicker {
         ensures kept { IsKept p.now self.new }
         ensures passed { PassesQuiets p.now self.old self.new }
     {
-        if let MovePicker::Quiets(None, sweep) = self {
+        if let MovePicker::Quiets(_, sweep) = self {
             sweep.pass_quiets(p, replies, escapes);
         }
     }
 
-    /// The kind whose drops are under way, where none of them is left out, and the code to continue
-    /// from.
+    /// The kind whose drops are under way, and the code to continue from.
     pub fn drops(&self) -> Option<(Kind, u16)>
         ensures { IfSome result (λ drops. IsAtDrops self.now drops.0 drops.1) }
     {
         match self {
-            MovePicker::Drops(None, sweep) => Some((sweep.kind, sweep.code)),
+            MovePicker::Drops(_, sweep) => Some((sweep.kind, sweep.code)),
             _ => None,
         }
     }
 
     /// Passes the next moves to visit, as long as they are drops of the kind that is under way and
     /// the other side surely has a legal move after them.
+    #[tactic(auto, using(crate::proofs::MatchingOthers::passing_others))]
     pub fn pass_drops(&mut self, p: &Position, replies: &Replies, escapes: u128)
         requires kept { IsKept p.now self.old }
         requires replies { IsReplies p.now replies.now.sight replies.now.spare }
@@ -214,7 +213,7 @@ impl MovePicker {
         ensures kept { IsKept p.now self.new }
         ensures passed { PassesDrops p.now self.old self.new }
     {
-        if let MovePicker::Drops(None, sweep) = self {
+        if let MovePicker::Drops(_, sweep) = self {
             sweep.pass_certain(p, replies, escapes);
         }
     }
