@@ -35,7 +35,7 @@ fn unattacked(board: &Board, by: Color, squares: u128) -> u128
 /// One of the squares that the side does not attack, if there is one.
 fn first_unattacked(board: &Board, by: Color, squares: u128) -> u128
     requires { squares < 2 ^ 81 }
-    ensures squares { (n : ℕ) → n < 81 → has_bit result n ≡ true → has_bit squares n ≡ true }
+    ensures squares { IsWithin result squares }
     ensures safe { (n : ℕ) → n < 81 → has_bit result n ≡ true
         → is_attacked board.now by n ≡ false }
     ensures fits { result < 2 ^ 81 }

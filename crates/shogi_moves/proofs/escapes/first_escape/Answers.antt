@@ -11,7 +11,7 @@ first_unattacked-requires c = and_fits c.king_steps.result c.args.among c.king_s
 pub returns : goal.returns
 returns c = found_escapes c.args.p.now c.king_steps.result c.first_unattacked.result c.validity.ensures c.king_steps.ensures
     (λ n h e. (
-      (and_parts _ _ (sym (has_bit-and c.king_steps.result c.args.among n) ∙ c.first_unattacked.ensures.squares n h e)).0,
+      (and_parts _ _ (sym (has_bit-and c.king_steps.result c.args.among n) ∙ c.first_unattacked.ensures.squares n e)).0,
       (rw (c.side.ensures, c.as_board.ensures) at c.first_unattacked.ensures.safe) n h e,
     ))
     c.first_unattacked.ensures.fits

@@ -8,7 +8,7 @@ use Rattle.shogi_moves.proofs.EscapeLaws.{one_square}
 use Rattle.shogi_moves.proofs.escapes.first_unattacked.Goals as goal
 
 pub returns-then-not-is_attacked-clause-squares : goal.returns-then-not-is_attacked-clause-squares
-returns-then-not-is_attacked-clause-squares c = λ n h e. (one_square c.args.squares c.with.result c.lowest-square.result n c.with.ensures e).0
+returns-then-not-is_attacked-clause-squares c = λ n e. (one_square c.args.squares c.with.result c.lowest-square.result n c.with.ensures e).0
 
 pub returns-then-not-is_attacked-clause-safe : goal.returns-then-not-is_attacked-clause-safe
 returns-then-not-is_attacked-clause-safe c = λ n h e. (
@@ -19,7 +19,7 @@ pub returns-then-not-is_attacked-clause-fits : goal.returns-then-not-is_attacked
 returns-then-not-is_attacked-clause-fits c = and_fits c.args.squares c.with.result c.requires
 
 pub returns-clause-squares : goal.returns-clause-squares
-returns-clause-squares c = λ n h e. absurd (both_ways (has_bit 0 n) (has_bit-none n) e)
+returns-clause-squares c = λ n e. absurd (both_ways (has_bit 0 n) (has_bit-none n) e)
 
 pub returns-clause-safe : goal.returns-clause-safe
 returns-clause-safe c = λ n h e. absurd (both_ways (has_bit 0 n) (has_bit-none n) e)
