@@ -1,8 +1,8 @@
-use Rattle.std.proofs.Common.{◌≡◌, ap, ◌∙◌, rules, false, []}
+use Rattle.std.proofs.Common.{◌≡◌, ap, ◌∙◌, arith, refl, rules, false, []}
 use Rattle.usi_lines.specs.Lines.{ahead}
 use Rattle.usi_session.specs.Due.{SessionView}
 use Rattle.usi_session.proofs.Steps.{due_reported, due_ends, load_reported, pending_alive}
-use Rattle.usi_session.proofs.WholeReplies.{reported_whole, end_whole}
+use Rattle.usi_session.proofs.WholeReplies.{grows_by_none, reported_whole, end_whole}
 use Rattle.usi_session.proofs.session.Session.report_next.Goals as goal
 
 pub returns-then-not-is_last-clause-due : goal.returns-then-not-is_last-clause-due
@@ -35,3 +35,20 @@ returns-clause-grown g c =
       after_is = search rules;
       whole = end_whole c.self.inside.state c.report.new.out.items c.write_or_hold.new.out.items c.bestmove.result (search rules) (search rules);
     })
+
+-- the line was not written: nothing changed
+pub returns-in_err-report : goal.returns-in_err-report
+returns-in_err-report g c =
+    rw (← c.self.view_is, c.in-Some.is) (record { due = λ x. refl; after = λ x. refl; load = omega arith; fewer = search rules; grown = grows_by_none _; err = search rules })
+
+pub returns-in_err-push : goal.returns-in_err-push
+returns-in_err-push g c =
+    rw (← c.self.view_is, c.in-Some.is, c.in_err-push.ensures.err) (record { due = λ x. refl; after = λ x. refl; load = omega arith; fewer = search rules; grown = grows_by_none _; err = search rules })
+
+pub returns-in_err-write_or_hold : goal.returns-in_err-write_or_hold
+returns-in_err-write_or_hold g c =
+    rw (← c.self.view_is, c.in-Some.is) (record { due = λ x. refl; after = λ x. refl; load = omega arith; fewer = search rules; grown = grows_by_none _; err = search rules })
+
+pub returns-in_err-push-2 : goal.returns-in_err-push-2
+returns-in_err-push-2 g c =
+    rw (← c.self.view_is, c.in-Some.is, c.in_err-push-2.ensures.err) (record { due = λ x. refl; after = λ x. refl; load = omega arith; fewer = search rules; grown = grows_by_none _; err = search rules })
