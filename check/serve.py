@@ -720,6 +720,28 @@ def it_ends_after_its_turns():
         want(os.path.exists(running.path), True, "the socket's file stays")
 
 
+def each_turn_answers_one_line_of_each():
+    """The first turn finds nobody. Two clients wait before the next one, which takes them in and answers a line
+    of each; one of them has sent them all at once."""
+    answers = b"readyok\n", USI, GO_DEPTH_ONE, b""
+    for turns in range(2, 6):
+        with folder() as place:
+            running = Host(place, "--turns", str(turns))
+            time.sleep(0.2)
+            running.running.send_signal(signal.SIGSTOP)
+            many, one = running.connect(), running.connect()
+            many.sendall(b"isready\nusi\ngo depth 1\nisready")
+            one.sendall(b"isready\n")
+            running.running.send_signal(signal.SIGCONT)
+            want(running.running.wait(PATIENCE), 0, "the status")
+            said = b"".join(answers[: turns - 1])
+            want(to_the_end(many), said, f"who sent many lines, after {turns} turns")
+            want(to_the_end(one), b"readyok\n", f"who sent one, after {turns} turns")
+            many.close()
+            one.close()
+            want(running.stop(), (b"", b""), "what it wrote")
+
+
 def the_mode_of_the_socket_is_the_umask():
     with host(preexec_fn=lambda: os.umask(0o117)) as running:
         want(oct(os.stat(running.path).st_mode & 0o777), "0o660", "the file's mode")
@@ -785,6 +807,16 @@ def want_of_memory_is_told():
 
 
 def words_of_serve():
+    with folder() as place:
+        spaced = os.path.join(place, "a b")
+        os.mkdir(spaced)
+        running = Host(spaced, "--turns", "18446744073709551615")
+        try:
+            want(running.ask(b"isready\n"), b"readyok\n", "a path with a space")
+        finally:
+            running.stop()
+    with host("--slots=1024", "--entries=7", "--slice=1") as running:
+        want(running.ask(b"go\n"), DEPTH_THREE, "numbers after `=`")
     for words in (
         [],
         ["--socket"],
@@ -830,6 +862,7 @@ CHECKS = (
     a_registration_that_is_refused_while_others_wait,
     signals_are_no_fault,
     it_ends_after_its_turns,
+    each_turn_answers_one_line_of_each,
     the_mode_of_the_socket_is_the_umask,
     a_socket_that_cannot_be_made_is_told,
     want_of_memory_is_told,

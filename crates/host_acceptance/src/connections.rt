@@ -13,3 +13,5 @@ mod random;
 mod recording;
 #[cfg(test)]
 mod scene;
+#[cfg(test)]
+mod sockets;

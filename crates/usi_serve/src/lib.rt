@@ -1,8 +1,6 @@
 //! The sessions of a host on a Unix socket.
 #![tactic(auto)]
 
-#[cfg(test)]
-mod assertions;
 mod kept;
 mod laws;
 mod serving;
@@ -11,6 +9,3 @@ mod sockets;
 pub use laws::{answers_as_alone, isolation};
 pub use serving::serve;
 pub use sockets::MioWire;
-
-#[cfg(test)]
-mod tests;

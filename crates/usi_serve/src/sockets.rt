@@ -342,6 +342,3 @@ impl<A: Allocator + Copy> Wire for MioWire<A> {
         self.failed
     }
 }
-
-#[cfg(test)]
-mod tests;
