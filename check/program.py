@@ -85,8 +85,13 @@ def stdio_is_the_same():
 
 
 def the_table_may_have_one_entry_or_a_million():
-    for entries in ("1", "1000000"):
-        want(run(["stdio", "--entries", entries], b"go\n"), (0, DEPTH_THREE, b""), entries)
+    for words in (
+        ["--entries", "1"],
+        ["--entries=1000000"],
+        ["--entries", "4097"],
+        ["--entries", "007"],
+    ):
+        want(run(["stdio", *words], b"go\n"), (0, DEPTH_THREE, b""), f"{words}")
 
 
 def a_last_line_without_its_end_is_no_line():
@@ -94,28 +99,61 @@ def a_last_line_without_its_end_is_no_line():
 
 
 def a_line_that_is_too_long_ends_the_session():
-    sent = b"x" * 65_536 + b"\nisready\n"
-    want(run([], sent), (0, b"info string line too long\n", b""), "a line that is too long")
+    """The longest line has 65,535 bytes, a CR before its LF among them."""
+    too_long = b"info string line too long\n"
+    for length, ending, answer in (
+        (65_535, b"\nisready\n", b"readyok\n"),
+        (65_534, b"\r\nisready\n", b"readyok\n"),
+        (65_536, b"\nisready\n", too_long),
+        (65_536, b"isready\n", too_long),
+        (65_535, b"\r\nisready\n", too_long),
+        (65_536, b"", too_long),
+        (65_535, b"", b""),
+    ):
+        want(run([], b"x" * length + ending), (0, answer, b""), f"{length} bytes and {ending}")
+
+
+# What each command's help has, and what its long one has besides. The numbers are those of docs/PROTOCOL.md.
+TABLE = (b"--entries", b"from 1 to 1000000", b"[default: 4096]")
+SLICES = (
+    b"--slots",
+    b"from 1 to 1024",
+    b"[default: 64]",
+    b"--slice",
+    b"from 1 to 1000000000",
+    b"[default: 1000]",
+)
+SOCKET = (b"--socket", b"1 to 107 bytes", b"--turns", b"from 1 to 18446744073709551615")
+SCRIPT = (b"+A ", b"A TEXT", b"-A ", b"refused 1", b"3  ", b"usi_host replay --slots 2")
+HELPS = (
+    (
+        [],
+        (b"stdio", b"replay", b"serve", b"--version", b"COMMAND --help"),
+        (b"0  ", b"1  ", b"2  ", b"3  ", b"usi_host stdio --entries 100000\n"),
+    ),
+    (["stdio"], TABLE, (b"0  ", b"1  ", b"usi_host stdio --entries 100000")),
+    (["replay"], TABLE + SLICES, SCRIPT),
+    (
+        ["serve"],
+        TABLE + SLICES + SOCKET,
+        (b"host full", b"1  ", b"usi_host serve --socket"),
+    ),
+)
 
 
 def help_is_no_fault():
     """Each command has a short help with its options, and a long one with statuses and examples too."""
-    for command, options in (
-        ([], [b"stdio", b"replay", b"serve", b"--version"]),
-        (["stdio"], [b"--entries"]),
-        (["replay"], [b"--slots", b"--entries", b"--slice"]),
-        (["serve"], [b"--socket", b"--slots", b"--entries", b"--slice", b"--turns"]),
-    ):
+    for command, in_both, in_long in HELPS:
         texts = []
         for words in ([*command, "-h"], [*command, "--help"], ["help", *command]):
             status, text, complaints = run(words)
             want((status, complaints), (0, b""), f"{words}")
-            for option in options:
-                if option not in text:
-                    raise Wrong(f"{words}: no {option} in {text!r}")
+            for part in in_both:
+                if part not in text:
+                    raise Wrong(f"{words}: no {part} in {text!r}")
             texts.append(text)
         want(texts[2], texts[1], f"help {command}")
-        for part in (b"Exit statuses:", b"Example"):
+        for part in (*in_long, b"Exit statuses:", b"Example"):
             want((part in texts[0], part in texts[1]), (False, True), f"{part} for {command}")
 
 
@@ -133,10 +171,14 @@ def the_version_is_no_fault():
 def other_words_are_refused():
     for words in (
         ["sdtio"],
+        ["go"],
+        ["serve"],
         ["--entries", "1"],
         ["stdio", "--entries"],
         ["stdio", "--entries", "0"],
         ["stdio", "--entries", "1000001"],
+        ["stdio", "--entries", "18446744073709551616"],
+        ["stdio", "--entries", "1", "--entries", "2"],
         ["stdio", "--entries", "-1"],
         ["stdio", "--entries", "many"],
         ["stdio", "1"],
@@ -148,6 +190,7 @@ def other_words_are_refused():
         ["replay", "--entries", "1000001"],
         ["replay", "--slice", "0"],
         ["replay", "--slice", "1000000001"],
+        ["replay", "--slots", "1", "--slots", "2"],
     ):
         is_refused(words, POINTER)
     for words in (["stdio", "--version"], ["serve", "--socket", "s", "-V"], ["version"], ["-v"]):
@@ -167,8 +210,10 @@ def a_number_with_a_sign_is_refused():
         ["stdio", "--entries", "+5"],
         ["replay", "--slots", "+5"],
         ["replay", "--slice=+5"],
+        ["replay", "--slots", "5", "--slice", "+05"],
         ["serve", "--socket", "s", "--slots", "+5"],
         ["serve", "--socket", "s", "--turns", "+05"],
+        ["serve", "--socket", "+5", "--turns", "+5"],
     ):
         want(run(words), (2, b"", said), f"{words}")
 
@@ -359,6 +404,55 @@ def neither_entries_nor_slices_change_a_replay():
             want(run(words, script), (0, output, b""), f"{words}")
 
 
+def numbers_of_a_replay():
+    """Of three names those are refused for which there is no slot."""
+    script = b"+A\n+B\n+C\n"
+    for words, slots in (
+        ([], 64),
+        (["--slots", "2", "--slice", "1"], 2),
+        (["--slice=1000000000"], 64),
+        (["--slots", "1024"], 1_024),
+        (["--entries", "1000000"], 64),
+        (["--slice", "7", "--entries", "1", "--slots", "1"], 1),
+    ):
+        output = b"".join(
+            b"== %c\n" % name + b"refused 1\n" * (place >= slots)
+            for place, name in enumerate(b"ABC")
+        )
+        want(run(["replay", *words], script), (0, output, b""), f"{words}")
+
+
+def every_letter_is_a_name():
+    """With 25 slots the last one is refused."""
+    names = [bytes([letter]) for letter in range(ord("A"), ord("Z") + 1)]
+    script = b"".join(b"+%s\n" % name for name in names)
+    script += b"".join(b"%s isready\n" % name for name in names)
+    answers = [b"== %s\nreadyok\n" % name for name in names]
+    for slots, last in (("26", answers[-1]), ("25", b"== Z\nrefused 1\n")):
+        output = b"".join(answers[:-1]) + last
+        want(run(["replay", "--slots", slots], script), (0, output, b""), f"{slots} slots")
+
+
+def a_slot_serves_a_thousand_sessions():
+    script = b"+A\nA isready\n-A\n" * 1_000
+    for slice_ in ("1", "1000"):
+        words = ["replay", "--slots", "1", "--entries", "1", "--slice", slice_]
+        want(run(words, script), (0, b"== A\nreadyok\n" * 1_000, b""), f"{words}")
+
+
+def the_longest_line_of_a_script():
+    """A text of 65,533 bytes makes it; one byte more is too long, ended or not. Unfinished it is no line."""
+    longest = b"+A\nA " + b"x" * 65_533
+    bad = (3, b"", b"usi_host: bad script line 2\n")
+    for ending, seen in (
+        (b"\nA isready\n", (0, b"== A\nreadyok\n", b"")),
+        (b"", (0, b"== A\n", b"")),
+        (b"\r", bad),
+        (b"\r\nA isready\n", bad),
+    ):
+        want(run(["replay"], longest + ending), seen, f"the longest line and {ending}")
+
+
 def each_session_has_an_evaluation_of_its_own():
     """Under `Hand` a piece in hand is worth a tenth more: the pawn that is taken for one counts 110 where it
     is held, and 100 where it was lost."""
@@ -506,6 +600,10 @@ CHECKS = (
     a_file_is_as_good_as_a_pipe,
     a_replay_writes_what_its_sessions_reply,
     neither_entries_nor_slices_change_a_replay,
+    numbers_of_a_replay,
+    every_letter_is_a_name,
+    a_slot_serves_a_thousand_sessions,
+    the_longest_line_of_a_script,
     each_session_has_an_evaluation_of_its_own,
     several_lines_are_ranked,
     several_lines_come_as_they_are_found,

@@ -1,6 +1,6 @@
 //! A host as the tests of this crate see it: its contracts, and what they say of its table, stay within.
 
-use host_core::{Event, Host, HostFault, Outcome, Round};
+use host_core::{Event, Host, HostFault, Outcome};
 use session_slots::SessionId;
 use std::alloc::Global;
 use std::hash::{BuildHasherDefault, FoldHasher};
@@ -93,12 +93,6 @@ impl TestHost {
         assert_gave(rt, &self.host.step(Event::Take(id, text.len())), text)
     }
 
-    /// The same by a run.
-    pub fn run_takes<R: Abort>(&mut self, rt: &R, id: SessionId, text: &str) -> Result<(), Fail> {
-        let outcomes = self.host.run(&[Event::Take(id, text.len())])?;
-        assert_gave(rt, outcomes.as_slice().first().ok_or("one outcome")?, text)
-    }
-
     /// Ends the test where the queued bytes of a session are others.
     pub fn output_is<R: Abort>(&self, rt: &R, id: SessionId, bytes: &[u8]) {
         holds!(*rt; self.host.output(id) == Some(bytes), id);
@@ -120,15 +114,6 @@ impl TestHost {
         }
     }
 
-    /// One work for each session that is pending.
-    pub fn round(&mut self, budget: u64) -> Round {
-        self.host.round(budget)
-    }
-
-    pub fn pass(&mut self, id: SessionId, n: usize) -> Result<(), HostFault> {
-        self.host.pass(id, n)
-    }
-
     pub fn output(&self, id: SessionId) -> Option<&[u8]> {
         self.host.output(id)
     }
@@ -139,9 +124,5 @@ impl TestHost {
 
     pub fn wants_input(&self, id: SessionId) -> bool {
         self.host.wants_input(id)
-    }
-
-    pub fn is_over(&self, id: SessionId) -> bool {
-        self.host.is_over(id)
     }
 }

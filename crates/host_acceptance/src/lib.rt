@@ -1,5 +1,5 @@
-//! Tests of hosts of many sessions, of the loop that serves them to connections, of scripts, and of the
-//! words of the command line.
+//! Tests of hosts of many sessions, of the loop that serves them to connections, of the wire over a socket,
+//! and of scripts.
 #![tactic(auto)]
 
 #[cfg(test)]
@@ -11,9 +11,3 @@ mod host;
 mod hosts;
 #[cfg(test)]
 mod scripts;
-#[cfg(test)]
-mod slots;
-#[cfg(test)]
-mod turns;
-#[cfg(test)]
-mod words;

@@ -1,4 +1,4 @@
-//! Scripts of many sessions, and streams and memory that fail under them.
+//! Scripts of many sessions, read and written by streams that fail.
 
 use std::alloc::Global;
 use std::process::Abort;
@@ -9,109 +9,32 @@ use test_support::tables::{refused_and_again, two_sessions};
 use test_support::{holds, same};
 use usi_replay::{ReplayFault, replay};
 
-// What a replay with these numbers writes.
-fn replayed(
-    rt: &impl Abort,
-    alloc: Global,
-    script: &[u8],
-    slots: usize,
-    entries: usize,
-    slice: u64,
-) -> Result<Vec<u8>, Fail> {
-    assert!(rt; slots >= 1 && slots <= 1024);
-    assert!(rt; entries >= 1 && entries <= 1_000_000 && slice >= 1);
-    let mut reader = script;
+// A reader that fails after so many reads, the one that finds the end too: nothing was written. Returns whether
+// all was.
+fn assert_read(rt: &impl Abort, alloc: Global, reads: usize) -> Result<bool, Fail> {
+    let script = two_sessions();
+    let output = joined(alloc, script.output)?;
+    let mut reader = FailingReader::new(script.text.as_bytes(), 5, reads);
     let mut writer = Vec::new(alloc);
-    same!(*rt; replay(alloc, &mut reader, &mut writer, slots, entries, slice), Ok(()));
-    Ok(writer)
-}
-
-// The first bad line is named, and nothing is written.
-fn assert_bad(rt: &impl Abort, alloc: Global, script: &[u8], line: u64) {
-    let mut reader = script;
-    let mut writer = Vec::new(alloc);
-    same!(*rt; replay(alloc, &mut reader, &mut writer, 1, 4096, 1000), Err(ReplayFault::BadScript { line }), std::str::from_utf8(script).ok());
-    holds!(*rt; writer.is_empty());
-}
-
-// All letters are names. With 25 slots the last one is refused.
-#[test]
-fn every_name(rt: HostRuntime) -> Result<(), Fail> {
-    let (mut script, mut open) = (Vec::new(rt.alloc()), Vec::new(rt.alloc()));
-    for name in b'A'..=b'Z' {
-        script.extend_from_slice(&[b'+', name, b'\n'])?;
+    let ended = replay(alloc, &mut reader, &mut writer, 2, 1, 1000);
+    let written = std::str::from_utf8(writer.as_slice())?;
+    if ended == Ok(()) {
+        same!(*rt; written, output.as_str());
+        return Ok(true);
     }
-    for name in b'A'..=b'Z' {
-        script.extend_from_slice(&[name, b' '])?;
-        script.extend_from_slice(b"isready\n")?;
-        open.extend_from_slice(b"== ")?;
-        open.extend_from_slice(&[name, b'\n'])?;
-        open.extend_from_slice(b"readyok\n")?;
-    }
-    let all = replayed(&rt, rt.alloc(), script.as_slice(), 26, 1, 1000)?;
-    same!(rt; all, open);
-    let most = replayed(&rt, rt.alloc(), script.as_slice(), 25, 1, 1000)?;
-    let last = b"== Z\nrefused 1\n";
-    let front = open.len().saturating_sub(b"== Z\nreadyok\n".len());
-    holds!(rt; most.starts_with(&open[..front]) && most.ends_with(last));
-    same!(rt; most.len(), front.saturating_add(last.len()));
-    Ok(())
+    same!(*rt; ended, Err(ReplayFault::ReadFailed), reads);
+    same!(*rt; written, "", reads);
+    Ok(false)
 }
 
-// A text of 65,533 bytes makes the longest line; one byte more is too long, ended or not.
-#[test]
-fn the_longest_line(rt: HostRuntime) -> Result<(), Fail> {
-    let mut longest = b"+A\nA ".to_vec(rt.alloc())?;
-    for _ in 0..65_533usize {
-        longest.push(b'x')?;
-    }
-    let mut whole = longest.clone()?;
-    whole.extend_from_slice(b"\nA isready\n")?;
-    let written = replayed(&rt, rt.alloc(), whole.as_slice(), 1, 1, 1000)?;
-    same!(rt; std::str::from_utf8(written.as_slice())?, "== A\nreadyok\n");
-
-    // Unfinished, it is no line.
-    let written = replayed(&rt, rt.alloc(), longest.as_slice(), 1, 1, 1000)?;
-    same!(rt; std::str::from_utf8(written.as_slice())?, "== A\n");
-
-    longest.push(b'\r')?;
-    assert_bad(&rt, rt.alloc(), longest.as_slice(), 2);
-    longest.extend_from_slice(b"\nA isready\n")?;
-    assert_bad(&rt, rt.alloc(), longest.as_slice(), 2);
-    Ok(())
-}
-
-#[test]
-fn a_thousand_sessions(rt: HostRuntime) -> Result<(), Fail> {
-    let (mut script, mut output) = (Vec::new(rt.alloc()), Vec::new(rt.alloc()));
-    for _ in 0..1000usize {
-        script.extend_from_slice(b"+A\nA isready\n-A\n")?;
-        output.extend_from_slice(b"== A\nreadyok\n")?;
-    }
-    let written = replayed(&rt, rt.alloc(), script.as_slice(), 1, 1, 1)?;
-    same!(rt; written, output);
-    Ok(())
-}
-
-// Each read failing in turn, the one that finds the end too: nothing was written.
 #[test]
 fn each_read_of_a_script_fails_in_turn(rt: HostRuntime) -> Result<(), Fail> {
-    let script = two_sessions();
-    let output = joined(rt.alloc(), script.output)?;
     let (mut failed, mut passed) = (false, false);
     for reads in 0..14usize {
-        let mut reader = FailingReader::new(script.text.as_bytes(), 5, reads);
-        let mut writer = Vec::new(rt.alloc());
-        match replay(rt.alloc(), &mut reader, &mut writer, 2, 1, 1000) {
-            Ok(()) => {
-                passed = true;
-                same!(rt; std::str::from_utf8(writer.as_slice())?, output.as_str());
-            }
-            Err(fault) => {
-                failed = true;
-                same!(rt; fault, ReplayFault::ReadFailed, reads);
-                holds!(rt; writer.is_empty(), reads);
-            }
+        if assert_read(&rt, rt.alloc(), reads)? {
+            passed = true;
+        } else {
+            failed = true;
         }
     }
     holds!(rt; failed && passed, failed);
@@ -138,23 +61,39 @@ fn assert_prefix(rt: &impl Abort, alloc: Global, mut writer: FailingWriter) -> R
     }
 }
 
+// Whether all is written to a writer that takes so many bytes a call, and so many writes and flushes.
+fn is_written(
+    rt: &impl Abort,
+    alloc: Global,
+    most: usize,
+    writes: usize,
+    flushes: usize,
+) -> Result<bool, Fail> {
+    assert_prefix(rt, alloc, FailingWriter::new(alloc, most, writes, flushes))
+}
+
 #[test]
 fn each_write_of_an_output_fails_in_turn(rt: HostRuntime) -> Result<(), Fail> {
     let (mut failed, mut passed) = (false, false);
     for writes in 0..10usize {
-        let writer = FailingWriter::new(rt.alloc(), 32, writes, usize::MAX);
-        if assert_prefix(&rt, rt.alloc(), writer)? {
+        if is_written(&rt, rt.alloc(), 32, writes, usize::MAX)? {
             passed = true;
         } else {
             failed = true;
         }
     }
     holds!(rt; failed && passed, failed);
-    let unflushed = FailingWriter::new(rt.alloc(), 4096, usize::MAX, 0);
-    holds!(rt; !assert_prefix(&rt, rt.alloc(), unflushed)?);
-    let narrow = FailingWriter::new(rt.alloc(), 1, usize::MAX, 1);
-    holds!(rt; assert_prefix(&rt, rt.alloc(), narrow)?);
-    let stalled = FailingWriter::new(rt.alloc(), 0, usize::MAX, usize::MAX);
-    holds!(rt; !assert_prefix(&rt, rt.alloc(), stalled)?);
+    Ok(())
+}
+
+#[test]
+fn writers_of_one_byte_and_of_none(rt: HostRuntime) -> Result<(), Fail> {
+    for (most, writes, flushes, whole) in [
+        (4096usize, usize::MAX, 0usize, false),
+        (1, usize::MAX, 1, true),
+        (0, usize::MAX, usize::MAX, false),
+    ] {
+        same!(rt; is_written(&rt, rt.alloc(), most, writes, flushes)?, whole, most);
+    }
     Ok(())
 }
