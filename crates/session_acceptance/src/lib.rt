@@ -1,22 +1,14 @@
-//! Tests of a session and of the program's streams: what a fresh session is sent, and what it answers.
+//! Tests of a session and of the program's streams, of what no row can say: steps, queues, streams that fail.
 #![tactic(auto)]
 
 #[cfg(test)]
 mod assertions;
 #[cfg(test)]
-mod lines;
-#[cfg(test)]
-mod multipv;
-#[cfg(test)]
-mod plain;
-#[cfg(test)]
-mod ranking;
+mod flushes;
 #[cfg(test)]
 mod rows;
 #[cfg(test)]
 mod session;
-#[cfg(test)]
-mod sessions;
 #[cfg(test)]
 mod slices;
 #[cfg(test)]

@@ -45,10 +45,6 @@ impl TestSession {
         self.session.wants_input()
     }
 
-    pub fn is_over(&self) -> bool {
-        self.session.is_over()
-    }
-
     pub fn output(&self) -> &[u8] {
         self.session.output()
     }

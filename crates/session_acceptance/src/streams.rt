@@ -10,29 +10,6 @@ use test_support::tables::stored;
 use test_support::{holds, same};
 use usi_stdio::{StdioFault, stdio};
 
-// What the streams write for the bytes.
-fn assert_written(rt: &impl Abort, alloc: Global, sent: &[u8], answer: &str) -> Result<(), Fail> {
-    let mut reader = sent;
-    let mut writer = Vec::new(alloc);
-    stdio(alloc, &mut reader, &mut writer, 4096)?;
-    same!(*rt; std::str::from_utf8(writer.as_slice())?, answer);
-    Ok(())
-}
-
-// A line that is too long ends the run before its end is read.
-#[test]
-fn a_line_that_is_too_long(rt: HostRuntime) -> Result<(), Fail> {
-    for (length, answer) in [
-        (65_535usize, "readyok\n"),
-        (65_536, "info string line too long\n"),
-    ] {
-        let mut sent = vec![in rt.alloc(); b'x'; length]?;
-        sent.extend_from_slice(b"\nisready\n")?;
-        assert_written(&rt, rt.alloc(), sent.as_slice(), answer)?;
-    }
-    Ok(())
-}
-
 // What is written answers the bytes.
 fn assert_answers(rt: &impl Abort, alloc: Global, read: &[u8], written: &[u8]) -> Result<(), Fail> {
     let (mut reader, mut wanted) = (read, Vec::new(alloc));
@@ -99,34 +76,33 @@ fn assert_prefix(rt: &impl Abort, alloc: Global, mut writer: FailingWriter) -> R
     }
 }
 
-#[test]
-fn each_write_fails_in_turn(rt: HostRuntime) -> Result<(), Fail> {
+// Writers that fail at each write in turn, or at each flush.
+fn fails_in_turn(rt: &impl Abort, alloc: Global, most: usize, at_flush: bool) -> Result<(), Fail> {
     let (mut failed, mut passed) = (false, false);
-    for writes in 0..40usize {
-        let writer = FailingWriter::new(rt.alloc(), 7, writes, usize::MAX);
-        if assert_prefix(&rt, rt.alloc(), writer)? {
+    for n in 0..40usize {
+        let (writes, flushes) = if at_flush {
+            (usize::MAX, n)
+        } else {
+            (n, usize::MAX)
+        };
+        if assert_prefix(rt, alloc, FailingWriter::new(alloc, most, writes, flushes))? {
             passed = true;
         } else {
             failed = true;
         }
     }
-    holds!(rt; failed && passed, failed);
+    holds!(*rt; failed && passed, failed);
     Ok(())
 }
 
 #[test]
+fn each_write_fails_in_turn(rt: HostRuntime) -> Result<(), Fail> {
+    fails_in_turn(&rt, rt.alloc(), 7, false)
+}
+
+#[test]
 fn each_flush_fails_in_turn(rt: HostRuntime) -> Result<(), Fail> {
-    let (mut failed, mut passed) = (false, false);
-    for flushes in 0..20usize {
-        let writer = FailingWriter::new(rt.alloc(), 4096, usize::MAX, flushes);
-        if assert_prefix(&rt, rt.alloc(), writer)? {
-            passed = true;
-        } else {
-            failed = true;
-        }
-    }
-    holds!(rt; failed && passed, failed);
-    Ok(())
+    fails_in_turn(&rt, rt.alloc(), 4096, true)
 }
 
 #[test]
@@ -136,16 +112,6 @@ fn writers_of_one_byte_and_of_none(rt: HostRuntime) -> Result<(), Fail> {
     let stalled = FailingWriter::new(rt.alloc(), 0, usize::MAX, usize::MAX);
     holds!(rt; !assert_prefix(&rt, rt.alloc(), stalled)?);
     Ok(())
-}
-
-// The second read would fail.
-#[test]
-fn nothing_is_read_after_quit(rt: HostRuntime) -> Result<(), Fail> {
-    let row = stored();
-    let mut reader = FailingReader::new(row.sent.as_bytes(), 4096, 1);
-    let mut writer = Vec::new(rt.alloc());
-    stdio(rt.alloc(), &mut reader, &mut writer, 1)?;
-    assert_answer(&rt, rt.alloc(), &row, writer.as_slice())
 }
 
 // Each chunk with the number of bytes of its answer.
