@@ -66,13 +66,15 @@ impl Server {
         round.worked.saturating_add(round.refused) as u64
     }
 
-    /// Takes so many of the queued bytes, and all of them where there are fewer.
-    fn take(&mut self, id: SessionId, most: usize, taken: &mut Vec<u8>) -> Result<(), AllocError> {
+    /// Takes so many of the queued bytes, and all of them where there are fewer. Where memory runs out
+    /// other bytes are taken.
+    fn take(&mut self, id: SessionId, most: usize, taken: &mut Vec<u8>) {
         let queued = self.host.output(id).unwrap_or(b"").len();
         if let Ok(bytes) = self.host.take(id, queued.min(most)) {
-            taken.extend_from_slice(bytes.as_slice())?;
+            if taken.extend_from_slice(bytes.as_slice()).is_err() {
+                taken.clear();
+            }
         }
-        Ok(())
     }
 
     fn close(&mut self, id: SessionId) -> bool {
@@ -88,23 +90,42 @@ impl Server {
     }
 }
 
+/// Feeds the row to a session that is opened for it.
+fn fed(server: &mut Server, row: &Row, how: &str, found: &mut Found) -> Option<SessionId> {
+    let id = server.open();
+    let is_fed = match id {
+        Some(id) => server.feed(id, row.sent.as_bytes()),
+        None => false,
+    };
+    found.holds(row, how, "no session takes the bytes\n", is_fed);
+    id
+}
+
+/// Takes all that was said to the row.
+fn take_all(
+    alloc: Global,
+    server: &mut Server,
+    row: &Row,
+    id: SessionId,
+    how: &str,
+    found: &mut Found,
+) {
+    let mut taken = Vec::new(alloc);
+    server.take(id, usize::MAX, &mut taken);
+    found.said(row, how, taken.as_slice());
+}
+
 /// All rows at once, each in a session of its own, in rounds of this budget over so many entries.
 fn run_rounds(
     alloc: Global,
     rows: &[Row],
-    entries: usize,
-    budget: u64,
+    (entries, budget): (usize, u64),
     found: &mut Found,
 ) -> Result<(), AllocError> {
     let mut server = Server::new(alloc, rows.len(), entries)?;
     let mut ids = Vec::new(alloc);
     for row in rows {
-        let Some(id) = server.open() else {
-            return found.holds(row, "in a host", "no session is open\n", false);
-        };
-        let fed = server.feed(id, row.sent.as_bytes());
-        found.holds(row, "in a host", "the bytes are refused\n", fed)?;
-        ids.push(id)?;
+        ids.push(fed(&mut server, row, "in a host", found))?;
     }
     for _ in 0..ROUNDS {
         if server.round(budget) == 0 {
@@ -112,9 +133,9 @@ fn run_rounds(
         }
     }
     for (row, id) in rows.iter().zip(ids.as_slice()) {
-        let mut taken = Vec::new(alloc);
-        server.take(*id, usize::MAX, &mut taken)?;
-        found.said(row, "in a host", taken.as_slice())?;
+        if let Some(id) = id {
+            take_all(alloc, &mut server, row, *id, "in a host", found);
+        }
     }
     Ok(())
 }
@@ -123,15 +144,12 @@ fn run_rounds(
 fn run_slot(alloc: Global, rows: &[Row], found: &mut Found) -> Result<(), AllocError> {
     let mut server = Server::new(alloc, 1, 4096)?;
     for row in rows {
-        let Some(id) = server.open() else {
-            return found.holds(row, "in one slot", "no session is open\n", false);
-        };
-        let done = server.feed(id, row.sent.as_bytes()) && server.work(id, u64::MAX);
-        found.holds(row, "in one slot", "it is refused\n", done)?;
-        let mut taken = Vec::new(alloc);
-        server.take(id, usize::MAX, &mut taken)?;
-        found.said(row, "in one slot", taken.as_slice())?;
-        found.holds(row, "in one slot", "it stays open\n", server.close(id))?;
+        if let Some(id) = fed(&mut server, row, "in one slot", found) {
+            let worked = server.work(id, u64::MAX);
+            found.holds(row, "in one slot", "it is refused\n", worked);
+            take_all(alloc, &mut server, row, id, "in one slot", found);
+            found.holds(row, "in one slot", "it stays open\n", server.close(id));
+        }
     }
     Ok(())
 }
@@ -165,50 +183,92 @@ struct Client<'a> {
     taken: Vec<u8>,
 }
 
-/// Stores some bytes, works a little, takes some bytes, or has a round.
-fn act(
-    server: &mut Server,
-    client: &mut Client<'_>,
-    random: &mut Random,
-    found: &mut Found,
-) -> Result<(), AllocError> {
-    let (id, how) = (client.id, "in random order");
-    match random.below(8) {
-        0..=2 => {
-            let sent = client.row.sent.as_bytes();
-            let rest = sent.get(client.stored..).unwrap_or(b"");
-            let chunk = rest.get(..random.below(12) as usize).unwrap_or(rest);
-            if server.feed(id, chunk) {
-                client.stored = client.stored.saturating_add(chunk.len());
-            }
-            Ok(())
+/// How clients in random order are run.
+const IN_RANDOM_ORDER: &str = "in random order";
+
+impl Client<'_> {
+    /// Stores the next bytes, so many at most.
+    fn store(&mut self, server: &mut Server, most: usize) {
+        let sent = self.row.sent.as_bytes();
+        let rest = sent.get(self.stored..).unwrap_or(b"");
+        let chunk = rest.get(..most).unwrap_or(rest);
+        if server.feed(self.id, chunk) {
+            self.stored = self.stored.saturating_add(chunk.len());
         }
-        3..=5 => {
-            let worked = server.work(id, random.below(400));
-            found.holds(client.row, how, "a slice made other steps\n", worked)
-        }
-        6 => server.take(id, random.below(40) as usize, &mut client.taken),
-        _ => {
-            let worked = server.round(random.below(100));
-            found.holds(client.row, how, "a round was of too many\n", worked <= 8)
-        }
+    }
+
+    /// Whether nothing more is said: all was stored, or the session is over, and nothing is pending.
+    fn is_done(&self, server: &Server) -> bool {
+        let ended = self.stored >= self.row.sent.len() || server.is_over(self.id);
+        ended && !server.pending(self.id)
     }
 }
 
-/// Whether the client has its whole answer: all was stored, or its session is over, and nothing is pending.
-/// Then the rest is taken, and what was taken is the answer.
-fn is_served(
+/// Stores some bytes, works a little, takes some bytes, or has a round. What was taken is a prefix of the
+/// answer.
+fn act(server: &mut Server, client: &mut Client<'_>, random: &mut Random, found: &mut Found) {
+    match random.below(8) {
+        0..=2 => client.store(server, random.below(12) as usize),
+        3..=5 => {
+            let worked = server.work(client.id, random.below(400));
+            found.holds(
+                client.row,
+                IN_RANDOM_ORDER,
+                "a slice made other steps\n",
+                worked,
+            );
+        }
+        6 => server.take(client.id, random.below(40) as usize, &mut client.taken),
+        _ => {
+            let few = server.round(random.below(100)) <= 8;
+            found.holds(
+                client.row,
+                IN_RANDOM_ORDER,
+                "a round was of too many\n",
+                few,
+            );
+        }
+    }
+    let is_prefix = client
+        .row
+        .answer
+        .as_bytes()
+        .starts_with(client.taken.as_slice());
+    found.holds(
+        client.row,
+        IN_RANDOM_ORDER,
+        "no prefix of the answer\n",
+        is_prefix,
+    );
+}
+
+/// Whether the client has its whole answer. Then the rest is taken, and what was taken is the answer.
+fn is_served(server: &mut Server, client: &mut Client<'_>, found: &mut Found) -> bool {
+    let done = client.is_done(server);
+    if done {
+        server.take(client.id, usize::MAX, &mut client.taken);
+        found.said(client.row, IN_RANDOM_ORDER, client.taken.as_slice());
+    }
+    done
+}
+
+/// Whether the client leaves: it is served, or it leaves in the middle of its answer.
+fn leaves(
     server: &mut Server,
     client: &mut Client<'_>,
+    random: &mut Random,
+    served: &mut u64,
     found: &mut Found,
-) -> Result<bool, AllocError> {
-    let ended = client.stored >= client.row.sent.len() || server.is_over(client.id);
-    if !ended || server.pending(client.id) {
-        return Ok(false);
+) -> bool {
+    act(server, client, random, found);
+    let done = is_served(server, client, found);
+    *served = served.saturating_add(u64::from(done));
+    if !done && random.below(100) != 0 {
+        return false;
     }
-    server.take(client.id, usize::MAX, &mut client.taken)?;
-    found.said(client.row, "in random order", client.taken.as_slice())?;
-    Ok(true)
+    let closed = server.close(client.id);
+    found.holds(client.row, IN_RANDOM_ORDER, "it stays open\n", closed);
+    true
 }
 
 /// A client with a row by chance, in a session that is opened for it.
@@ -231,60 +291,51 @@ fn next_client<'a>(
 }
 
 /// So many events for so many clients over so many entries, as the seed draws them. Some clients leave in
-/// the middle of their answer, of which they have a prefix.
-fn run_random(
+/// the middle of their answer, of which they have a prefix. Gives how many were served.
+fn served_at_random(
     alloc: Global,
     rows: &[Row],
-    seed: u64,
-    clients: usize,
-    entries: usize,
+    (seed, clients, entries): (u64, usize, usize),
     found: &mut Found,
-) -> Result<(), AllocError> {
+) -> Result<u64, AllocError> {
     let mut random = Random { state: seed };
     let mut server = Server::new(alloc, clients, entries)?;
     let (mut present, mut served) = (Vec::new(alloc), 0u64);
     for _ in 0..EVENTS {
         if present.len() < clients {
-            let Some(client) = next_client(alloc, &mut server, rows, &mut random) else {
-                return Ok(());
-            };
-            present.push(client)?;
+            if let Some(client) = next_client(alloc, &mut server, rows, &mut random) {
+                present.push(client)?;
+            }
         }
         let place = random.below(1000) as usize % present.len().max(1);
-        let Some(client) = present.get_mut(place) else {
-            return Ok(());
-        };
-        act(&mut server, client, &mut random, found)?;
-        let answer = client.row.answer.as_bytes();
-        let is_prefix = answer.starts_with(client.taken.as_slice());
-        found.holds(
-            client.row,
-            "in random order",
-            "no prefix of the answer\n",
-            is_prefix,
-        )?;
-        let done = is_served(&mut server, client, found)?;
-        if done {
-            served = served.saturating_add(1);
-        }
-        if done || random.below(100) == 0 {
-            let closed = server.close(client.id);
-            found.holds(client.row, "in random order", "it stays open\n", closed)?;
-            drop(present.swap_remove(place));
+        if let Some(client) = present.get_mut(place) {
+            if leaves(&mut server, client, &mut random, &mut served, found) {
+                drop(present.swap_remove(place));
+            }
         }
     }
-    match rows.first() {
-        Some(row) => found.holds(row, "in random order", "few were served\n", served >= 20),
-        None => Ok(()),
+    Ok(served)
+}
+
+fn run_random(
+    alloc: Global,
+    rows: &[Row],
+    way: (u64, usize, usize),
+    found: &mut Found,
+) -> Result<(), AllocError> {
+    let served = served_at_random(alloc, rows, way, found)?;
+    if let Some(row) = rows.first() {
+        found.holds(row, IN_RANDOM_ORDER, "few were served\n", served >= 20);
     }
+    Ok(())
 }
 
 pub fn run(alloc: Global, rows: &[Row], found: &mut Found) -> Result<(), AllocError> {
-    for (entries, budget) in [(1, 1), (4096, 1), (4096, 97), (64, 1000)] {
-        run_rounds(alloc, rows, entries, budget, found)?;
+    for way in [(1, 1), (4096, 1), (4096, 97), (64, 1000)] {
+        run_rounds(alloc, rows, way, found)?;
     }
     run_slot(alloc, rows, found)?;
-    for (seed, clients, entries) in [
+    for way in [
         (1u64, 2usize, 1usize),
         (2, 3, 4096),
         (3, 4, 2),
@@ -292,7 +343,7 @@ pub fn run(alloc: Global, rows: &[Row], found: &mut Found) -> Result<(), AllocEr
         (5, 8, 100_000),
         (6, 8, 1),
     ] {
-        run_random(alloc, rows, seed, clients, entries, found)?;
+        run_random(alloc, rows, way, found)?;
     }
     Ok(())
 }

@@ -35,6 +35,9 @@ fn report(rt: &HostRuntime, name: &str, rows: usize, found: &Found) -> io::Resul
     for difference in found.differences() {
         println!(rt; "{name}, {difference}")?;
     }
+    if found.is_short() {
+        println!(rt; "{name}, a difference found no memory")?;
+    }
     let differences = found.differences().len();
     println!(rt; "{name}: {rows} rows, {differences} differences")
 }
@@ -51,7 +54,7 @@ fn run_dialogues(rt: &HostRuntime, name: &str) -> io::Result<()> {
 fn run_scripts(rt: &HostRuntime, name: &str) -> io::Result<()> {
     let (alloc, rows) = (rt.alloc(), rows_of(rt, name)?);
     let mut found = Found::new(alloc);
-    script::run(alloc, rows.as_slice(), &mut found)?;
+    script::run(alloc, rows.as_slice(), &mut found);
     report(rt, name, rows.len(), &found)
 }
 

@@ -20,82 +20,111 @@ const WAYS: [(usize, u64); 5] = [
     (4096, 1_000_000_000),
 ];
 
-/// Runs the script of a row, and compares its output or its first bad line.
-fn run_one(
+/// What a script writes, and the number of its first bad line, 0 where none is bad. None where it ends
+/// otherwise.
+fn played(
     alloc: Global,
-    row: &Row,
-    (script, output): (&str, &str),
+    script: &str,
     slots: usize,
-    found: &mut Found,
-) -> Result<(), AllocError> {
-    for (entries, slice) in WAYS {
-        let mut reader = script.as_bytes();
-        let mut writer = Vec::new(alloc);
-        let ended = replay(
-            alloc,
-            &mut reader,
-            &mut writer,
-            slots.clamp(1, 1024),
-            entries.clamp(1, 1_000_000),
-            slice.max(1),
-        );
-        let bad = match ended {
-            Ok(()) => 0,
-            Err(ReplayFault::BadScript { line }) => line,
-            Err(_) => return Err(AllocError),
-        };
-        found.holds(row, "as a script", "another line is bad\n", bad == row.bad)?;
-        found.is(row, "as a script", output.as_bytes(), writer.as_slice())?;
+    (entries, slice): (usize, u64),
+) -> Option<(Vec<u8>, u64)> {
+    let mut reader = script.as_bytes();
+    let mut writer = Vec::new(alloc);
+    let (slots, entries) = (slots.clamp(1, 1024), entries.clamp(1, 1_000_000));
+    match replay(
+        alloc,
+        &mut reader,
+        &mut writer,
+        slots,
+        entries,
+        slice.max(1),
+    ) {
+        Ok(()) => Some((writer, 0)),
+        Err(ReplayFault::BadScript { line }) => Some((writer, line)),
+        Err(_) => None,
     }
-    Ok(())
+}
+
+/// Runs the script of a row, and compares its output or its first bad line.
+fn run_one(alloc: Global, row: &Row, script: &str, output: &str, slots: usize, found: &mut Found) {
+    for way in WAYS {
+        match played(alloc, script, slots, way) {
+            Some((written, bad)) => {
+                found.holds(row, "as a script", "another line is bad\n", bad == row.bad);
+                found.is(row, "as a script", output.as_bytes(), written.as_slice());
+            }
+            None => found.holds(row, "as a script", "it ended otherwise\n", false),
+        }
+    }
 }
 
 /// Scripts.
-pub fn run(alloc: Global, rows: &[Row], found: &mut Found) -> Result<(), AllocError> {
+pub fn run(alloc: Global, rows: &[Row], found: &mut Found) {
     for row in rows {
-        let texts = (row.sent.as_str(), row.answer.as_str());
-        run_one(alloc, row, texts, row.slots, found)?;
+        let (script, output) = (row.sent.as_str(), row.answer.as_str());
+        run_one(alloc, row, script, output, row.slots, found);
+    }
+}
+
+/// Adds these parts to a text.
+fn push_all(text: &mut String, parts: &[&str]) -> Result<(), AllocError> {
+    for part in parts {
+        text.push_str(part)?;
     }
     Ok(())
 }
 
-/// Adds the line of a session to a script.
-fn push_line(script: &mut String, name: &str, line: &str) -> Result<(), AllocError> {
-    script.push_str(name)?;
-    script.push_str(" ")?;
-    script.push_str(line)
+/// Opens a session for each row.
+fn push_openings(script: &mut String, rows: &[Row]) -> Result<(), AllocError> {
+    for (name, _) in NAMES.iter().zip(rows) {
+        push_all(script, &["+", *name, "\n"])?;
+    }
+    Ok(())
 }
 
-/// The rows as one script, their lines by turns, and its output. A last line without a line feed is no line.
-fn script_of(alloc: Global, rows: &[Row]) -> Result<(String, String), AllocError> {
-    let (mut script, mut output) = (String::new(alloc), String::new(alloc));
-    let mut most = 0usize;
+/// The line of each row that has one at this place; returns whether one has. A last line without a line
+/// feed is no line.
+fn push_lines(script: &mut String, rows: &[Row], place: usize) -> Result<bool, AllocError> {
+    let mut has_line = false;
     for (name, row) in NAMES.iter().zip(rows) {
-        script.push_str(format!(in alloc; "+{name}\n")?.as_str())?;
-        output.push_str(format!(in alloc; "== {name}\n")?.as_str())?;
-        output.push_str(row.answer.as_str())?;
-        most = most.max(row.sent.split_inclusive('\n').count());
-    }
-    for place in 0..most {
-        for (name, row) in NAMES.iter().zip(rows) {
-            if let Some(line) = row.sent.split_inclusive('\n').nth(place) {
-                if line.ends_with('\n') {
-                    push_line(&mut script, name, line)?;
-                }
+        if let Some(line) = row.sent.split_inclusive('\n').nth(place) {
+            if line.ends_with('\n') {
+                push_all(script, &[*name, " ", line])?;
+                has_line = true;
             }
         }
     }
-    Ok((script, output))
+    Ok(has_line)
+}
+
+/// The rows as one script, their lines by turns.
+fn script_of(alloc: Global, rows: &[Row]) -> Result<String, AllocError> {
+    let mut script = String::new(alloc);
+    push_openings(&mut script, rows)?;
+    for place in 0..usize::MAX {
+        if !push_lines(&mut script, rows, place)? {
+            break;
+        }
+    }
+    Ok(script)
+}
+
+/// What the script writes.
+fn output_of(alloc: Global, rows: &[Row]) -> Result<String, AllocError> {
+    let mut output = String::new(alloc);
+    for (name, row) in NAMES.iter().zip(rows) {
+        push_all(&mut output, &["== ", *name, "\n", row.answer.as_str()])?;
+    }
+    Ok(output)
 }
 
 /// Rows of sessions as scripts: each alone, and all by turns, as many at a time as there are names.
 pub fn run_dialogues(alloc: Global, rows: &[Row], found: &mut Found) -> Result<(), AllocError> {
     for size in [1usize, 26] {
         for group in rows.chunks(size) {
-            let (script, output) = script_of(alloc, group)?;
             if let Some(row) = group.first() {
-                let texts = (script.as_str(), output.as_str());
-                run_one(alloc, row, texts, 26, found)?;
+                let (script, output) = (script_of(alloc, group)?, output_of(alloc, group)?);
+                run_one(alloc, row, script.as_str(), output.as_str(), 26, found);
             }
         }
     }

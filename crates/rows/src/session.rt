@@ -18,9 +18,10 @@ type Table = SharedTable<BuildHasherDefault<FoldHasher>, Global>;
 
 /// A session, and the steps that it made. It is fed nothing that it may not be fed.
 #[derive(Drop)]
-pub struct Talk {
+struct Talk {
     session: Session<Global>,
     steps: u64,
+    is_short: bool,
 }
 
 impl Model for Talk {
@@ -30,46 +31,50 @@ impl Model for Talk {
 }
 
 impl Talk {
-    pub fn new(alloc: Global) -> Talk {
+    fn new(alloc: Global) -> Talk {
         Talk {
             session: Session::new(alloc),
             steps: 0,
+            is_short: false,
         }
     }
 
     /// Feeds the bytes, where input is wanted.
-    pub fn feed(&mut self, chunk: &[u8]) -> Result<(), AllocError> {
-        if !self.session.wants_input() || chunk.len() > 4096 {
-            return Ok(());
+    fn feed(&mut self, chunk: &[u8]) {
+        if self.session.wants_input() && chunk.len() <= 4096 {
+            if self.session.feed(chunk).is_err() {
+                self.is_short = true;
+            }
         }
-        self.session.feed(chunk).map_err(|_| AllocError)
     }
 
     /// Works one slice.
-    pub fn work<M: Memo>(&mut self, memo: &mut M, budget: u64) -> Result<(), AllocError> {
-        let Ok(made) = self.session.work(memo, budget) else {
-            return Err(AllocError);
-        };
-        self.steps = self.steps.saturating_add(made);
-        Ok(())
+    fn work<M: Memo>(&mut self, memo: &mut M, budget: u64) {
+        match self.session.work(memo, budget) {
+            Ok(made) => self.steps = self.steps.saturating_add(made),
+            Err(_) => self.is_short = true,
+        }
     }
 
     /// Works in slices of this budget until nothing is pending.
-    pub fn work_off<M: Memo>(&mut self, memo: &mut M, budget: u64) -> Result<(), AllocError> {
+    fn work_off<M: Memo>(&mut self, memo: &mut M, budget: u64) {
         for _ in 0..SLICES {
-            if !self.session.pending() {
+            if !self.pending() {
                 break;
             }
-            self.work(memo, budget)?;
+            self.work(memo, budget);
         }
-        Ok(())
     }
 
-    pub fn pending(&self) -> bool {
-        self.session.pending()
+    fn pending(&self) -> bool {
+        self.session.pending() && !self.is_short
     }
 
-    pub fn output(&self) -> &[u8] {
+    /// What was said. Where memory ran out, another text.
+    fn said(&self) -> &[u8] {
+        if self.is_short {
+            return b"out of memory\n";
+        }
         self.session.output()
     }
 }
@@ -79,16 +84,21 @@ fn table_of(alloc: Global, entries: usize) -> Result<Table, AllocError> {
     SharedTable::new(alloc, entries.clamp(1, 1_000_000), hasher).map_err(|_| AllocError)
 }
 
+/// What the program's streams write, and whether they ended well.
+fn written(alloc: Global, row: &Row, entries: usize) -> (Vec<u8>, bool) {
+    let mut reader = row.sent.as_bytes();
+    let mut writer = Vec::new(alloc);
+    let ended = stdio(alloc, &mut reader, &mut writer, entries.clamp(1, 1_000_000));
+    (writer, ended.is_ok())
+}
+
 /// The row through the streams.
-fn run_streams(alloc: Global, row: &Row, found: &mut Found) -> Result<(), AllocError> {
+fn run_streams(alloc: Global, row: &Row, found: &mut Found) {
     for entries in [1usize, 2, 4096] {
-        let mut reader = row.sent.as_bytes();
-        let mut writer = Vec::new(alloc);
-        let ended = stdio(alloc, &mut reader, &mut writer, entries.clamp(1, 1_000_000));
-        found.holds(row, "through the streams", "they failed\n", ended.is_ok())?;
-        found.said(row, "through the streams", writer.as_slice())?;
+        let (said, is_ok) = written(alloc, row, entries);
+        found.holds(row, "through the streams", "they failed\n", is_ok);
+        found.said(row, "through the streams", said.as_slice());
     }
-    Ok(())
 }
 
 /// The row in slices of this budget. Gives the steps that were made.
@@ -98,83 +108,86 @@ fn run_slices<M: Memo>(
     row: &Row,
     budget: u64,
     found: &mut Found,
-) -> Result<u64, AllocError> {
+) -> u64 {
     let mut talk = Talk::new(alloc);
-    talk.feed(row.sent.as_bytes())?;
-    talk.work_off(memo, budget)?;
-    found.said(row, "in slices", talk.output())?;
-    Ok(talk.steps)
+    talk.feed(row.sent.as_bytes());
+    talk.work_off(memo, budget);
+    found.said(row, "in slices", talk.said());
+    talk.steps
 }
 
 /// The steps are the same in slices of any budget.
-fn run_budgets(alloc: Global, row: &Row, found: &mut Found) -> Result<(), AllocError> {
-    let whole = run_slices(alloc, &mut NoMemo, row, u64::MAX, found)?;
+fn run_budgets(alloc: Global, row: &Row, found: &mut Found) {
+    let whole = run_slices(alloc, &mut NoMemo, row, u64::MAX, found);
     for budget in [1, 2, 7, 61, 1000] {
-        let steps = run_slices(alloc, &mut NoMemo, row, budget, found)?;
-        found.holds(row, "in slices", "other steps\n", steps == whole)?;
+        let steps = run_slices(alloc, &mut NoMemo, row, budget, found);
+        found.holds(row, "in slices", "other steps\n", steps == whole);
     }
-    Ok(())
 }
 
-/// The row cut at each place, the second part fed after the first was answered.
-fn run_cuts<M: Memo>(
+/// The row in two parts, the second fed after the first was answered.
+fn run_parts<M: Memo>(
     alloc: Global,
     memo: &mut M,
     row: &Row,
+    (first, second): (&[u8], &[u8]),
     found: &mut Found,
-) -> Result<(), AllocError> {
+) {
+    let mut talk = Talk::new(alloc);
+    for part in [first, second] {
+        talk.feed(part);
+        talk.work_off(memo, u64::MAX);
+    }
+    found.said(row, "cut in two", talk.said());
+}
+
+/// The row cut at each place.
+fn run_cuts<M: Memo>(alloc: Global, memo: &mut M, row: &Row, found: &mut Found) {
     let sent = row.sent.as_bytes();
     for place in 0..sent.len() {
-        if let Some((first, second)) = sent.split_at_checked(place) {
-            let mut talk = Talk::new(alloc);
-            talk.feed(first)?;
-            talk.work_off(memo, u64::MAX)?;
-            talk.feed(second)?;
-            talk.work_off(memo, u64::MAX)?;
-            found.said(row, "cut in two", talk.output())?;
+        if let Some(parts) = sent.split_at_checked(place) {
+            run_parts(alloc, memo, row, parts, found);
         }
     }
-    Ok(())
 }
 
 /// Two rows by turns, step by step, over one memory.
-fn run_turns<M: Memo>(
-    alloc: Global,
-    memo: &mut M,
-    one: &Row,
-    other: &Row,
-    found: &mut Found,
-) -> Result<(), AllocError> {
+fn run_turns<M: Memo>(alloc: Global, memo: &mut M, one: &Row, other: &Row, found: &mut Found) {
     let (mut first, mut second) = (Talk::new(alloc), Talk::new(alloc));
-    first.feed(one.sent.as_bytes())?;
-    second.feed(other.sent.as_bytes())?;
+    first.feed(one.sent.as_bytes());
+    second.feed(other.sent.as_bytes());
     for _ in 0..SLICES {
         if !first.pending() && !second.pending() {
             break;
         }
-        first.work(memo, 1)?;
-        second.work(memo, 1)?;
+        first.work(memo, 1);
+        second.work(memo, 1);
     }
-    found.said(one, "by turns", first.output())?;
-    found.said(other, "by turns", second.output())
+    found.said(one, "by turns", first.said());
+    found.said(other, "by turns", second.said());
+}
+
+/// Everything that is run of a single row, over a small and a large table among others.
+fn run_row(alloc: Global, small: &mut Table, large: &mut Table, row: &Row, found: &mut Found) {
+    run_streams(alloc, row, found);
+    run_budgets(alloc, row, found);
+    for budget in [1, u64::MAX] {
+        run_slices(alloc, small, row, budget, found);
+        run_slices(alloc, large, row, budget, found);
+    }
+    run_cuts(alloc, &mut NoMemo, row, found);
+    run_cuts(alloc, large, row, found);
 }
 
 pub fn run(alloc: Global, rows: &[Row], found: &mut Found) -> Result<(), AllocError> {
     let (mut small, mut large) = (table_of(alloc, 1)?, table_of(alloc, 4096)?);
     for row in rows {
-        run_streams(alloc, row, found)?;
-        run_budgets(alloc, row, found)?;
-        for budget in [1, u64::MAX] {
-            run_slices(alloc, &mut small, row, budget, found)?;
-            run_slices(alloc, &mut large, row, budget, found)?;
-        }
-        run_cuts(alloc, &mut NoMemo, row, found)?;
-        run_cuts(alloc, &mut large, row, found)?;
+        run_row(alloc, &mut small, &mut large, row, found);
     }
     for pair in rows.windows(2) {
         if let [one, other] = pair {
-            run_turns(alloc, &mut small, one, other, found)?;
-            run_turns(alloc, &mut table_of(alloc, 4096)?, one, other, found)?;
+            run_turns(alloc, &mut small, one, other, found);
+            run_turns(alloc, &mut table_of(alloc, 4096)?, one, other, found);
         }
     }
     Ok(())
