@@ -2,39 +2,62 @@
 
 use crate::legal_moves::{position, read};
 use shogi_core::Color::Black;
-use shogi_core::{Move, Position};
-use shogi_moves::{BoardSweep, DropSweep, Replies, check_info_of, escape_squares};
+use shogi_core::bits::{ALL_SQUARES, cleared, with};
+use shogi_core::{Move, Position, Square};
+use shogi_moves::{BoardSweep, Destinations, DropSweep, Replies, check_info_of, escape_squares};
 use std::test::Fail;
+
+/// The first move on the board of the kind that is not passed, where moves without promotion may end on
+/// some squares, and moves with promotion on others.
+fn first_left(p: &Position, capture: bool, plain: u128, promoting: u128) -> Option<Move> {
+    let mut sweep = BoardSweep::new(p, check_info_of(p), capture);
+    let among = Destinations { plain, promoting };
+    sweep.pass_certain(p, capture, &among, &Replies::of(p), escape_squares(p));
+    sweep.next(p, capture)
+}
 
 /// Each of the 30 moves of the opening position takes nothing, promotes nothing and is answered.
 #[test]
-fn quiet_moves_of_the_opening_position(rt: HostRuntime) -> Result<(), Fail> {
-    let p = Position::start();
-    let replies = Replies::of(&p);
-    let mut sweep = BoardSweep::new(&p, check_info_of(&p), false);
-    sweep.pass_quiets(&p, &replies, escape_squares(&p));
-    assert!(rt; sweep.next(&p, false).is_none());
-    Ok(())
+fn quiet_moves_of_the_opening_position(rt: HostRuntime) {
+    assert!(rt; first_left(&Position::start(), false, ALL_SQUARES, 0).is_none());
 }
 
 /// The pawn on 6e has one move, and no line of the king goes there. The next to move is the pawn on
-/// 7d, which may promote.
+/// 7d, which may promote; no move of it, or of the king, gives check.
 #[test]
-fn quiet_moves_up_to_a_promotion(rt: HostRuntime) -> Result<(), Fail> {
+fn quiet_moves_and_a_promotion(rt: HostRuntime) -> Result<(), Fail> {
     let p = position(b"8k/9/9/2P6/3P3p1/9/9/K8/9", b"", Black)?;
-    let replies = Replies::of(&p);
-    let mut sweep = BoardSweep::new(&p, check_info_of(&p), false);
-    sweep.pass_quiets(&p, &replies, escape_squares(&p));
-    assert!(rt; sweep.next(&p, false) == Some(read(b"7d7c ")));
+    assert!(rt; first_left(&p, false, ALL_SQUARES, 0) == Some(read(b"7d7c ")));
+    assert!(rt; first_left(&p, false, ALL_SQUARES, ALL_SQUARES).is_none());
+    assert!(rt; first_left(&p, false, 0, ALL_SQUARES) == Some(read(b"6e6d ")));
     Ok(())
 }
 
-/// The first move that takes nothing and is not passed.
+/// The one capture, of 5d, gives no check, and leaves the other side a pawn with a move.
+#[test]
+fn a_capture(rt: HostRuntime) -> Result<(), Fail> {
+    let p = position(b"2k6/9/9/4p4/4P4/8p/9/9/K8", b"", Black)?;
+    let taken = Square::new(5, 4).ok_or("a square")?;
+    assert!(rt; first_left(&p, true, ALL_SQUARES, 0).is_none());
+    assert!(rt; first_left(&p, true, with(0, taken.index()), 0).is_none());
+    assert!(rt;
+        first_left(&p, true, cleared(ALL_SQUARES, taken.index()), 0) == Some(read(b"5e5d "))
+    );
+    Ok(())
+}
+
+/// The same with a promotion.
+#[test]
+fn a_capture_with_promotion(rt: HostRuntime) -> Result<(), Fail> {
+    let p = position(b"2k6/9/4p4/4P4/9/8p/9/9/K8", b"", Black)?;
+    assert!(rt; first_left(&p, true, ALL_SQUARES, 0) == Some(read(b"5d5c ")));
+    assert!(rt; first_left(&p, true, ALL_SQUARES, ALL_SQUARES).is_none());
+    Ok(())
+}
+
+/// The first move that takes nothing, does not promote and is not passed.
 fn first_quiet(board: &[u8]) -> Result<Option<Move>, Fail> {
-    let p = position(board, b"", Black)?;
-    let mut sweep = BoardSweep::new(&p, check_info_of(&p), false);
-    sweep.pass_quiets(&p, &Replies::of(&p), escape_squares(&p));
-    Ok(sweep.next(&p, false))
+    Ok(first_left(&position(board, b"", Black)?, false, ALL_SQUARES, 0))
 }
 
 /// The horse goes to 1a first, on a rank with the king. Where the king is hemmed in by its own

@@ -1,6 +1,7 @@
 -- Moves that are passed in a row.
-use Rattle.std.proofs.Common.{◌≡◌, ◌≢◌, ℕ, zero, suc, ◌+◌, ◌-◌, ◌*◌, ◌/◌, ◌%◌, ◌^◌, ◌<◌, ◌≤◌, List, [], ◌∷◌, Bool, true, false, bit_and, bit_or, length, inl, inr, sym, ap, ◌∙◌, arith, subst, not, Some}
+use Rattle.std.proofs.Common.{◌≡◌, ◌≢◌, ℕ, zero, suc, ◌+◌, ◌-◌, ◌*◌, ◌/◌, ◌%◌, ◌^◌, ◌<◌, ◌≤◌, List, [], ◌∷◌, ◌⊎◌, Bool, true, false, bit_and, bit_or, length, inl, inr, sym, ap, ◌∙◌, arith, subst, not, Some}
 use Rattle.std.specs.Prelude.{◌&&◌, ◌==◌}
+use Rattle.std.proofs.lemmas.Nat.{and_le_l}
 use Rattle.std.proofs.lemmas.Bool.{cases_Bool, both_ways, and_parts, and_from, cases_eq, cases_eq, eq-eqb, ne_eqb, or_parts, not-false, true_from_ne_false, false_from_ne_true}
 use Rattle.shogi_core.specs.declared.moves.TheConstants.{MOVE_CODE_COUNT, FIRST_DROP, SQUARE_CODES}
 use Rattle.shogi_core.specs.declared.moves.Move.TheVariants.{Board, Drop}
@@ -20,8 +21,9 @@ use Rattle.shogi_moves.specs.Destinations.{is_destination}
 use Rattle.shogi_moves.specs.Legal.{is_legal, is_legal_code, may_promote}
 use Rattle.shogi_moves.specs.LegalMoves.{legal_codes}
 use Rattle.shogi_moves.specs.Captures.{is_matching}
-use Rattle.shogi_moves.specs.Replies.{HasCertainQuiets, IsAnswered}
-use Rattle.shogi_moves.specs.Sweeps.{matching_from, Keeps, KeepsBoard, KeepsDrop, IsCertainQuiet, IsCertainDrop, IsPassed}
+use Rattle.shogi_moves.specs.declared.destinations.Destinations.{Destinations}
+use Rattle.shogi_moves.specs.Replies.{HasCertainMoves, IsAnswered, is_reached}
+use Rattle.shogi_moves.specs.Sweeps.{matching_from, Keeps, KeepsBoard, KeepsDrop, IsCertainMove, IsCertainDrop, IsPassed}
 use Rattle.shogi_moves.proofs.CaptureLaws.{HasMatchingOn, skip_one, matching_found}
 use Rattle.shogi_moves.proofs.DestinationLaws.{matching_board}
 use Rattle.shogi_moves.proofs.LegalLaws.{is_legal_code_of, after_code_of}
@@ -62,36 +64,57 @@ passed_to p capture fact code next up fits all =
 
 -- ---- the destinations of a piece
 
--- a matching move of the piece is one of its destinations
-destination_of : (p : Shogi) (from code plain c : ℕ) → KeepsBoard p false from code plain 0 → code ≤ c → c < from * SQUARE_CODES + SQUARE_CODES → is_matching p false c ≡ true → (c ≡ code_of (Board from (c / 2 % 81) false)) × (has_bit plain (c / 2 % 81) ≡ true)
-destination_of p from code plain c k up below matching =
+-- a matching move of the piece is one of its destinations, promoting or not
+destination_of : (p : Shogi) (capture : Bool) (from code plain promoting c : ℕ) → KeepsBoard p capture from code plain promoting → code ≤ c → c < from * SQUARE_CODES + SQUARE_CODES → is_matching p capture c ≡ true
+    → ((c ≡ code_of (Board from (c / 2 % 81) false)) × (has_bit plain (c / 2 % 81) ≡ true)) ⊎ ((c ≡ code_of (Board from (c / 2 % 81) true)) × (has_bit promoting (c / 2 % 81) ≡ true))
+destination_of p capture from code plain promoting c k up below matching =
     let low : from * SQUARE_CODES ≤ code = k.low in
     elim (at_code from c (omega arith) below) [
-      | inl at ↦ (at, true_from_ne_false (has_bit plain (c / 2 % 81)) (λ out. both_ways (is_matching p false c) (ap (is_matching p false) at ∙ k.plains.clear (c / 2 % 81) (omega arith) out (omega arith)) matching))
-      | inr at ↦ absurd (both_ways (is_matching p false c) (ap (is_matching p false) at ∙ k.promotings.clear (c / 2 % 81) (omega arith) (has_bit-none (c / 2 % 81)) (omega arith)) matching)
+      | inl at ↦ inl (at, true_from_ne_false (has_bit plain (c / 2 % 81)) (λ out. both_ways (is_matching p capture c) (ap (is_matching p capture) at ∙ k.plains.clear (c / 2 % 81) (omega arith) out (omega arith)) matching))
+      | inr at ↦ inr (at, true_from_ne_false (has_bit promoting (c / 2 % 81)) (λ out. both_ways (is_matching p capture c) (ap (is_matching p capture) at ∙ k.promotings.clear (c / 2 % 81) (omega arith) out (omega arith)) matching))
     ]
 
--- a matching move on the board without promotion that is answered
-certain_quiet : (p : Shogi) (first c from n : ℕ) → from < 81 → n < 81 → first ≤ c → c ≡ code_of (Board from n false) → is_matching p false c ≡ true → IsAnswered p (Board from n false) → IsCertainQuiet p first c
-certain_quiet p first c from n hf hn above at matching answered =
+-- a matching move on the board that is answered, without promotion and with it
+certain_move : (p : Shogi) (capture : Bool) (among : Destinations) (first c from n : ℕ) → from < 81 → n < 81 → first ≤ c → c ≡ code_of (Board from n false) → is_matching p capture c ≡ true → has_bit among.plain n ≡ true → IsAnswered p (Board from n false) → IsCertainMove p capture among first c
+certain_move p capture among first c from n hf hn above at matching set answered =
     let back : move_of (code_of (Board from n false)) ≡ Some (Board from n false) = move_of-board from n false hf hn in
     let legal : is_legal p (Board from n false) ≡ true = sym (is_legal_code_of p c (Board from n false) (ap move_of at ∙ back)) ∙ (and_parts _ _ matching).0 in
     let made : after_code p c ≡ after p (Board from n false) = ap (after_code p) at ∙ after_code_of p (Board from n false) back in
     record {
       above = above;
       on_board = omega (arith, at);
-      plain = omega (arith, at);
-      quiet = matching;
+      plain = λ even. subst (λ (k : ℕ). has_bit among.plain k ≡ true) (omega (arith, at)) set;
+      promoting = λ odd. absurd (omega (arith, at, odd));
+      matching = matching;
+      replied = subst (λ (q : Shogi). legal_codes q ≢ []) (sym made) (answered legal);
+    }
+
+certain_promotion : (p : Shogi) (capture : Bool) (among : Destinations) (first c from n : ℕ) → from < 81 → n < 81 → first ≤ c → c ≡ code_of (Board from n true) → is_matching p capture c ≡ true → has_bit among.promoting n ≡ true → IsAnswered p (Board from n true) → IsCertainMove p capture among first c
+certain_promotion p capture among first c from n hf hn above at matching set answered =
+    let back : move_of (code_of (Board from n true)) ≡ Some (Board from n true) = move_of-board from n true hf hn in
+    let legal : is_legal p (Board from n true) ≡ true = sym (is_legal_code_of p c (Board from n true) (ap move_of at ∙ back)) ∙ (and_parts _ _ matching).0 in
+    let made : after_code p c ≡ after p (Board from n true) = ap (after_code p) at ∙ after_code_of p (Board from n true) back in
+    record {
+      above = above;
+      on_board = omega (arith, at);
+      plain = λ even. absurd (omega (arith, at, even));
+      promoting = λ odd. subst (λ (k : ℕ). has_bit among.promoting k ≡ true) (omega (arith, at)) set;
+      matching = matching;
       replied = subst (λ (q : Shogi). legal_codes q ≢ []) (sym made) (answered legal);
     }
 
 -- those below another code are passed, where each of them is answered
-pub destinations_passed : (p : Shogi) (from code next plain first : ℕ) → from < 81 → KeepsBoard p false from code plain 0 → first ≤ code → code ≤ next → next ≤ from * SQUARE_CODES + SQUARE_CODES
-    → ((n : ℕ) → n < 81 → has_bit plain n ≡ true → code_of (Board from n false) < next → IsAnswered p (Board from n false)) → IsPassed (IsCertainQuiet p first) (matching_from p false code) (matching_from p false next)
-destinations_passed p from code next plain first hf k low up high answered =
-    passed_to p false (IsCertainQuiet p first) code next up (omega arith) (λ c above below matching.
-    let at : (c ≡ code_of (Board from (c / 2 % 81) false)) × (has_bit plain (c / 2 % 81) ≡ true) = destination_of p from code plain c k above (omega arith) matching in
-    certain_quiet p first c from (c / 2 % 81) hf (omega arith) (omega arith) at.0 matching (answered (c / 2 % 81) (omega arith) at.1 (omega (arith, at.0))))
+pub destinations_passed : (p : Shogi) (capture : Bool) (among : Destinations) (from code next plain promoting first : ℕ) → from < 81 → KeepsBoard p capture from code plain promoting → first ≤ code → code ≤ next → next ≤ from * SQUARE_CODES + SQUARE_CODES
+    → ((n : ℕ) → n < 81 → has_bit plain n ≡ true → code_of (Board from n false) < next → (has_bit among.plain n ≡ true) × IsAnswered p (Board from n false))
+    → ((n : ℕ) → n < 81 → has_bit promoting n ≡ true → code_of (Board from n true) < next → (has_bit among.promoting n ≡ true) × IsAnswered p (Board from n true))
+    → IsPassed (IsCertainMove p capture among first) (matching_from p capture code) (matching_from p capture next)
+destinations_passed p capture among from code next plain promoting first hf k low up high plainly by_promotion =
+    passed_to p capture (IsCertainMove p capture among first) code next up (omega arith) (λ c above below matching.
+    let hn : c / 2 % 81 < 81 = omega arith in
+    elim (destination_of p capture from code plain promoting c k above (omega arith) matching) [
+      | inl at ↦ (let it : _ = plainly (c / 2 % 81) hn at.1 (omega (arith, at.0)) in certain_move p capture among first c from (c / 2 % 81) hf hn (omega arith) at.0 matching it.0 it.1)
+      | inr at ↦ (let it : _ = by_promotion (c / 2 % 81) hn at.1 (omega (arith, at.0)) in certain_promotion p capture among first c from (c / 2 % 81) hf hn (omega arith) at.0 matching it.0 it.1)
+    ])
 
 -- what is not uncertain is certain
 pub not_uncertain : (destinations certain n : ℕ) → certain < 2 ^ 128 → n < 81 → has_bit (bit_and destinations (2 ^ 128 - 1 - certain)) n ≡ false → has_bit destinations n ≡ true → has_bit certain n ≡ true
@@ -109,6 +132,16 @@ uncertain_destination destinations certain to set = (and_parts (has_bit destinat
 pub below_uncertain : (destinations certain to n : ℕ) → certain < 2 ^ 128 → n < 81 → n < to → ((i : ℕ) → has_bit (bit_and destinations (2 ^ 128 - 1 - certain)) i ≡ true → to ≤ i) → has_bit destinations n ≡ true → has_bit certain n ≡ true
 below_uncertain destinations certain to n fits h down least set = not_uncertain destinations certain n fits h (false_from_ne_true (has_bit (bit_and destinations (2 ^ 128 - 1 - certain)) n) (λ there. (let le : to ≤ n = least n there in omega arith))) set
 
+-- what is uncertain of neither sort is among the squares and certain
+pub of_both : (plain among certain promoting among_promoting promoted n : ℕ) → among < 2 ^ 128 → among_promoting < 2 ^ 128 → n < 81
+    → has_bit (bit_or (bit_and plain (2 ^ 128 - 1 - bit_and among certain)) (bit_and promoting (2 ^ 128 - 1 - bit_and among_promoting promoted))) n ≡ false
+    → (has_bit plain n ≡ true → (has_bit among n ≡ true) × (has_bit certain n ≡ true)) × (has_bit promoting n ≡ true → (has_bit among_promoting n ≡ true) × (has_bit promoted n ≡ true))
+of_both plain among certain promoting among_promoting promoted n f g h none =
+    let parts : _ = or_parts _ _ (sym (has_bit-or (bit_and plain (2 ^ 128 - 1 - bit_and among certain)) (bit_and promoting (2 ^ 128 - 1 - bit_and among_promoting promoted)) n) ∙ none) in (
+      λ set. and_parts _ _ (sym (has_bit-and among certain n) ∙ not_uncertain plain (bit_and among certain) n (omega (arith, f, and_le_l among certain)) h parts.0 set),
+      λ set. and_parts _ _ (sym (has_bit-and among_promoting promoted n) ∙ not_uncertain promoting (bit_and among_promoting promoted) n (omega (arith, g, and_le_l among_promoting promoted)) h parts.1 set),
+    )
+
 -- ---- what is kept of a mask whose first bits are passed
 
 keeps_nothing : (test : ℕ → Bool) (place : ℕ → ℕ) (code : ℕ) → ((n : ℕ) → n < 81 → place n < code) → Keeps test place code 0
@@ -118,79 +151,71 @@ keeps_nothing test place code over = record {
   clear = λ n h e l. absurd (let less : place n < code = over n h in omega arith);
 }
 
-pub destinations_kept : (p : Shogi) (from code plain less to : ℕ) → KeepsBoard p false from code plain 0 → to < 81 → has_bit plain to ≡ true → less < 2 ^ 81 → ((i : ℕ) → i < 81 → to ≤ i → has_bit less i ≡ has_bit plain i) → ((i : ℕ) → i < to → has_bit less i ≡ false) → KeepsBoard p false from (code_of (Board from to false)) less 0
-destinations_kept p from code plain less to k ht set fits same none =
-    let up : code ≤ code_of (Board from to false) = (k.plains.set to ht set).0 in
-    record {
-      low = omega arith;
-      high = omega arith;
-      plains = keeps_from (is_matching p false) (λ n. code_of (Board from n false)) code (code_of (Board from to false)) plain less to k.plains fits up (λ n h. omega arith) (λ n h. omega arith) same none;
-      promotings = record {
-        fits = omega arith;
-        set = λ n h e. absurd (both_ways (has_bit 0 n) (has_bit-none n) e);
-        clear = λ n h e l. k.promotings.clear n h e (omega arith);
-      };
-    }
-
-pub no_destinations_kept : (p : Shogi) (from : ℕ) → KeepsBoard p false from (from * SQUARE_CODES + SQUARE_CODES) 0 0
-no_destinations_kept p from = record {
+pub destinations_kept : (p : Shogi) (capture : Bool) (from code plain promoting less least to : ℕ) → KeepsBoard p capture from code plain promoting → to < 81 → code ≤ code_of (Board from to false)
+    → less < 2 ^ 81 → ((i : ℕ) → i < 81 → to ≤ i → has_bit less i ≡ has_bit plain i) → ((i : ℕ) → i < to → has_bit less i ≡ false)
+    → least < 2 ^ 81 → ((i : ℕ) → i < 81 → to ≤ i → has_bit least i ≡ has_bit promoting i) → ((i : ℕ) → i < to → has_bit least i ≡ false)
+    → KeepsBoard p capture from (code_of (Board from to false)) less least
+destinations_kept p capture from code plain promoting less least to k ht up fits same none fits_promoting same_promoting none_promoting = record {
   low = omega arith;
   high = omega arith;
-  plains = keeps_nothing (is_matching p false) (λ n. code_of (Board from n false)) (from * SQUARE_CODES + SQUARE_CODES) (λ n h. omega arith);
-  promotings = keeps_nothing (is_matching p false) (λ n. code_of (Board from n true)) (from * SQUARE_CODES + SQUARE_CODES) (λ n h. omega arith);
+  plains = keeps_from (is_matching p capture) (λ n. code_of (Board from n false)) code (code_of (Board from to false)) plain less to k.plains fits up (λ n h. omega arith) (λ n h. omega arith) same none;
+  promotings = keeps_from (is_matching p capture) (λ n. code_of (Board from n true)) code (code_of (Board from to false)) promoting least to k.promotings fits_promoting up (λ n h. omega arith) (λ n h. omega arith) same_promoting none_promoting;
 }
 
-pub no_destinations_of : (p : Shogi) (from plain promoting : ℕ) → plain ≡ 0 → promoting ≡ 0 → KeepsBoard p false from (from * SQUARE_CODES + SQUARE_CODES) plain promoting
-no_destinations_of p from plain promoting x y = rw (x, y) (no_destinations_kept p from)
+pub no_destinations_kept : (p : Shogi) (capture : Bool) (from : ℕ) → KeepsBoard p capture from (from * SQUARE_CODES + SQUARE_CODES) 0 0
+no_destinations_kept p capture from = record {
+  low = omega arith;
+  high = omega arith;
+  plains = keeps_nothing (is_matching p capture) (λ n. code_of (Board from n false)) (from * SQUARE_CODES + SQUARE_CODES) (λ n h. omega arith);
+  promotings = keeps_nothing (is_matching p capture) (λ n. code_of (Board from n true)) (from * SQUARE_CODES + SQUARE_CODES) (λ n h. omega arith);
+}
+
+pub no_destinations_of : (p : Shogi) (capture : Bool) (from plain promoting : ℕ) → plain ≡ 0 → promoting ≡ 0 → KeepsBoard p capture from (from * SQUARE_CODES + SQUARE_CODES) plain promoting
+no_destinations_of p capture from plain promoting x y = rw (x, y) (no_destinations_kept p capture from)
 
 -- ---- all moves of a piece
 
--- a matching move ends on an empty square that the piece reaches, and by promotion only where it may promote
-plain_among : (p : Shogi) (from n : ℕ) → length p.cells ≡ 81 → from < 81 → n < 81 → is_piece_of p.side (piece_at p.cells from) ≡ true → is_matching p false (code_of (Board from n false)) ≡ true → (reaches p.cells from n && is_destination false p.side (piece_at p.cells n)) ≡ true
-plain_among p from n len hf hn own matching = (and_parts _ _ (and_parts _ _ (sym (matching_board p false false from n len hf hn own) ∙ matching)).0).0
+-- a matching move ends where the piece reaches, and by promotion only where it may promote
+plain_among : (p : Shogi) (capture : Bool) (from n : ℕ) → length p.cells ≡ 81 → from < 81 → n < 81 → is_piece_of p.side (piece_at p.cells from) ≡ true → is_matching p capture (code_of (Board from n false)) ≡ true → is_reached p capture from n ≡ true
+plain_among p capture from n len hf hn own matching = (and_parts _ _ (and_parts _ _ (sym (matching_board p capture false from n len hf hn own) ∙ matching)).0).0
 
-promoting_among : (p : Shogi) (from n : ℕ) → length p.cells ≡ 81 → from < 81 → n < 81 → is_piece_of p.side (piece_at p.cells from) ≡ true → is_matching p false (code_of (Board from n true)) ≡ true
-    → ((reaches p.cells from n && is_destination false p.side (piece_at p.cells n)) ≡ true) × (may_promote (piece_at p.cells from) from n ≡ true)
-promoting_among p from n len hf hn own matching =
-    let parts = and_parts _ _ (sym (matching_board p false true from n len hf hn own) ∙ matching) in
+promoting_among : (p : Shogi) (capture : Bool) (from n : ℕ) → length p.cells ≡ 81 → from < 81 → n < 81 → is_piece_of p.side (piece_at p.cells from) ≡ true → is_matching p capture (code_of (Board from n true)) ≡ true
+    → (is_reached p capture from n ≡ true) × (may_promote (piece_at p.cells from) from n ≡ true)
+promoting_among p capture from n len hf hn own matching =
+    let parts = and_parts _ _ (sym (matching_board p capture true from n len hf hn own) ∙ matching) in
     ((and_parts _ _ parts.0).0, (and_parts _ _ parts.1).0)
 
-right_false : (a b : Bool) → a ≡ true → (a && b) ≡ false → b ≡ false
-right_false true b e h = h
-right_false false b e h = absurd (cc)
+-- no move of a piece but certain ones
+pub certain_moves : (p : Shogi) (capture : Bool) (among : Destinations) (from ends zone certain promoted : ℕ) → ((n : ℕ) → n < 81 → has_bit ends n ≡ is_reached p capture from n) → ((n : ℕ) → n < 81 → has_bit zone n ≡ may_promote (piece_at p.cells from) from n)
+    → among.plain < 2 ^ 128 → among.promoting < 2 ^ 128 → ((n : ℕ) → n < 81 → has_bit certain n ≡ true → IsAnswered p (Board from n false)) → ((n : ℕ) → n < 81 → has_bit promoted n ≡ true → IsAnswered p (Board from n true))
+    → bit_or (bit_and ends (2 ^ 128 - 1 - bit_and among.plain certain)) (bit_and (bit_and ends zone) (2 ^ 128 - 1 - bit_and among.promoting promoted)) ≡ 0 → HasCertainMoves p capture among from
+certain_moves p capture among from ends zone certain promoted ends_bits zone_bits f g answered by_promotion none =
+    let at : (n : ℕ) → n < 81 → _ = λ n h. of_both ends among.plain certain (bit_and ends zone) among.promoting promoted n f g h (ap (λ m. has_bit m n) none ∙ has_bit-none n) in
+    record {
+      plain = λ n h e. (let it : _ = (at n h).0 (ends_bits n h ∙ e) in (it.0, answered n h it.1));
+      promoting = λ n h e may. (let it : _ = (at n h).1 (has_bit-and ends zone n ∙ and_from _ _ (ends_bits n h ∙ e) (zone_bits n h ∙ may)) in (it.0, by_promotion n h it.1));
+    }
 
--- of such a square it is certain, and the piece does not promote
-plainly_certain : (among promoting certain n : ℕ) → certain < 2 ^ 128 → n < 81 → bit_and among (bit_or promoting (2 ^ 128 - 1 - certain)) ≡ 0 → has_bit among n ≡ true → (has_bit promoting n ≡ false) × (has_bit certain n ≡ true)
-plainly_certain among promoting certain n fits h none set =
-    let off : has_bit (bit_or promoting (2 ^ 128 - 1 - certain)) n ≡ false = right_false (has_bit among n) _ set (sym (has_bit-and among (bit_or promoting (2 ^ 128 - 1 - certain)) n) ∙ (ap (λ m. has_bit m n) none ∙ has_bit-none n)) in
-    let parts : (has_bit promoting n ≡ false) × (has_bit (2 ^ 128 - 1 - certain) n ≡ false) = or_parts (has_bit promoting n) (has_bit (2 ^ 128 - 1 - certain) n) (sym (has_bit-or promoting (2 ^ 128 - 1 - certain) n) ∙ off) in
-    (parts.0, not-false (has_bit certain n) (sym (has_bit-not certain n fits (omega arith)) ∙ parts.1))
-
--- no move of a piece but such ones
-pub certain_quiets : (p : Shogi) (from among promoting certain : ℕ) → ((n : ℕ) → n < 81 → has_bit among n ≡ (reaches p.cells from n && is_destination false p.side (piece_at p.cells n))) → ((n : ℕ) → n < 81 → has_bit promoting n ≡ may_promote (piece_at p.cells from) from n)
-    → certain < 2 ^ 128 → ((n : ℕ) → n < 81 → has_bit certain n ≡ true → IsAnswered p (Board from n false)) → bit_and among (bit_or promoting (2 ^ 128 - 1 - certain)) ≡ 0 → HasCertainQuiets p from
-certain_quiets p from among promoting certain among_bits promoting_bits fits answered none = record {
-  answered = λ n h e. answered n h (plainly_certain among promoting certain n fits h none (among_bits n h ∙ e)).1;
-  plain = λ n h e. sym (promoting_bits n h) ∙ (plainly_certain among promoting certain n fits h none (among_bits n h ∙ e)).0;
-}
-
--- the moves of the first of the pieces that are left are passed, where each of them is answered and none promotes
-pub piece_passed : (p : Shogi) (first code left from : ℕ) → length p.cells ≡ 81 → from < 81 → is_piece_of p.side (piece_at p.cells from) ≡ true → HasMatchingOn p false code left → ((n : ℕ) → has_bit left n ≡ true → from ≤ n)
-    → HasCertainQuiets p from → first ≤ code → code ≤ from * SQUARE_CODES + SQUARE_CODES → IsPassed (IsCertainQuiet p first) (matching_from p false code) (matching_from p false (from * SQUARE_CODES + SQUARE_CODES))
-piece_passed p first code left from len hf own on least quiets low up =
-    passed_to p false (IsCertainQuiet p first) code (from * SQUARE_CODES + SQUARE_CODES) up (omega arith) (λ c above below matching.
+-- the moves of the first of the pieces that are left are passed, where each of them is certain
+pub piece_passed : (p : Shogi) (capture : Bool) (among : Destinations) (first code left from : ℕ) → length p.cells ≡ 81 → from < 81 → is_piece_of p.side (piece_at p.cells from) ≡ true → HasMatchingOn p capture code left → ((n : ℕ) → has_bit left n ≡ true → from ≤ n)
+    → HasCertainMoves p capture among from → first ≤ code → code ≤ from * SQUARE_CODES + SQUARE_CODES → IsPassed (IsCertainMove p capture among first) (matching_from p capture code) (matching_from p capture (from * SQUARE_CODES + SQUARE_CODES))
+piece_passed p capture among first code left from len hf own on least moves low up =
+    passed_to p capture (IsCertainMove p capture among first) code (from * SQUARE_CODES + SQUARE_CODES) up (omega arith) (λ c above below matching.
     let here : from ≤ c / SQUARE_CODES = least (c / SQUARE_CODES) (on.on c above (omega arith) matching) in
     let hn : c / 2 % 81 < 81 = omega arith in
     elim (at_code from c (omega arith) below) [
-      | inl at ↦ certain_quiet p first c from (c / 2 % 81) hf hn (omega arith) at matching (quiets.answered (c / 2 % 81) hn (plain_among p from (c / 2 % 81) len hf hn own (ap (is_matching p false) (sym at) ∙ matching)))
-      | inr at ↦ absurd (
-          let there : ((reaches p.cells from (c / 2 % 81) && is_destination false p.side (piece_at p.cells (c / 2 % 81))) ≡ true) × (may_promote (piece_at p.cells from) from (c / 2 % 81) ≡ true) = promoting_among p from (c / 2 % 81) len hf hn own (ap (is_matching p false) (sym at) ∙ matching) in
-          both_ways (may_promote (piece_at p.cells from) from (c / 2 % 81)) (quiets.plain (c / 2 % 81) hn there.0) there.1)
+      | inl at ↦ (
+          let it : _ = moves.plain (c / 2 % 81) hn (plain_among p capture from (c / 2 % 81) len hf hn own (ap (is_matching p capture) (sym at) ∙ matching)) in
+          certain_move p capture among first c from (c / 2 % 81) hf hn (omega arith) at matching it.0 it.1)
+      | inr at ↦ (
+          let there : (is_reached p capture from (c / 2 % 81) ≡ true) × (may_promote (piece_at p.cells from) from (c / 2 % 81) ≡ true) = promoting_among p capture from (c / 2 % 81) len hf hn own (ap (is_matching p capture) (sym at) ∙ matching) in
+          let it : _ = moves.promoting (c / 2 % 81) hn there.0 there.1 in
+          certain_promotion p capture among first c from (c / 2 % 81) hf hn (omega arith) at matching it.0 it.1)
     ])
 
 -- and those of the others are left
-pub others_left : (p : Shogi) (code left less from : ℕ) → HasMatchingOn p false code left → code ≤ from * SQUARE_CODES + SQUARE_CODES → ((i : ℕ) → has_bit less i ≡ (has_bit left i && not (i == from))) → HasMatchingOn p false (from * SQUARE_CODES + SQUARE_CODES) less
-others_left p code left less from w up bits = record {
+pub others_left : (p : Shogi) (capture : Bool) (code left less from : ℕ) → HasMatchingOn p capture code left → code ≤ from * SQUARE_CODES + SQUARE_CODES → ((i : ℕ) → has_bit less i ≡ (has_bit left i && not (i == from))) → HasMatchingOn p capture (from * SQUARE_CODES + SQUARE_CODES) less
+others_left p capture code left less from w up bits = record {
   on = λ c low high matching. bits (c / SQUARE_CODES) ∙ and_from (has_bit left (c / SQUARE_CODES)) (not (c / SQUARE_CODES == from)) (w.on c (omega arith) high matching) (ap not (ne_eqb (c / SQUARE_CODES) from (omega arith)));
 }
 

@@ -549,16 +549,19 @@ among_either destinations free more n e = elim (or_cases (has_bit (bit_and desti
 ]
 
 -- what moves to an open square without a check, or is dropped there, is answered
-pub open_far : (p : Shogi) (from n sight closed spare : ℕ) → IsValid p → IsReplies p sight spare → from < 81 → n < 81 → has_bit sight from ≡ false → IsHarmless p.cells (opponent_of p.side) (piece_at p.cells from) n → IsOpen closed spare n → IsAnswered p (Board from n false)
-open_far p from n sight closed spare v r hf hn unseen_from far o = λ legal. replied_board p from n false sight spare o.way.0 v r hf hn (legal_own p from n false legal) (inl unseen_from)
-    (subst (λ (cell : Option Piece). IsHarmless p.cells (opponent_of p.side) cell n) (sym (unmoved (piece_at p.cells from))) far) o.way.1 o.way.2 o.way.3
+pub open_far : (p : Shogi) (from n : ℕ) (promote : Bool) (sight closed spare : ℕ) → IsValid p → IsReplies p sight spare → from < 81 → n < 81 → has_bit sight from ≡ false → IsHarmless p.cells (opponent_of p.side) (piece_moved promote (piece_at p.cells from)) n → IsOpen closed spare n → IsAnswered p (Board from n promote)
+open_far p from n promote sight closed spare v r hf hn unseen_from far o = λ legal. replied_board p from n promote sight spare o.way.0 v r hf hn (legal_own p from n promote legal) (inl unseen_from) far o.way.1 o.way.2 o.way.3
 
-pub open_board : (p : Shogi) (from n sight checking uncovering spare : ℕ) → IsValid p → IsReplies p sight spare → from < 81 → n < 81 → UncoversWithin p.cells (opponent_of p.side) sight from uncovering
-    → (has_bit checking n ≡ false → IsHarmless p.cells (opponent_of p.side) (piece_at p.cells from) n) → IsOpen (bit_or checking uncovering) spare n → IsAnswered p (Board from n false)
-open_board p from n sight checking uncovering spare v r hf hn within far o = λ legal.
+-- a piece that does not promote stays what it is
+pub harmless_unmoved : (p : Shogi) (from n : ℕ) → IsHarmless p.cells (opponent_of p.side) (piece_at p.cells from) n → IsHarmless p.cells (opponent_of p.side) (piece_moved false (piece_at p.cells from)) n
+harmless_unmoved p from n far = subst (λ (cell : Option Piece). IsHarmless p.cells (opponent_of p.side) cell n) (sym (unmoved (piece_at p.cells from))) far
+
+pub open_board : (p : Shogi) (from n : ℕ) (promote : Bool) (sight checking uncovering spare : ℕ) → IsValid p → IsReplies p sight spare → from < 81 → n < 81 → UncoversWithin p.cells (opponent_of p.side) sight from uncovering
+    → (has_bit checking n ≡ false → IsHarmless p.cells (opponent_of p.side) (piece_moved promote (piece_at p.cells from)) n) → IsOpen (bit_or checking uncovering) spare n → IsAnswered p (Board from n promote)
+open_board p from n promote sight checking uncovering spare v r hf hn within far o = λ legal.
     let parts : (has_bit checking n ≡ false) × (has_bit uncovering n ≡ false) = or_parts (has_bit checking n) (has_bit uncovering n) (sym (has_bit-or checking uncovering n) ∙ o.unclosed) in
-    let off : IsHarmless p.cells (opponent_of p.side) (piece_moved false (piece_at p.cells from)) n = subst (λ (cell : Option Piece). IsHarmless p.cells (opponent_of p.side) cell n) (sym (unmoved (piece_at p.cells from))) (far parts.0) in
-    replied_board p from n false sight spare o.way.0 v r hf hn (legal_own p from n false legal) (within false n hn parts.1 off) off o.way.1 o.way.2 o.way.3
+    let off : IsHarmless p.cells (opponent_of p.side) (piece_moved promote (piece_at p.cells from)) n = far parts.0 in
+    replied_board p from n promote sight spare o.way.0 v r hf hn (legal_own p from n promote legal) (within promote n hn parts.1 off) off o.way.1 o.way.2 o.way.3
 
 pub open_drop : (p : Shogi) (kind : Kind) (n sight closed spare : ℕ) → IsValid p → IsReplies p sight spare → n < 81 → IsHarmless p.cells (opponent_of p.side) (dropped p.side kind) n → IsOpen closed spare n → IsAnswered p (Drop kind n)
 open_drop p kind n sight closed spare v r hn off o = λ legal. replied_drop p kind n sight spare o.way.0 v r hn off o.way.1 o.way.2 o.way.3

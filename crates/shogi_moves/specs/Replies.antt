@@ -16,6 +16,7 @@ use Rattle.shogi_core.specs.Movement.{Cells, piece_at, reaches, cell_reaches}
 use Rattle.shogi_core.specs.Pieces.{opponent_of}
 use Rattle.shogi_core.specs.Position.{Shogi, HandCounts, count_in_hand}
 use Rattle.shogi_moves.specs.After.{after, piece_moved}
+use Rattle.shogi_moves.specs.declared.destinations.Destinations.{Destinations}
 use Rattle.shogi_moves.specs.Destinations.{is_destination}
 use Rattle.shogi_moves.specs.Legal.{is_legal, may_promote}
 use Rattle.shogi_moves.specs.LegalMoves.{legal_codes}
@@ -110,10 +111,10 @@ pub record IsOpen (closed spare n : ℕ) : Type 0 where
 abbrev pub IsAnswered : Shogi → Move → Type 0
 IsAnswered p m = is_legal p m ≡ true → legal_codes (after p m) ≢ []
 
--- a move from the square to each one of the mask is answered, without promotion
-abbrev pub AreAnswered : Shogi → ℕ → ℕ → Type 0
-AreAnswered p from mask =
-    (n : ℕ) → n < 81 → has_bit mask n ≡ true → IsAnswered p (Board from n false)
+-- a move from the square to each one of the mask is answered, promoting or not
+abbrev pub AreAnswered : Shogi → ℕ → Bool → ℕ → Type 0
+AreAnswered p from promote mask =
+    (n : ℕ) → n < 81 → has_bit mask n ≡ true → IsAnswered p (Board from n promote)
 
 -- a drop of the kind on each square of the mask is answered
 abbrev pub AreDropsAnswered : Shogi → Kind → ℕ → Type 0
@@ -131,14 +132,18 @@ pub record IsFarMove (p : Shogi) (sight from n : ℕ) : Type 0 where
   pub harmless : IsHarmless p.cells (opponent_of p.side) (piece_at p.cells from) n
   pub plain : may_promote (piece_at p.cells from) from n ≡ false
 
--- each move of what stands on the square that takes nothing is answered and cannot promote
-pub record HasCertainQuiets (p : Shogi) (from : ℕ) : Type 0 where
-  pub answered : (n : ℕ) → n < 81
-      → (reaches p.cells from n && is_destination false p.side (piece_at p.cells n)) ≡ true
-      → IsAnswered p (Board from n false)
-  pub plain : (n : ℕ) → n < 81
-      → (reaches p.cells from n && is_destination false p.side (piece_at p.cells n)) ≡ true
-      → may_promote (piece_at p.cells from) from n ≡ false
+-- what stands on the square reaches that one, and moves of the kind end there
+abbrev pub is_reached : Shogi → Bool → ℕ → ℕ → Bool
+is_reached p capture from n =
+    reaches p.cells from n && is_destination capture p.side (piece_at p.cells n)
+
+-- each move of the kind of what stands on the square is answered, and ends on one of the squares for moves without promotion, or for those with it
+pub record HasCertainMoves (p : Shogi) (capture : Bool) (among : Destinations) (from : ℕ) : Type 0 where
+  pub plain : (n : ℕ) → n < 81 → is_reached p capture from n ≡ true
+      → (has_bit among.plain n ≡ true) × IsAnswered p (Board from n false)
+  pub promoting : (n : ℕ) → n < 81 → is_reached p capture from n ≡ true
+      → may_promote (piece_at p.cells from) from n ≡ true
+      → (has_bit among.promoting n ≡ true) × IsAnswered p (Board from n true)
 
 -- what stands on the squares of the mask makes such moves alone
 abbrev pub AreFarPieces : Shogi → ℕ → ℕ → Type 0

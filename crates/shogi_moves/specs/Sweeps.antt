@@ -1,5 +1,5 @@
 -- What is kept on the way through the moves of a kind: the destinations still to come of the present piece.
-use Rattle.std.specs.Prelude.{ℕ, ◌≡◌, ◌≢◌, ◌≤◌, ◌<◌, ◌+◌, ◌*◌, ◌%◌, ◌^◌, ◌⊎◌, Bool, true, false, List, [], ◌∷◌, filter, bit_or, Option}
+use Rattle.std.specs.Prelude.{ℕ, ◌≡◌, ◌≢◌, ◌≤◌, ◌<◌, ◌+◌, ◌*◌, ◌/◌, ◌%◌, ◌^◌, ◌⊎◌, Bool, true, false, List, [], ◌∷◌, filter, bit_or, Option}
 use Rattle.shogi_core.specs.declared.moves.TheConstants.{FIRST_DROP, SQUARE_CODES}
 use Rattle.shogi_core.specs.declared.moves.Move.{Move}
 use Rattle.shogi_core.specs.declared.moves.Move.TheVariants.{Board, Drop}
@@ -8,6 +8,7 @@ use Rattle.shogi_core.specs.Bits.{HasBits, IsMaskOf, has_bit}
 use Rattle.shogi_core.specs.Codes.{code_of}
 use Rattle.shogi_core.specs.Pieces.{kind_number}
 use Rattle.shogi_core.specs.Position.{Shogi}
+use Rattle.shogi_moves.specs.declared.destinations.Destinations.{Destinations}
 use Rattle.shogi_moves.specs.declared.next.KeptDestinations.{KeptDestinations}
 use Rattle.shogi_moves.specs.declared.sweep.BoardSweep.{BoardSweep}
 use Rattle.shogi_moves.specs.declared.sweep.DropSweep.{DropSweep}
@@ -100,12 +101,13 @@ IsNextOnBoard p capture found old new =
 abbrev pub IsNextDrop : Shogi → Option Move → DropSweep → DropSweep → Type 0
 IsNextDrop p found old new = IsNextOf found (drops_left p old) (drops_left p new) []
 
--- the code is that of a legal move on the board, from a code on, that takes nothing and does not promote, after which the other side has a legal move
-pub record IsCertainQuiet (p : Shogi) (first code : ℕ) : Type 0 where
+-- the code is that of a legal move of the kind on the board, from a code on, to one of the squares for moves without promotion, or for those with it, after which the other side has a legal move
+pub record IsCertainMove (p : Shogi) (capture : Bool) (among : Destinations) (first code : ℕ) : Type 0 where
   pub above : first ≤ code
   pub on_board : code < FIRST_DROP
-  pub plain : code % 2 ≡ 0
-  pub quiet : is_matching p false code ≡ true
+  pub plain : code % 2 ≡ 0 → has_bit among.plain (code / 2 % 81) ≡ true
+  pub promoting : code % 2 ≡ 1 → has_bit among.promoting (code / 2 % 81) ≡ true
+  pub matching : is_matching p capture code ≡ true
   pub replied : legal_codes (after_code p code) ≢ []
 
 -- the code is that of a legal drop of the kind, from a code on, after which the other side has a legal move
@@ -121,16 +123,18 @@ abbrev pub IsPassed : (ℕ → Type 0) → List ℕ → List ℕ → Type 0
 IsPassed fact [] left = [] ≡ left
 IsPassed fact (code ∷ codes) left = (code ∷ codes ≡ left) ⊎ (fact code × IsPassed fact codes left)
 
--- the certain quiet moves below another code are passed
-pub record IsPassedTo (p : Shogi) (code next : ℕ) : Type 0 where
+-- the moves of the kind below another code are passed, each of them certain
+pub record IsPassedTo (p : Shogi) (capture : Bool) (among : Destinations) (code next : ℕ) : Type 0 where
   pub up : code ≤ next
-  pub passed : (first : ℕ) → first ≤ code
-      → IsPassed (IsCertainQuiet p first) (matching_from p false code) (matching_from p false next)
+  pub passed : (first : ℕ) → first ≤ code → IsPassed (IsCertainMove p capture among first)
+      (matching_from p capture code) (matching_from p capture next)
 
 -- certain moves are passed, and the others are left
-abbrev pub PassesQuiets : Shogi → BoardSweep → BoardSweep → Type 0
-PassesQuiets p old new =
-    IsPassed (IsCertainQuiet p old.code) (board_left p false old) (board_left p false new)
+abbrev pub PassesBoard :
+    Shogi → Bool → Destinations → BoardSweep → BoardSweep → Type 0
+PassesBoard p capture among old new =
+    IsPassed (IsCertainMove p capture among old.code)
+    (board_left p capture old) (board_left p capture new)
 
 abbrev pub PassesDrops : Shogi → DropSweep → DropSweep → Type 0
 PassesDrops p old new =

@@ -152,12 +152,18 @@ pub fn leaves_pawn_escape(p: &Position, to: Square) -> bool
     has_open(p, first_escape(p, !(reach | 1 << to.index())), reach, to)
 }
 
-/// Those of the squares to which what stands on a square may move without promotion so that one of
+/// Those of the squares to which what stands on a square may move, promoting or not, so that one of
 /// the escapes is surely left to the king.
-pub fn escaped_destinations(p: &Position, escapes: u128, from: Square, destinations: u128) -> u128
+pub fn escaped_destinations(
+    p: &Position,
+    escapes: u128,
+    from: Square,
+    promote: bool,
+    destinations: u128,
+) -> u128
     requires { AreEscapes p.now escapes }
     ensures among { IsWithin result destinations }
-    ensures answered { AreAnswered p.now from result }
+    ensures answered { AreAnswered p.now from promote result }
 {
     let mut left = ALL_SQUARES & destinations;
     let mut kept = left;
@@ -166,7 +172,7 @@ pub fn escaped_destinations(p: &Position, escapes: u128, from: Square, destinati
         let m = Move::Board {
             from,
             to: Square::of_index(to),
-            promote: false,
+            promote,
         };
         if !leaves_escape(p, escapes, &m) {
             kept = cleared(kept, to);

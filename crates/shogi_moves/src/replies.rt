@@ -9,11 +9,11 @@ ghost use Rattle.shogi_moves.specs.Destinations.{IsWithin};
 ghost use Rattle.shogi_moves.specs.Escapes.{AreEscapes};
 ghost use Rattle.shogi_moves.specs.Legal.{is_legal};
 ghost use Rattle.shogi_moves.specs.LegalMoves.{legal_codes};
-ghost use Rattle.shogi_moves.specs.Replies.{ChecksAmong, holds_free, is_open_step, is_spare, Sees, Aligns, IsReplies, IsHarmless, IsOpen, StaysCovered, UncoversWithin, AreAnswered, AreDropsAnswered, HasCertainQuiets};
+ghost use Rattle.shogi_moves.specs.Replies.{ChecksAmong, holds_free, is_open_step, is_spare, Sees, Aligns, IsReplies, IsHarmless, IsOpen, StaysCovered, UncoversWithin, AreAnswered, AreDropsAnswered, HasCertainMoves};
 ghost use Rattle.shogi_moves.specs.Threats.{KeepsThreats};
 
 use crate::after::{dropped, piece_moved};
-use crate::destinations::matching_destinations;
+use crate::destinations::{Destinations, matching_destinations};
 use crate::escapes::{escaped_destinations, escaped_drops};
 use crate::movers::far_pieces;
 use crate::zones::{dead_squares, promoting_squares};
@@ -276,80 +276,107 @@ impl Replies {
         without(!closed, one)
     }
 
-    /// Pieces of the side to move of which each move that takes nothing leaves the other side a
-    /// legal move and cannot promote, since they are far from its kings and from the zone.
-    pub fn far_pieces(&self, p: &Position) -> u128
+    /// Pieces of the side to move of which each move of the kind leaves the other side a legal move
+    /// and cannot promote, since they are far from its kings and from the zone; none where such a
+    /// move may end on a square that is not among those.
+    pub fn far_pieces(&self, p: &Position, capture: bool, among: &Destinations) -> u128
         requires kept { IsReplies p.now self.now.sight self.now.spare }
-        ensures { (n : ℕ) → n < 81 → has_bit result n ≡ true → HasCertainQuiets p.now n }
+        ensures { (n : ℕ) → n < 81 → has_bit result n ≡ true
+            → HasCertainMoves p.now capture among.now n }
     {
         p.validity();
         if ALL_SQUARES & !self.open_squares(0) != 0 {
             return 0;
         }
+        if matching_destinations(p, capture) & !among.plain != 0 {
+            return 0;
+        }
         far_pieces(p, self.sight)
     }
 
-    /// Whether each move of what stands on the square that takes nothing surely leaves the other
-    /// side a legal move and cannot promote. Which of the moves are legal need not be known.
+    /// Whether each move of the kind of what stands on the square surely leaves the other side a
+    /// legal move, and ends on one of the squares for moves without promotion, or for those with
+    /// it. Which of the moves are legal need not be known.
     #[inline(always)]
-    pub fn has_certain_quiets(&self, p: &Position, escapes: u128, far: u128, from: Square) -> bool
+    pub fn has_certain_moves(
+        &self,
+        p: &Position,
+        capture: bool,
+        among: &Destinations,
+        escapes: u128,
+        far: u128,
+        from: Square,
+    ) -> bool
         requires kept { IsReplies p.now self.now.sight self.now.spare }
         requires escapes { AreEscapes p.now escapes }
         requires far { (n : ℕ) → n < 81 → has_bit far n ≡ true
-            → HasCertainQuiets p.now n }
-        ensures { result ≡ true → HasCertainQuiets p.now from }
+            → HasCertainMoves p.now capture among.now n }
+        ensures { result ≡ true → HasCertainMoves p.now capture among.now from }
     {
         p.validity();
         from.validity();
         if has(far, from.index()) {
             return true;
         }
-        let among = p.as_board().targets(from) & matching_destinations(p, false);
-        let promoting = promoting_squares(p.at(from), from);
-        among & (promoting | !self.certain_destinations(p, escapes, from, among)) == 0
+        let ends = p.as_board().targets(from) & matching_destinations(p, capture);
+        let promoting = ends & promoting_squares(p.at(from), from);
+        let certain = self.certain_destinations(p, escapes, from, false, ends);
+        let promoted = self.certain_destinations(p, escapes, from, true, promoting);
+        ends & !(among.plain & certain) | promoting & !(among.promoting & promoted) == 0
     }
 
-    /// Those of the squares to which what stands on a square may move without promotion so that the
-    /// other side surely has a legal move after it: it is in no check, or its king has one of the
-    /// escapes left.
+    /// Those of the squares to which what stands on a square may move, promoting or not, so that
+    /// the other side surely has a legal move after it: it is in no check, or its king has one of
+    /// the escapes left.
     #[inline(always)]
     pub fn certain_destinations(
         &self,
         p: &Position,
         escapes: u128,
         from: Square,
+        promote: bool,
         destinations: u128,
     ) -> u128
         requires escapes { AreEscapes p.now escapes }
         requires kept { IsReplies p.now self.now.sight self.now.spare }
         ensures among { IsWithin result destinations }
-        ensures certain { AreAnswered p.now from result }
+        ensures certain { AreAnswered p.now from promote result }
     {
         p.validity();
         from.validity();
+        if destinations == 0 {
+            return 0;
+        }
         if destinations & self.sight == 0 && !has(self.sight, from.index()) {
             return destinations & self.open_squares(0);
         }
-        self.certain_among(p, escapes, from, destinations)
+        self.certain_among(p, escapes, from, promote, destinations)
     }
 
     /// The same, where a king sees some of the squares.
     #[inline(never)]
-    fn certain_among(&self, p: &Position, escapes: u128, from: Square, destinations: u128) -> u128
+    fn certain_among(
+        &self,
+        p: &Position,
+        escapes: u128,
+        from: Square,
+        promote: bool,
+        destinations: u128,
+    ) -> u128
         requires escapes { AreEscapes p.now escapes }
         requires kept { IsReplies p.now self.now.sight self.now.spare }
         ensures among { IsWithin result destinations }
-        ensures certain { AreAnswered p.now from result }
+        ensures certain { AreAnswered p.now from promote result }
     {
         p.validity();
         from.validity();
-        let closed = self.checking_squares(p, p.at(from), destinations)
+        let closed = self.checking_squares(p, piece_moved(p.at(from), promote), destinations)
             | self.uncovering_squares(p, from);
         let open = destinations & self.open_squares(closed);
         if open == destinations || escapes == 0 {
             return open;
         }
-        open | escaped_destinations(p, escapes, from, destinations & !open)
+        open | escaped_destinations(p, escapes, from, promote, destinations & !open)
     }
 
     /// Those of the squares on which a piece of the kind may be dropped so that the other side

@@ -10,7 +10,7 @@ ghost use Rattle.shogi_moves.specs.Escapes.{AreEscapes};
 ghost use Rattle.shogi_moves.specs.CheckInfo.{IsCheckInfoOf};
 ghost use Rattle.shogi_moves.specs.Legal.{is_legal};
 ghost use Rattle.shogi_moves.specs.Replies.{IsReplies};
-ghost use Rattle.shogi_moves.specs.Sweeps.{matching_drops, board_left, drops_left, AreMatchingDestinations, IsBoardSweep, IsDropSweep, HasDestination, ContinuesBoard, ContinuesDrops, IsNextOnBoard, IsNextDrop, IsPassedTo, PassesQuiets, PassesDrops};
+ghost use Rattle.shogi_moves.specs.Sweeps.{matching_drops, board_left, drops_left, AreMatchingDestinations, IsBoardSweep, IsDropSweep, HasDestination, ContinuesBoard, ContinuesDrops, IsNextOnBoard, IsNextDrop, IsPassedTo, PassesBoard, PassesDrops};
 
 use crate::check_info::CheckInfo;
 use crate::destinations::{
@@ -196,49 +196,74 @@ impl BoardSweep {
         Some(self.take(p, capture))
     }
 
-    /// Passes the destinations of the present piece, none of which is by promotion, up to the first
-    /// after which it is not certain that the other side has a legal move.
-    fn pass_destinations(&mut self, p: &Position, replies: &Replies, escapes: u128)
-        requires kept { IsBoardSweep p.now false self.old }
-        requires plain { self.old.destinations.promoting ≡ 0 }
+    /// Passes the destinations of the present piece, up to the first one that is not among the
+    /// squares, or after which it is not certain that the other side has a legal move.
+    fn pass_destinations(
+        &mut self,
+        p: &Position,
+        capture: bool,
+        among: &Destinations,
+        replies: &Replies,
+        escapes: u128,
+    )
+        requires kept { IsBoardSweep p.now capture self.old }
         requires replies { IsReplies p.now replies.now.sight replies.now.spare }
         requires escapes { AreEscapes p.now escapes }
-        ensures kept { IsBoardSweep p.now false self.new }
-        ensures plain { self.new.destinations.promoting ≡ 0 }
-        ensures passed { IsPassedTo p.now self.old.code self.new.code }
+        ensures kept { IsBoardSweep p.now capture self.new }
+        ensures passed { IsPassedTo p.now capture among.now self.old.code self.new.code }
     {
-        let (from, plain) = (self.from, self.destinations.plain);
+        let (from, plain, promoting) = (
+            self.from,
+            self.destinations.plain,
+            self.destinations.promoting,
+        );
         from.validity();
         let first = from.index() as u16 * SQUARE_CODES;
-        let uncertain = plain & !replies.certain_destinations(p, escapes, from, plain);
+        let certain = replies.certain_destinations(p, escapes, from, false, plain);
+        let promoted = replies.certain_destinations(p, escapes, from, true, promoting);
+        let uncertain = plain & !(among.plain & certain)
+            | promoting & !(among.promoting & promoted);
         if uncertain == 0 {
             self.destinations.plain = 0;
+            self.destinations.promoting = 0;
             self.code = first + SQUARE_CODES;
             return;
         }
         let to = lowest(uncertain);
-        self.destinations.plain = bits_from(plain, to);
-        self.code = first + 2 * to as u16;
+        let code = first + 2 * to as u16;
+        if code > self.code {
+            self.destinations.plain = bits_from(plain, to);
+            self.destinations.promoting = bits_from(promoting, to);
+            self.code = code;
+        }
     }
 
-    /// Passes all moves of the next pieces, as long as a piece can promote by none of them and it
-    /// is certain that the other side has a legal move after each.
-    fn pass_pieces(&mut self, p: &Position, replies: &Replies, escapes: u128)
-        requires kept { IsBoardSweep p.now false self.old }
+    /// Passes all moves of the next pieces, as long as each of them ends on one of the squares and
+    /// it is certain that the other side has a legal move after it.
+    fn pass_pieces(
+        &mut self,
+        p: &Position,
+        capture: bool,
+        among: &Destinations,
+        replies: &Replies,
+        escapes: u128,
+    )
+        requires kept { IsBoardSweep p.now capture self.old }
         requires none { (self.old.destinations.plain ≡ 0)
             × (self.old.destinations.promoting ≡ 0) }
         requires replies { IsReplies p.now replies.now.sight replies.now.spare }
         requires escapes { AreEscapes p.now escapes }
-        ensures kept { IsBoardSweep p.now false self.new }
-        ensures passed { IsPassedTo p.now self.old.code self.new.code }
+        ensures kept { IsBoardSweep p.now capture self.new }
+        ensures passed { IsPassedTo p.now capture among.now self.old.code self.new.code }
     {
         p.validity();
-        let far = replies.far_pieces(p);
-        let mut left = bits_above(p.as_board().own(p.side()), self.from.index());
+        let far = replies.far_pieces(p, capture, among);
+        let pieces = bits_above(p.as_board().own(p.side()), self.from.index());
+        let mut left = movers(p, capture, pieces);
         'squares: while left != 0 {
             let square = lowest(left);
             let from = Square::of_index(square);
-            if !replies.has_certain_quiets(p, escapes, far, from) {
+            if !replies.has_certain_moves(p, capture, among, escapes, far, from) {
                 return;
             }
             self.from = from;
@@ -247,21 +272,28 @@ impl BoardSweep {
         }
     }
 
-    /// Passes the next of the moves that take nothing, as long as they do not promote and it is
-    /// certain by a look at squares alone that the other side has a legal move after them.
-    pub fn pass_quiets(&mut self, p: &Position, replies: &Replies, escapes: u128)
-        requires kept { IsBoardSweep p.now false self.old }
+    /// Passes the next of the moves, as long as they end on one of the squares for moves without
+    /// promotion, or for those with it, and it is certain by a look at squares alone that the other
+    /// side has a legal move after them.
+    pub fn pass_certain(
+        &mut self,
+        p: &Position,
+        capture: bool,
+        among: &Destinations,
+        replies: &Replies,
+        escapes: u128,
+    )
+        requires kept { IsBoardSweep p.now capture self.old }
         requires replies { IsReplies p.now replies.now.sight replies.now.spare }
         requires escapes { AreEscapes p.now escapes }
-        ensures kept { IsBoardSweep p.now false self.new }
-        ensures passed { PassesQuiets p.now self.old self.new }
+        ensures kept { IsBoardSweep p.now capture self.new }
+        ensures passed { PassesBoard p.now capture among.now self.old self.new }
     {
-        if self.destinations.promoting != 0 {
-            return;
-        }
-        self.pass_destinations(p, replies, escapes);
+        self.pass_destinations(p, capture, among, replies, escapes);
         if self.destinations.plain == 0 {
-            self.pass_pieces(p, replies, escapes);
+            if self.destinations.promoting == 0 {
+                self.pass_pieces(p, capture, among, replies, escapes);
+            }
         }
     }
 }

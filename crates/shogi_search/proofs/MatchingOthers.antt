@@ -59,12 +59,12 @@ passed_filter fact t (m ∷ xs) ys h = elim h [
   | inr more ↦ cond_both (t m) (m ∷ filter t xs) (filter t xs) (λ (zs : List ℕ). IsPassed fact zs (filter t ys)) (λ _. inr (more.0, passed_filter fact t xs ys more.1)) (λ _. passed_filter fact t xs ys more.1)
 ]
 
-pub passed_others : (fact : ℕ → Type 0) (p : Shogi) (hash_move : Option Move) (first code : ℕ) → IsPassed fact (matching_from p false first) (matching_from p false code) → IsPassed fact (matching_others_from p hash_move false first) (matching_others_from p hash_move false code)
-passed_others fact p hash_move first code h =
+pub passed_others : (fact : ℕ → Type 0) (p : Shogi) (hash_move : Option Move) (capture : Bool) (first code : ℕ) → IsPassed fact (matching_from p capture first) (matching_from p capture code) → IsPassed fact (matching_others_from p hash_move capture first) (matching_others_from p hash_move capture code)
+passed_others fact p hash_move capture first code h =
     let t : ℕ → Bool = λ (n : ℕ). not (is_hash_move hash_move n) in
-    subst (λ (xs : List ℕ). IsPassed fact xs (matching_others_from p hash_move false code)) (sym (filter-both p hash_move false (legal_from p first)))
-    (subst (λ (ys : List ℕ). IsPassed fact (filter t (matching_from p false first)) ys) (sym (filter-both p hash_move false (legal_from p code)))
-    (passed_filter fact t (matching_from p false first) (matching_from p false code) h))
+    subst (λ (xs : List ℕ). IsPassed fact xs (matching_others_from p hash_move capture code)) (sym (filter-both p hash_move capture (legal_from p first)))
+    (subst (λ (ys : List ℕ). IsPassed fact (filter t (matching_from p capture first)) ys) (sym (filter-both p hash_move capture (legal_from p code)))
+    (passed_filter fact t (matching_from p capture first) (matching_from p capture code) h))
 
 pub ruleset passing_others = (passed_others)
 

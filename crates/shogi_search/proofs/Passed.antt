@@ -1,7 +1,7 @@
 -- Moves that are passed in a row.
-use Rattle.std.proofs.Common.{◌≡◌, ◌≢◌, ◌<◌, ◌≤◌, ◌+◌, ◌-◌, ◌*◌, ℕ, ℤ, ◌≤ℤ◌, ◌<ℤ◌, List, [], ◌∷◌, true, inl, inr, Option, Some, None, refl, sym, ap, ◌∙◌, arith, subst, ◌/◌, ◌%◌, ◌+ℤ◌, false, pos, ◌-ℤ◌}
+use Rattle.std.proofs.Common.{◌≡◌, ◌≢◌, ◌<◌, ◌≤◌, ◌+◌, ◌-◌, ◌*◌, ℕ, ℤ, ◌≤ℤ◌, ◌<ℤ◌, List, [], ◌∷◌, true, inl, inr, Bool, Option, Some, None, refl, sym, ap, ◌∙◌, arith, subst, ◌/◌, ◌%◌, ◌+ℤ◌, false, pos, ◌-ℤ◌}
 use Rattle.std.specs.Prelude.{not, is_some}
-use Rattle.std.proofs.lemmas.Bool.{and_parts}
+use Rattle.std.proofs.lemmas.Bool.{and_parts, cases_eq}
 use Rattle.std.proofs.lemmas.Int.{ints}
 use Rattle.std.proofs.lemmas.Bool.Decides.{nat_tests}
 use Rattle.shogi_core.specs.declared.moves.TheConstants.{FIRST_DROP, SQUARE_CODES}
@@ -9,28 +9,31 @@ use Rattle.shogi_core.specs.declared.piece.Piece.{Piece}
 use Rattle.shogi_core.specs.Movement.{piece_at}
 use Rattle.shogi_core.specs.declared.moves.Move.TheVariants.{Board, Drop}
 use Rattle.shogi_core.specs.declared.piece.Kind.{Kind}
+use Rattle.shogi_core.specs.declared.piece.Role.{Role}
+use Rattle.shogi_core.specs.declared.piece.Role.TheVariants.{King, Pawn, Lance, Knight, Silver, Gold, Bishop, Rook, PromotedPawn, PromotedLance, PromotedKnight, PromotedSilver, Horse, Dragon}
 use Rattle.shogi_core.specs.Codes.{move_of, code_of}
-use Rattle.shogi_core.specs.Pieces.{kind_number, opponent_of}
+use Rattle.shogi_core.specs.Pieces.{kind_number, opponent_of, promoted}
 use Rattle.shogi_core.specs.Position.{Shogi}
 use Rattle.shogi_core.specs.Validity.{IsValid}
 use Rattle.shogi_core.proofs.CodesBack.{move_of-board, move_of-drop}
 use Rattle.shogi_moves.specs.After.{after, after_code}
-use Rattle.shogi_moves.specs.Legal.{is_legal}
+use Rattle.shogi_moves.specs.Legal.{is_legal, is_legal_code}
 use Rattle.shogi_moves.specs.LegalMoves.{legal_codes}
 use Rattle.shogi_moves.specs.Captures.{is_matching}
-use Rattle.shogi_moves.specs.Sweeps.{IsCertainQuiet, IsCertainDrop, IsPassed}
+use Rattle.shogi_moves.specs.declared.destinations.Destinations.{Destinations}
+use Rattle.shogi_moves.specs.Sweeps.{IsCertainMove, IsCertainDrop, IsPassed}
 use Rattle.shogi_moves.proofs.DestinationLaws.{matching_move}
 use Rattle.shogi_moves.proofs.LegalLaws.{is_legal_code_of, after_code_of}
 use Rattle.shogi_eval.specs.declared.eval.Eval.{Eval}
-use Rattle.shogi_eval.specs.Material.{material_of, taken_gain, promotion_gain}
+use Rattle.shogi_eval.specs.Material.{material_of, taken_gain, promotion_gain, value_of}
 use Rattle.shogi_eval.proofs.Gains.{material_at_board}
-use Rattle.shogi_search.specs.Losses.{LosesAtMost}
+use Rattle.shogi_search.specs.Losses.{LosesAtMost, PromotesWithin}
 use Rattle.shogi_search.specs.Minimax.{worth, negated, sum_of_tree_sizes}
 use Rattle.shogi_search.specs.Window.{threshold, IsCovered}
 use Rattle.shogi_search.specs.Order.{todo}
 use Rattle.shogi_search.specs.Visits.{moves_at, IsKnownWhile}
 use Rattle.shogi_search.specs.Stack.{left_of_frame, left_of_waiting}
-use Rattle.shogi_search.specs.declared.bounds.TheConstants.{SEARCH_DEPTH_MAX, INFINITY}
+use Rattle.shogi_search.specs.declared.bounds.TheConstants.{SEARCH_DEPTH_MAX, INFINITY, PROMOTION_GAIN_MAX}
 use Rattle.shogi_search.specs.declared.frame.Frame.{Frame}
 use Rattle.shogi_search.specs.declared.move_picker.MovePicker.{MovePicker}
 use Rattle.shogi_search.specs.declared.frame.Waiting.{Waiting}
@@ -70,31 +73,70 @@ drop_worth p e d kind first c score loss valid deep near h l same k =
     let at : worth p e (d - 1) c ≡ worth p e (d - 1) (code_of (Drop kind to)) = ap (worth p e (d - 1)) is in
     omega (arith, ints, most, at, same to fits legal)
 
+-- no promotion gains more than that of a pawn
+most_of_role : (role : Role) → value_of (promoted role) - value_of role ≤ PROMOTION_GAIN_MAX
+most_of_role King = omega arith
+most_of_role Pawn = omega arith
+most_of_role Lance = omega arith
+most_of_role Knight = omega arith
+most_of_role Silver = omega arith
+most_of_role Gold = omega arith
+most_of_role Bishop = omega arith
+most_of_role Rook = omega arith
+most_of_role PromotedPawn = omega arith
+most_of_role PromotedLance = omega arith
+most_of_role PromotedKnight = omega arith
+most_of_role PromotedSilver = omega arith
+most_of_role Horse = omega arith
+most_of_role Dragon = omega arith
+
+promotion_most : (cell : Option Piece) → promotion_gain true cell ≤ PROMOTION_GAIN_MAX
+promotion_most None = omega arith
+promotion_most (Some piece) = most_of_role piece.role
+
 no_promotion : (cell : Option Piece) → promotion_gain false cell ≡ 0
 no_promotion None = refl
 no_promotion (Some piece) = refl
 
-nothing_taken : (cell : Option Piece) → not (is_some cell) ≡ true → cell ≡ None
-nothing_taken None h = refl
-nothing_taken (Some piece) h = cc
+-- a move on the board gains what it takes and what its promotion adds
+gain_worth : (p : Shogi) (e : Eval) (d c from to : ℕ) (promote : Bool) (loss : ℤ) → IsValid p → 0 < d → d ≤ 2 → pos 0 ≤ℤ loss → (d ≡ 2 → LosesAtMost p.hands (opponent_of p.side) e loss) → from < 81 → to < 81 → c ≡ code_of (Board from to promote) → is_legal_code p c ≡ true → legal_codes (after_code p c) ≢ []
+    → worth p e (d - 1) c ≤ℤ (material_of p e +ℤ pos (taken_gain e (piece_at p.cells to) + promotion_gain promote (piece_at p.cells from)) +ℤ loss)
+gain_worth p e d c from to promote loss valid deep near h l from_fits to_fits is listed replied =
+    let back : move_of (code_of (Board from to promote)) ≡ Some (Board from to promote) = move_of-board from to promote from_fits to_fits in
+    let legal : is_legal p (Board from to promote) ≡ true = sym (is_legal_code_of p c (Board from to promote) (ap move_of is ∙ back)) ∙ listed in
+    let made : after_code p c ≡ after p (Board from to promote) = ap (after_code p) is ∙ after_code_of p (Board from to promote) back in
+    let law : material_of (after p (Board from to promote)) e ≡ pos 0 -ℤ (material_of p e +ℤ pos (taken_gain e (piece_at p.cells to) + promotion_gain promote (piece_at p.cells from))) = material_at_board p e (Board from to promote) from to promote refl valid from_fits to_fits legal in
+    let most : worth p e (d - 1) (code_of (Board from to promote)) ≤ℤ negated (material_of (after p (Board from to promote)) e -ℤ loss) = worth_ahead p e d loss (Board from to promote) valid back legal deep near h l (subst (λ (q : Shogi). legal_codes q ≢ []) made replied) in
+    let at : worth p e (d - 1) c ≡ worth p e (d - 1) (code_of (Board from to promote)) = ap (worth p e (d - 1)) is in
+    omega (arith, ints, most, at, law)
 
--- moves that neither take nor promote leave the material as it is
-quiet_worth : (p : Shogi) (e : Eval) (d first c : ℕ) (loss : ℤ) → IsValid p → 0 < d → d ≤ 2 → pos 0 ≤ℤ loss → (d ≡ 2 → LosesAtMost p.hands (opponent_of p.side) e loss) → IsCertainQuiet p first c → worth p e (d - 1) c ≤ℤ (material_of p e +ℤ loss)
-quiet_worth p e d first c loss valid deep near h l k =
+nothing_taken : (e : Eval) (cell : Option Piece) → not (is_some cell) ≡ true → taken_gain e cell ≡ 0
+nothing_taken e None h = refl
+nothing_taken e (Some piece) h = cc
+
+-- moves that take nothing gain no more than this
+quiet_worth : (p : Shogi) (e : Eval) (d : ℕ) (among : Destinations) (first c most : ℕ) (loss : ℤ) → IsValid p → 0 < d → d ≤ 2 → pos 0 ≤ℤ loss → (d ≡ 2 → LosesAtMost p.hands (opponent_of p.side) e loss) → PromotesWithin most among → IsCertainMove p false among first c → worth p e (d - 1) c ≤ℤ (material_of p e +ℤ pos most +ℤ loss)
+quiet_worth p e d among first c most loss valid deep near h l within k =
     let from : ℕ = c / SQUARE_CODES in
     let to : ℕ = c / 2 % 81 in
     let from_fits : from < 81 = omega (arith, k.on_board) in
     let to_fits : to < 81 = omega arith in
-    let is : c ≡ code_of (Board from to false) = omega (arith, k.plain) in
-    let back : move_of (code_of (Board from to false)) ≡ Some (Board from to false) = move_of-board from to false from_fits to_fits in
-    let parts : (is_legal p (Board from to false) ≡ true) × (not (is_some (piece_at p.cells to)) ≡ true) = and_parts _ _ (sym (matching_move p false (Board from to false) back) ∙ (ap (is_matching p false) (sym is) ∙ k.quiet)) in
-    let made : after_code p c ≡ after p (Board from to false) = ap (after_code p) is ∙ after_code_of p (Board from to false) back in
-    let law : material_of (after p (Board from to false)) e ≡ pos 0 -ℤ (material_of p e +ℤ pos (taken_gain e (piece_at p.cells to) + promotion_gain false (piece_at p.cells from))) = material_at_board p e (Board from to false) from to false refl valid from_fits to_fits parts.0 in
-    let taken : taken_gain e (piece_at p.cells to) ≡ 0 = ap (taken_gain e) (nothing_taken (piece_at p.cells to) parts.1) in
-    let promoted : promotion_gain false (piece_at p.cells from) ≡ 0 = no_promotion (piece_at p.cells from) in
-    let most : worth p e (d - 1) (code_of (Board from to false)) ≤ℤ negated (material_of (after p (Board from to false)) e -ℤ loss) = worth_ahead p e d loss (Board from to false) valid back parts.0 deep near h l (subst (λ (q : Shogi). legal_codes q ≢ []) made k.replied) in
-    let at : worth p e (d - 1) c ≡ worth p e (d - 1) (code_of (Board from to false)) = ap (worth p e (d - 1)) is in
-    omega (arith, ints, most, at, law, taken, promoted)
+    let legal : is_legal_code p c ≡ true = (and_parts _ _ k.matching).0 in
+    elim (cases_eq (c % 2) 0) [
+      | inl even ↦ (
+          let is : c ≡ code_of (Board from to false) = omega (arith, even) in
+          let parts : (is_legal p (Board from to false) ≡ true) × (not (is_some (piece_at p.cells to)) ≡ true) = and_parts _ _ (sym (matching_move p false (Board from to false) (move_of-board from to false from_fits to_fits)) ∙ (ap (is_matching p false) (sym is) ∙ k.matching)) in
+          let none : promotion_gain false (piece_at p.cells from) ≡ 0 = no_promotion (piece_at p.cells from) in
+          let worth_most : _ = gain_worth p e d c from to false loss valid deep near h l from_fits to_fits is legal k.replied in
+          omega (arith, ints, worth_most, nothing_taken e (piece_at p.cells to) parts.1, none))
+      | inr odd ↦ (
+          let is : c ≡ code_of (Board from to true) = omega (arith, odd) in
+          let parts : (is_legal p (Board from to true) ≡ true) × (not (is_some (piece_at p.cells to)) ≡ true) = and_parts _ _ (sym (matching_move p false (Board from to true) (move_of-board from to true from_fits to_fits)) ∙ (ap (is_matching p false) (sym is) ∙ k.matching)) in
+          let fits : PROMOTION_GAIN_MAX ≤ most = within to (k.promoting (omega (arith, odd))) in
+          let more : promotion_gain true (piece_at p.cells from) ≤ PROMOTION_GAIN_MAX = promotion_most (piece_at p.cells from) in
+          let worth_most : _ = gain_worth p e d c from to true loss valid deep near h l from_fits to_fits is legal k.replied in
+          omega (arith, ints, worth_most, nothing_taken e (piece_at p.cells to) parts.1, fits, more))
+    ]
 
 -- a threshold rises with the code
 pub threshold_rises : (best_value : ℤ) (b : Option ℕ) (first c : ℕ) → first ≤ c → threshold best_value b first ≤ℤ threshold best_value b c
@@ -120,15 +162,15 @@ drops_covered p e d kind first codes left alpha best_value score loss b valid de
     omega (arith, ints, most, up, low))
     k
 
--- and moves that take nothing
-pub quiets_covered : (p : Shogi) (e : Eval) (d first : ℕ) (codes left : List ℕ) (alpha best_value loss : ℤ) (b : Option ℕ) → IsValid p → 0 < d → d ≤ 2 → pos 0 ≤ℤ loss → (d ≡ 2 → LosesAtMost p.hands (opponent_of p.side) e loss) → (material_of p e +ℤ loss) ≤ℤ threshold best_value b first
-    → IsPassed (IsCertainQuiet p first) codes left → IsCovered (worth p e (d - 1)) (moves_at p d) codes alpha best_value b → IsCovered (worth p e (d - 1)) (moves_at p d) left alpha best_value b
-quiets_covered p e d first codes left alpha best_value loss b valid deep near h l low passed k =
-    covered_passed (worth p e (d - 1)) (IsCertainQuiet p first) (moves_at p d) codes left alpha best_value b passed
+-- and moves on the board that take nothing
+pub quiets_covered : (p : Shogi) (e : Eval) (d : ℕ) (among : Destinations) (first : ℕ) (codes left : List ℕ) (alpha best_value loss : ℤ) (most : ℕ) (b : Option ℕ) → IsValid p → 0 < d → d ≤ 2 → pos 0 ≤ℤ loss → (d ≡ 2 → LosesAtMost p.hands (opponent_of p.side) e loss) → PromotesWithin most among → (material_of p e +ℤ pos most +ℤ loss) ≤ℤ threshold best_value b first
+    → IsPassed (IsCertainMove p false among first) codes left → IsCovered (worth p e (d - 1)) (moves_at p d) codes alpha best_value b → IsCovered (worth p e (d - 1)) (moves_at p d) left alpha best_value b
+quiets_covered p e d among first codes left alpha best_value loss most b valid deep near h l within low passed k =
+    covered_passed (worth p e (d - 1)) (IsCertainMove p false among first) (moves_at p d) codes left alpha best_value b passed
     (λ c is.
-    let most : worth p e (d - 1) c ≤ℤ (material_of p e +ℤ loss) = quiet_worth p e d first c loss valid deep near h l is in
+    let worth_most : worth p e (d - 1) c ≤ℤ (material_of p e +ℤ pos most +ℤ loss) = quiet_worth p e d among first c most loss valid deep near h l within is in
     let up : threshold best_value b first ≤ℤ threshold best_value b c = threshold_rises best_value b first c is.above in
-    omega (arith, ints, most, up, low))
+    omega (arith, ints, worth_most, up, low))
     k
 
 -- so what is left does not grow

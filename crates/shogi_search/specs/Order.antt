@@ -9,8 +9,9 @@ use Rattle.shogi_core.specs.Position.{Shogi}
 use Rattle.shogi_moves.specs.Captures.{matches_kind}
 use Rattle.shogi_moves.specs.LegalMoves.{legal_codes, legal_from}
 use Rattle.shogi_moves.specs.Rising.{is_in}
-use Rattle.shogi_moves.specs.Sweeps.{IsBoardSweep, IsDropSweep, IsPassed, IsCertainQuiet, IsCertainDrop}
+use Rattle.shogi_moves.specs.Sweeps.{IsBoardSweep, IsDropSweep, IsPassed, IsCertainMove, IsCertainDrop}
 use Rattle.shogi_moves.specs.Walks.{IsNextOf, TakesNext}
+use Rattle.shogi_moves.specs.declared.destinations.Destinations.{Destinations}
 use Rattle.shogi_moves.specs.declared.sweep.BoardSweep.{BoardSweep}
 use Rattle.shogi_moves.specs.declared.sweep.DropSweep.{DropSweep}
 use Rattle.shogi_search.specs.Minimax.{sum_of_tree_sizes, tree_size}
@@ -96,7 +97,7 @@ TakesFromSweep p picked old new = IsNextOf picked (todo p old) (todo p new) (tod
 abbrev pub TakesFirst : Shogi → Option Move → List ℕ → MovePicker → Type 0
 TakesFirst p picked codes new = TakesNext picked codes (todo p new)
 
--- the moves that take nothing are under way, from a code on
+-- the moves on the board that take nothing are under way, from a code on
 abbrev pub IsAtQuiets : MovePicker → ℕ → Type 0
 IsAtQuiets (HashMove f) code = ⊥
 IsAtQuiets (Start hash_move) code = ⊥
@@ -114,10 +115,11 @@ IsAtDrops (Quiets hash_move s) kind code = ⊥
 IsAtDrops (Drops hash_move s) kind code = (s.kind ≡ kind) × (s.code ≡ code)
 IsAtDrops Done kind code = ⊥
 
--- where the moves that take nothing are under way, some of them are passed that surely have a reply
-abbrev pub PassesQuiets : Shogi → MovePicker → MovePicker → Type 0
-PassesQuiets p old new =
-    (code : ℕ) → IsAtQuiets old code → IsPassed (IsCertainQuiet p code) (todo p old) (todo p new)
+-- where the moves on the board that take nothing are under way, some of them are passed that surely have a reply
+abbrev pub PassesQuiets : Shogi → Destinations → MovePicker → MovePicker → Type 0
+PassesQuiets p among old new =
+    (code : ℕ) → IsAtQuiets old code
+    → IsPassed (IsCertainMove p false among code) (todo p old) (todo p new)
 
 -- and so are drops, where those of a kind are under way
 abbrev pub PassesDrops : Shogi → MovePicker → MovePicker → Type 0

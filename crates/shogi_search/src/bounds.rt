@@ -8,3 +8,6 @@ pub const INFINITY: i32 = 31_000;
 
 /// The greatest depth of a search (own choice).
 pub const SEARCH_DEPTH_MAX: u8 = 16;
+
+/// The most that a promotion gains, that of a pawn.
+pub const PROMOTION_GAIN_MAX: u32 = 500;

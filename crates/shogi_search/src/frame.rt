@@ -11,21 +11,21 @@ ghost use Rattle.shogi_eval.specs.Material.{drop_gain};
 ghost use Rattle.shogi_eval.specs.declared.points.TheConstants.{POINTS_MAX};
 ghost use Rattle.shogi_search.specs.Minimax.{value, negated};
 ghost use Rattle.shogi_search.specs.Entries.{IsCutoff};
-ghost use Rattle.shogi_search.specs.Losses.{LosesAtMost, KindLosesAtMost};
+ghost use Rattle.shogi_search.specs.Losses.{LosesAtMost, KindLosesAtMost, PromotesWithin};
 ghost use Rattle.shogi_search.specs.Threats.{IsThreatIn};
 ghost use Rattle.shogi_search.specs.Order.{todo, BeginsWith, IsListed, IsWithinTree, IsKept, IsKept-prop};
 ghost use Rattle.shogi_search.specs.Visits.{IsKnownWhile, IsKnownWhile-prop, IsCurrent, WhereCurrent, IsFree};
 ghost use Rattle.shogi_search.specs.Window.{code_at};
 ghost use Rattle.shogi_search.specs.declared.bounds.TheConstants.{SEARCH_DEPTH_MAX, INFINITY, MATE};
 
-use crate::bounds::MATE;
+use crate::bounds::{MATE, PROMOTION_GAIN_MAX};
 use crate::memo::Entry;
 use crate::move_picker::MovePicker;
 use crate::threat::{Threat, greatest_threat};
 use crate::window::{threshold, threshold_at};
 use shogi_core::{Color, Kind, Move, Position};
 use shogi_eval::{Eval, Node, drop_gain};
-use shogi_moves::{Replies, escape_squares, has_legal, leaves_escape};
+use shogi_moves::{Destinations, Replies, escape_squares, has_legal, leaves_escape};
 
 /// What a node waits for.
 #[derive(Clone, Copy)]
@@ -149,6 +149,18 @@ fn loss_of_drops(p: &Position, side: Color, e: Eval) -> i32
     match e {
         Eval::Plain => 0,
         Eval::Hand => loss_of_hand(p, side) as i32,
+    }
+}
+
+/// The empty squares, for moves with promotion only where no promotion gains more than this.
+#[inline(always)]
+fn quiet_squares(p: &Position, most: u32) -> Destinations
+    ensures { PromotesWithin most result }
+{
+    let plain = p.as_board().free();
+    Destinations {
+        plain,
+        promoting: if most < PROMOTION_GAIN_MAX { 0 } else { plain },
     }
 }
 
@@ -514,9 +526,9 @@ impl Frame {
         true
     }
 
-    /// Passes the next moves of a node of depth 1 or 2 that take nothing and do not promote, while
-    /// it is certain without making them that the other side has a legal move, where no such move
-    /// is worth enough.
+    /// Passes the next moves of a node of depth 1 or 2 on the board that take nothing, while it is
+    /// certain without making them that the other side has a legal move, where no such move is
+    /// worth enough; those that promote only where no promotion is.
     fn prune_quiets(&mut self)
         requires next { self.old.waiting ≡ Waiting.Next }
         requires deep { 0 < self.old.depth }
@@ -527,12 +539,14 @@ impl Frame {
             return;
         };
         let threshold = threshold_at(self.best_value, &self.best_move, code);
-        if self.node.score() + self.loss_after() > threshold {
+        let room = threshold - self.loss_after() - self.node.score();
+        if room < 0 {
             return;
         }
+        let among = quiet_squares(self.node.as_position(), room as u32);
         let escapes = self.known_escapes();
         self.picker
-            .pass_quiets(self.node.as_position(), &self.replies, escapes);
+            .pass_quiets(self.node.as_position(), &among, &self.replies, escapes);
     }
 
     /// The same of the drops of the kind that is under way.

@@ -9,7 +9,7 @@ ghost use Rattle.shogi_moves.specs.Sweeps.{IsBoardSweep, IsDropSweep};
 ghost use Rattle.shogi_search.specs.Order.{drops_to_come, is_hash_move, quiets_to_come, todo, todo_after, BeginsWith, IsAtDrops, IsAtQuiets, IsKept, PassesDrops, PassesQuiets, TakesBoardPick, TakesDropPick, TakesFirst, TakesFromSweep};
 
 use shogi_core::{Kind, Move, Position};
-use shogi_moves::{BoardSweep, CheckInfo, DropSweep, Replies, check_info_of};
+use shogi_moves::{BoardSweep, CheckInfo, Destinations, DropSweep, Replies, check_info_of};
 
 /// How far the visits of a node's moves have come: the hash move, and what is still to come of the
 /// captures, of the quiet board moves and of the drops.
@@ -167,29 +167,34 @@ impl MovePicker {
         None
     }
 
-    /// The code to continue from where the moves that take nothing are under way, and the present
-    /// piece can promote by none of them.
+    /// The code to continue from where the moves on the board that take nothing are under way.
     pub fn quiets(&self) -> Option<u16>
         ensures { IfSome result (IsAtQuiets self.now) }
     {
         match self {
-            MovePicker::Quiets(_, sweep) if sweep.destinations.promoting == 0 => Some(sweep.code),
+            MovePicker::Quiets(_, sweep) => Some(sweep.code),
             _ => None,
         }
     }
 
-    /// Passes the next moves to visit, as long as they take nothing, do not promote, and the other
-    /// side surely has a legal move after them.
+    /// Passes the next moves to visit, as long as they are on the board, take nothing, end on one of
+    /// the squares, and the other side surely has a legal move after them.
     #[tactic(auto, using(crate::proofs::MatchingOthers::passing_others))]
-    pub fn pass_quiets(&mut self, p: &Position, replies: &Replies, escapes: u128)
+    pub fn pass_quiets(
+        &mut self,
+        p: &Position,
+        among: &Destinations,
+        replies: &Replies,
+        escapes: u128,
+    )
         requires kept { IsKept p.now self.old }
         requires replies { IsReplies p.now replies.now.sight replies.now.spare }
         requires escapes { AreEscapes p.now escapes }
         ensures kept { IsKept p.now self.new }
-        ensures passed { PassesQuiets p.now self.old self.new }
+        ensures passed { PassesQuiets p.now among.now self.old self.new }
     {
         if let MovePicker::Quiets(_, sweep) = self {
-            sweep.pass_quiets(p, replies, escapes);
+            sweep.pass_certain(p, false, among, replies, escapes);
         }
     }
 

@@ -1,4 +1,4 @@
-use Rattle.std.proofs.Common.{◌<◌, ◌^◌, false}
+use Rattle.std.proofs.Common.{◌<◌, ◌^◌}
 use Rattle.shogi_core.specs.declared.moves.Move.TheVariants.{Board}
 use Rattle.shogi_moves.specs.Replies.{IsAnswered}
 use Rattle.shogi_moves.proofs.EscapeLaws.{PassesTried}
@@ -6,7 +6,7 @@ use Rattle.shogi_moves.proofs.escapes.escaped_destinations.Given as goal
 
 abbrev pub invariant-loop-left : goal.invariant-loop-left
 invariant-loop-left l = record {
-  tried : PassesTried l.destinations l.left l.kept (λ n. IsAnswered l.p (Board l.from n false));
+  tried : PassesTried l.destinations l.left l.kept (λ n. IsAnswered l.p (Board l.from n l.promote));
   left : l.left < 2 ^ 81;
   fits : l.kept < 2 ^ 81;
 }

@@ -1,4 +1,4 @@
-use Rattle.std.proofs.Common.{◌≡◌, ◌<◌, ◌^◌, ℕ, true, false}
+use Rattle.std.proofs.Common.{◌≡◌, ◌<◌, ◌^◌, ℕ, true}
 use Rattle.shogi_core.specs.Bits.{has_bit}
 use Rattle.shogi_core.specs.Cell.{is_piece_of}
 use Rattle.shogi_core.specs.Movement.{piece_at}
@@ -8,10 +8,10 @@ use Rattle.shogi_moves.proofs.sweep.BoardSweep.pass_pieces.Given as goal
 
 abbrev pub invariant-squares : goal.invariant-squares
 invariant-squares l = record {
-  kept : IsBoardSweep l.p false l.self;
+  kept : IsBoardSweep l.p l.capture l.self;
   none : (l.self.destinations.plain ≡ 0) × (l.self.destinations.promoting ≡ 0);
-  passed : IsPassedTo l.p l.fn.self.code l.self.code;
-  matching : HasMatchingOn l.p false l.self.code l.left;
+  passed : IsPassedTo l.p l.capture l.among l.fn.self.code l.self.code;
+  matching : HasMatchingOn l.p l.capture l.self.code l.left;
   fits : l.left < 2 ^ 81;
   mine : (n : ℕ) → n < 81 → has_bit l.left n ≡ true → (l.self.from < n) × (is_piece_of l.p.side (piece_at l.p.cells n) ≡ true);
 }

@@ -1,0 +1,10 @@
+use Rattle.std.proofs.Common.{◌∙◌, arith, bit_and}
+use Rattle.std.proofs.lemmas.Bool.{eqb-true}
+use Rattle.shogi_moves.proofs.DestinationLaws.{among_bits}
+use Rattle.shogi_moves.proofs.Passes.{certain_moves}
+use Rattle.shogi_moves.proofs.replies.Replies.has_certain_moves.Goals as goal
+
+pub returns : goal.returns
+returns c = λ e. certain_moves c.args.p.now c.args.capture c.args.among.now c.args.from (bit_and c.targets.result c.matching_destinations.result) c.promoting_squares.result c.certain_destinations-certain.result c.certain_destinations-promoted.result
+    (λ n h. among_bits c.targets.result c.matching_destinations.result n _ _ (rw c.as_board.ensures at c.targets.ensures.squares.0 n h) (c.matching_destinations.ensures.squares.0 n h))
+    (rw c.at.ensures at c.promoting_squares.ensures.squares.0) (omega arith) (omega arith) c.certain_destinations-certain.ensures.certain c.certain_destinations-promoted.ensures.certain (eqb-true _ 0 e)
