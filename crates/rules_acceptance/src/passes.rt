@@ -2,7 +2,7 @@
 
 use crate::legal_moves::{position, read};
 use shogi_core::Color::Black;
-use shogi_core::bits::{ALL_SQUARES, cleared, with};
+use shogi_core::bits::{ALL_SQUARES, with};
 use shogi_core::{Move, Position, Square};
 use shogi_moves::{BoardSweep, Destinations, DropSweep, Replies, check_info_of, escape_squares};
 use std::test::Fail;
@@ -37,12 +37,10 @@ fn quiet_moves_and_a_promotion(rt: HostRuntime) -> Result<(), Fail> {
 #[test]
 fn a_capture(rt: HostRuntime) -> Result<(), Fail> {
     let p = position(b"2k6/9/9/4p4/4P4/8p/9/9/K8", b"", Black)?;
-    let taken = Square::new(5, 4).ok_or("a square")?;
+    let taken = with(0, Square::new(5, 4).ok_or("a square")?.index());
     assert!(rt; first_left(&p, true, ALL_SQUARES, 0).is_none());
-    assert!(rt; first_left(&p, true, with(0, taken.index()), 0).is_none());
-    assert!(rt;
-        first_left(&p, true, cleared(ALL_SQUARES, taken.index()), 0) == Some(read(b"5e5d "))
-    );
+    assert!(rt; first_left(&p, true, taken, 0).is_none());
+    assert!(rt; first_left(&p, true, ALL_SQUARES & !taken, 0) == Some(read(b"5e5d ")));
     Ok(())
 }
 
