@@ -17,22 +17,36 @@ POSITIONS = {
 DEPTHS = {"opening": 6, "middle game": 5, "end of a game": 5}
 TABLES = [1, 16, 256, 4_096, 65_536, 1_000_000]
 TABLE_DEPTH = 4
-TRIES = 3
+TRIES = 15
 
 
 def search(name, depth, entries):
-    """The steps of a search, and the least of so many times, in milliseconds."""
+    """The steps of a search, and its time in milliseconds."""
     line = f"search {depth} {entries} {POSITIONS[name]}\n"
-    ended = subprocess.run(
-        [MEASURE], input=line * TRIES, stdout=subprocess.PIPE, text=True, check=True
-    )
-    answers = [answer.split() for answer in ended.stdout.splitlines()]
-    return int(answers[0][4]), min(float(answer[5]) for answer in answers) * 1000
+    ended = subprocess.run([MEASURE], input=line, stdout=subprocess.PIPE, text=True, check=True)
+    answer = ended.stdout.split()
+    return int(answer[4]), float(answer[5]) * 1000
+
+
+def searches(requests):
+    """The steps of each search, and the least of so many times. They go by turns, so that a while in
+    which the machine is slow tells on none of them alone."""
+    found = {}
+    for _ in range(TRIES):
+        for request in requests:
+            steps, ms = search(*request)
+            found[request] = steps, min(ms, found.get(request, (steps, ms))[1])
+    return found
 
 
 def main():
-    times = {name: [(d, *search(name, d, 0)) for d in range(1, DEPTHS[name] + 1)] for name in POSITIONS}
-    tables = {name: [(n, *search(name, TABLE_DEPTH, n)) for n in TABLES] for name in POSITIONS}
+    depths = {name: range(1, DEPTHS[name] + 1) for name in POSITIONS}
+    found = searches(
+        [(name, d, 0) for name in POSITIONS for d in depths[name]]
+        + [(name, TABLE_DEPTH, n) for name in POSITIONS for n in TABLES]
+    )
+    times = {name: [(d, *found[name, d, 0]) for d in depths[name]] for name in POSITIONS}
+    tables = {name: [(n, *found[name, TABLE_DEPTH, n]) for n in TABLES] for name in POSITIONS}
     plot(
         "time",
         "Time of a search without a table",

@@ -16,7 +16,7 @@ PROGRAM = os.path.join(FOLDER, "out", "usi_host")
 FAIRY = shutil.which("fairy-stockfish", path=os.environ.get("PATH", "") + ":/usr/games")
 OF_SHOGI = "uci\nsetoption name UCI_Variant value shogi\nposition startpos\n"
 DEPTHS = range(1, 8)
-TRIES = 3
+TRIES = 15
 
 
 def build():

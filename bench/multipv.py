@@ -12,7 +12,7 @@ from report import TOP, put, table
 PROGRAM = os.path.join(TOP, "crates", "usi_host", "out", "usi_host")
 DEPTHS = {"opening": [3, 4, 5, 6], "middle game": [3, 4], "end of a game": [3, 4]}
 LINES = [1, 2, 4, 8]
-TRIES = 3
+TRIES = 15
 
 
 def ask(program, line):
@@ -39,11 +39,18 @@ def seconds(position, depth, lines):
 
 
 def main():
-    rows = []
-    for name, position in POSITIONS.items():
-        for depth in DEPTHS[name]:
-            least = [min(seconds(position, depth, lines) for _ in range(TRIES)) for lines in LINES]
-            rows.append([name, str(depth), *(f"{1000 * each:.1f}" for each in least)])
+    runs = [(name, depth, lines) for name in POSITIONS for depth in DEPTHS[name] for lines in LINES]
+    least = {}
+    # by turns, so that a while in which the machine is slow tells on none of them alone
+    for _ in range(TRIES):
+        for name, depth, lines in runs:
+            took = seconds(POSITIONS[name], depth, lines)
+            least[name, depth, lines] = min(took, least.get((name, depth, lines), took))
+    rows = [
+        [name, str(depth), *(f"{1000 * least[name, depth, lines]:.1f}" for lines in LINES)]
+        for name in POSITIONS
+        for depth in DEPTHS[name]
+    ]
     text = table(["Position", "Depth", *(f"{lines} lines" if lines > 1 else "1 line" for lines in LINES)], rows)
     print(text)
     put("multipv", text)
