@@ -529,6 +529,43 @@ fn a_piece_before_a_slider_is_pinned(rt: HostRuntime) -> Result<(), Fail> {
     Ok(())
 }
 
+/// Whether the squares on which another piece may answer the check of the side are exactly these.
+fn answers_only(side: Color, pieces: &[Placed], squares: &[(u8, u8)]) -> Result<bool, Fail> {
+    let mask = board(pieces)?.answers(side);
+    for index in 0..81 {
+        let at = Square::of_index(index);
+        if has(mask, index) != squares.contains(&(at.file(), at.rank())) {
+            return Ok(false);
+        }
+    }
+    Ok(true)
+}
+
+#[test]
+fn a_check_is_answered_on_its_way(rt: HostRuntime) -> Result<(), Fail> {
+    let king = (Color::Black, Role::King, 5, 5);
+    for ((role, file, rank), squares) in [
+        ((Role::Rook, 5, 1), [(5, 1), (5, 2), (5, 3), (5, 4)]),
+        ((Role::Horse, 9, 9), [(9, 9), (8, 8), (7, 7), (6, 6)]),
+        ((Role::Lance, 5, 2), [(5, 2), (5, 3), (5, 4), (5, 4)]),
+        ((Role::Knight, 4, 3), [(4, 3), (4, 3), (4, 3), (4, 3)]),
+        ((Role::Gold, 5, 4), [(5, 4), (5, 4), (5, 4), (5, 4)]),
+    ] {
+        let attacker = (Color::White, role, file, rank);
+        assert!(rt;
+            answers_only(Color::Black, &[king, attacker], &squares)?,
+            "{attacker:?}"
+        );
+    }
+    let shut = [
+        king,
+        (Color::White, Role::Rook, 5, 1),
+        (Color::Black, Role::Pawn, 5, 3),
+    ];
+    assert!(rt; answers_only(Color::Black, &shut, &[])?, "no check");
+    Ok(())
+}
+
 #[test]
 fn nothing_else_is_pinned(rt: HostRuntime) -> Result<(), Fail> {
     let king = (Color::Black, Role::King, 5, 5);

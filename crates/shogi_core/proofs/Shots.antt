@@ -197,7 +197,7 @@ module _ (cells : Cells) (color : Color) (square : ℕ) (low : square < 81) wher
       go None a f = absurd (cc)
       go (Some piece) a f = or_left _ _ f
 
-  shot_attacks : some_below 8 (is_shot_along cells color square) ≡ true → is_attacked cells color square ≡ true
+  pub shot_attacks : some_below 8 (is_shot_along cells color square) ≡ true → is_attacked cells color square ≡ true
   unfolding reaches is_shot_along
   shot_attacks e =
       let way = some_below_which 8 (is_shot_along cells color square) e in

@@ -222,7 +222,7 @@ module _ (old new : Cells) (to : ℕ) (shut : (x : ℕ) → is_none (piece_at ol
       ]
 
   -- where the end is on no such line with s, a slide to s is still there
-  slide_stays : (o : Offset) (a s : ℕ) → slides old o to s ≡ false → slides old o a s ≡ true → slides new o a s ≡ true
+  pub slide_stays : (o : Offset) (a s : ℕ) → slides old o to s ≡ false → slides old o a s ≡ true → slides new o a s ≡ true
   slide_stays o a s off e =
       let which = some_below_which 8 (slides_across old o a s) e in
       let n = which.0 in
@@ -237,43 +237,3 @@ module _ (old new : Cells) (to : ℕ) (shut : (x : ℕ) → is_none (piece_at ol
             let further : i + 1 + (j + 1) ≡ i + 1 + j + 1 = omega arith in
             ap (is_empty old) (away_on (i + 1) (j + 1) o a to at ∙ ap (λ (k : ℕ). away k o a) further) ∙ all_below_at n (is_step_empty old o a) (i + 1 + j) parts.1 (omega arith))))))
       ])))
-
-  has_slide_stays : (piece : Piece) (a s : ℕ) → are_lined old to s ≡ false → has_slide old piece a s ≡ true → has_slide new piece a s ≡ true
-  unfolding are_lined
-  has_slide_stays piece a s off e = each (slides_of piece.role) (slides_around piece.color piece.role) e
-    where
-      each : (os : List Offset) → list_all (λ o. list_any (same_way (for_side piece.color o)) around) os ≡ true → list_any (λ o. slides old (for_side piece.color o) a s) os ≡ true → list_any (λ o. slides new (for_side piece.color o) a s) os ≡ true
-      each [] all e = e
-      each (o ∷ os) all e =
-          let parts : (list_any (same_way (for_side piece.color o)) around ≡ true) × (list_all (λ p. list_any (same_way (for_side piece.color p)) around) os ≡ true) = and_parts _ _ all in
-          let far : slides old (for_side piece.color o) to s ≡ false = false_from_ne_true _ (λ lined. both_ways (list_any (λ d. slides old d to s) around) off (one_of (λ d. slides old d to s) (for_side piece.color o) around parts.0 lined)) in
-          elim (or_cases _ _ e) [
-            | inl here ↦ or_left _ _ (slide_stays (for_side piece.color o) a s far here)
-            | inr later ↦ or_right (slides new (for_side piece.color o) a s) _ (each os parts.1 later)
-          ]
-
-  -- a move that takes no attacker, moves no king and ends on no open line with one leaves the check
-  pub check_stays : (color : Color) → ((a : ℕ) → is_piece_of (opponent_of color) (piece_at old a) ≡ true → piece_at new a ≡ piece_at old a)
-      → ((k : ℕ) → is_king color (piece_at old k) ≡ true → piece_at new k ≡ piece_at old k)
-      → is_lined_with_king old color to ≡ false → in_check old color ≡ true → in_check new color ≡ true
-  unfolding in_check is_lined_with_king reaches
-  check_stays color kept kings off check =
-      let which = some_below_which 81 (is_open_king old color) check in
-      let k = which.0 in
-      let parts : (is_king color (piece_at old k) ≡ true) × (is_attacked old (opponent_of color) k ≡ true) = and_parts _ _ which.2 in
-      let who = some_below_which 81 (is_attacked_from old (opponent_of color) k) parts.1 in
-      let a = who.0 in
-      let both : (is_piece_of (opponent_of color) (piece_at old a) ≡ true) × (reaches old a k ≡ true) = and_parts _ _ who.2 in
-      let same : piece_at new a ≡ piece_at old a = kept a both.0 in
-      let far : are_lined old to k ≡ false = false_from_ne_true _ (λ lined. both_ways (is_line_to_king old color to k) (some_below_not 81 (is_line_to_king old color to) k off which.1) (and_from _ _ parts.0 lined)) in
-      some_below_at 81 (is_open_king new color) k which.1
-      (and_from _ _ (ap (is_king color) (kings k parts.0) ∙ parts.0)
-      (some_below_at 81 (is_attacked_from new (opponent_of color) k) a who.1
-      (and_from _ _ (ap (is_piece_of (opponent_of color)) same ∙ both.0) (ap (λ cell. cell_reaches new cell a k) same ∙ reached (piece_at old a) a k far both.1))))
-    where
-      reached : (cell : Option Piece) (a s : ℕ) → are_lined old to s ≡ false → cell_reaches old cell a s ≡ true → cell_reaches new cell a s ≡ true
-      reached None a s off e = e
-      reached (Some piece) a s off e = elim (or_cases (has_step piece a s) (has_slide old piece a s) e) [
-        | inl step ↦ or_left (has_step piece a s) (has_slide new piece a s) step
-        | inr slide ↦ or_right (has_step piece a s) (has_slide new piece a s) (has_slide_stays piece a s off slide)
-      ]

@@ -1,5 +1,5 @@
 -- Attacks and checks (JSA playing rules, check).
-use Rattle.std.specs.Prelude.{ℕ, ◌≡◌, ◌<◌, ◌&&◌, Bool, true, false, Option, Some, None, is_none, slice_set}
+use Rattle.std.specs.Prelude.{ℕ, ◌≡◌, ◌≢◌, ◌<◌, ◌⊎◌, ◌&&◌, Bool, true, false, Option, Some, None, is_none, slice_set}
 use Rattle.std.specs.List.{list_any}
 use Rattle.shogi_core.specs.declared.offset.Offset.{Offset}
 use Rattle.shogi_core.specs.declared.piece.Color.{Color}
@@ -100,3 +100,22 @@ HasPinned m cells side square = (d n a : ℕ) → d < 8 → n < 81 → a < 81
 abbrev pub OthersAreUnpinned : ℕ → Cells → Color → Type 0
 OthersAreUnpinned m cells side = (n : ℕ) → n < 81 → has_bit m n ≡ false
     → is_piece_of side (piece_at cells n) ≡ true → in_check (slice_set cells n None) side ≡ false
+
+-- where something comes to stand on the square: each other empty square stays empty, and each other piece of the color stays
+pub record FillsOnly (old new : Cells) (color : Color) (to : ℕ) : Type 0 where
+  pub empty : (x : ℕ) → is_none (piece_at old x) ≡ true
+      → (is_none (piece_at new x) ≡ true) ⊎ (x ≡ to)
+  pub kept : (a : ℕ) → a ≢ to → is_piece_of color (piece_at old a) ≡ true
+      → piece_at new a ≡ piece_at old a
+
+-- the square stays attacked, unless something comes to stand on a square of the mask
+abbrev pub StaysAttacked : ℕ → Cells → Color → ℕ → Type 0
+StaysAttacked m cells color square = (new : Cells) (to : ℕ) → to < 81 → has_bit m to ≡ false
+    → FillsOnly cells new color to → is_attacked new color square ≡ true
+
+-- the side stays in check, unless something comes to stand on a square of the mask or a king moves
+abbrev pub StaysInCheck : ℕ → Cells → Color → Type 0
+StaysInCheck m cells side = (new : Cells) (to : ℕ) → to < 81 → has_bit m to ≡ false
+    → FillsOnly cells new (opponent_of side) to
+    → ((k : ℕ) → is_king side (piece_at cells k) ≡ true → piece_at new k ≡ piece_at cells k)
+    → in_check new side ≡ true

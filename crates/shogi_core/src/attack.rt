@@ -1,7 +1,7 @@
 //! Attacks and checks, seen from the square that is attacked.
 
 ghost use Rattle.std.specs.Prelude.{◌≡◌, ◌≢◌, ◌<◌, ◌≤◌, ◌^◌, ℕ, true, false, None, IfSome, IsNone, is_none};
-ghost use Rattle.shogi_core.specs.Attack.{is_attacked, is_open_king, in_check, is_sniper, is_sniping, cell_steps, cell_slides_back, is_step_from, is_shot_along, is_shot, IsOpenLine, HasPinned, HasPinnedAlong, OthersAreUnpinned};
+ghost use Rattle.shogi_core.specs.Attack.{is_attacked, is_open_king, in_check, is_sniper, is_sniping, cell_steps, cell_slides_back, is_step_from, is_shot_along, is_shot, IsOpenLine, HasPinned, HasPinnedAlong, OthersAreUnpinned, StaysAttacked, StaysInCheck};
 ghost use Rattle.shogi_core.specs.Below.{some_below};
 ghost use Rattle.shogi_core.specs.Bits.{HasBits, IsMaskOf, has_bit};
 ghost use Rattle.shogi_core.specs.Cell.{is_king};
@@ -66,21 +66,34 @@ fn steps_to(cell: Option<Piece>, from: usize, to: usize) -> bool
     }
 }
 
-/// Whether a step or a jump of a piece of the side leads to the square.
+/// A piece of the side of which a step or a jump leads to the square, if there is one.
 #[tactic(auto, using(crate::proofs::Shots::stepping))]
-fn is_stepped_on(board: &Board, by: Color, square: usize) -> bool
+fn first_stepper(board: &Board, by: Color, square: usize) -> Option<usize>
     requires { square < 81 }
-    ensures { result ≡ some_below 81 (is_step_from board.now by square) }
+    ensures none { IsNone result → some_below 81 (is_step_from board.now by square) ≡ false }
+    ensures range { IfSome result (λ a. a < 81) }
+    ensures steps { IfSome result (λ a. is_step_from board.now by square a ≡ true) }
 {
     let mut left = board.own(by) & near_squares(square);
     while left != 0 {
         let from = lowest(left);
         if steps_to(board.at(Square::of_index(from)), from, square) {
-            return true;
+            return Some(from);
         }
         left = without_lowest(left, from);
     }
-    false
+    None
+}
+
+/// Whether a step or a jump of a piece of the side leads to the square.
+fn is_stepped_on(board: &Board, by: Color, square: usize) -> bool
+    requires { square < 81 }
+    ensures { result ≡ some_below 81 (is_step_from board.now by square) }
+{
+    match first_stepper(board, by, square) {
+        Some(_) => true,
+        None => false,
+    }
 }
 
 /// Whether what stands there slides against the direction.
@@ -294,6 +307,26 @@ fn pinned_pieces(board: &Board, side: Color, square: usize) -> Option<u128>
     pinned_to(board, side, square, snipers)
 }
 
+/// The squares of which something has to come to stand on one where that ends an attack by the side:
+/// that of one attacker, and those on its way.
+fn answering_squares(board: &Board, by: Color, square: usize) -> u128
+    requires { square < 81 }
+    ensures stays { is_attacked board.now by square ≡ true
+        → StaysAttacked result board.now by square }
+    ensures fits { result < 2 ^ 81 }
+{
+    if let Some(from) = first_stepper(board, by, square) {
+        return with(0, from);
+    }
+    let snipers = sniper_squares(board, by, square);
+    for direction in 0..8 {
+        if is_shot_along(board, by, square, direction, snipers) {
+            return slide_squares(board, direction, square);
+        }
+    }
+    0
+}
+
 impl Board {
     /// The squares on open lines with the square: on its file, its rank or a diagonal, with no
     /// piece between.
@@ -344,6 +377,25 @@ impl Board {
         }
         false
     }
+
+    /// Where the side is in check: squares of which a move that moves no king has to end on one to
+    /// answer it. They are that of one piece that gives check, and those on its way.
+    #[tactic(auto, using(crate::proofs::SeenLaws::open_kings), unfolding(crate::specs::Attack::in_check))]
+    pub fn answers(&self, side: Color) -> u128
+        ensures stays { in_check self.now side ≡ true → StaysInCheck result self.now side }
+        ensures fits { result < 2 ^ 81 }
+    {
+        let mut left = self.kings(side);
+        while left != 0 {
+            let king = lowest(left);
+            if is_open_king(self, side, Square::of_index(king)) {
+                return answering_squares(self, side.opponent(), king);
+            }
+            left = without_lowest(left, king);
+        }
+        0
+    }
+
     /// The squares of pieces of the other side that slide and are on a line with a king of the
     /// side, whatever stands between.
     #[tactic(auto, using(crate::proofs::Snipers::sniping))]

@@ -9,7 +9,7 @@ use Rattle.shogi_core.specs.declared.piece.Kind.{Kind}
 use Rattle.shogi_core.specs.declared.piece.Kind.TheVariants as kinds
 use Rattle.shogi_core.specs.declared.piece.Piece.{Piece}
 use Rattle.shogi_core.specs.declared.moves.Move.TheVariants.{Board, Drop}
-use Rattle.shogi_core.specs.Attack.{in_check, is_attacked, is_open_king}
+use Rattle.shogi_core.specs.Attack.{in_check, is_attacked, is_open_king, StaysInCheck}
 use Rattle.shogi_core.specs.Bits.{has_bit}
 use Rattle.shogi_core.specs.Cell.{is_piece_of, is_king, is_king_role}
 use Rattle.shogi_core.specs.Lines.{are_lined, is_line_to_king, is_lined_with_king}
@@ -18,7 +18,7 @@ use Rattle.shogi_core.specs.Pieces.{opponent_of, is_same_color, role_of}
 use Rattle.shogi_core.specs.Position.{Shogi}
 use Rattle.shogi_core.proofs.Below.{some_below_no}
 use Rattle.shogi_core.proofs.BitLaws.{has_bit-or, has_bit-none}
-use Rattle.shogi_core.proofs.Uncovered.{check_was, check_stays, attacked_was}
+use Rattle.shogi_core.proofs.Uncovered.{check_was, attacked_was}
 use Rattle.shogi_core.proofs.SeenLaws.{lined_back}
 use Rattle.shogi_moves.specs.After.{cells_after, piece_moved, dropped}
 use Rattle.shogi_moves.specs.CheckInfo.{IsCheckInfo, CoversKingLines}
@@ -84,12 +84,12 @@ lifted_unchecked cells side n len h off safe =
     lifted_at : (x : ℕ) → x ≡ n → piece_at (set cells n None) x ≡ None
     lifted_at x here = rw here (get_or-set_same cells n None None (omega arith))
 
-pub check_info_from : (p : Shogi) (checked : Bool) (pinned_or_king : ℕ) → length p.cells ≡ 81 → CoversKingLines p.cells p.side 0 pinned_or_king → pinned_or_king < 2 ^ 81 → checked ≡ in_check p.cells p.side → IsCheckInfo p checked pinned_or_king
+pub check_info_from : (p : Shogi) (checked : Bool) (pinned_or_king : ℕ) → length p.cells ≡ 81 → CoversKingLines p.cells p.side 0 pinned_or_king → pinned_or_king < 2 ^ 81 → checked ≡ false → checked ≡ in_check p.cells p.side → IsCheckInfo p checked pinned_or_king
 unfolding is_lined_with_king
-check_info_from p checked pinned_or_king len h fits e = record {
+check_info_from p checked pinned_or_king len h fits safe e = record {
   check = e;
   kings = λ n l out. false_from_ne_true _ (λ king. both_ways (has_bit pinned_or_king n) out (h.kings n l king));
-  lines = λ _. off_lines;
+  stays = λ c. absurd (both_ways checked safe c);
   free = λ c n l out own. lifted_unchecked p.cells p.side n len l (off_lines n l out) (sym e ∙ c);
   fits = fits;
 }
@@ -125,6 +125,24 @@ filled cells side to v len ht own plain safe =
       | inr other ↦ inr (get_or-set_other cells to x v None other)
     ]
 
+-- ---- where there is a check
+
+-- the kings, and the squares of answers
+pub check_info_answers : (p : Shogi) (kings answers : ℕ) → true ≡ in_check p.cells p.side → kings < 2 ^ 81 → answers < 2 ^ 81 → ((n : ℕ) → n < 81 → has_bit kings n ≡ is_king p.side (piece_at p.cells n)) → StaysInCheck answers p.cells p.side
+    → IsCheckInfo p true (bit_or kings answers)
+check_info_answers p kings answers e low fits k stays = record {
+  check = e;
+  kings = λ n h out. sym (k n h) ∙ (apart n out).0;
+  stays = λ _ new to h out. stays new to h (apart to out).1;
+  free = λ c. absurd (cc);
+  fits = or_lt 81 kings answers low fits;
+}
+  where
+    apart : (n : ℕ) → has_bit (bit_or kings answers) n ≡ false → (has_bit kings n ≡ false) × (has_bit answers n ≡ false)
+    apart n out = or_parts (has_bit kings n) (has_bit answers n) (sym (has_bit-or kings answers n) ∙ out)
+
+pub ruleset with_check = (check_info_answers)
+
 -- ---- where there is no check
 
 -- the kings, and pieces without which there might be one
@@ -134,7 +152,7 @@ pub check_info_unpinned : (p : Shogi) (kings pinned : ℕ) → in_check p.cells 
 check_info_unpinned p kings pinned safe low fits k free = record {
   check = sym safe;
   kings = λ n h out. sym (k n h) ∙ (apart n out).0;
-  lines = λ c. absurd (cc);
+  stays = λ c. absurd (cc);
   free = λ c n h out own. free n h (apart n out).1 own;
   fits = or_lt 81 kings pinned low fits;
 }
@@ -173,23 +191,23 @@ module _ (cells : Cells) (side : Color) (from to : ℕ) (v : Option Piece) (len 
       (λ x left. subst (λ (y : ℕ). is_lined_with_king cells side y ≡ false) (sym left) free)
       safe
 
-  -- a move that takes no attacker and ends on no open line with a king leaves the check
-  pub stays_set : is_piece_of side (piece_at cells from) ≡ true → is_king side (piece_at cells from) ≡ false → is_piece_of (opponent_of side) (piece_at cells to) ≡ false → is_king side (piece_at cells to) ≡ false → is_lined_with_king cells side to ≡ false
-      → in_check cells side ≡ true → in_check (set (set cells from None) to v) side ≡ true
-  stays_set own plain none bare off check =
-      check_stays cells (set (set cells from None) to v) to
-      (λ x e. elim (look x) [
-        | inl there ↦ inr there.0
-        | inr rest ↦ elim rest [ inl here ↦ inl (ap is_none here.1) | inr same ↦ inl (ap is_none same ∙ e) ]
-      ])
-      side
-      (λ a e. elim (look a) [
-        | inl there ↦ absurd (both_ways (is_piece_of (opponent_of side) (piece_at cells to)) none (subst (λ (y : ℕ). is_piece_of (opponent_of side) (piece_at cells y) ≡ true) there.0 e))
-        | inr rest ↦ elim rest [
-          | inl here ↦ absurd (both_ways (is_piece_of (opponent_of side) (piece_at cells from)) (other_side side (piece_at cells from) own) (subst (λ (y : ℕ). is_piece_of (opponent_of side) (piece_at cells y) ≡ true) here.0 e))
-          | inr same ↦ same
-        ]
-      ])
+  -- a move of no king that ends on no square of the mask leaves the check
+  pub stays_set : (m : ℕ) → StaysInCheck m cells side → has_bit m to ≡ false → is_piece_of side (piece_at cells from) ≡ true → is_king side (piece_at cells from) ≡ false → is_king side (piece_at cells to) ≡ false → in_check (set (set cells from None) to v) side ≡ true
+  stays_set m stays out own plain bare =
+      stays (set (set cells from None) to v) to ht out
+      (record {
+        empty = λ x e. elim (look x) [
+          | inl there ↦ inr there.0
+          | inr rest ↦ elim rest [ inl here ↦ inl (ap is_none here.1) | inr same ↦ inl (ap is_none same ∙ e) ]
+        ];
+        kept = λ a off e. elim (look a) [
+          | inl there ↦ absurd (off there.0)
+          | inr rest ↦ elim rest [
+            | inl here ↦ absurd (both_ways (is_piece_of (opponent_of side) (piece_at cells from)) (other_side side (piece_at cells from) own) (subst (λ (y : ℕ). is_piece_of (opponent_of side) (piece_at cells y) ≡ true) here.0 e))
+            | inr same ↦ same
+          ]
+        ];
+      })
       (λ k e. elim (look k) [
         | inl there ↦ absurd (both_ways (is_king side (piece_at cells to)) bare (subst (λ (y : ℕ). is_king side (piece_at cells y) ≡ true) there.0 e))
         | inr rest ↦ elim rest [
@@ -197,7 +215,6 @@ module _ (cells : Cells) (side : Color) (from to : ℕ) (v : Option Piece) (len 
           | inr same ↦ same
         ]
       ])
-      off check
 
   -- a king that is the only one is attacked after its move only where it would be with its square left empty
   pub king_set : is_piece_of side v ≡ true → ((x : ℕ) → x < 81 → x ≢ from → is_king side (piece_at cells x) ≡ false) → is_attacked (set cells from None) (opponent_of side) to ≡ false → in_check (set (set cells from None) to v) side ≡ false
@@ -298,29 +315,22 @@ same_drop cells side a b to len ht = agree _ _ (over a b) (over b a)
     agree true false f g = g refl
     agree false true f g = sym (f refl)
 
--- the same of a drop
-pub stays_drop : (cells : Cells) (side : Color) (kind : Kind) (to : ℕ) → is_none (piece_at cells to) ≡ true → is_lined_with_king cells side to ≡ false → in_check cells side ≡ true → in_check (cells_after cells side (Drop kind to)) side ≡ true
-stays_drop cells side kind to free off check =
-    check_stays cells (set cells to (dropped side kind)) to
-    (λ x e. elim (cases_eq x to) [
-      | inl there ↦ inr there
-      | inr other ↦ inl (ap is_none (get_or-set_other cells to x (dropped side kind) None other) ∙ e)
-    ])
-    side
-    (λ a e. elim (cases_eq a to) [
-      | inl there ↦ absurd (both_ways (is_piece_of (opponent_of side) (piece_at cells to)) (nobody (opponent_of side) (piece_at cells to) free) (subst (λ (y : ℕ). is_piece_of (opponent_of side) (piece_at cells y) ≡ true) there e))
-      | inr other ↦ get_or-set_other cells to a (dropped side kind) None other
-    ])
+-- nor does a drop that ends on none answer it
+pub stays_drop : (m : ℕ) (cells : Cells) (side : Color) (kind : Kind) (to : ℕ) → StaysInCheck m cells side → has_bit m to ≡ false → to < 81 → is_none (piece_at cells to) ≡ true → in_check (cells_after cells side (Drop kind to)) side ≡ true
+stays_drop m cells side kind to stays out ht free =
+    stays (set cells to (dropped side kind)) to ht out
+    (record {
+      empty = λ x e. elim (cases_eq x to) [
+        | inl there ↦ inr there
+        | inr other ↦ inl (ap is_none (get_or-set_other cells to x (dropped side kind) None other) ∙ e)
+      ];
+      kept = λ a off e. get_or-set_other cells to a (dropped side kind) None off;
+    })
     (λ k e. elim (cases_eq k to) [
       | inl there ↦ absurd (both_ways (is_king side (piece_at cells to)) (no_crown (piece_at cells to) free) (subst (λ (y : ℕ). is_king side (piece_at cells y) ≡ true) there e))
       | inr other ↦ get_or-set_other cells to k (dropped side kind) None other
     ])
-    off check
   where
-    nobody : (color : Color) (cell : Option Piece) → is_none cell ≡ true → is_piece_of color cell ≡ false
-    nobody color None e = refl
-    nobody color (Some piece) e = absurd (cc)
-
     no_crown : (cell : Option Piece) → is_none cell ≡ true → is_king side cell ≡ false
     no_crown None e = refl
     no_crown (Some piece) e = absurd (cc)

@@ -1,5 +1,5 @@
 -- Where a piece may legally end.
-use Rattle.std.proofs.Common.{◌≡◌, ◌≢◌, ℕ, ◌-◌, ◌^◌, ◌<◌, Bool, true, false, not, Option, Some, None, refl, sym, ap, ◌∙◌, arith, inl, inr, bit_and, bit_or, length, cond, set, get_or-set_same, get_or-set_other, length-set, ◌⊎◌}
+use Rattle.std.proofs.Common.{◌≡◌, ◌≢◌, ℕ, ◌-◌, ◌^◌, ◌<◌, Bool, true, false, not, Option, Some, None, refl, sym, ap, ◌∙◌, arith, inl, inr, bit_and, length, cond, set, get_or-set_same, get_or-set_other, length-set, ◌⊎◌}
 use Rattle.std.specs.Prelude.{◌&&◌, ◌||◌, ◌==◌, is_none, is_some, ◌%◌, ◌/◌, nat_lt}
 use Rattle.std.proofs.lemmas.Bool.{cases_eq, ne_eqb, eq-eqb, and_parts, and_from, both_ways, le-ltb, lt-ltb, ltb-false, not-true}
 use Rattle.shogi_core.specs.declared.moves.Move.{Move}
@@ -12,14 +12,14 @@ use Rattle.shogi_core.specs.declared.piece.Color.TheVariants.{Black, White}
 use Rattle.shogi_core.specs.declared.piece.Role.{Role}
 use Rattle.shogi_core.specs.declared.piece.Role.TheVariants.{Pawn, Lance, Knight, Silver, Gold, Bishop, Rook, King, PromotedPawn, PromotedLance, PromotedKnight, PromotedSilver, Horse, Dragon}
 use Rattle.shogi_core.specs.declared.piece.Piece.{Piece}
-use Rattle.shogi_core.specs.Attack.{in_check, is_sniping}
+use Rattle.shogi_core.specs.Attack.{in_check}
 use Rattle.shogi_core.specs.Bits.{has_bit}
 use Rattle.shogi_core.specs.Cell.{is_piece_of, is_immobile, is_immobile_role, is_king, is_king_role}
 use Rattle.shogi_core.specs.Codes.{move_of, code_of}
 use Rattle.shogi_core.specs.Movement.{Cells, piece_at, reaches}
 use Rattle.shogi_core.specs.Pieces.{opponent_of, is_same_color, promoted}
 use Rattle.shogi_core.specs.Position.{Shogi, count_in_hand}
-use Rattle.shogi_core.proofs.BitLaws.{has_bit-and, has_bit-or, has_bit-none}
+use Rattle.shogi_core.proofs.BitLaws.{has_bit-and, has_bit-none}
 use Rattle.shogi_core.proofs.Uncovered.{check_was}
 use Rattle.shogi_core.proofs.CodesBack.{move_of-board, move_of-drop}
 use Rattle.shogi_core.proofs.LineBits.{has_bit-not, and_fits}
@@ -30,7 +30,6 @@ use Rattle.shogi_moves.specs.CheckInfo.{IsCheckInfo}
 use Rattle.shogi_moves.specs.Legal.{is_safe, is_legal, is_legal_code, is_pseudo_legal_board_move, may_promote, is_promotable, in_promotion_zone, is_pawn_kind, is_pawn_drop_mate}
 use Rattle.shogi_moves.proofs.CaptureLaws.{matches_kind_of}
 use Rattle.shogi_moves.proofs.CheckInfoLaws.{unpinned_safe, filled, quiet_drop, same_drop, stays_set, stays_drop, unpinned_parts}
-use Rattle.shogi_moves.proofs.DropChecks.{check_stays_near}
 use Rattle.shogi_moves.proofs.LegalLaws.{is_legal_code_of}
 use Rattle.shogi_moves.proofs.MovedPieces.{is_king-piece_moved}
 
@@ -172,27 +171,18 @@ lone_king p kings rest from b r none x h other =
     go false e f h = refl
 
 -- what no answer can be is left out
-pub narrowed : (destinations pinned_or_king others n : ℕ) (u : Bool) → (has_bit pinned_or_king n ≡ false → has_bit others n ≡ false → u ≡ false) → (has_bit (bit_and destinations (bit_or pinned_or_king others)) n && u) ≡ (has_bit destinations n && u)
-narrowed destinations pinned_or_king others n u cut = rw (has_bit-and destinations (bit_or pinned_or_king others) n, has_bit-or pinned_or_king others n) (go (has_bit destinations n) (has_bit pinned_or_king n) (has_bit others n) u cut)
-  where
-    go : (a b c u : Bool) → (b ≡ false → c ≡ false → u ≡ false) → ((a && (b || c)) && u) ≡ (a && u)
-    go true true c u f = refl
-    go true false true u f = refl
-    go true false false u f = sym (f refl refl)
-    go false b c u f = refl
-
-pub narrowed_drops : (destinations pinned_or_king n : ℕ) (u : Bool) → (has_bit destinations n ≡ true → has_bit pinned_or_king n ≡ false → u ≡ false) → (has_bit (bit_and destinations pinned_or_king) n && u) ≡ (has_bit destinations n && u)
-narrowed_drops destinations pinned_or_king n u cut = rw (has_bit-and destinations pinned_or_king n) (go (has_bit destinations n) (has_bit pinned_or_king n) u cut)
+pub narrowed : (destinations pinned_or_king n : ℕ) (u : Bool) → (has_bit destinations n ≡ true → has_bit pinned_or_king n ≡ false → u ≡ false) → (has_bit (bit_and destinations pinned_or_king) n && u) ≡ (has_bit destinations n && u)
+narrowed destinations pinned_or_king n u cut = rw (has_bit-and destinations pinned_or_king n) (go (has_bit destinations n) (has_bit pinned_or_king n) u cut)
   where
     go : (a b u : Bool) → (a ≡ true → b ≡ false → u ≡ false) → ((a && b) && u) ≡ (a && u)
     go true true u f = refl
     go true false u f = sym (f refl refl)
     go false b u f = refl
 
-pub no_answer : (p : Shogi) (checked : Bool) (pinned_or_king others from n : ℕ) → IsCheckInfo p checked pinned_or_king → checked ≡ true → length p.cells ≡ 81 → from < 81 → n < 81 → is_piece_of p.side (piece_at p.cells from) ≡ true → is_king p.side (piece_at p.cells from) ≡ false
-    → has_bit others n ≡ is_piece_of (opponent_of p.side) (piece_at p.cells n) → has_bit pinned_or_king n ≡ false → has_bit others n ≡ false → is_unchecked p (Board from n false) ≡ false
-no_answer p checked pinned_or_king others from n g c len hf hn own plain o out none =
-    ap not (stays_set p.cells p.side from n (piece_moved false (piece_at p.cells from)) len hf hn own plain (sym o ∙ none) (g.kings n hn out) (g.lines c n hn out) (sym g.check ∙ c))
+pub no_answer : (p : Shogi) (checked : Bool) (pinned_or_king from n : ℕ) → IsCheckInfo p checked pinned_or_king → checked ≡ true → length p.cells ≡ 81 → from < 81 → n < 81 → is_piece_of p.side (piece_at p.cells from) ≡ true → is_king p.side (piece_at p.cells from) ≡ false
+    → has_bit pinned_or_king n ≡ false → is_unchecked p (Board from n false) ≡ false
+no_answer p checked pinned_or_king from n g c len hf hn own plain out =
+    ap not (stays_set p.cells p.side from n (piece_moved false (piece_at p.cells from)) len hf hn pinned_or_king (g.stays c) out own plain (g.kings n hn out))
 
 pub ruleset unpinned_destinations = (unpinned_kept, free_kept, and_fits)
 
@@ -520,24 +510,11 @@ pub squares_tried : (p : Shogi) (checked : Bool) (pinned_or_king free kept : ℕ
 squares_tried p checked pinned_or_king free kept g len check f k fits = record {
   bits = λ kind some n h.
       k n h
-      ∙ narrowed_drops free pinned_or_king n (is_unchecked p (Drop kinds.Pawn n)) (λ e out. ap not (stays_drop p.cells p.side kinds.Pawn n (sym (f n h) ∙ e) (g.lines check n h out) (sym g.check ∙ check)))
+      ∙ narrowed free pinned_or_king n (is_unchecked p (Drop kinds.Pawn n)) (λ e out. ap not (stays_drop pinned_or_king p.cells p.side kinds.Pawn n (g.stays check) out h (sym (f n h) ∙ e)))
       ∙ ap (λ (b : Bool). b && is_unchecked p (Drop kinds.Pawn n)) (f n h)
       ∙ ap (λ (c : Bool). is_none (piece_at p.cells n) && not c) (same_drop p.cells p.side kinds.Pawn kind n len h);
   fits = fits;
 }
-
--- a check by no piece that slides is answered by no drop
-pub squares_none : (p : Shogi) (checked : Bool) (pinned_or_king snipers : ℕ) → IsCheckInfo p checked pinned_or_king → checked ≡ true → ((n : ℕ) → n < 81 → has_bit snipers n ≡ is_sniping p.cells p.side n) → snipers ≡ 0 → AreDropSquares p 0
-squares_none p checked pinned_or_king snipers g check s none = record {
-  bits = λ kind some n h.
-      has_bit-none n
-      ∙ sym (refused (is_none (piece_at p.cells n)) (is_unchecked p (Drop kind n)) (λ free. ap not (check_stays_near p.cells p.side kind n free (λ a ha. sym (s a ha) ∙ (ap (λ (m : ℕ). has_bit m a) none ∙ has_bit-none a)) (sym g.check ∙ check))));
-  fits = omega arith;
-}
-  where
-    refused : (a b : Bool) → (a ≡ true → b ≡ false) → (a && b) ≡ false
-    refused true b h = h refl
-    refused false b h = refl
 
 five : (a b u c d : Bool) → a ≡ true → (((b && u) && c) && d) ≡ ((((a && b) && c) && d) && u)
 five a b u c d e = rw e (go b u c d)

@@ -1,29 +1,26 @@
 -- A drop uncovers nothing: the other king is attacked after it by the dropped piece or not at all.
-use Rattle.std.proofs.Common.{◌≡◌, ℕ, ◌<◌, ◌⊎◌, Bool, true, false, Option, None, Some, set, refl, sym, ap, ◌∙◌, arith, inl, inr, length, bit_or, subst, get_or-set_same, get_or-set_other}
+use Rattle.std.proofs.Common.{◌≡◌, ℕ, ◌<◌, ◌⊎◌, Bool, true, false, None, refl, sym, ap, ◌∙◌, arith, inl, inr, length, bit_or, subst, get_or-set_same, get_or-set_other}
 use Rattle.std.specs.Prelude.{is_none, ◌&&◌, ◌||◌, ◌==◌, not}
-use Rattle.std.proofs.lemmas.Bool.{cases_Bool, cases_eq, both_ways, false_from_ne_true, true_from_ne_false, and_from, and_parts, or_cases, or_left, or_right, not_from_false, ne_eqb}
+use Rattle.std.proofs.lemmas.Bool.{cases_eq, both_ways, false_from_ne_true, and_from, or_left, or_right, not_from_false, ne_eqb}
 use Rattle.shogi_core.specs.declared.piece.Color.{Color}
 use Rattle.shogi_core.specs.declared.piece.Color.TheVariants.{Black, White}
 use Rattle.shogi_core.specs.declared.piece.Kind.{Kind}
 use Rattle.shogi_core.specs.declared.piece.Kind.TheVariants as kinds
 use Rattle.shogi_core.specs.declared.moves.Move.TheVariants.{Drop}
 use Rattle.shogi_core.specs.declared.piece.Role.TheVariants.{Pawn}
-use Rattle.shogi_core.specs.Attack.{in_check, is_attacked, is_attacked_from, is_open_king, is_sniper_of_king, is_sniping}
+use Rattle.shogi_core.specs.Attack.{in_check}
 use Rattle.shogi_core.specs.Bits.{has_bit}
 use Rattle.shogi_core.specs.Validity.{IsValid}
 use Rattle.shogi_core.proofs.BitLaws.{has_bit-or, has_bit-none}
 use Rattle.shogi_core.proofs.Faults.{faultless_from}
-use Rattle.shogi_core.specs.Cell.{is_king, is_piece_of, is_slider, is_sliding_role}
-use Rattle.shogi_core.specs.Movement.{Cells, piece_at, reaches, cell_reaches, has_slide, has_step, leads, up, down, left}
+use Rattle.shogi_core.specs.Cell.{is_king}
+use Rattle.shogi_core.specs.Movement.{Cells, piece_at, reaches, has_step, leads, up, down, left}
 use Rattle.shogi_core.specs.Pieces.{opponent_of}
 use Rattle.shogi_core.specs.Position.{Shogi}
-use Rattle.shogi_core.specs.Lines.{are_aligned, back}
+use Rattle.shogi_core.specs.Lines.{back}
 use Rattle.shogi_core.specs.declared.offset.Offset.{Offset}
-use Rattle.shogi_core.specs.declared.piece.Piece.{Piece}
-use Rattle.shogi_core.proofs.Below.{some_below_at}
-use Rattle.shogi_core.proofs.Snipers.{stands_still}
-use Rattle.shogi_core.proofs.Uncovered.{check_was_but, some_below_which}
-use Rattle.shogi_core.proofs.SeenLaws.{leads_back, lined_aligned, slide_seen}
+use Rattle.shogi_core.proofs.Uncovered.{check_was_but}
+use Rattle.shogi_core.proofs.SeenLaws.{leads_back}
 use Rattle.shogi_moves.specs.After.{cells_after, dropped}
 use Rattle.shogi_moves.specs.Legal.{is_pawn_drop_mate}
 use Rattle.shogi_moves.proofs.ZoneLaws.{more_fits}
@@ -106,46 +103,5 @@ far_pawn p to faces v ht f out = ap not (non_mating_pawn p to v.cells_fit ht (fa
       | inl there ↦ absurd (both_ways (is_king (opponent_of p.side) (dropped p.side kinds.Pawn)) (no_king p.side kinds.Pawn) (ap (is_king (opponent_of p.side)) (sym there.1) ∙ e))
       | inr same ↦ ap (is_king (opponent_of p.side)) (sym same) ∙ e
     ]
-
--- ---- a check by no piece that slides
-
--- what is on no line with the square where it slides reaches it on each board
-reach_stays : (old new : Cells) (cell : Option Piece) (a b : ℕ) → a < 81 → (is_slider cell ≡ true → are_aligned b a ≡ false) → cell_reaches old cell a b ≡ true → cell_reaches new cell a b ≡ true
-reach_stays old new None a b ha off e = e
-reach_stays old new (Some piece) a b ha off e = elim (cases_Bool (is_sliding_role piece.role)) [
-  | inl far ↦ elim (or_cases (has_step piece a b) (has_slide old piece a b) e) [
-    | inl step ↦ or_left (has_step piece a b) (has_slide new piece a b) step
-    | inr slide ↦ absurd (both_ways (are_aligned b a) (off far) (lined_aligned old b a (slide_seen old piece a b ha slide)))
-  ]
-  | inr near ↦ true_from_ne_false (cell_reaches new (Some piece) a b) (λ out. both_ways (cell_reaches old (Some piece) a b) (stands_still new old (Some piece) a b near out) e)
-]
-
--- no drop answers it
-pub check_stays_near : (cells : Cells) (side : Color) (kind : Kind) (to : ℕ) → is_none (piece_at cells to) ≡ true → ((a : ℕ) → a < 81 → is_sniping cells side a ≡ false) → in_check cells side ≡ true → in_check (cells_after cells side (Drop kind to)) side ≡ true
-unfolding in_check reaches is_sniping
-check_stays_near cells side kind to free none check =
-    let king = some_below_which 81 (is_open_king cells side) check in
-    let crown : (is_king side (piece_at cells king.0) ≡ true) × (is_attacked cells (opponent_of side) king.0 ≡ true) = and_parts _ _ king.2 in
-    let foe = some_below_which 81 (is_attacked_from cells (opponent_of side) king.0) crown.1 in
-    let hit : (is_piece_of (opponent_of side) (piece_at cells foe.0) ≡ true) × (reaches cells foe.0 king.0 ≡ true) = and_parts _ _ foe.2 in
-    let king_there : piece_at (set cells to (dropped side kind)) king.0 ≡ piece_at cells king.0 = beside king.0 (λ here. both_ways (is_king side (piece_at cells king.0)) (nobody (is_king side) refl king.0 here) crown.0) in
-    let foe_there : piece_at (set cells to (dropped side kind)) foe.0 ≡ piece_at cells foe.0 = beside foe.0 (λ here. both_ways (is_piece_of (opponent_of side) (piece_at cells foe.0)) (nobody (is_piece_of (opponent_of side)) refl foe.0 here) hit.0) in
-    some_below_at 81 (is_open_king (set cells to (dropped side kind)) side) king.0 king.1 (and_from _ _ (ap (is_king side) king_there ∙ crown.0)
-    (some_below_at 81 (is_attacked_from (set cells to (dropped side kind)) (opponent_of side) king.0) foe.0 foe.1 (and_from _ _ (ap (is_piece_of (opponent_of side)) foe_there ∙ hit.0)
-    (ap (λ (cell : Option Piece). cell_reaches (set cells to (dropped side kind)) cell foe.0 king.0) foe_there
-    ∙ reach_stays cells (set cells to (dropped side kind)) (piece_at cells foe.0) foe.0 king.0 foe.1
-    (λ far. false_from_ne_true (are_aligned king.0 foe.0) (λ line. both_ways (is_sniping cells side foe.0) (none foe.0 foe.1)
-    (some_below_at 81 (is_sniper_of_king cells side foe.0) king.0 king.1 (and_from _ _ crown.0 (and_from _ _ (and_from _ _ hit.0 far) line)))))
-    hit.1))))
-  where
-    empty : (test : Option Piece → Bool) (cell : Option Piece) → test None ≡ false → is_none cell ≡ true → test cell ≡ false
-    empty test None e h = e
-    empty test (Some piece) e h = absurd (cc)
-
-    nobody : (test : Option Piece → Bool) → test None ≡ false → (x : ℕ) → x ≡ to → test (piece_at cells x) ≡ false
-    nobody test e x here = subst (λ (y : ℕ). test (piece_at cells y) ≡ false) (sym here) (empty test (piece_at cells to) e free)
-
-    beside : (x : ℕ) → (x ≡ to → ⊥) → piece_at (set cells to (dropped side kind)) x ≡ piece_at cells x
-    beside x other = get_or-set_other cells to x (dropped side kind) None other
 
 pub ruleset facing = (facing_first, far_pawn, more_fits)

@@ -43,7 +43,7 @@ pub check_info_rough : (p : Shogi) (checked : Bool) → checked ≡ in_check p.c
 check_info_rough p checked e = record {
   check = e;
   kings = λ n h out. absurd (both_ways (has_bit ALL_SQUARES n) out (all_squares n h));
-  lines = λ _ n h out. absurd (both_ways (has_bit ALL_SQUARES n) out (all_squares n h));
+  stays = λ _ new to h out. absurd (both_ways (has_bit ALL_SQUARES to) out (all_squares to h));
   free = λ _ n h out own. absurd (both_ways (has_bit ALL_SQUARES n) out (all_squares n h));
   fits = omega arith;
 }

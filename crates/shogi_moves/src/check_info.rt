@@ -1,6 +1,6 @@
 //! What is known of checks in a position, so that most of its moves need no look at them.
 
-ghost use Rattle.std.specs.Prelude.{◌≡◌, ◌<◌, ◌^◌, ◌&&◌, not, false};
+ghost use Rattle.std.specs.Prelude.{true, ◌≡◌, ◌<◌, ◌^◌, ◌&&◌, not, false};
 ghost use Rattle.shogi_core.specs.Attack.{in_check, OthersAreUnpinned};
 ghost use Rattle.shogi_core.specs.Bits.{has_bit};
 ghost use Rattle.shogi_moves.specs.CheckInfo.{IsCheckInfoOf, CoversKingLines};
@@ -9,8 +9,8 @@ use crate::attack::in_check;
 use shogi_core::bits::{ALL_SQUARES, has, lowest, without_lowest};
 use shogi_core::{Color, Position, Square};
 
-/// Whether the side to move is in check, and a mask with its king: in check also the squares on
-/// open lines with the king, and else the pieces that may be pinned.
+/// Whether the side to move is in check, and a mask with its king: in check also squares of which a
+/// move of another piece has to end on one to answer it, and else the pieces that may be pinned.
 #[derive(Clone, Copy, Debug)]
 pub struct CheckInfo {
     pub checked: bool,
@@ -34,12 +34,28 @@ fn king_line_squares(p: &Position, side: Color) -> u128
     covered
 }
 
+/// What is kept where there is a check.
+#[tactic(auto, using(crate::proofs::CheckInfoLaws::with_check))]
+fn checked_info(p: &Position) -> CheckInfo
+    requires { in_check p.now.cells p.now.side ≡ true }
+    ensures { IsCheckInfoOf result p.now }
+{
+    let board = p.as_board();
+    CheckInfo {
+        checked: true,
+        pinned_or_king: board.kings(p.side()) | board.answers(p.side()),
+    }
+}
+
 /// What is kept of a position of which it is known whether the side to move is in check.
 #[tactic(auto, using(crate::proofs::CheckInfoLaws::check_info_from))]
 pub fn full_check_info(p: &Position, checked: bool) -> CheckInfo
     requires { checked ≡ in_check p.now.cells p.now.side }
     ensures { IsCheckInfoOf result p.now }
 {
+    if checked {
+        return checked_info(p);
+    }
     p.validity();
     CheckInfo {
         checked,

@@ -164,8 +164,7 @@ fn may_be_pinned_destinations(
         return tried_destinations(p, from, destinations);
     }
     if info.checked {
-        let theirs = board.own(p.side().opponent());
-        return tried_destinations(p, from, destinations & (info.pinned_or_king | theirs));
+        return tried_destinations(p, from, destinations & info.pinned_or_king);
     }
     if is_free(p, from) {
         return destinations;
@@ -287,8 +286,7 @@ fn holds_none(p: &Position) -> bool
         && p.hand(side, Kind::Rook) == 0
 }
 
-/// The empty squares on which a held piece leaves the king unattacked, whatever its kind. Only a
-/// check by a piece that slides is answered by a drop.
+/// The empty squares on which a held piece leaves the king unattacked, whatever its kind.
 pub fn drop_squares(p: &Position, info: &CheckInfo) -> u128
     requires info { IsCheckInfoOf info.now p.now }
     ensures { AreDropSquares p.now result }
@@ -300,9 +298,6 @@ pub fn drop_squares(p: &Position, info: &CheckInfo) -> u128
         return free;
     }
     if holds_none(p) {
-        return 0;
-    }
-    if board.snipers(p.side()) == 0 {
         return 0;
     }
     tried_drops(p, free & info.pinned_or_king)

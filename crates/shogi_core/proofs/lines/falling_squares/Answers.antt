@@ -1,4 +1,4 @@
-use Rattle.std.proofs.Common.{arith, ◌<◌, ◌^◌, ◌-◌}
+use Rattle.std.proofs.Common.{arith, ◌-◌}
 use Rattle.std.proofs.lemmas.Nat.{and_le_l}
 use Rattle.shogi_core.specs.Rays.{direction_at}
 use Rattle.shogi_core.proofs.LineBits.{falling_bits, falling_end, direction_falls}

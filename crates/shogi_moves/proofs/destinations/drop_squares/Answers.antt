@@ -1,16 +1,11 @@
-use Rattle.std.proofs.Common.{◌≡◌, false, true, arith, rules}
-use Rattle.shogi_moves.proofs.DestinationLaws.{squares_free, squares_none, squares_tried}
+use Rattle.std.proofs.Common.{◌≡◌, false, true, rules}
+use Rattle.shogi_moves.proofs.DestinationLaws.{squares_free, squares_tried}
 use Rattle.shogi_moves.proofs.destinations.drop_squares.Goals as goal
 
 pub returns-then-not-info : goal.returns-then-not-info
 returns-then-not-info c =
     let quiet : c.args.info.now.checked ≡ false = search rules in
     squares_free c.args.p.now c.args.info.now.checked c.args.info.now.pinned_or_king c.free-free.result c.requires.info c.validity.ensures.cells_fit quiet (rw c.as_board-board.ensures at c.free-free.ensures.squares.0) c.free-free.ensures.squares.1
-
-pub returns-then-snipers-eq0 : goal.returns-then-snipers-eq0
-returns-then-snipers-eq0 c =
-    let check : c.args.info.now.checked ≡ true = search rules in
-    squares_none c.args.p.now c.args.info.now.checked c.args.info.now.pinned_or_king c.snipers.result c.requires.info check (rw (c.side.ensures, c.as_board-board.ensures) at c.snipers.ensures.squares.0) (omega (arith, c.if-snipers-eq0.true))
 
 pub returns : goal.returns
 returns c =

@@ -14,8 +14,8 @@ returns-then-info c = record {
     λ n h. (
         let off : has_bit c.kings-kings.result c.args.from ≡ false = search rules in
         c.tried_destinations-then-info.ensures.squares.0 n h
-        ∙ narrowed c.args.destinations c.args.info.now.pinned_or_king c.own-theirs.result n (is_unchecked c.args.p.now (Board c.args.from n false))
-        (λ out none. no_answer c.args.p.now c.args.info.now.checked c.args.info.now.pinned_or_king c.own-theirs.result c.args.from n c.requires.info c.if-info.true c.validity.ensures.cells_fit (omega arith) h c.requires.own (sym (rw (c.side.ensures, c.as_board-board.ensures) at c.kings-kings.ensures.squares.0 c.args.from (omega arith)) ∙ off) (rw (c.opponent.ensures, c.side-then-info.ensures, c.as_board-board.ensures) at c.own-theirs.ensures.squares.0 n h) out none)),
+        ∙ narrowed c.args.destinations c.args.info.now.pinned_or_king n (is_unchecked c.args.p.now (Board c.args.from n false))
+        (λ _ out. no_answer c.args.p.now c.args.info.now.checked c.args.info.now.pinned_or_king c.args.from n c.requires.info c.if-info.true c.validity.ensures.cells_fit (omega arith) h c.requires.own (sym (rw (c.side.ensures, c.as_board-board.ensures) at c.kings-kings.ensures.squares.0 c.args.from (omega arith)) ∙ off) out)),
     c.tried_destinations-then-info.ensures.squares.1,
   );
 }

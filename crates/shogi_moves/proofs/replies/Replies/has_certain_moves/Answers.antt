@@ -1,4 +1,4 @@
-use Rattle.std.proofs.Common.{◌∙◌, arith, bit_and}
+use Rattle.std.proofs.Common.{arith, bit_and}
 use Rattle.std.proofs.lemmas.Bool.{eqb-true}
 use Rattle.shogi_moves.proofs.DestinationLaws.{among_bits}
 use Rattle.shogi_moves.proofs.Passes.{certain_moves}

@@ -1,6 +1,5 @@
-use Rattle.std.proofs.Common.{◌≡◌, ◌≤◌, ◌<◌, ◌+◌, ◌*◌, ◌∙◌, refl, arith, subst, ap, ℕ, false}
+use Rattle.std.proofs.Common.{◌≤◌, ◌<◌, ◌∙◌, refl, arith, subst, ap, ℕ, false}
 use Rattle.std.proofs.lemmas.Bool.{false_from_ne_true}
-use Rattle.shogi_core.specs.declared.moves.TheConstants.{SQUARE_CODES}
 use Rattle.shogi_core.specs.declared.moves.Move.TheVariants.{Board}
 use Rattle.shogi_core.specs.Bits.{has_bit}
 use Rattle.shogi_core.specs.Codes.{code_of}

@@ -4,7 +4,7 @@ use Rattle.shogi_core.specs.Bits.{has_bit}
 use Rattle.shogi_core.specs.Cell.{is_piece_of}
 use Rattle.shogi_core.specs.Movement.{piece_at}
 use Rattle.shogi_core.proofs.SeenLaws.{Covers}
-use Rattle.shogi_core.proofs.attack.is_stepped_on.Given as goal
+use Rattle.shogi_core.proofs.attack.first_stepper.Given as goal
 
 abbrev pub invariant-loop-left : goal.invariant-loop-left
 invariant-loop-left l = record {

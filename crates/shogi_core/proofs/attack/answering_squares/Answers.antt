@@ -1,0 +1,29 @@
+use Rattle.std.proofs.Common.{rules, arith, false, sym, ◌∙◌}
+use Rattle.std.proofs.lemmas.Bool.{or_from, both_ways}
+use Rattle.shogi_core.specs.Attack.{is_attacked, is_shot_along}
+use Rattle.shogi_core.proofs.Answers.{step_stays, shot_stays, one_bit}
+use Rattle.shogi_core.proofs.Below.{some_below_none, some_below_more}
+use Rattle.shogi_core.proofs.Pins.{marked_fits}
+use Rattle.shogi_core.proofs.Shots.{attacked_by_slide}
+use Rattle.shogi_core.proofs.attack.answering_squares.Goals as goal
+
+pub returns-in-Some-clause-stays : goal.returns-in-Some-clause-stays
+returns-in-Some-clause-stays c = λ _. step_stays c.with.result c.args.board.now c.args.by c.args.square c.in-Some.from c.requires c.in-Some.ensures.range c.in-Some.ensures.steps
+    (one_bit c.with.result c.in-Some.from c.with.ensures)
+
+pub returns-in-Some-clause-fits : goal.returns-in-Some-clause-fits
+returns-in-Some-clause-fits c = marked_fits 0 c.with.result c.in-Some.from (omega arith) c.in-Some.ensures.range c.with.type_inv c.with.ensures
+
+pub loop-direction-init : goal.loop-direction-init
+loop-direction-init c = some_below_none (is_shot_along c.args.board.now c.args.by c.args.square)
+
+pub returns-then-is_shot_along-clause-stays : goal.returns-then-is_shot_along-clause-stays
+returns-then-is_shot_along-clause-stays c = λ _. shot_stays c.slide_squares.result c.args.board.now c.args.by c.args.square c.loop-direction.direction c.requires (omega arith) (search rules) c.slide_squares.ensures.squares.0
+
+pub loop-direction-preserved : goal.loop-direction-preserved
+loop-direction-preserved c =
+    some_below_more c.loop-direction.direction (is_shot_along c.args.board.now c.args.by c.args.square) ∙ or_from _ _ c.loop-direction.invariant (search rules)
+
+pub returns-clause-stays : goal.returns-clause-stays
+returns-clause-stays c = λ attacked. absurd (both_ways (is_attacked c.args.board.now c.args.by c.args.square)
+    (sym (attacked_by_slide c.args.board.now c.args.by c.args.square c.requires false (c.in_default.ensures.none (search rules)) (search rules))) attacked)
