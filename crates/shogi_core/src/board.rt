@@ -20,7 +20,6 @@ use std::marker::Model;
 #[derive(Clone, Copy, Debug)]
 #[derive_where(PartialEq, Eq, Hash)]
 pub struct Board {
-    cells: [Option<Piece>; 81],
     #[derive_where(skip(EqHashOrd))]
     black: u128,
     #[derive_where(skip(EqHashOrd))]
@@ -31,6 +30,7 @@ pub struct Board {
     sliders: u128,
     #[derive_where(skip(EqHashOrd))]
     words: [u64; 7],
+    cells: [Option<Piece>; 81],
 }
 
 impl Model for Board {

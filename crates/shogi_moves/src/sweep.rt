@@ -27,9 +27,9 @@ use shogi_core::{FIRST_DROP, Kind, Move, Position, SQUARE_CODES, Square, is_piec
 #[derive(Clone, Copy, Debug)]
 pub struct BoardSweep {
     pub info: CheckInfo,
-    pub from: Square,
     pub destinations: Destinations,
     pub code: u16,
+    pub from: Square,
 }
 
 /// What is still to come of the drops, in the order of codes.

@@ -1,5 +1,5 @@
 -- The node on top of a stack, among its frames.
-use Rattle.std.proofs.Common.{◌≡◌, ◌<◌, ◌≤◌, ◌+◌, ◌-◌, ◌*◌, ℤ, ℕ, zero, suc, List, [], ◌∷◌, ◌++◌, length, take, set, get_or, Option, Some, None, refl, sym, ap, ◌∙◌, arith, subst}
+use Rattle.std.proofs.Common.{◌≡◌, ◌≢◌, ◌<◌, ◌≤◌, ◌+◌, ◌-◌, ◌*◌, ℤ, ℕ, zero, suc, List, [], ◌∷◌, ◌++◌, length, take, set, get_or, Option, Some, None, refl, sym, ap, ◌∙◌, arith, subst}
 use Rattle.std.specs.Prelude.{sum_by, slice_get, IsSomeAnd}
 use Rattle.std.proofs.lemmas.List.{take-set, length-take-le}
 use Rattle.std.proofs.lemmas.Option.{slice_get_within, slice_get-get_or, get_or_from_slice_get}
@@ -77,7 +77,7 @@ on_with s i f fact h k = of_top (with_frame s i f) f fact (top_with s i f h) k
 pub left_with : (s : Stack) (i : ℕ) (f : Frame) → i < length s.frames → steps_left (with_frame s i f) ≡ sum_by left_of_frame (take i s.frames) + left_of_frame f
 left_with s i f h = left_above (frames_of (with_frame s i f)) (take i s.frames) f (frames_are (with_frame s i f) f (top_with s i f h) ∙ ap (λ (fs : List Frame). fs ++ f ∷ []) (take-set s.frames i f))
 
-pub stack_with : (s : Stack) (i : ℕ) (f : Frame) → i < length s.frames → i ≤ SEARCH_DEPTH_MAX → s.depth ≤ SEARCH_DEPTH_MAX → IsChain s.root s.eval s.depth (negated INFINITY) s.beta (take i s.frames) f → IsStack (with_frame s i f)
+pub stack_with : (s : Stack) (i : ℕ) (f : Frame) → i < length s.frames → i < SEARCH_DEPTH_MAX → s.depth ≤ SEARCH_DEPTH_MAX → IsChain s.root s.eval s.depth (negated INFINITY) s.beta (take i s.frames) f → IsStack (with_frame s i f)
 stack_with s i f h fits shallow c = record {
   shallow = shallow;
   height_fits = fits;
@@ -100,7 +100,7 @@ pub left_changed : (s : Stack) (f g : Frame) → IsTop s f → steps_left (with_
 left_changed s f g e = omega (arith, left_with s s.height g (slice_get_within s.frames s.height f e), left_read s f e)
 
 -- there is room above a node that waits for a child
-pub room : (s : Stack) (f : Frame) → IsTop s f → IsStack s → 0 < f.depth → s.height < 16
+pub room : (s : Stack) (f : Frame) → IsTop s f → IsStack s → 1 < f.depth → s.height + 1 < 16
 room s f e k deep =
     let c : IsChain s.root s.eval s.depth (negated INFINITY) s.beta (parents_of s) f = on_top s f _ e k.chain in
     let fits : s.height < length s.frames = slice_get_within s.frames s.height f e in
@@ -143,7 +143,7 @@ cutoff_below s d m entry k h fits asks cutoff =
 pub stack_popped : (s : Stack) (d g : Frame) → IsStack s → 0 < s.height → s.height < length s.frames → IsSame (get_or s.frames (s.height - 1) d) g → IsStack (with_frame s (s.height - 1) g)
 stack_popped s d g k h fits same =
     let r : IsBelow s (get_or s.frames (s.height - 1) d) = below s d k h fits in
-    let low : s.height ≤ SEARCH_DEPTH_MAX = k.height_fits in
+    let low : s.height < SEARCH_DEPTH_MAX = k.height_fits in
     stack_with s (s.height - 1) g (omega arith) (omega arith) k.shallow (chain_same _ _ _ _ _ _ (get_or s.frames (s.height - 1) d) g r.popped.chain same)
 
 pub left_popped : (s : Stack) (d g : Frame) → IsStack s → 0 < s.height → s.height < length s.frames → IsSame (get_or s.frames (s.height - 1) d) g → g.picker ≡ (get_or s.frames (s.height - 1) d).picker → left_of_waiting g.waiting ≡ 0 → steps_left (with_frame s (s.height - 1) g) < steps_left s
@@ -161,14 +161,17 @@ left_positive s k =
 deep_of : (f : Frame) (m : Move) → f.waiting ≡ Asked m → 0 < f.depth
 deep_of f m e = let w : _ = waits _ _ _ _ _ _ _ _ _ _ (asked f.waiting m e) f.known in w.deep
 
-pub room_asked : (s : Stack) (m : Move) → IsStack s → OnTop s (λ top. top.waiting ≡ Asked m) → s.height < 16
-room_asked s m k h = let t : HasTop s (λ top. top.waiting ≡ Asked m) = has_top s _ h in room s t.top t.is k (deep_of t.top m t.has)
+pub room_asked : (s : Stack) (m : Move) → IsStack s → OnTop s (λ top. top.waiting ≡ Asked m) → OnTop s (λ top. top.depth ≢ 1) → s.height + 1 < 16
+room_asked s m k h more =
+    let t : HasTop s (λ top. top.waiting ≡ Asked m) = has_top s _ h in
+    let other : t.top.depth ≢ 1 = on_top s t.top (λ (top : Frame). top.depth ≢ 1) t.is more in
+    room s t.top t.is k (omega (arith, deep_of t.top m t.has, other))
 
 -- the child after the move that the node on top has asked for is entered above it
-pub stack_entered : (s : Stack) (f g : Frame) (m : Move) → IsTop s f → IsStack s → f.waiting ≡ Asked m → s.height + 1 < length s.frames → IsAt (position_after f m) f.node.eval (f.depth - 1) (negated f.beta) (negated (threshold_of f m)) g → IsStack (with_frame s (s.height + 1) g)
-stack_entered s f g m is k asks fits place =
+pub stack_entered : (s : Stack) (f g : Frame) (m : Move) → IsTop s f → IsStack s → f.waiting ≡ Asked m → f.depth ≢ 1 → s.height + 1 < length s.frames → IsAt (position_after f m) f.node.eval (f.depth - 1) (negated f.beta) (negated (threshold_of f m)) g → IsStack (with_frame s (s.height + 1) g)
+stack_entered s f g m is k asks more fits place =
     let deep : 0 < f.depth = deep_of f m asks in
-    stack_with s (s.height + 1) g fits (omega (arith, room s f is k deep)) k.shallow
+    stack_with s (s.height + 1) g fits (omega (arith, room s f is k (omega (arith, deep, more)))) k.shallow
     (pushed _ _ _ _ _ (frames_of s) (parents_of s) f g m (frames_are s f is) (on_top s f _ is k.chain) (record { deep = deep; asks = asks; at_child = place }))
 
 -- a node is entered, and none of its moves is gone through

@@ -78,7 +78,7 @@ IsTrueOfRoot s entry = IsTrueEntry s.root s.eval s.depth entry
 -- a chain from the root, under the window that ends at its bound
 pub record IsStack (s : Stack) : Type 0 where
   pub shallow : s.depth ≤ SEARCH_DEPTH_MAX
-  pub height_fits : s.height ≤ SEARCH_DEPTH_MAX
+  pub height_fits : s.height < SEARCH_DEPTH_MAX
   pub chain : OnTop s (IsChain s.root s.eval s.depth (negated INFINITY) s.beta (parents_of s))
 
 -- a leaf whose value is still to be taken in

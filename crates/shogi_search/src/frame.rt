@@ -40,29 +40,30 @@ pub enum Waiting {
     Cut(i32),
 }
 
-/// A node of any depth, and what is known of the moves gone through.
+/// A node of any depth, and what is known of the moves gone through. The fields lie in memory in
+/// this order: the wide ones first, so that little is lost between them.
 #[derive(Clone, Copy)]
 pub struct Frame {
     pub node: Node,
-    pub depth: u8,
+    pub picker: MovePicker,
+    pub replies: Replies,
+    /// Squares to which the other side's king may go, once they were looked for.
+    pub escapes: Option<u128>,
+    /// A capture that the other side may make after most moves, if one was found.
+    pub threat: Option<Threat>,
     pub alpha: i32,
     pub beta: i32,
     pub best_value: i32,
+    pub waiting: Waiting,
     pub best_move: Option<Move>,
+    pub depth: u8,
     /// Set once a move was gone through and not good enough, so that some move is legal.
     pub has_move: bool,
-    pub picker: MovePicker,
-    pub waiting: Waiting,
-    pub replies: Replies,
     /// Set once the replies are those of the position.
     pub has_replies: bool,
-    /// Squares to which the other side's king may go, once they were looked for.
-    pub escapes: Option<u128>,
     /// Set while it is known of the current move that it is not certain to be answered.
     pub is_unanswered: bool,
-    /// A capture that the other side may make after most moves, if one was found.
-    pub threat: Option<Threat>,
-    /// Set once it was looked for.
+    /// Set once the threat was looked for.
     pub has_threat: bool,
     ghost valid: { IsValid node.position },
     ghost shallow: { depth ≤ SEARCH_DEPTH_MAX },

@@ -92,7 +92,7 @@ impl Search {
                 eval: e,
                 depth: d,
                 beta,
-                frames: [Frame::default(); 17],
+                frames: [Frame::default(); 16],
                 height: 0,
             },
             started: false,

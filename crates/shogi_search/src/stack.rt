@@ -1,6 +1,6 @@
 //! The stack of a search in slices.
 
-ghost use Rattle.std.specs.Prelude.{◌≡◌, ◌≤◌, ◌<◌, ◌+◌, ◌*◌, ◌-◌, ◌^◌, true, false, None, Some, IfSome, IfNone, IsSome, min, IsTrue, ◌↔◌};
+ghost use Rattle.std.specs.Prelude.{◌≡◌, ◌≢◌, ◌≤◌, ◌<◌, ◌+◌, ◌*◌, ◌-◌, ◌^◌, true, false, None, Some, IfSome, IfNone, IsSome, min, IsTrue, ◌↔◌};
 ghost use Rattle.std.specs.Option.{ForSome};
 ghost use Rattle.shogi_search.specs.Minimax.{negated, IsTrueEntry};
 ghost use Rattle.shogi_search.specs.Entries.{IsCutoff, IsEnough, move_in};
@@ -18,14 +18,14 @@ use shogi_moves::is_legal;
 
 /// The root of a search, its evaluation, its depth and the end of its window, and the nodes that
 /// are entered and not yet left, from the root on: the one on top stands at the height, and those
-/// below it wait for a child.
+/// below it wait for a child. Leaves are entered nowhere but at the root.
 #[derive(Clone, Copy)]
 pub struct Stack {
     pub root: Position,
     pub eval: Eval,
     pub depth: u8,
     pub beta: i32,
-    pub frames: [Frame; 17],
+    pub frames: [Frame; 16],
     pub height: usize,
 }
 
@@ -174,7 +174,7 @@ impl Stack {
     /// cut it off, for a node of depth 2 or more: what refutes one move of a position often refutes
     /// the next one.
     pub fn kept_reply(&self, depth: u8) -> Option<Move>
-        requires room { self.now.height ≤ SEARCH_DEPTH_MAX }
+        requires room { self.now.height < SEARCH_DEPTH_MAX }
         ensures shallow { depth < 2 → result ≡ None }
         ensures some { IfSome result (λ m. OnTop self.now (λ top. top.best_move ≡ Some m)) }
     {
@@ -217,6 +217,7 @@ impl Stack {
     fn enter_child<M: Memo>(&mut self, current: &Move, memo: &mut M)
         requires stack { IsStack self.old }
         requires asked { OnTop self.old (λ top. top.waiting ≡ Waiting.Asked current.now) }
+        requires deep { OnTop self.old (λ top. top.depth ≢ 1) }
         ensures stack { IsStack self.new }
         ensures free { OnTop self.new (λ top. IsFree top.waiting) }
         ensures left { UsesSteps self.old self.new current.now 1 }

@@ -14,10 +14,10 @@ use shogi_moves::{threatened_by, unpinnable_pieces};
 /// reaches and what the capture gains.
 #[derive(Clone, Copy)]
 pub struct Threat {
-    pub from: Square,
-    pub target: Square,
     pub reach: u128,
     pub gain: u32,
+    pub from: Square,
+    pub target: Square,
 }
 
 /// The threat that gains more, the first one where both gain the same.

@@ -1,4 +1,4 @@
-use Rattle.std.proofs.Common.{arith, get_or, rules, ◌≡◌, ◌-◌, ◌+◌, ◌∙◌}
+use Rattle.std.proofs.Common.{arith, get_or, rules, ◌≡◌, ◌≢◌, ◌-◌, ◌+◌, ◌∙◌}
 use Rattle.std.proofs.lemmas.Int.{ints}
 use Rattle.shogi_moves.proofs.LegalLaws.{listed_to_legal}
 use Rattle.shogi_search.specs.Frames.{position_after, threshold_of}
@@ -41,13 +41,13 @@ returns-in-Some-clause-left g c =
     (omega (arith, left_same f c.back_up.new.self c.back_up.ensures.0 c.back_up.ensures.1.0 c.back_up.ensures.1.1.1, tree_size-positive (position_after f c.args.current.now) (f.depth - 1)))
 
 pub listed-2 : goal.listed-2
-listed-2 g c = omega (arith, room_asked c.args.self.now c.args.current.now c.requires.stack c.requires.asked)
+listed-2 g c = omega (arith, room_asked c.args.self.now c.args.current.now c.requires.stack c.requires.asked c.requires.deep)
 
 pub kept_reply-requires : goal.kept_reply-requires
-kept_reply-requires g c = record { room = omega (arith, room_asked c.args.self.now c.args.current.now c.requires.stack c.requires.asked) }
+kept_reply-requires g c = record { room = omega (arith, room_asked c.args.self.now c.args.current.now c.requires.stack c.requires.asked c.requires.deep) }
 
 pub bounds-self-self-2 : goal.bounds-self-self-2
-bounds-self-self-2 g c = omega (arith, room_asked c.args.self.now c.args.current.now c.requires.stack c.requires.asked)
+bounds-self-self-2 g c = omega (arith, room_asked c.args.self.now c.args.current.now c.requires.stack c.requires.asked c.requires.deep)
 
 pub returns-clause-stack : goal.returns-clause-stack
 returns-clause-stack g c =
@@ -61,10 +61,10 @@ returns-clause-stack g c =
       alpha_is = omega (arith, ints, c.enter.ensures.place.alpha_is, c.window-alpha.ensures.alpha, c.window-alpha.ensures.least, c.window-alpha.ensures.«open», c.window-alpha.ensures.most);
       beta_is = omega (arith, ints, c.enter.ensures.place.beta_is, c.window-alpha.ensures.beta, c.window-alpha.ensures.least, c.window-alpha.ensures.«open», c.window-alpha.ensures.most);
     } in
-    stack_entered c.args.self.now f c.enter.new.self c.args.current.now is c.requires.stack asks (omega (arith, room_asked c.args.self.now c.args.current.now c.requires.stack c.requires.asked)) window
+    stack_entered c.args.self.now f c.enter.new.self c.args.current.now is c.requires.stack asks (on_top c.args.self.now f (λ (top : Frame). top.depth ≢ 1) is c.requires.deep) (omega (arith, room_asked c.args.self.now c.args.current.now c.requires.stack c.requires.asked c.requires.deep)) window
 
 pub returns-clause-free : goal.returns-clause-free
-returns-clause-free g c = on_with c.args.self.now (c.args.self.now.height + 1) c.enter.new.self (λ (top : Frame). IsFree top.waiting) (omega (arith, room_asked c.args.self.now c.args.current.now c.requires.stack c.requires.asked)) (free_next _ c.enter.ensures.waiting)
+returns-clause-free g c = on_with c.args.self.now (c.args.self.now.height + 1) c.enter.new.self (λ (top : Frame). IsFree top.waiting) (omega (arith, room_asked c.args.self.now c.args.current.now c.requires.stack c.requires.asked c.requires.deep)) (free_next _ c.enter.ensures.waiting)
 
 pub returns-clause-left : goal.returns-clause-left
 returns-clause-left g c =
@@ -78,4 +78,4 @@ returns-clause-left g c =
       alpha_is = omega (arith, ints, c.enter.ensures.place.alpha_is, c.window-alpha.ensures.alpha, c.window-alpha.ensures.least, c.window-alpha.ensures.«open», c.window-alpha.ensures.most);
       beta_is = omega (arith, ints, c.enter.ensures.place.beta_is, c.window-alpha.ensures.beta, c.window-alpha.ensures.least, c.window-alpha.ensures.«open», c.window-alpha.ensures.most);
     } in
-    left_child c.args.self.now f c.enter.new.self c.args.current.now _ _ _ is (omega (arith, room_asked c.args.self.now c.args.current.now c.requires.stack c.requires.asked)) window c.enter.ensures.waiting (search rules)
+    left_child c.args.self.now f c.enter.new.self c.args.current.now _ _ _ is (omega (arith, room_asked c.args.self.now c.args.current.now c.requires.stack c.requires.asked c.requires.deep)) window c.enter.ensures.waiting (search rules)
