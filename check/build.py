@@ -1,8 +1,8 @@
 #!/usr/bin/env python3
 """Proves and builds the program, where a source is newer than it. Crates that do not stand on each
 other are proved side by side, as many as there are processors and memory; the one with the longest chain
-of crates that wait for it may use all processors, each other one job and only what the first leaves of
-them. Standard error tells how far it is: which crates are done, after how many seconds, and what is under
+of crates that wait for it may use all processors, each other half of them and only what the first leaves.
+Standard error tells how far it is: which crates are done, after how many seconds, and what is under
 way. What the toolchain says of a crate is kept in the file `build.log` of its `out/`, and shown where it
 fails. A build that was cut off goes on with the crates that are not done."""
 
@@ -263,7 +263,7 @@ class Build:
             calm = ready[:1]
         for crate in calm[: self.lanes - len(self.running)]:
             is_first = all(self.chain[crate] >= self.chain[it.crate] for it in self.running)
-            jobs = self.lanes if is_first and crate not in self.again else 1
+            jobs = 1 if crate in self.again else self.lanes if is_first else max(1, self.lanes // 2)
             try:
                 run = Run(self.crates, crate, jobs, 0 if is_first else BEHIND, self.lock)
             except BlockingIOError:
