@@ -258,7 +258,8 @@ fn leaves_way_out(board: &[u8], hand: &[u8], text: &[u8; 5]) -> Result<bool, Fai
 
 /// A rook gives check from afar and a silver from below, and the king may step aside. A gold
 /// reaches all squares next to it. Another one opens the rank below to a rook, and a knight attacks
-/// the square that is left. And without a king there is no such square.
+/// the square that is left. A bishop beside the king lets it step past, and a rook reaches the only
+/// square, behind it. And without a king there is no such square.
 #[test]
 fn ways_out_of_a_check(rt: HostRuntime) -> Result<(), Fail> {
     for (board, hand, text, left) in [
@@ -266,6 +267,8 @@ fn ways_out_of_a_check(rt: HostRuntime) -> Result<(), Fail> {
         (b"4k4/9/9/9/9/9/9/9/K8", b"S", b"S*5b ", true),
         (b"4k4/9/4P4/9/9/9/9/9/K8", b"G", b"G*5b ", false),
         (b"4k4/R1G6/6N2/9/9/9/9/9/K8", b"", b"7b6a ", false),
+        (b"4kg3/9/9/9/9/9/9/9/K8", b"B", b"B*6b ", true),
+        (b"3s1s3/3gkg3/3g1g3/9/9/9/9/9/K8", b"R", b"R*5e ", false),
         (b"9/9/9/9/9/9/9/9/K7R", b"", b"1i1a ", false),
     ] {
         assert_eq!(rt; leaves_way_out(board, hand, text)?, left, "{board:?}");

@@ -266,17 +266,25 @@ fn escapes_of(p: &Position) -> Option<Escapes> {
     Some(Escapes { king, are_open })
 }
 
-/// Whether the piece may ever reach the one square from the other, whatever stands on the board.
-fn may_reach(piece: Option<Piece>, from: Square, to: Square) -> bool {
+/// Whether the second square is between the others, on one file, rank or diagonal with them.
+fn is_between(from: Square, over: Square, to: Square) -> bool {
+    are_on_a_line(from, over)
+        && are_on_a_line(over, to)
+        && are_on_a_line(from, to)
+        && from.file().cmp(&over.file()) == over.file().cmp(&to.file())
+        && from.rank().cmp(&over.rank()) == over.rank().cmp(&to.rank())
+}
+
+/// Whether the piece may reach the one square from the other, should the king leave its own: it does as the
+/// board stands, or it slides and the king is between.
+fn may_reach(p: &Position, king: Square, piece: Option<Piece>, from: Square, to: Square) -> bool {
     let Some(moved) = piece else { return false };
-    if moved.role.is_sliding() && are_on_a_line(from, to) {
-        return true;
-    }
-    Board::of([None; 81]).put(from, piece).reaches(from, to)
+    p.board().put(from, piece).reaches(from, to)
+        || moved.role.is_sliding() && is_between(from, king, to)
 }
 
 /// Whether the move lets one of these squares be: it ends neither there nor on the king, begins on no line
-/// with it, and what moves never reaches it from where it ends.
+/// with it, and what moves does not reach it from where it ends.
 fn leaves_escape(p: &Position, escapes: &Escapes, m: &Move) -> bool {
     let (begin, end) = ends_of(m);
     let piece = piece_of(p, m);
@@ -287,7 +295,7 @@ fn leaves_escape(p: &Position, escapes: &Escapes, m: &Move) -> bool {
             && end != escapes.king
             && end != at
             && !is_lined
-            && !may_reach(piece, end, at)
+            && !may_reach(p, escapes.king, piece, end, at)
         {
             return true;
         }

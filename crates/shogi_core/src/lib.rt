@@ -36,6 +36,7 @@ pub use lines::aligned_squares;
 pub use moves::{FIRST_DROP, MOVE_CODE_COUNT, Move, SQUARE_CODES};
 pub use piece::{Color, KINDS, Kind, Piece, Role};
 pub use position::Position;
+pub use rays::ray;
 pub use square::Square;
 pub use steps::step_squares;
 pub use validity::PositionFault;

@@ -1,10 +1,11 @@
 -- A king that is given check may go to a square that stays out of reach.
-use Rattle.std.proofs.Common.{◌≡◌, ◌≢◌, ◌⊎◌, ℕ, ◌-◌, ◌*◌, ◌%◌, ◌^◌, ◌<◌, Bool, true, false, not, Option, Some, None, [], refl, sym, ap, subst, ◌∙◌, arith, inl, inr, set, length, length-set, get_or-set_same, get_or-set_other, bit_and, bit_or}
+use Rattle.std.proofs.Common.{◌≡◌, ◌≢◌, ◌⊎◌, ℕ, ◌+◌, ◌-◌, ◌*◌, ◌%◌, ◌^◌, ◌<◌, Bool, true, false, not, Option, Some, None, List, [], ◌∷◌, refl, sym, ap, subst, ◌∙◌, arith, inl, inr, set, length, length-set, get_or-set_same, get_or-set_other, bit_and, bit_or}
 use Rattle.std.specs.Prelude.{◌&&◌, ◌||◌, ◌==◌, is_none}
-use Rattle.std.specs.List.{list_any}
+use Rattle.std.specs.List.{list_any, list_all}
 use Rattle.std.specs.Int.{trailing_zeros, w128}
-use Rattle.std.proofs.lemmas.Bool.{cases_eq, false_from_ne_true, both_ways, and_parts, or_parts, or_cases, or_left, not-true, eqb-true}
+use Rattle.std.proofs.lemmas.Bool.{cases_eq, false_from_ne_true, both_ways, and_parts, and_from, or_parts, or_cases, or_left, or_right, not-true, eqb-true}
 use Rattle.shogi_core.specs.declared.moves.Move.TheVariants.{Board, Drop}
+use Rattle.shogi_core.specs.declared.offset.Offset.{Offset}
 use Rattle.shogi_core.specs.declared.piece.Color.{Color}
 use Rattle.shogi_core.specs.declared.piece.Kind.{Kind}
 use Rattle.shogi_core.specs.declared.piece.Kind.TheVariants as kinds
@@ -14,19 +15,22 @@ use Rattle.shogi_core.specs.declared.piece.Role.TheVariants as roles
 use Rattle.shogi_core.specs.Attack.{is_attacked, in_check}
 use Rattle.shogi_core.specs.Bits.{has_bit}
 use Rattle.shogi_core.specs.Cell.{is_piece_of, is_king, is_king_role}
-use Rattle.shogi_core.specs.Lines.{are_aligned, are_lined}
-use Rattle.shogi_core.specs.Movement.{Cells, piece_at, reaches, cell_reaches, has_step, has_slide, slides, slides_of, for_side}
+use Rattle.shogi_core.specs.Lines.{are_aligned, are_lined, around}
+use Rattle.shogi_core.specs.Movement.{Cells, piece_at, reaches, cell_reaches, has_step, has_slide, is_slide, slides, slides_of, for_side}
 use Rattle.shogi_core.specs.Pieces.{opponent_of}
 use Rattle.shogi_core.specs.Position.{Shogi, HandCounts}
+use Rattle.shogi_core.specs.Rays.{direction_at, is_on_ray, ray_of}
 use Rattle.shogi_core.specs.Validity.{IsValid}
 use Rattle.shogi_core.proofs.BitLaws.{has_bit-and, has_bit-none, has_bit-or}
 use Rattle.shogi_core.proofs.Faults.{faultless_from}
-use Rattle.shogi_core.proofs.Uncovered.{attacked_was_but, reach_was}
-use Rattle.shogi_core.proofs.LineBits.{lowest_set, and_fits, has_bit-not}
+use Rattle.shogi_core.proofs.RayLaws.{slides_bare}
+use Rattle.shogi_core.proofs.Shots.{direction_of}
+use Rattle.shogi_core.proofs.Uncovered.{attacked_was_but, reach_was, same_way, same_way_is, slides_around, slides_was}
+use Rattle.shogi_core.proofs.LineBits.{lowest_set, and_fits, has_bit-not, has_bit-ray}
 use Rattle.shogi_core.proofs.SeenLaws.{lined_aligned, lined_back, slide_seen}
 use Rattle.shogi_moves.specs.After.{after, cells_after, piece_moved, dropped}
 use Rattle.shogi_moves.specs.Destinations.{is_mating_square}
-use Rattle.shogi_moves.specs.Escapes.{IsEscape, IsKingStep, AreKingSteps, AreEscapes, HasOpenEscape}
+use Rattle.shogi_moves.specs.Escapes.{IsEscape, IsKingStep, AreKingSteps, AreEscapes, HasNoOtherKing, HasOpenEscape, HasRaysBehind, ReachesWithin}
 use Rattle.shogi_moves.specs.Legal.{is_legal}
 use Rattle.shogi_moves.specs.LegalMoves.{legal_codes}
 use Rattle.shogi_moves.proofs.DropChecks as drops
@@ -121,7 +125,7 @@ module _ (p : Shogi) (new : Cells) (hands : HandCounts) (Left : ℕ → Type 0) 
 -- ---- after a move on the board, and after a drop
 
 pub escaped_board : (p : Shogi) (from to closed reach lines : ℕ) (promote : Bool) → IsValid p → from < 81 → to < 81 → is_legal p (Board from to promote) ≡ true → HasOpenEscape p closed to → closed ≡ bit_or reach lines
-    → ((cells : Cells) (n : ℕ) → n < 81 → has_bit reach n ≡ false → cell_reaches cells (piece_moved promote (piece_at p.cells from)) to n ≡ false) → ((n : ℕ) → n < 81 → has_bit lines n ≡ are_aligned from n) → legal_codes (after p (Board from to promote)) ≢ []
+    → ReachesWithin p (piece_moved promote (piece_at p.cells from)) to reach → ((n : ℕ) → n < 81 → has_bit lines n ≡ are_aligned from n) → legal_codes (after p (Board from to promote)) ≢ []
 escaped_board p from to closed reach lines promote v hf ht legal h is far bits =
     let own : is_piece_of p.side (piece_at p.cells from) ≡ true = legal_own p from to promote legal in
     let off : (has_bit reach h.end ≡ false) × (has_bit lines h.end ≡ false) = or_parts (has_bit reach h.end) (has_bit lines h.end) (sym (has_bit-or reach lines h.end) ∙ (ap (λ (m : ℕ). has_bit m h.end) (sym is) ∙ h.open_end)) in
@@ -132,29 +136,80 @@ escaped_board p from to closed reach lines promote v hf ht legal h is far bits =
     (look p.cells p.side from to (piece_moved promote (piece_at p.cells from)) v.cells_fit hf ht)
     h.king_on h.end h.on_board.0 h.on_board.1 h.king
     (λ at. both_ways (is_piece_of (opponent_of p.side) (piece_at p.cells from)) (other_side p.side (piece_at p.cells from) own) (subst (λ (x : ℕ). is_piece_of (opponent_of p.side) (piece_at p.cells x) ≡ true) at (king_own (opponent_of p.side) (piece_at p.cells h.king_on) h.king)))
-    h.elsewhere h.escape (far (set p.cells h.king_on None) h.end h.on_board.1 off.0)
+    h.elsewhere h.escape (far h.king_on h.end h.on_board.0 h.on_board.1 h.king h.escape.step.lone off.0)
     (λ x at. subst (λ (y : ℕ). are_lined (set p.cells h.king_on None) y h.end ≡ false) (sym at) (false_from_ne_true (are_lined (set p.cells h.king_on None) from h.end) (λ l. both_ways (are_aligned from h.end) apart (lined_aligned (set p.cells h.king_on None) from h.end l))))
 
 pub escaped_drop : (p : Shogi) (kind : Kind) (to reach : ℕ) → IsValid p → to < 81 → HasOpenEscape p reach to
-    → ((cells : Cells) (n : ℕ) → n < 81 → has_bit reach n ≡ false → cell_reaches cells (dropped p.side kind) to n ≡ false) → legal_codes (after p (Drop kind to)) ≢ []
+    → ReachesWithin p (dropped p.side kind) to reach → legal_codes (after p (Drop kind to)) ≢ []
 escaped_drop p kind to reach v ht h far =
     escaped p (cells_after p.cells p.side (Drop kind to)) (after p (Drop kind to)).hands (λ x. ⊥) to (dropped p.side kind) v.cells_fit
     (length-set p.cells to (dropped p.side kind) ∙ v.cells_fit)
     (dropped_of p.side kind)
     (λ x. elim (drops.look p.cells p.side kind to v.cells_fit ht x) [ inl there ↦ inl there | inr same ↦ inr (inr same) ])
     h.king_on h.end h.on_board.0 h.on_board.1 h.king (λ left. absurd left)
-    h.elsewhere h.escape (far (set p.cells h.king_on None) h.end h.on_board.1 h.open_end) (λ x left. absurd left)
+    h.elsewhere h.escape (far h.king_on h.end h.on_board.0 h.on_board.1 h.king h.escape.step.lone h.open_end) (λ x left. absurd left)
 
 -- ---- such squares as bits
 
--- a square out of the reach of steps, and of lines where the piece slides
-pub beyond_reach : (piece : Piece) (to steps lines : ℕ) → to < 81 → ((n : ℕ) → n < 81 → has_bit steps n ≡ has_step piece to n) → ((n : ℕ) → n < 81 → has_bit lines n ≡ are_aligned to n) → (cells : Cells) (n : ℕ) → n < 81 → has_bit (bit_or steps lines) n ≡ false → cell_reaches cells (Some piece) to n ≡ false
-beyond_reach piece to steps lines ht s l cells n hn out =
+-- a square that the piece does not reach, and that is not behind one that was left
+pub beyond_reach : (cells : Cells) (piece : Piece) (to k n behind : ℕ) → n < 81 → ((d : ℕ) → d < 8 → HasRaysBehind d to k behind) → cell_reaches cells (Some piece) to n ≡ false → has_bit behind n ≡ false → cell_reaches (set cells k None) (Some piece) to n ≡ false
+beyond_reach cells piece to k n behind hn has short out =
+    false_from_ne_true (cell_reaches (set cells k None) (Some piece) to n) (λ r. both_ways (cell_reaches cells (Some piece) to n) short (elim (or_cases (has_step piece to n) (has_slide (set cells k None) piece to n) r) [
+      | inl step ↦ or_left (has_step piece to n) _ step
+      | inr slide ↦ or_right (has_step piece to n) _ (slide_was (slides_of piece.role) (slides_around piece.color piece.role) slide)
+    ]))
+  where
+    opened : (x : ℕ) → is_none (piece_at (set cells k None) x) ≡ true → (is_none (piece_at cells x) ≡ true) ⊎ (x ≡ k)
+    opened x e = elim (cases_eq x k) [ inl here ↦ inr here | inr other ↦ inl (ap is_none (sym (get_or-set_other cells k x None None other)) ∙ e) ]
+
+    -- no slide goes on over the square that was left
+    not_over : (o : Offset) → list_any (same_way o) around ≡ true → slides (set cells k None) o to n ≡ true → slides cells o k n ≡ true → ⊥
+    not_over o among e over =
+        let d = direction_of o among in
+        let same : o ≡ direction_at d.0 = same_way_is o (direction_at d.0) d.2 in
+        both_ways (has_bit behind n) out (has d.0 d.1 n hn
+        (subst (λ (p : Offset). is_on_ray p to n ≡ true) same (slides_bare (set cells k None) o to n e))
+        (subst (λ (p : Offset). is_on_ray p k n ≡ true) same (slides_bare cells o k n over)))
+
+    slide_was : (os : List Offset) → list_all (λ o. list_any (same_way (for_side piece.color o)) around) os ≡ true → is_slide (set cells k None) piece.color os to n ≡ true → is_slide cells piece.color os to n ≡ true
+    slide_was [] all e = e
+    slide_was (o ∷ os) all e =
+        let parts : (list_any (same_way (for_side piece.color o)) around ≡ true) × (list_all (λ p. list_any (same_way (for_side piece.color p)) around) os ≡ true) = and_parts _ _ all in
+        elim (or_cases _ _ e) [
+          | inl here ↦ elim (slides_was cells (set cells k None) (λ x. x ≡ k) opened (for_side piece.color o) to n here) [
+            | inl left ↦ absurd (not_over (for_side piece.color o) parts.0 here (subst (λ (x : ℕ). slides cells (for_side piece.color o) x n ≡ true) left.1 left.2))
+            | inr was ↦ or_left _ _ was
+          ]
+          | inr later ↦ or_right (slides cells (for_side piece.color o) to n) _ (slide_was os parts.1 later)
+        ]
+
+-- a square out of the reach of steps and of lines
+pub beyond_lines : (piece : Piece) (to steps lines : ℕ) → to < 81 → ((n : ℕ) → n < 81 → has_bit steps n ≡ has_step piece to n) → ((n : ℕ) → n < 81 → has_bit lines n ≡ are_aligned to n) → (cells : Cells) (n : ℕ) → n < 81 → has_bit (bit_or steps lines) n ≡ false → cell_reaches cells (Some piece) to n ≡ false
+beyond_lines piece to steps lines ht s l cells n hn out =
     let off : (has_bit steps n ≡ false) × (has_bit lines n ≡ false) = or_parts (has_bit steps n) (has_bit lines n) (sym (has_bit-or steps lines n) ∙ out) in
     false_from_ne_true (cell_reaches cells (Some piece) to n) (λ r. elim (or_cases (has_step piece to n) (has_slide cells piece to n) r) [
       | inl step ↦ both_ways (has_step piece to n) (sym (s n hn) ∙ off.0) step
       | inr slide ↦ both_ways (are_aligned to n) (sym (l n hn) ∙ off.1) (lined_aligned cells to n (lined_back cells n to hn (slide_seen cells piece to n ht slide)))
     ])
+
+-- the only king stands where one of them does
+pub only_king : (p : Shogi) (kings king k : ℕ) → ((n : ℕ) → n < 81 → has_bit kings n ≡ is_king (opponent_of p.side) (piece_at p.cells n)) → king < 81 → has_bit kings king ≡ true → HasNoOtherKing p.cells (opponent_of p.side) k → king ≡ k
+only_king p kings king k bits h set lone = elim (cases_eq king k) [
+  | inl same ↦ same
+  | inr other ↦ absurd (both_ways (is_king (opponent_of p.side) (piece_at p.cells king)) (lone king h other) (sym (bits king h) ∙ set))
+]
+
+-- what the directions up to one lead to from both squares
+pub more_rays : (from over limit behind : ℕ) → ((d : ℕ) → d < limit → HasRaysBehind d from over behind)
+    → (d : ℕ) → d < limit + 1 → HasRaysBehind d from over (bit_or behind (bit_and (ray_of (direction_at limit) from) (ray_of (direction_at limit) over)))
+more_rays from over limit behind before d h n hn one other =
+    let more : ℕ = bit_and (ray_of (direction_at limit) from) (ray_of (direction_at limit) over) in
+    has_bit-or behind more n ∙ elim (cases_eq d limit) [
+      | inl same ↦ or_right (has_bit behind n) _ (has_bit-and (ray_of (direction_at limit) from) (ray_of (direction_at limit) over) n ∙ and_from _ _
+          (has_bit-ray (direction_at limit) from n hn ∙ subst (λ (x : ℕ). is_on_ray (direction_at x) from n ≡ true) same one)
+          (has_bit-ray (direction_at limit) over n hn ∙ subst (λ (x : ℕ). is_on_ray (direction_at x) over n ≡ true) same other))
+      | inr earlier ↦ or_left _ (has_bit more n) (before d (omega (arith, h, earlier)) n hn one other)
+    ]
 
 pub found_open : (p : Shogi) (escapes closed kings to end : ℕ) → AreEscapes p escapes → closed < 2 ^ 128 → kings < 2 ^ 81 → end < 81 → end ≡ to → ((n : ℕ) → n < 81 → has_bit kings n ≡ is_king (opponent_of p.side) (piece_at p.cells n)) → kings ≢ 0 → has_bit kings end ≡ false
     → bit_and (bit_and escapes (2 ^ 128 - 1 - closed)) (2 ^ 128 - 1 - 1 * 2 ^ end % 2 ^ 128) ≢ 0 → HasOpenEscape p closed to
@@ -217,7 +272,7 @@ one_square squares bit square n bits e =
     )
 
 -- a pawn after whose drop such a square is left does not mate
-pub escaped_pawn : (p : Shogi) (to reach : ℕ) → IsValid p → to < 81 → HasOpenEscape p reach to → ((cells : Cells) (n : ℕ) → n < 81 → has_bit reach n ≡ false → cell_reaches cells (dropped p.side kinds.Pawn) to n ≡ false) → is_mating_square p to ≡ false
+pub escaped_pawn : (p : Shogi) (to reach : ℕ) → IsValid p → to < 81 → HasOpenEscape p reach to → ReachesWithin p (dropped p.side kinds.Pawn) to reach → is_mating_square p to ≡ false
 escaped_pawn p to reach v ht h far =
     let some = safe_from_legal (after p (Drop kinds.Pawn to)) (escaped_drop p kinds.Pawn to reach v ht h far) in
     unmated (in_check (after p (Drop kinds.Pawn to)).cells (after p (Drop kinds.Pawn to)).side) _ some

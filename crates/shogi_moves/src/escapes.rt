@@ -1,17 +1,17 @@
 //! Squares to which the king of the side that is not to move may go, should a move give it check.
 
-ghost use Rattle.std.specs.Prelude.{◌≡◌, ◌<◌, ◌^◌, ◌&&◌, ℕ, not, true, false, Option};
+ghost use Rattle.std.specs.Prelude.{◌≡◌, ◌<◌, ◌^◌, ◌&&◌, ℕ, not, true, false, Option, Some};
 ghost use Rattle.shogi_core.specs.declared.piece.Piece.{Piece};
 ghost use Rattle.shogi_core.specs.Attack.{is_attacked};
 ghost use Rattle.shogi_core.specs.Bits.{IsMaskOf, has_bit};
 ghost use Rattle.shogi_moves.specs.Destinations.{IsWithin, is_mating_square};
-ghost use Rattle.shogi_moves.specs.Escapes.{ReachesWithin, AreKingSteps, AreEscapes, HasOpenEscape};
+ghost use Rattle.shogi_moves.specs.Escapes.{HasRaysBehind, HasKingsRays, ReachesWithin, AreKingSteps, AreEscapes, HasOpenEscape};
 ghost use Rattle.shogi_moves.specs.Replies.{IsAnswered, AreAnswered, AreDropsAnswered};
 
 use crate::after::{dropped, piece_moved};
 use shogi_core::bits::{ALL_SQUARES, cleared, has, lowest, with, without_lowest};
 use shogi_core::{
-    Board, Color, Kind, Move, Piece, Position, Square, aligned_squares, step_squares,
+    Board, Color, Kind, Move, Piece, Position, Square, aligned_squares, ray, step_squares,
 };
 
 /// Those of the squares that the side does not attack.
@@ -87,19 +87,65 @@ fn first_escape(p: &Position, among: u128) -> u128
     first_unattacked(p.as_board(), p.side(), king_steps(p) & among)
 }
 
-/// All squares that the piece may reach from the square, whatever stands on the others.
-fn within_reach(cell: Option<Piece>, to: Square) -> u128
-    ensures far { ReachesWithin cell to result }
+/// The squares that one direction leads to from both squares, whatever stands between.
+fn squares_behind(over: usize, from: usize) -> u128
+    requires over { over < 81 }
+    requires from { from < 81 }
+    ensures far { (d : ℕ) → d < 8 → HasRaysBehind d from over result }
+    ensures fits { result < 2 ^ 81 }
+{
+    let mut behind = 0;
+    for direction in 0..8 {
+        behind |= ray(direction, from) & ray(direction, over);
+    }
+    behind
+}
+
+/// The squares behind the king of the side that is not to move, where it has just one, as seen from
+/// the square.
+fn behind_king(p: &Position, from: usize) -> u128
+    requires { from < 81 }
+    ensures far { HasKingsRays p.now from result }
+    ensures fits { result < 2 ^ 81 }
+{
+    let kings = p.as_board().kings(p.side().opponent());
+    if kings == 0 {
+        return 0;
+    }
+    squares_behind(lowest(kings), from)
+}
+
+/// The squares that the piece, which slides, reaches from the square, should the only king of the
+/// side that is not to move leave its own; or all on lines with it, where these tell as much of
+/// whether it leaves some of the given squares.
+fn slider_reach(p: &Position, piece: Piece, to: Square, among: u128) -> u128
+    ensures far { ReachesWithin p.now (Some piece) to result }
+    ensures fits { result < 2 ^ 81 }
+{
+    to.validity();
+    let index = to.index();
+    let left = among & !(1 << index);
+    let steps = step_squares(piece, index);
+    let wide = steps | aligned_squares(index);
+    if left & !steps == 0 || left & !wide != 0 {
+        return wide;
+    }
+    p.as_board().targets_of(piece, to) | behind_king(p, index)
+}
+
+/// The squares that the piece reaches from the square, should the only king of the side that is not
+/// to move leave its own; or more, where these tell as much of whether it leaves some of the given
+/// squares.
+fn within_reach(p: &Position, cell: Option<Piece>, to: Square, among: u128) -> u128
+    ensures far { ReachesWithin p.now cell to result }
     ensures fits { result < 2 ^ 81 }
 {
     let Some(piece) = cell else { return 0 };
     to.validity();
-    let index = to.index();
-    let steps = step_squares(piece, index);
     if piece.role.is_sliding() {
-        steps | aligned_squares(index)
+        slider_reach(p, piece, to, among)
     } else {
-        steps
+        step_squares(piece, to.index())
     }
 }
 
@@ -130,12 +176,17 @@ pub fn leaves_escape(p: &Position, escapes: u128, m: &Move) -> bool
         Move::Board { from, to, promote } => {
             from.validity();
             to.validity();
-            let reach = within_reach(piece_moved(p.as_board().at(*from), *promote), *to);
-            has_open(p, escapes, reach | aligned_squares(from.index()), *to)
+            let lines = aligned_squares(from.index());
+            let left = escapes & !lines;
+            if left == 0 {
+                return false;
+            }
+            let reach = within_reach(p, piece_moved(p.at(*from), *promote), *to, left);
+            has_open(p, escapes, reach | lines, *to)
         }
         Move::Drop { kind, to } => {
             to.validity();
-            let reach = within_reach(dropped(p.side(), *kind), *to);
+            let reach = within_reach(p, dropped(p.side(), *kind), *to, escapes);
             has_open(p, escapes, reach, *to)
         }
     }
@@ -148,7 +199,7 @@ pub fn leaves_pawn_escape(p: &Position, to: Square) -> bool
 {
     p.validity();
     to.validity();
-    let reach = within_reach(dropped(p.side(), Kind::Pawn), to);
+    let reach = within_reach(p, dropped(p.side(), Kind::Pawn), to, 0);
     has_open(p, first_escape(p, !(reach | 1 << to.index())), reach, to)
 }
 
