@@ -8,4 +8,4 @@ call_of (call.Accept answer) = asked.Accept answer
 call_of (call.Read number room) = asked.Read number room
 call_of (call.Write number bytes) = asked.Write number bytes.items
 call_of (call.Shut number) = asked.Shut number
-call_of (call.Wait idle) = asked.Wait idle
+call_of (call.Wait idle answer) = asked.Wait idle answer

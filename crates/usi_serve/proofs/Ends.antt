@@ -1,5 +1,5 @@
 -- A connection whose bytes end its session is removed.
-use Rattle.std.proofs.Common.{◌≡◌, ◌⊎◌, ℕ, zero, suc, ◌≤◌, Bool, true, false, List, [], ◌∷◌, Option, Some, None, length, refl, ap, ◌∙◌, arith, inl, inr}
+use Rattle.std.proofs.Common.{◌≡◌, ◌⊎◌, ℕ, zero, suc, ◌≤◌, Bool, true, false, List, [], ◌∷◌, Option, Some, None, Result, length, refl, ap, ◌∙◌, arith, inl, inr}
 use Rattle.std.specs.Prelude.{◌||◌, ◌&&◌, ◌==◌, not}
 use Rattle.session_slots.specs.Slots.{find}
 use Rattle.usi_session.specs.Due.{SessionView, is_pending}
@@ -7,6 +7,7 @@ use Rattle.host_core.specs.ById.{queued_of, pending_of}
 use Rattle.host_core.specs.Headline.{OverFrom}
 use Rattle.host_core.specs.Steps.{HostState}
 use Rattle.host_core.proofs.Overs.{over_settled}
+use Rattle.wires.specs.declared.wire.WireFault.{WireFault}
 use Rattle.socket_loop.specs.declared.connection.Link.{Link}
 use Rattle.socket_loop.specs.declared.connection.Connection.{Connection}
 use Rattle.socket_loop.specs.Links.{IsAmong, AreOnce, links_of}
@@ -20,7 +21,7 @@ once_turns : (slice n : ℕ) (a b : Scene) → AreTurns slice n a b → AreOnce 
 once_turns slice zero a b e o = rw e o
 once_turns slice (suc n) a b p o = rw p.2.wait.held (p.2.turn.once (once_turns slice n a p.0 p.1 o))
 
-finished_last : (slice : ℕ) (b m c : Scene) (turn : IsTurnTo slice b m) → IsWait turn.moved m c → AreOnce (links_of b.held) → NoneFinished c.host c.held
+finished_last : {answer : Result (Unit {0}) WireFault} (slice : ℕ) (b m c : Scene) (turn : IsTurnTo slice b m) → IsWait turn.moved answer m c → AreOnce (links_of b.held) → NoneFinished c.host c.held
 finished_last slice b m c turn wait o = rw (wait.held, wait.host) (turn.finished o)
 
 -- one of these is not finished with
@@ -57,5 +58,5 @@ pub ends_turns : (slice n : ℕ) (a b : Scene) → 1 ≤ n → AreOnce (links_of
 ends_turns slice zero a b one o p = absurd (omega (arith, one))
 ends_turns slice (suc n) a b one o p = ends_of a b (finished_last slice p.0 p.2.middle b p.2.turn p.2.wait (once_turns slice n a p.0 p.1 o))
 
-pub ends_stopped : (slice n : ℕ) (a m l b : Scene) → AreOnce (links_of a.held) → AreTurns slice n a m → (turn : IsTurnTo slice m l) → IsWait turn.moved l b → EndsByBytes a b
+pub ends_stopped : {answer : Result (Unit {0}) WireFault} (slice n : ℕ) (a m l b : Scene) → AreOnce (links_of a.held) → AreTurns slice n a m → (turn : IsTurnTo slice m l) → IsWait turn.moved answer l b → EndsByBytes a b
 ends_stopped slice n a m l b o p turn wait = ends_of a b (finished_last slice m l b turn wait (once_turns slice n a m p o))

@@ -1,5 +1,5 @@
 -- The whole life of a connection, turn after turn.
-use Rattle.std.proofs.Common.{◌≡◌, ◌≢◌, ◌⊎◌, ℕ, zero, suc, ◌<◌, ◌≤◌, Bool, true, List, [], ◌∷◌, ◌++◌, append_assoc, append-nil, Option, Some, None, refl, sym, ap, ◌∙◌, subst, arith, inl, inr}
+use Rattle.std.proofs.Common.{◌≡◌, ◌≢◌, ◌⊎◌, ℕ, zero, suc, ◌<◌, ◌≤◌, Bool, true, List, [], ◌∷◌, ◌++◌, Result, append_assoc, append-nil, Option, Some, None, refl, sym, ap, ◌∙◌, subst, arith, inl, inr}
 use Rattle.std.proofs.lemmas.Bool.{cases_eq}
 use Rattle.std.proofs.KnownBytes.{Appends-kept, Consumes-kept, Keeps-trans, Appends-nil, Consumes-nil}
 use Rattle.session_slots.specs.declared.id.SessionId.{SessionId}
@@ -10,6 +10,7 @@ use Rattle.host_core.specs.declared.event.HostFault.TheVariants.{Full, OutOfMemo
 use Rattle.host_core.specs.Events.{Close, Outcome, Opened, Done, Worked, Gave, Refused}
 use Rattle.host_core.specs.Headline.{EndsFrom, IsPrefixOf, OverFrom}
 use Rattle.socket_loop.specs.declared.connection.Link.{Link}
+use Rattle.wires.specs.declared.wire.WireFault.{WireFault}
 use Rattle.wires.specs.Report.{KeepsPeer}
 use Rattle.socket_loop.specs.Links.{Ties, IsAmong, IsApart, IsMarked, links_of, reads_ended, was_shut}
 use Rattle.socket_loop.specs.Turns.{FitsOne, Fits, IsTurn, IsRemoved, IsRejected, Joins, Served, host_full, rejection_text}
@@ -438,12 +439,12 @@ ended_wait duty a b c n read lost written move (inr (inl some)) = inr (inl some)
 ended_wait duty a b c n read lost written move (inr (inr k)) =
     inr (inr (record { none_lost = k.none_lost; all = k.all; why = elim k.why [ inl was ↦ inl (reads_on a b c n move was) | inr w ↦ inr w ] }))
 
-kept_wait : {moved : Bool} (a b c : Scene) (l : Link) → IsWait moved b c → IsHeldOrGone a b l → IsHeldOrGone a c l
+kept_wait : {moved : Bool} {answer : Result (Unit {0}) WireFault} (a b c : Scene) (l : Link) → IsWait moved answer b c → IsHeldOrGone a b l → IsHeldOrGone a c l
 kept_wait a b c l w (inl held) = inl (rw w.held held)
 kept_wait a b c l w (inr (inl marked)) = inr (inl marked)
 kept_wait a b c l w (inr (inr g)) = inr (inr (record { shut = raised_rises _ _ _ g.shut (stays_rise _ _ (w.report l.number).shut); closed = rw w.host g.closed }))
 
-answered_wait : {moved : Bool} (a b c : Scene) (duty : Duty) (l : Link) → IsWait moved b c → IsAnswered duty a b l → IsAnswered duty a c l
+answered_wait : {moved : Bool} {answer : Result (Unit {0}) WireFault} (a b c : Scene) (duty : Duty) (l : Link) → IsWait moved answer b c → IsAnswered duty a b l → IsAnswered duty a c l
 answered_wait a b c duty l w x =
     let s : Served duty.owes a.report b.report l.number (find b.host.slots l.id) = x.served in
     let k : KeepsPeer b.report c.report l.number = w.report l.number in
@@ -462,11 +463,11 @@ answered_wait a b c duty l w x =
     (kept_wait a b c l w x.kept)
     (rw (w.held, w.bound, w.host) x.fits)
 
-served_wait : {moved : Bool} (a b c : Scene) (l : Link) → IsWait moved b c → IsServed a b l → IsServed a c l
+served_wait : {moved : Bool} {answer : Result (Unit {0}) WireFault} (a b c : Scene) (l : Link) → IsWait moved answer b c → IsServed a b l → IsServed a c l
 served_wait a b c l w (inl s) = inl (s.0, answered_wait a b c (duty_of (find a.host.slots l.id)) l w s.1)
 served_wait a b c l w (inr s) = inr (s.0, answered_wait a b c new_duty l w s.1)
 
-life_wait : {moved : Bool} (a b c : Scene) (n : ℕ) → IsWait moved b c → Life a b n → Life a c n
+life_wait : {moved : Bool} {answer : Result (Unit {0}) WireFault} (a b c : Scene) (n : ℕ) → IsWait moved answer b c → Life a b n → Life a c n
 life_wait a b c n w (inl u) = inl (record { kept = kept_then a.report b.report c.report n u.kept (w.report n); unheld = rw w.held u.unheld })
 life_wait a b c n w (inr (inl x)) =
     let k : KeepsPeer b.report c.report n = w.report n in
@@ -482,7 +483,7 @@ life_wait a b c n w (inr (inl x)) =
     }))
 life_wait a b c n w (inr (inr s)) = inr (inr (s.0, served_wait a b c (record { number = n; id = s.0 }) w s.1))
 
-pub lives_wait : {moved : Bool} (a b c : Scene) → Lives a b → IsWait moved b c → Lives a c
+pub lives_wait : {moved : Bool} {answer : Result (Unit {0}) WireFault} (a b c : Scene) → Lives a b → IsWait moved answer b c → Lives a c
 lives_wait a b c lives w = record {
   rises = rw w.bound lives.rises;
   all = moves_then a.report b.report c.report lives.all (all_kept b.report c.report w.report);

@@ -1,5 +1,5 @@
 -- A loop that takes turns and waits after each of them (own choice).
-use Rattle.std.specs.Prelude.{◌≡◌, ◌≤◌, ◌<◌, ℕ, zero, suc, [], ◌∷◌, Bool, false, Err, not}
+use Rattle.std.specs.Prelude.{◌≡◌, ◌≤◌, ◌<◌, ℕ, zero, suc, [], ◌∷◌, Bool, false, Result, Ok, Err, not}
 use Rattle.wires.specs.declared.wire.WireFault.{WireFault}
 use Rattle.wires.specs.Asked.{Wait, Asks}
 use Rattle.wires.specs.Report.{HasCause, KeepsAll}
@@ -21,20 +21,20 @@ pub record IsTurnTo (slice : ℕ) (before after : Scene) : Type 0 where
   pub once : AreOnce (links_of before.held) → AreOnce (links_of after.held)
   pub finished : AreOnce (links_of before.held) → NoneFinished after.host after.held
 
--- a wait after a turn: the connections, the host and all that is reported stay, and the one call that is asked for is a wait, which lasts until something may be ready exactly where the turn did not move
-pub record IsWait (moved : Bool) (before after : Scene) : Type 0 where
+-- a wait after a turn, with this answer: the connections, the host and all that is reported stay, and the one call that is asked for is a wait so answered, which lasts until something may be ready exactly where the turn did not move
+pub record IsWait (moved : Bool) (answer : Result (Unit {0}) WireFault) (before after : Scene) : Type 0 where
   pub held : after.held ≡ before.held
   pub bound : after.bound ≡ before.bound
   pub report : KeepsAll before.report after.report
-  pub asked : Asks before.asked after.asked (Wait (not moved) ∷ [])
+  pub asked : Asks before.asked after.asked (Wait (not moved) answer ∷ [])
   pub faults : before.failed ≤ after.failed
   pub host : after.host ≡ before.host
 
--- a turn, and then a wait
+-- a turn, and then a wait that succeeds
 pub record IsTurnAndWait (slice : ℕ) (before after : Scene) : Type 0 where
   pub middle : Scene
   pub turn : IsTurnTo slice before middle
-  pub wait : IsWait turn.moved middle after
+  pub wait : IsWait turn.moved (Ok tt) middle after
 
 -- so many turns, each with a wait after it
 abbrev pub AreTurns : ℕ → ℕ → Scene → Scene → Type 0
@@ -42,7 +42,7 @@ AreTurns slice zero before after = after ≡ before
 AreTurns slice (suc n) before after =
     (between : Scene) × AreTurns slice n before between × IsTurnAndWait slice between after
 
--- fewer turns than so many, each with a wait after it, and then one more, with a wait that failed
+-- fewer turns than so many, each with a wait after it, and then one more, with a wait that fails with this fault
 pub record Stops (slice most : ℕ) (before after : Scene) (fault : WireFault) : Type 0 where
   pub count : ℕ
   pub few : count < most
@@ -50,5 +50,5 @@ pub record Stops (slice most : ℕ) (before after : Scene) (fault : WireFault) :
   pub turns : AreTurns slice count before between
   pub last : Scene
   pub turn : IsTurnTo slice between last
-  pub wait : IsWait turn.moved last after
+  pub wait : IsWait turn.moved (Err fault) last after
   pub cause : HasCause {T = Unit {0}} last.failed after.failed (Err fault)

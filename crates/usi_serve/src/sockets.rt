@@ -1,6 +1,6 @@
 //! A wire over a Unix socket.
 
-ghost use Rattle.std.specs.Prelude.{◌≡◌, ◌<◌, ◌≤◌, ◌+◌, ◌-◌, ◌^◌, length, IfOk, OnOk, OnErr, true, [], Err};
+ghost use Rattle.std.specs.Prelude.{◌%◌, ◌⊎◌, slice_get, None, ◌≡◌, ◌<◌, ◌≤◌, ◌+◌, ◌-◌, ◌^◌, length, IfOk, OnOk, OnErr, true, [], Err};
 ghost use Rattle.usi_serve.specs.declared.sockets.TheConstants.{PLACES};
 ghost use Rattle.wires.specs.Report.{GivesNumber, HasCause, HasRisen, Reads, bytes_read, nothing_reported};
 ghost use Rattle.wires.specs.declared.wire.WireFault.TheVariants.{Device};
@@ -81,7 +81,8 @@ fn peer_of<A: Allocator>(peers: &mut [Option<Peer<A>>], number: u64) -> Option<&
 
 /// The first place that is free.
 fn free_place<A: Allocator>(peers: &[Option<Peer<A>>]) -> usize
-    ensures { result ≤ length peers.now }
+    ensures most { result ≤ length peers.now }
+    ensures free { (result ≡ length peers.now) ⊎ (slice_get peers.now result ≡ Some None) }
 {
     for place in 0..peers.len() {
         if peers[place].is_none() {
@@ -96,6 +97,7 @@ fn number_at(next: u64, place: u64) -> u64
     requires left { next ≤ 2 ^ 64 - 1 - PLACES }
     ensures least { next ≤ result }
     ensures most { result < next + PLACES }
+    ensures place { result % PLACES ≡ place % PLACES }
 {
     let ahead = (place % PLACES + PLACES - next % PLACES) % PLACES;
     next + ahead

@@ -87,7 +87,7 @@ pub trait Wire {
     /// Returns once something may be ready; at once where `idle` is false.
     fn wait(&mut self, idle: bool) -> Result<(), WireFault>
         ensures bound { bound self.new ≡ bound self.old }
-        ensures asked { Asks (asked self.old) (asked self.new) (Wait idle ∷ []) }
+        ensures asked { Asks (asked self.old) (asked self.new) (Wait idle result ∷ []) }
         ensures kept { KeepsAll (report self.old) (report self.new) }
         ensures cause { HasCause (failed self.old) (failed self.new) result };
 

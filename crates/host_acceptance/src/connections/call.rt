@@ -4,12 +4,13 @@ use std::alloc::Allocator;
 use wires::WireFault;
 
 /// A call of a wire: an accept with its answer, a read of a connection into so much room, a write of
-/// these bytes to one, a shut of one, and a wait.
+/// these bytes to one, a shut of one, and a wait with its
+/// answer.
 #[derive(Drop)]
 pub enum Call<A: Allocator> {
     Accept(Result<Option<u64>, WireFault>),
     Read(u64, usize),
     Write(u64, Vec<u8, A>),
     Shut(u64),
-    Wait(bool),
+    Wait(bool, Result<(), WireFault>),
 }

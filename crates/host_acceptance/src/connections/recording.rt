@@ -83,8 +83,9 @@ impl<'r, R: Abort> Wire for RecordingWire<'r, R> {
     }
 
     fn wait(&mut self, idle: bool) -> Result<(), WireFault> {
-        self.keep(Call::Wait(idle));
-        self.wire.wait(idle)
+        let answer = self.wire.wait(idle);
+        self.keep(Call::Wait(idle, answer));
+        answer
     }
 
     fn faults(&self) -> u64 {

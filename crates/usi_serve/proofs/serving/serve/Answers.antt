@@ -25,7 +25,7 @@ loop-preserved g c = record {
       once = c.turn-turn.ensures.once;
       finished = c.turn-turn.ensures.finished;
     };
-    wait = record { held = search rules; bound = c.wait.ensures.bound; report = c.wait.ensures.kept; asked = c.wait.ensures.asked; faults = c.wait.ensures.cause.0; host = search rules };
+    wait = record { held = search rules; bound = c.wait.ensures.bound; report = c.wait.ensures.kept; asked = c.in_ok-wait.ensures.asked; faults = c.wait.ensures.cause.0; host = search rules };
   });
   fits = rw c.wait.ensures.bound c.turn-turn.ensures.fits;
   slice = c.turn-turn.ensures.turned.slice ∙ c.loop.invariant.slice;
@@ -47,7 +47,7 @@ returns-in_err-wait-clause-all g c =
       once = c.turn-turn.ensures.once;
       finished = c.turn-turn.ensures.finished;
     } in
-    let wait : IsWait c.turn-turn.result.moved middle (scene g.W.Wire c.turn-turn.new.self.held c.wait.new.self c.turn-turn.new.host) =
+    let wait : IsWait c.turn-turn.result.moved c.wait.result middle (scene g.W.Wire c.turn-turn.new.self.held c.wait.new.self c.turn-turn.new.host) =
     record { held = search rules; bound = c.wait.ensures.bound; report = c.wait.ensures.kept; asked = c.wait.ensures.asked; faults = c.wait.ensures.cause.0; host = search rules } in
     record {
       slice = c.turn-turn.ensures.turned.slice ∙ c.loop.invariant.slice;
