@@ -222,8 +222,8 @@ def what_a_session_costs():
         time.sleep(0.3)
         tell(f"{'1,024 idle clients':<34}{memory([pid]):>9.1f}")
         for client in clients:
-            client.sendall(b"go depth 5\n")
-        time.sleep(2)
+            client.sendall(b"go depth 16\n")
+        time.sleep(3)
         tell(f"{'1,024 clients that search':<34}{memory([pid]):>9.1f}")
     with host("--entries", "1000000") as (path, pid):
         tell(f"{'no client, 1,000,000 entries':<34}{memory([pid]):>9.1f}")

@@ -28,7 +28,7 @@ MEMORY = 2_500_000_000
 # How long nothing is told at most, in seconds.
 QUIET = 20
 # What a crate is put back behind the one with the longest chain, as nice(1) has it.
-BEHIND = 10
+BEHIND = 19
 # What a crate is proved from, and what is kept of that.
 TEXTS = ("src", "specs", "proofs")
 PARTS = ("incremental", "rlib")
