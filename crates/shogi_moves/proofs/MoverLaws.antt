@@ -4,7 +4,7 @@ use Rattle.std.specs.Prelude.{◌&&◌, ◌||◌, ◌==◌, nat_lt}
 use Rattle.std.specs.Int.{bit_at}
 use Rattle.std.proofs.Math.Nat.{mul-le-mul_left}
 use Rattle.std.proofs.Math.Pow.{pow_mono}
-use Rattle.std.proofs.lemmas.Bool.{agree_below_at, and_parts, and_from, both_ways, false_from_ne_true, true_from_ne_false, or_cases, or_left, or_parts, or_right, not-true, eqb-true, ltb-true}
+use Rattle.std.proofs.lemmas.Bool.{agree_below_at, and_parts, and_from, both_ways, false_from_ne_true, true_from_ne_false, or_cases, or_left, or_parts, or_right, not-true, eqb-true, ltb-true, lt-ltb}
 use Rattle.std.proofs.lemmas.Nat.Bits.{bit_at_cat_high}
 use Rattle.shogi_core.specs.declared.moves.TheConstants.{SQUARE_CODES}
 use Rattle.shogi_core.specs.declared.moves.Move.TheVariants.{Board}
@@ -12,12 +12,13 @@ use Rattle.shogi_core.specs.declared.piece.Color.{Color}
 use Rattle.shogi_core.specs.declared.piece.Color.TheVariants.{Black, White}
 use Rattle.shogi_core.specs.declared.piece.Piece.{Piece}
 use Rattle.shogi_core.specs.declared.piece.Role.{Role}
+use Rattle.shogi_core.specs.declared.piece.Role.TheVariants.{King, Pawn, Lance, Knight, Silver, Gold, Bishop, Rook, PromotedPawn, PromotedLance, PromotedKnight, PromotedSilver, Horse, Dragon}
 use Rattle.shogi_core.specs.Bits.{has_bit}
-use Rattle.shogi_core.specs.Cell.{is_piece_of, is_king, is_slider, is_sliding_role}
+use Rattle.shogi_core.specs.Cell.{is_piece_of, is_slider, is_sliding_role}
 use Rattle.shogi_core.specs.Codes.{code_of}
 use Rattle.shogi_core.specs.Lines.{is_near}
 use Rattle.shogi_core.specs.Movement.{Cells, away, cell_reaches, for_side, has_slide, has_step, piece_at, reaches, slides}
-use Rattle.shogi_core.specs.Pieces.{is_same_color, opponent_of}
+use Rattle.shogi_core.specs.Pieces.{is_same_color, opponent_of, promoted}
 use Rattle.shogi_core.specs.Position.{Shogi}
 use Rattle.shogi_core.proofs.BitLaws.{has_bit-and, has_bit-or, has_bit-shr}
 use Rattle.shogi_core.proofs.LineBits.{has_bit-not}
@@ -25,10 +26,10 @@ use Rattle.shogi_core.proofs.SeenLaws.{reaches_near, slides_role, step_near}
 use Rattle.shogi_moves.specs.Captures.{is_matching}
 use Rattle.shogi_moves.specs.Destinations.{is_destination}
 use Rattle.shogi_moves.specs.Legal.{in_promotion_zone, is_promotable, may_promote}
-use Rattle.shogi_moves.specs.Replies.{IsFarMove, is_on_back_rank}
+use Rattle.shogi_moves.specs.After.{piece_moved}
+use Rattle.shogi_moves.specs.Replies.{HasAroundKings, IsFarMove, is_around, is_near_zone}
 use Rattle.shogi_moves.proofs.CaptureLaws.{HasMatchingOn}
 use Rattle.shogi_moves.proofs.DestinationLaws.{matching_board}
-use Rattle.shogi_moves.proofs.Passes.{none_uncertain}
 use Rattle.shogi_moves.proofs.SweepLaws.{at_code}
 
 -- ---- squares near one another lie some places apart
@@ -151,53 +152,93 @@ stays_plain : (side : Color) (cell : Option Piece) (from n : ℕ) → is_piece_o
 stays_plain side None from n own x y = refl
 stays_plain side (Some piece) from n own x y = off_zone piece.role side piece.color from n own x y
 
--- ---- ranks
+-- ---- ranks and files
 
-abbrev is_ranks_near : ℕ → ℕ → Bool
-is_ranks_near a b = not (is_near b a) || (nat_lt (b % 9) (a % 9 + 3) && nat_lt (a % 9) (b % 9 + 3))
+-- b is at most two ranks and one file from a
+record IsClose (a b : ℕ) : Type 0 where
+  below : b % 9 < a % 9 + 3
+  above : a % 9 < b % 9 + 3
+  left : b / 9 < a / 9 + 2
+  right : a / 9 < b / 9 + 2
 
-ranks_near_at : (i : ℕ) → i < 6561 → is_ranks_near (i / 81) (i % 81) ≡ true
+abbrev is_close : ℕ → ℕ → Bool
+is_close a b = not (is_near b a) || (nat_lt (b % 9) (a % 9 + 3) && nat_lt (a % 9) (b % 9 + 3) && nat_lt (b / 9) (a / 9 + 2) && nat_lt (a / 9) (b / 9 + 2))
+
+close_at : (i : ℕ) → i < 6561 → is_close (i / 81) (i % 81) ≡ true
 unfolding away
-ranks_near_at i h = agree_below_at (λ i. is_ranks_near (i / 81) (i % 81)) (λ _. true) 6561 i refl h
+close_at i h = agree_below_at (λ i. is_close (i / 81) (i % 81)) (λ _. true) 6561 i refl h
 
--- a square near another one is at most two ranks from it
-ranks_near : (a b : ℕ) → a < 81 → b < 81 → is_near b a ≡ true → (b % 9 < a % 9 + 3) × (a % 9 < b % 9 + 3)
-ranks_near a b h l near =
+near_close : (a b : ℕ) → a < 81 → b < 81 → is_near b a ≡ true → IsClose a b
+near_close a b h l near =
     let one : (a * 81 + b) / 81 ≡ a = omega arith in
     let two : (a * 81 + b) % 81 ≡ b = omega arith in
-    let at : is_ranks_near a b ≡ true = subst (λ (x : ℕ). is_ranks_near x b ≡ true) one (subst (λ (y : ℕ). is_ranks_near ((a * 81 + b) / 81) y ≡ true) two (ranks_near_at (a * 81 + b) (omega arith))) in
+    let at : is_close a b ≡ true = subst (λ (x : ℕ). is_close x b ≡ true) one (subst (λ (y : ℕ). is_close ((a * 81 + b) / 81) y ≡ true) two (close_at (a * 81 + b) (omega arith))) in
     elim (or_cases (not (is_near b a)) _ at) [
       | inl far ↦ absurd (both_ways (not (is_near b a)) (ap not near) far)
       | inr close ↦ (
-          let parts : (nat_lt (b % 9) (a % 9 + 3) ≡ true) × (nat_lt (a % 9) (b % 9 + 3) ≡ true) = and_parts _ _ close in
-          (ltb-true (b % 9) (a % 9 + 3) parts.0, ltb-true (a % 9) (b % 9 + 3) parts.1))
+          let last : _ = and_parts _ _ close in
+          let third : _ = and_parts _ _ last.0 in
+          let first : _ = and_parts _ _ third.0 in
+          record {
+            below = ltb-true (b % 9) (a % 9 + 3) first.0;
+            above = ltb-true (a % 9) (b % 9 + 3) first.1;
+            left = ltb-true (b / 9) (a / 9 + 2) third.1;
+            right = ltb-true (a / 9) (b / 9 + 2) last.1;
+          })
     ]
 
--- from the three ranks before the side nothing goes by one such step to its zone, nor by two to the last two ranks
-off_home : (side : Color) (a n : ℕ) → in_promotion_zone (opponent_of side) a ≡ true → a % 9 < n % 9 + 3 → n % 9 < a % 9 + 3 → in_promotion_zone side n ≡ false
-off_home Black a n home x y = false_from_ne_true (nat_lt (n % 9) 3) (λ e. (let low : n % 9 < 3 = ltb-true (n % 9) 3 e in let high : 5 < a % 9 = ltb-true 5 (a % 9) home in absurd (omega arith)))
-off_home White a n home x y = false_from_ne_true (nat_lt 5 (n % 9)) (λ e. (let high : 5 < n % 9 = ltb-true 5 (n % 9) e in let low : a % 9 < 3 = ltb-true (a % 9) 3 home in absurd (omega arith)))
+-- two such steps stay around the square
+close_twice : (k n a : ℕ) → IsClose a n → IsClose n k → is_around k a ≡ true
+close_twice k n a one two = and_from _ _
+    (and_from _ _ (and_from _ _ (lt-ltb (a / 9) (k / 9 + 3) (omega arith)) (lt-ltb (k / 9) (a / 9 + 3) (omega arith))) (lt-ltb (a % 9) (k % 9 + 5) (omega arith)))
+    (lt-ltb (k % 9) (a % 9 + 5) (omega arith))
 
-off_king : (side : Color) (a n k : ℕ) → in_promotion_zone (opponent_of side) a ≡ true → is_on_back_rank side k ≡ true → a % 9 < n % 9 + 3 → n % 9 < a % 9 + 3 → n % 9 < k % 9 + 3 → k % 9 < n % 9 + 3 → ⊥
-off_king Black a n k home back x y z w = let low : k % 9 < 2 = ltb-true (k % 9) 2 back in let high : 5 < a % 9 = ltb-true 5 (a % 9) home in omega arith
-off_king White a n k home back x y z w = let high : 6 < k % 9 = ltb-true 6 (k % 9) back in let low : a % 9 < 3 = ltb-true (a % 9) 3 home in omega arith
+-- from before the last ranks to the zone no such step leads into it
+off_zone_near : (side : Color) (a n : ℕ) → is_near_zone side a ≡ false → a % 9 < n % 9 + 3 → n % 9 < a % 9 + 3 → in_promotion_zone side n ≡ false
+off_zone_near Black a n far x y = false_from_ne_true (nat_lt (n % 9) 3) (λ e. (let low : n % 9 < 3 = ltb-true (n % 9) 3 e in absurd (both_ways (nat_lt (a % 9) 5) far (lt-ltb (a % 9) 5 (omega arith)))))
+off_zone_near White a n far x y = false_from_ne_true (nat_lt 5 (n % 9)) (λ e. (let high : 5 < n % 9 = ltb-true 5 (n % 9) e in absurd (both_ways (nat_lt 3 (a % 9)) far (lt-ltb 3 (a % 9) (omega arith)))))
 
-pub far_move : (p : Shogi) (kings back own home sliders sight a n : ℕ) → a < 81 → n < 81 → bit_or sliders sight < 2 ^ 128 → back < 2 ^ 128 → bit_and kings (2 ^ 128 - 1 - back) ≡ 0
-    → ((i : ℕ) → i < 81 → has_bit kings i ≡ is_king (opponent_of p.side) (piece_at p.cells i)) → ((i : ℕ) → i < 81 → has_bit back i ≡ is_on_back_rank p.side i)
-    → ((i : ℕ) → i < 81 → has_bit own i ≡ is_piece_of p.side (piece_at p.cells i)) → ((i : ℕ) → i < 81 → has_bit home i ≡ in_promotion_zone (opponent_of p.side) i) → ((i : ℕ) → i < 81 → has_bit sliders i ≡ is_slider (piece_at p.cells i))
-    → has_bit (bit_and (bit_and own home) (2 ^ 128 - 1 - bit_or sliders sight)) a ≡ true → reaches p.cells a n ≡ true → IsFarMove p sight a n
-far_move p kings back own home sliders sight a n ha hn fits back_fits none crowns backs owns homes slides set r =
-    let parts : (has_bit (bit_and own home) a ≡ true) × (has_bit (2 ^ 128 - 1 - bit_or sliders sight) a ≡ true) = and_parts _ _ (sym (has_bit-and (bit_and own home) (2 ^ 128 - 1 - bit_or sliders sight) a) ∙ set) in
-    let mine : (has_bit own a ≡ true) × (has_bit home a ≡ true) = and_parts _ _ (sym (has_bit-and own home a) ∙ parts.0) in
-    let out : (has_bit sliders a ≡ false) × (has_bit sight a ≡ false) = or_parts _ _ (sym (has_bit-or sliders sight a) ∙ not-true _ (sym (has_bit-not (bit_or sliders sight) a fits (omega arith)) ∙ parts.1)) in
-    let still : is_slider (piece_at p.cells a) ≡ false = sym (slides a ha) ∙ out.0 in
+-- what does not slide does not slide once it is promoted
+stays_still : (role : Role) → is_sliding_role role ≡ false → is_sliding_role (promoted role) ≡ false
+stays_still King e = refl
+stays_still Pawn e = refl
+stays_still Lance e = absurd (cc)
+stays_still Knight e = refl
+stays_still Silver e = refl
+stays_still Gold e = refl
+stays_still Bishop e = absurd (cc)
+stays_still Rook e = absurd (cc)
+stays_still PromotedPawn e = refl
+stays_still PromotedLance e = refl
+stays_still PromotedKnight e = refl
+stays_still PromotedSilver e = refl
+stays_still Horse e = absurd (cc)
+stays_still Dragon e = absurd (cc)
+
+moves_still : (promote : Bool) (cell : Option Piece) → is_slider cell ≡ false → is_slider (piece_moved promote cell) ≡ false
+moves_still promote None e = e
+moves_still false (Some piece) e = e
+moves_still true (Some piece) e = stays_still piece.role e
+
+pub far_move : (p : Shogi) (sight around : ℕ) (promotes : Bool) (a n : ℕ) → a < 81 → n < 81 → HasAroundKings p.cells (opponent_of p.side) around
+    → is_piece_of p.side (piece_at p.cells a) ≡ true → is_slider (piece_at p.cells a) ≡ false → has_bit sight a ≡ false → has_bit around a ≡ false → (promotes ≡ false → is_near_zone p.side a ≡ false)
+    → reaches p.cells a n ≡ true → IsFarMove p sight promotes a n
+far_move p sight around promotes a n ha hn kings own still unseen apart zone r =
     let step : is_near n a ≡ true = elim (reaches_near p.cells a n ha r) [ inl beside ↦ beside | inr far ↦ absurd (both_ways (is_slider (piece_at p.cells a)) still far.0) ] in
-    let apart : (n % 9 < a % 9 + 3) × (a % 9 < n % 9 + 3) = ranks_near a n ha hn step in
-    let at_home : in_promotion_zone (opponent_of p.side) a ≡ true = sym (homes a ha) ∙ mine.1 in
+    let close : IsClose a n = near_close a n ha hn step in
     record {
-      unseen = out.1;
-      harmless = λ k l king. false_from_ne_true (cell_reaches p.cells (piece_at p.cells a) n k) (λ hit. (
-          let next : (k % 9 < n % 9 + 3) × (n % 9 < k % 9 + 3) = ranks_near n k hn l (near_step p.cells (piece_at p.cells a) n k hn still hit) in
-          off_king p.side a n k at_home (sym (backs k l) ∙ none_uncertain kings back k back_fits l none (crowns k l ∙ king)) apart.1 apart.0 next.1 next.0));
-      plain = stays_plain p.side (piece_at p.cells a) a n (sym (owns a ha) ∙ mine.0) (off_home p.side a a at_home (omega arith) (omega arith)) (off_home p.side a n at_home apart.1 apart.0);
+      unseen = unseen;
+      harmless = λ promote k l king. false_from_ne_true (cell_reaches p.cells (piece_moved promote (piece_at p.cells a)) n k) (λ hit. (
+          let next : IsClose n k = near_close n k hn l (near_step p.cells (piece_moved promote (piece_at p.cells a)) n k hn (moves_still promote (piece_at p.cells a) still) hit) in
+          both_ways (has_bit around a) apart (kings k a l ha king (close_twice k n a close next))));
+      plain = λ never. stays_plain p.side (piece_at p.cells a) a n own (off_zone_near p.side a a (zone never) (omega arith) (omega arith)) (off_zone_near p.side a n (zone never) close.above close.below);
     }
+
+-- one of the squares that is out of all three masks
+pub out_of_all : (own x y z a : ℕ) → a < 81 → bit_or (bit_or x y) z < 2 ^ 128 → has_bit (bit_and own (2 ^ 128 - 1 - bit_or (bit_or x y) z)) a ≡ true
+    → (has_bit own a ≡ true) × (has_bit x a ≡ false) × (has_bit y a ≡ false) × (has_bit z a ≡ false)
+out_of_all own x y z a h fits set =
+    let parts : (has_bit own a ≡ true) × (has_bit (2 ^ 128 - 1 - bit_or (bit_or x y) z) a ≡ true) = and_parts _ _ (sym (has_bit-and own (2 ^ 128 - 1 - bit_or (bit_or x y) z) a) ∙ set) in
+    let out : (has_bit (bit_or x y) a ≡ false) × (has_bit z a ≡ false) = or_parts _ _ (sym (has_bit-or (bit_or x y) z a) ∙ not-true _ (sym (has_bit-not (bit_or (bit_or x y) z) a fits (omega arith)) ∙ parts.1)) in
+    let two : (has_bit x a ≡ false) × (has_bit y a ≡ false) = or_parts _ _ (sym (has_bit-or x y a) ∙ out.0) in
+    (parts.0, two.0, two.1, out.1)

@@ -1,5 +1,5 @@
 -- Squares by rank, as masks.
-use Rattle.std.proofs.Common.{◌≡◌, ℕ, ◌<◌, ◌+◌, ◌*◌, ◌^◌, Bool, true, false, refl, ◌∙◌, arith, get_or, bit_or}
+use Rattle.std.proofs.Common.{◌≡◌, ℕ, ◌<◌, ◌+◌, ◌*◌, ◌^◌, Bool, true, false, refl, ◌∙◌, arith, get_or, bit_and, bit_or}
 use Rattle.std.specs.Prelude.{◌%◌, ◌/◌, ◌==◌, ◌&&◌, ◌||◌, nat_lt}
 use Rattle.std.proofs.lemmas.Bool.{agree_below_at, ltb-true}
 use Rattle.std.proofs.lemmas.Nat.{or_lt}
@@ -8,7 +8,9 @@ use Rattle.shogi_core.specs.Bits.{has_bit}
 use Rattle.shogi_core.specs.declared.piece.Color.{Color}
 use Rattle.shogi_core.specs.declared.piece.Role.{Role}
 use Rattle.shogi_core.proofs.BitLaws.{has_bit-none}
-use Rattle.shogi_moves.specs.declared.zones.TheConstants.{FILES, FIRST_RANK, FIRST_TWO_RANKS, FIRST_THREE_RANKS, LAST_RANK, LAST_TWO_RANKS, LAST_THREE_RANKS}
+use Rattle.shogi_core.proofs.LineBits.{and_fits}
+use Rattle.shogi_moves.specs.Replies.{is_around}
+use Rattle.shogi_moves.specs.declared.zones.TheConstants.{FILES, FIRST_RANK, FIRST_TWO_RANKS, FIRST_THREE_RANKS, FIRST_FIVE_RANKS, LAST_RANK, LAST_TWO_RANKS, LAST_THREE_RANKS, LAST_FIVE_RANKS, TALL_RANKS, WIDE_FILES}
 use Rattle.shogi_moves.specs.Legal.{in_promotion_zone, is_promotable}
 
 pub first_rank : (n : ℕ) → n < 81 → has_bit FIRST_RANK n ≡ nat_lt (n % 9) 1
@@ -63,9 +65,15 @@ promotes_there role color from n m b e z = b ∙ right_alone (is_promotable role
 
 pub ruleset dead_bits = (first_rank, first_ranks, last_rank, last_ranks, no_squares)
 
-pub ruleset zone_bits = (black_zone, white_zone)
+pub black_approach : (n : ℕ) → n < 81 → has_bit FIRST_FIVE_RANKS n ≡ nat_lt (n % 9) 5
+unfolding has_bit
+black_approach n h = agree_below_at (λ n. has_bit FIRST_FIVE_RANKS n) (λ n. nat_lt (n % 9) 5) 81 n refl h
 
-pub ruleset back_bits = (first_ranks, last_ranks)
+pub white_approach : (n : ℕ) → n < 81 → has_bit LAST_FIVE_RANKS n ≡ nat_lt 3 (n % 9)
+unfolding has_bit
+white_approach n h = agree_below_at (λ n. has_bit LAST_FIVE_RANKS n) (λ n. nat_lt 3 (n % 9)) 81 n refl h
+
+pub ruleset zone_bits = (black_zone, white_zone, black_approach, white_approach)
 
 pub ruleset promoting_bits = (no_squares, promotes_never, promotes_all, promotes_there)
 
@@ -89,3 +97,23 @@ files_fit f h = ltb-true (get_or FILES f 0) (2 ^ 81) (files_fit_at f h)
 
 pub more_fits : (a b : ℕ) → a < 2 ^ 81 → b < 2 ^ 81 → bit_or a b < 2 ^ 81
 more_fits a b h l = or_lt 81 a b h l
+
+-- ---- squares around a square
+
+around_at : (i : ℕ) → i < 6561 → has_bit (bit_and (get_or WIDE_FILES (i / 81 / 9) 0) (get_or TALL_RANKS (i / 81 % 9) 0)) (i % 81) ≡ is_around (i / 81) (i % 81)
+unfolding has_bit
+around_at i h = agree_below_at (λ i. has_bit (bit_and (get_or WIDE_FILES (i / 81 / 9) 0) (get_or TALL_RANKS (i / 81 % 9) 0)) (i % 81)) (λ i. is_around (i / 81) (i % 81)) 6561 i refl h
+
+pub around_right : (k n : ℕ) → k < 81 → n < 81 → has_bit (bit_and (get_or WIDE_FILES (k / 9) 0) (get_or TALL_RANKS (k % 9) 0)) n ≡ is_around k n
+around_right k n h l =
+    let first : (k * 81 + n) / 81 ≡ k = omega arith in
+    let second : (k * 81 + n) % 81 ≡ n = omega arith in
+    rw (first, second) at (around_at (k * 81 + n) (omega arith))
+
+wide_fit_at : (f : ℕ) → f < 9 → nat_lt (get_or WIDE_FILES f 0) (2 ^ 81) ≡ true
+wide_fit_at f h = agree_below_at (λ f. nat_lt (get_or WIDE_FILES f 0) (2 ^ 81)) (λ _. true) 9 f refl h
+
+pub around_fits : (k : ℕ) → k < 81 → bit_and (get_or WIDE_FILES (k / 9) 0) (get_or TALL_RANKS (k % 9) 0) < 2 ^ 81
+around_fits k h = and_fits (get_or WIDE_FILES (k / 9) 0) (get_or TALL_RANKS (k % 9) 0) (ltb-true (get_or WIDE_FILES (k / 9) 0) (2 ^ 81) (wide_fit_at (k / 9) (omega arith)))
+
+pub ruleset around_bits = (around_right, around_fits)

@@ -1,5 +1,5 @@
 -- What is kept of a position to decide that after most of its moves the other side is in no check and has a legal move.
-use Rattle.std.specs.Prelude.{ℕ, ◌%◌, ◌≡◌, ◌≢◌, ◌<◌, ◌^◌, ◌⊎◌, ◌&&◌, ◌||◌, Bool, true, false, not, nat_lt, Option, None, is_none, [], slice_set}
+use Rattle.std.specs.Prelude.{ℕ, ◌%◌, ◌/◌, ◌+◌, ◌≡◌, ◌≢◌, ◌<◌, ◌^◌, ◌⊎◌, ◌&&◌, ◌||◌, Bool, true, false, not, nat_lt, Option, None, is_none, [], slice_set}
 use Rattle.shogi_core.specs.declared.moves.Move.{Move}
 use Rattle.shogi_core.specs.declared.moves.Move.TheVariants.{Board, Drop}
 use Rattle.shogi_core.specs.declared.piece.Color.{Color}
@@ -121,16 +121,28 @@ abbrev pub AreDropsAnswered : Shogi → Kind → ℕ → Type 0
 AreDropsAnswered p kind mask =
     (n : ℕ) → n < 81 → has_bit mask n ≡ true → IsAnswered p (Drop kind n)
 
--- the square is on one of the two ranks that are last before the side
-abbrev pub is_on_back_rank : Color → ℕ → Bool
-is_on_back_rank Black square = nat_lt (square % 9) 2
-is_on_back_rank White square = nat_lt 6 (square % 9)
+-- the square is in the zone in which the side promotes, or at most two ranks before it
+abbrev pub is_near_zone : Color → ℕ → Bool
+is_near_zone Black square = nat_lt (square % 9) 5
+is_near_zone White square = nat_lt 3 (square % 9)
 
--- a move of what stands on the square to that one begins off the mask, gives no check and cannot promote
-pub record IsFarMove (p : Shogi) (sight from n : ℕ) : Type 0 where
+-- the other square is at most two files and four ranks away
+abbrev pub is_around : ℕ → ℕ → Bool
+is_around square n =
+    nat_lt (n / 9) (square / 9 + 3) && nat_lt (square / 9) (n / 9 + 3)
+    && nat_lt (n % 9) (square % 9 + 5) && nat_lt (square % 9) (n % 9 + 5)
+
+-- the mask has all squares around a king of the side
+abbrev pub HasAroundKings : Cells → Color → ℕ → Type 0
+HasAroundKings cells side mask = (k n : ℕ) → k < 81 → n < 81
+    → is_king side (piece_at cells k) ≡ true → is_around k n ≡ true → has_bit mask n ≡ true
+
+-- a move of what stands on the square to that one begins off the mask and gives no check, and it cannot promote unless it may
+pub record IsFarMove (p : Shogi) (sight : ℕ) (promotes : Bool) (from n : ℕ) : Type 0 where
   pub unseen : has_bit sight from ≡ false
-  pub harmless : IsHarmless p.cells (opponent_of p.side) (piece_at p.cells from) n
-  pub plain : may_promote (piece_at p.cells from) from n ≡ false
+  pub harmless : (promote : Bool)
+      → IsHarmless p.cells (opponent_of p.side) (piece_moved promote (piece_at p.cells from)) n
+  pub plain : promotes ≡ false → may_promote (piece_at p.cells from) from n ≡ false
 
 -- what stands on the square reaches that one, and moves of the kind end there
 abbrev pub is_reached : Shogi → Bool → ℕ → ℕ → Bool
@@ -146,9 +158,9 @@ pub record HasCertainMoves (p : Shogi) (capture : Bool) (among : Destinations) (
       → (has_bit among.promoting n ≡ true) × IsAnswered p (Board from n true)
 
 -- what stands on the squares of the mask makes such moves alone
-abbrev pub AreFarPieces : Shogi → ℕ → ℕ → Type 0
-AreFarPieces p sight mask = (a n : ℕ) → a < 81 → n < 81 → has_bit mask a ≡ true
-    → reaches p.cells a n ≡ true → IsFarMove p sight a n
+abbrev pub AreFarPieces : Shogi → ℕ → Bool → ℕ → Type 0
+AreFarPieces p sight promotes mask = (a n : ℕ) → a < 81 → n < 81 → has_bit mask a ≡ true
+    → reaches p.cells a n ≡ true → IsFarMove p sight promotes a n
 
 -- on those of the squares that are off the mask, the piece attacks no king of the side that is not to move
 abbrev pub ChecksAmong : Shogi → Option Piece → ℕ → ℕ → Type 0

@@ -4,10 +4,11 @@
 ghost use Rattle.std.specs.Prelude.{◌≡◌, ◌<◌, ◌^◌, ◌+◌, ◌⊎◌, true};
 ghost use Rattle.shogi_core.specs.Lines.{is_near};
 ghost use Rattle.shogi_moves.specs.Destinations.{HasMovers, Spreads, IsWithin};
-ghost use Rattle.shogi_moves.specs.Replies.{AreFarPieces};
+ghost use Rattle.shogi_moves.specs.Replies.{AreFarPieces, HasAroundKings};
 
-use crate::zones::{back_squares, zone_squares};
-use shogi_core::Position;
+use crate::zones::{squares_around, squares_near_zone};
+use shogi_core::bits::{ALL_SQUARES, cleared, lowest};
+use shogi_core::{Board, Color, Position};
 
 /// The squares so many places before or behind one of the mask.
 fn places_away(mask: u128, places: usize) -> u128
@@ -47,17 +48,36 @@ pub fn movers(p: &Position, capture: bool, pieces: u128) -> u128
     pieces & (board.sliders() | squares_near(board.own(p.side().opponent())))
 }
 
-/// Where the kings of the other side stand on its two last ranks: those of the pieces of the side
-/// to move on the three ranks before it that do not slide and that the mask leaves out.
+/// All squares around the kings of the side.
 #[inline(always)]
-pub fn far_pieces(p: &Position, sight: u128) -> u128
-    ensures { AreFarPieces p.now sight result }
+fn around_kings(board: &Board, side: Color) -> u128
+    ensures squares { HasAroundKings board.now side result }
+    ensures fits { result < 2 ^ 81 }
+{
+    let kings = board.kings(side);
+    if kings == 0 {
+        return 0;
+    }
+    let king = lowest(kings);
+    if cleared(kings, king) != 0 {
+        return ALL_SQUARES;
+    }
+    squares_around(king)
+}
+
+/// Those of the pieces of the side to move that do not slide and that the mask leaves out, whose
+/// moves end too far from the kings of the other side to attack them; those alone that are far
+/// from the zone, too, where none may promote.
+#[inline(always)]
+pub fn far_pieces(p: &Position, sight: u128, promotes: bool) -> u128
+    ensures { AreFarPieces p.now sight promotes result }
 {
     p.validity();
     let side = p.side();
     let board = p.as_board();
-    if board.kings(side.opponent()) & !back_squares(side) != 0 {
-        return 0;
+    let near = board.sliders() | sight | around_kings(board, side.opponent());
+    if promotes {
+        return board.own(side) & !near;
     }
-    board.own(side) & zone_squares(side.opponent()) & !(board.sliders() | sight)
+    board.own(side) & !(near | squares_near_zone(side))
 }

@@ -276,9 +276,9 @@ impl Replies {
         without(!closed, one)
     }
 
-    /// Pieces of the side to move of which each move of the kind leaves the other side a legal move
-    /// and cannot promote, since they are far from its kings and from the zone; none where such a
-    /// move may end on a square that is not among those.
+    /// Pieces of the side to move of which each move of the kind leaves the other side a legal move,
+    /// since they are far from its kings, and ends on one of the squares for moves without
+    /// promotion, or for those with it; none where the former are not all.
     pub fn far_pieces(&self, p: &Position, capture: bool, among: &Destinations) -> u128
         requires kept { IsReplies p.now self.now.sight self.now.spare }
         ensures { (n : ℕ) → n < 81 → has_bit result n ≡ true
@@ -288,10 +288,12 @@ impl Replies {
         if ALL_SQUARES & !self.open_squares(0) != 0 {
             return 0;
         }
-        if matching_destinations(p, capture) & !among.plain != 0 {
+        let ends = matching_destinations(p, capture);
+        if ends & !among.plain != 0 {
             return 0;
         }
-        far_pieces(p, self.sight)
+        let promotes = ends & !among.promoting == 0;
+        far_pieces(p, self.sight, promotes)
     }
 
     /// Whether each move of the kind of what stands on the square surely leaves the other side a

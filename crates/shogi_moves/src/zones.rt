@@ -1,11 +1,11 @@
 //! Squares by rank and by file, as masks.
 
-ghost use Rattle.std.specs.Prelude.{◌≡◌, ◌/◌, ◌&&◌, nat_lt};
+ghost use Rattle.std.specs.Prelude.{◌≡◌, ◌<◌, ◌/◌, ◌&&◌, nat_lt};
 ghost use Rattle.shogi_core.specs.Bits.{IsMaskOf};
 ghost use Rattle.shogi_core.specs.Cell.{is_immobile};
 ghost use Rattle.shogi_core.specs.Validity.{pawns_on_file};
 ghost use Rattle.shogi_moves.specs.Legal.{in_promotion_zone, may_promote};
-ghost use Rattle.shogi_moves.specs.Replies.{is_on_back_rank};
+ghost use Rattle.shogi_moves.specs.Replies.{is_near_zone, is_around};
 
 use crate::legal::{in_promotion_zone, is_promotable};
 use shogi_core::bits::{ALL_SQUARES, lowest, without_lowest};
@@ -18,11 +18,15 @@ const FIRST_TWO_RANKS: u128 = 14194823713674706552323;
 
 const FIRST_THREE_RANKS: u128 = 33121255331907648622087;
 
+const FIRST_FIVE_RANKS: u128 = 146679845041305301040671;
+
 const LAST_RANK: u128 = 1211291623566908292464896;
 
 const LAST_TWO_RANKS: u128 = 1816937435350362438697344;
 
 const LAST_THREE_RANKS: u128 = 2119760341242089511813568;
+
+const LAST_FIVE_RANKS: u128 = 2346877520660884816650736;
 
 /// The squares on which the piece could never move again.
 #[tactic(auto, using(crate::proofs::ZoneLaws::dead_bits))]
@@ -50,14 +54,14 @@ pub fn zone_squares(color: Color) -> u128
     }
 }
 
-/// The squares of the two ranks that are last before the side.
-#[tactic(auto, using(crate::proofs::ZoneLaws::back_bits))]
-pub fn back_squares(color: Color) -> u128
-    ensures squares { IsMaskOf result (is_on_back_rank color) }
+/// The squares of the zone, and those from which a step or a jump may lead into it.
+#[tactic(auto, using(crate::proofs::ZoneLaws::zone_bits))]
+pub fn squares_near_zone(color: Color) -> u128
+    ensures squares { IsMaskOf result (is_near_zone color) }
 {
     match color {
-        Color::Black => FIRST_TWO_RANKS,
-        Color::White => LAST_TWO_RANKS,
+        Color::Black => FIRST_FIVE_RANKS,
+        Color::White => LAST_FIVE_RANKS,
     }
 }
 
@@ -108,4 +112,39 @@ pub fn pawn_files(p: &Position, side: Color) -> u128
         left = without_lowest(left, square);
     }
     mask
+}
+
+// The squares of the files that are at most two from each file, and of the ranks that are at most
+// four from each rank.
+const WIDE_FILES: [u128; 9] = [
+    134217727,
+    68719476735,
+    35184372088831,
+    18014398509481472,
+    9223372036854513664,
+    4722366482869510995968,
+    2417851639229189629935616,
+    2417851639194073977323520,
+    2417851621214859839930368,
+];
+
+const TALL_RANKS: [u128; 9] = [
+    146679845041305301040671,
+    298091297987168837598783,
+    600914203878895910715007,
+    1206560015662350056947455,
+    2417851639229258349412351,
+    2413120031324700113894910,
+    2403656815515583642860028,
+    2384730383897350700790264,
+    2346877520660884816650736,
+];
+
+/// The squares that are at most two files and four ranks from the square.
+#[tactic(auto, using(crate::proofs::ZoneLaws::around_bits))]
+pub fn squares_around(square: usize) -> u128
+    requires { square < 81 }
+    ensures squares { IsMaskOf result (is_around square) }
+{
+    WIDE_FILES[square / 9] & TALL_RANKS[square % 9]
 }
