@@ -1,13 +1,14 @@
 //! Whether the other side surely has a legal move after a move, without making it.
 
-ghost use Rattle.std.specs.Prelude.{◌≡◌, ◌≢◌, ◌<◌, ◌^◌, ℕ, [], true, false};
+ghost use Rattle.std.specs.Prelude.{◌≡◌, ◌≢◌, ◌<◌, ◌^◌, ℕ, Bool, [], true, false, bit_and};
 ghost use Rattle.shogi_core.specs.Below.{some_below};
 ghost use Rattle.shogi_core.specs.Bits.{has_bit};
+ghost use Rattle.shogi_core.specs.Movement.{piece_at};
 ghost use Rattle.shogi_core.specs.Pieces.{opponent_of};
 ghost use Rattle.shogi_moves.specs.After.{after};
 ghost use Rattle.shogi_moves.specs.Destinations.{IsWithin};
 ghost use Rattle.shogi_moves.specs.Escapes.{AreEscapes};
-ghost use Rattle.shogi_moves.specs.Legal.{is_legal};
+ghost use Rattle.shogi_moves.specs.Legal.{is_legal, may_promote};
 ghost use Rattle.shogi_moves.specs.LegalMoves.{legal_codes};
 ghost use Rattle.shogi_moves.specs.Replies.{ChecksAmong, holds_free, is_open_step, is_spare, Sees, Aligns, IsReplies, IsHarmless, IsOpen, StaysCovered, UncoversWithin, AreAnswered, AreDropsAnswered, HasCertainMoves};
 ghost use Rattle.shogi_moves.specs.Threats.{KeepsThreats};
@@ -153,6 +154,24 @@ fn holds_free(p: &Position, side: Color) -> bool
         || p.hand(side, Kind::Gold) > 0
         || p.hand(side, Kind::Bishop) > 0
         || p.hand(side, Kind::Rook) > 0
+}
+
+/// Whether each of the ends of moves from the square is among the squares for moves without
+/// promotion, and each at which such a move may promote among those for moves with it.
+#[inline(always)]
+fn are_among(p: &Position, from: Square, ends: u128, plain: u128, promoting: u128) -> bool
+    ensures plain { result ≡ true → (n : ℕ) → n < 81 → has_bit ends n ≡ true
+        → has_bit plain n ≡ true }
+    ensures promoting { result ≡ true → (n : ℕ) → n < 81 → has_bit ends n ≡ true
+        → may_promote (piece_at p.now.cells from) from n ≡ true → has_bit promoting n ≡ true }
+{
+    if ends & !plain != 0 {
+        return false;
+    }
+    if ends & !promoting == 0 {
+        return true;
+    }
+    ends & promoting_squares(p.at(from), from) & !promoting == 0
 }
 
 impl Replies {
@@ -321,10 +340,35 @@ impl Replies {
             return true;
         }
         let ends = p.as_board().targets(from) & matching_destinations(p, capture);
+        if ends & self.sight == 0 && !has(self.sight, from.index()) {
+            let certain = self.unseen_destinations(p, from, ends);
+            return are_among(
+                p,
+                from,
+                ends,
+                among.plain & certain,
+                among.promoting & certain,
+            );
+        }
         let promoting = ends & promoting_squares(p.at(from), from);
         let certain = self.certain_destinations(p, escapes, from, false, ends);
         let promoted = self.certain_destinations(p, escapes, from, true, promoting);
         ends & !(among.plain & certain) | promoting & !(among.promoting & promoted) == 0
+    }
+
+    /// Those of the squares to which what stands on a square may move so that the other side surely
+    /// has a legal move after it, where no king sees that square or one of these.
+    #[inline(always)]
+    fn unseen_destinations(&self, p: &Position, from: Square, destinations: u128) -> u128
+        requires kept { IsReplies p.now self.now.sight self.now.spare }
+        requires unseen { has_bit self.now.sight from ≡ false }
+        requires off { bit_and destinations self.now.sight ≡ 0 }
+        ensures among { IsWithin result destinations }
+        ensures certain { (promote : Bool) → AreAnswered p.now from promote result }
+    {
+        p.validity();
+        from.validity();
+        destinations & self.open_squares(0)
     }
 
     /// Those of the squares to which what stands on a square may move, promoting or not, so that
@@ -350,7 +394,7 @@ impl Replies {
             return 0;
         }
         if destinations & self.sight == 0 && !has(self.sight, from.index()) {
-            return destinations & self.open_squares(0);
+            return self.unseen_destinations(p, from, destinations);
         }
         self.certain_among(p, escapes, from, promote, destinations)
     }

@@ -179,6 +179,22 @@ impl BoardSweep {
         false
     }
 
+    /// Continues with the next piece that has a move of the kind, where the present one has none
+    /// left; whether there is one.
+    #[inline(always)]
+    pub fn fill(&mut self, p: &Position, capture: bool) -> bool
+        requires kept { IsBoardSweep p.now capture self.old }
+        ensures kept { IsBoardSweep p.now capture self.new }
+        ensures some { result ≡ true → ContinuesBoard p.now capture self.old self.new }
+        ensures end { result ≡ false
+            → board_left p.now capture self.old ≡ matching_drops p.now capture }
+    {
+        if self.destinations.plain | self.destinations.promoting != 0 {
+            return true;
+        }
+        self.refill(p, capture)
+    }
+
     /// The next of the moves, or `None` where no board move of the kind is left.
     #[inline(always)]
     #[tactic(auto, using(crate::proofs::SweepLaws::sweeping))]
@@ -188,10 +204,8 @@ impl BoardSweep {
         ensures next { IsNextOnBoard p.now capture result self.old self.new }
         ensures legal { IfSome result (λ m. is_legal p.now m ≡ true) }
     {
-        if self.destinations.plain | self.destinations.promoting == 0 {
-            if !self.refill(p, capture) {
-                return None;
-            }
+        if !self.fill(p, capture) {
+            return None;
         }
         Some(self.take(p, capture))
     }
@@ -374,6 +388,22 @@ impl DropSweep {
         false
     }
 
+    /// Continues with the next kind that has a legal drop, where the present one has none left;
+    /// whether there is one.
+    #[inline(always)]
+    pub fn fill(&mut self, p: &Position) -> bool
+        requires kept { IsDropSweep p.now self.old }
+        ensures kept { IsDropSweep p.now self.new }
+        ensures some { result ≡ true → ContinuesDrops p.now self.old self.new }
+        ensures end { result ≡ false → drops_left p.now self.old ≡ [] }
+        ensures same { result ≡ false → self.new.code ≡ self.old.code }
+    {
+        if self.destinations != 0 {
+            return true;
+        }
+        self.refill(p)
+    }
+
     /// The next of the drops, or `None` where none is left.
     #[inline(always)]
     pub fn next(&mut self, p: &Position) -> Option<Move>
@@ -383,10 +413,8 @@ impl DropSweep {
         ensures end { IsNone result → drops_left p.now self.new ≡ [] }
         ensures legal { IfSome result (λ m. is_legal p.now m ≡ true) }
     {
-        if self.destinations == 0 {
-            if !self.refill(p) {
-                return None;
-            }
+        if !self.fill(p) {
+            return None;
         }
         Some(self.take(p))
     }

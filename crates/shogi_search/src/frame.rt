@@ -550,27 +550,59 @@ impl Frame {
             .pass_quiets(self.node.as_position(), &among, &self.replies, escapes);
     }
 
-    /// The same of the drops of the kind that is under way.
-    fn prune_drops(&mut self)
+    /// The same of the drops of the kind that is under way; whether none of that kind is left, and
+    /// those of another one are under way.
+    fn prune_kind(&mut self) -> bool
         requires next { self.old.waiting ≡ Waiting.Next }
         requires deep { 0 < self.old.depth }
         requires near { self.old.depth ≤ 2 }
         ensures { PrunesRow self.old self.new }
     {
         let Some((kind, code)) = self.picker.drops() else {
-            return;
+            return false;
         };
         let threshold = threshold_at(self.best_value, &self.best_move, code);
         if self.node.score_after_drop(kind) < self.loss_after() - threshold {
-            return;
+            return false;
         }
         let escapes = self.known_escapes();
         self.picker
             .pass_drops(self.node.as_position(), &self.replies, escapes);
+        self.picker.turn_to_kind(self.node.as_position())
     }
 
-    /// Passes the next moves of a node of depth 1 or 2 as these two do, once a move was gone
-    /// through and not good enough.
+    /// The same of the drops, kind after kind.
+    fn prune_drops(&mut self)
+        requires next { self.old.waiting ≡ Waiting.Next }
+        requires deep { 0 < self.old.depth }
+        requires near { self.old.depth ≤ 2 }
+        ensures { PrunesRow self.old self.new }
+    {
+        'kinds: for _ in 0..7u8 {
+            if !self.prune_kind() {
+                return;
+            }
+        }
+    }
+
+    /// Turns to the quiet moves where no capture is left.
+    fn turn_to_quiets(&mut self)
+        requires next { self.old.waiting ≡ Waiting.Next }
+        ensures { PrunesRow self.old self.new }
+    {
+        self.picker.turn_to_quiets(self.node.as_position());
+    }
+
+    /// Turns to the drops where no quiet move on the board is left.
+    fn turn_to_drops(&mut self)
+        requires next { self.old.waiting ≡ Waiting.Next }
+        ensures { PrunesRow self.old self.new }
+    {
+        self.picker.turn_to_drops(self.node.as_position());
+    }
+
+    /// Passes the next moves of a node of depth 1 or 2 as these do, once a move was gone through and
+    /// not good enough; each row before the first of its moves is looked for.
     #[inline(always)]
     fn prune_rows(&mut self)
         requires next { self.old.waiting ≡ Waiting.Next }
@@ -579,7 +611,9 @@ impl Frame {
         ensures { PrunesRow self.old self.new }
     {
         if self.has_move {
+            self.turn_to_quiets();
             self.prune_quiets();
+            self.turn_to_drops();
             self.prune_drops();
         }
     }

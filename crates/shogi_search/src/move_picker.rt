@@ -167,6 +167,58 @@ impl MovePicker {
         None
     }
 
+    /// Turns to the quiet moves where the captures are under way and none is left, before the first
+    /// of them is looked for.
+    #[tactic(auto, using(crate::proofs::MatchingOthers::matching_others, crate::proofs::MatchingOthers::no_capture_left))]
+    pub fn turn_to_quiets(&mut self, p: &Position)
+        requires kept { IsKept p.now self.old }
+        ensures kept { IsKept p.now self.new }
+        ensures same { todo p.now self.new ≡ todo p.now self.old }
+    {
+        let MovePicker::Captures(hash_move, sweep) = self else {
+            return;
+        };
+        if sweep.fill(p, true) {
+            return;
+        }
+        let (hash_move, info) = (*hash_move, sweep.info);
+        *self = MovePicker::Quiets(hash_move, BoardSweep::new(p, info, false));
+    }
+
+    /// Turns to the drops in the same way, where the quiet moves on the board are under way.
+    #[tactic(auto, using(crate::proofs::MatchingOthers::matching_others))]
+    pub fn turn_to_drops(&mut self, p: &Position)
+        requires kept { IsKept p.now self.old }
+        ensures kept { IsKept p.now self.new }
+        ensures same { todo p.now self.new ≡ todo p.now self.old }
+    {
+        let MovePicker::Quiets(hash_move, sweep) = self else {
+            return;
+        };
+        if sweep.fill(p, false) {
+            return;
+        }
+        let (hash_move, info) = (*hash_move, sweep.info);
+        *self = MovePicker::Drops(hash_move, DropSweep::new(p, info));
+    }
+
+    /// Turns to the next kind of drops where those of a kind are under way and none is left;
+    /// whether there is one.
+    #[tactic(auto, using(crate::proofs::MatchingOthers::matching_others))]
+    pub fn turn_to_kind(&mut self, p: &Position) -> bool
+        requires kept { IsKept p.now self.old }
+        ensures kept { IsKept p.now self.new }
+        ensures same { todo p.now self.new ≡ todo p.now self.old }
+    {
+        let MovePicker::Drops(_, sweep) = self else {
+            return false;
+        };
+        if sweep.destinations != 0 {
+            return false;
+        }
+        sweep.fill(p)
+    }
+
     /// The code to continue from where the moves on the board that take nothing are under way.
     pub fn quiets(&self) -> Option<u16>
         ensures { IfSome result (IsAtQuiets self.now) }
