@@ -7,8 +7,8 @@ ghost use Rattle.shogi_core.specs.Validity.{pawns_on_file};
 ghost use Rattle.shogi_moves.specs.Legal.{in_promotion_zone, may_promote};
 ghost use Rattle.shogi_moves.specs.Replies.{is_near_zone, is_around};
 
-use crate::legal::{in_promotion_zone, is_promotable};
-use shogi_core::bits::{ALL_SQUARES, lowest, without_lowest};
+use crate::legal::is_promotable;
+use shogi_core::bits::{ALL_SQUARES, has, lowest, without_lowest};
 use shogi_core::{Color, Piece, Position, Role, Square, is_pawn};
 
 // Ranks from rank 1 and up to rank 9.
@@ -74,10 +74,12 @@ pub fn promoting_squares(cell: Option<Piece>, from: Square) -> u128
     if !is_promotable(piece.role) {
         return 0;
     }
-    if in_promotion_zone(piece.color, from) {
+    from.validity();
+    let zone = zone_squares(piece.color);
+    if has(zone, from.index()) {
         return ALL_SQUARES;
     }
-    zone_squares(piece.color)
+    zone
 }
 
 // The squares of each file.
