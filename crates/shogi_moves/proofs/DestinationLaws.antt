@@ -1,7 +1,8 @@
 -- Where a piece may legally end.
-use Rattle.std.proofs.Common.{◌≡◌, ◌≢◌, ℕ, ◌-◌, ◌^◌, ◌<◌, Bool, true, false, not, Option, Some, None, refl, sym, ap, ◌∙◌, arith, inl, inr, bit_and, length, cond, set, get_or-set_same, get_or-set_other, length-set, ◌⊎◌}
+use Rattle.std.proofs.Common.{◌≡◌, ◌≢◌, ℕ, ◌-◌, ◌^◌, ◌<◌, Bool, true, false, not, Option, Some, None, refl, sym, ap, ◌∙◌, arith, inl, inr, bit_and, bit_or, length, cond, set, get_or-set_same, get_or-set_other, length-set, ◌⊎◌}
 use Rattle.std.specs.Prelude.{◌&&◌, ◌||◌, ◌==◌, is_none, is_some, ◌%◌, ◌/◌, nat_lt}
-use Rattle.std.proofs.lemmas.Bool.{cases_eq, ne_eqb, eq-eqb, and_parts, and_from, both_ways, le-ltb, lt-ltb, ltb-false, not-true}
+use Rattle.std.proofs.lemmas.Bool.{cases_Bool, cases_eq, ne_eqb, eq-eqb, and_parts, and_from, both_ways, le-ltb, lt-ltb, ltb-false, not-true}
+use Rattle.shogi_core.specs.declared.bits.TheConstants.{ALL_SQUARES}
 use Rattle.shogi_core.specs.declared.moves.Move.{Move}
 use Rattle.shogi_core.specs.declared.moves.Move.TheVariants.{Board, Drop}
 use Rattle.shogi_core.specs.declared.piece.Color.{Color}
@@ -19,7 +20,7 @@ use Rattle.shogi_core.specs.Codes.{move_of, code_of}
 use Rattle.shogi_core.specs.Movement.{Cells, piece_at, reaches}
 use Rattle.shogi_core.specs.Pieces.{opponent_of, is_same_color, promoted}
 use Rattle.shogi_core.specs.Position.{Shogi, count_in_hand}
-use Rattle.shogi_core.proofs.BitLaws.{has_bit-and, has_bit-none}
+use Rattle.shogi_core.proofs.BitLaws.{has_bit-and, has_bit-none, has_bit-or}
 use Rattle.shogi_core.proofs.Uncovered.{check_was}
 use Rattle.shogi_core.proofs.CodesBack.{move_of-board, move_of-drop}
 use Rattle.shogi_core.proofs.LineBits.{has_bit-not, and_fits}
@@ -32,6 +33,7 @@ use Rattle.shogi_moves.proofs.CaptureLaws.{matches_kind_of}
 use Rattle.shogi_moves.proofs.CheckInfoLaws.{unpinned_safe, filled, quiet_drop, same_drop, stays_set, stays_drop, unpinned_parts}
 use Rattle.shogi_moves.proofs.LegalLaws.{is_legal_code_of}
 use Rattle.shogi_moves.proofs.MovedPieces.{is_king-piece_moved}
+use Rattle.shogi_moves.proofs.ZoneLaws.{all_squares}
 
 -- of the first squares, those are kept that pass or are still to be tried
 pub record Sifts (first left kept : ℕ) (test : ℕ → Bool) : Type 0 where
@@ -377,7 +379,54 @@ plain_all destinations zone from n cell z none = go (has_bit destinations n) (sy
     go false h = refl
     go true h = (let goes : is_immobile n cell ≡ false = mobile from n cell h in rw goes refl)
 
+same_color : (a b : Color) → is_same_color a b ≡ true → a ≡ b
+same_color Black Black e = refl
+same_color Black White e = cc
+same_color White Black e = cc
+same_color White White e = refl
+
+-- a piece that neither begins nor ends in the zone of its side
+outside_zone : (side : Color) (destinations zone from n : ℕ) (cell : Option Piece) → is_piece_of side cell ≡ true → has_bit zone from ≡ in_promotion_zone side from → has_bit zone n ≡ in_promotion_zone side n
+    → has_bit zone from ≡ false → bit_and destinations zone ≡ 0 → has_bit destinations n ≡ true → may_promote cell from n ≡ false
+outside_zone side destinations zone from n None own f t b none set = refl
+outside_zone side destinations zone from n (Some piece) own f t b none set =
+    let same : side ≡ piece.color = same_color side piece.color own in
+    let away : in_promotion_zone side n ≡ false = sym (promoting_none destinations zone n (in_promotion_zone side n) t none ∙ (rw set refl)) ∙ has_bit-none n in
+    rw (← same, sym f ∙ b, away) (go (is_promotable piece.role))
+  where
+    go : (a : Bool) → (a && false) ≡ false
+    go true = refl
+    go false = refl
+
+pub plain_outside : (side : Color) (destinations zone from n : ℕ) (cell : Option Piece) → is_piece_of side cell ≡ true → has_bit zone from ≡ in_promotion_zone side from → has_bit zone n ≡ in_promotion_zone side n
+    → has_bit zone from ≡ false → bit_and destinations zone ≡ 0 → has_bit destinations n ≡ (has_bit destinations n && not (is_immobile n cell))
+plain_outside side destinations zone from n cell own f t b none = elim (cases_Bool (has_bit destinations n)) [
+  | inl set ↦ (let goes : is_immobile n cell ≡ false = mobile from n cell (outside_zone side destinations zone from n cell own f t b none set) in rw (set, goes) refl)
+  | inr clear ↦ (rw clear refl)
+]
+
+pub promoting_outside : (side : Color) (destinations zone from n : ℕ) (cell : Option Piece) → is_piece_of side cell ≡ true → has_bit zone from ≡ in_promotion_zone side from → has_bit zone n ≡ in_promotion_zone side n
+    → has_bit zone from ≡ false → bit_and destinations zone ≡ 0 → has_bit 0 n ≡ (has_bit destinations n && may_promote cell from n)
+promoting_outside side destinations zone from n cell own f t b none = elim (cases_Bool (has_bit destinations n)) [
+  | inl set ↦ has_bit-none n ∙ (rw (set, outside_zone side destinations zone from n cell own f t b none set) refl)
+  | inr clear ↦ has_bit-none n ∙ (rw clear refl)
+]
+
 pub ruleset promoting = (and_fits, plain_apart, promoting_apart, plain_all, promoting_none, promoting_nowhere)
+
+-- the marked squares, in check and else
+pub marked_all : (n : ℕ) (checked rest : Bool) → n < 81 → checked ≡ true → has_bit ALL_SQUARES n ≡ (checked || rest)
+marked_all n checked rest h e = all_squares n h ∙ (rw e refl)
+
+pub marked_some : (pinned_or_king zone n : ℕ) (checked : Bool) → checked ≡ false → has_bit (bit_or pinned_or_king zone) n ≡ (checked || (has_bit pinned_or_king n || has_bit zone n))
+marked_some pinned_or_king zone n checked e = has_bit-or pinned_or_king zone n ∙ (rw e refl)
+
+pub unmarked : (checked a b : Bool) → (checked || (a || b)) ≡ false → (checked ≡ false) × (a ≡ false) × (b ≡ false)
+unmarked true a b h = absurd (cc)
+unmarked false true b h = absurd (cc)
+unmarked false false b h = (refl, refl, h)
+
+pub ruleset marking = (marked_all, marked_some)
 
 -- the squares of a kind that a piece reaches
 pub among_bits : (targets matching n : ℕ) (r e : Bool) → has_bit targets n ≡ r → has_bit matching n ≡ e → has_bit (bit_and targets matching) n ≡ (r && e)

@@ -1,5 +1,5 @@
 -- Where a piece may end.
-use Rattle.std.specs.Prelude.{ℕ, ◌≡◌, ◌<◌, ◌^◌, ◌&&◌, Bool, true, false, not, Option, None, is_none, slice_set}
+use Rattle.std.specs.Prelude.{ℕ, ◌≡◌, ◌<◌, ◌^◌, ◌&&◌, ◌||◌, Bool, true, false, not, Option, None, is_none, slice_set}
 use Rattle.shogi_core.specs.declared.piece.Color.{Color}
 use Rattle.shogi_core.specs.declared.piece.Kind.{Kind}
 use Rattle.shogi_core.specs.declared.piece.Kind.TheVariants.{Pawn}
@@ -14,6 +14,7 @@ use Rattle.shogi_core.specs.Movement.{Cells, piece_at, reaches}
 use Rattle.shogi_core.specs.Pieces.{opponent_of}
 use Rattle.shogi_core.specs.Position.{Shogi, count_in_hand}
 use Rattle.shogi_moves.specs.After.{cells_after}
+use Rattle.shogi_moves.specs.declared.check_info.CheckInfo.{CheckInfo}
 use Rattle.shogi_moves.specs.Legal.{is_legal_code, is_pawn_drop_mate}
 
 -- where captures end, and where the other moves do
@@ -54,6 +55,11 @@ pub record AreDropSquares (p : Shogi) (mask : ℕ) : Type 0 where
 abbrev pub AreEnterable : Shogi → ℕ → ℕ → Type 0
 AreEnterable p from mask = (n : ℕ) → n < 81 → has_bit mask n ≡ true
     → (reaches p.cells from n ≡ true) × (is_piece_of p.side (piece_at p.cells n) ≡ false)
+
+-- the mask has the squares of the zone, those from which a piece may leave its king attacked, and in check all
+abbrev pub AreMarked : CheckInfo → ℕ → ℕ → Type 0
+AreMarked info zone mask =
+    HasBits mask (λ n. info.checked || (has_bit info.pinned_or_king n || has_bit zone n))
 
 -- on that board the other side attacks the square just as it does once the king has left its own
 abbrev pub ShowsAttack : Shogi → Cells → ℕ → ℕ → Type 0

@@ -7,9 +7,12 @@ ghost use Rattle.shogi_moves.specs.CheckInfo.{IsCheckInfoOf};
 
 use crate::after::advance;
 use crate::check_info::{CheckInfo, check_info_of};
-use crate::destinations::{drop_destinations, drop_squares, enterable, legal_destinations};
+use crate::destinations::{
+    drop_destinations, drop_squares, enterable, legal_by_marks, marked_squares,
+};
 use crate::sweep::next_kind;
 use crate::walk::Walk;
+use crate::zones::zone_squares;
 use shogi_core::bits::{lowest, without_lowest};
 use shogi_core::{Kind, Position, Square};
 
@@ -20,13 +23,17 @@ fn count_board(p: &Position, info: &CheckInfo) -> u64
     ensures range { result ≤ FIRST_DROP }
 {
     let squares = enterable(p);
+    let side = p.side();
+    let zone = zone_squares(side);
+    let marked = marked_squares(info, zone);
     let board = p.as_board();
-    let mut left = board.own(p.side());
+    let mut left = board.own(side);
     let mut total: u64 = 0;
     'pieces: while left != 0 {
         let square = lowest(left);
         let from = Square::of_index(square);
-        let destinations = legal_destinations(p, info, from, board.targets(from) & squares);
+        let among = board.targets(from) & squares;
+        let destinations = legal_by_marks(p, info, zone, marked, from, among);
         total += (destinations.plain.count_ones() + destinations.promoting.count_ones()) as u64;
         left = without_lowest(left, square);
     }

@@ -3,7 +3,7 @@
 ghost use Rattle.std.specs.Prelude.{◌≡◌, ◌<◌, ◌^◌, ◌&&◌, ℕ, not, true, false, None, slice_set};
 ghost use Rattle.shogi_core.specs.declared.moves.Move.TheVariants as moves;
 ghost use Rattle.shogi_core.specs.declared.piece.Kind.TheVariants as kinds;
-ghost use Rattle.shogi_moves.specs.Legal.{is_safe, may_promote};
+ghost use Rattle.shogi_moves.specs.Legal.{in_promotion_zone, is_safe, may_promote};
 ghost use Rattle.shogi_core.specs.Attack.{in_check};
 ghost use Rattle.shogi_core.specs.Bits.{HasBits, IsMaskOf, has_bit};
 ghost use Rattle.shogi_core.specs.Cell.{is_piece_of, is_king, is_immobile};
@@ -11,7 +11,7 @@ ghost use Rattle.shogi_core.specs.Codes.{code_of};
 ghost use Rattle.shogi_core.specs.Movement.{piece_at};
 ghost use Rattle.shogi_core.specs.Position.{count_in_hand};
 ghost use Rattle.shogi_moves.specs.Captures.{is_matching};
-ghost use Rattle.shogi_moves.specs.Destinations.{is_destination, is_unchecked, is_mating_square, AreUncheckedDestinations, AreUncheckedDrops, AreLegalDestinations, AreEnterable, AreDropSquares, ShowsAttack};
+ghost use Rattle.shogi_moves.specs.Destinations.{is_destination, is_unchecked, is_mating_square, AreUncheckedDestinations, AreUncheckedDrops, AreLegalDestinations, AreEnterable, AreDropSquares, AreMarked, ShowsAttack};
 ghost use Rattle.shogi_moves.specs.Escapes.{HasNoOtherKing};
 ghost use Rattle.shogi_moves.specs.CheckInfo.{IsCheckInfoOf};
 
@@ -20,7 +20,7 @@ use crate::check_info::{CheckInfo, is_unpinned};
 use crate::escapes::leaves_pawn_escape;
 use crate::legal::{is_pawn_drop_mate, is_pawn_kind};
 use crate::zones::{dead_squares, pawn_files, promoting_squares};
-use shogi_core::bits::{cleared, has, lowest, without_lowest};
+use shogi_core::bits::{ALL_SQUARES, cleared, has, lowest, without_lowest};
 use shogi_core::{Board, Kind, Move, Piece, Position, Role, Square, step_squares};
 
 /// The legal destinations of a piece, without and with promotion.
@@ -246,6 +246,52 @@ pub fn legal_destinations(p: &Position, info: &CheckInfo, from: Square, among: u
     }
     let destinations = safe_destinations(p, info, from, among);
     with_promotions(p.at(from), from, destinations)
+}
+
+/// The squares from which a piece of the side to move may promote, or may leave its king attacked;
+/// `zone` is that in which the side promotes.
+#[tactic(auto, using(crate::proofs::DestinationLaws::marking))]
+pub fn marked_squares(info: &CheckInfo, zone: u128) -> u128
+    ensures { AreMarked info.now zone result }
+{
+    if info.checked {
+        return ALL_SQUARES;
+    }
+    info.pinned_or_king | zone
+}
+
+/// The same legal destinations, where many pieces are asked for theirs. A piece on no marked
+/// square, none of whose destinations lies in the zone, keeps them all and promotes on none,
+/// whatever it is.
+#[inline(always)]
+pub fn legal_by_marks(
+    p: &Position,
+    info: &CheckInfo,
+    zone: u128,
+    marked: u128,
+    from: Square,
+    among: u128,
+) -> Destinations
+    requires info { IsCheckInfoOf info.now p.now }
+    requires zone { HasBits zone (in_promotion_zone p.now.side) }
+    requires marked { AreMarked info.now zone marked }
+    requires own { is_piece_of p.now.side (piece_at p.now.cells from) ≡ true }
+    requires among { AreEnterable p.now from among }
+    requires fits { among < 2 ^ 81 }
+    ensures plain { AreLegalDestinations p.now from false among result.plain }
+    ensures promoting { AreLegalDestinations p.now from true among result.promoting }
+    ensures plain_fits { result.plain < 2 ^ 81 }
+    ensures promoting_fits { result.promoting < 2 ^ 81 }
+{
+    p.validity();
+    from.validity();
+    if among & zone == 0 && !has(marked, from.index()) {
+        return Destinations {
+            plain: among,
+            promoting: 0,
+        };
+    }
+    legal_destinations(p, info, from, among)
 }
 
 /// Those of the squares on which a dropped pawn leaves the king unattacked, each of them tried.

@@ -4,14 +4,14 @@ use Rattle.shogi_moves.proofs.LegalLaws.{pieces_first}
 use Rattle.shogi_moves.proofs.TallyLaws.{piece_counted, board_counted}
 use Rattle.shogi_moves.proofs.count.count_board.Goals as goal
 
-pub legal_destinations-destinations-requires-clause-among : goal.legal_destinations-destinations-requires-clause-among
-legal_destinations-destinations-requires-clause-among c = λ n h. all_ways c.targets.result c.enterable-squares.result n _ _ (rw c.as_board-board.ensures at c.targets.ensures.squares.0 n h) (c.enterable-squares.ensures n h)
+pub legal_by_marks-destinations-requires-clause-among : goal.legal_by_marks-destinations-requires-clause-among
+legal_by_marks-destinations-requires-clause-among c = λ n h. all_ways c.targets.result c.enterable-squares.result n _ _ (rw c.as_board-board.ensures at c.targets.ensures.squares.0 n h) (c.enterable-squares.ensures n h)
 
 pub pieces-init : goal.pieces-init
 pieces-init c = record {
   counted = record {
     first = 0;
-    pieces = pieces_first c.args.p.now c.own-left.result (rw (c.side.ensures, c.as_board-board.ensures) at c.own-left.ensures.squares.0);
+    pieces = pieces_first c.args.p.now c.own-left.result (rw (c.side-side.ensures, c.as_board-board.ensures) at c.own-left.ensures.squares.0);
     whole = omega arith;
     range = omega arith;
   };
@@ -20,10 +20,10 @@ pieces-init c = record {
 
 pub pieces-preserved : goal.pieces-preserved
 pieces-preserved c = record {
-  counted = piece_counted c.args.p.now c.pieces.left c.without_lowest-left.result c.pieces.total c.lowest-square.result c.legal_destinations-destinations.result.plain c.legal_destinations-destinations.result.promoting c.pieces.invariant.counted c.lowest-square.ensures.range c.lowest-square.ensures.set c.lowest-square.ensures.least c.without_lowest-left.ensures.bits
-      c.legal_destinations-destinations.ensures.plain_fits c.legal_destinations-destinations.ensures.promoting_fits
-      (all_destinations c.args.p.now false c.lowest-square.result c.targets.result c.enterable-squares.result c.legal_destinations-destinations.result.plain c.lowest-square.ensures.range (rw (c.of_index-from.ensures, c.as_board-board.ensures) at c.targets.ensures.squares.0) c.enterable-squares.ensures (rw c.of_index-from.ensures at c.legal_destinations-destinations.ensures.plain))
-      (all_destinations c.args.p.now true c.lowest-square.result c.targets.result c.enterable-squares.result c.legal_destinations-destinations.result.promoting c.lowest-square.ensures.range (rw (c.of_index-from.ensures, c.as_board-board.ensures) at c.targets.ensures.squares.0) c.enterable-squares.ensures (rw c.of_index-from.ensures at c.legal_destinations-destinations.ensures.promoting));
+  counted = piece_counted c.args.p.now c.pieces.left c.without_lowest-left.result c.pieces.total c.lowest-square.result c.legal_by_marks-destinations.result.plain c.legal_by_marks-destinations.result.promoting c.pieces.invariant.counted c.lowest-square.ensures.range c.lowest-square.ensures.set c.lowest-square.ensures.least c.without_lowest-left.ensures.bits
+      c.legal_by_marks-destinations.ensures.plain_fits c.legal_by_marks-destinations.ensures.promoting_fits
+      (all_destinations c.args.p.now false c.lowest-square.result c.targets.result c.enterable-squares.result c.legal_by_marks-destinations.result.plain c.lowest-square.ensures.range (rw (c.of_index-from.ensures, c.as_board-board.ensures) at c.targets.ensures.squares.0) c.enterable-squares.ensures (rw c.of_index-from.ensures at c.legal_by_marks-destinations.ensures.plain))
+      (all_destinations c.args.p.now true c.lowest-square.result c.targets.result c.enterable-squares.result c.legal_by_marks-destinations.result.promoting c.lowest-square.ensures.range (rw (c.of_index-from.ensures, c.as_board-board.ensures) at c.targets.ensures.squares.0) c.enterable-squares.ensures (rw c.of_index-from.ensures at c.legal_by_marks-destinations.ensures.promoting));
   fits = omega (arith, c.without_lowest-left.ensures.less, c.pieces.invariant.fits);
 }
 
