@@ -1,16 +1,17 @@
 //! Counting sequences of legal moves.
 
-ghost use Rattle.std.specs.Prelude.{◌≡◌, ◌≤◌, ◌<◌, ◌^◌, ◌+◌, ◌-◌, ◌↔◌, IfSome, IsNone, length};
+ghost use Rattle.std.specs.Prelude.{◌≡◌, ◌≤◌, ◌<◌, ◌^◌, ◌+◌, ◌*◌, ◌-◌, ◌↔◌, IfSome, IsNone, length};
 ghost use Rattle.shogi_core.specs.declared.moves.TheConstants.{MOVE_CODE_COUNT, FIRST_DROP};
 ghost use Rattle.shogi_moves.specs.LegalMoves.{legal_from, legal_codes, perft};
+ghost use Rattle.shogi_core.specs.Pieces.{kind_number};
 ghost use Rattle.shogi_moves.specs.CheckInfo.{IsCheckInfoOf};
+ghost use Rattle.shogi_moves.specs.Destinations.{AreDropSquares};
 
 use crate::after::advance;
 use crate::check_info::{CheckInfo, check_info_of};
 use crate::destinations::{
     drop_destinations, drop_squares, enterable, legal_by_marks, marked_squares,
 };
-use crate::sweep::next_kind;
 use crate::walk::Walk;
 use crate::zones::zone_squares;
 use shogi_core::bits::{lowest, without_lowest};
@@ -40,20 +41,33 @@ fn count_board(p: &Position, info: &CheckInfo) -> u64
     total
 }
 
-/// How many drops are legal.
+/// How many drops of the kind are legal.
+#[inline(always)]
+fn count_kind(p: &Position, squares: u128, kind: Kind) -> u64
+    requires { AreDropSquares p.now squares }
+    ensures count { result + length (legal_from p.now (FIRST_DROP + 81 + kind_number kind * 81))
+        ≡ length (legal_from p.now (FIRST_DROP + kind_number kind * 81)) }
+    ensures range { result ≤ 81 }
+{
+    drop_destinations(p, squares, kind).count_ones() as u64
+}
+
+/// How many drops are legal. Each kind is named, so that one that is not held costs no more than a
+/// look at its count.
 fn count_drops(p: &Position, info: &CheckInfo) -> u64
     requires info { IsCheckInfoOf info.now p.now }
     ensures count { result ≡ length (legal_from p.now FIRST_DROP) }
     ensures range { result ≤ MOVE_CODE_COUNT - FIRST_DROP }
 {
     let squares = drop_squares(p, info);
-    let mut kind = Kind::Pawn;
-    let mut total = drop_destinations(p, squares, kind).count_ones() as u64;
-    'kinds: while let Some(next) = next_kind(kind) {
-        total += drop_destinations(p, squares, next).count_ones() as u64;
-        kind = next;
-    }
-    total
+    let pawns = count_kind(p, squares, Kind::Pawn);
+    let lances = count_kind(p, squares, Kind::Lance);
+    let knights = count_kind(p, squares, Kind::Knight);
+    let silvers = count_kind(p, squares, Kind::Silver);
+    let golds = count_kind(p, squares, Kind::Gold);
+    let bishops = count_kind(p, squares, Kind::Bishop);
+    let rooks = count_kind(p, squares, Kind::Rook);
+    pawns + lances + knights + silvers + golds + bishops + rooks
 }
 
 /// How many moves are legal.
