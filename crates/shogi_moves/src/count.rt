@@ -71,6 +71,7 @@ fn count_drops(p: &Position, info: &CheckInfo) -> u64
 }
 
 /// How many moves are legal.
+#[inline(never)]
 fn count_legal(p: &Position) -> u64
     ensures count { result ≡ perft p.now 1 }
     ensures range { result < 2 ^ 64 }
@@ -98,7 +99,11 @@ pub fn perft(p: &Position, n: u8) -> Option<u64>
     'moves: while let Some(m) = walk.next() {
         let mut next = *p;
         advance(&mut next, m);
-        let count = perft(&next, n - 1)?;
+        let count = if n == 2 {
+            count_legal(&next)
+        } else {
+            perft(&next, n - 1)?
+        };
         total = total.checked_add(count)?;
     }
     Some(total)

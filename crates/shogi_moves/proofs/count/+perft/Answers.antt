@@ -1,15 +1,20 @@
-use Rattle.std.proofs.Common.{rules, arith, refl, ◌≡◌, ◌≤◌, ◌-◌, ◌^◌}
+use Rattle.std.proofs.Common.{rules, arith, refl, ap, ◌∙◌, ◌≡◌, ◌≤◌, ◌-◌, ◌^◌}
 use Rattle.shogi_core.specs.Codes.{code_of}
 use Rattle.shogi_moves.specs.LegalMoves.{perft}
 use Rattle.shogi_moves.proofs.PerftLaws.{perft_by, perft_by-left, perft_by-none}
 use Rattle.shogi_moves.proofs.count.+perft.Goals as goal
+use Rattle.shogi_moves.proofs.count.+perft.Goals.{then-n-eq2, else-n-eq2+in_ok-count}
 
 -- the move's share joins what is counted
 pub moves-preserved : goal.moves-preserved
 moves-preserved t c =
     let step = perft_by-left c.args.p.now (c.args.n - 1) (code_of c.in-Some.m) c.moves.walk.codes c.next.new.self.codes c.advance.new.p c.in-Some.ensures.next c.advance.ensures.by_code in
+    let share : c.if-n-eq2.count ≡ perft c.advance.new.p (c.args.n - 1) = elim c.if-n-eq2.branch [
+      | then-n-eq2 w ↦ (let one : 1 ≡ c.args.n - 1 = omega (arith, w.if-n-eq2.true) in w.count-is ∙ (w.count_legal-count.ensures.count ∙ ap (perft c.advance.new.p) one))
+      | else-n-eq2+in_ok-count w ↦ w.count-is ∙ w.in_ok-count.ensures.count
+    ] in
     record {
-      whole = omega (arith, c.in_ok-total.ensures, c.in_ok-count.ensures.count);
+      whole = omega (arith, c.in_ok-total.ensures, share);
       same = search rules;
       fits = omega (arith, c.in_ok-total.ensures);
     }
@@ -24,7 +29,11 @@ returns-in_err-count-clause-none t c =
 pub returns-in_err-total-clause-none : goal.returns-in_err-total-clause-none
 returns-in_err-total-clause-none t c =
     let step = perft_by-left c.args.p.now (c.args.n - 1) (code_of c.in-Some.m) c.moves.walk.codes c.next.new.self.codes c.advance.new.p c.in-Some.ensures.next c.advance.ensures.by_code in
-    ((λ none. omega (arith, c.in_err-total.ensures, c.in_ok-count.ensures.count)), (λ many. search rules))
+    let share : c.if-n-eq2.count ≡ perft c.advance.new.p (c.args.n - 1) = elim c.if-n-eq2.branch [
+      | then-n-eq2 w ↦ (let one : 1 ≡ c.args.n - 1 = omega (arith, w.if-n-eq2.true) in w.count-is ∙ (w.count_legal-count.ensures.count ∙ ap (perft c.advance.new.p) one))
+      | else-n-eq2+in_ok-count w ↦ w.count-is ∙ w.in_ok-count.ensures.count
+    ] in
+    ((λ none. omega (arith, c.in_err-total.ensures, share)), (λ many. search rules))
 
 pub returns-clause-none : goal.returns-clause-none
 returns-clause-none t c =
