@@ -611,7 +611,13 @@ legal_pawn p destinations kept n h s e = e ∙ (rw s (sym (legal_drop p kinds.Pa
 pub legal_other : (p : Shogi) (kind : Kind) (destinations n : ℕ) → n < 81 → is_pawn_kind kind ≡ false → has_bit destinations n ≡ is_safe p (Drop kind n) → has_bit destinations n ≡ is_matching p false (code_of (Drop kind n))
 legal_other p kind destinations n h other s = s ∙ (sym (legal_drop p kind n h ∙ (rw other (alone (is_safe p (Drop kind n))))))
 
-pub ruleset legal_dropping = (legal_pawn, legal_other)
+-- a kind that may be dropped nowhere
+pub legal_nowhere : (p : Shogi) (kind : Kind) (destinations n : ℕ) → n < 81 → destinations ≡ 0 → has_bit destinations n ≡ is_safe p (Drop kind n) → has_bit 0 n ≡ is_matching p false (code_of (Drop kind n))
+legal_nowhere p kind destinations n h none s =
+    let off : is_safe p (Drop kind n) ≡ false = sym s ∙ (ap (λ (m : ℕ). has_bit m n) none ∙ has_bit-none n) in
+    has_bit-none n ∙ (sym (legal_drop p kind n h ∙ (rw off refl)))
+
+pub ruleset legal_dropping = (legal_pawn, legal_other, legal_nowhere)
 
 -- a drop takes nothing, so it matches where it is legal
 pub drop_matching : (p : Shogi) (kind : Kind) (n : ℕ) → n < 81 → is_matching p false (code_of (Drop kind n)) ≡ is_legal_code p (code_of (Drop kind n))

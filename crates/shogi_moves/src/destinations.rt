@@ -435,6 +435,9 @@ pub fn drop_destinations(p: &Position, squares: u128, kind: Kind) -> u128
     ensures squares { IsMaskOf result (λ n. is_matching p.now false (code_of (moves.Drop kind n))) }
 {
     let destinations = safe_drops(p, squares, kind);
+    if destinations == 0 {
+        return 0;
+    }
     match kind {
         Kind::Pawn => non_mating_drops(p, destinations),
         _ => destinations,
