@@ -678,7 +678,9 @@ impl Frame {
 }
 
 impl Default for Frame {
-    /// A leaf at the opening position, which stands where no node is entered yet.
+    /// A leaf at the opening position, which stands where no node is entered yet. It is made once
+    /// and copied, which is less than to write out its fields for each frame.
+    #[inline(never)]
     fn default() -> Self {
         let node = Node::start(Eval::Plain);
         node.as_position().validity();
