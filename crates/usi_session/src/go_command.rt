@@ -211,6 +211,7 @@ fn rank_on(
 
 impl<A: Allocator> GoCommand<A> {
     /// A `go` at its first depth.
+    #[inline(never)]
     pub fn start(alloc: A, question: Question, first: Move) -> Result<GoCommand<A>, AllocError>
         requires question { IsQuestionInRange question }
         requires first { IsFirst question.position first }
