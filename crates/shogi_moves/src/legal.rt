@@ -1,13 +1,13 @@
 //! Which moves are legal.
 
-ghost use Rattle.std.specs.Prelude.{◌≡◌, ◌↔◌, IsTrue, true, if◌then◌else◌, Some, None};
+ghost use Rattle.std.specs.Prelude.{◌≡◌, ◌↔◌, IsTrue, true, false, if◌then◌else◌, Some, None};
 ghost use Rattle.shogi_core.specs.Codes.{code_of};
 ghost use Rattle.shogi_moves.specs.After.{after};
 ghost use Rattle.shogi_moves.specs.Legal.{is_legal, is_safe, is_pseudo_legal, is_pseudo_legal_board_move, is_pseudo_legal_drop, may_promote, is_pawn_kind, is_mated_by_drop, is_pawn_drop, is_pawn_drop_mate, is_promotable, in_promotion_zone};
 ghost use Rattle.shogi_moves.specs.LegalMoves.{legal_codes};
 ghost use Rattle.shogi_moves.specs.Rising.{is_in};
 
-use crate::after::{apply, apply_safe, dropped, is_checked_after, piece_moved};
+use crate::after::{advance, apply, apply_safe, dropped, is_checked_after, piece_moved};
 use crate::attack::in_check;
 use crate::existence::has_safe;
 use shogi_core::{Color, Kind, Move, Piece, Position, Role, Square, is_immobile, is_piece_of};
@@ -147,4 +147,18 @@ pub fn play(p: &Position, m: Move) -> Option<Position>
     } else {
         None
     }
+}
+
+/// Makes the move where the position stands, if it is legal, and returns whether it is. Where it is
+/// not, the position stays.
+pub fn play_in_place(p: &mut Position, m: Move) -> bool
+    ensures legal { result ≡ is_legal p.old m }
+    ensures played { result ≡ true → p.new ≡ after p.old m }
+    ensures kept { result ≡ false → p.new ≡ p.old }
+{
+    if !is_legal_move(p, &m) {
+        return false;
+    }
+    advance(p, m);
+    true
 }

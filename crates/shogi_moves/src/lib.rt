@@ -34,7 +34,7 @@ pub use count::perft;
 pub use destinations::Destinations;
 pub use escapes::{escape_squares, leaves_escape};
 pub use existence::has_legal;
-pub use legal::{is_legal, play};
+pub use legal::{is_legal, play, play_in_place};
 pub use next::next_legal;
 pub use replies::Replies;
 pub use sweep::{BoardSweep, DropSweep};

@@ -1,12 +1,12 @@
 //! What a `position` command leaves.
 
-ghost use Rattle.std.specs.Prelude.{◌≡◌, ◌+◌, ◌≤◌, ◌<◌, ◌^◌, length};
+ghost use Rattle.std.specs.Prelude.{◌≡◌, ◌+◌, ◌≤◌, ◌<◌, ◌^◌, true, false, Some, None, length};
 ghost use Rattle.shogi_sfen.specs.Words.{words};
 ghost use Rattle.shogi_sfen.specs.MoveTexts.{move_of_text};
 ghost use Rattle.usi_session.specs.PositionCommand.{after_legal, after_moves, after_words, position_of_startpos, position_of_sfen};
 
 use shogi_core::Position;
-use shogi_moves::play;
+use shogi_moves::play_in_place;
 use shogi_sfen::{read_move, read_position, words};
 
 /// Why a `position` line leaves the position as it was.
@@ -18,12 +18,18 @@ pub enum Refusal {
     IllegalMove(usize),
 }
 
-/// The position after the move of a text, if it is one and legal.
+/// Makes the move of a text where the position stands, if it is one and legal, and returns whether
+/// it is. Where it is not, the position stays.
 #[tactic(auto, unfolding(crate::specs::PositionCommand::after_legal))]
-fn after_legal(p: &Position, word: &[u8]) -> Option<Position>
-    ensures { result ≡ after_legal p.now (move_of_text word.now) }
+fn make_legal(p: &mut Position, word: &[u8]) -> bool
+    ensures made { result ≡ true → after_legal p.old (move_of_text word.now) ≡ Some p.new }
+    ensures none { result ≡ false → after_legal p.old (move_of_text word.now) ≡ None }
+    ensures kept { result ≡ false → p.new ≡ p.old }
 {
-    play(p, read_move(word)?)
+    let Some(m) = read_move(word) else {
+        return false;
+    };
+    play_in_place(p, m)
 }
 
 /// The position after the words of the text, each a legal move where it stands.
@@ -36,9 +42,8 @@ fn after_moves(p: &Position, text: &[u8]) -> Result<Position, Refusal>
     let mut number = 1;
     let mut rest = words(text);
     while let Some(word) = rest.next() {
-        match after_legal(&reached, word) {
-            None => return Err(Refusal::IllegalMove(number)),
-            Some(next) => reached = next,
+        if !make_legal(&mut reached, word) {
+            return Err(Refusal::IllegalMove(number));
         }
         number += 1;
     }
