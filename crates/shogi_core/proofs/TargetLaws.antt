@@ -1,5 +1,5 @@
 -- Masks of what a piece reaches.
-use Rattle.std.proofs.Common.{◌≡◌, ◌<◌, ◌^◌, ℕ, Bool, true, false, refl, sym, ap, ◌∙◌, bit_or}
+use Rattle.std.proofs.Common.{◌≡◌, ◌<◌, ◌+◌, ◌^◌, ℕ, Bool, true, false, refl, sym, ap, ◌∙◌, bit_or}
 use Rattle.std.specs.Prelude.{◌||◌}
 use Rattle.std.specs.List.{list_any}
 use Rattle.std.proofs.lemmas.Nat.{or_lt}
@@ -8,6 +8,7 @@ use Rattle.shogi_core.specs.declared.piece.Color.{Color}
 use Rattle.shogi_core.specs.declared.piece.Color.TheVariants.{Black, White}
 use Rattle.shogi_core.specs.Bits.{has_bit}
 use Rattle.shogi_core.specs.Movement.{Cells, up, down, left, right, up_left, up_right, down_left, down_right, slides, has_slide, for_side, straight, diagonal}
+use Rattle.shogi_core.specs.Rays.{direction_at}
 use Rattle.shogi_core.proofs.BitLaws.{has_bit-or, has_bit-none}
 use Rattle.shogi_core.proofs.SeenLaws.{slides_role}
 use Rattle.shogi_core.specs.Cell.{is_sliding_role}
@@ -58,14 +59,37 @@ pub straight_bits : (cells : Cells) (color : Color) (from n a b c d : ℕ) → h
     → has_bit (bit_or (bit_or (bit_or a b) c) d) n ≡ list_any (λ o. slides cells (for_side color o) from n) straight
 straight_bits cells color from n a b c d e f g h = bits_four a b c d n (slides cells up from n) (slides cells down from n) (slides cells left from n) (slides cells right from n) e f g h ∙ any_straight color (λ o. slides cells o from n)
 
-pub diagonal_bits : (cells : Cells) (color : Color) (from n a b c d : ℕ) → has_bit a n ≡ slides cells up_left from n → has_bit b n ≡ slides cells up_right from n → has_bit c n ≡ slides cells down_left from n → has_bit d n ≡ slides cells down_right from n
-    → has_bit (bit_or (bit_or (bit_or a b) c) d) n ≡ list_any (λ o. slides cells (for_side color o) from n) diagonal
-diagonal_bits cells color from n a b c d e f g h = bits_four a b c d n (slides cells up_left from n) (slides cells up_right from n) (slides cells down_left from n) (slides cells down_right from n) e f g h ∙ any_diagonal color (λ o. slides cells o from n)
-
 pub or_fits : (a b : ℕ) → a < 2 ^ 81 → b < 2 ^ 81 → bit_or a b < 2 ^ 81
 or_fits a b h l = or_lt 81 a b h l
 
-pub ruleset four_ways = (straight_bits, diagonal_bits, or_fits)
+mixed : (a b c d : Bool) → (((a || b) || c) || d) ≡ (((b || d) || c) || a)
+mixed true true true true = refl
+mixed true true true false = refl
+mixed true true false true = refl
+mixed true true false false = refl
+mixed true false true true = refl
+mixed true false true false = refl
+mixed true false false true = refl
+mixed true false false false = refl
+mixed false true true true = refl
+mixed false true true false = refl
+mixed false true false true = refl
+mixed false true false false = refl
+mixed false false true true = refl
+mixed false false true false = refl
+mixed false false false true = refl
+mixed false false false false = refl
+
+-- the same in every second direction
+pub straight_second : (cells : Cells) (color : Color) (first from n a b c d : ℕ) → first ≡ 0 → has_bit a n ≡ slides cells (direction_at (first + 4)) from n → has_bit b n ≡ slides cells (direction_at first) from n → has_bit c n ≡ slides cells (direction_at (first + 2)) from n → has_bit d n ≡ slides cells (direction_at (first + 6)) from n
+    → has_bit (bit_or (bit_or (bit_or a b) c) d) n ≡ list_any (λ o. slides cells (for_side color o) from n) straight
+straight_second cells color first from n a b c d zero e f g h = straight_bits cells color from n a b c d (rw zero at e) (rw zero at f) (rw zero at g) (rw zero at h)
+
+pub diagonal_second : (cells : Cells) (color : Color) (first from n a b c d : ℕ) → first ≡ 1 → has_bit a n ≡ slides cells (direction_at (first + 4)) from n → has_bit b n ≡ slides cells (direction_at first) from n → has_bit c n ≡ slides cells (direction_at (first + 2)) from n → has_bit d n ≡ slides cells (direction_at (first + 6)) from n
+    → has_bit (bit_or (bit_or (bit_or a b) c) d) n ≡ list_any (λ o. slides cells (for_side color o) from n) diagonal
+diagonal_second cells color first from n a b c d one e f g h =
+    bits_four a b c d n (slides cells down_right from n) (slides cells up_left from n) (slides cells down_left from n) (slides cells up_right from n) (rw one at e) (rw one at f) (rw one at g) (rw one at h)
+    ∙ (mixed (slides cells down_right from n) (slides cells up_left from n) (slides cells down_left from n) (slides cells up_right from n) ∙ any_diagonal color (λ o. slides cells o from n))
 
 pub ruleset one_way = (any_forward)
 

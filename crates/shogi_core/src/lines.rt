@@ -38,7 +38,7 @@ pub fn aligned_squares(from: usize) -> u128
 
 /// The squares that a slide reaches in a direction in which indexes rise.
 #[tactic(auto, using(crate::proofs::LineBits::line_squares))]
-fn rising_squares(board: &Board, direction: usize, from: usize) -> u128
+pub fn rising_squares(board: &Board, direction: usize, from: usize) -> u128
     requires direction { direction < 4 }
     requires from { from < 81 }
     ensures squares { IsMaskOf result (slides board.now (direction_at direction) from) }
@@ -49,7 +49,7 @@ fn rising_squares(board: &Board, direction: usize, from: usize) -> u128
 
 /// The squares that a slide reaches in a direction in which indexes fall.
 #[tactic(auto, using(crate::proofs::LineBits::line_squares))]
-fn falling_squares(board: &Board, direction: usize, from: usize) -> u128
+pub fn falling_squares(board: &Board, direction: usize, from: usize) -> u128
     requires direction { (4 ≤ direction) × (direction < 8) }
     requires from { from < 81 }
     ensures squares { IsMaskOf result (slides board.now (direction_at direction) from) }

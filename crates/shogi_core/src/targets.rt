@@ -1,40 +1,51 @@
 //! The squares that a piece reaches, as a mask.
 
-ghost use Rattle.std.specs.Prelude.{◌≡◌, ◌<◌, Some};
+ghost use Rattle.std.specs.Prelude.{◌≡◌, ◌≢◌, ◌<◌, Some, true};
+ghost use Rattle.shogi_core.specs.declared.piece.Color.{Color};
 ghost use Rattle.shogi_core.specs.Bits.{IsMaskOf};
-ghost use Rattle.shogi_core.specs.Movement.{reaches, cell_reaches, has_slide, straight, diagonal, forward, is_slide};
+ghost use Rattle.shogi_core.specs.Cell.{is_sliding_role};
+ghost use Rattle.shogi_core.specs.Movement.{reaches, cell_reaches, has_slide, slides_of, straight, diagonal, forward, is_slide};
 
 use crate::bits::has;
 use crate::board::Board;
-use crate::lines::{
-    DOWN, DOWN_LEFT, DOWN_RIGHT, LEFT, RIGHT, UP, UP_LEFT, UP_RIGHT, slide_squares,
-};
+use crate::lines::{DOWN, UP, falling_squares, rising_squares, slide_squares};
 use crate::piece::{Color, Piece, Role};
 use crate::square::Square;
 use crate::steps::step_squares;
 
+/// The squares that slides reach along ranks and files, where `first` is 0, or along diagonals, where
+/// it is 1: in every second direction from that one on.
+#[inline(always)]
+fn four_slides(board: &Board, first: usize, from: usize) -> u128
+    requires first { first < 2 }
+    requires from { from < 81 }
+    ensures straight { (color : Color) → first ≡ 0
+        → IsMaskOf result (is_slide board.now color straight from) }
+    ensures diagonal { (color : Color) → first ≡ 1
+        → IsMaskOf result (is_slide board.now color diagonal from) }
+{
+    falling_squares(board, first + 4, from)
+        | rising_squares(board, first, from)
+        | rising_squares(board, first + 2, from)
+        | falling_squares(board, first + 6, from)
+}
+
 /// The squares that slides along ranks and files reach.
-#[tactic(auto, using(crate::proofs::TargetLaws::four_ways))]
 pub fn straight_squares(board: &Board, color: Color, from: usize) -> u128
     requires { from < 81 }
     ensures squares { IsMaskOf result (is_slide board.now color straight from) }
 {
-    slide_squares(board, UP, from)
-        | slide_squares(board, DOWN, from)
-        | slide_squares(board, LEFT, from)
-        | slide_squares(board, RIGHT, from)
+    let _ = color;
+    four_slides(board, 0, from)
 }
 
 /// The squares that slides along diagonals reach.
-#[tactic(auto, using(crate::proofs::TargetLaws::four_ways))]
 pub fn diagonal_squares(board: &Board, color: Color, from: usize) -> u128
     requires { from < 81 }
     ensures squares { IsMaskOf result (is_slide board.now color diagonal from) }
 {
-    slide_squares(board, UP_LEFT, from)
-        | slide_squares(board, UP_RIGHT, from)
-        | slide_squares(board, DOWN_LEFT, from)
-        | slide_squares(board, DOWN_RIGHT, from)
+    let _ = color;
+    four_slides(board, 1, from)
 }
 
 /// The squares that a slide forward reaches.
@@ -49,18 +60,32 @@ fn forward_squares(board: &Board, color: Color, from: usize) -> u128
     }
 }
 
-/// The squares that slides of the piece reach, where it slides.
+/// Where the directions begin in which a piece of the role slides, which is no lance (see
+/// `four_slides`).
+#[inline(always)]
+fn first_direction(role: Role) -> usize
+    requires sliding { is_sliding_role role ≡ true }
+    requires four_ways { role ≢ Role.Lance }
+    ensures range { result < 2 }
+    ensures straight { result ≡ 0 → slides_of role ≡ straight }
+    ensures diagonal { result ≡ 1 → slides_of role ≡ diagonal }
+{
+    match role {
+        Role::Rook | Role::Dragon => 0,
+        _ => 1,
+    }
+}
+
+/// The squares that slides of the piece, which slides, reach.
 #[inline(never)]
-#[tactic(auto, using(crate::proofs::TargetLaws::no_bits))]
 fn slider_slides(board: &Board, piece: Piece, from: usize) -> u128
-    requires { from < 81 }
+    requires from { from < 81 }
+    requires sliding { is_sliding_role piece.role ≡ true }
     ensures squares { IsMaskOf result (has_slide board.now piece from) }
 {
     match piece.role {
         Role::Lance => forward_squares(board, piece.color, from),
-        Role::Bishop | Role::Horse => diagonal_squares(board, piece.color, from),
-        Role::Rook | Role::Dragon => straight_squares(board, piece.color, from),
-        _ => 0,
+        _ => four_slides(board, first_direction(piece.role), from),
     }
 }
 
