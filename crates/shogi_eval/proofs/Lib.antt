@@ -1,3 +1,4 @@
 pub mod Bounds
 pub mod Gains
 pub mod Opening
+pub mod RoleGains

@@ -10,29 +10,33 @@ use crate::eval::Eval;
 use crate::points::{value_in_hand, value_of};
 use shogi_core::{Kind, Move, Piece, Position, Role};
 
-/// What a captured piece adds to the captor's hand.
-fn value_of_captured(e: Eval, kind: Option<Kind>) -> u32
-    ensures value { result ≡ value_of_captured e kind }
-    ensures range { result ≤ PIECE_VALUE_MAX }
-{
-    match kind {
-        None => 0,
-        Some(kind) => value_in_hand(e, kind),
-    }
-}
+// What a capture gains of each role, and what its promotion gains, in the order in which roles are
+// declared.
+const PLAIN_GAINS: [u32; 14] = [
+    0, 200, 600, 800, 1000, 1200, 1600, 2000, 700, 900, 1000, 1100, 1900, 2300,
+];
+
+const HAND_GAINS: [u32; 14] = [
+    0, 210, 630, 840, 1050, 1260, 1680, 2100, 710, 930, 1040, 1150, 1980, 2400,
+];
+
+const PROMOTION_GAINS: [u32; 14] = [0, 500, 300, 200, 100, 0, 300, 300, 0, 0, 0, 0, 0, 0];
 
 /// What a capture gains, in points: the piece is lost to its side and comes to hand.
+#[tactic(auto, using(crate::proofs::RoleGains::gains))]
 pub fn taken_gain(e: Eval, cell: Option<Piece>) -> u32
     ensures value { result ≡ taken_gain e cell }
     ensures range { result ≤ 2 * PIECE_VALUE_MAX }
 {
-    match cell {
-        None => 0,
-        Some(piece) => value_of(piece.role) + value_of_captured(e, piece.role.kind()),
+    let Some(piece) = cell else { return 0 };
+    match e {
+        Eval::Plain => PLAIN_GAINS[piece.role as usize],
+        Eval::Hand => HAND_GAINS[piece.role as usize],
     }
 }
 
 /// What a promotion gains.
+#[tactic(auto, using(crate::proofs::RoleGains::gains))]
 fn promotion_gain(cell: Option<Piece>, promote: bool) -> u32
     ensures value { result ≡ promotion_gain promote cell }
     ensures range { result ≤ PIECE_VALUE_MAX }
@@ -41,7 +45,7 @@ fn promotion_gain(cell: Option<Piece>, promote: bool) -> u32
         None => 0,
         Some(piece) => {
             if promote {
-                value_of(piece.role.promoted()).saturating_sub(value_of(piece.role))
+                PROMOTION_GAINS[piece.role as usize]
             } else {
                 0
             }
