@@ -134,3 +134,16 @@ pawns_done cells side mask h n low = elim (cases_Bool (has_bit mask n)) [
 ]
 
 pub ruleset pawn_files = (pawns_more, pawns_passed, pawns_done, files_fit, more_fits)
+
+-- a file of nothing adds nothing
+pub pawns_same : (cells : Cells) (side : Color) (left mask : ℕ) → HasPawnFiles cells side left mask → HasPawnFiles cells side left (bit_or mask 0)
+pawns_same cells side left mask h = record {
+  sound = λ n low e. elim (or_cases (has_bit mask n) (has_bit 0 n) (sym (has_bit-or mask 0 n) ∙ e)) [
+    | inl before ↦ h.sound n low before
+    | inr nothing ↦ absurd (both_ways (has_bit 0 n) (has_bit-none n) nothing)
+  ];
+  complete = λ s low e. elim (h.complete s low e) [
+    | inl still ↦ inl still
+    | inr found ↦ inr (λ n h same. has_bit-or mask 0 n ∙ or_left (has_bit mask n) (has_bit 0 n) (found n h same))
+  ];
+}

@@ -1,6 +1,9 @@
 -- Ways through the legal moves of a kind.
 use Rattle.std.proofs.Common.{◌≡◌, ◌≢◌, ℕ, ◌+◌, ◌-◌, ◌*◌, ◌/◌, ◌%◌, ◌^◌, ◌<◌, ◌≤◌, ◌⊎◌, Bool, true, false, not, Some, List, [], filter, bit_and, ◌∷◌, refl, sym, ap, ◌∙◌, arith, inl, inr, subst, bit_or}
-use Rattle.std.specs.Prelude.{◌&&◌, ◌||◌, ◌==◌}
+use Rattle.std.proofs.Common.{get_or}
+use Rattle.std.specs.Prelude.{◌&&◌, ◌||◌, ◌==◌, zero, suc}
+use Rattle.shogi_core.specs.declared.piece.Kind.TheVariants as kinds
+use Rattle.shogi_core.specs.declared.piece.TheConstants.{KINDS}
 use Rattle.std.proofs.lemmas.Bool.{cases_eq, ne_eqb, eq-eqb, and_parts, both_ways, and_from, cases_lt, or_left, or_right, or_parts, or_cases, false_from_ne_true, true_from_ne_false, cond-true}
 use Rattle.shogi_core.specs.declared.moves.TheConstants.{MOVE_CODE_COUNT, FIRST_DROP, SQUARE_CODES}
 use Rattle.shogi_core.specs.declared.moves.Move.{Move}
@@ -364,3 +367,17 @@ all_drops p code low = filter_all (matches_kind p false) (legal_from p code) (λ
     ap not (matches_kind_of p n _ (drop_code n (omega arith) under)))
 
 pub ruleset sweeping = (keeps_square, more_fits, matching_jumps, and_fits)
+
+-- ---- the kinds in their order
+
+pub kind_in_order : (k : ℕ) → k < 7 → kind_number (get_or KINDS k kinds.Pawn) ≡ k
+kind_in_order zero h = refl
+kind_in_order (suc zero) h = refl
+kind_in_order (suc (suc zero)) h = refl
+kind_in_order (suc (suc (suc zero))) h = refl
+kind_in_order (suc (suc (suc (suc zero)))) h = refl
+kind_in_order (suc (suc (suc (suc (suc zero))))) h = refl
+kind_in_order (suc (suc (suc (suc (suc (suc zero)))))) h = refl
+kind_in_order (suc (suc (suc (suc (suc (suc (suc k))))))) h = absurd (omega arith)
+
+pub ruleset kinds_in_order = (kind_in_order)

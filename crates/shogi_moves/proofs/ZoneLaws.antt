@@ -6,11 +6,15 @@ use Rattle.std.proofs.lemmas.Nat.{or_lt}
 use Rattle.shogi_core.specs.declared.bits.TheConstants.{ALL_SQUARES}
 use Rattle.shogi_core.specs.Bits.{has_bit}
 use Rattle.shogi_core.specs.declared.piece.Color.{Color}
+use Rattle.shogi_core.specs.declared.piece.Color.TheVariants.{Black, White}
 use Rattle.shogi_core.specs.declared.piece.Role.{Role}
+use Rattle.shogi_core.specs.declared.piece.Role.TheVariants.{King, Pawn, Lance, Knight, Silver, Gold, Bishop, Rook, PromotedPawn, PromotedLance, PromotedKnight, PromotedSilver, Horse, Dragon}
+use Rattle.shogi_core.specs.Cell.{is_immobile_role}
+use Rattle.shogi_core.specs.Same.{role_number}
 use Rattle.shogi_core.proofs.BitLaws.{has_bit-none}
 use Rattle.shogi_core.proofs.LineBits.{and_fits}
 use Rattle.shogi_moves.specs.Replies.{is_around}
-use Rattle.shogi_moves.specs.declared.zones.TheConstants.{FILES, FIRST_RANK, FIRST_TWO_RANKS, FIRST_THREE_RANKS, FIRST_FIVE_RANKS, LAST_RANK, LAST_TWO_RANKS, LAST_THREE_RANKS, LAST_FIVE_RANKS, TALL_RANKS, WIDE_FILES}
+use Rattle.shogi_moves.specs.declared.zones.TheConstants.{BLACK_DEAD, WHITE_DEAD, FILES, FIRST_RANK, FIRST_TWO_RANKS, FIRST_THREE_RANKS, FIRST_FIVE_RANKS, LAST_RANK, LAST_TWO_RANKS, LAST_THREE_RANKS, LAST_FIVE_RANKS, TALL_RANKS, WIDE_FILES}
 use Rattle.shogi_moves.specs.Legal.{in_promotion_zone, is_promotable}
 
 pub first_rank : (n : ℕ) → n < 81 → has_bit FIRST_RANK n ≡ nat_lt (n % 9) 1
@@ -63,7 +67,71 @@ promotes_all role color from n h e z = all_squares n h ∙ both_true (is_promota
 pub promotes_there : (role : Role) (color : Color) (from n m : ℕ) → has_bit m n ≡ in_promotion_zone color n → is_promotable role ≡ true → in_promotion_zone color from ≡ false → has_bit m n ≡ (is_promotable role && (in_promotion_zone color from || in_promotion_zone color n))
 promotes_there role color from n m b e z = b ∙ right_alone (is_promotable role) (in_promotion_zone color from) (in_promotion_zone color n) e z
 
-pub ruleset dead_bits = (first_rank, first_ranks, last_rank, last_ranks, no_squares)
+pub black_dead : (role : Role) (n : ℕ) → n < 81 → has_bit (get_or BLACK_DEAD (role_number role) 0) n ≡ is_immobile_role Black role (n % 9)
+black_dead King n h = has_bit-none n
+black_dead Pawn n h = first_rank n h
+black_dead Lance n h = first_rank n h
+black_dead Knight n h = first_ranks n h
+black_dead Silver n h = has_bit-none n
+black_dead Gold n h = has_bit-none n
+black_dead Bishop n h = has_bit-none n
+black_dead Rook n h = has_bit-none n
+black_dead PromotedPawn n h = has_bit-none n
+black_dead PromotedLance n h = has_bit-none n
+black_dead PromotedKnight n h = has_bit-none n
+black_dead PromotedSilver n h = has_bit-none n
+black_dead Horse n h = has_bit-none n
+black_dead Dragon n h = has_bit-none n
+
+pub black_dead_fits : (role : Role) → get_or BLACK_DEAD (role_number role) 0 < 2 ^ 81
+black_dead_fits King = omega arith
+black_dead_fits Pawn = omega arith
+black_dead_fits Lance = omega arith
+black_dead_fits Knight = omega arith
+black_dead_fits Silver = omega arith
+black_dead_fits Gold = omega arith
+black_dead_fits Bishop = omega arith
+black_dead_fits Rook = omega arith
+black_dead_fits PromotedPawn = omega arith
+black_dead_fits PromotedLance = omega arith
+black_dead_fits PromotedKnight = omega arith
+black_dead_fits PromotedSilver = omega arith
+black_dead_fits Horse = omega arith
+black_dead_fits Dragon = omega arith
+
+pub white_dead : (role : Role) (n : ℕ) → n < 81 → has_bit (get_or WHITE_DEAD (role_number role) 0) n ≡ is_immobile_role White role (n % 9)
+white_dead King n h = has_bit-none n
+white_dead Pawn n h = last_rank n h
+white_dead Lance n h = last_rank n h
+white_dead Knight n h = last_ranks n h
+white_dead Silver n h = has_bit-none n
+white_dead Gold n h = has_bit-none n
+white_dead Bishop n h = has_bit-none n
+white_dead Rook n h = has_bit-none n
+white_dead PromotedPawn n h = has_bit-none n
+white_dead PromotedLance n h = has_bit-none n
+white_dead PromotedKnight n h = has_bit-none n
+white_dead PromotedSilver n h = has_bit-none n
+white_dead Horse n h = has_bit-none n
+white_dead Dragon n h = has_bit-none n
+
+pub white_dead_fits : (role : Role) → get_or WHITE_DEAD (role_number role) 0 < 2 ^ 81
+white_dead_fits King = omega arith
+white_dead_fits Pawn = omega arith
+white_dead_fits Lance = omega arith
+white_dead_fits Knight = omega arith
+white_dead_fits Silver = omega arith
+white_dead_fits Gold = omega arith
+white_dead_fits Bishop = omega arith
+white_dead_fits Rook = omega arith
+white_dead_fits PromotedPawn = omega arith
+white_dead_fits PromotedLance = omega arith
+white_dead_fits PromotedKnight = omega arith
+white_dead_fits PromotedSilver = omega arith
+white_dead_fits Horse = omega arith
+white_dead_fits Dragon = omega arith
+
+pub ruleset dead_bits = (black_dead, black_dead_fits, white_dead, white_dead_fits, no_squares)
 
 pub black_approach : (n : ℕ) → n < 81 → has_bit FIRST_FIVE_RANKS n ≡ nat_lt (n % 9) 5
 unfolding has_bit

@@ -20,7 +20,7 @@ use crate::movers::movers;
 use crate::next::code_above;
 use crate::replies::Replies;
 use shogi_core::bits::{has, lowest, up_to_lowest, with, without_lowest};
-use shogi_core::{FIRST_DROP, Kind, Move, Position, SQUARE_CODES, Square, is_piece_of};
+use shogi_core::{FIRST_DROP, KINDS, Kind, Move, Position, SQUARE_CODES, Square, is_piece_of};
 
 /// What is still to come of the board moves of a kind, in the order of codes: the legal
 /// destinations of the piece on one square, and all of those above it.
@@ -313,18 +313,16 @@ impl BoardSweep {
 }
 
 /// The kind after this one in the order of kinds.
+#[tactic(auto, using(crate::proofs::SweepLaws::kinds_in_order))]
 pub fn next_kind(kind: Kind) -> Option<Kind>
     ensures { MatchOption result (kind_number kind ≡ 6)
         (λ k. kind_number k ≡ kind_number kind + 1) }
 {
-    match kind {
-        Kind::Pawn => Some(Kind::Lance),
-        Kind::Lance => Some(Kind::Knight),
-        Kind::Knight => Some(Kind::Silver),
-        Kind::Silver => Some(Kind::Gold),
-        Kind::Gold => Some(Kind::Bishop),
-        Kind::Bishop => Some(Kind::Rook),
-        Kind::Rook => None,
+    let number = kind.number() + 1;
+    if number < 7 {
+        Some(KINDS[number])
+    } else {
+        None
     }
 }
 

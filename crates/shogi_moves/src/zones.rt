@@ -28,18 +28,51 @@ const LAST_THREE_RANKS: u128 = 2119760341242089511813568;
 
 const LAST_FIVE_RANKS: u128 = 2346877520660884816650736;
 
+// The squares on which pieces of Black's and of White's could never move again, by their roles in the
+// order in which these are declared.
+const BLACK_DEAD: [u128; 14] = [
+    0,
+    FIRST_RANK,
+    FIRST_RANK,
+    FIRST_TWO_RANKS,
+    0,
+    0,
+    0,
+    0,
+    0,
+    0,
+    0,
+    0,
+    0,
+    0,
+];
+
+const WHITE_DEAD: [u128; 14] = [
+    0,
+    LAST_RANK,
+    LAST_RANK,
+    LAST_TWO_RANKS,
+    0,
+    0,
+    0,
+    0,
+    0,
+    0,
+    0,
+    0,
+    0,
+    0,
+];
+
 /// The squares on which the piece could never move again.
 #[tactic(auto, using(crate::proofs::ZoneLaws::dead_bits))]
 pub fn dead_squares(cell: Option<Piece>) -> u128
     ensures squares { IsMaskOf result (λ n. is_immobile n cell) }
 {
     let Some(piece) = cell else { return 0 };
-    match (piece.color, piece.role) {
-        (Color::Black, Role::Pawn | Role::Lance) => FIRST_RANK,
-        (Color::Black, Role::Knight) => FIRST_TWO_RANKS,
-        (Color::White, Role::Pawn | Role::Lance) => LAST_RANK,
-        (Color::White, Role::Knight) => LAST_TWO_RANKS,
-        _ => 0,
+    match piece.color {
+        Color::Black => BLACK_DEAD[piece.role as usize],
+        Color::White => WHITE_DEAD[piece.role as usize],
     }
 }
 
@@ -108,9 +141,13 @@ pub fn pawn_files(p: &Position, side: Color) -> u128
     let mut mask = 0;
     while left != 0 {
         let square = lowest(left);
-        if is_pawn(p.at(Square::of_index(square)), side) {
-            mask |= FILES[square / 9];
-        }
+        // Without a branch, since pawns stand among the others without order.
+        let file = if is_pawn(p.at(Square::of_index(square)), side) {
+            FILES[square / 9]
+        } else {
+            0
+        };
+        mask |= file;
         left = without_lowest(left, square);
     }
     mask
