@@ -4,7 +4,7 @@ use shogi_core::Color::{Black, White};
 use shogi_core::{Color, Hands, Kind, Move, Piece, Position, Role, Square};
 use shogi_moves::{
     BoardSweep, DropSweep, Replies, check_info_of, escape_squares, has_legal, in_check,
-    is_attacked, is_legal, leaves_escape, next_legal, perft, play,
+    is_attacked, is_legal, leaves_escape, next_legal, perft, play, play_in_place,
 };
 use std::test::Fail;
 
@@ -168,6 +168,9 @@ fn steps(rt: HostRuntime) -> Result<(), Fail> {
         play(&p, read(b"5e5c ")).is_none(),
         "a pawn goes one square"
     );
+    let mut place = p;
+    assert!(rt; !play_in_place(&mut place, read(b"5e5c ")) && place.is_same(&p));
+    assert!(rt; play_in_place(&mut place, read(b"5e5d ")) && place.is_same(&after));
     Ok(())
 }
 
@@ -177,11 +180,13 @@ fn steps(rt: HostRuntime) -> Result<(), Fail> {
 fn captures(rt: HostRuntime) -> Result<(), Fail> {
     let p = position(b"4k4/9/9/4+p4/4P4/9/9/9/4K4", b"P", Black)?;
     let mut captures = BoardSweep::new(&p, check_info_of(&p), true);
+    assert!(rt; captures.fill(&p, true));
     assert_eq!(rt; captures.next(&p, true), Some(read(b"5e5d ")));
-    assert!(rt; captures.next(&p, true).is_none());
+    assert!(rt; !captures.fill(&p, true) && captures.next(&p, true).is_none());
     let mut quiets = BoardSweep::new(&p, check_info_of(&p), false);
     assert_eq!(rt; quiets.next(&p, false), Some(read(b"5i4h ")));
     let mut drops = DropSweep::new(&p, check_info_of(&p));
+    assert!(rt; drops.fill(&p));
     assert_eq!(rt; drops.next(&p), Some(read(b"P*1b ")));
     let start = Position::start();
     let mut captures = BoardSweep::new(&start, check_info_of(&start), true);
