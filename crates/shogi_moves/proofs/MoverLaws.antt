@@ -4,7 +4,7 @@ use Rattle.std.specs.Prelude.{◌&&◌, ◌||◌, ◌==◌, nat_lt}
 use Rattle.std.specs.Int.{bit_at}
 use Rattle.std.proofs.Math.Nat.{mul-le-mul_left}
 use Rattle.std.proofs.Math.Pow.{pow_mono}
-use Rattle.std.proofs.lemmas.Bool.{agree_below_at, and_parts, and_from, both_ways, false_from_ne_true, true_from_ne_false, or_cases, or_left, or_parts, or_right, not-true, eqb-true, ltb-true, lt-ltb}
+use Rattle.std.proofs.lemmas.Bool.{cases_lt, agree_below_at, and_parts, and_from, both_ways, false_from_ne_true, true_from_ne_false, or_cases, or_left, or_parts, or_right, not-true, eqb-true, ltb-true, lt-ltb}
 use Rattle.std.proofs.lemmas.Nat.Bits.{bit_at_cat_high}
 use Rattle.shogi_core.specs.declared.moves.TheConstants.{SQUARE_CODES}
 use Rattle.shogi_core.specs.declared.moves.Move.TheVariants.{Board}
@@ -55,7 +55,7 @@ right a b h l =
 pub moved_down : (mask places a b : ℕ) → b ≡ a + places → has_bit mask b ≡ true → has_bit (mask / 2 ^ places) a ≡ true
 moved_down mask places a b at set = has_bit-shr mask places a ∙ subst (λ (x : ℕ). has_bit mask x ≡ true) (let same : b ≡ places + a = omega (arith, at) in same) set
 
-pub moved_up : (mask places a b : ℕ) → mask < 2 ^ 81 → places < 12 → a ≡ b + places → has_bit mask b ≡ true → has_bit (mask * 2 ^ places % 2 ^ 128) a ≡ true
+pub moved_up : (mask places a b : ℕ) → mask < 2 ^ 100 → places < 12 → a ≡ b + places → has_bit mask b ≡ true → has_bit (mask * 2 ^ places % 2 ^ 128) a ≡ true
 unfolding has_bit
 moved_up mask places a b low few at set =
     let some : 0 < 2 ^ places = pow_pos places in
@@ -69,35 +69,56 @@ moved_either down up a e = has_bit-or down up a ∙ elim e [ inl x ↦ or_left _
 
 -- ---- the squares near those of a mask
 
-pub near_bits : (a b m1 m7 m8 m9 m10 m11 : ℕ) → a < 81 → b < 81 → is_near b a ≡ true
-    → ((b ≡ a + 1) ⊎ (a ≡ b + 1) → has_bit m1 a ≡ true) → ((b ≡ a + 7) ⊎ (a ≡ b + 7) → has_bit m7 a ≡ true) → ((b ≡ a + 8) ⊎ (a ≡ b + 8) → has_bit m8 a ≡ true)
-    → ((b ≡ a + 9) ⊎ (a ≡ b + 9) → has_bit m9 a ≡ true) → ((b ≡ a + 10) ⊎ (a ≡ b + 10) → has_bit m10 a ≡ true) → ((b ≡ a + 11) ⊎ (a ≡ b + 11) → has_bit m11 a ≡ true)
-    → has_bit (bit_or (bit_or (bit_or (bit_or (bit_or m1 m7) m8) m9) m10) m11) a ≡ true
-near_bits a b m1 m7 m8 m9 m10 m11 ha hb near d1 d7 d8 d9 d10 d11 =
-    has_bit-or (bit_or (bit_or (bit_or (bit_or m1 m7) m8) m9) m10) m11 a
-    ∙ (rw (has_bit-or (bit_or (bit_or (bit_or m1 m7) m8) m9) m10 a, has_bit-or (bit_or (bit_or m1 m7) m8) m9 a, has_bit-or (bit_or m1 m7) m8 a, has_bit-or m1 m7 a)
-    (elim (or_cases (not (is_near b a)) _ (right a b ha hb)) [
+pub near_bits : (a b next behind before : ℕ) → a < 81 → b < 81 → is_near b a ≡ true → ((b ≡ a + 1) ⊎ (a ≡ b + 1) → has_bit next a ≡ true)
+    → ((k : ℕ) → k ≤ 4 → a ≡ b + k + 7 → has_bit behind a ≡ true) → ((k : ℕ) → k ≤ 4 → b + k ≡ a + 11 → has_bit before a ≡ true)
+    → has_bit (bit_or (bit_or next behind) before) a ≡ true
+near_bits a b next behind before ha hb near one up down =
+    has_bit-or (bit_or next behind) before a ∙ (ap (λ (x : Bool). x || has_bit before a) (has_bit-or next behind a)
+    ∙ elim (or_cases (not (is_near b a)) _ (right a b ha hb)) [
       | inl far ↦ absurd (both_ways (not (is_near b a)) (ap not near) far)
       | inr r1 ↦ elim (or_cases (lie_apart 1 a b) _ r1) [
-        | inl e ↦ or_left _ _ (or_left _ _ (or_left _ _ (or_left _ _ (or_left _ _ (d1 (apart 1 e))))))
+        | inl e ↦ or_left _ _ (or_left _ _ (one (apart 1 e)))
         | inr r7 ↦ elim (or_cases (lie_apart 7 a b) _ r7) [
-          | inl e ↦ or_left _ _ (or_left _ _ (or_left _ _ (or_left _ _ (or_right (has_bit m1 a) _ (d7 (apart 7 e))))))
+          | inl e ↦ far_apart 7 (omega arith) (omega arith) (apart 7 e)
           | inr r8 ↦ elim (or_cases (lie_apart 8 a b) _ r8) [
-            | inl e ↦ or_left _ _ (or_left _ _ (or_left _ _ (or_right (has_bit m1 a || has_bit m7 a) _ (d8 (apart 8 e)))))
+            | inl e ↦ far_apart 8 (omega arith) (omega arith) (apart 8 e)
             | inr r9 ↦ elim (or_cases (lie_apart 9 a b) _ r9) [
-              | inl e ↦ or_left _ _ (or_left _ _ (or_right ((has_bit m1 a || has_bit m7 a) || has_bit m8 a) _ (d9 (apart 9 e))))
+              | inl e ↦ far_apart 9 (omega arith) (omega arith) (apart 9 e)
               | inr r10 ↦ elim (or_cases (lie_apart 10 a b) (lie_apart 11 a b) r10) [
-                | inl e ↦ or_left _ _ (or_right (((has_bit m1 a || has_bit m7 a) || has_bit m8 a) || has_bit m9 a) _ (d10 (apart 10 e)))
-                | inr e ↦ or_right ((((has_bit m1 a || has_bit m7 a) || has_bit m8 a) || has_bit m9 a) || has_bit m10 a) _ (d11 (apart 11 e))
+                | inl e ↦ far_apart 10 (omega arith) (omega arith) (apart 10 e)
+                | inr e ↦ far_apart 11 (omega arith) (omega arith) (apart 11 e)
               ]
             ]
           ]
         ]
       ]
-    ]))
+    ])
   where
     apart : (d : ℕ) → lie_apart d a b ≡ true → (b ≡ a + d) ⊎ (a ≡ b + d)
     apart d e = elim (or_cases (b == a + d) (a == b + d) e) [ inl x ↦ inl (eqb-true b (a + d) x) | inr x ↦ inr (eqb-true a (b + d) x) ]
+
+    far_apart : (d : ℕ) → 7 ≤ d → d ≤ 11 → (b ≡ a + d) ⊎ (a ≡ b + d) → ((has_bit next a || has_bit behind a) || has_bit before a) ≡ true
+    far_apart d least most e = elim e [
+      | inl at ↦ or_right (has_bit next a || has_bit behind a) _ (down (11 - d) (omega arith) (omega (arith, at)))
+      | inr at ↦ or_left _ _ (or_right (has_bit next a) _ (up (d - 7) (omega arith) (omega (arith, at))))
+    ]
+
+-- some bits, raised by up to four places in three turns
+pub five_bits : (mask one two four n k : ℕ) → k ≤ 4 → ((i : ℕ) → has_bit mask i ≡ true → has_bit one (i + 1) ≡ true) → ((i : ℕ) → has_bit (bit_or mask one) i ≡ true → has_bit two (i + 2) ≡ true) → ((i : ℕ) → has_bit mask i ≡ true → has_bit four (i + 4) ≡ true)
+    → has_bit mask n ≡ true → has_bit (bit_or (bit_or (bit_or mask one) two) four) (n + k) ≡ true
+five_bits mask one two four n k few by_one by_two by_four set = elim (cases_lt k 4) [
+  | inl less ↦ has_bit-or _ four (n + k) ∙ or_left _ _ (has_bit-or (bit_or mask one) two (n + k) ∙ elim (cases_lt k 2) [
+    | inl low ↦ or_left _ _ (pair k low)
+    | inr high ↦ or_right (has_bit (bit_or mask one) (n + k)) _ (subst (λ (x : ℕ). has_bit two x ≡ true) (omega arith) (by_two (n + (k - 2)) (pair (k - 2) (omega arith))))
+  ])
+  | inr last ↦ has_bit-or _ four (n + k) ∙ or_right (has_bit (bit_or (bit_or mask one) two) (n + k)) _ (subst (λ (x : ℕ). has_bit four x ≡ true) (omega arith) (by_four n set))
+]
+  where
+    pair : (j : ℕ) → j < 2 → has_bit (bit_or mask one) (n + j) ≡ true
+    pair j low = has_bit-or mask one (n + j) ∙ elim (cases_lt j 1) [
+      | inl none ↦ or_left _ _ (subst (λ (x : ℕ). has_bit mask x ≡ true) (omega arith) set)
+      | inr one_up ↦ or_right (has_bit mask (n + j)) _ (subst (λ (x : ℕ). has_bit one x ≡ true) (omega arith) (by_one n set))
+    ]
 
 -- ---- pieces that reach nothing to capture
 
