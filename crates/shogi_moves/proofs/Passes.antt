@@ -2,7 +2,7 @@
 use Rattle.std.proofs.Common.{◌≡◌, ◌≢◌, ℕ, zero, suc, ◌+◌, ◌-◌, ◌*◌, ◌/◌, ◌%◌, ◌^◌, ◌<◌, ◌≤◌, List, [], ◌∷◌, ◌⊎◌, Bool, true, false, bit_and, bit_or, length, inl, inr, sym, ap, ◌∙◌, arith, subst, not, Some}
 use Rattle.std.specs.Prelude.{◌&&◌, ◌==◌}
 use Rattle.std.proofs.lemmas.Nat.{and_le_l}
-use Rattle.std.proofs.lemmas.Bool.{cases_Bool, both_ways, and_parts, and_from, cases_eq, cases_eq, eq-eqb, ne_eqb, or_parts, true_from_ne_false, false_from_ne_true}
+use Rattle.std.proofs.lemmas.Bool.{cases_Bool, both_ways, and_parts, and_from, ne_eqb, or_parts, true_from_ne_false, false_from_ne_true}
 use Rattle.shogi_core.specs.declared.moves.TheConstants.{MOVE_CODE_COUNT, FIRST_DROP, SQUARE_CODES}
 use Rattle.shogi_core.specs.declared.moves.Move.TheVariants.{Board, Drop}
 use Rattle.shogi_core.specs.declared.piece.Kind.{Kind}
@@ -22,7 +22,7 @@ use Rattle.shogi_moves.specs.LegalMoves.{legal_codes}
 use Rattle.shogi_moves.specs.Captures.{is_matching}
 use Rattle.shogi_moves.specs.declared.destinations.Destinations.{Destinations}
 use Rattle.shogi_moves.specs.Replies.{HasCertainMoves, IsAnswered, is_reached}
-use Rattle.shogi_moves.specs.Sweeps.{matching_from, Keeps, KeepsBoard, KeepsDrop, IsCertainMove, IsCertainDrop, IsPassed}
+use Rattle.shogi_moves.specs.Sweeps.{matching_from, Keeps, KeepsBoard, KeepsDrop, IsCertainMove, IsCertainDrop, IsPassed, IsPassedTo}
 use Rattle.shogi_moves.proofs.CaptureLaws.{HasMatchingOn, skip_one, matching_found}
 use Rattle.shogi_moves.proofs.DestinationLaws.{matching_board}
 use Rattle.shogi_moves.proofs.LegalLaws.{is_legal_code_of, after_code_of}
@@ -195,37 +195,38 @@ certain_moves p capture among from ends zone certain promoted ends_bits zone_bit
       promoting = λ n h e may. (let it : _ = (at n h).1 (has_bit-and ends zone n ∙ and_from _ _ (ends_bits n h ∙ e) (zone_bits n h ∙ may)) in (it.0, by_promotion n h it.1));
     }
 
--- the moves of the first of the pieces that are left are passed, where each of them is certain
-pub piece_passed : (p : Shogi) (capture : Bool) (among : Destinations) (first code left from : ℕ) → length p.cells ≡ 81 → from < 81 → is_piece_of p.side (piece_at p.cells from) ≡ true → HasMatchingOn p capture code left → ((n : ℕ) → has_bit left n ≡ true → from ≤ n)
-    → HasCertainMoves p capture among from → first ≤ code → code ≤ from * SQUARE_CODES + SQUARE_CODES → IsPassed (IsCertainMove p capture among first) (matching_from p capture code) (matching_from p capture (from * SQUARE_CODES + SQUARE_CODES))
-piece_passed p capture among first code left from len hf own on least moves low up =
-    passed_to p capture (IsCertainMove p capture among first) code (from * SQUARE_CODES + SQUARE_CODES) up (omega arith) (λ c above below matching.
-    let here : from ≤ c / SQUARE_CODES = least (c / SQUARE_CODES) (on.on c above (omega arith) matching) in
+-- the moves of all pieces below a square are passed, where each of them is certain
+row_passed : (p : Shogi) (capture : Bool) (among : Destinations) (first code moving end : ℕ) → length p.cells ≡ 81 → end ≤ 81 → HasMatchingOn p capture code moving
+    → ((n : ℕ) → n < 81 → has_bit moving n ≡ true → is_piece_of p.side (piece_at p.cells n) ≡ true) → ((n : ℕ) → n < 81 → n < end → has_bit moving n ≡ true → HasCertainMoves p capture among n)
+    → first ≤ code → code ≤ end * SQUARE_CODES → IsPassed (IsCertainMove p capture among first) (matching_from p capture code) (matching_from p capture (end * SQUARE_CODES))
+row_passed p capture among first code moving end len he on mine certain low up =
+    passed_to p capture (IsCertainMove p capture among first) code (end * SQUARE_CODES) up (omega arith) (λ c above below matching.
+    let hf : c / SQUARE_CODES < 81 = omega arith in
     let hn : c / 2 % 81 < 81 = omega arith in
-    elim (at_code from c (omega arith) below) [
+    let here : has_bit moving (c / SQUARE_CODES) ≡ true = on.on c above (omega arith) matching in
+    let own : is_piece_of p.side (piece_at p.cells (c / SQUARE_CODES)) ≡ true = mine (c / SQUARE_CODES) hf here in
+    let moves : HasCertainMoves p capture among (c / SQUARE_CODES) = certain (c / SQUARE_CODES) hf (omega arith) here in
+    elim (at_code (c / SQUARE_CODES) c (omega arith) (omega arith)) [
       | inl at ↦ (
-          let it : _ = moves.plain (c / 2 % 81) hn (plain_among p capture from (c / 2 % 81) len hf hn own (ap (is_matching p capture) (sym at) ∙ matching)) in
-          certain_move p capture among first c from (c / 2 % 81) hf hn (omega arith) at matching it.0 it.1)
+          let it : _ = moves.plain (c / 2 % 81) hn (plain_among p capture (c / SQUARE_CODES) (c / 2 % 81) len hf hn own (ap (is_matching p capture) (sym at) ∙ matching)) in
+          certain_move p capture among first c (c / SQUARE_CODES) (c / 2 % 81) hf hn (omega arith) at matching it.0 it.1)
       | inr at ↦ (
-          let there : (is_reached p capture from (c / 2 % 81) ≡ true) × (may_promote (piece_at p.cells from) from (c / 2 % 81) ≡ true) = promoting_among p capture from (c / 2 % 81) len hf hn own (ap (is_matching p capture) (sym at) ∙ matching) in
+          let there : (is_reached p capture (c / SQUARE_CODES) (c / 2 % 81) ≡ true) × (may_promote (piece_at p.cells (c / SQUARE_CODES)) (c / SQUARE_CODES) (c / 2 % 81) ≡ true) = promoting_among p capture (c / SQUARE_CODES) (c / 2 % 81) len hf hn own (ap (is_matching p capture) (sym at) ∙ matching) in
           let it : _ = moves.promoting (c / 2 % 81) hn there.0 there.1 in
-          certain_promotion p capture among first c from (c / 2 % 81) hf hn (omega arith) at matching it.0 it.1)
+          certain_promotion p capture among first c (c / SQUARE_CODES) (c / 2 % 81) hf hn (omega arith) at matching it.0 it.1)
     ])
 
--- and those of the others are left
-pub others_left : (p : Shogi) (capture : Bool) (code left less from : ℕ) → HasMatchingOn p capture code left → code ≤ from * SQUARE_CODES + SQUARE_CODES → ((i : ℕ) → has_bit less i ≡ (has_bit left i && not (i == from))) → HasMatchingOn p capture (from * SQUARE_CODES + SQUARE_CODES) less
-others_left p capture code left less from w up bits = record {
-  on = λ c low high matching. bits (c / SQUARE_CODES) ∙ and_from (has_bit left (c / SQUARE_CODES)) (not (c / SQUARE_CODES == from)) (w.on c (omega arith) high matching) (ap not (ne_eqb (c / SQUARE_CODES) from (omega arith)));
+pub row_passed_to : (p : Shogi) (capture : Bool) (among : Destinations) (code moving end : ℕ) → length p.cells ≡ 81 → end ≤ 81 → HasMatchingOn p capture code moving
+    → ((n : ℕ) → n < 81 → has_bit moving n ≡ true → is_piece_of p.side (piece_at p.cells n) ≡ true) → ((n : ℕ) → n < 81 → n < end → has_bit moving n ≡ true → HasCertainMoves p capture among n)
+    → code ≤ end * SQUARE_CODES → IsPassedTo p capture among code (end * SQUARE_CODES)
+row_passed_to p capture among code moving end len he on mine certain up = record {
+  up = up;
+  passed = λ first low. row_passed p capture among first code moving end len he on mine certain low up;
 }
 
--- pieces above the first of them
-pub above_first : (left less from n : ℕ) → ((i : ℕ) → has_bit left i ≡ true → from ≤ i) → ((i : ℕ) → has_bit less i ≡ (has_bit left i && not (i == from))) → has_bit less n ≡ true → (from < n) × (has_bit left n ≡ true)
-above_first left less from n least bits set =
-    let parts : (has_bit left n ≡ true) × (not (n == from) ≡ true) = and_parts _ _ (sym (bits n) ∙ set) in
-    elim (cases_eq n from) [
-      | inl same ↦ absurd (both_ways (not (n == from)) (ap not (eq-eqb n from same)) parts.1)
-      | inr other ↦ (let le : from ≤ n = least n parts.0 in omega arith, parts.0)
-    ]
+-- one that is no longer left and is not the one that went was not left before
+pub out_before : (left less from n : ℕ) → ((i : ℕ) → has_bit less i ≡ (has_bit left i && not (i == from))) → has_bit less n ≡ false → n ≢ from → has_bit left n ≡ false
+out_before left less from n bits out other = false_from_ne_true (has_bit left n) (λ set. both_ways (has_bit less n) out (bits n ∙ and_from _ _ set (ap not (ne_eqb n from other))))
 
 -- ---- the drops of a kind
 

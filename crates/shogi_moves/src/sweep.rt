@@ -253,7 +253,8 @@ impl BoardSweep {
     }
 
     /// Passes all moves of the next pieces, as long as each of them ends on one of the squares and
-    /// it is certain that the other side has a legal move after it.
+    /// it is certain that the other side has a legal move after it. Pieces that are far are not
+    /// looked at one by one.
     fn pass_pieces(
         &mut self,
         p: &Position,
@@ -273,17 +274,20 @@ impl BoardSweep {
         p.validity();
         let far = replies.far_pieces(p, capture, among);
         let pieces = bits_above(p.as_board().own(p.side()), self.from.index());
-        let mut left = movers(p, capture, pieces);
+        let moving = movers(p, capture, pieces);
+        let mut left = moving & !far;
         'squares: while left != 0 {
             let square = lowest(left);
             let from = Square::of_index(square);
-            if !replies.has_certain_moves(p, capture, among, escapes, far, from) {
+            if !replies.has_certain_moves(p, capture, among, escapes, 0, from) {
+                self.from = Square::of_index(square - 1);
+                self.code = square as u16 * SQUARE_CODES;
                 return;
             }
-            self.from = from;
-            self.code = square as u16 * SQUARE_CODES + SQUARE_CODES;
             left = without_lowest(left, square);
         }
+        self.from = Square::of_index(80);
+        self.code = FIRST_DROP;
     }
 
     /// Passes the next of the moves, as long as they end on one of the squares for moves without

@@ -1,19 +1,19 @@
-use Rattle.std.proofs.Common.{◌≡◌, ◌<◌, ◌^◌, ℕ, true}
+use Rattle.std.proofs.Common.{◌≡◌, ◌<◌, ◌^◌, ℕ, true, false}
 use Rattle.shogi_core.specs.Bits.{has_bit}
 use Rattle.shogi_core.specs.Cell.{is_piece_of}
 use Rattle.shogi_core.specs.Movement.{piece_at}
-use Rattle.shogi_moves.specs.Sweeps.{IsBoardSweep, IsPassedTo}
+use Rattle.shogi_moves.specs.Replies.{HasCertainMoves}
 use Rattle.shogi_moves.proofs.CaptureLaws.{HasMatchingOn}
 use Rattle.shogi_moves.proofs.sweep.BoardSweep.pass_pieces.Given as goal
 
 abbrev pub invariant-squares : goal.invariant-squares
 invariant-squares l = record {
-  kept : IsBoardSweep l.p l.capture l.self;
-  none : (l.self.destinations.plain ≡ 0) × (l.self.destinations.promoting ≡ 0);
-  passed : IsPassedTo l.p l.capture l.among l.fn.self.code l.self.code;
-  matching : HasMatchingOn l.p l.capture l.self.code l.left;
+  same : l.self ≡ l.fn.self;
+  matching : HasMatchingOn l.p l.capture l.fn.self.code l.moving;
+  mine : (n : ℕ) → n < 81 → has_bit l.moving n ≡ true → (l.fn.self.from < n) × (is_piece_of l.p.side (piece_at l.p.cells n) ≡ true);
+  certain : (n : ℕ) → n < 81 → has_bit l.moving n ≡ true → has_bit l.left n ≡ false → HasCertainMoves l.p l.capture l.among n;
+  within : (n : ℕ) → has_bit l.left n ≡ true → has_bit l.moving n ≡ true;
   fits : l.left < 2 ^ 81;
-  mine : (n : ℕ) → n < 81 → has_bit l.left n ≡ true → (l.self.from < n) × (is_piece_of l.p.side (piece_at l.p.cells n) ≡ true);
 }
 
 abbrev pub decreases-squares : goal.decreases-squares
