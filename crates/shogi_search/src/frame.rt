@@ -612,6 +612,9 @@ impl Frame {
     {
         if self.has_move {
             self.turn_to_quiets();
+            if let MovePicker::Captures(_, _) = self.picker {
+                return;
+            }
             self.prune_quiets();
             self.turn_to_drops();
             self.prune_drops();
