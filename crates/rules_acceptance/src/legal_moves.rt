@@ -4,7 +4,7 @@ use shogi_core::Color::{Black, White};
 use shogi_core::{Color, Hands, Kind, Move, Piece, Position, Role, Square};
 use shogi_moves::{
     BoardSweep, DropSweep, Replies, check_info_of, escape_squares, has_legal, in_check,
-    is_attacked, is_legal, leaves_escape, next_legal, perft, play, play_in_place,
+    is_attacked, is_legal, leaves_escape, leaves_king_move, next_legal, perft, play, play_in_place,
 };
 use std::test::Fail;
 
@@ -277,6 +277,38 @@ fn ways_out_of_a_check(rt: HostRuntime) -> Result<(), Fail> {
         (b"9/9/9/9/9/9/9/9/K7R", b"", b"1i1a ", false),
     ] {
         assert_eq!(rt; leaves_way_out(board, hand, text)?, left, "{board:?}");
+    }
+    Ok(())
+}
+
+/// Whether it is decided without making the move that the other king may go on a line with the
+/// square that is left, or take what is dropped.
+fn leaves_way_on_line(board: &[u8], hand: &[u8], text: &[u8; 5]) -> Result<bool, Fail> {
+    let p = position(board, hand, Black)?;
+    let m = read(text);
+    if !is_legal(&p, m) {
+        return Err("a legal move".into());
+    }
+    Ok(leaves_king_move(&p, escape_squares(&p), &m))
+}
+
+/// A knight gives check, and the only square that is left to the king is on the file that it
+/// leaves; a rook behind it then attacks that. A gold that is dropped before the king is taken,
+/// unless a pawn protects it.
+#[test]
+fn ways_out_on_lines_and_of_drops(rt: HostRuntime) -> Result<(), Fail> {
+    for (board, hand, text, left) in [
+        (
+            &b"3lkl3/3p1p3/9/9/4N4/9/9/9/K8"[..],
+            &b""[..],
+            b"5e4c ",
+            true,
+        ),
+        (b"3lkl3/3p1p3/9/9/4N4/9/9/9/K3R4", b"", b"5e4c ", false),
+        (b"4k4/9/9/9/9/9/9/9/K8", b"G", b"G*5b ", true),
+        (b"4k4/9/4P4/9/9/9/9/9/K8", b"G", b"G*5b ", false),
+    ] {
+        assert_eq!(rt; leaves_way_on_line(board, hand, text)?, left, "{board:?}");
     }
     Ok(())
 }

@@ -12,9 +12,9 @@ use Rattle.shogi_core.specs.declared.piece.Kind.TheVariants as kinds
 use Rattle.shogi_core.specs.declared.piece.Piece.{Piece}
 use Rattle.shogi_core.specs.declared.piece.Role.{Role}
 use Rattle.shogi_core.specs.declared.piece.Role.TheVariants as roles
-use Rattle.shogi_core.specs.Attack.{is_attacked, in_check}
+use Rattle.shogi_core.specs.Attack.{is_attacked, is_sniper, in_check}
 use Rattle.shogi_core.specs.Bits.{has_bit}
-use Rattle.shogi_core.specs.Cell.{is_piece_of, is_king, is_king_role}
+use Rattle.shogi_core.specs.Cell.{is_piece_of, is_king, is_king_role, is_slider}
 use Rattle.shogi_core.specs.Lines.{are_aligned, are_lined, around}
 use Rattle.shogi_core.specs.Movement.{Cells, piece_at, reaches, cell_reaches, has_step, has_slide, is_slide, slides, slides_of, for_side}
 use Rattle.shogi_core.specs.Pieces.{opponent_of}
@@ -39,6 +39,7 @@ use Rattle.shogi_moves.proofs.CheckInfoLaws.{look, other_side, own_some, is_piec
 use Rattle.shogi_moves.proofs.KingLaws.{king_own, in_no_way}
 use Rattle.shogi_moves.proofs.MovedPieces.{opponent_twice}
 use Rattle.shogi_moves.proofs.ReplyLaws.{another, crowned, legal_own}
+use Rattle.shogi_moves.proofs.SlideOrigins.{attacked_from_origin}
 
 -- ---- a king reaches the same squares on every board
 
@@ -46,7 +47,7 @@ no_slide : (cells : Cells) (color : Color) (role : Role) (a b : ℕ) → is_king
 no_slide cells color roles.King a b k = refl
 no_slide cells color _ a b k = absurd (cc)
 
-king_reach : (old new : Cells) (side : Color) (cell : Option Piece) (a b : ℕ) → is_king side cell ≡ true → cell_reaches old cell a b ≡ true → cell_reaches new cell a b ≡ true
+pub king_reach : (old new : Cells) (side : Color) (cell : Option Piece) (a b : ℕ) → is_king side cell ≡ true → cell_reaches old cell a b ≡ true → cell_reaches new cell a b ≡ true
 king_reach old new side None a b k e = e
 king_reach old new side (Some piece) a b k e = elim (or_cases (has_step piece a b) (has_slide old piece a b) e) [
   | inl step ↦ or_left (has_step piece a b) (has_slide new piece a b) step
@@ -55,13 +56,15 @@ king_reach old new side (Some piece) a b k e = elim (or_cases (has_step piece a 
 
 -- ---- the king steps out of the check
 
+-- a king that is the only one of the side to move goes where it is not attacked
+pub escape_legal : (q : Shogi) (k e : ℕ) → length q.cells ≡ 81 → k < 81 → e < 81 → is_king q.side (piece_at q.cells k) ≡ true → IsEscape q.cells q.side k e → legal_codes q ≢ []
+escape_legal q k e len hk he crown way =
+    king_move q k e hk he crown (way.step.reached, way.step.open_end)
+    (ap not (king_set q.cells q.side k e (piece_moved false (piece_at q.cells k)) len hk he (is_piece_of-piece_moved q.side false (piece_at q.cells k) ∙ king_own q.side (piece_at q.cells k) crown) way.step.lone way.safe))
+
 module _ (p : Shogi) (new : Cells) (hands : HandCounts) (Left : ℕ → Type 0) (to : ℕ) (cell : Option Piece) (old_len : length p.cells ≡ 81) (len : length new ≡ 81) (mine : is_piece_of p.side cell ≡ true)
     (see : (x : ℕ) → ((x ≡ to) × (piece_at new x ≡ cell)) ⊎ ((Left x × (piece_at new x ≡ None)) ⊎ (piece_at new x ≡ piece_at p.cells x)))
-    (k e : ℕ) (hk : k < 81) (he : e < 81) (crown : is_king (opponent_of p.side) (piece_at p.cells k) ≡ true) (stays : Left k → ⊥) (elsewhere : (k ≢ to) × (e ≢ to)) (escape : IsEscape p.cells (opponent_of p.side) k e)
-    (short : cell_reaches (set p.cells k None) cell to e ≡ false) (free : (x : ℕ) → Left x → are_lined (set p.cells k None) x e ≡ false) where
-  side : Color
-  side = opponent_of p.side
-
+    (k e : ℕ) (hk : k < 81) (he : e < 81) (crown : is_king (opponent_of p.side) (piece_at p.cells k) ≡ true) (stays : Left k → ⊥) (elsewhere : (k ≢ to) × (e ≢ to)) (escape : IsEscape p.cells (opponent_of p.side) k e) where
   there : piece_at new k ≡ piece_at p.cells k
   there = elim (see k) [
     | inl at ↦ absurd (elsewhere.0 at.0)
@@ -80,24 +83,22 @@ module _ (p : Shogi) (new : Cells) (hands : HandCounts) (Left : ℕ → Type 0) 
     ]
   ]
 
-  kept : (a : ℕ) → is_piece_of (opponent_of (opponent_of p.side)) (piece_at (set new k None) a) ≡ true → (piece_at (set p.cells k None) a ≡ piece_at (set new k None) a) ⊎ (reaches (set new k None) a e ≡ false)
+  -- nothing stands where the king stood
+  lifted : (a : ℕ) → a ≡ k → piece_at (set new k None) a ≡ None
+  lifted a here = ap (piece_at (set new k None)) here ∙ get_or-set_same new k None None (omega (arith, len))
+
+  kept : cell_reaches (set new k None) cell to e ≡ false → (a : ℕ) → is_piece_of (opponent_of (opponent_of p.side)) (piece_at (set new k None) a) ≡ true → (piece_at (set p.cells k None) a ≡ piece_at (set new k None) a) ⊎ (reaches (set new k None) a e ≡ false)
   unfolding reaches
-  kept a own = elim (cases_eq a k) [
-    | inl here ↦ absurd (both_ways (is_piece_of (opponent_of (opponent_of p.side)) None) refl
-        (ap (is_piece_of (opponent_of (opponent_of p.side))) (sym (ap (piece_at (set new k None)) here ∙ get_or-set_same new k None None (omega (arith, len)))) ∙ own))
+  kept short a own = elim (cases_eq a k) [
+    | inl here ↦ absurd (both_ways (is_piece_of (opponent_of (opponent_of p.side)) None) refl (ap (is_piece_of (opponent_of (opponent_of p.side))) (sym (lifted a here)) ∙ own))
     | inr off ↦ elim (see a) [
-      | inl at ↦ inr (false_from_ne_true (reaches (set new k None) a e) (λ r. both_ways (cell_reaches (set p.cells k None) cell to e) short
-          (reach_was (set p.cells k None) (set new k None) Left opened cell to e free
-          (subst (λ (y : ℕ). cell_reaches (set new k None) cell y e ≡ true) at.0 (ap (λ (x : Option Piece). cell_reaches (set new k None) x a e) (sym (get_or-set_other new k a None None off ∙ at.1)) ∙ r)))))
+      | inl at ↦ inr (ap (λ (x : Option Piece). cell_reaches (set new k None) x a e) (get_or-set_other new k a None None off ∙ at.1) ∙ subst (λ (y : ℕ). cell_reaches (set new k None) cell y e ≡ false) (sym at.0) short)
       | inr rest ↦ elim rest [
         | inl gone ↦ absurd (both_ways (is_piece_of (opponent_of (opponent_of p.side)) None) refl (ap (is_piece_of (opponent_of (opponent_of p.side))) (sym (get_or-set_other new k a None None off ∙ gone.1)) ∙ own))
         | inr same ↦ inl (get_or-set_other p.cells k a None None off ∙ (sym same ∙ sym (get_or-set_other new k a None None off)))
       ]
     ]
   ]
-
-  out_of_reach : is_attacked (set new k None) (opponent_of (opponent_of p.side)) e ≡ false
-  out_of_reach = attacked_was_but (set p.cells k None) (set new k None) Left opened (opponent_of (opponent_of p.side)) e kept free escape.safe
 
   still_lone : (x : ℕ) → x < 81 → x ≢ k → is_king (opponent_of p.side) (piece_at new x) ≡ false
   still_lone x h other = elim (see x) [
@@ -111,16 +112,50 @@ module _ (p : Shogi) (new : Cells) (hands : HandCounts) (Left : ℕ → Type 0) 
     | inr rest ↦ elim rest [ inl gone ↦ ap (is_piece_of (opponent_of p.side)) gone.1 | inr same ↦ ap (is_piece_of (opponent_of p.side)) same ∙ escape.step.open_end ]
   ]
 
-  crowned_still : is_king (opponent_of p.side) (piece_at new k) ≡ true
-  crowned_still = ap (is_king (opponent_of p.side)) there ∙ crown
-
   still_reached : reaches new k e ≡ true
   unfolding reaches
   still_reached = ap (λ (x : Option Piece). cell_reaches new x k e) there ∙ king_reach p.cells new (opponent_of p.side) (piece_at p.cells k) k e crown escape.step.reached
 
-  escaped : legal_codes (record { cells = new; hands = hands; side = opponent_of p.side }) ≢ []
-  escaped = king_move (record { cells = new; hands = hands; side = opponent_of p.side }) k e hk he crowned_still (still_reached, still_open)
-      (ap not (king_set new (opponent_of p.side) k e (piece_moved false (piece_at new k)) len hk he (is_piece_of-piece_moved (opponent_of p.side) false (piece_at new k) ∙ king_own (opponent_of p.side) (piece_at new k) crowned_still) still_lone out_of_reach))
+  still_out : is_attacked (set new k None) (opponent_of (opponent_of p.side)) e ≡ false → legal_codes (record { cells = new; hands = hands; side = opponent_of p.side }) ≢ []
+  still_out safe =
+      escape_legal (record { cells = new; hands = hands; side = opponent_of p.side }) k e len hk he (ap (is_king (opponent_of p.side)) there ∙ crown)
+      (record { step = record { lone = still_lone; reached = still_reached; open_end = still_open }; safe = safe })
+
+  -- what was left is on no open line with the square to which the king goes
+  module _ (short : cell_reaches (set p.cells k None) cell to e ≡ false) (free : (x : ℕ) → Left x → are_lined (set p.cells k None) x e ≡ false) where
+    out_of_reach : is_attacked (set new k None) (opponent_of (opponent_of p.side)) e ≡ false
+    out_of_reach = attacked_was_but (set p.cells k None) (set new k None) Left opened (opponent_of (opponent_of p.side)) e
+        (kept (false_from_ne_true (cell_reaches (set new k None) cell to e) (λ r. both_ways (cell_reaches (set p.cells k None) cell to e) short (reach_was (set p.cells k None) (set new k None) Left opened cell to e free r))))
+        free escape.safe
+
+    escaped : legal_codes (record { cells = new; hands = hands; side = opponent_of p.side }) ≢ []
+    escaped = still_out out_of_reach
+
+  -- what was left is on no line with a piece that slides
+  module _ (still : is_slider cell ≡ false) (short : cell_reaches (set new k None) cell to e ≡ false) (gone : (x : ℕ) → Left x → (x < 81) × (is_slider (piece_at new x) ≡ false))
+      (bare : (x a : ℕ) → Left x → a < 81 → is_sniper p.cells p.side x a ≡ false) where
+    no_sniper : (x a : ℕ) → Left x → a < 81 → is_piece_of (opponent_of (opponent_of p.side)) (piece_at (set new k None) a) ≡ true → is_slider (piece_at (set new k None) a) ≡ true → (x < 81) × (a ≢ x) × (are_aligned x a ≡ false)
+    no_sniper x a left ha own slider = elim (cases_eq a k) [
+      | inl here ↦ absurd (both_ways (is_slider None) refl (ap is_slider (sym (lifted a here)) ∙ slider))
+      | inr off ↦ (
+          let at : piece_at (set new k None) a ≡ piece_at new a = get_or-set_other new k a None None off in
+          let slides_now : is_slider (piece_at new a) ≡ true = ap is_slider (sym at) ∙ slider in (
+            (gone x left).0,
+            λ same. both_ways (is_slider (piece_at new a)) (subst (λ (y : ℕ). is_slider (piece_at new y) ≡ false) (sym same) (gone x left).1) slides_now,
+            elim (see a) [
+              | inl end ↦ absurd (both_ways (is_slider cell) still (ap is_slider (sym end.1) ∙ slides_now))
+              | inr rest ↦ elim rest [
+                | inl empty ↦ absurd (both_ways (is_slider None) refl (ap is_slider (sym empty.1) ∙ slides_now))
+                | inr same ↦ false_from_ne_true (are_aligned x a) (λ lined. (
+                    let mine_there : is_piece_of p.side (piece_at p.cells a) ≡ true = ap (λ (color : Color). is_piece_of color (piece_at p.cells a)) (sym (opponent_twice p.side)) ∙ (ap (is_piece_of (opponent_of (opponent_of p.side))) (sym (at ∙ same)) ∙ own) in
+                    both_ways (is_sniper p.cells p.side x a) (bare x a left ha) (and_from _ _ (and_from _ _ mine_there (ap is_slider (sym same) ∙ slides_now)) lined)))
+              ]
+            ],
+          ))
+    ]
+
+    pub escaped_covered : legal_codes (record { cells = new; hands = hands; side = opponent_of p.side }) ≢ []
+    escaped_covered = still_out (attacked_from_origin (set p.cells k None) (set new k None) Left opened (opponent_of (opponent_of p.side)) no_sniper e (kept short) escape.safe)
 
 -- ---- after a move on the board, and after a drop
 

@@ -34,7 +34,7 @@ apart s h = agree_below_at is_apart (λ _. true) 81 s refl h
 unlined : (cells : Cells) (s : ℕ) → s < 81 → are_lined cells s s ≡ false
 unlined cells s h = false_from_ne_true (are_lined cells s s) (λ e. both_ways (are_aligned s s) (not-true _ ((and_parts (not (is_near s s)) _ (apart s h)).1)) (lined_aligned cells s s e))
 
-unreached : (cells : Cells) (s : ℕ) → s < 81 → reaches cells s s ≡ false
+pub unreached : (cells : Cells) (s : ℕ) → s < 81 → reaches cells s s ≡ false
 unreached cells s h = false_from_ne_true (reaches cells s s) (λ e. elim (reaches_near cells s s h e) [
   | inl near ↦ both_ways (is_near s s) (not-true _ ((and_parts (not (is_near s s)) _ (apart s h)).0)) near
   | inr slide ↦ both_ways (are_lined cells s s) (unlined cells s h) slide.1

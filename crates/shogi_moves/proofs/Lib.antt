@@ -21,5 +21,7 @@ pub mod DropChecks
 pub mod ExistenceLaws
 pub mod ReplyLaws
 pub mod ThreatLaws
+pub mod SlideOrigins
 pub mod EscapeLaws
+pub mod KingReplies
 pub mod CheckLaws

@@ -2,7 +2,7 @@
 use Rattle.std.specs.Prelude.{ℕ, ◌≡◌, ◌≢◌, ◌<◌, ◌^◌, true, false, Option, None, slice_set}
 use Rattle.shogi_core.specs.declared.piece.Color.{Color}
 use Rattle.shogi_core.specs.declared.piece.Piece.{Piece}
-use Rattle.shogi_core.specs.Attack.{is_attacked}
+use Rattle.shogi_core.specs.Attack.{is_attacked, is_sniper}
 use Rattle.shogi_core.specs.Bits.{has_bit}
 use Rattle.shogi_core.specs.Cell.{is_king, is_piece_of}
 use Rattle.shogi_core.specs.Movement.{Cells, piece_at, reaches, cell_reaches}
@@ -43,6 +43,10 @@ ReachesWithin p cell to mask = (k n : ℕ) → k < 81 → n < 81
     → is_king (opponent_of p.side) (piece_at p.cells k) ≡ true
     → HasNoOtherKing p.cells (opponent_of p.side) k → has_bit mask n ≡ false
     → cell_reaches (slice_set p.cells k None) cell to n ≡ false
+
+-- no piece of the side that slides is on a line with the square, whatever stands between
+abbrev pub HasNoSniper : Cells → Color → ℕ → Type 0
+HasNoSniper cells side square = (a : ℕ) → a < 81 → is_sniper cells side square a ≡ false
 
 -- a mask of squares to which the king of the side that is not to move so steps
 pub record AreKingSteps (p : Shogi) (mask : ℕ) : Type 0 where

@@ -5,7 +5,7 @@ ghost use Rattle.shogi_core.specs.declared.piece.Piece.{Piece};
 ghost use Rattle.shogi_core.specs.Attack.{is_attacked};
 ghost use Rattle.shogi_core.specs.Bits.{IsMaskOf, has_bit};
 ghost use Rattle.shogi_moves.specs.Destinations.{IsWithin, is_mating_square};
-ghost use Rattle.shogi_moves.specs.Escapes.{HasRaysBehind, HasKingsRays, ReachesWithin, AreKingSteps, AreEscapes, HasOpenEscape};
+ghost use Rattle.shogi_moves.specs.Escapes.{HasRaysBehind, HasKingsRays, ReachesWithin, AreKingSteps, AreEscapes, HasOpenEscape, HasNoSniper};
 ghost use Rattle.shogi_moves.specs.Replies.{IsAnswered, AreAnswered, AreDropsAnswered};
 
 use crate::after::{dropped, piece_moved};
@@ -188,6 +188,47 @@ pub fn leaves_escape(p: &Position, escapes: u128, m: &Move) -> bool
             to.validity();
             let reach = within_reach(p, dropped(p.side(), *kind), *to, escapes);
             has_open(p, escapes, reach, *to)
+        }
+    }
+}
+
+/// Whether no piece of the side to move that slides is on a line with the square, whatever stands
+/// between.
+fn has_no_sniper(p: &Position, square: Square) -> bool
+    ensures { result ≡ true → HasNoSniper p.now.cells p.now.side square }
+{
+    square.validity();
+    let board = p.as_board();
+    board.own(p.side()) & board.sliders() & aligned_squares(square.index()) == 0
+}
+
+/// Whether one of the squares is surely left to the king after the legal move, should that give it
+/// check, as `leaves_escape` does not see it: on the board what moves does not slide on, and leaves
+/// a square on no line with a piece of its side that slides, so that it uncovers nothing; what is
+/// dropped on such a square, the king takes.
+pub fn leaves_king_move(p: &Position, escapes: u128, m: &Move) -> bool
+    requires { AreEscapes p.now escapes }
+    ensures { result ≡ true → IsAnswered p.now m.now }
+{
+    if escapes == 0 {
+        return false;
+    }
+    p.validity();
+    match m {
+        Move::Board { from, to, promote } => {
+            let Some(piece) = piece_moved(p.at(*from), *promote) else {
+                return false
+            };
+            from.validity();
+            to.validity();
+            if piece.role.is_sliding() || !has_no_sniper(p, *from) {
+                return false;
+            }
+            has_open(p, escapes, step_squares(piece, to.index()), *to)
+        }
+        Move::Drop { to, .. } => {
+            to.validity();
+            has(escapes, to.index()) && p.as_board().kings(p.side().opponent()) != 0
         }
     }
 }

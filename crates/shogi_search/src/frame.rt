@@ -25,7 +25,9 @@ use crate::threat::{Threat, greatest_threat};
 use crate::window::{threshold, threshold_at};
 use shogi_core::{Color, Kind, Move, Position};
 use shogi_eval::{Eval, Node, drop_gain};
-use shogi_moves::{Destinations, Replies, escape_squares, has_legal, leaves_escape};
+use shogi_moves::{
+    Destinations, Replies, escape_squares, has_legal, leaves_escape, leaves_king_move,
+};
 
 /// What a node waits for.
 #[derive(Clone, Copy)]
@@ -417,6 +419,17 @@ impl Frame {
         leaves_escape(self.node.as_position(), escapes, current)
     }
 
+    /// Whether it is certain without making the current move that the other side's king has a legal
+    /// move after it, as `is_answered` does not see it.
+    #[inline(always)]
+    fn is_answered_by_king(&self, current: &Move) -> bool
+        requires current { IsCurrent self.now.waiting current.now }
+        ensures { result ≡ true → HasReply self.now current.now }
+    {
+        current.validity();
+        leaves_king_move(self.node.as_position(), self.known_escapes(), current)
+    }
+
     /// The most that a reply takes from the material of its side: nothing where leaves follow the
     /// moves, and else what a drop of the other side may lose.
     #[inline(always)]
@@ -655,6 +668,9 @@ impl Frame {
         ensures kept { KeepsMoves self.old self.new }
     {
         if !self.is_unanswered && self.is_answered(current) {
+            return Some(self.leaf_after(current));
+        }
+        if self.is_answered_by_king(current) {
             return Some(self.leaf_after(current));
         }
         None
