@@ -4,7 +4,8 @@ use shogi_core::Color::{Black, White};
 use shogi_core::{Color, Hands, Kind, Move, Piece, Position, Role, Square};
 use shogi_moves::{
     BoardSweep, DropSweep, Replies, check_info_of, escape_squares, has_legal, in_check,
-    is_attacked, is_legal, leaves_escape, leaves_king_move, next_legal, perft, play, play_in_place,
+    is_attacked, is_legal, king_takes, leaves_escape, leaves_king_move, next_legal, perft, play,
+    play_in_place,
 };
 use std::test::Fail;
 
@@ -309,6 +310,33 @@ fn ways_out_on_lines_and_of_drops(rt: HostRuntime) -> Result<(), Fail> {
         (b"4k4/9/4P4/9/9/9/9/9/K8", b"G", b"G*5b ", false),
     ] {
         assert_eq!(rt; leaves_way_on_line(board, hand, text)?, left, "{board:?}");
+    }
+    Ok(())
+}
+
+/// Whether it is decided without making the move that the other king may take what moves.
+fn lets_king_take(board: &[u8], text: &[u8; 5]) -> Result<bool, Fail> {
+    let p = position(board, b"", Black)?;
+    let m = read(text);
+    if !is_legal(&p, m) {
+        return Err("a legal move".into());
+    }
+    Ok(king_takes(&p, &m))
+}
+
+/// A gold goes before the king and attacks all squares next to it, and the king may take it, be it
+/// that it took a pawn there. A knight, or a rook behind it, protects the gold; and the king does
+/// not reach a rook that gives check from afar.
+#[test]
+fn pieces_that_a_king_takes(rt: HostRuntime) -> Result<(), Fail> {
+    for (board, text, taken) in [
+        (&b"4k4/9/4G4/9/9/9/9/9/K8"[..], b"5c5b ", true),
+        (b"4k4/4p4/4G4/9/9/9/9/9/K8", b"5c5b ", true),
+        (b"4k4/9/4G4/5N3/9/9/9/9/K8", b"5c5b ", false),
+        (b"4k4/9/4G4/9/9/9/9/9/K3R4", b"5c5b ", false),
+        (b"4k4/9/9/9/9/9/9/9/K7R", b"1i1a ", false),
+    ] {
+        assert_eq!(rt; lets_king_take(board, text)?, taken, "{board:?}");
     }
     Ok(())
 }

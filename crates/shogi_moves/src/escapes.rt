@@ -1,9 +1,10 @@
 //! Squares to which the king of the side that is not to move may go, should a move give it check.
 
-ghost use Rattle.std.specs.Prelude.{◌≡◌, ◌<◌, ◌^◌, ◌&&◌, ℕ, not, true, false, Option, Some};
+ghost use Rattle.std.specs.Prelude.{◌≡◌, ◌<◌, ◌^◌, ◌&&◌, ℕ, not, true, false, Option, Some, None, slice_set};
 ghost use Rattle.shogi_core.specs.declared.piece.Piece.{Piece};
 ghost use Rattle.shogi_core.specs.Attack.{is_attacked};
 ghost use Rattle.shogi_core.specs.Bits.{IsMaskOf, has_bit};
+ghost use Rattle.shogi_core.specs.Movement.{reaches};
 ghost use Rattle.shogi_moves.specs.Destinations.{IsWithin, is_mating_square};
 ghost use Rattle.shogi_moves.specs.Escapes.{HasRaysBehind, HasKingsRays, ReachesWithin, AreKingSteps, AreEscapes, HasOpenEscape, HasNoSniper};
 ghost use Rattle.shogi_moves.specs.Replies.{IsAnswered, AreAnswered, AreDropsAnswered};
@@ -231,6 +232,46 @@ pub fn leaves_king_move(p: &Position, escapes: u128, m: &Move) -> bool
             has(escapes, to.index()) && p.as_board().kings(p.side().opponent()) != 0
         }
     }
+}
+
+/// Whether the king on the square steps to another one, and what stands on a third may go there too
+/// without a piece of the side to move attacking the square once both have left theirs.
+fn is_unprotected(p: &Position, king: Square, from: Square, to: Square) -> bool
+    ensures reached { result ≡ true → reaches p.now.cells king to ≡ true }
+    ensures safe { result ≡ true
+        → is_attacked (slice_set (slice_set p.now.cells from None) king None) p.now.side to ≡ false }
+{
+    to.validity();
+    let board = p.as_board();
+    if !has(board.targets(king), to.index()) {
+        return false;
+    }
+    let mut next = *board;
+    next.set(from, None);
+    next.set(king, None);
+    !next.is_attacked(p.side(), to)
+}
+
+/// Whether the king of the side that is not to move, where it has just one, surely may take what
+/// moves on the board to a square next to it, if the move is legal.
+pub fn king_takes(p: &Position, m: &Move) -> bool
+    ensures { result ≡ true → IsAnswered p.now m.now }
+{
+    p.validity();
+    let Move::Board { from, to, .. } = m else {
+        return false
+    };
+    let kings = p.as_board().kings(p.side().opponent());
+    if kings == 0 {
+        return false;
+    }
+    let king = lowest(kings);
+    if cleared(kings, king) != 0 {
+        return false;
+    }
+    from.validity();
+    to.validity();
+    is_unprotected(p, Square::of_index(king), *from, *to)
 }
 
 /// Whether one of the squares is surely left to the king after the drop of a pawn, which then does

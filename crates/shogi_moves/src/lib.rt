@@ -32,7 +32,7 @@ pub use attack::{in_check, is_attacked};
 pub use check_info::{CheckInfo, check_info_of};
 pub use count::perft;
 pub use destinations::Destinations;
-pub use escapes::{escape_squares, leaves_escape, leaves_king_move};
+pub use escapes::{escape_squares, king_takes, leaves_escape, leaves_king_move};
 pub use existence::has_legal;
 pub use legal::{is_legal, play, play_in_place};
 pub use next::next_legal;

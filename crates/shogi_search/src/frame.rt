@@ -26,7 +26,7 @@ use crate::window::{threshold, threshold_at};
 use shogi_core::{Color, Kind, Move, Position};
 use shogi_eval::{Eval, Node, drop_gain};
 use shogi_moves::{
-    Destinations, Replies, escape_squares, has_legal, leaves_escape, leaves_king_move,
+    Destinations, Replies, escape_squares, has_legal, king_takes, leaves_escape, leaves_king_move,
 };
 
 /// What a node waits for.
@@ -427,7 +427,8 @@ impl Frame {
         ensures { result ≡ true → HasReply self.now current.now }
     {
         current.validity();
-        leaves_king_move(self.node.as_position(), self.known_escapes(), current)
+        let p = self.node.as_position();
+        leaves_king_move(p, self.known_escapes(), current) || king_takes(p, current)
     }
 
     /// The most that a reply takes from the material of its side: nothing where leaves follow the
