@@ -137,7 +137,7 @@ abbrev pub HasAroundKings : Cells → Color → ℕ → Type 0
 HasAroundKings cells side mask = (k n : ℕ) → k < 81 → n < 81
     → is_king side (piece_at cells k) ≡ true → is_around k n ≡ true → has_bit mask n ≡ true
 
--- a move of what stands on the square to that one begins off the mask and gives no check, and it cannot promote unless it may
+-- a move of what stands on the square to that one begins off the mask and gives no check, and it cannot promote where promotions are not allowed
 pub record IsFarMove (p : Shogi) (sight : ℕ) (promotes : Bool) (from n : ℕ) : Type 0 where
   pub unseen : has_bit sight from ≡ false
   pub harmless : (promote : Bool)

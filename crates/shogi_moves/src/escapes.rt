@@ -234,12 +234,12 @@ pub fn leaves_king_move(p: &Position, escapes: u128, m: &Move) -> bool
     }
 }
 
-/// Whether the king on the square steps to another one, and what stands on a third may go there too
-/// without a piece of the side to move attacking the square once both have left theirs.
+/// Whether the king on the square steps to another one, `to`, which no piece of the side to move
+/// attacks once the king and what stands on `from` have left theirs.
 fn is_unprotected(p: &Position, king: Square, from: Square, to: Square) -> bool
     ensures reached { result ≡ true → reaches p.now.cells king to ≡ true }
-    ensures safe { result ≡ true
-        → is_attacked (slice_set (slice_set p.now.cells from None) king None) p.now.side to ≡ false }
+    ensures safe { result ≡ true → is_attacked
+        (slice_set (slice_set p.now.cells from None) king None) p.now.side to ≡ false }
 {
     to.validity();
     let board = p.as_board();

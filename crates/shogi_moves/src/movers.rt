@@ -1,5 +1,5 @@
-//! The pieces that may have a move of a kind, and those whose moves give the other side no check
-//! and cannot promote, found all at once.
+//! The pieces that may have a move of a kind, and those whose moves give the other side no check and,
+//! where promotions are not allowed, cannot promote, found all at once.
 
 ghost use Rattle.std.specs.Prelude.{◌≡◌, ◌<◌, ◌^◌, ◌+◌, ◌⊎◌, true, ℕ, ◌*◌, ◌≤◌};
 ghost use Rattle.shogi_core.specs.Bits.{has_bit};

@@ -295,8 +295,8 @@ impl Replies {
         without(!closed, one)
     }
 
-    /// Pieces of the side to move of which each move of the kind leaves the other side a legal move,
-    /// since they are far from its kings, and ends on one of the squares for moves without
+    /// Pieces of the side to move of which each move of the kind leaves the other side a legal
+    /// move, since they are far from its kings, and ends on one of the squares for moves without
     /// promotion, or for those with it; none where the former are not all.
     pub fn far_pieces(&self, p: &Position, capture: bool, among: &Destinations) -> u128
         requires kept { IsReplies p.now self.now.sight self.now.spare }

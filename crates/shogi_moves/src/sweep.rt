@@ -155,6 +155,7 @@ impl BoardSweep {
         ensures some { result ≡ true → ContinuesBoard p.now capture self.old self.new }
         ensures end { result ≡ false
             → board_left p.now capture self.old ≡ matching_drops p.now capture }
+        ensures same { result ≡ false → self.new.code ≡ self.old.code }
     {
         p.validity();
         let matching = matching_destinations(p, capture);
@@ -188,6 +189,7 @@ impl BoardSweep {
         ensures some { result ≡ true → ContinuesBoard p.now capture self.old self.new }
         ensures end { result ≡ false
             → board_left p.now capture self.old ≡ matching_drops p.now capture }
+        ensures same { result ≡ false → self.new.code ≡ self.old.code }
     {
         if self.destinations.plain | self.destinations.promoting != 0 {
             return true;

@@ -28,8 +28,8 @@ const LAST_THREE_RANKS: u128 = 2119760341242089511813568;
 
 const LAST_FIVE_RANKS: u128 = 2346877520660884816650736;
 
-// The squares on which pieces of Black's and of White's could never move again, by their roles in the
-// order in which these are declared.
+// The squares on which pieces of Black's and of White's could never move again, by their roles in
+// the order in which these are declared.
 const BLACK_DEAD: [u128; 14] = [
     0,
     FIRST_RANK,

@@ -615,8 +615,8 @@ impl Frame {
         self.picker.turn_to_drops(self.node.as_position());
     }
 
-    /// Passes the next moves of a node of depth 1 or 2 as these do, once a move was gone through and
-    /// not good enough; each row before the first of its moves is looked for.
+    /// Passes the next moves of a node of depth 1 or 2 as these do, once a move was gone through
+    /// and not good enough; each row before the first of its moves is looked for.
     #[inline(always)]
     fn prune_rows(&mut self)
         requires next { self.old.waiting ≡ Waiting.Next }
