@@ -10,25 +10,17 @@ use shogi_sfen::read_position;
 /// The position of most moves.
 const MOST_MOVES: &[u8] = b"R8/2K1S1SSk/4B4/9/9/9/9/9/1L1L1L3 b RBGSNLP3g3n17p 1";
 
-/// The next legal move, or the same one where it is the last.
-fn following(p: &Position, m: Move) -> Move {
-    let last = m;
-    match next_legal(p, Some(m)) {
-        Some(next) => next,
-        None => last,
-    }
-}
-
-/// The legal move of this number, or the last one where there are fewer.
+/// The legal move of this number, where there are so many.
 pub fn legal_move(p: &Position, number: usize) -> Option<Move> {
     let mut reached = next_legal(p, None)?;
     for _ in 0..number {
-        reached = following(p, reached);
+        reached = next_legal(p, Some(reached))?;
     }
     Some(reached)
 }
 
-/// The position after some legal move, or the position itself where none is legal.
+/// The position after one of its first twenty legal moves, or the position itself where it has none of
+/// that number.
 fn after_some_move(p: &Position, random: &mut Random) -> Position {
     match legal_move(p, random.below(20)) {
         Some(m) => play(p, m).unwrap_or(*p),

@@ -29,12 +29,11 @@ fn search(
     None
 }
 
-/// Takes in what a search found, and how many steps it took.
+/// Takes in what a search found: its value and the best move. How many steps it took is no answer.
 fn take_in_found(found: Option<Found>, digest: &mut Digest) {
     if let Some(found) = found {
         digest.take_in(found.value.to_le_bytes().as_slice());
         digest.take_in_number(found.best.map_or(0, |m| u64::from(m.code())));
-        digest.take_in_number(found.steps);
     }
 }
 
