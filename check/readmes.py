@@ -1,8 +1,9 @@
 #!/usr/bin/env python3
 """Looks whether the README of each library crate shows its use as it stands in `crates/examples`, where
 it is proved and run: everything from the first `use` of a file on. With `--write` it puts it there. Then
-looks whether README.md names the toolchain as `rt version` does, and whether each link of a page leads to
-a file and a heading that are there. Its last line is `N passed, M failed`."""
+looks whether README.md names the toolchain as `rt version` does, the command that runs the program and the
+one that tests it, and whether each link of a page leads to a file and a heading that are there. Its last
+line is `N passed, M failed`."""
 
 import os
 import re
@@ -12,6 +13,9 @@ import sys
 TOP = os.path.dirname(os.path.dirname(os.path.abspath(__file__)))
 CRATES = os.path.join(TOP, "crates")
 USES = os.path.join(CRATES, "examples", "src")
+# The goals of the Makefile that README.md has to name: the one that runs the program, and the one that
+# tests it.
+GOALS = ("run", "test")
 BLOCK = re.compile(r"```rust\n.*?```\n", re.S)
 ANY_BLOCK = re.compile(r"```.*?```", re.S)
 LINK = re.compile(r"\]\(([^)\s]+)\)")
@@ -62,16 +66,24 @@ def main():
         text = read(path)
         wanted = BLOCK.sub(lambda _: f"```rust\n{use}```\n", text, count=1)
         if "--write" in sys.argv[1:] and text != wanted:
-            with open(path, "w", encoding="utf-8") as readme:
-                readme.write(wanted)
+            with open(path, "w", encoding="utf-8") as page:
+                page.write(wanted)
             text = wanted
         if text == wanted and BLOCK.search(text):
             passed += 1
         else:
             failed += 1
             print(f"crates/{crate}/README.md does not show its use as crates/examples has it")
+    readme = read(os.path.join(TOP, "README.md"))
+    makefile = read(os.path.join(TOP, "Makefile"))
+    for goal in GOALS:
+        if f"`make {goal}`" in readme and re.search(rf"^{goal}:", makefile, re.M):
+            passed += 1
+        else:
+            failed += 1
+            print(f"README.md does not name `make {goal}`, or the Makefile has no such goal")
     toolchain = subprocess.run(["rt", "version"], capture_output=True, text=True, check=True).stdout.strip()
-    named = re.findall(r"`(rattle-kit[^`]*)`", read(os.path.join(TOP, "README.md")))
+    named = re.findall(r"`(rattle-kit[^`]*)`", readme)
     if named == [toolchain]:
         passed += 1
     else:
