@@ -262,7 +262,7 @@ pub dropped_of : (side : Color) (kind : Kind) → is_piece_of side (dropped side
 dropped_of Black kind = refl
 dropped_of White kind = refl
 
-dropped_plain : (side : Color) (kind : Kind) → is_king side (dropped side kind) ≡ false
+pub dropped_plain : (side : Color) (kind : Kind) → is_king side (dropped side kind) ≡ false
 dropped_plain side kind = go (is_same_color side side) (role_plain kind)
   where
     role_plain : (kind : Kind) → is_king_role (role_of kind) ≡ false

@@ -25,3 +25,4 @@ pub mod SlideOrigins
 pub mod EscapeLaws
 pub mod KingReplies
 pub mod CheckLaws
+pub mod StillChecked

@@ -3,15 +3,14 @@
 ghost use Rattle.std.specs.Prelude.{◌≡◌, ◌↔◌, IsTrue, true, false, if◌then◌else◌, Some, None};
 ghost use Rattle.shogi_core.specs.Codes.{code_of};
 ghost use Rattle.shogi_moves.specs.After.{after};
-ghost use Rattle.shogi_moves.specs.Destinations.{is_unchecked};
 ghost use Rattle.shogi_moves.specs.Legal.{is_legal, is_safe, is_pseudo_legal, is_pseudo_legal_board_move, is_pseudo_legal_drop, may_promote, is_pawn_kind, is_mated_by_drop, is_pawn_drop, is_pawn_drop_mate, is_promotable, in_promotion_zone};
 ghost use Rattle.shogi_moves.specs.LegalMoves.{legal_codes};
 ghost use Rattle.shogi_moves.specs.Rising.{is_in};
 
-use crate::after::{advance, apply, apply_safe, dropped, is_checked_after, piece_moved};
+use crate::after::{advance, apply, apply_safe, dropped, piece_moved};
 use crate::attack::in_check;
-use crate::check_info::{info_unless_checked, is_unpinned};
 use crate::existence::has_safe;
+use crate::unchecked::leaves_unchecked;
 use shogi_core::{Color, Kind, Move, Piece, Position, Role, Square, is_immobile, is_piece_of};
 
 /// Whether a piece of the role can promote.
@@ -86,37 +85,12 @@ fn is_pseudo_legal(p: &Position, m: &Move) -> bool
     }
 }
 
-/// Whether it is known without making the move that it leaves the mover's king unattacked: there is
-/// no check, and what moves is no king and cannot be pinned, or is dropped.
-fn is_surely_unchecked(p: &Position, m: &Move) -> bool
-    requires { is_pseudo_legal p.now m.now ≡ true }
-    ensures { result ≡ true → is_unchecked p.now m.now ≡ true }
-{
-    p.validity();
-    let Some(info) = info_unless_checked(p) else {
-        return false
-    };
-    match m {
-        Move::Board { from, to, .. } => {
-            from.validity();
-            to.validity();
-            is_unpinned(&info, *from)
-        }
-        Move::Drop { to, .. } => {
-            to.validity();
-            true
-        }
-    }
-}
-
-/// Whether the move obeys the rules, apart from mate by the drop of a pawn. Few moves have to be
-/// tried.
+/// Whether the move obeys the rules, apart from mate by the drop of a pawn.
 #[tactic(auto, unfolding(crate::specs::Legal::is_safe))]
 fn is_safe(p: &Position, m: &Move) -> bool
     ensures { result ≡ is_safe p.now m.now }
 {
-    is_pseudo_legal(p, m)
-        && (is_surely_unchecked(p, m) || !is_checked_after(p.as_board(), p.side(), m))
+    is_pseudo_legal(p, m) && leaves_unchecked(p, m)
 }
 
 /// Whether the side to move is in check and has no safe move.

@@ -4,11 +4,11 @@
 //! masks. `sweep` goes through them for the search, `next` and `walk` for everyone else,
 //! `existence` up to the first one. `movers` leaves out, before their destinations are looked for,
 //! pieces that surely take nothing. A move is tested in `legal`, by the rules one after another,
-//! and made in `after`. A check is found by `Board::in_check` of `shogi_core`; `check_info` keeps
-//! it, with the pieces of `Board::pinned`, so that few moves need another look. Whether a move
-//! gives check is asked of the position after it; that it gives none, or can be answered, `replies`
-//! and `escapes` answer for most moves before they are made, and `threats` what the other side may
-//! take after them.
+//! that on checks in `unchecked`, and made in `after`. A check is found by `Board::in_check` of
+//! `shogi_core`; `check_info` keeps it, with the pieces of `Board::pinned`, so that few moves need
+//! another look. Whether a move gives check is asked of the position after it; that it gives none,
+//! or can be answered, `replies` and `escapes` answer for most moves before they are made, and
+//! `threats` what the other side may take after them.
 #![tactic(auto)]
 
 mod after;
@@ -24,6 +24,7 @@ mod next;
 mod replies;
 mod sweep;
 mod threats;
+mod unchecked;
 mod walk;
 mod zones;
 
