@@ -3,7 +3,7 @@ use Rattle.std.proofs.Common.{◌≡◌, ◌≢◌, ◌⊎◌, ℕ, ◌+◌, ◌
 use Rattle.std.specs.Prelude.{◌&&◌, ◌||◌, ◌==◌, is_none}
 use Rattle.std.specs.List.{list_any, list_all}
 use Rattle.std.specs.Int.{trailing_zeros, w128}
-use Rattle.std.proofs.lemmas.Bool.{cases_eq, false_from_ne_true, both_ways, and_parts, and_from, or_parts, or_cases, or_left, or_right, not-true, eqb-true}
+use Rattle.std.proofs.lemmas.Bool.{cases_eq, false_from_ne_true, both_ways, and_parts, and_from, or_parts, or_cases, or_left, or_right, not-true, eqb-true, ne_eqb}
 use Rattle.shogi_core.specs.declared.moves.Move.TheVariants.{Board, Drop}
 use Rattle.shogi_core.specs.declared.offset.Offset.{Offset}
 use Rattle.shogi_core.specs.declared.piece.Color.{Color}
@@ -318,17 +318,36 @@ escaped_pawn p to reach v ht h far =
 
 -- ---- squares are tried one by one
 
--- what is kept is of the squares, and is still to be tried or passes
-pub record PassesTried (squares left kept : ℕ) (fact : ℕ → Type 0) : Type 0 where
-  pub among : (n : ℕ) → has_bit kept n ≡ true → has_bit squares n ≡ true
-  pub within : (n : ℕ) → has_bit left n ≡ true → has_bit kept n ≡ true
-  pub passed : (n : ℕ) → n < 81 → has_bit kept n ≡ true → (has_bit left n ≡ true) ⊎ fact n
+-- each of the squares is still to be tried or passes
+pub record PassesTried (squares left : ℕ) (fact : ℕ → Type 0) : Type 0 where
+  pub passed : (n : ℕ) → n < 81 → has_bit squares n ≡ true → (has_bit left n ≡ true) ⊎ fact n
 
-pub tried_first : (all squares : ℕ) (fact : ℕ → Type 0) → PassesTried squares (bit_and all squares) (bit_and all squares) fact
-tried_first all squares fact = record { among = λ n e. (and_parts _ _ (sym (has_bit-and all squares n) ∙ e)).1; within = λ n e. e; passed = λ n h e. inl e }
+pub tried_first : (squares : ℕ) (fact : ℕ → Type 0) → PassesTried squares squares fact
+tried_first squares fact = record { passed = λ n h e. inl e }
 
-pub tried_done : (squares left kept : ℕ) (fact : ℕ → Type 0) → PassesTried squares left kept fact → left ≡ 0 → (n : ℕ) → n < 81 → has_bit kept n ≡ true → fact n
-tried_done squares left kept fact t none n h e = elim (t.passed n h e) [
+-- the next one passes
+pub tried_next : (squares left next to : ℕ) (fact : ℕ → Type 0) → PassesTried squares left fact → ((i : ℕ) → has_bit next i ≡ (has_bit left i && not (i == to))) → fact to → PassesTried squares next fact
+tried_next squares left next to fact t bits found = record {
+  passed = λ n h e. elim (t.passed n h e) [
+    | inl still ↦ elim (cases_eq n to) [
+      | inl here ↦ inr (subst fact (sym here) found)
+      | inr other ↦ inl (bits n ∙ and_from _ _ still (ap not (ne_eqb n to other)))
+    ]
+    | inr done ↦ inr done
+  ];
+}
+
+pub tried_done : (squares left : ℕ) (fact : ℕ → Type 0) → PassesTried squares left fact → left ≡ 0 → (n : ℕ) → n < 81 → has_bit squares n ≡ true → fact n
+tried_done squares left fact t none n h e = elim (t.passed n h e) [
   | inl still ↦ absurd (both_ways (has_bit left n) (ap (λ (m : ℕ). has_bit m n) none ∙ has_bit-none n) still)
   | inr done ↦ done
 ]
+
+-- up to one that does not
+pub tried_before : (squares left : ℕ) (fact : ℕ → Type 0) → PassesTried squares left fact → left < 2 ^ 81 → (n : ℕ) → n < 81 → has_bit (bit_and squares (2 ^ 128 - 1 - left)) n ≡ true → fact n
+tried_before squares left fact t fits n h e =
+    let both : (has_bit squares n ≡ true) × (has_bit (2 ^ 128 - 1 - left) n ≡ true) = and_parts _ _ (sym (has_bit-and squares (2 ^ 128 - 1 - left) n) ∙ e) in
+    elim (t.passed n h both.0) [
+      | inl still ↦ absurd (both_ways (has_bit left n) (not-true _ (sym (has_bit-not left n (omega (arith, fits)) (omega arith)) ∙ both.1)) still)
+      | inr done ↦ done
+    ]

@@ -286,7 +286,7 @@ pub fn leaves_pawn_escape(p: &Position, to: Square) -> bool
 }
 
 /// Those of the squares to which what stands on a square may move, promoting or not, so that one of
-/// the escapes is surely left to the king.
+/// the escapes is surely left to the king: up to the first after which none is.
 pub fn escaped_destinations(
     p: &Position,
     escapes: u128,
@@ -298,8 +298,8 @@ pub fn escaped_destinations(
     ensures among { IsWithin result destinations }
     ensures answered { AreAnswered p.now from promote result }
 {
-    let mut left = ALL_SQUARES & destinations;
-    let mut kept = left;
+    let all = ALL_SQUARES & destinations;
+    let mut left = all;
     while left != 0 {
         let to = lowest(left);
         let m = Move::Board {
@@ -308,22 +308,22 @@ pub fn escaped_destinations(
             promote,
         };
         if !leaves_escape(p, escapes, &m) {
-            kept = cleared(kept, to);
+            return all & !left;
         }
         left = without_lowest(left, to);
     }
-    kept
+    all
 }
 
 /// Those of the squares on which a piece of the kind may be dropped so that one of the escapes is
-/// surely left to the king.
+/// surely left to the king: up to the first after which none is.
 pub fn escaped_drops(p: &Position, escapes: u128, kind: Kind, destinations: u128) -> u128
     requires { AreEscapes p.now escapes }
     ensures among { IsWithin result destinations }
     ensures answered { AreDropsAnswered p.now kind result }
 {
-    let mut left = ALL_SQUARES & destinations;
-    let mut kept = left;
+    let all = ALL_SQUARES & destinations;
+    let mut left = all;
     while left != 0 {
         let to = lowest(left);
         let m = Move::Drop {
@@ -331,9 +331,9 @@ pub fn escaped_drops(p: &Position, escapes: u128, kind: Kind, destinations: u128
             to: Square::of_index(to),
         };
         if !leaves_escape(p, escapes, &m) {
-            kept = cleared(kept, to);
+            return all & !left;
         }
         left = without_lowest(left, to);
     }
-    kept
+    all
 }

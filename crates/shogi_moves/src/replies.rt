@@ -325,20 +325,14 @@ impl Replies {
         capture: bool,
         among: &Destinations,
         escapes: u128,
-        far: u128,
         from: Square,
     ) -> bool
         requires kept { IsReplies p.now self.now.sight self.now.spare }
         requires escapes { AreEscapes p.now escapes }
-        requires far { (n : ℕ) → n < 81 → has_bit far n ≡ true
-            → HasCertainMoves p.now capture among.now n }
         ensures { result ≡ true → HasCertainMoves p.now capture among.now from }
     {
         p.validity();
         from.validity();
-        if has(far, from.index()) {
-            return true;
-        }
         let ends = p.as_board().targets(from) & matching_destinations(p, capture);
         if ends & self.sight == 0 && !has(self.sight, from.index()) {
             let certain = self.unseen_destinations(p, from, ends);
@@ -351,7 +345,13 @@ impl Replies {
             );
         }
         let promoting = ends & promoting_squares(p.at(from), from);
+        if ends & !among.plain | promoting & !among.promoting != 0 {
+            return false;
+        }
         let certain = self.certain_destinations(p, escapes, from, false, ends);
+        if ends & !certain != 0 {
+            return false;
+        }
         let promoted = self.certain_destinations(p, escapes, from, true, promoting);
         ends & !(among.plain & certain) | promoting & !(among.promoting & promoted) == 0
     }

@@ -281,7 +281,7 @@ impl BoardSweep {
         'squares: while left != 0 {
             let square = lowest(left);
             let from = Square::of_index(square);
-            if !replies.has_certain_moves(p, capture, among, escapes, 0, from) {
+            if !replies.has_certain_moves(p, capture, among, escapes, from) {
                 self.from = Square::of_index(square - 1);
                 self.code = square as u16 * SQUARE_CODES;
                 return;

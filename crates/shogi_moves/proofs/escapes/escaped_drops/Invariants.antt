@@ -6,9 +6,8 @@ use Rattle.shogi_moves.proofs.escapes.escaped_drops.Given as goal
 
 abbrev pub invariant-loop-left : goal.invariant-loop-left
 invariant-loop-left l = record {
-  tried : PassesTried l.destinations l.left l.kept (λ n. IsAnswered l.p (Drop l.kind n));
+  tried : PassesTried l.all l.left (λ n. IsAnswered l.p (Drop l.kind n));
   left : l.left < 2 ^ 81;
-  fits : l.kept < 2 ^ 81;
 }
 
 abbrev pub decreases-loop-left : goal.decreases-loop-left

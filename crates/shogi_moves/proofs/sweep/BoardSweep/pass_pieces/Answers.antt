@@ -1,5 +1,5 @@
 use Rattle.std.proofs.Common.{◌≡◌, ◌<◌, ◌+◌, ◌-◌, ◌*◌, ◌^◌, ◌∙◌, ℕ, false, refl, sym, subst, arith, inl, inr}
-use Rattle.std.proofs.lemmas.Bool.{both_ways, and_parts, cases_eq, false_from_ne_true}
+use Rattle.std.proofs.lemmas.Bool.{and_parts, cases_eq, false_from_ne_true}
 use Rattle.shogi_core.specs.declared.moves.TheConstants.{SQUARE_CODES}
 use Rattle.shogi_core.specs.Bits.{has_bit}
 use Rattle.shogi_core.proofs.BitLaws.{has_bit-and, has_bit-none}
@@ -24,9 +24,6 @@ squares-init c =
       within = λ n set. (and_parts _ _ (sym (has_bit-and c.movers-moving.result (2 ^ 128 - 1 - c.far_pieces-far.result) n) ∙ set)).0;
       fits = and_fits c.movers-moving.result (2 ^ 128 - 1 - c.far_pieces-far.result) c.movers-moving.ensures.fits;
     }
-
-pub has_certain_moves-requires-clause-far : goal.has_certain_moves-requires-clause-far
-has_certain_moves-requires-clause-far c = λ n h e. absurd (both_ways (has_bit 0 n) (has_bit-none n) e)
 
 pub squares-preserved : goal.squares-preserved
 squares-preserved c = record {
