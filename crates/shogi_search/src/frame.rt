@@ -616,7 +616,8 @@ impl Frame {
     }
 
     /// Passes the next moves of a node of depth 1 or 2 as these do, once a move was gone through
-    /// and not good enough; each row before the first of its moves is looked for.
+    /// and not good enough; each row before the first of its moves is looked for. In check few of
+    /// the moves of a row are legal, and each of these is looked at by itself.
     #[inline(always)]
     fn prune_rows(&mut self)
         requires next { self.old.waiting ≡ Waiting.Next }
@@ -624,15 +625,16 @@ impl Frame {
         requires near { self.old.depth ≤ 2 }
         ensures { PrunesRow self.old self.new }
     {
-        if self.has_move {
-            self.turn_to_quiets();
-            if let MovePicker::Captures(_, _) = self.picker {
-                return;
-            }
-            self.prune_quiets();
-            self.turn_to_drops();
-            self.prune_drops();
+        if !self.has_move || self.picker.is_checked(self.node.as_position()) {
+            return;
         }
+        self.turn_to_quiets();
+        if let MovePicker::Captures(_, _) = self.picker {
+            return;
+        }
+        self.prune_quiets();
+        self.turn_to_drops();
+        self.prune_drops();
     }
 
     /// Passes the current move, which is the best so far.

@@ -1,6 +1,7 @@
 //! The move picker: in which order a node's moves are visited.
 
 ghost use Rattle.std.specs.Prelude.{◌≡◌, ◌<◌, Some, None, IfSome, true, false};
+ghost use Rattle.shogi_core.specs.Attack.{in_check};
 ghost use Rattle.shogi_core.specs.Codes.{code_of};
 ghost use Rattle.shogi_moves.specs.Escapes.{AreEscapes};
 ghost use Rattle.shogi_moves.specs.CheckInfo.{IsCheckInfoOf};
@@ -165,6 +166,19 @@ impl MovePicker {
             return next_board(p, hash_move, false, sweep);
         }
         None
+    }
+
+    /// Whether the moves of a sweep over the board are under way, and it is known with it that the
+    /// side to move is in check.
+    pub fn is_checked(&self, p: &Position) -> bool
+        requires kept { IsKept p.now self.now }
+        ensures { result ≡ true → in_check p.now.cells p.now.side ≡ true }
+    {
+        let _ = p;
+        match self {
+            MovePicker::Captures(_, sweep) | MovePicker::Quiets(_, sweep) => sweep.info.checked,
+            _ => false,
+        }
     }
 
     /// Turns to the quiet moves where the captures are under way and none is left, before the first
