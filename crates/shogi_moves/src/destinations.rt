@@ -42,8 +42,8 @@ pub fn matching_destinations(p: &Position, capture: bool) -> u128
     }
 }
 
-/// Whether the move leaves the mover's king unattacked.
-fn is_unchecked(p: &Position, m: &Move) -> bool
+/// Whether the move, which is made on a board of its own, leaves the mover's king unattacked.
+pub fn is_unchecked(p: &Position, m: &Move) -> bool
     ensures { result ≡ is_unchecked p.now m.now }
 {
     !is_checked_after(p.as_board(), p.side(), m)

@@ -9,19 +9,10 @@ ghost use Rattle.shogi_moves.specs.CheckInfo.{IsCheckInfoOf};
 ghost use Rattle.shogi_moves.specs.Destinations.{is_unchecked, moves_king};
 ghost use Rattle.shogi_moves.specs.Legal.{is_pseudo_legal};
 
-use crate::after::is_checked_after;
 use crate::check_info::{CheckInfo, info_unless_checked, is_unpinned};
-use crate::destinations::is_king_safe;
+use crate::destinations::{is_king_safe, is_unchecked};
 use shogi_core::bits::cleared;
 use shogi_core::{Move, Position, Square, aligned_squares};
-
-/// Whether the move, which is made on a board of its own, leaves the king unattacked.
-#[inline(never)]
-fn is_unchecked(p: &Position, m: &Move) -> bool
-    ensures { result ≡ is_unchecked p.now m.now }
-{
-    !is_checked_after(p.as_board(), p.side(), m)
-}
 
 /// Whether what moves is a king.
 #[inline(always)]
