@@ -1,7 +1,7 @@
 //! A use of `shogi_search`.
 
 ghost use Rattle.std.specs.Prelude.{◌≡◌, ◌≤◌, IfSome};
-ghost use Rattle.shogi_search.specs.Minimax.{value, best};
+ghost use Rattle.minimax.specs.Minimax.{value, best};
 
 use shogi_core::Position;
 use shogi_eval::Eval;

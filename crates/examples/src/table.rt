@@ -1,7 +1,7 @@
 //! A use of `shared_table`.
 
 ghost use Rattle.std.specs.Prelude.{◌≡◌, ◌≤◌};
-ghost use Rattle.shogi_search.specs.Minimax.{value, best};
+ghost use Rattle.minimax.specs.Minimax.{value, best};
 
 use shared_table::SharedTable;
 use shogi_core::Position;

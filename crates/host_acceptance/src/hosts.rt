@@ -5,7 +5,7 @@ use host_core::{Event, HostFault};
 use session_slots::SessionId;
 use std::process::Abort;
 use std::test::Fail;
-use test_support::rows::{INFO_AND_BEST_ONE, INFO_THREE, joined};
+use test_support::rows::{INFO_AND_BEST_ONE, INFO_ONE, INFO_THREE, joined};
 use test_support::tables::opening;
 use test_support::{holds, same};
 
@@ -15,13 +15,13 @@ const UNKNOWN: Brief = Brief::Refused(HostFault::UnknownSession);
 
 const NOT_READY: Brief = Brief::Refused(HostFault::NotReady);
 
-// From the opening position `go depth 1` enters and leaves 31 positions, and its answer has 46 bytes.
+// From the opening position `go depth 1` takes one step, and its answer has 46 bytes.
 // What the first session searched, the second finds in the table.
 fn assert_two_sessions<R: Abort>(rt: &R, host: &mut TestHost) -> Result<SessionId, Fail> {
     let a = host.opened()?;
     let go = b"go depth 1\n".as_slice();
     let events = [Event::Feed(a, go), Event::Work(a, 62)];
-    host.expect_run(rt, &events, &[Brief::Done, Brief::Worked(4)])?;
+    host.expect_run(rt, &events, &[Brief::Done, Brief::Worked(1)])?;
     holds!(*rt; !host.pending(a) && host.wants_input(a));
 
     let b = host.opened()?;
@@ -54,7 +54,9 @@ fn two_slots_and_three_sessions(rt: HostRuntime) -> Result<(), Fail> {
     Ok(())
 }
 
-// One step less than the search has, and it continues; with the last one it is answered.
+// One step less than the searches have, and it continues; with the last one it is answered. By hand: one step
+// at depth 1. At depth 2 the root is entered, its first move is answered, no other is better, and it is left;
+// then the position after that move is answered.
 #[test]
 fn one_step_less_than_the_search(rt: HostRuntime) -> Result<(), Fail> {
     let mut host = TestHost::new(rt.alloc(), 1, 1)?;
@@ -63,16 +65,16 @@ fn one_step_less_than_the_search(rt: HostRuntime) -> Result<(), Fail> {
         &rt,
         &[
             (Event::Open, FULL),
-            (Event::Feed(id, b"go infinite depth 1\n"), Brief::Done),
+            (Event::Feed(id, b"go infinite depth 2\n"), Brief::Done),
         ],
     );
     holds!(rt; host.pending(id) && !host.wants_input(id));
-    host.expect(&rt, &[(Event::Work(id, 3), Brief::Worked(3))]);
+    host.expect(&rt, &[(Event::Work(id, 4), Brief::Worked(4))]);
     holds!(rt; host.pending(id));
-    host.output_is(&rt, id, b"");
+    host.output_is(&rt, id, INFO_ONE.as_bytes());
     host.expect(&rt, &[(Event::Work(id, 3), Brief::Worked(1))]);
     holds!(rt; !host.pending(id));
-    same!(rt; host.output(id).map(|bytes| bytes.len()), Some(32));
+    same!(rt; host.output(id).map(|bytes| bytes.len()), Some(32 + 37));
     Ok(())
 }
 
@@ -91,7 +93,7 @@ fn a_search_is_shared(rt: HostRuntime) -> Result<(), Fail> {
     let mut host = TestHost::new(rt.alloc(), 2, 100_000)?;
     let first = host.opened()?;
     host.expect(&rt, &[(Event::Feed(first, b"go depth 4\n"), Brief::Done)]);
-    holds!(rt; host.steps_of(first, u64::MAX) > Some(4));
+    holds!(rt; host.steps_of(first, u64::MAX) > Some(1));
 
     let second = host.opened()?;
     host.expect(

@@ -5,7 +5,7 @@ use Rattle.std.specs.Option.{option_copied}
 use Rattle.shogi_sfen.specs.Words.{words, after_word, GivesWord}
 use Rattle.shogi_sfen.proofs.PositionLaws.{gives_first, gives_more}
 use Rattle.shared_table.specs.declared.table.TheConstants.{CAPACITY_MAX}
-use Rattle.shogi_search.specs.declared.bounds.TheConstants.{SEARCH_DEPTH_MAX}
+use Rattle.minimax.specs.declared.bounds.TheConstants.{SEARCH_DEPTH_MAX}
 use Rattle.measure.specs.declared.request.Refusal.TheVariants.{BadDepth, BadEntries}
 use Rattle.measure.specs.declared.request.Work.TheVariants.{Perft, Search}
 use Rattle.measure.specs.Requests.{number_to, place_of, placed, perft_by, perft_of, search_by, search_of}

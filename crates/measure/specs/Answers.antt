@@ -7,7 +7,7 @@ use Rattle.shogi_core.specs.Position.{Shogi}
 use Rattle.shogi_eval.specs.declared.eval.Eval.TheVariants.{Plain}
 use Rattle.shogi_moves.specs.LegalMoves.{perft}
 use Rattle.shogi_search.specs.declared.found.Found.{Found}
-use Rattle.shogi_search.specs.Minimax.{value, best, tree_size}
+use Rattle.minimax.specs.Minimax.{value, best, tree_size}
 use Rattle.shogi_sfen.specs.MoveTexts.{text_of}
 use Rattle.shogi_sfen.specs.declared.position.SfenFault.{SfenFault}
 use Rattle.shogi_sfen.specs.declared.position.SfenFault.TheVariants.{BadBoard, BadSide, BadHand, Invalid}

@@ -8,7 +8,7 @@ use Rattle.shogi_sfen.specs.Sfen.{position_at}
 use Rattle.shogi_sfen.specs.Words.{words, after_word}
 use Rattle.shogi_sfen.specs.declared.position.SfenFault.{SfenFault}
 use Rattle.shared_table.specs.declared.table.TheConstants.{CAPACITY_MAX}
-use Rattle.shogi_search.specs.declared.bounds.TheConstants.{SEARCH_DEPTH_MAX}
+use Rattle.minimax.specs.declared.bounds.TheConstants.{SEARCH_DEPTH_MAX}
 use Rattle.measure.specs.declared.request.Refusal.{Refusal}
 use Rattle.measure.specs.declared.request.Refusal.TheVariants.{UnknownWord, BadDepth, BadEntries, BadPosition, FurtherWords}
 use Rattle.measure.specs.declared.request.Request.{Request}

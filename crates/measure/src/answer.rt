@@ -1,7 +1,7 @@
 //! What a request is answered by.
 
 ghost use Rattle.std.specs.Prelude.{◌≤◌, Some};
-ghost use Rattle.shogi_search.specs.declared.bounds.TheConstants.{SEARCH_DEPTH_MAX};
+ghost use Rattle.minimax.specs.declared.bounds.TheConstants.{SEARCH_DEPTH_MAX};
 ghost use Rattle.measure.specs.Answers.{IsReply, reply_text, best_text, count_text};
 ghost use Rattle.measure.specs.Ranges.{HasRange};
 

@@ -6,7 +6,7 @@ ghost use Rattle.std.specs.Str.{bytes_eq};
 ghost use Rattle.shogi_sfen.specs.Sfen.{position_at};
 ghost use Rattle.shogi_sfen.specs.Words.{words};
 ghost use Rattle.shared_table.specs.declared.table.TheConstants.{CAPACITY_MAX};
-ghost use Rattle.shogi_search.specs.declared.bounds.TheConstants.{SEARCH_DEPTH_MAX};
+ghost use Rattle.minimax.specs.declared.bounds.TheConstants.{SEARCH_DEPTH_MAX};
 ghost use Rattle.measure.specs.Answers.{fault_text, refusal_text};
 ghost use Rattle.measure.specs.Ranges.{HasRange};
 ghost use Rattle.measure.specs.Requests.{number_to, alone, of_sfen, place_of, placed, perft_of, search_of, request_of};

@@ -66,7 +66,7 @@ impl Trial for Slices {
 #[test]
 fn each_request_of_a_session_is_refused_in_turn(rt: HostRuntime) -> Result<(), Fail> {
     for row in [more_lines_than_moves(), three_of_a_mate(), two_plies()] {
-        for budget in [50, u64::MAX] {
+        for budget in [5, u64::MAX] {
             for stays_gone in [false, true] {
                 let met = refuse_each(&rt, rt.alloc(), &Slices { row, budget }, stays_gone)?;
                 holds!(rt; met.requests > 5, met);
@@ -107,8 +107,8 @@ impl<'a> Served<'a> {
             if !self.host.pending(first) && !self.host.pending(second) {
                 break;
             }
-            self.does(rt, Event::Work(first, 20));
-            self.does(rt, Event::Work(second, 20));
+            self.does(rt, Event::Work(first, 2));
+            self.does(rt, Event::Work(second, 2));
         }
     }
 

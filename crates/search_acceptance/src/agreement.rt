@@ -1,7 +1,7 @@
 //! The search against plain minimax, on positions of played games and two published ones.
 
 ghost use Rattle.std.specs.Prelude.{◌≤◌};
-ghost use Rattle.shogi_search.specs.declared.bounds.TheConstants.{SEARCH_DEPTH_MAX};
+ghost use Rattle.minimax.specs.declared.bounds.TheConstants.{SEARCH_DEPTH_MAX};
 
 use crate::forgetful::Forgetful;
 use crate::games;

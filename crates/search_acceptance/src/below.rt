@@ -1,8 +1,8 @@
 //! Searches below a bound: against plain minimax, the search written plainly, and themselves in slices.
 
 ghost use Rattle.std.specs.Prelude.{◌≤◌, ◌<ℤ◌, ◌≤ℤ◌};
-ghost use Rattle.shogi_search.specs.Minimax.{negated};
-ghost use Rattle.shogi_search.specs.declared.bounds.TheConstants.{SEARCH_DEPTH_MAX, INFINITY};
+ghost use Rattle.minimax.specs.Minimax.{negated};
+ghost use Rattle.minimax.specs.declared.bounds.TheConstants.{SEARCH_DEPTH_MAX, INFINITY};
 
 use crate::forgetful::Forgetful;
 use crate::games;

@@ -1,7 +1,7 @@
 //! Values, best moves and counts of steps: published ones, and those of the search written plainly.
 
 ghost use Rattle.std.specs.Prelude.{◌≤◌};
-ghost use Rattle.shogi_search.specs.declared.bounds.TheConstants.{SEARCH_DEPTH_MAX};
+ghost use Rattle.minimax.specs.declared.bounds.TheConstants.{SEARCH_DEPTH_MAX};
 
 use crate::plain::{Notes, minimax, search_plainly};
 use crate::positions::position;
@@ -16,14 +16,14 @@ use std::test::Fail;
 use test_support::{holds, same};
 
 // Another program's values and best moves: 1g1f twice, 7g7f twice, and 9g9f. By hand the steps at depths 1
-// and 2: a node is entered, its first move is valued or followed, the others are no better and passed,
-// and it is left.
+// and 2: a root of depth 1 is answered at once; one of depth 2 is entered, its first move is answered, the
+// others are no better and passed, and it is left.
 #[test]
 fn the_opening_over_no_memory(rt: HostRuntime) {
     let start = Position::start();
     for (depth, value, code, steps) in [
-        (1u8, 0, 982, Some(4u64)),
-        (2, 0, 982, Some(6)),
+        (1u8, 0, 982, Some(1u64)),
+        (2, 0, 982, Some(3)),
         (3, 200, 9838, None),
         (4, 0, 9838, None),
         (5, 200, 12790, None),
@@ -62,7 +62,7 @@ fn assert_counts<M: Memo + Drop>(
     Ok(())
 }
 
-// A table keeps nothing of leaves, as long as none was noted.
+// Over a table of this capacity.
 fn assert_counts_over(
     rt: &impl Abort,
     alloc: Global,
@@ -95,7 +95,7 @@ fn the_opening_over_no_memory_and_plainly(rt: HostRuntime) -> Result<(), Fail> {
 }
 
 #[test]
-fn the_opening_where_leaves_are_asked_for(rt: HostRuntime) -> Result<(), Fail> {
+fn the_opening_where_each_node_is_asked_for(rt: HostRuntime) -> Result<(), Fail> {
     for e in [Eval::Plain, Eval::Hand] {
         let recorder = Recorder::new(rt.alloc(), NoMemo);
         let notes = Notes::new(rt.alloc(), 0, true);

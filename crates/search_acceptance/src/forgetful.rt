@@ -24,8 +24,8 @@ impl Model for Kept {
     ghost use Rattle.std.specs.Prelude.{ℕ};
     ghost use Rattle.shogi_core.specs.Position.{Shogi};
     ghost use Rattle.shogi_eval.specs.declared.eval.Eval.{Eval};
-    ghost use Rattle.shogi_search.specs.Minimax.{IsTrueEntry};
-    ghost use Rattle.shogi_search.specs.declared.memo.Entry.{Entry};
+    ghost use Rattle.minimax.specs.Minimax.{IsTrueEntry};
+    ghost use Rattle.minimax.specs.declared.entry.Entry.{Entry};
 
     ghost Value = { Shogi × (Eval × (ℕ × Entry)) };
 

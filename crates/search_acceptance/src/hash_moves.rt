@@ -1,28 +1,30 @@
-//! What a search asks its memory, and the hash move that a child visits first.
+//! What a search asks its memory, and the hash move that a node visits first.
 
 ghost use Rattle.std.specs.Prelude.{◌≤◌};
 
 use crate::oracle::Oracle;
+use crate::plain::minimax;
 use crate::positions::{played, position};
 use crate::recorder::{Call, Recorder};
 use crate::tables::table_of;
 use shogi_core::Position;
 use shogi_eval::Eval;
+use shogi_moves::play;
 use shogi_search::{Entry, NoMemo, Search, search};
 use std::process::Abort;
 use std::test::Fail;
 use test_support::{holds, same};
 
-// The first steps go down to a leaf. Each node from the root to depth 2 is asked for at its depth and
-// then, for its best move, at the one below; the node at depth 1 and the leaf are asked for once.
+// The first steps go down to a node of depth 1. Each node from the root to depth 2 is asked for at its depth
+// and then, for its best move, at the one below; the node of depth 1 is answered without a question.
 #[test]
 fn each_node_is_asked_for_on_the_way_down(rt: HostRuntime) -> Result<(), Fail> {
-    for depth in 1..=16u8 {
+    for depth in 2..=16u8 {
         let mut search = Search::start(&Position::start(), Eval::Plain, depth);
         let mut recorder = Recorder::new(rt.alloc(), NoMemo);
-        search.advance(&mut recorder, u64::from(depth) + 1);
+        search.advance(&mut recorder, u64::from(depth));
         let calls = recorder.calls();
-        same!(rt; calls.len(), usize::from(depth) * 2, depth);
+        same!(rt; calls.len(), usize::from(depth - 1) * 2, depth);
         for (place, call) in calls.iter().enumerate() {
             let passed = place.saturating_add(1) / 2;
             same!(rt; usize::from(call.depth).saturating_add(passed), usize::from(depth));
@@ -32,23 +34,26 @@ fn each_node_is_asked_for_on_the_way_down(rt: HostRuntime) -> Result<(), Fail> {
     Ok(())
 }
 
-// After 7g7f the first move to visit is 1a1b, and after that the first one is the capture 8h3c. One ply
-// deep 8h3c+ is best there, and two plies deep 1g1f, since the bishop would be lost.
+// After 7g7f the first move to visit is 1a1b, and after that the first one is the capture 8h3c, which loses
+// the bishop: two and three plies deep another move is best there.
 #[test]
 fn a_child_visits_its_hash_move_first(rt: HostRuntime) -> Result<(), Fail> {
     let root = played(&rt, &Position::start(), "7g7f");
     let child = played(&rt, &root, "1a1b");
-    let mut bare = Recorder::new(rt.alloc(), NoMemo);
-    Search::start(&root, Eval::Plain, 3).advance(&mut bare, 3);
     let capture = played(&rt, &child, "8h3c");
-    holds!(rt; bare.calls().last().map(|call| call.position) == Some(capture));
-    for (depth, best) in [(3u8, "8h3c+"), (4, "1g1f")] {
+    let mut bare = Recorder::new(rt.alloc(), NoMemo);
+    Search::start(&root, Eval::Plain, 4).advance(&mut bare, 3);
+    let down = [(root, 4), (root, 3), (child, 3), (child, 2), (capture, 2)];
+    assert_asked(&rt, bare.calls(), &down);
+    for depth in [4u8, 5] {
         assert!(rt; depth >= 2 && depth <= 16);
         let mut table = table_of(rt.alloc(), 10000)?;
         search(&child, Eval::Plain, depth - 2, &mut table);
         let mut recorder = Recorder::new(rt.alloc(), table);
         Search::start(&root, Eval::Plain, depth).advance(&mut recorder, 3);
-        let last = played(&rt, &child, best);
+        let best = minimax(&child, Eval::Plain, depth - 2).best;
+        let last = play(&child, best.ok_or("a move")?).expect(&rt, "a legal move");
+        holds!(rt; last != capture, depth);
         let wanted = [
             (root, depth),
             (root, depth - 1),
@@ -81,10 +86,10 @@ fn the_first_capture_is_visited_first(rt: HostRuntime) -> Result<(), Fail> {
     let root = position(FACING)?;
     let capture = played(&rt, &root, "8h2b");
     let mut recorder = Recorder::new(rt.alloc(), NoMemo);
-    let found = search(&root, Eval::Plain, 2, &mut recorder);
+    let found = search(&root, Eval::Plain, 3, &mut recorder);
     holds!(rt; found.steps > 0);
-    assert_asked(&rt, recorder.calls(), &[(root, 2), (root, 1), (capture, 1)]);
-    for depth in [0, 1, 2] {
+    assert_asked(&rt, recorder.calls(), &[(root, 3), (root, 2), (capture, 2)]);
+    for depth in [0, 1, 2, 3] {
         let mut recorder = Recorder::new(rt.alloc(), NoMemo);
         search(&root, Eval::Plain, depth, &mut recorder);
         let last = recorder.calls().last().ok_or("a call")?;
@@ -94,13 +99,13 @@ fn the_first_capture_is_visited_first(rt: HostRuntime) -> Result<(), Fail> {
     Ok(())
 }
 
-// The best move one ply less deep is visited before the first capture: 8h2b+ before 8h2b.
+// The best move one ply less deep is visited before the first capture: 1g1f, two plies deep, before 8h3c.
 #[test]
 fn the_hash_move_is_visited_before_captures(rt: HostRuntime) -> Result<(), Fail> {
-    let root = position(FACING)?;
-    let best = played(&rt, &root, "8h2b+");
+    let root = played(&rt, &played(&rt, &Position::start(), "7g7f"), "1a1b");
+    let best = played(&rt, &root, "1g1f");
     let mut recorder = Recorder::new(rt.alloc(), Oracle);
-    search(&root, Eval::Plain, 2, &mut recorder);
-    assert_asked(&rt, recorder.calls(), &[(root, 2), (root, 1), (best, 1)]);
+    search(&root, Eval::Plain, 3, &mut recorder);
+    assert_asked(&rt, recorder.calls(), &[(root, 3), (root, 2), (best, 2)]);
     Ok(())
 }

@@ -17,6 +17,8 @@ mod games;
 #[cfg(test)]
 mod hash_moves;
 #[cfg(test)]
+mod last_plies;
+#[cfg(test)]
 mod lines;
 #[cfg(test)]
 mod oracle;

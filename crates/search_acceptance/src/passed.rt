@@ -3,7 +3,7 @@
 //! least, where the rule that the test is named for is left out.
 
 ghost use Rattle.std.specs.Prelude.{◌≤◌};
-ghost use Rattle.shogi_search.specs.declared.bounds.TheConstants.{SEARCH_DEPTH_MAX};
+ghost use Rattle.minimax.specs.declared.bounds.TheConstants.{SEARCH_DEPTH_MAX};
 
 use crate::plain::{Notes, branches_of, minimax, search_plainly};
 use crate::positions::position;

@@ -28,16 +28,15 @@ struct Kept {
 pub struct Notes {
     kept: Vec<Kept>,
     most: usize,
-    /// Whether each node is asked for and noted. Else a leaf that surely has a legal move is valued at
-    /// once, and of the nodes of depth 1, and of all where nothing is kept, the root alone is asked for
-    /// and noted.
+    /// Whether each node that is entered is asked for and noted, where nothing is kept too. Else there
+    /// the root alone is.
     asks_all: bool,
     /// The depth of the search.
     whole: u8,
-    /// The move that was best at the last node so many plies from the root, or cut it off, by its code.
-    /// The next node there visits it first, where nothing else is remembered.
+    /// The move that was best at the last node so many plies from the root that was entered, or cut it
+    /// off, by its code. The next node there visits it first, where nothing else is remembered.
     replies: [Option<u16>; 17],
-    /// Nodes entered, nodes left, and children that a note answered.
+    /// Nodes entered, nodes left, and nodes answered by a note or at once.
     pub steps: u64,
     /// Questions and notes.
     pub calls: usize,
@@ -78,9 +77,14 @@ impl Notes {
         }
     }
 
-    /// Whether a child of the depth is asked for, and noted unless it is a leaf.
+    /// Whether nodes of the depth below the root are worth a note.
     fn serves(&self, depth: u8) -> bool {
-        self.asks_all || depth == 0 || (depth > 1 && self.most > 0)
+        self.asks_all || depth > 2 && self.most > 0
+    }
+
+    /// Whether a node of the depth is asked for its best move one ply less deep.
+    fn has_hash_move(&self, depth: u8) -> bool {
+        depth == self.whole || depth > 0 && self.serves(depth - 1)
     }
 
     /// Where the note of the position under the evaluation at the depth is.
@@ -501,7 +505,25 @@ fn is_cutoff(entry: &Known, alpha: i32, beta: i32) -> bool {
     }
 }
 
-/// Enters a node, goes through its moves, and leaves it; notes all below it.
+/// What is known at once of a node with one ply left or none, within a window. A value that is no more
+/// than the lower end is known to be that, and a loss only where the material is more than it.
+fn at_once(p: &Position, e: Eval, depth: u8, alpha: i32, beta: i32) -> Known {
+    let found = minimax(p, e, depth);
+    let best = found.best.map(|m| m.code());
+    if depth == 0 {
+        return Known::Exact(found.value, best);
+    }
+    if found.value >= beta {
+        return Known::AtLeast(found.value);
+    }
+    if found.value <= alpha && (best.is_some() || material(p, e) <= alpha) {
+        return Known::AtMost(alpha);
+    }
+    Known::Exact(found.value, best)
+}
+
+/// Enters a node, goes through its moves, and leaves it; notes all below it. A node with one ply left
+/// or none is answered at once.
 fn visit(
     alloc: Global,
     p: &Position,
@@ -511,18 +533,16 @@ fn visit(
     beta: i32,
     notes: &mut Notes,
 ) -> Result<Known, AllocError> {
-    notes.step(2);
-    if depth == 0 {
-        return Ok(Known::Exact(leaf(p, e), None));
+    if depth < 2 {
+        notes.step(1);
+        return Ok(at_once(p, e, depth, alpha, beta));
     }
+    notes.step(2);
     let below = depth - 1;
-    let mut hash_move = None;
-    if depth > 1 {
-        if let Some(Known::Exact(_, best)) = notes.ask(p, e, below)? {
-            hash_move = best;
-        }
-        if hash_move.is_none() {
-            hash_move = notes.reply_at(depth);
+    let mut hash_move = notes.reply_at(depth);
+    if notes.has_hash_move(depth) {
+        if let Some(Known::Exact(_, Some(best))) = notes.ask(p, e, below)? {
+            hash_move = Some(best);
         }
     }
     let branches = branches_of(alloc, p, hash_move)?;
@@ -538,17 +558,11 @@ fn visit(
             if branch.turn != turn {
                 continue;
             }
-            let is_known = depth == 1 && branch.is_answered && !notes.asks_all;
-            let is_left_out = match depth {
-                1 => is_known && i32::saturating_sub(0, material(&branch.position, e)) <= threshold,
-                2 => outlook.leaves_out(p, branch, e, beta, threshold),
-                _ => false,
-            };
-            if is_left_out {
+            if depth == 2 && outlook.leaves_out(p, branch, e, beta, threshold) {
                 outlook.has_weak = true;
             } else {
                 let (under, over) = (beta.saturating_neg(), threshold.saturating_neg());
-                let is_asked = !is_known && notes.serves(below);
+                let is_asked = below > 1 && notes.serves(below);
                 let answer = if is_asked {
                     notes.answer(&branch.position, e, below, under, over)?
                 } else {
@@ -558,7 +572,7 @@ fn visit(
                     Some(entry) => entry,
                     None => {
                         let entry = visit(alloc, &branch.position, e, below, under, over, notes)?;
-                        if below > 0 && is_asked {
+                        if is_asked {
                             let noted = entry;
                             notes.note(&branch.position, e, below, noted)?;
                         }

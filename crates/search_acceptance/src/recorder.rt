@@ -23,7 +23,7 @@ pub struct Recorder<M: Memo> {
 }
 
 impl<M: Memo> Recorder<M> {
-    /// One that is asked at every depth.
+    /// One that each depth serves.
     pub fn new(alloc: Global, memo: M) -> Recorder<M> {
         Recorder {
             memo,
@@ -32,7 +32,7 @@ impl<M: Memo> Recorder<M> {
         }
     }
 
-    /// One that is asked only at the depths that serve the other memory.
+    /// One that the depths serve that serve the other memory.
     pub fn sparing(alloc: Global, memo: M) -> Recorder<M> {
         Recorder {
             memo,
@@ -49,10 +49,6 @@ impl<M: Memo> Recorder<M> {
 
 impl<M: Memo> Memo for Recorder<M> {
     ghost answers = { λ recorder p e d. M.answers recorder.memo p e d };
-
-    fn keeps(&self, d: u8) -> bool {
-        self.asks_all || self.memo.keeps(d)
-    }
 
     fn serves(&self, d: u8) -> bool {
         self.asks_all || self.memo.serves(d)

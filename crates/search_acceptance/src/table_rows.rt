@@ -1,7 +1,7 @@
 //! A shared table: what it stores, forgets and finds, and its size.
 
 ghost use Rattle.std.specs.Prelude.{◌≤◌};
-ghost use Rattle.shogi_search.specs.declared.bounds.TheConstants.{SEARCH_DEPTH_MAX};
+ghost use Rattle.minimax.specs.declared.bounds.TheConstants.{SEARCH_DEPTH_MAX};
 
 use linked_list_allocator::LocalHeap;
 use lru::DefaultHasher;

@@ -1,7 +1,7 @@
 //! What a search leaves in a table, and what it finds there.
 
 ghost use Rattle.std.specs.Prelude.{◌≤◌};
-ghost use Rattle.shogi_search.specs.declared.bounds.TheConstants.{SEARCH_DEPTH_MAX};
+ghost use Rattle.minimax.specs.declared.bounds.TheConstants.{SEARCH_DEPTH_MAX};
 ghost use Rattle.shared_table.specs.declared.table.TheConstants.{CAPACITY_MAX};
 
 use crate::positions::position;
@@ -91,8 +91,8 @@ fn steps_over_children(alloc: Global, root: &Position, depth: u8) -> Result<u64,
     Ok(search(root, Eval::Plain, depth + 1, &mut table).steps)
 }
 
-// So many moves of the root are legal, and over known children all of these are answered. At depth 2 the
-// table is not asked for them.
+// So many moves of the root are legal, and over known children all of these are answered. A root of depth 1
+// is answered at once, and at depths 2 and 3 the table is not asked for the children.
 fn assert_answered(
     rt: &impl Abort,
     alloc: Global,
@@ -104,10 +104,10 @@ fn assert_answered(
 {
     same!(*rt; children(alloc, root)?.len(), count);
     for depth in 0..depths {
-        let wanted = if depth == 1 {
-            search(root, Eval::Plain, 2, &mut NoMemo).steps
-        } else {
-            (count as u64).saturating_add(2)
+        let wanted = match depth {
+            0 => 1,
+            1 | 2 => search(root, Eval::Plain, depth + 1, &mut NoMemo).steps,
+            _ => (count as u64).saturating_add(2),
         };
         same!(*rt; steps_over_children(alloc, root, depth)?, wanted, depth);
     }
@@ -121,45 +121,39 @@ fn children_searched_before(rt: HostRuntime) -> Result<(), Fail> {
     assert_answered(&rt, rt.alloc(), &position(HEMMED_IN)?, 5, 4)
 }
 
-/// What a search one ply deeper left of the positions after each move: how many entries there are,
-/// and how many of them are exact.
-fn left_of(alloc: Global, root: &Position, depth: u8) -> Result<(usize, usize), Fail>
+/// How many entries a search one ply deeper left of the positions after each move.
+fn left_of(alloc: Global, root: &Position, depth: u8) -> Result<usize, Fail>
     requires { depth ≤ 15 }
 {
     let mut table = table_of(alloc, 100000)?;
     search(root, Eval::Plain, depth + 1, &mut table);
-    let (mut entries, mut exact) = (0usize, 0usize);
+    let mut entries = 0usize;
     let after = children(alloc, root)?;
     for p in after.as_slice() {
-        match table.peek(p, Eval::Plain, depth) {
-            Some(Entry::Exact(_, _)) => {
-                entries = entries.saturating_add(1);
-                exact = exact.saturating_add(1);
-            }
-            Some(_) => entries = entries.saturating_add(1),
-            None => {}
+        if table.peek(p, Eval::Plain, depth).is_some() {
+            entries = entries.saturating_add(1);
         }
     }
-    Ok((entries, exact))
+    Ok(entries)
 }
 
-// Another program counted the exact ones after three plies.
 #[test]
 fn children_left_in_the_table(rt: HostRuntime) -> Result<(), Fail> {
     let start = Position::start();
-    same!(rt; left_of(rt.alloc(), &start, 2)?, (30, 2));
-    same!(rt; left_of(rt.alloc(), &start, 3)?.0, 30);
+    same!(rt; left_of(rt.alloc(), &start, 3)?, 30);
     let pawns = position(TWO_PAWNS)?;
-    for depth in 2..8u8 {
-        same!(rt; left_of(rt.alloc(), &pawns, depth)?.0, 5, depth);
+    for depth in 3..8u8 {
+        same!(rt; left_of(rt.alloc(), &pawns, depth)?, 5, depth);
     }
     let hemmed_in = position(HEMMED_IN)?;
-    for depth in 2..4u8 {
-        same!(rt; left_of(rt.alloc(), &hemmed_in, depth)?.0, 5, depth);
+    for depth in 3..5u8 {
+        same!(rt; left_of(rt.alloc(), &hemmed_in, depth)?, 5, depth);
     }
-    // Of the nodes of depth 1 only a root is noted.
+    // Of the nodes of depths 1 and 2 only a root is noted.
     for root in [start, pawns, hemmed_in] {
-        same!(rt; left_of(rt.alloc(), &root, 1)?.0, 0);
+        for depth in [1, 2] {
+            same!(rt; left_of(rt.alloc(), &root, depth)?, 0, depth);
+        }
     }
     Ok(())
 }

@@ -1,7 +1,7 @@
 //! Searches in slices: two by turns, and the calls of one that makes a step at a time.
 
 ghost use Rattle.std.specs.Prelude.{◌≤◌};
-ghost use Rattle.shogi_search.specs.declared.bounds.TheConstants.{SEARCH_DEPTH_MAX};
+ghost use Rattle.minimax.specs.declared.bounds.TheConstants.{SEARCH_DEPTH_MAX};
 
 use crate::oracle::Oracle;
 use crate::recorder::Recorder;

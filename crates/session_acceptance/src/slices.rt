@@ -89,8 +89,8 @@ fn assert_every_budget(rt: &impl Abort, alloc: Global, row: &Row, load: u64) -> 
 
 // The loads are counts of the whole tree: 31 positions at depth 1, 931 at depth 2 and 26,401 at depth 3,
 // each counted twice, for every search along the best lines. With two lines each of the 30 positions after a
-// move is entered and left: 60 steps at depth 1. At depth 2 each has 31 positions below it, so 60 times 31
-// steps, and again 62 after each of the two moves that are listed.
+// move counts twice at depth 1: 60. At depth 2 each is the root of a tree of 31, so that they count 60 times
+// 31, and again 62 after each of the two moves that are listed.
 #[test]
 fn every_budget_gives_the_same_bytes_and_steps(rt: HostRuntime) -> Result<(), Fail> {
     let [one, two, three] = sliced();
@@ -126,20 +126,28 @@ fn assert_steps(
     Ok(())
 }
 
-// The opening position is entered, its first move is valued in two steps, no other is better, and it is left:
-// 4 steps. A budget of 3 leaves the last one to be made. With no budget the lines before a search are
-// answered, and no step is made.
+// By hand: at depth 1 the opening position is answered in one step. At depth 2 it is entered, its first move
+// is answered, no other is better, and it is left; then the position after that move is answered: 4 steps.
+// A budget of 3 leaves the last one to be made. With no budget the lines before a search are answered, and no
+// step is made.
 #[test]
-fn depth_one_takes_four_steps(rt: HostRuntime) -> Result<(), Fail> {
-    let mut session = fed(rt.alloc(), "isready\ngo depth 1\n")?;
+fn two_depths_take_five_steps(rt: HostRuntime) -> Result<(), Fail> {
+    let mut session = fed(rt.alloc(), "isready\ngo depth 2\n")?;
     let ready = "readyok\n";
-    let all = "readyok\ninfo depth 1 score cp 0 pv 1g1f\nbestmove 1g1f\n";
+    let one = "readyok\ninfo depth 1 score cp 0 pv 1g1f\n";
+    let all = "readyok
+info depth 1 score cp 0 pv 1g1f
+info depth 2 score cp 0 pv 1g1f 1a1b
+bestmove 1g1f ponder 1a1b
+";
     holds!(rt; !session.wants_input());
     for (budget, steps, pending, queued) in [
         (0, 0, true, ready),
         (0, 0, true, ready),
-        (3, 3, true, ready),
-        (0, 0, true, ready),
+        (1, 1, true, one),
+        (0, 0, true, one),
+        (3, 3, true, one),
+        (0, 0, true, one),
         (5, 1, false, all),
         (5, 0, false, all),
     ] {
@@ -211,9 +219,9 @@ fn searches_cut_anywhere(rt: HostRuntime) -> Result<(), Fail> {
     };
     for (row, multiple) in [
         (held, 1),
-        (more_lines_than_moves(), 3),
+        (more_lines_than_moves(), 1),
         (three_of_a_mate(), 31),
-        (two_plies(), 61),
+        (two_plies(), 7),
     ] {
         assert_cut_anywhere(&rt, rt.alloc(), &row, multiple)?;
     }

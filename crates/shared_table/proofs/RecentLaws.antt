@@ -1,16 +1,15 @@
 -- The list of the most recently used pairs, as `lru` keeps it and as the table means it.
-use Rattle.std.proofs.Common.{◌≡◌, ◌∙◌, ◌≤◌, ◌+◌, ◌-◌, ◌⊎◌, ℕ, zero, suc, Bool, true, false, cond, List, [], ◌∷◌, Option, Some, None, Contains, ◌^◌, ◌==◌, IfSome, IfOk, eq-eqb, IsSome, IsOk, OnOk, OnErr, Result, Ok, Err, ◌<◌, refl, sym, ap, subst, inl, inr, arith, length, take, option_map}
+use Rattle.std.proofs.Common.{◌≡◌, ◌∙◌, ◌≤◌, ◌+◌, ◌-◌, ◌⊎◌, ℕ, zero, suc, Bool, true, false, cond, List, [], ◌∷◌, Option, Some, None, Contains, IfSome, IsSome, IsOk, OnOk, OnErr, Result, Ok, Err, ◌<◌, refl, sym, ap, subst, inl, inr, arith, length, take, option_map}
 use Rattle.std.specs.Map.{lookup, lookup_entry, remove_entry}
-use Rattle.std.specs.Prelude.{slice_get}
 use Rattle.std.proofs.lemmas.List.{take_all}
-use Rattle.lru.specs.LruCache.{LruCache, lru_cache, promoted, displaced, put_entries}
+use Rattle.lru.specs.LruCache.{LruCache, lru_cache, promoted, put_entries}
 use Rattle.lru.proofs.CallerLemmas.{Contains-lookup, Contains-lookup_entry, Contains-promoted, Contains-remove_entry, Contains-take}
 use Rattle.lru.proofs.Splits.{Contains-cons}
-use Rattle.shogi_search.specs.declared.memo.Entry.{Entry}
-use Rattle.shogi_search.specs.Minimax.{IsTrueEntry}
+use Rattle.minimax.specs.declared.entry.Entry.{Entry}
+use Rattle.minimax.specs.Minimax.{IsTrueEntry}
 use Rattle.shared_table.specs.KeyLaws.{key_same}
 use Rattle.shared_table.specs.Keys.{Key, is_same_key}
-use Rattle.shared_table.specs.Recent.{AreTrue, IsNoted, IsTable, Pair, Table, entry_of, table_of, is_leaf, leaf_count, leaf_of, noted, probed, without}
+use Rattle.shared_table.specs.Recent.{AreTrue, IsNoted, IsTable, Pair, Table, entry_of, table_of, noted, probed, without}
 
 -- keys that pass the test are one
 one_key : (a b : Key) → is_same_key a b ≡ true → b ≡ a
@@ -88,86 +87,14 @@ found_true pairs key (Some entry) all is =
     let at = Contains-lookup (is_same_key key) pairs entry (sym is) in
     subst (λ (k : Key). IsTrueEntry k.position k.eval k.depth entry) (one_key key at.0 at.2) (all at.0 entry at.1)
 
--- a found pair and those without it have the leaves of all
-leaves-without : (test : Key → Bool) (pairs : List Pair) (found : Pair) → lookup_entry test pairs ≡ Some found
-    → cond (is_leaf found) 1 0 + leaf_count (remove_entry test pairs) ≡ leaf_count pairs
-leaves-without test [] found e = cc
-leaves-without test (pair ∷ pairs) found e = go (test pair.0) e (leaves-without test pairs found)
-  where
-    go : (b : Bool) → cond b (Some pair) (lookup_entry test pairs) ≡ Some found
-        → (lookup_entry test pairs ≡ Some found → cond (is_leaf found) 1 0 + leaf_count (remove_entry test pairs) ≡ leaf_count pairs)
-        → cond (is_leaf found) 1 0 + leaf_count (cond b pairs (pair ∷ remove_entry test pairs)) ≡ leaf_count (pair ∷ pairs)
-    go true h rest = let same : pair ≡ found = cc in rw (← same) refl
-    go false h rest = let shorter = rest h in omega arith
-
--- a list that is one too long at most loses its last pair's leaf
-leaves-take : (n : ℕ) (pairs : List Pair) → length pairs ≤ n + 1
-    → leaf_count (take n pairs) + leaf_of (slice_get pairs n) ≡ leaf_count pairs
-leaves-take zero [] fits = refl
-leaves-take (suc n) [] fits = refl
-leaves-take zero (pair ∷ []) fits = omega arith
-leaves-take zero (pair ∷ next ∷ pairs) fits = absurd (omega arith)
-leaves-take (suc n) (pair ∷ pairs) fits = let rest = leaves-take n pairs (omega arith) in omega arith
-
--- after a put the leaves are those before, the put one's, and not the one that is gone
-pub leaves-put : (key : Key) (entry : Entry) (pairs : List Pair) (capacity : ℕ) → 0 < capacity → length pairs ≤ capacity
-    → leaf_count (put_entries is_same_key (lru_cache pairs capacity) key entry) + leaf_of (displaced is_same_key (lru_cache pairs capacity) key entry)
-    ≡ leaf_count pairs + cond (key.depth == 0) 1 0
-leaves-put key entry pairs capacity room fits = go (lookup_entry (is_same_key key) pairs) refl
-  where
-    go : (o : Option Pair) → lookup_entry (is_same_key key) pairs ≡ o
-        → leaf_count (put_entries is_same_key (lru_cache pairs capacity) key entry) + leaf_of (displaced is_same_key (lru_cache pairs capacity) key entry)
-        ≡ leaf_count pairs + cond (key.depth == 0) 1 0
-    go None e =
-        let taken = leaves-take (capacity - 1) pairs (omega arith) in
-        rw (lookup-entry (is_same_key key) pairs, e) (omega (arith, taken))
-    go (Some found) e =
-        let same : found.0 ≡ key = one_key key found.0 (Contains-lookup_entry (is_same_key key) pairs found e).1 in
-        let without = leaves-without (is_same_key key) pairs found e in
-        rw (lookup-entry (is_same_key key) pairs, e, ← same) (omega (arith, without))
-
--- the count after a put, or after none
-pub leaves_after : {E : Type 0} (key : Key) (entry : Entry) (old new : LruCache Key Entry) (r : Result (Option Pair) E) (lost : Option Pair)
-    → 0 < old.cap → length old.entries ≤ old.cap → r ≡ Ok lost
-    → OnOk r (new ≡ lru_cache (put_entries is_same_key old key entry) old.cap)
-    → IfOk r (λ (x : Option Pair). x ≡ displaced is_same_key old key entry)
-    → leaf_count new.entries + leaf_of lost ≡ leaf_count old.entries + cond (key.depth == 0) 1 0
-leaves_after key entry old new (Ok x) lost room fits was ok out =
-    let same : x ≡ lost = cc in
-    rw (ok, ← same, out) (leaves-put key entry old.entries old.cap room fits)
-leaves_after key entry old new (Err x) lost room fits was ok out = cc
-
 -- a probe keeps what holds of the table
-pub table_probed : (key : Key) (pairs : List Pair) (capacity leaves : ℕ) → IsTable pairs capacity leaves
-    → IsTable (promoted (is_same_key key) pairs) capacity leaves
-table_probed key pairs capacity leaves t = record {
+pub table_probed : (key : Key) (pairs : List Pair) (capacity : ℕ) → IsTable pairs capacity
+    → IsTable (promoted (is_same_key key) pairs) capacity
+table_probed key pairs capacity t = record {
   truth = λ k e at. t.truth k e (Contains-promoted (is_same_key key) pairs (k, e) at);
-  counted = t.counted ∙ sym (go (lookup_entry (is_same_key key) pairs) refl);
   least = t.least;
   most = t.most;
 }
-  where
-    go : (o : Option Pair) → lookup_entry (is_same_key key) pairs ≡ o → leaf_count (promoted (is_same_key key) pairs) ≡ leaf_count pairs
-    go None e = rw e refl
-    go (Some found) e = rw e (leaves-without (is_same_key key) pairs found e)
-
--- where no entry has depth 0, none is found there
-pub no_leaf_found : (key : Key) (pairs : List Pair) → 0 ≡ leaf_count pairs → key.depth ≡ 0 → None ≡ entry_of pairs key
-no_leaf_found key pairs none leaf = rw (lookup-entry (is_same_key key) pairs) (go (lookup_entry (is_same_key key) pairs) refl)
-  where
-    go : (o : Option Pair) → lookup_entry (is_same_key key) pairs ≡ o → None ≡ option_map (λ p. p.1) (lookup_entry (is_same_key key) pairs)
-    go None e = rw e refl
-    go (Some found) e =
-        let same : found.0 ≡ key = one_key key found.0 (Contains-lookup_entry (is_same_key key) pairs found e).1 in
-        let depth : found.0.depth ≡ 0 = ap (λ (k : Key). k.depth) same ∙ leaf in
-        let is : is_leaf found ≡ true = eq-eqb found.0.depth 0 depth in
-        let count : cond (is_leaf found) 1 0 + leaf_count (remove_entry (is_same_key key) pairs) ≡ leaf_count pairs = leaves-without (is_same_key key) pairs found e in
-        let more : 1 + leaf_count (remove_entry (is_same_key key) pairs) ≡ leaf_count pairs = rw is at count in
-        absurd (omega arith)
-
--- a probe that finds nothing leaves the list
-pub probed_none : (key : Key) (pairs : List Pair) → None ≡ entry_of pairs key → probed key pairs ≡ pairs
-probed_none key pairs none = rw (← none) refl
 
 -- what `lru` answers to a put is what the table means by a note, or nothing changed since an allocation failed
 pub put_or_not : {T E : Type 0} (key : Key) (entry : Entry) (old new : LruCache Key Entry) (r : Result T E)
@@ -193,15 +120,15 @@ noted_pair capacity key entry pairs pair at =
     ]
 
 -- a note of a true entry keeps what holds of the table
-pub table_noted : (key : Key) (entry : Entry) (old new : LruCache Key Entry) (was is : ℕ)
-    → IsTable old.entries old.cap was → IsTrueEntry key.position key.eval key.depth entry → is ≡ leaf_count new.entries
+pub table_noted : (key : Key) (entry : Entry) (old new : LruCache Key Entry)
+    → IsTable old.entries old.cap → IsTrueEntry key.position key.eval key.depth entry
     → IsNoted (table_of old) key entry (table_of new)
-    → IsTable new.entries new.cap is
-table_noted key entry old new was is t true_entry counted (inr same) =
+    → IsTable new.entries new.cap
+table_noted key entry old new t true_entry (inr same) =
     let pairs : new.entries ≡ old.entries = ap (λ (x : Table). x.pairs) same.1 in
     let capacity : new.cap ≡ old.cap = ap (λ (x : Table). x.capacity) same.1 in
-    record { truth = rw pairs t.truth; counted = counted; least = rw capacity t.least; most = rw capacity t.most }
-table_noted key entry old new was is t true_entry counted (inl same) =
+    record { truth = rw pairs t.truth; least = rw capacity t.least; most = rw capacity t.most }
+table_noted key entry old new t true_entry (inl same) =
     let pairs : new.entries ≡ noted old.cap key entry old.entries = ap (λ (x : Table). x.pairs) same in
     let capacity : new.cap ≡ old.cap = ap (λ (x : Table). x.capacity) same in
     record {
@@ -209,19 +136,6 @@ table_noted key entry old new was is t true_entry counted (inl same) =
         | inl here ↦ subst (λ (p : Pair). IsTrueEntry p.0.position p.0.eval p.0.depth p.1) (sym here) true_entry
         | inr there ↦ t.truth k e there
       ]);
-      counted = counted;
       least = rw capacity t.least;
       most = rw capacity t.most;
     }
-
-tally_le : (b : Bool) → cond b 1 0 ≤ 1
-tally_le true = omega arith
-tally_le false = omega arith
-
-leaf_count_le : (pairs : List Pair) → leaf_count pairs ≤ length pairs
-leaf_count_le [] = omega arith
-leaf_count_le (pair ∷ pairs) = omega (arith, leaf_count_le pairs, tally_le (is_leaf pair))
-
--- there is room to count one more leaf
-pub leaf_fits : (pairs : List Pair) (b : Bool) → length pairs < 2 ^ 63 → leaf_count pairs + cond b 1 0 < 2 ^ 64
-leaf_fits pairs b fits = omega (arith, leaf_count_le pairs, tally_le b)

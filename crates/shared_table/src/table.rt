@@ -1,13 +1,13 @@
 //! The table: a bounded map whose entries are ordered by their last use.
 
-ghost use Rattle.std.specs.Prelude.{◌≡◌, ◌≤◌, ◌↔◌, IsTrue, ◌==◌, ◌&&◌, not, cond, [], length, IfOk, false};
+ghost use Rattle.std.specs.Prelude.{◌≡◌, ◌≤◌, ◌↔◌, IsTrue, [], length, IfOk};
 ghost use Rattle.std.specs.List.{IsDistinct};
 ghost use Rattle.std.specs.Map.{keys_of};
 ghost use Rattle.std.specs.Map.Iter.{ShowsInOrder, deref_pair};
 ghost use Rattle.shared_table.specs.Keys.{is_same_key, key_of};
-ghost use Rattle.shared_table.specs.Recent.{AreTrue, HasNoneAt, IsNoted, entry_of, leaf_count, leaf_of, recalled, table_of, with_probe};
+ghost use Rattle.shared_table.specs.Recent.{AreTrue, IsNoted, entry_of, recalled, table_of, with_probe};
 ghost use Rattle.shared_table.specs.declared.table.TheConstants.{CAPACITY_MAX};
-ghost use Rattle.shogi_search.specs.declared.bounds.TheConstants.{SEARCH_DEPTH_MAX};
+ghost use Rattle.minimax.specs.declared.bounds.TheConstants.{SEARCH_DEPTH_MAX};
 ghost use Rattle.shared_table.specs.declared.table.TableFault.TheVariants.{OutOfMemory};
 
 use crate::key::TableKey;
@@ -43,8 +43,6 @@ impl From<AllocError> for TableFault {
 #[derive(Drop)]
 pub struct SharedTable<S: BuildHasher, A: Allocator> {
     cache: LruCache<TableKey, Entry, S, A>,
-    // How many entries have depth 0.
-    leaves: usize,
 }
 
 impl<S: BuildHasher, A: Allocator> Model for SharedTable<S, A> {
@@ -54,7 +52,7 @@ impl<S: BuildHasher, A: Allocator> Model for SharedTable<S, A> {
 
     ghost view = { λ t. table_of t.cache };
 
-    ghost invariant = { λ t. IsTable t.cache.entries t.cache.cap t.leaves };
+    ghost invariant = { λ t. IsTable t.cache.entries t.cache.cap };
 }
 
 impl<S: BuildHasher + Drop, A: Allocator + Clone> SharedTable<S, A> {
@@ -66,7 +64,7 @@ impl<S: BuildHasher + Drop, A: Allocator + Clone> SharedTable<S, A> {
     {
         let bound = NonZeroUsize::new(capacity).unwrap();
         let cache = LruCache::with_hasher(alloc, bound, hasher)?;
-        Ok(SharedTable { cache, leaves: 0 })
+        Ok(SharedTable { cache })
     }
 }
 
@@ -80,7 +78,7 @@ impl<S: BuildHasher, A: Allocator> SharedTable<S, A> {
         ensures most { self.now.capacity ≤ CAPACITY_MAX }
         ensures truth { AreTrue self.now.pairs }
     {
-        let _ = &self.leaves;
+        let _ = &self.cache;
         self.len();
     }
 
@@ -113,25 +111,17 @@ impl<S: BuildHasher, A: Allocator> SharedTable<S, A> {
 
 impl<S: BuildHasher, A: Allocator + Clone> Memo for SharedTable<S, A> {
     ghost use Rattle.std.specs.Prelude.{IfSome};
-    ghost use Rattle.shogi_search.specs.Minimax.{IsTrueEntry};
+    ghost use Rattle.minimax.specs.Minimax.{IsTrueEntry};
 
     ghost answers = { λ table p e d. entry_of table.pairs (key_of p e d) };
 
     ghost capacity = { λ table. table.capacity };
 
-    /// Depth 0 only while an entry of that depth is held, and every other depth.
-    fn keeps(&self, d: u8) -> bool
-        ensures none { result ≡ false → HasNoneAt self.now.pairs d }
-        ensures kept { result ≡ not (d == 0 && leaf_count self.now.pairs == 0) }
-    {
-        d > 0 || self.leaves > 0
-    }
-
-    /// From depth 2 on: a node of depth 1 is searched about as fast as it is looked up.
+    /// From depth 3 on: a node of depth 2 is searched about as fast as it is looked up.
     fn serves(&self, d: u8) -> bool
-        ensures { IsTrue result ↔ (2 ≤ d) }
+        ensures { IsTrue result ↔ (3 ≤ d) }
     {
-        d >= 2
+        d >= 3
     }
 
     fn probe(&mut self, p: &Position, e: Eval, d: u8) -> Option<Entry>
@@ -140,9 +130,6 @@ impl<S: BuildHasher, A: Allocator + Clone> Memo for SharedTable<S, A> {
         ensures used { self.new ≡ with_probe self.old (key_of p.now e d) }
         ensures capacity { self.new.capacity ≡ self.old.capacity }
     {
-        if d == 0 && self.leaves == 0 {
-            return None;
-        }
         let key = TableKey::of(p, e, d);
         recall(&mut self.cache, &key)
     }
@@ -154,8 +141,7 @@ impl<S: BuildHasher, A: Allocator + Clone> Memo for SharedTable<S, A> {
         ensures capacity { self.new.capacity ≡ self.old.capacity }
     {
         let key = TableKey::of(p, e, d);
-        let leaves = remember(&mut self.cache, self.leaves, key, entry);
-        self.leaves = leaves;
+        remember(&mut self.cache, key, entry);
     }
 }
 
@@ -170,39 +156,14 @@ fn recall<S: BuildHasher, A: Allocator>(
     cache.get(key).copied()
 }
 
-// Puts the entry under the key, or leaves all as it is where a new key finds no memory. Gives the
-// number of entries of depth 0.
+// Puts the entry under the key, or leaves all as it is where a new key finds no memory.
 fn remember<S: BuildHasher, A: Allocator + Clone>(
     cache: &mut LruCache<TableKey, Entry, S, A>,
-    leaves: usize,
     key: TableKey,
     entry: Entry,
-) -> usize
-    requires { leaves ≡ leaf_count cache.old.entries }
-    ensures noted { IsNoted (table_of cache.old) key entry (table_of cache.new) }
-    ensures leaves { result ≡ leaf_count cache.new.entries }
+)
+    ensures { IsNoted (table_of cache.old) key entry (table_of cache.new) }
 {
     cache.len();
-    let added = tally(&key);
-    match cache.push(key, entry) {
-        Ok(lost) => leaves + added - leaf(&lost),
-        Err(_) => leaves,
-    }
-}
-
-// One where there is a pair and it has depth 0.
-fn leaf(pair: &Option<(TableKey, Entry)>) -> usize
-    ensures { result ≡ leaf_of pair.now }
-{
-    match pair {
-        Some((key, _)) => tally(key),
-        None => 0,
-    }
-}
-
-// One for a key of depth 0.
-fn tally(key: &TableKey) -> usize
-    ensures { result ≡ cond (key.now.depth == 0) 1 0 }
-{
-    if key.depth() == 0 { 1 } else { 0 }
+    let _ = cache.push(key, entry);
 }

@@ -255,6 +255,13 @@ far_move p sight around promotes a n ha hn kings own still unseen apart zone r =
       plain = λ never. stays_plain p.side (piece_at p.cells a) a n own (off_zone_near p.side a a (zone never) (omega arith) (omega arith)) (off_zone_near p.side a n (zone never) close.above close.below);
     }
 
+-- what does not slide and is far from the zone cannot promote
+pub far_plain : (p : Shogi) (a n : ℕ) → a < 81 → n < 81 → is_piece_of p.side (piece_at p.cells a) ≡ true → is_slider (piece_at p.cells a) ≡ false → is_near_zone p.side a ≡ false → reaches p.cells a n ≡ true → may_promote (piece_at p.cells a) a n ≡ false
+far_plain p a n ha hn own still far r =
+    let step : is_near n a ≡ true = elim (reaches_near p.cells a n ha r) [ inl beside ↦ beside | inr slides ↦ absurd (both_ways (is_slider (piece_at p.cells a)) still slides.0) ] in
+    let close : IsClose a n = near_close a n ha hn step in
+    stays_plain p.side (piece_at p.cells a) a n own (off_zone_near p.side a a far (omega arith) (omega arith)) (off_zone_near p.side a n far close.above close.below)
+
 -- one of the squares that is out of all three masks
 pub out_of_all : (own x y z a : ℕ) → a < 81 → bit_or (bit_or x y) z < 2 ^ 128 → has_bit (bit_and own (2 ^ 128 - 1 - bit_or (bit_or x y) z)) a ≡ true
     → (has_bit own a ≡ true) × (has_bit x a ≡ false) × (has_bit y a ≡ false) × (has_bit z a ≡ false)

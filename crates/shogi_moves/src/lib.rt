@@ -32,12 +32,16 @@ pub use after::{advance, apply};
 pub use attack::{in_check, is_attacked};
 pub use check_info::{CheckInfo, check_info_of};
 pub use count::perft;
-pub use destinations::Destinations;
+pub use destinations::{
+    Destinations, drop_destinations, drop_squares, enterable, legal_destinations,
+};
 pub use escapes::{escape_squares, king_takes, leaves_escape, leaves_king_move};
-pub use existence::has_legal;
+pub use existence::{has_board_move, has_legal};
 pub use legal::{is_legal, play, play_in_place};
+pub use movers::takers;
 pub use next::next_legal;
 pub use replies::Replies;
 pub use sweep::{BoardSweep, DropSweep};
 pub use threats::{threatened_by, unpinnable_pieces};
 pub use walk::Walk;
+pub use zones::{promoting_squares, squares_near_zone};

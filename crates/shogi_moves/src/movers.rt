@@ -66,6 +66,16 @@ pub fn movers(p: &Position, capture: bool, pieces: u128) -> u128
     pieces & (board.sliders() | squares_near(board.own(p.side().opponent())))
 }
 
+/// Those of the pieces that may take something.
+pub fn takers(p: &Position, pieces: u128) -> u128
+    requires { pieces < 2 ^ 81 }
+    ensures within { IsWithin result pieces }
+    ensures none { HasMovers p.now true pieces result }
+    ensures fits { result < 2 ^ 81 }
+{
+    movers(p, true, pieces)
+}
+
 /// All squares around the kings of the side.
 #[inline(always)]
 fn around_kings(board: &Board, side: Color) -> u128

@@ -28,11 +28,11 @@ use Rattle.shogi_eval.specs.Material.{material_of, drop_gain, taken_gain, promot
 use Rattle.shogi_eval.proofs.Gains.{material_after_board, material_after_drop}
 use Rattle.shogi_eval.proofs.Bounds.{material_bounds}
 use Rattle.shogi_search.specs.Losses.{LosesAtMost}
-use Rattle.shogi_search.specs.Minimax.{value, worth, negated, if_no_move_else, lost_value, greatest_or}
-use Rattle.shogi_search.specs.Window.{threshold}
-use Rattle.shogi_search.proofs.Greatest.{greatest_or-above}
-use Rattle.shogi_search.proofs.MinimaxLaws.{value-leaf, value-suc, leaf_some}
-use Rattle.shogi_search.proofs.Valid.{after_valid, board_of, drop_of}
+use Rattle.minimax.specs.Minimax.{value, worth, negated, if_no_move_else, lost_value, greatest_or}
+use Rattle.minimax.specs.Window.{threshold}
+use Rattle.minimax.proofs.Greatest.{greatest_or-above}
+use Rattle.minimax.proofs.MinimaxLaws.{value-leaf, value-suc}
+use Rattle.minimax.proofs.Valid.{after_valid, board_of, drop_of}
 
 -- what is so of each kind
 pub by_kind : (fact : Kind → Type 0) → fact kinds.Pawn → fact kinds.Lance → fact kinds.Knight → fact kinds.Silver → fact kinds.Gold → fact kinds.Bishop → fact kinds.Rook → (kind : Kind) → fact kind
@@ -121,14 +121,11 @@ valid_after p m v back i = subst IsValid (after_code_of p m back) (after_valid p
 pub worth_most : (p : Shogi) (e : Eval) (loss : ℤ) (m : Move) → IsValid p → move_of (code_of m) ≡ Some m → is_in (code_of m) (legal_codes p) ≡ true → pos 0 ≤ℤ loss → LosesAtMost p.hands (opponent_of p.side) e loss → legal_codes (after p m) ≢ [] → worth p e 1 (code_of m) ≤ℤ negated (material_of (after p m) e -ℤ loss)
 worth_most p e loss m v back i h l some = worth_below p e m (material_of (after p m) e -ℤ loss) back (value_least (after p m) e loss (legal_codes (after p m)) refl (valid_after p m v back i) h (loses_after p e loss m l) some)
 
--- the same of a move before a leaf, or one ply before that
-pub worth_ahead : (p : Shogi) (e : Eval) (d : ℕ) (loss : ℤ) (m : Move) → IsValid p → move_of (code_of m) ≡ Some m → is_legal p m ≡ true → 0 < d → d ≤ 2 → pos 0 ≤ℤ loss → (d ≡ 2 → LosesAtMost p.hands (opponent_of p.side) e loss) → legal_codes (after p m) ≢ [] → worth p e (d - 1) (code_of m) ≤ℤ negated (material_of (after p m) e -ℤ loss)
-worth_ahead p e zero loss m v back legal deep near h l some = absurd (omega arith)
-worth_ahead p e (suc zero) loss m v back legal deep near h l some =
-    let leaf : value (after_code p (code_of m)) e 0 ≡ material_of (after p m) e = ap (λ (q : Shogi). value q e 0) (after_code_of p m back) ∙ leaf_some (after p m) e some in
-    omega (arith, ints, leaf, h)
-worth_ahead p e (suc (suc zero)) loss m v back legal deep near h l some = worth_most p e loss m v back (legal_to_listed p m back legal) h (l refl) some
-worth_ahead p e (suc (suc (suc d))) loss m v back legal deep near h l some = absurd (omega arith)
+-- the same at a node of depth 2
+pub worth_ahead : (p : Shogi) (e : Eval) (d : ℕ) (loss : ℤ) (m : Move) → IsValid p → move_of (code_of m) ≡ Some m → is_legal p m ≡ true → d ≡ 2 → pos 0 ≤ℤ loss → LosesAtMost p.hands (opponent_of p.side) e loss → legal_codes (after p m) ≢ [] → worth p e (d - 1) (code_of m) ≤ℤ negated (material_of (after p m) e -ℤ loss)
+worth_ahead p e d loss m v back legal last h l some =
+    let one : d - 1 ≡ 1 = omega arith in
+    subst (λ (n : ℕ). worth p e n (code_of m) ≤ℤ negated (material_of (after p m) e -ℤ loss)) (sym one) (worth_most p e loss m v back (legal_to_listed p m back legal) h l some)
 
 pub worth_under_threat : (p : Shogi) (e : Eval) (m : Move) (a t : ℕ) → IsValid p → move_of (code_of m) ≡ Some m → is_in (code_of m) (legal_codes p) ≡ true → a < 81 → t < 81 → MayTake (after p m) a t (piece_at p.cells t)
     → worth p e 1 (code_of m) ≤ℤ negated (material_of (after p m) e +ℤ pos (taken_gain e (piece_at p.cells t)))

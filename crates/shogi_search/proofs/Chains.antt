@@ -10,13 +10,13 @@ use Rattle.shogi_eval.specs.declared.eval.Eval.{Eval}
 use Rattle.shogi_eval.specs.Evaluated.{Evaluated}
 use Rattle.shogi_search.specs.declared.frame.Frame.{Frame}
 use Rattle.shogi_search.specs.declared.frame.Waiting.{Waiting}
-use Rattle.shogi_search.specs.declared.frame.Waiting.TheVariants.{Next, Asked, Leaf, Cut}
+use Rattle.shogi_search.specs.declared.frame.Waiting.TheVariants.{Next, Asked, Cut}
 use Rattle.shogi_search.specs.declared.move_picker.MovePicker.{MovePicker}
-use Rattle.shogi_search.specs.Minimax.{negated, sum_of_tree_sizes, tree_size}
+use Rattle.minimax.specs.Minimax.{negated, sum_of_tree_sizes, tree_size}
 use Rattle.shogi_search.specs.Order.{todo}
-use Rattle.shogi_search.specs.Window.{threshold, code_at}
-use Rattle.shogi_search.specs.Stack.{IsAt, IsSame, IsChain, WhereAsked, left_of_frame, left_of_waiting}
-use Rattle.shogi_search.proofs.MinimaxLaws.{sum_of_tree_sizes-next}
+use Rattle.minimax.specs.Window.{threshold, code_at}
+use Rattle.shogi_search.specs.Stack.{IsAt, IsSame, IsChain, WhereAsked, left_of_frame}
+use Rattle.minimax.proofs.MinimaxLaws.{sum_of_tree_sizes-next}
 
 -- a node is the child that another one has asked for by this move
 pub record IsChild (f q : Frame) (m : Move) : Type 0 where
@@ -28,7 +28,6 @@ pub record IsChild (f q : Frame) (m : Move) : Type 0 where
 where_map : (w : Waiting) (P Q : Move → Type 0) → ((m : Move) → P m → Q m) → WhereAsked w P → WhereAsked w Q
 where_map Next P Q g h = h
 where_map (Asked m) P Q g h = g m h
-where_map (Leaf m v) P Q g h = h
 where_map (Cut v) P Q g h = h
 
 where_asked : (w : Waiting) (P : Move → Type 0) (m : Move) → w ≡ Asked m → P m → WhereAsked w P
@@ -74,7 +73,6 @@ record Asks (w : Waiting) (P : Move → Type 0) : Type 0 where
 asks : (w : Waiting) (P : Move → Type 0) → WhereAsked w P → Asks w P
 asks Next P h = absurd h
 asks (Asked m) P h = record { current = m; is = refl; has = h }
-asks (Leaf m v) P h = absurd h
 asks (Cut v) P h = absurd h
 
 pub chain_pop : (p : Shogi) (eval : Eval) (d : ℕ) (alpha beta : ℤ) (fs : List Frame) (f q : Frame) → IsChain p eval d alpha beta (fs ++ f ∷ []) q → IsPopped p eval d alpha beta fs f q
@@ -128,8 +126,7 @@ left_next f g q m e h k a n =
     let s : sum_of_tree_sizes f.node.position (f.depth - 1) (todo f.node.position f.picker) ≡ tree_size q (f.depth - 1) + sum_of_tree_sizes f.node.position (f.depth - 1) (todo f.node.position g.picker) = sum_of_tree_sizes-next f.node.position (f.depth - 1) (code_of m) q _ _ (a ∙ ap (λ (x : Evaluated). after_code x.position (code_of m)) e) n in
     let t : sum_of_tree_sizes g.node.position (g.depth - 1) (todo g.node.position g.picker) ≡ sum_of_tree_sizes f.node.position (f.depth - 1) (todo f.node.position g.picker) = ap (λ (x : Evaluated). sum_of_tree_sizes x.position (g.depth - 1) (todo x.position g.picker)) e ∙ ap (λ (x : ℕ). sum_of_tree_sizes f.node.position (x - 1) (todo f.node.position g.picker)) h in
     let u : tree_size q (g.depth - 1) ≡ tree_size q (f.depth - 1) = ap (λ (x : ℕ). tree_size q (x - 1)) h in
-    let v : left_of_waiting g.waiting ≡ 0 = ap left_of_waiting k in
-    omega (arith, s, t, u, v)
+    omega (arith, s, t, u)
 
 moves_same : (f g : Frame) → IsSame f g → g.picker ≡ f.picker → sum_of_tree_sizes g.node.position (g.depth - 1) (todo g.node.position g.picker) ≡ sum_of_tree_sizes f.node.position (f.depth - 1) (todo f.node.position f.picker)
 moves_same f g s k =
@@ -137,23 +134,9 @@ moves_same f g s k =
     ∙ ap (λ (x : ℕ). sum_of_tree_sizes f.node.position (x - 1) (todo f.node.position g.picker)) s.1.0
     ∙ ap (λ (x : MovePicker). sum_of_tree_sizes f.node.position (f.depth - 1) (todo f.node.position x)) k
 
--- what waits for the same, with the same moves to visit, has as much left
-pub left_kept : (f g : Frame) → IsSame f g → g.picker ≡ f.picker → g.waiting ≡ f.waiting → left_of_frame g ≡ left_of_frame f
-left_kept f g s p w = omega (arith, moves_same f g s p, ap left_of_waiting w)
-
--- without a leaf to be taken in, no more is left than with one
-pub left_same : (f g : Frame) → IsSame f g → g.picker ≡ f.picker → left_of_waiting g.waiting ≡ 0 → left_of_frame g ≤ left_of_frame f
-left_same f g s k v = omega (arith, moves_same f g s k, v)
-
--- a leaf that is valued and not taken in yet
-pub left_valued : (f g : Frame) → IsSame f g → g.picker ≡ f.picker → left_of_frame g ≤ left_of_frame f + 1
-left_valued f g s k = omega (arith, moves_same f g s k, one g.waiting)
-  where
-    one : (waiting : Waiting) → left_of_waiting waiting ≤ 1
-    one Next = omega arith
-    one (Asked m) = omega arith
-    one (Leaf m v) = omega arith
-    one (Cut v) = omega arith
+-- with the same moves to visit, as much is left
+pub left_kept : (f g : Frame) → IsSame f g → g.picker ≡ f.picker → left_of_frame g ≡ left_of_frame f
+left_kept f g s k = omega (arith, moves_same f g s k)
 
 -- what is left of the frames below and of one more
 pub left_above : (all fs : List Frame) (f : Frame) → all ≡ fs ++ f ∷ [] → sum_by left_of_frame all ≡ sum_by left_of_frame fs + left_of_frame f

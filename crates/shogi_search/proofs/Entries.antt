@@ -8,15 +8,15 @@ use Rattle.shogi_moves.specs.After.{after_code}
 use Rattle.shogi_moves.specs.LegalMoves.{legal_codes}
 use Rattle.shogi_moves.specs.Rising.{is_in}
 use Rattle.shogi_eval.specs.declared.eval.Eval.{Eval}
-use Rattle.shogi_search.specs.declared.memo.Entry.{Entry}
-use Rattle.shogi_search.specs.declared.memo.Entry.TheVariants.{Exact, AtLeast, AtMost}
-use Rattle.shogi_search.specs.Minimax.{value, best, worth, IsTrueEntry, negated, lost_value}
+use Rattle.minimax.specs.declared.entry.Entry.{Entry}
+use Rattle.minimax.specs.declared.entry.Entry.TheVariants.{Exact, AtLeast, AtMost}
+use Rattle.minimax.specs.Minimax.{value, best, worth, IsTrueEntry, negated, lost_value}
 use Rattle.shogi_search.specs.declared.found.Found.{Found}
-use Rattle.shogi_search.specs.Entries.{IsCutoff}
+use Rattle.minimax.specs.Entries.{IsCutoff}
 use Rattle.shogi_search.specs.Progress.{IsFoundBelow}
-use Rattle.shogi_search.proofs.MinimaxLaws.{worth_from, value_within, Within}
-use Rattle.shogi_search.proofs.Valid.{after_valid}
-use Rattle.shogi_search.specs.declared.bounds.TheConstants.{SEARCH_DEPTH_MAX, INFINITY}
+use Rattle.minimax.proofs.MinimaxLaws.{worth_from, value_within, Within}
+use Rattle.minimax.proofs.Valid.{after_valid}
+use Rattle.minimax.specs.declared.bounds.TheConstants.{SEARCH_DEPTH_MAX, INFINITY}
 
 -- what a child's value says of its move
 pub record IsWorth (p : Shogi) (eval : Eval) (d m : ℕ) (r : ℤ) : Type 0 where

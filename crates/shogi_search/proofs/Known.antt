@@ -12,24 +12,23 @@ use Rattle.shogi_moves.specs.Rising.{is_in}
 use Rattle.shogi_search.specs.declared.found.Found.{Found}
 use Rattle.shogi_search.specs.declared.frame.Frame.{Frame}
 use Rattle.shogi_search.specs.declared.frame.Waiting.{Waiting}
-use Rattle.shogi_search.specs.declared.frame.Waiting.TheVariants.{Next, Asked, Leaf, Cut}
+use Rattle.shogi_search.specs.declared.frame.Waiting.TheVariants.{Next, Asked, Cut}
 use Rattle.shogi_search.specs.Entered.{Entered, IsKnownNode, IsNodeAt, IsPath}
-use Rattle.shogi_search.specs.Minimax.{negated, worth, value}
+use Rattle.minimax.specs.Minimax.{negated, worth, value}
 use Rattle.shogi_search.specs.Order.{todo}
 use Rattle.shogi_search.specs.SlicedSearch.{IsSearch, entered_of, entered_in, current_in, cutoff_in, and_current}
 use Rattle.shogi_search.specs.Stack.{IsAt, IsChain, IsStack, WhereAsked, frames_of, parents_of}
 use Rattle.shogi_search.specs.declared.stack.Stack.{Stack}
 use Rattle.shogi_search.specs.declared.sliced_search.Search.TheInside.{Inside}
-use Rattle.shogi_search.specs.declared.bounds.TheConstants.{INFINITY}
+use Rattle.minimax.specs.declared.bounds.TheConstants.{INFINITY}
 use Rattle.shogi_search.proofs.Places.{HasTop, has_top, frames_are}
 use Rattle.shogi_search.specs.Visits.{IsKnownWhile, moves_at}
-use Rattle.shogi_search.specs.Window.{IsCovered, threshold, code_at}
+use Rattle.minimax.specs.Window.{IsCovered, threshold, code_at}
 
 -- what a node knows by what it waits for, as a caller sees it
 known_while : (p : Shogi) (e : Eval) (d : ℕ) (alpha beta best_value : ℤ) (best_move : Option ℕ) (codes : List ℕ) (w : Waiting) → IsKnownWhile p e d alpha beta best_value best_move codes w → MatchOption (cutoff_in w) (IsCovered (worth p e (d - 1)) (moves_at p d) (and_current (current_in w) codes) alpha best_value best_move) (λ v. (beta ≤ℤ v) × (v ≤ℤ value p e d))
 known_while p e d alpha beta best_value best_move codes Next k = k
 known_while p e d alpha beta best_value best_move codes (Asked m) k = k
-known_while p e d alpha beta best_value best_move codes (Leaf m v) k = k.0
 known_while p e d alpha beta best_value best_move codes (Cut v) k = (k.1, k.0)
 
 node_known : (f : Frame) → IsKnownNode (entered_of f)
@@ -53,7 +52,6 @@ head_in code codes = search rules
 asked_current : (w : Waiting) (codes : List ℕ) (P : Move → Type 0) (Q : ℕ → Type 0) → ((m : Move) → P m → Q (code_of m)) → WhereAsked w P → IsSomeAnd (current_in w) (λ code. (is_in code (and_current (current_in w) codes) ≡ true) × Q code)
 asked_current Next codes P Q g h = absurd h
 asked_current (Asked m) codes P Q g h = (head_in (code_of m) codes, g m h)
-asked_current (Leaf m v) codes P Q g h = absurd h
 asked_current (Cut v) codes P Q g h = absurd h
 
 no_current : (o : Option ℕ) (A : ℕ → Type 0) → IsSomeAnd o (λ code. A code × ⊥) → ⊥

@@ -1,11 +1,3 @@
-pub mod Valid
-pub mod Equal
-pub mod Greatest
-pub mod Cover
-pub mod MinimaxLaws
-pub mod Left
-pub mod Best
-pub mod Lines
 pub mod MatchingOthers
 pub mod OrderLaws
 pub mod Entries

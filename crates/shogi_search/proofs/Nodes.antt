@@ -14,18 +14,18 @@ use Rattle.shogi_moves.specs.Rising.{is_in}
 use Rattle.shogi_eval.specs.declared.eval.Eval.{Eval}
 use Rattle.shogi_search.specs.declared.move_picker.MovePicker.{MovePicker}
 use Rattle.shogi_search.specs.declared.move_picker.MovePicker.TheVariants.{HashMove, Start, Done}
-use Rattle.shogi_search.specs.Minimax.{tree_size, sum_of_tree_sizes, value, best, worth, lost_value, greatest_or, negated}
-use Rattle.shogi_search.specs.Window.{IsCovered, threshold}
+use Rattle.minimax.specs.Minimax.{tree_size, sum_of_tree_sizes, value, best, worth, lost_value, greatest_or, negated}
+use Rattle.minimax.specs.Window.{IsCovered, threshold}
 use Rattle.shogi_search.specs.Order.{todo, IsKept}
 use Rattle.shogi_search.specs.declared.frame.Waiting.{Waiting}
-use Rattle.shogi_search.specs.declared.frame.Waiting.TheVariants.{Next, Asked, Leaf, Cut}
+use Rattle.shogi_search.specs.declared.frame.Waiting.TheVariants.{Next, Asked, Cut}
 use Rattle.shogi_search.specs.Visits.{moves_at, IsCurrent, WhereCurrent, IsOver, IsKnownWhile}
-use Rattle.shogi_search.proofs.MinimaxLaws.{tree_size-above, tree_size-leaf, best-leaf, value-above, value_within, Within}
+use Rattle.minimax.proofs.MinimaxLaws.{tree_size-above, tree_size-leaf, best-leaf, value-above, value_within, Within}
 use Rattle.shogi_search.proofs.OrderLaws.{IsWhole, whole, whole_covered}
-use Rattle.shogi_search.proofs.Cover.{IsCovered-start}
-use Rattle.shogi_search.proofs.Valid.{after_valid}
-use Rattle.shogi_search.proofs.Greatest.{greatest_or-above}
-use Rattle.shogi_search.specs.declared.bounds.TheConstants.{SEARCH_DEPTH_MAX, INFINITY}
+use Rattle.minimax.proofs.Cover.{IsCovered-start}
+use Rattle.minimax.proofs.Valid.{after_valid}
+use Rattle.minimax.proofs.Greatest.{greatest_or-above}
+use Rattle.minimax.specs.declared.bounds.TheConstants.{SEARCH_DEPTH_MAX, INFINITY}
 
 -- a node with a move that waits is no leaf
 pub record IsWaiting (f : ℕ → ℤ) (p : Shogi) (d m : ℕ) (rest : List ℕ) (alpha best_value : ℤ) (b : Option ℕ) : Type 0 where
@@ -46,14 +46,12 @@ pub record HasCurrent (w : Waiting) (fact : Move → Type 0) : Type 0 where
 pub has_current : (w : Waiting) (fact : Move → Type 0) → WhereCurrent w fact → HasCurrent w fact
 has_current Next fact h = absurd h
 has_current (Asked m) fact h = record { current = m; is = refl; has = h }
-has_current (Leaf m v) fact h = record { current = m; is = refl; has = h }
 has_current (Cut v) fact h = absurd h
 
 -- what holds of this move holds of the current one
 pub of_current : (w : Waiting) (fact : Move → Type 0) (m : Move) → IsCurrent w m → fact m → WhereCurrent w fact
 of_current Next fact m e h = absurd e
 of_current (Asked k) fact m e h = subst fact (sym e) h
-of_current (Leaf k v) fact m e h = subst fact (sym e) h
 of_current (Cut v) fact m e h = absurd e
 
 -- the move that is asked for is the current one
@@ -63,7 +61,6 @@ asked w m e = subst (λ (x : Waiting). IsCurrent x m) (sym e) refl
 pub waits : (p : Shogi) (eval : Eval) (d : ℕ) (alpha beta best_value : ℤ) (b : Option ℕ) (ms : List ℕ) (w : Waiting) (m : Move) → IsCurrent w m → IsKnownWhile p eval d alpha beta best_value b ms w → IsWaiting (worth p eval (d - 1)) p d (code_of m) ms alpha best_value b
 waits p eval d alpha beta best_value b ms Next m e c = absurd e
 waits p eval d alpha beta best_value b ms (Asked k) m e c = waits_at (worth p eval (d - 1)) p d (code_of m) ms alpha best_value b (subst (λ (x : Move). IsCovered (worth p eval (d - 1)) (moves_at p d) (code_of x ∷ ms) alpha best_value b) e c)
-waits p eval d alpha beta best_value b ms (Leaf k v) m e c = waits_at (worth p eval (d - 1)) p d (code_of m) ms alpha best_value b (subst (λ (x : Move). IsCovered (worth p eval (d - 1)) (moves_at p d) (code_of x ∷ ms) alpha best_value b) e c.0)
 waits p eval d alpha beta best_value b ms (Cut v) m e c = absurd e
 
 -- what a node knows whose moves are all gone through
@@ -74,7 +71,6 @@ pub record IsGone (p : Shogi) (eval : Eval) (d : ℕ) (alpha best_value : ℤ) (
 pub gone : (p : Shogi) (eval : Eval) (d : ℕ) (alpha beta best_value : ℤ) (b : Option ℕ) (ms : List ℕ) (w : Waiting) → IsOver w ms → ((v : ℤ) → w ≡ Cut v → ⊥) → IsKnownWhile p eval d alpha beta best_value b ms w → IsGone p eval d alpha best_value b ms
 gone p eval d alpha beta best_value b ms Next o n c = record { none = o; covered = c }
 gone p eval d alpha beta best_value b ms (Asked k) o n c = absurd o
-gone p eval d alpha beta best_value b ms (Leaf k v) o n c = absurd o
 gone p eval d alpha beta best_value b ms (Cut v) o n c = absurd (n v refl)
 
 -- and back, once the move has its answer
@@ -109,13 +105,6 @@ new_node f p (suc d) alpha hash_move picker a b l =
     kept_at None picker e = subst (IsKept p) (sym e) tt
     kept_at (Some k) picker e = subst (IsKept p) (sym e) tt
 
--- a move that is worth so much
-pub cut : (p : Shogi) (eval : Eval) (d m : ℕ) (v : ℤ) → 0 < d → is_in m (legal_codes p) ≡ true → v ≤ℤ worth p eval (d - 1) m → v ≤ℤ value p eval d
-cut p eval d m v h i l =
-    let e : value p eval d ≡ greatest_or (lost_value d) (worth p eval (d - 1)) (legal_codes p) = value-above p eval d h in
-    let g : worth p eval (d - 1) m ≤ℤ greatest_or (lost_value d) (worth p eval (d - 1)) (legal_codes p) = greatest_or-above (lost_value d) (worth p eval (d - 1)) (legal_codes p) m i in
-    omega (arith, ints)
-
 -- a value that cuts a node off, and the same value as it is kept
 pub cuts : (p : Shogi) (eval : Eval) (d : ℕ) (beta v v' : ℤ) → v' ≡ v → v ≤ℤ value p eval d → beta ≤ℤ v → (v' ≤ℤ value p eval d) × (beta ≤ℤ v')
 cuts p eval d beta v v' e l h = (subst (λ (y : ℤ). y ≤ℤ value p eval d) (sym e) l, subst (λ (y : ℤ). beta ≤ℤ y) (sym e) h)
@@ -131,11 +120,3 @@ threshold_least p eval d alpha best_value rest (Some b) m ok h l c =
     let e : worth p eval (d - 1) b ≡ best_value = c.reached.1 in
     let t : negated INFINITY <ℤ best_value = omega (arith, ints) in
     (omega (arith, ints), threshold_falls_one best_value b m t)
-
--- what is known of a leaf that is still to be taken in
-pub leaf_known : (p : Shogi) (eval : Eval) (d : ℕ) (alpha beta best_value : ℤ) (b : Option ℕ) (ms : List ℕ) (w : Waiting) (m : Move) (v : ℤ) → w ≡ Leaf m v → IsKnownWhile p eval d alpha beta best_value b ms w → (d ≡ 1) × (value (after_code p (code_of m)) eval 0 ≡ v)
-leaf_known p eval d alpha beta best_value b ms w m v e k = (subst (λ (x : Waiting). IsKnownWhile p eval d alpha beta best_value b ms x) e k).1
-
--- what is known of a leaf, as an entry of its depth
-pub leaf_true : (q : Shogi) (eval : Eval) (d : ℕ) (v : ℤ) → d ≡ 1 → value q eval 0 ≡ v → (value q eval (d - 1) ≡ v) × (best q eval (d - 1) ≡ None)
-leaf_true q eval d v e h = let z : d - 1 ≡ 0 = omega arith in (ap (value q eval) z ∙ h, ap (best q eval) z ∙ best-leaf q eval)

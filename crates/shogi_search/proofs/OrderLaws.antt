@@ -17,12 +17,12 @@ use Rattle.shogi_moves.proofs.LegalLaws.{legal_in, legal_code_below}
 use Rattle.shogi_eval.specs.declared.eval.Eval.{Eval}
 use Rattle.shogi_search.specs.declared.move_picker.MovePicker.{MovePicker}
 use Rattle.shogi_search.specs.declared.move_picker.MovePicker.TheVariants.{HashMove, Start}
-use Rattle.shogi_search.specs.Minimax.{tree_size, sum_of_tree_sizes, best, best_code, move_of_some}
-use Rattle.shogi_search.specs.Window.{IsCovered}
+use Rattle.minimax.specs.Minimax.{tree_size, sum_of_tree_sizes, best, best_code, move_of_some}
+use Rattle.minimax.specs.Window.{IsCovered}
 use Rattle.shogi_search.specs.Order.{matches_other, is_hash_move, todo}
-use Rattle.shogi_search.proofs.Best.{best_in}
-use Rattle.shogi_search.proofs.MinimaxLaws.{best-code}
-use Rattle.shogi_search.proofs.Valid.{board_of, drop_of}
+use Rattle.minimax.proofs.Best.{best_in}
+use Rattle.minimax.proofs.MinimaxLaws.{best-code}
+use Rattle.minimax.proofs.Valid.{board_of, drop_of}
 use Rattle.shogi_search.proofs.MatchingOthers.{AreApart, two_parts, three_parts, in_cases, in_head, in_tail, is_in-append_left, is_in-append_right, is_in-append_cases, is_in-filter, is_in-filter_from}
 
 -- no move is both a capture and none

@@ -28,20 +28,21 @@ use Rattle.shogi_eval.specs.declared.eval.Eval.{Eval}
 use Rattle.shogi_eval.specs.Material.{material_of, taken_gain, promotion_gain, value_of}
 use Rattle.shogi_eval.proofs.Gains.{material_at_board}
 use Rattle.shogi_search.specs.Losses.{LosesAtMost, PromotesWithin}
-use Rattle.shogi_search.specs.Minimax.{worth, negated, sum_of_tree_sizes}
-use Rattle.shogi_search.specs.Window.{threshold, IsCovered}
+use Rattle.minimax.specs.Minimax.{worth, negated, sum_of_tree_sizes}
+use Rattle.minimax.specs.Window.{threshold, IsCovered}
 use Rattle.shogi_search.specs.Order.{todo}
 use Rattle.shogi_search.specs.Visits.{moves_at, IsKnownWhile}
-use Rattle.shogi_search.specs.Stack.{left_of_frame, left_of_waiting}
-use Rattle.shogi_search.specs.declared.bounds.TheConstants.{SEARCH_DEPTH_MAX, INFINITY, PROMOTION_GAIN_MAX}
+use Rattle.shogi_search.specs.Stack.{left_of_frame}
+use Rattle.minimax.specs.declared.bounds.TheConstants.{SEARCH_DEPTH_MAX, INFINITY}
+use Rattle.shogi_search.specs.declared.losses.TheConstants.{PROMOTION_GAIN_MAX}
 use Rattle.shogi_search.specs.declared.frame.Frame.{Frame}
 use Rattle.shogi_search.specs.declared.move_picker.MovePicker.{MovePicker}
 use Rattle.shogi_search.specs.declared.frame.Waiting.{Waiting}
 use Rattle.shogi_search.specs.declared.frame.Waiting.TheVariants.{Next}
-use Rattle.shogi_search.proofs.Cover.{IsCovered-skip, threshold-best_value}
+use Rattle.minimax.proofs.Cover.{IsCovered-skip, threshold-best_value}
 use Rattle.shogi_search.proofs.Nodes.{threshold_least, gone_through}
 use Rattle.shogi_search.proofs.Ahead.{worth_ahead}
-use Rattle.shogi_search.proofs.MinimaxLaws.{sum_of_tree_sizes-next}
+use Rattle.minimax.proofs.MinimaxLaws.{sum_of_tree_sizes-next}
 
 -- moves that are all worth no more than their threshold
 covered_passed : (f : ℕ → ℤ) (fact : ℕ → Type 0) (all codes left : List ℕ) (alpha best_value : ℤ) (b : Option ℕ) → IsPassed fact codes left → ((c : ℕ) → fact c → f c ≤ℤ threshold best_value b c) → IsCovered f all codes alpha best_value b → IsCovered f all left alpha best_value b
@@ -60,16 +61,16 @@ sum_passed p d fact (c ∷ codes) left h = elim h [
 ]
 
 -- all drops of a kind are worth as much at most
-drop_worth : (p : Shogi) (e : Eval) (d : ℕ) (kind : Kind) (first c : ℕ) (score loss : ℤ) → IsValid p → 0 < d → d ≤ 2 → pos 0 ≤ℤ loss → (d ≡ 2 → LosesAtMost p.hands (opponent_of p.side) e loss) → ((to : ℕ) → to < 81 → is_legal p (Drop kind to) ≡ true → material_of (after p (Drop kind to)) e ≡ score)
+drop_worth : (p : Shogi) (e : Eval) (d : ℕ) (kind : Kind) (first c : ℕ) (score loss : ℤ) → IsValid p → d ≡ 2 → pos 0 ≤ℤ loss → LosesAtMost p.hands (opponent_of p.side) e loss → ((to : ℕ) → to < 81 → is_legal p (Drop kind to) ≡ true → material_of (after p (Drop kind to)) e ≡ score)
     → IsCertainDrop p kind first c → worth p e (d - 1) c ≤ℤ (loss -ℤ score)
-drop_worth p e d kind first c score loss valid deep near h l same k =
+drop_worth p e d kind first c score loss valid last h l same k =
     let to : ℕ = c - FIRST_DROP - kind_number kind * 81 in
     let fits : to < 81 = omega (arith, k.low, k.high) in
     let is : c ≡ code_of (Drop kind to) = omega (arith, k.low, k.high) in
     let back : move_of (code_of (Drop kind to)) ≡ Some (Drop kind to) = move_of-drop kind to fits in
     let legal : is_legal p (Drop kind to) ≡ true = sym (is_legal_code_of p c (Drop kind to) (ap move_of is ∙ back)) ∙ k.legal in
     let made : after_code p c ≡ after p (Drop kind to) = ap (after_code p) is ∙ after_code_of p (Drop kind to) back in
-    let most : worth p e (d - 1) (code_of (Drop kind to)) ≤ℤ negated (material_of (after p (Drop kind to)) e -ℤ loss) = worth_ahead p e d loss (Drop kind to) valid back legal deep near h l (subst (λ (q : Shogi). legal_codes q ≢ []) made k.replied) in
+    let most : worth p e (d - 1) (code_of (Drop kind to)) ≤ℤ negated (material_of (after p (Drop kind to)) e -ℤ loss) = worth_ahead p e d loss (Drop kind to) valid back legal last h l (subst (λ (q : Shogi). legal_codes q ≢ []) made k.replied) in
     let at : worth p e (d - 1) c ≡ worth p e (d - 1) (code_of (Drop kind to)) = ap (worth p e (d - 1)) is in
     omega (arith, ints, most, at, same to fits legal)
 
@@ -99,14 +100,14 @@ no_promotion None = refl
 no_promotion (Some piece) = refl
 
 -- a move on the board gains what it takes and what its promotion adds
-gain_worth : (p : Shogi) (e : Eval) (d c from to : ℕ) (promote : Bool) (loss : ℤ) → IsValid p → 0 < d → d ≤ 2 → pos 0 ≤ℤ loss → (d ≡ 2 → LosesAtMost p.hands (opponent_of p.side) e loss) → from < 81 → to < 81 → c ≡ code_of (Board from to promote) → is_legal_code p c ≡ true → legal_codes (after_code p c) ≢ []
+gain_worth : (p : Shogi) (e : Eval) (d c from to : ℕ) (promote : Bool) (loss : ℤ) → IsValid p → d ≡ 2 → pos 0 ≤ℤ loss → LosesAtMost p.hands (opponent_of p.side) e loss → from < 81 → to < 81 → c ≡ code_of (Board from to promote) → is_legal_code p c ≡ true → legal_codes (after_code p c) ≢ []
     → worth p e (d - 1) c ≤ℤ (material_of p e +ℤ pos (taken_gain e (piece_at p.cells to) + promotion_gain promote (piece_at p.cells from)) +ℤ loss)
-gain_worth p e d c from to promote loss valid deep near h l from_fits to_fits is listed replied =
+gain_worth p e d c from to promote loss valid last h l from_fits to_fits is listed replied =
     let back : move_of (code_of (Board from to promote)) ≡ Some (Board from to promote) = move_of-board from to promote from_fits to_fits in
     let legal : is_legal p (Board from to promote) ≡ true = sym (is_legal_code_of p c (Board from to promote) (ap move_of is ∙ back)) ∙ listed in
     let made : after_code p c ≡ after p (Board from to promote) = ap (after_code p) is ∙ after_code_of p (Board from to promote) back in
     let law : material_of (after p (Board from to promote)) e ≡ pos 0 -ℤ (material_of p e +ℤ pos (taken_gain e (piece_at p.cells to) + promotion_gain promote (piece_at p.cells from))) = material_at_board p e (Board from to promote) from to promote refl valid from_fits to_fits legal in
-    let most : worth p e (d - 1) (code_of (Board from to promote)) ≤ℤ negated (material_of (after p (Board from to promote)) e -ℤ loss) = worth_ahead p e d loss (Board from to promote) valid back legal deep near h l (subst (λ (q : Shogi). legal_codes q ≢ []) made replied) in
+    let most : worth p e (d - 1) (code_of (Board from to promote)) ≤ℤ negated (material_of (after p (Board from to promote)) e -ℤ loss) = worth_ahead p e d loss (Board from to promote) valid back legal last h l (subst (λ (q : Shogi). legal_codes q ≢ []) made replied) in
     let at : worth p e (d - 1) c ≡ worth p e (d - 1) (code_of (Board from to promote)) = ap (worth p e (d - 1)) is in
     omega (arith, ints, most, at, law)
 
@@ -115,8 +116,8 @@ nothing_taken e None h = refl
 nothing_taken e (Some piece) h = cc
 
 -- moves that take nothing gain no more than this
-quiet_worth : (p : Shogi) (e : Eval) (d : ℕ) (among : Destinations) (first c most : ℕ) (loss : ℤ) → IsValid p → 0 < d → d ≤ 2 → pos 0 ≤ℤ loss → (d ≡ 2 → LosesAtMost p.hands (opponent_of p.side) e loss) → PromotesWithin most among → IsCertainMove p false among first c → worth p e (d - 1) c ≤ℤ (material_of p e +ℤ pos most +ℤ loss)
-quiet_worth p e d among first c most loss valid deep near h l within k =
+quiet_worth : (p : Shogi) (e : Eval) (d : ℕ) (among : Destinations) (first c most : ℕ) (loss : ℤ) → IsValid p → d ≡ 2 → pos 0 ≤ℤ loss → LosesAtMost p.hands (opponent_of p.side) e loss → PromotesWithin most among → IsCertainMove p false among first c → worth p e (d - 1) c ≤ℤ (material_of p e +ℤ pos most +ℤ loss)
+quiet_worth p e d among first c most loss valid last h l within k =
     let from : ℕ = c / SQUARE_CODES in
     let to : ℕ = c / 2 % 81 in
     let from_fits : from < 81 = omega (arith, k.on_board) in
@@ -127,14 +128,14 @@ quiet_worth p e d among first c most loss valid deep near h l within k =
           let is : c ≡ code_of (Board from to false) = omega (arith, even) in
           let parts : (is_legal p (Board from to false) ≡ true) × (not (is_some (piece_at p.cells to)) ≡ true) = and_parts _ _ (sym (matching_move p false (Board from to false) (move_of-board from to false from_fits to_fits)) ∙ (ap (is_matching p false) (sym is) ∙ k.matching)) in
           let none : promotion_gain false (piece_at p.cells from) ≡ 0 = no_promotion (piece_at p.cells from) in
-          let worth_most : _ = gain_worth p e d c from to false loss valid deep near h l from_fits to_fits is legal k.replied in
+          let worth_most : _ = gain_worth p e d c from to false loss valid last h l from_fits to_fits is legal k.replied in
           omega (arith, ints, worth_most, nothing_taken e (piece_at p.cells to) parts.1, none))
       | inr odd ↦ (
           let is : c ≡ code_of (Board from to true) = omega (arith, odd) in
           let parts : (is_legal p (Board from to true) ≡ true) × (not (is_some (piece_at p.cells to)) ≡ true) = and_parts _ _ (sym (matching_move p false (Board from to true) (move_of-board from to true from_fits to_fits)) ∙ (ap (is_matching p false) (sym is) ∙ k.matching)) in
           let fits : PROMOTION_GAIN_MAX ≤ most = within to (k.promoting (omega (arith, odd))) in
           let more : promotion_gain true (piece_at p.cells from) ≤ PROMOTION_GAIN_MAX = promotion_most (piece_at p.cells from) in
-          let worth_most : _ = gain_worth p e d c from to true loss valid deep near h l from_fits to_fits is legal k.replied in
+          let worth_most : _ = gain_worth p e d c from to true loss valid last h l from_fits to_fits is legal k.replied in
           omega (arith, ints, worth_most, nothing_taken e (piece_at p.cells to) parts.1, fits, more))
     ]
 
@@ -151,31 +152,31 @@ pub next_known : (p : Shogi) (e : Eval) (d : ℕ) (alpha beta best_value : ℤ) 
 next_known p e d alpha beta best_value b codes w next k = subst (λ (x : Waiting). IsKnownWhile p e d alpha beta best_value b codes x) (sym next) k
 
 -- drops of one kind that are worth no more than the threshold of the first
-pub drops_covered : (p : Shogi) (e : Eval) (d : ℕ) (kind : Kind) (first : ℕ) (codes left : List ℕ) (alpha best_value score loss : ℤ) (b : Option ℕ) → IsValid p → 0 < d → d ≤ 2 → pos 0 ≤ℤ loss → (d ≡ 2 → LosesAtMost p.hands (opponent_of p.side) e loss)
+pub drops_covered : (p : Shogi) (e : Eval) (d : ℕ) (kind : Kind) (first : ℕ) (codes left : List ℕ) (alpha best_value score loss : ℤ) (b : Option ℕ) → IsValid p → d ≡ 2 → pos 0 ≤ℤ loss → LosesAtMost p.hands (opponent_of p.side) e loss
     → ((to : ℕ) → to < 81 → is_legal p (Drop kind to) ≡ true → material_of (after p (Drop kind to)) e ≡ score) → (loss -ℤ score) ≤ℤ threshold best_value b first
     → IsPassed (IsCertainDrop p kind first) codes left → IsCovered (worth p e (d - 1)) (moves_at p d) codes alpha best_value b → IsCovered (worth p e (d - 1)) (moves_at p d) left alpha best_value b
-drops_covered p e d kind first codes left alpha best_value score loss b valid deep near h l same low passed k =
+drops_covered p e d kind first codes left alpha best_value score loss b valid last h l same low passed k =
     covered_passed (worth p e (d - 1)) (IsCertainDrop p kind first) (moves_at p d) codes left alpha best_value b passed
     (λ c is.
-    let most : worth p e (d - 1) c ≤ℤ (loss -ℤ score) = drop_worth p e d kind first c score loss valid deep near h l same is in
+    let most : worth p e (d - 1) c ≤ℤ (loss -ℤ score) = drop_worth p e d kind first c score loss valid last h l same is in
     let up : threshold best_value b first ≤ℤ threshold best_value b c = threshold_rises best_value b first c is.above in
     omega (arith, ints, most, up, low))
     k
 
 -- and moves on the board that take nothing
-pub quiets_covered : (p : Shogi) (e : Eval) (d : ℕ) (among : Destinations) (first : ℕ) (codes left : List ℕ) (alpha best_value loss : ℤ) (most : ℕ) (b : Option ℕ) → IsValid p → 0 < d → d ≤ 2 → pos 0 ≤ℤ loss → (d ≡ 2 → LosesAtMost p.hands (opponent_of p.side) e loss) → PromotesWithin most among → (material_of p e +ℤ pos most +ℤ loss) ≤ℤ threshold best_value b first
+pub quiets_covered : (p : Shogi) (e : Eval) (d : ℕ) (among : Destinations) (first : ℕ) (codes left : List ℕ) (alpha best_value loss : ℤ) (most : ℕ) (b : Option ℕ) → IsValid p → d ≡ 2 → pos 0 ≤ℤ loss → LosesAtMost p.hands (opponent_of p.side) e loss → PromotesWithin most among → (material_of p e +ℤ pos most +ℤ loss) ≤ℤ threshold best_value b first
     → IsPassed (IsCertainMove p false among first) codes left → IsCovered (worth p e (d - 1)) (moves_at p d) codes alpha best_value b → IsCovered (worth p e (d - 1)) (moves_at p d) left alpha best_value b
-quiets_covered p e d among first codes left alpha best_value loss most b valid deep near h l within low passed k =
+quiets_covered p e d among first codes left alpha best_value loss most b valid last h l within low passed k =
     covered_passed (worth p e (d - 1)) (IsCertainMove p false among first) (moves_at p d) codes left alpha best_value b passed
     (λ c is.
-    let worth_most : worth p e (d - 1) c ≤ℤ (material_of p e +ℤ pos most +ℤ loss) = quiet_worth p e d among first c most loss valid deep near h l within is in
+    let worth_most : worth p e (d - 1) c ≤ℤ (material_of p e +ℤ pos most +ℤ loss) = quiet_worth p e d among first c most loss valid last h l within is in
     let up : threshold best_value b first ≤ℤ threshold best_value b c = threshold_rises best_value b first c is.above in
     omega (arith, ints, worth_most, up, low))
     k
 
 -- so what is left does not grow
 pub left_passed : (f : Frame) (picker : MovePicker) (fact : ℕ → Type 0) → IsPassed fact (todo f.node.position f.picker) (todo f.node.position picker)
-    → 1 + left_of_waiting f.waiting + 2 * sum_of_tree_sizes f.node.position (f.depth - 1) (todo f.node.position picker) ≤ left_of_frame f
+    → 1 + 2 * sum_of_tree_sizes f.node.position (f.depth - 1) (todo f.node.position picker) ≤ left_of_frame f
 left_passed f picker fact passed = omega (arith, sum_passed f.node.position (f.depth - 1) fact _ _ passed)
 
 -- what is known of the threshold of a node that waits for nothing

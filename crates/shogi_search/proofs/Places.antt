@@ -10,21 +10,21 @@ use Rattle.shogi_moves.specs.After.{after_code}
 use Rattle.shogi_search.specs.declared.frame.Frame.{Frame}
 use Rattle.shogi_search.specs.declared.frame.Waiting.{Waiting}
 use Rattle.shogi_search.specs.declared.frame.Waiting.TheVariants.{Asked, Next, Cut}
-use Rattle.shogi_search.specs.declared.memo.Entry.{Entry}
+use Rattle.minimax.specs.declared.entry.Entry.{Entry}
 use Rattle.shogi_search.specs.declared.stack.Stack.{Stack}
-use Rattle.shogi_search.specs.Minimax.{negated, IsTrueEntry, tree_size, sum_of_tree_sizes}
-use Rattle.shogi_search.specs.Entries.{IsCutoff}
-use Rattle.shogi_search.specs.Window.{threshold, code_at}
+use Rattle.minimax.specs.Minimax.{negated, IsTrueEntry, tree_size, sum_of_tree_sizes}
+use Rattle.minimax.specs.Entries.{IsCutoff}
+use Rattle.minimax.specs.Window.{threshold, code_at}
 use Rattle.shogi_search.specs.Frames.{position_after, threshold_of}
-use Rattle.shogi_search.specs.Stack.{IsAt, IsSame, IsChain, IsStack, OnTop, UsesSteps, frames_of, parents_of, left_of_frame, steps_left, left_of_waiting, left_with_child, steps_after}
+use Rattle.shogi_search.specs.Stack.{IsAt, IsSame, IsChain, IsStack, OnTop, UsesSteps, frames_of, parents_of, left_of_frame, steps_left, left_with_child, steps_after}
 use Rattle.shogi_core.specs.Position.{Shogi}
 use Rattle.shogi_eval.specs.declared.eval.Eval.{Eval}
 use Rattle.shogi_search.specs.Order.{todo, IsWithinTree}
 use Rattle.shogi_search.specs.Visits.{IsOver, IsFree}
 use Rattle.shogi_search.proofs.Nodes.{asked, waits}
 use Rattle.shogi_search.proofs.Entries.{same_window, same_truth}
-use Rattle.shogi_search.proofs.Chains.{IsChild, IsPopped, popped, chain_same, chain_height, same_asked, left_above, left_same, pushed}
-use Rattle.shogi_search.specs.declared.bounds.TheConstants.{SEARCH_DEPTH_MAX, INFINITY}
+use Rattle.shogi_search.proofs.Chains.{IsChild, IsPopped, popped, chain_same, chain_height, same_asked, left_above, left_kept, pushed}
+use Rattle.minimax.specs.declared.bounds.TheConstants.{SEARCH_DEPTH_MAX, INFINITY}
 
 -- this frame is on top of the stack
 abbrev pub IsTop : Stack → Frame → Type 0
@@ -146,9 +146,9 @@ stack_popped s d g k h fits same =
     let low : s.height < SEARCH_DEPTH_MAX = k.height_fits in
     stack_with s (s.height - 1) g (omega arith) (omega arith) k.shallow (chain_same _ _ _ _ _ _ (get_or s.frames (s.height - 1) d) g r.popped.chain same)
 
-pub left_popped : (s : Stack) (d g : Frame) → IsStack s → 0 < s.height → s.height < length s.frames → IsSame (get_or s.frames (s.height - 1) d) g → g.picker ≡ (get_or s.frames (s.height - 1) d).picker → left_of_waiting g.waiting ≡ 0 → steps_left (with_frame s (s.height - 1) g) < steps_left s
-left_popped s d g k h fits same picker taken =
-    let l : left_of_frame g ≤ left_of_frame (get_or s.frames (s.height - 1) d) = left_same (get_or s.frames (s.height - 1) d) g same picker taken in
+pub left_popped : (s : Stack) (d g : Frame) → IsStack s → 0 < s.height → s.height < length s.frames → IsSame (get_or s.frames (s.height - 1) d) g → g.picker ≡ (get_or s.frames (s.height - 1) d).picker → steps_left (with_frame s (s.height - 1) g) < steps_left s
+left_popped s d g k h fits same picker =
+    let l : left_of_frame g ≡ left_of_frame (get_or s.frames (s.height - 1) d) = left_kept (get_or s.frames (s.height - 1) d) g same picker in
     let r : IsBelow s (get_or s.frames (s.height - 1) d) = below s d k h fits in
     omega (arith, left_with s (s.height - 1) g (omega arith), left_read s r.top r.is, left_above (parents_of s) (take (s.height - 1) s.frames) (get_or s.frames (s.height - 1) d) r.parents)
 
@@ -158,33 +158,22 @@ left_positive s k =
     let t : HasTop s (IsChain s.root s.eval s.depth (negated INFINITY) s.beta (parents_of s)) = has_top s _ k.chain in
     omega (arith, left_read s t.top t.is)
 
-deep_of : (f : Frame) (m : Move) → f.waiting ≡ Asked m → 0 < f.depth
-deep_of f m e = let w : _ = waits _ _ _ _ _ _ _ _ _ _ (asked f.waiting m e) f.known in w.deep
-
-pub room_asked : (s : Stack) (m : Move) → IsStack s → OnTop s (λ top. top.waiting ≡ Asked m) → OnTop s (λ top. top.depth ≢ 1) → s.height + 1 < 16
-room_asked s m k h more =
-    let t : HasTop s (λ top. top.waiting ≡ Asked m) = has_top s _ h in
-    let other : t.top.depth ≢ 1 = on_top s t.top (λ (top : Frame). top.depth ≢ 1) t.is more in
-    room s t.top t.is k (omega (arith, deep_of t.top m t.has, other))
-
 -- the child after the move that the node on top has asked for is entered above it
-pub stack_entered : (s : Stack) (f g : Frame) (m : Move) → IsTop s f → IsStack s → f.waiting ≡ Asked m → f.depth ≢ 1 → s.height + 1 < length s.frames → IsAt (position_after f m) f.node.eval (f.depth - 1) (negated f.beta) (negated (threshold_of f m)) g → IsStack (with_frame s (s.height + 1) g)
+pub stack_entered : (s : Stack) (f g : Frame) (m : Move) → IsTop s f → IsStack s → f.waiting ≡ Asked m → 1 < f.depth → s.height + 1 < length s.frames → IsAt (position_after f m) f.node.eval (f.depth - 1) (negated f.beta) (negated (threshold_of f m)) g → IsStack (with_frame s (s.height + 1) g)
 stack_entered s f g m is k asks more fits place =
-    let deep : 0 < f.depth = deep_of f m asks in
-    stack_with s (s.height + 1) g fits (omega (arith, room s f is k (omega (arith, deep, more)))) k.shallow
-    (pushed _ _ _ _ _ (frames_of s) (parents_of s) f g m (frames_are s f is) (on_top s f _ is k.chain) (record { deep = deep; asks = asks; at_child = place }))
+    stack_with s (s.height + 1) g fits (omega (arith, room s f is k more)) k.shallow
+    (pushed _ _ _ _ _ (frames_of s) (parents_of s) f g m (frames_are s f is) (on_top s f _ is k.chain) (record { deep = omega (arith, more); asks = asks; at_child = place }))
 
 -- a node is entered, and none of its moves is gone through
-pub left_entered : (s : Stack) (i : ℕ) (f : Frame) (p : Shogi) (e : Eval) (d : ℕ) (alpha beta : ℤ) → i < length s.frames → IsAt p e d alpha beta f → f.waiting ≡ Next → IsWithinTree p d f.picker → steps_left (with_frame s i f) < sum_by left_of_frame (take i s.frames) + 2 * tree_size p d
-left_entered s i f p e d alpha beta fits place next counted =
-    let none : left_of_waiting f.waiting ≡ 0 = ap left_of_waiting next in
+pub left_entered : (s : Stack) (i : ℕ) (f : Frame) (p : Shogi) (e : Eval) (d : ℕ) (alpha beta : ℤ) → i < length s.frames → IsAt p e d alpha beta f → IsWithinTree p d f.picker → steps_left (with_frame s i f) < sum_by left_of_frame (take i s.frames) + 2 * tree_size p d
+left_entered s i f p e d alpha beta fits place counted =
     let moves : sum_of_tree_sizes f.node.position (f.depth - 1) (todo f.node.position f.picker) ≡ sum_of_tree_sizes p (d - 1) (todo p f.picker) = ap (λ (x : Shogi). sum_of_tree_sizes x (f.depth - 1) (todo x f.picker)) place.position ∙ ap (λ (x : ℕ). sum_of_tree_sizes p (x - 1) (todo p f.picker)) place.depth in
-    omega (arith, none, moves, counted, left_with s i f fits)
+    omega (arith, moves, counted, left_with s i f fits)
 
-pub left_child : (s : Stack) (f g : Frame) (m : Move) (e : Eval) (alpha beta : ℤ) → IsTop s f → s.height + 1 < length s.frames → IsAt (position_after f m) e (f.depth - 1) alpha beta g → g.waiting ≡ Next → IsWithinTree (position_after f m) (f.depth - 1) g.picker → UsesSteps s (with_frame s (s.height + 1) g) m 1
-left_child s f g m e alpha beta is fits place next counted =
+pub left_child : (s : Stack) (f g : Frame) (m : Move) (e : Eval) (alpha beta : ℤ) → IsTop s f → s.height + 1 < length s.frames → IsAt (position_after f m) e (f.depth - 1) alpha beta g → IsWithinTree (position_after f m) (f.depth - 1) g.picker → UsesSteps s (with_frame s (s.height + 1) g) m 1
+left_child s f g m e alpha beta is fits place counted =
     of_top s f (λ (top : Frame). steps_left (with_frame s (s.height + 1) g) + 1 ≤ steps_left s + steps_after top m) is
-    (omega (arith, left_entered s (s.height + 1) g _ e _ alpha beta fits place next counted))
+    (omega (arith, left_entered s (s.height + 1) g _ e _ alpha beta fits place counted))
 
 -- the node on top has gone on with a move
 pub left_visited : (s : Stack) (m : Move) (f g : Frame) (n : ℕ) → IsTop s f → left_of_frame g + n ≤ left_with_child f m → UsesSteps s (with_frame s s.height g) m n
@@ -201,8 +190,11 @@ left_descended s t m f g n is less l =
 pub over_next : (g : Frame) → g.waiting ≡ Next → todo g.node.position g.picker ≡ [] → IsOver g.waiting (todo g.node.position g.picker)
 over_next g next none = subst (λ (w : Waiting). IsOver w (todo g.node.position g.picker)) (sym next) none
 
-pub over_cut : (f : Frame) (v : ℤ) → f.waiting ≡ Cut v → IsOver f.waiting (todo f.node.position f.picker)
-over_cut f v cut = subst (λ (w : Waiting). IsOver w (todo f.node.position f.picker)) (sym cut) tt
+-- what waits neither for its next move nor for an answer is cut off
+pub over_cut : (w : Waiting) (codes : List ℕ) → (w ≡ Next → ⊥) → IsFree w → IsOver w codes
+over_cut Next codes waits free = absurd (waits refl)
+over_cut (Asked m) codes waits free = absurd free
+over_cut (Cut v) codes waits free = tt
 
 pub free_next : (w : Waiting) → w ≡ Next → IsFree w
 free_next w e = subst IsFree (sym e) tt

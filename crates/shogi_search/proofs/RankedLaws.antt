@@ -13,10 +13,10 @@ use Rattle.shogi_moves.specs.LegalMoves.{legal_codes}
 use Rattle.shogi_moves.specs.Rising.{is_in, IsRising}
 use Rattle.shogi_moves.proofs.LegalLaws.{legal_rising}
 use Rattle.shogi_eval.specs.declared.eval.Eval.{Eval}
-use Rattle.shogi_search.specs.Minimax.{worth, best_code, lost_value, greatest, greatest_or}
-use Rattle.shogi_search.proofs.Equal.{same_int_eq, less_int_eq}
-use Rattle.shogi_search.proofs.Greatest.{greatest_above, greatest_least, find_first}
-use Rattle.shogi_search.proofs.MinimaxLaws.{value-above, best_code-above}
+use Rattle.minimax.specs.Minimax.{worth, best_code, lost_value, greatest, greatest_or}
+use Rattle.minimax.proofs.Equal.{same_int_eq, less_int_eq}
+use Rattle.minimax.proofs.Greatest.{greatest_above, greatest_least, find_first}
+use Rattle.minimax.proofs.MinimaxLaws.{value-above, best_code-above}
 use Rattle.shogi_search.specs.Ranked.{is_better, insert_code, ranked, ranked_codes, insert_pair, codes_in, are_ranked, coded, with_worth}
 
 same_int : (v w : ℤ) → v ≤ℤ w → w ≤ℤ v → v ≡ w

@@ -13,15 +13,15 @@ use Rattle.shogi_moves.specs.LegalMoves.{legal_codes, legal_above}
 use Rattle.shogi_moves.specs.Rising.{is_in, IsRising}
 use Rattle.shogi_moves.proofs.LegalLaws.{legal_rising}
 use Rattle.shogi_eval.specs.declared.eval.Eval.{Eval}
-use Rattle.shogi_search.proofs.MinimaxLaws.{value_within, Within}
+use Rattle.minimax.proofs.MinimaxLaws.{value_within, Within}
 use Rattle.shogi_search.proofs.MatchingOthers.{is_in-append_left, is_in-append_right}
 use Rattle.shogi_search.proofs.RankedLaws.{in_ranked, first_in, at_place_in, rank_past, not_before, ranked_last, ranked_list, AreDistinct}
-use Rattle.shogi_search.proofs.Valid.{after_valid}
+use Rattle.minimax.proofs.Valid.{after_valid}
 use Rattle.shogi_search.specs.declared.found.Found.{Found}
 use Rattle.shogi_search.specs.Progress.{IsFoundBelow}
-use Rattle.shogi_search.specs.Minimax.{value, worth, negated}
+use Rattle.minimax.specs.Minimax.{value, worth, negated}
 use Rattle.shogi_search.specs.Ranked.{ranked, insert_code, is_better, codes_in, coded, with_worth, Ranking, IsTop, value_in, value_to_pass, beta_above, child_beta}
-use Rattle.shogi_search.specs.declared.bounds.TheConstants.{SEARCH_DEPTH_MAX, INFINITY}
+use Rattle.minimax.specs.declared.bounds.TheConstants.{SEARCH_DEPTH_MAX, INFINITY}
 
 codes_of_coded : (xs : List (Move × ℤ)) → map (λ (q : ℕ × ℤ). q.0) (map coded xs) ≡ codes_in xs
 codes_of_coded [] = refl

@@ -4,11 +4,11 @@ use Rattle.std.specs.Prelude.{IfSome}
 use Rattle.std.specs.Option.{ForSome}
 use Rattle.shogi_search.specs.declared.found.Found.{Found}
 use Rattle.shogi_search.specs.declared.sliced_search.Search.TheInside.{Inside}
-use Rattle.shogi_search.specs.Minimax.{value, best}
+use Rattle.minimax.specs.Minimax.{value, best}
 use Rattle.shogi_search.specs.Progress.{IsFoundBelow}
 use Rattle.shogi_search.specs.SlicedSearch.{IsKnown}
 use Rattle.shogi_search.proofs.Entries.{whole_value, whole_best}
-use Rattle.shogi_search.specs.declared.bounds.TheConstants.{INFINITY}
+use Rattle.minimax.specs.declared.bounds.TheConstants.{INFINITY}
 
 -- what is found is known
 pub known_found : (s : Inside) (f : Found) (beta : ℤ) → s.found ≡ Some f → beta ≡ s.stack.beta → IsFoundBelow s.stack.root s.stack.eval s.stack.depth beta f → f.steps ≡ s.steps → ForSome s.found (IsKnown s)

@@ -9,14 +9,14 @@ use Rattle.shogi_moves.specs.After.{after, after_code}
 use Rattle.shogi_moves.specs.LegalMoves.{legal_codes}
 use Rattle.shogi_moves.specs.Threats.{MayTake}
 use Rattle.shogi_search.specs.declared.frame.Frame.{Frame}
-use Rattle.shogi_search.specs.declared.memo.Entry.{Entry}
+use Rattle.minimax.specs.declared.entry.Entry.{Entry}
 use Rattle.shogi_search.specs.declared.threat.Threat.{Threat}
-use Rattle.shogi_search.specs.Entries.{IsCutoff}
+use Rattle.minimax.specs.Entries.{IsCutoff}
 use Rattle.shogi_search.specs.Losses.{LosesAtMost}
-use Rattle.shogi_search.specs.Minimax.{value, worth, negated, IsTrueEntry}
+use Rattle.minimax.specs.Minimax.{worth, IsTrueEntry, negated}
 use Rattle.shogi_search.specs.Order.{todo}
 use Rattle.shogi_search.specs.Visits.{IsOver, WhereCurrent}
-use Rattle.shogi_search.specs.Window.{threshold, code_at}
+use Rattle.minimax.specs.Window.{threshold, code_at}
 
 -- the position after a move of the node
 abbrev pub position_after : Frame → Move → Shogi
@@ -29,10 +29,6 @@ worth_of f m = worth f.node.position f.node.eval (f.depth - 1) (code_of m)
 -- what the move has to be worth more than
 abbrev pub threshold_of : Frame → Move → ℤ
 threshold_of f m = threshold f.best_value (code_at f.best_move) (code_of m)
-
--- the value at depth 0 of the position after the move
-abbrev pub leaf_value : Frame → Move → ℤ
-leaf_value f m = value (position_after f m) f.node.eval 0
 
 -- what an entry says of the node holds
 abbrev pub IsTrueOf : Frame → Entry → Type 0

@@ -1,6 +1,3 @@
-pub mod Minimax
-pub mod Entries
-pub mod Window
 pub mod Order
 pub mod Visits
 pub mod Losses

@@ -7,8 +7,8 @@ use Rattle.shogi_core.specs.Position.{HandCounts, count_in_hand}
 use Rattle.shogi_moves.specs.declared.destinations.Destinations.{Destinations}
 use Rattle.shogi_eval.specs.declared.eval.Eval.{Eval}
 use Rattle.shogi_eval.specs.Material.{drop_gain}
-use Rattle.shogi_search.specs.declared.bounds.TheConstants.{PROMOTION_GAIN_MAX}
-use Rattle.shogi_search.specs.Minimax.{negated}
+use Rattle.shogi_search.specs.declared.losses.TheConstants.{PROMOTION_GAIN_MAX}
+use Rattle.minimax.specs.Minimax.{negated}
 
 -- a drop of the kind takes no more than this, where the side holds one
 abbrev pub KindLosesAtMost : HandCounts → Color → Eval → ℤ → Kind → Type 0

@@ -14,7 +14,7 @@ use Rattle.shogi_moves.specs.Walks.{IsNextOf, TakesNext}
 use Rattle.shogi_moves.specs.declared.destinations.Destinations.{Destinations}
 use Rattle.shogi_moves.specs.declared.sweep.BoardSweep.{BoardSweep}
 use Rattle.shogi_moves.specs.declared.sweep.DropSweep.{DropSweep}
-use Rattle.shogi_search.specs.Minimax.{sum_of_tree_sizes, tree_size}
+use Rattle.minimax.specs.Minimax.{sum_of_tree_sizes, tree_size}
 use Rattle.shogi_search.specs.declared.move_picker.MovePicker.{MovePicker}
 use Rattle.shogi_search.specs.declared.move_picker.MovePicker.TheVariants.{HashMove, Start, Captures, Quiets, Drops, Done}
 

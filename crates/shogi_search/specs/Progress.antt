@@ -4,11 +4,11 @@ use Rattle.std.specs.Option.{ForSome}
 use Rattle.shogi_core.specs.Position.{Shogi}
 use Rattle.shogi_eval.specs.declared.eval.Eval.{Eval}
 use Rattle.shogi_search.specs.declared.found.Found.{Found}
-use Rattle.shogi_search.specs.declared.memo.Entry.{Entry}
-use Rattle.shogi_search.specs.Minimax.{value, best, tree_size, negated}
+use Rattle.minimax.specs.declared.entry.Entry.{Entry}
+use Rattle.minimax.specs.Minimax.{value, best, tree_size, negated}
 use Rattle.shogi_search.specs.Entered.{Entered, IsPath}
-use Rattle.shogi_search.specs.Entries.{IsEnoughBelow, IsExactly}
-use Rattle.shogi_search.specs.declared.bounds.TheConstants.{INFINITY}
+use Rattle.minimax.specs.Entries.{IsEnoughBelow, IsExactly}
+use Rattle.minimax.specs.declared.bounds.TheConstants.{INFINITY}
 
 -- where it began, under which evaluation, how deep it looks, the bound below which values are found, whether its root is entered, the nodes that are entered and not left, what is left of it, its steps so far, and what it found
 pub record Progress : Type 0 where

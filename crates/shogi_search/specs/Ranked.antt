@@ -7,8 +7,8 @@ use Rattle.shogi_core.specs.Codes.{code_of}
 use Rattle.shogi_core.specs.Position.{Shogi}
 use Rattle.shogi_moves.specs.LegalMoves.{legal_codes}
 use Rattle.shogi_eval.specs.declared.eval.Eval.{Eval}
-use Rattle.shogi_search.specs.Minimax.{worth, negated}
-use Rattle.shogi_search.specs.declared.bounds.TheConstants.{INFINITY}
+use Rattle.minimax.specs.Minimax.{worth, negated}
+use Rattle.minimax.specs.declared.bounds.TheConstants.{INFINITY}
 
 -- whether a move of worth v and this code is better than one of worth w and the other code: it is worth more, or as much with the lesser code
 abbrev pub is_better : ℤ → ℕ → ℤ → ℕ → Bool

@@ -4,18 +4,18 @@ use Rattle.std.specs.Option.{ForSome}
 use Rattle.shogi_core.specs.Codes.{code_of}
 use Rattle.shogi_search.specs.declared.frame.Frame.{Frame}
 use Rattle.shogi_search.specs.declared.frame.Waiting.{Waiting}
-use Rattle.shogi_search.specs.declared.frame.Waiting.TheVariants.{Next, Asked, Leaf, Cut}
+use Rattle.shogi_search.specs.declared.frame.Waiting.TheVariants.{Next, Asked, Cut}
 use Rattle.shogi_search.specs.declared.found.Found.{Found}
 use Rattle.shogi_search.specs.declared.sliced_search.Search.TheInside.{Inside}
 use Rattle.shogi_search.specs.declared.stack.Stack.{Stack}
-use Rattle.shogi_search.specs.Minimax.{tree_size, negated}
+use Rattle.minimax.specs.Minimax.{tree_size, negated}
 use Rattle.shogi_search.specs.Entered.{Entered}
 use Rattle.shogi_search.specs.Order.{todo}
 use Rattle.shogi_search.specs.Progress.{Progress, IsFoundBelow}
 use Rattle.shogi_search.specs.Visits.{IsFree}
 use Rattle.shogi_search.specs.Stack.{IsStack, OnTop, frames_of, steps_left}
-use Rattle.shogi_search.specs.Window.{code_at}
-use Rattle.shogi_search.specs.declared.bounds.TheConstants.{SEARCH_DEPTH_MAX, INFINITY}
+use Rattle.minimax.specs.Window.{code_at}
+use Rattle.minimax.specs.declared.bounds.TheConstants.{SEARCH_DEPTH_MAX, INFINITY}
 
 -- the most steps of the search: two for each node of the tree
 abbrev pub steps_of_tree : Stack → ℕ
@@ -31,14 +31,12 @@ left_in None true whole rest = rest
 abbrev pub current_in : Waiting → Option ℕ
 current_in Next = None
 current_in (Asked m) = Some (code_of m)
-current_in (Leaf m v) = Some (code_of m)
 current_in (Cut v) = None
 
 -- what the node is worth at least, where a child has cut it off
 abbrev pub cutoff_in : Waiting → Option ℤ
 cutoff_in Next = None
 cutoff_in (Asked m) = None
-cutoff_in (Leaf m v) = None
 cutoff_in (Cut v) = Some v
 
 -- the current move, and then those to be visited

@@ -7,14 +7,14 @@ use Rattle.shogi_moves.specs.After.{after_code}
 use Rattle.shogi_eval.specs.declared.eval.Eval.{Eval}
 use Rattle.shogi_search.specs.declared.frame.Frame.{Frame}
 use Rattle.shogi_search.specs.declared.frame.Waiting.{Waiting}
-use Rattle.shogi_search.specs.declared.frame.Waiting.TheVariants.{Next, Asked, Leaf, Cut}
-use Rattle.shogi_search.specs.declared.memo.Entry.{Entry}
+use Rattle.shogi_search.specs.declared.frame.Waiting.TheVariants.{Next, Asked, Cut}
+use Rattle.minimax.specs.declared.entry.Entry.{Entry}
 use Rattle.shogi_search.specs.declared.stack.Stack.{Stack}
 use Rattle.shogi_search.specs.Frames.{position_after, threshold_of}
-use Rattle.shogi_search.specs.Minimax.{negated, sum_of_tree_sizes, tree_size, IsTrueEntry}
+use Rattle.minimax.specs.Minimax.{negated, sum_of_tree_sizes, tree_size, IsTrueEntry}
 use Rattle.shogi_search.specs.Order.{todo}
 use Rattle.shogi_search.specs.Visits.{IsFree}
-use Rattle.shogi_search.specs.declared.bounds.TheConstants.{SEARCH_DEPTH_MAX, INFINITY}
+use Rattle.minimax.specs.declared.bounds.TheConstants.{SEARCH_DEPTH_MAX, INFINITY}
 
 -- a frame stands for a position under an evaluation at a depth, under a window
 pub record IsAt (p : Shogi) (e : Eval) (d : ℕ) (alpha beta : ℤ) (frame : Frame) : Type 0 where
@@ -40,7 +40,6 @@ KeepsMoves old new =
 abbrev pub WhereAsked : Waiting → (Move → Type 0) → Type 0
 WhereAsked Next fact = ⊥
 WhereAsked (Asked m) fact = fact m
-WhereAsked (Leaf m v) fact = ⊥
 WhereAsked (Cut v) fact = ⊥
 
 -- each frame is the child that the one below it has asked for
@@ -81,18 +80,10 @@ pub record IsStack (s : Stack) : Type 0 where
   pub height_fits : s.height < SEARCH_DEPTH_MAX
   pub chain : OnTop s (IsChain s.root s.eval s.depth (negated INFINITY) s.beta (parents_of s))
 
--- a leaf whose value is still to be taken in
-abbrev pub left_of_waiting : Waiting → ℕ
-left_of_waiting Next = 0
-left_of_waiting (Asked m) = 0
-left_of_waiting (Leaf m v) = 1
-left_of_waiting (Cut v) = 0
-
--- what is left of a frame: itself, a leaf, and twice the nodes after the moves neither entered nor answered
+-- what is left of a frame: itself, and twice the nodes after the moves neither entered nor answered
 abbrev pub left_of_frame : Frame → ℕ
 left_of_frame f =
-    1 + left_of_waiting f.waiting
-    + 2 * sum_of_tree_sizes f.node.position (f.depth - 1) (todo f.node.position f.picker)
+    1 + 2 * sum_of_tree_sizes f.node.position (f.depth - 1) (todo f.node.position f.picker)
 
 -- the most steps for the tree after a move of the node: two for each of its nodes
 abbrev pub steps_after : Frame → Move → ℕ
@@ -119,8 +110,7 @@ AsksFor asked old new =
 abbrev pub EndsVisit : Frame → Frame → Type 0
 EndsVisit old new =
     IsSame old new
-    × ((new.picker ≡ old.picker)
-    × (IsFree new.waiting × (left_of_waiting new.waiting ≡ 0)))
+    × ((new.picker ≡ old.picker) × IsFree new.waiting)
 
 -- some moves to visit are passed before the next one is asked for
 abbrev pub PrunesRow : Frame → Frame → Type 0

@@ -4,13 +4,12 @@ use Rattle.std.proofs.Props.{props}
 use Rattle.shogi_core.specs.declared.moves.Move.{Move}
 use Rattle.shogi_core.specs.Codes.{code_of}
 use Rattle.shogi_core.specs.Position.{Shogi}
-use Rattle.shogi_moves.specs.After.{after_code}
 use Rattle.shogi_moves.specs.LegalMoves.{legal_codes}
 use Rattle.shogi_eval.specs.declared.eval.Eval.{Eval}
 use Rattle.shogi_search.specs.declared.frame.Waiting.{Waiting}
-use Rattle.shogi_search.specs.declared.frame.Waiting.TheVariants.{Next, Asked, Leaf, Cut}
-use Rattle.shogi_search.specs.Minimax.{value, worth}
-use Rattle.shogi_search.specs.Window.{IsCovered}
+use Rattle.shogi_search.specs.declared.frame.Waiting.TheVariants.{Next, Asked, Cut}
+use Rattle.minimax.specs.Minimax.{value, worth}
+use Rattle.minimax.specs.Window.{IsCovered}
 
 -- the moves that a search at a depth goes through: none at depth 0
 abbrev pub moves_at : Shogi → ℕ → List ℕ
@@ -21,7 +20,6 @@ moves_at p (suc d) = legal_codes p
 abbrev pub WhereCurrent : Waiting → (Move → Type 0) → Type 0
 WhereCurrent Next fact = ⊥
 WhereCurrent (Asked m) fact = fact m
-WhereCurrent (Leaf m v) fact = fact m
 WhereCurrent (Cut v) fact = ⊥
 
 -- this move is that one
@@ -32,25 +30,20 @@ IsCurrent waiting m = WhereCurrent waiting (λ k. k ≡ m)
 abbrev pub IsFree : Waiting → Type 0
 IsFree Next = Unit {0}
 IsFree (Asked m) = ⊥
-IsFree (Leaf m v) = Unit {0}
 IsFree (Cut v) = Unit {0}
 
 -- the node is cut off, or no move is to be visited
 abbrev pub IsOver : Waiting → List ℕ → Type 0
 IsOver Next codes = codes ≡ []
 IsOver (Asked m) codes = ⊥
-IsOver (Leaf m v) codes = ⊥
 IsOver (Cut v) codes = Unit {0}
 
--- what is known of a node with these moves to visit: the worth of all others but the current one; the value of the leaf after that; or that the node is worth enough
+-- what is known of a node with these moves to visit: the worth of all others but the current one, or that the node is worth enough
 abbrev pub IsKnownWhile : Shogi → Eval → ℕ → ℤ → ℤ → ℤ → Option ℕ → List ℕ → Waiting → Type 0
 IsKnownWhile p e d alpha beta best_value best_move codes Next =
     IsCovered (worth p e (d - 1)) (moves_at p d) codes alpha best_value best_move
 IsKnownWhile p e d alpha beta best_value best_move codes (Asked m) =
     IsCovered (worth p e (d - 1)) (moves_at p d) (code_of m ∷ codes) alpha best_value best_move
-IsKnownWhile p e d alpha beta best_value best_move codes (Leaf m v) =
-    IsCovered (worth p e (d - 1)) (moves_at p d) (code_of m ∷ codes) alpha best_value best_move
-    × ((d ≡ 1) × (value (after_code p (code_of m)) e 0 ≡ v))
 IsKnownWhile p e d alpha beta best_value best_move codes (Cut v) = (v ≤ℤ value p e d) × (beta ≤ℤ v)
 
 -- it has one proof at most, so it may be a ghost field
@@ -60,5 +53,4 @@ pub IsKnownWhile-prop :
     → IsProp (IsKnownWhile p e d alpha beta best_value best_move codes waiting)
 IsKnownWhile-prop p e d alpha beta best_value best_move codes Next = Prim.hlevel props
 IsKnownWhile-prop p e d alpha beta best_value best_move codes (Asked m) = Prim.hlevel props
-IsKnownWhile-prop p e d alpha beta best_value best_move codes (Leaf m v) = Prim.hlevel props
 IsKnownWhile-prop p e d alpha beta best_value best_move codes (Cut v) = Prim.hlevel props

@@ -13,6 +13,7 @@ pub struct Found {
     /// bound.
     pub best: Option<Move>,
     /// The steps made: it stays at the greatest number once it is there. A step enters a node,
-    /// leaves a node, or has a child answered by the memo.
+    /// leaves a node, or has a child or the root answered at once: by the memo, or where one ply is
+    /// left or none. A root that the memo answers takes none.
     pub steps: u64,
 }

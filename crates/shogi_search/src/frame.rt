@@ -7,27 +7,23 @@ ghost use Rattle.shogi_core.specs.Validity.{IsValid};
 ghost use Rattle.shogi_moves.specs.Escapes.{AreEscapes};
 ghost use Rattle.shogi_moves.specs.LegalMoves.{legal_codes};
 ghost use Rattle.shogi_moves.specs.Replies.{IsReplies};
-ghost use Rattle.shogi_eval.specs.Material.{drop_gain};
 ghost use Rattle.shogi_eval.specs.declared.points.TheConstants.{POINTS_MAX};
-ghost use Rattle.shogi_search.specs.Minimax.{value, negated};
-ghost use Rattle.shogi_search.specs.Entries.{IsCutoff};
-ghost use Rattle.shogi_search.specs.Losses.{LosesAtMost, KindLosesAtMost, PromotesWithin};
+ghost use Rattle.minimax.specs.Minimax.{value, negated};
+ghost use Rattle.minimax.specs.Entries.{IsCutoff};
 ghost use Rattle.shogi_search.specs.Threats.{IsThreatIn};
 ghost use Rattle.shogi_search.specs.Order.{todo, BeginsWith, IsListed, IsWithinTree, IsKept, IsKept-prop};
-ghost use Rattle.shogi_search.specs.Visits.{IsKnownWhile, IsKnownWhile-prop, IsCurrent, WhereCurrent, IsFree};
-ghost use Rattle.shogi_search.specs.Window.{code_at};
-ghost use Rattle.shogi_search.specs.declared.bounds.TheConstants.{SEARCH_DEPTH_MAX, INFINITY, MATE};
+ghost use Rattle.shogi_search.specs.Visits.{IsKnownWhile, IsKnownWhile-prop, IsCurrent, WhereCurrent};
+ghost use Rattle.minimax.specs.Window.{code_at};
+ghost use Rattle.minimax.specs.declared.bounds.TheConstants.{SEARCH_DEPTH_MAX, INFINITY, MATE};
 
-use crate::bounds::{MATE, PROMOTION_GAIN_MAX};
-use crate::memo::Entry;
+use crate::losses::{loss_of_drops, quiet_squares};
 use crate::move_picker::MovePicker;
 use crate::threat::{Threat, greatest_threat};
 use crate::window::{threshold, threshold_at};
-use shogi_core::{Color, Kind, Move, Position};
-use shogi_eval::{Eval, Node, drop_gain};
-use shogi_moves::{
-    Destinations, Replies, escape_squares, has_legal, king_takes, leaves_escape, leaves_king_move,
-};
+use minimax::{Entry, MATE};
+use shogi_core::Move;
+use shogi_eval::{Eval, Node};
+use shogi_moves::{Replies, escape_squares, has_legal, leaves_escape};
 
 /// What a node waits for.
 #[derive(Clone, Copy)]
@@ -36,8 +32,6 @@ pub enum Waiting {
     Next,
     /// The answer of the current move.
     Asked(Move),
-    /// The step that takes in the value of the leaf after the current move.
-    Leaf(Move, i32),
     /// To be left: it is worth this much or more, which is enough.
     Cut(i32),
 }
@@ -63,8 +57,6 @@ pub struct Frame {
     pub has_move: bool,
     /// Set once the replies are those of the position.
     pub has_replies: bool,
-    /// Set while it is known of the current move that it is not certain to be answered.
-    pub is_unanswered: bool,
     /// Set once the threat was looked for.
     pub has_threat: bool,
     ghost valid: { IsValid node.position },
@@ -91,7 +83,7 @@ fn can_move(node: &Node) -> bool
 }
 
 /// The value at depth 0.
-#[tactic(auto, using(crate::proofs::MinimaxLaws::leaves))]
+#[tactic(auto, using(minimax::proofs::MinimaxLaws::leaves))]
 pub fn leaf(node: &Node) -> i32
     ensures value { result ≡ value node.now.position node.now.eval 0 }
     ensures least { negated MATE ≤ℤ result }
@@ -100,88 +92,12 @@ pub fn leaf(node: &Node) -> i32
     if can_move(node) { node.score() } else { -MATE }
 }
 
-/// What shows which moves surely have a reply, if that is asked for.
-fn replies_of(node: &Node, ahead: bool) -> Replies
-    ensures { IsReplies node.now.position result.sight result.spare }
-{
-    if ahead {
-        Replies::of(node.as_position())
-    } else {
-        Replies::unknown(node.as_position())
-    }
-}
-
-/// The greater of the loss and what a drop of the kind loses under `Hand`, where the side holds
-/// one.
-#[inline(always)]
-fn with_loss_of_kind(p: &Position, side: Color, kind: Kind, loss: u32) -> u32
-    requires most { loss ≤ 100 }
-    ensures kept { loss ≤ result }
-    ensures loss { KindLosesAtMost p.now.hands side Eval.Hand (pos result) kind }
-    ensures most { result ≤ 100 }
-{
-    if p.hand(side, kind) == 0 {
-        return loss;
-    }
-    let other = (0 - drop_gain(Eval::Hand, kind)) as u32;
-    if other > loss { other } else { loss }
-}
-
-/// The most that a drop of the side loses under `Hand`: what one of the dearest kind that it holds
-/// loses.
-fn loss_of_hand(p: &Position, side: Color) -> u32
-    ensures loss { LosesAtMost p.now.hands side Eval.Hand (pos result) }
-    ensures most { result ≤ 100 }
-{
-    let loss = with_loss_of_kind(p, side, Kind::Pawn, 0);
-    let loss = with_loss_of_kind(p, side, Kind::Lance, loss);
-    let loss = with_loss_of_kind(p, side, Kind::Knight, loss);
-    let loss = with_loss_of_kind(p, side, Kind::Silver, loss);
-    let loss = with_loss_of_kind(p, side, Kind::Gold, loss);
-    let loss = with_loss_of_kind(p, side, Kind::Bishop, loss);
-    with_loss_of_kind(p, side, Kind::Rook, loss)
-}
-
-/// The most that a drop of the side loses of its material.
-#[inline(always)]
-fn loss_of_drops(p: &Position, side: Color, e: Eval) -> i32
-    ensures loss { LosesAtMost p.now.hands side e result }
-    ensures least { pos 0 ≤ℤ result }
-    ensures most { result ≤ℤ pos 100 }
-{
-    match e {
-        Eval::Plain => 0,
-        Eval::Hand => loss_of_hand(p, side) as i32,
-    }
-}
-
-/// The empty squares, for moves with promotion only where no promotion gains more than this.
-#[inline(always)]
-fn quiet_squares(p: &Position, most: u32) -> Destinations
-    ensures { PromotesWithin most result }
-{
-    let plain = p.as_board().free();
-    Destinations {
-        plain,
-        promoting: if most < PROMOTION_GAIN_MAX { 0 } else { plain },
-    }
-}
-
 impl Frame {
-    ghost use Rattle.shogi_search.specs.Frames.{worth_of, threshold_of, leaf_value, FailsLow, IsTrueOf, IsTrueAfter, IsCutoffAfter, IsToBeLeft, HasReply, IsWorthAtMost, IsMostUnderThreat, RepliesLoseAtMost};
+    ghost use Rattle.shogi_search.specs.Frames.{worth_of, threshold_of, FailsLow, IsTrueOf, IsTrueAfter, IsCutoffAfter, IsToBeLeft, HasReply, IsWorthAtMost, IsMostUnderThreat, RepliesLoseAtMost};
     ghost use Rattle.shogi_search.specs.Stack.{IsAt, IsSame, KeepsMoves, EndsVisit, AsksFor, PrunesRow};
 
-    /// The frame becomes that of a node that is entered, with the move to visit first; `ahead` asks
-    /// for what shows, without making a leaf, that it has a legal move.
-    pub fn enter(
-        &mut self,
-        node: &Node,
-        depth: u8,
-        alpha: i32,
-        beta: i32,
-        hash_move: Option<Move>,
-        ahead: bool,
-    )
+    /// The frame becomes that of a node that is entered, with the move to visit first.
+    pub fn enter(&mut self, node: &Node, depth: u8, alpha: i32, beta: i32, hash_move: Option<Move>)
         requires shallow { depth ≤ SEARCH_DEPTH_MAX }
         requires least { negated INFINITY ≤ℤ alpha }
         requires open { alpha <ℤ beta }
@@ -202,10 +118,9 @@ impl Frame {
         self.has_move = false;
         self.picker = MovePicker::new(depth, hash_move);
         self.waiting = Waiting::Next;
-        self.replies = replies_of(node, ahead);
-        self.has_replies = ahead;
+        self.replies = Replies::unknown(node.as_position());
+        self.has_replies = false;
         self.escapes = None;
-        self.is_unanswered = false;
         self.threat = None;
         self.has_threat = false;
     }
@@ -260,11 +175,10 @@ impl Frame {
         }
     }
 
-    /// The same at depth 1 or 2, where the moves that surely are not worth enough are passed.
+    /// The same at depth 2, where the moves that surely are not worth enough are passed.
     fn worthy_move(&mut self) -> Option<Move>
         requires next { self.old.waiting ≡ Waiting.Next }
-        requires deep { 0 < self.old.depth }
-        requires near { self.old.depth ≤ 2 }
+        requires last { self.old.depth ≡ 2 }
         ensures { AsksFor result self.old self.new }
     {
         self.prune_rows();
@@ -277,14 +191,14 @@ impl Frame {
         None
     }
 
-    /// Asks for the answer of the next move, where there is one. At depth 2, and at depth 1 where
-    /// leaves are valued without making them, the moves that surely are not worth enough are passed.
+    /// Asks for the answer of the next move, where there is one. At depth 2 the moves that surely are
+    /// not worth enough are passed.
     #[inline(always)]
     pub fn next_move(&mut self) -> Option<Move>
         requires next { self.old.waiting ≡ Waiting.Next }
         ensures { AsksFor result self.old self.new }
     {
-        if self.depth == 2 || self.depth == 1 && self.has_replies {
+        if self.depth == 2 {
             return self.worthy_move();
         }
         self.pick_move()
@@ -419,41 +333,25 @@ impl Frame {
         leaves_escape(self.node.as_position(), escapes, current)
     }
 
-    /// Whether it is certain without making the current move that the other side's king has a legal
-    /// move after it, as `is_answered` does not see it.
-    #[inline(always)]
-    fn is_answered_by_king(&self, current: &Move) -> bool
-        requires current { IsCurrent self.now.waiting current.now }
-        ensures { result ≡ true → HasReply self.now current.now }
-    {
-        current.validity();
-        let p = self.node.as_position();
-        leaves_king_move(p, self.known_escapes(), current) || king_takes(p, current)
-    }
-
-    /// The most that a reply takes from the material of its side: nothing where leaves follow the
-    /// moves, and else what a drop of the other side may lose.
+    /// The most that a reply takes from the material of its side: what a drop of the other side may
+    /// lose.
     #[inline(always)]
     fn loss_after(&self) -> i32
-        ensures loss { self.now.depth ≡ 2 → RepliesLoseAtMost self.now result }
+        ensures loss { RepliesLoseAtMost self.now result }
         ensures least { pos 0 ≤ℤ result }
         ensures most { result ≤ℤ pos 100 }
     {
-        if self.depth == 1 {
-            return 0;
-        }
         let p = self.node.as_position();
         loss_of_drops(p, p.side().opponent(), self.node.eval())
     }
 
-    /// What the current move of a node of depth 1 or 2 is worth at most, where the other side has a
-    /// legal move after it: that move, whichever it is, leaves it its material, or what a drop of
-    /// it loses less.
+    /// What the current move of a node of depth 2 is worth at most, where the other side has a legal
+    /// move after it: that move, whichever it is, leaves it its material, or what a drop of it loses
+    /// less.
     #[inline(always)]
     fn most_after(&self, current: &Move) -> i32
         requires current { IsCurrent self.now.waiting current.now }
-        requires deep { 0 < self.now.depth }
-        requires near { self.now.depth ≤ 2 }
+        requires last { self.now.depth ≡ 2 }
         ensures most { HasReply self.now current.now → IsWorthAtMost self.now current.now result }
     {
         current.validity();
@@ -514,40 +412,33 @@ impl Frame {
         true
     }
 
-    /// Passes the current move of a node of depth 1 or 2, where it is certain without making it
-    /// that it is not worth enough, and returns whether it did.
+    /// Passes the current move of a node of depth 2, where it is certain without making it that it
+    /// is not worth enough, and returns whether it did.
     #[inline(always)]
     fn prune(&mut self, current: &Move) -> bool
         requires asked { self.old.waiting ≡ Waiting.Asked current.now }
-        requires deep { 0 < self.old.depth }
-        requires near { self.old.depth ≤ 2 }
+        requires last { self.old.depth ≡ 2 }
         ensures next { result ≡ true → self.new.waiting ≡ Waiting.Next }
         ensures asked { result ≡ false → self.new.waiting ≡ self.old.waiting }
         ensures picker { self.new.picker ≡ self.old.picker }
         ensures same { IsSame self.old self.new }
     {
-        self.is_unanswered = false;
         if self.most_after(current) > self.threshold(current) {
-            if self.depth == 1 {
-                return false;
-            }
             return self.prune_under_threat(current);
         }
         if !self.is_answered(current) {
-            self.is_unanswered = true;
             return false;
         }
         self.fail_low();
         true
     }
 
-    /// Passes the next moves of a node of depth 1 or 2 on the board that take nothing, while it is
-    /// certain without making them that the other side has a legal move, where no such move is
-    /// worth enough; those that promote only where no promotion is.
+    /// Passes the next moves of a node of depth 2 on the board that take nothing, while it is certain
+    /// without making them that the other side has a legal move, where no such move is worth enough;
+    /// those that promote only where no promotion is.
     fn prune_quiets(&mut self)
         requires next { self.old.waiting ≡ Waiting.Next }
-        requires deep { 0 < self.old.depth }
-        requires near { self.old.depth ≤ 2 }
+        requires last { self.old.depth ≡ 2 }
         ensures { PrunesRow self.old self.new }
     {
         let Some(code) = self.picker.quiets() else {
@@ -568,8 +459,7 @@ impl Frame {
     /// those of another one are under way.
     fn prune_kind(&mut self) -> bool
         requires next { self.old.waiting ≡ Waiting.Next }
-        requires deep { 0 < self.old.depth }
-        requires near { self.old.depth ≤ 2 }
+        requires last { self.old.depth ≡ 2 }
         ensures { PrunesRow self.old self.new }
     {
         let Some((kind, code)) = self.picker.drops() else {
@@ -588,8 +478,7 @@ impl Frame {
     /// The same of the drops, kind after kind.
     fn prune_drops(&mut self)
         requires next { self.old.waiting ≡ Waiting.Next }
-        requires deep { 0 < self.old.depth }
-        requires near { self.old.depth ≤ 2 }
+        requires last { self.old.depth ≡ 2 }
         ensures { PrunesRow self.old self.new }
     {
         'kinds: for _ in 0..7u8 {
@@ -615,14 +504,13 @@ impl Frame {
         self.picker.turn_to_drops(self.node.as_position());
     }
 
-    /// Passes the next moves of a node of depth 1 or 2 as these do, once a move was gone through
-    /// and not good enough; each row before the first of its moves is looked for. In check few of
-    /// the moves of a row are legal, and each of these is looked at by itself.
+    /// Passes the next moves of a node of depth 2 as these do, once a move was gone through and not
+    /// good enough; each row before the first of its moves is looked for. In check few of the moves
+    /// of a row are legal, and each of these is looked at by itself.
     #[inline(always)]
     fn prune_rows(&mut self)
         requires next { self.old.waiting ≡ Waiting.Next }
-        requires deep { 0 < self.old.depth }
-        requires near { self.old.depth ≤ 2 }
+        requires last { self.old.depth ≡ 2 }
         ensures { PrunesRow self.old self.new }
     {
         if !self.has_move || self.picker.is_checked(self.node.as_position()) {
@@ -650,57 +538,16 @@ impl Frame {
         self.waiting = Waiting::Next;
     }
 
-    /// The value at depth 0 of the position to which the current move leads, where a move is legal
-    /// there.
-    #[inline(always)]
-    fn leaf_after(&self, current: &Move) -> i32
-        requires current { IsCurrent self.now.waiting current.now }
-        requires some { HasReply self.now current.now }
-        ensures { leaf_value self.now current.now ≡ result }
-    {
-        current.validity();
-        self.node.score_after(current)
-    }
-
-    /// The value at depth 0 of the position to which the current move leads, where it is certain
-    /// without making the move that a move is legal there.
-    #[inline(always)]
-    pub fn certain_leaf(&mut self, current: &Move) -> Option<i32>
-        requires current { IsCurrent self.old.waiting current.now }
-        ensures value { IfSome result (λ v. leaf_value self.new current.now ≡ v) }
-        ensures kept { KeepsMoves self.old self.new }
-    {
-        if !self.is_unanswered && self.is_answered(current) {
-            return Some(self.leaf_after(current));
-        }
-        if self.is_answered_by_king(current) {
-            return Some(self.leaf_after(current));
-        }
-        None
-    }
-
     /// Whether the next move is to be begun with.
     pub fn is_next(&self) -> bool
         ensures { IsTrue result ↔ (self.now.waiting ≡ Waiting.Next) }
     {
         matches!(self.waiting, Waiting::Next)
     }
-
-    /// Keeps the value of the leaf to which the current move leads.
-    pub fn keep_leaf_value(&mut self, current: &Move, found: i32)
-        requires current { IsCurrent self.old.waiting current.now }
-        requires last { self.old.depth ≡ 1 }
-        requires value { leaf_value self.old current.now ≡ found }
-        ensures free { IsFree self.new.waiting }
-        ensures picker { self.new.picker ≡ self.old.picker }
-        ensures same { IsSame self.old self.new }
-    {
-        self.waiting = Waiting::Leaf(*current, found);
-    }
 }
 
 impl Default for Frame {
-    /// A leaf at the opening position, which stands where no node is entered yet. It is made once
+    /// A node at the opening position, which stands where no node is entered yet. It is made once
     /// and copied, which is less than to write out its fields for each frame.
     #[inline(never)]
     fn default() -> Self {
@@ -719,7 +566,6 @@ impl Default for Frame {
             replies: Replies::unknown(node.as_position()),
             has_replies: false,
             escapes: None,
-            is_unanswered: false,
             threat: None,
             has_threat: false,
         }

@@ -3,15 +3,15 @@
 ghost use Rattle.std.specs.Prelude.{◌≡◌, ◌≤◌, ◌*◌, ◌≤ℤ◌, ◌<ℤ◌, true, [], ◌↔◌, ◌⊎◌, IfSome, IsNone};
 ghost use Rattle.shogi_moves.specs.Legal.{is_legal};
 ghost use Rattle.shogi_moves.specs.LegalMoves.{legal_codes};
-ghost use Rattle.shogi_search.specs.Entries.{IsExactly, IsEnoughBelow};
-ghost use Rattle.shogi_search.specs.Minimax.{value, best, tree_size, lost_value, negated};
-ghost use Rattle.shogi_search.specs.declared.bounds.TheConstants.{SEARCH_DEPTH_MAX, INFINITY};
+ghost use Rattle.minimax.specs.Entries.{IsExactly, IsEnoughBelow};
+ghost use Rattle.minimax.specs.Minimax.{value, best, tree_size, lost_value, negated};
+ghost use Rattle.minimax.specs.declared.bounds.TheConstants.{SEARCH_DEPTH_MAX, INFINITY};
 ghost use Rattle.shogi_search.specs.Progress.{IsFoundBelow};
 
-use crate::bounds::INFINITY;
 use crate::found::Found;
 use crate::memo::Memo;
 use crate::sliced_search::Search;
+use minimax::INFINITY;
 use shogi_core::Position;
 use shogi_eval::Eval;
 

@@ -2,16 +2,17 @@
 //!
 //! Alpha-beta is `Stack::step`, over the frames of the nodes on the way down from the root
 //! (`frame`); what it has to find is `value` and `best` of `specs/Minimax`, and what it promises
-//! stands at `Search`. A step enters a node, leaves a node, or has a child answered by the memo:
-//! `Search` counts them in slices. The order is `MovePicker`: the hash move, then captures, then
-//! the other moves, each by rising code. Moves that cannot matter are passed in `frame`, with the
+//! stands at `Search`. A step enters a node, leaves a node, or has a child or the root answered at
+//! once: a child by the memo, and either where one ply is left or none, by `last_ply`. `Search`
+//! counts them in slices. The order is `MovePicker`: the hash move, then captures, then the other
+//! moves, each by rising code. Moves that cannot matter are passed in `frame`, by `losses`, the
 //! window of `window` and a `threat`.
 #![tactic(auto)]
 
-mod bounds;
 mod found;
 mod frame;
 mod full_search;
+mod losses;
 mod memo;
 mod move_picker;
 mod ranks;
@@ -20,9 +21,9 @@ mod stack;
 mod threat;
 mod window;
 
-pub use bounds::{INFINITY, MATE, SEARCH_DEPTH_MAX};
 pub use found::Found;
 pub use full_search::{search, search_below};
-pub use memo::{Entry, Memo, NoMemo};
+pub use memo::{Memo, NoMemo};
+pub use minimax::{Entry, INFINITY, MATE, SEARCH_DEPTH_MAX};
 pub use ranks::{MULTI_PV_MAX, Ranks};
 pub use sliced_search::Search;

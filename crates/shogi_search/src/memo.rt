@@ -3,24 +3,13 @@
 ghost use Rattle.std.specs.Prelude.{◌≡◌, ◌≤◌, ℕ, Option, None, IfSome, false};
 ghost use Rattle.shogi_core.specs.Position.{Shogi};
 ghost use Rattle.shogi_eval.specs.declared.eval.Eval.{Eval};
-ghost use Rattle.shogi_search.specs.Minimax.{IsTrueEntry};
-ghost use Rattle.shogi_search.specs.declared.memo.Entry.{Entry};
-ghost use Rattle.shogi_search.specs.declared.bounds.TheConstants.{SEARCH_DEPTH_MAX};
+ghost use Rattle.minimax.specs.Minimax.{IsTrueEntry};
+ghost use Rattle.minimax.specs.declared.entry.Entry.{Entry};
+ghost use Rattle.minimax.specs.declared.bounds.TheConstants.{SEARCH_DEPTH_MAX};
 
-use shogi_core::{Move, Position};
+use minimax::Entry;
+use shogi_core::Position;
 use shogi_eval::Eval;
-
-/// What is known of the value of a position under an evaluation at a depth: the value with the best
-/// move of least code, or a bound. Values are seen from the side to move.
-#[derive(Clone, Copy, Debug, PartialEq, Eq)]
-pub enum Entry {
-    /// The value, and the best move, `None` where no move is legal or the depth is 0.
-    Exact(i32, Option<Move>),
-    /// The value is this or more.
-    AtLeast(i32),
-    /// The value is this or less.
-    AtMost(i32),
-}
 
 /// A memory of searched positions. It may forget at any time, and what it answers is true.
 pub trait Memo {
@@ -29,17 +18,11 @@ pub trait Memo {
     /// How much it keeps at most, where it states that. No call changes it.
     ghost capacity: { Self → ℕ } = { λ _. 0 };
 
-    /// Whether anything may ever be answered at the depth, under any evaluation.
-    fn keeps(&self, _d: u8) -> bool
-        ensures none { result ≡ false → (p : Shogi) (e : Eval) → answers self.now p e _d ≡ None }
-    {
-        true
-    }
-
     /// Whether a search asks for the nodes of the depth below its root, and notes them. That costs or
-    /// saves time, and changes nothing else.
-    fn serves(&self, d: u8) -> bool {
-        self.keeps(d)
+    /// saves time, and changes nothing else. Nodes with one ply left or none are never asked for below
+    /// the root.
+    fn serves(&self, _d: u8) -> bool {
+        true
     }
 
     /// What is known of the position under the evaluation at the depth.
@@ -62,7 +45,7 @@ pub struct NoMemo;
 impl Memo for NoMemo {
     ghost answers = { λ _ p e d. Option.None };
 
-    fn keeps(&self, _d: u8) -> bool {
+    fn serves(&self, _d: u8) -> bool {
         false
     }
 

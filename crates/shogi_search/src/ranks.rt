@@ -4,12 +4,12 @@ ghost use Rattle.std.specs.Prelude.{◌≡◌, ℕ, ℤ, ◌≤◌, ◌≤ℤ◌
 ghost use Rattle.shogi_core.specs.Codes.{code_of};
 ghost use Rattle.shogi_moves.specs.Rising.{is_in};
 ghost use Rattle.shogi_search.specs.Ranked.{is_better, insert_pair, IsPlaceOf, codes_in, are_ranked, IsTop, value_to_pass, child_beta};
-ghost use Rattle.shogi_search.specs.Minimax.{negated};
-ghost use Rattle.shogi_search.specs.declared.bounds.TheConstants.{INFINITY};
+ghost use Rattle.minimax.specs.Minimax.{negated};
+ghost use Rattle.minimax.specs.declared.bounds.TheConstants.{INFINITY};
 ghost use Rattle.shogi_search.specs.declared.ranks.TheConstants.{MULTI_PV_MAX};
 
-use crate::bounds::INFINITY;
 use arrayvec::ArrayVec;
+use minimax::INFINITY;
 use shogi_core::Move;
 use std::marker::Model;
 

@@ -3,26 +3,28 @@
 ghost use Rattle.std.specs.Prelude.{◌≡◌, ◌≤◌, ◌<◌, ◌+◌, ◌*◌, ◌-◌, ◌^◌, ◌≤ℤ◌, ◌<ℤ◌, true, false, Some, None, IfSome, IfNone, OnSome, IsSome, ◌↔◌, min};
 ghost use Rattle.std.specs.List.{All};
 ghost use Rattle.std.specs.Option.{ForSome};
-ghost use Rattle.shogi_search.specs.Minimax.{tree_size, IsTrueEntry, negated};
+ghost use Rattle.minimax.specs.Minimax.{tree_size, IsTrueEntry, negated};
 ghost use Rattle.shogi_search.specs.Entered.{IsKnownNode};
-ghost use Rattle.shogi_search.specs.Entries.{IsCutoff};
+ghost use Rattle.minimax.specs.Entries.{IsCutoff};
 ghost use Rattle.shogi_search.specs.Progress.{untouched, untouched_below, left_of, HasPath, IsAnsweredBy, EndsWhereAnswered, EndsWhereKnown, KeepsQuestion, IsFoundBelow, IsFoundBy, FindsValue, FindsBest};
-ghost use Rattle.shogi_search.specs.declared.bounds.TheConstants.{SEARCH_DEPTH_MAX, INFINITY};
+ghost use Rattle.minimax.specs.declared.bounds.TheConstants.{SEARCH_DEPTH_MAX, INFINITY};
 
-use crate::bounds::INFINITY;
 use crate::found::Found;
 use crate::frame::Frame;
-use crate::memo::{Entry, Memo};
-use crate::stack::{Stack, first_move_of, hash_move_of, looks_ahead, probe};
+use crate::memo::Memo;
+use crate::stack::{Stack, answer_at_once, first_move_of, hash_move_of, probe};
+use minimax::{Entry, INFINITY};
 use shogi_core::Position;
 use shogi_eval::{Eval, Node};
 use std::marker::Model;
 
 /// A search of a position under an evaluation at a depth, for its value below a bound. It makes its
 /// steps in slices, and each slice may be given another memo. A step enters a node, leaves a node,
-/// or has a child answered by the memo. A node of depth 2 or more for which the memo has no move to
-/// visit first visits first the best move of the node that was searched before in its place, or the
-/// move that cut that one off, if it is legal.
+/// or has a child or the root answered at once: a child by the memo, and either where one ply is
+/// left or none. The greatest work of a step is about that of making and asking all moves of one
+/// position. A node that is entered and for which the memo has no move to visit first visits first
+/// the best move of the node that was searched before in its place, or the move that cut that one
+/// off, if it is legal.
 #[derive(Drop)]
 pub struct Search {
     stack: Stack,
@@ -161,12 +163,38 @@ impl Search {
         let (root, e, depth) = (&self.stack.root, self.stack.eval, self.stack.depth);
         let hash_move = hash_move_of(root, e, depth, memo);
         let first = first_move_of(root, hash_move, other);
-        let ahead = looks_ahead(depth, memo);
         let node = Node::of(*root, e);
         let beta = self.stack.beta;
-        self.stack.frames[0].enter(&node, depth, -INFINITY, beta, first, ahead);
+        self.stack.frames[0].enter(&node, depth, -INFINITY, beta, first);
         self.started = true;
         self.steps = self.steps.saturating_add(1);
+    }
+
+    /// Answers a root with one ply left or none, in one step.
+    fn answer_root<M: Memo>(&mut self, memo: &mut M) -> Option<Found>
+        requires fresh { self.old.started ≡ false }
+        requires open { self.old.found ≡ None }
+        requires last { self.old.depth < 2 }
+        ensures below { IfSome result (IsFoundBy self.old) }
+        ensures value { IfSome result (FindsValue self.old) }
+        ensures best { IfSome result (FindsBest self.old) }
+        ensures some { IsSome result }
+        ensures counted { IfSome result (λ f. f.steps ≡ self.new.steps) }
+        ensures range { IfSome result (λ f. f.steps ≤ 2 * tree_size self.old.root self.old.depth) }
+        ensures same { KeepsQuestion self.old self.new }
+        ensures capacity { M.capacity memo.new ≡ M.capacity memo.old }
+        ensures found { self.new.found ≡ result }
+        ensures over { OnSome result (self.new.left ≡ 0) }
+        ensures steps { self.new.steps ≡ self.old.steps + 1 }
+        ensures fell { self.new.steps + left_of self.new ≤ self.old.steps + left_of self.old }
+    {
+        let (root, e, depth) = (&self.stack.root, self.stack.eval, self.stack.depth);
+        let beta = self.stack.beta;
+        let entry = answer_at_once(&Node::of(*root, e), depth, -INFINITY, beta);
+        memo.note(root, e, depth, entry);
+        self.steps = self.steps.saturating_add(1);
+        self.found = Some(found_of(&entry, root, e, depth, beta, self.steps));
+        self.found
     }
 
     /// Makes its steps below the root.
@@ -195,9 +223,6 @@ impl Search {
         let entry = self.stack.run(memo, budget, &mut self.steps)?;
         let (root, e, depth) = (&self.stack.root, self.stack.eval, self.stack.depth);
         let beta = self.stack.beta;
-        if depth == 0 {
-            memo.note(root, e, depth, entry);
-        }
         self.found = Some(found_of(&entry, root, e, depth, beta, self.steps));
         self.found
     }
@@ -258,6 +283,9 @@ impl Search {
         }
         if budget == 0 {
             return None;
+        }
+        if self.stack.depth < 2 {
+            return self.answer_root(memo);
         }
         self.enter_root(memo);
         self.resume(memo, budget - 1)

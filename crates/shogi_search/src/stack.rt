@@ -1,24 +1,26 @@
 //! The stack of a search in slices.
 
-ghost use Rattle.std.specs.Prelude.{◌≡◌, ◌≢◌, ◌≤◌, ◌<◌, ◌+◌, ◌*◌, ◌-◌, ◌^◌, true, false, None, Some, IfSome, IfNone, IsSome, min, IsTrue, ◌↔◌};
+ghost use Rattle.std.specs.Prelude.{◌≡◌, ◌≤◌, ◌<ℤ◌, ◌<◌, ◌+◌, ◌*◌, ◌-◌, ◌^◌, true, false, None, Some, IfSome, IfNone, IsSome, min, IsTrue, ◌↔◌};
 ghost use Rattle.std.specs.Option.{ForSome};
-ghost use Rattle.shogi_search.specs.Minimax.{negated, IsTrueEntry};
-ghost use Rattle.shogi_search.specs.Entries.{IsCutoff, IsEnough, move_in};
+ghost use Rattle.minimax.specs.Minimax.{negated, IsTrueEntry};
+ghost use Rattle.minimax.specs.Entries.{IsCutoff, IsEnough, move_in};
 ghost use Rattle.shogi_search.specs.Order.{IsListed};
 ghost use Rattle.shogi_search.specs.Visits.{IsFree};
 ghost use Rattle.shogi_search.specs.Frames.{IsTrueOf, IsToBeLeft};
-ghost use Rattle.shogi_search.specs.Stack.{IsStack, IsSame, OnTop, IsTrueOfRoot, KeepsGoal, UsesSteps, left_with_child, left_of_frame, steps_left};
-ghost use Rattle.shogi_search.specs.declared.bounds.TheConstants.{SEARCH_DEPTH_MAX, INFINITY};
+ghost use Rattle.shogi_search.specs.Stack.{IsStack, OnTop, IsTrueOfRoot, KeepsGoal, UsesSteps, steps_left};
+ghost use Rattle.minimax.specs.declared.bounds.TheConstants.{SEARCH_DEPTH_MAX, INFINITY};
 
 use crate::frame::{Frame, Waiting, leaf};
-use crate::memo::{Entry, Memo};
+use crate::memo::Memo;
+use last_ply::last_ply;
+use minimax::Entry;
 use shogi_core::{Move, Position};
 use shogi_eval::{Eval, Node};
 use shogi_moves::is_legal;
 
 /// The root of a search, its evaluation, its depth and the end of its window, and the nodes that
 /// are entered and not yet left, from the root on: the one on top stands at the height, and those
-/// below it wait for a child. Leaves are entered nowhere but at the root.
+/// below it wait for a child. No node with one ply left or none is entered.
 #[derive(Clone, Copy)]
 pub struct Stack {
     pub root: Position,
@@ -61,23 +63,35 @@ pub fn probe<M: Memo>(
     None
 }
 
-/// The same for a node below the root, where its depth serves the memo.
-fn probe_child<M: Memo>(
-    p: &Position,
-    e: Eval,
-    depth: u8,
-    alpha: i32,
-    beta: i32,
-    memo: &mut M,
-) -> Option<Entry>
-    ensures truth { IfSome result (IsTrueEntry p.now e depth) }
+/// What is known at once of a node with one ply left or none: enough for the window.
+pub fn answer_at_once(node: &Node, depth: u8, alpha: i32, beta: i32) -> Entry
+    requires last { depth < 2 }
+    requires open { alpha <ℤ beta }
+    ensures truth { IsTrueEntry node.now.position node.now.eval depth result }
+    ensures cutoff { IsCutoff alpha beta result }
+{
+    if depth == 0 {
+        return Entry::Exact(leaf(node), None);
+    }
+    last_ply(node, alpha, beta)
+}
+
+/// What is known of a child that is not entered: one with one ply left or none, or one of which the
+/// memo knows enough, where its depth serves the memo.
+fn answer_of<M: Memo>(node: &Node, depth: u8, alpha: i32, beta: i32, memo: &mut M) -> Option<Entry>
+    requires open { alpha <ℤ beta }
+    ensures truth { IfSome result (IsTrueEntry node.now.position node.now.eval depth) }
     ensures cutoff { IfSome result (IsCutoff alpha beta) }
+    ensures deep { IfNone result (2 ≤ depth) }
     ensures capacity { M.capacity memo.new ≡ M.capacity memo.old }
 {
+    if depth < 2 {
+        return Some(answer_at_once(node, depth, alpha, beta));
+    }
     if !memo.serves(depth) {
         return None;
     }
-    probe(p, e, depth, alpha, beta, memo)
+    probe(node.as_position(), node.eval(), depth, alpha, beta, memo)
 }
 
 /// The best move one ply less deep, where the memo has it.
@@ -97,6 +111,18 @@ pub fn hash_move_of<M: Memo>(p: &Position, e: Eval, depth: u8, memo: &mut M) -> 
     }
 }
 
+/// The same for a node below the root, where the depth below it serves the memo.
+fn child_hash_move_of<M: Memo>(p: &Position, e: Eval, depth: u8, memo: &mut M) -> Option<Move>
+    requires { 0 < depth }
+    ensures listed { ForSome result (IsListed p.now) }
+    ensures capacity { M.capacity memo.new ≡ M.capacity memo.old }
+{
+    if !memo.serves(depth - 1) {
+        return None;
+    }
+    hash_move_of(p, e, depth, memo)
+}
+
 /// The move to visit first: the hash move, or where there is none this other one, if it is legal.
 pub fn first_move_of(p: &Position, hash_move: Option<Move>, other: Option<Move>) -> Option<Move>
     requires { ForSome hash_move (IsListed p.now) }
@@ -111,62 +137,6 @@ pub fn first_move_of(p: &Position, hash_move: Option<Move>, other: Option<Move>)
     let m = other?;
     let tried = m;
     if is_legal(p, tried) { Some(m) } else { None }
-}
-
-/// Whether a node's children are leaves that the memo need not be asked for.
-pub fn looks_ahead<M: Memo>(depth: u8, memo: &M) -> bool
-    ensures { result ≡ true → depth ≡ 1 }
-{
-    depth == 1 && !memo.keeps(0)
-}
-
-/// Continues with the current move of a node of depth 1, and makes its child, a leaf: by the memo's
-/// answer, or by the leaf's value, which the next step takes in.
-#[inline(never)]
-fn make_leaf<M: Memo>(top: &mut Frame, current: &Move, memo: &mut M)
-    requires asked { top.old.waiting ≡ Waiting.Asked current.now }
-    requires last { top.old.depth ≡ 1 }
-    ensures free { IsFree top.new.waiting }
-    ensures left { left_of_frame top.new < left_with_child top.old current.now }
-    ensures same { IsSame top.old top.new }
-    ensures capacity { M.capacity memo.new ≡ M.capacity memo.old }
-{
-    let (alpha, beta) = top.window(current);
-    let mut node = top.node;
-    current.validity();
-    node.advance(*current);
-    if let Some(entry) = probe(node.as_position(), node.eval(), 0, alpha, beta, memo) {
-        top.back_up(current, &entry);
-        return;
-    }
-    top.keep_leaf_value(current, leaf(&node));
-}
-
-/// The same; where a leaf is certain to have a legal move, it is valued without making it, and
-/// taken in at once where there is room for that step too. Gives the number of steps.
-fn visit_leaf<M: Memo>(top: &mut Frame, current: &Move, memo: &mut M, room: u64) -> u64
-    requires asked { top.old.waiting ≡ Waiting.Asked current.now }
-    requires last { top.old.depth ≡ 1 }
-    requires room { 0 < room }
-    ensures free { IsFree top.new.waiting }
-    ensures some { 0 < result }
-    ensures most { result ≤ room }
-    ensures left { left_of_frame top.new + result ≤ left_with_child top.old current.now }
-    ensures same { IsSame top.old top.new }
-    ensures capacity { M.capacity memo.new ≡ M.capacity memo.old }
-{
-    if looks_ahead(top.depth, memo) {
-        if let Some(value) = top.certain_leaf(current) {
-            if room > 1 {
-                top.back_up(current, &Entry::Exact(value, None));
-                return 2;
-            }
-            top.keep_leaf_value(current, value);
-            return 1;
-        }
-    }
-    make_leaf(top, current, memo);
-    1
 }
 
 impl Stack {
@@ -211,13 +181,12 @@ impl Stack {
         true
     }
 
-    /// Continues with the current move of the node on top: by the memo's answer, or into the child,
-    /// which is on top then.
+    /// Continues with the current move of the node on top: by the answer of its child, or into the
+    /// child, which is on top then.
     #[inline(never)]
     fn enter_child<M: Memo>(&mut self, current: &Move, memo: &mut M)
         requires stack { IsStack self.old }
         requires asked { OnTop self.old (λ top. top.waiting ≡ Waiting.Asked current.now) }
-        requires deep { OnTop self.old (λ top. top.depth ≢ 1) }
         ensures stack { IsStack self.new }
         ensures free { OnTop self.new (λ top. IsFree top.waiting) }
         ensures left { UsesSteps self.old self.new current.now 1 }
@@ -230,38 +199,15 @@ impl Stack {
         let mut node = top.node;
         current.validity();
         node.advance(*current);
-        let (position, eval) = (node.as_position(), node.eval());
-        if let Some(entry) = probe_child(position, eval, depth, alpha, beta, memo) {
+        if let Some(entry) = answer_of(&node, depth, alpha, beta, memo) {
             self.frames[self.height].back_up(current, &entry);
             return;
         }
-        let hash_move = hash_move_of(position, eval, depth, memo);
-        let ahead = looks_ahead(depth, memo);
+        let position = node.as_position();
+        let hash_move = child_hash_move_of(position, node.eval(), depth, memo);
         self.height += 1;
         let first = first_move_of(position, hash_move, self.kept_reply(depth));
-        self.frames[self.height].enter(&node, depth, alpha, beta, first, ahead);
-    }
-
-    /// The same for a node of any depth, where a child that is a leaf is valued. Gives the number of
-    /// steps.
-    fn descend<M: Memo>(&mut self, current: &Move, memo: &mut M, room: u64) -> u64
-        requires stack { IsStack self.old }
-        requires asked { OnTop self.old (λ top. top.waiting ≡ Waiting.Asked current.now) }
-        requires room { 0 < room }
-        ensures stack { IsStack self.new }
-        ensures free { OnTop self.new (λ top. IsFree top.waiting) }
-        ensures some { 0 < result }
-        ensures most { result ≤ room }
-        ensures left { UsesSteps self.old self.new current.now result }
-        ensures same { KeepsGoal self.old self.new }
-        ensures capacity { M.capacity memo.new ≡ M.capacity memo.old }
-    {
-        let top = &mut self.frames[self.height];
-        if top.depth == 1 {
-            return visit_leaf(top, current, memo, room);
-        }
-        self.enter_child(current, memo);
-        1
+        self.frames[self.height].enter(&node, depth, alpha, beta, first);
     }
 
     /// Leaves the node on top, and gives what is known of the root where that was it.
@@ -279,7 +225,7 @@ impl Stack {
     {
         let top = &self.frames[self.height];
         let entry = top.to_entry();
-        if top.depth > 0 && (self.height == 0 || memo.serves(top.depth)) {
+        if self.height == 0 || memo.serves(top.depth) {
             memo.note(top.node.as_position(), top.node.eval(), top.depth, entry);
         }
         if self.pop(&entry) {
@@ -288,19 +234,13 @@ impl Stack {
         Some(entry)
     }
 
-    /// Makes one step, or the two of a leaf, and counts them; gives what is known of the root where
-    /// that was left.
-    fn step<M: Memo>(&mut self, memo: &mut M, budget: u64, made: &mut u64) -> Option<Entry>
+    /// Makes one step; gives what is known of the root where that was left.
+    fn step<M: Memo>(&mut self, memo: &mut M) -> Option<Entry>
         requires stack { IsStack self.old }
         requires free { OnTop self.old (λ top. IsFree top.waiting) }
-        requires room { made.old < budget }
         ensures stack { IfNone result (IsStack self.new) }
         ensures free { IfNone result (OnTop self.new (λ top. IsFree top.waiting)) }
-        ensures rises { made.old < made.new }
-        ensures most { made.new ≤ budget }
-        ensures one { IfSome result (λ _. made.new ≡ made.old + 1) }
-        ensures left { IfNone result
-            (steps_left self.new + made.new ≤ steps_left self.old + made.old) }
+        ensures left { IfNone result (steps_left self.new < steps_left self.old) }
         ensures truth { IfSome result (IsTrueOfRoot self.old) }
         ensures cutoff { IfSome result (IsCutoff (negated INFINITY) self.old.beta) }
         ensures same { KeepsGoal self.old self.new }
@@ -309,24 +249,12 @@ impl Stack {
         let top = &mut self.frames[self.height];
         if top.is_next() {
             let Some(current) = top.next_move() else {
-                *made += 1;
                 return self.leave(memo);
             };
-            *made += self.descend(&current, memo, budget - *made);
+            self.enter_child(&current, memo);
             return None;
         }
-        match top.waiting {
-            Waiting::Next | Waiting::Asked(_) => unreachable!(),
-            Waiting::Leaf(current, value) => {
-                *made += 1;
-                top.back_up(&current, &Entry::Exact(value, None));
-                None
-            }
-            Waiting::Cut(_) => {
-                *made += 1;
-                self.leave(memo)
-            }
-        }
+        self.leave(memo)
     }
 
     /// Makes so many steps, or fewer where the root was left, and counts them.
@@ -347,7 +275,8 @@ impl Stack {
     {
         let mut made = 0;
         'steps: while made < budget {
-            if let Some(entry) = self.step(memo, budget, &mut made) {
+            made += 1;
+            if let Some(entry) = self.step(memo) {
                 *steps = steps.saturating_add(made);
                 return Some(entry);
             }

@@ -2,9 +2,9 @@
 
 ghost use Rattle.std.specs.Prelude.{◌≡◌, ◌≤ℤ◌};
 ghost use Rattle.shogi_core.specs.Codes.{code_of};
-ghost use Rattle.shogi_search.specs.Window.{threshold, code_at};
-ghost use Rattle.shogi_search.specs.declared.bounds.TheConstants.{INFINITY};
-ghost use Rattle.shogi_search.specs.Minimax.{negated};
+ghost use Rattle.minimax.specs.Window.{threshold, code_at};
+ghost use Rattle.minimax.specs.declared.bounds.TheConstants.{INFINITY};
+ghost use Rattle.minimax.specs.Minimax.{negated};
 
 use shogi_core::Move;
 

@@ -5,9 +5,9 @@ use Rattle.shogi_core.specs.declared.moves.Move.{Move}
 use Rattle.shogi_core.specs.Position.{Shogi}
 use Rattle.shogi_eval.specs.declared.eval.Eval.{Eval}
 use Rattle.shogi_moves.specs.LegalMoves.{legal_codes}
-use Rattle.shogi_search.specs.Minimax.{best, pv}
-use Rattle.shogi_search.proofs.Lines.{pv-none}
-use Rattle.shogi_search.proofs.Best.{none_iff}
+use Rattle.minimax.specs.Minimax.{best, pv}
+use Rattle.minimax.proofs.Lines.{pv-none}
+use Rattle.minimax.proofs.Best.{none_iff}
 use Rattle.usi_session.specs.GoInfos.{info_lines, depth_lines, go_infos, go_infos_where}
 
 pub info_lines-start : (p : Shogi) (eval : Eval) (multi_pv : ℕ) → info_lines p eval multi_pv 0 ≡ []

@@ -17,11 +17,11 @@ use Rattle.shogi_moves.specs.LegalMoves.{legal_codes, legal_above}
 use Rattle.shogi_moves.specs.Rising.{is_in}
 use Rattle.shogi_moves.proofs.LegalLaws.{listed_to_legal, legal_above_in}
 use Rattle.shogi_eval.specs.declared.eval.Eval.{Eval}
-use Rattle.shogi_search.specs.Minimax.{value, worth, best_code, pv, then_pv, pv_cost}
+use Rattle.minimax.specs.Minimax.{value, worth, best_code, pv, then_pv, pv_cost}
 use Rattle.shogi_search.specs.Ranked.{ranked, ranked_codes, coded, with_worth, Ranking}
-use Rattle.shogi_search.proofs.Best.{best_none}
-use Rattle.shogi_search.proofs.Lines.{pv-above}
-use Rattle.shogi_search.proofs.MinimaxLaws.{best-code, best_code-above}
+use Rattle.minimax.proofs.Best.{best_none}
+use Rattle.minimax.proofs.Lines.{pv-above}
+use Rattle.minimax.proofs.MinimaxLaws.{best-code, best_code-above}
 use Rattle.shogi_search.proofs.RankedLaws.{best_ranked, in_ranked, first_in}
 use Rattle.usi_session.specs.declared.question.Question.{Question}
 use Rattle.usi_session.specs.Costs.{pvs_cost}

@@ -13,12 +13,12 @@ use Rattle.shogi_moves.specs.LegalMoves.{legal_codes, legal_above}
 use Rattle.shogi_moves.specs.Rising.{is_in}
 use Rattle.shogi_moves.proofs.LegalLaws.{after_code_of, legal_above_in, listed_to_legal}
 use Rattle.shogi_eval.specs.declared.eval.Eval.{Eval}
-use Rattle.shogi_search.specs.Minimax.{worth, negated, tree_size, pv_cost, sum_of_tree_sizes}
+use Rattle.minimax.specs.Minimax.{worth, negated, tree_size, pv_cost, sum_of_tree_sizes}
 use Rattle.shogi_search.specs.Progress.{Progress, untouched, untouched_below}
 use Rattle.shogi_search.specs.Ranked.{Ranking, IsTop, child_beta}
-use Rattle.shogi_search.specs.declared.bounds.TheConstants.{INFINITY}
-use Rattle.shogi_search.proofs.Lines.{pv_cost-above}
-use Rattle.shogi_search.proofs.MinimaxLaws.{tree_size-positive, sum_of_tree_sizes-next}
+use Rattle.minimax.specs.declared.bounds.TheConstants.{INFINITY}
+use Rattle.minimax.proofs.Lines.{pv_cost-above}
+use Rattle.minimax.proofs.MinimaxLaws.{tree_size-positive, sum_of_tree_sizes-next}
 use Rattle.shogi_search.proofs.RankedLaws.{first_in}
 use Rattle.shogi_search.proofs.RankedUse.{IsGoneThrough, gone_all, gone_window}
 use Rattle.usi_session.specs.declared.question.Question.{Question}

@@ -7,7 +7,7 @@ use Rattle.shogi_core.specs.declared.moves.Move.{Move}
 use Rattle.shogi_core.specs.Position.{Shogi}
 use Rattle.shogi_moves.specs.LegalMoves.{legal_codes}
 use Rattle.shogi_eval.specs.declared.eval.Eval.{Eval}
-use Rattle.shogi_search.specs.Minimax.{value, worth, pv}
+use Rattle.minimax.specs.Minimax.{value, worth, pv}
 use Rattle.usi_session.specs.declared.question.Question.{Question}
 use Rattle.usi_session.specs.Texts.{info_line, info_text, numbered_info_text}
 use Rattle.usi_session.specs.GoInfos.{numbered_line, numbered_lines}

@@ -5,9 +5,9 @@ use Rattle.shogi_core.specs.declared.moves.Move.{Move}
 use Rattle.shogi_core.specs.Position.{Shogi}
 use Rattle.shogi_moves.specs.After.{after}
 use Rattle.shogi_eval.specs.declared.eval.Eval.{Eval}
-use Rattle.shogi_search.specs.Minimax.{value, best, pv, tree_size, pv_cost, then_pv_cost}
-use Rattle.shogi_search.proofs.Lines.{pv-leaf, pv-none, pv-some, pv_cost-leaf, pv_cost-above}
-use Rattle.shogi_search.proofs.MinimaxLaws.{best-leaf}
+use Rattle.minimax.specs.Minimax.{value, best, pv, tree_size, pv_cost, then_pv_cost}
+use Rattle.minimax.proofs.Lines.{pv-leaf, pv-none, pv-some, pv_cost-leaf, pv_cost-above}
+use Rattle.minimax.proofs.MinimaxLaws.{best-leaf}
 use Rattle.usi_session.specs.Walked.{walk_of}
 
 -- there is no best move: the pv ends

@@ -5,7 +5,7 @@ use Rattle.shogi_core.specs.declared.moves.Move.{Move}
 use Rattle.shogi_core.specs.Position.{Shogi}
 use Rattle.shogi_eval.specs.declared.eval.Eval.{Eval}
 use Rattle.shogi_moves.specs.LegalMoves.{legal_codes}
-use Rattle.shogi_search.specs.Minimax.{worth, pv, then_pv}
+use Rattle.minimax.specs.Minimax.{worth, pv, then_pv}
 use Rattle.shogi_search.specs.Ranked.{ranked_codes}
 use Rattle.usi_session.specs.Texts.{info_line, numbered_info_text}
 

@@ -3,7 +3,7 @@ use Rattle.std.specs.Prelude.{◌≡◌, ◌≤◌, ℕ, zero, suc, ◌+◌, ◌
 use Rattle.shogi_core.specs.declared.moves.Move.{Move}
 use Rattle.shogi_core.specs.Position.{Shogi}
 use Rattle.shogi_moves.specs.LegalMoves.{legal_above}
-use Rattle.shogi_search.specs.Minimax.{best, pv_cost, then_pv_cost, sum_of_tree_sizes}
+use Rattle.minimax.specs.Minimax.{best, pv_cost, then_pv_cost, sum_of_tree_sizes}
 use Rattle.usi_lines.specs.Commands.{Command}
 use Rattle.usi_lines.specs.Lines.{Line}
 use Rattle.usi_lines.specs.declared.command.Hold.{Hold}

@@ -3,7 +3,7 @@ use Rattle.std.specs.Prelude.{◌≡◌, ℕ, ℤ, pos, negsuc, ◌+◌, ◌-◌
 use Rattle.shogi_core.specs.declared.moves.Move.{Move}
 use Rattle.shogi_core.specs.Position.{Shogi}
 use Rattle.shogi_eval.specs.declared.eval.Eval.{Eval}
-use Rattle.shogi_search.specs.Minimax.{value, pv}
+use Rattle.minimax.specs.Minimax.{value, pv}
 use Rattle.shogi_sfen.specs.MoveTexts.{text_of}
 use Rattle.usi_session.specs.Options.{option_lines}
 use Rattle.usi_session.specs.declared.text.TheConstants.{MATE_MIN}

@@ -7,10 +7,10 @@ use Rattle.shogi_core.specs.declared.moves.Move.{Move}
 use Rattle.shogi_moves.specs.After.{after}
 use Rattle.shogi_moves.specs.LegalMoves.{legal_codes, legal_above}
 use Rattle.shogi_eval.specs.declared.eval.Eval.{Eval}
-use Rattle.shogi_search.specs.Minimax.{value, worth, best, pv, pv_cost, then_pv_cost}
+use Rattle.minimax.specs.Minimax.{value, worth, best, pv, pv_cost, then_pv_cost}
 use Rattle.shogi_search.specs.Progress.{Progress, untouched, untouched_below, IsFoundBelow}
 use Rattle.shogi_search.specs.Ranked.{Ranking, IsTop, child_beta}
-use Rattle.shogi_search.specs.declared.bounds.TheConstants.{INFINITY}
+use Rattle.minimax.specs.declared.bounds.TheConstants.{INFINITY}
 use Rattle.shogi_search.specs.declared.found.Found.{Found}
 use Rattle.usi_lines.specs.Options.{IsDepth, IsMultiPv}
 use Rattle.usi_session.specs.declared.question.Question.{Question}

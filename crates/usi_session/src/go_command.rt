@@ -1,7 +1,7 @@
 //! A running `go`: its searches, one after another, depth by depth.
 
 ghost use Rattle.std.specs.Prelude.{◌≡◌, ◌≢◌, ◌≤◌, ◌<◌, ◌+◌, IfOk, IfSome, IfNone, OnSome, OnOk, length, true, false};
-ghost use Rattle.shogi_search.specs.Minimax.{value, best};
+ghost use Rattle.minimax.specs.Minimax.{value, best};
 ghost use Rattle.usi_session.specs.Answer.{bestmove_of};
 ghost use Rattle.usi_session.specs.GoInfos.{move_to_play, move_to_ponder};
 ghost use Rattle.usi_session.specs.RunningGo.{listed_at, infos_left, infos_after, deeper_infos, is_last, is_last_of_depth, is_searching, bestmove_to, cost_of_depths, load_of, reports_of, HasDone, IsSameButForSearch, WritesLine};
@@ -260,7 +260,7 @@ impl<A: Allocator> GoCommand<A> {
         let before = self.search.steps();
         let leaf = self.depths_done == 0 && self.root_move.is_some();
         let found = if leaf {
-            // A memory that keeps a leaf is asked for each leaf from then on.
+            // A leaf is not worth a place in the memory.
             self.search.advance(&mut NoMemo, budget)?
         } else {
             self.search.advance(memo, budget)?

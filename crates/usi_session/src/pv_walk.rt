@@ -1,7 +1,7 @@
 //! A walk along a pv, ply by ply.
 
 ghost use Rattle.std.specs.Prelude.{◌≡◌, ◌≤◌, ◌<◌, ◌+◌, ◌-◌};
-ghost use Rattle.shogi_search.specs.Minimax.{value, best, pv_cost};
+ghost use Rattle.minimax.specs.Minimax.{value, best, pv_cost};
 ghost use Rattle.shogi_moves.specs.After.{after};
 ghost use Rattle.usi_lines.specs.declared.options.TheConstants.{DEPTH_MAX};
 ghost use Rattle.usi_session.specs.Walked.{walk_from, walk_by, cost_after};

@@ -57,21 +57,27 @@ fn a_full_host_is_reported_in_one_write(rt: HostRuntime) -> Result<(), Fail> {
     Scene::new(rt.alloc(), 1, 1000)?.plays(&rt, &steps)
 }
 
-// With rounds of one step the search continues for turns after the peer has ended. Each of them moves.
+const TWO_DEPTHS: &[u8] = b"info depth 1 score cp 0 pv 1g1f
+info depth 2 score cp 0 pv 1g1f 1a1b
+bestmove 1g1f ponder 1a1b
+";
+
+// With rounds of one step the five of the search continue for turns after the peer has ended. Each of them
+// moves.
 #[test]
 fn a_peer_that_ends_is_answered_first(rt: HostRuntime) -> Result<(), Fail> {
     let mut scene = Scene::new(rt.alloc(), 1, 1)?;
-    let x = scene.connect(&[b"go depth 1\n"])?;
+    let x = scene.connect(&[b"go depth 2\n"])?;
     let mut turns = 0usize;
     for _ in 0..64 {
         if !scene.turn() {
             break;
         }
         turns = turns.saturating_add(1);
-        holds!(rt; !scene.is_shut(x) || scene.written(x) == ANSWER);
+        holds!(rt; !scene.is_shut(x) || scene.written(x) == TWO_DEPTHS);
     }
-    scene.is_written(&rt, x, ANSWER, true);
-    holds!(rt; turns >= 4 && turns < 64);
+    scene.is_written(&rt, x, TWO_DEPTHS, true);
+    holds!(rt; turns >= 5 && turns < 64);
     Ok(())
 }
 
@@ -112,7 +118,7 @@ fn lines_of_their_own(rt: HostRuntime) -> Result<(), Fail> {
     let steps = [
         Step::Connect(&[b"setoption name MultiPV value 2\ngo de", b"pth 1\nquit\n"]),
         Step::Connect(GO_AND_QUIT),
-        Step::Turns(63),
+        Step::Turns(33),
         Step::Moves(&[false]),
         Step::Written(0, TWO_LINES, true),
         Step::Written(1, ANSWER, true),

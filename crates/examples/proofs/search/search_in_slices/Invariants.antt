@@ -1,5 +1,5 @@
 use Rattle.std.proofs.Common.{◌≡◌}
-use Rattle.shogi_search.specs.declared.bounds.TheConstants.{INFINITY}
+use Rattle.minimax.specs.declared.bounds.TheConstants.{INFINITY}
 use Rattle.examples.proofs.search.search_in_slices.Given as goal
 
 abbrev pub invariant-slices : goal.invariant-slices

@@ -1,8 +1,8 @@
 use Rattle.std.proofs.Common.{◌≡◌, ◌-◌, pos, ◌-ℤ◌, ◌<ℤ◌, ◌≤ℤ◌, arith, rules}
 use Rattle.std.proofs.lemmas.Int.{ints}
 use Rattle.shogi_core.specs.Codes.{code_of}
-use Rattle.shogi_search.specs.Minimax.{worth, value}
-use Rattle.shogi_search.proofs.MinimaxLaws.{worth_from}
+use Rattle.minimax.specs.Minimax.{worth, value}
+use Rattle.minimax.proofs.MinimaxLaws.{worth_from}
 use Rattle.shogi_search.proofs.RankedUse.{gone_none, gone_fresh, gone_on, gone_all, gone_window, gone_unlisted}
 use Rattle.search_acceptance.proofs.ranks.best_lines.Goals.{then-found-beta, else-found-beta}
 use Rattle.search_acceptance.proofs.ranks.best_lines.Goals as goal

@@ -1,6 +1,6 @@
 use Rattle.std.proofs.Common.{◌-◌, length}
 use Rattle.shogi_moves.specs.LegalMoves.{legal_above}
-use Rattle.shogi_search.specs.Minimax.{worth}
+use Rattle.minimax.specs.Minimax.{worth}
 use Rattle.shogi_search.proofs.RankedUse.{IsGoneThrough}
 use Rattle.search_acceptance.proofs.ranks.best_lines.Given as goal
 

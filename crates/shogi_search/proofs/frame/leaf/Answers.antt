@@ -1,6 +1,6 @@
 use Rattle.std.proofs.Common.{sym}
 use Rattle.std.proofs.lemmas.Bool.{iff_false}
-use Rattle.shogi_search.proofs.MinimaxLaws.{leaf_none}
+use Rattle.minimax.proofs.MinimaxLaws.{leaf_none}
 use Rattle.shogi_search.proofs.frame.leaf.Goals as goal
 
 pub returns-else-can_move-clause-value : goal.returns-else-can_move-clause-value

@@ -1,8 +1,8 @@
 use Rattle.std.proofs.Common.{arith, refl}
 use Rattle.std.proofs.lemmas.Int.{ints}
-use Rattle.shogi_search.specs.Minimax.{value}
-use Rattle.shogi_search.proofs.Best.{none_iff, legal_best}
-use Rattle.shogi_search.proofs.MinimaxLaws.{value_within, Within}
+use Rattle.minimax.specs.Minimax.{value}
+use Rattle.minimax.proofs.Best.{none_iff, legal_best}
+use Rattle.minimax.proofs.MinimaxLaws.{value_within, Within}
 use Rattle.shogi_search.proofs.full_search.search.Goals as goal
 
 pub returns-clause-least : goal.returns-clause-least

@@ -1,7 +1,7 @@
 use Rattle.std.proofs.Common.{◌≡◌}
-use Rattle.shogi_search.specs.Entries.{IsExactly, IsEnough}
-use Rattle.shogi_search.specs.Minimax.{negated}
-use Rattle.shogi_search.specs.declared.bounds.TheConstants.{INFINITY}
+use Rattle.minimax.specs.Entries.{IsExactly, IsEnough}
+use Rattle.minimax.specs.Minimax.{negated}
+use Rattle.minimax.specs.declared.bounds.TheConstants.{INFINITY}
 use Rattle.shogi_search.specs.Progress.{left_of}
 use Rattle.shogi_search.proofs.full_search.search_below.Given as goal
 

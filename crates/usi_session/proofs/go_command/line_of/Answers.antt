@@ -4,7 +4,7 @@ use Rattle.std.proofs.lemmas.Option.{slice_get_read}
 use Rattle.shogi_core.specs.declared.moves.Move.{Move}
 use Rattle.shogi_core.specs.Codes.{code_of}
 use Rattle.shogi_core.specs.Position.{Shogi}
-use Rattle.shogi_search.specs.Minimax.{pv_cost}
+use Rattle.minimax.specs.Minimax.{pv_cost}
 use Rattle.usi_session.specs.RunningGo.{listed_at}
 use Rattle.usi_session.specs.Walked.{Walked, walk_cost}
 use Rattle.usi_session.proofs.Listed.{IsPair, ranked_length, ranked_pair, listed_legal, pv_by_move, pvs_next}

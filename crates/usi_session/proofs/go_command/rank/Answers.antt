@@ -3,9 +3,9 @@ use Rattle.std.proofs.lemmas.Int.{ints}
 use Rattle.shogi_core.specs.Codes.{code_of}
 use Rattle.shogi_moves.specs.After.{after}
 use Rattle.shogi_moves.proofs.LegalLaws.{after_code_of}
-use Rattle.shogi_search.specs.Minimax.{worth, value}
+use Rattle.minimax.specs.Minimax.{worth, value}
 use Rattle.shogi_search.specs.Ranked.{child_beta}
-use Rattle.shogi_search.proofs.MinimaxLaws.{worth_from}
+use Rattle.minimax.proofs.MinimaxLaws.{worth_from}
 use Rattle.shogi_search.proofs.RankedUse.{gone_fresh, gone_on, gone_unlisted}
 use Rattle.usi_session.proofs.NextSearch.{child_window, gone, ranked_up_to}
 use Rattle.usi_session.proofs.go_command.rank.Goals as goal

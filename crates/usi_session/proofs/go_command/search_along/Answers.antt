@@ -1,6 +1,6 @@
 use Rattle.std.proofs.Common.{◌≡◌, rules, ap, refl, arith}
 use Rattle.shogi_search.specs.Progress.{Progress, untouched}
-use Rattle.shogi_search.specs.declared.bounds.TheConstants.{INFINITY}
+use Rattle.minimax.specs.declared.bounds.TheConstants.{INFINITY}
 use Rattle.usi_session.proofs.Walk.{cost_begun, cost_over}
 use Rattle.usi_session.proofs.NextSearch.{under_start}
 use Rattle.usi_session.proofs.go_command.search_along.Goals as goal

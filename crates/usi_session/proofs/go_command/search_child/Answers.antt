@@ -1,9 +1,9 @@
 use Rattle.std.specs.Prelude.{FitsSigned}
 use Rattle.std.proofs.Common.{◌<ℤ◌, ◌≤ℤ◌, arith, rules, w32}
 use Rattle.std.proofs.lemmas.Int.{ints, to_z-of_z}
-use Rattle.shogi_search.specs.Minimax.{negated}
+use Rattle.minimax.specs.Minimax.{negated}
 use Rattle.shogi_search.specs.Ranked.{child_beta}
-use Rattle.shogi_search.specs.declared.bounds.TheConstants.{INFINITY}
+use Rattle.minimax.specs.declared.bounds.TheConstants.{INFINITY}
 use Rattle.usi_session.proofs.NextSearch.{child_window, child_legal}
 use Rattle.usi_session.proofs.go_command.search_child.Goals as goal
 

@@ -1,23 +1,13 @@
-use Rattle.std.proofs.Common.{◌∙◌, List, ap, sym}
+use Rattle.std.proofs.Common.{List, ap}
 use Rattle.shared_table.specs.Keys.{key_of}
 use Rattle.shared_table.specs.Recent.{Pair, Table}
-use Rattle.shared_table.proofs.RecentLaws.{found_true, no_leaf_found, probed_none, promoted_is, table_probed}
+use Rattle.shared_table.proofs.RecentLaws.{found_true, promoted_is, table_probed}
 use Rattle.shared_table.proofs.table.SharedTableMemo.probe.Goals as goal
-
-pub returns-then-self-eq0-clause-answer : goal.returns-then-self-eq0-clause-answer
-returns-then-self-eq0-clause-answer g c =
-    rw (← c.self.view_is)
-    (no_leaf_found (key_of c.args.p.now c.args.e c.args.d) c.self.inside.cache.entries (sym c.if-self-eq0.true ∙ c.self.invariant.counted) c.if-d-eq0.true)
-
-pub returns-then-self-eq0-clause-used : goal.returns-then-self-eq0-clause-used
-returns-then-self-eq0-clause-used g c =
-    let none = returns-then-self-eq0-clause-answer g c in
-    ap (λ (l : List Pair). record c.args.self.now { pairs = l }) (sym (probed_none (key_of c.args.p.now c.args.e c.args.d) c.args.self.now.pairs none))
 
 pub invariant_of-self : goal.invariant_of-self
 invariant_of-self g c =
     rw c.recall.ensures.cache
-    (table_probed c.of-key.result c.self.inside.cache.entries c.self.inside.cache.cap c.self.inside.leaves c.self.invariant)
+    (table_probed c.of-key.result c.self.inside.cache.entries c.self.inside.cache.cap c.self.invariant)
 
 pub returns-clause-truth : goal.returns-clause-truth
 returns-clause-truth g c =

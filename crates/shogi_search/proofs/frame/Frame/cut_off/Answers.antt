@@ -1,7 +1,8 @@
 use Rattle.std.proofs.Common.{rules, FitsSigned, w32}
 use Rattle.std.proofs.lemmas.Int.{to_z-of_z}
 use Rattle.shogi_core.specs.Codes.{code_of}
-use Rattle.shogi_search.proofs.Nodes.{waits, cut, cuts}
+use Rattle.minimax.proofs.MinimaxLaws.{cut}
+use Rattle.shogi_search.proofs.Nodes.{waits, cuts}
 use Rattle.shogi_search.proofs.frame.Frame.cut_off.Goals as goal
 
 pub invariant_of-self-clause-known : goal.invariant_of-self-clause-known

@@ -1,5 +1,5 @@
 use Rattle.std.proofs.Common.{◌-◌}
-use Rattle.shogi_search.specs.Minimax.{worth}
+use Rattle.minimax.specs.Minimax.{worth}
 use Rattle.shogi_search.proofs.Nodes.{new_node}
 use Rattle.shogi_search.proofs.frame.Frame.enter.Goals as goal
 

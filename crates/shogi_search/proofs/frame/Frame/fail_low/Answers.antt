@@ -1,4 +1,4 @@
-use Rattle.shogi_search.proofs.Cover.{IsCovered-skip}
+use Rattle.minimax.proofs.Cover.{IsCovered-skip}
 use Rattle.shogi_search.proofs.Nodes.{has_current, waits, at_depth}
 use Rattle.shogi_search.proofs.frame.Frame.fail_low.Goals as goal
 

@@ -7,10 +7,10 @@ use Rattle.shogi_moves.specs.After.{after}
 use Rattle.shogi_moves.proofs.LegalLaws.{after_code_of, listed_to_legal}
 use Rattle.shogi_eval.proofs.Bounds.{material_bounds}
 use Rattle.shogi_eval.specs.Material.{material_of, taken_gain}
-use Rattle.shogi_search.specs.Minimax.{worth, negated}
+use Rattle.minimax.specs.Minimax.{worth, negated}
 use Rattle.shogi_search.proofs.Ahead.{worth_under_threat}
 use Rattle.shogi_search.proofs.Nodes.{waits}
-use Rattle.shogi_search.proofs.Valid.{after_valid}
+use Rattle.minimax.proofs.Valid.{after_valid}
 use Rattle.shogi_search.proofs.frame.Frame.most_under_threat.Goals as goal
 
 pub score_after-requires : goal.score_after-requires

@@ -6,9 +6,9 @@ use Rattle.shogi_search.specs.Frames.{worth_of, threshold_of}
 use Rattle.shogi_core.specs.Movement.{piece_at}
 use Rattle.shogi_moves.specs.After.{after}
 use Rattle.shogi_moves.specs.Threats.{IsThreat, LeavesThreat, MayTake}
-use Rattle.shogi_search.specs.Minimax.{worth}
+use Rattle.minimax.specs.Minimax.{worth}
 use Rattle.shogi_search.specs.Threats.{IsThreatIn}
-use Rattle.shogi_search.specs.Window.{threshold, code_at}
+use Rattle.minimax.specs.Window.{threshold, code_at}
 use Rattle.shogi_search.specs.declared.frame.Frame.{Frame}
 use Rattle.shogi_search.specs.declared.threat.Threat.{Threat}
 use Rattle.shogi_search.proofs.Ahead.{still_below}

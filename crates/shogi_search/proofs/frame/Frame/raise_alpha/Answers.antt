@@ -1,6 +1,6 @@
 use Rattle.std.proofs.Common.{arith}
 use Rattle.std.proofs.lemmas.Int.{ints}
-use Rattle.shogi_search.proofs.Cover.{IsCovered-raise}
+use Rattle.minimax.proofs.Cover.{IsCovered-raise}
 use Rattle.shogi_search.proofs.Nodes.{waits, at_depth}
 use Rattle.shogi_search.proofs.frame.Frame.raise_alpha.Goals as goal
 

@@ -1,7 +1,7 @@
 use Rattle.std.proofs.Common.{arith, rules, FitsSigned, w32, ◌≡◌}
 use Rattle.std.proofs.lemmas.Int.{ints, to_z-of_z}
 use Rattle.shogi_core.specs.Codes.{code_of}
-use Rattle.shogi_search.specs.Window.{threshold, code_at}
+use Rattle.minimax.specs.Window.{threshold, code_at}
 use Rattle.shogi_search.proofs.Nodes.{waits, threshold_least}
 use Rattle.shogi_search.proofs.frame.Frame.threshold.Goals as goal
 

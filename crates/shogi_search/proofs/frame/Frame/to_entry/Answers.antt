@@ -2,9 +2,9 @@ use Rattle.std.proofs.Common.{arith, ◌<◌, ◌∙◌, sym, None, Some}
 use Rattle.std.proofs.lemmas.Int.{ints}
 use Rattle.std.proofs.lemmas.Bool.{iff_false}
 use Rattle.shogi_moves.proofs.LegalLaws.{legal_rising}
-use Rattle.shogi_search.specs.Minimax.{lost_value}
-use Rattle.shogi_search.proofs.MinimaxLaws.{best-leaf}
-use Rattle.shogi_search.proofs.Left.{IsFound, found_best, found_low, found_lost}
+use Rattle.minimax.specs.Minimax.{lost_value}
+use Rattle.minimax.proofs.MinimaxLaws.{best-leaf}
+use Rattle.minimax.proofs.Left.{IsFound, found_best, found_low, found_lost}
 use Rattle.shogi_search.proofs.Nodes.{gone, gone_through}
 use Rattle.shogi_search.proofs.frame.Frame.to_entry.Goals as goal
 

@@ -1,4 +1,4 @@
-use Rattle.shogi_search.proofs.Cover.{IsCovered-start}
+use Rattle.minimax.proofs.Cover.{IsCovered-start}
 use Rattle.shogi_search.proofs.frame.FrameDefault.default.Goals as goal
 
 pub invariant_of-result-clause-known : goal.invariant_of-result-clause-known

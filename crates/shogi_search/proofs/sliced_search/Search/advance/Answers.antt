@@ -2,7 +2,7 @@ use Rattle.std.proofs.Common.{◌≡◌, ◌<◌, ℕ, Bool, false, Option, None
 use Rattle.std.specs.Prelude.{is_some}
 use Rattle.shogi_search.specs.declared.found.Found.{Found}
 use Rattle.shogi_search.specs.SlicedSearch.{left_in}
-use Rattle.shogi_search.proofs.MinimaxLaws.{tree_size-positive}
+use Rattle.minimax.proofs.MinimaxLaws.{tree_size-positive}
 use Rattle.shogi_search.proofs.Searches.{known_value, known_best}
 use Rattle.shogi_search.proofs.sliced_search.Search.advance.Goals as goal
 

@@ -1,18 +1,18 @@
 use Rattle.std.proofs.Common.{rules, arith, ◌<◌, ◌*◌, ◌∙◌}
 use Rattle.shogi_search.specs.declared.frame.Frame.{Frame}
-use Rattle.shogi_search.specs.Minimax.{negated, tree_size}
+use Rattle.minimax.specs.Minimax.{negated, tree_size}
 use Rattle.shogi_search.specs.Stack.{IsAt, steps_left}
 use Rattle.shogi_search.specs.Visits.{IsFree}
 use Rattle.shogi_search.proofs.Places.{stack_with, on_with, with_frame, left_entered, free_next}
 use Rattle.shogi_search.proofs.sliced_search.Search.enter_root.Goals as goal
-use Rattle.shogi_search.specs.declared.bounds.TheConstants.{INFINITY}
+use Rattle.minimax.specs.declared.bounds.TheConstants.{INFINITY}
 
 pub invariant_of-self : goal.invariant_of-self
 invariant_of-self g c =
     let s = c.self.inside.stack in
     let at = c.enter.ensures.place in
     let root : IsAt s.root s.eval s.depth (negated INFINITY) s.beta c.enter.new.self = record { position = at.position ∙ search rules; eval = at.eval ∙ search rules; depth = at.depth; alpha_is = search rules; beta_is = search rules } in
-    let left : steps_left (with_frame s 0 c.enter.new.self) < 2 * tree_size s.root s.depth = omega (arith, left_entered s 0 c.enter.new.self _ _ _ _ _ (omega arith) root c.enter.ensures.waiting (search rules)) in
+    let left : steps_left (with_frame s 0 c.enter.new.self) < 2 * tree_size s.root s.depth = omega (arith, left_entered s 0 c.enter.new.self _ _ _ _ _ (omega arith) root (search rules)) in
     record {
       shallow = search rules;
       above = search rules;

@@ -1,16 +1,16 @@
-use Rattle.std.proofs.Common.{arith, get_or, rules, ◌≡◌, ◌≢◌, ◌-◌, ◌+◌, ◌∙◌}
+use Rattle.std.proofs.Common.{arith, get_or, rules, ◌≡◌, ◌<◌, ◌≤◌, ◌-◌, ◌+◌, ◌∙◌}
 use Rattle.std.proofs.lemmas.Int.{ints}
 use Rattle.shogi_moves.proofs.LegalLaws.{listed_to_legal}
 use Rattle.shogi_search.specs.Frames.{position_after, threshold_of}
-use Rattle.shogi_search.specs.Minimax.{negated}
+use Rattle.minimax.specs.Minimax.{negated}
 use Rattle.shogi_search.specs.Stack.{IsAt}
 use Rattle.shogi_search.specs.Visits.{IsFree}
 use Rattle.shogi_search.specs.declared.frame.Frame.{Frame}
 use Rattle.shogi_search.specs.declared.frame.Waiting.TheVariants.{Asked}
-use Rattle.shogi_search.proofs.Chains.{left_same}
-use Rattle.shogi_search.proofs.MinimaxLaws.{tree_size-positive}
+use Rattle.shogi_search.proofs.Chains.{left_kept}
+use Rattle.minimax.proofs.MinimaxLaws.{tree_size-positive}
 use Rattle.shogi_search.proofs.Nodes.{asked, waits}
-use Rattle.shogi_search.proofs.Places.{IsTop, read_top, on_top, on_with, changed, room_asked, stack_entered, left_child, left_visited, free_next}
+use Rattle.shogi_search.proofs.Places.{IsTop, read_top, on_top, on_with, changed, room, stack_entered, left_child, left_visited, free_next}
 use Rattle.shogi_search.proofs.stack.Stack.enter_child.Goals as goal
 
 pub advance-requires : goal.advance-requires
@@ -32,27 +32,44 @@ pub returns-in-Some-clause-stack : goal.returns-in-Some-clause-stack
 returns-in-Some-clause-stack g c = changed c.args.self.now _ c.back_up.new.self (read_top c.args.self.now c.index-self-self-in-Some.result (omega (arith, c.requires.stack.height_fits))) c.requires.stack c.back_up.ensures.0
 
 pub returns-in-Some-clause-free : goal.returns-in-Some-clause-free
-returns-in-Some-clause-free g c = on_with c.args.self.now c.args.self.now.height c.back_up.new.self (λ (top : Frame). IsFree top.waiting) (omega (arith, c.requires.stack.height_fits)) c.back_up.ensures.1.1.0
+returns-in-Some-clause-free g c = on_with c.args.self.now c.args.self.now.height c.back_up.new.self (λ (top : Frame). IsFree top.waiting) (omega (arith, c.requires.stack.height_fits)) c.back_up.ensures.1.1
 
 pub returns-in-Some-clause-left : goal.returns-in-Some-clause-left
 returns-in-Some-clause-left g c =
     let f : Frame = get_or c.args.self.now.frames c.args.self.now.height c.index-self-self-in-Some.result in
     left_visited c.args.self.now c.args.current.now f c.back_up.new.self 1 (read_top c.args.self.now c.index-self-self-in-Some.result (omega (arith, c.requires.stack.height_fits)))
-    (omega (arith, left_same f c.back_up.new.self c.back_up.ensures.0 c.back_up.ensures.1.0 c.back_up.ensures.1.1.1, tree_size-positive (position_after f c.args.current.now) (f.depth - 1)))
+    (omega (arith, left_kept f c.back_up.new.self c.back_up.ensures.0 c.back_up.ensures.1.0, tree_size-positive (position_after f c.args.current.now) (f.depth - 1)))
 
 pub listed-2 : goal.listed-2
-listed-2 g c = omega (arith, room_asked c.args.self.now c.args.current.now c.requires.stack c.requires.asked c.requires.deep)
+listed-2 g c =
+    let f : Frame = get_or c.args.self.now.frames c.args.self.now.height c.index-self-self.result in
+    let is : IsTop c.args.self.now f = read_top c.args.self.now c.index-self-self.result (omega (arith, c.requires.stack.height_fits)) in
+    let deep : 2 ≤ f.depth - 1 = c.in_default.ensures.deep in
+    let above : c.args.self.now.height + 1 < 16 = room c.args.self.now f is c.requires.stack (omega (arith, deep)) in
+    omega (arith, above)
 
 pub kept_reply-requires : goal.kept_reply-requires
-kept_reply-requires g c = record { room = omega (arith, room_asked c.args.self.now c.args.current.now c.requires.stack c.requires.asked c.requires.deep) }
+kept_reply-requires g c =
+    let f : Frame = get_or c.args.self.now.frames c.args.self.now.height c.index-self-self.result in
+    let is : IsTop c.args.self.now f = read_top c.args.self.now c.index-self-self.result (omega (arith, c.requires.stack.height_fits)) in
+    let deep : 2 ≤ f.depth - 1 = c.in_default.ensures.deep in
+    let above : c.args.self.now.height + 1 < 16 = room c.args.self.now f is c.requires.stack (omega (arith, deep)) in
+    record { room = omega (arith, above) }
 
 pub bounds-self-self-2 : goal.bounds-self-self-2
-bounds-self-self-2 g c = omega (arith, room_asked c.args.self.now c.args.current.now c.requires.stack c.requires.asked c.requires.deep)
+bounds-self-self-2 g c =
+    let f : Frame = get_or c.args.self.now.frames c.args.self.now.height c.index-self-self.result in
+    let is : IsTop c.args.self.now f = read_top c.args.self.now c.index-self-self.result (omega (arith, c.requires.stack.height_fits)) in
+    let deep : 2 ≤ f.depth - 1 = c.in_default.ensures.deep in
+    let above : c.args.self.now.height + 1 < 16 = room c.args.self.now f is c.requires.stack (omega (arith, deep)) in
+    omega (arith, above)
 
 pub returns-clause-stack : goal.returns-clause-stack
 returns-clause-stack g c =
     let f : Frame = get_or c.args.self.now.frames c.args.self.now.height c.index-self-self.result in
     let is : IsTop c.args.self.now f = read_top c.args.self.now c.index-self-self.result (omega (arith, c.requires.stack.height_fits)) in
+    let deep : 2 ≤ f.depth - 1 = c.in_default.ensures.deep in
+    let above : c.args.self.now.height + 1 < 16 = room c.args.self.now f is c.requires.stack (omega (arith, deep)) in
     let asks : f.waiting ≡ Asked c.args.current.now = on_top c.args.self.now f (λ (top : Frame). top.waiting ≡ Asked c.args.current.now) is c.requires.asked in
     let window : IsAt (position_after f c.args.current.now) f.node.eval (f.depth - 1) (negated f.beta) (negated (threshold_of f c.args.current.now)) c.enter.new.self = record {
       position = c.enter.ensures.place.position ∙ search rules;
@@ -61,15 +78,22 @@ returns-clause-stack g c =
       alpha_is = omega (arith, ints, c.enter.ensures.place.alpha_is, c.window-alpha.ensures.alpha, c.window-alpha.ensures.least, c.window-alpha.ensures.«open», c.window-alpha.ensures.most);
       beta_is = omega (arith, ints, c.enter.ensures.place.beta_is, c.window-alpha.ensures.beta, c.window-alpha.ensures.least, c.window-alpha.ensures.«open», c.window-alpha.ensures.most);
     } in
-    stack_entered c.args.self.now f c.enter.new.self c.args.current.now is c.requires.stack asks (on_top c.args.self.now f (λ (top : Frame). top.depth ≢ 1) is c.requires.deep) (omega (arith, room_asked c.args.self.now c.args.current.now c.requires.stack c.requires.asked c.requires.deep)) window
+    stack_entered c.args.self.now f c.enter.new.self c.args.current.now is c.requires.stack asks (omega (arith, deep)) (omega (arith, above)) window
 
 pub returns-clause-free : goal.returns-clause-free
-returns-clause-free g c = on_with c.args.self.now (c.args.self.now.height + 1) c.enter.new.self (λ (top : Frame). IsFree top.waiting) (omega (arith, room_asked c.args.self.now c.args.current.now c.requires.stack c.requires.asked c.requires.deep)) (free_next _ c.enter.ensures.waiting)
+returns-clause-free g c =
+    let f : Frame = get_or c.args.self.now.frames c.args.self.now.height c.index-self-self.result in
+    let is : IsTop c.args.self.now f = read_top c.args.self.now c.index-self-self.result (omega (arith, c.requires.stack.height_fits)) in
+    let deep : 2 ≤ f.depth - 1 = c.in_default.ensures.deep in
+    let above : c.args.self.now.height + 1 < 16 = room c.args.self.now f is c.requires.stack (omega (arith, deep)) in
+    on_with c.args.self.now (c.args.self.now.height + 1) c.enter.new.self (λ (top : Frame). IsFree top.waiting) (omega (arith, above)) (free_next _ c.enter.ensures.waiting)
 
 pub returns-clause-left : goal.returns-clause-left
 returns-clause-left g c =
     let f : Frame = get_or c.args.self.now.frames c.args.self.now.height c.index-self-self.result in
     let is : IsTop c.args.self.now f = read_top c.args.self.now c.index-self-self.result (omega (arith, c.requires.stack.height_fits)) in
+    let deep : 2 ≤ f.depth - 1 = c.in_default.ensures.deep in
+    let above : c.args.self.now.height + 1 < 16 = room c.args.self.now f is c.requires.stack (omega (arith, deep)) in
     let asks : f.waiting ≡ Asked c.args.current.now = on_top c.args.self.now f (λ (top : Frame). top.waiting ≡ Asked c.args.current.now) is c.requires.asked in
     let window : IsAt (position_after f c.args.current.now) f.node.eval (f.depth - 1) (negated f.beta) (negated (threshold_of f c.args.current.now)) c.enter.new.self = record {
       position = c.enter.ensures.place.position ∙ search rules;
@@ -78,4 +102,4 @@ returns-clause-left g c =
       alpha_is = omega (arith, ints, c.enter.ensures.place.alpha_is, c.window-alpha.ensures.alpha, c.window-alpha.ensures.least, c.window-alpha.ensures.«open», c.window-alpha.ensures.most);
       beta_is = omega (arith, ints, c.enter.ensures.place.beta_is, c.window-alpha.ensures.beta, c.window-alpha.ensures.least, c.window-alpha.ensures.«open», c.window-alpha.ensures.most);
     } in
-    left_child c.args.self.now f c.enter.new.self c.args.current.now _ _ _ is (omega (arith, room_asked c.args.self.now c.args.current.now c.requires.stack c.requires.asked c.requires.deep)) window c.enter.ensures.waiting (search rules)
+    left_child c.args.self.now f c.enter.new.self c.args.current.now _ _ _ is (omega (arith, above)) window (search rules)

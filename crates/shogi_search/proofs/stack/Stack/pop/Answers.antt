@@ -17,10 +17,10 @@ pub returns-clause-stack : goal.returns-clause-stack
 returns-clause-stack c = stack_popped c.args.self.now _ c.back_up.new.self c.requires.stack (omega (arith, c.if-self-eq0.false)) (omega (arith, c.requires.stack.height_fits)) c.back_up.ensures.0
 
 pub returns-clause-free : goal.returns-clause-free
-returns-clause-free c = λ _. on_with c.args.self.now (c.args.self.now.height - 1) c.back_up.new.self (λ (top : Frame). IsFree top.waiting) (omega (arith, c.requires.stack.height_fits)) c.back_up.ensures.1.1.0
+returns-clause-free c = λ _. on_with c.args.self.now (c.args.self.now.height - 1) c.back_up.new.self (λ (top : Frame). IsFree top.waiting) (omega (arith, c.requires.stack.height_fits)) c.back_up.ensures.1.1
 
 pub returns-clause-left : goal.returns-clause-left
-returns-clause-left c = λ _. left_popped c.args.self.now _ c.back_up.new.self c.requires.stack (omega (arith, c.if-self-eq0.false)) (omega (arith, c.requires.stack.height_fits)) c.back_up.ensures.0 c.back_up.ensures.1.0 c.back_up.ensures.1.1.1
+returns-clause-left c = λ _. left_popped c.args.self.now _ c.back_up.new.self c.requires.stack (omega (arith, c.if-self-eq0.false)) (omega (arith, c.requires.stack.height_fits)) c.back_up.ensures.0 c.back_up.ensures.1.0
 
 pub returns-clause-most : goal.returns-clause-most
-returns-clause-most c = omega (arith, left_popped c.args.self.now _ c.back_up.new.self c.requires.stack (omega (arith, c.if-self-eq0.false)) (omega (arith, c.requires.stack.height_fits)) c.back_up.ensures.0 c.back_up.ensures.1.0 c.back_up.ensures.1.1.1)
+returns-clause-most c = omega (arith, left_popped c.args.self.now _ c.back_up.new.self c.requires.stack (omega (arith, c.if-self-eq0.false)) (omega (arith, c.requires.stack.height_fits)) c.back_up.ensures.0 c.back_up.ensures.1.0)

@@ -1,6 +1,6 @@
 use Rattle.std.proofs.Common.{◌≡◌, ◌+◌, ap, ◌∙◌, List, subst, ℕ}
 use Rattle.shogi_core.specs.declared.moves.Move.{Move}
-use Rattle.shogi_search.specs.Minimax.{pv}
+use Rattle.minimax.specs.Minimax.{pv}
 use Rattle.usi_session.specs.Answer.{bestmove_of}
 use Rattle.usi_session.specs.RunningGo.{is_searching}
 use Rattle.usi_session.specs.Walked.{IsLine}

@@ -1,7 +1,7 @@
 use Rattle.std.proofs.Common.{◌≡◌, rules, refl}
 use Rattle.std.specs.Prelude.{IfSome, true}
 use Rattle.shogi_moves.specs.Legal.{is_legal}
-use Rattle.shogi_search.proofs.Best.{legal_best}
+use Rattle.minimax.proofs.Best.{legal_best}
 use Rattle.usi_session.proofs.Walk.{walked_none, walked_some, walk_same, cost_ends}
 use Rattle.usi_session.proofs.pv_walk.PvWalk.follow.Goals as goal
 

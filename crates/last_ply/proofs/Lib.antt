@@ -1,0 +1,6 @@
+pub mod Composing
+pub mod Squares
+pub mod Scores
+pub mod Passing
+pub mod MateLaws
+pub mod OneWalk

@@ -1,0 +1,119 @@
+-- What is asked of a node with one ply left (own choice).
+use Rattle.std.specs.Prelude.{◌&&◌, ◌≡◌, ◌≢◌, ◌<◌, ◌≤ℤ◌, ◌⊎◌, ℕ, ℤ, [], true, Bool}
+use Rattle.shogi_core.specs.declared.moves.Move.TheVariants.{Board, Drop}
+use Rattle.shogi_core.specs.declared.piece.Kind.{Kind}
+use Rattle.shogi_core.specs.Bits.{has_bit, IsMaskOf}
+use Rattle.shogi_core.specs.Codes.{code_of}
+use Rattle.shogi_core.specs.Position.{Shogi}
+use Rattle.shogi_moves.specs.After.{after_code}
+use Rattle.shogi_moves.specs.Legal.{is_legal_code}
+use Rattle.shogi_moves.specs.LegalMoves.{legal_codes}
+use Rattle.shogi_moves.specs.Rising.{is_in}
+use Rattle.shogi_eval.specs.declared.eval.Eval.{Eval}
+use Rattle.shogi_eval.specs.Evaluated.{Evaluated}
+use Rattle.shogi_eval.specs.Material.{material_of}
+use Rattle.minimax.specs.Minimax.{negated, lost_value, IsTrueEntry}
+use Rattle.minimax.specs.declared.entry.Entry.{Entry}
+
+-- what the move of a code scores: the material after it, for its mover
+abbrev pub score_at : Shogi → Eval → ℕ → ℤ
+score_at p e code = negated (material_of (after_code p code) e)
+
+-- the other side has no legal move after the move of the code
+abbrev pub LeavesNone : Shogi → ℕ → Type 0
+LeavesNone p code = legal_codes (after_code p code) ≡ []
+
+-- the other side has a legal move after the move of the code
+abbrev pub LeavesSome : Shogi → ℕ → Type 0
+LeavesSome p code = legal_codes (after_code p code) ≢ []
+
+-- some legal move scores this or more
+pub record HasScore (p : Shogi) (e : Eval) (v : ℤ) : Type 0 where
+  pub code : ℕ
+  pub listed : is_in code (legal_codes p) ≡ true
+  pub at_least : v ≤ℤ score_at p e code
+
+-- no legal move scores more than this
+abbrev pub ScoresAtMost : Shogi → Eval → ℤ → Type 0
+ScoresAtMost p e v = (code : ℕ) → is_in code (legal_codes p) ≡ true → score_at p e code ≤ℤ v
+
+-- some legal move leaves the other side without one
+pub record HasMate (p : Shogi) : Type 0 where
+  pub code : ℕ
+  pub listed : is_in code (legal_codes p) ≡ true
+  pub none : LeavesNone p code
+
+-- each legal move leaves the other side one
+abbrev pub HasNoMate : Shogi → Type 0
+HasNoMate p = (code : ℕ) → is_in code (legal_codes p) ≡ true → LeavesSome p code
+
+-- of the legal moves that meet this, the code is the least
+pub record IsLeast (p : Shogi) (meets : ℕ → Type 0) (code : ℕ) : Type 0 where
+  pub listed : is_in code (legal_codes p) ≡ true
+  pub met : meets code
+  pub least : (n : ℕ) → is_in n (legal_codes p) ≡ true → n < code → meets n → ⊥
+
+-- no legal move meets this
+abbrev pub NoneMeets : Shogi → (ℕ → Type 0) → Type 0
+NoneMeets p meets = (n : ℕ) → is_in n (legal_codes p) ≡ true → meets n → ⊥
+
+-- the move scores this
+abbrev pub Scores : Evaluated → ℤ → ℕ → Type 0
+Scores node v code = score_at node.position node.eval code ≡ v
+
+-- a move is legal, or the value is no less than that of a lost position with one ply left
+abbrev pub IsNoLoss : Shogi → ℤ → Type 0
+IsNoLoss p v = (lost_value 1 ≤ℤ v) ⊎ (legal_codes p ≢ [])
+
+-- what an entry says of the node with one ply left holds
+abbrev pub IsTrueOf : Evaluated → Entry → Type 0
+IsTrueOf node entry = IsTrueEntry node.position node.eval 1 entry
+
+-- the legal moves of what stands on the square score no more than this
+abbrev pub ScoresFromAtMost : Shogi → Eval → ℕ → ℤ → Type 0
+ScoresFromAtMost p e from v = (n : ℕ) (promote : Bool) → n < 81
+    → is_legal_code p (code_of (Board from n promote)) ≡ true
+    → score_at p e (code_of (Board from n promote)) ≤ℤ v
+
+-- and those among them to the squares of the mask, promoting or not
+abbrev pub ScoresAmongAtMost : Shogi → Eval → ℕ → Bool → ℕ → ℤ → Type 0
+ScoresAmongAtMost p e from promote mask v = (n : ℕ) → n < 81 → has_bit mask n ≡ true
+    → score_at p e (code_of (Board from n promote)) ≤ℤ v
+
+-- the moves of what stands on the square to those of the mask are legal, promoting or not
+abbrev pub AreLegalEnds : Shogi → ℕ → Bool → ℕ → Type 0
+AreLegalEnds p from promote mask = (n : ℕ) → n < 81 → has_bit mask n ≡ true
+    → is_legal_code p (code_of (Board from n promote)) ≡ true
+
+-- each legal move of what stands on the square leaves the other side one
+abbrev pub LeaveSomeFrom : Shogi → ℕ → Type 0
+LeaveSomeFrom p from = (n : ℕ) (promote : Bool) → n < 81
+    → is_legal_code p (code_of (Board from n promote)) ≡ true
+    → LeavesSome p (code_of (Board from n promote))
+
+-- and each move to a square of the mask, promoting or not
+abbrev pub LeaveSomeAmong : Shogi → ℕ → Bool → ℕ → Type 0
+LeaveSomeAmong p from promote mask =
+    (n : ℕ) → n < 81 → has_bit mask n ≡ true → LeavesSome p (code_of (Board from n promote))
+
+-- each legal drop of the kind leaves the other side a legal move
+abbrev pub DropsLeaveSome : Shogi → Kind → Type 0
+DropsLeaveSome p kind = (n : ℕ) → n < 81 → is_legal_code p (code_of (Drop kind n)) ≡ true
+    → LeavesSome p (code_of (Drop kind n))
+
+-- the mask has the squares at which the move of the piece is legal, promoting or not
+abbrev pub AreLegalDestinations : Shogi → ℕ → Bool → ℕ → Type 0
+AreLegalDestinations p from promote mask =
+    IsMaskOf mask (λ n. is_legal_code p (code_of (Board from n promote)))
+
+-- and the mask has those of them that are among some squares
+abbrev pub AreLegalAmong : Shogi → ℕ → Bool → ℕ → ℕ → Type 0
+AreLegalAmong p from promote squares mask =
+    IsMaskOf mask (λ n. has_bit squares n && is_legal_code p (code_of (Board from n promote)))
+
+-- the same of a node
+abbrev pub NodeHasScore : Evaluated → ℤ → Type 0
+NodeHasScore node v = HasScore node.position node.eval v
+
+abbrev pub NodeScoresAtMost : Evaluated → ℤ → Type 0
+NodeScoresAtMost node v = ScoresAtMost node.position node.eval v

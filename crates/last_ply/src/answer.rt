@@ -1,0 +1,164 @@
+//! What is known of a node with one ply left, within a window.
+
+ghost use Rattle.std.specs.Prelude.{◌≡◌, ◌<◌, ◌^◌, ◌≤ℤ◌, ◌<ℤ◌, IfSome, IsNone, true};
+ghost use Rattle.shogi_core.specs.Cell.{is_piece_of};
+ghost use Rattle.shogi_core.specs.Movement.{piece_at};
+ghost use Rattle.shogi_eval.specs.Material.{material_of};
+ghost use Rattle.minimax.specs.Entries.{IsCutoff};
+ghost use Rattle.minimax.specs.Minimax.{negated, IsTrueEntry};
+ghost use Rattle.minimax.specs.declared.bounds.TheConstants.{INFINITY};
+ghost use Rattle.last_ply.specs.LastPly.{AreLegalEnds, HasNoMate, IsNoLoss, IsTrueOf, NodeHasScore, NodeScoresAtMost};
+
+use crate::scene::Scene;
+use minimax::{Entry, MATE};
+use shogi_core::Square;
+use shogi_core::bits::{lowest, without_lowest};
+use shogi_eval::Node;
+use shogi_moves::has_legal;
+
+impl Scene<'_> {
+    /// Whether the mask of legal ends has one, to which a move scores no less than the node has.
+    fn has_end(&self, from: Square, promote: bool, ends: u128) -> bool
+        requires fits { ends < 2 ^ 81 }
+        requires legal { AreLegalEnds self.now.node.now.position from promote ends }
+        ensures { result ≡ true → NodeHasScore self.now.node.now
+            (material_of self.now.node.now.position self.now.node.now.eval) }
+    {
+        let _ = promote;
+        from.validity();
+        if ends == 0 {
+            return false;
+        }
+        let _to = lowest(ends);
+        true
+    }
+
+    /// Whether a piece on the board has a legal move, which then scores no less than the node has.
+    fn has_board_move(&self) -> bool
+        ensures { result ≡ true → NodeHasScore self.now.node.now
+            (material_of self.now.node.now.position self.now.node.now.eval) }
+    {
+        let mut left = self.own;
+        while left != 0 {
+            let square = lowest(left);
+            let from = Square::of_index(square);
+            let ends = self.destinations(from);
+            if self.has_end(from, false, ends.plain) || self.has_end(from, true, ends.promoting) {
+                return true;
+            }
+            left = without_lowest(left, square);
+        }
+        false
+    }
+
+    /// What is known where some legal move leaves the other side without one.
+    fn mate_entry(&self, alpha: i32, beta: i32) -> Option<Entry>
+        ensures truth { IfSome result (IsTrueOf self.now.node.now) }
+        ensures cutoff { IfSome result (IsCutoff alpha beta) }
+        ensures none { IsNone result → HasNoMate self.now.node.now.position }
+    {
+        if !self.has_mate() {
+            return None;
+        }
+        if beta <= MATE {
+            return Some(Entry::AtLeast(MATE));
+        }
+        if alpha >= MATE {
+            return Some(Entry::AtMost(alpha));
+        }
+        match self.first_mate() {
+            None => None,
+            Some(m) => {
+                m.validity();
+                Some(Entry::Exact(MATE, Some(m)))
+            }
+        }
+    }
+
+    /// What is known where no legal move does, and none scores more than this.
+    fn score_entry(&self, most: i32, alpha: i32, beta: i32) -> Entry
+        requires quiet { HasNoMate self.now.node.now.position }
+        requires all { NodeScoresAtMost self.now.node.now most }
+        requires some { alpha <ℤ most → NodeHasScore self.now.node.now most }
+        requires lost { IsNoLoss self.now.node.now.position most }
+        ensures truth { IsTrueOf self.now.node.now result }
+        ensures cutoff { IsCutoff alpha beta result }
+    {
+        if most <= alpha {
+            return Entry::AtMost(most);
+        }
+        match self.first_with(most) {
+            None => unreachable!(),
+            Some(m) => {
+                m.validity();
+                Entry::Exact(most, Some(m))
+            }
+        }
+    }
+
+    /// What is known where no legal move scores more than this, unless that is enough.
+    fn settled(&self, most: i32, alpha: i32, beta: i32) -> Entry
+        requires all { most <ℤ beta → NodeScoresAtMost self.now.node.now most }
+        requires some { alpha <ℤ most → NodeHasScore self.now.node.now most }
+        requires lost { IsNoLoss self.now.node.now.position most }
+        requires open { alpha <ℤ beta }
+        ensures truth { IsTrueOf self.now.node.now result }
+        ensures cutoff { IsCutoff alpha beta result }
+    {
+        if most >= beta {
+            return Entry::AtLeast(most);
+        }
+        match self.mate_entry(alpha, beta) {
+            Some(entry) => entry,
+            None => self.score_entry(most, alpha, beta),
+        }
+    }
+
+    /// The same where perhaps only drops are legal, of which all may score less than the node has.
+    fn by_all_moves(&self, alpha: i32, beta: i32) -> Entry
+        requires open { alpha <ℤ beta }
+        ensures truth { IsTrueOf self.now.node.now result }
+        ensures cutoff { IsCutoff alpha beta result }
+    {
+        if !has_legal(self.node.as_position()) {
+            return Entry::Exact(-MATE - 1, None);
+        }
+        self.settled(self.most_of_all(alpha), alpha, beta)
+    }
+
+    /// What is known where the node has more than the window's lower end.
+    fn above(&self, base: i32, alpha: i32, beta: i32) -> Entry
+        requires base { base ≡ material_of self.now.node.now.position self.now.node.now.eval }
+        requires above { alpha <ℤ base }
+        requires open { alpha <ℤ beta }
+        ensures truth { IsTrueOf self.now.node.now result }
+        ensures cutoff { IsCutoff alpha beta result }
+    {
+        let most = self.most(base, beta);
+        if most > base {
+            return self.settled(most, alpha, beta);
+        }
+        if self.has_board_move() {
+            return self.settled(base, alpha, beta);
+        }
+        self.by_all_moves(alpha, beta)
+    }
+}
+
+/// What is known of a node with one ply left: enough for the window.
+pub fn last_ply(node: &Node, alpha: i32, beta: i32) -> Entry
+    requires open { alpha <ℤ beta }
+    ensures truth { IsTrueEntry node.now.position node.now.eval 1 result }
+    ensures cutoff { IsCutoff alpha beta result }
+{
+    let scene = Scene::of(node);
+    if scene.info.checked && alpha < -MATE - 1 && beta > MATE {
+        return scene.by_one_walk();
+    }
+    let base = node.score();
+    if base > alpha {
+        return scene.above(base, alpha, beta);
+    }
+    let most = scene.most(alpha, beta);
+    scene.settled(most, alpha, beta)
+}

@@ -1,0 +1,342 @@
+//! Whether a legal move leaves the other side without one.
+
+ghost use Rattle.std.specs.Prelude.{[], ◌≢◌, ◌≡◌, ◌<◌, ◌^◌, true, false, ℕ};
+ghost use Rattle.std.proofs.Props.{props};
+ghost use Rattle.shogi_core.specs.declared.moves.Move.TheVariants as moves;
+ghost use Rattle.shogi_core.specs.Bits.{has_bit};
+ghost use Rattle.shogi_core.specs.Cell.{is_piece_of};
+ghost use Rattle.shogi_core.specs.Codes.{code_of};
+ghost use Rattle.shogi_core.specs.Movement.{piece_at};
+ghost use Rattle.shogi_moves.specs.Destinations.{AreDropSquares};
+ghost use Rattle.shogi_moves.specs.Escapes.{AreEscapes};
+ghost use Rattle.shogi_moves.specs.LegalMoves.{legal_codes};
+ghost use Rattle.shogi_moves.specs.Legal.{is_legal, is_legal_code};
+ghost use Rattle.shogi_moves.specs.Replies.{IsAnswered, IsReplies};
+ghost use Rattle.last_ply.specs.LastPly.{HasMate, HasNoMate, LeavesNone, LeavesSome, AreLegalEnds, LeaveSomeAmong, LeaveSomeFrom, DropsLeaveSome};
+
+use crate::scene::Scene;
+use shogi_core::bits::{ALL_SQUARES, has, lowest, without_lowest};
+use shogi_core::{Kind, Move, Piece, Position, Role, Square, step_squares};
+use shogi_moves::{
+    Destinations, Replies, drop_destinations, drop_squares, enterable, escape_squares, has_legal,
+    is_legal, king_takes, leaves_escape, leaves_king_move, promoting_squares,
+};
+
+/// A scene, and what shows of most moves that the other side surely has one after them.
+#[derive(Clone, Copy)]
+pub struct Outlook<'a> {
+    pub scene: Scene<'a>,
+    pub replies: Replies,
+    /// Squares to which the other side's king may go.
+    pub escapes: u128,
+    /// The empty squares on which a held piece may be dropped.
+    pub squares: u128,
+    ghost replied: { IsReplies scene.node.now.position replies.sight replies.spare } by { Prim.hlevel props },
+    ghost escaping: { AreEscapes scene.node.now.position escapes } by { Prim.hlevel props },
+    ghost dropping: { AreDropSquares scene.node.now.position squares } by { Prim.hlevel props },
+}
+
+/// The square where the move ends.
+fn end_of(m: &Move) -> Square {
+    match m {
+        Move::Board { to, .. } => *to,
+        Move::Drop { to, .. } => *to,
+    }
+}
+
+/// The pieces of the side to move, but its king, next to the square or a knight's jump away.
+fn pieces_near(p: &Position, to: usize) -> u128
+    requires { to < 81 }
+    ensures { result < 2 ^ 81 }
+{
+    let side = p.side();
+    let king = Piece {
+        color: side,
+        role: Role::King,
+    };
+    let knight = Piece {
+        color: side.opponent(),
+        role: Role::Knight,
+    };
+    let near = step_squares(king, to) | step_squares(knight, to);
+    let board = p.as_board();
+    board.own(side) & near & !board.kings(side)
+}
+
+/// Whether the piece on the square may legally take there, by a step and without promotion.
+fn takes_legally(p: &Position, from: Square, to: Square) -> bool
+    ensures { result ≡ true → legal_codes p.now ≢ [] }
+{
+    let Some(piece) = p.at(from) else {
+        return false
+    };
+    from.validity();
+    to.validity();
+    let m = Move::Board {
+        from,
+        to,
+        promote: false,
+    };
+    has(step_squares(piece, from.index()), to.index()) && is_legal(p, m)
+}
+
+/// Whether such a piece surely may legally take what the move put on its end.
+fn retakes(p: &Position, m: &Move) -> bool
+    ensures { result ≡ true → legal_codes p.now ≢ [] }
+{
+    let to = end_of(m);
+    to.validity();
+    let mut left = pieces_near(p, to.index());
+    while left != 0 {
+        let square = lowest(left);
+        if takes_legally(p, Square::of_index(square), to) {
+            return true;
+        }
+        left = without_lowest(left, square);
+    }
+    false
+}
+
+impl Scene<'_> {
+    /// Whether the legal move leaves the other side without one.
+    pub fn mates(&self, m: &Move) -> bool
+        requires { is_legal self.now.node.now.position m.now ≡ true }
+        ensures mated { result ≡ true → LeavesNone self.now.node.now.position (code_of m.now) }
+        ensures some { result ≡ true → HasMate self.now.node.now.position }
+        ensures none { result ≡ false → LeavesSome self.now.node.now.position (code_of m.now) }
+    {
+        m.validity();
+        if king_takes(self.node.as_position(), m) {
+            return false;
+        }
+        let next = self.node.play(*m);
+        if retakes(next.as_position(), m) {
+            return false;
+        }
+        !has_legal(next.as_position())
+    }
+
+    /// The same; where these replies tell of one, the move is not made.
+    pub fn mates_past(&self, replies: &Replies, m: &Move) -> bool
+        requires legal { is_legal self.now.node.now.position m.now ≡ true }
+        requires kept { IsReplies self.now.node.now.position replies.now.sight replies.now.spare }
+        ensures mated { result ≡ true → LeavesNone self.now.node.now.position (code_of m.now) }
+        ensures none { result ≡ false → LeavesSome self.now.node.now.position (code_of m.now) }
+    {
+        m.validity();
+        !replies.is_certain(self.node.as_position(), m) && self.mates(m)
+    }
+
+    /// Whether some legal move leaves the other side without one.
+    pub fn has_mate(&self) -> bool
+        ensures some { result ≡ true → HasMate self.now.node.now.position }
+        ensures none { result ≡ false → HasNoMate self.now.node.now.position }
+    {
+        let outlook = Outlook::of(self);
+        outlook.has_board_mate() || outlook.has_drop_mate()
+    }
+}
+
+impl Outlook<'_> {
+    /// The outlook of the scene.
+    fn of<'a>(scene: &Scene<'a>) -> Outlook<'a>
+        ensures { result.scene.node.now ≡ scene.now.node.now }
+    {
+        let p = scene.node.as_position();
+        Outlook {
+            scene: *scene,
+            replies: Replies::of(p),
+            escapes: escape_squares(p),
+            squares: drop_squares(p, &scene.info),
+        }
+    }
+
+    /// Whether the other side's king surely has a way out after the legal move.
+    fn leaves_way(&self, m: &Move) -> bool
+        ensures { result ≡ true → IsAnswered self.now.scene.node.now.position m.now }
+    {
+        let p = self.scene.node.as_position();
+        leaves_escape(p, self.escapes, m) || leaves_king_move(p, self.escapes, m)
+    }
+
+    /// Whether the legal move leaves the other side without one; where its king surely has a way, the
+    /// move is not made.
+    fn tries(&self, m: &Move) -> bool
+        requires { is_legal self.now.scene.node.now.position m.now ≡ true }
+        ensures some { result ≡ true → HasMate self.now.scene.node.now.position }
+        ensures none { result ≡ false
+            → LeavesSome self.now.scene.node.now.position (code_of m.now) }
+    {
+        m.validity();
+        if self.leaves_way(m) {
+            return false;
+        }
+        self.scene.mates(m)
+    }
+
+    /// Whether one of the legal moves of what stands on the square to these does.
+    fn mates_among(&self, from: Square, promote: bool, ends: u128) -> bool
+        requires fits { ends < 2 ^ 81 }
+        requires legal { AreLegalEnds self.now.scene.node.now.position from promote ends }
+        ensures some { result ≡ true → HasMate self.now.scene.node.now.position }
+        ensures none { result ≡ false
+            → LeaveSomeAmong self.now.scene.node.now.position from promote ends }
+    {
+        from.validity();
+        let mut left = ends;
+        while left != 0 {
+            let to = lowest(left);
+            let m = Move::Board {
+                from,
+                to: Square::of_index(to),
+                promote,
+            };
+            if self.tries(&m) {
+                return true;
+            }
+            left = without_lowest(left, to);
+        }
+        false
+    }
+
+    /// Whether one of the legal drops of the kind on these squares does.
+    fn mates_by_drops(&self, kind: Kind, ends: u128) -> bool
+        requires fits { ends < 2 ^ 81 }
+        requires legal { (n : ℕ) → n < 81 → has_bit ends n ≡ true
+            → is_legal_code self.now.scene.node.now.position (code_of (moves.Drop kind n)) ≡ true }
+        ensures some { result ≡ true → HasMate self.now.scene.node.now.position }
+        ensures none { result ≡ false → (n : ℕ) → n < 81 → has_bit ends n ≡ true
+            → LeavesSome self.now.scene.node.now.position (code_of (moves.Drop kind n)) }
+    {
+        let mut left = ends;
+        while left != 0 {
+            let to = lowest(left);
+            let m = Move::Drop {
+                kind,
+                to: Square::of_index(to),
+            };
+            if self.tries(&m) {
+                return true;
+            }
+            left = without_lowest(left, to);
+        }
+        false
+    }
+
+    /// Whether the other side surely has a legal move after each move of the piece, legal or not. In
+    /// check few are, and this is not asked.
+    fn is_sure(&self, from: Square) -> bool
+        requires own { is_piece_of self.now.scene.node.now.position.side
+            (piece_at self.now.scene.node.now.position.cells from) ≡ true }
+        ensures { result ≡ true → LeaveSomeFrom self.now.scene.node.now.position from }
+    {
+        if self.scene.info.checked {
+            return false;
+        }
+        from.validity();
+        let p = self.scene.node.as_position();
+        let ends = p.as_board().targets(from) & enterable(p);
+        let plain = self
+            .replies
+            .certain_destinations(p, self.escapes, from, false, ends);
+        if ends & !plain != 0 {
+            return false;
+        }
+        let promoting = ends & promoting_squares(p.at(from), from);
+        promoting
+            & !self
+                .replies
+                .certain_destinations(p, self.escapes, from, true, promoting)
+            == 0
+    }
+
+    /// Whether a legal move of one of the side's pieces leaves the other side without one.
+    fn mates_from(&self, from: Square) -> bool
+        requires own { is_piece_of self.now.scene.node.now.position.side
+            (piece_at self.now.scene.node.now.position.cells from) ≡ true }
+        ensures some { result ≡ true → HasMate self.now.scene.node.now.position }
+        ensures none { result ≡ false → LeaveSomeFrom self.now.scene.node.now.position from }
+    {
+        if self.is_sure(from) {
+            return false;
+        }
+        from.validity();
+        let p = self.scene.node.as_position();
+        let ends = self.scene.destinations(from);
+        let plain = self
+            .replies
+            .certain_destinations(p, self.escapes, from, false, ends.plain);
+        let promoting = self
+            .replies
+            .certain_destinations(p, self.escapes, from, true, ends.promoting);
+        self.mates_among(from, false, ends.plain & !plain)
+            || self.mates_among(from, true, ends.promoting & !promoting)
+    }
+
+    /// Pieces of the side that are far from the other side's king, after each of whose moves that
+    /// side surely has one.
+    fn far_pieces(&self) -> u128
+        ensures { (n : ℕ) → n < 81 → has_bit result n ≡ true
+            → LeaveSomeFrom self.now.scene.node.now.position n }
+    {
+        let p = self.scene.node.as_position();
+        let all = Destinations {
+            plain: ALL_SQUARES,
+            promoting: ALL_SQUARES,
+        };
+        self.replies.far_pieces(p, true, &all) & self.replies.far_pieces(p, false, &all)
+    }
+
+    /// Whether a legal move on the board leaves the other side without one.
+    fn has_board_mate(&self) -> bool
+        ensures some { result ≡ true → HasMate self.now.scene.node.now.position }
+        ensures none { result ≡ false → (from : ℕ) → from < 81
+            → is_piece_of self.now.scene.node.now.position.side
+            (piece_at self.now.scene.node.now.position.cells from) ≡ true
+            → LeaveSomeFrom self.now.scene.node.now.position from }
+    {
+        let mut left = self.scene.own & !self.far_pieces();
+        while left != 0 {
+            let from = lowest(left);
+            if self.mates_from(Square::of_index(from)) {
+                return true;
+            }
+            left = without_lowest(left, from);
+        }
+        false
+    }
+
+    /// Whether a legal drop of the kind leaves the other side without a legal move.
+    fn mates_by(&self, kind: Kind) -> bool
+        ensures some { result ≡ true → HasMate self.now.scene.node.now.position }
+        ensures none { result ≡ false → DropsLeaveSome self.now.scene.node.now.position kind }
+    {
+        let p = self.scene.node.as_position();
+        if p.hand(p.side(), kind) == 0 {
+            return false;
+        }
+        let certain = self
+            .replies
+            .certain_drops(p, self.escapes, kind, self.squares);
+        if self.squares & !certain == 0 {
+            return false;
+        }
+        let ends = drop_destinations(p, self.squares, kind);
+        self.mates_by_drops(kind, ends & !certain)
+    }
+
+    /// Whether a legal drop leaves the other side without a legal move.
+    fn has_drop_mate(&self) -> bool
+        ensures some { result ≡ true → HasMate self.now.scene.node.now.position }
+        ensures none { result ≡ false
+            → (kind : _) → DropsLeaveSome self.now.scene.node.now.position kind }
+    {
+        self.mates_by(Kind::Pawn)
+            || self.mates_by(Kind::Lance)
+            || self.mates_by(Kind::Knight)
+            || self.mates_by(Kind::Silver)
+            || self.mates_by(Kind::Gold)
+            || self.mates_by(Kind::Bishop)
+            || self.mates_by(Kind::Rook)
+    }
+}

@@ -1,0 +1,77 @@
+//! A node with one ply left as it is looked at.
+
+ghost use Rattle.std.specs.Prelude.{◌≡◌, not};
+ghost use Rattle.shogi_core.specs.Bits.{IsMaskOf, HasBits};
+ghost use Rattle.shogi_core.specs.Cell.{is_piece_of};
+ghost use Rattle.shogi_core.specs.Movement.{piece_at};
+ghost use Rattle.shogi_core.specs.Pieces.{opponent_of};
+ghost use Rattle.shogi_core.specs.Validity.{IsValid};
+ghost use Rattle.shogi_moves.specs.CheckInfo.{IsCheckInfoOf};
+
+use shogi_core::Square;
+use shogi_eval::Node;
+use shogi_moves::{CheckInfo, Destinations, check_info_of, enterable, legal_destinations};
+
+/// A node, and what is known of it: of checks, which squares the pieces of the side to move stand
+/// on, and those of the other side.
+#[derive(Clone, Copy)]
+pub struct Scene<'a> {
+    pub node: &'a Node,
+    pub info: CheckInfo,
+    pub own: u128,
+    pub foe: u128,
+    ghost valid: { IsValid node.now.position },
+    ghost known: { IsCheckInfoOf info node.now.position },
+    ghost owns: { IsMaskOf own (λ n. is_piece_of node.now.position.side
+        (piece_at node.now.position.cells n)) },
+    ghost foes: { IsMaskOf foe (λ n. is_piece_of (opponent_of node.now.position.side)
+        (piece_at node.now.position.cells n)) },
+}
+
+impl Scene<'_> {
+    ghost use Rattle.std.specs.Prelude.{◌<◌, ◌^◌, true, false};
+    ghost use Rattle.last_ply.specs.LastPly.{AreLegalDestinations, AreLegalAmong};
+
+    /// The scene of the node.
+    pub fn of(node: &Node) -> Scene<'_>
+        ensures { result.node.now ≡ node.now }
+    {
+        let p = node.as_position();
+        p.validity();
+        let board = p.as_board();
+        Scene {
+            node,
+            info: check_info_of(p),
+            own: board.own(p.side()),
+            foe: board.own(p.side().opponent()),
+        }
+    }
+
+    /// The legal destinations of one of the side's pieces.
+    pub fn destinations(&self, from: Square) -> Destinations
+        requires { is_piece_of self.now.node.now.position.side
+            (piece_at self.now.node.now.position.cells from) ≡ true }
+        ensures plain { AreLegalDestinations self.now.node.now.position from false result.plain }
+        ensures promoting { AreLegalDestinations self.now.node.now.position from true
+            result.promoting }
+    {
+        let p = self.node.as_position();
+        from.validity();
+        let among = p.as_board().targets(from) & enterable(p);
+        legal_destinations(p, &self.info, from, among)
+    }
+
+    /// The legal destinations of one of the side's pieces among these squares.
+    pub fn ends_among(&self, from: Square, squares: u128) -> Destinations
+        requires { is_piece_of self.now.node.now.position.side
+            (piece_at self.now.node.now.position.cells from) ≡ true }
+        ensures plain { AreLegalAmong self.now.node.now.position from false squares result.plain }
+        ensures promoting { AreLegalAmong self.now.node.now.position from true squares
+            result.promoting }
+    {
+        let p = self.node.as_position();
+        from.validity();
+        let among = p.as_board().targets(from) & enterable(p) & squares;
+        legal_destinations(p, &self.info, from, among)
+    }
+}

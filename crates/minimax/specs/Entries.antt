@@ -1,0 +1,36 @@
+-- Which entries end a question (own choice).
+use Rattle.std.specs.Prelude.{ℤ, ◌≤ℤ◌, Option, Some, None}
+use Rattle.shogi_core.specs.declared.moves.Move.{Move}
+use Rattle.minimax.specs.declared.entry.Entry.{Entry}
+use Rattle.minimax.specs.declared.entry.Entry.TheVariants.{Exact, AtLeast, AtMost}
+use Rattle.minimax.specs.Minimax.{negated}
+use Rattle.minimax.specs.declared.bounds.TheConstants.{INFINITY}
+
+-- an entry says enough for a window: the value, or that it lies at or above high, or at or below low
+abbrev pub IsCutoff : ℤ → ℤ → Entry → Type 0
+IsCutoff alpha beta (Exact v m) = Unit {0}
+IsCutoff alpha beta (AtLeast v) = beta ≤ℤ v
+IsCutoff alpha beta (AtMost v) = v ≤ℤ alpha
+
+-- the answer says enough for a window
+abbrev pub IsEnough : ℤ → ℤ → Option Entry → Type 0
+IsEnough alpha beta None = ⊥
+IsEnough alpha beta (Some e) = IsCutoff alpha beta e
+
+-- the answer says enough for a search below a bound
+abbrev pub IsEnoughBelow : ℤ → Option Entry → Type 0
+IsEnoughBelow beta answer = IsEnough (negated INFINITY) beta answer
+
+-- the answer is the value itself
+abbrev pub IsExactly : Option Entry → Type 0
+IsExactly None = ⊥
+IsExactly (Some (Exact v m)) = Unit {0}
+IsExactly (Some (AtLeast v)) = ⊥
+IsExactly (Some (AtMost v)) = ⊥
+
+-- the best move, where the answer is the value itself
+abbrev pub move_in : Option Entry → Option Move
+move_in None = None
+move_in (Some (Exact v m)) = m
+move_in (Some (AtLeast v)) = None
+move_in (Some (AtMost v)) = None

@@ -1,0 +1,3 @@
+pub mod Minimax
+pub mod Entries
+pub mod Window

@@ -1,9 +1,0 @@
-use Rattle.std.proofs.Common.{arith}
-use Rattle.std.proofs.lemmas.Int.{ints}
-use Rattle.shogi_search.proofs.Nodes.{waits, at_depth}
-use Rattle.shogi_search.proofs.frame.Frame.keep_leaf_value.Goals as goal
-
-pub invariant_of-self-clause-known : goal.invariant_of-self-clause-known
-invariant_of-self-clause-known c =
-    let w : _ = waits _ _ _ _ _ _ _ _ _ _ c.requires.current c.args.self.now.known in
-    (at_depth _ _ _ _ _ _ _ w.deep w.covered, (c.requires.last, omega (arith, ints, c.requires.value)))

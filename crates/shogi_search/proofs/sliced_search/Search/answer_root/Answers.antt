@@ -1,0 +1,50 @@
+use Rattle.std.proofs.Common.{◌≡◌, ◌≤◌, ◌<◌, ◌+◌, ◌*◌, ℕ, Bool, true, false, Option, None, Some, rules, refl, arith, subst, sym}
+use Rattle.std.proofs.lemmas.Int.{ints}
+use Rattle.minimax.specs.Minimax.{tree_size}
+use Rattle.shogi_search.specs.Progress.{IsFoundBelow}
+use Rattle.shogi_search.proofs.Searches.{known_found}
+use Rattle.minimax.proofs.MinimaxLaws.{tree_size-positive}
+use Rattle.shogi_search.specs.declared.found.Found.{Found}
+use Rattle.shogi_search.specs.SlicedSearch.{left_in, steps_of_tree}
+use Rattle.shogi_search.specs.Stack.{steps_left}
+use Rattle.shogi_search.proofs.sliced_search.Search.answer_root.Goals as goal
+
+-- before its first step a search has made none
+none_made : (found : Option Found) (started : Bool) (steps whole rest : ℕ) → found ≡ None → started ≡ false → steps + left_in found started whole rest ≤ whole → steps ≡ 0
+none_made None false steps whole rest e f h = omega arith
+none_made None true steps whole rest e f h = absurd (cc)
+none_made (Some x) started steps whole rest e f h = absurd (cc)
+
+all_left : (found : Option Found) (started : Bool) (whole rest : ℕ) → found ≡ None → started ≡ false → left_in found started whole rest ≡ whole
+all_left None false whole rest e f = refl
+all_left None true whole rest e f = absurd (cc)
+all_left (Some x) started whole rest e f = absurd (cc)
+
+pub invariant_of-self : goal.invariant_of-self
+invariant_of-self g c =
+    let s = c.self.inside in
+    let zero : s.steps ≡ 0 = none_made s.found s.started s.steps _ _ (search rules) (search rules) c.self.invariant.counted in
+    record {
+      shallow = search rules;
+      above = search rules;
+      most = search rules;
+      known = known_found _ c.found_of.result _ refl (omega (arith, ints)) c.found_of.ensures.below c.found_of.ensures.steps;
+      chain = λ e. absurd (cc);
+      free = λ e. absurd (cc);
+      counted = omega (arith, zero, tree_size-positive s.stack.root s.stack.depth, c.saturating_add-self-inside.ensures);
+    }
+
+pub returns-clause-range : goal.returns-clause-range
+returns-clause-range g c =
+    let s = c.self.inside in
+    let zero : s.steps ≡ 0 = none_made s.found s.started s.steps _ _ (search rules) (search rules) c.self.invariant.counted in
+    let some : 1 ≤ tree_size s.stack.root s.stack.depth = tree_size-positive s.stack.root s.stack.depth in
+    rw (← c.self.view_is) (omega (arith, zero, some, c.found_of.ensures.steps, c.saturating_add-self-inside.ensures))
+
+pub returns-clause-fell : goal.returns-clause-fell
+returns-clause-fell g c =
+    let s = c.self.inside in
+    let zero : s.steps ≡ 0 = none_made s.found s.started s.steps _ _ (search rules) (search rules) c.self.invariant.counted in
+    let some : 1 ≤ tree_size s.stack.root s.stack.depth = tree_size-positive s.stack.root s.stack.depth in
+    let left : left_in s.found s.started (steps_of_tree s.stack) (steps_left s.stack) ≡ steps_of_tree s.stack = all_left s.found s.started (steps_of_tree s.stack) (steps_left s.stack) (search rules) (search rules) in
+    rw (← c.self.view_is) (omega (arith, zero, some, left, c.saturating_add-self-inside.ensures))
