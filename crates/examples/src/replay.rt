@@ -16,6 +16,6 @@ pub fn replay_script<A: Allocator + Copy, R: Read, W: Write>(
     ensures { OnOk result
         (Replays 64 R.Read W.Write input.old input.new output.old output.new) }
 {
-    let (slots, entries, slice) = (64, 4096, 1000);
+    let (slots, entries, slice) = (64, 4096, 500);
     replay(alloc, input, output, slots, entries, slice)
 }

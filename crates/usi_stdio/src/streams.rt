@@ -20,7 +20,7 @@ use usi_lines::cut_line;
 use usi_session::{CHUNK_MAX, Session, SessionFault};
 
 /// The most steps of search before what is queued is written.
-pub const SLICE: u64 = 1000;
+pub const SLICE: u64 = 500;
 
 /// Why a run over a reader and a writer ended early.
 #[derive(Debug, PartialEq, Eq, Drop, Error)]
@@ -191,7 +191,7 @@ fn answer_chunk<A: Allocator + Copy, M: Memo, W: Write>(
 
 /// Runs one session: reads chunks of at most 4,096 bytes and answers each before the next, until
 /// the input ends or the session is over. Replies are written and flushed as they are found: those
-/// to a line before the next line is looked at, and the info line of a depth before the next 1,000
+/// to a line before the next line is looked at, and the info line of a depth before the next 500
 /// steps of search are made. Bytes after the last LF are no line, but for 65,536 or more, which are
 /// a line that is too long. The table has `entries` entries, from 1 to 1,000,000.
 ///

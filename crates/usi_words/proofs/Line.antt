@@ -66,7 +66,7 @@ abbrev stdio_rows : List Row
 stdio_rows = row (codes "entries") (codes "4096") ∷ []
 
 abbrev replay_rows : List Row
-replay_rows = row (codes "slots") (codes "64") ∷ row (codes "entries") (codes "4096") ∷ row (codes "slice") (codes "1000") ∷ []
+replay_rows = row (codes "slots") (codes "64") ∷ row (codes "entries") (codes "4096") ∷ row (codes "slice") (codes "500") ∷ []
 
 pub stdio_faults : faults_of (codes "stdio" ∷ []) ≡ []
 unfolding clap_on_literals
@@ -185,8 +185,8 @@ is_64 = ((lit< tt, (lit< tt, (lit< tt, tt))), refl)
 is_4096 : IsNumber (codes "4096") 4096
 is_4096 = ((lit< tt, (lit< tt, (lit< tt, (lit< tt, (lit< tt, tt))))), refl)
 
-is_1000 : IsNumber (codes "1000") 1000
-is_1000 = ((lit< tt, (lit< tt, (lit< tt, (lit< tt, (lit< tt, tt))))), refl)
+is_500 : IsNumber (codes "500") 500
+is_500 = ((lit< tt, (lit< tt, (lit< tt, (lit< tt, tt)))), refl)
 
 stdio_entries : NamesNumber (codes "entries") stdio_rows 4096
 stdio_entries = (codes "4096", refl, is_4096)
@@ -215,29 +215,29 @@ replay_slots = (codes "64", refl, is_64)
 replay_entries : NamesNumber (codes "entries") replay_rows 4096
 replay_entries = (codes "4096", refl, is_4096)
 
-replay_slice : NamesNumber (codes "slice") replay_rows 1000
-replay_slice = (codes "1000", refl, is_1000)
+replay_slice : NamesNumber (codes "slice") replay_rows 500
+replay_slice = (codes "500", refl, is_500)
 
-replay_only : (job : Job) → IsReplayOf replay_rows job → job ≡ Replay 64 4096 1000
+replay_only : (job : Job) → IsReplayOf replay_rows job → job ≡ Replay 64 4096 500
 replay_only (Stdio entries) is = absurd is
 replay_only (Replay slots entries slice) is =
     let a : slots ≡ 64 = names_once (codes "slots") replay_rows slots 64 is.0 replay_slots in
     let b : entries ≡ 4096 = names_once (codes "entries") replay_rows entries 4096 is.1 replay_entries in
-    let c : slice ≡ 1000 = names_once (codes "slice") replay_rows slice 1000 is.2 replay_slice in
+    let c : slice ≡ 500 = names_once (codes "slice") replay_rows slice 500 is.2 replay_slice in
     λ k. Replay (a k) (b k) (c k)
 replay_only (Serve socket slots entries slice turns) is = absurd is
 replay_only (Help text) is = absurd is
 replay_only Version is = absurd is
 
-replay_names : (job : Job) → NamesJob (Some (codes "replay", replay_rows)) job → job ≡ Replay 64 4096 1000
+replay_names : (job : Job) → NamesJob (Some (codes "replay", replay_rows)) job → job ≡ Replay 64 4096 500
 replay_names job (inl is) = let bad : codes "replay" ≡ codes "stdio" = is.0 in cc
 replay_names job (inr (inl is)) = replay_only job is.1
 replay_names job (inr (inr is)) = let bad : codes "replay" ≡ codes "serve" = is.0 in cc
 
 pub gives_replay : (words : List Text) (r : Result Job WordsFault) → words ≡ codes "replay" ∷ []
-    → IfOk r (IsAskedBy words) → IfErr r (IsRefusedFor words) → Gives (Replay 64 4096 1000) r
+    → IfOk r (IsAskedBy words) → IfErr r (IsRefusedFor words) → Gives (Replay 64 4096 500) r
 gives_replay words r is asked refused =
-    gives_of (codes "replay" ∷ []) (Replay 64 4096 1000) (Some (codes "replay", replay_rows)) r replay_faults replay_command_is (inr (inl (refl, (replay_slots, replay_entries, replay_slice)))) ((lit≤ tt, lit≤ tt), (lit≤ tt, lit≤ tt), (lit≤ tt, lit≤ tt)) replay_names
+    gives_of (codes "replay" ∷ []) (Replay 64 4096 500) (Some (codes "replay", replay_rows)) r replay_faults replay_command_is (inr (inl (refl, (replay_slots, replay_entries, replay_slice)))) ((lit≤ tt, lit≤ tt), (lit≤ tt, lit≤ tt), (lit≤ tt, lit≤ tt)) replay_names
     (subst (λ (w : List Text). IfOk r (IsAskedBy w)) is asked) (subst (λ (w : List Text). IfErr r (IsRefusedFor w)) is refused)
 
 among_one : (x k : ErrorKind) → IsAmong k (x ∷ []) → k ≡ x

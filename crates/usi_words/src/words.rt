@@ -90,7 +90,7 @@ pub fn read_words<'a, S: AsStr>(alloc: Global, words: &'a [S]) -> Result<Job, Wo
     ensures bare { words.entry.now ≡ [] → Gives (Stdio 4096) result }
     ensures stdio { AreStdioWords (map S.text words.entry.now) → Gives (Stdio 4096) result }
     ensures replay { AreReplayWords (map S.text words.entry.now)
-        → Gives (Replay 64 4096 1000) result }
+        → Gives (Replay 64 4096 500) result }
     ensures help { AreHelpWords (map S.text words.entry.now) → GivesHelp result }
     ensures version { AreVersionWords (map S.text words.entry.now) → Gives Version result }
 {
@@ -378,7 +378,7 @@ fn slice_option<'a>(alloc: Global) -> Arg<'a>
         .long("slice")
         .value_name("N")
         .value_parser(ValueParser::unsigned(1, 1_000_000_000))
-        .default_value("1000")
+        .default_value("500")
         .help("How many steps a session searches before the others' turn, from 1 to 1000000000")
 }
 
