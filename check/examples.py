@@ -158,6 +158,86 @@ def refused_positions():
     client.close()
 
 
+class Unsent(Client):
+    """A client that keeps the lines that it would send, of a host that has no legal move to answer."""
+
+    def connect(self):
+        self.sent = []
+
+    def send(self, line):
+        self.sent.append(line)
+
+    def read_until(self, word):
+        return [f"{word} resign"]
+
+
+def named(call, *words):
+    """What a call says of the slip in its words."""
+    try:
+        call(*words)
+    except ValueError as why:
+        return str(why)
+    raise Wrong(f"taken: {words!r}")
+
+
+NO_NUMBERS = (-1, 0, 3.0, True, "", "abc", "+3", "-3", " 3", "3\n", "3 3", "\u0663")
+
+
+def slips_are_named_and_not_sent():
+    client = Unsent()
+    for value in (*NO_NUMBERS, 17, 99, "17", "1" * 5_000):
+        why = f"is a whole number from 1 to 16, and not {value!r}"
+        want(named(client.go, value), f"a depth {why}", "go")
+        want(named(client.analyse, "startpos", value), f"a depth {why}", "a position and go")
+        want(named(client.set_option, "Depth", value), f"Depth {why}", "the option")
+    for value in (*NO_NUMBERS, None, 9, 20):
+        why = f"MultiPV is a whole number from 1 to 8, and not {value!r}"
+        want(named(client.set_option, "MultiPV", value), why, "lines")
+    for value in ("hand", "Hands", "Hand x", "", 1, None):
+        why = f"Eval is Plain or Hand, and not {value!r}"
+        want(named(client.set_option, "Eval", value), why, "an evaluation")
+    for name in ("depth", "Multipv", "USI_Hash", "Depth ", "", None):
+        why = f"no option {name!r}: they are Depth, Eval, MultiPV"
+        want(named(client.set_option, name, 3), why, "another name")
+    want(client.sent, [], "what was sent")
+    want(client.options, {}, "the options of a session that is begun anew")
+
+
+def what_is_no_slip_is_sent():
+    client = Unsent()
+    for name, value in [
+        ("Depth", 1),
+        ("Depth", 16),
+        ("Depth", "007"),
+        ("MultiPV", 1),
+        ("MultiPV", 8),
+        ("Eval", "Plain"),
+        ("Eval", "Hand"),
+    ]:
+        client.set_option(name, value)
+        want(client.sent.pop(), f"setoption name {name} value {value}", "an option")
+    want(client.options, {"Depth": "007", "MultiPV": 8, "Eval": "Hand"}, "the options")
+    for depth, line in [(None, "go"), (1, "go depth 1"), (16, "go depth 16"), ("9", "go depth 9")]:
+        client.go(depth)
+        want(client.sent.pop(), line, "a depth")
+    want(client.sent, [], "what else was sent")
+
+
+def a_depth_on_the_command_line_is_refused():
+    for name in ("client.py", "grade.py"):
+        for depth in ("0", "17", "abc", "3.0", "\u0663"):
+            ended = subprocess.run(
+                [sys.executable, "-B", os.path.join(EXAMPLES, name), f"--depth={depth}"],
+                stdin=subprocess.DEVNULL,
+                capture_output=True,
+                timeout=120,
+                check=False,
+            )
+            why = f"argument --depth: a depth is a whole number from 1 to 16, and not {depth!r}\n"
+            want((ended.returncode, ended.stdout), (2, b""), f"{name} --depth={depth}")
+            want(ended.stderr.decode().partition("error: ")[2], why, "the reason")
+
+
 def run(name, *words):
     """The status and the output of an example over the four positions."""
     ended = subprocess.run(
@@ -195,6 +275,9 @@ if __name__ == "__main__":
                 client_of_a_host_that_is_full_at_once,
                 client_that_connects_again,
                 refused_positions,
+                slips_are_named_and_not_sent,
+                what_is_no_slip_is_sent,
+                a_depth_on_the_command_line_is_refused,
                 grades_of_positions,
                 moves_of_another_engine,
             ],

@@ -48,6 +48,10 @@ class Answer(NamedTuple):
     lines: list
 
 
+# The options of the host: the numbers or the names that each one takes.
+DEPTHS = range(1, 17)
+OPTIONS = {"Depth": DEPTHS, "Eval": ("Plain", "Hand"), "MultiPV": range(1, 9)}
+
 INFO = re.compile(
     r"info depth (\d+)(?: multipv (\d+))? score (?:cp (-?\d+)|mate (-?\d+)) pv(.*)"
 )
@@ -66,6 +70,31 @@ def line_of(text):
         None if mate is None else int(mate),
         pv.split(),
     )
+
+
+def want_number(what, value, numbers):
+    """Raises `ValueError` where the word of a value is no number of the range. A host would take the nearest
+    number that it has, and would pass over any other word, without a reply in both cases."""
+    if str(value).lstrip("0") not in map(str, numbers):
+        raise ValueError(
+            f"{what} is a whole number from {numbers[0]} to {numbers[-1]}, and not {value!r}"
+        )
+
+
+def want_depth(depth):
+    """Raises `ValueError` for a depth that no host has."""
+    want_number("a depth", depth, DEPTHS)
+
+
+def want_option(name, value):
+    """Raises `ValueError` for an option or a value that the host would pass over or change."""
+    if name not in OPTIONS:
+        raise ValueError(f"no option {name!r}: they are {', '.join(OPTIONS)}")
+    values = OPTIONS[name]
+    if isinstance(values, range):
+        want_number(name, value, values)
+    elif value not in values:
+        raise ValueError(f"{name} is {' or '.join(values)}, and not {value!r}")
 
 
 class Client:
@@ -115,7 +144,7 @@ class Client:
         self.process = self.socket = None
 
     def send(self, line):
-        """Sends one line."""
+        """Sends one line, as it is."""
         data = line.encode() + b"\n"
         try:
             if self.process is not None:
@@ -154,7 +183,9 @@ class Client:
                 return replies
 
     def set_option(self, name, value):
-        """Sets an option, as Depth, Eval or MultiPV."""
+        """Sets Depth, Eval or MultiPV. Raises `ValueError`, and sends nothing, where the host has no such
+        option or value; `send` sets the options of another engine."""
+        want_option(name, value)
         self.options[name] = value
         self.send(f"setoption name {name} value {value}")
 
@@ -169,7 +200,10 @@ class Client:
         self.position = text
 
     def go(self, depth=None):
-        """Searches the position, by default to the depth that is set."""
+        """Searches the position, by default to the depth that is set. Raises `ValueError`, and sends nothing,
+        where the depth is not from 1 to 16."""
+        if depth is not None:
+            want_depth(depth)
         self.send("go" if depth is None else f"go depth {depth}")
         replies = self.read_until("bestmove")
         words = replies[-1].split()
@@ -177,7 +211,10 @@ class Client:
         return Answer(words[1], words[3] if len(words) > 3 else None, lines)
 
     def analyse(self, text, depth=None):
-        """The answer for a position. Over a socket it is asked for once more where the host went away."""
+        """The answer for a position. Over a socket it is asked for once more where the host went away. A depth
+        is refused as by `go`, before the position is sent."""
+        if depth is not None:
+            want_depth(depth)
         try:
             self.set_position(text)
             return self.go(depth)
@@ -197,9 +234,11 @@ def text_of(sfen):
 
 
 def depth_of(text):
-    """A depth on the command line. A host would take the nearest one that it has, without a word."""
-    if not text.isdecimal() or not 1 <= int(text) <= 16:
-        raise argparse.ArgumentTypeError("a depth is a number from 1 to 16")
+    """A depth on the command line."""
+    try:
+        want_depth(text)
+    except ValueError as why:
+        raise argparse.ArgumentTypeError(str(why)) from why
     return int(text)
 
 
@@ -209,7 +248,7 @@ def add_arguments(parser):
     where.add_argument("--program", default="usi_host", help="the program to start (usi_host)")
     where.add_argument("--socket", help="the socket of a host that runs already")
     parser.add_argument("--depth", type=depth_of, default=3, help="in plies, from 1 to 16 (3)")
-    parser.add_argument("--eval", choices=["Plain", "Hand"], default="Plain", help="Plain")
+    parser.add_argument("--eval", choices=OPTIONS["Eval"], default="Plain", help="Plain")
 
 
 def client_of(arguments):
