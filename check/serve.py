@@ -708,6 +708,50 @@ def signals_are_no_fault():
         want(exactly(client, 8), b"readyok\n", "afterwards")
 
 
+ENDING = (signal.SIGTERM, signal.SIGINT, signal.SIGHUP, signal.SIGUSR1)
+
+
+def disposed(number, what):
+    """Sets what a signal does to a new process, whatever it does to this one."""
+    return lambda: signal.signal(number, what)
+
+
+def these_signals_end_it():
+    """In the middle of a search, and without a word."""
+    for number in ENDING:
+        with folder() as place:
+            running = Host(place, preexec_fn=disposed(number, signal.SIG_DFL))
+            try:
+                is_ended_by(running, number)
+            finally:
+                running.running.kill()
+
+
+def is_ended_by(running, number):
+    with running.connect() as idle, running.connect() as client:
+        client.sendall(b"go depth 16\n")
+        want(exactly(client, len(DEPTH_ONE)), DEPTH_ONE, "a search in progress")
+        running.running.send_signal(number)
+        want(running.running.wait(PATIENCE), -number, f"the status by {number.name}")
+        want(to_the_end(idle), b"", f"an idle client, by {number.name}")
+        want(b"bestmove" in to_the_end(client), False, f"a best move, by {number.name}")
+    want(running.stop(), (b"", b""), f"what it wrote, by {number.name}")
+    want(os.path.exists(running.path), True, f"the socket's file stays, by {number.name}")
+
+
+def a_signal_that_is_ignored_at_its_start_does_nothing():
+    """As SIGHUP under nohup."""
+    for number in ENDING:
+        with host(preexec_fn=disposed(number, signal.SIG_IGN)) as running:
+            try:
+                want(running.ask(b"isready\n"), b"readyok\n", "before")
+                running.running.send_signal(number)
+                time.sleep(0.1)
+                want(running.ask(b"isready\n"), b"readyok\n", f"after {number.name}")
+            finally:
+                running.running.kill()
+
+
 def it_ends_after_its_turns():
     with folder() as place:
         running = Host(place, "--turns", "1")
@@ -861,6 +905,8 @@ CHECKS = (
     memory_that_is_refused_while_others_wait,
     a_registration_that_is_refused_while_others_wait,
     signals_are_no_fault,
+    these_signals_end_it,
+    a_signal_that_is_ignored_at_its_start_does_nothing,
     it_ends_after_its_turns,
     each_turn_answers_one_line_of_each,
     the_mode_of_the_socket_is_the_umask,
