@@ -7,9 +7,10 @@ command -v rt >/dev/null || {
     echo 'The command rt of the Rattle toolchain is not on the path. README.md says what is needed.' >&2
     exit 1
 }
-echo 'Not proved: this only tries the program. make build proves and builds it.' >&2
+echo 'Compiling the program to try it, unproved; its answers follow in about a minute.' >&2
+echo 'make build proves and builds it.' >&2
 if [ -t 0 ]; then
-    echo 'Reading USI from the terminal, up to quit or Ctrl-D; the answers follow in about a minute.' >&2
+    echo 'Reading USI from the terminal, up to quit or Ctrl-D.' >&2
 fi
 # A terminal is read up to quit; further lines of a file have no effect after it.
 sed '/^[[:blank:]]*quit[[:space:]]*$/q' | rt try --seconds 600
