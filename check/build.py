@@ -2,9 +2,10 @@
 """Proves and builds the program, where a source is newer than it. Crates that do not stand on each
 other are proved side by side, as many as there are processors and memory; the one with the longest chain
 of crates that wait for it may use all processors, each other half of them and only what the first leaves.
-Standard error tells how far it is: which crates are done, after how many seconds, and what is under
-way. What the toolchain says of a crate is kept in the file `build.log` of its `out/`, and shown where it
-fails. A build that was cut off goes on with the crates that are not done."""
+Standard error tells how far it is: which crates are done, after how many seconds, what is under way, and
+about how long is left, once a crate of the longest chain was proved from nothing. What the toolchain says
+of a crate is kept in the file `build.log` of its `out/`, and shown where it fails. A build that was cut off
+goes on with the crates that are not done."""
 
 import fcntl
 import os
@@ -27,6 +28,31 @@ ROOMS = os.path.join(CRATES, NAME, "out", "rooms")
 MEMORY = 2_500_000_000
 # How long nothing is told at most, in seconds.
 QUIET = 20
+# What each crate takes in a build from nothing on four usual cores, in seconds. What is left is told by
+# these, and by how much longer than that the crates that are done took here; `make build` prints them.
+USUAL = {
+    "shogi_core": 96,
+    "shogi_moves": 127,
+    "shogi_sfen": 65,
+    "shogi_eval": 21,
+    "minimax": 20,
+    "last_ply": 55,
+    "shogi_search": 130,
+    "shared_table": 50,
+    "usi_lines": 35,
+    "usi_session": 196,
+    "wires": 55,
+    "session_slots": 51,
+    "host_core": 116,
+    "socket_loop": 170,
+    "usi_stdio": 80,
+    "usi_serve": 133,
+    "usi_replay": 130,
+    "usi_words": 80,
+    "usi_host": 208,
+}
+# What a line of another crate takes, in seconds.
+A_LINE = 0.03
 # What a crate is put back behind the one with the longest chain, as nice(1) has it.
 BEHIND = 19
 # What a crate is proved from, and what is kept of that.
@@ -87,10 +113,15 @@ def lines_of(crate):
     return count
 
 
-def chains(crates):
-    """For each crate the lines of the longest chain of crates that begins with it, each waiting for the
-    one before it."""
-    own, above = {it: lines_of(it) for it in crates}, {it: [] for it in crates}
+def usual(crate):
+    """What a crate takes from nothing on four usual cores, in seconds."""
+    return USUAL[crate] if crate in USUAL else A_LINE * lines_of(crate)
+
+
+def chains(crates, own):
+    """For each crate the time of the longest chain of crates that begins with it, each waiting for the
+    one before it, from the time of its own that each takes."""
+    above = {it: [] for it in crates}
     for crate, used in crates.items():
         for library in used:
             above[library].append(crate)
@@ -98,6 +129,10 @@ def chains(crates):
     for crate in reversed(list(crates)):
         chain[crate] = own[crate] + max((chain[it] for it in above[crate]), default=0)
     return chain
+
+
+def minutes(seconds):
+    return f"about {seconds / 60:.0f} minutes" if seconds >= 90 else "about a minute"
 
 
 def tell(text):
@@ -141,7 +176,8 @@ class Run:
 
     def __init__(self, crates, crate, jobs, behind, lock):
         self.crate, self.start, self.processor = crate, time.time(), 0.0
-        self.home, self.room = os.path.join(CRATES, crate), None
+        self.home, self.room, self.is_first = os.path.join(CRATES, crate), None, not behind
+        self.has_kept = os.path.isdir(os.path.join(self.home, "out", "incremental"))
         os.makedirs(os.path.join(self.home, "out"), exist_ok=True)
         self.path = os.path.join(self.home, "out", "build.log")
         if crate != NAME:
@@ -210,6 +246,13 @@ class Run:
         with open(self.path, encoding="utf-8", errors="replace") as log:
             return log.read()
 
+    def age(self):
+        return time.time() - self.start
+
+    def is_from_nothing(self):
+        """Whether it has nothing that an earlier check kept, here or elsewhere on the machine."""
+        return not self.has_kept and "begins with what a check kept" not in self.said()
+
     def complain(self):
         """Shows what was said, less what is proved; the status of the build."""
         kept = (it for it in self.said().splitlines() if not re.match(r"so far: |checked |fn .*: proved$", it))
@@ -235,8 +278,12 @@ class Build:
     def __init__(self, crates, waiting, lock):
         self.crates, self.waiting, self.lock = crates, list(waiting), lock
         self.count, self.done, self.lanes = len(waiting), 0, lanes()
-        self.chain, self.running, self.again = chains(crates), [], set()
+        self.usual = {it: usual(it) for it in crates}
+        self.chain, self.running, self.again = chains(crates, self.usual), [], set()
         self.start = self.told = time.time()
+        # Of the crates of the longest chain that were proved from nothing: what they took, and what is usual;
+        # each counts half as much as the one after it.
+        self.took = self.expected = 0.0
         self.stopped = 0
 
     def stop(self, number, _):
@@ -245,6 +292,23 @@ class Build:
 
     def seconds(self):
         return f"{time.time() - self.start:.0f} s"
+
+    def rest(self, pace):
+        """How long what is left takes, in seconds, where a usual second takes `pace`."""
+        own = {it: pace * self.usual[it] if it in self.waiting else 0.0 for it in self.crates}
+        for run in self.running:
+            own[run.crate] = max(0.0, pace * self.usual[run.crate] - run.age())
+        return max(*chains(self.crates, own).values(), sum(own.values()) / self.lanes)
+
+    def left(self):
+        """How long is left, by the crates that are done, and by one under way that takes longer than they."""
+        if not self.expected or not (self.waiting or self.running):
+            return ""
+        paces = [self.took / self.expected]
+        for run in self.running:
+            if run.is_first:
+                paces.append((self.took + run.age()) / (self.expected + self.usual[run.crate]))
+        return f", {minutes(self.rest(max(paces)))} left"
 
     def ready(self):
         """The crates that wait for no other, the one with the longest chain behind it first."""
@@ -280,8 +344,11 @@ class Build:
             if run.running.returncode == 0:
                 self.done += 1
                 self.again.discard(run.crate)
-                took = f"{time.time() - run.start:.0f} s, {run.processor:.0f} s of processors"
-                tell(f"{self.done} of {self.count}: {run.crate}, in {took}, after {self.seconds()}")
+                if run.is_first and run.is_from_nothing():
+                    self.took = self.took / 2 + run.age()
+                    self.expected = self.expected / 2 + self.usual[run.crate]
+                took = f"{run.age():.0f} s, {run.processor:.0f} s of processors"
+                tell(f"{self.done} of {self.count}: {run.crate}, in {took}, after {self.seconds()}{self.left()}")
                 self.told = time.time()
             elif run.was_killed() and run.crate not in self.again:
                 self.again.add(run.crate)
@@ -303,7 +370,7 @@ class Build:
             if time.time() - self.told >= QUIET:
                 self.told = time.time()
                 under_way = ", ".join(it.progress() for it in self.running) or "waiting for another rt"
-                tell(f"{self.done} of {self.count} after {self.seconds()}; under way: {under_way}")
+                tell(f"{self.done} of {self.count} after {self.seconds()}{self.left()}; under way: {under_way}")
         return 0
 
     def clear(self):
@@ -351,7 +418,7 @@ def main():
         for number in (signal.SIGINT, signal.SIGTERM):
             signal.signal(number, build.stop)
         if not os.path.exists(PROGRAM):
-            tell("Proving and building the program; the first time takes some minutes.")
+            tell(f"Proving and building the program; from nothing {minutes(build.rest(1.0))} on four usual cores.")
         try:
             status = build.whole()
         finally:
