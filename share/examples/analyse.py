@@ -19,6 +19,7 @@ The status is 1 where the record cannot be read or has an illegal move, with its
 error; it is 2 where the program cannot be started or the host is gone. Progress goes to standard error."""
 
 import argparse
+import contextlib
 import csv
 import html
 import math
@@ -260,13 +261,13 @@ def main():
     name = arguments.game.name if isinstance(arguments.game.name, str) else "-"
     try:
         game = read_game(arguments.game.read())
-        client = client_of(arguments)
-        check_game(client, game)
+        with contextlib.closing(client_of(arguments)) as client:
+            check_game(client, game)
+            answers = answers_of(client, game, arguments.depth)
     except Unreadable as why:
         print(f"analyse.py: {name}:{why}", file=sys.stderr)
         return 1
-    rows = rows_of(game, answers_of(client, game, arguments.depth), arguments.depth)
-    client.close()
+    rows = rows_of(game, answers, arguments.depth)
     write_table(rows, sys.stdout)
     if arguments.svg:
         with arguments.svg as file:

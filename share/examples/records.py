@@ -306,7 +306,7 @@ def kif_head(board, text):
         kif_row(board, text)
     elif text[1:3] == "手番":
         board.black = text[0] in "先下"
-    elif not (text.startswith(("手数", "+-", "９")) or "：" in text or ":" in text):
+    elif not (text.startswith(("手数", "+-", "９", "盤面回転")) or "：" in text or ":" in text):
         raise ValueError("neither a line of a head nor a move of KIF")
 
 
