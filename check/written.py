@@ -42,7 +42,8 @@ def kif_of(words):
 def csa_of(words, between="\n"):
     lines = ["V2.2", "N+甲", "N-乙", "'a note", "PI", "+"]
     moves = []
-    for black, origin, to, role, promote, _ in moves_of(words):
+    for number, (black, origin, to, role, promote, _) in enumerate(moves_of(words), 1):
         places = "%d%d%d%d" % ((origin or (0, 0)) + to)
-        moves.append(f"{'+' if black else '-'}{places}{CSA['+' + role if promote else role]}{between}T1")
+        piece = CSA["+" + role if promote else role]
+        moves.append(f"{'+' if black else '-'}{places}{piece}{between}T{number}")
     return "\n".join([*lines, *moves, "%CHUDAN"]) + "\n"

@@ -197,12 +197,22 @@ def axes_of(plot, title, depth):
     return out
 
 
+def lost_by(row):
+    """What a move lost, in words."""
+    if row.loss != "mate":
+        return f"lost {row.loss / 100:g} pawns"
+    mate = row.value[1]
+    return "missed a mate" if mate is not None and (mate > 0) == (row.side == "Black") else "allowed a mate"
+
+
 def marks_of(plot, rows):
     """The worst moves: a number at the value after each, and what it was beside the plot."""
     out, taken = [], []
     for number, row in enumerate(worst_of(rows), 1):
         x, y = plot.spot(rows[row.ply])
         color, away = COLORS[row.side], 18 if row.side == "Black" else -18
+        if not UP < y + away < HEIGHT - DOWN:
+            away = -away
         at = y + away
         while any(abs(x - other) < 20 and abs(at - height) < 20 for other, height in taken):
             at += away
@@ -212,11 +222,10 @@ def marks_of(plot, rows):
         out.append(f'<circle cx="{x:.1f}" cy="{at:.1f}" r="9" fill="{color}"/>')
         out.append(text_at(x, at + 4.5, str(number), text_anchor="middle", fill="white"))
         left, top = WIDTH - RIGHT + 36, UP + 36 + 48 * number
-        lost = "a mate" if row.loss == "mate" else f"{row.loss / 100:g} pawns"
         out.append(f'<circle cx="{left}" cy="{top - 4}" r="9" fill="{color}"/>')
         out.append(text_at(left, top + 0.5, str(number), text_anchor="middle", fill="white"))
         out.append(text_at(left + 16, top, f"ply {row.ply}: {row.side}'s {row.move}"))
-        out.append(text_at(left + 16, top + 18, f"lost {lost}; best was {row.best}", fill="#4a5568"))
+        out.append(text_at(left + 16, top + 18, f"{lost_by(row)}; best was {row.best}", fill="#4a5568"))
     return out
 
 
