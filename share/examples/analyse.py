@@ -23,6 +23,7 @@ import contextlib
 import csv
 import html
 import math
+import os
 import re
 import sys
 from typing import NamedTuple
@@ -119,8 +120,8 @@ def write_table(rows, file):
 
 # The picture.
 
-WIDTH, HEIGHT = 960, 440
-LEFT, RIGHT, UP, DOWN = 80, 270, 48, 60
+WIDTH, HEIGHT = 980, 440
+LEFT, RIGHT, UP, DOWN = 80, 290, 48, 60
 INK, GRID, CURVE = "#1a202c", "#ddd", "#2b6cb0"
 COLORS = {"Black": "#c05621", "White": "#2f855a"}
 
@@ -267,7 +268,7 @@ def main():
     arguments = parser.parse_args()
     if arguments.depth < 2:
         parser.error("the depth is at least 2")
-    name = arguments.game.name if isinstance(arguments.game.name, str) else "-"
+    name = arguments.game.name
     try:
         game = read_game(arguments.game.read())
         with contextlib.closing(client_of(arguments)) as client:
@@ -280,7 +281,8 @@ def main():
     write_table(rows, sys.stdout)
     if arguments.svg:
         with arguments.svg as file:
-            file.write(picture_of(rows, name.rsplit("/", 1)[-1], arguments.depth))
+            title = "a game" if name == sys.stdin.name else os.path.basename(name)
+            file.write(picture_of(rows, title, arguments.depth))
     return 0
 
 
