@@ -1,17 +1,17 @@
 -- A square is attacked by a step or a jump, or by a slide against one of the eight directions.
 use Rattle.std.proofs.Common.{◌≡◌, ◌⊎◌, ℕ, ◌%◌, ◌<◌, Bool, true, false, refl, sym, ap, ◌∙◌, arith, inl, inr, Option, Some, None, bit_and, List, [], ◌∷◌}
-use Rattle.std.specs.Prelude.{◌==◌, zero, suc, is_none}
+use Rattle.std.specs.Prelude.{◌==◌, ◌&&◌, ◌||◌, zero, suc, is_none}
 use Rattle.std.specs.List.{list_any, list_all}
 use Rattle.std.proofs.lemmas.Bool.{cases_Bool, false_from_ne_true, both_ways, and_parts, and_from, or_cases, or_left, or_right}
 use Rattle.shogi_core.specs.declared.offset.Offset.{Offset}
 use Rattle.shogi_core.specs.declared.piece.Color.{Color}
 use Rattle.shogi_core.specs.declared.piece.Color.TheVariants.{Black, White}
 use Rattle.shogi_core.specs.declared.piece.Piece.{Piece}
-use Rattle.shogi_core.specs.Attack.{is_attacked_from, is_attacked, is_sniper, cell_steps, cell_slides_back, is_step_from, is_shot_from, is_shot_along}
+use Rattle.shogi_core.specs.Attack.{is_attacked_from, is_attacked, is_sniper, cell_steps, cell_slides_back, is_step_from, is_step_among, is_shot_from, is_shot_along}
 use Rattle.shogi_core.specs.Below.{some_below}
 use Rattle.shogi_core.specs.Bits.{has_bit}
 use Rattle.shogi_core.specs.Cell.{is_piece_of, is_slider}
-use Rattle.shogi_core.specs.Lines.{back, around, are_lined, is_near, is_same_offset}
+use Rattle.shogi_core.specs.Lines.{back, around, are_aligned, are_lined, is_near, is_same_offset}
 use Rattle.shogi_core.specs.Movement.{Cells, up, down, left, right, up_left, up_right, down_left, down_right, straight, diagonal, forward, slides, for_side, slides_of, has_slide, has_step, cell_reaches, reaches, piece_at}
 use Rattle.shogi_core.specs.Rays.{direction_at, ray_of}
 use Rattle.shogi_core.proofs.Back.{back_twice}
@@ -292,16 +292,46 @@ cell_near : (cell : Option Piece) (a b : ℕ) → a < 81 → cell_steps cell a b
 cell_near None a b h e = absurd (cc)
 cell_near (Some piece) a b h e = step_near piece a b h e
 
-pub steps_first : (cells : Cells) (color : Color) (square own near : ℕ) → ((b : ℕ) → b < 81 → has_bit own b ≡ is_piece_of color (piece_at cells b)) → ((b : ℕ) → b < 81 → has_bit near b ≡ is_near square b)
-    → Covers (bit_and own near) (is_step_from cells color square)
-steps_first cells color square own near owns nears = record {
+pub steps_first : (cells : Cells) (square among near : ℕ) → ((b : ℕ) → b < 81 → has_bit near b ≡ is_near square b) → Covers (bit_and near among) (is_step_among cells among square)
+steps_first cells square among near nears = record {
   all = λ a h e. (
-      let parts : (is_piece_of color (piece_at cells a) ≡ true) × (cell_steps (piece_at cells a) a square ≡ true) = and_parts _ _ e in
-      has_bit-and own near a ∙ and_from _ _ (owns a h ∙ parts.0) (nears a h ∙ cell_near (piece_at cells a) a square h parts.1));
+      let parts : (has_bit among a ≡ true) × (cell_steps (piece_at cells a) a square ≡ true) = and_parts _ _ e in
+      has_bit-and near among a ∙ and_from _ _ (nears a h ∙ cell_near (piece_at cells a) a square h parts.1) parts.0);
 }
 
-pub steps_own : (own near n : ℕ) → has_bit (bit_and own near) n ≡ true → has_bit own n ≡ true
-steps_own own near n e = (and_parts _ _ (sym (has_bit-and own near n) ∙ e)).0
+pub steps_among : (near among n : ℕ) → has_bit (bit_and near among) n ≡ true → has_bit among n ≡ true
+steps_among near among n e = (and_parts _ _ (sym (has_bit-and near among n) ∙ e)).1
+
+-- ---- the pieces of a mask, and another board on which a side has just these
+
+some_below_alike : (n : ℕ) (s t : ℕ → Bool) → ((i : ℕ) → i < n → s i ≡ t i) → some_below n s ≡ some_below n t
+unfolding some_below
+some_below_alike zero s t h = refl
+some_below_alike (suc n) s t h = ap (λ b. b || s n) (some_below_alike n s t (λ i l. h i (omega arith))) ∙ ap (λ b. some_below n t || b) (h n (omega arith))
+
+module _ (cells seen : Cells) (color : Color) (among : ℕ) (own : (n : ℕ) → n < 81 → has_bit among n ≡ is_piece_of color (piece_at seen n)) (same : (n : ℕ) → n < 81 → has_bit among n ≡ true → piece_at seen n ≡ piece_at cells n) where
+  -- what they pass on the one board they pass on the other
+  pieces_alike : (test : Option Piece → Bool) (n : ℕ) → n < 81 → (has_bit among n && test (piece_at cells n)) ≡ (is_piece_of color (piece_at seen n) && test (piece_at seen n))
+  pieces_alike test n l = elim (cases_Bool (has_bit among n)) [
+    | inl set ↦ ap (λ b. b && test (piece_at cells n)) (own n l) ∙ ap (λ cell. is_piece_of color (piece_at seen n) && test cell) (sym (same n l set))
+    | inr clear ↦ ap (λ b. b && test (piece_at cells n)) clear ∙ sym (ap (λ b. b && test (piece_at seen n)) (sym (own n l) ∙ clear))
+  ]
+
+  pub step_alike : (square n : ℕ) → n < 81 → is_step_among cells among square n ≡ is_step_from seen color square n
+  step_alike square n l = pieces_alike (λ cell. cell_steps cell n square) n l
+
+  pub steps_alike : (square : ℕ) → some_below 81 (is_step_among cells among square) ≡ some_below 81 (is_step_from seen color square)
+  steps_alike square = some_below_alike 81 (is_step_among cells among square) (is_step_from seen color square) (λ n l. step_alike square n l)
+
+  pub snipers_alike : (square sliders line n : ℕ) → n < 81 → has_bit sliders n ≡ is_slider (piece_at cells n) → has_bit line n ≡ are_aligned square n → has_bit (bit_and (bit_and among sliders) line) n ≡ is_sniper seen color square n
+  snipers_alike square sliders line n l e f =
+      has_bit-and (bit_and among sliders) line n
+      ∙ (ap (λ b. b && has_bit line n) (has_bit-and among sliders n ∙ (ap (λ b. has_bit among n && b) e ∙ pieces_alike is_slider n l))
+      ∙ ap (λ b. is_piece_of color (piece_at seen n) && is_slider (piece_at seen n) && b) f)
+
+-- a sniper is a piece of its side
+pub sniper_own : (cells : Cells) (color : Color) (square n : ℕ) → is_sniper cells color square n ≡ true → is_piece_of color (piece_at cells n) ≡ true
+sniper_own cells color square n e = (and_parts _ _ ((and_parts _ _ e).0)).0
 
 pub ruleset stepping = (covers_less, covers_none, and_fits)
 

@@ -1,11 +1,11 @@
 -- Attacks and checks (JSA playing rules, check).
-use Rattle.std.specs.Prelude.{ℕ, ◌≡◌, ◌≢◌, ◌<◌, ◌⊎◌, ◌&&◌, Bool, true, false, Option, Some, None, is_none, slice_set}
+use Rattle.std.specs.Prelude.{ℕ, ◌≡◌, ◌≢◌, ◌<◌, ◌⊎◌, ◌&&◌, Bool, true, false, not, Option, Some, None, is_none, slice_set}
 use Rattle.std.specs.List.{list_any}
 use Rattle.shogi_core.specs.declared.offset.Offset.{Offset}
 use Rattle.shogi_core.specs.declared.piece.Color.{Color}
 use Rattle.shogi_core.specs.declared.piece.Piece.{Piece}
 use Rattle.shogi_core.specs.Below.{some_below}
-use Rattle.shogi_core.specs.Bits.{has_bit}
+use Rattle.shogi_core.specs.Bits.{HasBits, has_bit}
 use Rattle.shogi_core.specs.Cell.{is_piece_of, is_king, is_slider}
 use Rattle.shogi_core.specs.Lines.{are_aligned, back, is_same_offset}
 use Rattle.shogi_core.specs.Movement.{Cells, piece_at, reaches, has_step, slides, slides_of, for_side}
@@ -75,6 +75,23 @@ is_shot_along cells color square direction =
 -- a piece of the side slides to the square
 abbrev pub is_shot : Cells → Color → ℕ → Bool
 is_shot cells color square = some_below 8 (is_shot_along cells color square)
+
+-- the piece on `from`, a square of the mask, has a step or a jump to the square
+abbrev pub is_step_among : Cells → ℕ → ℕ → ℕ → Bool
+is_step_among cells among square from =
+    has_bit among from && cell_steps (piece_at cells from) from square
+
+-- what another board shows of attacks by a side: its pieces are those on the first mask, as they stand here, and the squares of the second one are those that are not empty
+pub record IsSeenAs (cells : Cells) (among occupied : ℕ) (color : Color) (seen : Cells) : Type 0 where
+  pub attackers : HasBits among (λ n. is_piece_of color (piece_at seen n))
+  pub pieces : HasBits occupied (λ n. not (is_none (piece_at seen n)))
+  pub same : (n : ℕ) → n < 81 → has_bit among n ≡ true → piece_at seen n ≡ piece_at cells n
+
+-- the same of the side's snipers of a square alone
+pub record ShowsSnipers (cells : Cells) (square snipers occupied : ℕ) (color : Color) (seen : Cells) : Type 0 where
+  pub snipers_on : HasBits snipers (is_sniper seen color square)
+  pub pieces : HasBits occupied (λ n. not (is_none (piece_at seen n)))
+  pub same : (n : ℕ) → n < 81 → has_bit snipers n ≡ true → piece_at seen n ≡ piece_at cells n
 
 -- no piece stands in the direction: each square to which a slide leads is empty
 abbrev pub IsOpenLine : Cells → Offset → ℕ → Type 0

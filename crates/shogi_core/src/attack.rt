@@ -1,13 +1,14 @@
 //! Attacks and checks, seen from the square that is attacked.
 
-ghost use Rattle.std.specs.Prelude.{◌≡◌, ◌≢◌, ◌<◌, ◌≤◌, ◌^◌, ℕ, true, false, None, IfSome, IsNone, is_none};
-ghost use Rattle.shogi_core.specs.Attack.{is_attacked, is_open_king, in_check, is_sniper, is_sniping, cell_steps, cell_slides_back, is_step_from, is_shot_along, is_shot, IsOpenLine, HasPinned, HasPinnedAlong, OthersAreUnpinned, StaysAttacked, StaysInCheck};
+ghost use Rattle.std.specs.Prelude.{◌≡◌, ◌≢◌, ◌<◌, ◌≤◌, ◌^◌, ℕ, true, false, not, None, IfSome, IsNone, is_none};
+ghost use Rattle.shogi_core.specs.Attack.{is_attacked, is_open_king, in_check, is_sniper, is_sniping, cell_steps, cell_slides_back, is_step_from, is_step_among, is_shot_along, is_shot, IsSeenAs, ShowsSnipers, IsOpenLine, HasPinned, HasPinnedAlong, OthersAreUnpinned, StaysAttacked, StaysInCheck};
 ghost use Rattle.shogi_core.specs.Below.{some_below};
 ghost use Rattle.shogi_core.specs.Bits.{HasBits, IsMaskOf, has_bit};
 ghost use Rattle.shogi_core.specs.Cell.{is_king};
 ghost use Rattle.shogi_core.specs.Lines.{are_lined, is_seen};
 ghost use Rattle.shogi_core.specs.Pieces.{opponent_of};
-ghost use Rattle.shogi_core.specs.Movement.{piece_at, slides};
+ghost use Rattle.shogi_core.specs.Movement.{Cells, piece_at, slides};
+ghost use Rattle.shogi_core.specs.declared.piece.Color.{Color};
 ghost use Rattle.shogi_core.specs.Rays.{direction_at};
 
 use crate::bits::{has, highest, lowest, with, without_lowest};
@@ -66,15 +67,15 @@ fn steps_to(cell: Option<Piece>, from: usize, to: usize) -> bool
     }
 }
 
-/// A piece of the side of which a step or a jump leads to the square, if there is one.
+/// A piece on the mask of which a step or a jump leads to the square, if there is one.
 #[tactic(auto, using(crate::proofs::Shots::stepping))]
-fn first_stepper(board: &Board, by: Color, square: usize) -> Option<usize>
+fn first_stepper(board: &Board, among: u128, square: usize) -> Option<usize>
     requires { square < 81 }
-    ensures none { IsNone result → some_below 81 (is_step_from board.now by square) ≡ false }
+    ensures none { IsNone result → some_below 81 (is_step_among board.now among square) ≡ false }
     ensures range { IfSome result (λ a. a < 81) }
-    ensures steps { IfSome result (λ a. is_step_from board.now by square a ≡ true) }
+    ensures steps { IfSome result (λ a. is_step_among board.now among square a ≡ true) }
 {
-    let mut left = board.own(by) & near_squares(square);
+    let mut left = near_squares(square) & among;
     while left != 0 {
         let from = lowest(left);
         if steps_to(board.at(Square::of_index(from)), from, square) {
@@ -85,15 +86,23 @@ fn first_stepper(board: &Board, by: Color, square: usize) -> Option<usize>
     None
 }
 
+/// Whether a step or a jump of a piece on the mask leads to the square.
+fn is_stepped_on_among(board: &Board, among: u128, square: usize) -> bool
+    requires { square < 81 }
+    ensures { result ≡ some_below 81 (is_step_among board.now among square) }
+{
+    match first_stepper(board, among, square) {
+        Some(_) => true,
+        None => false,
+    }
+}
+
 /// Whether a step or a jump of a piece of the side leads to the square.
 fn is_stepped_on(board: &Board, by: Color, square: usize) -> bool
     requires { square < 81 }
     ensures { result ≡ some_below 81 (is_step_from board.now by square) }
 {
-    match first_stepper(board, by, square) {
-        Some(_) => true,
-        None => false,
-    }
+    is_stepped_on_among(board, board.own(by), square)
 }
 
 /// Whether what stands there slides against the direction.
@@ -188,8 +197,31 @@ fn nearest(places: u128, direction: usize) -> usize
     }
 }
 
-/// The square of the first piece in the direction, if there is one.
+/// The first of the squares in the direction, if there is one: the first piece on each board whose
+/// pieces stand on these squares.
 #[tactic(auto, using(crate::proofs::Nearest::first_pieces))]
+fn first_occupied(occupied: u128, direction: usize, from: usize) -> Option<usize>
+    requires direction { direction < 8 }
+    requires from { from < 81 }
+    ensures none { IsNone result → (cells : Cells)
+        → HasBits occupied (λ k. not (is_none (piece_at cells k)))
+        → IsOpenLine cells (direction_at direction) from }
+    ensures range { IfSome result (λ n. n < 81) }
+    ensures reached { IfSome result (λ n. (cells : Cells)
+        → HasBits occupied (λ k. not (is_none (piece_at cells k)))
+        → slides cells (direction_at direction) from n ≡ true) }
+    ensures piece { IfSome result (λ n. (cells : Cells)
+        → HasBits occupied (λ k. not (is_none (piece_at cells k)))
+        → is_none (piece_at cells n) ≡ false) }
+{
+    let pieces = ray(direction, from) & occupied;
+    if pieces == 0 {
+        return None;
+    }
+    Some(nearest(pieces, direction))
+}
+
+/// The square of the first piece in the direction, if there is one.
 fn first_piece(board: &Board, direction: usize, from: usize) -> Option<usize>
     requires direction { direction < 8 }
     requires from { from < 81 }
@@ -198,11 +230,68 @@ fn first_piece(board: &Board, direction: usize, from: usize) -> Option<usize>
     ensures reached { IfSome result (λ n. slides board.now (direction_at direction) from n ≡ true) }
     ensures piece { IfSome result (λ n. is_none (piece_at board.now n) ≡ false) }
 {
-    let pieces = ray(direction, from) & board.occupied();
-    if pieces == 0 {
-        return None;
+    first_occupied(board.occupied(), direction, from)
+}
+
+/// Whether one of the snipers of the square slides to it against the direction, where pieces stand
+/// on the occupied squares.
+#[inline(never)]
+fn is_shot_past(
+    board: &Board,
+    square: usize,
+    direction: usize,
+    snipers: u128,
+    occupied: u128,
+) -> bool
+    requires square { square < 81 }
+    requires direction { direction < 8 }
+    ensures { (color : Color) (seen : Cells)
+        → ShowsSnipers board.now square snipers occupied color seen
+        → result ≡ is_shot_along seen color square direction }
+{
+    let Some(first) = first_occupied(occupied, direction, square) else {
+        return false
+    };
+    if !has(snipers, first) {
+        return false;
     }
-    Some(nearest(pieces, direction))
+    slides_back(board.at(Square::of_index(first)), direction)
+}
+
+/// The same, answered at once where there is no sniper in the direction.
+fn is_shot_past_along(
+    board: &Board,
+    square: usize,
+    direction: usize,
+    snipers: u128,
+    occupied: u128,
+) -> bool
+    requires square { square < 81 }
+    requires direction { direction < 8 }
+    ensures { (color : Color) (seen : Cells)
+        → ShowsSnipers board.now square snipers occupied color seen
+        → result ≡ is_shot_along seen color square direction }
+{
+    if ray(direction, square) & snipers == 0 {
+        return false;
+    }
+    is_shot_past(board, square, direction, snipers, occupied)
+}
+
+/// Whether one of the snipers of the square slides to it, where pieces stand on the occupied
+/// squares.
+fn is_shot_among(board: &Board, square: usize, snipers: u128, occupied: u128) -> bool
+    requires { square < 81 }
+    ensures { (color : Color) (seen : Cells)
+        → ShowsSnipers board.now square snipers occupied color seen
+        → result ≡ is_shot seen color square }
+{
+    for direction in 0..8 {
+        if is_shot_past_along(board, square, direction, snipers, occupied) {
+            return true;
+        }
+    }
+    false
 }
 
 /// Whether one of the snipers of the square slides to it against the direction; where none does,
@@ -315,7 +404,7 @@ fn answering_squares(board: &Board, by: Color, square: usize) -> u128
         → StaysAttacked result board.now by square }
     ensures fits { result < 2 ^ 81 }
 {
-    if let Some(from) = first_stepper(board, by, square) {
+    if let Some(from) = first_stepper(board, board.own(by), square) {
         return with(0, from);
     }
     let snipers = sniper_squares(board, by, square);
@@ -360,6 +449,25 @@ impl Board {
             return false;
         }
         is_shot(self, by, index, snipers)
+    }
+
+    /// Whether one of the pieces on the mask reaches the square where the occupied squares are those
+    /// that are not empty: whether it is attacked on another board, whose attackers stand here too.
+    #[inline(always)]
+    pub fn is_attacked_among(&self, square: Square, among: u128, occupied: u128) -> bool
+        ensures { (color : Color) (seen : Cells) → IsSeenAs self.now among occupied color seen
+            → result ≡ is_attacked seen color square }
+    {
+        square.validity();
+        let index = square.index();
+        if is_stepped_on_among(self, among, index) {
+            return true;
+        }
+        let snipers = among & self.sliders() & aligned_squares(index);
+        if snipers == 0 {
+            return false;
+        }
+        is_shot_among(self, index, snipers, occupied)
     }
 
     /// Whether a king of the side is attacked; a side without a king is never in check.

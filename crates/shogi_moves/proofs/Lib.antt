@@ -25,4 +25,4 @@ pub mod SlideOrigins
 pub mod EscapeLaws
 pub mod KingReplies
 pub mod CheckLaws
-pub mod StillChecked
+pub mod SeenAfter

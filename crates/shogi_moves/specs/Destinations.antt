@@ -8,7 +8,7 @@ use Rattle.shogi_core.specs.declared.moves.Move.{Move}
 use Rattle.shogi_core.specs.declared.moves.Move.TheVariants.{Board, Drop}
 use Rattle.shogi_core.specs.Attack.{in_check, is_attacked}
 use Rattle.shogi_core.specs.Bits.{HasBits, IsMaskOf, has_bit}
-use Rattle.shogi_core.specs.Cell.{is_piece_of, is_king}
+use Rattle.shogi_core.specs.Cell.{is_piece_of}
 use Rattle.shogi_core.specs.Codes.{code_of}
 use Rattle.shogi_core.specs.Movement.{Cells, piece_at, reaches}
 use Rattle.shogi_core.specs.Pieces.{opponent_of}
@@ -25,11 +25,6 @@ is_destination false side cell = is_none cell
 -- the move leaves the mover's king unattacked
 abbrev pub is_unchecked : Shogi → Move → Bool
 is_unchecked p m = not (in_check (cells_after p.cells p.side m) p.side)
-
--- what moves is a king
-abbrev pub moves_king : Shogi → Move → Bool
-moves_king p (Board from to promote) = is_king p.side (piece_at p.cells from)
-moves_king p (Drop kind to) = false
 
 -- the mask has those of the destinations at which the piece leaves its king unattacked
 abbrev pub AreUncheckedDestinations : Shogi → ℕ → ℕ → ℕ → Type 0

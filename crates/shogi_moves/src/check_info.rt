@@ -1,6 +1,6 @@
 //! What is known of checks in a position, so that most of its moves need no look at them.
 
-ghost use Rattle.std.specs.Prelude.{true, ◌≡◌, ◌<◌, ◌^◌, ◌&&◌, not, false, IfSome, IsNone};
+ghost use Rattle.std.specs.Prelude.{true, ◌≡◌, ◌<◌, ◌^◌, ◌&&◌, not, false};
 ghost use Rattle.shogi_core.specs.Attack.{in_check, OthersAreUnpinned};
 ghost use Rattle.shogi_core.specs.Bits.{has_bit};
 ghost use Rattle.shogi_moves.specs.CheckInfo.{IsCheckInfoOf, CoversKingLines};
@@ -70,8 +70,7 @@ fn unchecked_info(p: &Position, pinned: u128) -> CheckInfo
     requires safe { in_check p.now.cells p.now.side ≡ false }
     requires fits { pinned < 2 ^ 81 }
     requires free { OthersAreUnpinned pinned p.now.cells p.now.side }
-    ensures info { IsCheckInfoOf result p.now }
-    ensures unchecked { result.checked ≡ false }
+    ensures { IsCheckInfoOf result p.now }
 {
     CheckInfo {
         checked: false,
@@ -79,26 +78,13 @@ fn unchecked_info(p: &Position, pinned: u128) -> CheckInfo
     }
 }
 
-/// What is kept of the position where there is no check.
-#[inline(always)]
-pub fn info_unless_checked(p: &Position) -> Option<CheckInfo>
-    ensures known { IfSome result (λ info. IsCheckInfoOf info p.now) }
-    ensures unchecked { IfSome result (λ info. info.checked ≡ false) }
-    ensures none { IsNone result → in_check p.now.cells p.now.side ≡ true }
-{
-    match p.as_board().pinned(p.side()) {
-        None => None,
-        Some(pinned) => Some(unchecked_info(p, pinned)),
-    }
-}
-
 /// What is kept of the position.
 pub fn check_info_of(p: &Position) -> CheckInfo
     ensures { IsCheckInfoOf result p.now }
 {
-    match info_unless_checked(p) {
+    match p.as_board().pinned(p.side()) {
         None => full_check_info(p, true),
-        Some(info) => info,
+        Some(pinned) => unchecked_info(p, pinned),
     }
 }
 

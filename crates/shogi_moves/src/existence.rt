@@ -64,7 +64,7 @@ fn has_king_move(p: &Position) -> bool
 }
 
 /// Whether a piece on the board has a legal move.
-pub fn has_board_move(p: &Position, info: &CheckInfo) -> bool
+fn has_board_move(p: &Position, info: &CheckInfo) -> bool
     requires { IsCheckInfoOf info.now p.now }
     ensures some { result ≡ true → legal_codes p.now ≢ [] }
     ensures none { result ≡ false → legal_codes p.now ≡ legal_from p.now FIRST_DROP }

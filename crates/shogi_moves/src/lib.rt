@@ -36,7 +36,7 @@ pub use destinations::{
     Destinations, drop_destinations, drop_squares, enterable, legal_destinations,
 };
 pub use escapes::{escape_squares, king_takes, leaves_escape, leaves_king_move};
-pub use existence::{has_board_move, has_legal};
+pub use existence::has_legal;
 pub use legal::{is_legal, play, play_in_place};
 pub use movers::takers;
 pub use next::next_legal;

@@ -1,14 +1,15 @@
-use Rattle.std.proofs.Common.{rules, arith, false, sym, ◌∙◌}
+use Rattle.std.proofs.Common.{rules, arith, false, refl, sym, ◌∙◌}
 use Rattle.std.proofs.lemmas.Bool.{or_from, both_ways}
 use Rattle.shogi_core.specs.Attack.{is_attacked, is_shot_along}
 use Rattle.shogi_core.proofs.Answers.{step_stays, shot_stays, one_bit}
 use Rattle.shogi_core.proofs.Below.{some_below_none, some_below_more}
 use Rattle.shogi_core.proofs.Pins.{marked_fits}
-use Rattle.shogi_core.proofs.Shots.{attacked_by_slide}
+use Rattle.shogi_core.proofs.Shots.{attacked_by_slide, step_alike, steps_alike}
 use Rattle.shogi_core.proofs.attack.answering_squares.Goals as goal
 
 pub returns-in-Some-clause-stays : goal.returns-in-Some-clause-stays
-returns-in-Some-clause-stays c = λ _. step_stays c.with.result c.args.board.now c.args.by c.args.square c.in-Some.from c.requires c.in-Some.ensures.range c.in-Some.ensures.steps
+returns-in-Some-clause-stays c = λ _. step_stays c.with.result c.args.board.now c.args.by c.args.square c.in-Some.from c.requires c.in-Some.ensures.range
+    (sym (step_alike c.args.board.now c.args.board.now c.args.by c.own.result c.own.ensures.squares.0 (λ n l e. refl) c.args.square c.in-Some.from c.in-Some.ensures.range) ∙ c.in-Some.ensures.steps)
     (one_bit c.with.result c.in-Some.from c.with.ensures)
 
 pub returns-in-Some-clause-fits : goal.returns-in-Some-clause-fits
@@ -26,4 +27,4 @@ loop-direction-preserved c =
 
 pub returns-clause-stays : goal.returns-clause-stays
 returns-clause-stays c = λ attacked. absurd (both_ways (is_attacked c.args.board.now c.args.by c.args.square)
-    (sym (attacked_by_slide c.args.board.now c.args.by c.args.square c.requires false (c.in_default.ensures.none (search rules)) (search rules))) attacked)
+    (sym (attacked_by_slide c.args.board.now c.args.by c.args.square c.requires false (sym (steps_alike c.args.board.now c.args.board.now c.args.by c.own.result c.own.ensures.squares.0 (λ n l e. refl) c.args.square) ∙ c.in_default.ensures.none (search rules)) (search rules))) attacked)

@@ -1,15 +1,13 @@
 use Rattle.std.proofs.Common.{◌≡◌, ◌<◌, ◌^◌, ℕ, true}
-use Rattle.shogi_core.specs.Attack.{is_step_from}
+use Rattle.shogi_core.specs.Attack.{is_step_among}
 use Rattle.shogi_core.specs.Bits.{has_bit}
-use Rattle.shogi_core.specs.Cell.{is_piece_of}
-use Rattle.shogi_core.specs.Movement.{piece_at}
 use Rattle.shogi_core.proofs.SeenLaws.{Covers}
 use Rattle.shogi_core.proofs.attack.first_stepper.Given as goal
 
 abbrev pub invariant-loop-left : goal.invariant-loop-left
 invariant-loop-left l = record {
-  covers : Covers l.left (is_step_from l.board l.fn.by l.square);
-  own : (n : ℕ) → n < 81 → has_bit l.left n ≡ true → is_piece_of l.fn.by (piece_at l.board n) ≡ true;
+  covers : Covers l.left (is_step_among l.board l.among l.square);
+  among : (n : ℕ) → n < 81 → has_bit l.left n ≡ true → has_bit l.among n ≡ true;
   fits : l.left < 2 ^ 81;
 }
 

@@ -1,6 +1,6 @@
-use Rattle.shogi_core.specs.Attack.{is_step_from}
-use Rattle.shogi_core.proofs.Below.{some_below_found}
+use Rattle.std.proofs.Common.{◌∙◌, refl}
+use Rattle.shogi_core.proofs.Shots.{steps_alike}
 use Rattle.shogi_core.proofs.attack.is_stepped_on.Goals as goal
 
-pub returns-in-Some : goal.returns-in-Some
-returns-in-Some c = some_below_found 81 (is_step_from c.args.board.now c.args.by c.args.square) _ c.in-Some.ensures.range c.in-Some.ensures.steps
+pub returns : goal.returns
+returns c = c.is_stepped_on_among.ensures ∙ steps_alike c.args.board.now c.args.board.now c.args.by c.own.result c.own.ensures.squares.0 (λ n l e. refl) c.args.square
