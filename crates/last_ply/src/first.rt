@@ -17,9 +17,10 @@ impl Scene<'_> {
             (LeavesNone self.now.node.now.position) (code_of m)) }
         ensures none { IsNone result → HasNoMate self.now.node.now.position }
     {
+        let replies = Replies::of(self.node.as_position());
         let mut walk = Walk::new(self.node.as_position());
         'moves: while let Some(m) = walk.next() {
-            if self.mates(&m) {
+            if self.mates_past(&replies, &m) {
                 return Some(m);
             }
         }
