@@ -1,38 +1,43 @@
 -- What the moves of a piece score.
-use Rattle.std.proofs.Common.{◌≡◌, ◌<◌, ◌+◌, ◌-◌, ◌/◌, ◌%◌, ℕ, ℤ, pos, ◌-ℤ◌, ◌+ℤ◌, ◌≤ℤ◌, Bool, true, false, not, Option, Some, None, bit_and, bit_or, refl, sym, ap, ◌∙◌, subst, arith, inl, inr}
+use Rattle.std.proofs.Common.{◌≡◌, ◌<◌, ◌≤◌, ◌+◌, ◌-◌, ◌/◌, ◌%◌, ℕ, ℤ, pos, ◌-ℤ◌, ◌+ℤ◌, ◌≤ℤ◌, Bool, true, false, not, Option, Some, None, bit_and, bit_or, refl, sym, ap, ◌∙◌, subst, arith, inl, inr}
 use Rattle.std.specs.Prelude.{◌&&◌, ◌||◌, ◌==◌}
 use Rattle.std.proofs.lemmas.Int.{ints}
-use Rattle.std.proofs.lemmas.Bool.{and_parts, and_from, both_ways, cases_Bool, cases_lt, cases_eq, true_from_ne_false, false_from_ne_true, or_parts, not-true, or_left, or_right}
+use Rattle.std.proofs.lemmas.Bool.{and_parts, and_from, both_ways, cases_Bool, cases_lt, cases_eq, true_from_ne_false, false_from_ne_true, or_parts, not-true}
 use Rattle.shogi_core.specs.declared.moves.TheConstants.{FIRST_DROP, MOVE_CODE_COUNT}
 use Rattle.shogi_core.specs.declared.moves.Move.TheVariants.{Board, Drop}
 use Rattle.shogi_core.specs.declared.piece.Color.{Color}
 use Rattle.shogi_core.specs.declared.piece.Color.TheVariants.{Black, White}
 use Rattle.shogi_core.specs.declared.piece.Piece.{Piece}
+use Rattle.shogi_core.specs.declared.piece.Role.{Role}
+use Rattle.shogi_core.specs.declared.piece.Role.TheVariants.{King, Pawn, Lance, Knight, Silver, Gold, Bishop, Rook, PromotedPawn, PromotedLance, PromotedKnight, PromotedSilver, Horse, Dragon}
 use Rattle.shogi_core.specs.declared.piece.Kind.{Kind}
 use Rattle.shogi_core.specs.declared.piece.Kind.TheVariants as kinds
 use Rattle.shogi_core.specs.Bits.{has_bit}
 use Rattle.shogi_core.specs.Cell.{is_piece_of, is_slider}
 use Rattle.shogi_core.specs.Codes.{code_of, move_of, kind_at}
-use Rattle.shogi_core.specs.Movement.{piece_at, reaches}
-use Rattle.shogi_core.specs.Pieces.{opponent_of, is_same_color}
+use Rattle.shogi_core.specs.Lines.{are_aligned, is_near}
+use Rattle.shogi_core.specs.Movement.{Cells, piece_at, reaches}
+use Rattle.shogi_core.specs.Pieces.{opponent_of, is_same_color, promoted}
 use Rattle.shogi_core.specs.Position.{Shogi}
 use Rattle.shogi_core.specs.Validity.{IsValid}
-use Rattle.shogi_core.proofs.BitLaws.{has_bit-and, has_bit-or}
+use Rattle.shogi_core.proofs.BitLaws.{has_bit-and, has_bit-none, has_bit-or}
+use Rattle.shogi_core.proofs.SeenLaws.{lined_aligned, reaches_near}
 use Rattle.shogi_core.proofs.CodesBack.{move_of-board, code_of-board}
 use Rattle.shogi_moves.specs.After.{after, after_code}
 use Rattle.shogi_moves.specs.Legal.{is_legal, is_legal_code, may_promote, is_pseudo_legal_board_move}
-use Rattle.shogi_moves.specs.Destinations.{HasMovers, is_destination, is_unchecked}
+use Rattle.shogi_moves.specs.Destinations.{AreEnterable, HasMovers, is_destination, is_unchecked}
 use Rattle.shogi_moves.specs.Replies.{is_near_zone}
-use Rattle.shogi_moves.proofs.DestinationLaws.{legal_board}
+use Rattle.shogi_moves.proofs.DestinationLaws.{all_ways, legal_board}
 use Rattle.shogi_moves.proofs.MoverLaws.{far_plain}
 use Rattle.shogi_moves.proofs.Keeps.{is_safe_from_legal}
 use Rattle.shogi_moves.proofs.KeepsBoard.{IsSafeBoardMove, safe_board_move}
 use Rattle.shogi_moves.proofs.LegalLaws.{in_legal, legal_in, legal_code_below, is_legal_code_of, after_code_at, no_piece}
 use Rattle.shogi_eval.specs.declared.eval.Eval.{Eval}
 use Rattle.shogi_eval.specs.declared.eval.Eval.TheVariants.{Plain, Hand}
-use Rattle.shogi_eval.specs.Material.{material_of, taken_gain, promotion_gain, drop_gain}
+use Rattle.shogi_eval.specs.Material.{material_of, taken_gain, promotion_gain, drop_gain, value_of}
 use Rattle.shogi_eval.proofs.Gains.{material_after_board, material_after_drop}
 use Rattle.minimax.proofs.Valid.{drop_of}
+use Rattle.last_ply.specs.declared.gains.TheConstants.{PROMOTION_GAIN_MAX}
 use Rattle.last_ply.proofs.Squares.{left_clear}
 use Rattle.last_ply.specs.LastPly.{score_at, HasScore, ScoresAtMost, ScoresFromAtMost, ScoresAmongAtMost, AreLegalEnds}
 
@@ -77,16 +82,44 @@ score_quiet p e from to v hf ht l free =
     let law : _ = score_board p e from to false v hf ht l in
     omega (arith, ints, law, taken, promotion)
 
+-- what a legal move on the board obeys
+pub legal_parts : (p : Shogi) (from n : ℕ) (promote : Bool) → from < 81 → n < 81 → is_legal_code p (code_of (Board from n promote)) ≡ true → (reaches p.cells from n ≡ true) × (is_piece_of p.side (piece_at p.cells n) ≡ false) × ((not promote || may_promote (piece_at p.cells from) from n) ≡ true)
+legal_parts p from n promote hf h l =
+    let legal = sym (is_legal_code_of p (code_of (Board from n promote)) (Board from n promote) (move_of-board from n promote hf h) ∙ legal_board p from n promote) ∙ l in
+    let four = and_parts _ _ (and_parts (is_pseudo_legal_board_move p.cells p.side from n promote) (is_unchecked p (Board from n promote)) legal).0 in
+    let three = and_parts _ _ four.0 in
+    let two = and_parts _ _ three.0 in
+    (two.1, not-true _ (and_parts _ _ two.0).1, three.1)
+
 -- what a piece's captures and promotions score at most, all its moves do, where the node has no more
-pub from_all : (p : Shogi) (e : Eval) (from plain promoting foe : ℕ) (floor first last : ℤ) → IsValid p → from < 81
-    → ((n : ℕ) → n < 81 → has_bit foe n ≡ true → is_legal_code p (code_of (Board from n false)) ≡ true → has_bit plain n ≡ true) → ((n : ℕ) → n < 81 → is_legal_code p (code_of (Board from n true)) ≡ true → has_bit promoting n ≡ true) → ((n : ℕ) → n < 81 → has_bit foe n ≡ is_piece_of (opponent_of p.side) (piece_at p.cells n))
-    → ScoresAmongAtMost p e from false (bit_and plain foe) first → ScoresAmongAtMost p e from true promoting last
+pub from_ends : (p : Shogi) (e : Eval) (from targets enters foe zone : ℕ) (floor first last : ℤ) → IsValid p → from < 81
+    → ((n : ℕ) → n < 81 → has_bit targets n ≡ reaches p.cells from n) → ((n : ℕ) → n < 81 → has_bit enters n ≡ not (is_piece_of p.side (piece_at p.cells n)))
+    → ((n : ℕ) → n < 81 → has_bit foe n ≡ is_piece_of (opponent_of p.side) (piece_at p.cells n)) → ((n : ℕ) → n < 81 → has_bit zone n ≡ may_promote (piece_at p.cells from) from n)
+    → ScoresAmongAtMost p e from false (bit_and (bit_and targets enters) foe) first → ScoresAmongAtMost p e from true (bit_and (bit_and targets enters) zone) last
     → material_of p e ≤ℤ floor → floor ≤ℤ first → first ≤ℤ last → ScoresFromAtMost p e from last
-from_all p e from plain promoting foe floor first last v hf pb qb fb takes promotes base up more n true h l = promotes n h (qb n h l)
-from_all p e from plain promoting foe floor first last v hf pb qb fb takes promotes base up more n false h l = elim (cases_Bool (has_bit foe n)) [
-  | inl set ↦ (let s : score_at p e (code_of (Board from n false)) ≤ℤ first = takes n h (has_bit-and plain foe n ∙ and_from _ _ (pb n h set l) set) in omega (arith, ints))
-  | inr out ↦ (let s : score_at p e (code_of (Board from n false)) ≡ material_of p e = score_quiet p e from n v hf h l (sym (fb n h) ∙ out) in omega (arith, ints))
-]
+from_ends p e from targets enters foe zone floor first last v hf tb eb fb zb takes promotes base up more n promote h l = go promote l
+  where
+    end : (promote : Bool) → is_legal_code p (code_of (Board from n promote)) ≡ true → has_bit (bit_and targets enters) n ≡ true
+    end promote l = (let parts = legal_parts p from n promote hf h l in has_bit-and targets enters n ∙ and_from _ _ (tb n h ∙ parts.0) (eb n h ∙ ap not parts.1))
+
+    go : (promote : Bool) → is_legal_code p (code_of (Board from n promote)) ≡ true → score_at p e (code_of (Board from n promote)) ≤ℤ last
+    go true l = promotes n h (has_bit-and (bit_and targets enters) zone n ∙ and_from _ _ (end true l) (zb n h ∙ (legal_parts p from n true hf h l).2)) l
+    go false l = elim (cases_Bool (has_bit foe n)) [
+      | inl set ↦ (let s : score_at p e (code_of (Board from n false)) ≤ℤ first = takes n h (has_bit-and (bit_and targets enters) foe n ∙ and_from _ _ (end false l) set) l in omega (arith, ints))
+      | inr out ↦ (let s : score_at p e (code_of (Board from n false)) ≡ material_of p e = score_quiet p e from n v hf h l (sym (fb n h) ∙ out) in omega (arith, ints))
+    ]
+
+-- without any, none is left out
+pub none_among : (p : Shogi) (e : Eval) (from a b : ℕ) (v : ℤ) → bit_or a b ≡ 0 → ScoresAmongAtMost p e from false a v × ScoresAmongAtMost p e from true b v
+none_among p e from a b v none = (λ n h set l. absurd (both_ways (has_bit a n) (out n).0 set), λ n h set l. absurd (both_ways (has_bit b n) (out n).1 set))
+  where
+    out : (n : ℕ) → (has_bit a n ≡ false) × (has_bit b n ≡ false)
+    out n = or_parts _ _ (sym (has_bit-or a b n) ∙ (ap (λ (m : ℕ). has_bit m n) none ∙ has_bit-none n))
+
+-- ends among the squares that the piece reaches and may enter
+pub enters_some : (p : Shogi) (from targets enters squares : ℕ) → ((n : ℕ) → n < 81 → has_bit targets n ≡ reaches p.cells from n) → ((n : ℕ) → n < 81 → has_bit enters n ≡ not (is_piece_of p.side (piece_at p.cells n)))
+    → AreEnterable p from (bit_and (bit_and targets enters) squares)
+enters_some p from targets enters squares tb eb n h set = all_ways targets enters n _ _ (tb n h) (eb n h) (and_parts _ _ (sym (has_bit-and (bit_and targets enters) squares n) ∙ set)).0
 
 -- no drop gains
 drop_gain_most : (e : Eval) (kind : Kind) → drop_gain e kind ≤ℤ pos 0
@@ -140,15 +173,6 @@ board_score p e from to promote v hf ht l =
     let law : _ = score_board p e from to promote v hf ht l in
     record { code = code_of (Board from to promote); listed = in_legal p 0 (code_of (Board from to promote)) (omega arith) l; at_least = omega (arith, ints, law) }
 
--- what a legal move on the board obeys
-pub legal_parts : (p : Shogi) (from n : ℕ) (promote : Bool) → from < 81 → n < 81 → is_legal_code p (code_of (Board from n promote)) ≡ true → (reaches p.cells from n ≡ true) × (is_piece_of p.side (piece_at p.cells n) ≡ false) × ((not promote || may_promote (piece_at p.cells from) from n) ≡ true)
-legal_parts p from n promote hf h l =
-    let legal = sym (is_legal_code_of p (code_of (Board from n promote)) (Board from n promote) (move_of-board from n promote hf h) ∙ legal_board p from n promote) ∙ l in
-    let four = and_parts _ _ (and_parts (is_pseudo_legal_board_move p.cells p.side from n promote) (is_unchecked p (Board from n promote)) legal).0 in
-    let three = and_parts _ _ four.0 in
-    let two = and_parts _ _ three.0 in
-    (two.1, not-true _ (and_parts _ _ two.0).1, three.1)
-
 -- a piece that takes nothing and cannot promote scores what the node has
 pub quiet_piece : (p : Shogi) (e : Eval) (from : ℕ) → IsValid p → from < 81 → ((t : ℕ) → t < 81 → (reaches p.cells from t && is_destination true p.side (piece_at p.cells t)) ≡ false) → ((t : ℕ) → t < 81 → reaches p.cells from t ≡ true → may_promote (piece_at p.cells from) from t ≡ false) → ScoresFromAtMost p e from (material_of p e)
 quiet_piece p e from v hf takes promotes n true h l =
@@ -169,34 +193,51 @@ quiet_others p e own takes zone sliders n v h ob m zb sb set out =
     let both = or_parts (has_bit zone n) (has_bit sliders n) (sym (has_bit-or zone sliders n) ∙ near) in
     quiet_piece p e n v h (λ t ht. m n t h ht set two.0) (λ t ht r. far_plain p n t h ht (sym (ob n h) ∙ set) (sym (sb n h) ∙ both.1) (sym (zb n h) ∙ both.0) r)
 
-and_off : (a : Bool) → (a && false) ≡ false
-and_off true = refl
-and_off false = refl
+-- what a promotion gains at most
+pub promotion_most : (promote : Bool) (cell : Option Piece) → promotion_gain promote cell ≤ PROMOTION_GAIN_MAX
+promotion_most promote None = omega arith
+promotion_most false (Some piece) = omega arith
+promotion_most true (Some piece) = go piece.role
+  where
+    go : (role : Role) → (value_of (promoted role) - value_of role) ≤ PROMOTION_GAIN_MAX
+    go King = omega arith
+    go Pawn = omega arith
+    go Lance = omega arith
+    go Knight = omega arith
+    go Silver = omega arith
+    go Gold = omega arith
+    go Bishop = omega arith
+    go Rook = omega arith
+    go PromotedPawn = omega arith
+    go PromotedLance = omega arith
+    go PromotedKnight = omega arith
+    go PromotedSilver = omega arith
+    go Horse = omega arith
+    go Dragon = omega arith
 
-all_on : (t e s l : Bool) → t ≡ true → e ≡ true → (((t && e) && s) && l) ≡ (s && l)
-all_on t e s l x y = rw (x, y) refl
+-- a piece of which no capture is dear enough scores no more than a bound with room for any promotion
+pub poor_piece : (p : Shogi) (e : Eval) (from : ℕ) (v : ℤ) → IsValid p → from < 81 → (material_of p e +ℤ pos PROMOTION_GAIN_MAX) ≤ℤ v
+    → ((t : ℕ) → t < 81 → reaches p.cells from t ≡ true → is_piece_of (opponent_of p.side) (piece_at p.cells t) ≡ true → (material_of p e +ℤ pos (taken_gain e (piece_at p.cells t) + PROMOTION_GAIN_MAX)) ≤ℤ v)
+    → ScoresFromAtMost p e from v
+poor_piece p e from v ok hf room takes n promote h l =
+    let law : _ = score_board p e from n promote ok hf h l in
+    let parts = legal_parts p from n promote hf h l in
+    let promotion : promotion_gain promote (piece_at p.cells from) ≤ PROMOTION_GAIN_MAX = promotion_most promote (piece_at p.cells from) in
+    elim (cases_Bool (is_piece_of (opponent_of p.side) (piece_at p.cells n))) [
+      | inl there ↦ (let t : _ = takes n h parts.0 there in omega (arith, ints, law, t, promotion))
+      | inr free ↦ (let taken : taken_gain e (piece_at p.cells n) ≡ 0 = ap (taken_gain e) (nobody p.side (piece_at p.cells n) parts.1 free) in omega (arith, ints, law, taken, promotion, room))
+    ]
 
--- the legal ends of a piece among some squares, where it reaches each of them and none of its own stands there
-pub ends_within : (p : Shogi) (promote : Bool) (from targets enters squares ends : ℕ) → from < 81 → ((n : ℕ) → n < 81 → has_bit targets n ≡ reaches p.cells from n) → ((n : ℕ) → n < 81 → has_bit enters n ≡ not (is_piece_of p.side (piece_at p.cells n)))
-    → ((n : ℕ) → n < 81 → has_bit ends n ≡ (has_bit (bit_and (bit_and targets enters) squares) n && is_legal_code p (code_of (Board from n promote)))) → (n : ℕ) → n < 81 → has_bit ends n ≡ (has_bit squares n && is_legal_code p (code_of (Board from n promote)))
-ends_within p promote from targets enters squares ends hf tb eb bits n h = elim (cases_Bool (is_legal_code p (code_of (Board from n promote)))) [
-  | inl l ↦ (
-      let parts = legal_parts p from n promote hf h l in
-      bits n h ∙ (ap (λ (b : Bool). b && is_legal_code p (code_of (Board from n promote))) (has_bit-and (bit_and targets enters) squares n ∙ ap (λ (b : Bool). b && has_bit squares n) (has_bit-and targets enters n))
-      ∙ all_on (has_bit targets n) (has_bit enters n) (has_bit squares n) (is_legal_code p (code_of (Board from n promote))) (tb n h ∙ parts.0) (eb n h ∙ ap not parts.1)))
-  | inr f ↦ bits n h ∙ (ap (λ (b : Bool). has_bit (bit_and (bit_and targets enters) squares) n && b) f ∙ (and_off (has_bit (bit_and (bit_and targets enters) squares) n) ∙ (sym (and_off (has_bit squares n)) ∙ ap (λ (b : Bool). has_bit squares n && b) (sym f))))
-]
+-- what reaches a square stands near it, or slides and is on a line with it
+pub not_taking : (cells : Cells) (near sliders lines n t : ℕ) → n < 81 → t < 81 → ((i : ℕ) → i < 81 → has_bit near i ≡ is_near t i) → ((i : ℕ) → i < 81 → has_bit sliders i ≡ is_slider (piece_at cells i)) → ((i : ℕ) → i < 81 → has_bit lines i ≡ are_aligned t i)
+    → has_bit (bit_or near (bit_and sliders lines)) n ≡ false → reaches cells n t ≡ true → ⊥
+not_taking cells near sliders lines n t hn ht nb sb lb out r =
+    let two = or_parts (has_bit near n) (has_bit (bit_and sliders lines) n) (sym (has_bit-or near (bit_and sliders lines) n) ∙ out) in
+    elim (reaches_near cells n t hn r) [
+      | inl beside ↦ both_ways (has_bit near n) two.0 (nb n hn ∙ beside)
+      | inr far ↦ both_ways (has_bit (bit_and sliders lines) n) two.1 (has_bit-and sliders lines n ∙ and_from _ _ (sb n hn ∙ far.0) (lb n hn ∙ lined_aligned cells t n far.1))
+    ]
 
--- ends among those of legal moves are legal
-pub among_legal : (p : Shogi) (from : ℕ) (promote : Bool) (ends squares : ℕ) → ((n : ℕ) → n < 81 → has_bit ends n ≡ (has_bit squares n && is_legal_code p (code_of (Board from n promote)))) → AreLegalEnds p from promote ends
-among_legal p from promote ends squares bits n h e = (and_parts (has_bit squares n) (is_legal_code p (code_of (Board from n promote))) (sym (bits n h) ∙ e)).1
-
-pub fewer_legal : (p : Shogi) (from : ℕ) (promote : Bool) (ends fewer : ℕ) → AreLegalEnds p from promote ends → AreLegalEnds p from promote (bit_and ends fewer)
-fewer_legal p from promote ends fewer all n h e = all n h (and_parts (has_bit ends n) (has_bit fewer n) (sym (has_bit-and ends fewer n) ∙ e)).0
-
--- each capture and each promotion of a piece is among the squares of captures and of promotions
-pub takes_among : (p : Shogi) (from foe promotions ends : ℕ) → ((n : ℕ) → n < 81 → has_bit ends n ≡ (has_bit (bit_or foe promotions) n && is_legal_code p (code_of (Board from n false)))) → (n : ℕ) → n < 81 → has_bit foe n ≡ true → is_legal_code p (code_of (Board from n false)) ≡ true → has_bit ends n ≡ true
-takes_among p from foe promotions ends bits n h set l = bits n h ∙ and_from _ _ (has_bit-or foe promotions n ∙ or_left (has_bit foe n) (has_bit promotions n) set) l
-
-pub promotes_among : (p : Shogi) (from foe promotions ends : ℕ) → from < 81 → ((n : ℕ) → n < 81 → has_bit promotions n ≡ may_promote (piece_at p.cells from) from n) → ((n : ℕ) → n < 81 → has_bit ends n ≡ (has_bit (bit_or foe promotions) n && is_legal_code p (code_of (Board from n true)))) → (n : ℕ) → n < 81 → is_legal_code p (code_of (Board from n true)) ≡ true → has_bit ends n ≡ true
-promotes_among p from foe promotions ends hf pb bits n h l = bits n h ∙ and_from _ _ (has_bit-or foe promotions n ∙ or_right (has_bit foe n) (has_bit promotions n) (pb n h ∙ (legal_parts p from n true hf h l).2)) l
+-- a legal move scores what it scores
+pub has_score : (p : Shogi) (e : Eval) (code : ℕ) (v : ℤ) → is_legal_code p code ≡ true → v ≤ℤ score_at p e code → HasScore p e v
+has_score p e code v l at = record { code = code; listed = in_legal p 0 code (omega arith) l; at_least = at }

@@ -1,9 +1,10 @@
 -- What is asked of a node with one ply left (own choice).
-use Rattle.std.specs.Prelude.{◌&&◌, ◌≡◌, ◌≢◌, ◌<◌, ◌≤ℤ◌, ◌⊎◌, ℕ, ℤ, [], true, Bool}
+use Rattle.std.specs.Prelude.{◌+◌, ◌+ℤ◌, pos, ◌≡◌, ◌≢◌, ◌<◌, ◌≤ℤ◌, ◌⊎◌, ℕ, ℤ, [], true, Bool}
 use Rattle.shogi_core.specs.declared.moves.Move.TheVariants.{Board, Drop}
 use Rattle.shogi_core.specs.declared.piece.Kind.{Kind}
 use Rattle.shogi_core.specs.Bits.{has_bit, IsMaskOf}
 use Rattle.shogi_core.specs.Codes.{code_of}
+use Rattle.shogi_core.specs.Movement.{piece_at}
 use Rattle.shogi_core.specs.Position.{Shogi}
 use Rattle.shogi_moves.specs.After.{after_code}
 use Rattle.shogi_moves.specs.Legal.{is_legal_code}
@@ -11,9 +12,10 @@ use Rattle.shogi_moves.specs.LegalMoves.{legal_codes}
 use Rattle.shogi_moves.specs.Rising.{is_in}
 use Rattle.shogi_eval.specs.declared.eval.Eval.{Eval}
 use Rattle.shogi_eval.specs.Evaluated.{Evaluated}
-use Rattle.shogi_eval.specs.Material.{material_of}
+use Rattle.shogi_eval.specs.Material.{material_of, taken_gain}
 use Rattle.minimax.specs.Minimax.{negated, lost_value, IsTrueEntry}
 use Rattle.minimax.specs.declared.entry.Entry.{Entry}
+use Rattle.last_ply.specs.declared.gains.TheConstants.{PROMOTION_GAIN_MAX}
 
 -- what the move of a code scores: the material after it, for its mover
 abbrev pub score_at : Shogi → Eval → ℕ → ℤ
@@ -78,7 +80,14 @@ ScoresFromAtMost p e from v = (n : ℕ) (promote : Bool) → n < 81
 -- and those among them to the squares of the mask, promoting or not
 abbrev pub ScoresAmongAtMost : Shogi → Eval → ℕ → Bool → ℕ → ℤ → Type 0
 ScoresAmongAtMost p e from promote mask v = (n : ℕ) → n < 81 → has_bit mask n ≡ true
+    → is_legal_code p (code_of (Board from n promote)) ≡ true
     → score_at p e (code_of (Board from n promote)) ≤ℤ v
+
+-- a capture of what stands on the square scores no more than this, whatever takes and promotes
+abbrev pub TakesTooLittle : Evaluated → ℕ → ℤ → Type 0
+TakesTooLittle node t v =
+    (material_of node.position node.eval
+    +ℤ pos (taken_gain node.eval (piece_at node.position.cells t) + PROMOTION_GAIN_MAX)) ≤ℤ v
 
 -- the moves of what stands on the square to those of the mask are legal, promoting or not
 abbrev pub AreLegalEnds : Shogi → ℕ → Bool → ℕ → Type 0
@@ -105,11 +114,6 @@ DropsLeaveSome p kind = (n : ℕ) → n < 81 → is_legal_code p (code_of (Drop 
 abbrev pub AreLegalDestinations : Shogi → ℕ → Bool → ℕ → Type 0
 AreLegalDestinations p from promote mask =
     IsMaskOf mask (λ n. is_legal_code p (code_of (Board from n promote)))
-
--- and the mask has those of them that are among some squares
-abbrev pub AreLegalAmong : Shogi → ℕ → Bool → ℕ → ℕ → Type 0
-AreLegalAmong p from promote squares mask =
-    IsMaskOf mask (λ n. has_bit squares n && is_legal_code p (code_of (Board from n promote)))
 
 -- the same of a node
 abbrev pub NodeHasScore : Evaluated → ℤ → Type 0

@@ -1,22 +1,83 @@
 //! What the legal moves of a node score at most.
 
-ghost use Rattle.std.specs.Prelude.{◌≡◌, ◌<◌, ◌^◌, ◌≤ℤ◌, ◌<ℤ◌, ◌-ℤ◌, pos, true, false, ℕ};
+ghost use Rattle.std.specs.Prelude.{◌≡◌, ◌<◌, ◌≤◌, ◌^◌, ◌+◌, ◌*◌, ◌≤ℤ◌, ◌<ℤ◌, ◌-ℤ◌, ◌+ℤ◌, pos, true, false, ℕ, Option};
+ghost use Rattle.shogi_core.specs.declared.moves.Move.TheVariants as moves;
+ghost use Rattle.shogi_core.specs.declared.piece.Piece as pieces;
+ghost use Rattle.shogi_core.specs.Bits.{IsMaskOf, has_bit};
+ghost use Rattle.shogi_core.specs.Cell.{is_piece_of, is_slider};
 ghost use Rattle.shogi_core.specs.Codes.{code_of};
+ghost use Rattle.shogi_core.specs.Lines.{is_near};
+ghost use Rattle.shogi_core.specs.Movement.{piece_at, reaches};
+ghost use Rattle.shogi_moves.specs.Destinations.{AreEnterable, IsWithin};
+ghost use Rattle.shogi_moves.specs.Legal.{is_legal, is_legal_code};
 ghost use Rattle.shogi_moves.specs.LegalMoves.{legal_codes};
 ghost use Rattle.shogi_moves.specs.Rising.{is_in};
-ghost use Rattle.shogi_eval.specs.declared.points.TheConstants.{POINTS_MAX};
-ghost use Rattle.shogi_core.specs.Bits.{has_bit};
-ghost use Rattle.shogi_moves.specs.Destinations.{IsWithin};
-ghost use Rattle.shogi_core.specs.Cell.{is_piece_of};
-ghost use Rattle.shogi_core.specs.Movement.{piece_at};
-ghost use Rattle.shogi_eval.specs.Material.{material_of};
-ghost use Rattle.shogi_moves.specs.Legal.{is_legal};
-ghost use Rattle.last_ply.specs.LastPly.{score_at, NodeHasScore, NodeScoresAtMost, ScoresFromAtMost, ScoresAmongAtMost, AreLegalEnds};
+ghost use Rattle.shogi_eval.specs.declared.points.TheConstants.{PIECE_VALUE_MAX, POINTS_MAX};
+ghost use Rattle.shogi_eval.specs.Material.{material_of, promotion_gain, taken_gain};
+ghost use Rattle.last_ply.specs.declared.gains.TheConstants.{PROMOTION_GAIN_MAX};
+ghost use Rattle.last_ply.specs.LastPly.{score_at, NodeHasScore, NodeScoresAtMost, ScoresFromAtMost, ScoresAmongAtMost, TakesTooLittle};
 
 use crate::scene::Scene;
-use shogi_core::bits::{lowest, without_lowest};
-use shogi_core::{Move, Square};
-use shogi_moves::{promoting_squares, squares_near_zone, takers};
+use shogi_core::bits::{has, lowest, with, without_lowest};
+use shogi_core::{Color, Move, Piece, Role, Square, aligned_squares, step_squares};
+use shogi_eval::{Eval, taken_gain};
+use shogi_moves::{enterable, legal_destinations, promoting_squares, squares_near_zone, takers};
+
+/// The most that a promotion gains, that of a pawn.
+pub const PROMOTION_GAIN_MAX: u32 = 500;
+
+/// What the promotion of a piece gains, where it does.
+fn promotion_gain(cell: Option<Piece>, promote: bool) -> u32
+    ensures value { result ≡ promotion_gain promote cell }
+    ensures range { result ≤ PROMOTION_GAIN_MAX }
+{
+    let Some(piece) = cell else { return 0 };
+    if !promote {
+        return 0;
+    }
+    match piece.role {
+        Role::Pawn => PROMOTION_GAIN_MAX,
+        Role::Lance | Role::Bishop | Role::Rook => 300,
+        Role::Knight => 200,
+        Role::Silver => 100,
+        Role::King | Role::Gold | Role::Horse | Role::Dragon => 0,
+        Role::PromotedPawn | Role::PromotedLance | Role::PromotedKnight | Role::PromotedSilver => 0,
+    }
+}
+
+/// The most that the capture of a piece that does not slide gains, that of a gold.
+fn still_gain(e: Eval) -> u32
+    ensures most { (cell : Option pieces.Piece) → is_slider cell ≡ false → taken_gain e cell ≤ result }
+    ensures least { PROMOTION_GAIN_MAX ≤ result }
+    ensures range { result ≤ 2 * PIECE_VALUE_MAX }
+{
+    let gold = Piece {
+        color: Color::Black,
+        role: Role::Gold,
+    };
+    taken_gain(e, Some(gold))
+}
+
+/// The squares next to the square, and a knight's jump away.
+#[tactic(auto, using(shogi_core::proofs::TargetLaws::no_bits))]
+fn near_squares(square: usize) -> u128
+    requires { square < 81 }
+    ensures { IsMaskOf result (is_near square) }
+{
+    let king = Piece {
+        color: Color::Black,
+        role: Role::King,
+    };
+    let black = Piece {
+        color: Color::Black,
+        role: Role::Knight,
+    };
+    let white = Piece {
+        color: Color::White,
+        role: Role::Knight,
+    };
+    step_squares(king, square) | (step_squares(black, square) | step_squares(white, square))
+}
 
 impl Scene<'_> {
     /// What the legal move scores.
@@ -44,27 +105,80 @@ impl Scene<'_> {
         if score > floor { score } else { floor }
     }
 
-    /// The most that a legal move of what stands on the square to one of these scores, promoting or
-    /// not, or the floor where that is no less.
+    /// What the move scores where it is legal.
+    fn score_to(&self, from: Square, to: Square, promote: bool) -> i32
+        ensures { is_legal_code self.now.node.now.position
+            (code_of (moves.Board from to promote)) ≡ true
+            → result ≡ score_at self.now.node.now.position self.now.node.now.eval
+            (code_of (moves.Board from to promote)) }
+    {
+        from.validity();
+        to.validity();
+        let p = self.node.as_position();
+        let gain = taken_gain(self.node.eval(), p.at(to)) + promotion_gain(p.at(from), promote);
+        self.node.score() + gain as i32
+    }
+
+    /// Whether one of the side's pieces may legally go to a square that it reaches.
+    #[inline(never)]
+    fn is_end(&self, from: Square, to: Square, promote: bool) -> bool
+        requires own { is_piece_of self.now.node.now.position.side
+            (piece_at self.now.node.now.position.cells from) ≡ true }
+        requires reached { reaches self.now.node.now.position.cells from to ≡ true }
+        requires free { is_piece_of self.now.node.now.position.side
+            (piece_at self.now.node.now.position.cells to) ≡ false }
+        ensures { result ≡ is_legal_code self.now.node.now.position
+            (code_of (moves.Board from to promote)) }
+    {
+        to.validity();
+        let square = with(0, to.index());
+        let ends = legal_destinations(self.node.as_position(), &self.info, from, square);
+        if promote {
+            has(ends.promoting, to.index())
+        } else {
+            has(ends.plain, to.index())
+        }
+    }
+
+    /// What the move of one of the side's pieces to a square that it reaches scores, or the floor
+    /// where it is illegal or that is no less.
+    fn most_to(&self, from: Square, to: Square, promote: bool, floor: i32) -> i32
+        requires own { is_piece_of self.now.node.now.position.side
+            (piece_at self.now.node.now.position.cells from) ≡ true }
+        requires reached { reaches self.now.node.now.position.cells from to ≡ true }
+        requires free { is_piece_of self.now.node.now.position.side
+            (piece_at self.now.node.now.position.cells to) ≡ false }
+        ensures least { floor ≤ℤ result }
+        ensures at { is_legal_code self.now.node.now.position
+            (code_of (moves.Board from to promote)) ≡ true
+            → score_at self.now.node.now.position self.now.node.now.eval
+            (code_of (moves.Board from to promote)) ≤ℤ result }
+        ensures some { floor <ℤ result → NodeHasScore self.now.node.now result }
+    {
+        let score = self.score_to(from, to, promote);
+        if score <= floor || !self.is_end(from, to, promote) {
+            return floor;
+        }
+        score
+    }
+
+    /// The most that a legal move of one of the side's pieces to these squares, which it reaches,
+    /// scores, promoting or not, or the floor where that is no less.
     fn most_among(&self, from: Square, promote: bool, ends: u128, floor: i32) -> i32
+        requires own { is_piece_of self.now.node.now.position.side
+            (piece_at self.now.node.now.position.cells from) ≡ true }
+        requires reached { AreEnterable self.now.node.now.position from ends }
         requires fits { ends < 2 ^ 81 }
-        requires legal { AreLegalEnds self.now.node.now.position from promote ends }
         ensures least { floor ≤ℤ result }
         ensures all { ScoresAmongAtMost self.now.node.now.position self.now.node.now.eval from
             promote ends result }
         ensures some { floor <ℤ result → NodeHasScore self.now.node.now result }
     {
-        from.validity();
         let mut best = floor;
         let mut left = ends;
         while left != 0 {
             let to = lowest(left);
-            let m = Move::Board {
-                from,
-                to: Square::of_index(to),
-                promote,
-            };
-            best = self.most_with(&m, best);
+            best = self.most_to(from, Square::of_index(to), promote, best);
             left = without_lowest(left, to);
         }
         best
@@ -83,24 +197,78 @@ impl Scene<'_> {
     {
         from.validity();
         let p = self.node.as_position();
-        let promoting = promoting_squares(p.at(from), from);
-        let ends = self.ends_among(from, self.foe | promoting);
-        let best = self.most_among(from, false, ends.plain & self.foe, floor);
-        self.most_among(from, true, ends.promoting, best)
+        let reach = p.as_board().targets(from) & enterable(p);
+        let takes = reach & self.foe;
+        let promoting = reach & promoting_squares(p.at(from), from);
+        if takes | promoting == 0 {
+            return floor;
+        }
+        let best = self.most_among(from, false, takes, floor);
+        self.most_among(from, true, promoting, best)
     }
 
-    /// Those of the side's pieces that may take something or promote; the moves of the others score
-    /// what the node has.
-    fn gainers(&self) -> u128
+    /// Squares outside which nothing takes on the square; none where that scores no more than the
+    /// floor, whatever takes and promotes.
+    fn squares_taking(&self, square: usize, floor: i32) -> u128
+        requires { square < 81 }
+        ensures fits { result < 2 ^ 81 }
+        ensures others { (n : ℕ) → n < 81 → has_bit result n ≡ false
+            → reaches self.now.node.now.position.cells n square ≡ true
+            → TakesTooLittle self.now.node.now square floor }
+    {
+        let p = self.node.as_position();
+        let taken = taken_gain(self.node.eval(), p.at(Square::of_index(square)));
+        if self.node.score() + (taken + PROMOTION_GAIN_MAX) as i32 <= floor {
+            return 0;
+        }
+        near_squares(square) | p.as_board().sliders() & aligned_squares(square)
+    }
+
+    /// Those of the side's pieces that may take one of the victims and score more than the floor.
+    fn takers_above(&self, victims: u128, floor: i32) -> u128
+        requires { victims < 2 ^ 81 }
+        ensures within { IsWithin result self.now.own }
+        ensures fits { result < 2 ^ 81 }
+        ensures others { (n t : ℕ) → n < 81 → t < 81 → has_bit self.now.own n ≡ true
+            → has_bit result n ≡ false → has_bit victims t ≡ true
+            → reaches self.now.node.now.position.cells n t ≡ true
+            → TakesTooLittle self.now.node.now t floor }
+    {
+        let mut squares = 0;
+        let mut left = victims;
+        while left != 0 {
+            let square = lowest(left);
+            squares |= self.squares_taking(square, floor);
+            left = without_lowest(left, square);
+        }
+        self.own & squares
+    }
+
+    /// Those of the side's pieces that may score more than the floor: with room for any promotion,
+    /// they take something; with room for the capture of any piece that does not slide, something
+    /// dear enough, and with room for both, one that slides.
+    fn gainers(&self, floor: i32) -> u128
+        requires { material_of self.now.node.now.position self.now.node.now.eval ≤ℤ floor }
         ensures within { IsWithin result self.now.own }
         ensures fits { result < 2 ^ 81 }
         ensures others { (n : ℕ) → n < 81 → has_bit self.now.own n ≡ true → has_bit result n ≡ false
-            → ScoresFromAtMost self.now.node.now.position self.now.node.now.eval n
-            (material_of self.now.node.now.position self.now.node.now.eval) }
+            → ScoresFromAtMost self.now.node.now.position self.now.node.now.eval n floor }
     {
         let p = self.node.as_position();
-        let near = squares_near_zone(p.side()) | p.as_board().sliders();
-        takers(p, self.own) | self.own & near
+        let sliders = p.as_board().sliders();
+        let base = self.node.score();
+        let still = still_gain(self.node.eval());
+        if base + (still + PROMOTION_GAIN_MAX) as i32 <= floor {
+            return self.takers_above(self.foe & sliders, floor);
+        }
+        if base + still as i32 <= floor {
+            return self.takers_above(self.foe, floor);
+        }
+        let takers = takers(p, self.own);
+        if base + PROMOTION_GAIN_MAX as i32 <= floor {
+            return takers;
+        }
+        takers | self.own & (squares_near_zone(p.side()) | sliders)
     }
 
     /// The most that a legal move scores, or the floor where that is no less, which is no less than
@@ -113,7 +281,7 @@ impl Scene<'_> {
         ensures some { floor <ℤ result → NodeHasScore self.now.node.now result }
     {
         let mut best = floor;
-        let mut left = self.gainers();
+        let mut left = self.gainers(floor);
         while left != 0 {
             let from = lowest(left);
             best = self.most_from(Square::of_index(from), best);

@@ -30,7 +30,7 @@ pub struct Scene<'a> {
 
 impl Scene<'_> {
     ghost use Rattle.std.specs.Prelude.{◌<◌, ◌^◌, true, false};
-    ghost use Rattle.last_ply.specs.LastPly.{AreLegalDestinations, AreLegalAmong};
+    ghost use Rattle.last_ply.specs.LastPly.{AreLegalDestinations};
 
     /// The scene of the node.
     pub fn of(node: &Node) -> Scene<'_>
@@ -58,20 +58,6 @@ impl Scene<'_> {
         let p = self.node.as_position();
         from.validity();
         let among = p.as_board().targets(from) & enterable(p);
-        legal_destinations(p, &self.info, from, among)
-    }
-
-    /// The legal destinations of one of the side's pieces among these squares.
-    pub fn ends_among(&self, from: Square, squares: u128) -> Destinations
-        requires { is_piece_of self.now.node.now.position.side
-            (piece_at self.now.node.now.position.cells from) ≡ true }
-        ensures plain { AreLegalAmong self.now.node.now.position from false squares result.plain }
-        ensures promoting { AreLegalAmong self.now.node.now.position from true squares
-            result.promoting }
-    {
-        let p = self.node.as_position();
-        from.validity();
-        let among = p.as_board().targets(from) & enterable(p) & squares;
         legal_destinations(p, &self.info, from, among)
     }
 }
