@@ -114,6 +114,10 @@ impl TestHost {
         }
     }
 
+    pub fn refused_notes(&self) -> u64 {
+        self.host.refused_notes()
+    }
+
     pub fn output(&self, id: SessionId) -> Option<&[u8]> {
         self.host.output(id)
     }

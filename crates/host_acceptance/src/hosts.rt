@@ -87,7 +87,8 @@ fn assert_at_depth_four<R: Abort>(rt: &R, said: &[u8]) -> Result<(), Fail> {
     Ok(())
 }
 
-// What the first session searched is known, to the last search of the second one: no step is made.
+// What the first session searched is known, to the last search of the second one: no step is made. Where
+// memory is there, no note is refused.
 #[test]
 fn a_search_is_shared(rt: HostRuntime) -> Result<(), Fail> {
     let mut host = TestHost::new(rt.alloc(), 2, 100_000)?;
@@ -105,5 +106,6 @@ fn a_search_is_shared(rt: HostRuntime) -> Result<(), Fail> {
     );
     holds!(rt; !host.pending(first) && !host.pending(second));
     holds!(rt; host.output(first) == host.output(second));
+    same!(rt; host.refused_notes(), 0);
     assert_at_depth_four(&rt, host.output(second).ok_or("it is open")?)
 }

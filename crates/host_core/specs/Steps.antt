@@ -2,7 +2,7 @@
 use Rattle.std.specs.Prelude.{◌≡◌, ℕ, ◌+◌, [], false, Option, Some, None}
 use Rattle.session_slots.specs.declared.id.SessionId.{SessionId}
 use Rattle.session_slots.specs.Slots.{OpenSessions, find, with_session, count, Opens, OthersKept, IsFull}
-use Rattle.shared_table.specs.Recent.{Table}
+use Rattle.shared_table.specs.Recent.{Table, new_table}
 use Rattle.usi_session.specs.Due.{SessionView}
 use Rattle.host_core.specs.declared.event.HostFault.TheVariants.{Full, OutOfMemory, UnknownSession}
 use Rattle.host_core.specs.Events.{Event, Open, Feed, Work, Take, Close, Outcome, Opened, Done, Refused}
@@ -17,7 +17,7 @@ pub record HostState : Type 0 where
 -- no session was opened yet, and the table is empty
 abbrev pub new_host : ℕ → ℕ → HostState
 new_host max entries = record {
-  table = record { pairs = []; capacity = entries };
+  table = new_table entries;
   slots = record { max = max; next = 0; slots = [] };
 }
 

@@ -79,6 +79,14 @@ impl<S: BuildHasher, A: Allocator + Copy> Host<S, A> {
         self.slots.validity();
     }
 
+    /// How many times the table found no memory for what a search noted, and stored nothing. The count
+    /// stays at the greatest number once it is there.
+    pub fn refused_notes(&self) -> u64
+        ensures { result ≡ self.now.table.refused }
+    {
+        self.table.refused()
+    }
+
     /// Opens a session at its start: `Full` where as many are open as may be, or no id is left.
     pub fn open(&mut self) -> Result<SessionId, HostFault>
         ensures opened { Stepped self.old Open (as_outcome Opened result) self.new }

@@ -53,6 +53,7 @@ fn the_least_recently_used_drops_out(rt: HostRuntime) -> Result<(), Fail> {
     same!(rt; table.probe(&p, Eval::Plain, 0), None);
     note_search(&mut table, &p, 2);
     same!(rt; depths(&table), 21);
+    same!(rt; table.refused(), 0);
     Ok(())
 }
 
@@ -208,12 +209,12 @@ fn bytes_of_a_full_table(rt: HostRuntime) -> Result<(), Fail> {
             }
         }
     }
-    same!(rt; table.len(), 4096);
+    same!(rt; (table.len(), table.refused()), (4096, 0));
     holds!(rt; heap.used() <= 4096 * 200, heap.used());
     Ok(())
 }
 
-// A note that finds no memory stores nothing, and one of a key that is there needs none.
+// A note that finds no memory stores nothing and is counted, and one of a key that is there needs none.
 #[test]
 fn refused_memory(rt: HostRuntime) -> Result<(), Fail> {
     let p = Position::start();
@@ -228,7 +229,9 @@ fn refused_memory(rt: HostRuntime) -> Result<(), Fail> {
             Ok(mut table) => {
                 note_search(&mut table, &p, 0);
                 note_search(&mut table, &p, 1);
-                if depths(&table) == 10 && table.len() == 2 {
+                let len = table.len();
+                same!(rt; table.refused().saturating_add(len as u64), 2);
+                if depths(&table) == 10 && len == 2 {
                     kept = true;
                 } else {
                     dropped = true;

@@ -1,3 +1,4 @@
 pub mod PlaceLaws
 pub mod RecentLaws
+pub mod UseLaws
 pub mod PackedLaws

@@ -1,5 +1,6 @@
 -- The list of the most recently used pairs, as `lru` keeps it and as the table means it.
-use Rattle.std.proofs.Common.{◌≡◌, ◌∙◌, ◌≤◌, ◌+◌, ◌-◌, ◌⊎◌, ℕ, zero, suc, Bool, true, false, cond, List, [], ◌∷◌, Option, Some, None, Contains, IfSome, IsSome, IsOk, OnOk, OnErr, Result, Ok, Err, ◌<◌, refl, sym, ap, subst, inl, inr, arith, length, take, option_map}
+use Rattle.std.proofs.Common.{◌≡◌, ◌∙◌, ◌≤◌, ◌+◌, ◌-◌, ◌⊎◌, ℕ, zero, suc, Bool, true, false, cond, List, [], ◌∷◌, Option, Some, None, Contains, IfSome, OnOk, Result, Ok, Err, ◌<◌, refl, sym, ap, subst, inl, inr, arith, length, take, option_map}
+use Rattle.std.specs.Result.{is_err}
 use Rattle.std.specs.Map.{lookup, lookup_entry, remove_entry}
 use Rattle.std.proofs.lemmas.List.{take_all}
 use Rattle.lru.specs.LruCache.{LruCache, lru_cache, promoted, put_entries}
@@ -96,19 +97,15 @@ table_probed key pairs capacity t = record {
   most = t.most;
 }
 
--- what `lru` answers to a put is what the table means by a note, or nothing changed since an allocation failed
-pub put_or_not : {T E : Type 0} (key : Key) (entry : Entry) (old new : LruCache Key Entry) (r : Result T E)
-    → 0 < old.cap → length old.entries ≤ old.cap
-    → OnOk r (new ≡ lru_cache (put_entries is_same_key old key entry) old.cap) → OnErr r (new ≡ old)
-    → (IsSome (entry_of old.entries key) → IsOk r)
-    → IsNoted (table_of old) key entry (table_of new)
-put_or_not key entry old new (Ok x) room fits ok err succeeds =
-    inl (ap table_of (ok ∙ ap (λ (l : List Pair). lru_cache l old.cap) (put_is key entry old.entries old.cap room fits)))
-put_or_not key entry old new (Err x) room fits ok err succeeds = inr (none (entry_of old.entries key) refl, ap table_of err)
-  where
-    none : (o : Option Entry) → entry_of old.entries key ≡ o → entry_of old.entries key ≡ None
-    none None e = e
-    none (Some v) e = let bad : false ≡ true = succeeds (subst (λ (x : Option Entry). IsSome x) (sym e) refl) in cc
+-- what `lru` makes of a put that succeeds is what the table means by a note
+pub put_noted : {T E : Type 0} (key : Key) (entry : Entry) (old new : LruCache Key Entry) (count : ℕ) (r : Result T E)
+    → 0 < old.cap → length old.entries ≤ old.cap → is_err r ≡ false
+    → OnOk r (new ≡ lru_cache (put_entries is_same_key old key entry) old.cap)
+    → IsNoted (table_of old count) key entry (table_of new count)
+put_noted key entry old new count (Ok x) room fits succeeds ok =
+    let same = ok ∙ ap (λ (l : List Pair). lru_cache l old.cap) (put_is key entry old.entries old.cap room fits) in
+    inl (ap (λ (cache : LruCache Key Entry). table_of cache count) same)
+put_noted key entry old new count (Err x) room fits succeeds ok = cc
 
 -- a pair of the list after a note is the noted one or was there
 noted_pair : (capacity : ℕ) (key : Key) (entry : Entry) (pairs : List Pair) (pair : Pair)
@@ -120,15 +117,15 @@ noted_pair capacity key entry pairs pair at =
     ]
 
 -- a note of a true entry keeps what holds of the table
-pub table_noted : (key : Key) (entry : Entry) (old new : LruCache Key Entry)
+pub table_noted : (key : Key) (entry : Entry) (old new : LruCache Key Entry) (before after : ℕ)
     → IsTable old.entries old.cap → IsTrueEntry key.position key.eval key.depth entry
-    → IsNoted (table_of old) key entry (table_of new)
+    → IsNoted (table_of old before) key entry (table_of new after)
     → IsTable new.entries new.cap
-table_noted key entry old new t true_entry (inr same) =
+table_noted key entry old new before after t true_entry (inr same) =
     let pairs : new.entries ≡ old.entries = ap (λ (x : Table). x.pairs) same.1 in
     let capacity : new.cap ≡ old.cap = ap (λ (x : Table). x.capacity) same.1 in
     record { truth = rw pairs t.truth; least = rw capacity t.least; most = rw capacity t.most }
-table_noted key entry old new t true_entry (inl same) =
+table_noted key entry old new before after t true_entry (inl same) =
     let pairs : new.entries ≡ noted old.cap key entry old.entries = ap (λ (x : Table). x.pairs) same in
     let capacity : new.cap ≡ old.cap = ap (λ (x : Table). x.capacity) same in
     record {

@@ -1,4 +1,5 @@
 pub mod Keys
 pub mod KeyLaws
 pub mod Recent
+pub mod Uses
 pub mod Packed

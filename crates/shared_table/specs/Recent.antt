@@ -1,5 +1,5 @@
 -- The entries of a table as a list, the most recently used first (own choice).
-use Rattle.std.specs.Prelude.{◌≡◌, ◌≤◌, ◌⊎◌, ◌∷◌, ℕ, List, Option, None, Contains, take}
+use Rattle.std.specs.Prelude.{◌≡◌, ◌≤◌, ◌+◌, ◌-◌, ◌^◌, ◌⊎◌, [], ◌∷◌, ℕ, List, Option, None, Contains, min, take}
 use Rattle.std.specs.Map.{lookup, remove_entry}
 use Rattle.std.specs.Option.{option_map_or}
 use Rattle.lru.specs.LruCache.{LruCache, lru_cache, promoted}
@@ -12,14 +12,23 @@ use Rattle.minimax.specs.declared.entry.Entry.{Entry}
 abbrev pub Pair : Type 0
 Pair = Key × Entry
 
--- the pairs, the most recently used first, and how many there may be
+-- the pairs, the most recently used first, how many there may be, and how many notes found no memory
 pub record Table : Type 0 where
   pub pairs : List Pair
   pub capacity : ℕ
+  pub refused : ℕ
 
--- a cache as the table that it holds
-abbrev pub table_of : LruCache Key Entry → Table
-table_of cache = record { pairs = cache.entries; capacity = cache.cap }
+-- an empty table for so many pairs
+abbrev pub new_table : ℕ → Table
+new_table capacity = record { pairs = []; capacity = capacity; refused = 0 }
+
+-- a cache as the table that it holds, after so many refused notes
+abbrev pub table_of : LruCache Key Entry → ℕ → Table
+table_of cache refused = record {
+  pairs = cache.entries;
+  capacity = cache.cap;
+  refused = refused;
+}
 
 -- the entry under the key, or none
 abbrev pub entry_of : List Pair → Key → Option Entry
@@ -50,10 +59,15 @@ recalled key cache = lru_cache (promoted (is_same_key key) cache.entries) cache.
 abbrev pub with_note : Table → Key → Entry → Table
 with_note table key entry = record table { pairs = noted table.capacity key entry table.pairs }
 
--- the entry was noted under the key, or nothing changed where a new key found no memory
+-- the table after a note that found no memory: that is counted, and all else stays; the count stays at the greatest number once it is there
+abbrev pub with_refusal : Table → Table
+with_refusal table = record table { refused = min (table.refused + 1) (2 ^ 64 - 1) }
+
+-- the entry was noted under the key, or a new key found no memory, which is counted
 abbrev pub IsNoted : Table → Key → Entry → Table → Type 0
 IsNoted old key entry new =
-    (new ≡ with_note old key entry) ⊎ ((entry_of old.pairs key ≡ None) × (new ≡ old))
+    (new ≡ with_note old key entry)
+    ⊎ ((entry_of old.pairs key ≡ None) × (new ≡ with_refusal old))
 
 -- each entry is true of its position under its evaluation at its depth
 abbrev pub AreTrue : List Pair → Type 0

@@ -2,8 +2,10 @@
 #![tactic(auto)]
 
 mod key;
+mod laws;
 mod packing;
 mod table;
 
 pub use key::TableKey;
+pub use laws::remembering;
 pub use table::{CAPACITY_MAX, SharedTable, TableFault};

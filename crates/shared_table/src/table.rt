@@ -1,11 +1,11 @@
 //! The table: a bounded map whose entries are ordered by their last use.
 
-ghost use Rattle.std.specs.Prelude.{◌≡◌, ◌≤◌, ◌↔◌, IsTrue, [], length, IfOk};
+ghost use Rattle.std.specs.Prelude.{◌≡◌, ◌≤◌, ◌↔◌, IsTrue, length, IfOk};
 ghost use Rattle.std.specs.List.{IsDistinct};
 ghost use Rattle.std.specs.Map.{keys_of};
 ghost use Rattle.std.specs.Map.Iter.{ShowsInOrder, deref_pair};
 ghost use Rattle.shared_table.specs.Keys.{is_same_key, key_of};
-ghost use Rattle.shared_table.specs.Recent.{AreTrue, IsNoted, entry_of, recalled, table_of, with_probe};
+ghost use Rattle.shared_table.specs.Recent.{AreTrue, IsNoted, entry_of, new_table, recalled, table_of, with_probe};
 ghost use Rattle.shared_table.specs.declared.table.TheConstants.{CAPACITY_MAX};
 ghost use Rattle.minimax.specs.declared.bounds.TheConstants.{SEARCH_DEPTH_MAX};
 ghost use Rattle.shared_table.specs.declared.table.TableFault.TheVariants.{OutOfMemory};
@@ -38,11 +38,12 @@ impl From<AllocError> for TableFault {
     }
 }
 
-/// A bounded table of searched positions, seen as its pairs, the most recently used first, and its
-/// capacity. Each entry is true.
+/// A bounded table of searched positions, seen as its pairs, the most recently used first, its
+/// capacity and how many notes found no memory. Each entry is true.
 #[derive(Drop)]
 pub struct SharedTable<S: BuildHasher, A: Allocator> {
     cache: LruCache<TableKey, Entry, S, A>,
+    refused: u64,
 }
 
 impl<S: BuildHasher, A: Allocator> Model for SharedTable<S, A> {
@@ -50,7 +51,7 @@ impl<S: BuildHasher, A: Allocator> Model for SharedTable<S, A> {
 
     ghost Value = { Table };
 
-    ghost view = { λ t. table_of t.cache };
+    ghost view = { λ t. table_of t.cache t.refused };
 
     ghost invariant = { λ t. IsTable t.cache.entries t.cache.cap };
 }
@@ -60,11 +61,11 @@ impl<S: BuildHasher + Drop, A: Allocator + Clone> SharedTable<S, A> {
     pub fn new(alloc: A, capacity: usize, hasher: S) -> Result<SharedTable<S, A>, TableFault>
         requires least { 1 ≤ capacity }
         requires most { capacity ≤ CAPACITY_MAX }
-        ensures { IfOk result (λ table. table ≡ record { pairs = []; capacity = capacity }) }
+        ensures { IfOk result (λ table. table ≡ new_table capacity) }
     {
         let bound = NonZeroUsize::new(capacity).unwrap();
         let cache = LruCache::with_hasher(alloc, bound, hasher)?;
-        Ok(SharedTable { cache })
+        Ok(SharedTable { cache, refused: 0 })
     }
 }
 
@@ -97,6 +98,14 @@ impl<S: BuildHasher, A: Allocator> SharedTable<S, A> {
         ensures keys { IsDistinct is_same_key (keys_of self.now.pairs) }
     {
         self.cache.len()
+    }
+
+    /// How many notes of new keys found no memory and stored nothing. The count stays at the greatest
+    /// number once it is there.
+    pub fn refused(&self) -> u64
+        ensures { result ≡ self.now.refused }
+    {
+        self.refused
     }
 
     /// The keys with their entries, the most recently used first.
@@ -141,7 +150,7 @@ impl<S: BuildHasher, A: Allocator + Clone> Memo for SharedTable<S, A> {
         ensures capacity { self.new.capacity ≡ self.old.capacity }
     {
         let key = TableKey::of(p, e, d);
-        remember(&mut self.cache, key, entry);
+        remember(&mut self.cache, &mut self.refused, key, entry);
     }
 }
 
@@ -156,14 +165,17 @@ fn recall<S: BuildHasher, A: Allocator>(
     cache.get(key).copied()
 }
 
-// Puts the entry under the key, or leaves all as it is where a new key finds no memory.
+// Puts the entry under the key, or counts a refusal where a new key finds no memory.
 fn remember<S: BuildHasher, A: Allocator + Clone>(
     cache: &mut LruCache<TableKey, Entry, S, A>,
+    refused: &mut u64,
     key: TableKey,
     entry: Entry,
 )
-    ensures { IsNoted (table_of cache.old) key entry (table_of cache.new) }
+    ensures { IsNoted (table_of cache.old refused.old) key entry (table_of cache.new refused.new) }
 {
     cache.len();
-    let _ = cache.push(key, entry);
+    if cache.push(key, entry).is_err() {
+        *refused = refused.saturating_add(1);
+    }
 }

@@ -1,7 +1,8 @@
-use Rattle.shared_table.proofs.RecentLaws.{put_or_not}
+use Rattle.std.proofs.Common.{rules}
+use Rattle.shared_table.proofs.RecentLaws.{put_noted}
 use Rattle.shared_table.proofs.table.remember.Goals as goal
 
-pub returns : goal.returns
-returns g c =
-    put_or_not c.args.key c.args.entry c.args.cache.now c.push.new.self c.push.result c.len.ensures.valid.2 c.len.ensures.valid.1
-    c.push.ensures.entries c.push.ensures.err c.push.ensures.succeeds
+pub returns-else-is_err : goal.returns-else-is_err
+returns-else-is_err g c =
+    put_noted c.args.key c.args.entry c.args.cache.now c.push.new.self c.args.refused.now c.push.result
+    c.len.ensures.valid.2 c.len.ensures.valid.1 (search rules) c.push.ensures.entries

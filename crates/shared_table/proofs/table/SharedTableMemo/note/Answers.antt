@@ -5,5 +5,5 @@ use Rattle.shared_table.proofs.table.SharedTableMemo.note.Goals as goal
 pub invariant_of-self : goal.invariant_of-self
 invariant_of-self g c =
     let truth : IsTrueEntry c.of-key.result.position c.of-key.result.eval c.of-key.result.depth c.args.entry = rw c.of-key.ensures c.requires.truth in
-    table_noted c.of-key.result c.args.entry c.self.inside.cache c.remember.new.cache
+    table_noted c.of-key.result c.args.entry c.self.inside.cache c.remember.new.cache c.self.inside.refused c.remember.new.refused
     c.self.invariant truth c.remember.ensures

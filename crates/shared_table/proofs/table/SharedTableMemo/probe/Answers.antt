@@ -15,6 +15,6 @@ returns-clause-truth g c =
 
 pub returns-clause-used : goal.returns-clause-used
 returns-clause-used g c =
-    let table : List Pair → Table = λ l. record { pairs = l; capacity = c.self.inside.cache.cap } in
+    let table : List Pair → Table = λ l. record { pairs = l; capacity = c.self.inside.cache.cap; refused = c.self.inside.refused } in
     rw (c.recall.ensures.cache, c.of-key.ensures, ← c.self.view_is)
     (ap table (promoted_is (key_of c.args.p.now c.args.e c.args.d) c.self.inside.cache.entries))
