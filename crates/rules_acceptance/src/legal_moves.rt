@@ -1,11 +1,12 @@
 //! Positions and counts that are known from elsewhere.
 
 use shogi_core::Color::{Black, White};
+use shogi_core::bits::with;
 use shogi_core::{Color, Hands, Kind, Move, Piece, Position, Role, Square};
 use shogi_moves::{
     BoardSweep, DropSweep, Replies, check_info_of, escape_squares, has_legal, in_check,
     is_attacked, is_legal, king_takes, leaves_escape, leaves_king_move, next_legal, perft, play,
-    play_in_place,
+    play_in_place, takers,
 };
 use std::test::Fail;
 
@@ -338,5 +339,20 @@ fn pieces_that_a_king_takes(rt: HostRuntime) -> Result<(), Fail> {
     ] {
         assert_eq!(rt; lets_king_take(board, text)?, taken, "{board:?}");
     }
+    Ok(())
+}
+
+/// A gold below a pawn may take it, and a lance something on its way. The other gold and the king
+/// are far from all that could be taken, and are left out.
+#[test]
+fn pieces_that_may_take(rt: HostRuntime) -> Result<(), Fail> {
+    let p = position(b"4k4/4p4/4G4/9/9/4G4/9/8L/K8", b"", Black)?;
+    let gold = square(b'5', b'c').index();
+    let lance = square(b'1', b'h').index();
+    assert_eq!(rt;
+        takers(&p, p.as_board().own(Black)),
+        with(with(0, gold), lance)
+    );
+    assert_eq!(rt; takers(&p, 0), 0);
     Ok(())
 }

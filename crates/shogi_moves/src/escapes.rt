@@ -10,6 +10,7 @@ ghost use Rattle.shogi_moves.specs.Escapes.{HasRaysBehind, HasKingsRays, Reaches
 ghost use Rattle.shogi_moves.specs.Replies.{IsAnswered, AreAnswered, AreDropsAnswered};
 
 use crate::after::{dropped, piece_moved};
+use crate::attack::only_king;
 use shogi_core::bits::{ALL_SQUARES, cleared, has, lowest, with, without_lowest};
 use shogi_core::{
     Board, Color, Kind, Move, Piece, Position, Square, aligned_squares, ray, step_squares,
@@ -59,15 +60,10 @@ fn king_steps(p: &Position) -> u128
 {
     let board = p.as_board();
     let side = p.side().opponent();
-    let kings = board.kings(side);
-    if kings == 0 {
-        return 0;
-    }
-    let king = lowest(kings);
-    if cleared(kings, king) != 0 {
-        return 0;
-    }
-    board.targets(Square::of_index(king)) & !board.own(side)
+    let Some(king) = only_king(board, side) else {
+        return 0
+    };
+    board.targets(king) & !board.own(side)
 }
 
 /// Squares next to the king of the side that is not to move, where it has just one, to which it may
@@ -261,17 +257,13 @@ pub fn king_takes(p: &Position, m: &Move) -> bool
     let Move::Board { from, to, .. } = m else {
         return false
     };
-    let kings = p.as_board().kings(p.side().opponent());
-    if kings == 0 {
-        return false;
-    }
-    let king = lowest(kings);
-    if cleared(kings, king) != 0 {
-        return false;
-    }
+    let Some(king) = only_king(p.as_board(), p.side().opponent()) else {
+        return false
+    };
+    king.validity();
     from.validity();
     to.validity();
-    is_unprotected(p, Square::of_index(king), *from, *to)
+    is_unprotected(p, king, *from, *to)
 }
 
 /// Whether one of the squares is surely left to the king after the drop of a pawn, which then does

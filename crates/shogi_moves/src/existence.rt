@@ -12,12 +12,13 @@ ghost use Rattle.shogi_moves.specs.CheckInfo.{IsCheckInfoOf};
 ghost use Rattle.shogi_moves.specs.Legal.{is_safe_code};
 ghost use Rattle.shogi_moves.specs.LegalMoves.{legal_from, legal_codes};
 
+use crate::attack::only_king;
 use crate::check_info::{CheckInfo, full_check_info, rough_check_info};
 use crate::destinations::{
     drop_destinations, drop_squares, enterable, is_king_safe, legal_destinations, safe_drops,
 };
 use crate::sweep::next_kind;
-use shogi_core::bits::{cleared, lowest, without_lowest};
+use shogi_core::bits::{lowest, without_lowest};
 use shogi_core::{Kind, Position, Square};
 
 /// Whether the only king of the side to move may go to one of the squares, which it reaches and
@@ -50,15 +51,9 @@ fn has_king_move(p: &Position) -> bool
 {
     p.validity();
     let board = p.as_board();
-    let kings = board.kings(p.side());
-    if kings == 0 {
-        return false;
-    }
-    let king = lowest(kings);
-    if cleared(kings, king) != 0 {
-        return false;
-    }
-    let from = Square::of_index(king);
+    let Some(from) = only_king(board, p.side()) else {
+        return false
+    };
     let own = board.own(p.side());
     king_escapes(p, from, board.targets(from) & !own)
 }

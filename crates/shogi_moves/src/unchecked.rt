@@ -1,32 +1,16 @@
 //! Whether a move leaves the mover's king unattacked, without making it.
 
-ghost use Rattle.std.specs.Prelude.{◌≡◌, ◌<◌, true, IfSome};
+ghost use Rattle.std.specs.Prelude.{◌≡◌, true};
 ghost use Rattle.shogi_core.specs.Cell.{is_king};
 ghost use Rattle.shogi_core.specs.Movement.{piece_at};
 ghost use Rattle.shogi_moves.specs.Destinations.{is_unchecked};
 ghost use Rattle.shogi_moves.specs.Escapes.{HasNoOtherKing};
 ghost use Rattle.shogi_moves.specs.Legal.{is_pseudo_legal};
 
+use crate::attack::only_king;
 use crate::destinations::is_unchecked;
-use shogi_core::bits::{cleared, lowest, with, without};
+use shogi_core::bits::{with, without};
 use shogi_core::{Move, Position, Square};
-
-/// The square of the only king of the side to move, if it has just one.
-#[inline(always)]
-fn only_king(p: &Position) -> Option<Square>
-    ensures king { IfSome result (λ k. is_king p.now.side (piece_at p.now.cells k) ≡ true) }
-    ensures lone { IfSome result (HasNoOtherKing p.now.cells p.now.side) }
-{
-    let kings = p.as_board().kings(p.side());
-    if kings == 0 {
-        return None;
-    }
-    let king = lowest(kings);
-    if cleared(kings, king) != 0 {
-        return None;
-    }
-    Some(Square::of_index(king))
-}
 
 /// Whether the only king of the side to move, which stands there, is unattacked after the move: it
 /// or its new square is looked at where the move leaves the squares empty and occupied.
@@ -67,7 +51,7 @@ pub fn leaves_unchecked(p: &Position, m: &Move) -> bool
     requires { is_pseudo_legal p.now m.now ≡ true }
     ensures { result ≡ is_unchecked p.now m.now }
 {
-    match only_king(p) {
+    match only_king(p.as_board(), p.side()) {
         None => is_unchecked(p, m),
         Some(king) => is_king_unattacked(p, king, m),
     }
