@@ -1,20 +1,17 @@
 //! A use of `usi_stdio`.
 
 ghost use Rattle.std.specs.Prelude.{OnOk};
-ghost use Rattle.usi_stdio.specs.Streams.{IsAnswered};
+ghost use Rattle.usi_stdio.specs.Stdio.{IsServed};
 
 use std::alloc::Allocator;
-use std::io::{Read, Write};
-use usi_stdio::{StdioFault, stdio};
+use usi_stdio::{FrontEnd, StdioFault, stdio};
 
 /// One session over a table of 4,096 entries.
-pub fn answer_all<A: Allocator + Copy, R: Read, W: Write>(
+pub fn answer_all<A: Allocator + Copy, T: FrontEnd>(
     alloc: A,
-    input: &mut R,
-    output: &mut W,
+    front_end: &mut T,
 ) -> Result<(), StdioFault>
-    ensures { OnOk result
-        (IsAnswered R.Read W.Write input.old input.new output.old output.new) }
+    ensures { OnOk result (IsServed (T.report front_end.old) (T.report front_end.new)) }
 {
-    stdio(alloc, input, output, 4096)
+    stdio(alloc, front_end, 4096)
 }

@@ -8,16 +8,19 @@ use test_support::rows::joined;
 use test_support::tables::{refused_and_again, two_sessions};
 use test_support::{holds, same};
 use usi_replay::{ReplayFault, replay};
+use usi_stdio::Duplex;
 
 // A reader that fails after so many reads, the one that finds the end too: nothing was written. Returns whether
 // all was.
 fn assert_read(rt: &impl Abort, alloc: Global, reads: usize) -> Result<bool, Fail> {
     let script = two_sessions();
     let output = joined(alloc, script.output)?;
-    let mut reader = FailingReader::new(script.text.as_bytes(), 5, reads);
-    let mut writer = Vec::new(alloc);
-    let ended = replay(alloc, &mut reader, &mut writer, 2, 1, 1000);
-    let written = std::str::from_utf8(writer.as_slice())?;
+    let mut ends = Duplex {
+        input: FailingReader::new(script.text.as_bytes(), 5, reads),
+        output: Vec::new(alloc),
+    };
+    let ended = replay(alloc, &mut ends, 2, 1, 1000);
+    let written = std::str::from_utf8(ends.output.as_slice())?;
     if ended == Ok(()) {
         same!(*rt; written, output.as_str());
         return Ok(true);
@@ -42,12 +45,15 @@ fn each_read_of_a_script_fails_in_turn(rt: HostRuntime) -> Result<(), Fail> {
 }
 
 // How a writer ends a replay: all was written, or a prefix and a fault.
-fn assert_prefix(rt: &impl Abort, alloc: Global, mut writer: FailingWriter) -> Result<bool, Fail> {
+fn assert_prefix(rt: &impl Abort, alloc: Global, writer: FailingWriter) -> Result<bool, Fail> {
     let script = refused_and_again();
-    let mut reader = script.text.as_bytes();
     let output = joined(alloc, script.output)?;
-    let ended = replay(alloc, &mut reader, &mut writer, 1, 4096, 1000);
-    let written = writer.written();
+    let mut ends = Duplex {
+        input: script.text.as_bytes(),
+        output: writer,
+    };
+    let ended = replay(alloc, &mut ends, 1, 4096, 1000);
+    let written = ends.output.written();
     match ended {
         Ok(()) => {
             same!(*rt; std::str::from_utf8(written)?, output.as_str());

@@ -6,7 +6,7 @@ use crate::random::Random;
 use anyhow::Result;
 use shogi_sfen::write_position;
 use std::alloc::Global;
-use usi_stdio::stdio;
+use usi_stdio::{Duplex, stdio};
 
 /// The entries of the table.
 const ENTRIES: usize = 4096;
@@ -43,10 +43,12 @@ fn analyse(
 
 /// Takes in the answer of a session to what is sent.
 fn answer(alloc: Global, sent: &[u8], digest: &mut Digest) -> Result<()> {
-    let mut input = sent;
-    let mut output = Vec::new(alloc);
-    stdio(alloc, &mut input, &mut output, ENTRIES)?;
-    digest.take_in(output.as_slice());
+    let mut ends = Duplex {
+        input: sent,
+        output: Vec::new(alloc),
+    };
+    stdio(alloc, &mut ends, ENTRIES)?;
+    digest.take_in(ends.output.as_slice());
     Ok(())
 }
 

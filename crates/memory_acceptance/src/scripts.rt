@@ -11,6 +11,7 @@ use test_support::scripts::Script;
 use test_support::tables::{two_ready, two_sessions};
 use test_support::{holds, same};
 use usi_replay::{ReplayFault, replay};
+use usi_stdio::Duplex;
 
 /// A script that is read in reads of at most so many bytes, over a table of so many entries, in
 /// slices of so many steps.
@@ -31,21 +32,16 @@ fn is_played<A: Allocator + Copy>(
     run: &Replay,
 ) -> Result<bool, Fail> {
     let output = joined(alloc, run.script.output)?;
-    let mut reader = FailingReader::new(run.script.text.as_bytes(), run.most, usize::MAX);
-    let mut writer = Vec::new(alloc);
+    let mut ends = Duplex {
+        input: FailingReader::new(run.script.text.as_bytes(), run.most, usize::MAX),
+        output: Vec::new(alloc),
+    };
     let (slots, entries) = (
         run.script.slots.clamp(1, 1024),
         run.entries.clamp(1, 1_000_000),
     );
-    let ended = replay(
-        memory,
-        &mut reader,
-        &mut writer,
-        slots,
-        entries,
-        run.slice.max(1),
-    );
-    Ok(is_whole(rt, ended, writer.as_slice(), output.as_bytes()))
+    let ended = replay(memory, &mut ends, slots, entries, run.slice.max(1));
+    Ok(is_whole(rt, ended, ends.output.as_slice(), output.as_bytes()))
 }
 
 fn is_whole(

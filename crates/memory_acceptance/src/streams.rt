@@ -9,7 +9,7 @@ use test_support::fakes::FailingReader;
 use test_support::rows::{Row, joined};
 use test_support::tables::{opening, three_of_a_mate, two_plies};
 use test_support::{holds, same};
-use usi_stdio::{StdioFault, stdio};
+use usi_stdio::{Duplex, StdioFault, stdio};
 
 /// What is sent, in reads of at most so many bytes, and what is answered over a table of so many
 /// entries.
@@ -29,15 +29,12 @@ fn is_written<A: Allocator + Copy>(
     memory: A,
     run: &Run<'_>,
 ) -> bool {
-    let mut reader = FailingReader::new(run.sent, run.most, usize::MAX);
-    let mut writer = Vec::new(alloc);
-    let ended = stdio(
-        memory,
-        &mut reader,
-        &mut writer,
-        run.entries.clamp(1, 1_000_000),
-    );
-    is_whole(rt, ended, writer.as_slice(), run.whole)
+    let mut ends = Duplex {
+        input: FailingReader::new(run.sent, run.most, usize::MAX),
+        output: Vec::new(alloc),
+    };
+    let ended = stdio(memory, &mut ends, run.entries.clamp(1, 1_000_000));
+    is_whole(rt, ended, ends.output.as_slice(), run.whole)
 }
 
 fn is_whole(rt: &impl Abort, ended: Result<(), StdioFault>, written: &[u8], whole: &[u8]) -> bool {
@@ -77,13 +74,15 @@ fn assert_refusals(
     entries: usize,
     step: usize,
 ) -> Result<(), Fail> {
-    let mut whole = Vec::new(alloc);
-    let mut reader = sent.as_bytes();
-    stdio(alloc, &mut reader, &mut whole, entries.clamp(1, 1_000_000))?;
+    let mut ends = Duplex {
+        input: sent.as_bytes(),
+        output: Vec::new(alloc),
+    };
+    stdio(alloc, &mut ends, entries.clamp(1, 1_000_000))?;
     let run = Run {
         sent: sent.as_bytes(),
         most: 16,
-        whole: whole.as_slice(),
+        whole: ends.output.as_slice(),
         entries,
     };
     assert_heaps(rt, alloc, &run, step)

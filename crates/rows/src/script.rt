@@ -4,6 +4,7 @@ use crate::found::Found;
 use crate::row::Row;
 use std::alloc::{AllocError, Global};
 use usi_replay::{ReplayFault, replay};
+use usi_stdio::Duplex;
 
 /// The names that sessions of a script may have.
 const NAMES: [&str; 26] = [
@@ -28,19 +29,16 @@ fn played(
     slots: usize,
     (entries, slice): (usize, u64),
 ) -> Option<(Vec<u8>, u64)> {
-    let mut reader = script.as_bytes();
-    let mut writer = Vec::new(alloc);
+    let mut ends = Duplex {
+        input: script.as_bytes(),
+        output: Vec::new(alloc),
+    };
     let (slots, entries) = (slots.clamp(1, 1024), entries.clamp(1, 1_000_000));
-    match replay(
-        alloc,
-        &mut reader,
-        &mut writer,
-        slots,
-        entries,
-        slice.max(1),
-    ) {
-        Ok(()) => Some((writer, 0)),
-        Err(ReplayFault::BadScript { line }) => Some((writer, line)),
+    let ended = replay(alloc, &mut ends, slots, entries, slice.max(1));
+    let Duplex { input: _, output } = ends;
+    match ended {
+        Ok(()) => Some((output, 0)),
+        Err(ReplayFault::BadScript { line }) => Some((output, line)),
         Err(_) => None,
     }
 }

@@ -9,7 +9,7 @@ use std::alloc::{AllocError, Global};
 use std::hash::{BuildHasherDefault, FoldHasher};
 use std::marker::Model;
 use usi_session::Session;
-use usi_stdio::stdio;
+use usi_stdio::{Duplex, stdio};
 
 /// The most slices of one run.
 const SLICES: u64 = 1_000_000;
@@ -86,10 +86,13 @@ fn table_of(alloc: Global, entries: usize) -> Result<Table, AllocError> {
 
 /// What the program's streams write, and whether they ended well.
 fn written(alloc: Global, row: &Row, entries: usize) -> (Vec<u8>, bool) {
-    let mut reader = row.sent.as_bytes();
-    let mut writer = Vec::new(alloc);
-    let ended = stdio(alloc, &mut reader, &mut writer, entries.clamp(1, 1_000_000));
-    (writer, ended.is_ok())
+    let mut ends = Duplex {
+        input: row.sent.as_bytes(),
+        output: Vec::new(alloc),
+    };
+    let ended = stdio(alloc, &mut ends, entries.clamp(1, 1_000_000));
+    let Duplex { input: _, output } = ends;
+    (output, ended.is_ok())
 }
 
 /// The row through the streams.

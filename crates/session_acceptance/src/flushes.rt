@@ -6,17 +6,20 @@ use std::test::Fail;
 use test_support::fakes::{FailingWriter, NotingWriter};
 use test_support::rows::INFO_ONE;
 use test_support::{holds, same};
-use usi_stdio::{StdioFault, stdio};
+use usi_stdio::{Duplex, StdioFault, stdio};
 
 // What the streams write for the bytes.
 fn noted(alloc: Global, sent: &[u8], entries: usize) -> Result<NotingWriter, Fail> {
     if entries < 1 || entries > 1_000_000 {
         return Err("a table has entries".into());
     }
-    let mut reader = sent;
-    let mut writer = NotingWriter::new(alloc);
-    stdio(alloc, &mut reader, &mut writer, entries)?;
-    Ok(writer)
+    let mut ends = Duplex {
+        input: sent,
+        output: NotingWriter::new(alloc),
+    };
+    stdio(alloc, &mut ends, entries)?;
+    let Duplex { input: _, output } = ends;
+    Ok(output)
 }
 
 // The line of depth 1 is flushed by itself, before that of depth 5 is found.
@@ -68,8 +71,10 @@ fn a_front_end_that_is_gone(rt: HostRuntime) {
         (usize::MAX, 0),
         (usize::MAX, 1),
     ] {
-        let mut reader = b"go depth 16\n".as_slice();
-        let mut writer = FailingWriter::new(rt.alloc(), 4096, writes, flushes);
-        same!(rt; stdio(rt.alloc(), &mut reader, &mut writer, 4096), Err(StdioFault::WriteFailed));
+        let mut ends = Duplex {
+            input: b"go depth 16\n".as_slice(),
+            output: FailingWriter::new(rt.alloc(), 4096, writes, flushes),
+        };
+        same!(rt; stdio(rt.alloc(), &mut ends, 4096), Err(StdioFault::WriteFailed));
     }
 }

@@ -8,13 +8,16 @@ use test_support::fakes::{FailingReader, FailingWriter, Watch, WatchedWriter, Wa
 use test_support::rows::{Row, joined};
 use test_support::tables::stored;
 use test_support::{holds, same};
-use usi_stdio::{StdioFault, stdio};
+use usi_stdio::{Duplex, StdioFault, stdio};
 
 // What is written answers the bytes.
 fn assert_answers(rt: &impl Abort, alloc: Global, read: &[u8], written: &[u8]) -> Result<(), Fail> {
-    let (mut reader, mut wanted) = (read, Vec::new(alloc));
-    stdio(alloc, &mut reader, &mut wanted, 1)?;
-    holds!(*rt; written == wanted.as_slice());
+    let mut ends = Duplex {
+        input: read,
+        output: Vec::new(alloc),
+    };
+    stdio(alloc, &mut ends, 1)?;
+    holds!(*rt; written == ends.output.as_slice());
     Ok(())
 }
 
@@ -22,16 +25,18 @@ fn assert_answers(rt: &impl Abort, alloc: Global, read: &[u8], written: &[u8]) -
 // alone. Returns whether all was written.
 fn assert_read(rt: &impl Abort, alloc: Global, reads: usize) -> Result<bool, Fail> {
     let row = stored();
-    let mut reader = FailingReader::new(row.sent.as_bytes(), 5, reads);
-    let mut writer = Vec::new(alloc);
-    match stdio(alloc, &mut reader, &mut writer, 1) {
+    let mut ends = Duplex {
+        input: FailingReader::new(row.sent.as_bytes(), 5, reads),
+        output: Vec::new(alloc),
+    };
+    match stdio(alloc, &mut ends, 1) {
         Ok(()) => {
-            assert_answer(rt, alloc, &row, writer.as_slice())?;
+            assert_answer(rt, alloc, &row, ends.output.as_slice())?;
             Ok(true)
         }
         Err(fault) => {
             same!(*rt; fault, StdioFault::ReadFailed, reads);
-            assert_answers(rt, alloc, reader.given(), writer.as_slice())?;
+            assert_answers(rt, alloc, ends.input.given(), ends.output.as_slice())?;
             Ok(false)
         }
     }
@@ -60,17 +65,18 @@ fn assert_starts(rt: &impl Abort, alloc: Global, row: &Row, written: &[u8]) -> R
 }
 
 // How a writer ends a run: all was written, or a prefix and a fault.
-fn assert_prefix(rt: &impl Abort, alloc: Global, mut writer: FailingWriter) -> Result<bool, Fail> {
+fn assert_prefix(rt: &impl Abort, alloc: Global, output: FailingWriter) -> Result<bool, Fail> {
     let row = stored();
-    let mut reader = FailingReader::new(row.sent.as_bytes(), 5, usize::MAX);
-    match stdio(alloc, &mut reader, &mut writer, 1) {
+    let input = FailingReader::new(row.sent.as_bytes(), 5, usize::MAX);
+    let mut ends = Duplex { input, output };
+    match stdio(alloc, &mut ends, 1) {
         Ok(()) => {
-            assert_answer(rt, alloc, &row, writer.written())?;
+            assert_answer(rt, alloc, &row, ends.output.written())?;
             Ok(true)
         }
         Err(fault) => {
             same!(*rt; fault, StdioFault::WriteFailed);
-            assert_starts(rt, alloc, &row, writer.written())?;
+            assert_starts(rt, alloc, &row, ends.output.written())?;
             Ok(false)
         }
     }
@@ -125,8 +131,10 @@ fn each_piece_is_answered_and_flushed_before_the_next_read(rt: HostRuntime) -> R
         ("isready\nisready\n", 16),
     ];
     let watch = Watch::new();
-    let mut reader = WatchingReader::new(&watch, &chunks);
-    let mut writer = WatchedWriter::new(&watch);
-    stdio(rt.alloc(), &mut reader, &mut writer, 1)?;
+    let mut ends = Duplex {
+        input: WatchingReader::new(&watch, &chunks),
+        output: WatchedWriter::new(&watch),
+    };
+    stdio(rt.alloc(), &mut ends, 1)?;
     Ok(())
 }

@@ -19,7 +19,7 @@ use std::process::ExitCode;
 use std::{env, io};
 use usi_replay::{ReplayFault, replay};
 use usi_serve::{MioWire, serve};
-use usi_stdio::stdio;
+use usi_stdio::{Duplex, stdio};
 use usi_words::{Job, WordsFault, read_words, unread_words, version_text};
 
 /// The status of a script that has a bad line.
@@ -60,9 +60,11 @@ fn run(rt: &HostRuntime, entries: usize) -> ExitCode
     requires least { 1 ≤ entries }
     requires most { entries ≤ CAPACITY_MAX }
 {
-    let mut input = rt.reader();
-    let mut output = io::writer(rt);
-    match stdio(rt.alloc(), &mut input, &mut output, entries) {
+    let mut ends = Duplex {
+        input: rt.reader(),
+        output: io::writer(rt),
+    };
+    match stdio(rt.alloc(), &mut ends, entries) {
         Ok(()) => ExitCode::SUCCESS,
         Err(fault) => {
             let _ = eprintln!(rt; "usi_host: {fault}");
@@ -89,9 +91,11 @@ fn run_script(rt: &HostRuntime, slots: usize, entries: usize, slice: u64) -> Exi
     requires most_entries { entries ≤ CAPACITY_MAX }
     requires least_slice { 1 ≤ slice }
 {
-    let mut input = rt.reader();
-    let mut output = io::writer(rt);
-    match replay(rt.alloc(), &mut input, &mut output, slots, entries, slice) {
+    let mut ends = Duplex {
+        input: rt.reader(),
+        output: io::writer(rt),
+    };
+    match replay(rt.alloc(), &mut ends, slots, entries, slice) {
         Ok(()) => ExitCode::SUCCESS,
         Err(fault) => {
             let _ = eprintln!(rt; "usi_host: {fault}");

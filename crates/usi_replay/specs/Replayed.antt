@@ -1,8 +1,7 @@
--- What `replay` does with its reader and its writer (own choice).
+-- What `replay` does with its front end (own choice).
 use Rattle.std.specs.Prelude.{◌≡◌, ℕ, List, Option, Result, Ok, Err, MatchResult, Vec}
 use Rattle.std.specs.Io.KnownBytes.{Appends, Consumes, IsAtEnd, Keeps}
-use Rattle.std.specs.declared.io.traits.Read as read
-use Rattle.std.specs.declared.io.traits.Write as write
+use Rattle.usi_stdio.specs.Calls.{Report}
 use Rattle.usi_stdio.specs.Stdio.{TakesPrefix}
 use Rattle.usi_replay.specs.declared.fault.ReplayFault.{ReplayFault}
 use Rattle.usi_replay.specs.declared.fault.ReplayFault.TheVariants.{OutOfMemory, ReadFailed, WriteFailed, BadScript}
@@ -70,23 +69,16 @@ abbrev pub IsAnswerOf : {Z : Type 0} → ℕ → List ℕ → Result (Vec ℕ Z)
 IsAnswerOf slots bytes result =
     MatchResult result (λ out. IsOutputOf slots bytes out.items) (IsAnswerFault slots bytes)
 
--- ---- the same of a reader and a writer of the code
+-- ---- the same of what a front end reports
 
--- the reader gave these bytes, and they are all that it had
-abbrev pub GivesAll : {R : Type 0} → read.Ghosts R → (before after : R) → List ℕ → Type 0
-GivesAll readers before after bytes =
-    IsAllRead (readers.remaining before) (readers.remaining after) bytes
+-- it gave these bytes, and they are all that it had
+abbrev pub GivesAll : Report → Report → List ℕ → Type 0
+GivesAll old new bytes = IsAllRead old.unread new.unread bytes
 
 -- the script's output was written
-abbrev pub Replays : {R W : Type 0} → ℕ → read.Ghosts R → write.Ghosts W
-    → (before after : R) (old new : W) → Type 0
-Replays slots readers writers before after old new =
-    IsReplayed slots (readers.remaining before) (readers.remaining after)
-    (writers.contents old) (writers.contents new)
+abbrev pub Replays : ℕ → Report → Report → Type 0
+Replays slots old new = IsReplayed slots old.unread new.unread old.written new.written
 
 -- what a fault leaves: only a write that failed leaves anything written
-abbrev pub Leaves : {R W : Type 0} → ℕ → read.Ghosts R → write.Ghosts W
-    → (before after : R) (old new : W) → ReplayFault → Type 0
-Leaves slots readers writers before after old new fault =
-    IsFault slots (readers.remaining before) (readers.remaining after)
-    (writers.contents old) (writers.contents new) fault
+abbrev pub Leaves : ℕ → Report → Report → ReplayFault → Type 0
+Leaves slots old new fault = IsFault slots old.unread new.unread old.written new.written fault

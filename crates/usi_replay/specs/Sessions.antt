@@ -3,7 +3,7 @@ use Rattle.std.specs.Prelude.{◌≡◌, ◌≢◌, ◌<◌, ℕ, List, ◌++◌
 use Rattle.session_slots.specs.declared.id.SessionId.{SessionId}
 use Rattle.session_slots.specs.Slots.{find, count}
 use Rattle.usi_session.specs.Due.{SessionView, due}
-use Rattle.usi_stdio.specs.Stdio.{slices_of}
+use Rattle.usi_stdio.specs.Saying.{slices_of}
 use Rattle.host_core.specs.ById.{pending_of}
 use Rattle.host_core.specs.Steps.{HostState, IsOpened, IsClosed}
 use Rattle.host_core.specs.Events.{Outcome, Opened, Refused}

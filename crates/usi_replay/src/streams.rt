@@ -1,6 +1,7 @@
-//! A script over a reader and a writer.
+//! A script over a front end.
 
 ghost use Rattle.std.specs.Prelude.{◌≤◌, OnOk, IfOk, IfErr};
+ghost use Rattle.std.specs.Io.KnownBytes.{Keeps};
 ghost use Rattle.usi_replay.specs.Replayed.{GivesAll, IsAnswerOf, IsReadFault, Leaves, Replays};
 ghost use Rattle.session_slots.specs.declared.limits.TheConstants.{SESSIONS_MAX};
 ghost use Rattle.shared_table.specs.declared.table.TheConstants.{CAPACITY_MAX};
@@ -10,20 +11,24 @@ use crate::playback::Playback;
 use host_core::Host;
 use std::alloc::Allocator;
 use std::hash::{BuildHasherDefault, FoldHasher};
-use std::io::{Read, Write};
 use usi_lines::first_line;
 use usi_session::CHUNK_MAX;
-use usi_stdio::write_out;
+use usi_stdio::{FrontEnd, write_out};
 
 /// Reads all that comes.
-fn read_all<A: Allocator, R: Read>(alloc: A, reader: &mut R) -> Result<Vec<u8, A>, ReplayFault>
-    ensures read { IfOk result (λ bytes. GivesAll R.Read reader.old reader.new bytes.items) }
+fn read_all<A: Allocator, T: FrontEnd>(
+    alloc: A,
+    front_end: &mut T,
+) -> Result<Vec<u8, A>, ReplayFault>
+    ensures read { IfOk result (λ bytes.
+        GivesAll (T.report front_end.old) (T.report front_end.new) bytes.items) }
+    ensures kept { Keeps (T.report front_end.old).written (T.report front_end.new).written }
     ensures fault { IfErr result IsReadFault }
 {
     let mut bytes = Vec::new(alloc);
     let mut chunk = [0u8; CHUNK_MAX];
     'chunks: for _ in 0..u64::MAX {
-        let Ok(n) = reader.read(&mut chunk) else {
+        let Ok(n) = front_end.read(&mut chunk) else {
             return Err(ReplayFault::ReadFailed);
         };
         if n == 0 {
@@ -101,10 +106,9 @@ fn output_of<A: Allocator + Copy>(
 /// `OutOfMemory` comes where an allocation failed, `ReadFailed` where a read failed; `BadScript` names
 /// the first bad line, counted from 1; after each of them nothing was written. `WriteFailed` comes where
 /// a write or the flush failed or a write took nothing; then a prefix of the output was written.
-pub fn replay<A: Allocator + Copy, R: Read, W: Write>(
+pub fn replay<A: Allocator + Copy, T: FrontEnd>(
     alloc: A,
-    input: &mut R,
-    output: &mut W,
+    front_end: &mut T,
     slots: usize,
     entries: usize,
     slice: u64,
@@ -114,15 +118,13 @@ pub fn replay<A: Allocator + Copy, R: Read, W: Write>(
     requires least_entries { 1 ≤ entries }
     requires most_entries { entries ≤ CAPACITY_MAX }
     requires least_slice { 1 ≤ slice }
-    ensures ok { OnOk result
-        (Replays slots R.Read W.Write input.old input.new output.old output.new) }
-    ensures err { IfErr result
-        (Leaves slots R.Read W.Write input.old input.new output.old output.new) }
+    ensures ok { OnOk result (Replays slots (T.report front_end.old) (T.report front_end.new)) }
+    ensures err { IfErr result (Leaves slots (T.report front_end.old) (T.report front_end.new)) }
 {
-    let script = read_all(alloc, input)?;
+    let script = read_all(alloc, front_end)?;
     let out = output_of(alloc, script.as_slice(), slots, entries, slice)?;
-    if write_out(output, out.as_slice()).is_err() {
-        return Err(ReplayFault::WriteFailed);
+    match write_out(front_end, out.as_slice()) {
+        Ok(()) => Ok(()),
+        Err(_) => Err(ReplayFault::WriteFailed),
     }
-    Ok(())
 }

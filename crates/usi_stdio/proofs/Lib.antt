@@ -1,4 +1,5 @@
+pub mod Talking
 pub mod Writing
 pub mod Working
-pub mod Between
 pub mod Lining
+pub mod Between

@@ -1,17 +1,19 @@
 -- A chunk that is answered line by line.
-use Rattle.std.proofs.Common.{◌≡◌, ℕ, ◌+◌, ◌≤◌, List, [], ◌++◌, Option, length, refl, sym, ap, ◌∙◌, append_assoc, append-nil, true, false, arith}
+use Rattle.std.proofs.Common.{◌≡◌, ℕ, ◌+◌, ◌≤◌, List, [], ◌++◌, length, refl, sym, ap, ◌∙◌, append_assoc, append-nil, true, false, arith}
 use Rattle.std.proofs.lemmas.List.{length-append}
-use Rattle.std.specs.Io.KnownBytes.{Appends}
-use Rattle.std.proofs.KnownBytes.{Appends-nil, Appends-trans}
 use Rattle.usi_session.specs.declared.limits.TheConstants.{CHUNK_MAX}
 use Rattle.usi_session.specs.Due.{SessionView, due, state_due, is_pending, wants_input}
 use Rattle.usi_session.proofs.Settled.{due-over, state_due-over_same, wanting-settled}
-use Rattle.usi_stdio.specs.Stdio.{TakesPrefix, Answers}
+use Rattle.usi_stdio.specs.Calls.{Report}
+use Rattle.usi_stdio.specs.Saying.{Says, SaysPrefix, Answers}
+use Rattle.usi_stdio.specs.declared.streams.StdioFault.{StdioFault}
+use Rattle.usi_stdio.proofs.Talking.{says_nothing, says_then}
+use Rattle.usi_stdio.proofs.Working.{said_prefix}
 
 -- of a chunk this rest is left: the answers to what came before it were written, and what is owed with it is owed still
-pub record IsAnsweredTo (rest : List ℕ) (before now : SessionView) (chunk : List ℕ) (old new : Option (List ℕ)) : Type 0 where
+pub record IsAnsweredTo (rest : List ℕ) (before now : SessionView) (chunk : List ℕ) (old new : Report) : Type 0 where
   pub made : List ℕ
-  pub written : Appends old new made
+  pub written : Says old new made
   pub owed : (x : List ℕ) → due before (chunk ++ x) ≡ made ++ due now (rest ++ x)
   pub left : (x : List ℕ) → state_due now (rest ++ x) ≡ state_due before (chunk ++ x)
   pub empty : now.queued ≡ []
@@ -19,10 +21,10 @@ pub record IsAnsweredTo (rest : List ℕ) (before now : SessionView) (chunk : Li
   pub few : length rest ≤ CHUNK_MAX
 
 -- before the first line
-pub lines_start : (s : SessionView) (chunk : List ℕ) (old : Option (List ℕ)) → wants_input s ≡ true → s.queued ≡ [] → length chunk ≤ CHUNK_MAX → IsAnsweredTo chunk s s chunk old old
+pub lines_start : (s : SessionView) (chunk : List ℕ) (old : Report) → wants_input s ≡ true → s.queued ≡ [] → length chunk ≤ CHUNK_MAX → IsAnsweredTo chunk s s chunk old old
 lines_start s chunk old wants empty most = record {
   made = [];
-  written = Appends-nil old;
+  written = says_nothing old;
   owed = λ x. refl;
   left = λ x. refl;
   empty = empty;
@@ -35,10 +37,10 @@ behind : (rest line after x : List ℕ) → rest ≡ line ++ after → rest ++ x
 behind rest line after x split = ap (λ xs. xs ++ x) split ∙ append_assoc line after x
 
 -- one line more
-pub lines_more : (before mid now : SessionView) (chunk rest line after : List ℕ) (old part new : Option (List ℕ)) → IsAnsweredTo rest before mid chunk old part → rest ≡ line ++ after → Answers mid now line part new → IsAnsweredTo after before now chunk old new
+pub lines_more : (before mid now : SessionView) (chunk rest line after : List ℕ) (old part new : Report) → IsAnsweredTo rest before mid chunk old part → rest ≡ line ++ after → Answers mid now line part new → IsAnsweredTo after before now chunk old new
 lines_more before mid now chunk rest line after old part new a split w = record {
   made = a.made ++ w.made;
-  written = Appends-trans old part new a.made w.made a.written w.written;
+  written = says_then old part new a.made w.made _ _ a.written w.written;
   owed = λ x. a.owed x ∙ (ap (λ xs. a.made ++ due mid xs) (behind rest line after x split) ∙ (ap (λ xs. a.made ++ xs) (w.owed (after ++ x)) ∙ sym (append_assoc a.made w.made (due now (after ++ x)))));
   left = λ x. w.left (after ++ x) ∙ (ap (λ xs. state_due mid xs) (sym (behind rest line after x split)) ∙ a.left x);
   empty = w.empty;
@@ -47,7 +49,7 @@ lines_more before mid now chunk rest line after old part new a split w = record 
 }
 
 -- no line is left
-pub lines_done : (before now : SessionView) (chunk rest : List ℕ) (old new : Option (List ℕ)) → IsAnsweredTo rest before now chunk old new → rest ≡ [] → Answers before now chunk old new
+pub lines_done : (before now : SessionView) (chunk rest : List ℕ) (old new : Report) → IsAnsweredTo rest before now chunk old new → rest ≡ [] → Answers before now chunk old new
 lines_done before now chunk rest old new a none = record {
   made = a.made;
   written = a.written;
@@ -58,7 +60,7 @@ lines_done before now chunk rest old new a none = record {
 }
 
 -- the session is over: the lines that are left change nothing
-pub lines_over : (before now : SessionView) (chunk rest : List ℕ) (old new : Option (List ℕ)) → IsAnsweredTo rest before now chunk old new → now.state.is_over ≡ true → Answers before now chunk old new
+pub lines_over : (before now : SessionView) (chunk rest : List ℕ) (old new : Report) → IsAnsweredTo rest before now chunk old new → now.state.is_over ≡ true → Answers before now chunk old new
 lines_over before now chunk rest old new a over = record {
   made = a.made;
   written = a.written;
@@ -69,12 +71,6 @@ lines_over before now chunk rest old new a over = record {
 }
 
 -- a line was cut short by a fault
-pub lines_prefix : (before mid : SessionView) (chunk rest line after : List ℕ) (old part new : Option (List ℕ)) → IsAnsweredTo rest before mid chunk old part → rest ≡ line ++ after → ((x : List ℕ) → TakesPrefix part new (due mid (line ++ x))) → TakesPrefix old new (due before chunk)
-lines_prefix before mid chunk rest line after old part new a split front = (
-  (front after).0,
-  record {
-    done = a.made ++ (front after).1.done;
-    appended = Appends-trans old part new a.made (front after).1.done a.written (front after).1.appended;
-    split = sym (ap (λ xs. due before xs) (append-nil chunk)) ∙ (a.owed [] ∙ (ap (λ xs. a.made ++ due mid xs) (append-nil rest ∙ split) ∙ (ap (λ xs. a.made ++ xs) (front after).1.split ∙ sym (append_assoc a.made (front after).1.done (front after).0))));
-  },
-)
+pub lines_prefix : (before mid : SessionView) (chunk rest line after : List ℕ) (old part new : Report) (fault : StdioFault) → IsAnsweredTo rest before mid chunk old part → rest ≡ line ++ after → ((x : List ℕ) → SaysPrefix part new (due mid (line ++ x)) fault) → SaysPrefix old new (due before chunk) fault
+lines_prefix before mid chunk rest line after old part new fault a split front =
+    said_prefix old part new a.made (due mid (line ++ after)) (due before chunk) fault a.written (front after) (sym (ap (λ xs. due before xs) (append-nil chunk)) ∙ (a.owed [] ∙ ap (λ xs. a.made ++ due mid xs) (append-nil rest ∙ split)))

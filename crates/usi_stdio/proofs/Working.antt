@@ -1,55 +1,84 @@
 -- A session whose replies are written slice by slice.
-use Rattle.std.proofs.Common.{◌≡◌, ℕ, List, [], ◌++◌, Option, refl, sym, ap, ◌∙◌, append_assoc, Result, OnErr, Ok, Err}
-use Rattle.std.proofs.KnownBytes.{Appends-trans}
+use Rattle.std.proofs.Common.{◌≡◌, ℕ, List, [], ◌++◌, true, refl, sym, ap, ◌∙◌, append_assoc, Result, IsErrAnd, IfErr, OnErr, Ok, Err}
 use Rattle.usi_session.specs.Due.{SessionView, due}
-use Rattle.usi_stdio.specs.Stdio.{TakesPrefix, IsWorkedOn}
+use Rattle.usi_stdio.specs.Calls.{Report}
+use Rattle.usi_stdio.specs.Saying.{SaysPrefix, Says, IsWorkedOn, asked_by}
+use Rattle.usi_stdio.specs.declared.streams.StdioFault.{StdioFault}
+use Rattle.usi_stdio.specs.declared.streams.StdioFault.TheVariants.{OutOfMemory}
+use Rattle.usi_stdio.proofs.Talking.{says_nothing, says_then}
 
 -- a prefix of a prefix
-pub prefix_of_more : (old new : Option (List ℕ)) (bytes more all : List ℕ) → TakesPrefix old new bytes → all ≡ bytes ++ more → TakesPrefix old new all
-prefix_of_more old new bytes more all (left, w) e = (
+prefix_of_more : (old new : Report) (bytes more all : List ℕ) (fault : StdioFault) → SaysPrefix old new bytes fault → all ≡ bytes ++ more → SaysPrefix old new all fault
+prefix_of_more old new bytes more all fault (left, w) e = (
   left ++ more,
   record {
     done = w.done;
-    appended = w.appended;
+    is_flushed = w.is_flushed;
+    said = w.said;
     split = e ∙ (ap (λ xs. xs ++ more) w.split ∙ append_assoc w.done left more);
   },
 )
+
+-- nothing was written, and memory was refused
+pub prefix_none : (r : Report) (all : List ℕ) → SaysPrefix r r all OutOfMemory
+prefix_none r all = (all, record { done = []; is_flushed = true; said = says_nothing r; split = refl })
 
 -- what is queued, and then what is owed without it
 pub due-queued : (s : SessionView) (x : List ℕ) → due s x ≡ s.queued ++ due (record s { queued = [] }) x
 due-queued s x = refl
 
 -- a prefix of what is queued is a prefix of what is owed, whatever bytes follow
-pub prefix_of_due : (old new : Option (List ℕ)) (before mid : SessionView) → ((x : List ℕ) → due mid x ≡ due before x) → TakesPrefix old new mid.queued → (x : List ℕ) → TakesPrefix old new (due before x)
-prefix_of_due old new before mid kept front x =
-    prefix_of_more old new mid.queued (due (record mid { queued = [] }) x) (due before x) front (sym (kept x) ∙ due-queued mid x)
+pub prefix_of_due : (old new : Report) (before mid : SessionView) (fault : StdioFault) → ((x : List ℕ) → due mid x ≡ due before x) → SaysPrefix old new mid.queued fault → (x : List ℕ) → SaysPrefix old new (due before x) fault
+prefix_of_due old new before mid fault kept front x =
+    prefix_of_more old new mid.queued (due (record mid { queued = [] }) x) (due before x) fault front (sym (kept x) ∙ due-queued mid x)
 
 -- a prefix of what is owed once a line was fed is a prefix of what was owed with it
-pub prefix_of_fed : (old new : Option (List ℕ)) (before mid : SessionView) (line : List ℕ) → ((x : List ℕ) → due mid x ≡ due before (line ++ x)) → ((x : List ℕ) → TakesPrefix old new (due mid x)) → (x : List ℕ) → TakesPrefix old new (due before (line ++ x))
-prefix_of_fed old new before mid line fed front x = ((front x).0, record { done = (front x).1.done; appended = (front x).1.appended; split = sym (fed x) ∙ (front x).1.split })
+pub prefix_of_fed : (old new : Report) (before mid : SessionView) (line : List ℕ) (fault : StdioFault) → ((x : List ℕ) → due mid x ≡ due before (line ++ x)) → ((x : List ℕ) → SaysPrefix old new (due mid x) fault) → (x : List ℕ) → SaysPrefix old new (due before (line ++ x)) fault
+prefix_of_fed old new before mid line fault fed front x = (
+  (front x).0,
+  record {
+    done = (front x).1.done;
+    is_flushed = (front x).1.is_flushed;
+    said = (front x).1.said;
+    split = sym (fed x) ∙ (front x).1.split;
+  },
+)
+
+-- before the first slice
+pub worked_start : (s : SessionView) (r : Report) → s.queued ≡ [] → IsWorkedOn s s r r
+worked_start s r empty = record { made = []; written = says_nothing r; left = λ x. refl; owed = λ x. refl; empty = empty }
 
 -- one slice more
-pub worked_more : (before mid after : SessionView) (old part new : Option (List ℕ)) → IsWorkedOn before mid old part → IsWorkedOn mid after part new → IsWorkedOn before after old new
+pub worked_more : (before mid after : SessionView) (old part new : Report) → IsWorkedOn before mid old part → IsWorkedOn mid after part new → IsWorkedOn before after old new
 worked_more before mid after old part new a b = record {
   made = a.made ++ b.made;
-  written = Appends-trans old part new a.made b.made a.written b.written;
+  written = says_then old part new a.made b.made _ _ a.written b.written;
   left = λ x. b.left x ∙ a.left x;
   owed = λ x. a.owed x ∙ (ap (λ xs. a.made ++ xs) (b.owed x) ∙ sym (append_assoc a.made b.made (due after x)));
   empty = b.empty;
 }
 
--- the slice was cut short by a fault
-pub worked_prefix : (before mid : SessionView) (old part new : Option (List ℕ)) → IsWorkedOn before mid old part → ((x : List ℕ) → TakesPrefix part new (due mid x)) → (x : List ℕ) → TakesPrefix old new (due before x)
-worked_prefix before mid old part new a front x = (
-  (front x).0,
+-- what was said, and then a prefix
+pub said_prefix : (old part new : Report) (said bytes all : List ℕ) (fault : StdioFault) → Says old part said → SaysPrefix part new bytes fault → all ≡ said ++ bytes → SaysPrefix old new all fault
+said_prefix old part new said bytes all fault p (left, w) e = (
+  left,
   record {
-    done = a.made ++ (front x).1.done;
-    appended = Appends-trans old part new a.made (front x).1.done a.written (front x).1.appended;
-    split = a.owed x ∙ (ap (λ xs. a.made ++ xs) (front x).1.split ∙ sym (append_assoc a.made (front x).1.done (front x).0));
+    done = said ++ w.done;
+    is_flushed = w.is_flushed;
+    said = says_then old part new said w.done w.is_flushed (asked_by fault) p w.said;
+    split = e ∙ (ap (λ xs. said ++ xs) w.split ∙ sym (append_assoc said w.done left));
   },
 )
 
--- what holds after a fault
+-- the slice was cut short by a fault
+pub worked_prefix : (before mid : SessionView) (old part new : Report) (fault : StdioFault) → IsWorkedOn before mid old part → ((x : List ℕ) → SaysPrefix part new (due mid x) fault) → (x : List ℕ) → SaysPrefix old new (due before x) fault
+worked_prefix before mid old part new fault a front x = said_prefix old part new a.made (due mid x) (due before x) fault a.written (front x) (a.owed x)
+
+-- what holds after a fault, and after one that is passed on
 pub on_err : {T E : Type 0} {P : Type 0} (r : Result T E) → P → OnErr r P
 on_err (Ok x) h = tt
 on_err (Err e) h = h
+
+pub passed_on : {T : Type 0} (r : Result T StdioFault) (fault : StdioFault) (P : StdioFault → Type 0) → IsErrAnd r (λ given. given ≡ fault) → P fault → IfErr r P
+passed_on (Ok x) fault P same h = tt
+passed_on (Err given) fault P same h = rw same h

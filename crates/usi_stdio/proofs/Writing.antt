@@ -1,17 +1,88 @@
 -- Bytes that are written in several writes.
-use Rattle.std.proofs.Common.{◌≡◌, ℕ, List, [], ◌++◌, Option, refl, sym, ap, ◌∙◌, append_assoc}
-use Rattle.std.specs.Io.KnownBytes.{Appends}
-use Rattle.std.proofs.KnownBytes.{Appends-nil, Appends-trans}
-use Rattle.usi_stdio.specs.Stdio.{WritesBut}
+use Rattle.std.proofs.Common.{◌≡◌, ◌<◌, ◌≤◌, ℕ, List, [], ◌∷◌, ◌++◌, true, false, Option, None, Some, Result, Ok, Err, refl, sym, ap, ◌∙◌, append_assoc, append-nil, length, take, drop, arith}
+use Rattle.std.proofs.lemmas.List.{take-append-drop, length-take}
+use Rattle.std.proofs.KnownBytes.{Appends-trans, Appends-kept}
+use Rattle.usi_stdio.specs.Calls.{Write, Flush, FailedWrite, FailedFlush, Report, Writes, Flushes}
+use Rattle.usi_stdio.specs.Dialogue.{asked_by_write}
+use Rattle.usi_stdio.specs.Saying.{Says, SaysBut, SaysPrefix}
+use Rattle.usi_stdio.specs.declared.streams.StdioFault.{StdioFault}
+use Rattle.usi_stdio.specs.declared.streams.StdioFault.TheVariants.{WriteFailed}
+use Rattle.usi_stdio.proofs.Talking.{says_nothing, called_then, write_goes_on, speaks_write, speaks_flush, speaks_failed_write, speaks_failed_flush}
 
 -- nothing is written yet
-pub writes_start : (old : Option (List ℕ)) (bytes : List ℕ) → WritesBut old old bytes bytes
-writes_start old bytes = record { done = []; appended = Appends-nil old; split = refl }
+pub writes_start : (old : Report) (bytes : List ℕ) → SaysBut None old old bytes bytes
+writes_start old bytes = record { done = []; is_flushed = true; said = says_nothing old; split = refl }
 
--- one write more took a prefix of what was left
-pub writes_more : (old mid new : Option (List ℕ)) (bytes rest front left : List ℕ) → WritesBut old mid bytes rest → Appends mid new front → rest ≡ front ++ left → WritesBut old new bytes left
-writes_more old mid new bytes rest front left w more split = record {
-  done = w.done ++ front;
-  appended = Appends-trans old mid new w.done front w.appended more;
-  split = w.split ∙ (ap (λ xs. w.done ++ xs) split ∙ sym (append_assoc w.done front left));
+-- one write more took so many bytes of what was left, and asked for this
+wrote : {E : Type 0} (old mid new : Report) (bytes rest : List ℕ) (n : ℕ) (o : Option (Result (Unit {0}) StdioFault)) → SaysBut None old mid bytes rest → Writes {E = E} mid new (Ok n) rest → asked_by_write (take n rest) ≡ o → SaysBut o old new bytes (drop n rest)
+wrote old mid new bytes rest n o w more e = record {
+  done = w.done ++ take n rest;
+  is_flushed = false;
+  said = record {
+    unread = more.unread ∙ w.said.unread;
+    written = Appends-trans old.written mid.written new.written w.done (take n rest) w.said.written more.appended;
+    calls = w.said.calls ++ (Write (take n rest) ∷ []);
+    called = called_then old.calls mid.calls new.calls w.said.calls (Write (take n rest) ∷ []) w.said.called more.called;
+    spoken = speaks_write w.said.calls w.done (take n rest) w.is_flushed o w.said.spoken e;
+  };
+  split = w.split ∙ (ap (λ xs. w.done ++ xs) (sym (take-append-drop n rest)) ∙ sym (append_assoc w.done (take n rest) (drop n rest)));
 }
+
+pub writes_more : {E : Type 0} (old mid new : Report) (bytes rest : List ℕ) (n : ℕ) → SaysBut None old mid bytes rest → Writes {E = E} mid new (Ok n) rest → 0 < length (take n rest) → SaysBut None old new bytes (drop n rest)
+writes_more old mid new bytes rest n w more h = wrote old mid new bytes rest n None w more (write_goes_on (take n rest) h)
+
+-- a write took nothing
+pub writes_none : {E : Type 0} (old mid new : Report) (bytes rest : List ℕ) (n : ℕ) → n ≡ 0 → SaysBut None old mid bytes rest → Writes {E = E} mid new (Ok n) rest → SaysPrefix old new bytes WriteFailed
+writes_none old mid new bytes rest n none w more = (drop n rest, wrote old mid new bytes rest n (Some (Err WriteFailed)) w more (ap (λ k. asked_by_write (take k rest)) none))
+
+-- a write that took some bytes
+pub some_taken : (n : ℕ) (rest : List ℕ) → (n ≡ 0 → ⊥) → n ≤ length rest → 0 < length (take n rest)
+some_taken n rest some most = simp length-take (omega arith)
+
+-- a write failed
+pub writes_failed : {E : Type 0} (old mid new : Report) (bytes rest : List ℕ) (error : E) → SaysBut None old mid bytes rest → Writes mid new (Err error) rest → SaysPrefix old new bytes WriteFailed
+writes_failed old mid new bytes rest error w more = (
+  rest,
+  record {
+    done = w.done;
+    is_flushed = w.is_flushed;
+    said = record {
+      unread = more.unread ∙ w.said.unread;
+      written = Appends-kept old.written mid.written new.written w.done w.said.written more.appended;
+      calls = w.said.calls ++ (FailedWrite ∷ []);
+      called = called_then old.calls mid.calls new.calls w.said.calls (FailedWrite ∷ []) w.said.called more.called;
+      spoken = speaks_failed_write w.said.calls w.done w.is_flushed w.said.spoken;
+    };
+    split = w.split;
+  },
+)
+
+-- the flush failed
+pub flush_failed : {E : Type 0} (old mid new : Report) (bytes rest : List ℕ) (error : E) → SaysBut None old mid bytes rest → Flushes mid new (Err error) → SaysPrefix old new bytes WriteFailed
+flush_failed old mid new bytes rest error w more = (
+  rest,
+  record {
+    done = w.done;
+    is_flushed = w.is_flushed;
+    said = record {
+      unread = more.unread ∙ w.said.unread;
+      written = Appends-kept old.written mid.written new.written w.done w.said.written more.written;
+      calls = w.said.calls ++ (FailedFlush ∷ []);
+      called = called_then old.calls mid.calls new.calls w.said.calls (FailedFlush ∷ []) w.said.called more.called;
+      spoken = speaks_failed_flush w.said.calls w.done w.is_flushed w.said.spoken;
+    };
+    split = w.split;
+  },
+)
+
+-- all was written and flushed
+pub flushed : {E : Type 0} (old mid new : Report) (bytes rest : List ℕ) (done : Unit {0}) → rest ≡ [] → SaysBut None old mid bytes rest → Flushes {E = E} mid new (Ok done) → Says old new bytes
+flushed old mid new bytes rest done none w more =
+    let all : w.done ≡ bytes = sym (w.split ∙ (ap (λ xs. w.done ++ xs) none ∙ append-nil w.done)) in
+    rw (← all) (record {
+      unread = more.unread ∙ w.said.unread;
+      written = Appends-kept old.written mid.written new.written w.done w.said.written more.written;
+      calls = w.said.calls ++ (Flush ∷ []);
+      called = called_then old.calls mid.calls new.calls w.said.calls (Flush ∷ []) w.said.called more.called;
+      spoken = speaks_flush w.said.calls w.done w.is_flushed w.said.spoken;
+    })

@@ -1,6 +1,8 @@
-//! One session over any reader and writer.
+//! One session over any front end.
 #![tactic(auto)]
 
+mod front_end;
 mod streams;
 
+pub use front_end::{Duplex, FrontEnd};
 pub use streams::{SLICE, StdioFault, stdio, write_out};

@@ -1,20 +1,20 @@
-//! One session over a reader and a writer.
+//! One session over a front end.
 
-ghost use Rattle.std.specs.Prelude.{◌≡◌, ◌<◌, ◌≤◌, [], true, false, length, take, IfOk, OnOk, OnErr, Err};
-ghost use Rattle.std.specs.Io.KnownBytes.{Appends, IsAtEnd, Keeps};
-ghost use Rattle.usi_stdio.specs.Stdio.{slices_of};
-ghost use Rattle.usi_stdio.specs.Streams.{Answers, Gives, IsAnswered, IsCutShort, IsWorkedOn, IsWritten, TakesPrefix, TakesPrefixOfDue};
-ghost use Rattle.usi_stdio.specs.declared.streams.StdioFault.TheVariants.{WriteFailed};
+ghost use Rattle.std.specs.Prelude.{◌≡◌, ◌<◌, ◌≤◌, [], true, false, length, IfErr, OnOk, OnErr, Err};
+ghost use Rattle.usi_stdio.specs.Dialogue.{Talks};
+ghost use Rattle.usi_stdio.specs.Saying.{Answers, IsWorkedOn, IsWritten, Says, SaysPrefix, SaysPrefixOfDue, slices_of};
+ghost use Rattle.usi_stdio.specs.Stdio.{IsLeft, IsServed};
+ghost use Rattle.usi_stdio.specs.declared.streams.StdioFault.TheVariants.{OutOfMemory, WriteFailed};
 ghost use Rattle.usi_lines.specs.OneLine.{IsOneLine};
 ghost use Rattle.usi_session.specs.Due.{due, is_pending, wants_input};
 ghost use Rattle.usi_session.specs.declared.limits.TheConstants.{CHUNK_MAX};
 ghost use Rattle.shared_table.specs.declared.table.TheConstants.{CAPACITY_MAX};
 
+use crate::front_end::FrontEnd;
 use shared_table::{SharedTable, TableFault};
 use shogi_search::Memo;
 use std::alloc::Allocator;
 use std::hash::{BuildHasherDefault, FoldHasher};
-use std::io::{Read, Write};
 use thiserror::Error;
 use usi_lines::cut_line;
 use usi_session::{CHUNK_MAX, Session, SessionFault};
@@ -22,7 +22,7 @@ use usi_session::{CHUNK_MAX, Session, SessionFault};
 /// The most steps of search before what is queued is written.
 pub const SLICE: u64 = 500;
 
-/// Why a run over a reader and a writer ended early.
+/// Why a run over a front end ended early.
 #[derive(Debug, PartialEq, Eq, Drop, Error)]
 pub enum StdioFault {
     /// Allocation failed.
@@ -37,6 +37,8 @@ pub enum StdioFault {
 }
 
 impl From<SessionFault> for StdioFault {
+    ghost from_gives = { λ _ fault. fault ≡ OutOfMemory };
+
     fn from(fault: SessionFault) -> StdioFault {
         match fault {
             SessionFault::OutOfMemory => StdioFault::OutOfMemory,
@@ -45,6 +47,8 @@ impl From<SessionFault> for StdioFault {
 }
 
 impl From<TableFault> for StdioFault {
+    ghost from_gives = { λ _ fault. fault ≡ OutOfMemory };
+
     fn from(fault: TableFault) -> StdioFault {
         match fault {
             TableFault::OutOfMemory => StdioFault::OutOfMemory,
@@ -52,103 +56,91 @@ impl From<TableFault> for StdioFault {
     }
 }
 
-/// Writes the bytes, in as many writes as the writer needs, and flushes. It takes no memory. Its
+/// Writes the bytes, in as many writes as the front end needs, and flushes. It takes no memory. Its
 /// one fault is `WriteFailed`, where a write or the flush failed or a write took nothing; then a
 /// prefix of the bytes was written.
-pub fn write_out<W: Write>(writer: &mut W, bytes: &[u8]) -> Result<(), StdioFault>
-    ensures ok { OnOk result (Appends (W.contents writer.old) (W.contents writer.new) bytes.now) }
-    ensures err { OnErr result (TakesPrefix W.Write writer.old writer.new bytes.now) }
+pub fn write_out<T: FrontEnd>(front_end: &mut T, bytes: &[u8]) -> Result<(), StdioFault>
+    ensures ok { OnOk result
+        (Says (T.report front_end.old) (T.report front_end.new) bytes.now) }
+    ensures err { IfErr result
+        (SaysPrefix (T.report front_end.old) (T.report front_end.new) bytes.now) }
     ensures fault { OnErr result (result ≡ Err WriteFailed) }
 {
     let mut rest = bytes;
     'writes: while !rest.is_empty() {
-        match writer.write(rest) {
+        match front_end.write(rest) {
             Ok(0) => return Err(StdioFault::WriteFailed),
             Ok(n) => rest = rest.split_at(n).1,
             Err(_) => return Err(StdioFault::WriteFailed),
         }
     }
-    if writer.flush().is_err() {
-        return Err(StdioFault::WriteFailed);
+    match front_end.flush() {
+        Ok(()) => Ok(()),
+        Err(_) => Err(StdioFault::WriteFailed),
     }
-    Ok(())
 }
 
-/// Writes, flushes and takes all that is queued. Where nothing is, the writer is left alone.
-fn write_queued<A: Allocator + Copy, W: Write>(
+/// Writes, flushes and takes all that is queued. Where nothing is, the front end is left alone.
+fn write_queued<A: Allocator + Copy, T: FrontEnd>(
     session: &mut Session<A>,
-    writer: &mut W,
+    front_end: &mut T,
 ) -> Result<(), StdioFault>
     ensures ok { OnOk result
-        (IsWritten W.Write session.old session.new writer.old writer.new) }
-    ensures err { OnErr result
-        (TakesPrefix W.Write writer.old writer.new session.old.queued) }
+        (IsWritten session.old session.new (T.report front_end.old) (T.report front_end.new)) }
+    ensures err { IfErr result
+        (SaysPrefix (T.report front_end.old) (T.report front_end.new) session.old.queued) }
 {
     let queued = session.output().len();
     if queued == 0 {
         return Ok(());
     }
-    write_out(writer, session.output())?;
+    write_out(front_end, session.output())?;
     session.take(queued);
     Ok(())
 }
 
 /// Works one slice, and writes what it queued.
-fn work_slice<A: Allocator + Copy, M: Memo, W: Write>(
+fn work_slice<A: Allocator + Copy, M: Memo, T: FrontEnd>(
     session: &mut Session<A>,
     memo: &mut M,
-    writer: &mut W,
+    front_end: &mut T,
 ) -> Result<(), StdioFault>
     requires pending { is_pending session.old ≡ true }
     requires empty { session.old.queued ≡ [] }
     ensures ok { OnOk result
-        (IsWorkedOn W.Write session.old session.new writer.old writer.new) }
+        (IsWorkedOn session.old session.new (T.report front_end.old) (T.report front_end.new)) }
     ensures fewer { OnOk result (slices_of session.new < slices_of session.old) }
-    ensures err { OnErr result
-        (TakesPrefixOfDue W.Write writer.old writer.new session.old []) }
+    ensures err { IfErr result
+        (SaysPrefixOfDue (T.report front_end.old) (T.report front_end.new) session.old []) }
 {
     session.work(memo, SLICE)?;
-    write_queued(session, writer)
+    write_queued(session, front_end)
 }
 
 /// Works off what was fed, slice by slice, and writes what each slice queued.
-fn work_off<A: Allocator + Copy, M: Memo, W: Write>(
+fn work_off<A: Allocator + Copy, M: Memo, T: FrontEnd>(
     session: &mut Session<A>,
     memo: &mut M,
-    writer: &mut W,
+    front_end: &mut T,
 ) -> Result<(), StdioFault>
     requires { session.old.queued ≡ [] }
     ensures ok { OnOk result
-        (IsWorkedOn W.Write session.old session.new writer.old writer.new) }
+        (IsWorkedOn session.old session.new (T.report front_end.old) (T.report front_end.new)) }
     ensures settled { OnOk result (is_pending session.new ≡ false) }
-    ensures err { OnErr result
-        (TakesPrefixOfDue W.Write writer.old writer.new session.old []) }
+    ensures err { IfErr result
+        (SaysPrefixOfDue (T.report front_end.old) (T.report front_end.new) session.old []) }
 {
     'slices: while session.pending() {
-        work_slice(session, memo, writer)?;
+        work_slice(session, memo, front_end)?;
     }
     Ok(())
 }
 
-/// Reads once, and returns the number of bytes read into the chunk; 0 where the input ended.
-fn read_chunk<R: Read>(reader: &mut R, chunk: &mut [u8]) -> Result<usize, StdioFault>
-    requires { 0 < length chunk.old }
-    ensures most { IfOk result (λ n. n ≤ length chunk.new) }
-    ensures given { IfOk result (λ n. Gives R.Read reader.old reader.new (take n chunk.new)) }
-    ensures ended { IfOk result (λ n. n ≡ 0 → IsAtEnd (R.remaining reader.new)) }
-    ensures err { OnErr result (Keeps (R.remaining reader.old) (R.remaining reader.new)) }
-{
-    match reader.read(chunk) {
-        Ok(n) => Ok(n),
-        Err(_) => Err(StdioFault::ReadFailed),
-    }
-}
-
 /// Feeds one line or a part of one, answers it, and writes the answer.
-fn answer_line<A: Allocator + Copy, M: Memo, W: Write>(
+fn answer_line<A: Allocator + Copy, M: Memo, T: FrontEnd>(
     session: &mut Session<A>,
     memo: &mut M,
-    writer: &mut W,
+    front_end: &mut T,
     line: &[u8],
 ) -> Result<(), StdioFault>
     requires wants { wants_input session.old ≡ true }
@@ -156,34 +148,34 @@ fn answer_line<A: Allocator + Copy, M: Memo, W: Write>(
     requires most { length line.now ≤ CHUNK_MAX }
     requires one { IsOneLine line.now }
     ensures ok { OnOk result
-        (Answers W.Write session.old session.new line.now writer.old writer.new) }
-    ensures err { OnErr result
-        (TakesPrefixOfDue W.Write writer.old writer.new session.old line.now) }
+        (Answers session.old session.new line.now (T.report front_end.old) (T.report front_end.new)) }
+    ensures err { IfErr result
+        (SaysPrefixOfDue (T.report front_end.old) (T.report front_end.new) session.old line.now) }
 {
     session.feed(line)?;
-    work_off(session, memo, writer)
+    work_off(session, memo, front_end)
 }
 
 /// Feeds one chunk line by line, and writes the answer to each line before the next is fed. What
 /// comes behind a line that ends the session is passed over.
-fn answer_chunk<A: Allocator + Copy, M: Memo, W: Write>(
+fn answer_chunk<A: Allocator + Copy, M: Memo, T: FrontEnd>(
     session: &mut Session<A>,
     memo: &mut M,
-    writer: &mut W,
+    front_end: &mut T,
     chunk: &[u8],
 ) -> Result<(), StdioFault>
     requires wants { wants_input session.old ≡ true }
     requires empty { session.old.queued ≡ [] }
     requires most { length chunk.now ≤ CHUNK_MAX }
     ensures ok { OnOk result
-        (Answers W.Write session.old session.new chunk.now writer.old writer.new) }
-    ensures err { OnErr result
-        (TakesPrefix W.Write writer.old writer.new (due session.old chunk.now)) }
+        (Answers session.old session.new chunk.now (T.report front_end.old) (T.report front_end.new)) }
+    ensures err { IfErr result
+        (SaysPrefix (T.report front_end.old) (T.report front_end.new) (due session.old chunk.now)) }
 {
     let mut rest = chunk;
     'lines: while !rest.is_empty() && !session.is_over() {
         let (line, after) = cut_line(rest);
-        answer_line(session, memo, writer, line)?;
+        answer_line(session, memo, front_end, line)?;
         rest = after;
     }
     Ok(())
@@ -198,29 +190,29 @@ fn answer_chunk<A: Allocator + Copy, M: Memo, W: Write>(
 /// `OutOfMemory` comes where allocation failed, `ReadFailed` where a read failed, and `WriteFailed`
 /// where a write or a flush failed or a write took nothing. After each of them what was written is
 /// a prefix of the replies to what was read.
-pub fn stdio<A: Allocator + Copy, R: Read, W: Write>(
+pub fn stdio<A: Allocator + Copy, T: FrontEnd>(
     alloc: A,
-    input: &mut R,
-    output: &mut W,
+    front_end: &mut T,
     entries: usize,
 ) -> Result<(), StdioFault>
     requires least { 1 ≤ entries }
     requires most { entries ≤ CAPACITY_MAX }
-    ensures ok { OnOk result
-        (IsAnswered R.Read W.Write input.old input.new output.old output.new) }
-    ensures err { OnErr result
-        (IsCutShort R.Read W.Write input.old input.new output.old output.new) }
+    ensures ok { OnOk result (IsServed (T.report front_end.old) (T.report front_end.new)) }
+    ensures err { OnErr result (IsLeft (T.report front_end.old) (T.report front_end.new)) }
+    ensures calls { Talks (T.report front_end.old).calls (T.report front_end.new).calls result }
 {
     let mut table = SharedTable::new(alloc, entries, BuildHasherDefault::<FoldHasher>::new())?;
     let mut session = Session::new(alloc);
     let mut chunk = [0u8; CHUNK_MAX];
-    'chunks: for _ in 0..u64::MAX {
-        let n = read_chunk(input, &mut chunk)?;
+    'chunks: for _reads in 0..u64::MAX {
+        let Ok(n) = front_end.read(&mut chunk) else {
+            return Err(StdioFault::ReadFailed);
+        };
         if n == 0 {
             return Ok(());
         }
         let (given, _) = chunk.split_at(n);
-        answer_chunk(&mut session, &mut table, output, given)?;
+        answer_chunk(&mut session, &mut table, front_end, given)?;
         if session.is_over() {
             return Ok(());
         }

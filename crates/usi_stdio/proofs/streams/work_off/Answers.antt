@@ -1,5 +1,8 @@
-use Rattle.usi_stdio.proofs.Working.{on_err, worked_prefix, worked_more}
+use Rattle.usi_stdio.proofs.Working.{passed_on, worked_start, worked_prefix, worked_more}
 use Rattle.usi_stdio.proofs.streams.work_off.Goals as goal
+
+pub slices-init : goal.slices-init
+slices-init g c = worked_start _ _ c.requires
 
 -- one slice more
 pub slices-preserved : goal.slices-preserved
@@ -7,4 +10,4 @@ slices-preserved g c = worked_more _ c.slices.session _ _ _ _ c.slices.invariant
 
 -- the slice was cut short
 pub returns-in_err-work_slice-clause-err : goal.returns-in_err-work_slice-clause-err
-returns-in_err-work_slice-clause-err g c = on_err _ (worked_prefix _ c.slices.session _ _ _ c.slices.invariant c.in_err-work_slice.ensures.err)
+returns-in_err-work_slice-clause-err g c = passed_on c.from_residual.result _ _ c.from_residual.ensures.1 (worked_prefix _ c.slices.session _ _ _ _ c.slices.invariant c.in_err-work_slice.ensures.err)

@@ -1,9 +1,9 @@
-use Rattle.usi_stdio.specs.Stdio.{IsWorkedOn, slices_of}
+use Rattle.usi_stdio.specs.Saying.{IsWorkedOn, slices_of}
 use Rattle.usi_stdio.proofs.streams.work_off.Given as goal
 
 -- what was made so far is written
 abbrev pub invariant-slices : goal.invariant-slices
-invariant-slices g l = IsWorkedOn l.fn.session l.session (g.W.Write.contents l.fn.writer) (g.W.Write.contents l.writer)
+invariant-slices g l = IsWorkedOn l.fn.session l.session (g.T.FrontEnd.report l.fn.front_end) (g.T.FrontEnd.report l.front_end)
 
 -- each slice makes a step where something is pending after it
 abbrev pub decreases-slices : goal.decreases-slices

@@ -1,7 +1,12 @@
-use Rattle.std.proofs.lemmas.Result.{on_err_weaker}
-use Rattle.usi_stdio.proofs.Working.{prefix_of_due}
+use Rattle.std.proofs.lemmas.Result.{IfErr-weaker}
+use Rattle.usi_stdio.proofs.Working.{passed_on, prefix_none, prefix_of_due}
 use Rattle.usi_stdio.proofs.streams.work_slice.Goals as goal
+
+-- memory was refused
+pub returns-in_err-work-clause-err : goal.returns-in_err-work-clause-err
+returns-in_err-work-clause-err g c = passed_on c.from_residual.result _ _ c.from_residual.ensures.1 (λ x. prefix_none _ _)
 
 -- what was queued is a prefix of what was due
 pub returns-clause-err : goal.returns-clause-err
-returns-clause-err g c = on_err_weaker c.write_queued.result (prefix_of_due (g.W.Write.contents c.args.writer.now) (g.W.Write.contents c.write_queued.new.writer) c.args.session.now c.work.new.self c.work.ensures.due) c.write_queued.ensures.err
+returns-clause-err g c =
+    IfErr-weaker c.write_queued.result _ _ (λ fault. prefix_of_due _ _ c.args.session.now c.work.new.self fault c.work.ensures.due) c.write_queued.ensures.err

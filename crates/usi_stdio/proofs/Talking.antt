@@ -1,0 +1,106 @@
+-- Calls after calls.
+use Rattle.std.proofs.Common.{◌≡◌, ◌<◌, ℕ, List, [], ◌∷◌, ◌++◌, Bool, true, false, Option, None, Some, Result, Err, refl, sym, ap, ◌∙◌, append_assoc, append-nil, length, arith}
+use Rattle.std.proofs.KnownBytes.{Appends-nil, Appends-trans}
+use Rattle.usi_stdio.specs.Calls.{Call, Write, Flush, FailedWrite, FailedFlush, IsCalled, Report}
+use Rattle.usi_stdio.specs.Dialogue.{Talk, after_call, after_calls, asked_by_read, asked_by_write, MayFollow, IsDialogue}
+use Rattle.usi_stdio.specs.Saying.{quiet, Speaks, SaysTo, Says}
+use Rattle.usi_stdio.specs.declared.streams.StdioFault.{StdioFault}
+use Rattle.usi_stdio.specs.declared.streams.StdioFault.TheVariants.{WriteFailed}
+
+pub called_none : (a : Option (List Call)) → IsCalled a a []
+called_none None = tt
+called_none (Some before) = ap (λ (l : List Call). Some l) (sym (append-nil before))
+
+pub called_then : (a b c : Option (List Call)) (x y : List Call) → IsCalled a b x → IsCalled b c y → IsCalled a c (x ++ y)
+called_then None b c x y p q = tt
+called_then (Some before) b c x y p q =
+    let r : IsCalled (Some (before ++ x)) c y = rw p at q in
+    r ∙ ap (λ (l : List Call). Some l) (append_assoc before x y)
+
+-- the calls of two stretches, one after the other
+pub after_both : (t : Talk) (x y : List Call) → after_calls t (x ++ y) ≡ after_calls (after_calls t x) y
+after_both t [] y = refl
+after_both t (c ∷ x) y = after_both (after_call t c) x y
+
+pub dialogue_both : (t : Talk) (x y : List Call) → IsDialogue t x → IsDialogue (after_calls t x) y → IsDialogue t (x ++ y)
+dialogue_both t [] y p q = q
+dialogue_both t (c ∷ x) y p q = (p.0, p.1, dialogue_both (after_call t c) x y p.2 q)
+
+-- one call more
+pub dialogue_call : (t : Talk) (x : List Call) (c : Call) → IsDialogue t x → (after_calls t x).outcome ≡ None → MayFollow (after_calls t x) c → IsDialogue t (x ++ (c ∷ []))
+dialogue_call t x c p none may = dialogue_both t x (c ∷ []) p (none, may, tt)
+
+pub after_one : (t : Talk) (x : List Call) (c : Call) → after_calls t (x ++ (c ∷ [])) ≡ after_call (after_calls t x) c
+after_one t x c = after_both t x (c ∷ [])
+
+-- a read or a write of at least one byte asks for no result
+pub read_goes_on : (bytes : List ℕ) → 0 < length bytes → asked_by_read bytes ≡ None
+read_goes_on [] h = absurd (omega arith)
+read_goes_on (b ∷ rest) h = refl
+
+pub write_goes_on : (bytes : List ℕ) → 0 < length bytes → asked_by_write bytes ≡ None
+write_goes_on [] h = absurd (omega arith)
+write_goes_on (b ∷ rest) h = refl
+
+-- what is written between two reads
+pub speaks_nothing : Speaks [] [] true None
+speaks_nothing = record {
+  dialogue = λ read reads written. tt;
+  after = λ read reads written. ap (λ xs. quiet read reads xs) (sym (append-nil written));
+}
+
+pub speaks_then : (x y : List Call) (bs cs : List ℕ) (f : Bool) (o : Option (Result (Unit {0}) StdioFault)) → Speaks x bs true None → Speaks y cs f o → Speaks (x ++ y) (bs ++ cs) f o
+speaks_then x y bs cs f o p q = record {
+  dialogue = λ read reads written. dialogue_both (quiet read reads written) x y (p.dialogue read reads written) (rw (p.after read reads written) (q.dialogue read reads (written ++ bs)));
+  after = λ read reads written. after_both (quiet read reads written) x y ∙ (ap (λ t. after_calls t y) (p.after read reads written) ∙ (q.after read reads (written ++ bs) ∙ ap (λ xs. record { read = read; reads = reads; written = xs; is_flushed = f; outcome = o }) (append_assoc written bs cs)));
+}
+
+-- a state between two reads
+abbrev between : (read : List ℕ) (reads : ℕ) (written : List ℕ) → Bool → Option (Result (Unit {0}) StdioFault) → Talk
+between read reads written f o = record { read = read; reads = reads; written = written; is_flushed = f; outcome = o }
+
+-- one write more, which took these bytes
+pub speaks_write : (x : List Call) (bs b : List ℕ) (f : Bool) (o : Option (Result (Unit {0}) StdioFault)) → Speaks x bs f None → asked_by_write b ≡ o → Speaks (x ++ (Write b ∷ [])) (bs ++ b) false o
+speaks_write x bs b f o p e = record {
+  dialogue = λ read reads written. dialogue_call (quiet read reads written) x (Write b) (p.dialogue read reads written) (ap (λ (t : Talk). t.outcome) (p.after read reads written)) tt;
+  after = λ read reads written. after_one (quiet read reads written) x (Write b) ∙ (ap (λ t. after_call t (Write b)) (p.after read reads written) ∙ (ap (λ xs. between read reads xs false (asked_by_write b)) (append_assoc written bs b) ∙ ap (λ q. between read reads (written ++ (bs ++ b)) false q) e));
+}
+
+pub speaks_flush : (x : List Call) (bs : List ℕ) (f : Bool) → Speaks x bs f None → Speaks (x ++ (Flush ∷ [])) bs true None
+speaks_flush x bs f p = record {
+  dialogue = λ read reads written. dialogue_call (quiet read reads written) x Flush (p.dialogue read reads written) (ap (λ (t : Talk). t.outcome) (p.after read reads written)) tt;
+  after = λ read reads written. after_one (quiet read reads written) x Flush ∙ ap (λ t. after_call t Flush) (p.after read reads written);
+}
+
+-- a write or a flush that failed
+pub speaks_failed_write : (x : List Call) (bs : List ℕ) (f : Bool) → Speaks x bs f None → Speaks (x ++ (FailedWrite ∷ [])) bs f (Some (Err WriteFailed))
+speaks_failed_write x bs f p = record {
+  dialogue = λ read reads written. dialogue_call (quiet read reads written) x FailedWrite (p.dialogue read reads written) (ap (λ (t : Talk). t.outcome) (p.after read reads written)) tt;
+  after = λ read reads written. after_one (quiet read reads written) x FailedWrite ∙ ap (λ t. after_call t FailedWrite) (p.after read reads written);
+}
+
+pub speaks_failed_flush : (x : List Call) (bs : List ℕ) (f : Bool) → Speaks x bs f None → Speaks (x ++ (FailedFlush ∷ [])) bs f (Some (Err WriteFailed))
+speaks_failed_flush x bs f p = record {
+  dialogue = λ read reads written. dialogue_call (quiet read reads written) x FailedFlush (p.dialogue read reads written) (ap (λ (t : Talk). t.outcome) (p.after read reads written)) tt;
+  after = λ read reads written. after_one (quiet read reads written) x FailedFlush ∙ ap (λ t. after_call t FailedFlush) (p.after read reads written);
+}
+
+-- nothing is written
+pub says_nothing : (r : Report) → Says r r []
+says_nothing r = record {
+  unread = refl;
+  written = Appends-nil r.written;
+  calls = [];
+  called = called_none r.calls;
+  spoken = speaks_nothing;
+}
+
+-- one stretch after another
+pub says_then : (old mid new : Report) (bs cs : List ℕ) (f : Bool) (o : Option (Result (Unit {0}) StdioFault)) → Says old mid bs → SaysTo f o mid new cs → SaysTo f o old new (bs ++ cs)
+says_then old mid new bs cs f o p q = record {
+  unread = q.unread ∙ p.unread;
+  written = Appends-trans old.written mid.written new.written bs cs p.written q.written;
+  calls = p.calls ++ q.calls;
+  called = called_then old.calls mid.calls new.calls p.calls q.calls p.called q.called;
+  spoken = speaks_then p.calls q.calls bs cs f o p.spoken q.spoken;
+}

@@ -1,0 +1,60 @@
+-- What a front end reports of its bytes and its calls, and what each call does to that (own choice).
+use Rattle.std.specs.Prelude.{◌≡◌, ◌≤◌, ℕ, List, [], ◌∷◌, ◌++◌, length, take, ⊤, Option, None, Some, Result, Ok, Err, IfOk}
+use Rattle.std.specs.Io.KnownBytes.{Keeps, ReadConsumes, WriteAppends}
+
+-- a call with what came of it: a read that gave these bytes, none of them where the input ended, a write of which these bytes were taken, a flush, and each of them where it failed
+pub data Call : Type 0 where
+  Read : (bytes : List ℕ) → Call
+  Write : (bytes : List ℕ) → Call
+  Flush : Call
+  FailedRead : Call
+  FailedWrite : Call
+  FailedFlush : Call
+
+-- the bytes that reads will give from here on, the bytes that writes took, and the calls so far; `None` where the front end does not report it
+pub record Report : Type 0 where
+  pub unread : Option (List ℕ)
+  pub written : Option (List ℕ)
+  pub calls : Option (List Call)
+
+-- a front end that reports nothing
+abbrev pub nothing_reported : Report
+nothing_reported = record { unread = None; written = None; calls = None }
+
+-- where calls are reported, these were made since
+abbrev pub IsCalled : Option (List Call) → Option (List Call) → List Call → Type 0
+IsCalled None new calls = ⊤
+IsCalled (Some before) new calls = new ≡ Some (before ++ calls)
+
+abbrev pub read_call : {E : Type 0} → Result ℕ E → List ℕ → Call
+read_call (Ok n) buf = Read (take n buf)
+read_call (Err error) buf = FailedRead
+
+abbrev pub write_call : {E : Type 0} → Result ℕ E → List ℕ → Call
+write_call (Ok n) bytes = Write (take n bytes)
+write_call (Err error) bytes = FailedWrite
+
+abbrev pub flush_call : {E : Type 0} → Result (Unit {0}) E → Call
+flush_call (Ok done) = Flush
+flush_call (Err error) = FailedFlush
+
+-- a read gave the next bytes, or failed and gave none; nothing else changed
+pub record Reads {E : Type 0} (old new : Report) (result : Result ℕ E) (buf : List ℕ) : Type 0 where
+  pub within : IfOk result (λ n. n ≤ length buf)
+  pub consumed : ReadConsumes old.unread new.unread result buf
+  pub written : Keeps old.written new.written
+  pub called : IsCalled old.calls new.calls (read_call result buf ∷ [])
+
+-- a write took the first bytes, or failed and took none; nothing else changed
+pub record Writes {E : Type 0} (old new : Report) (result : Result ℕ E) (bytes : List ℕ)
+    : Type 0 where
+  pub within : IfOk result (λ n. n ≤ length bytes)
+  pub appended : WriteAppends old.written new.written result bytes
+  pub unread : new.unread ≡ old.unread
+  pub called : IsCalled old.calls new.calls (write_call result bytes ∷ [])
+
+-- a flush, or one that failed; no byte moved
+pub record Flushes {E : Type 0} (old new : Report) (result : Result (Unit {0}) E) : Type 0 where
+  pub unread : new.unread ≡ old.unread
+  pub written : Keeps old.written new.written
+  pub called : IsCalled old.calls new.calls (flush_call result ∷ [])

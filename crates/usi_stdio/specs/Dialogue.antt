@@ -1,0 +1,93 @@
+-- The calls of a run in their order: what is due is written and flushed before more is read, and the result is what the last call asks for (own choice).
+use Rattle.std.specs.Prelude.{◌≡◌, ◌+◌, ◌-◌, ◌^◌, ◌⊎◌, ℕ, List, [], ◌∷◌, ◌++◌, Bool, true, false, Option, None, Some, Result, Ok, Err}
+use Rattle.usi_session.specs.Replies.{replies, is_over_after}
+use Rattle.usi_stdio.specs.Calls.{Call, Read, Write, Flush, FailedRead, FailedWrite, FailedFlush, IsCalled}
+use Rattle.usi_stdio.specs.declared.streams.StdioFault.{StdioFault}
+use Rattle.usi_stdio.specs.declared.streams.StdioFault.TheVariants as fault
+
+-- a run after some of its calls: what was read and in how many reads, what was written, whether that was flushed, and the result that the last call asks for, if any
+pub record Talk : Type 0 where
+  pub read : List ℕ
+  pub reads : ℕ
+  pub written : List ℕ
+  pub is_flushed : Bool
+  pub outcome : Option (Result (Unit {0}) StdioFault)
+
+-- before the first call
+abbrev pub no_call : Talk
+no_call = record { read = []; reads = 0; written = []; is_flushed = true; outcome = None }
+
+-- a read that gives nothing is the end of the input
+abbrev pub asked_by_read : List ℕ → Option (Result (Unit {0}) StdioFault)
+asked_by_read [] = Some (Ok tt)
+asked_by_read (byte ∷ rest) = None
+
+-- a write that takes nothing has failed
+abbrev pub asked_by_write : List ℕ → Option (Result (Unit {0}) StdioFault)
+asked_by_write [] = Some (Err fault.WriteFailed)
+asked_by_write (byte ∷ rest) = None
+
+abbrev pub after_call : Talk → Call → Talk
+after_call talk (Read bytes) =
+    record talk {
+      read = talk.read ++ bytes;
+      reads = talk.reads + 1;
+      outcome = asked_by_read bytes;
+    }
+after_call talk (Write bytes) =
+    record talk {
+      written = talk.written ++ bytes;
+      is_flushed = false;
+      outcome = asked_by_write bytes;
+    }
+after_call talk Flush = record talk { is_flushed = true }
+after_call talk FailedRead = record talk { outcome = Some (Err fault.ReadFailed) }
+after_call talk FailedWrite = record talk { outcome = Some (Err fault.WriteFailed) }
+after_call talk FailedFlush = record talk { outcome = Some (Err fault.WriteFailed) }
+
+abbrev pub after_calls : Talk → List Call → Talk
+after_calls talk [] = talk
+after_calls talk (call ∷ rest) = after_calls (after_call talk call) rest
+
+-- all replies to what was read are written and flushed
+abbrev pub IsSettled : Talk → Type 0
+IsSettled talk = (talk.written ≡ replies talk.read) × (talk.is_flushed ≡ true)
+
+-- nothing is read before all is settled, nor once the session is over
+abbrev pub MayFollow : Talk → Call → Type 0
+MayFollow talk (Read bytes) = IsSettled talk × (is_over_after talk.read ≡ false)
+MayFollow talk FailedRead = IsSettled talk × (is_over_after talk.read ≡ false)
+MayFollow talk (Write bytes) = Unit {0}
+MayFollow talk FailedWrite = Unit {0}
+MayFollow talk Flush = Unit {0}
+MayFollow talk FailedFlush = Unit {0}
+
+-- each call may follow those before it, none of which asked for a result
+abbrev pub IsDialogue : Talk → List Call → Type 0
+IsDialogue talk [] = Unit {0}
+IsDialogue talk (call ∷ rest) =
+    (talk.outcome ≡ None) × MayFollow talk call × IsDialogue (after_call talk call) rest
+
+-- a success comes at the end of the input or of the session, once all is settled; a fault is that of the last call, but for want of memory, and for a read beyond the greatest number of them
+abbrev pub EndsAs : Talk → Result (Unit {0}) StdioFault → Type 0
+EndsAs talk (Ok done) =
+    IsSettled talk
+    × ((talk.outcome ≡ Some (Ok tt)) ⊎ ((talk.outcome ≡ None) × (is_over_after talk.read ≡ true)))
+EndsAs talk (Err fault.OutOfMemory) = talk.outcome ≡ None
+EndsAs talk (Err fault.WriteFailed) = talk.outcome ≡ Some (Err fault.WriteFailed)
+EndsAs talk (Err fault.ReadFailed) =
+    (talk.outcome ≡ Some (Err fault.ReadFailed))
+    ⊎ ((talk.outcome ≡ None) × (talk.reads ≡ 2 ^ 64 - 1))
+
+-- what was written begins the replies to what was read
+abbrev pub IsFront : Talk → Type 0
+IsFront talk = (left : List ℕ) × (replies talk.read ≡ talk.written ++ left)
+
+-- where calls are reported, the run is a dialogue that ends with this result
+pub record Talks (old new : Option (List Call)) (result : Result (Unit {0}) StdioFault)
+    : Type 0 where
+  pub calls : List Call
+  pub called : IsCalled old new calls
+  pub dialogue : IsDialogue no_call calls
+  pub front : IsFront (after_calls no_call calls)
+  pub ended : EndsAs (after_calls no_call calls) result

@@ -1,0 +1,95 @@
+-- What is written between two reads (own choice).
+use Rattle.std.specs.Prelude.{◌≡◌, ◌+◌, ◌*◌, ℕ, List, [], ◌++◌, Bool, true, false, cond, Option, None, Some, Result, Err}
+use Rattle.std.specs.Io.KnownBytes.{Appends}
+use Rattle.usi_session.specs.Due.{SessionView, due, state_due, load, is_pending}
+use Rattle.usi_stdio.specs.Calls.{Call, Report, IsCalled}
+use Rattle.usi_stdio.specs.Dialogue.{Talk, after_calls, IsDialogue}
+use Rattle.usi_stdio.specs.declared.streams.StdioFault.{StdioFault}
+use Rattle.usi_stdio.specs.declared.streams.StdioFault.TheVariants.{OutOfMemory, ReadFailed, WriteFailed}
+
+-- all that was written is flushed, and no result is asked for
+abbrev pub quiet : (read : List ℕ) (reads : ℕ) (written : List ℕ) → Talk
+quiet read reads written = record {
+  read = read;
+  reads = reads;
+  written = written;
+  is_flushed = true;
+  outcome = None;
+}
+
+-- these calls follow where all is flushed: they write these bytes and read none, leave them flushed or not, and this result asked for
+pub record Speaks (calls : List Call) (bytes : List ℕ) (is_flushed : Bool)
+    (outcome : Option (Result (Unit {0}) StdioFault)) : Type 0 where
+  pub dialogue : (read : List ℕ) (reads : ℕ) (written : List ℕ)
+      → IsDialogue (quiet read reads written) calls
+  pub after : (read : List ℕ) (reads : ℕ) (written : List ℕ)
+      → after_calls (quiet read reads written) calls
+      ≡ record {
+        read = read;
+        reads = reads;
+        written = written ++ bytes;
+        is_flushed = is_flushed;
+        outcome = outcome;
+      }
+
+-- the front end took these bytes, and gave none
+pub record SaysTo (is_flushed : Bool) (outcome : Option (Result (Unit {0}) StdioFault))
+    (old new : Report) (bytes : List ℕ) : Type 0 where
+  pub unread : new.unread ≡ old.unread
+  pub written : Appends old.written new.written bytes
+  pub calls : List Call
+  pub called : IsCalled old.calls new.calls calls
+  pub spoken : Speaks calls bytes is_flushed outcome
+
+-- the front end took these bytes, and all is flushed
+abbrev pub Says : Report → Report → List ℕ → Type 0
+Says old new bytes = SaysTo true None old new bytes
+
+-- the front end took the bytes but for those that are left
+pub record SaysBut (outcome : Option (Result (Unit {0}) StdioFault)) (old new : Report)
+    (bytes left : List ℕ) : Type 0 where
+  pub done : List ℕ
+  pub is_flushed : Bool
+  pub said : SaysTo is_flushed outcome old new done
+  pub split : bytes ≡ done ++ left
+
+-- the result that the last call asks for where a run ends with this fault
+abbrev pub asked_by : StdioFault → Option (Result (Unit {0}) StdioFault)
+asked_by OutOfMemory = None
+asked_by ReadFailed = Some (Err ReadFailed)
+asked_by WriteFailed = Some (Err WriteFailed)
+
+-- the front end took a prefix of the bytes, and the last call asked for this fault
+abbrev pub SaysPrefix : Report → Report → List ℕ → StdioFault → Type 0
+SaysPrefix old new bytes fault = (left : List ℕ) × SaysBut (asked_by fault) old new bytes left
+
+-- the same of what is owed, whatever bytes follow these
+abbrev pub SaysPrefixOfDue : Report → Report → SessionView → List ℕ → StdioFault → Type 0
+SaysPrefixOfDue old new session bytes fault =
+    (x : List ℕ) → SaysPrefix old new (due session (bytes ++ x)) fault
+
+-- all that was queued was written and taken, and nothing else changed
+pub record IsWritten (before after : SessionView) (old new : Report) : Type 0 where
+  pub written : Says old new before.queued
+  pub rest : after ≡ record before { queued = [] }
+
+-- what was made was written at once: nothing waits, and the rest is owed
+pub record IsWorkedOn (before after : SessionView) (old new : Report) : Type 0 where
+  pub made : List ℕ
+  pub written : Says old new made
+  pub owed : (x : List ℕ) → due before x ≡ made ++ due after x
+  pub left : (x : List ℕ) → state_due after x ≡ state_due before x
+  pub empty : after.queued ≡ []
+
+-- falls with each slice, since a slice makes a step where something is pending after it
+abbrev pub slices_of : SessionView → ℕ
+slices_of s = 2 * load s + cond (is_pending s) 1 0
+
+-- these bytes were fed and answered in full, and the answers were written
+pub record Answers (before after : SessionView) (chunk : List ℕ) (old new : Report) : Type 0 where
+  pub made : List ℕ
+  pub written : Says old new made
+  pub owed : (x : List ℕ) → due before (chunk ++ x) ≡ made ++ due after x
+  pub left : (x : List ℕ) → state_due after x ≡ state_due before (chunk ++ x)
+  pub empty : after.queued ≡ []
+  pub settled : is_pending after ≡ false
