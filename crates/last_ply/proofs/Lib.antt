@@ -4,3 +4,4 @@ pub mod Scores
 pub mod Passing
 pub mod MateLaws
 pub mod OneWalk
+pub mod Firsts

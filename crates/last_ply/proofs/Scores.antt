@@ -133,7 +133,7 @@ drop_gain_most Hand kinds.Bishop = omega (arith, ints)
 drop_gain_most Hand kinds.Rook = omega (arith, ints)
 
 -- no drop scores more than the node has
-score_drop : (p : Shogi) (e : Eval) (kind : Kind) (to code : ℕ) → IsValid p → to < 81 → move_of code ≡ Some (Drop kind to) → is_legal_code p code ≡ true → score_at p e code ≤ℤ material_of p e
+pub score_drop : (p : Shogi) (e : Eval) (kind : Kind) (to code : ℕ) → IsValid p → to < 81 → move_of code ≡ Some (Drop kind to) → is_legal_code p code ≡ true → score_at p e code ≤ℤ material_of p e
 score_drop p e kind to code v ht back l =
     let legal : is_legal p (Drop kind to) ≡ true = sym (is_legal_code_of p code (Drop kind to) back) ∙ l in
     let law : material_of (after p (Drop kind to)) e ≡ pos 0 -ℤ (material_of p e +ℤ drop_gain e kind) = material_after_drop p e kind to v ht legal in

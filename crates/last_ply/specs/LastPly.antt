@@ -1,6 +1,7 @@
 -- What is asked of a node with one ply left (own choice).
-use Rattle.std.specs.Prelude.{◌+◌, ◌+ℤ◌, pos, ◌≡◌, ◌≢◌, ◌<◌, ◌≤ℤ◌, ◌⊎◌, ℕ, ℤ, [], true, Bool}
+use Rattle.std.specs.Prelude.{◌+◌, ◌*◌, ◌≤◌, ◌+ℤ◌, pos, ◌≡◌, ◌≢◌, ◌<◌, ◌≤ℤ◌, ◌⊎◌, ℕ, ℤ, [], true, Bool}
 use Rattle.shogi_core.specs.declared.moves.Move.TheVariants.{Board, Drop}
+use Rattle.shogi_core.specs.declared.moves.TheConstants.{SQUARE_CODES}
 use Rattle.shogi_core.specs.declared.piece.Kind.{Kind}
 use Rattle.shogi_core.specs.Bits.{has_bit, IsMaskOf}
 use Rattle.shogi_core.specs.Codes.{code_of}
@@ -62,6 +63,22 @@ NoneMeets p meets = (n : ℕ) → is_in n (legal_codes p) ≡ true → meets n �
 -- the move scores this
 abbrev pub Scores : Evaluated → ℤ → ℕ → Type 0
 Scores node v code = score_at node.position node.eval code ≡ v
+
+-- no legal move of what stands on the square scores this
+abbrev pub NoneScoresFrom : Evaluated → ℤ → ℕ → Type 0
+NoneScoresFrom node v from = (n : ℕ) (promote : Bool) → n < 81
+    → is_legal_code node.position (code_of (Board from n promote)) ≡ true
+    → Scores node v (code_of (Board from n promote)) → ⊥
+
+-- of the legal moves of what stands on the square that score this, the code is the least
+pub record IsFirstFrom (node : Evaluated) (v : ℤ) (from code : ℕ) : Type 0 where
+  pub listed : is_legal_code node.position code ≡ true
+  pub scores : Scores node v code
+  pub low : from * SQUARE_CODES ≤ code
+  pub high : code < from * SQUARE_CODES + SQUARE_CODES
+  pub least : (n : ℕ) (promote : Bool) → n < 81
+      → is_legal_code node.position (code_of (Board from n promote)) ≡ true
+      → code_of (Board from n promote) < code → Scores node v (code_of (Board from n promote)) → ⊥
 
 -- a move is legal, or the value is no less than that of a lost position with one ply left
 abbrev pub IsNoLoss : Shogi → ℤ → Type 0

@@ -1,14 +1,20 @@
 //! The legal move of least code that meets something.
 
-ghost use Rattle.std.specs.Prelude.{◌≡◌, ◌≤ℤ◌, ◌<ℤ◌, ℤ, IfSome, IsNone};
+ghost use Rattle.std.specs.Prelude.{◌≡◌, ◌≤ℤ◌, ◌<ℤ◌, ℤ, true, false, IfSome, IsNone};
+ghost use Rattle.shogi_core.specs.declared.moves.Move.TheVariants as moves;
+ghost use Rattle.shogi_core.specs.Cell.{is_piece_of};
 ghost use Rattle.shogi_core.specs.Codes.{code_of};
+ghost use Rattle.shogi_core.specs.Movement.{piece_at, reaches};
+ghost use Rattle.shogi_moves.specs.Legal.{is_legal_code};
+ghost use Rattle.shogi_eval.specs.Material.{material_of};
 ghost use Rattle.minimax.specs.Entries.{IsCutoff};
-ghost use Rattle.last_ply.specs.LastPly.{HasNoMate, IsLeast, LeavesNone, NoneMeets, Scores, NodeHasScore, NodeScoresAtMost, IsTrueOf};
+ghost use Rattle.last_ply.specs.LastPly.{HasNoMate, IsFirstFrom, IsLeast, LeavesNone, NoneMeets, NoneScoresFrom, Scores, NodeHasScore, NodeScoresAtMost, IsTrueOf};
 
 use crate::scene::Scene;
 use minimax::{Entry, INFINITY, MATE};
-use shogi_core::Move;
-use shogi_moves::{Replies, Walk};
+use shogi_core::bits::{lowest, without_lowest};
+use shogi_core::{Move, Square};
+use shogi_moves::{Replies, Walk, enterable, promoting_squares};
 
 impl Scene<'_> {
     /// The legal move of least code that leaves the other side without one.
@@ -27,6 +33,79 @@ impl Scene<'_> {
         None
     }
 
+    /// Whether the move of one of the side's pieces to a square that it reaches is legal and scores
+    /// this.
+    fn is_gain(&self, from: Square, to: Square, promote: bool, score: i32) -> bool
+        requires own { is_piece_of self.now.node.now.position.side
+            (piece_at self.now.node.now.position.cells from) ≡ true }
+        requires reached { reaches self.now.node.now.position.cells from to ≡ true }
+        requires free { is_piece_of self.now.node.now.position.side
+            (piece_at self.now.node.now.position.cells to) ≡ false }
+        ensures legal { result ≡ true → is_legal_code self.now.node.now.position
+            (code_of (moves.Board from to promote)) ≡ true }
+        ensures scores { result ≡ true
+            → Scores self.now.node.now score (code_of (moves.Board from to promote)) }
+        ensures other { result ≡ false → is_legal_code self.now.node.now.position
+            (code_of (moves.Board from to promote)) ≡ true
+            → Scores self.now.node.now score (code_of (moves.Board from to promote)) → ⊥ }
+    {
+        self.score_to(from, to, promote) == score && self.is_end(from, to, promote)
+    }
+
+    /// The move of least code of one of the side's pieces that is legal and scores this, more than
+    /// the node has.
+    fn first_from(&self, from: Square, score: i32) -> Option<Move>
+        requires own { is_piece_of self.now.node.now.position.side
+            (piece_at self.now.node.now.position.cells from) ≡ true }
+        requires gain { material_of self.now.node.now.position self.now.node.now.eval <ℤ score }
+        ensures some { IfSome result (λ m. IsFirstFrom self.now.node.now score from (code_of m)) }
+        ensures none { IsNone result → NoneScoresFrom self.now.node.now score from }
+    {
+        from.validity();
+        let p = self.node.as_position();
+        let reach = p.as_board().targets(from) & enterable(p);
+        let mut left = reach & (self.foe | promoting_squares(p.at(from), from));
+        while left != 0 {
+            let square = lowest(left);
+            let to = Square::of_index(square);
+            if self.is_gain(from, to, false, score) {
+                return Some(Move::Board {
+                    from,
+                    to,
+                    promote: false,
+                });
+            }
+            if self.is_gain(from, to, true, score) {
+                return Some(Move::Board {
+                    from,
+                    to,
+                    promote: true,
+                });
+            }
+            left = without_lowest(left, square);
+        }
+        None
+    }
+
+    /// The legal move of least code that scores this, more than the node has.
+    fn first_gain(&self, score: i32) -> Option<Move>
+        requires { material_of self.now.node.now.position self.now.node.now.eval <ℤ score }
+        ensures some { IfSome result (λ m. IsLeast self.now.node.now.position
+            (Scores self.now.node.now score) (code_of m)) }
+        ensures none { IsNone result → NoneMeets self.now.node.now.position
+            (Scores self.now.node.now score) }
+    {
+        let mut left = self.gainers(score - 1);
+        while left != 0 {
+            let from = lowest(left);
+            if let Some(m) = self.first_from(Square::of_index(from), score) {
+                return Some(m);
+            }
+            left = without_lowest(left, from);
+        }
+        None
+    }
+
     /// The legal move of least code that scores this.
     pub fn first_with(&self, score: i32) -> Option<Move>
         ensures some { IfSome result (λ m. IsLeast self.now.node.now.position
@@ -34,6 +113,9 @@ impl Scene<'_> {
         ensures none { IsNone result → NoneMeets self.now.node.now.position
             (Scores self.now.node.now score) }
     {
+        if score > self.node.score() {
+            return self.first_gain(score);
+        }
         let mut walk = Walk::new(self.node.as_position());
         'moves: while let Some(m) = walk.next() {
             if self.score_with(&m) == score {

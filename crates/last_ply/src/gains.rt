@@ -106,7 +106,7 @@ impl Scene<'_> {
     }
 
     /// What the move scores where it is legal.
-    fn score_to(&self, from: Square, to: Square, promote: bool) -> i32
+    pub fn score_to(&self, from: Square, to: Square, promote: bool) -> i32
         ensures { is_legal_code self.now.node.now.position
             (code_of (moves.Board from to promote)) ≡ true
             → result ≡ score_at self.now.node.now.position self.now.node.now.eval
@@ -121,7 +121,7 @@ impl Scene<'_> {
 
     /// Whether one of the side's pieces may legally go to a square that it reaches.
     #[inline(never)]
-    fn is_end(&self, from: Square, to: Square, promote: bool) -> bool
+    pub fn is_end(&self, from: Square, to: Square, promote: bool) -> bool
         requires own { is_piece_of self.now.node.now.position.side
             (piece_at self.now.node.now.position.cells from) ≡ true }
         requires reached { reaches self.now.node.now.position.cells from to ≡ true }
@@ -247,7 +247,7 @@ impl Scene<'_> {
     /// Those of the side's pieces that may score more than the floor: with room for any promotion,
     /// they take something; with room for the capture of any piece that does not slide, something
     /// dear enough, and with room for both, one that slides.
-    fn gainers(&self, floor: i32) -> u128
+    pub fn gainers(&self, floor: i32) -> u128
         requires { material_of self.now.node.now.position self.now.node.now.eval ≤ℤ floor }
         ensures within { IsWithin result self.now.own }
         ensures fits { result < 2 ^ 81 }
