@@ -1,8 +1,8 @@
 -- The legal move of least code that scores more than the node has.
-use Rattle.std.proofs.Common.{◌≡◌, ◌<◌, ◌≤◌, ◌+◌, ◌*◌, ◌/◌, ◌%◌, ℕ, ℤ, ◌≤ℤ◌, ◌<ℤ◌, Bool, true, false, not, bit_and, bit_or, refl, sym, ap, ◌∙◌, subst, arith, inl, inr}
-use Rattle.std.specs.Prelude.{◌&&◌, ◌==◌}
+use Rattle.std.proofs.Common.{◌≡◌, ◌<◌, ◌+◌, ◌*◌, ◌/◌, ◌%◌, ℕ, ℤ, ◌≤ℤ◌, ◌<ℤ◌, Bool, true, false, not, bit_and, bit_or, sym, ap, ◌∙◌, subst, arith, inl, inr}
+use Rattle.std.specs.Prelude.{◌==◌}
 use Rattle.std.proofs.lemmas.Int.{ints}
-use Rattle.std.proofs.lemmas.Bool.{and_from, both_ways, cases_eq, cases_lt, false_from_ne_true, or_parts, true_from_ne_false}
+use Rattle.std.proofs.lemmas.Bool.{and_from, both_ways, cases_lt, or_parts, true_from_ne_false}
 use Rattle.shogi_core.specs.declared.moves.TheConstants.{SQUARE_CODES}
 use Rattle.shogi_core.specs.declared.moves.Move.TheVariants.{Board, Drop}
 use Rattle.shogi_core.specs.Bits.{has_bit}
@@ -22,7 +22,7 @@ use Rattle.shogi_eval.specs.Material.{material_of}
 use Rattle.last_ply.specs.LastPly.{score_at, IsFirstFrom, IsLeast, NoneMeets, NoneScoresFrom, Scores, ScoresFromAtMost}
 use Rattle.last_ply.proofs.MateLaws.{by_moves}
 use Rattle.last_ply.proofs.Scores.{legal_parts, score_drop, score_quiet}
-use Rattle.last_ply.proofs.Squares.{left_clear, out_within}
+use Rattle.last_ply.proofs.Squares.{out_within}
 
 -- a legal move that ends on no square of a capture or a promotion scores what the node has
 pub quiet_end : (p : Shogi) (e : Eval) (from targets enters foe zone n : ℕ) (promote : Bool) → IsValid p → from < 81 → n < 81

@@ -125,8 +125,8 @@ impl Scene<'_> {
         None
     }
 
-    /// The most that a legal move scores, or the floor where that is no less, found by going through
-    /// all moves.
+    /// The most that a legal move scores, or the floor where that is no less, found by going
+    /// through all moves.
     pub fn most_of_all(&self, floor: i32) -> i32
         ensures least { floor ≤ℤ result }
         ensures all { NodeScoresAtMost self.now.node.now result }

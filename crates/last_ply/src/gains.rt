@@ -47,7 +47,8 @@ fn promotion_gain(cell: Option<Piece>, promote: bool) -> u32
 
 /// The most that the capture of a piece that does not slide gains, that of a gold.
 fn still_gain(e: Eval) -> u32
-    ensures most { (cell : Option pieces.Piece) → is_slider cell ≡ false → taken_gain e cell ≤ result }
+    ensures most { (cell : Option pieces.Piece) → is_slider cell ≡ false
+        → taken_gain e cell ≤ result }
     ensures least { PROMOTION_GAIN_MAX ≤ result }
     ensures range { result ≤ 2 * PIECE_VALUE_MAX }
 {
