@@ -29,6 +29,8 @@ GO_DEPTH_ONE = DEPTH_ONE + b"bestmove 1g1f\n"
 HOST_FULL = b"info string host full\n"
 TOO_LONG = b"info string line too long\n"
 SOCKET_FAILED = b"usi_host: socket failed\n"
+SOCKET_TAKEN = SOCKET_FAILED[:-1] + b": a process listens at it already; end it, or take another path\n"
+SOCKET_LEFT = SOCKET_FAILED[:-1] + b": nobody listens at it; remove it, and start again\n"
 
 
 def wait_until(test, what):
@@ -813,6 +815,9 @@ def a_socket_that_cannot_be_made_is_told():
         want(refused(there), failed, "a file is there")
         with open(there, "rb") as kept:
             want(kept.read(), b"", "the file that was there")
+        pipe = os.path.join(place, "pipe")
+        os.mkfifo(pipe)
+        want(refused(pipe), failed, "a pipe is there")
         want(refused(place), failed, "a folder is there")
         want(refused(os.path.join(place, "no", "folder")), failed, "no folder")
         want(refused(os.path.join(place, "l" * 108)), failed, "a path that is too long")
@@ -827,9 +832,29 @@ def a_socket_that_cannot_be_made_is_told():
         os.chmod(copy, 0o755)
         seen = refused(os.path.join(closed, "socket"), program=copy, cwd=place, **how)
         want(seen, failed, "no permission")
-    with host() as running:
-        want(refused(running.path), failed, "another host is there")
+
+
+def a_socket_that_was_left_is_told_from_a_live_one():
+    with folder() as place:
+        running = Host(place)
+        taken = (1, b"", SOCKET_TAKEN)
+        want(refused(running.path), taken, "another host is there")
         want(running.ask(b"isready\n"), b"readyok\n", "the other host")
+        want(running.stop(), (b"", b""), "what it wrote")
+        for _ in range(2):
+            want(refused(running.path), (1, b"", SOCKET_LEFT), "the socket of a host that has ended")
+        os.unlink(running.path)
+        again = Host(place)
+        want(again.ask(b"isready\n"), b"readyok\n", "a host after the socket was removed")
+        want(again.stop(), (b"", b""), "what it wrote")
+
+        busy = os.path.join(place, "busy")
+        with socket.socket(socket.AF_UNIX) as listener:
+            listener.bind(busy)
+            listener.listen(0)
+            with socket.socket(socket.AF_UNIX) as first:
+                first.connect(busy)
+                want(refused(busy), taken, "one that listens and has no room for another client")
 
 
 def want_of_memory_is_told():
@@ -911,6 +936,7 @@ CHECKS = (
     each_turn_answers_one_line_of_each,
     the_mode_of_the_socket_is_the_umask,
     a_socket_that_cannot_be_made_is_told,
+    a_socket_that_was_left_is_told_from_a_live_one,
     want_of_memory_is_told,
     words_of_serve,
 )

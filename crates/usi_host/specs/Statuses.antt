@@ -34,3 +34,11 @@ of_wire wires.OutOfMemory = serving.OutOfMemory
 -- 1 for each fault
 abbrev pub serve_status : ServeFault → ℕ
 serve_status fault = 1
+
+-- a fault of the socket, whatever stands at its path
+abbrev pub IsOfSocket : ServeFault → Type 0
+IsOfSocket serving.OutOfMemory = ⊥
+IsOfSocket serving.ReadFailed = ⊥
+IsOfSocket serving.SocketFailed = Unit {0}
+IsOfSocket serving.SocketTaken = Unit {0}
+IsOfSocket serving.SocketLeft = Unit {0}

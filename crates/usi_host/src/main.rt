@@ -12,8 +12,9 @@ mod serving;
 
 use host_core::Host;
 use refusal::{FAULT, complaint, status};
-use serving::ServeFault;
+use serving::{ServeFault, socket_fault};
 use socket_loop::Loop;
+use std::alloc::Global;
 use std::hash::RandomState;
 use std::process::ExitCode;
 use std::{env, io};
@@ -21,6 +22,7 @@ use usi_replay::{ReplayFault, replay};
 use usi_serve::{MioWire, serve};
 use usi_stdio::{Duplex, stdio};
 use usi_words::{Job, WordsFault, read_words, unread_words, version_text};
+use wires::WireFault;
 
 /// The status of a script that has a bad line.
 const BAD_SCRIPT: u8 = 3;
@@ -104,6 +106,15 @@ fn run_script(rt: &HostRuntime, slots: usize, entries: usize, slice: u64) -> Exi
     }
 }
 
+/// A socket at the path, and who listens there.
+fn bound(rt: &HostRuntime, socket: &str) -> Result<MioWire<Global>, ServeFault> {
+    match MioWire::bind(rt, rt.alloc(), socket) {
+        Ok(wire) => Ok(wire),
+        Err(WireFault::Device) => Err(socket_fault(rt, socket)),
+        Err(WireFault::OutOfMemory) => Err(ServeFault::OutOfMemory),
+    }
+}
+
 /// A host on a Unix socket at this path, for so many turns. Strangers share its table, so the hash of
 /// the table has a seed that they can't know.
 fn run_socket(
@@ -124,7 +135,7 @@ fn run_socket(
         return Err(ServeFault::ReadFailed);
     };
     let mut host = Host::new(rt.alloc(), slots, entries, hasher)?;
-    let mut wire = MioWire::bind(rt, rt.alloc(), socket)?;
+    let mut wire = bound(rt, socket)?;
     let mut connections = Loop::new(rt.alloc(), slice);
     serve(&mut host, &mut connections, &mut wire, turns)?;
     Ok(())

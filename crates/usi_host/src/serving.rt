@@ -2,10 +2,16 @@
 
 ghost use Rattle.std.specs.Prelude.{◌≡◌};
 ghost use Rattle.usi_host.specs.Refusals.{serve_complaint};
-ghost use Rattle.usi_host.specs.Statuses.{of_host, of_wire, serve_status};
+ghost use Rattle.usi_host.specs.Statuses.{of_host, of_wire, serve_status, IsOfSocket};
 
 use crate::refusal::FAULT;
 use host_core::HostFault;
+use mio::net::UnixStream;
+use std::fs;
+use std::fs::Files;
+use std::io::ErrorKind;
+use std::net::Net;
+use std::os::unix::fs::FileTypeExt;
 use wires::WireFault;
 
 /// Why the host on a socket ended early.
@@ -17,6 +23,11 @@ pub enum ServeFault {
     ReadFailed,
     /// The socket could not be made, or waited for.
     SocketFailed,
+    /// It could not be made: a process listens at the path.
+    SocketTaken,
+    /// It could not be made: the socket at the path has nobody who listens, as that of a host that has
+    /// ended.
+    SocketLeft,
 }
 
 impl From<HostFault> for ServeFault {
@@ -38,6 +49,32 @@ impl From<WireFault> for ServeFault {
     }
 }
 
+/// Whether a socket stands at the path, and not a file of another kind.
+fn is_socket<R: Files>(rt: &R, path: &str) -> bool {
+    match fs::symlink_metadata(rt, path) {
+        Ok(found) => found.file_type().is_socket(),
+        Err(_) => false,
+    }
+}
+
+/// Why no socket could be made at the path, as far as what stands there tells: a socket that stands
+/// there is connected to, without waiting, and left again.
+pub fn socket_fault<R: Files + Net>(rt: &R, path: &str) -> ServeFault
+    ensures { IsOfSocket result }
+{
+    if !is_socket(rt, path) {
+        return ServeFault::SocketFailed;
+    }
+    match UnixStream::connect(rt, path) {
+        Ok(_) => ServeFault::SocketTaken,
+        Err(error) => match error.kind() {
+            ErrorKind::WouldBlock => ServeFault::SocketTaken,
+            ErrorKind::ConnectionRefused => ServeFault::SocketLeft,
+            _ => ServeFault::SocketFailed,
+        },
+    }
+}
+
 impl ServeFault {
     /// The status with which the program ends.
     pub fn status(self) -> u8
@@ -54,6 +91,12 @@ impl ServeFault {
             ServeFault::OutOfMemory => "usi_host: out of memory\n",
             ServeFault::ReadFailed => "usi_host: read failed\n",
             ServeFault::SocketFailed => "usi_host: socket failed\n",
+            ServeFault::SocketTaken => {
+                "usi_host: socket failed: a process listens at it already; end it, or take another path\n"
+            }
+            ServeFault::SocketLeft => {
+                "usi_host: socket failed: nobody listens at it; remove it, and start again\n"
+            }
         }
     }
 }
