@@ -42,6 +42,7 @@ USUAL = {
     "usi_lines": 35,
     "usi_session": 196,
     "wires": 55,
+    "stream_wire": 60,
     "session_slots": 51,
     "host_core": 116,
     "socket_loop": 170,

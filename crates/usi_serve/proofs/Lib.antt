@@ -3,4 +3,3 @@ pub mod Lives
 pub mod Ends
 pub mod Waits
 pub mod Alone
-pub mod Giving

@@ -50,6 +50,13 @@ impl<A: Allocator> Kept<A> {
         }
     }
 
+    /// All of them.
+    pub fn as_slice(&self) -> &[u8]
+        ensures { result.now ≡ self.now }
+    {
+        self.bytes.as_slice().split_at(self.start).1
+    }
+
     /// Whether there are none.
     pub fn is_empty(&self) -> bool
         ensures { result ≡ nat_eq (length self.now) 0 }

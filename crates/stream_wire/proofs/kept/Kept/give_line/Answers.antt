@@ -1,7 +1,7 @@
 use Rattle.std.proofs.Common.{rules, ◌≡◌, ◌≤◌, ◌++◌, length, take, drop, sym, ap, ◌∙◌}
 use Rattle.usi_lines.proofs.OneLines.{one_line_front}
-use Rattle.usi_serve.proofs.Giving.{given_prefix, given_rest}
-use Rattle.usi_serve.proofs.kept.Kept.give_line.Goals as goal
+use Rattle.stream_wire.proofs.Giving.{given_prefix, given_rest}
+use Rattle.stream_wire.proofs.kept.Kept.give_line.Goals as goal
 
 -- a prefix of the first line
 pub returns-else-self-len-clause-line : goal.returns-else-self-len-clause-line

@@ -1,0 +1,46 @@
+-- What a listener tells of the connections that a wire does not hold, and what each of its calls does to that (own choice).
+use Rattle.std.specs.Prelude.{ℕ, List, Option, Result}
+use Rattle.std.specs.Io.KnownBytes.{Keeps}
+use Rattle.wires.specs.declared.wire.WireFault.{WireFault}
+use Rattle.wires.specs.Report.{Report, IsRaised, KeepsOthers, ReportsFailure, Stays}
+
+-- it has handed out the stream of this number, which has the bytes that were told of it, those to be read and those that it took
+pub record HandsOut (old new : Report) (number : ℕ) (left taken : Option (List ℕ)) : Type 0 where
+  pub unread : Keeps (old.unread number) left
+  pub written : Keeps (old.written number) taken
+  pub shut : Stays (old.is_shut number) (new.is_shut number)
+  pub failed : Stays (old.has_failed number) (new.has_failed number)
+  pub others : KeepsOthers old new number
+
+-- it was told that a call of this number has failed, and of nothing else
+pub record IsToldFailed (old new : Report) (number : ℕ) : Type 0 where
+  pub unread : Keeps (old.unread number) (new.unread number)
+  pub written : Keeps (old.written number) (new.written number)
+  pub shut : Stays (old.is_shut number) (new.is_shut number)
+  pub failed : IsRaised (old.has_failed number) (new.has_failed number)
+  pub others : KeepsOthers old new number
+
+-- it was told that this number is shut, and of nothing else
+pub record IsToldShut (old new : Report) (number : ℕ) : Type 0 where
+  pub unread : Keeps (old.unread number) (new.unread number)
+  pub written : Keeps (old.written number) (new.written number)
+  pub shut : IsRaised (old.is_shut number) (new.is_shut number)
+  pub failed : Stays (old.has_failed number) (new.has_failed number)
+  pub others : KeepsOthers old new number
+
+-- it has the stream of this number back: from now on it tells these bytes of it, those to be read and those that it took
+pub record HasBack (old new : Report) (number : ℕ) (left taken : Option (List ℕ)) : Type 0 where
+  pub unread : Keeps left (new.unread number)
+  pub written : Keeps taken (new.written number)
+  pub shut : Stays (old.is_shut number) (new.is_shut number)
+  pub failed : Stays (old.has_failed number) (new.has_failed number)
+  pub others : KeepsOthers old new number
+
+-- it was told of a call of this number that failed, and else of nothing
+pub record Notes {T : Type 0} (old new : Report) (number : ℕ) (result : Result T WireFault)
+    : Type 0 where
+  pub unread : Keeps (old.unread number) (new.unread number)
+  pub written : Keeps (old.written number) (new.written number)
+  pub shut : Stays (old.is_shut number) (new.is_shut number)
+  pub failed : ReportsFailure result (old.has_failed number) (new.has_failed number)
+  pub others : KeepsOthers old new number

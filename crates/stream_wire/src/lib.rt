@@ -1,0 +1,13 @@
+//! A wire over any listener and its streams, and over a Unix socket.
+#![tactic(auto)]
+
+mod kept;
+mod listener;
+mod peer;
+mod places;
+mod sockets;
+mod wire;
+
+pub use listener::{Duplex, Listener, Ready};
+pub use sockets::{MioListener, MioWire};
+pub use wire::StreamWire;

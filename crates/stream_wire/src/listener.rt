@@ -1,0 +1,86 @@
+//! What a wire is made over: streams, and the listener that gives them.
+
+ghost use Rattle.std.specs.Prelude.{◌≡◌, ℕ, IfOk, OnErr, Option, List};
+ghost use Rattle.std.specs.Io.{ReadsAtMost, WritesAtMost};
+ghost use Rattle.std.specs.Io.KnownBytes.{Keeps, ReadConsumes, WriteAppends, prepend_known};
+ghost use Rattle.wires.specs.Report.{Report, KeepsAll, nothing_reported};
+ghost use Rattle.stream_wire.specs.Streams.{HandsOut, HasBack, IsToldFailed, IsToldShut};
+
+use std::io;
+use std::io::{Read, Write};
+use std::time::Duration;
+
+/// A stream both ways, where a read leaves what was written, and a write what is to be read.
+pub trait Duplex: Read + Write + Drop {
+    /// A `read` of the stream.
+    fn receive(&mut self, buf: &mut [u8]) -> io::Result<usize>
+        ensures bound { ReadsAtMost result buf.new }
+        ensures bytes { ReadConsumes (Self.remaining self.old) (Self.remaining self.new) result buf.new }
+        ensures written { Keeps (Self.contents self.old) (Self.contents self.new) };
+
+    /// A `write` of the stream.
+    fn send(&mut self, buf: &[u8]) -> io::Result<usize>
+        ensures bound { WritesAtMost result buf.now }
+        ensures bytes { WriteAppends (Self.contents self.old) (Self.contents self.new) result buf.now }
+        ensures unread { Keeps (Self.remaining self.old) (Self.remaining self.new) };
+}
+
+/// Who may be ready.
+#[derive(Clone, Copy, Debug, PartialEq, Eq)]
+pub enum Ready {
+    /// Somebody may wait to be accepted.
+    Listener,
+    /// The stream of this number may give bytes or take some.
+    Stream(u64),
+}
+
+/// Streams that come one after the other, each under a number that its taker chooses. Only `wait` waits.
+pub trait Listener: Drop {
+    type Stream: Duplex;
+
+    /// What it tells of the numbers whose streams are not handed out: of those to come, and of those
+    /// that it has back. It may tell nothing.
+    ghost told: { Self → Report } = { λ _. nothing_reported };
+
+    /// How many times it was waited for.
+    ghost waits: { Self → ℕ } = { λ _. 0 };
+
+    /// The stream of who waits first, which is named by this number from then on; `WouldBlock` where
+    /// nobody waits.
+    fn accept(&mut self, number: u64) -> io::Result<Self::Stream>
+        ensures given { IfOk result (λ stream. HandsOut (told self.old) (told self.new) number
+            (Self.Stream.remaining stream) (Self.Stream.contents stream)) }
+        ensures err { OnErr result (KeepsAll (told self.old) (told self.new)) }
+        ensures waits { waits self.new ≡ waits self.old };
+
+    /// Looks who may be ready now.
+    fn look(&mut self) -> io::Result<()>
+        ensures kept { KeepsAll (told self.old) (told self.new) }
+        ensures waits { waits self.new ≡ waits self.old };
+
+    /// Waits until somebody may be ready, at most so long.
+    fn wait(&mut self, patience: Option<Duration>) -> io::Result<()>
+        ensures kept { KeepsAll (told self.old) (told self.new) };
+
+    /// How many the last look or wait found.
+    fn found(&self) -> usize;
+
+    /// One of those.
+    fn ready(&self, place: usize) -> Option<Ready>;
+
+    /// A read or a write of this number has failed.
+    fn fail(&mut self, number: u64)
+        ensures failed { IsToldFailed (told self.old) (told self.new) number }
+        ensures waits { waits self.new ≡ waits self.old };
+
+    /// The connection of this number is shut.
+    fn shut(&mut self, number: u64)
+        ensures shut { IsToldShut (told self.old) (told self.new) number }
+        ensures waits { waits self.new ≡ waits self.old };
+
+    /// Takes the stream of a number back, with the bytes that were read from it and are not given.
+    fn take_back(&mut self, number: u64, stream: Self::Stream, kept: &[u8])
+        ensures back { HasBack (told self.old) (told self.new) number
+            (prepend_known kept.now (Self.Stream.remaining stream)) (Self.Stream.contents stream) }
+        ensures waits { waits self.new ≡ waits self.old };
+}

@@ -1,0 +1,119 @@
+//! A connection that is held.
+
+ghost use Rattle.std.specs.Prelude.{◌≡◌, ◌≢◌, ◌<◌, [], length, OnOk, IfOk, ◌≤◌};
+ghost use Rattle.std.specs.Io.KnownBytes.{Appends, Consumes, Keeps};
+ghost use Rattle.usi_lines.specs.OneLine.{IsOneLine};
+ghost use Rattle.wires.specs.Report.{EndsAt, IsWithin, bytes_read, bytes_written};
+ghost use Rattle.stream_wire.specs.Held.{unread_of, written_of};
+
+use crate::kept::Kept;
+use crate::listener::Duplex;
+use std::alloc::Allocator;
+use std::io::ErrorKind;
+use wires::{Got, WireFault};
+
+/// Each number has one of so many places: its remainder. Numbers are chosen so that the places of open
+/// connections differ, and a connection is found without a search.
+pub const PLACES: u64 = 1_048_576;
+
+/// A connection, and what the last calls and looks showed of it.
+#[derive(Drop)]
+pub struct Peer<S: Drop, A: Allocator> {
+    pub number: u64,
+    pub stream: S,
+    // What was read and is not given yet.
+    pub kept: Kept<A>,
+    // The last read of the stream found something, or a look has named it since.
+    pub may_give: bool,
+    // The same of the last write.
+    pub may_take: bool,
+}
+
+impl<S: Duplex, A: Allocator + Copy> Peer<S, A> {
+    /// Nothing is kept.
+    pub fn new(alloc: A, number: u64, stream: S) -> Peer<S, A>
+        ensures number { result.number ≡ number }
+        ensures stream { result.stream ≡ stream }
+        ensures kept { result.kept ≡ [] }
+    {
+        Peer {
+            number,
+            stream,
+            kept: Kept::new(alloc),
+            may_give: true,
+            may_take: true,
+        }
+    }
+
+    /// Reads once, and keeps what came. Room for it is asked for before.
+    fn fill(&mut self, alloc: A, buf: &mut [u8]) -> Result<Got, WireFault>
+        requires { self.old.kept ≡ [] }
+        ensures number { self.new.number ≡ self.old.number }
+        ensures len { length buf.new ≡ length buf.old }
+        ensures unread { Keeps (unread_of S.remaining self.old) (unread_of S.remaining self.new) }
+        ensures written { Keeps (written_of S.contents self.old) (written_of S.contents self.new) }
+        ensures ended { EndsAt result (unread_of S.remaining self.new) }
+    {
+        if buf.is_empty() || !self.may_give {
+            return Ok(Got::Nothing);
+        }
+        let room = Vec::with_capacity(alloc, buf.len())?;
+        match self.stream.receive(buf) {
+            Ok(0) => Ok(Got::Ended),
+            Ok(n) => {
+                self.kept = Kept::within(room, buf.split_at(n).0);
+                Ok(Got::Bytes(n))
+            }
+            Err(error) if error.kind() == ErrorKind::WouldBlock => {
+                self.may_give = false;
+                Ok(Got::Nothing)
+            }
+            Err(error) if error.kind() == ErrorKind::Interrupted => Ok(Got::Nothing),
+            Err(_) => Err(WireFault::Device),
+        }
+    }
+
+    /// Gives the first line, or a part of it, of what is kept; where nothing is, reads once before.
+    pub fn read(&mut self, alloc: A, buf: &mut [u8]) -> Result<Got, WireFault>
+        ensures number { self.new.number ≡ self.old.number }
+        ensures within { IsWithin result (length buf.new) }
+        ensures line { IsOneLine (bytes_read result buf.new) }
+        ensures unread { Consumes (unread_of S.remaining self.old)
+            (unread_of S.remaining self.new) (bytes_read result buf.new) }
+        ensures written { Keeps (written_of S.contents self.old) (written_of S.contents self.new) }
+        ensures ended { EndsAt result (unread_of S.remaining self.new) }
+    {
+        if self.kept.is_empty() {
+            match self.fill(alloc, buf)? {
+                Got::Bytes(_) => {}
+                other => return Ok(other),
+            }
+        }
+        match self.kept.give_line(buf) {
+            0 => Ok(Got::Nothing),
+            n => Ok(Got::Bytes(n)),
+        }
+    }
+
+    /// Writes once.
+    pub fn write(&mut self, buf: &[u8]) -> Result<usize, WireFault>
+        ensures number { self.new.number ≡ self.old.number }
+        ensures within { IfOk result (λ n. n ≤ length buf.now) }
+        ensures unread { Keeps (unread_of S.remaining self.old) (unread_of S.remaining self.new) }
+        ensures written { Appends (written_of S.contents self.old)
+            (written_of S.contents self.new) (bytes_written result buf.now) }
+    {
+        if !self.may_take {
+            return Ok(0);
+        }
+        match self.stream.send(buf) {
+            Ok(n) => Ok(n),
+            Err(error) if error.kind() == ErrorKind::WouldBlock => {
+                self.may_take = false;
+                Ok(0)
+            }
+            Err(error) if error.kind() == ErrorKind::Interrupted => Ok(0),
+            Err(_) => Err(WireFault::Device),
+        }
+    }
+}

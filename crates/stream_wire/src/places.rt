@@ -1,0 +1,108 @@
+//! The connections of a wire, each in the place of its number.
+
+ghost use Rattle.std.specs.Prelude.{◌≡◌, ◌<◌, ◌≤◌, ◌%◌, ◌^◌, ◌+◌, ◌-◌, None, Some, IfErr, IfOk, IfSome, is_some, true, length, slice_index_or, vec_len};
+ghost use Rattle.wires.specs.declared.wire.WireFault.TheVariants.{OutOfMemory};
+ghost use Rattle.stream_wire.specs.Held.{AreAlike, HoldsOthers, held};
+ghost use Rattle.stream_wire.specs.declared.peer.TheConstants.{PLACES};
+
+use crate::listener::Duplex;
+use crate::peer::{PLACES, Peer};
+use std::alloc::Allocator;
+use wires::WireFault;
+
+/// The place of a number.
+fn place_of(number: u64) -> usize
+    ensures { result ≡ number % PLACES }
+{
+    (number % PLACES) as usize
+}
+
+/// Whether a connection is held under this number.
+fn is_held<S: Duplex, A: Allocator + Copy>(places: &[Option<Peer<S, A>>], number: u64) -> bool
+    ensures held { result ≡ is_some (held places.now number) }
+    ensures room { result ≡ true → number % PLACES < length places.now }
+{
+    let place = place_of(number);
+    if place >= places.len() {
+        return false;
+    }
+    match &places[place] {
+        Some(peer) => peer.number == number,
+        None => false,
+    }
+}
+
+/// Takes the connection of this number out of its place.
+pub fn take_out<S: Duplex, A: Allocator + Copy>(
+    places: &mut Vec<Option<Peer<S, A>>, A>,
+    number: u64,
+) -> Option<Peer<S, A>>
+    ensures out { result ≡ held places.old.items number }
+    ensures number { IfSome result (λ peer. peer.number ≡ number) }
+    ensures others { HoldsOthers places.old.items places.new.items number }
+    ensures none { held places.new.items number ≡ None }
+    ensures room { IfSome result (λ peer. number % PLACES < vec_len places.new) }
+    ensures free { IfSome result (λ peer.
+        slice_index_or places.new.items (number % PLACES) None ≡ None) }
+{
+    if !is_held(places.as_slice(), number) {
+        return None;
+    }
+    places[place_of(number)].take()
+}
+
+/// Puts a connection into its place, which is free.
+pub fn put<S: Duplex, A: Allocator + Copy>(
+    places: &mut Vec<Option<Peer<S, A>>, A>,
+    peer: Peer<S, A>,
+)
+    requires room { peer.number % PLACES < vec_len places.old }
+    requires free { slice_index_or places.old.items (peer.number % PLACES) None ≡ None }
+    ensures held { held places.new.items peer.number ≡ Some peer }
+    ensures others { HoldsOthers places.old.items places.new.items peer.number }
+    ensures none { held places.old.items peer.number ≡ None }
+{
+    let place = place_of(peer.number);
+    places[place] = Some(peer);
+}
+
+/// The stream of this number may be ready.
+pub fn wake<S: Duplex, A: Allocator + Copy>(places: &mut Vec<Option<Peer<S, A>>, A>, number: u64)
+    ensures alike { AreAlike places.old.items places.new.items }
+{
+    if let Some(mut peer) = take_out(places, number) {
+        peer.may_give = true;
+        peer.may_take = true;
+        put(places, peer);
+    }
+}
+
+/// A place that is free: the first one, or one more.
+pub fn free_place<S: Duplex, A: Allocator + Copy>(
+    places: &mut Vec<Option<Peer<S, A>>, A>,
+) -> Result<usize, WireFault>
+    ensures room { IfOk result (λ place. place < vec_len places.new) }
+    ensures free { IfOk result (λ place. slice_index_or places.new.items place None ≡ None) }
+    ensures alike { AreAlike places.old.items places.new.items }
+    ensures memory { IfErr result (λ fault. fault ≡ OutOfMemory) }
+{
+    for place in 0..places.len() {
+        if places[place].is_none() {
+            return Ok(place);
+        }
+    }
+    places.push(None)?;
+    Ok(places.len() - 1)
+}
+
+/// The least number from this one on that has this place.
+pub fn number_at(next: u64, place: u64) -> u64
+    requires left { next ≤ 2 ^ 64 - 1 - PLACES }
+    requires place { place < PLACES }
+    ensures least { next ≤ result }
+    ensures most { result < next + PLACES }
+    ensures place { result % PLACES ≡ place }
+{
+    let ahead = (place + PLACES - next % PLACES) % PLACES;
+    next + ahead
+}

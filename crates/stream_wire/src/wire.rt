@@ -1,0 +1,282 @@
+//! A wire over a listener.
+
+ghost use Rattle.std.specs.Prelude.{◌≡◌, ◌≤◌, ◌-◌, ◌^◌, false, true, OnErr};
+ghost use Rattle.usi_lines.specs.OneLine.{IsOneLine};
+ghost use Rattle.wires.specs.Report.{GivesNumber, HasCause, HasRisen, KeepsAll, Reads, Shuts, Writes, bytes_read};
+ghost use Rattle.wires.specs.declared.wire.WireFault.TheVariants.{Device};
+ghost use Rattle.stream_wire.specs.Held.{AreAlike};
+ghost use Rattle.stream_wire.specs.Streams.{Notes};
+ghost use Rattle.stream_wire.specs.declared.peer.TheConstants.{PLACES};
+
+use crate::listener::{Listener, Ready};
+use crate::peer::{PLACES, Peer};
+use crate::places::{free_place, number_at, put, take_out, wake};
+use std::alloc::Allocator;
+use std::io;
+use std::io::ErrorKind;
+use std::time::Duration;
+use wires::{Got, Wire, WireFault};
+
+/// After so many milliseconds a call is made again that failed or was interrupted, where nothing may
+/// say when.
+const PATIENCE: u64 = 500;
+
+/// The connections of a listener. It reports what their streams tell of their bytes. Only `wait` waits.
+///
+/// A read gives one line at most, so that a turn answers one line of each connection. What else came
+/// with it is kept, and given by the next reads before the stream is asked again. Room for it is asked
+/// for before the bytes are read: where allocation fails the read fails, and no byte is lost.
+///
+/// A listener or a stream that has said that it has nothing, or no room, is not asked again before a
+/// look has named it. Each `accept` looks, so nobody who may be ready waits for a `wait`.
+#[derive(Drop)]
+pub struct StreamWire<L: Listener, A: Allocator> {
+    alloc: A,
+    /// Where its connections come from.
+    pub listener: L,
+    // The last accept found somebody or failed, or a look has named the listener since.
+    may_accept: bool,
+    // By the place of each one's number.
+    places: Vec<Option<Peer<L::Stream, A>>, A>,
+    // A read has left something to be given, and no wait has returned at once since.
+    has_more: bool,
+    // A call failed or was interrupted, and nothing may say when to make it again.
+    is_unsure: bool,
+    // The number of the next connection is this one or a greater one.
+    next: u64,
+    failed: u64,
+}
+
+impl<L: Listener, A: Allocator + Copy> StreamWire<L, A> {
+    /// A wire that has accepted nobody.
+    pub fn new(alloc: A, listener: L) -> StreamWire<L, A>
+        ensures bound { ⟦<StreamWire<L, A> as Wire>⟧.bound result ≡ 0 }
+        ensures failed { ⟦<StreamWire<L, A> as Wire>⟧.failed result ≡ 0 }
+        ensures report { KeepsAll (L.told listener) (⟦<StreamWire<L, A> as Wire>⟧.report result) }
+    {
+        StreamWire {
+            alloc,
+            listener,
+            may_accept: true,
+            places: Vec::new(alloc),
+            has_more: false,
+            is_unsure: false,
+            next: 0,
+            failed: 0,
+        }
+    }
+
+    /// Counts a call that failed.
+    fn fault(&mut self) -> WireFault
+        ensures device { result ≡ Device }
+        ensures rises { self.old.failed ≤ self.new.failed }
+        ensures risen { HasRisen self.old.failed self.new.failed }
+        ensures listener { self.new.listener ≡ self.old.listener }
+        ensures places { self.new.places ≡ self.old.places }
+        ensures next { self.new.next ≡ self.old.next }
+        ensures unsure { self.new.is_unsure ≡ self.old.is_unsure }
+    {
+        self.failed = self.failed.saturating_add(1);
+        WireFault::Device
+    }
+
+    /// Tells the listener of a call of this number that failed, and counts it.
+    fn answer<T>(&mut self, number: u64, found: Result<T, WireFault>) -> Result<T, WireFault>
+        ensures same { result ≡ found }
+        ensures noted { Notes (L.told self.old.listener) (L.told self.new.listener) number result }
+        ensures cause { HasCause self.old.failed self.new.failed result }
+        ensures waits { L.waits self.new.listener ≡ L.waits self.old.listener }
+        ensures places { self.new.places ≡ self.old.places }
+        ensures next { self.new.next ≡ self.old.next }
+    {
+        match found {
+            Ok(value) => Ok(value),
+            Err(fault) => {
+                self.listener.fail(number);
+                if fault == WireFault::Device {
+                    let _counted = self.fault();
+                }
+                Err(fault)
+            }
+        }
+    }
+
+    /// Remembers who may be ready, by what a look or a wait has found.
+    fn remember(&mut self, looked: io::Result<()>) -> Result<(), WireFault>
+        ensures cause { HasCause self.old.failed self.new.failed result }
+        ensures listener { self.new.listener ≡ self.old.listener }
+        ensures alike { AreAlike self.old.places.items self.new.places.items }
+        ensures next { self.new.next ≡ self.old.next }
+    {
+        if looked.is_err() {
+            return Err(self.fault());
+        }
+        for place in 0..self.listener.found() {
+            match self.listener.ready(place) {
+                Some(Ready::Listener) => self.may_accept = true,
+                Some(Ready::Stream(number)) => wake(&mut self.places, number),
+                None => {}
+            }
+        }
+        Ok(())
+    }
+
+    /// Accepts who waits first, under the next number that has a free place.
+    fn accept_next(&mut self) -> Result<Option<u64>, WireFault>
+        requires left { self.old.next ≤ 2 ^ 64 - 1 - PLACES }
+        ensures number { GivesNumber self.old.next self.new.next result }
+        ensures cause { HasCause self.old.failed self.new.failed result }
+        ensures waits { L.waits self.new.listener ≡ L.waits self.old.listener }
+        ensures kept { KeepsAll
+            (⟦<StreamWire<L, A> as Wire>⟧.report self.old)
+            (⟦<StreamWire<L, A> as Wire>⟧.report self.new) }
+    {
+        let place = free_place(&mut self.places)?;
+        if place >= PLACES as usize {
+            return Err(self.fault());
+        }
+        let number = number_at(self.next, place as u64);
+        match self.listener.accept(number) {
+            Ok(stream) => {
+                put(&mut self.places, Peer::new(self.alloc, number, stream));
+                self.next = number + 1;
+                Ok(Some(number))
+            }
+            Err(error) if error.kind() == ErrorKind::WouldBlock => {
+                self.may_accept = false;
+                Ok(None)
+            }
+            Err(_) => Err(self.fault()),
+        }
+    }
+
+    /// The same. After a failure others may still wait, and nothing names them.
+    fn take_in(&mut self) -> Result<Option<u64>, WireFault>
+        requires left { self.old.next ≤ 2 ^ 64 - 1 - PLACES }
+        ensures number { GivesNumber self.old.next self.new.next result }
+        ensures cause { HasCause self.old.failed self.new.failed result }
+        ensures waits { L.waits self.new.listener ≡ L.waits self.old.listener }
+        ensures kept { KeepsAll
+            (⟦<StreamWire<L, A> as Wire>⟧.report self.old)
+            (⟦<StreamWire<L, A> as Wire>⟧.report self.new) }
+        ensures unsure { OnErr result (self.new.is_unsure ≡ true) }
+    {
+        let accepted = self.accept_next();
+        if accepted.is_err() {
+            self.is_unsure = true;
+        }
+        accepted
+    }
+}
+
+impl<L: Listener, A: Allocator + Copy> Wire for StreamWire<L, A> {
+    ghost use Rattle.stream_wire.specs.Held.{reported};
+
+    ghost report = { λ wire. reported L.Stream.remaining L.Stream.contents (L.told wire.listener) wire.places.items };
+
+    ghost bound = { λ wire. wire.next };
+
+    ghost failed = { λ wire. wire.failed };
+
+    fn accept(&mut self) -> Result<Option<u64>, WireFault>
+        ensures number { GivesNumber self.old.next self.new.next result }
+        ensures kept { KeepsAll
+            (⟦<StreamWire<L, A> as Wire>⟧.report self.old)
+            (⟦<StreamWire<L, A> as Wire>⟧.report self.new) }
+        ensures cause { HasCause self.old.failed self.new.failed result }
+        ensures waits { L.waits self.new.listener ≡ L.waits self.old.listener }
+    {
+        if self.next > u64::MAX - PLACES {
+            return Err(self.fault());
+        }
+        let looked = self.listener.look();
+        self.remember(looked)?;
+        if !self.may_accept {
+            return Ok(None);
+        }
+        self.take_in()
+    }
+
+    fn read(&mut self, number: u64, buf: &mut [u8]) -> Result<Got, WireFault>
+        ensures bound { self.new.next ≡ self.old.next }
+        ensures read { Reads
+            (⟦<StreamWire<L, A> as Wire>⟧.report self.old)
+            (⟦<StreamWire<L, A> as Wire>⟧.report self.new)
+            number result buf.new }
+        ensures line { IsOneLine (bytes_read result buf.new) }
+        ensures cause { HasCause self.old.failed self.new.failed result }
+        ensures waits { L.waits self.new.listener ≡ L.waits self.old.listener }
+    {
+        let Some(mut peer) = take_out(&mut self.places, number) else {
+            return self.answer(number, Err(WireFault::Device));
+        };
+        let got = peer.read(self.alloc, buf);
+        self.has_more = self.has_more | !peer.kept.is_empty();
+        self.is_unsure = self.is_unsure | (peer.may_give && matches!(got, Ok(Got::Nothing)));
+        put(&mut self.places, peer);
+        self.answer(number, got)
+    }
+
+    fn write(&mut self, number: u64, buf: &[u8]) -> Result<usize, WireFault>
+        ensures bound { self.new.next ≡ self.old.next }
+        ensures written { Writes
+            (⟦<StreamWire<L, A> as Wire>⟧.report self.old)
+            (⟦<StreamWire<L, A> as Wire>⟧.report self.new)
+            number result buf.now }
+        ensures cause { HasCause self.old.failed self.new.failed result }
+        ensures waits { L.waits self.new.listener ≡ L.waits self.old.listener }
+    {
+        let Some(mut peer) = take_out(&mut self.places, number) else {
+            return self.answer(number, Err(WireFault::Device));
+        };
+        let taken = peer.write(buf);
+        self.is_unsure = self.is_unsure | (peer.may_take && matches!(taken, Ok(0)));
+        put(&mut self.places, peer);
+        self.answer(number, taken)
+    }
+
+    fn shut(&mut self, number: u64)
+        ensures bound { self.new.next ≡ self.old.next }
+        ensures shut { Shuts self.old.next
+            (⟦<StreamWire<L, A> as Wire>⟧.report self.old)
+            (⟦<StreamWire<L, A> as Wire>⟧.report self.new)
+            number }
+        ensures faults { self.old.failed ≤ self.new.failed }
+        ensures waits { L.waits self.new.listener ≡ L.waits self.old.listener }
+    {
+        self.listener.shut(number);
+        if let Some(peer) = take_out(&mut self.places, number) {
+            let Peer { stream, kept, .. } = peer;
+            self.listener.take_back(number, stream, kept.as_slice());
+        }
+    }
+
+    fn wait(&mut self, idle: bool) -> Result<(), WireFault>
+        ensures bound { self.new.next ≡ self.old.next }
+        ensures kept { KeepsAll
+            (⟦<StreamWire<L, A> as Wire>⟧.report self.old)
+            (⟦<StreamWire<L, A> as Wire>⟧.report self.new) }
+        ensures cause { HasCause self.old.failed self.new.failed result }
+        ensures waits { idle ≡ false → L.waits self.new.listener ≡ L.waits self.old.listener }
+    {
+        if !idle {
+            return Ok(());
+        }
+        if self.has_more {
+            self.has_more = false;
+            return Ok(());
+        }
+        let patience = if self.is_unsure {
+            Some(Duration::from_millis(PATIENCE))
+        } else {
+            None
+        };
+        self.is_unsure = false;
+        let looked = self.listener.wait(patience);
+        self.remember(looked)
+    }
+
+    fn faults(&self) -> u64 {
+        self.failed
+    }
+}
