@@ -5,3 +5,4 @@ pub mod Passing
 pub mod MateLaws
 pub mod OneWalk
 pub mod Firsts
+pub mod DropLaws

@@ -1,11 +1,13 @@
 -- What is asked of a node with one ply left (own choice).
-use Rattle.std.specs.Prelude.{◌+◌, ◌*◌, ◌≤◌, ◌+ℤ◌, pos, ◌≡◌, ◌≢◌, ◌<◌, ◌≤ℤ◌, ◌⊎◌, ℕ, ℤ, [], true, Bool}
+use Rattle.std.specs.Prelude.{◌&&◌, ◌==◌, ◌+◌, ◌*◌, ◌≤◌, ◌+ℤ◌, pos, not, ◌≡◌, ◌≢◌, ◌<◌, ◌≤ℤ◌, ◌⊎◌, ℕ, ℤ, [], true, false, Bool, Some}
 use Rattle.shogi_core.specs.declared.moves.Move.TheVariants.{Board, Drop}
 use Rattle.shogi_core.specs.declared.moves.TheConstants.{SQUARE_CODES}
 use Rattle.shogi_core.specs.declared.piece.Kind.{Kind}
+use Rattle.shogi_core.specs.declared.piece.Piece.{Piece}
+use Rattle.shogi_core.specs.Below.{some_below}
 use Rattle.shogi_core.specs.Bits.{has_bit, IsMaskOf}
 use Rattle.shogi_core.specs.Codes.{code_of}
-use Rattle.shogi_core.specs.Movement.{piece_at}
+use Rattle.shogi_core.specs.Movement.{Cells, cell_reaches, piece_at}
 use Rattle.shogi_core.specs.Position.{Shogi}
 use Rattle.shogi_moves.specs.After.{after_code}
 use Rattle.shogi_moves.specs.Legal.{is_legal_code}
@@ -126,6 +128,14 @@ LeaveSomeAmong p from promote mask =
 abbrev pub DropsLeaveSome : Shogi → Kind → Type 0
 DropsLeaveSome p kind = (n : ℕ) → n < 81 → is_legal_code p (code_of (Drop kind n)) ≡ true
     → LeavesSome p (code_of (Drop kind n))
+
+-- beside each square the mask has another one
+abbrev pub HasOthers : ℕ → Type 0
+HasOthers mask = (n : ℕ) → some_below 81 (λ a. has_bit mask a && not (a == n)) ≡ true
+
+-- the piece does not reach one square from another one, whatever stands between
+abbrev pub IsOutOfReach : Piece → ℕ → ℕ → Type 0
+IsOutOfReach piece from to = (cells : Cells) → cell_reaches cells (Some piece) from to ≡ false
 
 -- the mask has the squares at which the move of the piece is legal, promoting or not
 abbrev pub AreLegalDestinations : Shogi → ℕ → Bool → ℕ → Type 0

@@ -1,22 +1,23 @@
 //! Whether a legal move leaves the other side without one.
 
-ghost use Rattle.std.specs.Prelude.{[], ◌≢◌, ◌≡◌, ◌<◌, ◌^◌, true, false, ℕ};
+ghost use Rattle.std.specs.Prelude.{[], ◌≢◌, ◌≡◌, ◌<◌, ◌^◌, true, false, ℕ, bit_and};
 ghost use Rattle.std.proofs.Props.{props};
 ghost use Rattle.shogi_core.specs.declared.moves.Move.TheVariants as moves;
 ghost use Rattle.shogi_core.specs.Bits.{has_bit};
 ghost use Rattle.shogi_core.specs.Cell.{is_piece_of};
 ghost use Rattle.shogi_core.specs.Codes.{code_of};
 ghost use Rattle.shogi_core.specs.Movement.{piece_at};
-ghost use Rattle.shogi_moves.specs.Destinations.{AreDropSquares};
+ghost use Rattle.shogi_moves.specs.After.{piece_moved};
+ghost use Rattle.shogi_moves.specs.Destinations.{AreDropSquares, IsWithin};
 ghost use Rattle.shogi_moves.specs.Escapes.{AreEscapes};
 ghost use Rattle.shogi_moves.specs.LegalMoves.{legal_codes};
 ghost use Rattle.shogi_moves.specs.Legal.{is_legal, is_legal_code};
 ghost use Rattle.shogi_moves.specs.Replies.{IsAnswered, IsReplies};
-ghost use Rattle.last_ply.specs.LastPly.{HasMate, HasNoMate, LeavesNone, LeavesSome, AreLegalEnds, LeaveSomeAmong, LeaveSomeFrom, DropsLeaveSome};
+ghost use Rattle.last_ply.specs.LastPly.{HasMate, HasNoMate, LeavesNone, LeavesSome, AreLegalEnds, LeaveSomeAmong, LeaveSomeFrom, DropsLeaveSome, IsOutOfReach, HasOthers};
 
 use crate::scene::Scene;
-use shogi_core::bits::{ALL_SQUARES, has, lowest, without_lowest};
-use shogi_core::{Kind, Move, Piece, Position, Role, Square, step_squares};
+use shogi_core::bits::{ALL_SQUARES, has, lowest, with, without_lowest};
+use shogi_core::{Kind, Move, Piece, Position, Role, Square, aligned_squares, step_squares};
 use shogi_moves::{
     Destinations, Replies, drop_destinations, drop_squares, enterable, escape_squares, has_legal,
     is_legal, king_takes, leaves_escape, leaves_king_move, promoting_squares,
@@ -31,9 +32,23 @@ pub struct Outlook<'a> {
     pub escapes: u128,
     /// The empty squares on which a held piece may be dropped.
     pub squares: u128,
+    /// Whether the other side surely has a legal move after each one that gives it no check.
+    pub spared: bool,
     ghost replied: { IsReplies scene.node.now.position replies.sight replies.spare } by { Prim.hlevel props },
     ghost escaping: { AreEscapes scene.node.now.position escapes } by { Prim.hlevel props },
     ghost dropping: { AreDropSquares scene.node.now.position squares } by { Prim.hlevel props },
+    ghost others: { spared ≡ true → HasOthers replies.spare },
+}
+
+/// Whether the mask has two squares.
+fn has_two(mask: u128) -> bool
+    requires { mask < 2 ^ 81 }
+    ensures { result ≡ true → HasOthers mask }
+{
+    if mask == 0 {
+        return false;
+    }
+    without_lowest(mask, lowest(mask)) != 0
 }
 
 /// The square where the move ends.
@@ -97,6 +112,23 @@ fn retakes(p: &Position, m: &Move) -> bool
     false
 }
 
+/// The squares from which the piece may reach that one, whatever stands between.
+fn closing_squares(piece: Piece, square: usize) -> u128
+    requires { square < 81 }
+    ensures { (n : ℕ) → n < 81 → has_bit result n ≡ false → IsOutOfReach piece n square }
+{
+    let back = Piece {
+        color: piece.color.opponent(),
+        role: piece.role,
+    };
+    let steps = step_squares(back, square);
+    if piece.role.is_sliding() {
+        steps | aligned_squares(square)
+    } else {
+        steps
+    }
+}
+
 impl Scene<'_> {
     /// Whether the legal move leaves the other side without one.
     pub fn mates(&self, m: &Move) -> bool
@@ -143,11 +175,13 @@ impl Outlook<'_> {
         ensures { result.scene.node.now ≡ scene.now.node.now }
     {
         let p = scene.node.as_position();
+        let replies = Replies::of(p);
         Outlook {
             scene: *scene,
-            replies: Replies::of(p),
+            replies,
             escapes: escape_squares(p),
             squares: drop_squares(p, &scene.info),
+            spared: has_two(replies.spare),
         }
     }
 
@@ -223,6 +257,48 @@ impl Outlook<'_> {
         false
     }
 
+    /// Whether the other side's king sees neither the square nor one of the ends, and that side
+    /// surely has a legal move after each one that gives it no check.
+    fn is_unseen(&self, from: Square, ends: u128) -> bool
+        ensures others { result ≡ true → HasOthers self.now.replies.spare }
+        ensures start { result ≡ true → has_bit self.now.replies.sight from ≡ false }
+        ensures ends { result ≡ true → bit_and ends self.now.replies.sight ≡ 0 }
+    {
+        if !self.spared {
+            return false;
+        }
+        from.validity();
+        if has(self.replies.sight, from.index()) {
+            return false;
+        }
+        ends & self.replies.sight == 0
+    }
+
+    /// Those of the ends from which what moves there from the square, this piece, may reach each
+    /// escape on no line with that square, and those on one: elsewhere the king has one left.
+    fn closing_ends(&self, from: Square, promote: bool, piece: Piece, ends: u128) -> u128
+        requires { piece_moved promote
+            (piece_at self.now.scene.node.now.position.cells from) ≡ Some piece }
+        ensures { (n : ℕ) → n < 81 → has_bit ends n ≡ true → has_bit result n ≡ false
+            → IsAnswered self.now.scene.node.now.position (moves.Board from n promote) }
+    {
+        let _ = promote;
+        from.validity();
+        let p = self.scene.node.as_position();
+        let kings = p.as_board().kings(p.side().opponent());
+        if kings == 0 {
+            return ends;
+        }
+        let mut kept = ends;
+        let mut left = self.escapes & !aligned_squares(from.index());
+        while left != 0 && kept != 0 {
+            let escape = lowest(left);
+            kept &= closing_squares(piece, escape) | with(kings, escape);
+            left = without_lowest(left, escape);
+        }
+        kept
+    }
+
     /// Whether the other side surely has a legal move after each move of the piece, legal or not. In
     /// check few are, and this is not asked.
     fn is_sure(&self, from: Square) -> bool
@@ -236,17 +312,26 @@ impl Outlook<'_> {
         from.validity();
         let p = self.scene.node.as_position();
         let ends = p.as_board().targets(from) & enterable(p);
-        let plain = self
-            .replies
-            .certain_destinations(p, self.escapes, from, false, ends);
-        if ends & !plain != 0 {
+        if self.is_unseen(from, ends) {
+            return true;
+        }
+        let cell = p.at(from);
+        let Some(piece) = cell else { return false };
+        let plain = self.closing_ends(from, false, piece, ends);
+        let certain = self.replies.certain_destinations(p, 0, from, false, plain);
+        if plain & !certain != 0 {
             return false;
         }
-        let promoting = ends & promoting_squares(p.at(from), from);
+        let promoted = Piece {
+            color: piece.color,
+            role: piece.role.promoted(),
+        };
+        let promotions = ends & promoting_squares(cell, from);
+        let promoting = self.closing_ends(from, true, promoted, promotions);
         promoting
             & !self
                 .replies
-                .certain_destinations(p, self.escapes, from, true, promoting)
+                .certain_destinations(p, 0, from, true, promoting)
             == 0
     }
 
@@ -306,6 +391,32 @@ impl Outlook<'_> {
         false
     }
 
+    /// Those of the squares on which a dropped piece of the kind may reach each escape, and does not
+    /// stand on one: elsewhere the king has one left, or takes it.
+    fn closing_drops(&self, kind: Kind, squares: u128) -> u128
+        ensures among { IsWithin result squares }
+        ensures answered { (n : ℕ) → n < 81 → has_bit squares n ≡ true → has_bit result n ≡ false
+            → IsAnswered self.now.scene.node.now.position (moves.Drop kind n) }
+    {
+        let p = self.scene.node.as_position();
+        let side = p.side();
+        if p.as_board().kings(side.opponent()) == 0 {
+            return squares;
+        }
+        let piece = Piece {
+            color: side,
+            role: Role::from(kind),
+        };
+        let mut kept = squares & !self.escapes;
+        let mut left = self.escapes;
+        while left != 0 && kept != 0 {
+            let escape = lowest(left);
+            kept &= closing_squares(piece, escape);
+            left = without_lowest(left, escape);
+        }
+        kept
+    }
+
     /// Whether a legal drop of the kind leaves the other side without a legal move.
     fn mates_by(&self, kind: Kind) -> bool
         ensures some { result ≡ true → HasMate self.now.scene.node.now.position }
@@ -315,14 +426,17 @@ impl Outlook<'_> {
         if p.hand(p.side(), kind) == 0 {
             return false;
         }
-        let certain = self
-            .replies
-            .certain_drops(p, self.escapes, kind, self.squares);
-        if self.squares & !certain == 0 {
+        let closing = self.closing_drops(kind, self.squares);
+        if closing == 0 {
+            return false;
+        }
+        let certain = self.replies.certain_drops(p, 0, kind, closing);
+        let doubtful = closing & !certain;
+        if doubtful == 0 {
             return false;
         }
         let ends = drop_destinations(p, self.squares, kind);
-        self.mates_by_drops(kind, ends & !certain)
+        self.mates_by_drops(kind, ends & doubtful)
     }
 
     /// Whether a legal drop leaves the other side without a legal move.

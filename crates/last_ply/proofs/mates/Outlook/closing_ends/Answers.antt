@@ -1,0 +1,32 @@
+use Rattle.std.proofs.Common.{◌≡◌, ◌∙◌, sym, arith, inl, inr}
+use Rattle.std.proofs.lemmas.Bool.{cases_Bool, and_parts, both_ways, not-true}
+use Rattle.shogi_core.specs.Bits.{has_bit}
+use Rattle.shogi_core.proofs.BitLaws.{has_bit-and}
+use Rattle.shogi_core.proofs.LineBits.{and_fits, has_bit-not}
+use Rattle.last_ply.proofs.DropLaws.{answered_board, apart_from, not_closing}
+use Rattle.last_ply.proofs.Squares.{left_set}
+use Rattle.last_ply.proofs.mates.Outlook.closing_ends.Goals as goal
+
+pub loop-left-init : goal.loop-left-init
+loop-left-init c = record {
+  all = λ n h e out. absurd (both_ways _ out e);
+  within = λ n e. (and_parts _ _ (sym (has_bit-and c.args.self.now.escapes _ n) ∙ e)).0;
+  apart = λ n h e. sym ((rw c.index.ensures.index at c.aligned_squares.ensures.squares.0) n h) ∙ not-true _ (sym (has_bit-not c.aligned_squares.result n (omega (arith, c.aligned_squares.ensures.squares.1)) (omega arith)) ∙ (and_parts _ _ (sym (has_bit-and c.args.self.now.escapes _ n) ∙ e)).1);
+  fits = and_fits c.args.self.now.escapes _ c.args.self.now.escaping.fits;
+}
+
+pub loop-left-preserved : goal.loop-left-preserved
+loop-left-preserved c = record {
+  all = λ n h e out. elim (cases_Bool (has_bit c.loop-left.kept n)) [
+    | inl still ↦ (
+        let off = apart_from c.closing_squares.result c.with.result c.kings-kings.result c.lowest-escape.result n c.with.ensures (not_closing c.loop-left.kept _ n out still) in
+        answered_board c.args.self.now.scene.node.now.position c.args.from c.args.promote c.args.self.now.escapes c.kings-kings.result n c.lowest-escape.result c.args.piece c.args.self.now.scene.valid c.args.self.now.escaping
+        (rw (c.opponent.ensures, c.side.ensures, c.as_board.ensures, c.as_position-p.ensures) at c.kings-kings.ensures.squares.0) c.kings-kings.ensures.squares.1 c.if-kings-eq0.false c.validity.ensures h c.lowest-escape.ensures.range
+        (c.loop-left.invariant.within _ c.lowest-escape.ensures.set) (c.loop-left.invariant.apart _ c.lowest-escape.ensures.range c.lowest-escape.ensures.set)
+        c.requires off.1 off.2 (c.closing_squares.ensures n h off.0))
+    | inr gone ↦ c.loop-left.invariant.all n h e gone
+  ];
+  within = λ n e. c.loop-left.invariant.within n (left_set c.loop-left.left c.without_lowest-left.result c.lowest-escape.result n c.without_lowest-left.ensures.bits e);
+  apart = λ n h e. c.loop-left.invariant.apart n h (left_set c.loop-left.left c.without_lowest-left.result c.lowest-escape.result n c.without_lowest-left.ensures.bits e);
+  fits = omega (arith, c.without_lowest-left.ensures.less, c.loop-left.invariant.fits);
+}
