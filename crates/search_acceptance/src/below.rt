@@ -10,7 +10,7 @@ use crate::plain::{Notes, branches_of, minimax, search_on, search_plainly_below}
 use crate::positions::{played, position};
 use crate::recorder::Recorder;
 use crate::tables::{TWO_PAWNS, table_of};
-use shogi_core::Position;
+use shogi_core::{Move, Position};
 use shogi_eval::Eval;
 use shogi_moves::perft;
 use shogi_search::{Found, INFINITY, Memo, NoMemo, Search, search, search_below};
@@ -208,7 +208,7 @@ fn assert_children<M: Memo + Drop>(
     let mut search = Search::start(p, Eval::Plain, 0);
     let mut steps: u64 = 0;
     let mut beta = INFINITY;
-    let branches = branches_of(alloc, p, None)?;
+    let branches = branches_of(alloc, p, [None; 6])?;
     for branch in branches.as_slice() {
         let next = branch.position;
         assert!(rt; -INFINITY < beta && beta <= INFINITY);
@@ -238,8 +238,8 @@ fn steps_of_one_search_after_another(rt: HostRuntime) -> Result<(), Fail> {
     Ok(())
 }
 
-// One search in the room of another, each a ply deeper, as a `go` makes them: each takes the steps and the
-// calls of the plain one.
+// One search in the room of another, each a ply deeper, with the best moves of the two before to visit
+// first, as a `go` makes them: each takes the steps and the calls of the plain one.
 fn assert_deeper<M: Memo + Drop>(
     rt: &impl Abort,
     alloc: Global,
@@ -253,11 +253,16 @@ fn assert_deeper<M: Memo + Drop>(
     let mut recorder = Recorder::sparing(alloc, memo);
     let mut search = Search::start(p, Eval::Plain, 0);
     let mut steps: u64 = 0;
+    let (mut before_last, mut last): (Option<Move>, Option<Move>) = (None, None);
     for depth in 1..=deepest {
         search.restart(p, Eval::Plain, depth);
+        search.advise([before_last, last]);
+        notes.advised = [before_last.map(|m| m.code()), last.map(|m| m.code())];
         let found = search.advance(&mut recorder, u64::MAX).ok_or("an end")?;
         steps = steps.saturating_add(found.steps);
         let plain = search_on(alloc, p, Eval::Plain, depth, INFINITY, &mut notes)?;
+        before_last = last;
+        last = found.best;
         holds!(*rt; plain == Some((found.value, found.best.map(|m| m.code()))), depth);
         same!(*rt; steps, notes.steps, depth);
         same!(*rt; recorder.calls().len(), notes.calls, depth);

@@ -7,7 +7,7 @@ use crate::plain::minimax;
 use crate::positions::{played, position};
 use crate::recorder::{Call, Recorder};
 use crate::tables::table_of;
-use shogi_core::Position;
+use shogi_core::{Move, Position};
 use shogi_eval::Eval;
 use shogi_moves::play;
 use shogi_search::{Entry, NoMemo, Search, search};
@@ -107,5 +107,18 @@ fn the_hash_move_is_visited_before_captures(rt: HostRuntime) -> Result<(), Fail>
     let mut recorder = Recorder::new(rt.alloc(), Oracle);
     search(&root, Eval::Plain, 3, &mut recorder);
     assert_asked(&rt, recorder.calls(), &[(root, 3), (root, 2), (best, 2)]);
+    Ok(())
+}
+
+// Moves that are advised are visited before the first capture: 1a1a is none, and 1g1f comes first.
+#[test]
+fn advised_moves_are_visited_first(rt: HostRuntime) -> Result<(), Fail> {
+    let root = position(FACING)?;
+    let quiet = played(&rt, &root, "1g1f");
+    let mut search = Search::start(&root, Eval::Plain, 3);
+    search.advise([Move::of_code(0), Move::of_code(982)]);
+    let mut recorder = Recorder::new(rt.alloc(), NoMemo);
+    search.advance(&mut recorder, 2);
+    assert_asked(&rt, recorder.calls(), &[(root, 3), (root, 2), (quiet, 2)]);
     Ok(())
 }

@@ -56,7 +56,7 @@ fn assert_known(rt: &impl Abort, p: &Position, e: Eval) {
 fn assert_known_around(rt: &impl Abort, alloc: Global, p: &Position) -> Result<(), Fail> {
     for e in [Eval::Plain, Eval::Hand] {
         assert_known(rt, p, e);
-        for branch in branches_of(alloc, p, None)?.as_slice() {
+        for branch in branches_of(alloc, p, [None; 6])?.as_slice() {
             assert_known(rt, &branch.position, e);
         }
     }

@@ -96,7 +96,7 @@ fn assert_ranked<M: Memo>(
 {
     let mut ranks = Ranks::new(lines);
     let mut worths = Vec::new(alloc);
-    for branch in branches_of(alloc, p, None)?.as_slice() {
+    for branch in branches_of(alloc, p, [None; 6])?.as_slice() {
         take_in(rt, &mut ranks, branch, Eval::Plain, depth, memo);
         let plain = minimax(&branch.position, Eval::Plain, depth);
         worths.push((branch.code, plain.value.saturating_neg()))?;
@@ -152,7 +152,7 @@ fn assert_steps(
     let mut ranks = Ranks::new(lines);
     let mut notes = Notes::new(alloc, 0, false);
     let (mut steps, mut whole): (u64, u64) = (0, 0);
-    for branch in branches_of(alloc, p, None)?.as_slice() {
+    for branch in branches_of(alloc, p, [None; 6])?.as_slice() {
         let (beta, made) = take_in(rt, &mut ranks, branch, Eval::Plain, depth, &mut NoMemo);
         steps = steps.saturating_add(made);
         search_plainly_below(

@@ -184,7 +184,7 @@ fn random_games(rt: HostRuntime) -> Result<(), Fail> {
                     }
                 }
             }
-            let branches = branches_of(rt.alloc(), &p, None)?;
+            let branches = branches_of(rt.alloc(), &p, [None; 6])?;
             let (place, next) = drawn(state, branches.len());
             state = next;
             if let Some(branch) = branches.as_slice().get(place) {

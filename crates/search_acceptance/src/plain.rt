@@ -36,6 +36,11 @@ pub struct Notes {
     /// The move that was best at the last node so many plies from the root that was entered, or cut it
     /// off, by its code. The next node there visits it first, where nothing else is remembered.
     replies: [Option<u16>; 17],
+    /// The codes of the moves that cut off the last nodes so many plies from the root, from depth 3 on,
+    /// the last one first.
+    killers: [[Option<u16>; 4]; 17],
+    /// The codes of moves that the root visits first.
+    pub advised: [Option<u16>; 2],
     /// Nodes entered, nodes left, and nodes answered by a note or at once.
     pub steps: u64,
     /// Questions and notes.
@@ -51,6 +56,8 @@ impl Notes {
             asks_all,
             whole: 0,
             replies: [None; 17],
+            killers: [[None; 4]; 17],
+            advised: [None; 2],
             steps: 0,
             calls: 0,
         }
@@ -61,7 +68,7 @@ impl Notes {
         usize::from(self.whole.saturating_sub(depth))
     }
 
-    /// The move that is visited first at a node of the depth where no other is remembered.
+    /// The last move that was best at a node of the depth, or cut it off.
     fn reply_at(&self, depth: u8) -> Option<u16> {
         match self.replies.get(self.plies_to(depth)) {
             Some(reply) => *reply,
@@ -75,6 +82,39 @@ impl Notes {
         if place < 17 {
             self.replies[place] = reply;
         }
+    }
+
+    /// The moves that cut off the last nodes of the depth, where they are kept.
+    fn killers_at(&self, depth: u8) -> [Option<u16>; 4] {
+        match self.killers.get(self.plies_to(depth)) {
+            Some(killers) if depth > 2 => *killers,
+            _ => [None; 4],
+        }
+    }
+
+    /// Takes the move that cut off a node of the depth.
+    fn keep_killer(&mut self, depth: u8, code: u16) {
+        let last = self.killers_at(depth);
+        let place = self.plies_to(depth);
+        if depth > 2 && place < 17 && last[0] != Some(code) {
+            self.killers[place] = [Some(code), last[0], last[1], last[2]];
+        }
+    }
+
+    /// The moves that a node of the depth visits first, with the one that was best one ply less deep.
+    fn firsts_at(&self, depth: u8, best: Option<u16>) -> [Option<u16>; 6] {
+        let mut firsts = [None; 6];
+        if depth == self.whole {
+            for advised in self.advised {
+                add(&mut firsts, advised);
+            }
+        }
+        add(&mut firsts, best);
+        add(&mut firsts, self.reply_at(depth));
+        for killer in self.killers_at(depth) {
+            add(&mut firsts, killer);
+        }
+        firsts
     }
 
     /// Whether nodes of the depth below the root are worth a note.
@@ -173,7 +213,21 @@ impl Notes {
     }
 }
 
-/// A legal move, where it leads, and when it is visited (0 the hash move, 1 a capture, 2 a quiet move).
+/// Puts a code behind those that are there, if it is none of them and there is room.
+fn add(firsts: &mut [Option<u16>; 6], code: Option<u16>) {
+    for place in 0..6usize {
+        if firsts[place] == code {
+            return;
+        }
+        if firsts[place].is_none() {
+            firsts[place] = code;
+            return;
+        }
+    }
+}
+
+/// A legal move, where it leads, and when it is visited (0 to 5 one of the first moves, 6 a capture, 7 a
+/// quiet move).
 #[derive(Clone, Copy, Debug)]
 pub struct Branch {
     pub code: u16,
@@ -189,13 +243,15 @@ pub struct Branch {
 }
 
 /// When a move is visited.
-fn turn_of(p: &Position, m: &Move, hash_move: Option<u16>) -> u8 {
-    if hash_move == Some(m.code()) {
-        return 0;
+fn turn_of(p: &Position, m: &Move, firsts: [Option<u16>; 6]) -> u8 {
+    for turn in 0..6u8 {
+        if firsts[usize::from(turn)] == Some(m.code()) {
+            return turn;
+        }
     }
     match m {
-        Move::Board { to, .. } if p.at(*to).is_some() => 1,
-        _ => 2,
+        Move::Board { to, .. } if p.at(*to).is_some() => 6,
+        _ => 7,
     }
 }
 
@@ -311,7 +367,7 @@ fn leaves_escape(p: &Position, escapes: &Escapes, m: &Move) -> bool {
 pub fn branches_of(
     alloc: Global,
     p: &Position,
-    hash_move: Option<u16>,
+    firsts: [Option<u16>; 6],
 ) -> Result<Vec<Branch>, AllocError> {
     let mut branches = Vec::new(alloc);
     let mut walk = Walk::new(p);
@@ -330,7 +386,7 @@ pub fn branches_of(
             from,
             to,
             position: apply(p, tried),
-            turn: turn_of(p, &m, hash_move),
+            turn: turn_of(p, &m, firsts),
             is_certain,
             is_answered: is_certain || is_escaped,
         })?;
@@ -539,20 +595,20 @@ fn visit(
     }
     notes.step(2);
     let below = depth - 1;
-    let mut hash_move = notes.reply_at(depth);
+    let mut hash_move = None;
     if notes.has_hash_move(depth) {
-        if let Some(Known::Exact(_, Some(best))) = notes.ask(p, e, below)? {
-            hash_move = Some(best);
+        if let Some(Known::Exact(_, best)) = notes.ask(p, e, below)? {
+            hash_move = best;
         }
     }
-    let branches = branches_of(alloc, p, hash_move)?;
+    let branches = branches_of(alloc, p, notes.firsts_at(depth, hash_move))?;
     let (mut best_value, mut best) = (alpha, None);
     let mut outlook = Outlook {
         has_weak: false,
         is_looked_for: false,
         threat: None,
     };
-    for turn in 0..3u8 {
+    for turn in 0..8u8 {
         for branch in branches.as_slice() {
             let threshold = threshold(best_value, best, branch.code);
             if branch.turn != turn {
@@ -586,6 +642,7 @@ fn visit(
                 };
                 if worth >= beta {
                     notes.keep_reply(depth, Some(branch.code));
+                    notes.keep_killer(depth, branch.code);
                     return Ok(Known::AtLeast(worth));
                 }
                 if exact && worth > threshold {
@@ -632,6 +689,7 @@ pub fn search_plainly_below(
     notes: &mut Notes,
 ) -> Result<Option<(i32, Option<u16>)>, AllocError> {
     notes.replies = [None; 17];
+    notes.killers = [[None; 4]; 17];
     search_on(alloc, p, e, depth, beta, notes)
 }
 

@@ -1,4 +1,5 @@
 pub mod MatchingOthers
+pub mod FirstLaws
 pub mod OrderLaws
 pub mod Entries
 pub mod Searches

@@ -12,8 +12,9 @@ use Rattle.shogi_moves.specs.After.{after_code}
 use Rattle.shogi_moves.specs.LegalMoves.{legal_codes}
 use Rattle.shogi_moves.specs.Rising.{is_in}
 use Rattle.shogi_eval.specs.declared.eval.Eval.{Eval}
+use Rattle.shogi_search.specs.declared.firsts.Firsts.{Firsts}
 use Rattle.shogi_search.specs.declared.move_picker.MovePicker.{MovePicker}
-use Rattle.shogi_search.specs.declared.move_picker.MovePicker.TheVariants.{HashMove, Start, Done}
+use Rattle.shogi_search.specs.declared.move_picker.MovePicker.TheVariants.{First, Done}
 use Rattle.minimax.specs.Minimax.{tree_size, sum_of_tree_sizes, value, best, worth, lost_value, greatest_or, negated}
 use Rattle.minimax.specs.Window.{IsCovered, threshold}
 use Rattle.shogi_search.specs.Order.{todo, IsKept}
@@ -90,20 +91,19 @@ pub record IsNew (f : ℕ → ℤ) (p : Shogi) (d : ℕ) (alpha : ℤ) (picker :
 new_leaf : (f : ℕ → ℤ) (p : Shogi) (alpha : ℤ) → IsNew f p 0 alpha Done
 new_leaf f p alpha = record { covered = IsCovered-start f [] alpha; counted = omega (arith, tree_size-leaf p); kept = tt }
 
-pub new_node : (f : ℕ → ℤ) (p : Shogi) (d : ℕ) (alpha : ℤ) (hash_move : Option Move) (picker : MovePicker) → (d ≡ 0 → picker ≡ Done) → (0 < d → MatchOption hash_move (picker ≡ Start None) (λ k. picker ≡ HashMove k)) → ForSome hash_move (λ k. is_in (code_of k) (legal_codes p) ≡ true) → IsNew f p d alpha picker
-new_node f p zero alpha hash_move picker a b l = subst (λ (c : MovePicker). IsNew f p 0 alpha c) (sym (a refl)) (new_leaf f p alpha)
-new_node f p (suc d) alpha hash_move picker a b l =
+pub new_node : (f : ℕ → ℤ) (p : Shogi) (d : ℕ) (alpha : ℤ) (firsts : Firsts) (picker : MovePicker) → (d ≡ 0 → picker ≡ Done) → (0 < d → picker ≡ First firsts 0) → IsNew f p d alpha picker
+new_node f p zero alpha firsts picker a b = subst (λ (c : MovePicker). IsNew f p 0 alpha c) (sym (a refl)) (new_leaf f p alpha)
+new_node f p (suc d) alpha firsts picker a b =
     let deep : 0 < suc d = omega arith in
-    let w : IsWhole p (suc d - 1) picker = whole p (suc d - 1) hash_move picker l (b deep) in
-    record {
-      covered = whole_covered p (suc d - 1) picker f alpha w;
+    let w : IsWhole p (suc d - 1) (First firsts 0) = whole p (suc d - 1) firsts in
+    subst
+    (λ (c : MovePicker). IsNew f p (suc d) alpha c)
+    (sym (b deep))
+    (record {
+      covered = whole_covered p (suc d - 1) (First firsts 0) f alpha w;
       counted = omega (arith, tree_size-above p (suc d) deep, w.counted);
-      kept = kept_at hash_move picker (b deep);
-    }
-  where
-    kept_at : (hash_move : Option Move) (picker : MovePicker) → MatchOption hash_move (picker ≡ Start None) (λ k. picker ≡ HashMove k) → IsKept p picker
-    kept_at None picker e = subst (IsKept p) (sym e) tt
-    kept_at (Some k) picker e = subst (IsKept p) (sym e) tt
+      kept = tt;
+    })
 
 -- a value that cuts a node off, and the same value as it is kept
 pub cuts : (p : Shogi) (eval : Eval) (d : ℕ) (beta v v' : ℤ) → v' ≡ v → v ≤ℤ value p eval d → beta ≤ℤ v → (v' ≤ℤ value p eval d) × (beta ≤ℤ v')

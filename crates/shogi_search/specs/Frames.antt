@@ -1,5 +1,5 @@
 -- What clauses say of a node on the stack and of a move of it (own choice).
-use Rattle.std.specs.Prelude.{◌≢◌, ◌-◌, ℤ, ◌≤ℤ◌, []}
+use Rattle.std.specs.Prelude.{◌≢◌, ℕ, ◌-◌, ℤ, ◌≤ℤ◌, List, [], Option, cond, nat_lt}
 use Rattle.shogi_core.specs.declared.moves.Move.{Move}
 use Rattle.shogi_core.specs.Codes.{code_of}
 use Rattle.shogi_core.specs.Movement.{piece_at}
@@ -14,6 +14,7 @@ use Rattle.shogi_search.specs.declared.threat.Threat.{Threat}
 use Rattle.minimax.specs.Entries.{IsCutoff}
 use Rattle.shogi_search.specs.Losses.{LosesAtMost}
 use Rattle.minimax.specs.Minimax.{worth, IsTrueEntry, negated}
+use Rattle.shogi_search.specs.Firsts.{with_each, with_some}
 use Rattle.shogi_search.specs.Order.{todo}
 use Rattle.shogi_search.specs.Visits.{IsOver, WhereCurrent}
 use Rattle.minimax.specs.Window.{threshold, code_at}
@@ -72,3 +73,12 @@ IsMostUnderThreat f threat m most = Survives f threat m → IsWorthAtMost f m mo
 abbrev pub RepliesLoseAtMost : Frame → ℤ → Type 0
 RepliesLoseAtMost f loss =
     LosesAtMost f.node.position.hands (opponent_of f.node.position.side) f.node.eval loss
+
+-- the killers that serve at a depth
+abbrev pub killers_at : Frame → ℕ → List ℕ
+killers_at f depth = cond (nat_lt 2 depth) f.killers []
+
+-- the moves to visit first at a node of a depth in the place of a frame: those that are given, the hash move, the best move of the frame, and its killers
+abbrev pub firsts_at : List ℕ → Option Move → Frame → ℕ → List ℕ
+firsts_at given hash_move f depth =
+    with_each (with_some (with_some given hash_move) f.best_move) (killers_at f depth)

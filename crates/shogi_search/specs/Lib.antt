@@ -1,3 +1,4 @@
+pub mod Firsts
 pub mod Order
 pub mod Visits
 pub mod Losses

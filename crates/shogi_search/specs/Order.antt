@@ -1,13 +1,12 @@
--- The order in which a node's moves are visited: a remembered move, then captures, then the rest, each by rising code (own choice).
-use Rattle.std.specs.Prelude.{ℕ, ◌+◌, ◌-◌, ◌*◌, ◌<◌, ◌≡◌, Bool, true, false, ◌&&◌, not, ◌==◌, Option, Some, None, MatchOption, List, [], ◌∷◌, ◌++◌, filter}
+-- The order in which a node's moves are visited: some moves first, where they are legal, then captures, then the rest, each by rising code (own choice).
+use Rattle.std.specs.Prelude.{ℕ, ◌+◌, ◌-◌, ◌*◌, ◌<◌, ◌≡◌, Bool, true, false, ◌&&◌, not, ◌==◌, Option, Some, None, MatchOption, List, [], ◌∷◌, ◌++◌, filter, take}
 use denote.Struct.Props as logic
 use Rattle.shogi_core.specs.declared.moves.TheConstants.{FIRST_DROP}
 use Rattle.shogi_core.specs.declared.moves.Move.{Move}
 use Rattle.shogi_core.specs.declared.piece.Kind.{Kind}
-use Rattle.shogi_core.specs.Codes.{code_of}
 use Rattle.shogi_core.specs.Position.{Shogi}
 use Rattle.shogi_moves.specs.Captures.{matches_kind}
-use Rattle.shogi_moves.specs.LegalMoves.{legal_codes, legal_from}
+use Rattle.shogi_moves.specs.LegalMoves.{legal_from}
 use Rattle.shogi_moves.specs.Rising.{is_in}
 use Rattle.shogi_moves.specs.Sweeps.{IsBoardSweep, IsDropSweep, IsPassed, IsCertainMove, IsCertainDrop}
 use Rattle.shogi_moves.specs.Walks.{IsNextOf, TakesNext}
@@ -15,44 +14,40 @@ use Rattle.shogi_moves.specs.declared.destinations.Destinations.{Destinations}
 use Rattle.shogi_moves.specs.declared.sweep.BoardSweep.{BoardSweep}
 use Rattle.shogi_moves.specs.declared.sweep.DropSweep.{DropSweep}
 use Rattle.minimax.specs.Minimax.{sum_of_tree_sizes, tree_size}
+use Rattle.shogi_search.specs.Firsts.{legal_firsts}
+use Rattle.shogi_search.specs.declared.firsts.Firsts.{Firsts}
 use Rattle.shogi_search.specs.declared.move_picker.MovePicker.{MovePicker}
-use Rattle.shogi_search.specs.declared.move_picker.MovePicker.TheVariants.{HashMove, Start, Captures, Quiets, Drops, Done}
+use Rattle.shogi_search.specs.declared.move_picker.MovePicker.TheVariants.{First, Captures, Quiets, Drops, Done}
 
--- the code is that of the remembered move
-abbrev pub is_hash_move : Option Move → ℕ → Bool
-is_hash_move None code = false
-is_hash_move (Some f) code = code == code_of f
-
--- the captures, or the rest, without the remembered move
-abbrev pub matches_other : Shogi → Option Move → Bool → ℕ → Bool
-matches_other p hash_move capture code =
-    matches_kind p capture code && not (is_hash_move hash_move code)
+-- the captures, or the rest, without the first moves
+abbrev pub matches_other : Shogi → List ℕ → Bool → ℕ → Bool
+matches_other p firsts capture code =
+    matches_kind p capture code && not (is_in code firsts)
 
 -- the legal ones of these from a code on
-abbrev pub matching_others_from : Shogi → Option Move → Bool → ℕ → List ℕ
-matching_others_from p hash_move capture code =
-    filter (matches_other p hash_move capture) (legal_from p code)
+abbrev pub matching_others_from : Shogi → List ℕ → Bool → ℕ → List ℕ
+matching_others_from p firsts capture code =
+    filter (matches_other p firsts capture) (legal_from p code)
+
+-- all of them but the first moves: the captures, and then the rest
+abbrev pub others_to_come : Shogi → List ℕ → List ℕ
+others_to_come p firsts =
+    matching_others_from p firsts true 0 ++ matching_others_from p firsts false 0
+
+-- the codes of some first moves, in order
+abbrev pub codes_of : Firsts → List ℕ
+codes_of firsts = take firsts.len firsts.codes
 
 -- the moves that are still to be visited
 abbrev pub todo : Shogi → MovePicker → List ℕ
-todo p (HashMove f) =
-    code_of f ∷ (matching_others_from p (Some f) true 0 ++ matching_others_from p (Some f) false 0)
-todo p (Start hash_move) =
-    matching_others_from p hash_move true 0 ++ matching_others_from p hash_move false 0
-todo p (Captures hash_move s) =
-    matching_others_from p hash_move true s.code ++ matching_others_from p hash_move false 0
-todo p (Quiets hash_move s) = matching_others_from p hash_move false s.code
-todo p (Drops hash_move s) = matching_others_from p hash_move false s.code
+todo p (First firsts from) =
+    legal_firsts p (codes_of firsts) from ++ others_to_come p (codes_of firsts)
+todo p (Captures firsts s) =
+    matching_others_from p (codes_of firsts) true s.code
+    ++ matching_others_from p (codes_of firsts) false 0
+todo p (Quiets firsts s) = matching_others_from p (codes_of firsts) false s.code
+todo p (Drops firsts s) = matching_others_from p (codes_of firsts) false s.code
 todo p Done = []
-
--- a picker at its start, with the hash move to visit first where there is one
-abbrev pub BeginsWith : Option Move → MovePicker → Type 0
-BeginsWith hash_move picker =
-    MatchOption hash_move (picker ≡ Start None) (λ f. picker ≡ HashMove f)
-
--- the move is among the legal ones of the position, by its code
-abbrev pub IsListed : Shogi → Move → Type 0
-IsListed p m = is_in (code_of m) (legal_codes p) ≡ true
 
 -- two steps for each node after the moves still to be visited, and one more, are fewer than two for each node of the whole tree
 abbrev pub IsWithinTree : Shogi → ℕ → MovePicker → Type 0
@@ -60,34 +55,33 @@ IsWithinTree p d picker = 1 + 2 * sum_of_tree_sizes p (d - 1) (todo p picker) < 
 
 -- the codes of the moves still to be visited once the sweep that is under way has ended
 abbrev pub todo_after : Shogi → MovePicker → List ℕ
-todo_after p (HashMove f) = todo p (HashMove f)
-todo_after p (Start hash_move) = todo p (Start hash_move)
-todo_after p (Captures hash_move s) = matching_others_from p hash_move false 0
-todo_after p (Quiets hash_move s) = matching_others_from p hash_move false FIRST_DROP
-todo_after p (Drops hash_move s) = []
+todo_after p (First firsts from) = todo p (First firsts from)
+todo_after p (Captures firsts s) = matching_others_from p (codes_of firsts) false 0
+todo_after p (Quiets firsts s) = matching_others_from p (codes_of firsts) false FIRST_DROP
+todo_after p (Drops firsts s) = []
 todo_after p Done = []
 
--- the moves that take nothing, without the remembered one
-abbrev pub quiets_to_come : Shogi → Option Move → List ℕ
-quiets_to_come p hash_move = matching_others_from p hash_move false 0
+-- the moves that take nothing, without the first ones
+abbrev pub quiets_to_come : Shogi → List ℕ → List ℕ
+quiets_to_come p firsts = matching_others_from p firsts false 0
 
 -- the drops among them
-abbrev pub drops_to_come : Shogi → Option Move → List ℕ
-drops_to_come p hash_move = matching_others_from p hash_move false FIRST_DROP
+abbrev pub drops_to_come : Shogi → List ℕ → List ℕ
+drops_to_come p firsts = matching_others_from p firsts false FIRST_DROP
 
 -- the next pick of a sweep over the board, where there is one
 abbrev pub TakesBoardPick :
-    Shogi → Option Move → Bool → Option Move → BoardSweep → BoardSweep → Type 0
-TakesBoardPick p hash_move capture picked old new =
-    IsNextOf picked (matching_others_from p hash_move capture old.code)
-    (matching_others_from p hash_move capture new.code)
-    (matching_others_from p hash_move capture FIRST_DROP)
+    Shogi → List ℕ → Bool → Option Move → BoardSweep → BoardSweep → Type 0
+TakesBoardPick p firsts capture picked old new =
+    IsNextOf picked (matching_others_from p firsts capture old.code)
+    (matching_others_from p firsts capture new.code)
+    (matching_others_from p firsts capture FIRST_DROP)
 
 -- the next pick of a sweep over the drops, where there is one
-abbrev pub TakesDropPick : Shogi → Option Move → Option Move → DropSweep → DropSweep → Type 0
-TakesDropPick p hash_move picked old new =
-    IsNextOf picked (matching_others_from p hash_move false old.code)
-    (matching_others_from p hash_move false new.code) []
+abbrev pub TakesDropPick : Shogi → List ℕ → Option Move → DropSweep → DropSweep → Type 0
+TakesDropPick p firsts picked old new =
+    IsNextOf picked (matching_others_from p firsts false old.code)
+    (matching_others_from p firsts false new.code) []
 
 -- the next move of the sweep that is under way, where there is one
 abbrev pub TakesFromSweep : Shogi → Option Move → MovePicker → MovePicker → Type 0
@@ -99,20 +93,18 @@ TakesFirst p picked codes new = TakesNext picked codes (todo p new)
 
 -- the moves on the board that take nothing are under way, from a code on
 abbrev pub IsAtQuiets : MovePicker → ℕ → Type 0
-IsAtQuiets (HashMove f) code = ⊥
-IsAtQuiets (Start hash_move) code = ⊥
-IsAtQuiets (Captures hash_move s) code = ⊥
-IsAtQuiets (Quiets hash_move s) code = s.code ≡ code
-IsAtQuiets (Drops hash_move s) code = ⊥
+IsAtQuiets (First firsts from) code = ⊥
+IsAtQuiets (Captures firsts s) code = ⊥
+IsAtQuiets (Quiets firsts s) code = s.code ≡ code
+IsAtQuiets (Drops firsts s) code = ⊥
 IsAtQuiets Done code = ⊥
 
 -- the drops of a kind are under way, from a code on
 abbrev pub IsAtDrops : MovePicker → Kind → ℕ → Type 0
-IsAtDrops (HashMove f) kind code = ⊥
-IsAtDrops (Start hash_move) kind code = ⊥
-IsAtDrops (Captures hash_move s) kind code = ⊥
-IsAtDrops (Quiets hash_move s) kind code = ⊥
-IsAtDrops (Drops hash_move s) kind code = (s.kind ≡ kind) × (s.code ≡ code)
+IsAtDrops (First firsts from) kind code = ⊥
+IsAtDrops (Captures firsts s) kind code = ⊥
+IsAtDrops (Quiets firsts s) kind code = ⊥
+IsAtDrops (Drops firsts s) kind code = (s.kind ≡ kind) × (s.code ≡ code)
 IsAtDrops Done kind code = ⊥
 
 -- where the moves on the board that take nothing are under way, some of them are passed that surely have a reply
@@ -129,18 +121,16 @@ PassesDrops p old new =
 
 -- what the picker holds beside the codes is true of the position
 abbrev pub IsKept : Shogi → MovePicker → Type 0
-IsKept p (HashMove f) = Unit {0}
-IsKept p (Start hash_move) = Unit {0}
-IsKept p (Captures hash_move s) = IsBoardSweep p true s
-IsKept p (Quiets hash_move s) = IsBoardSweep p false s
-IsKept p (Drops hash_move s) = IsDropSweep p s
+IsKept p (First firsts from) = Unit {0}
+IsKept p (Captures firsts s) = IsBoardSweep p true s
+IsKept p (Quiets firsts s) = IsBoardSweep p false s
+IsKept p (Drops firsts s) = IsDropSweep p s
 IsKept p Done = Unit {0}
 
 -- it has one proof at most, so it may be a ghost field
 pub IsKept-prop : (p : Shogi) (picker : MovePicker) → IsProp (IsKept p picker)
-IsKept-prop p (HashMove f) = Prim.hlevel logic.props
-IsKept-prop p (Start hash_move) = Prim.hlevel logic.props
-IsKept-prop p (Captures hash_move s) = Prim.hlevel logic.props
-IsKept-prop p (Quiets hash_move s) = Prim.hlevel logic.props
-IsKept-prop p (Drops hash_move s) = Prim.hlevel logic.props
+IsKept-prop p (First firsts from) = Prim.hlevel logic.props
+IsKept-prop p (Captures firsts s) = Prim.hlevel logic.props
+IsKept-prop p (Quiets firsts s) = Prim.hlevel logic.props
+IsKept-prop p (Drops firsts s) = Prim.hlevel logic.props
 IsKept-prop p Done = Prim.hlevel logic.props

@@ -11,11 +11,12 @@ ghost use Rattle.shogi_eval.specs.declared.points.TheConstants.{POINTS_MAX};
 ghost use Rattle.minimax.specs.Minimax.{value, negated};
 ghost use Rattle.minimax.specs.Entries.{IsCutoff};
 ghost use Rattle.shogi_search.specs.Threats.{IsThreatIn};
-ghost use Rattle.shogi_search.specs.Order.{todo, BeginsWith, IsListed, IsWithinTree, IsKept, IsKept-prop};
+ghost use Rattle.shogi_search.specs.Order.{codes_of, todo, IsWithinTree, IsKept, IsKept-prop};
 ghost use Rattle.shogi_search.specs.Visits.{IsKnownWhile, IsKnownWhile-prop, IsCurrent, WhereCurrent};
 ghost use Rattle.minimax.specs.Window.{code_at};
 ghost use Rattle.minimax.specs.declared.bounds.TheConstants.{SEARCH_DEPTH_MAX, INFINITY, MATE};
 
+use crate::firsts::{Firsts, KILLERS, with_killer};
 use crate::losses::{loss_of_drops, quiet_squares};
 use crate::move_picker::MovePicker;
 use crate::threat::{Threat, greatest_threat};
@@ -59,6 +60,8 @@ pub struct Frame {
     pub has_replies: bool,
     /// Set once the threat was looked for.
     pub has_threat: bool,
+    /// Codes of moves that cut off the last nodes of this place, the last one first.
+    pub killers: [u16; KILLERS],
     ghost valid: { IsValid node.position },
     ghost shallow: { depth ≤ SEARCH_DEPTH_MAX },
     ghost least: { negated INFINITY ≤ℤ alpha },
@@ -93,20 +96,36 @@ pub fn leaf(node: &Node) -> i32
 }
 
 impl Frame {
-    ghost use Rattle.shogi_search.specs.Frames.{worth_of, threshold_of, FailsLow, IsTrueOf, IsTrueAfter, IsCutoffAfter, IsToBeLeft, HasReply, IsWorthAtMost, IsMostUnderThreat, RepliesLoseAtMost};
+    ghost use Rattle.shogi_search.specs.Frames.{firsts_at, worth_of, threshold_of, FailsLow, IsTrueOf, IsTrueAfter, IsCutoffAfter, IsToBeLeft, HasReply, IsWorthAtMost, IsMostUnderThreat, RepliesLoseAtMost};
     ghost use Rattle.shogi_search.specs.Stack.{IsAt, IsSame, KeepsMoves, EndsVisit, AsksFor, PrunesRow};
 
-    /// The frame becomes that of a node that is entered, with the move to visit first.
-    pub fn enter(&mut self, node: &Node, depth: u8, alpha: i32, beta: i32, hash_move: Option<Move>)
+    /// The moves that a node of the depth visits first that is to be entered in this place: those that
+    /// are given, the hash move, the best move of the node that stands here now or the move that cut
+    /// it off, and from depth 3 on the killers: what refutes one move of a position often refutes the
+    /// next one.
+    pub fn firsts(&self, given: Firsts, hash_move: Option<Move>, depth: u8) -> Firsts
+        ensures { codes_of result ≡ firsts_at (codes_of given) hash_move self.now depth }
+    {
+        let mut firsts = given;
+        firsts.add_some(hash_move);
+        firsts.add_some(self.best_move);
+        if depth > 2 {
+            firsts.add_each(&self.killers);
+        }
+        firsts
+    }
+
+    /// The frame becomes that of a node that is entered, with the moves to visit first. The killers
+    /// of its place stay.
+    pub fn enter(&mut self, node: &Node, depth: u8, alpha: i32, beta: i32, firsts: Firsts)
         requires shallow { depth ≤ SEARCH_DEPTH_MAX }
         requires least { negated INFINITY ≤ℤ alpha }
         requires open { alpha <ℤ beta }
         requires most { beta ≤ℤ INFINITY }
-        requires hash_move { ForSome hash_move (IsListed node.now.position) }
         ensures place { IsAt node.now.position node.now.eval depth alpha beta self.new }
         ensures counted { IsWithinTree node.now.position depth self.new.picker }
         ensures waiting { self.new.waiting ≡ Waiting.Next }
-        ensures hash_move { 0 < depth → BeginsWith hash_move self.new.picker }
+        ensures firsts { 0 < depth → self.new.picker ≡ MovePicker.First firsts 0 }
     {
         node.as_position().validity();
         self.node = *node;
@@ -116,7 +135,7 @@ impl Frame {
         self.best_value = alpha;
         self.best_move = None;
         self.has_move = false;
-        self.picker = MovePicker::new(depth, hash_move);
+        self.picker = MovePicker::new(depth, firsts);
         self.waiting = Waiting::Next;
         self.replies = Replies::unknown(node.as_position());
         self.has_replies = false;
@@ -268,6 +287,9 @@ impl Frame {
         requires beta { self.old.beta ≤ℤ value }
         ensures { EndsVisit self.old self.new }
     {
+        if self.depth > 2 {
+            self.killers = with_killer(&self.killers, current.code());
+        }
         self.best_move = Some(*current);
         self.waiting = Waiting::Cut(value);
     }
@@ -568,6 +590,7 @@ impl Default for Frame {
             escapes: None,
             threat: None,
             has_threat: false,
+            killers: [0; KILLERS],
         }
     }
 }

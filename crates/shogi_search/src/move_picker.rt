@@ -7,48 +7,33 @@ ghost use Rattle.shogi_moves.specs.Escapes.{AreEscapes};
 ghost use Rattle.shogi_moves.specs.CheckInfo.{IsCheckInfoOf};
 ghost use Rattle.shogi_moves.specs.Replies.{IsReplies};
 ghost use Rattle.shogi_moves.specs.Sweeps.{IsBoardSweep, IsDropSweep};
-ghost use Rattle.shogi_search.specs.Order.{drops_to_come, is_hash_move, quiets_to_come, todo, todo_after, BeginsWith, IsAtDrops, IsAtQuiets, IsKept, PassesDrops, PassesQuiets, TakesBoardPick, TakesDropPick, TakesFirst, TakesFromSweep};
+ghost use Rattle.shogi_search.specs.Order.{codes_of, drops_to_come, others_to_come, quiets_to_come, todo, todo_after, IsAtDrops, IsAtQuiets, IsKept, PassesDrops, PassesQuiets, TakesBoardPick, TakesDropPick, TakesFirst, TakesFromSweep};
 
+use crate::firsts::Firsts;
 use shogi_core::{Kind, Move, Position};
 use shogi_moves::{BoardSweep, CheckInfo, Destinations, DropSweep, Replies, check_info_of};
 
-/// How far the visits of a node's moves have come: the hash move, and what is still to come of the
-/// captures, of the quiet board moves and of the drops.
+/// How far the visits of a node's moves have come: the first moves from a place on, and what is
+/// still to come of the captures, of the quiet board moves and of the drops.
 #[derive(Clone, Copy, Debug)]
 pub enum MovePicker {
-    HashMove(Move),
-    Start(Option<Move>),
-    Captures(Option<Move>, BoardSweep),
-    Quiets(Option<Move>, BoardSweep),
-    Drops(Option<Move>, DropSweep),
+    First(Firsts, usize),
+    Captures(Firsts, BoardSweep),
+    Quiets(Firsts, BoardSweep),
+    Drops(Firsts, DropSweep),
     Done,
-}
-
-/// Whether it is the hash move.
-fn is_hash_move(hash_move: &Option<Move>, m: &Move) -> bool
-    ensures { result ≡ is_hash_move hash_move.now (code_of m.now) }
-{
-    match hash_move {
-        Some(f) => m.code() == f.code(),
-        None => false,
-    }
 }
 
 /// The next pick of a sweep over the board.
 #[inline(always)]
 #[tactic(auto, using(crate::proofs::MatchingOthers::matching_others))]
-fn next_board(
-    p: &Position,
-    hash_move: &Option<Move>,
-    capture: bool,
-    sweep: &mut BoardSweep,
-) -> Option<Move>
+fn next_board(p: &Position, firsts: &Firsts, capture: bool, sweep: &mut BoardSweep) -> Option<Move>
     requires kept { IsBoardSweep p.now capture sweep.old }
     ensures kept { IsBoardSweep p.now capture sweep.new }
-    ensures next { TakesBoardPick p.now hash_move.now capture result sweep.old sweep.new }
+    ensures next { TakesBoardPick p.now (codes_of firsts.now) capture result sweep.old sweep.new }
 {
     'moves: while let Some(m) = sweep.next(p, capture) {
-        if !is_hash_move(hash_move, &m) {
+        if !firsts.has_move(&m) {
             return Some(m);
         }
     }
@@ -58,13 +43,13 @@ fn next_board(
 /// The next pick of a sweep over the drops.
 #[inline(always)]
 #[tactic(auto, using(crate::proofs::MatchingOthers::matching_others))]
-fn next_drop(p: &Position, hash_move: &Option<Move>, sweep: &mut DropSweep) -> Option<Move>
+fn next_drop(p: &Position, firsts: &Firsts, sweep: &mut DropSweep) -> Option<Move>
     requires kept { IsDropSweep p.now sweep.old }
     ensures kept { IsDropSweep p.now sweep.new }
-    ensures next { TakesDropPick p.now hash_move.now result sweep.old sweep.new }
+    ensures next { TakesDropPick p.now (codes_of firsts.now) result sweep.old sweep.new }
 {
     'moves: while let Some(m) = sweep.next(p) {
-        if !is_hash_move(hash_move, &m) {
+        if !firsts.has_move(&m) {
             return Some(m);
         }
     }
@@ -72,35 +57,27 @@ fn next_drop(p: &Position, hash_move: &Option<Move>, sweep: &mut DropSweep) -> O
 }
 
 impl MovePicker {
-    /// The moves that a search at a depth goes through, the hash move first.
-    pub fn new(depth: u8, hash_move: Option<Move>) -> MovePicker
+    /// The moves that a search at a depth goes through, these first.
+    pub fn new(depth: u8, firsts: Firsts) -> MovePicker
         ensures leaf { depth ≡ 0 → result ≡ MovePicker.Done }
-        ensures inner { 0 < depth → BeginsWith hash_move result }
+        ensures inner { 0 < depth → result ≡ MovePicker.First firsts 0 }
     {
         if depth == 0 {
             return MovePicker::Done;
         }
-        match hash_move {
-            Some(f) => MovePicker::HashMove(f),
-            None => MovePicker::Start(None),
-        }
+        MovePicker::First(firsts, 0)
     }
 
     /// Begins with the drops.
-    fn enter_drops(
-        &mut self,
-        p: &Position,
-        hash_move: Option<Move>,
-        info: CheckInfo,
-    ) -> Option<Move>
+    fn enter_drops(&mut self, p: &Position, firsts: Firsts, info: CheckInfo) -> Option<Move>
         requires info { IsCheckInfoOf info p.now }
-        ensures next { TakesFirst p.now result (drops_to_come p.now hash_move) self.new }
+        ensures next { TakesFirst p.now result (drops_to_come p.now (codes_of firsts)) self.new }
         ensures kept { IsKept p.now self.new }
     {
         let mut sweep = DropSweep::new(p, info);
-        match next_drop(p, &hash_move, &mut sweep) {
+        match next_drop(p, &firsts, &mut sweep) {
             Some(m) => {
-                *self = MovePicker::Drops(hash_move, sweep);
+                *self = MovePicker::Drops(firsts, sweep);
                 Some(m)
             }
             None => {
@@ -111,41 +88,48 @@ impl MovePicker {
     }
 
     /// Begins with the quiet moves.
-    fn enter_quiets(
-        &mut self,
-        p: &Position,
-        hash_move: Option<Move>,
-        info: CheckInfo,
-    ) -> Option<Move>
+    fn enter_quiets(&mut self, p: &Position, firsts: Firsts, info: CheckInfo) -> Option<Move>
         requires info { IsCheckInfoOf info p.now }
-        ensures next { TakesFirst p.now result (quiets_to_come p.now hash_move) self.new }
+        ensures next { TakesFirst p.now result (quiets_to_come p.now (codes_of firsts)) self.new }
         ensures kept { IsKept p.now self.new }
     {
         let mut sweep = BoardSweep::new(p, info, false);
-        match next_board(p, &hash_move, false, &mut sweep) {
+        match next_board(p, &firsts, false, &mut sweep) {
             Some(m) => {
-                *self = MovePicker::Quiets(hash_move, sweep);
+                *self = MovePicker::Quiets(firsts, sweep);
                 Some(m)
             }
-            None => self.enter_drops(p, hash_move, info),
+            None => self.enter_drops(p, firsts, info),
         }
     }
 
     /// Begins with the captures.
     #[tactic(auto, using(crate::proofs::MatchingOthers::no_capture_left))]
-    fn enter_captures(&mut self, p: &Position, hash_move: Option<Move>) -> Option<Move>
-        ensures next { TakesFirst p.now result (todo p.now (MovePicker.Start hash_move)) self.new }
+    fn enter_captures(&mut self, p: &Position, firsts: Firsts) -> Option<Move>
+        ensures next { TakesFirst p.now result (others_to_come p.now (codes_of firsts)) self.new }
         ensures kept { IsKept p.now self.new }
     {
         let info = check_info_of(p);
         let mut sweep = BoardSweep::new(p, info, true);
-        match next_board(p, &hash_move, true, &mut sweep) {
+        match next_board(p, &firsts, true, &mut sweep) {
             Some(m) => {
-                *self = MovePicker::Captures(hash_move, sweep);
+                *self = MovePicker::Captures(firsts, sweep);
                 Some(m)
             }
-            None => self.enter_quiets(p, hash_move, info),
+            None => self.enter_quiets(p, firsts, info),
         }
+    }
+
+    /// The next of the first moves, from a place on, or else the first of the others.
+    fn next_first(&mut self, p: &Position, firsts: Firsts, passed: usize) -> Option<Move>
+        ensures next { TakesFirst p.now result (todo p.now (MovePicker.First firsts passed)) self.new }
+        ensures kept { IsKept p.now self.new }
+    {
+        let Some((m, n)) = firsts.next_legal(p, passed) else {
+            return self.enter_captures(p, firsts);
+        };
+        *self = MovePicker::First(firsts, n);
+        Some(m)
     }
 
     /// The next move of the sweep that is under way, which moves on where it stands.
@@ -156,14 +140,14 @@ impl MovePicker {
         ensures next { TakesFromSweep p.now result self.old self.new }
         ensures kept { IsKept p.now self.new }
     {
-        if let MovePicker::Drops(hash_move, sweep) = self {
-            return next_drop(p, hash_move, sweep);
+        if let MovePicker::Drops(firsts, sweep) = self {
+            return next_drop(p, firsts, sweep);
         }
-        if let MovePicker::Captures(hash_move, sweep) = self {
-            return next_board(p, hash_move, true, sweep);
+        if let MovePicker::Captures(firsts, sweep) = self {
+            return next_board(p, firsts, true, sweep);
         }
-        if let MovePicker::Quiets(hash_move, sweep) = self {
-            return next_board(p, hash_move, false, sweep);
+        if let MovePicker::Quiets(firsts, sweep) = self {
+            return next_board(p, firsts, false, sweep);
         }
         None
     }
@@ -189,14 +173,14 @@ impl MovePicker {
         ensures kept { IsKept p.now self.new }
         ensures same { todo p.now self.new ≡ todo p.now self.old }
     {
-        let MovePicker::Captures(hash_move, sweep) = self else {
+        let MovePicker::Captures(firsts, sweep) = self else {
             return;
         };
         if sweep.fill(p, true) {
             return;
         }
-        let (hash_move, info) = (*hash_move, sweep.info);
-        *self = MovePicker::Quiets(hash_move, BoardSweep::new(p, info, false));
+        let (firsts, info) = (*firsts, sweep.info);
+        *self = MovePicker::Quiets(firsts, BoardSweep::new(p, info, false));
     }
 
     /// Turns to the drops in the same way, where the quiet moves on the board are under way.
@@ -206,14 +190,14 @@ impl MovePicker {
         ensures kept { IsKept p.now self.new }
         ensures same { todo p.now self.new ≡ todo p.now self.old }
     {
-        let MovePicker::Quiets(hash_move, sweep) = self else {
+        let MovePicker::Quiets(firsts, sweep) = self else {
             return;
         };
         if sweep.fill(p, false) {
             return;
         }
-        let (hash_move, info) = (*hash_move, sweep.info);
-        *self = MovePicker::Drops(hash_move, DropSweep::new(p, info));
+        let (firsts, info) = (*firsts, sweep.info);
+        *self = MovePicker::Drops(firsts, DropSweep::new(p, info));
     }
 
     /// Turns to the next kind of drops where those of a kind are under way and none is left;
@@ -297,14 +281,9 @@ impl MovePicker {
         ensures kept { IsKept p.now self.new }
     {
         match *self {
-            MovePicker::HashMove(f) => {
-                let found = f;
-                *self = MovePicker::Start(Some(f));
-                Some(found)
-            }
-            MovePicker::Start(hash_move) => self.enter_captures(p, hash_move),
-            MovePicker::Captures(hash_move, sweep) => self.enter_quiets(p, hash_move, sweep.info),
-            MovePicker::Quiets(hash_move, sweep) => self.enter_drops(p, hash_move, sweep.info),
+            MovePicker::First(firsts, passed) => self.next_first(p, firsts, passed),
+            MovePicker::Captures(firsts, sweep) => self.enter_quiets(p, firsts, sweep.info),
+            MovePicker::Quiets(firsts, sweep) => self.enter_drops(p, firsts, sweep.info),
             MovePicker::Drops(_, _) | MovePicker::Done => {
                 *self = MovePicker::Done;
                 None

@@ -9,12 +9,13 @@ ghost use Rattle.minimax.specs.Entries.{IsCutoff};
 ghost use Rattle.shogi_search.specs.Progress.{untouched, untouched_below, left_of, HasPath, IsAnsweredBy, EndsWhereAnswered, EndsWhereKnown, KeepsQuestion, IsFoundBelow, IsFoundBy, FindsValue, FindsBest};
 ghost use Rattle.minimax.specs.declared.bounds.TheConstants.{SEARCH_DEPTH_MAX, INFINITY};
 
+use crate::firsts::Firsts;
 use crate::found::Found;
 use crate::frame::Frame;
 use crate::memo::Memo;
-use crate::stack::{Stack, answer_at_once, first_move_of, hash_move_of, probe};
+use crate::stack::{Stack, answer_at_once, hash_move_of, probe};
 use minimax::{Entry, INFINITY};
-use shogi_core::Position;
+use shogi_core::{Move, Position};
 use shogi_eval::{Eval, Node};
 use std::marker::Model;
 
@@ -22,15 +23,17 @@ use std::marker::Model;
 /// steps in slices, and each slice may be given another memo. A step enters a node, leaves a node,
 /// or has a child or the root answered at once: a child by the memo, and either where one ply is
 /// left or none. The greatest work of a step is about that of making and asking all moves of one
-/// position. A node that is entered and for which the memo has no move to visit first visits first
-/// the best move of the node that was searched before in its place, or the move that cut that one
-/// off, if it is legal.
+/// position. A node that is entered visits first, where they are legal: at the root the moves that
+/// are advised; the best move one ply less deep, where the memo has that; the best move of the node
+/// that was searched before in its place, or the move that cut that one off; and from depth 3 on
+/// up to four more moves that cut off nodes there.
 #[derive(Drop)]
 pub struct Search {
     stack: Stack,
     started: bool,
     steps: u64,
     found: Option<Found>,
+    advised: Firsts,
 }
 
 impl Model for Search {
@@ -100,6 +103,7 @@ impl Search {
             started: false,
             steps: 0,
             found: None,
+            advised: Firsts::none(),
         }
     }
 
@@ -127,6 +131,20 @@ impl Search {
         self.started = false;
         self.steps = 0;
         self.found = None;
+        self.advised = Firsts::none();
+    }
+
+    /// Has the root visit these moves first once it is entered, in this order, where they are legal: as
+    /// the best moves of searches less deep. What is found is the same, and only the steps may be
+    /// others. A search that begins anew has no such moves.
+    pub fn advise(&mut self, moves: [Option<Move>; 2])
+        ensures { self.new ≡ self.old }
+    {
+        let mut advised = Firsts::none();
+        'moves: for m in moves {
+            advised.add_some(m);
+        }
+        self.advised = advised;
     }
 
     /// States what is known of a search that has entered its root and not ended: which nodes it has
@@ -159,13 +177,12 @@ impl Search {
         ensures left { left_of self.new < left_of self.old }
     {
         self.stack.height = 0;
-        let other = self.stack.kept_reply(self.stack.depth);
         let (root, e, depth) = (&self.stack.root, self.stack.eval, self.stack.depth);
         let hash_move = hash_move_of(root, e, depth, memo);
-        let first = first_move_of(root, hash_move, other);
         let node = Node::of(*root, e);
         let beta = self.stack.beta;
-        self.stack.frames[0].enter(&node, depth, -INFINITY, beta, first);
+        let firsts = self.stack.frames[0].firsts(self.advised, hash_move, depth);
+        self.stack.frames[0].enter(&node, depth, -INFINITY, beta, firsts);
         self.started = true;
         self.steps = self.steps.saturating_add(1);
     }

@@ -4,19 +4,18 @@ ghost use Rattle.std.specs.Prelude.{◌≡◌, ◌≤◌, ◌<ℤ◌, ◌<◌, �
 ghost use Rattle.std.specs.Option.{ForSome};
 ghost use Rattle.minimax.specs.Minimax.{negated, IsTrueEntry};
 ghost use Rattle.minimax.specs.Entries.{IsCutoff, IsEnough, move_in};
-ghost use Rattle.shogi_search.specs.Order.{IsListed};
 ghost use Rattle.shogi_search.specs.Visits.{IsFree};
 ghost use Rattle.shogi_search.specs.Frames.{IsTrueOf, IsToBeLeft};
 ghost use Rattle.shogi_search.specs.Stack.{IsStack, OnTop, IsTrueOfRoot, KeepsGoal, UsesSteps, steps_left};
 ghost use Rattle.minimax.specs.declared.bounds.TheConstants.{SEARCH_DEPTH_MAX, INFINITY};
 
+use crate::firsts::Firsts;
 use crate::frame::{Frame, Waiting, leaf};
 use crate::memo::Memo;
 use last_ply::last_ply;
 use minimax::Entry;
 use shogi_core::{Move, Position};
 use shogi_eval::{Eval, Node};
-use shogi_moves::is_legal;
 
 /// The root of a search, its evaluation, its depth and the end of its window, and the nodes that
 /// are entered and not yet left, from the root on: the one on top stands at the height, and those
@@ -95,9 +94,7 @@ fn answer_of<M: Memo>(node: &Node, depth: u8, alpha: i32, beta: i32, memo: &mut 
 }
 
 /// The best move one ply less deep, where the memo has it.
-#[tactic(auto, using(crate::proofs::OrderLaws::best_listed))]
 pub fn hash_move_of<M: Memo>(p: &Position, e: Eval, depth: u8, memo: &mut M) -> Option<Move>
-    ensures listed { ForSome result (IsListed p.now) }
     ensures shallow { depth < 2 → result ≡ None }
     ensures deep { 2 ≤ depth → result ≡ move_in (M.answers memo.old p.now e (depth - 1)) }
     ensures capacity { M.capacity memo.new ≡ M.capacity memo.old }
@@ -114,7 +111,6 @@ pub fn hash_move_of<M: Memo>(p: &Position, e: Eval, depth: u8, memo: &mut M) -> 
 /// The same for a node below the root, where the depth below it serves the memo.
 fn child_hash_move_of<M: Memo>(p: &Position, e: Eval, depth: u8, memo: &mut M) -> Option<Move>
     requires { 0 < depth }
-    ensures listed { ForSome result (IsListed p.now) }
     ensures capacity { M.capacity memo.new ≡ M.capacity memo.old }
 {
     if !memo.serves(depth - 1) {
@@ -123,38 +119,7 @@ fn child_hash_move_of<M: Memo>(p: &Position, e: Eval, depth: u8, memo: &mut M) -
     hash_move_of(p, e, depth, memo)
 }
 
-/// The move to visit first: the hash move, or where there is none this other one, if it is legal.
-pub fn first_move_of(p: &Position, hash_move: Option<Move>, other: Option<Move>) -> Option<Move>
-    requires { ForSome hash_move (IsListed p.now) }
-    ensures listed { ForSome result (IsListed p.now) }
-    ensures hash_move { IfSome hash_move (λ m. result ≡ Some m) }
-    ensures other { hash_move ≡ None → IfSome result (λ m. other ≡ Some m) }
-    ensures legal { hash_move ≡ None → IfSome other (λ m. IsListed p.now m → result ≡ Some m) }
-{
-    if hash_move.is_some() {
-        return hash_move;
-    }
-    let m = other?;
-    let tried = m;
-    if is_legal(p, tried) { Some(m) } else { None }
-}
-
 impl Stack {
-    /// The best move of the node that stood in the place of the one on top before, or the move that
-    /// cut it off, for a node of depth 2 or more: what refutes one move of a position often refutes
-    /// the next one.
-    pub fn kept_reply(&self, depth: u8) -> Option<Move>
-        requires room { self.now.height < SEARCH_DEPTH_MAX }
-        ensures shallow { depth < 2 → result ≡ None }
-        ensures some { IfSome result (λ m. OnTop self.now (λ top. top.best_move ≡ Some m)) }
-    {
-        if depth > 1 {
-            self.frames[self.height].best_move
-        } else {
-            None
-        }
-    }
-
     /// The node below the top takes in what is known of the node on top, where there is one.
     fn pop(&mut self, entry: &Entry) -> bool
         requires stack { IsStack self.old }
@@ -206,8 +171,8 @@ impl Stack {
         let position = node.as_position();
         let hash_move = child_hash_move_of(position, node.eval(), depth, memo);
         self.height += 1;
-        let first = first_move_of(position, hash_move, self.kept_reply(depth));
-        self.frames[self.height].enter(&node, depth, alpha, beta, first);
+        let firsts = self.frames[self.height].firsts(Firsts::none(), hash_move, depth);
+        self.frames[self.height].enter(&node, depth, alpha, beta, firsts);
     }
 
     /// Leaves the node on top, and gives what is known of the root where that was it.

@@ -48,16 +48,24 @@ listed-2 g c =
     let above : c.args.self.now.height + 1 < 16 = room c.args.self.now f is c.requires.stack (omega (arith, deep)) in
     omega (arith, above)
 
-pub kept_reply-requires : goal.kept_reply-requires
-kept_reply-requires g c =
+pub listed-3 : goal.listed-3
+listed-3 g c =
     let f : Frame = get_or c.args.self.now.frames c.args.self.now.height c.index-self-self.result in
     let is : IsTop c.args.self.now f = read_top c.args.self.now c.index-self-self.result (omega (arith, c.requires.stack.height_fits)) in
     let deep : 2 ≤ f.depth - 1 = c.in_default.ensures.deep in
     let above : c.args.self.now.height + 1 < 16 = room c.args.self.now f is c.requires.stack (omega (arith, deep)) in
-    record { room = omega (arith, above) }
+    omega (arith, above)
 
 pub bounds-self-self-2 : goal.bounds-self-self-2
 bounds-self-self-2 g c =
+    let f : Frame = get_or c.args.self.now.frames c.args.self.now.height c.index-self-self.result in
+    let is : IsTop c.args.self.now f = read_top c.args.self.now c.index-self-self.result (omega (arith, c.requires.stack.height_fits)) in
+    let deep : 2 ≤ f.depth - 1 = c.in_default.ensures.deep in
+    let above : c.args.self.now.height + 1 < 16 = room c.args.self.now f is c.requires.stack (omega (arith, deep)) in
+    omega (arith, above)
+
+pub bounds-self-self-3 : goal.bounds-self-self-3
+bounds-self-self-3 g c =
     let f : Frame = get_or c.args.self.now.frames c.args.self.now.height c.index-self-self.result in
     let is : IsTop c.args.self.now f = read_top c.args.self.now c.index-self-self.result (omega (arith, c.requires.stack.height_fits)) in
     let deep : 2 ≤ f.depth - 1 = c.in_default.ensures.deep in
