@@ -1,5 +1,5 @@
 -- Laws of the minimax value, of the best move and of the size of the tree.
-use Rattle.std.proofs.Common.{◌≡◌, ◌<◌, ◌≤◌, ◌+◌, ◌-◌, ℕ, zero, suc, ℤ, pos, ◌-ℤ◌, ◌≤ℤ◌, List, [], ◌∷◌, true, Option, None, refl, ap, ◌∙◌, sym, arith, find}
+use Rattle.std.proofs.Common.{◌≡◌, ◌<◌, ◌≤◌, ◌+◌, ◌-◌, ℕ, zero, suc, ℤ, pos, ◌-ℤ◌, ◌≤ℤ◌, ◌<ℤ◌, List, [], ◌∷◌, true, Option, None, refl, ap, ◌∙◌, sym, arith, find}
 use Rattle.std.specs.List.{sum_by}
 use Rattle.std.specs.Ordering.{int_eq}
 use Rattle.std.proofs.lemmas.Int.{ints}
@@ -56,13 +56,18 @@ tree_size-suc p d = refl
 -- the values lie between being lost and winning at the next ply
 pub record Within (d : ℕ) (v : ℤ) : Type 0 where
   pub least : lost_value d ≤ℤ v
-  pub most : v ≤ℤ (MATE +ℤ pos d)
+  pub most : v <ℤ (MATE +ℤ pos d)
 
 leaf_within : (ms : List ℕ) (v : ℤ) → (pos 0 -ℤ pos POINTS_MAX) ≤ℤ v → v ≤ℤ pos POINTS_MAX → Within 0 (if_no_move_else (lost_value 0) v ms)
 leaf_within [] v l h = record { least = omega (arith, ints); most = omega (arith, ints) }
 leaf_within (m ∷ ms) v l h = record { least = omega (arith, ints); most = omega (arith, ints) }
 
-greatest_within : (d : ℕ) (f : ℕ → ℤ) (ms : List ℕ) → ((m : ℕ) → is_in m ms ≡ true → Within d (f m)) → Within (suc d) (greatest_or (lost_value (suc d)) f ms)
+-- the worth of a move with d plies after it
+record WorthWithin (d : ℕ) (w : ℤ) : Type 0 where
+  pub least : lost_value d ≤ℤ w
+  pub most : w ≤ℤ (MATE +ℤ pos d)
+
+greatest_within : (d : ℕ) (f : ℕ → ℤ) (ms : List ℕ) → ((m : ℕ) → is_in m ms ≡ true → WorthWithin d (f m)) → Within (suc d) (greatest_or (lost_value (suc d)) f ms)
 greatest_within d f [] h = record { least = omega (arith, ints); most = omega (arith, ints) }
 greatest_within d f (m ∷ ms) h =
     let here : is_in m (m ∷ ms) ≡ true = or_left _ _ (eq-eqb m m refl) in
@@ -71,7 +76,7 @@ greatest_within d f (m ∷ ms) h =
     let first : lost_value d ≤ℤ f m = (h m here).least in
     record { least = omega (arith, ints); most = omega (arith, ints) }
 
-negated_within : (d : ℕ) (v : ℤ) → Within d v → Within d (negated v)
+negated_within : (d : ℕ) (v : ℤ) → Within d v → WorthWithin d (negated v)
 negated_within d v h = record { least = omega (arith, ints); most = omega (arith, ints) }
 
 pub value_within : (d : ℕ) (p : Shogi) (eval : Eval) → IsValid p → Within d (value p eval d)

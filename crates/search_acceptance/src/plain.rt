@@ -561,6 +561,53 @@ fn is_cutoff(entry: &Known, alpha: i32, beta: i32) -> bool {
     }
 }
 
+/// What every node of a depth is worth, where that says enough for a window: a win of more plies there is
+/// not, nor is a loss.
+fn far_answer(depth: u8, alpha: i32, beta: i32) -> Option<Known> {
+    let loss = (-MATE).saturating_sub(i32::from(depth));
+    let win = MATE.saturating_add(i32::from(depth)).saturating_sub(1);
+    if loss >= beta {
+        return Some(Known::AtLeast(loss));
+    }
+    if win <= alpha {
+        return Some(Known::AtMost(win));
+    }
+    None
+}
+
+/// The position after the legal move of a code.
+fn after(alloc: Global, p: &Position, code: Option<u16>) -> Result<Option<Position>, AllocError> {
+    for branch in branches_of(alloc, p, None)?.as_slice() {
+        if code == Some(branch.code) {
+            return Ok(Some(branch.position));
+        }
+    }
+    Ok(None)
+}
+
+/// Asks for the positions along the best line of the root, as far as it is remembered.
+fn keep_line(
+    alloc: Global,
+    root: &Position,
+    e: Eval,
+    best: Option<u16>,
+    notes: &mut Notes,
+) -> Result<(), AllocError> {
+    let (mut depth, mut at, mut next) = (notes.whole, *root, best);
+    'line: while depth > 2 && notes.serves(depth - 1) {
+        let Some(position) = after(alloc, &at, next)? else {
+            return Ok(());
+        };
+        depth -= 1;
+        at = position;
+        next = match notes.ask(&at, e, depth)? {
+            Some(Known::Exact(_, best)) => best,
+            _ => None,
+        };
+    }
+    Ok(())
+}
+
 /// What is known at once of a node with one ply left or none, within a window. A value that is no more
 /// than the lower end is known to be that, and a loss only where the material is more than it.
 fn at_once(p: &Position, e: Eval, depth: u8, alpha: i32, beta: i32) -> Known {
@@ -619,11 +666,15 @@ fn visit(
             } else {
                 let (under, over) = (beta.saturating_neg(), threshold.saturating_neg());
                 let is_asked = below > 1 && notes.serves(below);
-                let answer = if is_asked {
+                let answer = if let Some(entry) = far_answer(below, under, over) {
+                    notes.step(1);
+                    Some(entry)
+                } else if is_asked {
                     notes.answer(&branch.position, e, below, under, over)?
                 } else {
                     None
                 };
+                let is_visited = answer.is_none();
                 let entry = match answer {
                     Some(entry) => entry,
                     None => {
@@ -650,6 +701,9 @@ fn visit(
                     best = Some(branch.code);
                 } else {
                     outlook.has_weak = true;
+                }
+                if is_visited && depth == notes.whole && depth >= 5 {
+                    keep_line(alloc, p, e, best, notes)?;
                 }
             }
         }

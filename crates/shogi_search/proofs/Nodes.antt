@@ -1,5 +1,5 @@
 -- Nodes of any depth: a leaf goes through no moves.
-use Rattle.std.proofs.Common.{◌≡◌, ◌<◌, ◌≤◌, ◌+◌, ◌-◌, ◌*◌, ℕ, zero, suc, ℤ, ◌≤ℤ◌, List, [], ◌∷◌, true, ◌==◌, Option, Some, None, MatchOption, refl, sym, ap, ◌∙◌, arith, subst, ◌<ℤ◌}
+use Rattle.std.proofs.Common.{◌≡◌, ◌<◌, ◌≤◌, ◌+◌, ◌-◌, ◌*◌, ℕ, zero, suc, ℤ, ◌≤ℤ◌, List, [], ◌∷◌, true, ◌==◌, Option, Some, None, MatchOption, refl, sym, arith, subst, ◌<ℤ◌}
 use Rattle.std.specs.Option.{ForSome}
 use Rattle.std.proofs.lemmas.Bool.{or_left, eq-eqb}
 use Rattle.std.proofs.lemmas.Bool.Decides.{nat_tests}
@@ -15,17 +15,16 @@ use Rattle.shogi_eval.specs.declared.eval.Eval.{Eval}
 use Rattle.shogi_search.specs.declared.firsts.Firsts.{Firsts}
 use Rattle.shogi_search.specs.declared.move_picker.MovePicker.{MovePicker}
 use Rattle.shogi_search.specs.declared.move_picker.MovePicker.TheVariants.{First, Done}
-use Rattle.minimax.specs.Minimax.{tree_size, sum_of_tree_sizes, value, best, worth, lost_value, greatest_or, negated}
-use Rattle.minimax.specs.Window.{IsCovered, threshold}
-use Rattle.shogi_search.specs.Order.{todo, IsKept}
+use Rattle.minimax.specs.Minimax.{tree_size, sum_of_tree_sizes, value, worth, negated}
+use Rattle.minimax.specs.Window.{IsCovered, threshold, code_at}
+use Rattle.shogi_search.specs.Order.{todo, IsKept, IsListed}
 use Rattle.shogi_search.specs.declared.frame.Waiting.{Waiting}
 use Rattle.shogi_search.specs.declared.frame.Waiting.TheVariants.{Next, Asked, Cut}
 use Rattle.shogi_search.specs.Visits.{moves_at, IsCurrent, WhereCurrent, IsOver, IsKnownWhile}
-use Rattle.minimax.proofs.MinimaxLaws.{tree_size-above, tree_size-leaf, best-leaf, value-above, value_within, Within}
+use Rattle.minimax.proofs.MinimaxLaws.{tree_size-above, tree_size-leaf, value_within, Within}
 use Rattle.shogi_search.proofs.OrderLaws.{IsWhole, whole, whole_covered}
 use Rattle.minimax.proofs.Cover.{IsCovered-start}
 use Rattle.minimax.proofs.Valid.{after_valid}
-use Rattle.minimax.proofs.Greatest.{greatest_or-above}
 use Rattle.minimax.specs.declared.bounds.TheConstants.{SEARCH_DEPTH_MAX, INFINITY}
 
 -- a node with a move that waits is no leaf
@@ -120,3 +119,11 @@ threshold_least p eval d alpha best_value rest (Some b) m ok h l c =
     let e : worth p eval (d - 1) b ≡ best_value = c.reached.1 in
     let t : negated INFINITY <ℤ best_value = omega (arith, ints) in
     (omega (arith, ints), threshold_falls_one best_value b m t)
+
+-- the best move so far is a legal one
+pub best_in : (f : ℕ → ℤ) (p : Shogi) (ms : List ℕ) (alpha best_value : ℤ) (b : Option Move) → IsCovered f (legal_codes p) ms alpha best_value (code_at b) → ForSome b (IsListed p)
+best_in f p ms alpha best_value None c = λ m e. absurd (cc)
+best_in f p ms alpha best_value (Some k) c = λ m e. subst (λ (x : Move). is_in (code_of x) (legal_codes p) ≡ true) (one k m e) c.reached.0
+  where
+    one : (k m : Move) → Some k ≡ Some m → k ≡ m
+    one k m e = cc

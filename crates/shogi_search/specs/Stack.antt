@@ -3,6 +3,7 @@ use Rattle.std.specs.Prelude.{◌≡◌, ◌≤◌, ℕ, ◌+◌, ◌*◌, ◌-�
 use Rattle.shogi_core.specs.declared.moves.Move.{Move}
 use Rattle.shogi_core.specs.Codes.{code_of}
 use Rattle.shogi_core.specs.Position.{Shogi}
+use Rattle.shogi_core.specs.Validity.{IsValid}
 use Rattle.shogi_moves.specs.After.{after_code}
 use Rattle.shogi_eval.specs.declared.eval.Eval.{Eval}
 use Rattle.shogi_search.specs.declared.frame.Frame.{Frame}
@@ -73,6 +74,10 @@ OnTop s fact = IsSomeAnd (slice_get s.frames s.height) fact
 -- what an entry says of the root holds
 abbrev pub IsTrueOfRoot : Stack → Entry → Type 0
 IsTrueOfRoot s entry = IsTrueEntry s.root s.eval s.depth entry
+
+-- what an entry says holds of every position at this depth
+abbrev pub IsTrueAnywhere : ℕ → Entry → Type 0
+IsTrueAnywhere d entry = (p : Shogi) (e : Eval) → IsValid p → IsTrueEntry p e d entry
 
 -- a chain from the root, under the window that ends at its bound
 pub record IsStack (s : Stack) : Type 0 where

@@ -21,12 +21,14 @@ use std::marker::Model;
 
 /// A search of a position under an evaluation at a depth, for its value below a bound. It makes its
 /// steps in slices, and each slice may be given another memo. A step enters a node, leaves a node,
-/// or has a child or the root answered at once: a child by the memo, and either where one ply is
-/// left or none. The greatest work of a step is about that of making and asking all moves of one
-/// position. A node that is entered visits first, where they are legal: at the root the moves that
-/// are advised; the best move one ply less deep, where the memo has that; the best move of the node
-/// that was searched before in its place, or the move that cut that one off; and from depth 3 on
-/// up to four more moves that cut off nodes there.
+/// or has a child or the root answered at once: a child by the memo, or where its window lies
+/// outside what its depth can be worth, and either where one ply is left or none. The greatest work
+/// of a step is about that of making and asking all moves of one position. A step that leaves a
+/// child of the root may ask the memo once more for each ply that is left along the best line. A
+/// node that is entered visits first, where they are legal: at the root the moves that are advised;
+/// the best move one ply less deep, where the memo has that; the best move of the node that was
+/// searched before in its place, or the move that cut that one off; and from depth 3 on up to four
+/// more moves that cut off nodes there.
 #[derive(Drop)]
 pub struct Search {
     stack: Stack,

@@ -6,16 +6,20 @@ ghost use Rattle.minimax.specs.Minimax.{negated, IsTrueEntry};
 ghost use Rattle.minimax.specs.Entries.{IsCutoff, IsEnough, move_in};
 ghost use Rattle.shogi_search.specs.Visits.{IsFree};
 ghost use Rattle.shogi_search.specs.Frames.{IsTrueOf, IsToBeLeft};
-ghost use Rattle.shogi_search.specs.Stack.{IsStack, OnTop, IsTrueOfRoot, KeepsGoal, UsesSteps, steps_left};
+ghost use Rattle.shogi_search.specs.Stack.{IsStack, OnTop, IsTrueAnywhere, IsTrueOfRoot, KeepsGoal, UsesSteps, steps_left};
 ghost use Rattle.minimax.specs.declared.bounds.TheConstants.{SEARCH_DEPTH_MAX, INFINITY};
 
 use crate::firsts::Firsts;
 use crate::frame::{Frame, Waiting, leaf};
 use crate::memo::Memo;
 use last_ply::last_ply;
-use minimax::Entry;
+use minimax::{Entry, MATE};
 use shogi_core::{Move, Position};
 use shogi_eval::{Eval, Node};
+
+/// The least depth of a root whose best line is kept in use: at lesser ones that costs more than it
+/// saves.
+const LINE_DEPTH_MIN: u8 = 5;
 
 /// The root of a search, its evaluation, its depth and the end of its window, and the nodes that
 /// are entered and not yet left, from the root on: the one on top stands at the height, and those
@@ -73,6 +77,23 @@ pub fn answer_at_once(node: &Node, depth: u8, alpha: i32, beta: i32) -> Entry
         return Entry::Exact(leaf(node), None);
     }
     last_ply(node, alpha, beta)
+}
+
+/// What every node of the depth is worth at least or at most, where that is enough for the window.
+fn far_answer(depth: u8, alpha: i32, beta: i32) -> Option<Entry>
+    requires shallow { depth ≤ SEARCH_DEPTH_MAX }
+    ensures truth { IfSome result (IsTrueAnywhere depth) }
+    ensures cutoff { IfSome result (IsCutoff alpha beta) }
+{
+    let least = -MATE - depth as i32;
+    if least >= beta {
+        return Some(Entry::AtLeast(least));
+    }
+    let most = MATE - 1 + depth as i32;
+    if most <= alpha {
+        return Some(Entry::AtMost(most));
+    }
+    None
 }
 
 /// What is known of a child that is not entered: one with one ply left or none, or one of which the
@@ -161,6 +182,10 @@ impl Stack {
         let top = &self.frames[self.height];
         let (alpha, beta) = top.window(current);
         let depth = top.depth - 1;
+        if let Some(entry) = far_answer(depth, alpha, beta) {
+            self.frames[self.height].back_up(current, &entry);
+            return;
+        }
         let mut node = top.node;
         current.validity();
         node.advance(*current);
@@ -173,6 +198,33 @@ impl Stack {
         self.height += 1;
         let firsts = self.frames[self.height].firsts(Firsts::none(), hash_move, depth);
         self.frames[self.height].enter(&node, depth, alpha, beta, firsts);
+    }
+
+    /// Asks the memo for the nodes along the best line so far, so that they stay in use.
+    #[inline(never)]
+    fn keep_line<M: Memo>(&self, memo: &mut M)
+        ensures capacity { M.capacity memo.new ≡ M.capacity memo.old }
+    {
+        let root = &self.frames[0];
+        if root.depth < LINE_DEPTH_MIN {
+            return;
+        }
+        let Some(best) = root.best_so_far() else {
+            return;
+        };
+        let mut current = best;
+        let mut node = root.node;
+        let mut depth = root.depth;
+        'line: while depth > 2 {
+            current.validity();
+            node.advance(current);
+            let position = node.as_position();
+            let Some(next) = child_hash_move_of(position, node.eval(), depth, memo) else {
+                return;
+            };
+            current = next;
+            depth -= 1;
+        }
     }
 
     /// Leaves the node on top, and gives what is known of the root where that was it.
@@ -194,6 +246,9 @@ impl Stack {
             memo.note(top.node.as_position(), top.node.eval(), top.depth, entry);
         }
         if self.pop(&entry) {
+            if self.height == 0 {
+                self.keep_line(memo);
+            }
             return None;
         }
         Some(entry)
