@@ -23,6 +23,6 @@ pub fn serve_at<R: Files + Net, S: BuildHasher, A: Allocator + Copy>(
     ensures unnamed { path.now ≡ [] → result ≡ Err Device }
 {
     let mut wire = MioWire::bind(rt, alloc, path)?;
-    let mut connections = Loop::new(alloc, 1000);
+    let mut connections = Loop::new(alloc, 1000)?;
     serve(host, &mut connections, &mut wire, turns)
 }

@@ -146,7 +146,7 @@ fn a_connection_in_memory(rt: HostRuntime) -> Result<(), Fail> {
     let mut chunks = Vec::new(rt.alloc());
     chunks.push(bytes)?;
     let number = wire.connect(chunks)?;
-    let mut turns = Loop::new(rt.alloc(), 1000);
+    let mut turns = Loop::new(rt.alloc(), 1000)?;
     assert!(rt; turn_until_still(&mut turns, &mut host, &mut wire, 100));
     assert_eq!(rt; wire.written(number), b"readyok\n".as_slice());
     Ok(())

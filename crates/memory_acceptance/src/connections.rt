@@ -47,7 +47,7 @@ impl<'a> Scene<'a> {
             of_wire,
             host: Host::new(of_host, 2, 4096, BuildHasherDefault::<FoldHasher>::new())?,
             wire: MemoryWire::new(of_wire),
-            turns: Loop::new(of_host, 1000),
+            turns: Loop::new(of_host, 1000)?,
         })
     }
 

@@ -49,7 +49,7 @@ impl<'a> Scene<'a> {
         Ok(Scene {
             host: Host::new(alloc, CLIENTS, 64, BuildHasherDefault::<FoldHasher>::new())?,
             wire,
-            turns: Loop::new(alloc, 1000),
+            turns: Loop::new(alloc, 1000)?,
         })
     }
 

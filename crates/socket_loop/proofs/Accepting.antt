@@ -7,7 +7,8 @@ use Rattle.std.proofs.KnownBytes.{Appends-kept, Keeps-trans}
 use Rattle.session_slots.specs.declared.id.SessionId.{SessionId}
 use Rattle.session_slots.specs.Slots.{Opens}
 use Rattle.host_core.specs.Steps.{HostState}
-use Rattle.host_core.specs.Events.{Outcome, Opened, Open, Close}
+use Rattle.host_core.specs.declared.event.HostFault.{HostFault}
+use Rattle.host_core.specs.Events.{Outcome, Opened, Refused, Open}
 use Rattle.host_core.specs.Made.{Step, own, taken, is_opened, is_same_id}
 use Rattle.host_core.specs.Runs.{IsStep, IsRun}
 use Rattle.host_core.specs.Headline.{IsPrefixOf}
@@ -85,9 +86,6 @@ accepts_none ls from to a b h rises k = record {
   kept = λ n l. k n;
   each = λ n. inl (k n);
   all = all_kept a b k;
-  closed_below = λ id e. absurd (cc);
-  spared = λ fit l m. refl;
-  spared_old = λ id lt. refl;
   accounted = λ fit new one. absurd one;
   stay = λ l m. m;
   are = λ l m. inl m;
@@ -98,11 +96,11 @@ accepts_none ls from to a b h rises k = record {
 pub accepts_start : (ls : List Link) (from : ℕ) (a : Report) (h : HostState) → Accepts ls from a h ls from a h
 accepts_start ls from a h = accepts_none ls from from a a h (omega arith) (kept_same a)
 
-away_one : (a b c : Report) (from number to : ℕ) (o : Outcome) → KeepsAll a b → from ≤ number → number < to → IsAway to (rejection_text o) b c number → IsRejected from to (record { number = number; outcome = o } ∷ []) a c number
+away_one : (a b c : Report) (from number to : ℕ) (o : HostFault) → KeepsAll a b → from ≤ number → number < to → IsAway to (rejection_text o) b c number → IsRejected from to (record { number = number; outcome = Refused o } ∷ []) a c number
 away_one a b c from number to o k least most w = record {
   least = least;
   most = most;
-  outcome = o;
+  fault = o;
   answered = inl refl;
   unread = Keeps-trans _ _ _ (k number).unread w.unread;
   bytes = w.bytes;
@@ -112,7 +110,7 @@ away_one a b c from number to o k least most w = record {
   failed = rises_then _ _ _ (stays_rise _ _ (k number).failed) w.failed;
 }
 
-away_each : (a b c : Report) (from number to n : ℕ) (o : Outcome) → KeepsAll a b → from ≤ number → number < to → IsAway to (rejection_text o) b c number → KeepsPeer a c n ⊎ IsRejected from to (record { number = number; outcome = o } ∷ []) a c n
+away_each : (a b c : Report) (from number to n : ℕ) (o : HostFault) → KeepsAll a b → from ≤ number → number < to → IsAway to (rejection_text o) b c number → KeepsPeer a c n ⊎ IsRejected from to (record { number = number; outcome = Refused o } ∷ []) a c n
 away_each a b c from number to n o k least most w =
     elim (cases_eq n number) [
       | inl same ↦ inr (rw same (away_one a b c from number to o k least most w))
@@ -129,68 +127,34 @@ each_apart [] n l p m = absurd m
 each_apart (x ∷ xs) n l p (inl e) = λ same. p.0 (ap (λ (k : Link). k.number) (sym e) ∙ same)
 each_apart (x ∷ xs) n l p (inr m) = each_apart xs n l p.1 m
 
-closes_one : (a b : SessionId) → (is_same_id a b || false) ≡ true → a ≡ b
-closes_one a b e = elim (or_cases (is_same_id a b) false e) [ inl same ↦ same_id a b same | inr other ↦ absurd (cc) ]
-
-closes_apart_at : (a b : SessionId) (c : Bool) → is_same_id a b ≡ c → (a ≡ b → ⊥) → (c || false) ≡ false
-closes_apart_at a b true e f = absurd (f (same_id a b e))
-closes_apart_at a b false e f = refl
-
-closes_apart : (a b : SessionId) → (a ≡ b → ⊥) → (is_same_id a b || false) ≡ false
-closes_apart a b f = closes_apart_at a b (is_same_id a b) refl f
-
--- a new connection was rejected
-admits_none : (ls : List Link) (a b : Report) (h i : HostState) (number to : ℕ) (o : Outcome) (steps : List Step) → AreAll IsAdmission steps → IsRun h steps i → ((id : SessionId) → own id steps ≡ []) → ((id : SessionId) → taken id steps ≡ []) → openings steps ≡ o ∷ [] → ((id : SessionId) → closes id steps ≡ true → id.generation < i.slots.next) → ((id : SessionId) → id.generation < h.slots.next → closes id steps ≡ false) → IsAway to (rejection_text o) a b number → Admits ls a h number o to ls b i
-admits_none ls a b h i number to o steps kinds r no_own no_taken answers below old_stay w = λ from old kept least most.
+-- its session was not opened
+pub admits_away : (ls : List Link) (a b : Report) (h i : HostState) (number to : ℕ) (o : HostFault) → IsAway to (rejection_text o) a b number → IsStep h (record { event = Open; outcome = Refused o }) i → Admits ls a h number (Refused o) to ls b i
+admits_away ls a b h i number to o w s = λ from old kept least most.
     record {
       items_are = refl;
       accepts = record {
-        steps = steps;
-        kinds = kinds;
-        chain = r;
-        no_own = no_own;
-        no_taken = no_taken;
+        steps = record { event = Open; outcome = Refused o } ∷ [];
+        kinds = (tt, tt);
+        chain = run-one h i _ s;
+        no_own = λ x. refl;
+        no_taken = λ x. refl;
         rises = omega arith;
-        accepted = record { number = number; outcome = o } ∷ [];
+        accepted = record { number = number; outcome = Refused o } ∷ [];
         numbered = (least, omega arith);
-        answers = answers;
+        answers = refl;
         kept = λ n l. kept_then old a b n (kept n) (w.others n (λ e. (let f : n ≡ number = e in absurd (omega arith))));
         each = λ n. away_each old a b from number to n o kept least most w;
         all = moves_then old a b (all_kept old a kept) (away_move a b to number (rejection_text o) w);
-        closed_below = below;
-        spared = λ fit l m. old_stay l.id (fit l m).opened;
-        spared_old = old_stay;
         accounted = λ fit new one. inr (elim one [
           | inl is ↦ rw is (away_one old a b from number to o kept least most w, apart_each ls number (λ l m e. (let u : l.number < from = (fit l m).number in let v : l.number ≡ number = e in absurd (omega arith))))
           | inr none ↦ absurd none
         ]);
         stay = λ l m. m;
         are = λ l m. inl m;
-        fits = fits_more ls from to h i (omega arith) (next_rises h i steps r);
+        fits = fits_more ls from to h i (omega arith) (step_rises h i Open (Refused o) s.stepped);
         once = λ fit o_. o_;
       };
     }
-
--- its session was not opened
-pub admits_away : (ls : List Link) (a b : Report) (h i : HostState) (number to : ℕ) (o : Outcome) → IsAway to (rejection_text o) a b number → IsStep h (record { event = Open; outcome = o }) i → Admits ls a h number o to ls b i
-admits_away ls a b h i number to o w s = admits_none ls a b h i number to o (record { event = Open; outcome = o } ∷ []) (tt, tt) (run-one h i _ s) (λ x. refl) (λ x. refl) refl (λ x e. absurd (cc)) (λ x lt. refl) w
-
--- there was no memory to hold it
-pub admits_closed : (ls : List Link) (a b : Report) (h m i : HostState) (number to : ℕ) (id : SessionId) → Shuts to a b number → IsStep h (record { event = Open; outcome = Opened id }) m → IsClosing m id i → Admits ls a h number (Opened id) to ls b i
-admits_closed ls a b h m i number to id s opening close =
-    admits_none ls a b h i number to (Opened id) (record { event = Open; outcome = Opened id } ∷ record { event = Close id; outcome = close.outcome } ∷ []) (tt, (tt, tt)) (run-two h m i _ _ opening close.step) (λ x. refl) (λ x. refl) refl
-    (λ x e. (
-    let same : id ≡ x = closes_one id x e in
-    let g : id.generation ≡ x.generation = ap (λ (y : SessionId). y.generation) same in
-    let o : id.generation ≡ h.slots.next = opening.stepped.opens.generation_is in
-    let n : m.slots.next ≡ h.slots.next + 1 = opening.stepped.opens.next_is in
-    let u : m.slots.next ≤ i.slots.next = step_rises m i (Close id) close.outcome close.step.stepped in
-    omega arith))
-    (λ x lt. closes_apart id x (λ e. (
-    let g : id.generation ≡ x.generation = ap (λ (y : SessionId). y.generation) e in
-    let o : id.generation ≡ h.slots.next = opening.stepped.opens.generation_is in
-    absurd (omega arith))))
-    (away_mute a b to number [] s)
 
 -- ---- one more is held
 
@@ -287,9 +251,6 @@ admits_new held place c a h i to s = λ from old kept least most.
         kept = λ n l. kept n;
         each = λ n. inl (kept n);
         all = all_kept old a kept;
-        closed_below = λ id e. absurd (cc);
-        spared = λ fit l m. refl;
-        spared_old = λ id lt. refl;
         accounted = λ fit new one. inl (elim one [
           | inl is ↦ rw is (c.link, (insert_in held place c, (refl, refl)))
           | inr none ↦ absurd none
@@ -348,7 +309,7 @@ turned_then f m t x y a b c n v w k =
     record {
       least = w.least;
       most = omega arith;
-      outcome = w.outcome;
+      fault = w.fault;
       answered = one_left x y _ w.answered;
       unread = Keeps-trans _ _ _ w.unread k.unread;
       bytes = w.bytes;
@@ -365,7 +326,7 @@ then_away f m t x y a b c n v k w =
     record {
       least = omega arith;
       most = w.most;
-      outcome = w.outcome;
+      fault = w.fault;
       answered = one_right x y _ w.answered;
       unread = Keeps-trans _ _ _ k.unread w.unread;
       bytes = w.bytes;
@@ -418,12 +379,6 @@ accepts_then ls ms ns f m t a b c h i j p q =
       kept = λ n lt. kept_then a b c n (p.kept n lt) (q.kept n (omega arith));
       each = λ n. each_then f m t p.accepted q.accepted a b c n u v (p.each n) (q.each n) (q.kept n);
       all = moves_then a b c p.all q.all;
-      closed_below = λ id e. elim (closes_either id p.steps q.steps e) [
-        | inl first ↦ (let y : id.generation < i.slots.next = p.closed_below id first in omega arith)
-        | inr second ↦ q.closed_below id second
-      ];
-      spared = λ fit l among. closes_neither l.id p.steps q.steps (spared_first p q fit l among (q.are l among)) (q.spared (p.fits fit) l among);
-      spared_old = λ id lt. closes_neither id p.steps q.steps (p.spared_old id lt) (q.spared_old id (omega arith));
       accounted = λ fit new one. elim (one_either p.accepted q.accepted new one) [
         | inl first ↦ first_accounted p q new (p.accounted fit new first)
         | inr second ↦ second_accounted p q new u (q.accounted (p.fits fit) new second)
@@ -437,10 +392,6 @@ accepts_then ls ms ns f m t a b c h i j p q =
       once = λ fit o. q.once (p.fits fit) (p.once fit o);
     }
   where
-    no_close : (id : SessionId) (steps : List Step) (x : Bool) → closes id steps ≡ x → (closes id steps ≡ true → ⊥) → closes id steps ≡ false
-    no_close id steps true e f = absurd (f e)
-    no_close id steps false e f = e
-
     still_apart : (p_ : Accepts ls f a h ms m b i) (q_ : Accepts ms m b i ns t c j) (n : ℕ) (l : Link) → n < m → IsApart ms n → IsAmong ms l ⊎ IsNew m t q_.accepted i.slots.next b c q_.steps l → l.number ≢ n
     still_apart p_ q_ n l lt apart (inl mid) = each_apart ms n l apart mid
     still_apart p_ q_ n l lt apart (inr new) = λ e. (let y : m ≤ l.number = new.least in let z : l.number ≡ n = e in absurd (omega arith))
@@ -454,13 +405,6 @@ accepts_then ls ms ns f m t a b c h i j p q =
         → HasSession ns new ⊎ (IsRejected f t (p_.accepted ++ q_.accepted) a c new.number × IsApart ns new.number)
     second_accounted p_ q_ new lt (inl s) = inl s
     second_accounted p_ q_ new lt (inr s) = inr (then_away f m t p_.accepted q_.accepted a b c new.number lt (kept_before f m p_.accepted a b new.number s.0.least (p_.each new.number)) s.0, s.1)
-
-    spared_first : (p_ : Accepts ls f a h ms m b i) (q_ : Accepts ms m b i ns t c j) → Fits ls f h → (l : Link) → IsAmong ns l → IsAmong ms l ⊎ IsNew m t q_.accepted i.slots.next b c q_.steps l → closes l.id p_.steps ≡ false
-    spared_first p_ q_ fit l among (inl mid) = p_.spared fit l mid
-    spared_first p_ q_ fit l among (inr new) = no_close l.id p_.steps (closes l.id p_.steps) refl (λ e. (
-        let y : l.id.generation < i.slots.next = p_.closed_below l.id e in
-        let z : i.slots.next ≤ l.id.generation = new.fresh in
-        absurd (omega arith)))
 
 -- no connection waits, or the wire fails
 pub accepts_stop : (ls ms : List Link) (f m : ℕ) (t : ℕ) (a b c : Report) (h i : HostState) → Accepts ls f a h ms m b i → m ≤ t → KeepsAll b c → Accepts ls f a h ms t c i
@@ -482,11 +426,11 @@ pub record AcceptsSome (count : ℕ) (moved : Bool) (links : List Link) (from : 
   pub accepts : Accepts links from old before met to new after
   pub none : moved ≡ false → accepts.accepted ≡ []
   pub counted : length accepts.accepted ≡ count
-  pub asked : Fits links from before → AsksAccepts met accepts.accepted old_calls new_calls
+  pub asked : AsksAccepts met accepts.accepted old_calls new_calls
 
 pub some_start : (moved : Bool) (ls : List Link) (from : ℕ) (a : Report) (h : HostState) (calls : Option (List Call)) → AcceptsSome 0 moved ls from a h ls from a h calls calls
 unfolding accepts_start accepts_none
-some_start moved ls from a h calls = record { accepts = accepts_start ls from a h; none = λ e. refl; counted = refl; asked = λ fit. asks_no_accept ls calls }
+some_start moved ls from a h calls = record { accepts = accepts_start ls from a h; none = λ e. refl; counted = refl; asked = asks_no_accept ls calls }
 
 -- no connection waits, or the wire fails
 pub some_stop : (n : ℕ) (moved : Bool) (ls ms : List Link) (f m : ℕ) (t : ℕ) (a b c : Report) (h i : HostState) (old mid new : Option (List Call)) (answer : Result (Option ℕ) WireFault) → n < 16 → AcceptsSome n moved ls f a h ms m b i old mid → m ≤ t → KeepsAll b c → Asks mid new (Accept answer ∷ []) → GivesNobody answer → AllAccepted moved ls f a h ms t c i old new
@@ -496,12 +440,14 @@ some_stop n moved ls ms f m t a b c h i old mid new answer lt p u k q g =
     record {
       accepts = accepts_stop ls ms f m t a b c h i p.accepts u k;
       none = λ e. ap (λ (xs : List Accepted). xs ++ []) (p.none e);
-      asked = λ fit. subst (λ (xs : List Accepted). AsksAll ms xs old new) (sym (append-nil p.accepts.accepted)) (asks_stop ms p.accepts.accepted old mid new answer count (p.asked fit) q g);
+      asked = subst (λ (xs : List Accepted). AsksAll ms xs old new) (sym (append-nil p.accepts.accepted)) (asks_stop ms p.accepts.accepted old mid new answer count p.asked q g);
     }
 
--- as many were accepted as may be
-pub some_full : (n : ℕ) (moved : Bool) (ls ms : List Link) (f m : ℕ) (a b : Report) (h i : HostState) (old new : Option (List Call)) → n ≡ 16 → AcceptsSome n moved ls f a h ms m b i old new → AllAccepted moved ls f a h ms m b i old new
-some_full n moved ls ms f m a b h i old new e p = record { accepts = p.accepts; none = p.none; asked = λ fit. asks_full ms p.accepts.accepted old new (p.counted ∙ e) (p.asked fit) }
+-- as many were accepted as may be, or there is no place
+pub some_full : (n : ℕ) (moved : Bool) (ls ms : List Link) (f m : ℕ) (a b : Report) (h i : HostState) (old new : Option (List Call)) → (n ≡ 16) ⊎ (1025 ≤ length ms) → AcceptsSome n moved ls f a h ms m b i old new → AllAccepted moved ls f a h ms m b i old new
+some_full n moved ls ms f m a b h i old new e p =
+    let full : (length p.accepts.accepted ≡ 16) ⊎ (1025 ≤ length ms) = elim e [ inl most ↦ inl (p.counted ∙ most) | inr held ↦ inr held ] in
+    record { accepts = p.accepts; none = p.none; asked = asks_full ms p.accepts.accepted old new full p.asked }
 
 pub some_more : (n : ℕ) (moved : Bool) (ls ms ns : List Link) (f m number t : ℕ) (a b c d : Report) (h i j : HostState) (old mid asked new : Option (List Call)) → AcceptsSome n moved ls f a h ms m b i old mid → m ≤ number → number < t → KeepsAll b c → Asks mid asked (Accept (Ok (Some number)) ∷ []) → OneAdmitted ms c i number t ns d j asked new → AcceptsSome (n + 1) true ls f a h ns t d j old new
 unfolding accepts_more accepts_then
@@ -512,18 +458,8 @@ some_more n moved ls ms ns f m number t a b c d h i j old mid asked new p u v k 
       accepts = accepts_more ls ms ns f m number t r.outcome a b c d h i j p.accepts u v k r.admits;
       none = λ e. absurd (cc);
       counted = ap length items ∙ (length_one p.accepts.accepted item ∙ ap (λ (x : ℕ). x + 1) p.counted);
-      asked = λ fit. subst (λ (xs : List Accepted). AsksAccepts ns xs old new) (sym items) (asks_accept ns p.accepts.accepted item old mid asked new (asks_on ms ns p.accepts.accepted old mid (r.admits m b k u v).accepts.stay later (p.asked fit)) q (r.asked (apart fit)));
+      asked = subst (λ (xs : List Accepted). AsksAccepts ns xs old new) (sym items) (asks_accept ns p.accepts.accepted item old mid asked new (asks_on ms ns p.accepts.accepted old mid (r.admits m b k u v).accepts.stay p.asked) q r.asked);
     }
-  where
-    apart : Fits ls f h → IsApart ms number
-    apart fit = apart_each ms number (λ l among e. (let y : l.number < m = (p.accepts.fits fit l among).number in let z : l.number ≡ number = e in absurd (omega arith)))
-
-    later_one : (n : ℕ) (l : Link) → n < m → IsApart ms n → IsAmong ms l ⊎ IsNew m t (r.admits m b k u v).accepts.accepted i.slots.next b d (r.admits m b k u v).accepts.steps l → l.number ≢ n
-    later_one n l lt away_ (inl old_) = each_apart ms n l away_ old_
-    later_one n l lt away_ (inr new_) = λ e. (let y : m ≤ l.number = new_.least in let z : l.number ≡ n = e in absurd (omega arith))
-
-    later : (x : Accepted) → IsOneOf p.accepts.accepted x → IsApart ms x.number → IsApart ns x.number
-    later x one away_ = apart_each ns x.number (λ l among. later_one x.number l (numbered_below f m p.accepts.accepted x p.accepts.numbered one) away_ ((r.admits m b k u v).accepts.are l among))
 
 pub number_rises : (old new : ℕ) (r : Result (Option ℕ) WireFault) → GivesNumber old new r → old ≤ new
 number_rises old new (Ok (Some n)) p = (let u : old ≤ n = p.0 in let v : n < new = p.1 in omega arith)

@@ -1,5 +1,5 @@
 -- The calls of a turn, one after the other.
-use Rattle.std.proofs.Common.{◌≡◌, ◌⊎◌, ℕ, zero, suc, ◌+◌, ◌<◌, Bool, true, false, cond, List, [], ◌∷◌, ◌++◌, length, take, get_or, set, Option, Some, None, Result, Ok, refl, sym, ap, ◌∙◌, arith, append_assoc, append-nil, inl, inr}
+use Rattle.std.proofs.Common.{◌≡◌, ◌⊎◌, ℕ, zero, suc, ◌+◌, ◌<◌, ◌≤◌, Bool, true, false, cond, List, [], ◌∷◌, ◌++◌, length, take, get_or, set, Option, Some, None, Result, Ok, refl, sym, ap, ◌∙◌, arith, append_assoc, append-nil, inl, inr}
 use Rattle.std.proofs.lemmas.List.{length-map}
 use Rattle.std.proofs.Math.Seq.{take-append_seam}
 use Rattle.session_slots.specs.declared.id.SessionId.{SessionId}
@@ -27,11 +27,7 @@ use Rattle.socket_loop.proofs.Runs.{run-one, run-two}
 
 -- it is held with its session, and nothing was asked for
 pub asks_held : (met : List Link) (l : Link) (a b : Option (List Call)) → IsAmong met l → b ≡ a → AsksAdmission met l.number (Opened l.id) a b
-asks_held met l a b among e = record { calls = []; admitted = inl ((l, (among, (refl, refl))), refl); asked = rw e (asks_none a) }
-
--- there was no memory to hold it, and it was shut
-pub asks_unheld : (met : List Link) (l : Link) (a b : Option (List Call)) → IsApart met l.number → Asks a b (Shut l.number ∷ []) → AsksAdmission met l.number (Opened l.id) a b
-asks_unheld met l a b apart asked = record { calls = Shut l.number ∷ []; admitted = inr (apart, refl); asked = asked }
+asks_held met l a b among e = record { calls = []; admitted = ((l, (among, (refl, refl))), refl); asked = rw e (asks_none a) }
 
 -- ---- one connection
 
@@ -172,24 +168,23 @@ accepted_next met (x ∷ items) calls item more p m =
     (first, (rest ++ (Accept (Ok (Some item.number)) ∷ more), (rw is (ap (λ (l : List Call). Accept (Ok (Some x.number)) ∷ l) (append_assoc first rest (Accept (Ok (Some item.number)) ∷ more))), (p.1.1.1.0, accepted_next met items rest item more p.1.1.1.1 m))))
 
 -- what was so with fewer links is so with more
-admitted_on : (ms ns : List Link) (item : Accepted) (o : Outcome) (calls : List Call) → ((l : Link) → IsAmong ms l → IsAmong ns l) → (IsApart ms item.number → IsApart ns item.number) → IsAdmittedAs ms item o calls → IsAdmittedAs ns item o calls
-admitted_on ms ns item (Opened id) calls stay still (inl h) = inl ((h.0.0, (stay h.0.0 h.0.1.0, h.0.1.1)), h.1)
-admitted_on ms ns item (Opened id) calls stay still (inr a) = inr (still a.0, a.1)
-admitted_on ms ns item (Refused Full) calls stay still p = p
-admitted_on ms ns item (Refused OutOfMemory) calls stay still p = p
-admitted_on ms ns item (Refused UnknownSession) calls stay still p = p
-admitted_on ms ns item (Refused NotReady) calls stay still p = p
-admitted_on ms ns item Done calls stay still p = p
-admitted_on ms ns item (Worked n) calls stay still p = p
-admitted_on ms ns item (Gave bytes) calls stay still p = p
+admitted_on : (ms ns : List Link) (item : Accepted) (o : Outcome) (calls : List Call) → ((l : Link) → IsAmong ms l → IsAmong ns l) → IsAdmittedAs ms item o calls → IsAdmittedAs ns item o calls
+admitted_on ms ns item (Opened id) calls stay h = ((h.0.0, (stay h.0.0 h.0.1.0, h.0.1.1)), h.1)
+admitted_on ms ns item (Refused Full) calls stay p = p
+admitted_on ms ns item (Refused OutOfMemory) calls stay p = p
+admitted_on ms ns item (Refused UnknownSession) calls stay p = p
+admitted_on ms ns item (Refused NotReady) calls stay p = p
+admitted_on ms ns item Done calls stay p = p
+admitted_on ms ns item (Worked n) calls stay p = p
+admitted_on ms ns item (Gave bytes) calls stay p = p
 
-accepted_on : (ms ns : List Link) (items : List Accepted) (calls : List Call) → ((l : Link) → IsAmong ms l → IsAmong ns l) → ((x : Accepted) → IsOneOf items x → IsApart ms x.number → IsApart ns x.number) → AreAccepted ms items calls → AreAccepted ns items calls
-accepted_on ms ns [] calls stay still p = p
-accepted_on ms ns (x ∷ items) calls stay still p =
-    (p.0, (p.1.0, (p.1.1.0, (admitted_on ms ns x x.outcome p.0 stay (still x (inl refl)) p.1.1.1.0, accepted_on ms ns items p.1.0 stay (λ y one. still y (inr one)) p.1.1.1.1))))
+accepted_on : (ms ns : List Link) (items : List Accepted) (calls : List Call) → ((l : Link) → IsAmong ms l → IsAmong ns l) → AreAccepted ms items calls → AreAccepted ns items calls
+accepted_on ms ns [] calls stay p = p
+accepted_on ms ns (x ∷ items) calls stay p =
+    (p.0, (p.1.0, (p.1.1.0, (admitted_on ms ns x x.outcome p.0 stay p.1.1.1.0, accepted_on ms ns items p.1.0 stay p.1.1.1.1))))
 
-pub asks_on : (ms ns : List Link) (items : List Accepted) (a b : Option (List Call)) → ((l : Link) → IsAmong ms l → IsAmong ns l) → ((x : Accepted) → IsOneOf items x → IsApart ms x.number → IsApart ns x.number) → AsksAccepts ms items a b → AsksAccepts ns items a b
-asks_on ms ns items a b stay still p = record { calls = p.calls; accepted = accepted_on ms ns items p.calls stay still p.accepted; asked = p.asked }
+pub asks_on : (ms ns : List Link) (items : List Accepted) (a b : Option (List Call)) → ((l : Link) → IsAmong ms l → IsAmong ns l) → AsksAccepts ms items a b → AsksAccepts ns items a b
+asks_on ms ns items a b stay p = record { calls = p.calls; accepted = accepted_on ms ns items p.calls stay p.accepted; asked = p.asked }
 
 pub asks_no_accept : (met : List Link) (a : Option (List Call)) → AsksAccepts met [] a a
 asks_no_accept met a = record { calls = []; accepted = refl; asked = asks_none a }
@@ -211,7 +206,7 @@ asks_stop met items a b c answer lt p q g = record {
   asked = asks_then a b c p.calls (Accept answer ∷ []) p.asked q;
 }
 
-pub asks_full : (met : List Link) (items : List Accepted) (a b : Option (List Call)) → length items ≡ 16 → AsksAccepts met items a b → AsksAll met items a b
+pub asks_full : (met : List Link) (items : List Accepted) (a b : Option (List Call)) → (length items ≡ 16) ⊎ (1025 ≤ length met) → AsksAccepts met items a b → AsksAll met items a b
 asks_full met items a b e p = record { first = p.calls; last = []; accepted = p.accepted; ends = inl (e, refl); asked = rw (append-nil p.calls) p.asked }
 
 -- an allocation failed for a session

@@ -111,12 +111,24 @@ starves_admission id Open o k = refl
 starves_admission id (Feed other chunk) o k = absurd k
 starves_admission id (Work other n) o k = absurd k
 starves_admission id (Take other n) o k = absurd k
-starves_admission id (Close other) o k = refl
+starves_admission id (Close other) o k = absurd k
 
--- no opening or closing starves
+-- no opening starves
 pub starves-admissions : (id : SessionId) (steps : List Step) → AreAll IsAdmission steps → starves id steps ≡ false
 starves-admissions id [] k = refl
 starves-admissions id (s ∷ rest) k = or_from (starves_by id s.event s.outcome) (starves id rest) (starves_admission id s.event s.outcome k.0) (starves-admissions id rest k.1)
+
+closes_admission : (id : SessionId) (event : Event) → IsAdmission event → closes_by id event ≡ false
+closes_admission id Open k = refl
+closes_admission id (Feed other chunk) k = absurd k
+closes_admission id (Work other n) k = absurd k
+closes_admission id (Take other n) k = absurd k
+closes_admission id (Close other) k = absurd k
+
+-- nor does any close
+pub closes-admissions : (id : SessionId) (steps : List Step) → AreAll IsAdmission steps → closes id steps ≡ false
+closes-admissions id [] k = refl
+closes-admissions id (s ∷ rest) k = or_from (closes_by id s.event) (closes id rest) (closes_admission id s.event k.0) (closes-admissions id rest k.1)
 
 pub alone_then : (id : SessionId) (a b : List Step) → LeavesAlone id a → LeavesAlone id b → LeavesAlone id (a ++ b)
 alone_then id a b p q = record {

@@ -25,7 +25,7 @@ use Rattle.socket_loop.specs.Calls.{AllAccepted, AsksAll, AsksEach, AsksTurn, Tu
 use Rattle.socket_loop.specs.Turns.{FitsOne, Fits, Accepted, HasSession, Joins, IsRejected, IsNew, Accepts, HasMoved, IsQuiet, IsTurn, IsRemoved, Served, ContinuesServing, ServesNew}
 use Rattle.socket_loop.specs.Scenes.{Scene}
 use Rattle.wires.proofs.Peers.{kept_then, moves_then, emptied_move, raised_rises, rises_then, stays_rise}
-use Rattle.socket_loop.proofs.Runs.{run-append, next_rises, opened_left, starves-admissions, alone_then}
+use Rattle.socket_loop.proofs.Runs.{run-append, next_rises, opened_left, starves-admissions, closes-admissions, alone_then}
 use Rattle.socket_loop.proofs.Parts.{carried_nothing, carried_then, carries_then, carries_round}
 use Rattle.socket_loop.proofs.Marks.{marks_none, marks_then, marked_filter, remove_shut}
 use Rattle.socket_loop.proofs.Quiet.{either_false}
@@ -35,7 +35,7 @@ away_kept : (f t : ℕ) (x : List Accepted) (a b c : Report) (n : ℕ) → IsRej
 away_kept f t x a b c n w q = record {
   least = w.least;
   most = w.most;
-  outcome = w.outcome;
+  fault = w.fault;
   answered = w.answered;
   unread = Keeps-trans _ _ _ w.unread q.unread;
   bytes = w.bytes;
@@ -132,12 +132,12 @@ turned slice p q r s w held accepted_ read_ written_ last f t a b c d e h i j k 
     let steps_ : List Step = first ++ (middle ++ second) in
     let to_end : IsRun h steps_ m = run-append h j m first (middle ++ second) (run-append h i j accepts.steps reads.steps accepts.chain reads.carries.chain) late.chain in
     let are_ : (x : Link) → IsAmong ms x → IsAmong (links_of held) x ⊎ Joins f t accepts.accepted h.slots.next m.slots.next accepts.steps x =
-    (λ x among. met_are (links_of held) f t accepts.accepted h.slots.next m.slots.next a b accepts.steps x (last_below x (accepts.fits fit x among).opened) (accepts.spared fit x among) (accepts.are x among)) in
+    (λ x among. met_are (links_of held) f t accepts.accepted h.slots.next m.slots.next a b accepts.steps x (last_below x (accepts.fits fit x among).opened) (closes-admissions x.id accepts.steps accepts.kinds) (accepts.are x among)) in
     let carried_ : (x : Link) → IsAmong ms x → Carried written_ t a h steps_ e m x =
     (λ x among.
     let tied : IsTied ms x = (accepts.fits fit x among).tied in
     let one : Carried written_ t a h accepts.steps b i x =
-    carried_nothing written_ t a b h i accepts.steps x (accepts.no_own x.id) (accepts.no_taken x.id) (accepts.spared fit x among) (starves-admissions x.id accepts.steps accepts.kinds) (met_keeps (links_of held) f t accepts.accepted h.slots.next a b h accepts.steps x fit accepts.kept (accepts.are x among)) in
+    carried_nothing written_ t a b h i accepts.steps x (accepts.no_own x.id) (accepts.no_taken x.id) (closes-admissions x.id accepts.steps accepts.kinds) (starves-admissions x.id accepts.steps accepts.kinds) (met_keeps (links_of held) f t accepts.accepted h.slots.next a b h accepts.steps x fit accepts.kept (accepts.are x among)) in
     let two : Carried written_ t a h first c j x = carried_then written_ t a b c h i j x accepts.steps reads.steps accepts.all reads.carries.all accepts.chain reads.carries.chain one (reads.carries.carried x tied) in
     carried_then written_ t a c e h j m x first (middle ++ second) to_c late.all (run-append h i j accepts.steps reads.steps accepts.chain reads.carries.chain) late.chain two (late.carried x tied)) in
     record {
@@ -178,7 +178,7 @@ turned slice p q r s w held accepted_ read_ written_ last f t a b c d e h i j k 
       gone = λ x among. went t a e held last m x marks_e (shutting x among) (remove_shut last x (rw (sym same) at among));
       carried = carried_;
       others = λ n apart. each_kept f t accepts.accepted a b e n (accepts.each n) (kept_then b c e n (reads.carries.others n apart) (late.others n apart));
-      foreign = λ id lt strange. alone_then id first (middle ++ second) (alone_then id accepts.steps reads.steps (record { stored = accepts.no_own id; passed = accepts.no_taken id; kept = accepts.spared_old id lt }) (reads.carries.foreign id strange)) (late.foreign id strange);
+      foreign = λ id lt strange. alone_then id first (middle ++ second) (alone_then id accepts.steps reads.steps (record { stored = accepts.no_own id; passed = accepts.no_taken id; kept = closes-admissions id accepts.steps accepts.kinds }) (reads.carries.foreign id strange)) (late.foreign id strange);
       all = moves_then a c e to_c late.all;
     }
   where

@@ -1,5 +1,5 @@
 -- The calls of a turn, in order (own choice).
-use Rattle.std.specs.Prelude.{◌≡◌, ◌⊎◌, ◌↔◌, true, false, ℕ, suc, zero, ◌<◌, List, [], ◌∷◌, ◌++◌, length, nat_lt, Bool, not, cond, ◌&&◌, Option, None, Some, Result, Ok, Err}
+use Rattle.std.specs.Prelude.{◌≡◌, ◌⊎◌, ◌↔◌, true, false, ℕ, suc, zero, ◌<◌, ◌≤◌, List, [], ◌∷◌, ◌++◌, length, nat_lt, Bool, not, cond, ◌&&◌, Option, None, Some, Result, Ok, Err}
 use Rattle.session_slots.specs.declared.id.SessionId.{SessionId}
 use Rattle.session_slots.specs.Slots.{find}
 use Rattle.host_core.specs.declared.event.HostFault.TheVariants.{Full}
@@ -13,7 +13,7 @@ use Rattle.wires.specs.declared.wire.Wire.{Ghosts}
 use Rattle.wires.specs.declared.wire.WireFault.{WireFault}
 use Rattle.socket_loop.specs.declared.connection.Link.{Link}
 use Rattle.socket_loop.specs.declared.connection.Connection.{Connection}
-use Rattle.socket_loop.specs.declared.turn.TheConstants.{ACCEPTS}
+use Rattle.socket_loop.specs.declared.turn.TheConstants.{ACCEPTS, PLACES}
 use Rattle.usi_session.specs.declared.limits.TheConstants.{CHUNK_MAX}
 use Rattle.wires.specs.Asked.{Call, Accept, Read, Write, Shut, Asks, IsCalled}
 use Rattle.socket_loop.specs.Links.{links_of, unshut_of, IsApart, IsRising}
@@ -113,11 +113,9 @@ AsksEach due kind before xs ys old new after =
 
 -- ---- new connections
 
--- the calls after a connection was accepted, by how the host answered its `Open`, where these are met then: none where it has its session, and else a shut, or, where the host is full, one write that says so, and a shut
+-- the calls after a connection was accepted, by how the host answered its `Open`, where these are met then: none where a session was opened, with which it is met; and else a shut, or, where the host is full, one write that says so, and a shut
 abbrev pub IsAdmittedAs : List Link → Accepted → Outcome → List Call → Type 0
-IsAdmittedAs met item (Opened id) calls =
-    (HasSession met item × (calls ≡ []))
-    ⊎ (IsApart met item.number × (calls ≡ Shut item.number ∷ []))
+IsAdmittedAs met item (Opened id) calls = HasSession met item × (calls ≡ [])
 IsAdmittedAs met item (Refused Full) calls =
     calls ≡ Write item.number host_full ∷ Shut item.number ∷ []
 IsAdmittedAs met item _ calls = calls ≡ Shut item.number ∷ []
@@ -153,28 +151,7 @@ pub record OneAdmitted (links : List Link) (report : Report) (before : HostState
     : Type 0 where
   pub outcome : Outcome
   pub admits : Admits links report before number outcome to met new after
-  pub asked : IsApart links number → AsksAdmission met number outcome old_calls new_calls
-
--- a new connection whose session was opened before, by an `Open` in any host, was admitted
-abbrev pub AdmitsOpened : Link → Scene → Scene → Type 0
-AdmitsOpened link before after =
-    (start : HostState)
-    → IsOpening start (Ok link.id) before.host
-    → Admits (links_of before.held) before.report start link.number (Opened link.id) before.bound
-    (links_of after.held) after.report after.host
-
--- the calls for it, where its number is new
-abbrev pub AsksForOpened : Link → Scene → Scene → Type 0
-AsksForOpened link before after =
-    IsApart (links_of before.held) link.number
-    → AsksAdmission (links_of after.held) link.number (Opened link.id) before.asked after.asked
-
--- a new connection was admitted whose session was opened before
-pub record HoldsOne (link : Link) (before after : Scene) : Type 0 where
-  pub admits : AdmitsOpened link before after
-  pub asked : AsksForOpened link before after
-  pub more : HoldsMore before.held before.failed after.held after.failed
-  pub bound : after.bound ≡ before.bound
+  pub asked : AsksAdmission met number outcome old_calls new_calls
 
 -- a new connection of this number was admitted
 pub record AdmitsOne (number : ℕ) (before after : Scene) : Type 0 where
@@ -183,13 +160,13 @@ pub record AdmitsOne (number : ℕ) (before after : Scene) : Type 0 where
   pub more : HoldsMore before.held before.failed after.held after.failed
   pub bound : after.bound ≡ before.bound
 
--- connections were accepted until one accept gave nobody, or ACCEPTS of them were
+-- connections were accepted until one accept gave nobody, or ACCEPTS of them were, or as many were met as there are places for
 pub record AsksAll (met : List Link) (items : List Accepted) (old new : Option (List Call))
     : Type 0 where
   pub first : List Call
   pub last : List Call
   pub accepted : AreAccepted met items first
-  pub ends : ((length items ≡ ACCEPTS) × (last ≡ []))
+  pub ends : (((length items ≡ ACCEPTS) ⊎ (PLACES ≤ length met)) × (last ≡ []))
       ⊎ ((length items < ACCEPTS)
       × ((answer : Result (Option ℕ) WireFault)
       × (GivesNobody answer × (last ≡ Accept answer ∷ []))))
@@ -201,7 +178,7 @@ pub record AllAccepted (moved : Bool) (links : List Link) (from : ℕ) (old : Re
     (old_calls new_calls : Option (List Call)) : Type 0 where
   pub accepts : Accepts links from old before met to new after
   pub none : moved ≡ false → accepts.accepted ≡ []
-  pub asked : Fits links from before → AsksAll met accepts.accepted old_calls new_calls
+  pub asked : AsksAll met accepts.accepted old_calls new_calls
 
 -- connections were accepted, if any; where none was, all that is reported stays
 pub record AcceptsAll (moved : Bool) (before after : Scene) : Type 0 where

@@ -1,5 +1,5 @@
 -- Connections and their sessions (own choice).
-use Rattle.std.specs.Prelude.{◌≡◌, ◌≢◌, ◌≤◌, ◌⊎◌, ⊤, ℕ, suc, List, [], ◌∷◌, Bool, true, cond, nat_lt, not, map, filter}
+use Rattle.std.specs.Prelude.{◌≡◌, ◌≢◌, ◌≤◌, ◌⊎◌, ⊤, ℕ, suc, List, [], ◌∷◌, Bool, true, false, cond, insert, nat_lt, not, map, filter}
 use Rattle.session_slots.specs.declared.id.SessionId.{SessionId}
 use Rattle.socket_loop.specs.declared.connection.Link.{Link}
 use Rattle.socket_loop.specs.declared.connection.Connection.{Connection}
@@ -76,3 +76,11 @@ IsRising (first ∷ rest) = AreFrom first.id.slot rest × IsRising rest
 abbrev pub place_for : ℕ → List Connection → ℕ
 place_for slot [] = 0
 place_for slot (first ∷ rest) = cond (nat_lt slot first.link.id.slot) 0 (suc (place_for slot rest))
+
+-- a connection that was just accepted
+abbrev pub new_connection : Link → Connection
+new_connection link = record { link = link; has_ended = false; is_shut = false }
+
+-- these connections with one more, by rising slot
+abbrev pub with_connection : List Connection → Connection → List Connection
+with_connection held new = insert held (place_for new.link.id.slot held) new

@@ -33,13 +33,13 @@ abbrev pub AreAll : (Event → Type 0) → List Step → Type 0
 AreAll kind [] = ⊤
 AreAll kind (step ∷ rest) = kind step.event × AreAll kind rest
 
--- sessions are opened or closed
+-- sessions are opened
 abbrev pub IsAdmission : Event → Type 0
 IsAdmission Open = ⊤
 IsAdmission (Feed id chunk) = ⊥
 IsAdmission (Work id budget) = ⊥
 IsAdmission (Take id n) = ⊥
-IsAdmission (Close id) = ⊤
+IsAdmission (Close id) = ⊥
 
 -- sessions are fed or closed
 abbrev pub IsInput : Event → Type 0

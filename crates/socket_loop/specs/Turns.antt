@@ -78,9 +78,9 @@ openings (step ∷ rest) = openings_by step.event step.outcome ++ openings rest
 abbrev pub host_full : List ℕ
 host_full = codes "info string host full\n"
 
--- what is written to a connection that got no session: that the host is full, where it is, and nothing where memory ran out
-abbrev pub rejection_text : Outcome → List ℕ
-rejection_text (Refused Full) = host_full
+-- what is written to a connection whose `Open` was refused: that the host is full, where it is, and nothing where memory ran out
+abbrev pub rejection_text : HostFault → List ℕ
+rejection_text Full = host_full
 rejection_text _ = []
 
 -- a connection was written a prefix of a text, and shut
@@ -94,16 +94,16 @@ pub record IsAway (bound : ℕ) (text : List ℕ) (old new : Report) (number : �
   pub failed : OnlyRises (old.has_failed number) (new.has_failed number)
   pub others : KeepsOthers old new number
 
--- a new connection was rejected: it was written a prefix of what it is due, and shut
+-- a new connection was rejected, since its `Open` was refused: it was written a prefix of what it is due, and shut
 pub record IsRejected (from to : ℕ) (accepted : List Accepted) (old new : Report) (number : ℕ)
     : Type 0 where
   pub least : from ≤ number
   pub most : number < to
-  pub outcome : Outcome
-  pub answered : IsOneOf accepted (record { number = number; outcome = outcome })
+  pub fault : HostFault
+  pub answered : IsOneOf accepted (record { number = number; outcome = Refused fault })
   pub unread : Keeps (old.unread number) (new.unread number)
   pub bytes : List ℕ
-  pub prefix : IsPrefixOf bytes (rejection_text outcome)
+  pub prefix : IsPrefixOf bytes (rejection_text fault)
   pub appended : Appends (old.written number) (new.written number) bytes
   pub shut : IsRaised (old.is_shut number) (new.is_shut number)
   pub failed : OnlyRises (old.has_failed number) (new.has_failed number)
@@ -139,10 +139,6 @@ pub record Accepts (links : List Link) (from : ℕ) (old : Report) (before : Hos
   pub kept : (number : ℕ) → number < from → KeepsPeer old new number
   pub each : (number : ℕ) → KeepsPeer old new number ⊎ IsRejected from to accepted old new number
   pub all : AllMove old new
-  pub closed_below : (id : SessionId) → closes id steps ≡ true → id.generation < after.slots.next
-  pub spared : Fits links from before → (link : Link) → IsAmong met link
-      → closes link.id steps ≡ false
-  pub spared_old : (id : SessionId) → id.generation < before.slots.next → closes id steps ≡ false
   pub accounted : Fits links from before → (new_one : Accepted) → IsOneOf accepted new_one
       → HasSession met new_one
       ⊎ (IsRejected from to accepted old new new_one.number × IsApart met new_one.number)

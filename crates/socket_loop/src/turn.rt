@@ -1,19 +1,19 @@
 //! A loop that serves the sessions of a host to the connections of a wire.
 
-ghost use Rattle.std.specs.Prelude.{false, ◌≡◌, ◌≤◌, [], ◌∷◌, length};
-ghost use Rattle.socket_loop.specs.Links.{links_of, place_for, unshut_of, AreOnce, IsRising};
+ghost use Rattle.std.specs.Prelude.{false, ◌≡◌, ◌≤◌, ◌<◌, [], ◌∷◌, length, IfOk, vec_capacity};
+ghost use Rattle.socket_loop.specs.Links.{links_of, new_connection, place_for, unshut_of, with_connection, AreOnce, IsRising};
 ghost use Rattle.socket_loop.specs.Turns.{any_pending, host_full, NoneFinished, Fits, IsAway, Over};
 ghost use Rattle.socket_loop.specs.Visits.{EndsEach, ReadsEach, WritesEach};
 ghost use Rattle.wires.specs.Moves.{StaysKnown};
 ghost use Rattle.wires.specs.Asked.{Write, Shut};
 ghost use Rattle.wires.specs.Wires.{IsAsked};
-ghost use Rattle.socket_loop.specs.Calls.{AcceptsAll, AdmitsOne, HoldsOne, Turned};
-ghost use Rattle.socket_loop.specs.declared.turn.TheConstants.{ACCEPTS};
+ghost use Rattle.socket_loop.specs.Calls.{AcceptsAll, AdmitsOne, Turned};
+ghost use Rattle.socket_loop.specs.declared.turn.TheConstants.{ACCEPTS, PLACES};
 
 use crate::connection::{Connection, Link};
-use crate::visit::{close_if_finished, read_from, shut_down, write_to};
+use crate::visit::{close_if_finished, read_from, write_to};
 use host_core::{Host, HostFault};
-use std::alloc::Allocator;
+use std::alloc::{AllocError, Allocator};
 use std::hash::BuildHasher;
 use std::marker::Model;
 use usi_session::CHUNK_MAX;
@@ -21,6 +21,9 @@ use wires::Wire;
 
 /// The most connections that are accepted in a turn.
 pub const ACCEPTS: usize = 16;
+
+/// The most connections that are held: one more than a host has sessions at most.
+pub const PLACES: usize = 1025;
 
 /// What a turn did.
 #[derive(Clone, Copy, Debug, PartialEq, Eq)]
@@ -38,11 +41,15 @@ pub struct Loop<A: Allocator + Copy> {
 }
 
 impl<A: Allocator + Copy> Model for Loop<A> {
+    ghost use Rattle.std.specs.Prelude.{◌≤◌, vec_capacity};
     ghost use Rattle.socket_loop.specs.Turns.{LoopState};
+    ghost use Rattle.socket_loop.specs.declared.turn.TheConstants.{PLACES};
 
     ghost Value = { LoopState };
 
     ghost view = { λ l. record { slice = l.slice; held = l.held.items } };
+
+    ghost invariant = { λ l. PLACES ≤ vec_capacity l.held };
 }
 
 /// The place for a connection whose session has this slot.
@@ -60,7 +67,8 @@ fn place_of(held: &[Connection], slot: usize) -> usize
 
 /// Drops the connections that were shut.
 fn drop_shut<A: Allocator>(held: &mut Vec<Connection, A>)
-    ensures { held.new.items ≡ unshut_of held.old.items }
+    ensures left { held.new.items ≡ unshut_of held.old.items }
+    ensures capacity { vec_capacity held.new ≡ vec_capacity held.old }
 {
     held.retain(|connection| !connection.is_shut);
 }
@@ -78,21 +86,21 @@ fn reject<W: Wire>(wire: &mut W, number: u64)
 }
 
 impl<A: Allocator + Copy> Loop<A> {
-    /// No connection yet. Each round has this budget, which is at least 1.
-    pub fn new(alloc: A, slice: u64) -> Loop<A>
+    /// No connection yet. Each round has this budget, which is at least 1. The places for connections
+    /// are made now, in 32 bytes each, so that a turn takes no memory for them.
+    pub fn new(alloc: A, slice: u64) -> Result<Loop<A>, AllocError>
         requires { 1 ≤ slice }
-        ensures { result ≡ record { slice = slice; held = [] } }
+        ensures { IfOk result (λ l. l ≡ record { slice = slice; held = [] }) }
     {
-        Loop {
-            slice,
-            held: Vec::new(alloc),
-        }
+        let held = Vec::with_capacity(alloc, PLACES)?;
+        Ok(Loop { slice, held })
     }
 
-    /// Holds a new connection with its session; where allocation fails, both end.
-    fn hold<W: Wire, S: BuildHasher>(&mut self, host: &mut Host<S, A>, wire: &mut W, link: Link)
-        ensures { Over W.Wire (HoldsOne link)
-            self.old host.old wire.old self.new host.new wire.new }
+    /// Holds a new connection with its session, where there is a place.
+    fn hold(&mut self, link: Link)
+        requires room { length self.old.held < PLACES }
+        ensures held { self.new.held ≡ with_connection self.old.held (new_connection link) }
+        ensures slice { self.new.slice ≡ self.old.slice }
     {
         let connection = Connection {
             link,
@@ -100,32 +108,35 @@ impl<A: Allocator + Copy> Loop<A> {
             is_shut: false,
         };
         let place = place_of(&self.held, link.id.slot);
-        if self.held.insert(place, connection).is_ok() {
-            return;
+        if self.held.insert(place, connection).is_err() {
+            unreachable!();
         }
-        shut_down(link, host, wire);
     }
 
-    /// Opens a session for a new connection. Where the host is full it is written so and shut; where there
-    /// is no memory for a session it is shut without a word.
+    /// Opens a session for a new connection, which is held with it. Where the host is full it is written
+    /// so and shut; where there is no memory for a session it is shut without a word.
     fn admit<W: Wire, S: BuildHasher>(&mut self, host: &mut Host<S, A>, wire: &mut W, number: u64)
+        requires room { length self.old.held < PLACES }
         ensures { Over W.Wire (AdmitsOne number)
             self.old host.old wire.old self.new host.new wire.new }
     {
         match host.open() {
-            Ok(id) => self.hold(host, wire, Link { number, id }),
+            Ok(id) => self.hold(Link { number, id }),
             Err(HostFault::Full) => reject(wire, number),
             Err(_) => wire.shut(number),
         }
     }
 
-    /// Accepts new connections, at most `ACCEPTS`. True where one was accepted.
+    /// Accepts new connections, at most `ACCEPTS`, while there is a place. True where one was accepted.
     fn accept_all<W: Wire, S: BuildHasher>(&mut self, host: &mut Host<S, A>, wire: &mut W) -> bool
         ensures { Over W.Wire (AcceptsAll result)
             self.old host.old wire.old self.new host.new wire.new }
     {
         let mut moved = false;
         for _ in 0..ACCEPTS {
+            if self.held.len() >= PLACES {
+                return moved;
+            }
             let Ok(Some(number)) = wire.accept() else {
                 return moved;
             };

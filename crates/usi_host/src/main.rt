@@ -136,7 +136,9 @@ fn run_socket(
     };
     let mut host = Host::new(rt.alloc(), slots, entries, hasher)?;
     let mut wire = bound(rt, socket)?;
-    let mut connections = Loop::new(rt.alloc(), slice);
+    let Ok(mut connections) = Loop::new(rt.alloc(), slice) else {
+        return Err(ServeFault::OutOfMemory);
+    };
     serve(&mut host, &mut connections, &mut wire, turns)?;
     Ok(())
 }

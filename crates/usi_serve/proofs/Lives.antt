@@ -1,19 +1,18 @@
 -- The whole life of a connection, turn after turn.
-use Rattle.std.proofs.Common.{◌≡◌, ◌≢◌, ◌⊎◌, ℕ, zero, suc, ◌<◌, ◌≤◌, Bool, true, List, [], ◌∷◌, ◌++◌, Result, append_assoc, append-nil, Option, Some, None, refl, sym, ap, ◌∙◌, subst, arith, inl, inr}
+use Rattle.std.proofs.Common.{◌≡◌, ◌≢◌, ◌⊎◌, ℕ, zero, suc, ◌<◌, ◌≤◌, Bool, true, List, [], ◌∷◌, ◌++◌, Result, Ok, Err, IfErr, append_assoc, append-nil, Option, Some, None, refl, sym, ap, ◌∙◌, subst, arith, inl, inr}
 use Rattle.std.proofs.lemmas.Bool.{cases_eq}
 use Rattle.std.proofs.KnownBytes.{Appends-kept, Consumes-kept, Keeps-trans, Appends-nil, Consumes-nil}
 use Rattle.session_slots.specs.declared.id.SessionId.{SessionId}
 use Rattle.session_slots.specs.Slots.{find}
 use Rattle.usi_session.specs.Due.{SessionView}
 use Rattle.usi_session.specs.Replies.{replies, is_over_after}
-use Rattle.host_core.specs.declared.event.HostFault.TheVariants.{Full, OutOfMemory, UnknownSession, NotReady}
-use Rattle.host_core.specs.Events.{Close, Outcome, Opened, Done, Worked, Gave, Refused}
-use Rattle.host_core.specs.Headline.{EndsFrom, IsPrefixOf, OverFrom}
+use Rattle.host_core.specs.Events.{Close}
+use Rattle.host_core.specs.Headline.{EndsFrom, OverFrom}
 use Rattle.socket_loop.specs.declared.connection.Link.{Link}
 use Rattle.wires.specs.declared.wire.WireFault.{WireFault}
 use Rattle.wires.specs.Report.{KeepsPeer}
 use Rattle.socket_loop.specs.Links.{Ties, IsAmong, IsApart, IsMarked, links_of, reads_ended, was_shut}
-use Rattle.socket_loop.specs.Turns.{FitsOne, Fits, IsTurn, IsRemoved, IsRejected, Joins, Served, host_full, rejection_text}
+use Rattle.socket_loop.specs.Turns.{FitsOne, Fits, IsTurn, IsRemoved, IsRejected, Joins, Served}
 use Rattle.socket_loop.proofs.Accepting.{apart_each, each_apart, fresh_tied, tied_of, ties_apart}
 use Rattle.socket_loop.proofs.Lives.{served_on, served_aside, then_ends, over_then, Keeps-Consumes, prefix_written, all_written, strange_each}
 use Rattle.wires.proofs.Peers.{kept_same, kept_then, all_kept, moves_then, emptied_move, move_emptied, rises_raised, Keeps-Appends, stays_raised, raised_rises, stays_rise}
@@ -29,8 +28,10 @@ use Rattle.host_core.proofs.Ids.{is_same_id-refl}
 use Rattle.host_core.proofs.OneSession.{gone, opened_ends, IsGone as IsOut}
 use Rattle.host_core.proofs.Overs.{opened_over}
 use Rattle.socket_loop.specs.Scenes.{Scene}
-use Rattle.usi_serve.specs.Serving.{AreTurns, IsTurnAndWait, IsWait}
-use Rattle.usi_serve.specs.Life.{Duty, new_duty, duty_of, ReadsEnded, EndsItself, HasEnded, IsAnswered, IsHeldOrGone, IsServed, Life, Lives}
+use Rattle.usi_serve.specs.Serving.{AreTurns, IsAcceptedIn, IsTurnAndWait, IsWait, Stops, WasAccepted}
+use Rattle.usi_serve.specs.Patience.{AnswersInTime}
+use Rattle.usi_serve.specs.Promises.{IsDone, IsStopped}
+use Rattle.usi_serve.specs.Life.{Duty, new_duty, duty_of, ReadsEnded, EndsItself, HasEnded, IsAnswered, IsHeldOrGone, IsAccountedFor, IsServed, Life, Lives}
 
 -- ---- numbers
 
@@ -102,9 +103,9 @@ life_start_held s l among f = inl (
       f,
 )
 
--- a connection that is served has a life
-life_of : (a b : Scene) (n : ℕ) (l : Link) → l.number ≡ n → IsServed a b l → Life a b n
-life_of a b n l same s = subst (λ (x : ℕ). Life a b x) same (inr (inr (l.id, s)))
+-- a connection that is served is accounted for
+account_of : (a b : Scene) (n : ℕ) (l : Link) → l.number ≡ n → IsServed a b l → IsAccountedFor a b n
+account_of a b n l same s = subst (λ (x : ℕ). IsAccountedFor a b x) same (inr (l.id, s))
 
 pub lives_start : (s : Scene) → Fits (links_of s.held) s.bound s.host → Lives s s
 lives_start s fit = record {
@@ -114,26 +115,12 @@ lives_start s fit = record {
   unmarked = λ n m. m;
   each = λ n. elim (find_number (links_of s.held) n) [
     | inl apart ↦ inl (record { kept = kept_same s.report n; unheld = apart })
-    | inr there ↦ life_of s s n there.link there.same (life_start_held s there.link there.among (fit there.link there.among))
+    | inr there ↦ inr (account_of s s n there.link there.same (life_start_held s there.link there.among (fit there.link there.among)))
   ];
   held = λ l among. life_start_held s l among (fit l among);
 }
 
 -- ---- a turn
-
-prefix_none : (bytes : List ℕ) → IsPrefixOf bytes [] → IsPrefixOf bytes host_full
-prefix_none [] f = (host_full, refl)
-prefix_none (x ∷ bytes) f = (let e : x ∷ (bytes ++ f.0) ≡ [] = f.1 in absurd (cc))
-
-prefix_full : (o : Outcome) (bytes : List ℕ) → IsPrefixOf bytes (rejection_text o) → IsPrefixOf bytes host_full
-prefix_full (Refused Full) bytes f = f
-prefix_full (Refused OutOfMemory) bytes f = prefix_none bytes f
-prefix_full (Refused UnknownSession) bytes f = prefix_none bytes f
-prefix_full (Refused NotReady) bytes f = prefix_none bytes f
-prefix_full (Opened id) bytes f = prefix_none bytes f
-prefix_full Done bytes f = prefix_none bytes f
-prefix_full (Worked n) bytes f = prefix_none bytes f
-prefix_full (Gave xs) bytes f = prefix_none bytes f
 
 -- the links that are left are among those that were met
 still_apart : (met now : List Link) (n : ℕ) → ((l : Link) → IsAmong now l → IsAmong met l) → IsApart met n → IsApart now n
@@ -233,42 +220,55 @@ served_fits : (a b : Scene) (l : Link) → IsServed a b l → FitsOne (links_of 
 served_fits a b l (inl s) = s.1.fits
 served_fits a b l (inr s) = s.1.fits
 
-life_apart : (slice : ℕ) (moved : Bool) (a b c : Scene) (t : IsTurn slice moved b c) (n : ℕ) → a.bound ≤ b.bound → IsApart t.met n → KeepsPeer b.report c.report n ⊎ IsRejected b.bound c.bound t.accepted b.report c.report n → Life a b n → Life a c n
-life_apart slice moved a b c t n le p (inl k) (inl u) = inl (record { kept = kept_then a.report b.report c.report n u.kept k; unheld = still_apart t.met (links_of c.held) n t.left p })
-life_apart slice moved a b c t n le p (inr w) (inl u) =
+accounted_below : (a b : Scene) (n : ℕ) → IsAccountedFor a b n → n < b.bound
+accounted_below a b n (inl w) = w.most
+accounted_below a b n (inr s) = (served_fits a b (record { number = n; id = s.0 }) s.1).number
+
+-- one that was accepted in the turn, and rejected
+rejected_now : (slice : ℕ) (moved : Bool) (a b c : Scene) (t : IsTurn slice moved b c) (n : ℕ) → a.bound ≤ b.bound → IsApart t.met n → IsRejected b.bound c.bound t.accepted b.report c.report n → Life a b n → IsAccountedFor a c n
+rejected_now slice moved a b c t n le p w (inl u) =
     let v : b.bound ≤ n = w.least in
-    inr (inl (record {
+    inl (record {
       least = omega arith;
       most = w.most;
+      fault = w.fault;
       unread = Keeps-trans _ _ _ u.kept.unread w.unread;
       bytes = w.bytes;
-      prefix = prefix_full w.outcome w.bytes w.prefix;
+      prefix = w.prefix;
       appended = Keeps-Appends _ _ _ w.bytes u.kept.written w.appended;
       shut = stays_raised _ _ _ u.kept.shut w.shut;
       unheld = still_apart t.met (links_of c.held) n t.left p;
-    }))
-life_apart slice moved a b c t n le p (inl k) (inr (inl w)) =
+    })
+rejected_now slice moved a b c t n le p w (inr h) =
+    let u : n < b.bound = accounted_below a b n h in
+    let v : b.bound ≤ n = w.least in
+    absurd (omega arith)
+
+accounted_apart : (slice : ℕ) (moved : Bool) (a b c : Scene) (t : IsTurn slice moved b c) (n : ℕ) → IsApart t.met n → KeepsPeer b.report c.report n ⊎ IsRejected b.bound c.bound t.accepted b.report c.report n → IsAccountedFor a b n → IsAccountedFor a c n
+accounted_apart slice moved a b c t n p (inl k) (inl w) =
     let v : n < b.bound = w.most in
     let x : b.bound ≤ c.bound = t.rises in
-    inr (inl (record {
+    inl (record {
       least = w.least;
       most = omega arith;
+      fault = w.fault;
       unread = Keeps-trans _ _ _ w.unread k.unread;
       bytes = w.bytes;
       prefix = w.prefix;
       appended = Appends-kept _ _ _ w.bytes w.appended k.written;
       shut = raised_rises _ _ _ w.shut (stays_rise _ _ k.shut);
       unheld = still_apart t.met (links_of c.held) n t.left p;
-    }))
-life_apart slice moved a b c t n le p (inr away) (inr (inl w)) =
-    let u : n < b.bound = w.most in
+    })
+accounted_apart slice moved a b c t n p (inl k) (inr s) = inr (s.0, served_apart slice moved a b c t (record { number = n; id = s.0 }) p k s.1)
+accounted_apart slice moved a b c t n p (inr away) h =
+    let u : n < b.bound = accounted_below a b n h in
     let v : b.bound ≤ n = away.least in
     absurd (omega arith)
-life_apart slice moved a b c t n le p (inl k) (inr (inr s)) = inr (inr (s.0, served_apart slice moved a b c t (record { number = n; id = s.0 }) p k s.1))
-life_apart slice moved a b c t n le p (inr away) (inr (inr s)) =
-    let u : n < b.bound = (served_fits a b (record { number = n; id = s.0 }) s.1).number in
-    let v : b.bound ≤ n = away.least in
-    absurd (omega arith)
+
+life_apart : (slice : ℕ) (moved : Bool) (a b c : Scene) (t : IsTurn slice moved b c) (n : ℕ) → a.bound ≤ b.bound → IsApart t.met n → KeepsPeer b.report c.report n ⊎ IsRejected b.bound c.bound t.accepted b.report c.report n → Life a b n → Life a c n
+life_apart slice moved a b c t n le p (inl k) (inl u) = inl (record { kept = kept_then a.report b.report c.report n u.kept k; unheld = still_apart t.met (links_of c.held) n t.left p })
+life_apart slice moved a b c t n le p (inr w) (inl u) = inr (rejected_now slice moved a b c t n le p w (inl u))
+life_apart slice moved a b c t n le p q (inr h) = inr (accounted_apart slice moved a b c t n p q h)
 
 -- ---- a connection that was met
 
@@ -426,10 +426,23 @@ lives_turn slice moved a b c lives t =
       unmarked = λ n m. absurd (t.unshut n m);
       each = λ n. elim (find_number t.met n) [
         | inl apart ↦ life_apart slice moved a b c t n u apart (t.others n apart) (lives.each n)
-        | inr there ↦ life_of a c n there.link there.same (life_met slice moved a b c t there.link lives there.among (t.are there.link there.among) (lives.each there.link.number))
+        | inr there ↦ inr (account_of a c n there.link there.same (life_met slice moved a b c t there.link lives there.among (t.are there.link there.among) (lives.each there.link.number)))
       ];
       held = λ l among. life_met slice moved a b c t l lives (t.left l among) (t.are l (t.left l among)) (lives.each l.number);
     }
+
+-- one that was accounted for is so still, and one that was accepted in the turn is so
+accounted_turn : (slice : ℕ) (moved : Bool) (a b c : Scene) (t : IsTurn slice moved b c) (n : ℕ) → Lives a b → IsAccountedFor a b n ⊎ IsAcceptedIn t.accepted n → IsAccountedFor a c n
+accounted_turn slice moved a b c t n lives h = elim (find_number t.met n) [
+  | inl apart ↦ elim h [
+    | inl was ↦ accounted_apart slice moved a b c t n apart (t.others n apart) was
+    | inr now ↦ elim (t.accounted (record { number = n; outcome = now.0 }) now.1) [
+      | inl session ↦ absurd (each_apart t.met n session.0 apart session.1.0 session.1.1.0)
+      | inr away ↦ rejected_now slice moved a b c t n lives.rises apart away (lives.each n)
+    ]
+  ]
+  | inr there ↦ account_of a c n there.link there.same (life_met slice moved a b c t there.link lives there.among (t.are there.link there.among) (lives.each there.link.number))
+]
 
 -- ---- a wait
 
@@ -467,21 +480,25 @@ served_wait : {moved : Bool} {answer : Result (Unit {0}) WireFault} (a b c : Sce
 served_wait a b c l w (inl s) = inl (s.0, answered_wait a b c (duty_of (find a.host.slots l.id)) l w s.1)
 served_wait a b c l w (inr s) = inr (s.0, answered_wait a b c new_duty l w s.1)
 
-life_wait : {moved : Bool} {answer : Result (Unit {0}) WireFault} (a b c : Scene) (n : ℕ) → IsWait moved answer b c → Life a b n → Life a c n
-life_wait a b c n w (inl u) = inl (record { kept = kept_then a.report b.report c.report n u.kept (w.report n); unheld = rw w.held u.unheld })
-life_wait a b c n w (inr (inl x)) =
+accounted_wait : {moved : Bool} {answer : Result (Unit {0}) WireFault} (a b c : Scene) (n : ℕ) → IsWait moved answer b c → IsAccountedFor a b n → IsAccountedFor a c n
+accounted_wait a b c n w (inl x) =
     let k : KeepsPeer b.report c.report n = w.report n in
-    inr (inl (record {
+    inl (record {
       least = x.least;
       most = rw w.bound x.most;
+      fault = x.fault;
       unread = Keeps-trans _ _ _ x.unread k.unread;
       bytes = x.bytes;
       prefix = x.prefix;
       appended = Appends-kept _ _ _ x.bytes x.appended k.written;
       shut = raised_rises _ _ _ x.shut (stays_rise _ _ k.shut);
       unheld = rw w.held x.unheld;
-    }))
-life_wait a b c n w (inr (inr s)) = inr (inr (s.0, served_wait a b c (record { number = n; id = s.0 }) w s.1))
+    })
+accounted_wait a b c n w (inr s) = inr (s.0, served_wait a b c (record { number = n; id = s.0 }) w s.1)
+
+life_wait : {moved : Bool} {answer : Result (Unit {0}) WireFault} (a b c : Scene) (n : ℕ) → IsWait moved answer b c → Life a b n → Life a c n
+life_wait a b c n w (inl u) = inl (record { kept = kept_then a.report b.report c.report n u.kept (w.report n); unheld = rw w.held u.unheld })
+life_wait a b c n w (inr h) = inr (accounted_wait a b c n w h)
 
 pub lives_wait : {moved : Bool} {answer : Result (Unit {0}) WireFault} (a b c : Scene) → Lives a b → IsWait moved answer b c → Lives a c
 lives_wait a b c lives w = record {
@@ -508,3 +525,29 @@ lives_turns slice (suc n) a b fit p =
       lives = lives_wait a next.middle b (lives_turn slice next.turn.moved a p.0 next.middle so_far.lives next.turn.turned.asked.turn) next.wait;
       fits = rw (next.wait.held, next.wait.bound, next.wait.host) next.turn.fits;
     }
+
+-- ---- none that was accepted is forgotten
+
+pub accounted_turns : (slice n : ℕ) (a b : Scene) → Fits (links_of a.held) a.bound a.host → (turns : AreTurns slice n a b) → (number : ℕ) → WasAccepted slice n a b turns number → IsAccountedFor a b number
+accounted_turns slice zero a b fit p number h = absurd h
+accounted_turns slice (suc n) a b fit p number h =
+    let lives = (lives_turns slice n a p.0 fit p.1).lives in
+    let before : IsAccountedFor a p.0 number ⊎ IsAcceptedIn p.2.turn.turned.asked.turn.accepted number =
+    elim h [ inl was ↦ inl (accounted_turns slice n a p.0 fit p.1 number was) | inr now ↦ inr now ] in
+    accounted_wait a p.2.middle b number p.2.wait (accounted_turn slice p.2.turn.moved a p.0 p.2.middle p.2.turn.turned.asked.turn number lives before)
+
+pub done_by : (slice n : ℕ) (a b : Scene) → Fits (links_of a.held) a.bound a.host → AnswersInTime slice n a b → IsDone slice n a b
+done_by slice n a b fit t = record { in_time = t; accounted = accounted_turns slice n a b fit t.turns }
+
+stopped_one : (slice n : ℕ) (a b : Scene) (fault : WireFault) → Fits (links_of a.held) a.bound a.host → Stops slice n a b fault → IsStopped slice n a b fault
+stopped_one slice n a b fault fit s = record {
+  stops = s;
+  accounted = λ number h.
+      let before : IsAccountedFor a s.between number ⊎ IsAcceptedIn s.turn.turned.asked.turn.accepted number =
+      elim h [ inl was ↦ inl (accounted_turns slice s.count a s.between fit s.turns number was) | inr now ↦ inr now ] in
+      accounted_wait a s.last b number s.wait (accounted_turn slice s.turn.moved a s.between s.last s.turn.turned.asked.turn number (lives_turns slice s.count a s.between fit s.turns).lives before);
+}
+
+pub stopped_by : (slice n : ℕ) (a b : Scene) (result : Result (Unit {0}) WireFault) → Fits (links_of a.held) a.bound a.host → IfErr result (λ fault. Stops slice n a b fault) → IfErr result (λ fault. IsStopped slice n a b fault)
+stopped_by slice n a b (Ok value) fit s = tt
+stopped_by slice n a b (Err fault) fit s = stopped_one slice n a b fault fit s

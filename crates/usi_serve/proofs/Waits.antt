@@ -11,7 +11,8 @@ use Rattle.socket_loop.proofs.Loads.{Nearer, near_turn}
 use Rattle.socket_loop.proofs.Runs.{next_rises}
 use Rattle.socket_loop.specs.Scenes.{Scene}
 use Rattle.usi_serve.specs.Serving.{AreTurns, IsTurnAndWait}
-use Rattle.usi_serve.specs.Patience.{IsThroughOnce, IsNearer, AnswersInTime}
+use Rattle.usi_serve.proofs.Lives.{lives_turns}
+use Rattle.usi_serve.specs.Patience.{IsThroughOnce, IsNearer, AnswersFrom, AnswersInTime}
 
 -- the generation of the next id never falls
 nexts : (slice n : ℕ) (a b : Scene) → AreTurns slice n a b → a.host.slots.next ≤ b.host.slots.next
@@ -60,9 +61,34 @@ enough : (slice n : ℕ) (a b : Scene) (turns : AreTurns slice n a b) (id : Sess
 enough slice n a b turns id s lt (inl through) = through
 enough slice n a b turns id s lt (inr near) = (let m : n * slice + load near.session ≤ load s = near.made in absurd (omega arith))
 
+-- turns in two parts
+record Parts (slice first more : ℕ) (a b : Scene) : Type 0 where
+  middle : Scene
+  earlier : AreTurns slice first a middle
+  later : AreTurns slice more middle b
+
+in_parts : (slice first more n : ℕ) (a b : Scene) → first + more ≡ n → AreTurns slice n a b → Parts slice first more a b
+in_parts slice first zero n a b e turns =
+    let same : n ≡ first = omega arith in
+    record { middle = b; earlier = rw same at turns; later = refl }
+in_parts slice first (suc more) zero a b e turns = absurd (omega arith)
+in_parts slice first (suc more) (suc n) a b e turns =
+    let parts = in_parts slice first more n a turns.0 (omega arith) turns.1 in
+    record { middle = parts.middle; earlier = parts.earlier; later = (turns.0, parts.later, turns.2) }
+
+answers_from : (slice first more : ℕ) (a b : Scene) → Fits (links_of a.held) a.bound a.host → Parts slice first more a b → AnswersFrom slice first more a b
+answers_from slice first more a b fit parts =
+    let fits = (lives_turns slice first a parts.middle fit parts.earlier).fits in
+    record {
+      middle = parts.middle;
+      earlier = parts.earlier;
+      later = parts.later;
+      nearer = λ l s among f p. waits slice more parts.middle b parts.later l.id s (fits l among).opened f p;
+      in_time = λ l s among f p lt. enough slice more parts.middle b parts.later l.id s lt (waits slice more parts.middle b parts.later l.id s (fits l among).opened f p);
+    }
+
 pub in_time : (slice n : ℕ) (a b : Scene) → Fits (links_of a.held) a.bound a.host → AreTurns slice n a b → AnswersInTime slice n a b
 in_time slice n a b fit turns = record {
   turns = turns;
-  nearer = λ l s among f p. waits slice n a b turns l.id s (fit l among).opened f p;
-  in_time = λ l s among f p lt. enough slice n a b turns l.id s lt (waits slice n a b turns l.id s (fit l among).opened f p);
+  from = λ first more e. answers_from slice first more a b fit (in_parts slice first more n a b e turns);
 }

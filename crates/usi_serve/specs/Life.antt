@@ -5,13 +5,14 @@ use Rattle.session_slots.specs.declared.id.SessionId.{SessionId}
 use Rattle.session_slots.specs.Slots.{find}
 use Rattle.usi_session.specs.Due.{SessionView, due}
 use Rattle.usi_session.specs.Replies.{replies, is_over_after}
+use Rattle.host_core.specs.declared.event.HostFault.{HostFault}
 use Rattle.host_core.specs.ById.{queued_of, pending_of}
 use Rattle.host_core.specs.Headline.{IsPrefixOf, IsSettled, OverFrom, is_over_due}
 use Rattle.socket_loop.specs.declared.connection.Link.{Link}
 use Rattle.wires.specs.Report.{KeepsPeer, IsRaised}
 use Rattle.socket_loop.specs.Links.{links_of, reads_ended, was_shut, IsAmong, IsApart, IsMarked}
 use Rattle.wires.specs.Moves.{AllMove, IsEmptied}
-use Rattle.socket_loop.specs.Turns.{FitsOne, Served, host_full}
+use Rattle.socket_loop.specs.Turns.{FitsOne, Served, rejection_text}
 use Rattle.socket_loop.specs.Scenes.{Scene}
 
 -- what is owed to the bytes that are read from here on, and whether they end the session
@@ -87,23 +88,27 @@ pub record IsUntouched (before after : Scene) (number : ℕ) : Type 0 where
   pub kept : KeepsPeer before.report after.report number
   pub unheld : IsApart (links_of after.held) number
 
--- it was accepted since, and rejected: it was read nothing from, written a prefix of `info string host full`, and shut
+-- it was accepted since, and rejected, as its `Open` was refused: it was read nothing from, written a prefix of `info string host full` where the host was full and else nothing, and shut
 pub record WasRejected (before after : Scene) (number : ℕ) : Type 0 where
   pub least : before.bound ≤ number
   pub most : number < after.bound
+  pub fault : HostFault
   pub unread : Keeps (before.report.unread number) (after.report.unread number)
   pub bytes : List ℕ
-  pub prefix : IsPrefixOf bytes host_full
+  pub prefix : IsPrefixOf bytes (rejection_text fault)
   pub appended : Appends (before.report.written number) (after.report.written number) bytes
   pub shut : IsRaised (before.report.is_shut number) (after.report.is_shut number)
   pub unheld : IsApart (links_of after.held) number
 
--- what became of the connection of a number from one scene to a later one: nothing; or it was rejected; or it was served, with one session
+-- the connection of a number was rejected, or it was served, with one session
+abbrev pub IsAccountedFor : Scene → Scene → ℕ → Type 0
+IsAccountedFor before after number =
+    WasRejected before after number
+    ⊎ ((id : SessionId) × IsServed before after (record { number = number; id = id }))
+
+-- what became of the connection of a number from one scene to a later one: nothing, or it is accounted for
 abbrev pub Life : Scene → Scene → ℕ → Type 0
-Life before after number =
-    IsUntouched before after number
-    ⊎ (WasRejected before after number
-    ⊎ ((id : SessionId) × IsServed before after (record { number = number; id = id })))
+Life before after number = IsUntouched before after number ⊎ IsAccountedFor before after number
 
 -- what became of each connection; those that are held now were served
 pub record Lives (before after : Scene) : Type 0 where

@@ -31,13 +31,20 @@ pub record IsNearer (slice n : ℕ) (start : SessionView) (after : Scene) (id : 
   pub pending : is_pending session ≡ true
   pub made : n * slice + load session ≤ load start
 
--- so many turns were taken, each with a wait after it; the session of each connection that was held and pending is through once, or a slice nearer for each turn: so it is through once where the turns are more than its load has slices
+-- so many turns were taken, each with a wait after it, and then so many more; the session of each connection that was held and pending in between is through once in the later ones, or a slice nearer for each of them: so it is through once where these are more than its load has slices
+pub record AnswersFrom (slice first more : ℕ) (before after : Scene) : Type 0 where
+  pub middle : Scene
+  pub earlier : AreTurns slice first before middle
+  pub later : AreTurns slice more middle after
+  pub nearer : (link : Link) (start : SessionView) → IsAmong (links_of middle.held) link
+      → find middle.host.slots link.id ≡ Some start → is_pending start ≡ true
+      → IsThroughOnce slice more middle after later link.id ⊎ IsNearer slice more start after link.id
+  pub in_time : (link : Link) (start : SessionView) → IsAmong (links_of middle.held) link
+      → find middle.host.slots link.id ≡ Some start → is_pending start ≡ true
+      → load start < more * slice
+      → IsThroughOnce slice more middle after later link.id
+
+-- so many turns were taken, each with a wait after it, and each connection is answered in time from any of them on
 pub record AnswersInTime (slice n : ℕ) (before after : Scene) : Type 0 where
   pub turns : AreTurns slice n before after
-  pub nearer : (link : Link) (start : SessionView) → IsAmong (links_of before.held) link
-      → find before.host.slots link.id ≡ Some start → is_pending start ≡ true
-      → IsThroughOnce slice n before after turns link.id ⊎ IsNearer slice n start after link.id
-  pub in_time : (link : Link) (start : SessionView) → IsAmong (links_of before.held) link
-      → find before.host.slots link.id ≡ Some start → is_pending start ≡ true
-      → load start < n * slice
-      → IsThroughOnce slice n before after turns link.id
+  pub from : (first more : ℕ) → first + more ≡ n → AnswersFrom slice first more before after

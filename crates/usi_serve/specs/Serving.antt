@@ -1,12 +1,13 @@
 -- A loop that takes turns and waits after each of them (own choice).
-use Rattle.std.specs.Prelude.{◌≡◌, ◌≤◌, ◌<◌, ℕ, zero, suc, [], ◌∷◌, Bool, false, Result, Ok, Err, not}
+use Rattle.std.specs.Prelude.{◌≡◌, ◌≤◌, ◌<◌, ◌⊎◌, ℕ, zero, suc, List, [], ◌∷◌, Bool, false, Result, Ok, Err, not}
 use Rattle.wires.specs.declared.wire.WireFault.{WireFault}
 use Rattle.wires.specs.Asked.{Wait, Asks}
 use Rattle.wires.specs.Report.{HasCause, KeepsAll}
 use Rattle.wires.specs.Moves.{StaysKnown}
 use Rattle.socket_loop.specs.Links.{links_of, AreOnce, IsRising}
 use Rattle.socket_loop.specs.Scenes.{Scene}
-use Rattle.socket_loop.specs.Turns.{any_pending, Fits, NoneFinished}
+use Rattle.socket_loop.specs.Turns.{any_pending, Accepted, Fits, IsOneOf, NoneFinished}
+use Rattle.host_core.specs.Events.{Outcome}
 use Rattle.socket_loop.specs.Calls.{Turns}
 
 -- a turn: all that is promised of one
@@ -41,6 +42,19 @@ abbrev pub AreTurns : ℕ → ℕ → Scene → Scene → Type 0
 AreTurns slice zero before after = after ≡ before
 AreTurns slice (suc n) before after =
     (between : Scene) × AreTurns slice n before between × IsTurnAndWait slice between after
+
+-- a connection of this number is one of these
+abbrev pub IsAcceptedIn : List Accepted → ℕ → Type 0
+IsAcceptedIn items number =
+    (outcome : Outcome) × IsOneOf items (record { number = number; outcome = outcome })
+
+-- it was accepted in one of the turns
+abbrev pub WasAccepted : (slice n : ℕ) (before after : Scene) → AreTurns slice n before after
+    → ℕ → Type 0
+WasAccepted slice zero before after turns number = ⊥
+WasAccepted slice (suc n) before after turns number =
+    WasAccepted slice n before turns.0 turns.1 number
+    ⊎ IsAcceptedIn turns.2.turn.turned.asked.turn.accepted number
 
 -- fewer turns than so many, each with a wait after it, and then one more, with a wait that fails with this fault
 pub record Stops (slice most : ℕ) (before after : Scene) (fault : WireFault) : Type 0 where

@@ -182,7 +182,7 @@ fn with_two_peers<R: Abort>(rt: &R, alloc: Global) -> Result<RecordingWire<'_, R
 #[test]
 fn the_calls_of_three_turns(rt: HostRuntime) -> Result<(), Fail> {
     let mut wire = with_two_peers(&rt, rt.alloc())?;
-    let mut turns = Loop::new(rt.alloc(), 1000);
+    let mut turns = Loop::new(rt.alloc(), 1000)?;
     let hasher = BuildHasherDefault::<FoldHasher>::new();
     let mut host = Host::new(rt.alloc(), 1, 4096, hasher)?;
     holds!(rt; turn_over(&mut turns, &mut host, &mut wire));

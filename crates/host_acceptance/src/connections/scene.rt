@@ -79,7 +79,7 @@ impl Scene {
             alloc,
             host,
             wire: MemoryWire::new(alloc),
-            turns: Loop::new(alloc, slice),
+            turns: Loop::new(alloc, slice)?,
         })
     }
 

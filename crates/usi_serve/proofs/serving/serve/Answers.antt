@@ -1,7 +1,7 @@
 use Rattle.std.proofs.Common.{rules, ◌≡◌, ◌∙◌, arith}
 use Rattle.socket_loop.specs.Scenes.{scene}
 use Rattle.usi_serve.specs.Serving.{IsTurnTo, IsWait}
-use Rattle.usi_serve.proofs.Lives.{lives_turn, lives_turns, lives_wait}
+use Rattle.usi_serve.proofs.Lives.{done_by, lives_turn, lives_turns, lives_wait, stopped_by}
 use Rattle.usi_serve.proofs.Ends.{ends_stopped, ends_turns}
 use Rattle.usi_serve.proofs.Turns.{stops, turns_more, turns_none}
 use Rattle.usi_serve.proofs.Waits.{in_time}
@@ -53,7 +53,7 @@ returns-in_err-wait-clause-all g c =
       slice = c.turn-turn.ensures.turned.slice ∙ c.loop.invariant.slice;
       scenes = record {
         done = search rules;
-        stopped = stops c.wait.result c.from_residual.result _ _ _ _ _ middle _ (search rules) (search rules) c.loop.invariant.so_far turn wait c.wait.ensures.cause;
+        stopped = stopped_by _ _ _ _ c.from_residual.result c.requires.fits (stops c.wait.result c.from_residual.result _ _ _ _ _ middle _ (search rules) (search rules) c.loop.invariant.so_far turn wait c.wait.ensures.cause);
         whole = lives_wait _ middle _ (lives_turn _ _ _ _ middle (lives_turns _ _ _ _ c.requires.fits c.loop.invariant.so_far).lives turn.turned.asked.turn) wait;
         ends = λ one o. ends_stopped _ _ _ _ middle _ o c.loop.invariant.so_far turn wait;
       };
@@ -65,7 +65,7 @@ returns-clause-all g c =
     record {
       slice = c.loop.invariant.slice;
       scenes = record {
-        done = in_time _ _ _ _ c.requires.fits (rw all at c.loop.invariant.so_far);
+        done = done_by _ _ _ _ c.requires.fits (in_time _ _ _ _ c.requires.fits (rw all at c.loop.invariant.so_far));
         stopped = search rules;
         whole = (lives_turns _ _ _ _ c.requires.fits c.loop.invariant.so_far).lives;
         ends = λ one o. ends_turns _ _ _ _ one o (rw all at c.loop.invariant.so_far);

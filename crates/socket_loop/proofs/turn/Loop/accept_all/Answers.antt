@@ -1,4 +1,7 @@
-use Rattle.std.proofs.Common.{rules, ◌≡◌, ◌≤◌, ◌<◌, arith}
+use Rattle.std.proofs.Common.{rules, ◌≡◌, ◌≤◌, ◌<◌, List, arith, inl, inr, length, sym}
+use Rattle.std.proofs.lemmas.List.{length-map}
+use Rattle.socket_loop.specs.declared.connection.Connection.{Connection}
+use Rattle.socket_loop.specs.Links.{links_of}
 use Rattle.socket_loop.proofs.Accepting.{some_start, some_stop, some_full, some_more, number_rises}
 use Rattle.socket_loop.proofs.Marks.{more_same, more_then}
 use Rattle.wires.proofs.Peers.{kept_same}
@@ -8,7 +11,7 @@ use Rattle.socket_loop.proofs.turn.Loop.accept_all.Goals as goal
 pub loop-init : goal.loop-init
 loop-init g c = record { so_far = some_start _ _ _ _ _ _; more = more_same _ _; quiet = λ q. (kept_same _, search rules); accepted = λ e. absurd (cc); slice = search rules }
 
--- no connection waits
+-- no connection waits, or the wire fails
 pub returns-in_default : goal.returns-in_default
 returns-in_default g c = record {
   slice = search rules;
@@ -23,20 +26,23 @@ returns-in_default g c = record {
   };
 }
 
--- the wire failed
-pub returns-in_default-2 : goal.returns-in_default-2
-returns-in_default-2 g c = record {
+-- there is no place
+pub returns-then-len-ge-PLACES : goal.returns-then-len-ge-PLACES
+returns-then-len-ge-PLACES g c = record {
   slice = search rules;
   scenes = record {
-    accepts = some_stop c.loop.counter _ _ _ _ _ _ _ _ _ _ _ _ _ _ c.accept.result (search rules) c.loop.invariant.so_far (number_rises _ _ c.accept.result c.accept.ensures.number) c.accept.ensures.kept c.accept.ensures.asked (search rules);
-    quiet = quiet_stop _ _ _ _ _ _ c.loop.invariant.quiet c.accept.ensures.kept;
-    accepted = λ e. (
-        let u : g.W.Wire.bound c.args.wire.now < g.W.Wire.bound c.loop.wire = c.loop.invariant.accepted e in
-        let v : g.W.Wire.bound c.loop.wire ≤ g.W.Wire.bound c.accept.new.self = number_rises _ _ c.accept.result c.accept.ensures.number in
-        omega arith);
-    more = more_then _ _ _ _ _ _ _ c.loop.invariant.more c.accept.ensures.cause.0 (more_same _ _);
+    accepts = some_full c.loop.counter _ _ _ _ _ _ _ _ _ _ _ (inr (full c.loop.self.held (
+        let same : c.self.inside.held.items ≡ c.loop.self.held = search rules in
+        let most : 1025 ≤ length c.self.inside.held.items = search rules in
+        rw (sym same) most))) c.loop.invariant.so_far;
+    quiet = c.loop.invariant.quiet;
+    accepted = c.loop.invariant.accepted;
+    more = c.loop.invariant.more;
   };
 }
+  where
+    full : (held : List Connection) → 1025 ≤ length held → 1025 ≤ length (links_of held)
+    full held le = rw (length-map held (λ (c : Connection). c.link)) le
 
 pub loop-preserved : goal.loop-preserved
 loop-preserved g c = record {
@@ -56,7 +62,7 @@ pub returns : goal.returns
 returns g c = record {
   slice = search rules;
   scenes = record {
-    accepts = some_full c.loop.counter _ _ _ _ _ _ _ _ _ _ _ (search rules) c.loop.invariant.so_far;
+    accepts = some_full c.loop.counter _ _ _ _ _ _ _ _ _ _ _ (inl (search rules)) c.loop.invariant.so_far;
     quiet = c.loop.invariant.quiet;
     accepted = c.loop.invariant.accepted;
     more = c.loop.invariant.more;

@@ -35,7 +35,7 @@ returns-clause-turned g c = record {
       c.close_all-has_shut.ensures.scenes.ended
       same
       (shuts_all c.args.self.now.held c.accept_all-has_accepted.new.self.held c.read_all-has_read.new.self.held c.write_all-has_written.new.self.held c.close_all-has_shut.new.self.held _ c.accept_all-has_accepted.new.host c.read_all-has_read.new.host c.round-round.new.self c.write_all-has_written.new.host c.close_all-has_shut.new.host _ _ _ _ _ c.accept_all-has_accepted.ensures.scenes.more.marks (c.accept_all-has_accepted.ensures.scenes.accepts.accepts.fits c.requires.fits) c.read_all-has_read.ensures.scenes.visited.links (c.write_all-has_written.ensures.scenes.visited.links ∙ c.read_all-has_read.ensures.scenes.visited.links) c.read_all-has_read.ensures.scenes.visited.asked c.round-round.ensures.run c.write_all-has_written.ensures.scenes.visited.asked c.close_all-has_shut.ensures.scenes.visited.asked)))
-      (c.accept_all-has_accepted.ensures.scenes.accepts.asked c.requires.fits)
+      c.accept_all-has_accepted.ensures.scenes.accepts.asked
       c.accept_all-has_accepted.ensures.scenes.accepts.accepts.chain
       c.accept_all-has_accepted.ensures.scenes.more.grows
       c.accept_all-has_accepted.ensures.scenes.more.rising
