@@ -16,8 +16,8 @@ use Rattle.shogi_search.specs.declared.firsts.Firsts.{Firsts}
 use Rattle.shogi_search.specs.declared.move_picker.MovePicker.{MovePicker}
 use Rattle.shogi_search.specs.declared.move_picker.MovePicker.TheVariants.{First, Done}
 use Rattle.minimax.specs.Minimax.{tree_size, sum_of_tree_sizes, value, worth, negated}
-use Rattle.minimax.specs.Window.{IsCovered, threshold, code_at}
-use Rattle.shogi_search.specs.Order.{todo, IsKept, IsListed}
+use Rattle.minimax.specs.Window.{IsCovered, threshold}
+use Rattle.shogi_search.specs.Order.{todo, IsKept}
 use Rattle.shogi_search.specs.declared.frame.Waiting.{Waiting}
 use Rattle.shogi_search.specs.declared.frame.Waiting.TheVariants.{Next, Asked, Cut}
 use Rattle.shogi_search.specs.Visits.{moves_at, IsCurrent, WhereCurrent, IsOver, IsKnownWhile}
@@ -119,11 +119,3 @@ threshold_least p eval d alpha best_value rest (Some b) m ok h l c =
     let e : worth p eval (d - 1) b ≡ best_value = c.reached.1 in
     let t : negated INFINITY <ℤ best_value = omega (arith, ints) in
     (omega (arith, ints), threshold_falls_one best_value b m t)
-
--- the best move so far is a legal one
-pub best_in : (f : ℕ → ℤ) (p : Shogi) (ms : List ℕ) (alpha best_value : ℤ) (b : Option Move) → IsCovered f (legal_codes p) ms alpha best_value (code_at b) → ForSome b (IsListed p)
-best_in f p ms alpha best_value None c = λ m e. absurd (cc)
-best_in f p ms alpha best_value (Some k) c = λ m e. subst (λ (x : Move). is_in (code_of x) (legal_codes p) ≡ true) (one k m e) c.reached.0
-  where
-    one : (k m : Move) → Some k ≡ Some m → k ≡ m
-    one k m e = cc

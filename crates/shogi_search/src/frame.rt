@@ -560,18 +560,6 @@ impl Frame {
         self.waiting = Waiting::Next;
     }
 
-    /// The best move so far, where the next move is to be begun with.
-    pub fn best_so_far(&self) -> Option<Move>
-        requires deep { 0 < self.now.depth }
-        ensures listed { ForSome result (IsListed self.now.node.position) }
-        ensures best { self.now.waiting ≡ Waiting.Next → result ≡ self.now.best_move }
-    {
-        if self.is_next() {
-            return self.best_move;
-        }
-        None
-    }
-
     /// Whether the next move is to be begun with.
     pub fn is_next(&self) -> bool
         ensures { IsTrue result ↔ (self.now.waiting ≡ Waiting.Next) }

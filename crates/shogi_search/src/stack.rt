@@ -16,6 +16,7 @@ use last_ply::last_ply;
 use minimax::{Entry, MATE};
 use shogi_core::{Move, Position};
 use shogi_eval::{Eval, Node};
+use shogi_moves::is_legal;
 
 /// The least depth of a root whose best line is kept in use: at lesser ones that costs more than it
 /// saves.
@@ -209,20 +210,19 @@ impl Stack {
         if root.depth < LINE_DEPTH_MIN {
             return;
         }
-        let Some(best) = root.best_so_far() else {
-            return;
-        };
-        let mut current = best;
         let mut node = root.node;
+        let mut next = root.best_move;
         let mut depth = root.depth;
         'line: while depth > 2 {
-            current.validity();
-            node.advance(current);
-            let position = node.as_position();
-            let Some(next) = child_hash_move_of(position, node.eval(), depth, memo) else {
+            let Some(current) = next else {
                 return;
             };
-            current = next;
+            let tried = current;
+            if !is_legal(node.as_position(), tried) {
+                return;
+            }
+            node.advance(current);
+            next = child_hash_move_of(node.as_position(), node.eval(), depth, memo);
             depth -= 1;
         }
     }

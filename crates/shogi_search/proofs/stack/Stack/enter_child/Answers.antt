@@ -108,7 +108,7 @@ pub bounds-self-self-3 : goal.bounds-self-self-3
 bounds-self-self-3 g c =
     let f : Frame = get_or c.args.self.now.frames c.args.self.now.height c.index-self-self.result in
     let is : IsTop c.args.self.now f = read_top c.args.self.now c.index-self-self.result (omega (arith, c.requires.stack.height_fits)) in
-    let deep : 2 ≤ f.depth - 1 = c.in_default.ensures.deep in
+    let deep : 2 ≤ f.depth - 1 = c.in_default-answer_of.ensures.deep in
     let above : c.args.self.now.height + 1 < 16 = room c.args.self.now f is c.requires.stack (omega (arith, deep)) in
     omega (arith, above)
 

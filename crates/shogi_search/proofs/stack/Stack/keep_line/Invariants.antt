@@ -1,12 +1,8 @@
 use Rattle.std.proofs.Common.{◌≡◌}
-use Rattle.shogi_search.specs.Order.{IsListed}
 use Rattle.shogi_search.proofs.stack.Stack.keep_line.Given as goal
 
 abbrev pub invariant-line : goal.invariant-line
-invariant-line g l = record {
-  listed : IsListed l.node.position l.current;
-  capacity : g.M.Memo.capacity l.memo ≡ g.M.Memo.capacity l.fn.memo;
-}
+invariant-line g l = record { capacity : g.M.Memo.capacity l.memo ≡ g.M.Memo.capacity l.fn.memo }
 
 abbrev pub decreases-line : goal.decreases-line
 decreases-line g l = l.depth
