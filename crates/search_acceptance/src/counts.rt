@@ -186,3 +186,14 @@ fn mates_at_depth_four(rt: HostRuntime) -> Result<(), Fail> {
     }
     Ok(())
 }
+
+// Where a mate is found, the moves that cannot be better cost a step each, and none is asked for.
+#[test]
+fn mates_over_tables(rt: HostRuntime) -> Result<(), Fail> {
+    for sfen in ["4k4/9/4P4/9/9/9/9/9/9 b G", "4k4/9/4G4/9/9/9/9/9/9 w G"] {
+        for capacity in [1, 30, 1000] {
+            assert_counts_over(&rt, rt.alloc(), &position(sfen)?, Eval::Plain, 5, capacity)?;
+        }
+    }
+    Ok(())
+}
